@@ -1,0 +1,5 @@
+pub mod Determined
+pub mod Keys
+pub mod Members
+mod Ranges
+pub mod Runs

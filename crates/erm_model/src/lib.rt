@@ -1,0 +1,38 @@
+//! The types that every layer shares, and the definitions of what a transaction and a history of transactions mean.
+#![tactic(auto)]
+
+mod history;
+mod key;
+mod laws;
+mod map;
+mod operation;
+mod outcome;
+mod run;
+#[cfg(test)]
+mod tests;
+mod value;
+
+pub use history::{Commit, TransactionRecord, VersionRead, VersionWritten};
+pub use key::Key;
+pub use laws::replies_are_determined;
+pub use map::{Map, Pair};
+pub use operation::{Op, Reply};
+pub use outcome::{Outcome, Phase, Receipt};
+pub use run::run_one;
+pub use value::{VALUE_BYTES, Value};
+
+/// An offset in the log, in words: where a block begins, and so the place of a commit in the order of commits.
+/// The log begins at 8. 0 means "from the start".
+pub type Stamp = u64;
+
+/// The number of a session, from 1.
+pub type Seat = u8;
+
+/// The number of an object: the place of a row in the indirection array.
+pub type Oid = u32;
+
+/// How many words a row has.
+pub const ROW_WORDS: usize = 16;
+
+/// What a version of an object holds.
+pub type Row = [u64; ROW_WORDS];

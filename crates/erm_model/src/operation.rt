@@ -1,0 +1,26 @@
+//! What a transaction asks of the database map, and what it is answered.
+use crate::Value;
+
+/// An operation on the database map.
+#[derive(Debug, Drop, PartialEq, Eq)]
+pub enum Op {
+    /// Reads the value of a key.
+    Get { table: u8, key: u64 },
+    /// Sets the value of a key.
+    Put { table: u8, key: u64, value: Value },
+    /// Takes the value of a key away.
+    Del { table: u8, key: u64 },
+    /// Finds the least key at or above `from` that has a value.
+    Next { table: u8, from: u64 },
+}
+
+/// The answer to an operation.
+#[derive(Debug, Drop, PartialEq, Eq)]
+pub enum Reply {
+    /// To a `Get`: the value, or none.
+    Value(Option<Value>),
+    /// To a `Put` and a `Del`.
+    Done,
+    /// To a `Next`: the key found, with its value, or none.
+    Pair(Option<(u64, Value)>),
+}

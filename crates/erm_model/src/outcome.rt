@@ -1,0 +1,41 @@
+//! How a transaction ends, and where a session stands.
+use crate::Stamp;
+
+/// What a commit hands out.
+#[derive(Clone, Copy, Debug, PartialEq, Eq)]
+pub struct Receipt {
+    /// The transaction's number in its session, from 1.
+    pub number: u32,
+    /// The commit stamp: where its block begins.
+    pub stamp: Stamp,
+    /// Where its block ends.
+    pub end: Stamp,
+    /// The successor stamp: the low watermark of the Serial Safety Net.
+    pub succ: Stamp,
+    /// The predecessor stamp: the high watermark of the Serial Safety Net.
+    pub pred: Stamp,
+}
+
+/// How a sealed transaction was decided.
+#[derive(Clone, Copy, Debug, PartialEq, Eq)]
+pub enum Outcome {
+    /// It committed.
+    Committed(Receipt),
+    /// Its exclusion window was closed: `succ <= pred`.
+    Excluded {
+        stamp: Stamp,
+        succ: Stamp,
+        pred: Stamp,
+    },
+}
+
+/// Where a session stands between two calls.
+#[derive(Clone, Copy, Debug, PartialEq, Eq)]
+pub enum Phase {
+    /// It has no transaction.
+    Idle,
+    /// Its transaction reads and writes.
+    Active,
+    /// Its transaction has its commit stamp and waits to be decided.
+    Sealed,
+}
