@@ -1,0 +1,11 @@
+pub mod Certificates
+pub mod Chains
+pub mod Forward
+pub mod Members
+pub mod OneOrder
+pub mod Orders
+pub mod Prefixes
+pub mod RowsRun
+pub mod Scans
+pub mod SomeNumbers
+pub mod Successors
