@@ -1,0 +1,9 @@
+pub mod Payload
+pub mod Frame
+pub mod Entries
+pub mod Encoded
+pub mod Distinct
+pub mod Reading
+pub mod Found
+pub mod OneSpelling
+pub mod OneLogList

@@ -1,0 +1,5 @@
+use Rattle.erm_block.proofs.OneSpelling.{length-spelling}
+use Rattle.erm_block.proofs.laws.spelling_size.Goals as goal
+
+pub returns : goal.returns
+returns c = length-spelling

@@ -1,0 +1,84 @@
+-- The grammar of log blocks: the rules that a block keeps, by its kind.
+use Rattle.std.specs.Prelude.{◌≡◌, ◌≢◌, ℕ, ◌+◌, ◌*◌, ◌<◌, ◌≤◌, ◌^◌, List, [], length}
+use Rattle.std.specs.List.{All, AllPairs}
+use Rattle.erm_model.specs.declared.TheConstants.{ROW_WORDS}
+use Rattle.erm_block.specs.declared.block.Block.{Block}
+use Rattle.erm_block.specs.declared.block.Kind.{Kind}
+use Rattle.erm_block.specs.declared.block.Kind.TheVariants.{Commit, Skip, Open}
+use Rattle.erm_block.specs.declared.block.TheConstants.{BLOCK_ROWS, ENTRY_WORDS, FRAME_WORDS, LOG_END, OID_LIMIT, RUN_END, SEATS}
+
+-- an object's number, and its row
+abbrev pub Entry : Type 0
+Entry = ℕ × List ℕ
+
+-- an entry of a block
+pub record IsEntry (entry : Entry) : Type 0 where
+  -- the object is one that there may be
+  pub oid : entry.0 < OID_LIMIT
+  -- the row has as many words as each row
+  pub row : length entry.1 ≡ ROW_WORDS
+
+-- the entries of a block
+pub record AreEntries (entries : List Entry) : Type 0 where
+  pub each : All IsEntry entries
+  -- no object has two rows
+  pub distinct : AllPairs (λ a b. a.0 ≢ b.0) entries
+
+-- the block is about a transaction: it names one, and has its successor stamp
+pub record NamesTransaction (block : Block) : Type 0 where
+  -- it is of one of the sessions
+  pub seat_low : 1 ≤ block.seat
+  pub seat_high : block.seat ≤ SEATS
+  -- its number in the session, of 32 bits, isn't 0
+  pub number_low : 1 ≤ block.number
+  pub number_high : block.number < 2 ^ 32
+  -- it wrote no more rows than a block has
+  pub few : block.n ≤ BLOCK_ROWS
+  -- the successor stamp is from 1 to the commit stamp
+  pub succ_low : 1 ≤ block.succ
+  pub succ_high : block.succ ≤ block.stamp
+
+-- the transaction committed: the block has the rows that it wrote
+pub record IsCommit (block : Block) (run_before : ℕ) : Type 0 where
+  pub transaction : NamesTransaction block
+  -- it is of the same run as the block before
+  pub run : block.run ≡ run_before
+  pub size : block.size ≡ FRAME_WORDS + ENTRY_WORDS * block.n
+  pub count : length block.rows.items ≡ block.n
+  pub rows : AreEntries block.rows.items
+
+-- the transaction was excluded: its place in the log is passed over
+pub record IsSkip (block : Block) (run_before : ℕ) : Type 0 where
+  pub transaction : NamesTransaction block
+  -- it is of the same run as the block before
+  pub run : block.run ≡ run_before
+  pub size : block.size ≡ FRAME_WORDS + ENTRY_WORDS * block.n
+  pub no_rows : block.rows.items ≡ []
+
+-- a run of the engine opens: it is about no transaction
+pub record IsOpen (block : Block) (run_before : ℕ) : Type 0 where
+  -- it is of a later run than the block before, and so not of run 0
+  pub run : run_before < block.run
+  pub size : block.size ≡ FRAME_WORDS
+  pub no_seat : block.seat ≡ 0
+  pub no_number : block.number ≡ 0
+  pub no_count : block.n ≡ 0
+  pub no_succ : block.succ ≡ 0
+  pub no_rows : block.rows.items ≡ []
+
+-- what a block of this kind keeps
+abbrev pub KeepsRulesOf : Kind → Block → ℕ → Type 0
+KeepsRulesOf Commit block run_before = IsCommit block run_before
+KeepsRulesOf Skip block run_before = IsSkip block run_before
+KeepsRulesOf Open block run_before = IsOpen block run_before
+
+-- a block of the grammar at this place of the log, behind a block of this run
+pub record IsBlock (block : Block) (at run_before : ℕ) : Type 0 where
+  -- its stamp is its place
+  pub stamp : block.stamp ≡ at
+  -- the log has room for it
+  pub end : at + block.size ≤ LOG_END
+  -- the run has 44 bits
+  pub run : block.run < RUN_END
+  -- it keeps the rules of its kind
+  pub rules : KeepsRulesOf block.kind block run_before

@@ -1,0 +1,64 @@
+//! What a block of the log says.
+use arrayvec::ArrayVec;
+use erm_model::{Oid, ROW_WORDS, Row, Seat, Stamp};
+
+/// How many words an entry has: an object's number and its row.
+pub const ENTRY_WORDS: usize = 1 + ROW_WORDS;
+
+/// How many words a block has before its payload.
+pub const HEAD_WORDS: usize = 4;
+
+/// How many words a block has around its payload: those before it, and the digest.
+pub const FRAME_WORDS: usize = HEAD_WORDS + 1;
+
+/// The most rows that a block has.
+pub const BLOCK_ROWS: usize = 64;
+
+/// The most words that a block has.
+pub const BLOCK_WORDS: usize = FRAME_WORDS + ENTRY_WORDS * BLOCK_ROWS;
+
+/// How many objects there may be: their numbers are below.
+pub const OID_LIMIT: u32 = 1024;
+
+/// The seats of sessions are from 1 to this one.
+pub const SEATS: u8 = 16;
+
+/// Runs are below.
+pub const RUN_END: u64 = 1 << 44;
+
+/// Where the log ends: no block ends behind it.
+pub const LOG_END: u64 = 1 << 61;
+
+/// What a block is about.
+#[derive(Clone, Copy, Debug, PartialEq, Eq)]
+pub enum Kind {
+    /// A transaction that committed, with the rows that it wrote.
+    Commit = 1,
+    /// A transaction that was excluded: its place is passed over.
+    Skip = 2,
+    /// A run of the engine that opens.
+    Open = 3,
+}
+
+/// A block of the log.
+#[derive(Debug, Drop, PartialEq, Eq)]
+pub struct Block {
+    /// What it is about.
+    pub kind: Kind,
+    /// The run of the engine that wrote it.
+    pub run: u64,
+    /// Its place in the log, which is the commit stamp.
+    pub stamp: Stamp,
+    /// The transaction's successor stamp, or 0 where it is about none.
+    pub succ: Stamp,
+    /// The transaction's session, or 0.
+    pub seat: Seat,
+    /// The transaction's number in its session, or 0.
+    pub number: u32,
+    /// How many rows the transaction wrote.
+    pub n: u16,
+    /// How many words it has.
+    pub size: u16,
+    /// The rows that a committed transaction wrote, in the order of its claims.
+    pub rows: ArrayVec<(Oid, Row), BLOCK_ROWS>,
+}

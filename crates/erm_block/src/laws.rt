@@ -1,0 +1,45 @@
+//! Laws of the grammar of blocks.
+ghost use Rattle.std.specs.Prelude.{◌≡◌, ℕ, ◌++◌, List, [], ◌∷◌, length};
+ghost use Rattle.erm_model.specs.History.{Rows};
+ghost use Rattle.erm_block.specs.declared.block.Block.{Block};
+ghost use Rattle.erm_block.specs.Block.{IsBlock};
+ghost use Rattle.erm_block.specs.Spelling.{spelling};
+ghost use Rattle.erm_block.specs.LogList.{Continues, IsChain, IsLogList, end_of};
+
+/// A block is spelled in as many words as its size says.
+pub fn spelling_size()
+    ensures { (block : Block) (at run_before : ℕ) → IsBlock block at run_before → length (spelling block) ≡ block.size }
+{}
+
+/// No block's spelling begins another's: where two stand at one place they are one block.
+pub fn one_spelling()
+    ensures { (a b : Block) (at_a run_a at_b run_b : ℕ) (x y : List ℕ) → IsBlock a at_a run_a → IsBlock b at_b run_b
+        → spelling a ++ x ≡ spelling b ++ y → a ≡ b }
+{}
+
+/// What makes the rows of all objects sound.
+pub trait RowRule {
+    /// These rows are sound.
+    ghost sound: { Rows → Type 0 };
+}
+
+/// Words have one log list from a place with a run and rows on.
+pub fn one_log_list<R: RowRule>()
+    ensures { (words : List ℕ) (at run : ℕ) (rows : Rows) (a b : List Block)
+        → IsLogList R.sound words at run rows a → IsLogList R.sound words at run rows b → a ≡ b }
+{}
+
+/// A block that goes on from the end of a chain makes it longer.
+pub fn chain_grows<R: RowRule>()
+    ensures { (words : List ℕ) (at run : ℕ) (rows : Rows) (blocks : List Block) (block : Block)
+        → IsChain R.sound words at run rows blocks → Continues R.sound (end_of words at run rows blocks) block
+        → IsChain R.sound words at run rows (blocks ++ block ∷ []) }
+{}
+
+/// A chain from whose end no block goes on is the log list.
+pub fn chain_ends<R: RowRule>()
+    ensures { (words : List ℕ) (at run : ℕ) (rows : Rows) (blocks : List Block)
+        → IsChain R.sound words at run rows blocks
+        → ((block : Block) → Continues R.sound (end_of words at run rows blocks) block → ⊥)
+        → IsLogList R.sound words at run rows blocks }
+{}

@@ -1,0 +1,21 @@
+//! Log blocks: what they are, their one spelling in words, and reading them.
+#![tactic(auto)]
+
+mod block;
+mod check;
+mod encode;
+mod laws;
+mod read;
+mod words;
+
+pub use block::{
+    BLOCK_ROWS, BLOCK_WORDS, Block, ENTRY_WORDS, FRAME_WORDS, HEAD_WORDS, Kind, LOG_END, OID_LIMIT,
+    RUN_END, SEATS,
+};
+pub use check::is_block;
+pub use encode::encode_into;
+pub use laws::{RowRule, chain_ends, chain_grows, one_log_list, one_spelling, spelling_size};
+pub use read::read_block;
+
+#[cfg(test)]
+mod tests;

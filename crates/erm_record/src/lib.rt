@@ -1,0 +1,163 @@
+//! The rows of records: that there is no value, or which value there is.
+#![tactic(auto)]
+
+ghost use Rattle.std.specs.Prelude.{◌≡◌, ◌≤◌, ℕ, List, length, Some, IfSome};
+ghost use Rattle.erm_record.specs.Record.{IsValue, absent_row, padded, value_row};
+
+use erm_bytes::{bytes_again, read_words, write_words};
+use erm_model::{ROW_WORDS, Row, VALUE_BYTES, Value};
+
+/// The kind of the row of a record without a value.
+pub const ABSENT: u64 = 1;
+
+/// The kind of the row of a record with a value.
+pub const PRESENT: u64 = 2;
+
+/// The row of a record without a value.
+pub fn absent() -> Row
+    ensures { result ≡ absent_row }
+{
+    let mut row = [0; ROW_WORDS];
+    row[0] = ABSENT;
+    row
+}
+
+/// The row of a record with this value.
+pub fn row_of(value: &Value) -> Row
+    ensures { result ≡ value_row value.now }
+{
+    let bytes = value.as_slice();
+    let mut row = [0; ROW_WORDS];
+    row[0] = PRESENT;
+    row[1] = bytes.len() as u64;
+    read_words(&padded_bytes(bytes), &mut row[2..]);
+    row
+}
+
+// The bytes with zeros after them.
+fn padded_bytes(bytes: &[u8]) -> [u8; VALUE_BYTES]
+    requires { length bytes.now ≤ VALUE_BYTES }
+    ensures { result ≡ padded bytes.now }
+{
+    let mut out = [0; VALUE_BYTES];
+    out[..bytes.len()].copy_from_slice(bytes);
+    out
+}
+
+/// The value of a record, or `None` where the row isn't that of a value. Reading is strict: any other word anywhere is
+/// refused.
+pub fn value_of(row: &Row) -> Option<Value>
+    ensures found { IfSome result (λ value. IsValue value × row.now ≡ value_row value) }
+    ensures given { (bytes : List ℕ) → IsValue bytes → row.now ≡ value_row bytes → result ≡ Some bytes }
+{
+    let bytes = bytes_of_row(row);
+    value_with_row(bytes.get(..row[1] as usize)?, row)
+}
+
+// The value of these bytes, or `None` where the row is another.
+fn value_with_row(bytes: &[u8], row: &Row) -> Option<Value>
+    ensures found { IfSome result (λ value. IsValue value × row.now ≡ value_row value) }
+    ensures given { IsValue bytes.now → row.now ≡ value_row bytes.now → result ≡ Some bytes.now }
+{
+    let value = Value::new(bytes)?;
+    (row_of(&value) == *row).then_some(value)
+}
+
+// The bytes of the words behind the length.
+fn bytes_of_row(row: &Row) -> [u8; VALUE_BYTES]
+    ensures { (bytes : List ℕ) → IsValue bytes → row.now ≡ value_row bytes → result ≡ padded bytes }
+{
+    bytes_again();
+    let mut bytes = [0; VALUE_BYTES];
+    write_words(&row[2..], &mut bytes);
+    bytes
+}
+
+/// Two values have two rows.
+pub fn one_value()
+    ensures { (a b : List ℕ) → IsValue a → IsValue b → value_row a ≡ value_row b → a ≡ b }
+{
+    bytes_again();
+}
+
+#[cfg(test)]
+mod tests {
+    use super::*;
+
+    #[test]
+    fn three_bytes(rt: HostRuntime) {
+        let row = [2, 3, 0x63_62_61, 0, 0, 0, 0, 0, 0, 0, 0, 0, 0, 0, 0, 0];
+        let value = Value::new(b"abc").expect(&rt, "three bytes are a value");
+        assert_eq!(rt; row_of(&value), row);
+        assert_eq!(rt; value_of(&row), Some(value));
+        assert_eq!(rt; absent(), [1, 0, 0, 0, 0, 0, 0, 0, 0, 0, 0, 0, 0, 0, 0, 0]);
+        assert_eq!(rt; value_of(&absent()), None);
+        one_value();
+    }
+
+    // The row of eight bytes.
+    const EIGHT: Row = [
+        2,
+        8,
+        0x68_67_66_65_64_63_62_61,
+        0,
+        0,
+        0,
+        0,
+        0,
+        0,
+        0,
+        0,
+        0,
+        0,
+        0,
+        0,
+        0,
+    ];
+
+    // One bit of the row changed, and whether a value has that row.
+    #[test]
+    fn other_rows(rt: HostRuntime) {
+        for (word, flipped, found) in [
+            (0, 1, false),
+            (0, 2, false),
+            (2, 1, true),
+            (3, 1, false),
+            (15, 1 << 63, false),
+        ] {
+            let mut other = EIGHT;
+            other[word] ^= flipped;
+            assert_eq!(rt; value_of(&other).is_some(), found, "word {word}, {flipped}");
+        }
+        assert_eq!(rt; value_of(&[0; ROW_WORDS]), None);
+    }
+
+    // Another length in the row, and whether a value has that row. A longer one ends in zeros.
+    #[test]
+    fn other_lengths(rt: HostRuntime) {
+        for (length, found) in [
+            (0, false),
+            (7, false),
+            (9, true),
+            (112, true),
+            (113, false),
+            (136, false),
+            ((1 << 63) + 8, false),
+        ] {
+            let mut other = EIGHT;
+            other[1] = length;
+            assert_eq!(rt; value_of(&other).is_some(), found, "length {length}");
+        }
+    }
+
+    #[test]
+    fn each_length(rt: HostRuntime) {
+        let bytes = [0xa5; VALUE_BYTES];
+        for len in 0..=VALUE_BYTES {
+            let value = Value::new(&bytes[..len]).expect(&rt, "at most 112 bytes are a value");
+            let row = row_of(&value);
+            assert_eq!(rt; row[1], len as u64);
+            assert_eq!(rt; value_of(&row), Some(value));
+        }
+    }
+}
