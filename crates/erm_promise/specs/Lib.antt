@@ -1,0 +1,4 @@
+pub mod GoodReport
+pub mod Script
+pub mod Texts
+pub mod Transactions

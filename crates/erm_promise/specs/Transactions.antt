@@ -1,0 +1,120 @@
+-- The transactions that a report speaks of, read off the script's lines and their answers alone.
+use Rattle.std.specs.Prelude.{ℕ, ◌+◌, ◌==◌, if◌then◌else◌, List, [], ◌∷◌, ◌++◌, length, Option, Some, None}
+use Rattle.std.specs.List.{fold, filter_map, flat_map, range_with_len}
+use Rattle.std.specs.Option.{option_map, option_to_list}
+use Rattle.erm_model.specs.declared.operation.Op.{Op}
+use Rattle.erm_model.specs.declared.operation.Op.TheVariants as op
+use Rattle.erm_model.specs.declared.operation.Reply.{Reply}
+use Rattle.erm_model.specs.declared.outcome.Phase.{Phase}
+use Rattle.erm_model.specs.declared.outcome.Phase.TheVariants.{Idle, Active}
+use Rattle.erm_model.specs.Run.{Step}
+use Rattle.erm_model.specs.Committed.{Committed}
+use Rattle.erm_promise.specs.declared.answer.Answer.{Answer}
+use Rattle.erm_promise.specs.declared.answer.Answer.TheVariants as answer
+use Rattle.erm_promise.specs.declared.script.Command.{Command}
+use Rattle.erm_promise.specs.declared.script.Command.TheVariants as command
+use Rattle.erm_promise.specs.declared.script.ScriptLine.{ScriptLine}
+
+-- one place of a report: which session, what operation it asked for, if it did, and what it was answered
+pub record Said : Type 0 where
+  pub session : ℕ
+  pub asked : Option Op
+  pub answer : Answer
+
+-- the operation that a command asks for
+abbrev pub op_of : Command → Option Op
+op_of command.Begin = None
+op_of (command.Get table key) = Some (op.Get table key)
+op_of (command.Put table key value) = Some (op.Put table key value)
+op_of command.Commit = None
+
+-- the lines of a script beside their answers
+abbrev pub said_of : List ScriptLine → List Answer → List Said
+said_of [] answers = []
+said_of (l ∷ ls) [] = []
+said_of (l ∷ ls) (a ∷ answers) = record { session = l.session; asked = op_of l.command; answer = a } ∷ said_of ls answers
+
+-- how a transaction ended
+pub data Ending : Type 0 where
+  Unfinished : Ending
+  Commits : (stamp succ pred : ℕ) → Ending
+  Aborts : Ending
+
+-- a transaction: its session and number, its begin stamp, its operations that were answered with their replies, and how
+-- it ended
+pub record Transaction : Type 0 where
+  pub session : ℕ
+  pub number : ℕ
+  pub begin : ℕ
+  pub steps : List Step
+  pub ending : Ending
+
+-- a session's transactions: those that are over, in turn, and the one that is not
+pub record Progress : Type 0 where
+  pub over : List Transaction
+  pub current : Option Transaction
+
+-- no transaction yet
+abbrev pub nothing : Progress
+nothing = record { over = []; current = None }
+
+-- the session's next transaction, with this begin stamp
+abbrev pub begun : ℕ → ℕ → Progress → Transaction
+begun session begin p = record { session = session; number = length p.over + 1; begin = begin; steps = []; ending = Unfinished }
+
+-- a transaction after one more reply
+abbrev pub replied : Option Op → Reply → Transaction → Transaction
+replied None reply t = t
+replied (Some op) reply t = record t { steps = t.steps ++ record { op = op; reply = reply } ∷ [] }
+
+-- a transaction after its end
+abbrev pub with_ending : Ending → Transaction → Transaction
+with_ending ending t = record t { ending = ending }
+
+-- the current transaction is over
+abbrev pub ended : Ending → Progress → Progress
+ended ending p = record { over = p.over ++ option_to_list (option_map (with_ending ending) p.current); current = None }
+
+-- a session's transactions after one more answer: a begin opens the next, a reply belongs to the current one, and an end
+-- ends it. A refused line changes nothing.
+abbrev pub heard : ℕ → Option Op → Answer → Progress → Progress
+heard session asked (answer.Began begin) p = record p { current = Some (begun session begin p) }
+heard session asked (answer.Replied reply) p = record p { current = option_map (replied asked reply) p.current }
+heard session asked (answer.Committed stamp succ pred) p = ended (Commits stamp succ pred) p
+heard session asked answer.Aborted p = ended Aborts p
+heard session asked answer.NotIdle p = p
+heard session asked answer.NoTransaction p = p
+
+-- a session's transactions, as its own places of the report have them
+abbrev pub progress_of : ℕ → List Said → Progress
+progress_of session said = fold (λ p s. if s.session == session then heard session s.asked s.answer p else p) nothing said
+
+-- all transactions of some sessions
+abbrev pub transactions_of : ℕ → List Said → List Transaction
+transactions_of sessions said = flat_map (λ session. (progress_of session said).over ++ option_to_list (progress_of session said).current) (range_with_len 1 sessions)
+
+-- a transaction that committed
+abbrev pub committed_of : Transaction → Option Committed
+committed_of t = committed_as t.ending t
+  where
+    committed_as : Ending → Transaction → Option Committed
+    committed_as Unfinished t = None
+    committed_as (Commits stamp succ pred) t = Some (record { session = t.session; number = t.number; begin = t.begin; stamp = stamp; succ = succ; pred = pred; steps = t.steps })
+    committed_as Aborts t = None
+
+-- the history: the transactions printed committed
+abbrev pub history_of : List Transaction → List Committed
+history_of transactions = filter_map committed_of transactions
+
+-- a session's phase after one more answer
+abbrev pub phase_after : Phase → Answer → Phase
+phase_after phase (answer.Began begin) = Active
+phase_after phase (answer.Replied reply) = phase
+phase_after phase (answer.Committed stamp succ pred) = Idle
+phase_after phase answer.Aborted = Idle
+phase_after phase answer.NotIdle = phase
+phase_after phase answer.NoTransaction = phase
+
+-- the phase that the answers to a session leave
+abbrev pub phase_of : ℕ → List Said → Phase
+phase_of session said = fold (λ phase s. if s.session == session then phase_after phase s.answer else phase) Idle said
