@@ -1,0 +1,49 @@
+//! Runs worked examples through the top call over memory, and prints a line for each. An example is a script in
+//! `NAME.script` and, in `NAME.report`, a line with the status and then the bytes that are to be put; `rows.txt` lists
+//! the names. Then come the longest script, faults of source and sink, and words that ask for no command.
+#![tactic(auto)]
+
+mod edges;
+mod memory;
+
+use anyhow::{Context, Result, ensure};
+use std::alloc::Global;
+use std::fs;
+use std::rt::Files;
+use std::sync::Wait;
+use std::thread::Threads;
+
+/// How many bytes source and sink move a call, one run of each example for each.
+const PER_CALL: [usize; 3] = [1, 7, 65536];
+
+fn main(rt: HostRuntime) -> Result<()> {
+    let names = fs::read_to_string(&rt, "rows.txt").context("rows.txt")?;
+    for name in names.lines() {
+        check_row(&rt, rt.alloc(), name).context(format_args!("{name}"))?;
+        println!(rt; "{name}: as expected")?;
+    }
+    edges::check(&rt, rt.alloc())?;
+    println!(rt; "edges: as expected")?;
+    Ok(())
+}
+
+// Runs an example at each size of call, and compares status and bytes.
+fn check_row<R: Files + AllocGlobal + Threads + Wait + Sync>(
+    rt: &R,
+    alloc: Global,
+    name: &str,
+) -> Result<()> {
+    let script = fs::read(rt, format!(in alloc; "{name}.script")?.as_str())?;
+    let report = fs::read(rt, format!(in alloc; "{name}.report")?.as_str())?;
+    for per_call in PER_CALL {
+        let found = memory::run(rt, alloc, script.as_slice(), per_call)?;
+        let mut shown = found.status.to_string(alloc)?.into_bytes();
+        shown.push(b'\n')?;
+        shown.extend_from_slice(found.bytes.as_slice())?;
+        ensure!(
+            shown.as_slice() == report.as_slice(),
+            "other bytes at {per_call} a call"
+        );
+    }
+    Ok(())
+}

@@ -1,0 +1,133 @@
+//! The command `run`.
+ghost use Rattle.std.specs.Prelude.{◌≡◌, ◌≢◌, ℕ, ◌+◌, ◌≤◌, ◌⊎◌, [], length, Some, IfOk, IfSome, OnOk, Err};
+ghost use Rattle.erm_outside.specs.Faults.{Rose};
+ghost use Rattle.erm_promise.specs.Script.{IsFirstBadLine};
+ghost use Rattle.erm_promise.specs.Texts.{line_text};
+ghost use Rattle.erm_promise.specs.declared.line.Line.TheVariants as line;
+ghost use Rattle.erm_top.specs.Outcomes.{HasReport, RunEnds, WasReadWith};
+ghost use Rattle.erm_top.specs.Statuses.{Prints, TakesAtMost, TakesMore};
+
+use crate::parse::{ParseError, parse};
+use crate::reading::{ReadError, SCRIPT_BYTES, read_all};
+use crate::run::run;
+use crate::text::{NO_MEMORY, READ_FAULT, TOO_LONG, push_line, text};
+use erm_outside::{Sink, Source, put_all};
+use erm_promise::Line;
+use std::alloc::{AllocError, Global};
+
+/// Why there is no report.
+#[derive(Drop)]
+enum Stop {
+    Memory,
+    ReadFault,
+    TooLong,
+    BadLine(u32),
+}
+
+impl From<AllocError> for Stop {
+    ghost use Rattle.std.specs.Prelude.{◌≡◌};
+    ghost use Rattle.erm_top.specs.declared.command.Stop.TheVariants.{Memory};
+
+    ghost from_gives = { λ _ stop. stop ≡ Memory };
+
+    fn from(_: AllocError) -> Stop {
+        Stop::Memory
+    }
+}
+
+/// Reads a script from the source to its end, runs it, and puts the report. It answers the status.
+pub fn run_command<S: Source, K: Sink>(alloc: Global, source: &mut S, sink: &mut K) -> u8
+    ensures { RunEnds result (record {
+      left_before = S.left source.old;
+      left_after = S.left source.new;
+      source_before = S.faults source.old;
+      source_after = S.faults source.new;
+      written_before = K.written sink.old;
+      written_after = K.written sink.new;
+      sink_before = K.faults sink.old;
+      sink_after = K.faults sink.new;
+    }) }
+{
+    match report(alloc, source) {
+        Ok(text) => match put_all(sink, &text) {
+            Ok(()) => 0,
+            Err(_) => 5,
+        },
+        Err(Stop::BadLine(number)) => print_bad_line(alloc, sink, number),
+        Err(Stop::ReadFault) => {
+            print(sink, READ_FAULT);
+            4
+        }
+        Err(Stop::Memory) => {
+            print(sink, NO_MEMORY);
+            8
+        }
+        Err(Stop::TooLong) => {
+            print(sink, TOO_LONG);
+            9
+        }
+    }
+}
+
+// Reads a script from the source to its end, runs it, and makes the text of its report.
+fn report<S: Source>(alloc: Global, source: &mut S) -> Result<Vec<u8>, Stop>
+    ensures report { IfOk result (λ text. WasReadWith (λ bytes. HasReport bytes text.items) (S.left source.old) (S.left source.new)) }
+    ensures bad_line { (n : ℕ) → result ≡ Err (Stop.BadLine n)
+        → WasReadWith (λ bytes. IsFirstBadLine bytes n) (S.left source.old) (S.left source.new) }
+    ensures sound { OnOk result (S.faults source.new ≡ S.faults source.old) }
+    ensures bad_line_sound { (n : ℕ) → result ≡ Err (Stop.BadLine n) → S.faults source.new ≡ S.faults source.old }
+    ensures too_long_sound { result ≡ Err Stop.TooLong → S.faults source.new ≡ S.faults source.old }
+    ensures fault { result ≡ Err Stop.ReadFault → Rose (S.faults source.old) (S.faults source.new) }
+    ensures too_long { result ≡ Err Stop.TooLong → TakesMore SCRIPT_BYTES (S.left source.old) (S.left source.new) }
+    ensures taken { TakesAtMost (SCRIPT_BYTES + 1) (S.left source.old) (S.left source.new) }
+{
+    match read_all(alloc, source) {
+        Ok(bytes) => answer(alloc, &bytes),
+        Err(ReadError::Memory) => Err(Stop::Memory),
+        Err(ReadError::Fault) => Err(Stop::ReadFault),
+        Err(ReadError::TooLong) => Err(Stop::TooLong),
+    }
+}
+
+// Runs the script that these bytes spell, and makes the text of its report.
+fn answer(alloc: Global, bytes: &[u8]) -> Result<Vec<u8>, Stop>
+    requires { length bytes.now ≤ SCRIPT_BYTES }
+    ensures report { IfOk result (λ text. HasReport bytes.now text.items) }
+    ensures bad_line { (n : ℕ) → result ≡ Err (Stop.BadLine n) → IsFirstBadLine bytes.now n }
+    ensures no_fault { result ≢ Err Stop.ReadFault }
+    ensures not_long { result ≢ Err Stop.TooLong }
+{
+    let script = match parse(alloc, bytes) {
+        Ok(script) => script,
+        Err(ParseError::Memory) => return Err(Stop::Memory),
+        Err(ParseError::BadLine(number)) => return Err(Stop::BadLine(number)),
+    };
+    let lines = run(alloc, &script.names, &script.lines)?;
+    Ok(text(alloc, &lines)?)
+}
+
+// Prints the first bad line of a script, and answers the status: 3, or 8 where memory runs out.
+fn print_bad_line<K: Sink>(alloc: Global, sink: &mut K, number: u32) -> u8
+    ensures known { (result ≡ 3) ⊎ (result ≡ 8) }
+    ensures bad_line { result ≡ 3 → Prints (line_text (line.BadLine number)) (K.written sink.old) (K.written sink.new) (K.faults sink.old) (K.faults sink.new) }
+    ensures no_memory { result ≡ 8 → Prints (line_text line.NoMemory) (K.written sink.old) (K.written sink.new) (K.faults sink.old) (K.faults sink.new) }
+{
+    let mut out = Vec::new(alloc);
+    match push_line(&mut out, &Line::BadLine { line: number }) {
+        Ok(()) => {
+            print(sink, &out);
+            3
+        }
+        Err(_) => {
+            print(sink, NO_MEMORY);
+            8
+        }
+    }
+}
+
+/// Puts a text, or as much of it as the sink takes before it fails.
+pub fn print<K: Sink>(sink: &mut K, text: &[u8])
+    ensures { Prints text.now (K.written sink.old) (K.written sink.new) (K.faults sink.old) (K.faults sink.new) }
+{
+    let _ = put_all(sink, text);
+}

@@ -1,0 +1,142 @@
+//! The top call.
+ghost use Rattle.std.specs.Prelude.{◌≡◌, ℕ, ◌+◌, ◌≤◌, ◌⊎◌, ◌↔◌, List, length, IsTrue, Some};
+ghost use Rattle.erm_outside.specs.Faults.{Rose};
+ghost use Rattle.erm_outside.specs.Sink.{Puts, PutsFront};
+ghost use Rattle.erm_promise.specs.Texts.{line_text, text_of};
+ghost use Rattle.erm_promise.specs.Script.{IsScript, IsFirstBadLine};
+ghost use Rattle.erm_promise.specs.declared.line.Line.TheVariants as line;
+ghost use Rattle.erm_promise.specs.declared.line.Line.{Line as PrintedLine};
+ghost use Rattle.erm_promise.specs.declared.script.ScriptLine.{ScriptLine as LineOfScript};
+ghost use Rattle.erm_top.specs.Statuses.{AreRunWords, Reports, Prints, TakesAtMost, TakesMore, IsStatus};
+ghost use Rattle.erm_top.specs.Outcomes.{Ends, WasReadWith};
+
+use crate::command::{print, run_command};
+use crate::reading::SCRIPT_BYTES;
+use crate::text::USAGE;
+use erm_outside::{Disk, Gate, Sink, Source};
+use std::alloc::Global;
+use std::sync::Wait;
+use std::thread::Threads;
+
+/// What the top call hands back.
+#[derive(Drop)]
+pub struct Ended<D> {
+    /// The exit status.
+    pub status: u8,
+    /// The disk that was handed in.
+    pub disk: D,
+}
+
+/// The whole program: what the words of the command line ask for, over a source of bytes and a sink.
+///
+/// `words` are the program's name and the command `run`. `run` reads a script from the source to its end, runs it and
+/// puts its report. The disk is left alone. The status is
+///
+/// - 0 where the report was put whole;
+/// - 2 exactly where the words are others; the usage line was printed;
+/// - 3 where the script is not in the grammar; the first bad line was printed;
+/// - 4 where the source failed;
+/// - 5 where the sink failed while the report was put;
+/// - 8 where memory ran out;
+/// - 9 where the source has more than 16,777,216 bytes.
+///
+/// Each clause on content stands where source and sink tell their content.
+pub fn ermia<R: Threads + Wait + Sync, S: Source, K: Sink, D: Disk + Send, G: Gate + Sync>(
+    _rt: &R,
+    alloc: Global,
+    words: &[String],
+    source: &mut S,
+    sink: &mut K,
+    disk: D,
+    _gate: &G,
+) -> Ended<D>
+    ensures disk { result.disk ≡ disk }
+    ensures known { IsStatus result.status }
+
+    // 0: the source was read to its end, and what was put is a good report of the script that its bytes spell. Nothing
+    // failed.
+    ensures report { result.status ≡ 0 → (lines : List PrintedLine)
+        × WasReadWith (λ bytes. Reports bytes lines) (S.left source.old) (S.left source.new)
+        × Puts (text_of lines) (K.written sink.old) (K.written sink.new) }
+    ensures sound { result.status ≡ 0 → (S.faults source.new ≡ S.faults source.old) × (K.faults sink.new ≡ K.faults sink.old) }
+
+    // 2: exactly where the words are not the program's name and `run`. The source is left alone.
+    ensures usage { (result.status ≡ 2) ↔ (AreRunWords words.now → ⊥) }
+    ensures usage_text { result.status ≡ 2 → Prints (line_text line.Usage)
+        (K.written sink.old) (K.written sink.new) (K.faults sink.old) (K.faults sink.new) }
+    ensures usage_source { result.status ≡ 2
+        → (S.left source.new ≡ S.left source.old) × (S.faults source.new ≡ S.faults source.old) }
+
+    // 3: the source was read to its end, and this is the first line that is not in the grammar.
+    ensures bad_line { result.status ≡ 3 → (number : ℕ)
+        × WasReadWith (λ bytes. IsFirstBadLine bytes number) (S.left source.old) (S.left source.new)
+        × Prints (line_text (line.BadLine number))
+        (K.written sink.old) (K.written sink.new) (K.faults sink.old) (K.faults sink.new) }
+
+    // 4: the source failed.
+    ensures read_fault { result.status ≡ 4 → Rose (S.faults source.old) (S.faults source.new) }
+    ensures read_fault_text { result.status ≡ 4 → Prints (line_text line.ReadFault)
+        (K.written sink.old) (K.written sink.new) (K.faults sink.old) (K.faults sink.new) }
+
+    // 5: the sink failed, and what was put is the front of a good report.
+    ensures sink_fault { result.status ≡ 5 → Rose (K.faults sink.old) (K.faults sink.new) }
+    ensures front { result.status ≡ 5 → (lines : List PrintedLine)
+        × WasReadWith (λ bytes. Reports bytes lines) (S.left source.old) (S.left source.new)
+        × PutsFront (text_of lines) (K.written sink.old) (K.written sink.new) }
+
+    // 8: memory ran out.
+    ensures no_memory_text { result.status ≡ 8 → Prints (line_text line.NoMemory)
+        (K.written sink.old) (K.written sink.new) (K.faults sink.old) (K.faults sink.new) }
+
+    // 9: more bytes were taken than a script has.
+    ensures too_long { result.status ≡ 9 → TakesMore SCRIPT_BYTES (S.left source.old) (S.left source.new) }
+    ensures too_long_text { result.status ≡ 9 → Prints (line_text line.TooLong)
+        (K.written sink.old) (K.written sink.new) (K.faults sink.old) (K.faults sink.new) }
+
+    // 3, 5 and 9 come only where the source did not fail.
+    ensures source_sound { (result.status ≡ 3) ⊎ (result.status ≡ 5) ⊎ (result.status ≡ 9)
+        → S.faults source.new ≡ S.faults source.old }
+
+    // Reading ends: no more bytes are taken than these.
+    ensures taken { TakesAtMost (SCRIPT_BYTES + 1) (S.left source.old) (S.left source.new) }
+
+    // A script that is not too long is run, unless memory runs out, where nothing fails.
+    ensures complete { (bytes : List ℕ) (names : List (List ℕ)) (script : List LineOfScript) → AreRunWords words.now
+        → S.left source.old ≡ Some bytes → length bytes ≤ SCRIPT_BYTES → IsScript bytes names script
+        → (Rose (S.faults source.old) (S.faults source.new) → ⊥) → (Rose (K.faults sink.old) (K.faults sink.new) → ⊥)
+        → (result.status ≡ 0) ⊎ (result.status ≡ 8) }
+{
+    let status = command(alloc, words, source, sink);
+    Ended { status, disk }
+}
+
+// Runs the command that the words ask for, or prints the usage line.
+fn command<S: Source, K: Sink>(alloc: Global, words: &[String], source: &mut S, sink: &mut K) -> u8
+    ensures { Ends words.now result (record {
+      left_before = S.left source.old;
+      left_after = S.left source.new;
+      source_before = S.faults source.old;
+      source_after = S.faults source.new;
+      written_before = K.written sink.old;
+      written_after = K.written sink.new;
+      sink_before = K.faults sink.old;
+      sink_after = K.faults sink.new;
+    }) }
+{
+    if is_run(words) {
+        run_command(alloc, source, sink)
+    } else {
+        print(sink, USAGE);
+        2
+    }
+}
+
+// Whether the words are the program's name and `run`.
+fn is_run(words: &[String]) -> bool
+    ensures { IsTrue result ↔ AreRunWords words.now }
+{
+    match words {
+        [_, command] => command.as_str() == "run",
+        _ => false,
+    }
+}
