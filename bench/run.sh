@@ -2,7 +2,7 @@
 # Measures `erm run` on scripts of 10^4, 10^5 and 10^6 lines, and prints a table of seconds and peak memory.
 #   bench/run.sh [PROGRAM]      PROGRAM is the launcher at the top, unless another is given
 # The kinds of script, each of one session:
-#   many-keys   short transactions of three puts and a get, on random keys out of a million
+#   many-keys   short transactions of two puts on random keys out of a thousand, a del and a get on keys out of a million
 #   few-keys    the same on sixteen keys, each of which so gets many versions
 #   many-gets   one transaction of gets, after one that puts the fifty keys that they read
 set -eu
@@ -22,14 +22,15 @@ kind, count = sys.argv[1], int(sys.argv[2])
 pick = random.Random(f"{kind} {count}")
 
 
-def short_transactions(keys):
+def short_transactions(keys, more):
     while True:
         yield "a begin"
-        for _ in range(3):
+        for _ in range(2):
             value = pick.choice(["-", f"{pick.randrange(256):02x}"])
             yield f"a put 0 {pick.randrange(keys)} {value}"
-        yield f"a get 0 {pick.randrange(keys)}"
-        yield "a commit"
+        yield f"a del 0 {pick.randrange(more)}"
+        yield f"a get 0 {pick.randrange(more)}"
+        yield from pick.choice([["a commit"], ["a seal", "a settle"], ["a abort"]])
 
 
 def many_gets(count, keys=50):
@@ -44,8 +45,8 @@ def many_gets(count, keys=50):
 
 
 lines = {
-    "many-keys": lambda: short_transactions(1_000_000),
-    "few-keys": lambda: short_transactions(16),
+    "many-keys": lambda: short_transactions(1_000, 1_000_000),
+    "few-keys": lambda: short_transactions(16, 16),
     "many-gets": lambda: many_gets(count),
 }[kind]()
 size = 0

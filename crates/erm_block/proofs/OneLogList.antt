@@ -1,6 +1,6 @@
 -- Words have one log list.
 use Rattle.std.proofs.Common.{◌≡◌, ℕ, ◌+◌, ◌≤◌, List, [], ◌∷◌, ◌++◌, length, drop, refl, sym, ap, ◌∙◌, subst, arith}
-use Rattle.erm_model.specs.History.{Rows}
+use Rattle.erm_model.specs.Rows.{Rows}
 use Rattle.erm_block.specs.declared.block.Block.{Block}
 use Rattle.erm_block.specs.LogList.{rows_after_block, Continues, end_of, IsChain, IsLogList}
 use Rattle.erm_block.proofs.OneSpelling.{same_from_spelling}

@@ -5,7 +5,8 @@ use Rattle.erm_model.specs.declared.TheConstants.{ROW_WORDS}
 use Rattle.erm_block.specs.declared.block.Block.{Block}
 use Rattle.erm_block.specs.declared.block.Kind.{Kind}
 use Rattle.erm_block.specs.declared.block.Kind.TheVariants.{Commit, Skip, Open}
-use Rattle.erm_block.specs.declared.block.TheConstants.{BLOCK_ROWS, ENTRY_WORDS, FRAME_WORDS, LOG_END, OID_LIMIT, RUN_END, SEATS}
+use Rattle.erm_block.specs.declared.block.TheConstants.{BLOCK_ROWS, ENTRY_WORDS, FRAME_WORDS, LOG_END, RUN_END}
+use Rattle.erm_model.specs.declared.limits.TheConstants.{OID_LIMIT, SEATS}
 
 -- an object's number, and its row
 abbrev pub Entry : Type 0

@@ -1,6 +1,6 @@
 -- The log list: the longest chain of blocks from a place on. What makes rows sound is a parameter.
 use Rattle.std.specs.Prelude.{ℕ, ◌+◌, ◌≤◌, List, [], ◌∷◌, length, drop}
-use Rattle.erm_model.specs.History.{Rows, set_row}
+use Rattle.erm_model.specs.Rows.{Rows, set_row}
 use Rattle.erm_block.specs.declared.block.Block.{Block}
 use Rattle.erm_block.specs.declared.block.Kind.{Kind}
 use Rattle.erm_block.specs.declared.block.Kind.TheVariants.{Commit, Skip, Open}

@@ -1,6 +1,6 @@
 //! What a block of the log says.
 use arrayvec::ArrayVec;
-use erm_model::{Oid, ROW_WORDS, Row, Seat, Stamp};
+use erm_model::{Oid, ROW_WORDS, Row, Seat, Stamp, WRITE_LIMIT};
 
 /// How many words an entry has: an object's number and its row.
 pub const ENTRY_WORDS: usize = 1 + ROW_WORDS;
@@ -12,16 +12,10 @@ pub const HEAD_WORDS: usize = 4;
 pub const FRAME_WORDS: usize = HEAD_WORDS + 1;
 
 /// The most rows that a block has.
-pub const BLOCK_ROWS: usize = 64;
+pub const BLOCK_ROWS: usize = WRITE_LIMIT;
 
 /// The most words that a block has.
 pub const BLOCK_WORDS: usize = FRAME_WORDS + ENTRY_WORDS * BLOCK_ROWS;
-
-/// How many objects there may be: their numbers are below.
-pub const OID_LIMIT: u32 = 1024;
-
-/// The seats of sessions are from 1 to this one.
-pub const SEATS: u8 = 16;
 
 /// Runs are below.
 pub const RUN_END: u64 = 1 << 44;

@@ -3,10 +3,8 @@ ghost use Rattle.std.specs.Prelude.{◌≡◌, ◌≢◌, ◌↔◌, IsTrue};
 ghost use Rattle.std.specs.List.{All, AllPairs, Any};
 ghost use Rattle.erm_block.specs.Block.{AreEntries, IsBlock, IsCommit, IsEntry, IsOpen, IsSkip, KeepsRulesOf, NamesTransaction};
 
-use crate::{
-    BLOCK_ROWS, Block, ENTRY_WORDS, FRAME_WORDS, Kind, LOG_END, OID_LIMIT, RUN_END, SEATS,
-};
-use erm_model::{Oid, Row, Stamp};
+use crate::{BLOCK_ROWS, Block, ENTRY_WORDS, FRAME_WORDS, Kind, LOG_END, RUN_END};
+use erm_model::{OID_LIMIT, Oid, Row, SEATS, Stamp};
 
 /// Whether it is a block of the grammar at this place, behind a block of this run. Where it is one at its own stamp,
 /// `encode_into` can write it.

@@ -1,6 +1,6 @@
 //! Laws of the grammar of blocks.
 ghost use Rattle.std.specs.Prelude.{◌≡◌, ℕ, ◌++◌, List, [], ◌∷◌, length};
-ghost use Rattle.erm_model.specs.History.{Rows};
+ghost use Rattle.erm_model.specs.Rows.{Rows};
 ghost use Rattle.erm_block.specs.declared.block.Block.{Block};
 ghost use Rattle.erm_block.specs.Block.{IsBlock};
 ghost use Rattle.erm_block.specs.Spelling.{spelling};

@@ -9,8 +9,7 @@ mod read;
 mod words;
 
 pub use block::{
-    BLOCK_ROWS, BLOCK_WORDS, Block, ENTRY_WORDS, FRAME_WORDS, HEAD_WORDS, Kind, LOG_END, OID_LIMIT,
-    RUN_END, SEATS,
+    BLOCK_ROWS, BLOCK_WORDS, Block, ENTRY_WORDS, FRAME_WORDS, HEAD_WORDS, Kind, LOG_END, RUN_END,
 };
 pub use check::is_block;
 pub use encode::encode_into;

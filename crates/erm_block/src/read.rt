@@ -8,11 +8,10 @@ ghost use Rattle.erm_block.specs.Spelling.{StandsAt, entry_words, payload_of};
 use crate::check::is_block;
 use crate::words::{header_parts, name_parts};
 use crate::{
-    BLOCK_ROWS, BLOCK_WORDS, Block, ENTRY_WORDS, FRAME_WORDS, HEAD_WORDS, Kind, OID_LIMIT,
-    encode_into,
+    BLOCK_ROWS, BLOCK_WORDS, Block, ENTRY_WORDS, FRAME_WORDS, HEAD_WORDS, Kind, encode_into,
 };
 use arrayvec::ArrayVec;
-use erm_model::{Oid, ROW_WORDS, Row, Stamp};
+use erm_model::{OID_LIMIT, Oid, ROW_WORDS, Row, Stamp};
 
 /// Reads the block at the front of the words, which are the log's from `at` on, behind a block of this run. Where no
 /// block of the grammar stands there, it answers `None`. What follows the block isn't looked at.

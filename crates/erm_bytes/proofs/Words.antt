@@ -1,8 +1,8 @@
 -- Words and their bytes, in both directions.
 use Rattle.std.proofs.Common.{◌≡◌, ℕ, zero, suc, ◌+◌, ◌*◌, ◌^◌, ◌<◌, ◌≤◌, List, [], ◌∷◌, ◌++◌, length, get_or, take, drop, slice_index, refl, sym, ap, ◌∙◌, arith, length-drop}
-use Rattle.std.specs.Int.{w64, to_le_bytes, from_le_bytes}
+use Rattle.std.specs.Int.{w64, to_le_bytes, from_le_bytes, bytes_low_first, byte_at}
 use Rattle.std.proofs.lemmas.List.{get_or-take, get_or_past, drop-drop, take-append-drop, length-take-le}
-use Rattle.std.proofs.lemmas.List.Elements.{All-take, All-drop, All-head, All-tail}
+use Rattle.std.proofs.lemmas.List.Elements.{All-take, All-drop, All-head, All-tail, All-nil, All-cons, All-append}
 use Rattle.std.proofs.lemmas.Nat.{le_bytes_8, from_le_bytes-to_le_bytes_8}
 use Rattle.std.proofs.lemmas.Bool.{cases_lt}
 use Rattle.std.proofs.Common.{inl, inr}
@@ -68,3 +68,17 @@ pub same_words : (a b : List ℕ) → AreWords a → AreWords b → bytes_of a �
 same_words a b are_a are_b e =
     let same_length : length a ≡ length b = omega (arith, length-bytes_of a, length-bytes_of b, ap length e) in
     sym (words_of-bytes_of a are_a) ∙ ap (λ (n : ℕ). words_of n (bytes_of a)) same_length ∙ ap (words_of (length b)) e ∙ words_of-bytes_of b are_b
+
+byte_at-below : (i n : ℕ) → byte_at i n < 2 ^ 8
+byte_at-below zero n = omega arith
+byte_at-below (suc i) n = omega arith
+
+AreBytes-bytes_low_first : (i k n : ℕ) → AreBytes (bytes_low_first i k n)
+AreBytes-bytes_low_first i zero n = All-nil (λ b. b < 2 ^ 8)
+AreBytes-bytes_low_first i (suc k) n =
+    All-cons (λ b. b < 2 ^ 8) (byte_at i n) (bytes_low_first (suc i) k n) (byte_at-below i n) (AreBytes-bytes_low_first (suc i) k n)
+
+-- words have bytes
+pub AreBytes-bytes_of : (words : List ℕ) → AreBytes (bytes_of words)
+AreBytes-bytes_of [] = All-nil (λ b. b < 2 ^ 8)
+AreBytes-bytes_of (x ∷ xs) = All-append (λ b. b < 2 ^ 8) (to_le_bytes w64 x) (bytes_of xs) (AreBytes-bytes_low_first 0 8 x) (AreBytes-bytes_of xs)

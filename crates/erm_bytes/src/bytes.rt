@@ -34,6 +34,12 @@ pub fn words_again()
     ensures { (words : List ℕ) → AreWords words → words_of (length words) (bytes_of words) ≡ words }
 {}
 
+/// Words have bytes, eight each.
+pub fn words_have_bytes()
+    ensures count { (words : List ℕ) → length (bytes_of words) ≡ WORD_BYTES * length words }
+    ensures bytes { (words : List ℕ) → AreBytes (bytes_of words) }
+{}
+
 /// Bytes read as words and written again are the same bytes.
 pub fn bytes_again()
     ensures count { (n : ℕ) (bytes : List ℕ) → length (words_of n bytes) ≡ n }

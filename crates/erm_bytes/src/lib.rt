@@ -5,7 +5,8 @@ mod bytes;
 mod digest;
 
 pub use bytes::{
-    WORD_BYTES, bytes_again, read_words, same_bytes_same_words, words_again, write_words,
+    WORD_BYTES, bytes_again, read_words, same_bytes_same_words, words_again, words_have_bytes,
+    write_words,
 };
 pub use digest::digest_word;
 

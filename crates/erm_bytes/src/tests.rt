@@ -36,5 +36,6 @@ fn words_and_bytes(rt: HostRuntime) {
 fn laws() {
     same_bytes_same_words();
     words_again();
+    words_have_bytes();
     bytes_again();
 }

@@ -5,7 +5,8 @@ use Rattle.std.proofs.lemmas.Bool.{cases_order, cases_eq}
 use Rattle.erm_model.specs.declared.history.TransactionRecord.{TransactionRecord}
 use Rattle.erm_model.specs.Member.{◌∈◌}
 use Rattle.erm_model.specs.SerialOrder.{ComesBefore}
-use Rattle.erm_model.specs.History.{History, Rows, IsSnapshot, IsCertified, OverwritesNewest, IsMade, IsVersion, Makes, rank_of}
+use Rattle.erm_model.specs.History.{History, IsSnapshot, IsCertified, OverwritesNewest, IsMade, IsVersion, Makes, rank_of}
+use Rattle.erm_model.specs.Rows.{Rows}
 use Rattle.erm_core_ssn.proofs.Members.{one_element}
 use Rattle.erm_core_ssn.proofs.Orders.{ComesBefore-trans}
 use Rattle.erm_core_ssn.proofs.Forward.{Reads, goes_forward}

@@ -6,7 +6,8 @@ use Rattle.erm_model.specs.declared.history.TransactionRecord.{TransactionRecord
 use Rattle.erm_model.specs.declared.history.VersionRead.{VersionRead}
 use Rattle.erm_model.specs.Member.{◌∈◌}
 use Rattle.erm_model.specs.SerialOrder.{ComesBefore, IsSerialOrder}
-use Rattle.erm_model.specs.History.{History, Rows, IsSnapshot, IsCertified, Depends, ReadsFrom, OverwritesFrom, OverwritesReadOf, Overwrites, rank_of}
+use Rattle.erm_model.specs.History.{History, IsSnapshot, IsCertified, Depends, ReadsFrom, OverwritesFrom, OverwritesReadOf, Overwrites, rank_of}
+use Rattle.erm_model.specs.Rows.{Rows}
 use Rattle.erm_core_ssn.specs.Laws.{StandsAfterItsDependencies}
 use Rattle.erm_core_ssn.proofs.Members.{∈-permutation}
 use Rattle.erm_core_ssn.proofs.Orders.{place_before}

@@ -4,7 +4,8 @@ use Rattle.std.proofs.lemmas.Bool.{ltb-true, lt-ltb}
 use Rattle.erm_model.specs.declared.history.TransactionRecord.{TransactionRecord}
 use Rattle.erm_model.specs.declared.history.VersionWritten.{VersionWritten}
 use Rattle.erm_model.specs.Member.{◌∈◌}
-use Rattle.erm_model.specs.History.{History, Rows, IsSnapshot, IsCertified, ReadsSnapshot, OverwritesNewest, IsMade, IsVersion, IsNewestBelow, IsSuccessorStamp, IsPredecessorStamp, CountsForPred, CountsForSucc, HasNewestRows, below}
+use Rattle.erm_model.specs.History.{History, IsSnapshot, IsCertified, ReadsSnapshot, OverwritesNewest, IsMade, IsVersion, IsNewestBelow, IsSuccessorStamp, IsPredecessorStamp, CountsForPred, CountsForSucc, HasNewestRows, below}
+use Rattle.erm_model.specs.Rows.{Rows}
 use Rattle.erm_core_ssn.proofs.Members.{∈-filter, ∈-filter_from, TellsApart-filter}
 
 module _ (h : History) (bound : ℕ) where

@@ -5,7 +5,8 @@ use Rattle.erm_model.specs.declared.history.TransactionRecord.{TransactionRecord
 use Rattle.erm_model.specs.declared.history.VersionWritten.{VersionWritten}
 use Rattle.erm_model.specs.Member.{◌∈◌}
 use Rattle.erm_model.specs.SerialOrder.{ComesBefore, IsSerialOrder}
-use Rattle.erm_model.specs.History.{History, Rows, IsSnapshot, IsCertified, IsMade, IsVersion, IsNewestBelow, HasNewestRows, FindsItsRows, RunsSerially, Makes, set_row, after_writes, rows_after, rank_of}
+use Rattle.erm_model.specs.History.{History, IsSnapshot, IsCertified, IsMade, IsVersion, IsNewestBelow, HasNewestRows, FindsItsRows, RunsSerially, Makes, after_writes, rows_after, rank_of}
+use Rattle.erm_model.specs.Rows.{Rows, set_row}
 use Rattle.erm_model.proofs.Members.{none_in_nil, ∈-behind}
 use Rattle.erm_core_ssn.proofs.Members.{∈-head, ∈-cons, TellsApart, TellsApart-tail, TellsApart-head, one_element}
 use Rattle.erm_core_ssn.proofs.Orders.{ComesBefore-asym, IsCut, first_cut, next_cut, has_had_turn, no_turn_twice}

@@ -62,7 +62,7 @@ tied_numbers : (x y : ℕ) → is_eq (nat_cmp x y) ≡ (x == y)
 tied_numbers x y = grind (arith, nat_tests)
 
 -- keys tie exactly where their tables and their numbers are equal
-tied_keys : (t k table key : ℕ) → eq_by_cmp key_cmp (at t k) (at table key) ≡ ((t == table) && (k == key))
+pub tied_keys : (t k table key : ℕ) → eq_by_cmp key_cmp (at t k) (at table key) ≡ ((t == table) && (k == key))
 tied_keys t k table key =
     tied_then (nat_cmp t table) (nat_cmp k key)
     ∙ ap (λ b. b && is_eq (nat_cmp k key)) (tied_numbers t table)

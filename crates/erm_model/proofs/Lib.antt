@@ -2,4 +2,5 @@ pub mod Determined
 pub mod Keys
 pub mod Members
 mod Ranges
+pub mod RowCalls
 pub mod Runs

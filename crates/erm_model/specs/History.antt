@@ -1,20 +1,17 @@
 -- Histories of committed transactions over versions of objects: the dependency graph, the stamps of the Serial Safety
 -- Net, snapshots, and the rows that a list of transactions leaves.
-use Rattle.std.specs.Prelude.{◌≡◌, ◌≢◌, ℕ, ◌<◌, ◌≤◌, ◌⊎◌, ◌==◌, nat_lt, false, if◌then◌else◌, List, [], ◌∷◌, Some}
+use Rattle.std.specs.Prelude.{◌≡◌, ◌≢◌, ℕ, ◌<◌, ◌≤◌, ◌⊎◌, nat_lt, false, List, [], ◌∷◌, Some}
 use Rattle.std.specs.List.{filter, slice_get}
 use Rattle.erm_model.specs.declared.history.VersionRead.{VersionRead}
 use Rattle.erm_model.specs.declared.history.VersionWritten.{VersionWritten}
 use Rattle.erm_model.specs.declared.history.TransactionRecord.{TransactionRecord}
 use Rattle.erm_model.specs.Member.{◌∈◌}
+use Rattle.erm_model.specs.Rows.{Rows, set_row}
 use Rattle.erm_model.specs.SerialOrder.{Rank, StampsDiffer}
 
 -- the committed transactions of one opening; the rows found at opening are versions of stamp 0
 abbrev pub History : Type 0
 History = List TransactionRecord
-
--- an array of rows, by object
-abbrev pub Rows : Type 0
-Rows = ℕ → List ℕ
 
 -- T made a version of this object
 abbrev pub Makes : TransactionRecord → ℕ → Type 0
@@ -112,10 +109,6 @@ IsSnapshot h opening = (t : TransactionRecord) → t ∈ h → ReadsSnapshot h o
 -- the history below a stamp
 abbrev pub below : ℕ → History → History
 below bound h = filter (λ t. nat_lt t.stamp bound) h
-
--- the rows after an object's row is set
-abbrev pub set_row : Rows → ℕ → List ℕ → Rows
-set_row rows oid row = λ x. if x == oid then row else rows x
 
 -- the rows after a transaction's writes
 abbrev pub after_writes : List VersionWritten → Rows → Rows

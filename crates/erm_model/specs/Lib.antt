@@ -2,5 +2,8 @@ pub mod Committed
 pub mod Database
 pub mod History
 pub mod Member
+pub mod RowTransaction
+pub mod Rows
 pub mod Run
 pub mod SerialOrder
+pub mod Spelling

@@ -4,9 +4,13 @@
 mod history;
 mod key;
 mod laws;
+mod limits;
 mod map;
+mod name;
 mod operation;
 mod outcome;
+mod row_stop;
+mod row_txn;
 mod run;
 #[cfg(test)]
 mod tests;
@@ -15,9 +19,13 @@ mod value;
 pub use history::{Commit, TransactionRecord, VersionRead, VersionWritten};
 pub use key::Key;
 pub use laws::replies_are_determined;
+pub use limits::{OID_LIMIT, READ_LIMIT, SEATS, TABLES, WRITE_LIMIT};
 pub use map::{Map, Pair};
+pub use name::{NAME_BYTES, Name};
 pub use operation::{Op, Reply};
 pub use outcome::{Outcome, Phase, Receipt};
+pub use row_stop::RowStop;
+pub use row_txn::{RowLaw, RowTxn};
 pub use run::run_one;
 pub use value::{VALUE_BYTES, Value};
 

@@ -9,15 +9,17 @@ use Rattle.erm_model.specs.Database.{Database, entries_of, AscendByKey}
 use Rattle.erm_model.specs.SerialOrder.{IsSerialOrder}
 use Rattle.erm_model.specs.Committed.{Committed, rank_of, HasSnapshotReplies, RunsInOrder}
 use Rattle.erm_model.specs.Member.{◌∈◌}
-use Rattle.erm_promise.specs.declared.answer.Answer.{Answer}
-use Rattle.erm_promise.specs.declared.answer.Answer.TheVariants as answer
-use Rattle.erm_promise.specs.declared.line.Line.{Line}
-use Rattle.erm_promise.specs.declared.line.Line.TheVariants as line
-use Rattle.erm_promise.specs.declared.script.Command.{Command}
-use Rattle.erm_promise.specs.declared.script.Command.TheVariants as command
-use Rattle.erm_promise.specs.declared.script.ScriptLine.{ScriptLine}
-use Rattle.erm_promise.specs.Script.{name_of}
-use Rattle.erm_promise.specs.Transactions.{Said, said_of, Transaction, transactions_of, history_of, phase_of}
+use Rattle.erm_report.specs.declared.answer.Answer.{Answer}
+use Rattle.erm_report.specs.declared.answer.Answer.TheVariants as answer
+use Rattle.erm_report.specs.declared.line.Line.{Line}
+use Rattle.erm_report.specs.declared.line.Line.TheVariants as line
+use Rattle.erm_script.specs.declared.script.Command.{Command}
+use Rattle.erm_script.specs.declared.script.Command.TheVariants as command
+use Rattle.erm_script.specs.declared.script.ScriptLine.{ScriptLine}
+use Rattle.erm_script.specs.Script.{name_of}
+use Rattle.erm_promise.specs.Transactions.{Said, said_of, Ending, Unfinished, Commits, Aborts, Transaction, transactions_of, history_of, phase_of}
+use Rattle.erm_promise.specs.Refusals.{refusal_in, refusal_of}
+use Rattle.erm_promise.specs.Causes.{HasCommitCause, HasRefusalCauses}
 
 -- a session that was closed at the end
 pub record Closed : Type 0 where
@@ -69,36 +71,30 @@ abbrev pub IsAnswerTo : Command → Answer → Type 0
 IsAnswerTo command.Begin (answer.Began begin) = Unit {0}
 IsAnswerTo command.Begin answer.NotIdle = Unit {0}
 IsAnswerTo (command.Get table key) (answer.Replied r) = Unit {0}
+IsAnswerTo (command.Get table key) answer.ReadsFull = Unit {0}
 IsAnswerTo (command.Get table key) answer.NoTransaction = Unit {0}
+IsAnswerTo (command.Get table key) answer.IsSealed = Unit {0}
 IsAnswerTo (command.Put table key value) (answer.Replied r) = Unit {0}
+IsAnswerTo (command.Put table key value) answer.WritesFull = Unit {0}
+IsAnswerTo (command.Put table key value) (answer.OidsFull drawn) = Unit {0}
 IsAnswerTo (command.Put table key value) answer.NoTransaction = Unit {0}
+IsAnswerTo (command.Put table key value) answer.IsSealed = Unit {0}
+IsAnswerTo (command.Del table key) (answer.Replied r) = Unit {0}
+IsAnswerTo (command.Del table key) answer.WritesFull = Unit {0}
+IsAnswerTo (command.Del table key) answer.NoTransaction = Unit {0}
+IsAnswerTo (command.Del table key) answer.IsSealed = Unit {0}
+IsAnswerTo command.Seal (answer.Sealed stamp) = Unit {0}
+IsAnswerTo command.Seal answer.NoTransaction = Unit {0}
+IsAnswerTo command.Seal answer.IsSealed = Unit {0}
+IsAnswerTo command.Settle (answer.Committed stamp succ pred) = Unit {0}
+IsAnswerTo command.Settle answer.NotSealed = Unit {0}
 IsAnswerTo command.Commit (answer.Committed stamp succ pred) = Unit {0}
 IsAnswerTo command.Commit answer.NoTransaction = Unit {0}
+IsAnswerTo command.Commit answer.IsSealed = Unit {0}
+IsAnswerTo command.Abort answer.Aborted = Unit {0}
+IsAnswerTo command.Abort answer.NoTransaction = Unit {0}
+IsAnswerTo command.Abort answer.IsSealed = Unit {0}
 IsAnswerTo command answer = ⊥
-
--- the refusal that a session's phase gives to a command, if it gives one
-abbrev pub refusal_of : Phase → Command → Option Answer
-refusal_of Idle command.Begin = None
-refusal_of Active command.Begin = Some answer.NotIdle
-refusal_of Sealed command.Begin = Some answer.NotIdle
-refusal_of Idle (command.Get table key) = Some answer.NoTransaction
-refusal_of Active (command.Get table key) = None
-refusal_of Sealed (command.Get table key) = None
-refusal_of Idle (command.Put table key value) = Some answer.NoTransaction
-refusal_of Active (command.Put table key value) = None
-refusal_of Sealed (command.Put table key value) = None
-refusal_of Idle command.Commit = Some answer.NoTransaction
-refusal_of Active command.Commit = None
-refusal_of Sealed command.Commit = None
-
--- an answer, where it is a refusal by a phase
-abbrev pub refusal_in : Answer → Option Answer
-refusal_in (answer.Began begin) = None
-refusal_in (answer.Replied r) = None
-refusal_in (answer.Committed stamp succ pred) = None
-refusal_in answer.Aborted = None
-refusal_in answer.NotIdle = Some answer.NotIdle
-refusal_in answer.NoTransaction = Some answer.NoTransaction
 
 -- Phases agree: a line is refused by its session's phase exactly where the session's earlier answers leave that phase,
 -- and else has an answer that its command may have.
@@ -109,6 +105,7 @@ pub record FitsPhase (phase : Phase) (command : Command) (answer : Answer) : Typ
 -- the answer that closes a session in this phase
 abbrev pub Closes : Phase → Answer → Type 0
 Closes Active answer.Aborted = Unit {0}
+Closes Sealed (answer.Committed stamp succ pred) = Unit {0}
 Closes phase answer = ⊥
 
 -- whether a phase is Idle
@@ -128,29 +125,53 @@ pub record ClosesAgree (sessions : ℕ) (said : List Said) (closed : List Closed
   pub each : map (λ c. c.session) closed ≡ filter (λ s. not (is_idle (phase_of s said))) (range_with_len 1 sessions)
   pub fits : (c : Closed) → c ∈ closed → Closes (phase_of c.session said) c.answer
 
--- the stamp of a commit that an answer tells
+-- the commit stamp that an answer tells
 abbrev pub commit_stamp : Answer → Option ℕ
 commit_stamp (answer.Began begin) = None
 commit_stamp (answer.Replied r) = None
+commit_stamp (answer.Sealed stamp) = Some stamp
 commit_stamp (answer.Committed stamp succ pred) = Some stamp
 commit_stamp answer.Aborted = None
 commit_stamp answer.NotIdle = None
 commit_stamp answer.NoTransaction = None
+commit_stamp answer.IsSealed = None
+commit_stamp answer.NotSealed = None
+commit_stamp answer.ReadsFull = None
+commit_stamp answer.WritesFull = None
+commit_stamp (answer.OidsFull drawn) = None
 
 -- the begin stamp that an answer tells
 abbrev pub begin_stamp : Answer → Option ℕ
 begin_stamp (answer.Began begin) = Some begin
 begin_stamp (answer.Replied r) = None
+begin_stamp (answer.Sealed stamp) = None
 begin_stamp (answer.Committed stamp succ pred) = None
 begin_stamp answer.Aborted = None
 begin_stamp answer.NotIdle = None
 begin_stamp answer.NoTransaction = None
+begin_stamp answer.IsSealed = None
+begin_stamp answer.NotSealed = None
+begin_stamp answer.ReadsFull = None
+begin_stamp answer.WritesFull = None
+begin_stamp (answer.OidsFull drawn) = None
+
+-- the commit stamp that an ending tells
+abbrev pub stamp_of_ending : Ending → Option ℕ
+stamp_of_ending Unfinished = None
+stamp_of_ending (Commits stamp succ pred) = Some stamp
+stamp_of_ending Aborts = None
+
+-- the stamp told when a transaction was sealed is the one that its outcome tells
+abbrev pub KeepsItsStamp : Transaction → Type 0
+KeepsItsStamp t = IfSome t.sealed (λ sealed. IfSome (stamp_of_ending t.ending) (λ stamp. stamp ≡ sealed))
 
 -- Stamps agree: those of commits differ, are at least the first stamp after the opening's block and at least their begin,
--- and a begin is above every commit stamp that an earlier line tells.
-pub record StampsAgree (first : ℕ) (commits : List Committed) (answers : List Answer) : Type 0 where
-  pub differ : AllPairs (λ c d. c.stamp ≢ d.stamp) commits
-  pub least : (c : Committed) → c ∈ commits → (first ≤ c.stamp) × (c.begin ≤ c.stamp)
+-- and are those that were told when their transactions were sealed; a begin is above every commit stamp that an earlier
+-- line tells.
+pub record StampsAgree (first : ℕ) (transactions : List Transaction) (answers : List Answer) : Type 0 where
+  pub differ : AllPairs (λ c d. c.stamp ≢ d.stamp) (history_of transactions)
+  pub least : (c : Committed) → c ∈ history_of transactions → (first ≤ c.stamp) × (c.begin ≤ c.stamp)
+  pub sealed : (t : Transaction) → t ∈ transactions → KeepsItsStamp t
   pub begins : AllPairs (λ a b. IfSome (commit_stamp a) (λ stamp. IfSome (begin_stamp b) (λ begin. stamp < begin))) answers
 
 -- Serial order: the order lines are the serial order of the transactions printed committed; run one after another in
@@ -166,7 +187,10 @@ pub record IsGoodReport (opening : Database) (stamp run : ℕ) (names : List (Li
   pub lines_ok : lines ≡ report_lines stamp run names script report
   pub phases : PhasesAgree script report.answers
   pub closes : ClosesAgree (length names) (said_of script report.answers) report.closed
-  pub stamps : StampsAgree (stamp + 5) (history (length names) script report) report.answers
+  pub stamps : StampsAgree (stamp + 5) (transactions (length names) script report) report.answers
   pub snapshots : (t : Transaction) → t ∈ transactions (length names) script report →
       HasSnapshotReplies (history (length names) script report) opening t.begin t.steps
   pub order : OrderAgrees (history (length names) script report) opening report
+  pub commits : (t : Transaction) → t ∈ transactions (length names) script report →
+      HasCommitCause (transactions (length names) script report) t
+  pub refusals : HasRefusalCauses script report.answers

@@ -1,4 +1,5 @@
+pub mod Causes
+pub mod Footprint
 pub mod GoodReport
-pub mod Script
-pub mod Texts
+pub mod Refusals
 pub mod Transactions

@@ -1,10 +1,10 @@
 //! The rows of records: that there is no value, or which value there is.
 #![tactic(auto)]
 
-ghost use Rattle.std.specs.Prelude.{◌≡◌, ◌≤◌, ℕ, List, length, Some, IfSome};
-ghost use Rattle.erm_record.specs.Record.{IsValue, absent_row, padded, value_row};
+ghost use Rattle.std.specs.Prelude.{◌≡◌, ◌≤◌, ℕ, List, length, Some, None, IfSome};
+ghost use Rattle.erm_record.specs.Record.{IsValue, absent_row, padded, record_value, value_row};
 
-use erm_bytes::{bytes_again, read_words, write_words};
+use erm_bytes::{bytes_again, read_words, words_have_bytes, write_words};
 use erm_model::{ROW_WORDS, Row, VALUE_BYTES, Value};
 
 /// The kind of the row of a record without a value.
@@ -49,6 +49,16 @@ fn padded_bytes(bytes: &[u8]) -> [u8; VALUE_BYTES]
 pub fn value_of(row: &Row) -> Option<Value>
     ensures found { IfSome result (λ value. IsValue value × row.now ≡ value_row value) }
     ensures given { (bytes : List ℕ) → IsValue bytes → row.now ≡ value_row bytes → result ≡ Some bytes }
+    ensures value { result ≡ record_value row.now }
+{
+    record_values();
+    spelled_value(row)
+}
+
+// The value whose row this is.
+fn spelled_value(row: &Row) -> Option<Value>
+    ensures found { IfSome result (λ value. IsValue value × row.now ≡ value_row value) }
+    ensures given { (bytes : List ℕ) → IsValue bytes → row.now ≡ value_row bytes → result ≡ Some bytes }
 {
     let bytes = bytes_of_row(row);
     value_with_row(bytes.get(..row[1] as usize)?, row)
@@ -73,6 +83,16 @@ fn bytes_of_row(row: &Row) -> [u8; VALUE_BYTES]
     bytes
 }
 
+/// A row has a value exactly where it is the row of that value, and that of no value has none.
+pub fn record_values()
+    ensures found { (row bytes : List ℕ) → record_value row ≡ Some bytes → IsValue bytes × (row ≡ value_row bytes) }
+    ensures given { (bytes : List ℕ) → IsValue bytes → record_value (value_row bytes) ≡ Some bytes }
+    ensures absent { record_value absent_row ≡ None }
+{
+    bytes_again();
+    words_have_bytes();
+}
+
 /// Two values have two rows.
 pub fn one_value()
     ensures { (a b : List ℕ) → IsValue a → IsValue b → value_row a ≡ value_row b → a ≡ b }
@@ -93,6 +113,7 @@ mod tests {
         assert_eq!(rt; absent(), [1, 0, 0, 0, 0, 0, 0, 0, 0, 0, 0, 0, 0, 0, 0, 0]);
         assert_eq!(rt; value_of(&absent()), None);
         one_value();
+        record_values();
     }
 
     // The row of eight bytes.

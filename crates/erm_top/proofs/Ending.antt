@@ -4,8 +4,8 @@ use Rattle.std.specs.Prelude.{String, string_bytes, codes}
 use Rattle.std.specs.Cmp.Lexicographic.{pointwise, same_text, other_text}
 use Rattle.std.proofs.lemmas.Option.{slice_get-get_or}
 use Rattle.std.specs.declared.alloc.Global.{Global}
-use Rattle.erm_promise.specs.declared.line.Line.TheVariants as line
-use Rattle.erm_promise.specs.Script.{IsFirstBadLine}
+use Rattle.erm_report.specs.declared.line.Line.TheVariants as line
+use Rattle.erm_script.specs.Script.{IsFirstBadLine}
 use Rattle.erm_top.specs.Statuses.{AreRunWords, TakesAtMost}
 use Rattle.erm_top.specs.Outcomes.{WasReadWith, Around, RunEnds, PrintsLine}
 

@@ -1,6 +1,2 @@
-pub mod Changes
 pub mod Outcomes
-pub mod Runner
 pub mod Statuses
-pub mod Whole
-pub mod Words

@@ -3,10 +3,10 @@ use Rattle.std.specs.Prelude.{◌≡◌, ℕ, ◌⊎◌, ◌+◌, ◌≤◌, Lis
 use Rattle.std.specs.Prelude.{String}
 use Rattle.std.specs.declared.alloc.Global.{Global}
 use Rattle.erm_outside.specs.Faults.{Rose}
-use Rattle.erm_promise.specs.declared.line.Line.{Line}
-use Rattle.erm_promise.specs.declared.line.Line.TheVariants as line
-use Rattle.erm_promise.specs.Script.{IsFirstBadLine}
-use Rattle.erm_promise.specs.Texts.{line_text, text_of}
+use Rattle.erm_report.specs.declared.line.Line.{Line}
+use Rattle.erm_report.specs.declared.line.Line.TheVariants as line
+use Rattle.erm_script.specs.Script.{IsFirstBadLine}
+use Rattle.erm_report.specs.Texts.{line_text, text_of}
 use Rattle.erm_outside.specs.Sink.{Puts, PutsFront}
 use Rattle.erm_top.specs.declared.reading.TheConstants.{SCRIPT_BYTES}
 use Rattle.erm_top.specs.Statuses.{AreRunWords, Reports, Prints, TakesAtMost, TakesMore}

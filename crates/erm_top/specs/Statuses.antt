@@ -6,11 +6,11 @@ use Rattle.std.specs.List.{slice_get}
 use Rattle.std.specs.FinMap.{empty}
 use Rattle.erm_outside.specs.Faults.{Rose}
 use Rattle.erm_outside.specs.Sink.{Puts, PutsFront}
-use Rattle.erm_promise.specs.declared.line.Line.{Line}
-use Rattle.erm_promise.specs.declared.script.ScriptLine.{ScriptLine}
-use Rattle.erm_promise.specs.Script.{IsScript}
+use Rattle.erm_report.specs.declared.line.Line.{Line}
+use Rattle.erm_script.specs.declared.script.ScriptLine.{ScriptLine}
+use Rattle.erm_script.specs.Script.{IsScript}
 use Rattle.erm_promise.specs.GoodReport.{IsGoodReport}
-use Rattle.erm_top.specs.declared.run.whole.TheConstants.{OPENING, FIRST_RUN}
+use Rattle.erm_run.specs.declared.whole.TheConstants.{OPENING, FIRST_RUN}
 
 -- the words are the program's name and `run`
 pub record AreRunWords (words : List (String Global)) : Type 0 where

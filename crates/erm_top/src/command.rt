@@ -1,18 +1,17 @@
 //! The command `run`.
 ghost use Rattle.std.specs.Prelude.{◌≡◌, ◌≢◌, ℕ, ◌+◌, ◌≤◌, ◌⊎◌, [], length, Some, IfOk, IfSome, OnOk, Err};
 ghost use Rattle.erm_outside.specs.Faults.{Rose};
-ghost use Rattle.erm_promise.specs.Script.{IsFirstBadLine};
-ghost use Rattle.erm_promise.specs.Texts.{line_text};
-ghost use Rattle.erm_promise.specs.declared.line.Line.TheVariants as line;
+ghost use Rattle.erm_script.specs.Script.{IsFirstBadLine};
+ghost use Rattle.erm_report.specs.Texts.{line_text};
+ghost use Rattle.erm_report.specs.declared.line.Line.TheVariants as line;
 ghost use Rattle.erm_top.specs.Outcomes.{HasReport, RunEnds, WasReadWith};
 ghost use Rattle.erm_top.specs.Statuses.{Prints, TakesAtMost, TakesMore};
 
-use crate::parse::{ParseError, parse};
 use crate::reading::{ReadError, SCRIPT_BYTES, read_all};
-use crate::run::run;
-use crate::text::{NO_MEMORY, READ_FAULT, TOO_LONG, push_line, text};
 use erm_outside::{Sink, Source, put_all};
-use erm_promise::Line;
+use erm_report::{Line, NO_MEMORY, READ_FAULT, TOO_LONG, push_line, text};
+use erm_run::run;
+use erm_script::{ParseError, parse};
 use std::alloc::{AllocError, Global};
 
 /// Why there is no report.

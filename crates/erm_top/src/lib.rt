@@ -2,10 +2,7 @@
 #![tactic(auto)]
 
 mod command;
-mod parse;
 mod reading;
-mod run;
-mod text;
 mod top;
 
 pub use top::{Ended, ermia};

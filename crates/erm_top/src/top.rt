@@ -2,18 +2,18 @@
 ghost use Rattle.std.specs.Prelude.{◌≡◌, ℕ, ◌+◌, ◌≤◌, ◌⊎◌, ◌↔◌, List, length, IsTrue, Some};
 ghost use Rattle.erm_outside.specs.Faults.{Rose};
 ghost use Rattle.erm_outside.specs.Sink.{Puts, PutsFront};
-ghost use Rattle.erm_promise.specs.Texts.{line_text, text_of};
-ghost use Rattle.erm_promise.specs.Script.{IsScript, IsFirstBadLine};
-ghost use Rattle.erm_promise.specs.declared.line.Line.TheVariants as line;
-ghost use Rattle.erm_promise.specs.declared.line.Line.{Line as PrintedLine};
-ghost use Rattle.erm_promise.specs.declared.script.ScriptLine.{ScriptLine as LineOfScript};
+ghost use Rattle.erm_report.specs.Texts.{line_text, text_of};
+ghost use Rattle.erm_script.specs.Script.{IsScript, IsFirstBadLine};
+ghost use Rattle.erm_report.specs.declared.line.Line.TheVariants as line;
+ghost use Rattle.erm_report.specs.declared.line.Line.{Line as PrintedLine};
+ghost use Rattle.erm_script.specs.declared.script.ScriptLine.{ScriptLine as LineOfScript};
 ghost use Rattle.erm_top.specs.Statuses.{AreRunWords, Reports, Prints, TakesAtMost, TakesMore, IsStatus};
 ghost use Rattle.erm_top.specs.Outcomes.{Ends, WasReadWith};
 
 use crate::command::{print, run_command};
 use crate::reading::SCRIPT_BYTES;
-use crate::text::USAGE;
 use erm_outside::{Disk, Gate, Sink, Source};
+use erm_report::USAGE;
 use std::alloc::Global;
 use std::sync::Wait;
 use std::thread::Threads;

@@ -1,0 +1,9 @@
+pub mod Places
+pub mod Shapes
+pub mod Levels
+pub mod Walks
+pub mod Reached
+pub mod Values
+pub mod TableValues
+pub mod Depth
+pub mod Zeros

@@ -1,0 +1,19 @@
+//! Nodes of trees in rows, sound rows, and the database map that they stand for.
+#![tactic(auto)]
+
+mod laws;
+#[cfg(test)]
+mod memory_txn;
+mod node;
+mod soundness;
+#[cfg(test)]
+mod tests;
+mod tree_map;
+
+pub use laws::{
+    AnyRows, SoundRows, keys_ascend, map_has_values_of_records, nodes_are_read_back, trees_are_low,
+    zero_rows_are_not_reached,
+};
+pub use node::{INNER, LEAF, LEAST_PAIRS, LEVELS, NODE_PAIRS, Node, read_node, row_of_node};
+pub use soundness::sound;
+pub use tree_map::map_of;

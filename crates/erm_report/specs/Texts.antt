@@ -1,0 +1,62 @@
+-- What each line of a report spells, byte by byte.
+use Rattle.std.specs.Prelude.{ℕ, List, [], ◌∷◌, ◌++◌, Some, None, codes}
+use Rattle.std.specs.List.{flat_map}
+use Rattle.std.specs.Fmt.{decimal}
+use Rattle.erm_model.specs.Spelling.{value_word}
+use Rattle.erm_model.specs.declared.map.Pair.{Pair}
+use Rattle.erm_model.specs.declared.operation.Reply.TheVariants as reply
+use Rattle.erm_report.specs.declared.answer.Answer.{Answer}
+use Rattle.erm_report.specs.declared.answer.Answer.TheVariants.{Began, Replied, Sealed, Committed, Aborted, NotIdle, NoTransaction, IsSealed, NotSealed, ReadsFull, WritesFull, OidsFull}
+use Rattle.erm_report.specs.declared.line.Line.{Line}
+use Rattle.erm_report.specs.declared.line.Line.TheVariants as line
+
+-- the stamps of a commit
+abbrev pub stamps_text : ℕ → ℕ → ℕ → List ℕ
+stamps_text stamp succ pred = decimal stamp ++ codes " succ " ++ decimal succ ++ codes " pred " ++ decimal pred
+
+-- an answer
+abbrev pub answer_text : Answer → List ℕ
+answer_text (Began stamp) = codes "begin " ++ decimal stamp
+answer_text (Replied (reply.Value None)) = codes "none"
+answer_text (Replied (reply.Value (Some value))) = codes "value " ++ value_word value
+answer_text (Replied reply.Done) = codes "ok"
+answer_text (Replied (reply.Pair None)) = codes "none"
+answer_text (Replied (reply.Pair (Some found))) = codes "pair " ++ decimal found.0 ++ codes " " ++ value_word found.1
+answer_text (Sealed stamp) = codes "sealed " ++ decimal stamp
+answer_text (Committed stamp succ pred) = codes "committed " ++ stamps_text stamp succ pred
+answer_text Aborted = codes "aborted"
+answer_text NotIdle = codes "not idle"
+answer_text NoTransaction = codes "no transaction"
+answer_text IsSealed = codes "is sealed"
+answer_text NotSealed = codes "not sealed"
+answer_text ReadsFull = codes "reads full"
+answer_text WritesFull = codes "writes full"
+answer_text (OidsFull drawn) = codes "oids full " ++ decimal drawn
+
+-- a key and its value
+abbrev pub pair_text : Pair → List ℕ
+pair_text pair = codes "pair " ++ decimal pair.key.table ++ codes " " ++ decimal pair.key.key ++ codes " " ++ value_word pair.value
+
+-- a line, without its end
+abbrev pub words_text : Line → List ℕ
+words_text (line.Open stamp run) = codes "open " ++ decimal stamp ++ codes " run " ++ decimal run
+words_text (line.Answer number answer) = decimal number ++ codes " " ++ answer_text answer
+words_text (line.Close session answer) = codes "close " ++ session ++ codes " " ++ answer_text answer
+words_text (line.Order commits) = codes "order " ++ decimal commits
+words_text (line.Commit session number stamp succ pred) = codes "commit " ++ session ++ codes " " ++ decimal number ++ codes " stamp " ++ stamps_text stamp succ pred
+words_text (line.Map pairs) = codes "map " ++ decimal pairs
+words_text (line.Pair pair) = pair_text pair
+words_text line.End = codes "end"
+words_text (line.BadLine number) = codes "script " ++ decimal number ++ codes " command"
+words_text line.Usage = codes "usage: erm run | threads | make --count N --sessions K [--text] | recover | audit | checkpoint"
+words_text line.ReadFault = codes "read fault"
+words_text line.TooLong = codes "too long"
+words_text line.NoMemory = codes "no memory"
+
+-- a line, with its end
+abbrev pub line_text : Line → List ℕ
+line_text l = words_text l ++ 10 ∷ []
+
+-- lines, one after the other
+abbrev pub text_of : List Line → List ℕ
+text_of lines = flat_map line_text lines

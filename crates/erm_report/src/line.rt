@@ -1,0 +1,55 @@
+//! The lines of a report, and the lines that stand in a report's place.
+use crate::Answer;
+use erm_model::{Name, Pair, Stamp};
+
+/// A line that the program prints.
+#[derive(Debug, Drop, PartialEq, Eq)]
+pub enum Line {
+    /// The opening's own block in the log, and its run.
+    Open {
+        stamp: Stamp,
+        run: u64,
+    },
+    /// The answer to a line of the script.
+    Answer {
+        line: u32,
+        answer: Answer,
+    },
+    /// How a session that was not idle at the end was closed.
+    Close {
+        session: Name,
+        answer: Answer,
+    },
+    /// How many transactions committed.
+    Order {
+        commits: usize,
+    },
+    /// A committed transaction, in the serial order.
+    Commit {
+        session: Name,
+        number: u32,
+        stamp: Stamp,
+        succ: Stamp,
+        pred: Stamp,
+    },
+    /// How many keys have a value in the end.
+    Map {
+        pairs: usize,
+    },
+    /// A key with its value in the end.
+    Pair(Pair),
+    /// The end of the report.
+    End,
+    /// In place of a report: the first line of the script that is not in the grammar.
+    BadLine {
+        line: u32,
+    },
+    /// In place of a report: how the program is used.
+    Usage,
+    /// In place of a report: the script could not be read.
+    ReadFault,
+    /// In place of a report: the script has too many bytes.
+    TooLong,
+    /// In place of a report: memory ran out.
+    NoMemory,
+}

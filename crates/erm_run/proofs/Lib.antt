@@ -1,0 +1,6 @@
+pub mod Answering
+pub mod Marking
+pub mod Overlay
+pub mod Reporting
+pub mod Stepping
+pub mod Telling

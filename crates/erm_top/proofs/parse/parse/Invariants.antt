@@ -1,9 +1,0 @@
-use Rattle.std.proofs.Common.{◌==◌, length, take}
-use Rattle.std.specs.List.{slice_split}
-use Rattle.erm_promise.specs.Script.{AreScript}
-use Rattle.erm_top.proofs.Scripts.{kept_from}
-use Rattle.erm_top.proofs.parse.parse.Given as goal
-
-abbrev pub invariant-loop-index : goal.invariant-loop-index
-invariant-loop-index l =
-    AreScript (kept_from 1 (take (length l.yielded) (slice_split (λ b. b == 10) l.bytes))) l.script.names.items l.script.lines.items
