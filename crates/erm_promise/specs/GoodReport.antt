@@ -5,6 +5,7 @@ use Rattle.std.specs.FinMap.{from_entries}
 use Rattle.erm_model.specs.declared.map.Pair.{Pair}
 use Rattle.erm_model.specs.declared.outcome.Phase.{Phase}
 use Rattle.erm_model.specs.declared.outcome.Phase.TheVariants.{Idle, Active, Sealed}
+use Rattle.erm_model.specs.declared.operation.Reply.TheVariants as reply
 use Rattle.erm_model.specs.Database.{Database, entries_of, AscendByKey}
 use Rattle.erm_model.specs.SerialOrder.{IsSerialOrder}
 use Rattle.erm_model.specs.Committed.{Committed, rank_of, HasSnapshotReplies, RunsInOrder}
@@ -70,16 +71,16 @@ history sessions script r = history_of (transactions sessions script r)
 abbrev pub IsAnswerTo : Command → Answer → Type 0
 IsAnswerTo command.Begin (answer.Began begin) = Unit {0}
 IsAnswerTo command.Begin answer.NotIdle = Unit {0}
-IsAnswerTo (command.Get table key) (answer.Replied r) = Unit {0}
+IsAnswerTo (command.Get table key) (answer.Replied (reply.Value value)) = Unit {0}
 IsAnswerTo (command.Get table key) answer.ReadsFull = Unit {0}
 IsAnswerTo (command.Get table key) answer.NoTransaction = Unit {0}
 IsAnswerTo (command.Get table key) answer.IsSealed = Unit {0}
-IsAnswerTo (command.Put table key value) (answer.Replied r) = Unit {0}
+IsAnswerTo (command.Put table key value) (answer.Replied reply.Done) = Unit {0}
 IsAnswerTo (command.Put table key value) answer.WritesFull = Unit {0}
 IsAnswerTo (command.Put table key value) (answer.OidsFull drawn) = Unit {0}
 IsAnswerTo (command.Put table key value) answer.NoTransaction = Unit {0}
 IsAnswerTo (command.Put table key value) answer.IsSealed = Unit {0}
-IsAnswerTo (command.Del table key) (answer.Replied r) = Unit {0}
+IsAnswerTo (command.Del table key) (answer.Replied reply.Done) = Unit {0}
 IsAnswerTo (command.Del table key) answer.WritesFull = Unit {0}
 IsAnswerTo (command.Del table key) answer.NoTransaction = Unit {0}
 IsAnswerTo (command.Del table key) answer.IsSealed = Unit {0}

@@ -1,4 +1,5 @@
 pub mod Causes
+pub mod Determined
 pub mod Footprint
 pub mod GoodReport
 pub mod Refusals

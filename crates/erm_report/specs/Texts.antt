@@ -5,6 +5,8 @@ use Rattle.std.specs.Fmt.{decimal}
 use Rattle.erm_model.specs.Spelling.{value_word}
 use Rattle.erm_model.specs.declared.map.Pair.{Pair}
 use Rattle.erm_model.specs.declared.operation.Reply.TheVariants as reply
+use Rattle.erm_script.specs.declared.fault.FaultKind.{FaultKind}
+use Rattle.erm_script.specs.declared.fault.FaultKind.TheVariants as fault
 use Rattle.erm_report.specs.declared.answer.Answer.{Answer}
 use Rattle.erm_report.specs.declared.answer.Answer.TheVariants.{Began, Replied, Sealed, Committed, Aborted, NotIdle, NoTransaction, IsSealed, NotSealed, ReadsFull, WritesFull, OidsFull}
 use Rattle.erm_report.specs.declared.line.Line.{Line}
@@ -37,6 +39,16 @@ answer_text (OidsFull drawn) = codes "oids full " ++ decimal drawn
 abbrev pub pair_text : Pair → List ℕ
 pair_text pair = codes "pair " ++ decimal pair.key.table ++ codes " " ++ decimal pair.key.key ++ codes " " ++ value_word pair.value
 
+-- a kind of fault
+abbrev pub fault_word : FaultKind → List ℕ
+fault_word fault.Threads = codes "threads"
+fault_word fault.Name = codes "name"
+fault_word fault.Sessions = codes "sessions"
+fault_word fault.Command = codes "command"
+fault_word fault.Args = codes "args"
+fault_word fault.Number = codes "number"
+fault_word fault.Value = codes "value"
+
 -- a line, without its end
 abbrev pub words_text : Line → List ℕ
 words_text (line.Open stamp run) = codes "open " ++ decimal stamp ++ codes " run " ++ decimal run
@@ -47,7 +59,7 @@ words_text (line.Commit session number stamp succ pred) = codes "commit " ++ ses
 words_text (line.Map pairs) = codes "map " ++ decimal pairs
 words_text (line.Pair pair) = pair_text pair
 words_text line.End = codes "end"
-words_text (line.BadLine number) = codes "script " ++ decimal number ++ codes " command"
+words_text (line.BadLine number kind) = codes "script " ++ decimal number ++ codes " " ++ fault_word kind
 words_text line.Usage = codes "usage: erm run | threads | make --count N --sessions K [--text] | recover | audit | checkpoint"
 words_text line.ReadFault = codes "read fault"
 words_text line.TooLong = codes "too long"

@@ -2,9 +2,15 @@
 #![tactic(auto)]
 
 mod answer;
+mod laws;
 mod line;
 mod printing;
+#[cfg(test)]
+mod tests;
+mod text;
 
 pub use answer::Answer;
+pub use laws::texts_determine_lines;
 pub use line::Line;
-pub use printing::{NO_MEMORY, READ_FAULT, TOO_LONG, USAGE, push_line, text};
+pub use printing::{NO_MEMORY, READ_FAULT, TOO_LONG, USAGE};
+pub use text::Text;

@@ -1,6 +1,7 @@
 //! The lines of a report, and the lines that stand in a report's place.
 use crate::Answer;
 use erm_model::{Name, Pair, Stamp};
+use erm_script::FaultKind;
 
 /// A line that the program prints.
 #[derive(Debug, Drop, PartialEq, Eq)]
@@ -40,9 +41,11 @@ pub enum Line {
     Pair(Pair),
     /// The end of the report.
     End,
-    /// In place of a report: the first line of the script that is not in the grammar.
+    /// In place of a report: the first line of the script that is not in the grammar, and the first kind of fault that
+    /// applies to it.
     BadLine {
         line: u32,
+        kind: FaultKind,
     },
     /// In place of a report: how the program is used.
     Usage,

@@ -41,12 +41,15 @@ fn check_sizes<R: Threads + Wait + Sync>(rt: &R, alloc: Global) -> Result<()> {
 
 // Words that ask for no command.
 fn check_words<R: Threads + Wait + Sync>(rt: &R, alloc: Global) -> Result<()> {
-    let others: [&[&str]; 5] = [
+    let others: [&[&str]; 8] = [
         &[],
         &["erm"],
         &["erm", "frob"],
         &["erm", "RUN"],
         &["erm", "run", "run"],
+        &["erm", "--help"],
+        &["erm", "help"],
+        &["erm", "--version"],
     ];
     for words in others {
         let source = MemSource::new(Vec::new(alloc), 1);

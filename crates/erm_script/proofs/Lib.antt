@@ -1,3 +1,7 @@
+mod BadLines
+mod Faults
 mod Lines
+mod Readings
 mod Scripts
+mod Seats
 mod Words

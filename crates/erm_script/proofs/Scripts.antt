@@ -1,24 +1,20 @@
--- Scripts: what one more line makes of a script, and which lines are in none.
-use Rattle.std.proofs.Common.{◌≡◌, ◌≢◌, ◌==◌, ℕ, ◌+◌, ◌-◌, ◌≤◌, ◌<◌, max, true, false, not, List, [], ◌∷◌, ◌++◌, length, take, drop, get_or, Some, ap, sym, ◌∙◌, arith, refl, inl, inr, ◌⊎◌}
+-- Scripts: what one more line makes of a script, and what their first lines are.
+use Rattle.std.proofs.Common.{◌≡◌, ◌≢◌, ◌==◌, ℕ, ◌+◌, ◌-◌, ◌≤◌, ◌<◌, max, true, false, not, List, [], ◌∷◌, ◌++◌, length, take, get_or, Some, ap, sym, ◌∙◌, arith, refl, inl, inr, length-append}
 use Rattle.std.specs.List.{slice_split, slice_get, enumerate_from, filter}
-use Rattle.std.proofs.lemmas.List.{get_or-take, length-take-le, append-nil, append_assoc, take-append-drop, drop_more, take_more, take_all}
+use Rattle.std.proofs.Math.Seq.{get_or-append_seam}
+use Rattle.std.proofs.lemmas.List.{get_or-take, get_or_append_left, length-take-le, append-nil, take_more, take_all}
 use Rattle.std.proofs.lemmas.List.Elements.{filter-append}
 use Rattle.std.proofs.lemmas.List.FromFn.{length-enumerate_from, get_or-enumerate_from}
+use Rattle.std.proofs.lemmas.List.Quantifiers.{all_pairs_push}
 use Rattle.std.proofs.lemmas.List.Splits.{length-slice_split}
 use Rattle.std.proofs.lemmas.List.Sums.{length-filter, count_by-le-length}
+use Rattle.std.proofs.lemmas.Option.{slice_get_within, get_or_from_slice_get, slice_get-get_or}
+use Rattle.erm_model.specs.Member.{◌∈◌}
 use Rattle.erm_script.specs.declared.script.Command.{Command}
 use Rattle.erm_script.specs.declared.script.ScriptLine.{ScriptLine}
-use Rattle.erm_script.specs.Script.{Spells, AreSpelled, AreNumbered, AreScript, IsScript, IsFirstBadLine, is_skipped, kept_lines, name_of}
-
--- a list of at most one element
-pub one_element : {X : Type 0} (xs : List X) (x : X) → length xs ≤ 1 → slice_get xs 0 ≡ Some x → xs ≡ x ∷ []
-one_element [] x few first = cc
-one_element (y ∷ []) x few first = cc
-one_element (y ∷ z ∷ zs) x few first = absurd (omega arith)
-
--- a line names one session
-pub same_name : (line : List ℕ) (n m : List ℕ) (c d : Command) → Spells line n c → Spells line m d → n ≡ m
-same_name line n m c d one other = let a = one.words in let b = other.words in cc
+use Rattle.erm_script.specs.declared.script.TheConstants.{SESSIONS}
+use Rattle.erm_script.specs.Script.{Spells, AreSpelled, AreNumbered, AreScript, IsScript, is_skipped, kept_lines, name_of}
+use Rattle.erm_script.specs.Seats.{IsSeatOf}
 
 -- one more line is spelled
 AreSpelled-push : (names : List (List ℕ)) (kept : List (ℕ × List ℕ)) (lines : List ScriptLine) (k : ℕ × List ℕ) (l : ScriptLine)
@@ -37,52 +33,80 @@ AreNumbered-push seen [] l sessions all least most = (least, let e = all in omeg
 AreNumbered-push seen (x ∷ xs) l sessions all least most = (all.0, all.1, AreNumbered-push (max seen x.session) xs l sessions all.2 least most)
 
 -- there are as many sessions as were seen, or more
-seen_le : (seen : ℕ) (lines : List ScriptLine) (sessions : ℕ) → AreNumbered seen lines sessions → seen ≤ sessions
+pub seen_le : (seen : ℕ) (lines : List ScriptLine) (sessions : ℕ) → AreNumbered seen lines sessions → seen ≤ sessions
 seen_le seen [] sessions all = omega arith
 seen_le seen (x ∷ xs) sessions all = let more = seen_le (max seen x.session) xs sessions all.2 in omega arith
 
--- lines of no session are none
-no_sessions : (lines : List ScriptLine) → AreNumbered 0 lines 0 → lines ≡ []
-no_sessions [] all = refl
-no_sessions (x ∷ xs) all = let more = seen_le (max 0 x.session) xs 0 all.2 in let least = all.0 in absurd (omega arith)
+-- what some names spell, more names spell
+AreSpelled-more : (names : List (List ℕ)) (name : List ℕ) (kept : List (ℕ × List ℕ)) (lines : List ScriptLine) (seen : ℕ)
+    → AreSpelled names kept lines → AreNumbered seen lines (length names) → AreSpelled (names ++ name ∷ []) kept lines
+AreSpelled-more names name [] [] seen all numbered = tt
+AreSpelled-more names name [] (l ∷ ls) seen all numbered = absurd all
+AreSpelled-more names name (k ∷ ks) [] seen all numbered = absurd all
+AreSpelled-more names name (k ∷ ks) (l ∷ ls) seen all numbered =
+    let least = numbered.0 in
+    let more = seen_le (max seen l.session) ls (length names) numbered.2 in
+    let same : name_of (names ++ name ∷ []) l.session ≡ name_of names l.session =
+    get_or_append_left names (name ∷ []) [] (l.session - 1) (omega arith) in
+    (all.0, rw same all.1, AreSpelled-more names name ks ls (max seen l.session) all.2 numbered.2)
 
--- lines of no session leave none
-nothing_kept : (names : List (List ℕ)) (kept : List (ℕ × List ℕ)) (lines : List ScriptLine) → AreSpelled names kept lines → lines ≡ [] → kept ≡ []
-nothing_kept names [] lines all none = refl
-nothing_kept names (k ∷ ks) [] all none = absurd all
-nothing_kept names (k ∷ ks) (l ∷ ls) all none = cc
+-- a script and one more line of a session that it has
+AreScript-again : (kept : List (ℕ × List ℕ)) (number : ℕ) (bytes name : List ℕ) (names : List (List ℕ)) (lines : List ScriptLine) (command : Command) (session : ℕ)
+    → AreScript kept names lines → Spells bytes name command → 1 ≤ session → slice_get names (session - 1) ≡ Some name
+    → AreScript (kept ++ (number, bytes) ∷ []) names (lines ++ record { line = number; session = session; command = command } ∷ [])
+AreScript-again kept number bytes name names lines command session is spells least at =
+    let line : ScriptLine = record { line = number; session = session; command = command } in
+    let within = slice_get_within names (session - 1) name at in
+    let named : name_of names session ≡ name = get_or_from_slice_get names (session - 1) name [] at in
+    let same : max (length names) session ≡ length names = omega arith in
+    record {
+      spelled = AreSpelled-push names kept lines (number, bytes) line is.spelled refl (rw named spells);
+      numbered = rw same at (AreNumbered-push 0 lines line (length names) is.numbered least (omega arith));
+      differ = is.differ;
+      few = is.few;
+    }
 
--- a script and one more line of the one session, which is the first line or of the same session
-pub AreScript-push : (kept : List (ℕ × List ℕ)) (number : ℕ) (bytes name : List ℕ) (names : List (List ℕ)) (lines : List ScriptLine) (command : Command)
-    → AreScript kept names lines → Spells bytes name command → (names ≡ []) ⊎ (names ≡ name ∷ [])
-    → AreScript (kept ++ (number, bytes) ∷ []) (name ∷ []) (lines ++ record { line = number; session = 1; command = command } ∷ [])
-AreScript-push kept number bytes name names lines command is spells known = record {
-  spelled = AreSpelled-push (name ∷ []) kept lines (number, bytes) (record { line = number; session = 1; command = command }) (spelled known) refl spells;
-  numbered = numbered known;
-  differ = λ i j d less within. absurd (omega arith);
-  few = omega arith;
-}
-  where
-    spelled : (names ≡ []) ⊎ (names ≡ name ∷ []) → AreSpelled (name ∷ []) kept lines
-    spelled (inl none) =
-        let empty : lines ≡ [] = no_sessions lines (rw none at is.numbered) in
-        let nothing : kept ≡ [] = nothing_kept names kept lines is.spelled empty in
-        rw (empty, nothing) tt
-    spelled (inr one) = rw one at is.spelled
+-- a script and one more line of a session that it does not have
+AreScript-new : (kept : List (ℕ × List ℕ)) (number : ℕ) (bytes name : List ℕ) (names : List (List ℕ)) (lines : List ScriptLine) (command : Command) (session : ℕ)
+    → AreScript kept names lines → Spells bytes name command → session ≡ length names + 1 → length names < SESSIONS → (name ∈ names → ⊥)
+    → AreScript (kept ++ (number, bytes) ∷ []) (names ++ name ∷ []) (lines ++ record { line = number; session = session; command = command } ∷ [])
+AreScript-new kept number bytes name names lines command session is spells next few new =
+    let line : ScriptLine = record { line = number; session = session; command = command } in
+    let place : session - 1 ≡ length names = omega arith in
+    let named : name_of (names ++ name ∷ []) session ≡ name = rw place (get_or-append_seam names name [] []) in
+    let long : length (names ++ name ∷ []) ≡ max (length names) session = omega (arith, length-append names (name ∷ [])) in
+    record {
+      spelled = AreSpelled-push (names ++ name ∷ []) kept lines (number, bytes) line (AreSpelled-more names name kept lines 0 is.spelled is.numbered) refl (rw named spells);
+      numbered = rw long (AreNumbered-push 0 lines line (length names) is.numbered (omega arith) (omega arith));
+      differ = all_pairs_push (λ a b. a ≢ b) names name is.differ
+          (λ k d within e. new (k, slice_get-get_or names k d within ∙ ap (λ (x : List ℕ). Some x) e));
+      few = omega (arith, length-append names (name ∷ []));
+    }
 
-    numbered : (names ≡ []) ⊎ (names ≡ name ∷ []) → AreNumbered 0 (lines ++ record { line = number; session = 1; command = command } ∷ []) 1
-    numbered (inl none) = AreNumbered-push 0 lines (record { line = number; session = 1; command = command }) 0 (rw none at is.numbered) (omega arith) (omega arith)
-    numbered (inr one) = AreNumbered-push 0 lines (record { line = number; session = 1; command = command }) 1 (rw one at is.numbered) (omega arith) (omega arith)
+-- a script and one more line, whose session is added where the script does not have it
+pub AreScript-push : (kept : List (ℕ × List ℕ)) (number : ℕ) (bytes name : List ℕ) (names after : List (List ℕ)) (lines : List ScriptLine) (command : Command) (session : ℕ)
+    → AreScript kept names lines → Spells bytes name command → IsSeatOf name names session
+    → (length names < session → after ≡ names ++ name ∷ []) → (session ≤ length names → after ≡ names)
+    → AreScript (kept ++ (number, bytes) ∷ []) after (lines ++ record { line = number; session = session; command = command } ∷ [])
+AreScript-push kept number bytes name names after lines command session is spells seat added left = elim seat [
+  | inl known ↦
+      let within = slice_get_within names (session - 1) name known.1 in
+      let same : after ≡ names = left (let least = known.0 in omega arith) in
+      rw same (AreScript-again kept number bytes name names lines command session is spells known.0 known.1)
+  | inr new ↦
+      let more : after ≡ names ++ name ∷ [] = added (let next = new.0 in omega arith) in
+      rw more (AreScript-new kept number bytes name names lines command session is spells new.0 new.1 new.2)
+]
 
 -- the session of the last of some lines, and what that line spells
-record LastLine (names : List (List ℕ)) (bytes : List ℕ) (sessions : ℕ) : Type 0 where
+pub record LastLine (names : List (List ℕ)) (bytes : List ℕ) (sessions : ℕ) : Type 0 where
   pub session : ℕ
   pub command : Command
   pub least : 1 ≤ session
   pub most : session ≤ sessions
   pub spells : Spells bytes (name_of names session) command
 
-last_line : (names : List (List ℕ)) (kept : List (ℕ × List ℕ)) (number : ℕ) (bytes : List ℕ) (lines : List ScriptLine) (seen sessions : ℕ)
+pub last_line : (names : List (List ℕ)) (kept : List (ℕ × List ℕ)) (number : ℕ) (bytes : List ℕ) (lines : List ScriptLine) (seen sessions : ℕ)
     → AreSpelled names (kept ++ (number, bytes) ∷ []) lines → AreNumbered seen lines sessions → LastLine names bytes sessions
 last_line names [] number bytes [] seen sessions spelled numbered = absurd spelled
 last_line names [] number bytes (l ∷ ls) seen sessions spelled numbered =
@@ -91,38 +115,6 @@ last_line names [] number bytes (l ∷ ls) seen sessions spelled numbered =
 last_line names (k ∷ ks) number bytes [] seen sessions spelled numbered = absurd spelled
 last_line names (k ∷ ks) number bytes (l ∷ ls) seen sessions spelled numbered =
     last_line names ks number bytes ls (max seen l.session) sessions spelled.2 numbered.2
-
--- no script has a line that spells nothing
-pub bad_line : (kept : List (ℕ × List ℕ)) (number : ℕ) (bytes : List ℕ) (names : List (List ℕ)) (lines : List ScriptLine)
-    → ((name : List ℕ) (command : Command) → Spells bytes name command → ⊥) → AreScript (kept ++ (number, bytes) ∷ []) names lines → ⊥
-bad_line kept number bytes names lines bad is =
-    let last = last_line names kept number bytes lines 0 (length names) is.spelled is.numbered in
-    bad (name_of names last.session) last.command last.spells
-
--- the first line of a script names the first session
-first_line : (names : List (List ℕ)) (kept : List (ℕ × List ℕ)) (k : ℕ × List ℕ) (lines : List ScriptLine)
-    → AreScript (k ∷ kept) names lines → (command : Command) × Spells k.1 (name_of names 1) command
-first_line names kept k [] is = absurd is.spelled
-first_line names kept k (l ∷ ls) is =
-    let least = is.numbered.0 in
-    let most = is.numbered.1 in
-    let one : l.session ≡ 1 = omega arith in
-    (l.command, rw one at is.spelled.1)
-
--- no script has a line of a second session
-pub other_session : (kept : List (ℕ × List ℕ)) (number : ℕ) (bytes first name : List ℕ) (before lines : List ScriptLine) (command : Command) (names : List (List ℕ))
-    → AreScript kept (first ∷ []) before → Spells bytes name command → first ≢ name → AreScript (kept ++ (number, bytes) ∷ []) names lines → ⊥
-other_session [] number bytes first name [] lines command names is spells other bad = let none = is.numbered in absurd (omega arith)
-other_session [] number bytes first name (l ∷ ls) lines command names is spells other bad = absurd is.spelled
-other_session (k ∷ ks) number bytes first name before lines command names is spells other bad =
-    let last = last_line names (k ∷ ks) number bytes lines 0 (length names) bad.spelled bad.numbered in
-    let few = bad.few in
-    let one : last.session ≡ 1 = let least = last.least in let most = last.most in omega arith in
-    let opened = first_line (first ∷ []) ks k before is in
-    let reopened = first_line names (ks ++ (number, bytes) ∷ []) k lines bad in
-    let same = same_name k.1 (name_of (first ∷ []) 1) (name_of names 1) opened.0 reopened.0 opened.1 reopened.1 in
-    let again = same_name bytes name (name_of names 1) command last.command spells (rw one at last.spells) in
-    other (same ∙ sym again)
 
 -- the lines of a script up to one of them, with the sessions that they name
 record Front (names : List (List ℕ)) (kept : List (ℕ × List ℕ)) (seen all : ℕ) : Type 0 where
@@ -159,20 +151,38 @@ front_of names (k ∷ ks) rest (l ∷ ls) seen most spelled numbered =
       numbered = (numbered.0, numbered.1, front.numbered);
     }
 
--- where some lines are those of no script, they and more are those of none
-pub no_script_after : (kept rest : List (ℕ × List ℕ)) → ((names : List (List ℕ)) (lines : List ScriptLine) → AreScript kept names lines → ⊥)
-    → (names : List (List ℕ)) (lines : List ScriptLine) → AreScript (kept ++ rest) names lines → ⊥
-no_script_after kept rest wrong names lines is =
+-- the first lines of a script are those of one
+pub record HasFront (kept : List (ℕ × List ℕ)) (names : List (List ℕ)) : Type 0 where
+  pub sessions : ℕ
+  pub lines : List ScriptLine
+  pub most : sessions ≤ length names
+  pub is : AreScript kept (take sessions names) lines
+
+pub front_script : (kept rest : List (ℕ × List ℕ)) (names : List (List ℕ)) (lines : List ScriptLine) → AreScript (kept ++ rest) names lines → HasFront kept names
+front_script kept rest names lines is =
     let front = front_of names kept rest lines 0 (length names) is.spelled is.numbered in
     let long : length (take front.sessions names) ≡ front.sessions = length-take-le front.sessions names front.most in
     let most = front.most in
     let few = is.few in
-    wrong (take front.sessions names) front.lines (record {
-      spelled = front.spelled;
-      numbered = rw long front.numbered;
-      differ = λ i j d less within. absurd (omega arith);
-      few = omega arith;
-    })
+    record {
+      sessions = front.sessions;
+      lines = front.lines;
+      most = most;
+      is = record {
+        spelled = front.spelled;
+        numbered = rw long front.numbered;
+        differ = λ i j d less within.
+            rw (get_or-take front.sessions names i d (omega arith), get_or-take front.sessions names j d (omega arith)) (is.differ i j d less (omega arith));
+        few = omega arith;
+      };
+    }
+
+-- where some lines are those of no script, they and more are those of none
+pub no_script_after : (kept rest : List (ℕ × List ℕ)) → ((names : List (List ℕ)) (lines : List ScriptLine) → AreScript kept names lines → ⊥)
+    → (names : List (List ℕ)) (lines : List ScriptLine) → AreScript (kept ++ rest) names lines → ⊥
+no_script_after kept rest wrong names lines is =
+    let front = front_script kept rest names lines is in
+    wrong (take front.sessions names) front.lines front.is
 
 -- the lines that are not skipped, of some lines numbered from a number on
 abbrev pub kept_from : ℕ → List (List ℕ) → List (ℕ × List ℕ)
@@ -246,36 +256,6 @@ pub kept_after_kept : (all : List (List ℕ)) (n : ℕ) (line : List ℕ) → n 
     → kept_from 1 (take (n + 1) all) ≡ kept_from 1 (take n all) ++ (n + 1, line) ∷ []
 kept_after_kept all n line within is kept =
     kept_more all n line within is ∙ ap (λ (ks : List (ℕ × List ℕ)). kept_from 1 (take n all) ++ ks) (kept_from-kept (n + 1) line [] kept)
-
--- the first line that no script has after those before it
-pub first_bad_line : (bytes : List ℕ) (n : ℕ) (line : List ℕ) (names : List (List ℕ)) (lines : List ScriptLine)
-    → n < length (slice_split (λ b. b == 10) bytes) → line ≡ get_or (slice_split (λ b. b == 10) bytes) n line → is_skipped line ≡ false
-    → AreScript (kept_from 1 (take n (slice_split (λ b. b == 10) bytes))) names lines
-    → ((others : List (List ℕ)) (more : List ScriptLine)
-    → AreScript (kept_from 1 (take n (slice_split (λ b. b == 10) bytes)) ++ (n + 1, line) ∷ []) others more → ⊥)
-    → IsFirstBadLine bytes (n + 1)
-first_bad_line bytes n line names lines within is kept good wrong =
-    let all = slice_split (λ b. b == 10) bytes in
-    let before = kept_from 1 (take n all) in
-    let rest = kept_from (n + 1 + 1) (drop (n + 1) all) in
-    let number : 1 + length (take n all) ≡ n + 1 = let long = length-take-le n all (omega arith) in omega arith in
-    let split : all ≡ take n all ++ line ∷ drop (n + 1) all =
-    sym (take-append-drop n all) ∙ ap (λ (ls : List (List ℕ)). take n all ++ ls) (drop_more all n line within)
-    ∙ ap (λ (l : List ℕ). take n all ++ l ∷ drop (n + 1) all) (sym is) in
-    let cut : kept_lines bytes ≡ before ++ (n + 1, line) ∷ rest =
-    ap (λ (ls : List (List ℕ)). kept_from 1 ls) split ∙ kept_from-append 1 (take n all) (line ∷ drop (n + 1) all)
-    ∙ ap (λ m. before ++ kept_from m (line ∷ drop (n + 1) all)) number
-    ∙ ap (λ (ks : List (ℕ × List ℕ)). before ++ ks) (kept_from-kept (n + 1) line (drop (n + 1) all) kept) in
-    record {
-      before = before;
-      bad = line;
-      rest = rest;
-      cut = cut;
-      good = (names, lines, good);
-      wrong = wrong;
-      none = λ others more whole. no_script_after (before ++ (n + 1, line) ∷ []) rest wrong others more
-          (rw append_assoc (rw cut at whole));
-    }
 
 -- the lines of a script, when each line was read
 pub whole_script : (bytes : List ℕ) (n : ℕ) (names : List (List ℕ)) (lines : List ScriptLine)

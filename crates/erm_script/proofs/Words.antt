@@ -75,7 +75,7 @@ unread_spells_none bs r n reads none small e =
     cc
 
 -- numbers below 256 are bytes
-bytes_of : (xs : List ℕ) → All (λ x. x < 256) xs → IsBytes xs
+pub bytes_of : (xs : List ℕ) → All (λ x. x < 256) xs → IsBytes xs
 bytes_of xs all i = elim (cases_lt i (length xs)) as (λ _. get_or xs i 0 < 256) [
   | inl within ↦ all i 0 within
   | inr past ↦ rw (get_or_past xs i 0 past) (lit< tt)

@@ -1,2 +1,4 @@
+pub mod Faults
 pub mod Script
+pub mod Seats
 pub mod Words

@@ -1,5 +1,5 @@
 -- The script grammar: which bytes spell which lines.
-use Rattle.std.specs.Prelude.{◌≡◌, ◌≢◌, ℕ, ◌+◌, ◌-◌, ◌^◌, ◌<◌, ◌≤◌, ◌&&◌, ◌||◌, ◌==◌, nat_le, not, max, Bool, true, List, [], ◌∷◌, ◌++◌, length, IsTrue, codes, slice_index_or}
+use Rattle.std.specs.Prelude.{◌≡◌, ◌≢◌, ℕ, ◌+◌, ◌-◌, ◌^◌, ◌<◌, ◌≤◌, ◌&&◌, ◌||◌, ◌==◌, nat_le, not, max, Bool, true, List, [], ◌∷◌, length, IsTrue, codes, slice_index_or}
 use Rattle.std.specs.List.{All, AllPairs, slice_split, enumerate_from, filter}
 use Rattle.std.specs.Fmt.{decimal}
 use Rattle.erm_script.specs.declared.script.Command.{Command}
@@ -7,7 +7,7 @@ use Rattle.erm_script.specs.declared.script.Command.TheVariants.{Begin, Get, Put
 use Rattle.erm_script.specs.declared.script.ScriptLine.{ScriptLine}
 use Rattle.erm_model.specs.declared.value.TheConstants.{VALUE_BYTES}
 use Rattle.erm_model.specs.declared.name.TheConstants.{NAME_BYTES}
-use Rattle.erm_script.specs.declared.script.TheConstants.{LAST_TABLE}
+use Rattle.erm_script.specs.declared.script.TheConstants.{LAST_TABLE, SESSIONS}
 use Rattle.erm_model.specs.Spelling.{value_word}
 
 -- a line that is empty or begins with `#`
@@ -81,24 +81,13 @@ abbrev pub AreNumbered : ℕ → List ScriptLine → ℕ → Type 0
 AreNumbered seen [] sessions = sessions ≡ seen
 AreNumbered seen (l ∷ ls) sessions = (1 ≤ l.session) × (l.session ≤ seen + 1) × AreNumbered (max seen l.session) ls sessions
 
--- numbered lines are the lines of a script with these sessions; for now with one session
+-- numbered lines are the lines of a script with these sessions
 pub record AreScript (kept : List (ℕ × List ℕ)) (names : List (List ℕ)) (script : List ScriptLine) : Type 0 where
   pub spelled : AreSpelled names kept script
   pub numbered : AreNumbered 0 script (length names)
   pub differ : AllPairs (λ a b. a ≢ b) names
-  pub few : length names ≤ 1
+  pub few : length names ≤ SESSIONS
 
 -- these bytes spell a script with these sessions
 abbrev pub IsScript : List ℕ → List (List ℕ) → List ScriptLine → Type 0
 IsScript bytes names script = AreScript (kept_lines bytes) names script
-
--- The first line that is not in the grammar has this number: the lines before it are those of a script, and with it
--- they are those of none, whatever follows.
-pub record IsFirstBadLine (bytes : List ℕ) (number : ℕ) : Type 0 where
-  pub before : List (ℕ × List ℕ)
-  pub bad : List ℕ
-  pub rest : List (ℕ × List ℕ)
-  pub cut : kept_lines bytes ≡ before ++ (number, bad) ∷ rest
-  pub good : (names : List (List ℕ)) × (script : List ScriptLine) × AreScript before names script
-  pub wrong : (names : List (List ℕ)) (script : List ScriptLine) → AreScript (before ++ (number, bad) ∷ []) names script → ⊥
-  pub none : (names : List (List ℕ)) (script : List ScriptLine) → IsScript bytes names script → ⊥

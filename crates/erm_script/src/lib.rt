@@ -1,8 +1,14 @@
 //! Scripts: what their lines ask for, which bytes spell which lines, and the reading of them.
 #![tactic(auto)]
 
+mod fault;
+mod laws;
 mod parser;
 mod script;
+#[cfg(test)]
+mod tests;
 
+pub use fault::{FaultKind, ScriptFault};
+pub use laws::{first_faults_are_unique, lines_of_scripts_have_no_fault, scripts_have_one_reading};
 pub use parser::{ParseError, Script, parse};
-pub use script::{Command, LAST_TABLE, ScriptLine};
+pub use script::{Command, LAST_TABLE, SESSIONS, ScriptLine};

@@ -1,11 +1,13 @@
 //! From the bytes of a script to its lines.
-ghost use Rattle.std.specs.Prelude.{◌≡◌, ◌≢◌, ℕ, ◌+◌, ◌-◌, ◌<◌, ◌≤◌, ◌^◌, List, [], ◌∷◌, ◌++◌, ◌⊎◌, length, vec_len, IfSome, IfNone, OnSome, IfOk, OnOk};
-ghost use Rattle.erm_script.specs.Script.{IsScript, IsFirstBadLine, is_skipped};
+ghost use Rattle.std.specs.Prelude.{◌≡◌, ◌≢◌, ℕ, ◌+◌, ◌-◌, ◌<◌, ◌≤◌, ◌^◌, List, [], ◌∷◌, ◌++◌, ◌⊎◌, length, vec_len, IfOk, OnOk};
+ghost use Rattle.erm_script.specs.declared.fault.FaultKind.{FaultKind};
+ghost use Rattle.erm_script.specs.Script.{IsScript, is_skipped};
+ghost use Rattle.erm_script.specs.Faults.{IsFirstBadLine};
 
 mod line;
 mod word;
 
-use crate::ScriptLine;
+use crate::{SESSIONS, ScriptFault, ScriptLine};
 use erm_model::{Name, Seat};
 use std::alloc::{AllocError, Global};
 
@@ -21,8 +23,8 @@ pub struct Script {
 pub enum ParseError {
     /// Memory ran out.
     Memory,
-    /// The first line that is not in the grammar, by its number from 1.
-    BadLine(u32),
+    /// The first line that is not in the grammar, and what is wrong with it.
+    Fault(ScriptFault),
 }
 
 impl From<AllocError> for ParseError {
@@ -35,12 +37,14 @@ impl From<AllocError> for ParseError {
     }
 }
 
-/// Reads a script. Each line is in the grammar, or the first one that is not is the answer.
-pub fn parse(alloc: Global, bytes: &[u8]) -> Result<Script, ParseError>
+/// Reads a script. Each line is in the grammar, or the first one that is not is the answer, with the first kind of
+/// fault that applies to it. Under `threads` the lines that name no session have a kind of their own.
+pub fn parse(alloc: Global, bytes: &[u8], threads: bool) -> Result<Script, ParseError>
     requires { length bytes.now < 2 ^ 32 - 1 }
     ensures script { IfOk result (λ script. IsScript bytes.now script.names.items script.lines.items) }
     ensures short { IfOk result (λ script. length script.lines.items ≤ length bytes.now + 1) }
-    ensures bad_line { (line : ℕ) → result ≡ Err (ParseError.BadLine line) → IsFirstBadLine bytes.now line }
+    ensures fault { (line : ℕ) (kind : FaultKind) → result ≡ Err (ParseError.Fault (record { line = line; kind = kind }))
+        → IsFirstBadLine threads bytes.now line kind }
 {
     let mut script = Script {
         names: Vec::new(alloc),
@@ -50,7 +54,7 @@ pub fn parse(alloc: Global, bytes: &[u8]) -> Result<Script, ParseError>
         if is_skipped(line) {
             continue;
         }
-        script.add(index as u32 + 1, line)?;
+        script.add(index as u32 + 1, line, threads)?;
     }
     Ok(script)
 }
@@ -63,49 +67,42 @@ fn is_skipped(line: &[u8]) -> bool
 }
 
 impl Script {
-    ghost use Rattle.erm_script.specs.declared.script.ScriptLine.{ScriptLine};
     ghost use Rattle.erm_script.specs.Script.{AreScript};
+    ghost use Rattle.erm_script.specs.Faults.{IsFirstFault};
+    ghost use Rattle.erm_script.specs.Words.{words_of};
 
     // adds a line with its number after those that are there
-    fn add(&mut self, number: u32, line: &[u8]) -> Result<(), ParseError>
-        requires { vec_len self.old.names ≤ 1 }
+    fn add(&mut self, number: u32, line: &[u8], threads: bool) -> Result<(), ParseError>
+        requires { vec_len self.old.names ≤ SESSIONS }
         ensures added { OnOk result ((kept : List (ℕ × List ℕ)) → AreScript kept self.old.names.items self.old.lines.items
             → AreScript (kept ++ (number, line.now) ∷ []) self.new.names.items self.new.lines.items) }
-        ensures bad { (bad : ℕ) → result ≡ Err (ParseError.BadLine bad) → (bad ≡ number)
-            × ((kept : List (ℕ × List ℕ)) (names : List (List ℕ)) (lines : List ScriptLine)
-            → AreScript kept self.old.names.items self.old.lines.items
-            → AreScript (kept ++ (number, line.now) ∷ []) names lines → ⊥) }
+        ensures fault { (line_number : ℕ) (kind : FaultKind)
+            → result ≡ Err (ParseError.Fault (record { line = line_number; kind = kind }))
+            → (line_number ≡ number) × IsFirstFault threads self.old.names.items (words_of line.now) kind }
     {
-        let Some((name, command)) = line::line(line) else {
-            return Err(ParseError::BadLine(number));
+        let asked = match line::line(line, &self.names, threads) {
+            Ok(asked) => asked,
+            Err(kind) => return Err(ParseError::Fault(ScriptFault { line: number, kind })),
         };
-        let Some(session) = session(&mut self.names, name)? else {
-            return Err(ParseError::BadLine(number));
-        };
+        add_session(&mut self.names, asked.name, asked.session)?;
         let line = ScriptLine {
             line: number,
-            session,
-            command,
+            session: asked.session,
+            command: asked.command,
         };
         self.lines.push(line).map_err(AllocError::from)?;
         Ok(())
     }
 }
 
-// the number of a session by its name, which is the first session or a new one; there is no second one for now
-fn session(names: &mut Vec<Name>, name: Name) -> Result<Option<Seat>, AllocError>
-    requires { vec_len names.old ≤ 1 }
-    ensures session { IfOk result (λ session. IfSome session (λ s. (s ≡ 1) × (names.new.items ≡ name ∷ []))) }
-    ensures known { IfOk result (λ session. OnSome session ((names.old.items ≡ []) ⊎ (names.old.items ≡ name ∷ []))) }
-    ensures second { IfOk result (λ session. IfNone session
-        ((first : List ℕ) × (names.old.items ≡ first ∷ []) × (first ≢ name))) }
+// adds the name of a session whose seat is the next one
+fn add_session(names: &mut Vec<Name>, name: Name, session: Seat) -> Result<(), AllocError>
+    ensures added { OnOk result (length names.old.items < session → names.new.items ≡ names.old.items ++ name ∷ []) }
+    ensures known { OnOk result (session ≤ length names.old.items → names.new.items ≡ names.old.items) }
 {
-    match names.first() {
-        None => {
-            names.push(name)?;
-            Ok(Some(1))
-        }
-        Some(first) if *first == name => Ok(Some(1)),
-        Some(_) => Ok(None),
+    if usize::from(session) <= names.len() {
+        return Ok(());
     }
+    names.push(name)?;
+    Ok(())
 }

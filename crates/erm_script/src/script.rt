@@ -4,6 +4,9 @@ use erm_model::{Seat, Value};
 /// The last table. The first is 0.
 pub const LAST_TABLE: u8 = 15;
 
+/// How many sessions a script has at most.
+pub const SESSIONS: usize = 1;
+
 /// What a line of a script asks of its session.
 #[derive(Debug, Drop, PartialEq, Eq)]
 pub enum Command {

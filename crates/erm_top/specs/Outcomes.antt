@@ -1,14 +1,16 @@
 -- How a run of the command `run` ends.
-use Rattle.std.specs.Prelude.{◌≡◌, ℕ, ◌⊎◌, ◌+◌, ◌≤◌, List, [], length, Option, Some, IfSome}
+use Rattle.std.specs.Prelude.{◌≡◌, ℕ, ◌⊎◌, ◌+◌, ◌≤◌, List, [], false, length, Option, Some, IfSome}
 use Rattle.std.specs.Prelude.{String}
 use Rattle.std.specs.declared.alloc.Global.{Global}
 use Rattle.erm_outside.specs.Faults.{Rose}
 use Rattle.erm_report.specs.declared.line.Line.{Line}
 use Rattle.erm_report.specs.declared.line.Line.TheVariants as line
-use Rattle.erm_script.specs.Script.{IsFirstBadLine}
+use Rattle.erm_script.specs.declared.fault.FaultKind.{FaultKind}
+use Rattle.erm_script.specs.Faults.{IsFirstBadLine}
 use Rattle.erm_report.specs.Texts.{line_text, text_of}
 use Rattle.erm_outside.specs.Sink.{Puts, PutsFront}
 use Rattle.erm_top.specs.declared.reading.TheConstants.{SCRIPT_BYTES}
+use Rattle.erm_top.specs.CommandLine.{IsRefused, IsTaken}
 use Rattle.erm_top.specs.Statuses.{AreRunWords, Reports, Prints, TakesAtMost, TakesMore}
 
 -- what source and sink tell before and after
@@ -52,11 +54,12 @@ pub record Cut (a : Around) : Type 0 where
 abbrev pub PrintsLine : Line → Around → Type 0
 PrintsLine l a = Prints (line_text l) a.written_before a.written_after a.sink_before a.sink_after
 
--- the bytes taken are those of no script, and the first bad line was printed
+-- the bytes taken are those of no script, and the first bad line was printed with its first kind of fault
 pub record Refused (a : Around) : Type 0 where
   pub number : ℕ
-  pub read : WasReadWith (λ bytes. IsFirstBadLine bytes number) a.left_before a.left_after
-  pub printed : PrintsLine (line.BadLine number) a
+  pub kind : FaultKind
+  pub read : WasReadWith (λ bytes. IsFirstBadLine false bytes number kind) a.left_before a.left_after
+  pub printed : PrintsLine (line.BadLine number kind) a
 
 -- what each status means
 pub record RunEnds (status : ℕ) (a : Around) : Type 0 where
@@ -78,6 +81,13 @@ pub record Misused (status : ℕ) (a : Around) : Type 0 where
   pub left : a.left_after ≡ a.left_before
   pub sound : a.source_after ≡ a.source_before
 
--- the words ask for the command, which ends so; or they ask for none
+-- memory ran out before the words were read: that was printed, and the source was left alone
+pub record Starved (status : ℕ) (a : Around) : Type 0 where
+  pub no_memory : status ≡ 8
+  pub printed : PrintsLine line.NoMemory a
+  pub left : a.left_after ≡ a.left_before
+  pub sound : a.source_after ≡ a.source_before
+
+-- the words are taken for the command, which ends so; or they are refused, and are not its; or memory ran out
 abbrev pub Ends : List (String Global) → ℕ → Around → Type 0
-Ends words status a = (AreRunWords words × RunEnds status a) ⊎ ((AreRunWords words → ⊥) × Misused status a)
+Ends words status a = (IsTaken words × RunEnds status a) ⊎ (IsRefused words × (AreRunWords words → ⊥) × Misused status a) ⊎ Starved status a

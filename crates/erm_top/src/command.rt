@@ -1,17 +1,18 @@
 //! The command `run`.
-ghost use Rattle.std.specs.Prelude.{◌≡◌, ◌≢◌, ℕ, ◌+◌, ◌≤◌, ◌⊎◌, [], length, Some, IfOk, IfSome, OnOk, Err};
+ghost use Rattle.std.specs.Prelude.{◌≡◌, ◌≢◌, ℕ, ◌+◌, ◌≤◌, ◌⊎◌, [], false, length, Some, IfOk, IfSome, OnOk, Err};
 ghost use Rattle.erm_outside.specs.Faults.{Rose};
-ghost use Rattle.erm_script.specs.Script.{IsFirstBadLine};
-ghost use Rattle.erm_report.specs.Texts.{line_text};
+ghost use Rattle.erm_script.specs.declared.fault.ScriptFault.{ScriptFault};
+ghost use Rattle.erm_script.specs.Faults.{IsFirstBadLine};
+ghost use Rattle.erm_report.specs.Texts.{line_text, text_of};
 ghost use Rattle.erm_report.specs.declared.line.Line.TheVariants as line;
 ghost use Rattle.erm_top.specs.Outcomes.{HasReport, RunEnds, WasReadWith};
 ghost use Rattle.erm_top.specs.Statuses.{Prints, TakesAtMost, TakesMore};
 
 use crate::reading::{ReadError, SCRIPT_BYTES, read_all};
 use erm_outside::{Sink, Source, put_all};
-use erm_report::{Line, NO_MEMORY, READ_FAULT, TOO_LONG, push_line, text};
+use erm_report::{Line, NO_MEMORY, READ_FAULT, TOO_LONG, Text};
 use erm_run::run;
-use erm_script::{ParseError, parse};
+use erm_script::{ParseError, ScriptFault, parse};
 use std::alloc::{AllocError, Global};
 
 /// Why there is no report.
@@ -20,7 +21,7 @@ enum Stop {
     Memory,
     ReadFault,
     TooLong,
-    BadLine(u32),
+    BadLine(ScriptFault),
 }
 
 impl From<AllocError> for Stop {
@@ -48,11 +49,11 @@ pub fn run_command<S: Source, K: Sink>(alloc: Global, source: &mut S, sink: &mut
     }) }
 {
     match report(alloc, source) {
-        Ok(text) => match put_all(sink, &text) {
+        Ok(text) => match put_all(sink, text.as_slice()) {
             Ok(()) => 0,
             Err(_) => 5,
         },
-        Err(Stop::BadLine(number)) => print_bad_line(alloc, sink, number),
+        Err(Stop::BadLine(fault)) => print_bad_line(alloc, sink, fault),
         Err(Stop::ReadFault) => {
             print(sink, READ_FAULT);
             4
@@ -69,12 +70,13 @@ pub fn run_command<S: Source, K: Sink>(alloc: Global, source: &mut S, sink: &mut
 }
 
 // Reads a script from the source to its end, runs it, and makes the text of its report.
-fn report<S: Source>(alloc: Global, source: &mut S) -> Result<Vec<u8>, Stop>
-    ensures report { IfOk result (λ text. WasReadWith (λ bytes. HasReport bytes text.items) (S.left source.old) (S.left source.new)) }
-    ensures bad_line { (n : ℕ) → result ≡ Err (Stop.BadLine n)
-        → WasReadWith (λ bytes. IsFirstBadLine bytes n) (S.left source.old) (S.left source.new) }
+fn report<S: Source>(alloc: Global, source: &mut S) -> Result<Text, Stop>
+    ensures report { IfOk result (λ text. WasReadWith (λ bytes. HasReport bytes text) (S.left source.old) (S.left source.new)) }
+    ensures bad_line { (fault : ScriptFault) → result ≡ Err (Stop.BadLine fault)
+        → WasReadWith (λ bytes. IsFirstBadLine false bytes fault.line fault.kind) (S.left source.old) (S.left source.new) }
     ensures sound { OnOk result (S.faults source.new ≡ S.faults source.old) }
-    ensures bad_line_sound { (n : ℕ) → result ≡ Err (Stop.BadLine n) → S.faults source.new ≡ S.faults source.old }
+    ensures bad_line_sound { (fault : ScriptFault) → result ≡ Err (Stop.BadLine fault)
+        → S.faults source.new ≡ S.faults source.old }
     ensures too_long_sound { result ≡ Err Stop.TooLong → S.faults source.new ≡ S.faults source.old }
     ensures fault { result ≡ Err Stop.ReadFault → Rose (S.faults source.old) (S.faults source.new) }
     ensures too_long { result ≡ Err Stop.TooLong → TakesMore SCRIPT_BYTES (S.left source.old) (S.left source.new) }
@@ -89,32 +91,48 @@ fn report<S: Source>(alloc: Global, source: &mut S) -> Result<Vec<u8>, Stop>
 }
 
 // Runs the script that these bytes spell, and makes the text of its report.
-fn answer(alloc: Global, bytes: &[u8]) -> Result<Vec<u8>, Stop>
+fn answer(alloc: Global, bytes: &[u8]) -> Result<Text, Stop>
     requires { length bytes.now ≤ SCRIPT_BYTES }
-    ensures report { IfOk result (λ text. HasReport bytes.now text.items) }
-    ensures bad_line { (n : ℕ) → result ≡ Err (Stop.BadLine n) → IsFirstBadLine bytes.now n }
+    ensures report { IfOk result (λ text. HasReport bytes.now text) }
+    ensures bad_line { (fault : ScriptFault) → result ≡ Err (Stop.BadLine fault)
+        → IsFirstBadLine false bytes.now fault.line fault.kind }
     ensures no_fault { result ≢ Err Stop.ReadFault }
     ensures not_long { result ≢ Err Stop.TooLong }
 {
-    let script = match parse(alloc, bytes) {
+    let script = match parse(alloc, bytes, false) {
         Ok(script) => script,
         Err(ParseError::Memory) => return Err(Stop::Memory),
-        Err(ParseError::BadLine(number)) => return Err(Stop::BadLine(number)),
+        Err(ParseError::Fault(fault)) => return Err(Stop::BadLine(fault)),
     };
     let lines = run(alloc, &script.names, &script.lines)?;
-    Ok(text(alloc, &lines)?)
+    Ok(report_text(alloc, &lines)?)
+}
+
+// The text of lines, one after the other.
+fn report_text(alloc: Global, lines: &[Line]) -> Result<Text, AllocError>
+    ensures { IfOk result (λ text. text ≡ text_of lines.now) }
+{
+    let mut text = Text::new(alloc);
+    for line in lines {
+        text.add(line)?;
+    }
+    Ok(text)
 }
 
 // Prints the first bad line of a script, and answers the status: 3, or 8 where memory runs out.
-fn print_bad_line<K: Sink>(alloc: Global, sink: &mut K, number: u32) -> u8
+fn print_bad_line<K: Sink>(alloc: Global, sink: &mut K, fault: ScriptFault) -> u8
     ensures known { (result ≡ 3) ⊎ (result ≡ 8) }
-    ensures bad_line { result ≡ 3 → Prints (line_text (line.BadLine number)) (K.written sink.old) (K.written sink.new) (K.faults sink.old) (K.faults sink.new) }
+    ensures bad_line { result ≡ 3 → Prints (line_text (line.BadLine fault.line fault.kind)) (K.written sink.old) (K.written sink.new) (K.faults sink.old) (K.faults sink.new) }
     ensures no_memory { result ≡ 8 → Prints (line_text line.NoMemory) (K.written sink.old) (K.written sink.new) (K.faults sink.old) (K.faults sink.new) }
 {
-    let mut out = Vec::new(alloc);
-    match push_line(&mut out, &Line::BadLine { line: number }) {
+    let mut text = Text::new(alloc);
+    let line = Line::BadLine {
+        line: fault.line,
+        kind: fault.kind,
+    };
+    match text.add(&line) {
         Ok(()) => {
-            print(sink, &out);
+            print(sink, text.as_slice());
             3
         }
         Err(_) => {

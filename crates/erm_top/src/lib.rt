@@ -4,5 +4,6 @@
 mod command;
 mod reading;
 mod top;
+mod words;
 
 pub use top::{Ended, ermia};

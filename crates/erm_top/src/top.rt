@@ -1,19 +1,23 @@
 //! The top call.
-ghost use Rattle.std.specs.Prelude.{◌≡◌, ℕ, ◌+◌, ◌≤◌, ◌⊎◌, ◌↔◌, List, length, IsTrue, Some};
+ghost use Rattle.std.specs.Prelude.{◌≡◌, ℕ, ◌+◌, ◌≤◌, ◌⊎◌, List, false, length, Some};
 ghost use Rattle.erm_outside.specs.Faults.{Rose};
 ghost use Rattle.erm_outside.specs.Sink.{Puts, PutsFront};
 ghost use Rattle.erm_report.specs.Texts.{line_text, text_of};
-ghost use Rattle.erm_script.specs.Script.{IsScript, IsFirstBadLine};
+ghost use Rattle.erm_script.specs.Script.{IsScript};
+ghost use Rattle.erm_script.specs.Faults.{IsFirstBadLine};
+ghost use Rattle.erm_script.specs.declared.fault.FaultKind.{FaultKind};
 ghost use Rattle.erm_report.specs.declared.line.Line.TheVariants as line;
 ghost use Rattle.erm_report.specs.declared.line.Line.{Line as PrintedLine};
 ghost use Rattle.erm_script.specs.declared.script.ScriptLine.{ScriptLine as LineOfScript};
 ghost use Rattle.erm_top.specs.Statuses.{AreRunWords, Reports, Prints, TakesAtMost, TakesMore, IsStatus};
+ghost use Rattle.erm_top.specs.CommandLine.{IsRefused};
 ghost use Rattle.erm_top.specs.Outcomes.{Ends, WasReadWith};
 
 use crate::command::{print, run_command};
 use crate::reading::SCRIPT_BYTES;
+use crate::words::asks_for_run;
 use erm_outside::{Disk, Gate, Sink, Source};
-use erm_report::USAGE;
+use erm_report::{NO_MEMORY, USAGE};
 use std::alloc::Global;
 use std::sync::Wait;
 use std::thread::Threads;
@@ -33,8 +37,8 @@ pub struct Ended<D> {
 /// puts its report. The disk is left alone. The status is
 ///
 /// - 0 where the report was put whole;
-/// - 2 exactly where the words are others; the usage line was printed;
-/// - 3 where the script is not in the grammar; the first bad line was printed;
+/// - 2 where the words are others, or ask for help; the usage line was printed;
+/// - 3 where the script is not in the grammar; the first bad line was printed, with its first kind of fault;
 /// - 4 where the source failed;
 /// - 5 where the sink failed while the report was put;
 /// - 8 where memory ran out;
@@ -60,17 +64,20 @@ pub fn ermia<R: Threads + Wait + Sync, S: Source, K: Sink, D: Disk + Send, G: Ga
         × Puts (text_of lines) (K.written sink.old) (K.written sink.new) }
     ensures sound { result.status ≡ 0 → (S.faults source.new ≡ S.faults source.old) × (K.faults sink.new ≡ K.faults sink.old) }
 
-    // 2: exactly where the words are not the program's name and `run`. The source is left alone.
-    ensures usage { (result.status ≡ 2) ↔ (AreRunWords words.now → ⊥) }
+    // 2: exactly where the words are refused, as those of no command are, unless memory runs out. They aren't the
+    // program's name and `run`. The source is left alone.
+    ensures usage { result.status ≡ 2 → IsRefused words.now × (AreRunWords words.now → ⊥) }
+    ensures refused { IsRefused words.now → (result.status ≡ 2) ⊎ (result.status ≡ 8) }
     ensures usage_text { result.status ≡ 2 → Prints (line_text line.Usage)
         (K.written sink.old) (K.written sink.new) (K.faults sink.old) (K.faults sink.new) }
     ensures usage_source { result.status ≡ 2
         → (S.left source.new ≡ S.left source.old) × (S.faults source.new ≡ S.faults source.old) }
 
-    // 3: the source was read to its end, and this is the first line that is not in the grammar.
-    ensures bad_line { result.status ≡ 3 → (number : ℕ)
-        × WasReadWith (λ bytes. IsFirstBadLine bytes number) (S.left source.old) (S.left source.new)
-        × Prints (line_text (line.BadLine number))
+    // 3: the source was read to its end, and this is the first line that is not in the grammar, with the first kind of
+    // fault that applies to it.
+    ensures bad_line { result.status ≡ 3 → (number : ℕ) × (kind : FaultKind)
+        × WasReadWith (λ bytes. IsFirstBadLine false bytes number kind) (S.left source.old) (S.left source.new)
+        × Prints (line_text (line.BadLine number kind))
         (K.written sink.old) (K.written sink.new) (K.faults sink.old) (K.faults sink.new) }
 
     // 4: the source failed.
@@ -123,20 +130,15 @@ fn command<S: Source, K: Sink>(alloc: Global, words: &[String], source: &mut S, 
       sink_after = K.faults sink.new;
     }) }
 {
-    if is_run(words) {
-        run_command(alloc, source, sink)
-    } else {
-        print(sink, USAGE);
-        2
-    }
-}
-
-// Whether the words are the program's name and `run`.
-fn is_run(words: &[String]) -> bool
-    ensures { IsTrue result ↔ AreRunWords words.now }
-{
-    match words {
-        [_, command] => command.as_str() == "run",
-        _ => false,
+    match asks_for_run(alloc, words) {
+        Ok(true) => run_command(alloc, source, sink),
+        Ok(false) => {
+            print(sink, USAGE);
+            2
+        }
+        Err(_) => {
+            print(sink, NO_MEMORY);
+            8
+        }
     }
 }

@@ -3,7 +3,7 @@ ghost use Rattle.std.specs.Prelude.{◌≡◌, ◌≢◌, ℕ, ◌^◌, ◌<◌,
 ghost use Rattle.std.specs.Bool.{OnTrue, OnFalse};
 ghost use Rattle.erm_script.specs.Script.{IsName, IsValue, is_name_byte};
 ghost use Rattle.erm_model.specs.Spelling.{value_word};
-ghost use Rattle.erm_script.specs.Words.{words_of};
+ghost use Rattle.erm_script.specs.Words.{words_of, words_after};
 ghost use Rattle.hex.specs.Hex.{encode_lower, IsBytes};
 
 use crate::LAST_TABLE;
@@ -18,6 +18,39 @@ pub fn cut(bytes: &[u8]) -> Option<(&[u8], &[u8])>
 {
     let space = bytes.iter().position(|b| *b == b' ')?;
     Some((&bytes[..space], &bytes[space + 1..]))
+}
+
+/// The first word, and what comes after its space, if there is one.
+pub fn first(bytes: &[u8]) -> (&[u8], Option<&[u8]>)
+    ensures { words_of bytes.now ≡ result.0.now ∷ words_after result.1 }
+{
+    match cut(bytes) {
+        Some((word, rest)) => (word, Some(rest)),
+        None => (bytes, None),
+    }
+}
+
+/// The words, where they are two.
+pub fn two(words: Option<&[u8]>) -> Option<(&[u8], &[u8])>
+    ensures others { IfNone result (length (words_after words.entry) ≢ 2) }
+    ensures words { IfSome result (λ w. words_after words.entry ≡ w.0.now ∷ w.1.now ∷ []) }
+{
+    let (one, rest) = first(words?);
+    let (two, rest) = first(rest?);
+    match rest {
+        None => Some((one, two)),
+        Some(_) => None,
+    }
+}
+
+/// The words, where they are three.
+pub fn three(words: Option<&[u8]>) -> Option<(&[u8], &[u8], &[u8])>
+    ensures others { IfNone result (length (words_after words.entry) ≢ 3) }
+    ensures words { IfSome result (λ w. words_after words.entry ≡ w.0.now ∷ w.1.now ∷ w.2.now ∷ []) }
+{
+    let (one, rest) = first(words?);
+    let (two, three) = two(rest)?;
+    Some((one, two, three))
 }
 
 /// The name of a session: one to eight lower-case letters and digits.

@@ -1,0 +1,40 @@
+use Rattle.std.proofs.Common.{ℕ, ◌≡◌, ◌<◌, Some, None, length, ap, ◌∙◌, sym, arith}
+use Rattle.std.specs.Prelude.{if◌then◌else◌}
+use Rattle.erm_machine.specs.declared.part.Part.{Part}
+use Rattle.erm_machine.specs.Step.{part_after}
+use Rattle.erm_machine.specs.Words.{put}
+use Rattle.erm_core.specs.Cores.{shared_of, parts_of}
+use Rattle.erm_core.specs.Parts.{part_of}
+use Rattle.erm_core.proofs.Tables.{parts_set, parts_at, parts_here, put_same_value, object_there}
+use Rattle.erm_core.proofs.state.State.turn.Goals as goal
+
+within : (len k bound n : ℕ) → len ≡ n → len ≡ bound → k < bound → k < n
+within len k bound n a b h = omega arith
+
+below : (n m bound : ℕ) → m ≡ n → n < bound → m < bound
+below n m bound e h = omega arith
+
+pub returns-clause-after : goal.returns-clause-after
+returns-clause-after c =
+    let s = c.args.self.now in
+    let inside = within s.seats.len c.args.seat 18 (length s.seats.items) s.seats.ok.0 c.requires.shape.seats c.requires.seat in
+    let there = within s.objects.len c.object_of_kind-oid.result 1024 (length s.objects.items) s.objects.ok.0 c.requires.shape.objects
+    (below _ c.object_of_kind-oid.result 1024 c.object_of_kind-oid.ensures c.requires.known) in
+    ap (λ (z : Part). part_after c.args.seat c.args.kind c.args.found (shared_of s) z) (parts_at s.run s.opening s.seats.items c.args.seat c.index_mut.result.now inside c.index_mut.ensures.value)
+    ∙ c.turn.ensures.turn (shared_of s) (object_there s.objects.items _ c.object_of_kind-oid.result c.index.result.now c.object_of_kind-oid.ensures there c.index.ensures)
+    ∙ ap (λ (z : Part). if c.turn.result then Some z else None) (sym (parts_here s.run s.opening s.seats.items c.args.seat c.turn.new.self inside))
+
+pub returns-clause-seats : goal.returns-clause-seats
+returns-clause-seats c = λ _.
+    let s = c.args.self.now in
+    let inside = within s.seats.len c.args.seat 18 (length s.seats.items) s.seats.ok.0 c.requires.shape.seats c.requires.seat in
+    parts_set s.run s.opening s.seats.items c.args.seat c.turn.new.self inside
+    ∙ ap (λ (z : Part). put (parts_of s.run s.opening s.seats.items) c.args.seat z) (sym (parts_here s.run s.opening s.seats.items c.args.seat c.turn.new.self inside))
+
+pub returns-clause-kept : goal.returns-clause-kept
+returns-clause-kept c = λ failed.
+    let s = c.args.self.now in
+    let inside = within s.seats.len c.args.seat 18 (length s.seats.items) s.seats.ok.0 c.requires.shape.seats c.requires.seat in
+    parts_set s.run s.opening s.seats.items c.args.seat c.turn.new.self inside
+    ∙ put_same_value (parts_of s.run s.opening s.seats.items) c.args.seat (part_of c.turn.new.self)
+    (parts_at s.run s.opening s.seats.items c.args.seat c.index_mut.result.now inside c.index_mut.ensures.value ∙ sym (c.turn.ensures.kept failed))

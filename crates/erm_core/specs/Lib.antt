@@ -1,0 +1,5 @@
+pub mod Cores
+pub mod Kinds
+pub mod Objects
+pub mod Parts
+pub mod Rooms

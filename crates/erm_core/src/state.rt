@@ -1,0 +1,163 @@
+//! The state of the running machine.
+mod change;
+mod opening;
+mod room;
+mod run;
+mod step;
+
+ghost use Rattle.std.specs.Prelude.{◌≡◌, ◌%◌, ◌<◌, ◌≤◌, if◌then◌else◌, Some, None, false, true, vec_len};
+ghost use Rattle.erm_machine.specs.declared.limits.TheConstants.{ANNOUNCERS, OBJECT_LIMIT};
+ghost use Rattle.erm_machine.specs.Core as core_specs;
+ghost use Rattle.erm_machine.specs.Words as word_specs;
+ghost use Rattle.erm_core.specs.Cores.{core_of, IsShaped};
+ghost use Rattle.erm_core.specs.Kinds.{IsPlain};
+
+use crate::object::ObjectState;
+use crate::seat::SeatState;
+use crate::words::{begin_of, blank_cell, cell_word, state_of};
+use erm_machine::{CellWord, Counter, Kind, RING_WORDS, Span, VersionAt};
+use erm_model::{Oid, Seat, Stamp};
+
+/// The state of the machine: what the seats share, and what each keeps.
+#[derive(Drop)]
+pub struct State {
+    pub(crate) run: u64,
+    pub(crate) opening: Stamp,
+    pub(crate) tail: Stamp,
+    pub(crate) log: Vec<Span>,
+    pub(crate) flushed: Stamp,
+    pub(crate) objects_drawn: u64,
+    pub(crate) cells_drawn: u64,
+    pub(crate) objects: Vec<ObjectState>,
+    pub(crate) ring: Vec<u64>,
+    pub(crate) seats: Vec<SeatState>,
+}
+
+impl State {
+    // The begin word of a seat.
+    fn begin_word(&self, seat: Seat) -> u64
+        ensures { result ≡ core_specs.word_at (core_of self.now) (core_specs.begin_word seat) }
+    {
+        match self.seats.get(seat as usize) {
+            Some(x) => begin_of(x.place),
+            None => 0,
+        }
+    }
+
+    // The state word of a seat.
+    fn state_word(&self, seat: Seat) -> u64
+        ensures { result ≡ core_specs.word_at (core_of self.now) (core_specs.state_word seat) }
+    {
+        match self.seats.get(seat as usize) {
+            Some(x) => state_of(x.place),
+            None => 0,
+        }
+    }
+
+    // The entry of an object.
+    fn entry_word(&self, oid: Oid) -> u64
+        ensures { result ≡ core_specs.word_at (core_of self.now) (core_specs.entry_word oid) }
+    {
+        match self.objects.get(oid as usize) {
+            Some(object) => object.entry,
+            None => 0,
+        }
+    }
+
+    // A word of a version.
+    fn version_word(&self, version: VersionAt, word: CellWord) -> u64
+        ensures { result ≡ core_specs.word_at (core_of self.now) (core_specs.version_word version word) }
+    {
+        match self.objects.get(version.oid as usize) {
+            Some(object) => cell_word(word, &object.version_at(version.place).words),
+            None => cell_word(word, &blank_cell()),
+        }
+    }
+
+    // A word of the own cell of a seat's claim.
+    fn own_word(&self, seat: Seat, claim: usize, cell: u32, word: CellWord) -> u64
+        ensures { result ≡ core_specs.word_at (core_of self.now) (core_specs.own_word seat claim cell word) }
+    {
+        match self.seats.get(seat as usize) {
+            Some(x) => match x.current.claim_at(claim).own {
+                Some(own) => cell_word(word, &own.words),
+                None => cell_word(word, &blank_cell()),
+            },
+            None => cell_word(word, &blank_cell()),
+        }
+    }
+
+    // A word of the ring.
+    fn ring_word(&self, at: Stamp) -> u64
+        ensures { result ≡ core_specs.word_at (core_of self.now) (core_specs.ring_word (at % RING_WORDS)) }
+    {
+        match self.ring.get((at % RING_WORDS) as usize) {
+            Some(word) => *word,
+            None => 0,
+        }
+    }
+
+    fn counter_word(&self, counter: Counter) -> u64
+        ensures { result ≡ core_specs.word_at (core_of self.now) (core_specs.counter_word counter) }
+    {
+        match counter {
+            Counter::Objects => self.objects_drawn,
+            Counter::Cells => self.cells_drawn,
+        }
+    }
+
+    // The word that a step of a life or of the log meets; 0 for those of objects.
+    fn plain_word(&self, seat: Seat, kind: Kind) -> u64
+        ensures { IsPlain kind → result ≡ core_specs.word_at (core_of self.now) (core_specs.spot_of seat kind) }
+    {
+        match kind {
+            Kind::LoadTail { .. } | Kind::AddTail { .. } => self.tail,
+            Kind::StoreBegin { .. } => self.begin_word(seat),
+            Kind::StoreState { .. } => self.state_word(seat),
+            Kind::LoadBegin { seat: other } => self.begin_word(other),
+            Kind::LoadState { seat: other, .. } => self.state_word(other),
+            Kind::LoadCounter { counter } | Kind::AddCounter { counter } => {
+                self.counter_word(counter)
+            }
+            Kind::StoreRing { at, .. }
+            | Kind::Decide { at, .. }
+            | Kind::LoadRing { at }
+            | Kind::ClearRing { at } => self.ring_word(at),
+            Kind::StoreFlushed { .. } | Kind::LoadFlushed => self.flushed,
+            _ => 0,
+        }
+    }
+
+    /// The word that a step of this kind meets.
+    pub fn word(&self, seat: Seat, kind: Kind) -> u64
+        ensures { result ≡ core_specs.word_at (core_of self.now) (core_specs.spot_of seat kind) }
+    {
+        match kind {
+            Kind::LoadEntry { oid } | Kind::Claim { oid, .. } | Kind::Install { oid, .. } => {
+                self.entry_word(oid)
+            }
+            Kind::LoadCell { version, word } | Kind::LoadStamp { version, word } => {
+                self.version_word(version, word)
+            }
+            Kind::StoreCell {
+                claim,
+                cell,
+                word,
+                ..
+            } => self.own_word(seat, claim, cell, word),
+            Kind::SetReader { version }
+            | Kind::ClearReader { version }
+            | Kind::LoadReaders { version } => self.version_word(version, CellWord::Readers),
+            Kind::RaiseReader { version, .. } => self.version_word(version, CellWord::ReaderStamp),
+            Kind::StoreSucc { version, .. } => self.version_word(version, CellWord::OverwriterSucc),
+            Kind::StoreOverwriter { version, .. } => self.version_word(
+                version,
+                CellWord::Overwriter,
+            ),
+            Kind::SwapLink { version } | Kind::LoadDetached { version } => {
+                self.version_word(version, CellWord::Link)
+            }
+            _ => self.plain_word(seat, kind),
+        }
+    }
+}

@@ -1,0 +1,170 @@
+//! The step of the machine.
+ghost use Rattle.std.specs.Prelude.{ℕ, ◌≡◌, ◌<◌, ◌≤◌, if◌then◌else◌, Some, None, false, true};
+ghost use Rattle.erm_machine.specs.declared.limits.TheConstants.{ANNOUNCERS, OBJECT_LIMIT};
+ghost use Rattle.erm_machine.specs.declared.event.Event.{Event};
+ghost use Rattle.erm_machine.specs.declared.event.Kind.TheVariants.{Split, Join};
+ghost use Rattle.erm_machine.specs.declared.event.Answer.{Answer};
+ghost use Rattle.erm_machine.specs.Core.{Core};
+ghost use Rattle.erm_machine.specs.Sound.{Sound};
+ghost use Rattle.erm_machine.specs.Step as step_specs;
+ghost use Rattle.erm_machine.specs.Words.{put};
+ghost use Rattle.erm_core.specs.Cores.{core_of, parts_of, shared_of, added_in, DrawFits, IsShaped};
+ghost use Rattle.erm_core.specs.Kinds.{MeetsOne, object_in, event_at};
+ghost use Rattle.erm_core.specs.Rooms.{HasRoom, HasSharedRoom, SeatHasRoom};
+
+use super::State;
+use super::change::object_of_kind;
+use crate::words::is_seat;
+use erm_machine::{Answer, Event, Kind, OBJECT_LIMIT, Place, Version};
+use erm_model::{Seat, Stamp};
+
+// Whether the object that a kind names is one below the limit.
+fn is_known(kind: Kind) -> bool
+    ensures known { result ≡ step_specs.is_known kind }
+    ensures object { result ≡ true → object_in kind < OBJECT_LIMIT }
+{
+    object_of_kind(kind) < OBJECT_LIMIT
+}
+
+// What a step of this kind answers where its guard is met.
+fn told(kind: Kind, found: u64) -> Answer
+    ensures { result ≡ step_specs.told kind found }
+{
+    match kind {
+        Kind::LoadTail { .. }
+        | Kind::AddTail { .. }
+        | Kind::LoadBegin { .. }
+        | Kind::LoadState { .. }
+        | Kind::LoadEntry { .. }
+        | Kind::Claim { .. }
+        | Kind::LoadCell { .. }
+        | Kind::LoadCounter { .. }
+        | Kind::AddCounter { .. }
+        | Kind::LoadReaders { .. }
+        | Kind::LoadStamp { .. }
+        | Kind::LoadRing { .. }
+        | Kind::LoadFlushed
+        | Kind::SwapLink { .. }
+        | Kind::LoadDetached { .. } => Answer::Word(found),
+        _ => Answer::Done,
+    }
+}
+
+impl State {
+    // The version that a step adds.
+    fn added(&self, seat: Seat, kind: Kind) -> Option<Version>
+        requires shape { IsShaped self.now }
+        requires seat { seat < ANNOUNCERS }
+        ensures { result ≡ added_in kind ((core_of self.now).seats seat) }
+    {
+        match kind {
+            Kind::Install { head, .. } => self.seats[seat as usize].added(head),
+            _ => None,
+        }
+    }
+
+    // The seat takes its step, where its guard is met.
+    fn turn(&mut self, seat: Seat, kind: Kind, found: u64) -> bool
+        requires shape { IsShaped self.old }
+        requires seat { seat < ANNOUNCERS }
+        requires known { object_in kind < OBJECT_LIMIT }
+        requires room { SeatHasRoom self.old seat kind }
+        ensures after { step_specs.part_after seat kind found (shared_of self.old) ((core_of self.old).seats seat) ≡ (if result then Some ((core_of self.new).seats seat) else None) }
+        ensures seats { result ≡ true → (core_of self.new).seats ≡ put (core_of self.old).seats seat ((core_of self.new).seats seat) }
+        ensures kept { result ≡ false → (core_of self.new).seats ≡ (core_of self.old).seats }
+        ensures rest { self.new ≡ record self.old { seats = self.new.seats } }
+        ensures shape { IsShaped self.new }
+    {
+        let oid = object_of_kind(kind) as usize;
+        self.seats[seat as usize].turn(seat, kind, found, &self.objects[oid])
+    }
+}
+
+impl State {
+    // A step that meets one word, or a device.
+    fn step_word(&mut self, seat: Seat, kind: Kind) -> Answer
+        requires one { MeetsOne kind }
+        requires shape { IsShaped self.old }
+        requires seat { seat < ANNOUNCERS }
+        requires room { HasRoom self.old seat kind }
+        requires sound { Sound (core_of self.old) }
+        ensures step { ◌≡◌ {A = Answer × Core} (result, core_of self.new) (step_specs.core_step (core_of self.old) (event_at seat kind)) }
+        ensures shape { IsShaped self.new }
+    {
+        if !is_known(kind) {
+            return Answer::Failed;
+        }
+        let found = self.word(seat, kind);
+        let added = self.added(seat, kind);
+        if !self.turn(seat, kind, found) {
+            return Answer::Failed;
+        }
+        self.change(seat, kind, found, added);
+        told(kind, found)
+    }
+
+    // A vacant seat is taken.
+    fn split(&mut self, seat: Seat, other: Seat) -> Answer
+        requires shape { IsShaped self.old }
+        requires seat { seat < ANNOUNCERS }
+        ensures step { ◌≡◌ {A = Answer × Core} (result, core_of self.new) (step_specs.core_step (core_of self.old) (event_at seat (Split other))) }
+        ensures shape { IsShaped self.new }
+    {
+        if other == seat || !is_seat(other) {
+            return Answer::Failed;
+        }
+        let (by, seen) = self.sight(seat);
+        if !self.seats[other as usize].split(by, seen) {
+            return Answer::Failed;
+        }
+        Answer::Done
+    }
+
+    // A seat takes in another.
+    fn join(&mut self, seat: Seat, other: Seat) -> Answer
+        requires shape { IsShaped self.old }
+        requires seat { seat < ANNOUNCERS }
+        ensures step { ◌≡◌ {A = Answer × Core} (result, core_of self.new) (step_specs.core_step (core_of self.old) (event_at seat (Join other))) }
+        ensures shape { IsShaped self.new }
+    {
+        if other == seat {
+            return Answer::Failed;
+        }
+        let (place, seen) = self.sight(other);
+        if !self.seats[seat as usize].join(place, seen) {
+            return Answer::Failed;
+        }
+        Answer::Done
+    }
+
+    // Where a seat is, and the tail that it has seen.
+    fn sight(&self, seat: Seat) -> (Place, Stamp)
+        ensures place { result.0 ≡ ((core_of self.now).seats seat).place }
+        ensures seen { result.1 ≡ ((core_of self.now).seats seat).seen }
+    {
+        match self.seats.get(seat as usize) {
+            Some(x) => (x.place, x.seen),
+            None => (Place::Vacant, self.opening),
+        }
+    }
+
+    /// Takes a step: exactly the core step. It takes no memory.
+    pub fn step(&mut self, event: Event) -> Answer
+        requires shape { IsShaped self.old }
+        requires seat { event.seat < ANNOUNCERS }
+        requires room { HasRoom self.old event.seat event.kind }
+        requires sound { Sound (core_of self.old) }
+        ensures step { ◌≡◌ {A = Answer × Core} (result, core_of self.new) (step_specs.core_step (core_of self.old) event) }
+        ensures sound { Sound (core_of self.new) }
+        ensures shape { IsShaped self.new }
+    {
+        erm_core_log::ranges_are_kept();
+        erm_core_si::looks_stay_true();
+        erm_core_si::begins_are_kept();
+        match event.kind {
+            Kind::Split { seat } => self.split(event.seat, seat),
+            Kind::Join { seat } => self.join(event.seat, seat),
+            kind => self.step_word(event.seat, kind),
+        }
+    }
+}

@@ -1,0 +1,4 @@
+pub mod BeginsKept
+pub mod BeginsMoved
+pub mod ClearKept
+pub mod ClearMoved

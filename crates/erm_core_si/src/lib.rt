@@ -1,0 +1,29 @@
+//! The laws of what seats see of one another: each event keeps what a look promises and what begins announce. Each law is the
+//! contract of a function that does nothing.
+#![tactic(auto)]
+
+ghost use Rattle.std.specs.Prelude.{◌≡◌, ◌≢◌, ℕ, Some};
+ghost use Rattle.erm_machine.specs.declared.event.Kind.{Kind};
+ghost use Rattle.erm_machine.specs.Begins.{OwnBegins, Begins};
+ghost use Rattle.erm_machine.specs.Clear.{OwnClear, Clear};
+ghost use Rattle.erm_machine.specs.Core.{Core};
+ghost use Rattle.erm_machine.specs.Sound.{Sound};
+ghost use Rattle.erm_machine.specs.Step.{after_event};
+
+/// From a sound state each event of each seat leads to one in which no bound noted lies above the tail, and a seat that was
+/// found clear for a bound has no unfinished range below it.
+pub fn looks_stay_true()
+    ensures seats { (c d : Core) (seat : ℕ) (kind : Kind) → Sound c → after_event c seat kind ≡ Some d
+        → (p : ℕ) → OwnClear d.shared (d.seats p) }
+    ensures pairs { (c d : Core) (seat : ℕ) (kind : Kind) → Sound c → after_event c seat kind ≡ Some d
+        → (p q : ℕ) → p ≢ q → Clear (d.seats p) q (d.seats q) }
+{}
+
+/// From a sound state each event of each seat leads to one in which begin words are at most begin stamps, those at most commit
+/// stamps and the tail, and a cutter's least number so far is at most the begin stamp of each seat that it has passed.
+pub fn begins_are_kept()
+    ensures seats { (c d : Core) (seat : ℕ) (kind : Kind) → Sound c → after_event c seat kind ≡ Some d
+        → (p : ℕ) → OwnBegins d.shared p (d.seats p) }
+    ensures pairs { (c d : Core) (seat : ℕ) (kind : Kind) → Sound c → after_event c seat kind ≡ Some d
+        → (p q : ℕ) → p ≢ q → Begins (d.seats p) q (d.seats q) }
+{}

@@ -1,0 +1,46 @@
+-- Guards read the own part and the word that is met, and nothing else.
+use Rattle.std.proofs.Common.{◌≡◌, ℕ, Bool, true, false, cond, Option, Some, None, refl, is_some}
+use Rattle.erm_machine.specs.declared.event.Kind.{Kind}
+use Rattle.erm_machine.specs.declared.event.Kind.TheVariants as kind
+use Rattle.erm_machine.specs.declared.part.Part.{Part}
+use Rattle.erm_machine.specs.declared.task.Task.{Task}
+use Rattle.erm_machine.specs.declared.task.Task.TheVariants as task
+use Rattle.erm_machine.specs.declared.version.VersionAt.{VersionAt}
+use Rattle.erm_machine.specs.Core.{Object, Shared}
+use Rattle.erm_machine.specs.Reading.{load_entry, claim, set_reader, swap_link}
+use Rattle.erm_machine.specs.Seat.{is_sealed}
+use Rattle.erm_machine.specs.Settling.{load_read_entry}
+use Rattle.erm_machine.specs.Step.{part_after}
+
+same_guard : (b : Bool) (x y : Part) → is_some (cond b (Some x) None) ≡ is_some (cond b (Some y) None)
+same_guard true x y = refl
+same_guard false x y = refl
+
+same_branch : (b : Bool) (l m n : Option Part) → is_some m ≡ is_some n → is_some (cond b l m) ≡ is_some (cond b l n)
+same_branch true l m n e = refl
+same_branch false l m n e = e
+
+entry_local : (seat oid found : ℕ) (o q : Object) (x : Part) (t : Task) → is_some (load_entry seat oid found o x t) ≡ is_some (load_entry seat oid found q x t)
+entry_local seat oid found o q x (task.Cleared cleared) = same_guard _ _ _
+entry_local seat oid found o q x _ = same_guard _ _ _
+
+claim_local : (seat oid seen number found : ℕ) (o q : Object) (x : Part) (t : Task) → is_some (claim seat oid seen number found o x t) ≡ is_some (claim seat oid seen number found q x t)
+claim_local seat oid seen number found o q x (task.Found version stamp (Some entry)) = same_guard _ _ _
+claim_local seat oid seen number found o q x _ = refl
+
+reader_local : (seat : ℕ) (v : VersionAt) (o q : Object) (x : Part) (t : Task) → is_some (set_reader seat v o x t) ≡ is_some (set_reader seat v q x t)
+reader_local seat v o q x (task.Found version stamp head) = same_guard _ _ _
+reader_local seat v o q x _ = refl
+
+link_local : (found : ℕ) (v : VersionAt) (o q : Object) (x : Part) (t : Task) → is_some (swap_link found v o x t) ≡ is_some (swap_link found v q x t)
+link_local found v o q x (task.CutFound version horizon) = same_guard _ _ _
+link_local found v o q x _ = refl
+
+pub guards_local : (seat : ℕ) (k : Kind) (found : ℕ) (s t : Shared) (x : Part) → is_some (part_after seat k found s x) ≡ is_some (part_after seat k found t x)
+guards_local seat (kind.LoadEntry oid) found s t x =
+    same_branch (is_sealed x.place) (load_read_entry seat oid found x x.task) (load_entry seat oid found (s.objects oid) x x.task) (load_entry seat oid found (t.objects oid) x x.task)
+    (entry_local seat oid found (s.objects oid) (t.objects oid) x x.task)
+guards_local seat (kind.Claim oid seen number) found s t x = claim_local seat oid seen number found (s.objects oid) (t.objects oid) x x.task
+guards_local seat (kind.SetReader v) found s t x = reader_local seat v (s.objects v.oid) (t.objects v.oid) x x.task
+guards_local seat (kind.SwapLink v) found s t x = link_local found v (s.objects v.oid) (t.objects v.oid) x x.task
+guards_local seat _ found s t x = refl

@@ -1,0 +1,24 @@
+//! The core machine: what one atomic step of one seat does to the words that all seats share and to what the seat keeps.
+//! Types here, and in `specs` what a step is and which states are sound.
+#![tactic(auto)]
+
+mod attempt;
+mod event;
+mod laws;
+mod limits;
+mod part;
+mod place;
+mod task;
+mod version;
+
+pub use attempt::{Attempt, Claim, Decision, OwnCell, Read};
+pub use event::{Answer, Counter, Event, Kind, TailUse};
+pub use laws::guards_read_no_object;
+pub use limits::{
+    ANNOUNCERS, CELL_LIMIT, FLUSH_SEAT, LAST_NUMBER, LOG_END, OBJECT_LIMIT, READ_LIMIT, RING_WORDS,
+    SEGMENT_WORDS, SESSIONS, STOP, WRITE_LIMIT,
+};
+pub use part::{Flushing, GatheredBlock, Part};
+pub use place::Place;
+pub use task::Task;
+pub use version::{Cell, CellWord, Span, Version, VersionAt};

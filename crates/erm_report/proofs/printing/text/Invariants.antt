@@ -1,6 +1,0 @@
-use Rattle.std.proofs.Common.{◌≡◌, take}
-use Rattle.erm_report.specs.Texts.{text_of}
-use Rattle.erm_report.proofs.printing.text.Given as goal
-
-abbrev pub invariant-loop-line : goal.invariant-loop-line
-invariant-loop-line l = l.out.items ≡ text_of (take l.line-index l.lines)

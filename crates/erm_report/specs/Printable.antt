@@ -1,0 +1,73 @@
+-- What of its lines a text tells, and which lines it tells so.
+use Rattle.std.specs.Prelude.{◌≡◌, ◌≢◌, ◌↔◌, ℕ, ◌^◌, ◌<◌, List, map, Some, None}
+use Rattle.std.specs.List.{All}
+use Rattle.erm_model.specs.declared.operation.Reply.{Reply}
+use Rattle.erm_model.specs.declared.operation.Reply.TheVariants as reply
+use Rattle.erm_report.specs.declared.answer.Answer.{Answer}
+use Rattle.erm_report.specs.declared.answer.Answer.TheVariants.{Began, Replied, Sealed, Committed, OidsFull}
+use Rattle.erm_report.specs.declared.line.Line.{Line}
+use Rattle.erm_report.specs.declared.line.Line.TheVariants as line
+use Rattle.erm_report.specs.Texts.{text_of}
+
+-- a word: it has no space and no line end
+abbrev pub IsWord : List ℕ → Type 0
+IsWord word = All (λ b. (b ≢ 32) × (b ≢ 10)) word
+
+-- the elements of a value are bytes
+abbrev pub AreBytes : List ℕ → Type 0
+AreBytes value = All (λ b. b < 256) value
+
+-- the numbers of a reply have at most 64 bits, and its value has bytes
+abbrev pub FitsReply : Reply → Type 0
+FitsReply (reply.Value (Some value)) = AreBytes value
+FitsReply (reply.Pair (Some found)) = (found.0 < 2 ^ 64) × AreBytes found.1
+FitsReply r = Unit {0}
+
+-- the numbers of an answer have at most 64 bits, and its value has bytes
+abbrev pub FitsAnswer : Answer → Type 0
+FitsAnswer (Began stamp) = stamp < 2 ^ 64
+FitsAnswer (Replied r) = FitsReply r
+FitsAnswer (Sealed stamp) = stamp < 2 ^ 64
+FitsAnswer (Committed stamp succ pred) = (stamp < 2 ^ 64) × (succ < 2 ^ 64) × (pred < 2 ^ 64)
+FitsAnswer (OidsFull drawn) = drawn < 2 ^ 64
+FitsAnswer answer = Unit {0}
+
+-- the numbers of a line have at most 64 bits, and its value has bytes
+abbrev pub FitsTypes : Line → Type 0
+FitsTypes (line.Open stamp run) = (stamp < 2 ^ 64) × (run < 2 ^ 64)
+FitsTypes (line.Answer number answer) = (number < 2 ^ 64) × FitsAnswer answer
+FitsTypes (line.Close session answer) = FitsAnswer answer
+FitsTypes (line.Order commits) = commits < 2 ^ 64
+FitsTypes (line.Commit session number stamp succ pred) = (number < 2 ^ 64) × (stamp < 2 ^ 64) × (succ < 2 ^ 64) × (pred < 2 ^ 64)
+FitsTypes (line.Map pairs) = pairs < 2 ^ 64
+FitsTypes (line.Pair pair) = (pair.key.table < 2 ^ 64) × (pair.key.key < 2 ^ 64) × AreBytes pair.value
+FitsTypes (line.BadLine number kind) = number < 2 ^ 64
+FitsTypes l = Unit {0}
+
+-- the session that a line names, if it names one, has a word for its name
+abbrev pub HasWordName : Line → Type 0
+HasWordName (line.Close session answer) = IsWord session
+HasWordName (line.Commit session number stamp succ pred) = IsWord session
+HasWordName l = Unit {0}
+
+-- a line whose words are told apart where it is printed
+pub record IsPrintable (l : Line) : Type 0 where
+  pub fits : FitsTypes l
+  pub name : HasWordName l
+
+-- what the text of an answer tells of it: `none` is taken for the answer to a get
+abbrev pub answer_told : Answer → Answer
+answer_told (Replied (reply.Pair None)) = Replied (reply.Value None)
+answer_told answer = answer
+
+-- what the text of a line tells of it
+abbrev pub told : Line → Line
+told (line.Answer number answer) = line.Answer number (answer_told answer)
+told (line.Close session answer) = line.Close session (answer_told answer)
+told l = l
+
+-- A text determines its lines: two lists of lines have the same text exactly where they are the same list, but for the
+-- command that a `none` answers.
+abbrev pub TextsDetermineLines : Type 0
+TextsDetermineLines = (lines others : List Line) → All IsPrintable lines → All IsPrintable others →
+    (text_of lines ≡ text_of others) ↔ (map told lines ≡ map told others)
