@@ -24,7 +24,8 @@ pub fn absent() -> Row
 
 /// The row of a record with this value.
 pub fn row_of(value: &Value) -> Row
-    ensures { result ≡ value_row value.now }
+    ensures row { result ≡ value_row value.now }
+    ensures value { IsValue value.now }
 {
     let bytes = value.as_slice();
     let mut row = [0; ROW_WORDS];

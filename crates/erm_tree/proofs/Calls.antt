@@ -1,0 +1,319 @@
+-- Calls of the tree, one after another: what their events told and read.
+use Rattle.std.proofs.Common.{◌≡◌, ℕ, zero, suc, ◌+◌, ◌<◌, ◌≤◌, true, false, List, [], ◌∷◌, ◌++◌, map, cond, refl, sym, ap, ◌∙◌, subst, inl, inr, arith}
+use Rattle.std.proofs.lemmas.List.{append-nil}
+use Rattle.std.specs.Prelude.{◌⊎◌, ◌==◌}
+use Rattle.erm_model.specs.declared.row_stop.RowStop.{RowStop}
+use Rattle.erm_model.specs.Rows.{Rows}
+use Rattle.erm_model.specs.RowTransaction.{Event, did_read, did_claim, did_write, did_make, made_by, made_by_all, Law, TellsAll, Agrees, Face, Runs, IsPossible, IsLawful, Does, IsRefused, IsStopped, OnlyReads}
+use Rattle.erm_model.proofs.RowCalls.{after_all-OnlyReads, OnlyReads-append, TellsAll-append, SameView-itself, Runs-append, Runs-one, Runs-once, Runs-fitted, Saw-on, Saw-lawful}
+use Rattle.erm_tree.proofs.Insertion.{Each}
+use Rattle.erm_tree.specs.Calls.{IsReady, IsTold, ReadsAre, Reads, SawIn, Ran}
+
+-- events in two parts read these objects where each part does
+pub ReadsAre-append : (P : ℕ → Type 0) (es fs : List Event) → ReadsAre P es → ReadsAre P fs → ReadsAre P (es ++ fs)
+ReadsAre-append P [] fs a b = b
+ReadsAre-append P (did_read oid row ∷ es) fs a b = (a.0, ReadsAre-append P es fs a.1 b)
+ReadsAre-append P (did_claim oid ∷ es) fs a b = ReadsAre-append P es fs a b
+ReadsAre-append P (did_write oid row ∷ es) fs a b = ReadsAre-append P es fs a b
+ReadsAre-append P (did_make oid ∷ es) fs a b = ReadsAre-append P es fs a b
+
+-- what reads these objects reads others that they are among
+pub ReadsAre-weaker : (P Q : ℕ → Type 0) (es : List Event) → ((x : ℕ) → P x → Q x) → ReadsAre P es → ReadsAre Q es
+ReadsAre-weaker P Q [] among a = tt
+ReadsAre-weaker P Q (did_read oid row ∷ es) among a = (among oid a.0, ReadsAre-weaker P Q es among a.1)
+ReadsAre-weaker P Q (did_claim oid ∷ es) among a = ReadsAre-weaker P Q es among a
+ReadsAre-weaker P Q (did_write oid row ∷ es) among a = ReadsAre-weaker P Q es among a
+ReadsAre-weaker P Q (did_make oid ∷ es) among a = ReadsAre-weaker P Q es among a
+
+-- an array that agrees with reads and more agrees with each part
+pub Agrees-after_reads : (law : Law) (es fs : List Event) (array : Rows) → OnlyReads es → Agrees law (es ++ fs) array → Agrees law es array × Agrees law fs array
+Agrees-after_reads law es fs array only agrees =
+    let parts = TellsAll-append law es fs array array agrees in
+    (parts.0, subst (λ (seen : Rows). TellsAll law fs array seen) (after_all-OnlyReads es only array) parts.1)
+
+-- reads and more reads
+pub Reads-append : (law : Law) (objects : Rows → ℕ → Type 0) (es fs : List Event) → Reads law objects es → Reads law objects fs → Reads law objects (es ++ fs)
+Reads-append law objects es fs a b = record {
+  only = OnlyReads-append es fs a.only b.only;
+  of = λ array meets agrees.
+      let parts = Agrees-after_reads law es fs array a.only agrees in
+      ReadsAre-append (objects array) es fs (a.of array meets parts.0) (b.of array meets parts.1);
+}
+
+-- reads of these objects are reads of others that they are among
+pub Reads-weaker : (law : Law) (P Q : Rows → ℕ → Type 0) (es : List Event) → ((array : Rows) → law.meets array → Agrees law es array → (x : ℕ) → P array x → Q array x) → Reads law P es → Reads law Q es
+Reads-weaker law P Q es among a = record {
+  only = a.only;
+  of = λ array meets agrees. ReadsAre-weaker (P array) (Q array) es (among array meets agrees) (a.of array meets agrees);
+}
+
+-- no reads
+pub Reads-none : (law : Law) (objects : Rows → ℕ → Type 0) → Reads law objects []
+Reads-none law objects = record { only = tt; of = λ array meets agrees. tt }
+
+module _ {S : Type 0} (face : Face S) (goes_on : (a b c : S) → face.follows a b → face.follows b c → face.follows a c) where
+  -- before any call
+  pub SawIn-start : (objects : Rows → ℕ → Type 0) (s : S) (fact : Rows → Type 0) → IsReady face s → face.follows s s → ((array : Rows) → face.law.meets array → fact array) → SawIn face objects s s fact
+  SawIn-start objects s fact ready stands is = record {
+    saw = record {
+      events = [];
+      reads = tt;
+      goes_on = record { runs = SameView-itself face s; active = ready.active; possible = ready.possible };
+      follows = stands;
+      saw = λ array meets agrees. is array meets;
+    };
+    reads = Reads-none face.law objects;
+  }
+
+  -- some array is one on which a fact was seen
+  pub SawIn-possible : (objects : Rows → ℕ → Type 0) (s t : S) (fact : Rows → Type 0) → IsLawful face s → SawIn face objects s t fact → (array : Rows) × face.law.meets array × fact array
+  SawIn-possible objects s t fact lawful seen =
+      let (begun, meets, fits) = seen.saw.goes_on.possible in
+      let on = Saw-on face s t fact lawful seen.saw begun meets fits in
+      (face.rows s begun, (lawful begun meets (Runs-fitted face seen.saw.events s t seen.saw.goes_on.runs begun fits)).0, on.0)
+
+  -- the transaction may be called on
+  pub SawIn-ready : (objects : Rows → ℕ → Type 0) (s t : S) (fact : Rows → Type 0) → IsLawful face s → SawIn face objects s t fact → IsReady face t
+  SawIn-ready objects s t fact lawful seen = record {
+    active = seen.saw.goes_on.active;
+    possible = seen.saw.goes_on.possible;
+    lawful = Saw-lawful face s t fact lawful seen.saw;
+  }
+
+  -- a fact of two parts that were seen in turn
+  pub SawIn-then : (objects : Rows → ℕ → Type 0) (s t u : S) (fact next : Rows → Type 0) → SawIn face objects s t fact → SawIn face objects t u next → SawIn face objects s u (λ array. fact array × next array)
+  SawIn-then objects s t u fact next a b =
+      let es = a.saw.events in
+      let fs = b.saw.events in
+      record {
+        saw = record {
+          events = es ++ fs;
+          reads = OnlyReads-append es fs a.saw.reads b.saw.reads;
+          goes_on = record {
+            runs = Runs-append face es fs s t u a.saw.goes_on.runs b.saw.goes_on.runs;
+            active = b.saw.goes_on.active;
+            possible = b.saw.goes_on.possible;
+          };
+          follows = goes_on s t u a.saw.follows b.saw.follows;
+          saw = λ array meets agrees.
+              let parts = Agrees-after_reads face.law es fs array a.saw.reads agrees in
+              (a.saw.saw array meets parts.0, b.saw.saw array meets parts.1);
+        };
+        reads = Reads-append face.law objects es fs a.reads b.reads;
+      }
+
+  -- a fact that follows from what was seen; and the objects read are among others
+  pub SawIn-weaker : (P Q : Rows → ℕ → Type 0) (s t : S) (fact next : Rows → Type 0) → ((array : Rows) → face.law.meets array → fact array → next array) → ((array : Rows) → face.law.meets array → fact array → (x : ℕ) → P array x → Q array x) → SawIn face P s t fact → SawIn face Q s t next
+  SawIn-weaker P Q s t fact next follows among seen = record {
+    saw = record {
+      events = seen.saw.events;
+      reads = seen.saw.reads;
+      goes_on = seen.saw.goes_on;
+      follows = seen.saw.follows;
+      saw = λ array meets agrees. follows array meets (seen.saw.saw array meets agrees);
+    };
+    reads = Reads-weaker face.law P Q seen.saw.events (λ array meets agrees. among array meets (seen.saw.saw array meets agrees)) seen.reads;
+  }
+
+  -- one read
+  pub SawIn-read : (objects : Rows → ℕ → Type 0) (s t : S) (oid : ℕ) (row : List ℕ) → Does face s (did_read oid row) t → ((array : Rows) → face.law.meets array → objects array oid) → SawIn face objects s t (λ array. array oid ≡ row)
+  SawIn-read objects s t oid row does is = record {
+    saw = record {
+      events = did_read oid row ∷ [];
+      reads = tt;
+      goes_on = record { runs = Runs-one face s t (did_read oid row) does.step; active = does.active; possible = does.possible };
+      follows = does.follows;
+      saw = λ array meets agrees. agrees.0;
+    };
+    reads = record { only = tt; of = λ array meets agrees. (is array meets, tt) };
+  }
+
+  -- a read of an object that what was seen before lets be read
+  pub SawIn-then_read : (objects : Rows → ℕ → Type 0) (s t u : S) (fact : Rows → Type 0) (oid : ℕ) (row : List ℕ) → SawIn face objects s t fact → Does face t (did_read oid row) u → ((array : Rows) → face.law.meets array → fact array → objects array oid)
+      → SawIn face objects s u (λ array. fact array × (array oid ≡ row))
+  SawIn-then_read objects s t u fact oid row a does is =
+      let es = a.saw.events in
+      let fs : List Event = did_read oid row ∷ [] in
+      record {
+        saw = record {
+          events = es ++ fs;
+          reads = OnlyReads-append es fs a.saw.reads tt;
+          goes_on = record {
+            runs = Runs-append face es fs s t u a.saw.goes_on.runs (Runs-one face t u (did_read oid row) does.step);
+            active = does.active;
+            possible = does.possible;
+          };
+          follows = goes_on s t u a.saw.follows does.follows;
+          saw = λ array meets agrees.
+              let parts = Agrees-after_reads face.law es fs array a.saw.reads agrees in
+              (a.saw.saw array meets parts.0, parts.1.0);
+        };
+        reads = record {
+          only = OnlyReads-append es fs a.saw.reads tt;
+          of = λ array meets agrees.
+              let parts = Agrees-after_reads face.law es fs array a.saw.reads agrees in
+              ReadsAre-append (objects array) es fs (a.reads.of array meets parts.0) (is array meets (a.saw.saw array meets parts.0), tt);
+        };
+      }
+
+  -- what was seen in turn, by reads of two kinds of objects that are both of a third
+  pub SawIn-both : (P Q R : Rows → ℕ → Type 0) (s t u : S) (fact next : Rows → Type 0) → SawIn face P s t fact → SawIn face Q t u next
+      → ((array : Rows) → face.law.meets array → fact array → next array → (x : ℕ) → P array x → R array x) → ((array : Rows) → face.law.meets array → fact array → next array → (x : ℕ) → Q array x → R array x)
+      → SawIn face R s u (λ array. fact array × next array)
+  SawIn-both P Q R s t u fact next a b first second =
+      let es = a.saw.events in
+      let fs = b.saw.events in
+      record {
+        saw = record {
+          events = es ++ fs;
+          reads = OnlyReads-append es fs a.saw.reads b.saw.reads;
+          goes_on = record {
+            runs = Runs-append face es fs s t u a.saw.goes_on.runs b.saw.goes_on.runs;
+            active = b.saw.goes_on.active;
+            possible = b.saw.goes_on.possible;
+          };
+          follows = goes_on s t u a.saw.follows b.saw.follows;
+          saw = λ array meets agrees.
+              let parts = Agrees-after_reads face.law es fs array a.saw.reads agrees in
+              (a.saw.saw array meets parts.0, b.saw.saw array meets parts.1);
+        };
+        reads = record {
+          only = OnlyReads-append es fs a.saw.reads b.saw.reads;
+          of = λ array meets agrees.
+              let parts = Agrees-after_reads face.law es fs array a.saw.reads agrees in
+              let is = a.saw.saw array meets parts.0 in
+              let then_is = b.saw.saw array meets parts.1 in
+              ReadsAre-append (R array) es fs
+              (ReadsAre-weaker (P array) (R array) es (first array meets is then_is) (a.reads.of array meets parts.0))
+              (ReadsAre-weaker (Q array) (R array) fs (second array meets is then_is) (b.reads.of array meets parts.1));
+        };
+      }
+
+  -- what was seen is so of what the transaction sees now
+  pub SawIn-told : (objects : Rows → ℕ → Type 0) (s t : S) (fact : Rows → Type 0) → IsLawful face s → SawIn face objects s t fact → IsTold face t fact
+  SawIn-told objects s t fact lawful seen begun meets fits =
+      let on = Saw-on face s t fact lawful seen.saw begun meets fits in
+      subst fact (sym on.1) on.0
+
+  -- nothing happened yet
+  pub Ran-start : (s : S) → face.active s → IsPossible face s → face.follows s s → Ran face s [] s
+  Ran-start s active possible stands = record { goes_on = record { runs = SameView-itself face s; active = active; possible = possible }; follows = stands }
+
+  -- one event more
+  pub Ran-more : (s t u : S) (es : List Event) (e : Event) → Ran face s es t → Does face t e u → Ran face s (es ++ e ∷ []) u
+  Ran-more s t u es e ran does = record {
+    goes_on = record { runs = Runs-append face es (e ∷ []) s t u ran.goes_on.runs (Runs-one face t u e does.step); active = does.active; possible = does.possible };
+    follows = goes_on s t u ran.follows does.follows;
+  }
+
+  -- events in two parts
+  pub Ran-then : (s t u : S) (es fs : List Event) → Ran face s es t → Ran face t fs u → Ran face s (es ++ fs) u
+  Ran-then s t u es fs a b = record {
+    goes_on = record { runs = Runs-append face es fs s t u a.goes_on.runs b.goes_on.runs; active = b.goes_on.active; possible = b.goes_on.possible };
+    follows = goes_on s t u a.follows b.follows;
+  }
+
+  -- what was claimed is claimed still
+  pub Runs-claims : (es : List Event) (s t : S) → Runs face s es t → (x : ℕ) → face.claims s x → face.claims t x
+  Runs-claims [] s t run x claimed = (run.claims x).1 claimed
+  Runs-claims (e ∷ es) s t (u, step, rest) x claimed = Runs-claims es u t rest x ((step.claims x).1 (inl claimed))
+
+  -- all objects that were claimed are
+  pub Runs-claimed : (ws : List (ℕ × List ℕ)) (s t : S) → Runs face s (map (λ w. did_claim w.0) ws) t → Each (λ (w : ℕ × List ℕ). face.claims t w.0) ws
+  Runs-claimed [] s t run = tt
+  Runs-claimed (w ∷ ws) s t (u, step, rest) = (Runs-claims (map (λ v. did_claim v.0) ws) u t rest w.0 ((step.claims w.0).1 (inr refl)), Runs-claimed ws u t rest)
+
+  zero_or_more : (n : ℕ) → (n ≡ 0) ⊎ (0 < n)
+  zero_or_more zero = inl refl
+  zero_or_more (suc n) = inr (omega arith)
+
+  once_made : (e : Event) (x : ℕ) → made_by e x ≤ 1
+  once_made (did_read oid row) x = omega arith
+  once_made (did_claim oid) x = omega arith
+  once_made (did_write oid row) x = omega arith
+  once_made (did_make oid) x = elim (x == oid) as (λ b. cond b 1 0 ≤ 1) [ true ↦ omega arith | false ↦ omega arith ]
+
+  -- no object is made twice
+  pub Runs-made_once : (es : List Event) (s t : S) → Runs face s es t → (x : ℕ) → made_by_all es x ≤ 1
+  Runs-made_once [] s t run x = omega arith
+  Runs-made_once (e ∷ es) s t (u, step, rest) x =
+      elim (zero_or_more (made_by_all es x)) as (λ _. made_by e x + made_by_all es x ≤ 1) [
+        | inl none ↦ omega (arith, once_made e x)
+        | inr more ↦ omega (arith, Runs-made_once es u t rest x, Runs-once face (e ∷ []) es s u t (Runs-one face s u e step) rest x more)
+      ]
+
+  module _ (later : (a b c : S) (stop : RowStop) → face.follows a b → face.stops b stop c → face.stops a stop c) where
+    -- calls that ran to an end, and then calls that were cut off
+    pub IsStopped-then : (may : RowStop → Type 0) (kind then_kind whole : List Event → Type 0) (s t u : S) (stop : RowStop) (es : List Event) → Runs face s es t → face.follows s t
+        → ((fs : List Event) → then_kind fs → whole (es ++ fs)) → IsStopped face may then_kind t stop u → IsStopped face may whole s stop u
+    IsStopped-then may kind then_kind whole s t u stop es runs follows both stopped = record {
+      named = stopped.named;
+      stopped = later s t u stop follows stopped.stopped;
+      follows = goes_on s t u follows stopped.follows;
+      ended = stopped.ended;
+      stays = λ e.
+          let (fs, is, on) = stopped.stays e in
+          (es ++ fs, both fs is, record { runs = Runs-append face es fs s t u runs on.runs; active = on.active; possible = on.possible });
+    }
+
+    -- one call that was refused was cut off with no events
+    pub IsStopped-refused : (may : RowStop → Type 0) (kind : List Event → Type 0) (s t : S) (stop : RowStop) → kind [] → IsRefused face may s stop t → IsStopped face may kind s stop t
+    IsStopped-refused may kind s t stop none refused = record {
+      named = refused.named;
+      stopped = refused.stopped;
+      follows = refused.follows;
+      ended = refused.ended;
+      stays = λ e. ([], none, refused.stays e);
+    }
+
+    -- reads, and then reads that were cut off
+    pub IsStopped-reads : (P : Rows → ℕ → Type 0) (may : RowStop → Type 0) (s t u : S) (stop : RowStop) (fact : Rows → Type 0) → SawIn face P s t fact → IsStopped face may (Reads face.law P) t stop u → IsStopped face may (Reads face.law P) s stop u
+    IsStopped-reads P may s t u stop fact seen stopped =
+        IsStopped-then may (Reads face.law P) (Reads face.law P) (Reads face.law P) s t u stop seen.saw.events seen.saw.goes_on.runs seen.saw.follows
+        (λ fs is. Reads-append face.law P seen.saw.events fs seen.reads is) stopped
+
+    -- reads of one kind of objects, and then reads of another that were cut off, both of a third
+    pub IsStopped-both : (P Q R : Rows → ℕ → Type 0) (may : RowStop → Type 0) (s t u : S) (stop : RowStop) (fact : Rows → Type 0) → SawIn face P s t fact → IsStopped face may (Reads face.law Q) t stop u
+        → ((array : Rows) → face.law.meets array → fact array → (x : ℕ) → P array x → R array x) → ((array : Rows) → face.law.meets array → fact array → (x : ℕ) → Q array x → R array x)
+        → IsStopped face may (Reads face.law R) s stop u
+    IsStopped-both P Q R may s t u stop fact seen stopped first second =
+        let es = seen.saw.events in
+        IsStopped-then may (Reads face.law R) (Reads face.law Q) (Reads face.law R) s t u stop es seen.saw.goes_on.runs seen.saw.follows
+        (λ fs is. record {
+          only = OnlyReads-append es fs seen.saw.reads is.only;
+          of = λ array meets agrees.
+              let parts = Agrees-after_reads face.law es fs array seen.saw.reads agrees in
+              let so = seen.saw.saw array meets parts.0 in
+              ReadsAre-append (R array) es fs
+              (ReadsAre-weaker (P array) (R array) es (first array meets so) (seen.reads.of array meets parts.0))
+              (ReadsAre-weaker (Q array) (R array) fs (second array meets so) (is.of array meets parts.1));
+        })
+        stopped
+
+    -- reads, and then a read that was refused
+    pub IsStopped-read : (P : Rows → ℕ → Type 0) (may : RowStop → Type 0) (s t u : S) (stop : RowStop) (fact : Rows → Type 0) → SawIn face P s t fact → IsRefused face may t stop u → IsStopped face may (Reads face.law P) s stop u
+    IsStopped-read P may s t u stop fact seen refused =
+        IsStopped-reads P may s t u stop fact seen (IsStopped-refused may (Reads face.law P) t u stop (Reads-none face.law P) refused)
+
+    -- reads, and then a change that was refused
+    pub IsStopped-change : (P : Rows → ℕ → Type 0) (may then_may : RowStop → Type 0) (s t u : S) (stop : RowStop) (fact : Rows → Type 0) → ((x : RowStop) → may x → then_may x) → SawIn face P s t fact → IsRefused face may t stop u → IsStopped face then_may (Reads face.law P) s stop u
+    IsStopped-change P may then_may s t u stop fact among seen refused =
+        IsStopped-read P then_may s t u stop fact seen
+        (record { named = among stop refused.named; stopped = refused.stopped; follows = refused.follows; ended = refused.ended; stays = refused.stays })
+
+    -- what is cut off by some refusals is cut off by others that they are among
+    pub IsStopped-among : (may then_may : RowStop → Type 0) (kind then_kind : List Event → Type 0) (s t : S) (stop : RowStop) → ((x : RowStop) → may x → then_may x) → ((es : List Event) → kind es → then_kind es) → IsStopped face may kind s stop t → IsStopped face then_may then_kind s stop t
+    IsStopped-among may then_may kind then_kind s t stop among of stopped = record {
+      named = among stop stopped.named;
+      stopped = stopped.stopped;
+      follows = stopped.follows;
+      ended = stopped.ended;
+      stays = λ e. let (es, is, on) = stopped.stays e in (es, of es is, on);
+    }
+
+    -- some events, and then a call that was refused
+    pub IsStopped-ran : (may : RowStop → Type 0) (kind : List Event → Type 0) (s t u : S) (stop : RowStop) (es : List Event) → Ran face s es t → kind es → IsRefused face may t stop u → IsStopped face may kind s stop u
+    IsStopped-ran may kind s t u stop es ran is refused =
+        IsStopped-then may kind (λ fs. fs ≡ []) kind s t u stop es ran.goes_on.runs ran.follows
+        (λ fs none. subst kind (sym (ap (λ (gs : List Event). es ++ gs) none ∙ append-nil es)) is)
+        (IsStopped-refused may (λ fs. fs ≡ []) t u stop refl refused)

@@ -1,0 +1,36 @@
+use Rattle.std.proofs.Common.{◌≡◌, ℕ, List, Option, sym, subst}
+use Rattle.std.proofs.lemmas.Result.{err_from_is_err_and}
+use Rattle.erm_model.specs.Database.{value_at}
+use Rattle.erm_model.specs.Rows.{Rows}
+use Rattle.erm_model.specs.RowTransaction.{StopsRead}
+use Rattle.erm_node.specs.TreeMap.{map_of_rows}
+use Rattle.erm_tree.specs.Calls.{SawIn}
+use Rattle.erm_tree.specs.Walk.{IsRecordFor}
+use Rattle.erm_tree.proofs.Calls.{IsStopped-read}
+use Rattle.erm_tree.proofs.Walking.{on_way}
+use Rattle.erm_tree.proofs.Lookups.{SawIn-no_value, SawIn-value}
+use Rattle.erm_tree.proofs.read.get.Goals as goal
+
+pub returns-in_err-row-in-Some-clause-err : goal.returns-in_err-row-in-Some-clause-err
+returns-in_err-row-in-Some-clause-err g c =
+    let t = g.met.T.RowTxn in
+    let face = g.T.RowTxn.face in
+    let p = err_from_is_err_and c.from_residual-in_err-row-in-Some.result c.from_residual-in_err-row-in-Some.ensures.1 in
+    rw (p.1, p.2) (IsStopped-read face t.goes_on t.stops_later (on_way face t.goes_on c.requires.law c.args.table c.args.key) StopsRead c.args.txn.now c.record_for.new.txn c.read.new.self c.in_err-row-in-Some.field-0.0
+    (λ (rows : Rows). IsRecordFor rows c.args.table c.args.key c.in_ok-oid.field-0) c.in_ok-oid.ensures.ok c.in_err-row-in-Some.ensures.err)
+
+pub returns-in_ok-row-in-Some-clause-ok : goal.returns-in_ok-row-in-Some-clause-ok
+returns-in_ok-row-in-Some-clause-ok g c =
+    let t = g.met.T.RowTxn in
+    let face = g.T.RowTxn.face in
+    let way = on_way face t.goes_on c.requires.law c.args.table c.args.key in
+    let seen = subst (λ (r : Option ℕ). SawIn face way c.args.txn.now c.record_for.new.txn (λ (rows : Rows). IsRecordFor rows c.args.table c.args.key r)) c.in-Some.is c.in_ok-oid.ensures.ok in
+    let value = SawIn-value face t.goes_on c.requires.law c.args.table c.args.key c.map_has_values_of_records.ensures.value c.args.txn.now c.record_for.new.txn c.read.new.self c.in-Some.oid c.in_ok-row-in-Some.row c.requires.table seen c.in_ok-row-in-Some.ensures.ok in
+    subst (λ (v : Option (List ℕ)). SawIn face way c.args.txn.now c.read.new.self (λ (rows : Rows). v ≡ value_at (map_of_rows rows) c.args.table c.args.key)) (sym c.value_of.ensures.value) value
+
+pub returns-in-None-clause-ok : goal.returns-in-None-clause-ok
+returns-in-None-clause-ok g c =
+    let t = g.met.T.RowTxn in
+    let face = g.T.RowTxn.face in
+    let seen = subst (λ (r : Option ℕ). SawIn face (on_way face t.goes_on c.requires.law c.args.table c.args.key) c.args.txn.now c.record_for.new.txn (λ (rows : Rows). IsRecordFor rows c.args.table c.args.key r)) c.in-None.is c.in_ok-oid.ensures.ok in
+    SawIn-no_value face t.goes_on c.requires.law c.args.table c.args.key c.map_has_values_of_records.ensures.value c.args.txn.now c.record_for.new.txn c.requires.table seen

@@ -1,0 +1,105 @@
+//! The steps of putting a new key into a tree: the nodes on the way are read, then all objects are made, then all rows are claimed, then they are set. So a refusal in the
+//! middle changes no row.
+ghost use Rattle.std.specs.Prelude.{◌≡◌, ◌<◌, ◌≤◌, ℕ, IfOk, OnOk, IfErr, map, length};
+ghost use Rattle.std.specs.List.{All};
+ghost use Rattle.erm_model.specs.RowTransaction.{did_claim, did_make, did_write, IsPossible, SameLaw, StopsRead, StopsClaim, StopsMake, IsStopped};
+ghost use Rattle.erm_node.specs.Sound.{levels_of, sound_law};
+ghost use Rattle.erm_tree.specs.Calls.{AreQuiet, IsReady, Ran, Reads, SawIn};
+ghost use Rattle.erm_tree.specs.Insert.{path_to};
+ghost use Rattle.erm_tree.specs.Reads.{IsMetIn};
+ghost use Rattle.erm_tree.specs.Step.{places_of};
+
+use crate::plan::{MOST_OBJECTS, Step};
+use crate::walk::child_for;
+use arrayvec::ArrayVec;
+use erm_model::{OID_LIMIT, Oid, Row, RowStop, RowTxn, TABLES};
+use erm_node::{LEVELS, nodes_are_read_back, read_node};
+
+/// Reads the nodes on the way to a key, the root first.
+pub(crate) fn path_for<T: RowTxn>(
+    txn: &mut T,
+    table: u8,
+    key: u64,
+) -> Result<ArrayVec<Step, LEVELS>, RowStop>
+    requires ready { IsReady T.face txn.old }
+    requires law { SameLaw T.face.law sound_law }
+    requires table { table < TABLES }
+    ensures ok { IfOk result (λ path. SawIn T.face (λ rows x. IsMetIn rows table key key x) txn.old txn.new (λ rows. places_of path.items ≡ path_to rows (levels_of rows table) table key)) }
+    ensures nodes { IfOk result (λ path. 0 < length path.items) }
+    ensures err { IfErr result (λ stop. IsStopped T.face StopsRead (Reads T.face.law (λ rows x. IsMetIn rows table key key x)) txn.old stop txn.new) }
+{
+    nodes_are_read_back();
+    let mut path = ArrayVec::new();
+    let mut oid = Oid::from(table);
+    for _level in 0..LEVELS {
+        let row = txn.read(oid)?;
+        let Some(node) = read_node(&row) else {
+            unreachable!()
+        };
+        if node.leaf {
+            path.push(Step {
+                oid,
+                leaf: true,
+                pairs: node.pairs,
+            });
+            return Ok(path);
+        }
+        let child = child_for(node.pairs.as_slice(), key, None);
+        path.push(Step {
+            oid,
+            leaf: false,
+            pairs: node.pairs,
+        });
+        oid = child.oid;
+    }
+    unreachable!()
+}
+
+/// Makes so many objects.
+pub(crate) fn make_all<T: RowTxn>(
+    txn: &mut T,
+    count: usize,
+) -> Result<ArrayVec<Oid, MOST_OBJECTS>, RowStop>
+    requires active { T.face.active txn.old }
+    requires possible { IsPossible T.face txn.old }
+    requires room { count ≤ MOST_OBJECTS }
+    ensures ok { IfOk result (λ made. Ran T.face txn.old (map did_make made.items) txn.new) }
+    ensures count { IfOk result (λ made. length made.items ≡ count) }
+    ensures objects { IfOk result (λ made. All (λ oid. oid < OID_LIMIT) made.items) }
+    ensures err { IfErr result (λ stop. IsStopped T.face StopsMake AreQuiet txn.old stop txn.new) }
+{
+    let mut made = ArrayVec::new();
+    for _object in 0..count {
+        made.push(txn.fresh()?);
+    }
+    Ok(made)
+}
+
+/// Claims the objects of all rows to set.
+pub(crate) fn claim_all<T: RowTxn>(txn: &mut T, rows: &[(Oid, Row)]) -> Result<(), RowStop>
+    requires active { T.face.active txn.old }
+    requires possible { IsPossible T.face txn.old }
+    requires objects { All (λ entry. entry.0 < OID_LIMIT) rows.now }
+    ensures ok { OnOk result (Ran T.face txn.old (map (λ entry. did_claim entry.0) rows.now) txn.new) }
+    ensures err { IfErr result (λ stop. IsStopped T.face StopsClaim AreQuiet txn.old stop txn.new) }
+{
+    for (oid, _row) in rows {
+        txn.claim(*oid)?;
+    }
+    Ok(())
+}
+
+/// Sets all rows, their objects being claimed.
+pub(crate) fn write_all<T: RowTxn>(txn: &mut T, rows: &[(Oid, Row)])
+    requires active { T.face.active txn.old }
+    requires possible { IsPossible T.face txn.old }
+    requires objects { All (λ entry. entry.0 < OID_LIMIT) rows.now }
+    requires claimed { All (λ entry. T.face.claims txn.old entry.0) rows.now }
+    ensures { Ran T.face txn.old (map (λ entry. did_write entry.0 entry.1) rows.now) txn.new }
+{
+    for (oid, row) in rows {
+        let Ok(()) = txn.write(*oid, row) else {
+            unreachable!()
+        };
+    }
+}

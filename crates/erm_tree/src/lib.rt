@@ -1,0 +1,15 @@
+//! Map calls over the rows of any transaction: the tree of a table, read and changed row by row.
+#![tactic(auto)]
+
+mod change;
+mod insert;
+mod laws;
+mod plan;
+mod read;
+#[cfg(test)]
+mod tests;
+mod walk;
+
+pub use change::{del, put};
+pub use laws::operations_are_run_one;
+pub use read::{find, get, next};
