@@ -1,22 +1,18 @@
 -- The core step, from what the parts of a running step say.
-use Rattle.std.proofs.Common.{◌≡◌, ◌≢◌, ℕ, ◌+◌, ◌^◌, ◌<◌, ◌≤◌, Bool, true, false, cond, not, ◌&&◌, eqb, max, length, Option, Some, None, refl, sym, ap, ◌∙◌, subst, arith}
+use Rattle.std.proofs.Common.{◌≡◌, ℕ, ◌+◌, ◌^◌, ◌<◌, ◌≤◌, Bool, true, false, cond, not, ◌&&◌, eqb, max, Option, Some, None, refl, sym, ap, ◌∙◌, subst, arith}
 use Rattle.std.specs.Prelude.{if◌then◌else◌}
-use Rattle.std.proofs.lemmas.Bool.{and_parts, eqb-true, leb-true}
+use Rattle.std.proofs.lemmas.Bool.{and_parts, leb-true}
 use Rattle.erm_machine.specs.declared.event.Answer.{Answer}
 use Rattle.erm_machine.specs.declared.event.Answer.TheVariants as answer
-use Rattle.erm_machine.specs.declared.event.Event.{Event}
 use Rattle.erm_machine.specs.declared.event.Kind.{Kind}
 use Rattle.erm_machine.specs.declared.event.Kind.TheVariants as kind
-use Rattle.erm_machine.specs.declared.limits.TheConstants.{WRITE_LIMIT}
+use Rattle.erm_machine.specs.declared.limits.TheConstants.{GREATEST_BLOCK}
 use Rattle.erm_machine.specs.declared.part.Part.{Part}
 use Rattle.erm_machine.specs.declared.place.Place.{Place}
 use Rattle.erm_machine.specs.declared.place.Place.TheVariants.{Sealing, Idle}
-use Rattle.erm_machine.specs.Begins.{OwnBegins, Begins}
-use Rattle.erm_machine.specs.Clear.{OwnClear, Clear}
 use Rattle.erm_machine.specs.Core.{Core, spot_of, word_at}
 use Rattle.erm_machine.specs.Life.{add_tail, split, join}
-use Rattle.erm_machine.specs.Ranges.{Ranges, OwnRanges}
-use Rattle.erm_machine.specs.Seat.{block_size, is_vacant}
+use Rattle.erm_machine.specs.Seat.{is_vacant}
 use Rattle.erm_machine.specs.Sound.{Sound}
 use Rattle.erm_machine.specs.Step.{part_after, shared_after, moved, is_known, after_event, with_part, told, step_to, core_step}
 use Rattle.erm_machine.specs.Words.{put, is_seat}
@@ -25,7 +21,7 @@ use Rattle.erm_core.specs.Cores.{core_of, shared_of, DrawFits}
 use Rattle.erm_core.specs.Kinds.{MeetsOne, event_at}
 
 -- the state after a step that meets one word
-one_word : (c : Core) (p : ℕ) (k : Kind) → MeetsOne k →
+pub one_word : (c : Core) (p : ℕ) (k : Kind) → MeetsOne k →
     after_event c p k ≡ (if is_known k then moved p k (word_at c (spot_of p k)) c (part_after p k (word_at c (spot_of p k)) c.shared (c.seats p)) else None)
 one_word c p (kind.Split other) m = absurd m
 one_word c p (kind.Join other) m = absurd m
@@ -68,9 +64,8 @@ refused_none c p k found one known is none =
 -- a range that is drawn from a sound state ends below 2 ^ 64
 draw_small : (p size found : ℕ) (x : Part) (pl : Place) (y : Part) → add_tail p size found x pl ≡ Some y → size ≤ 1093
 draw_small p size found x (Sealing tail) y e = by_guard _ _ e (λ g.
-    let is : size ≡ block_size x.current = eqb-true _ _ (and_parts _ _ g).1 in
-    let few = leb-true (length x.current.writes) WRITE_LIMIT (and_parts _ _ (and_parts _ _ g).0).1 in
-    omega (arith, is, few))
+    let most = leb-true size GREATEST_BLOCK (and_parts _ _ g).1 in
+    omega (arith, most))
   where
     by_guard : (z : Part) (b : Bool) → cond b (Some z) None ≡ Some y → (b ≡ true → size ≤ 1093) → size ≤ 1093
     by_guard z true e f = f refl
@@ -82,32 +77,6 @@ draw_fits c p size found y sound e =
     let small = draw_small p size found (c.seats p) (c.seats p).place y e in
     let low = sound.common.ranges.below in
     omega (arith, small, low)
-
--- what the laws say of all events
-pub record Laws : Type 0 where
-  pub ranges : (c d : Core) (seat : ℕ) (k : Kind) → Sound c → after_event c seat k ≡ Some d → Ranges d.shared d.seats
-  pub own_ranges : (c d : Core) (seat : ℕ) (k : Kind) → Sound c → after_event c seat k ≡ Some d → (p : ℕ) → OwnRanges d.shared p (d.seats p)
-  pub own_clear : (c d : Core) (seat : ℕ) (k : Kind) → Sound c → after_event c seat k ≡ Some d → (p : ℕ) → OwnClear d.shared (d.seats p)
-  pub clear : (c d : Core) (seat : ℕ) (k : Kind) → Sound c → after_event c seat k ≡ Some d → (p q : ℕ) → p ≢ q → Clear (d.seats p) q (d.seats q)
-  pub own_begins : (c d : Core) (seat : ℕ) (k : Kind) → Sound c → after_event c seat k ≡ Some d → (p : ℕ) → OwnBegins d.shared p (d.seats p)
-  pub begins : (c d : Core) (seat : ℕ) (k : Kind) → Sound c → after_event c seat k ≡ Some d → (p q : ℕ) → p ≢ q → Begins (d.seats p) q (d.seats q)
-
-sound_after : Laws → (c d : Core) (seat : ℕ) (k : Kind) → Sound c → after_event c seat k ≡ Some d → Sound d
-sound_after laws c d seat k sound e = record {
-  common = record { ranges = laws.ranges c d seat k sound e };
-  own = λ p. record { ranges = laws.own_ranges c d seat k sound e p; clear = laws.own_clear c d seat k sound e p; begins = laws.own_begins c d seat k sound e p };
-  both = λ p q ne. record { clear = laws.clear c d seat k sound e p q ne; begins = laws.begins c d seat k sound e p q ne };
-}
-
-sound_from : Laws → (c : Core) (seat : ℕ) (k : Kind) (a : Answer) (o : Option Core) → Sound c → after_event c seat k ≡ o → Sound (step_to c a o).1
-sound_from laws c seat k a None sound e = sound
-sound_from laws c seat k a (Some d) sound e = sound_after laws c d seat k sound e
-
--- each step keeps the state sound
-pub sound_step : Laws → (c d : Core) (a : Answer) (e : Event) → Sound c → ◌≡◌ {A = Answer × Core} (a, d) (core_step c e) → Sound d
-sound_step laws c d a e sound step =
-    let same : d ≡ (core_step c e).1 = ap (λ (r : Answer × Core). r.1) step in
-    subst Sound (sym same) (sound_from laws c e.seat e.kind (told e.kind (word_at c (spot_of e.seat e.kind))) (after_event c e.seat e.kind) sound refl)
 
 -- two states are one where what is shared and the seats' parts are
 pub core_path : (c d : Core) → c.shared ≡ d.shared → c.seats ≡ d.seats → c ≡ d

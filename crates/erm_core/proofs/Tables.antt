@@ -11,12 +11,13 @@ use Rattle.erm_machine.specs.declared.version.Version.{Version}
 use Rattle.erm_machine.specs.Core.{Object, Shared, no_object, fresh_part}
 use Rattle.erm_machine.specs.Step.{with_object, shared_after}
 use Rattle.erm_machine.specs.Words.{put}
-use Rattle.erm_core.specs.declared.object.ObjectState.{ObjectState}
-use Rattle.erm_core.specs.declared.seat.SeatState.{SeatState}
+use Rattle.erm_kept.specs.declared.object.ObjectState.{ObjectState}
+use Rattle.erm_seat.specs.declared.seat.SeatState.{SeatState}
 use Rattle.erm_core.specs.Cores.{objects_of, parts_of, shared_with, added_in}
-use Rattle.erm_core.specs.Kinds.{ChangesObject, object_in}
-use Rattle.erm_core.specs.Objects.{object_of, object_after}
-use Rattle.erm_core.specs.Parts.{part_of}
+use Rattle.erm_core.specs.Kinds.{ChangesObject}
+use Rattle.erm_seat.specs.Kinds.{object_in}
+use Rattle.erm_kept.specs.Objects.{object_of, object_after}
+use Rattle.erm_seat.specs.Parts.{part_of}
 
 put_here : {X : Type 0} (f : ℕ → X) (k : ℕ) (v : X) (n : ℕ) → n ≡ k → put f k v n ≡ v
 put_here f k v n e = ap (λ (b : Bool). cond b v (f n)) (eq-eqb n k e)

@@ -9,11 +9,11 @@ use Rattle.erm_machine.specs.declared.version.Version.{Version}
 use Rattle.erm_machine.specs.Core.{Object, Shared, Core, no_object, fresh_part, opened_object, is_taken}
 use Rattle.erm_machine.specs.Step.{shared_after, with_object, installed, added}
 use Rattle.erm_machine.specs.Seat.{end_of}
-use Rattle.erm_core.specs.declared.object.ObjectState.{ObjectState}
-use Rattle.erm_core.specs.declared.seat.SeatState.{SeatState}
+use Rattle.erm_kept.specs.declared.object.ObjectState.{ObjectState}
+use Rattle.erm_seat.specs.declared.seat.SeatState.{SeatState}
 use Rattle.erm_core.specs.declared.state.State.{State}
-use Rattle.erm_core.specs.Objects.{object_of}
-use Rattle.erm_core.specs.Parts.{part_of}
+use Rattle.erm_kept.specs.Objects.{object_of}
+use Rattle.erm_seat.specs.Parts.{part_of}
 
 -- the objects by their numbers
 abbrev pub objects_of : List ObjectState → ℕ → Object

@@ -1,5 +1,4 @@
 pub mod Cores
 pub mod Kinds
-pub mod Objects
-pub mod Parts
+pub mod Ready
 pub mod Rooms

@@ -5,18 +5,16 @@ mod room;
 mod run;
 mod step;
 
-ghost use Rattle.std.specs.Prelude.{◌≡◌, ◌%◌, ◌<◌, ◌≤◌, if◌then◌else◌, Some, None, false, true, vec_len};
-ghost use Rattle.erm_machine.specs.declared.limits.TheConstants.{ANNOUNCERS, OBJECT_LIMIT};
+ghost use Rattle.std.specs.Prelude.{◌≡◌, ◌%◌, Some, None};
 ghost use Rattle.erm_machine.specs.Core as core_specs;
-ghost use Rattle.erm_machine.specs.Words as word_specs;
-ghost use Rattle.erm_core.specs.Cores.{core_of, IsShaped};
-ghost use Rattle.erm_core.specs.Kinds.{IsPlain};
+ghost use Rattle.erm_core.specs.Cores.{core_of};
+ghost use Rattle.erm_seat.specs.Kinds.{IsPlain};
 
-use crate::object::ObjectState;
-use crate::seat::SeatState;
-use crate::words::{begin_of, blank_cell, cell_word, state_of};
+use erm_kept::ObjectState;
+use erm_kept::words::{begin_of, blank_cell, cell_word, state_of};
 use erm_machine::{CellWord, Counter, Kind, RING_WORDS, Span, VersionAt};
 use erm_model::{Oid, Seat, Stamp};
+use erm_seat::SeatState;
 
 /// The state of the machine: what the seats share, and what each keeps.
 #[derive(Drop)]

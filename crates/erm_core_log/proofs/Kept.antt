@@ -6,7 +6,7 @@ use Rattle.std.proofs.lemmas.List.Sums.{sum_by_push}
 use Rattle.std.proofs.lemmas.Option.{same_Some}
 use Rattle.erm_model.specs.Member.{◌∈◌}
 use Rattle.erm_model.proofs.Members.{∈-push}
-use Rattle.erm_machine.specs.declared.limits.TheConstants.{STOP, ANNOUNCERS, WRITE_LIMIT}
+use Rattle.erm_machine.specs.declared.limits.TheConstants.{STOP, ANNOUNCERS, LEAST_BLOCK, GREATEST_BLOCK}
 use Rattle.erm_machine.specs.declared.attempt.Attempt.{Attempt}
 use Rattle.erm_machine.specs.declared.event.Kind.{Kind}
 use Rattle.erm_machine.specs.declared.event.Kind.TheVariants as kind
@@ -22,7 +22,6 @@ use Rattle.erm_machine.specs.Core.{Core, Shared, spot_of, word_at}
 use Rattle.erm_machine.specs.Facts.{total, HasBegun, IsCurrent}
 use Rattle.erm_machine.specs.Life.{load_tail_for_horizon, add_tail, load_begin, split, join}
 use Rattle.erm_machine.specs.Ranges.{EndToEnd, Ranges, OwnRanges, range_at, ranges_of, high, high_of, may_draw}
-use Rattle.erm_machine.specs.Seat.{block_size}
 use Rattle.erm_machine.specs.Sound.{Sound}
 use Rattle.erm_machine.specs.Step.{after_event, shared_after, with_part}
 use Rattle.erm_machine.specs.Words.{put, is_seat}
@@ -43,8 +42,8 @@ current_stays (Active tail) t u stamp decision same h = record { stamp = stamp �
 current_stays (Sealing tail) t u stamp decision same h = record { stamp = stamp ∙ h.stamp; decision = decision ∙ h.decision }
 current_stays (Drawn tail c) t u stamp decision same h = record { stamp_is = stamp ∙ h.stamp_is; positive = h.positive; decision = decision ∙ h.decision }
 current_stays (Sealed tail c) t u stamp decision same h = record { stamp_is = stamp ∙ h.stamp_is; positive = h.positive; decision = decision ∙ h.decision }
-current_stays (Decided tail c) t u stamp decision same h = record { stamp_is = stamp ∙ h.stamp_is; positive = h.positive; decision = λ e. h.decision (sym decision ∙ e) }
-current_stays (Leaving c) t u stamp decision same h = record { stamp_is = stamp ∙ h.stamp_is; positive = h.positive; decision = λ e. h.decision (sym decision ∙ e) }
+current_stays (Decided tail c) t u stamp decision same h = record { stamp_is = stamp ∙ h.stamp_is; positive = h.positive; decision = λ e. h.decision (sym decision ∙ e); kept = λ e. h.kept (sym decision ∙ e) }
+current_stays (Leaving c) t u stamp decision same h = record { stamp_is = stamp ∙ h.stamp_is; positive = h.positive; decision = λ e. h.decision (sym decision ∙ e); kept = λ e. h.kept (sym decision ∙ e) }
 
 -- a seat that stays at its place keeps its ranges
 pub steady_own : (s : Shared) (p : ℕ) (x y : Part) → Steady x y → OwnRanges s p x → OwnRanges s p y
@@ -52,6 +51,7 @@ steady_own s p x y q own = record {
   seat_of = λ f. q.place ∙ own.seat_of f;
   current = subst (λ pl. IsCurrent pl y.current) (sym q.place) (current_stays x.place x.current y.current q.stamp q.decision q.same own.current);
   decided = λ t m. own.decided t (subst (λ (ts : List Attempt). t ∈ ts) q.over m);
+  kept = λ t m. own.kept t (subst (λ (ts : List Attempt). t ∈ ts) q.over m);
   ranges = own.ranges ∙ ap (λ (ts : List Attempt). ranges_of p ts ++ range_at p x.current.stamp x.current.size) (sym q.over)
       ∙ ap (λ n. ranges_of p y.over ++ range_at p n x.current.size) (sym q.stamp) ∙ ap (λ n. ranges_of p y.over ++ range_at p y.current.stamp n) (sym q.size);
   one_high =
@@ -69,6 +69,7 @@ same_log_own s t p x same own = record {
   seat_of = own.seat_of;
   current = own.current;
   decided = own.decided;
+  kept = own.kept;
   ranges = ap (λ (rs : List Span). filter (λ (r : Span). eqb r.seat p) rs) same.log ∙ own.ranges;
   one_high = own.one_high;
   few = own.few;
@@ -132,6 +133,7 @@ drawn_other s p q size x ne own = record {
   seat_of = own.seat_of;
   current = own.current;
   decided = own.decided;
+  kept = own.kept;
   ranges = filter_other p q s.tail size s.log (λ e. ne (sym e)) ∙ own.ranges;
   one_high = own.one_high;
   few = own.few;
@@ -187,19 +189,19 @@ begin_steady other found x (task.Horizon version least next) y e = when_then (St
 begin_steady other found x _ y e = absurd (cc)
 
 -- what a draw asks of its size, and of the seat
-draw_size : (p size found : ℕ) (x : Part) (pl : Place) (y : Part) → length x.current.writes ≤ WRITE_LIMIT → add_tail p size found x pl ≡ Some y →
-    (5 ≤ size) × (size ≤ 1093) × (p < ANNOUNCERS)
-draw_size p size found x (Sealing tail) y few e =
+draw_size : (p size found : ℕ) (x : Part) (pl : Place) (y : Part) → add_tail p size found x pl ≡ Some y → (5 ≤ size) × (size ≤ 1093) × (p < ANNOUNCERS)
+draw_size p size found x (Sealing tail) y e =
     when_then (λ _. (5 ≤ size) × (size ≤ 1093) × (p < ANNOUNCERS)) _ _ y e (λ g.
-    let is : size ≡ block_size x.current = eqb-true _ _ (and_parts _ _ g).1 in
+    let most = leb-true size GREATEST_BLOCK (and_parts _ _ g).1 in
+    let least = leb-true LEAST_BLOCK size (and_parts _ _ (and_parts _ _ g).0).1 in
     let seat = leb-true p 16 (and_parts _ _ (and_parts _ _ (and_parts _ _ g).0).0).1 in
-    (omega (arith, is), omega (arith, is, few), omega (arith, seat)))
-draw_size p size found x _ y few e = absurd (cc)
+    (omega (arith, least), omega (arith, most), omega (arith, seat)))
+draw_size p size found x _ y e = absurd (cc)
 
 draw_kept : (c : Core) (p size : ℕ) (d : Core) → Sound c → Moves c p (kind.AddTail size) d → Kept d
 draw_kept c p size d sound m =
     let own = (sound.own p).ranges in
-    let fits = draw_size p size c.shared.tail (c.seats p) (c.seats p).place m.part own.few m.after in
+    let fits = draw_size p size c.shared.tail (c.seats p) (c.seats p).place m.part m.after in
     let new = draws_own c.shared c.seats sound.common.ranges p (c.seats p) own size (c.seats p).place m.part refl m.after in
     subst Kept (sym m.is) (record {
       shared = drawn_shared c.shared c.seats p size m.part fits.2 (fits.0, fits.1) (λ q. let h = (sound.own q).ranges.one_high in omega (arith, h)) (let h = new.one_high in omega (arith, h)) own new

@@ -19,7 +19,7 @@ use Rattle.erm_machine.specs.Core.{Shared, blank}
 use Rattle.erm_machine.specs.Facts.{IsCurrent, IsUnsealed, IsUndecided, IsDecided}
 use Rattle.erm_machine.specs.Life.{load_tail_to_begin, add_tail, store_begin, store_state, decide, split}
 use Rattle.erm_machine.specs.Ranges.{Ranges, OwnRanges, range_at, ranges_of, high, high_of, may_draw, drawing}
-use Rattle.erm_machine.specs.Seat.{is_vacant, over, block_size}
+use Rattle.erm_machine.specs.Seat.{is_vacant, over}
 use Rattle.erm_machine.specs.Words.{is_flusher, is_session, is_seat, refuses}
 use Rattle.erm_machine.proofs.Guards.{when_then, either_way}
 use Rattle.erm_core_log.proofs.Lists.{ranges_of-push, high_count-push, filter_own, high_ranges_none, high_of-le, end_to_end_ascends}
@@ -69,6 +69,7 @@ module _ (s : Shared) (seats : ℕ → Part) (common : Ranges s seats) (p : ℕ)
     seat_of = λ f. let v = own.seat_of f in absurd (cc);
     current = current_at Idle at;
     decided = own.decided;
+    kept = own.kept;
     ranges = own.ranges;
     one_high = high_at Idle at;
     few = own.few;
@@ -77,6 +78,7 @@ module _ (s : Shared) (seats : ℕ → Part) (common : Ranges s seats) (p : ℕ)
     seat_of = λ f. let v = own.seat_of f in absurd (cc);
     current = current_at Idle at;
     decided = own.decided;
+    kept = own.kept;
     ranges = own.ranges;
     one_high = may_draw-le p (Begun s.tail) (high_of x) (λ session. let z = none_high (not_refused e session) in omega (arith, z)) few_high;
     few = own.few;
@@ -90,6 +92,7 @@ module _ (s : Shared) (seats : ℕ → Part) (common : Ranges s seats) (p : ℕ)
         seat_of = λ f. let v = own.seat_of f in absurd (cc);
         current = record { stamp = refl; decision = refl };
         decided = own.decided;
+        kept = own.kept;
         ranges = subst (λ (t : Attempt). filter (λ (r : Span). eqb r.seat p) s.log ≡ ranges_of p x.over ++ range_at p t.stamp t.size) was own.ranges;
         one_high = subst (λ (t : Attempt). (count_by (λ (u : Attempt). leb STOP u.stamp) x.over + high t.stamp) + may_draw p (Announced tail) ≤ 1) was (high_at (Announced tail) at);
         few = omega arith;
@@ -102,26 +105,25 @@ module _ (s : Shared) (seats : ℕ → Part) (common : Ranges s seats) (p : ℕ)
   draws_own size (Sealing tail) y at e =
       when_then (OwnRanges _ p) _ _ y e (λ g.
       let cur : IsUnsealed x.current = current_at (Sealing tail) at in
-      let is_size : size ≡ block_size x.current = eqb-true _ _ (and_parts _ _ g).1 in
       let positive : 0 < s.tail = let a = common.positive in let b = end_to_end_ascends s.opening s.tail s.log common.end_to_end in omega (arith, a, b) in
       record {
         seat_of = λ f. let v = own.seat_of f in absurd (cc);
         current = record { stamp_is = refl; positive = positive; decision = cur.decision };
         decided = own.decided;
+        kept = own.kept;
         ranges = filter_own p s.tail size s.log
             ∙ ap (λ rs. rs ++ record { seat = p; start = s.tail; size = size } ∷ []) own.ranges
-            ∙ plus x.current.stamp x.current.size (ranges_of p x.over) s.tail size (block_size x.current) cur.stamp is_size positive;
+            ∙ plus x.current.stamp x.current.size (ranges_of p x.over) s.tail size cur.stamp positive;
         one_high = let h = high_at (Sealing tail) at in let z = ap high cur.stamp in high_after (is_flusher p) (is_session_not_flusher p (and_parts _ _ (and_parts _ _ g).0).0) h z (high-le s.tail);
         few = own.few;
       })
     where
-      plus : (old size : ℕ) (rs : List Span) (at n m : ℕ) → old ≡ 0 → n ≡ m → 0 < at →
-          (rs ++ range_at p old size) ++ record { seat = p; start = at; size = n } ∷ [] ≡ rs ++ range_at p at m
-      plus old size rs at n m none same positive =
+      plus : (old size : ℕ) (rs : List Span) (at n : ℕ) → old ≡ 0 → 0 < at →
+          (rs ++ range_at p old size) ++ record { seat = p; start = at; size = n } ∷ [] ≡ rs ++ range_at p at n
+      plus old size rs at n none positive =
           ap (λ k. (rs ++ range_at p k size) ++ record { seat = p; start = at; size = n } ∷ []) none
           ∙ ap (λ (qs : List Span). qs ++ record { seat = p; start = at; size = n } ∷ []) (append-nil rs)
-          ∙ ap (λ k. rs ++ record { seat = p; start = at; size = k } ∷ []) same
-          ∙ sym (ap (λ (b : Bool). rs ++ cond b (record { seat = p; start = at; size = m } ∷ []) []) (lt-ltb 0 at positive))
+          ∙ sym (ap (λ (b : Bool). rs ++ cond b (record { seat = p; start = at; size = n } ∷ []) []) (lt-ltb 0 at positive))
 
       high-le : (n : ℕ) → high n ≤ 1
       high-le n = either_way (λ (k : ℕ). k ≤ 1) (leb STOP n) 1 0 (λ _. omega arith) (λ _. omega arith)
@@ -140,11 +142,14 @@ module _ (s : Shared) (seats : ℕ → Part) (common : Ranges s seats) (p : ℕ)
       filter (λ r. eqb r.seat p) s.log ≡ ranges_of p (x.over ++ record x.current { decision = d } ∷ [])
   ended_ranges d _ = own.ranges ∙ sym (ranges_of-push p x.over (record x.current { decision = d }))
 
-  pub ended_own : (d : Decision) (t : Task) → d ≢ Undecided → x.place ≢ Vacant → OwnRanges s p (over d (record x { place = Idle; task = t }))
-  ended_own d t decided taken = record {
+  pub ended_own : (d : Decision) (t : Task) → d ≢ Undecided → (0 < x.current.stamp → d ≢ Abort) → x.place ≢ Vacant → OwnRanges s p (over d (record x { place = Idle; task = t }))
+  ended_own d t decided kept taken = record {
     seat_of = λ f. absurd (taken (own.seat_of f));
     current = refl;
     decided = λ u m. ⊎_elim (λ (before : u ∈ x.over). own.decided u before) (λ (same : u ≡ record x.current { decision = d }). λ (e : u.decision ≡ Undecided). decided (sym (ap (λ (v : Attempt). v.decision) same) ∙ e))
+        (∈-push x.over (record x.current { decision = d }) u m);
+    kept = λ u m drawn. ⊎_elim (λ (before : u ∈ x.over). own.kept u before drawn)
+        (λ (same : u ≡ record x.current { decision = d }). λ (e : u.decision ≡ Abort). kept (subst (λ (v : Attempt). 0 < v.stamp) same drawn) (sym (ap (λ (v : Attempt). v.decision) same) ∙ e))
         (∈-push x.over (record x.current { decision = d }) u m);
     ranges = ended_ranges d refl ∙ sym (append-nil (ranges_of p (x.over ++ record x.current { decision = d } ∷ [])));
     one_high =
@@ -162,16 +167,18 @@ module _ (s : Shared) (seats : ℕ → Part) (common : Ranges s seats) (p : ℕ)
     seat_of = λ f. let v = own.seat_of f in absurd (cc);
     current = current_at (Begun tail) at;
     decided = own.decided;
+    kept = own.kept;
     ranges = own.ranges;
     one_high = high_at (Begun tail) at;
     few = own.few;
   })
   announces_own value (Active tail) y at e =
-      when_then (OwnRanges s p) _ _ y e (λ _. ended_own Abort task.Rest (λ (e : Abort ≡ Undecided). cc) (λ (v : x.place ≡ Vacant). cc))
+      when_then (OwnRanges s p) _ _ y e (λ _. ended_own Abort task.Rest (λ (e : Abort ≡ Undecided). cc) (λ drawn. let cur : IsUnsealed x.current = current_at (Active tail) at in absurd (let none = cur.stamp in omega (arith, none, drawn))) (λ (v : x.place ≡ Vacant). cc))
   announces_own value (Decided tail stamp) y at e = when_then (OwnRanges s p) _ _ y e (λ _. record {
     seat_of = λ f. let v = own.seat_of f in absurd (cc);
     current = current_at (Decided tail stamp) at;
     decided = own.decided;
+    kept = own.kept;
     ranges = own.ranges;
     one_high = high_at (Decided tail stamp) at;
     few = own.few;
@@ -184,6 +191,7 @@ module _ (s : Shared) (seats : ℕ → Part) (common : Ranges s seats) (p : ℕ)
     seat_of = λ f. let v = own.seat_of f in absurd (cc);
     current = current_at (Active tail) at;
     decided = own.decided;
+    kept = own.kept;
     ranges = own.ranges;
     one_high = high_at (Active tail) at;
     few = own.few;
@@ -192,13 +200,14 @@ module _ (s : Shared) (seats : ℕ → Part) (common : Ranges s seats) (p : ℕ)
     seat_of = λ f. let v = own.seat_of f in absurd (cc);
     current = current_at (Drawn tail stamp) at;
     decided = own.decided;
+    kept = own.kept;
     ranges = own.ranges;
     one_high = high_at (Drawn tail stamp) at;
     few = own.few;
   })
   seals_own value (Leaving stamp) y at e =
       let cur : IsDecided stamp x.current = current_at (Leaving stamp) at in
-      when_then (OwnRanges s p) _ _ y e (λ _. ended_own x.current.decision x.task cur.decision (λ (v : x.place ≡ Vacant). cc))
+      when_then (OwnRanges s p) _ _ y e (λ _. ended_own x.current.decision x.task cur.decision (λ _. cur.kept) (λ (v : x.place ≡ Vacant). cc))
   seals_own value _ y at e = absurd (cc)
 
   -- the decision
@@ -211,8 +220,10 @@ module _ (s : Shared) (seats : ℕ → Part) (common : Ranges s seats) (p : ℕ)
           stamp_is = cur.stamp_is;
           positive = cur.positive;
           decision = either_way (λ (d : Decision). d ≢ Undecided) (ltb x.current.pred x.current.succ) Commit Skip (λ _. λ (e : Commit ≡ Undecided). cc) (λ _. λ (e : Skip ≡ Undecided). cc);
+          kept = either_way (λ (d : Decision). d ≢ Abort) (ltb x.current.pred x.current.succ) Commit Skip (λ _. λ (e : Commit ≡ Abort). cc) (λ _. λ (e : Skip ≡ Abort). cc);
         };
         decided = own.decided;
+        kept = own.kept;
         ranges = own.ranges;
         one_high = high_at (Sealed tail stamp) at;
         few = own.few;
@@ -225,6 +236,7 @@ module _ (s : Shared) (seats : ℕ → Part) (common : Ranges s seats) (p : ℕ)
     seat_of = λ (f : is_seat p ≡ false). absurd (cc);
     current = vacant_blank x.place (and_parts _ _ g).1 own.current;
     decided = own.decided;
+    kept = own.kept;
     ranges = own.ranges;
     one_high = may_draw_less p x.place Idle (high_of x) (vacant_draws x.place (and_parts _ _ g).1) own.one_high;
     few = own.few;

@@ -1,7 +1,8 @@
 -- What a step changes of its seat's begin, and of its horizon.
 use Rattle.std.proofs.Common.{◌≡◌, ℕ, ◌+◌, ◌<◌, ◌≤◌, ◌⊎◌, Bool, Some, None, refl, sym, subst, inl, inr, arith}
 use Rattle.std.specs.Prelude.{if◌then◌else◌}
-use Rattle.std.proofs.lemmas.Bool.{and_parts, eqb-true}
+use Rattle.std.proofs.lemmas.Bool.{and_parts, leb-true}
+use Rattle.erm_machine.specs.declared.limits.TheConstants.{LEAST_BLOCK}
 use Rattle.erm_machine.specs.declared.event.Kind.{Kind}
 use Rattle.erm_machine.specs.declared.event.Kind.TheVariants as kind
 use Rattle.erm_machine.specs.declared.event.TailUse.TheVariants as purpose
@@ -14,7 +15,6 @@ use Rattle.erm_machine.specs.Begins.{IsTail, IsBegin, IsSealedBegin, BeginsAt, h
 use Rattle.erm_machine.specs.Core.{Core, spot_of, word_at}
 use Rattle.erm_machine.specs.Facts.{HasBegun}
 use Rattle.erm_machine.specs.Life.{load_tail_to_begin, load_tail_to_gather, add_tail, store_begin, store_state, load_state, after_clear, decide}
-use Rattle.erm_machine.specs.Seat.{block_size}
 use Rattle.erm_machine.specs.Words.{state_of}
 use Rattle.erm_machine.proofs.Guards.{when_then, either_way}
 use Rattle.erm_machine.proofs.Quiet.{KeepsHorizon, no_horizon, same_horizon, Quiet}
@@ -92,7 +92,7 @@ module _ (now : ℕ) (positive : 0 < now) (x : Part) (b : BeginsAt x.place x.cur
   paces_draw p size (Sealing tail) y at e =
       let old : IsBegin tail x.current.begin now = at_place (Sealing tail) at in
       when_then (Paces now (now + size) x) _ _ y e (λ g.
-      let is : size ≡ block_size x.current = eqb-true _ _ (and_parts _ _ g).1 in
+      let is = leb-true LEAST_BLOCK size (and_parts _ _ (and_parts _ _ g).0).1 in
       record {
         begins = record {
           is_begin = record { positive = old.positive; announced = old.announced; past = let h = old.past in omega (arith, h) };

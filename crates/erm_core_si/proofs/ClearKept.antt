@@ -1,9 +1,10 @@
 -- Each event keeps what a look promises.
-use Rattle.std.proofs.Common.{◌≡◌, ◌≢◌, ℕ, ◌<◌, ◌≤◌, ⊎_elim, Bool, true, false, List, length, max, set, get_or, Option, Some, None, refl, sym, ap, subst, inl, arith, get_or-set_other}
+use Rattle.std.proofs.Common.{◌≡◌, ◌≢◌, ℕ, ◌<◌, ◌≤◌, ⊎_elim, Bool, true, false, List, length, max, set, get_or, Option, Some, None, refl, sym, ap, subst, inl, arith, get_or-set_other, length-set, ◌∙◌}
 use Rattle.std.specs.Prelude.{if◌then◌else◌, slice_index}
 use Rattle.std.proofs.lemmas.Bool.{and_parts, cases_eq, cases_lt, leb-true}
 use Rattle.std.proofs.lemmas.List.{set_past, get_or-set_same}
 use Rattle.std.proofs.lemmas.Option.{same_Some}
+use Rattle.erm_machine.specs.declared.limits.TheConstants.{ANNOUNCERS}
 use Rattle.erm_machine.specs.declared.attempt.Attempt.{Attempt}
 use Rattle.erm_machine.specs.declared.event.Kind.{Kind}
 use Rattle.erm_machine.specs.declared.event.Kind.TheVariants as kind
@@ -32,10 +33,11 @@ own_after : (s t : Shared) (x y : Part) → s.tail ≤ t.tail → Sees s.tail t.
 own_after s t x y grows sees own = record {
   seen = sees.seen;
   bounds = λ q. let h = own.bounds q in let e = ap (λ (bs : List ℕ). slice_index bs q) sees.clear in omega (arith, h, e, grows);
+  notes = ap length sees.clear ∙ own.notes;
 }
 
 own_stays : (s t : Shared) (x : Part) → s.tail ≤ t.tail → OwnClear s x → OwnClear t x
-own_stays s t x grows own = record { seen = let h = own.seen in omega (arith, h, grows); bounds = λ q. let h = own.bounds q in omega (arith, h, grows) }
+own_stays s t x grows own = record { seen = let h = own.seen in omega (arith, h, grows); bounds = λ q. let h = own.bounds q in omega (arith, h, grows); notes = own.notes }
 
 -- the seat looks at the others as before
 new_eyes : (now later : ℕ) (x y : Part) (q : ℕ) (z : Part) → Sees now later x y → Clear x q z → Clear y q z
@@ -118,6 +120,8 @@ look_kept c p other bound d sound m =
             bounds = λ q.
                 either_way (λ (bs : List ℕ). slice_index bs q ≤ c.shared.tail) (is_clear (state_of (c.seats other).place) bound) (noted other bound (c.seats p).clear) (c.seats p).clear
                 (λ _. noted_at (λ _ n. n ≤ c.shared.tail) other bound (c.seats p).clear q (own.bounds q) (λ _. below)) (λ _. own.bounds q);
+            notes = either_way (λ (bs : List ℕ). length bs ≡ ANNOUNCERS) (is_clear (state_of (c.seats other).place) bound) (noted other bound (c.seats p).clear) (c.seats p).clear
+                (λ _. length-set (c.seats p).clear other (max (slice_index (c.seats p).clear other) bound) ∙ own.notes) (λ _. own.notes);
           })
           (λ q _. (sound.own q).clear);
       both = each_two Clear c.seats p _

@@ -72,7 +72,7 @@ TellsApart-tail key x xs apart i j y z at_i at_j same = omega (arith, apart (suc
 pub TellsApart-head : {X : Type 0} (key : X → ℕ) (x : X) (xs : List X) → TellsApart key (x ∷ xs) → (y : X) → y ∈ xs → key x ≡ key y → ⊥
 TellsApart-head key x xs apart y h same = omega (arith, apart zero (suc h.0) x y refl h.1 same)
 
-TellsApart-cons : {X : Type 0} (key : X → ℕ) (x : X) (xs : List X) → TellsApart key xs → ((y : X) → y ∈ xs → key x ≡ key y → ⊥) → TellsApart key (x ∷ xs)
+pub TellsApart-cons : {X : Type 0} (key : X → ℕ) (x : X) (xs : List X) → TellsApart key xs → ((y : X) → y ∈ xs → key x ≡ key y → ⊥) → TellsApart key (x ∷ xs)
 TellsApart-cons key x xs apart other zero zero y z at_i at_j same = refl
 TellsApart-cons key x xs apart other zero (suc j) y z at_i at_j same =
     let e : x ≡ y = cc in absurd (other z (j, at_j) (ap key e ∙ same))

@@ -1,7 +1,8 @@
-//! The laws of histories on which the Serial Safety Net rests. Each law is the contract of a function that does
-//! nothing.
+//! The laws of histories on which the Serial Safety Net rests, and the laws of the machine that keeps it. Each law is the
+//! contract of a function that does nothing.
 #![tactic(auto)]
 
+mod machine;
 pub mod slow;
 
 ghost use Rattle.std.specs.Prelude.{◌≡◌, ◌<◌, ℕ, List};
@@ -13,6 +14,11 @@ ghost use Rattle.erm_model.specs.Rows.{Rows};
 ghost use Rattle.erm_model.specs.Committed.{Committed};
 ghost use Rattle.erm_model.specs.Committed as committed;
 ghost use Rattle.erm_core_ssn.specs.Laws.{DependenciesGoForward, StandsAfterItsDependencies, AreSuccessorStamps, AllBelow};
+
+pub use machine::{
+    commits_are_a_snapshot_history, commits_are_certified, decisions_are_kept, marks_are_kept,
+    readers_are_kept, rows_are_kept,
+};
 
 /// Successor stamps are unique: each history has them, and the definition leaves each transaction one number.
 pub fn successor_stamps_are_unique()

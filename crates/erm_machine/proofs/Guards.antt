@@ -17,6 +17,10 @@ pub unless_then : (P : Part → Type 0) (b : Bool) (o : Option Part) (y : Part) 
 unless_then P true o y e f = absurd (cc)
 unless_then P false o y e f = f e
 
+pub unless_some : (b : Bool) (o : Option Part) (y : Part) → cond b None o ≡ Some y → o ≡ Some y
+unless_some true o y e = absurd (cc)
+unless_some false o y e = e
+
 -- one of two branches
 pub if_then : (P : Part → Type 0) (b : Bool) (l r : Option Part) (y : Part) → (if b then l else r) ≡ Some y → (b ≡ true → l ≡ Some y → P y) → (b ≡ false → r ≡ Some y → P y) → P y
 if_then P true l r y e f g = f refl e

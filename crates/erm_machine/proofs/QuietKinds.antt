@@ -29,7 +29,7 @@ use Rattle.erm_machine.specs.Seat.{end_of, is_active, is_sealed, is_decided, wit
 use Rattle.erm_machine.specs.Reading.{entered, after_cut, detached, load_entry, claim, set_reader, load_walked_stamp, load_walked_link, load_cell, swap_link, load_detached, load_counter, add_counter, load_active_stamp, start_row, store_row_word}
 use Rattle.erm_machine.specs.Settling.{load_flushed_to_settle, load_read_entry, load_readers, load_settled_stamp, load_stamp, store_ring, raise_reader, store_head_word, store_active_word, store_cell, mark_overwritten, store_succ, store_overwriter, install_claim, adds_version, install_new, release_old, unclaim, install, clear_reader, filled}
 use Rattle.erm_machine.specs.Flushing.{load_flushed, gathered_word, load_ring, write_log, after_sync, sync_log, clear_ring, store_flushed, write_slot, sync_slot, remove_log, sync_removal}
-use Rattle.erm_machine.proofs.Guards.{when_then, some_then, unless_then, if_then, either_way}
+use Rattle.erm_machine.proofs.Guards.{when_then, some_then, unless_then, if_then, either_way, unless_some}
 use Rattle.erm_machine.proofs.Quiet.{KeepsHorizon, Plain, Quiet, Working, no_horizon, quiet_task, quiet_flushing, quiet_current, quiet_refl}
 
 -- a seat at these places has begun
@@ -125,7 +125,7 @@ q_claim seat oid seen number found o x _ y e = absurd (cc)
 pub q_set_reader : (seat : ℕ) (v : VersionAt) (o : Object) (x : Part) (t : Task) (y : Part) → set_reader seat v o x t ≡ Some y → Quiet x t y
 q_set_reader seat v o x (task.Found version stamp head) y e =
     when_then (Quiet x _) _ _ y e (λ g.
-    working x _ _ _ (begun_active x.place (first _ _ (first _ _ (first _ _ g)))) (record { plain = refl })
+    working x _ _ _ (begun_active x.place (first _ _ (first _ _ (first _ _ (first _ _ g))))) (record { plain = refl })
     (record { number = refl; begin = refl; stamp = refl; size = refl; decision = refl; few = λ f. f }))
 q_set_reader seat v o x _ y e = absurd (cc)
 
@@ -380,7 +380,7 @@ quiet_kind p (kind.LoadEntry oid) found s x y q e =
     (λ _ h. q_load_read_entry p oid found x x.task y h) (λ _ h. q_load_entry p oid found (s.objects oid) x x.task y h)
 quiet_kind p (kind.Claim oid seen number) found s x y q e = q_claim p oid seen number found (s.objects oid) x x.task y e
 quiet_kind p (kind.Install oid head) found s x y q e = q_install oid head x x.task y e
-quiet_kind p (kind.LoadCell v w) found s x y q e = q_load_cell found v w x y e
+quiet_kind p (kind.LoadCell v w) found s x y q e = q_load_cell found v w x y (unless_some _ _ y e)
 quiet_kind p (kind.StoreCell place cell w value) found s x y q e = q_store_cell place cell w value x y e
 quiet_kind p (kind.LoadCounter counter) found s x y q e = q_load_counter counter found x x.task y e
 quiet_kind p (kind.AddCounter counter) found s x y q e = q_add_counter p counter found x x.task y e

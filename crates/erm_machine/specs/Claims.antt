@@ -1,12 +1,11 @@
 -- Claims: who owns an entry, what it overwrites, and the marks of an overwriter.
-use Rattle.std.specs.Prelude.{◌≡◌, ◌≢◌, ℕ, ◌+◌, ◌^◌, ◌<◌, ◌≤◌, true, false, List, ◌++◌, length, slice_index, flat_map, ◌==◌, if◌then◌else◌, Option, Some, None}
+use Rattle.std.specs.Prelude.{◌≡◌, ◌≢◌, ℕ, ◌+◌, ◌^◌, ◌<◌, ◌≤◌, true, false, length, ◌==◌, if◌then◌else◌, None}
 use Rattle.erm_machine.specs.declared.limits.TheConstants.{OBJECT_LIMIT}
 use Rattle.erm_machine.specs.declared.attempt.Attempt.{Attempt}
 use Rattle.erm_machine.specs.declared.attempt.Claim.{Claim}
 use Rattle.erm_machine.specs.declared.part.Part.{Part}
 use Rattle.erm_machine.specs.declared.task.Task.{Task}
 use Rattle.erm_machine.specs.declared.task.Task.TheVariants as task
-use Rattle.erm_machine.specs.declared.version.VersionAt.{VersionAt}
 use Rattle.erm_machine.specs.Core.{Object, Shared, version_at, newest, claim_at, own_words}
 use Rattle.erm_machine.specs.Facts.{Holds, over_of}
 use Rattle.erm_machine.specs.Words.{head_of, owner_of, number_of}
@@ -40,6 +39,9 @@ pub record ClaimFits (seat number begin : ℕ) (o : Object) (w : Claim) : Type 0
 -- the steps of an install in progress have left the own cell and the overwritten one so
 pub record InstallFits (t : Attempt) (o : Object) (w : Claim) (step : ℕ) : Type 0 where
   pub stamp : 0 < step → (own_words w.own).stamp ≡ t.stamp
+  pub link : 1 < step → (own_words w.own).link ≡ w.version.cell + 1
+  pub unread : 2 < step → (own_words w.own).readers ≡ 0
+  pub reader_stamp : 3 < step → (own_words w.own).reader_stamp ≡ t.stamp
   pub unmarked : 4 < step → (own_words w.own).overwriter ≡ 0
   pub succ : 6 < step → (version_at o w.version.place).words.overwriter_succ ≡ t.succ
   pub mark : 7 < step → (version_at o w.version.place).words.overwriter ≡ t.stamp
@@ -50,37 +52,20 @@ abbrev pub step_of : Task → ℕ → ℕ
 step_of (task.Ends raised ended step cleared) place = if place == ended then step else 0
 step_of _ place = 0
 
--- the entry that was loaded without an owner, if it still is the object's, has this version for its head
-abbrev pub IsHead : Object → VersionAt → Option ℕ → Type 0
-IsHead o v None = Unit {0}
-IsHead o v (Some entry) = (owner_of entry ≡ 0) × (v.cell ≡ head_of entry) × (o.entry ≡ entry → v.place ≡ newest o)
+-- how many claims of the current transaction are over
+abbrev pub claims_over : Part → ℕ
+claims_over x = over_of x.place x.task (length x.current.writes)
 
--- the version in hand, to be claimed
-abbrev pub HeadFits : Shared → Task → Type 0
-HeadFits s (task.Walks version head) = IsHead (s.objects version.oid) version head
-HeadFits s (task.Found version stamp head) = IsHead (s.objects version.oid) version head
-HeadFits s _ = Unit {0}
-
--- the objects that a seat's transactions made, in order
-abbrev pub made_of : Part → List ℕ
-made_of x = flat_map (λ t. t.made) x.over ++ x.current.made
-
--- A seat's claims, of different objects: those that are over are no longer held, and the others are. An entry that the seat
--- owns is one that it claims. What it made was drawn, each number once.
+-- A seat's claims, of different objects: those that are over are no longer held, and have no cell; the others are. An entry
+-- that the seat owns is one that it claims.
 pub record OwnClaims (s : Shared) (seat : ℕ) (x : Part) : Type 0 where
   pub objects : (k : ℕ) → k < length x.current.writes → (claim_at x.current k).version.oid < OBJECT_LIMIT
-  pub over : (k : ℕ) → k < length x.current.writes → k < over_of x.place x.task (length x.current.writes) → (claim_at x.current k).held ≡ false
-  pub held : (k : ℕ) → k < length x.current.writes → over_of x.place x.task (length x.current.writes) ≤ k → (claim_at x.current k).held ≡ true
+  pub over : (k : ℕ) → k < length x.current.writes → k < claims_over x → (claim_at x.current k).held ≡ false
+  pub none : (k : ℕ) → k < length x.current.writes → k < claims_over x → (claim_at x.current k).own ≡ None
+  pub held : (k : ℕ) → k < length x.current.writes → claims_over x ≤ k → (claim_at x.current k).held ≡ true
   pub fit : (k : ℕ) → k < length x.current.writes → (claim_at x.current k).held ≡ true
       → ClaimFits seat x.current.number x.current.begin (s.objects (claim_at x.current k).version.oid) (claim_at x.current k)
   pub install : (k : ℕ) → k < length x.current.writes → (claim_at x.current k).held ≡ true
       → InstallFits x.current (s.objects (claim_at x.current k).version.oid) (claim_at x.current k) (step_of x.task k)
   pub once : (j k : ℕ) → j < k → k < length x.current.writes → (claim_at x.current j).version.oid ≢ (claim_at x.current k).version.oid
   pub owned : (oid : ℕ) → 0 < seat → oid < OBJECT_LIMIT → owner_of (s.objects oid).entry ≡ seat → Holds x oid
-  pub in_hand : HeadFits s x.task
-  pub made : (k : ℕ) → k < length (made_of x) → slice_index (made_of x) k < s.objects_drawn
-  pub made_once : (j k : ℕ) → j < k → k < length (made_of x) → slice_index (made_of x) j ≢ slice_index (made_of x) k
-
--- no object was made by two seats
-pub record MadeApart (x y : Part) : Type 0 where
-  pub apart : (j k : ℕ) → j < length (made_of x) → k < length (made_of y) → slice_index (made_of x) j ≢ slice_index (made_of y) k

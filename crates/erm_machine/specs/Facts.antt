@@ -3,7 +3,7 @@ use Rattle.std.specs.Prelude.{◌≡◌, ◌≢◌, ℕ, zero, suc, ◌+◌, ◌
 use Rattle.erm_model.specs.Member.{◌∈◌}
 use Rattle.erm_machine.specs.declared.attempt.Attempt.{Attempt}
 use Rattle.erm_machine.specs.declared.attempt.Claim.{Claim}
-use Rattle.erm_machine.specs.declared.attempt.Decision.TheVariants.{Undecided}
+use Rattle.erm_machine.specs.declared.attempt.Decision.TheVariants.{Undecided, Abort}
 use Rattle.erm_machine.specs.declared.part.Part.{Part}
 use Rattle.erm_machine.specs.declared.place.Place.{Place}
 use Rattle.erm_machine.specs.declared.place.Place.TheVariants.{Vacant, Idle, Begun, Announced, Active, Sealing, Drawn, Sealed, Decided, Leaving}
@@ -36,6 +36,7 @@ pub record IsDecided (stamp : ℕ) (t : Attempt) : Type 0 where
   pub stamp_is : t.stamp ≡ stamp
   pub positive : 0 < stamp
   pub decision : t.decision ≢ Undecided
+  pub kept : t.decision ≢ Abort
 
 -- the current transaction is as the seat's place says
 abbrev pub IsCurrent : Place → Attempt → Type 0

@@ -1,6 +1,7 @@
 pub mod Attached
 pub mod Begins
 pub mod Cells
+pub mod Chains
 pub mod Claims
 pub mod Clear
 pub mod Core
@@ -10,6 +11,8 @@ pub mod Flushing
 pub mod Lawful
 pub mod Life
 pub mod Log
+pub mod Marks
+pub mod Numbers
 pub mod Ranges
 pub mod Readers
 pub mod Reading
@@ -18,4 +21,6 @@ pub mod Settling
 pub mod Snapshot
 pub mod Sound
 pub mod Step
+pub mod Tasks
 pub mod Words
+pub mod Written

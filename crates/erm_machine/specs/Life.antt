@@ -1,6 +1,6 @@
 -- Steps that move a seat on in the life of a transaction: begin, seal, decision, end; and what it sees of other seats.
 use Rattle.std.specs.Prelude.{nat_lt, ◌%◌, ◌/◌, List, ℕ, ◌+◌, ◌^◌, Bool, true, false, not, ◌&&◌, ◌==◌, nat_le, if◌then◌else◌, min, max, length, slice_index, slice_set, Option, Some, None}
-use Rattle.erm_machine.specs.declared.limits.TheConstants.{ANNOUNCERS, WRITE_LIMIT}
+use Rattle.erm_machine.specs.declared.limits.TheConstants.{ANNOUNCERS, LEAST_BLOCK, GREATEST_BLOCK}
 use Rattle.erm_machine.specs.declared.attempt.Attempt.{Attempt}
 use Rattle.erm_machine.specs.declared.attempt.Decision.TheVariants.{Abort}
 use Rattle.erm_machine.specs.declared.event.TailUse.{TailUse}
@@ -14,7 +14,7 @@ use Rattle.erm_machine.specs.declared.task.Task.{Task}
 use Rattle.erm_machine.specs.declared.task.Task.TheVariants as task
 use Rattle.erm_machine.specs.declared.version.VersionAt.{VersionAt}
 use Rattle.erm_machine.specs.Core.{begun}
-use Rattle.erm_machine.specs.Seat.{when, saw, with_task, is_vacant, is_active, is_commit, may_start, end_of, has_number, block_size, with_range, decision_of, over}
+use Rattle.erm_machine.specs.Seat.{when, saw, with_task, is_vacant, is_active, is_commit, may_start, end_of, has_number, with_range, decision_of, over}
 use Rattle.erm_machine.specs.Words.{is_session, is_flusher, refuses, is_clear, is_least_bit, without_bit}
 
 -- the number of a seat's next transaction; a pin of the flush seat takes none
@@ -62,7 +62,7 @@ load_tail seat purpose.Gather found x = load_tail_to_gather seat found x
 -- SEAL. The old tail is the commit stamp.
 abbrev pub add_tail : ℕ → ℕ → ℕ → Part → Place → Option Part
 add_tail seat size found x (Sealing tail) =
-    when (is_session seat && nat_le (length x.current.writes) WRITE_LIMIT && (size == block_size x.current)) (saw found (record x { place = Drawn tail found; current = with_range found x.current }))
+    when (is_session seat && nat_le LEAST_BLOCK size && nat_le size GREATEST_BLOCK) (saw found (record x { place = Drawn tail found; current = with_range found size x.current }))
 add_tail seat size found x _ = None
 
 -- all reader stamps are raised (where the transaction committed), all claims over, all own bits cleared

@@ -3,7 +3,7 @@ use Rattle.std.specs.Prelude.{◌≡◌, ◌≢◌, ℕ, ◌+◌, ◌*◌, ◌^�
 use Rattle.erm_model.specs.Member.{◌∈◌}
 use Rattle.erm_machine.specs.declared.limits.TheConstants.{STOP, ANNOUNCERS, WRITE_LIMIT}
 use Rattle.erm_machine.specs.declared.attempt.Attempt.{Attempt}
-use Rattle.erm_machine.specs.declared.attempt.Decision.TheVariants.{Undecided}
+use Rattle.erm_machine.specs.declared.attempt.Decision.TheVariants.{Undecided, Abort}
 use Rattle.erm_machine.specs.declared.part.Part.{Part}
 use Rattle.erm_machine.specs.declared.place.Place.{Place}
 use Rattle.erm_machine.specs.declared.place.Place.TheVariants.{Vacant, Begun, Announced, Active, Sealing}
@@ -55,12 +55,14 @@ pub record Ranges (s : Shared) (seats : ℕ → Part) : Type 0 where
   pub below : s.tail < 2 ^ 61
 
 -- A seat's ranges are those of its transactions, in order; of them one at most starts at or above 2 ^ 60, and none while
--- the seat may still draw. The seat of an unfinished range has state 1 or that stamp, and a finished one is decided. A seat
+-- the seat may still draw. The seat of an unfinished range has state 1 or that stamp, and a finished one is a commit or
+-- is skipped. A seat
 -- that has no words is vacant.
 pub record OwnRanges (s : Shared) (seat : ℕ) (x : Part) : Type 0 where
   pub seat_of : is_seat seat ≡ false → x.place ≡ Vacant
   pub current : IsCurrent x.place x.current
   pub decided : (t : Attempt) → t ∈ x.over → t.decision ≢ Undecided
+  pub kept : (t : Attempt) → t ∈ x.over → 0 < t.stamp → t.decision ≢ Abort
   pub ranges : filter (λ r. r.seat == seat) s.log ≡ ranges_of seat x.over ++ range_at seat x.current.stamp x.current.size
   pub one_high : high_of x + may_draw seat x.place ≤ 1
   pub few : length x.current.writes ≤ WRITE_LIMIT

@@ -1,5 +1,6 @@
 -- Steps of a read and of a claim, of a cut, and of a write into an own cell.
-use Rattle.std.specs.Prelude.{max, ℕ, ◌+◌, ◌-◌, ◌%◌, ◌^◌, Bool, true, false, ◌&&◌, ◌||◌, ◌==◌, nat_lt, if◌then◌else◌, List, [], ◌∷◌, ◌++◌, length, slice_index, slice_index_or, slice_set, take, drop, map, Option, Some, None, is_none}
+use Rattle.std.specs.List.{list_any}
+use Rattle.std.specs.Prelude.{ℕ, ◌+◌, ◌-◌, ◌%◌, ◌^◌, Bool, true, false, not, ◌&&◌, ◌||◌, ◌==◌, nat_lt, if◌then◌else◌, List, [], ◌∷◌, ◌++◌, length, slice_index, slice_index_or, slice_set, take, drop, map, Option, Some, None, is_none}
 use Rattle.erm_machine.specs.declared.limits.TheConstants.{CELL_LIMIT, OBJECT_LIMIT, READ_LIMIT, WRITE_LIMIT}
 use Rattle.erm_machine.specs.declared.attempt.Attempt.{Attempt}
 use Rattle.erm_machine.specs.declared.attempt.Claim.{Claim}
@@ -51,16 +52,20 @@ claim seat oid seen number found o x (task.Found version stamp (Some entry)) =
     (record x {
       task = if found == seen then task.Claimed version else entered seat oid found o;
       current = record x.current {
-        pred = if found == seen then max x.current.pred stamp else x.current.pred;
         writes = if found == seen then x.current.writes ++ new_claim version stamp (version_at o version.place).words.row ∷ [] else x.current.writes;
       };
     })
 claim seat oid seen number found o x _ = None
 
--- READ: the own bit is set, and the version counts as read
+-- the transaction has read some version of the object
+abbrev pub has_read : ℕ → Attempt → Bool
+has_read oid t = list_any (λ r. r.version.oid == oid) t.reads
+
+-- READ: the own bit is set, and the version counts as read. Of each object one version is read, once.
 abbrev pub set_reader : ℕ → VersionAt → Object → Part → Task → Option Part
 set_reader seat version o x (task.Found found stamp head) =
-    when (is_active x.place && is_session seat && same_version version found && nat_lt (length x.current.reads) READ_LIMIT)
+    when (is_active x.place && is_session seat && same_version version found && nat_lt (length x.current.reads) READ_LIMIT
+    && not (has_read version.oid x.current))
     (record x {
       task = task.Registered version;
       current = record (with_pred stamp x.current) {
@@ -160,7 +165,8 @@ with_spare x = record x {
   current = with_cell (slice_index_or x.spare (length x.spare - 1) (record { cell = 0; words = blank_cell })) x.current;
 }
 
--- CLAIM: the reader stamp of the version overwritten counts for the predecessor stamp; then its row is copied
+-- CLAIM: the reader stamp of the version overwritten, which is at least its creator's stamp, counts for the predecessor stamp;
+-- then its row is copied. A claim without a cell counts for nothing.
 abbrev pub rated_claim : ℕ → Part → Part
 rated_claim found x = record x { task = task.Copies 0; current = with_pred found x.current }
 

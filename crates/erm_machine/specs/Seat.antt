@@ -1,5 +1,5 @@
 -- What a seat's step asks of the seat's own part, and small changes of it.
-use Rattle.std.specs.Prelude.{ℕ, ◌+◌, ◌-◌, ◌*◌, Bool, true, false, ◌&&◌, ◌||◌, ◌==◌, nat_lt, if◌then◌else◌, max, List, [], ◌∷◌, ◌++◌, length, slice_index_or, slice_set, replicate, Option, Some, None}
+use Rattle.std.specs.Prelude.{ℕ, ◌-◌, Bool, true, false, ◌&&◌, ◌||◌, ◌==◌, nat_lt, if◌then◌else◌, max, List, [], ◌∷◌, ◌++◌, length, slice_index_or, slice_set, replicate, Option, Some, None}
 use Rattle.erm_machine.specs.declared.limits.TheConstants.{LAST_NUMBER}
 use Rattle.erm_machine.specs.declared.attempt.Attempt.{Attempt}
 use Rattle.erm_machine.specs.declared.attempt.Claim.{Claim}
@@ -79,10 +79,6 @@ end_of t = if may_start t then Some (0, 0, 0, 0) else None
 abbrev pub has_number : ℕ → Part → Bool
 has_number seat x = is_flusher seat || nat_lt x.number LAST_NUMBER
 
--- the size of the transaction's block
-abbrev pub block_size : Attempt → ℕ
-block_size t = 5 + 17 * length t.writes
-
 -- a successor stamp is the least found so far
 abbrev pub is_least : ℕ → Attempt → Bool
 is_least succ t = (t.succ == 0) || nat_lt succ t.succ
@@ -99,8 +95,8 @@ abbrev pub with_pred : ℕ → Attempt → Attempt
 with_pred stamp t = record t { pred = max t.pred stamp }
 
 -- the transaction with its range, whose start is its commit stamp; its successor stamp is at most that
-abbrev pub with_range : ℕ → Attempt → Attempt
-with_range stamp t = with_succ stamp stamp (record t { stamp = stamp; size = block_size t })
+abbrev pub with_range : ℕ → ℕ → Attempt → Attempt
+with_range stamp size t = with_succ stamp stamp (record t { stamp = stamp; size = size })
 
 -- the decision by the Serial Safety Net: the exclusion window is open where the predecessor stamp is below the successor
 -- stamp

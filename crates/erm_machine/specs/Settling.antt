@@ -15,7 +15,7 @@ use Rattle.erm_machine.specs.Reading.{stored_own, load_active_stamp, store_row_w
 use Rattle.erm_machine.specs.Seat.{when, with_task, is_active, is_sealed, is_decided, is_commit, end_of, with_pred, with_succ, with_claim, last_claim, read_at, same_version, cells_of, is_own}
 use Rattle.erm_machine.specs.Words.{head_of, owner_of, without_bit}
 
--- SETTLE 1: the ring has room for the block
+-- SETTLE: the ring has room for the block
 abbrev pub has_room : ℕ → Attempt → Bool
 has_room flushed t = nat_le t.size RING_WORDS && nat_le (t.stamp - (RING_WORDS - t.size)) flushed
 
@@ -23,7 +23,7 @@ abbrev pub load_flushed_to_settle : ℕ → Part → Task → Part
 load_flushed_to_settle found x task.Rest = with_task (if is_sealed x.place && has_room found x.current then task.Settles 0 0 else task.Rest) x
 load_flushed_to_settle found x _ = x
 
--- SETTLE 2: the entry of a version read. Where its head is that version and another seat owns it, that one is looked at.
+-- SETTLE, a version read: the entry of a version read. Where its head is that version and another seat owns it, that one is looked at.
 abbrev pub load_read_entry : ℕ → ℕ → ℕ → Part → Task → Option Part
 load_read_entry seat oid found x (task.Settles reads writes) =
     when (is_sealed x.place && nat_lt reads (length x.current.reads) && (oid == (read_at x.current reads).version.oid))
@@ -33,15 +33,15 @@ load_read_entry seat oid found x (task.Settles reads writes) =
     else task.ReadClear reads) x)
 load_read_entry seat oid found x _ = None
 
--- SETTLE 3: the reader bits of a version overwritten. The other seats among them are looked at.
+-- SETTLE, a version overwritten: the reader bits of a version overwritten. The other seats among them are looked at.
 abbrev pub load_readers : ℕ → VersionAt → ℕ → Part → Task → Option Part
 load_readers seat v found x (task.Settles reads writes) =
     when (is_sealed x.place && (reads == length x.current.reads) && nat_lt writes (length x.current.writes) && same_version v (claim_at x.current writes).version)
     (with_task (if without_bit found seat == 0 then task.WriteClear writes else task.ReadersLeft writes (without_bit found seat)) x)
 load_readers seat v found x _ = None
 
--- SETTLE 2: the overwriter's stamp counts where it isn't 0 and below the own one, by the overwriter's successor stamp.
--- SETTLE 3: the creator's stamp and the reader stamp count for the predecessor stamp.
+-- SETTLE, a version read: the overwriter's stamp counts where it isn't 0 and below the own one, by the overwriter's successor stamp.
+-- SETTLE, a version overwritten: the creator's stamp and the reader stamp count for the predecessor stamp.
 abbrev pub load_settled_stamp : ℕ → VersionAt → CellWord → Part → Task → Option Part
 load_settled_stamp found v word.Overwriter x (task.ReadClear read) =
     when (same_version v (read_at x.current read).version && nat_lt read (length x.current.reads))
@@ -68,7 +68,7 @@ filled t (task.Settles reads writes) = if (reads == length t.reads) && (writes =
 filled t (task.Fills words) = Some words
 filled t _ = None
 
--- SETTLE 4: the words of the block behind its header, in order
+-- SETTLE: the words of the block behind its header, in order
 abbrev pub store_ring : ℕ → ℕ → Part → Option ℕ → Option Part
 store_ring at value x None = None
 store_ring at value x (Some words) =
@@ -77,7 +77,7 @@ store_ring at value x (Some words) =
     && nat_lt (words + 1) x.current.size)
     (record x { task = task.Fills (words + 1); current = record x.current { block = x.current.block ++ value ∷ [] } })
 
--- SETTLE 5: a committed transaction raises the reader stamp of each version read to its stamp
+-- END: a committed transaction raises the reader stamp of each version read to its stamp
 abbrev pub raise_reader : VersionAt → ℕ → Part → Task → Option Part
 raise_reader v value x (task.Ends raised ended step cleared) =
     when
@@ -126,7 +126,7 @@ abbrev pub store_cell : ℕ → ℕ → CellWord → ℕ → Part → Option Par
 store_cell place cell w value x =
     if is_active x.place then store_active_word place cell w value x else store_head_word place cell w value x x.task
 
--- SETTLE 5: the overwritten cell gets the successor stamp, and then the stamp
+-- END: the overwritten cell gets the successor stamp, and then the stamp
 abbrev pub mark_overwritten : ℕ → VersionAt → ℕ → ℕ → Part → Task → Option Part
 mark_overwritten nth v value wanted x (task.Ends raised ended step cleared) =
     when (installs raised ended step x && (step == nth) && same_version v (claim_at x.current ended).version && (value == wanted))
@@ -154,14 +154,14 @@ given_back place x = record x {
 abbrev pub adds_version : Part → Bool
 adds_version x = is_decided x.place && is_commit x.current.decision
 
--- SETTLE 5: a committed transaction stores the entry with the own cell for its head
+-- END: a committed transaction stores the entry with the own cell for its head
 abbrev pub install_new : ℕ → ℕ → Part → (ℕ × ℕ × ℕ × ℕ) → Option Part
 install_new oid head x e =
     when
     (installs e.0 e.1 e.2 x && (e.2 == 8) && (oid == (claim_at x.current e.1).version.oid) && is_own head (claim_at x.current e.1).own)
     (record x { task = task.Ends e.0 (e.1 + 1) 0 e.3; current = without_entry e.1 x.current })
 
--- SETTLE 5, ABORT: another stores it with its old head
+-- END: another stores it with its old head
 abbrev pub release_old : ℕ → ℕ → Part → (ℕ × ℕ × ℕ × ℕ) → Option Part
 release_old oid head x e =
     when
@@ -185,7 +185,7 @@ abbrev pub install : ℕ → ℕ → Part → Task → Option Part
 install oid head x task.Refused = unclaim oid head x
 install oid head x t = install_claim oid head x (end_of t)
 
--- SETTLE 6, ABORT: the own reader bits are cleared, once all claims are over
+-- END: the own reader bits are cleared, once all claims are over
 abbrev pub clear_reader : VersionAt → Part → Option (ℕ × ℕ × ℕ × ℕ) → Option Part
 clear_reader v x None = None
 clear_reader v x (Some e) =

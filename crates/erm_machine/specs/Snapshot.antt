@@ -1,7 +1,6 @@
 -- Snapshot: a version read is, and stays, the newest one below the begin stamp.
 use Rattle.std.specs.Prelude.{◌≡◌, ◌≢◌, ℕ, ◌+◌, ◌<◌, ◌≤◌, true, length}
 use Rattle.erm_model.specs.Member.{◌∈◌}
-use Rattle.erm_machine.specs.declared.limits.TheConstants.{OBJECT_LIMIT}
 use Rattle.erm_machine.specs.declared.attempt.Attempt.{Attempt}
 use Rattle.erm_machine.specs.declared.attempt.Claim.{Claim}
 use Rattle.erm_machine.specs.declared.attempt.Read.{Read}
@@ -9,6 +8,7 @@ use Rattle.erm_machine.specs.declared.part.Part.{Part}
 use Rattle.erm_machine.specs.declared.task.Task.{Task}
 use Rattle.erm_machine.specs.declared.task.Task.TheVariants as task
 use Rattle.erm_machine.specs.declared.version.VersionAt.{VersionAt}
+use Rattle.erm_machine.specs.Chains.{IsNamed}
 use Rattle.erm_machine.specs.Core.{Object, Shared, version_at}
 use Rattle.erm_machine.specs.Facts.{all_of, HoldsBelow}
 use Rattle.erm_machine.specs.Seat.{read_at}
@@ -26,24 +26,26 @@ pub record IsNewestAt (o : Object) (place bound stamp : ℕ) : Type 0 where
 
 -- a registered read: the newest version below the begin stamp, with its row
 pub record ReadFits (s : Shared) (begin : ℕ) (r : Read) : Type 0 where
-  pub object : r.version.oid < OBJECT_LIMIT
+  pub named : IsNamed s r.version
   pub newest : IsNewestAt (s.objects r.version.oid) r.version.place begin r.stamp
   pub row : (version_at (s.objects r.version.oid) r.version.place).words.row ≡ r.row
 
--- the version in hand of a read in progress
+-- the version in hand of a read in progress: all newer ones have stamps at or above the begin stamp
 abbrev pub InHand : Shared → ℕ → Task → Type 0
-InHand s begin (task.Owned oid owner) = oid < OBJECT_LIMIT
-InHand s begin (task.Cleared oid) = oid < OBJECT_LIMIT
-InHand s begin (task.Walks version head) =
-    (version.oid < OBJECT_LIMIT) × (version.place < length (s.objects version.oid).versions) × NewerFrom (s.objects version.oid) version.place begin
+InHand s begin (task.Walks version head) = NewerFrom (s.objects version.oid) version.place begin
 InHand s begin (task.Passed version) =
-    (version.oid < OBJECT_LIMIT) × (version.place < length (s.objects version.oid).versions) × NewerFrom (s.objects version.oid) version.place begin
-    × (begin ≤ (version_at (s.objects version.oid) version.place).words.stamp)
-InHand s begin (task.Found version stamp head) = (version.oid < OBJECT_LIMIT) × IsNewestAt (s.objects version.oid) version.place begin stamp
+    NewerFrom (s.objects version.oid) version.place begin × (begin ≤ (version_at (s.objects version.oid) version.place).words.stamp)
+InHand s begin (task.Found version stamp head) = IsNewestAt (s.objects version.oid) version.place begin stamp
 InHand s begin _ = Unit {0}
+
+-- a begin stamp is at most the tail, and at most the own stamp drawn since
+pub record IsPast (now drawn begin : ℕ) : Type 0 where
+  pub past : begin ≤ now
+  pub drawn_later : 0 < drawn → begin ≤ drawn
 
 -- the reads of all of a seat's transactions, those that are over too, and the one in progress
 pub record OwnSnapshot (s : Shared) (x : Part) : Type 0 where
+  pub past : (t : Attempt) → t ∈ all_of x → IsPast s.tail x.current.stamp t.begin
   pub reads : (t : Attempt) (r : Read) → t ∈ all_of x → r ∈ t.reads → ReadFits s t.begin r
   pub in_hand : InHand s x.current.begin x.task
 

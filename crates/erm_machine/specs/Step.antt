@@ -1,6 +1,6 @@
 -- The core step: one atomic step of one seat, or one call of the disk. Its guard reads the seat's own part and the one word
 -- that it meets.
-use Rattle.std.specs.Prelude.{true, ℕ, ◌+◌, ◌%◌, ◌^◌, Bool, not, ◌&&◌, ◌==◌, nat_lt, if◌then◌else◌, max, List, [], ◌∷◌, ◌++◌, Option, Some, None}
+use Rattle.std.specs.Prelude.{true, false, ℕ, ◌+◌, ◌%◌, ◌^◌, Bool, not, ◌&&◌, ◌==◌, nat_lt, if◌then◌else◌, max, List, [], ◌∷◌, ◌++◌, Option, Some, None}
 use Rattle.erm_machine.specs.declared.limits.TheConstants.{OBJECT_LIMIT, RING_WORDS}
 use Rattle.erm_machine.specs.declared.event.Answer.{Answer}
 use Rattle.erm_machine.specs.declared.event.Answer.TheVariants as answer
@@ -10,6 +10,8 @@ use Rattle.erm_machine.specs.declared.event.Event.{Event}
 use Rattle.erm_machine.specs.declared.event.Kind.{Kind}
 use Rattle.erm_machine.specs.declared.event.Kind.TheVariants as kind
 use Rattle.erm_machine.specs.declared.part.Part.{Part}
+use Rattle.erm_machine.specs.declared.task.Task.{Task}
+use Rattle.erm_machine.specs.declared.task.Task.TheVariants as task
 use Rattle.erm_machine.specs.declared.version.Version.{Version}
 use Rattle.erm_machine.specs.declared.version.VersionAt.{VersionAt}
 use Rattle.erm_machine.specs.declared.version.CellWord.{CellWord}
@@ -21,11 +23,16 @@ use Rattle.erm_machine.specs.Reading.{load_entry, claim, set_reader, load_cell, 
 use Rattle.erm_machine.specs.Settling.{load_read_entry, load_readers, load_stamp, filled, store_ring, raise_reader, store_cell, store_succ, store_overwriter, install, adds_version, clear_reader}
 use Rattle.erm_machine.specs.Flushing.{load_flushed, load_ring, write_log, sync_log, clear_ring, store_flushed, write_slot, sync_slot, remove_log, sync_removal}
 use Rattle.erm_machine.specs.Seat.{is_sealed}
-use Rattle.erm_machine.specs.Words.{put, claimed, with_bit, without_bit, set_word, is_seat}
+use Rattle.erm_machine.specs.Words.{put, claimed, with_bit, without_bit, set_word, is_seat, is_session}
 
 -- a call of the disk that doesn't fail
 abbrev pub unless : Bool → Option Part → Option Part
 unless fails after = if fails then None else after
+
+-- a session loads no word of a row before its own bit is set; the flush seat sets none
+abbrev pub reads_early : ℕ → CellWord → Task → Bool
+reads_early seat (word.Row k) (task.Found version stamp head) = is_session seat
+reads_early seat w t = false
 
 -- The seat's own part after its step, where the guard is met; a word found may lead to different parts. Of what is shared
 -- the part takes besides the word how many versions the object has, and the row of a version, which never changes, and the cells that it cuts off.
@@ -42,7 +49,7 @@ part_after seat (kind.LoadEntry oid) found s x =
     if is_sealed x.place then load_read_entry seat oid found x x.task else load_entry seat oid found (s.objects oid) x x.task
 part_after seat (kind.Claim oid seen number) found s x = claim seat oid seen number found (s.objects oid) x x.task
 part_after seat (kind.Install oid head) found s x = install oid head x x.task
-part_after seat (kind.LoadCell v w) found s x = load_cell found v w x
+part_after seat (kind.LoadCell v w) found s x = unless (reads_early seat w x.task) (load_cell found v w x)
 part_after seat (kind.StoreCell place cell w value) found s x = store_cell place cell w value x
 part_after seat (kind.LoadCounter counter) found s x = load_counter counter found x x.task
 part_after seat (kind.AddCounter counter) found s x = add_counter seat counter found x x.task
@@ -150,12 +157,18 @@ abbrev pub with_part : Core → ℕ → Option Part → Option Core
 with_part c seat None = None
 with_part c seat (Some y) = Some (record c { seats = put c.seats seat y })
 
--- The object that a kind names is one below the limit.
+-- a cell has this word
+abbrev pub has_word : CellWord → Bool
+has_word (word.Row k) = nat_lt k 16
+has_word w = true
+
+-- The object that a kind names is one below the limit, the seat that is looked at has words, and so has a cell.
 abbrev pub is_known : Kind → Bool
+is_known (kind.LoadState other bound) = is_seat other
 is_known (kind.LoadEntry oid) = nat_lt oid OBJECT_LIMIT
 is_known (kind.Claim oid seen number) = nat_lt oid OBJECT_LIMIT
 is_known (kind.Install oid head) = nat_lt oid OBJECT_LIMIT
-is_known (kind.LoadCell v w) = nat_lt v.oid OBJECT_LIMIT
+is_known (kind.LoadCell v w) = nat_lt v.oid OBJECT_LIMIT && has_word w
 is_known (kind.SetReader v) = nat_lt v.oid OBJECT_LIMIT
 is_known (kind.ClearReader v) = nat_lt v.oid OBJECT_LIMIT
 is_known (kind.LoadReaders v) = nat_lt v.oid OBJECT_LIMIT

@@ -28,6 +28,12 @@ pub const RING_WORDS: u64 = 32_768;
 /// How many words of the log a segment has.
 pub const SEGMENT_WORDS: u64 = 65_536;
 
+/// The least size of a block of the log, in words.
+pub const LEAST_BLOCK: u64 = 5;
+
+/// The greatest size of a block of the log, in words.
+pub const GREATEST_BLOCK: u64 = 1_093;
+
 /// No transaction begins where the tail is at or above this place of the log.
 pub const STOP: u64 = 1_152_921_504_606_846_976;
 

@@ -1,10 +1,11 @@
 //! What a step changes of what the seats share.
-ghost use Rattle.std.specs.Prelude.{◌≡◌, ◌+◌, ◌%◌, ◌^◌, ◌<◌, ◌≤◌, if◌then◌else◌, Some, None, false, true, slice_get, slice_set, slice_index_or, vec_len, vec_capacity, ◌++◌, ◌∷◌, []};
+ghost use Rattle.std.specs.Prelude.{◌≡◌, ◌+◌, ◌%◌, ◌^◌, ◌<◌, None, vec_len, vec_capacity, ◌++◌, ◌∷◌, []};
 ghost use Rattle.erm_machine.specs.declared.limits.TheConstants.{ANNOUNCERS, OBJECT_LIMIT, RING_WORDS};
 ghost use Rattle.erm_machine.specs.Step as step_specs;
 ghost use Rattle.erm_core.specs.Cores.{core_of, shared_of, shared_with, DrawFits, IsShaped};
-ghost use Rattle.erm_core.specs.Kinds.{ChangesObject, ChangesPlain, object_in};
-ghost use Rattle.erm_core.specs.Rooms.{HasSharedRoom};
+ghost use Rattle.erm_core.specs.Kinds.{ChangesObject, ChangesPlain};
+ghost use Rattle.erm_seat.specs.Kinds.{object_in};
+ghost use Rattle.erm_core.specs.Rooms.{DrawsIn, HasChangeRoom};
 
 use super::State;
 use erm_machine::{Counter, Kind, RING_WORDS, Span, Version};
@@ -35,6 +36,7 @@ impl State {
     fn set_ring(&mut self, at: Stamp, value: u64)
         requires shape { IsShaped self.old }
         ensures core { core_of self.new ≡ record (core_of self.old) { shared = step_specs.with_ring at value (shared_of self.old) } }
+        ensures log { self.new.log ≡ self.old.log }
         ensures shape { IsShaped self.new }
     {
         self.ring[(at % RING_WORDS) as usize] = value;
@@ -53,8 +55,9 @@ impl State {
         requires known { oid < OBJECT_LIMIT }
         requires named { oid ≡ object_in kind }
         requires seat { seat < ANNOUNCERS }
-        requires room { HasSharedRoom self.old kind }
+        requires room { HasChangeRoom self.old kind }
         ensures core { ChangesObject kind → core_of self.new ≡ record (core_of self.old) { shared = shared_with seat kind found added (shared_of self.old) } }
+        ensures log { self.new.log ≡ self.old.log }
         ensures shape { IsShaped self.new }
     {
         self.objects[oid as usize].change(seat, kind, found, added);
@@ -63,6 +66,7 @@ impl State {
     fn add_counter(&mut self, counter: Counter, found: u64)
         requires shape { IsShaped self.old }
         ensures core { core_of self.new ≡ record (core_of self.old) { shared = step_specs.with_counter counter ((found + 1) % 2 ^ 64) (shared_of self.old) } }
+        ensures log { self.new.log ≡ self.old.log }
         ensures shape { IsShaped self.new }
     {
         let drawn = found.wrapping_add(1);
@@ -78,6 +82,8 @@ impl State {
         requires room { vec_len self.old.log < vec_capacity self.old.log }
         requires fits { self.old.tail + size < 2 ^ 64 }
         ensures core { core_of self.new ≡ record (core_of self.old) { shared = record (shared_of self.old) { tail = self.old.tail + size; log = self.old.log.items ++ record { seat = seat; start = self.old.tail; size = size } ∷ [] } } }
+        ensures len { vec_len self.new.log ≡ vec_len self.old.log + 1 }
+        ensures room { vec_capacity self.new.log ≡ vec_capacity self.old.log }
         ensures shape { IsShaped self.new }
     {
         self.log.push_reserved(Span {
@@ -91,9 +97,10 @@ impl State {
     // Changes a word that is shared and of no object.
     fn change_plain(&mut self, seat: Seat, kind: Kind, found: u64)
         requires shape { IsShaped self.old }
-        requires room { HasSharedRoom self.old kind }
+        requires room { HasChangeRoom self.old kind }
         requires fits { DrawFits self.old kind found }
         ensures core { ChangesPlain kind → core_of self.new ≡ record (core_of self.old) { shared = shared_with seat kind found None (shared_of self.old) } }
+        ensures log { DrawsIn self.old self.new kind }
         ensures shape { IsShaped self.new }
     {
         match kind {
@@ -112,9 +119,10 @@ impl State {
         requires shape { IsShaped self.old }
         requires seat { seat < ANNOUNCERS }
         requires known { object_in kind < OBJECT_LIMIT }
-        requires room { HasSharedRoom self.old kind }
+        requires room { HasChangeRoom self.old kind }
         requires fits { DrawFits self.old kind found }
         ensures core { core_of self.new ≡ record (core_of self.old) { shared = shared_with seat kind found added (shared_of self.old) } }
+        ensures log { DrawsIn self.old self.new kind }
         ensures shape { IsShaped self.new }
     {
         match kind {

@@ -1,18 +1,17 @@
 //! The opening's state.
-ghost use Rattle.std.specs.Prelude.{ℕ, ◌≡◌, ◌+◌, ◌<◌, ◌≤◌, IfOk, length, vec_len, slice_index, slice_index_or};
+ghost use Rattle.std.specs.Prelude.{ℕ, ◌≡◌, ◌+◌, ◌<◌, ◌≤◌, IfOk, length, vec_len, slice_index};
 ghost use Rattle.erm_machine.specs.declared.limits.TheConstants.{ANNOUNCERS, OBJECT_LIMIT, SESSIONS, STOP};
 ghost use Rattle.erm_machine.specs.Core as core_specs;
 ghost use Rattle.erm_machine.specs.Sound.{Sound};
+ghost use Rattle.erm_core.specs.Rooms.{Carries};
 ghost use Rattle.erm_core.specs.Cores.{core_of, rows_of, AreFresh, AreOpened, IsShaped};
-ghost use Rattle.erm_core.specs.Objects.{object_of};
-ghost use Rattle.erm_core.specs.Parts.{part_of};
 
 use super::State;
-use crate::object::ObjectState;
-use crate::seat::{AttemptState, SeatState};
-use crate::words::{blank_cell, is_flusher};
-use erm_machine::{ANNOUNCERS, Cell, Flushing, OBJECT_LIMIT, Place, RING_WORDS, Task, Version};
+use erm_kept::ObjectState;
+use erm_kept::words::is_flusher;
+use erm_machine::{ANNOUNCERS, OBJECT_LIMIT, Place, RING_WORDS};
 use erm_model::{Row, Seat, Stamp};
+use erm_seat::SeatState;
 use std::alloc::{AllocError, Global};
 
 // Whether a seat is taken at an opening with so many sessions.
@@ -20,48 +19,6 @@ fn is_taken(sessions: Seat, seat: Seat) -> bool
     ensures { result ≡ core_specs.is_taken sessions seat }
 {
     (0 < seat && seat <= sessions) || is_flusher(seat)
-}
-
-impl ObjectState {
-    /// An object as it is opened, in the cell of the same number.
-    fn opened(alloc: Global, cell: u32, row: Row) -> Result<ObjectState, AllocError>
-        ensures { IfOk result (λ o. object_of o ≡ core_specs.opened_object (λ _. row) cell) }
-    {
-        let mut words: Cell = blank_cell();
-        words.row = row;
-        let mut versions = Vec::with_capacity(alloc, 1)?;
-        versions.push_reserved(Version { cell, words });
-        Ok(ObjectState {
-            entry: cell as u64,
-            versions,
-            cut: 0,
-        })
-    }
-}
-
-impl SeatState {
-    /// A seat that has done nothing yet. It takes no memory.
-    fn fresh(alloc: Global, place: Place, run: u64, tail: Stamp) -> SeatState
-        ensures { part_of result ≡ core_specs.fresh_part place run tail }
-    {
-        SeatState {
-            alloc,
-            place,
-            task: Task::Rest,
-            number: 0,
-            current: AttemptState::begun(alloc, 0, 0),
-            over: Vec::new(alloc),
-            seen: tail,
-            clear: [0; ANNOUNCERS as usize],
-            spare: Vec::new(alloc),
-            run,
-            flushing: Flushing::Still,
-            words: Vec::new(alloc),
-            gathered: Vec::new(alloc),
-            gathered_to: tail,
-            synced: tail,
-        }
-    }
 }
 
 // The objects as they are opened.
@@ -109,7 +66,7 @@ fn open_seats(
 
 impl State {
     /// The state of an opening: so many sessions, a row for each object, the place where its log begins, its run, and the number
-    /// of the first object that is made. The opening's log begins at 1 or above, and at 2^60 + 4 at most.
+    /// of the first object that is made, at most 1,024. The opening's log begins at 1 or above, and at 2^60 + 4 at most.
     pub fn open(
         alloc: Global,
         sessions: Seat,
@@ -122,10 +79,13 @@ impl State {
         requires rows { length rows.now ≡ OBJECT_LIMIT }
         requires positive { 0 < tail }
         requires low { tail ≤ STOP + 4 }
+        requires first { first ≤ OBJECT_LIMIT }
         ensures core { IfOk result (λ s. core_of s ≡ core_specs.opening_state sessions (rows_of rows.now) tail run first) }
         ensures sound { IfOk result (λ s. Sound (core_of s)) }
+        ensures carries { IfOk result Carries }
         ensures shape { IfOk result IsShaped }
     {
+        erm_sound::openings_are_sound();
         let objects = open_objects(alloc, rows)?;
         let ring = zeros(alloc, RING_WORDS as usize)?;
         let seats = open_seats(alloc, sessions, run, tail)?;

@@ -1,5 +1,5 @@
 //! The step of the machine.
-ghost use Rattle.std.specs.Prelude.{ℕ, ◌≡◌, ◌<◌, ◌≤◌, if◌then◌else◌, Some, None, false, true};
+ghost use Rattle.std.specs.Prelude.{◌≡◌, ◌<◌, if◌then◌else◌, Some, None, false, true};
 ghost use Rattle.erm_machine.specs.declared.limits.TheConstants.{ANNOUNCERS, OBJECT_LIMIT};
 ghost use Rattle.erm_machine.specs.declared.event.Event.{Event};
 ghost use Rattle.erm_machine.specs.declared.event.Kind.TheVariants.{Split, Join};
@@ -8,22 +8,37 @@ ghost use Rattle.erm_machine.specs.Core.{Core};
 ghost use Rattle.erm_machine.specs.Sound.{Sound};
 ghost use Rattle.erm_machine.specs.Step as step_specs;
 ghost use Rattle.erm_machine.specs.Words.{put};
-ghost use Rattle.erm_core.specs.Cores.{core_of, parts_of, shared_of, added_in, DrawFits, IsShaped};
-ghost use Rattle.erm_core.specs.Kinds.{MeetsOne, object_in, event_at};
-ghost use Rattle.erm_core.specs.Rooms.{HasRoom, HasSharedRoom, SeatHasRoom};
+ghost use Rattle.erm_core.specs.Cores.{core_of, shared_of, added_in, IsShaped};
+ghost use Rattle.erm_core.specs.Kinds.{MeetsOne, event_at};
+ghost use Rattle.erm_seat.specs.Kinds.{object_in};
+ghost use Rattle.erm_core.specs.Rooms.{Carries, HasRoom, SeatHasRoom};
 
 use super::State;
 use super::change::object_of_kind;
-use crate::words::is_seat;
-use erm_machine::{Answer, Event, Kind, OBJECT_LIMIT, Place, Version};
-use erm_model::{Seat, Stamp};
+use erm_kept::words::is_seat;
+use erm_machine::{ANNOUNCERS, Answer, CellWord, Event, Kind, OBJECT_LIMIT, Place, Version};
+use erm_model::{ROW_WORDS, Seat, Stamp};
 
-// Whether the object that a kind names is one below the limit.
+// Whether a cell has this word.
+fn has_word(word: CellWord) -> bool
+    ensures { result ≡ step_specs.has_word word }
+{
+    match word {
+        CellWord::Row(k) => (k as usize) < ROW_WORDS,
+        _ => true,
+    }
+}
+
+// Whether the object that a kind names is one below the limit, the seat that is looked at has words, and so has a cell.
 fn is_known(kind: Kind) -> bool
     ensures known { result ≡ step_specs.is_known kind }
     ensures object { result ≡ true → object_in kind < OBJECT_LIMIT }
 {
-    object_of_kind(kind) < OBJECT_LIMIT
+    match kind {
+        Kind::LoadState { seat, .. } => is_seat(seat),
+        Kind::LoadCell { version, word } => version.oid < OBJECT_LIMIT && has_word(word),
+        _ => object_of_kind(kind) < OBJECT_LIMIT,
+    }
 }
 
 // What a step of this kind answers where its guard is met.
@@ -84,11 +99,13 @@ impl State {
     // A step that meets one word, or a device.
     fn step_word(&mut self, seat: Seat, kind: Kind) -> Answer
         requires one { MeetsOne kind }
+        requires carries { Carries self.old }
         requires shape { IsShaped self.old }
         requires seat { seat < ANNOUNCERS }
         requires room { HasRoom self.old seat kind }
         requires sound { Sound (core_of self.old) }
         ensures step { ◌≡◌ {A = Answer × Core} (result, core_of self.new) (step_specs.core_step (core_of self.old) (event_at seat kind)) }
+        ensures carries { Carries self.new }
         ensures shape { IsShaped self.new }
     {
         if !is_known(kind) {
@@ -105,9 +122,11 @@ impl State {
 
     // A vacant seat is taken.
     fn split(&mut self, seat: Seat, other: Seat) -> Answer
+        requires carries { Carries self.old }
         requires shape { IsShaped self.old }
         requires seat { seat < ANNOUNCERS }
         ensures step { ◌≡◌ {A = Answer × Core} (result, core_of self.new) (step_specs.core_step (core_of self.old) (event_at seat (Split other))) }
+        ensures carries { Carries self.new }
         ensures shape { IsShaped self.new }
     {
         if other == seat || !is_seat(other) {
@@ -122,9 +141,11 @@ impl State {
 
     // A seat takes in another.
     fn join(&mut self, seat: Seat, other: Seat) -> Answer
+        requires carries { Carries self.old }
         requires shape { IsShaped self.old }
         requires seat { seat < ANNOUNCERS }
         ensures step { ◌≡◌ {A = Answer × Core} (result, core_of self.new) (step_specs.core_step (core_of self.old) (event_at seat (Join other))) }
+        ensures carries { Carries self.new }
         ensures shape { IsShaped self.new }
     {
         if other == seat {
@@ -150,17 +171,19 @@ impl State {
 
     /// Takes a step: exactly the core step. It takes no memory.
     pub fn step(&mut self, event: Event) -> Answer
+        requires carries { Carries self.old }
         requires shape { IsShaped self.old }
-        requires seat { event.seat < ANNOUNCERS }
         requires room { HasRoom self.old event.seat event.kind }
         requires sound { Sound (core_of self.old) }
         ensures step { ◌≡◌ {A = Answer × Core} (result, core_of self.new) (step_specs.core_step (core_of self.old) event) }
         ensures sound { Sound (core_of self.new) }
+        ensures carries { Carries self.new }
         ensures shape { IsShaped self.new }
     {
-        erm_core_log::ranges_are_kept();
-        erm_core_si::looks_stay_true();
-        erm_core_si::begins_are_kept();
+        erm_sound::steps_keep_sound();
+        if event.seat >= ANNOUNCERS {
+            return Answer::Failed;
+        }
         match event.kind {
             Kind::Split { seat } => self.split(event.seat, seat),
             Kind::Join { seat } => self.join(event.seat, seat),

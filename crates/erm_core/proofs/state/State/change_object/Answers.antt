@@ -1,13 +1,33 @@
-use Rattle.std.proofs.Common.{ℕ, ◌≡◌, ◌<◌, List, length, ap, ◌∙◌, arith}
-use Rattle.erm_core.specs.declared.object.ObjectState.{ObjectState}
+use Rattle.std.proofs.Common.{ℕ, ◌≡◌, ◌<◌, Some, List, length, slice_get, sym, ap, ◌∙◌, arith}
+use Rattle.std.proofs.lemmas.Option.{slice_get-get_or}
+use Rattle.erm_machine.specs.declared.event.Kind.{Kind}
+use Rattle.erm_machine.specs.declared.event.Kind.TheVariants as kind
+use Rattle.erm_core.specs.declared.state.State.{State}
+use Rattle.erm_core.specs.Rooms.{HasChangeRoom}
+use Rattle.erm_kept.specs.Objects.{HasObjectRoom}
+use Rattle.erm_seat.specs.Kinds.{object_in}
+use Rattle.erm_kept.specs.declared.object.ObjectState.{ObjectState}
 use Rattle.erm_machine.specs.Core.{Core, Object, Shared}
 use Rattle.erm_core.specs.Cores.{shared_of, parts_of}
-use Rattle.erm_core.specs.Objects.{object_after}
+use Rattle.erm_kept.specs.Objects.{object_after}
 use Rattle.erm_core.proofs.Tables.{objects_set, shared_object}
 use Rattle.erm_core.proofs.state.State.change_object.Goals as goal
 
+-- the object has the room that what is shared has
+object_room : (s : State) (k : Kind) (oid : ℕ) (o : ObjectState) → oid ≡ object_in k → slice_get s.objects.items oid ≡ Some o → HasChangeRoom s k → HasObjectRoom o k
+object_room s (kind.Install n head) oid o named there h = (h.0, h.1 o (ap (λ m. slice_get s.objects.items m) (sym named) ∙ there))
+object_room s (kind.Claim n seen number) oid o named there h = h o (ap (λ m. slice_get s.objects.items m) (sym named) ∙ there)
+object_room s _ oid o named there h = tt
+
 within : (len oid : ℕ) (os : List ObjectState) → len ≡ length os → len ≡ 1024 → oid < 1024 → oid < length os
 within len oid os a b h = omega arith
+
+pub change-requires-clause-room : goal.change-requires-clause-room
+change-requires-clause-room c =
+    let os = c.args.self.now.objects.items in
+    let inside = within c.args.self.now.objects.len c.args.oid os c.args.self.now.objects.ok.0 c.requires.shape.objects c.requires.known in
+    object_room c.args.self.now c.args.kind c.args.oid c.index_mut.result.now c.requires.named
+    (slice_get-get_or os c.args.oid c.index_mut.result.now inside ∙ ap (λ o. Some o) (sym c.index_mut.ensures.value)) c.requires.room
 
 pub returns-clause-core : goal.returns-clause-core
 returns-clause-core c = λ changes.

@@ -1,7 +1,7 @@
-use Rattle.std.proofs.Common.{◌∙◌, sym, subst}
+use Rattle.std.proofs.Common.{◌<◌, ◌∙◌, sym, subst}
 use Rattle.erm_machine.specs.Sound.{Sound}
 use Rattle.erm_core.specs.Cores.{rows_of}
-use Rattle.erm_core.proofs.Openings.{opened_core, opening_sound}
+use Rattle.erm_core.proofs.Openings.{opened_core}
 use Rattle.erm_core.proofs.state.State.open.Goals as goal
 
 pub returns-clause-core : goal.returns-clause-core
@@ -12,4 +12,4 @@ returns-clause-core c =
 
 pub returns-clause-sound : goal.returns-clause-sound
 returns-clause-sound c =
-    subst Sound (sym (returns-clause-core c)) (opening_sound c.args.sessions (rows_of c.args.rows.now) c.args.tail c.args.run c.args.first c.requires.sessions c.requires.positive c.requires.low)
+    subst Sound (sym (returns-clause-core c)) (c.openings_are_sound.ensures c.args.sessions (rows_of c.args.rows.now) c.args.tail c.args.run c.args.first c.requires.sessions c.requires.positive c.requires.low c.requires.first (λ oid below. c.told-rows oid (subst (λ n. oid < n) (sym c.requires.rows) below)))

@@ -1,7 +1,7 @@
 use Rattle.std.proofs.Common.{ℕ, ◌≡◌, ◌<◌, Some, List, set, length, slice_get, ◌∙◌, sym, arith}
 use Rattle.std.proofs.lemmas.Option.{get_or_from_slice_get}
 use Rattle.std.proofs.lemmas.List.{get_or-set_same}
-use Rattle.erm_core.specs.declared.object.ObjectState.{ObjectState}
+use Rattle.erm_kept.specs.declared.object.ObjectState.{ObjectState}
 use Rattle.erm_core.proofs.Tables.{objects_same}
 use Rattle.erm_core.proofs.state.State.reserve_object.Goals as goal
 

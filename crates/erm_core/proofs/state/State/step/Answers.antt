@@ -1,45 +1,42 @@
+use Rattle.std.proofs.Common.{◌≡◌, refl, ap, sym, subst}
+use Rattle.erm_machine.specs.declared.event.Answer.{Answer}
+use Rattle.erm_machine.specs.declared.event.Event.{Event}
 use Rattle.erm_machine.specs.declared.event.Kind.TheVariants as kind
+use Rattle.erm_machine.specs.Core.{Core}
+use Rattle.erm_machine.specs.Sound.{Sound}
+use Rattle.erm_machine.specs.Step.{core_step}
 use Rattle.erm_core.specs.Cores.{core_of}
 use Rattle.erm_core.specs.Kinds.{event_at}
-use Rattle.erm_core.proofs.Steps.{Laws, sound_step}
+use Rattle.erm_core.proofs.Steps.{failed_step}
+use Rattle.erm_core.proofs.Vacant.{vacant_none, seat_above}
 use Rattle.erm_core.proofs.state.State.step.Goals as goal
+
+-- the state after a step, as the law speaks of it
+after : (c d : Core) (a : Answer) (e : Event) → ◌≡◌ {A = Answer × Core} (a, d) (core_step c e) → Sound (core_step c e).1 → Sound d
+after c d a e step sound = subst Sound (sym (ap (λ (r : Answer × Core). r.1) step)) sound
 
 pub returns-in-Split-clause-sound : goal.returns-in-Split-clause-sound
 returns-in-Split-clause-sound c =
-    let laws : Laws = record {
-      ranges = c.ranges_are_kept.ensures.shared;
-      own_ranges = c.ranges_are_kept.ensures.seats;
-      own_clear = c.looks_stay_true.ensures.seats;
-      clear = c.looks_stay_true.ensures.pairs;
-      own_begins = c.begins_are_kept.ensures.seats;
-      begins = c.begins_are_kept.ensures.pairs;
-    } in
-    sound_step laws (core_of c.args.self.now) (core_of c.split.new.self) c.split.result (event_at c.args.event.seat (kind.Split c.in-Split.seat)) c.requires.sound c.split.ensures.step
+    let e = event_at c.args.event.seat (kind.Split c.in-Split.seat) in
+    after (core_of c.args.self.now) (core_of c.split.new.self) c.split.result e c.split.ensures.step (c.steps_keep_sound.ensures (core_of c.args.self.now) e c.requires.sound)
 
 pub returns-in-Join-clause-sound : goal.returns-in-Join-clause-sound
 returns-in-Join-clause-sound c =
-    let laws : Laws = record {
-      ranges = c.ranges_are_kept.ensures.shared;
-      own_ranges = c.ranges_are_kept.ensures.seats;
-      own_clear = c.looks_stay_true.ensures.seats;
-      clear = c.looks_stay_true.ensures.pairs;
-      own_begins = c.begins_are_kept.ensures.seats;
-      begins = c.begins_are_kept.ensures.pairs;
-    } in
-    sound_step laws (core_of c.args.self.now) (core_of c.join.new.self) c.join.result (event_at c.args.event.seat (kind.Join c.in-Join.seat)) c.requires.sound c.join.ensures.step
+    let e = event_at c.args.event.seat (kind.Join c.in-Join.seat) in
+    after (core_of c.args.self.now) (core_of c.join.new.self) c.join.result e c.join.ensures.step (c.steps_keep_sound.ensures (core_of c.args.self.now) e c.requires.sound)
 
 pub returns-in_default : goal.returns-in_default
-returns-in_default c =
-    let laws : Laws = record {
-      ranges = c.ranges_are_kept.ensures.shared;
-      own_ranges = c.ranges_are_kept.ensures.seats;
-      own_clear = c.looks_stay_true.ensures.seats;
-      clear = c.looks_stay_true.ensures.pairs;
-      own_begins = c.begins_are_kept.ensures.seats;
-      begins = c.begins_are_kept.ensures.pairs;
-    } in
-    record {
-      step = c.step_word.ensures.step;
-      sound = sound_step laws (core_of c.args.self.now) (core_of c.step_word.new.self) c.step_word.result c.args.event c.requires.sound c.step_word.ensures.step;
-      shape = c.step_word.ensures.shape;
-    }
+returns-in_default c = record {
+  step = c.step_word.ensures.step;
+  sound =
+      after (core_of c.args.self.now) (core_of c.step_word.new.self) c.step_word.result c.args.event c.step_word.ensures.step
+      (c.steps_keep_sound.ensures (core_of c.args.self.now) c.args.event c.requires.sound);
+  carries = c.step_word.ensures.carries;
+  shape = c.step_word.ensures.shape;
+}
+
+pub returns-then-event-ge-ANNOUNCERS-clause-step : goal.returns-then-event-ge-ANNOUNCERS-clause-step
+returns-then-event-ge-ANNOUNCERS-clause-step c =
+    let s = c.args.self.now in
+    let e = c.args.event in
+    failed_step (core_of s) e.seat e.kind (core_of s) (vacant_none (core_of s) e.seat s.run s.opening (seat_above s e.seat c.requires.shape c.if-event-ge-ANNOUNCERS.true) e.kind) refl

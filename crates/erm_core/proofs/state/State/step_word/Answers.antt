@@ -1,4 +1,4 @@
-use Rattle.std.proofs.Common.{ℕ, ◌≡◌, true, Option, ap, ◌∙◌, sym, refl, subst}
+use Rattle.std.proofs.Common.{ℕ, ◌≡◌, true, Option, ap, ◌∙◌, sym, refl}
 use Rattle.erm_machine.specs.declared.event.Answer.{Answer}
 use Rattle.erm_machine.specs.declared.event.Kind.{Kind}
 use Rattle.erm_machine.specs.declared.part.Part.{Part}
@@ -8,7 +8,7 @@ use Rattle.erm_machine.specs.Step.{shared_after, is_known}
 use Rattle.erm_machine.specs.Words.{put}
 use Rattle.erm_core.specs.declared.state.State.{State}
 use Rattle.erm_core.specs.Cores.{core_of, shared_of, shared_with, added_in}
-use Rattle.erm_core.specs.Rooms.{HasSharedRoom}
+use Rattle.erm_core.proofs.Rooms.{change_room, carries_on, carries_same}
 use Rattle.erm_core.proofs.Steps.{taken_step, failed_step, refused_none, core_path, fits_after}
 use Rattle.erm_core.proofs.Tables.{shared_by_version}
 use Rattle.erm_core.proofs.state.State.step_word.Goals as goal
@@ -16,9 +16,6 @@ use Rattle.erm_core.proofs.state.State.step_word.Goals as goal
 -- what a state shares where its seats alone have changed
 same_shared : (s t : State) → t ≡ record s { seats = t.seats } → shared_of t ≡ shared_of s
 same_shared s t rest = ap shared_of rest
-
-room_after : (s t : State) (k : Kind) → t ≡ record s { seats = t.seats } → HasSharedRoom s k → HasSharedRoom t k
-room_after s t k rest h = subst (λ u. HasSharedRoom u k) (sym rest) (record { log = h.log; object = h.object })
 
 -- the whole state after the seat's step and the change of what is shared
 state_after : (s t u : State) (p : ℕ) (k : Kind) (found : ℕ) (v : Option Version) (y : Part) → shared_of t ≡ shared_of s →
@@ -41,7 +38,18 @@ returns-then-not-turn-clause-step c =
     (core_path (core_of c.turn.new.self) (core_of s) (same_shared s c.turn.new.self c.turn.ensures.rest) (c.if-not-turn.ensures.kept refl))
 
 pub change-requires-clause-room : goal.change-requires-clause-room
-change-requires-clause-room c = room_after c.args.self.now c.turn.new.self c.args.kind c.turn.ensures.rest c.requires.room.shared
+change-requires-clause-room c =
+    change_room c.args.self.now c.turn.new.self c.args.seat c.args.kind c.word-found.result c.requires.seat c.requires.sound c.requires.carries c.turn.ensures.rest (c.if-not-turn.ensures.seats refl)
+    c.if-not-turn.ensures.after c.args.kind refl c.requires.room.shared
+
+pub returns-then-not-turn-clause-carries : goal.returns-then-not-turn-clause-carries
+returns-then-not-turn-clause-carries c =
+    carries_same c.args.self.now c.turn.new.self c.requires.carries (ap (λ (t : State). t.log) c.turn.ensures.rest) (c.if-not-turn.ensures.kept refl)
+
+pub returns-clause-carries : goal.returns-clause-carries
+returns-clause-carries c =
+    carries_on c.args.self.now c.turn.new.self c.args.seat c.args.kind c.word-found.result c.requires.seat c.requires.sound c.requires.carries c.turn.ensures.rest (c.if-not-turn.ensures.seats refl)
+    c.if-not-turn.ensures.after c.change.new.self c.requires.room.shared (ap (λ (d : Core). d.seats) c.change.ensures.core) c.change.ensures.log
 
 pub change-requires-clause-fits : goal.change-requires-clause-fits
 change-requires-clause-fits c =

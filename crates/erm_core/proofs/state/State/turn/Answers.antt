@@ -4,7 +4,7 @@ use Rattle.erm_machine.specs.declared.part.Part.{Part}
 use Rattle.erm_machine.specs.Step.{part_after}
 use Rattle.erm_machine.specs.Words.{put}
 use Rattle.erm_core.specs.Cores.{shared_of, parts_of}
-use Rattle.erm_core.specs.Parts.{part_of}
+use Rattle.erm_seat.specs.Parts.{part_of}
 use Rattle.erm_core.proofs.Tables.{parts_set, parts_at, parts_here, put_same_value, object_there}
 use Rattle.erm_core.proofs.state.State.turn.Goals as goal
 

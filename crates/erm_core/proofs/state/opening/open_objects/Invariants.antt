@@ -1,6 +1,6 @@
 use Rattle.std.proofs.Common.{ℕ, ◌≡◌, ◌<◌, [], map, get_or, vec_len}
 use Rattle.erm_machine.specs.Core.{no_object, opened_object}
-use Rattle.erm_core.specs.Objects.{object_of}
+use Rattle.erm_kept.specs.Objects.{object_of}
 use Rattle.erm_core.proofs.state.opening.open_objects.Given as goal
 
 abbrev pub invariant-loop-cell : goal.invariant-loop-cell

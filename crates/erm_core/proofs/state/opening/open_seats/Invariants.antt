@@ -2,7 +2,7 @@ use Rattle.std.proofs.Common.{ℕ, ◌≡◌, ◌<◌, map, get_or, vec_len}
 use Rattle.std.specs.Prelude.{if◌then◌else◌}
 use Rattle.erm_machine.specs.declared.place.Place.TheVariants.{Vacant, Idle}
 use Rattle.erm_machine.specs.Core.{fresh_part, is_taken}
-use Rattle.erm_core.specs.Parts.{part_of}
+use Rattle.erm_seat.specs.Parts.{part_of}
 use Rattle.erm_core.proofs.state.opening.open_seats.Given as goal
 
 abbrev pub invariant-loop-seat : goal.invariant-loop-seat

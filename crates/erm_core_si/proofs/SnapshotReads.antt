@@ -1,0 +1,144 @@
+-- Steps of a read and of a claim.
+use Rattle.std.proofs.Common.{◌≡◌, ◌≢◌, ℕ, ◌<◌, ◌≤◌, ⊎_elim, Bool, true, ◌&&◌, eqb, ltb, Option, Some, None, refl, sym, subst, arith}
+use Rattle.std.proofs.lemmas.Bool.{and_parts, cases_eq, eqb-true, ltb-true, ltb-false}
+use Rattle.erm_machine.specs.declared.part.Part.{Part}
+use Rattle.erm_machine.specs.declared.task.Task.{Task}
+use Rattle.erm_machine.specs.declared.task.Task.TheVariants as task
+use Rattle.erm_machine.specs.declared.version.CellWord.{CellWord}
+use Rattle.erm_machine.specs.declared.version.CellWord.TheVariants as word
+use Rattle.erm_machine.specs.declared.version.VersionAt.{VersionAt}
+use Rattle.erm_machine.specs.Chains.{NamedInHand}
+use Rattle.erm_machine.specs.Core.{Core, version_at}
+use Rattle.erm_machine.specs.Facts.{HoldsBelow}
+use Rattle.erm_machine.specs.Reading.{head_version, older, entered, load_entry, claim, load_walked_stamp, load_walked_link, load_cell}
+use Rattle.erm_machine.specs.Seat.{is_active, same_version}
+use Rattle.erm_machine.specs.Snapshot.{InHand, NoneInHand}
+use Rattle.erm_machine.specs.Sound.{Sound}
+use Rattle.erm_machine.specs.Words.{cell_word}
+use Rattle.erm_machine.proofs.Guards.{when_then, if_then, either_way}
+use Rattle.erm_core_si.proofs.SnapshotSteps.{Hand}
+use Rattle.erm_core_si.proofs.SnapshotSame.{free_if, free_from, keeps_unsealed, active_unsealed, Unsettled, unsettled, free_hand}
+use Rattle.erm_core_si.proofs.SnapshotCalm.{calm_task, calm_stay, after_cut_free}
+use Rattle.erm_core_si.proofs.SnapshotLeft.{Left, left_same, left_calm, left_task, same_place, hand_entered, unsettled_entered}
+
+first : (a b : Bool) → (a && b) ≡ true → a ≡ true
+first a b h = (and_parts a b h).0
+
+module _ (c : Core) (p : ℕ) (sound : Sound c) where
+  -- what is known of the version in hand
+  pub in_hand : (t : Task) → (c.seats p).task ≡ t → InHand c.shared (c.seats p).current.begin t
+  in_hand t at = subst (InHand c.shared (c.seats p).current.begin) at (sound.own p).snapshot.in_hand
+
+  pub named : (t : Task) → (c.seats p).task ≡ t → NamedInHand c.shared t
+  named t at = subst (NamedInHand c.shared) at (sound.own p).chains.named
+
+  pub none_in_hand : (t : Task) → (c.seats p).task ≡ t → (q : ℕ) → q ≢ p → NoneInHand (c.seats p).current.begin t q (c.seats q)
+  none_in_hand t at q ne = subst (λ (u : Task). NoneInHand (c.seats p).current.begin u q (c.seats q)) at (sound.both p q (λ e. ne (sym e))).snapshot.in_hand
+
+  -- an entry is loaded once more, after its owner was found clear
+  hand_again : (oid cleared : ℕ) → (c.seats p).task ≡ task.Cleared cleared → oid ≡ cleared →
+      Hand c p (c.seats p).current.begin (task.Walks (head_version oid (c.shared.objects oid).entry (c.shared.objects oid)) None)
+  hand_again oid cleared at same = record {
+    in_hand = λ k above within. absurd (omega (arith, above, within));
+    within = tt;
+    none = λ q ne h. none_in_hand (task.Cleared cleared) at q ne (subst (λ n. HoldsBelow (c.seats q) n (c.seats p).current.begin) same h);
+  }
+
+  pub load_entry_left : (oid : ℕ) (t : Task) (y : Part) → (c.seats p).task ≡ t →
+      load_entry p oid (c.shared.objects oid).entry (c.shared.objects oid) (c.seats p) t ≡ Some y → Left c p y
+  load_entry_left oid (task.Cleared cleared) y at e =
+      when_then (Left c p) _ _ y e (λ _.
+      either_way (λ (u : Task). Left c p (record (c.seats p) { task = u })) (eqb oid cleared) (task.Walks (head_version oid (c.shared.objects oid).entry (c.shared.objects oid)) None)
+      (entered p oid (c.shared.objects oid).entry (c.shared.objects oid))
+      (λ same. left_task c p _ sound (hand_again oid cleared at (eqb-true oid cleared same)) tt)
+      (λ _. left_task c p _ sound (hand_entered c p (c.seats p).current.begin oid sound) (unsettled_entered p oid (c.shared.objects oid).entry (c.shared.objects oid))))
+  load_entry_left oid t y at e =
+      when_then (Left c p) _ _ y e (λ _.
+      left_task c p _ sound (hand_entered c p (c.seats p).current.begin oid sound) (unsettled_entered p oid (c.shared.objects oid).entry (c.shared.objects oid)))
+
+  -- the stamp of the version in hand
+  same_stamp : (v w : VersionAt) → same_version v w ≡ true → cell_word word.Stamp (version_at (c.shared.objects v.oid) v.place).words ≡ (version_at (c.shared.objects w.oid) w.place).words.stamp
+  same_stamp v w e = let s = same_place v w e in let oid = s.0 in let place = s.1 in cc
+
+  hand_found : (version : VersionAt) (head : Option ℕ) (found : ℕ) → (c.seats p).task ≡ task.Walks version head → (version_at (c.shared.objects version.oid) version.place).words.stamp ≡ found →
+      found < (c.seats p).current.begin → Hand c p (c.seats p).current.begin (task.Found version found head)
+  hand_found version head found at is low = record {
+    in_hand = record {
+      within = (named (task.Walks version head) at).within;
+      stamp_is = is;
+      below = low;
+      newer = in_hand (task.Walks version head) at;
+    };
+    within = tt;
+    none = none_in_hand (task.Walks version head) at;
+  }
+
+  hand_passed : (version : VersionAt) (head : Option ℕ) (found : ℕ) → (c.seats p).task ≡ task.Walks version head → (version_at (c.shared.objects version.oid) version.place).words.stamp ≡ found →
+      (c.seats p).current.begin ≤ found → Hand c p (c.seats p).current.begin (task.Passed version)
+  hand_passed version head found at is high = record {
+    in_hand = (in_hand (task.Walks version head) at, omega (arith, is, high));
+    within = (named (task.Walks version head) at).within;
+    none = none_in_hand (task.Walks version head) at;
+  }
+
+  walked_stamp_left : (v : VersionAt) (t : Task) (y : Part) → (c.seats p).task ≡ t →
+      load_walked_stamp (cell_word word.Stamp (version_at (c.shared.objects v.oid) v.place).words) v (c.seats p) t ≡ Some y → Left c p y
+  walked_stamp_left v (task.Walks version head) y at e =
+      let found = cell_word word.Stamp (version_at (c.shared.objects v.oid) v.place).words in
+      when_then (Left c p) _ _ y e (λ g.
+      either_way (λ (u : Task). Left c p (record (c.seats p) { task = u })) (ltb found (c.seats p).current.begin) (task.Found version found head) (task.Passed version)
+      (λ low. left_task c p _ sound (hand_found version head found at (sym (same_stamp v version g)) (ltb-true found (c.seats p).current.begin low)) tt)
+      (λ high. left_task c p _ sound (hand_passed version head found at (sym (same_stamp v version g)) (ltb-false found (c.seats p).current.begin high)) tt))
+  walked_stamp_left v (task.CutWalks version horizon) y at e =
+      when_then (Left c p) _ _ y e (λ _. left_calm c p _ sound (calm_task (c.seats p) (c.seats p).task _ (search (free_if, free_from))))
+  walked_stamp_left v _ y at e = absurd (cc)
+
+  -- the link of a version that was passed
+  hand_older : (version : VersionAt) (found : ℕ) → (c.seats p).task ≡ task.Passed version → 0 < version.place → Hand c p (c.seats p).current.begin (task.Walks (older version found) None)
+  hand_older version found at positive =
+      let h = in_hand (task.Passed version) at in
+      let here = h.1 in
+      record {
+        in_hand = λ k above within. ⊎_elim
+            (λ (same : k ≡ version.place). subst (λ n. (c.seats p).current.begin ≤ (version_at (c.shared.objects version.oid) n).words.stamp) (sym same) here)
+            (λ (other : k ≡ version.place → ⊥). h.0 k (omega (arith, above, positive, other)) within)
+            (cases_eq k version.place);
+        within = tt;
+        none = none_in_hand (task.Passed version) at;
+      }
+
+  walked_link_left : (found : ℕ) (v : VersionAt) (t : Task) (y : Part) → (c.seats p).task ≡ t → load_walked_link found v (c.seats p) t ≡ Some y → Left c p y
+  walked_link_left found v (task.Passed version) y at e =
+      when_then (Left c p) _ _ y e (λ g. left_task c p _ sound (hand_older version found at (ltb-true 0 version.place (and_parts _ _ g).1)) tt)
+  walked_link_left found v (task.CutPassed version horizon) y at e =
+      when_then (Left c p) _ _ y e (λ _. left_calm c p _ sound (calm_task (c.seats p) (c.seats p).task _ (search (free_if, free_from, after_cut_free))))
+  walked_link_left found v _ y at e = absurd (cc)
+
+  pub load_cell_left : (v : VersionAt) (w : CellWord) (y : Part) → load_cell (cell_word w (version_at (c.shared.objects v.oid) v.place).words) v w (c.seats p) ≡ Some y → Left c p y
+  load_cell_left v word.Stamp y e =
+      if_then (Left c p) (is_active (c.seats p).place) (load_walked_stamp (cell_word word.Stamp (version_at (c.shared.objects v.oid) v.place).words) v (c.seats p) (c.seats p).task) None y e
+      (λ _ h. walked_stamp_left v (c.seats p).task y refl h) (λ _ h. absurd (cc))
+  load_cell_left v word.Link y e =
+      if_then (Left c p) (is_active (c.seats p).place) (load_walked_link (cell_word word.Link (version_at (c.shared.objects v.oid) v.place).words) v (c.seats p) (c.seats p).task) None y e
+      (λ _ h. walked_link_left (cell_word word.Link (version_at (c.shared.objects v.oid) v.place).words) v (c.seats p).task y refl h) (λ _ h. absurd (cc))
+  load_cell_left v (word.Row k) y e = when_then (Left c p) _ _ y e (λ _. left_calm c p (c.seats p) sound (calm_stay (c.seats p) (c.seats p).task (c.seats p) refl refl refl))
+  load_cell_left v _ y e = absurd (cc)
+
+  -- the exchange of a claim
+  pub claim_left : (oid seen number : ℕ) (t : Task) (y : Part) → (c.seats p).task ≡ t →
+      claim p oid seen number (c.shared.objects oid).entry (c.shared.objects oid) (c.seats p) t ≡ Some y → Left c p y
+  claim_left oid seen number (task.Found version stamp (Some entry)) y at e =
+      when_then (Left c p) _ _ y e (λ g.
+      left_same c p _ sound
+      (record {
+        over = refl;
+        begin = refl;
+        stamp = refl;
+        reads = refl;
+        claims = keeps_unsealed (c.seats p) _ (active_unsealed (c.seats p).place (c.seats p).current (sound.own p).ranges.current (first _ _ (first _ _ (first _ _ (first _ _ (first _ _ g))))));
+      })
+      (either_way (Hand c p (c.seats p).current.begin) (eqb (c.shared.objects oid).entry seen) (task.Claimed version) (entered p oid (c.shared.objects oid).entry (c.shared.objects oid))
+      (λ _. free_hand c p (c.seats p).current.begin _ (free_from _ tt tt)) (λ _. hand_entered c p (c.seats p).current.begin oid sound))
+      (unsettled c p _ (either_way Unsettled (eqb (c.shared.objects oid).entry seen) (task.Claimed version) (entered p oid (c.shared.objects oid).entry (c.shared.objects oid))
+      (λ _. tt) (λ _. unsettled_entered p oid (c.shared.objects oid).entry (c.shared.objects oid)))))
+  claim_left oid seen number _ y at e = absurd (cc)

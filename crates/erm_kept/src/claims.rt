@@ -1,0 +1,148 @@
+//! The claims of a transaction and their own cells.
+ghost use Rattle.std.specs.Prelude.{◌≡◌};
+ghost use Rattle.erm_machine.specs.Core as core_specs;
+ghost use Rattle.erm_machine.specs.Reading as reading_specs;
+ghost use Rattle.erm_machine.specs.Seat as seat_specs;
+ghost use Rattle.erm_machine.specs.Settling as settling_specs;
+ghost use Rattle.erm_kept.specs.Attempts.{attempt_of, KeepsSize};
+
+use crate::AttemptState;
+use crate::words::set_word;
+use erm_machine::{CellWord, Claim, OwnCell, VersionAt};
+use erm_model::ROW_WORDS;
+
+// A claim that nobody made.
+fn no_claim() -> Claim
+    ensures { result ≡ core_specs.no_claim }
+{
+    Claim {
+        version: VersionAt {
+            oid: 0,
+            place: 0,
+            cell: 0,
+        },
+        stamp: 0,
+        base: [0; ROW_WORDS],
+        row: [0; ROW_WORDS],
+        own: None,
+        is_set: false,
+        held: false,
+    }
+}
+
+/// Whether the cell is the claim's own one.
+pub fn is_own(cell: u32, own: Option<OwnCell>) -> bool
+    ensures { result ≡ seat_specs.is_own cell own }
+{
+    match own {
+        Some(own) => own.cell == cell,
+        None => false,
+    }
+}
+
+// The words of a claim's own cell after one is stored.
+fn with_own_word(word: CellWord, value: u64, own: Option<OwnCell>) -> Option<OwnCell>
+    ensures { result ≡ reading_specs.with_own_word word value own }
+{
+    match own {
+        Some(own) => Some(OwnCell {
+            cell: own.cell,
+            words: set_word(word, value, own.words),
+        }),
+        None => None,
+    }
+}
+
+impl AttemptState {
+    /// The claim at a place.
+    pub fn claim_at(&self, place: usize) -> Claim
+        ensures { result ≡ core_specs.claim_at (attempt_of self.now) place }
+    {
+        match self.writes.get(place) {
+            Some(claim) => *claim,
+            None => no_claim(),
+        }
+    }
+
+    /// The place of the newest claim.
+    pub fn last_claim(&self) -> usize
+        ensures { result ≡ seat_specs.last_claim (attempt_of self.now) }
+    {
+        self.writes.len().saturating_sub(1)
+    }
+
+    /// The newest claim.
+    pub fn newest_claim(&self) -> Claim
+        ensures { result ≡ core_specs.claim_at (attempt_of self.now) (seat_specs.last_claim (attempt_of self.now)) }
+    {
+        self.claim_at(self.last_claim())
+    }
+
+    // Changes the claim at a place.
+    fn set_claim(&mut self, place: usize, claim: Claim)
+        ensures after { attempt_of self.new ≡ seat_specs.with_claim place claim (attempt_of self.old) }
+        ensures size { KeepsSize self.old self.new }
+    {
+        if place < self.writes.len() {
+            self.writes[place] = claim;
+        }
+    }
+
+    /// The newest claim gets this cell.
+    pub fn set_cell(&mut self, own: OwnCell)
+        ensures after { attempt_of self.new ≡ reading_specs.with_cell own (attempt_of self.old) }
+        ensures size { KeepsSize self.old self.new }
+    {
+        let place = self.last_claim();
+        let mut claim = self.claim_at(place);
+        claim.own = Some(own);
+        self.set_claim(place, claim);
+    }
+
+    /// Stores a word into the own cell of the claim at a place.
+    pub fn store_own(&mut self, place: usize, word: CellWord, value: u64)
+        ensures after { attempt_of self.new ≡ reading_specs.stored_own place word value (attempt_of self.old) }
+        ensures size { KeepsSize self.old self.new }
+    {
+        let mut claim = self.claim_at(place);
+        claim.own = with_own_word(word, value, claim.own);
+        self.set_claim(place, claim);
+    }
+
+    /// Stores a word of the new row of the claim at a place, as a write or as a copy of the row overwritten.
+    pub fn store_row(&mut self, place: usize, k: u8, value: u64, is_set: bool)
+        ensures after { attempt_of self.new ≡ reading_specs.stored_row place k value is_set (attempt_of self.old) }
+        ensures size { KeepsSize self.old self.new }
+    {
+        let mut claim = self.claim_at(place);
+        if (k as usize) < ROW_WORDS {
+            claim.row[k as usize] = value;
+        }
+        claim.own = with_own_word(CellWord::Row(k), value, claim.own);
+        claim.is_set = is_set;
+        self.set_claim(place, claim);
+    }
+
+    /// The value of a word of a claim's new version before its row.
+    pub fn head_value(&self, claim: &Claim, word: CellWord) -> u64
+        ensures { result ≡ settling_specs.head_value (attempt_of self.now) claim.now word }
+    {
+        match word {
+            CellWord::Stamp => self.stamp,
+            CellWord::Link => claim.version.cell as u64 + 1,
+            CellWord::ReaderStamp => self.stamp,
+            _ => 0,
+        }
+    }
+
+    /// The claim at a place is over.
+    pub fn drop_entry(&mut self, place: usize)
+        ensures after { attempt_of self.new ≡ settling_specs.without_entry place (attempt_of self.old) }
+        ensures size { KeepsSize self.old self.new }
+    {
+        let mut claim = self.claim_at(place);
+        claim.held = false;
+        claim.own = None;
+        self.set_claim(place, claim);
+    }
+}

@@ -1,0 +1,16 @@
+//! The words of the table, numbered: one number for each, with no gap.
+#![tactic(auto)]
+
+mod laws;
+mod limits;
+mod numbers;
+#[cfg(test)]
+mod tests;
+mod word;
+
+pub use laws::{every_number, numbers_below, one_number};
+pub use limits::{
+    CELL_HEAD_WORDS, CELL_WORDS, CELLS_FROM, ENTRIES_FROM, RING_FROM, SEAT_WORDS, SEATS_FROM, WORDS,
+};
+pub use numbers::{index, word_of};
+pub use word::Word;

@@ -1,0 +1,35 @@
+-- Numbers: what was drawn from the counters.
+use Rattle.std.specs.Prelude.{◌≢◌, ℕ, ◌+◌, ◌<◌, ◌≤◌, List, ◌++◌, length, slice_index, flat_map}
+use Rattle.erm_machine.specs.declared.limits.TheConstants.{ANNOUNCERS, CELL_LIMIT, OBJECT_LIMIT}
+use Rattle.erm_machine.specs.declared.part.Part.{Part}
+use Rattle.erm_machine.specs.declared.task.Task.{Task}
+use Rattle.erm_machine.specs.declared.task.Task.TheVariants as task
+use Rattle.erm_machine.specs.Core.{Shared}
+use Rattle.erm_machine.specs.Facts.{total}
+
+-- 1 where a seat has seen the counter of objects, of cells, below its limit and is to raise it, else 0
+abbrev pub numbers : Task → ℕ
+numbers task.Numbers = 1
+numbers _ = 0
+
+abbrev pub pools : Task → ℕ
+pools task.Pool = 1
+pools _ = 0
+
+-- the counters stand at most so far above their limits that each seat may raise them once more
+pub record Counters (s : Shared) (seats : ℕ → Part) : Type 0 where
+  pub objects : s.objects_drawn + total (λ x. numbers x.task) ANNOUNCERS seats ≤ OBJECT_LIMIT + ANNOUNCERS
+  pub cells : s.cells_drawn + total (λ x. pools x.task) ANNOUNCERS seats ≤ CELL_LIMIT + ANNOUNCERS
+
+-- the objects that a seat's transactions made, in order
+abbrev pub made_of : Part → List ℕ
+made_of x = flat_map (λ t. t.made) x.over ++ x.current.made
+
+-- what a seat made was drawn, each number once
+pub record OwnMade (s : Shared) (x : Part) : Type 0 where
+  pub drawn : (k : ℕ) → k < length (made_of x) → slice_index (made_of x) k < s.objects_drawn
+  pub once : (j k : ℕ) → j < k → k < length (made_of x) → slice_index (made_of x) j ≢ slice_index (made_of x) k
+
+-- no object was made by two seats
+pub record MadeApart (x y : Part) : Type 0 where
+  pub apart : (j k : ℕ) → j < length (made_of x) → k < length (made_of y) → slice_index (made_of x) j ≢ slice_index (made_of y) k

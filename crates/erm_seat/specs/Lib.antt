@@ -1,0 +1,4 @@
+pub mod Kinds
+pub mod Needs
+pub mod Parts
+pub mod Rooms

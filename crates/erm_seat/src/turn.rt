@@ -1,0 +1,111 @@
+//! The step of a seat, by its kind.
+ghost use Rattle.std.specs.Prelude.{ℕ, ◌≡◌, ◌<◌, if◌then◌else◌, false, Some, None};
+ghost use Rattle.erm_machine.specs.declared.limits.TheConstants.{ANNOUNCERS};
+ghost use Rattle.erm_machine.specs.Core.{Shared};
+ghost use Rattle.erm_machine.specs.Step as step_specs;
+ghost use Rattle.erm_seat.specs.Kinds.{IsDisk, IsEntry, IsPlain, cells_in, object_in};
+ghost use Rattle.erm_kept.specs.Objects.{object_of};
+ghost use Rattle.erm_seat.specs.Parts.{part_of};
+ghost use Rattle.erm_seat.specs.Rooms.{HasSeatRoom};
+
+use crate::SeatState;
+use erm_kept::ObjectState;
+use erm_kept::words::{is_sealed, reads_early};
+use erm_machine::Kind;
+use erm_model::Seat;
+
+impl SeatState {
+    // A step of the disk.
+    fn turn_disk(&mut self, seat: Seat, kind: Kind) -> bool
+        ensures turn { IsDisk kind → (s : Shared) (found : ℕ) → step_specs.part_after seat kind found s (part_of self.old) ≡ (if result then Some (part_of self.new) else None) }
+        ensures kept { result ≡ false → part_of self.new ≡ part_of self.old }
+    {
+        match kind {
+            Kind::WriteLog { segment, fails } => !fails && self.write_log(segment),
+            Kind::SyncLog { segment, fails } => !fails && self.sync_log(segment),
+            Kind::WriteSlot { fails } => !fails && self.write_slot(seat),
+            Kind::SyncSlot { fails } => !fails && self.sync_slot(),
+            Kind::RemoveLog { segment, fails } => !fails && self.remove_log(segment),
+            Kind::SyncRemoval { segment, fails } => !fails && self.sync_removal(segment),
+            _ => false,
+        }
+    }
+
+    // A step that meets no object.
+    fn turn_plain(&mut self, seat: Seat, kind: Kind, found: u64) -> bool
+        requires room { (cells : ℕ) × HasSeatRoom self.old kind cells }
+        ensures turn { IsPlain kind → (s : Shared) → step_specs.part_after seat kind found s (part_of self.old) ≡ (if result then Some (part_of self.new) else None) }
+        ensures kept { result ≡ false → part_of self.new ≡ part_of self.old }
+    {
+        match kind {
+            Kind::LoadTail { purpose } => self.load_tail(seat, purpose, found),
+            Kind::AddTail { size } => self.add_tail(seat, size, found),
+            Kind::StoreBegin { value } => self.store_begin(value),
+            Kind::StoreState { value } => self.store_state(seat, value),
+            Kind::LoadBegin { seat: other } => self.load_begin(other, found),
+            Kind::LoadState { seat: other, bound } => self.load_state(seat, other, bound, found),
+            Kind::LoadCounter { counter } => self.load_counter(counter, found),
+            Kind::AddCounter { counter } => self.add_counter(seat, counter, found),
+            Kind::StoreRing { at, value } => self.store_ring(at, value),
+            Kind::Decide { at, header } => self.decide(at, header),
+            Kind::LoadRing { at } => self.load_ring(at, found),
+            Kind::ClearRing { at } => self.clear_ring(at),
+            Kind::StoreFlushed { value } => self.store_flushed(value),
+            Kind::LoadFlushed => self.load_flushed(found),
+            _ => self.turn_disk(seat, kind),
+        }
+    }
+
+    fn turn_entry(&mut self, seat: Seat, kind: Kind, found: u64, object: &ObjectState) -> bool
+        requires room { HasSeatRoom self.old kind (cells_in kind (object_of object.now)) }
+        ensures turn { IsEntry kind → (s : Shared) → s.objects (object_in kind) ≡ object_of object.now → step_specs.part_after seat kind found s (part_of self.old) ≡ (if result then Some (part_of self.new) else None) }
+        ensures kept { result ≡ false → part_of self.new ≡ part_of self.old }
+    {
+        match kind {
+            Kind::LoadEntry { oid } => {
+                if is_sealed(self.place) {
+                    self.load_read_entry(seat, oid, found)
+                } else {
+                    self.load_entry(seat, oid, found, object)
+                }
+            }
+            Kind::Claim { oid, seen, number } => self.claim(seat, oid, seen, number, found, object),
+            Kind::SetReader { version } => self.set_reader(seat, version, object),
+            Kind::SwapLink { version } => self.swap_link(found, version, object),
+            _ => false,
+        }
+    }
+
+    /// A step of this kind that found this word, at this object where it names one.
+    pub fn turn(&mut self, seat: Seat, kind: Kind, found: u64, object: &ObjectState) -> bool
+        requires seat { seat < ANNOUNCERS }
+        requires room { HasSeatRoom self.old kind (cells_in kind (object_of object.now)) }
+        ensures turn { (s : Shared) → s.objects (object_in kind) ≡ object_of object.now → step_specs.part_after seat kind found s (part_of self.old) ≡ (if result then Some (part_of self.new) else None) }
+        ensures kept { result ≡ false → part_of self.new ≡ part_of self.old }
+    {
+        match kind {
+            Kind::LoadEntry { .. }
+            | Kind::Claim { .. }
+            | Kind::SetReader { .. }
+            | Kind::SwapLink { .. } => self.turn_entry(seat, kind, found, object),
+            Kind::Install { oid, head } => self.install(oid, head),
+            Kind::LoadCell { version, word } => {
+                !reads_early(seat, word, self.task) && self.load_cell(found, version, word)
+            }
+            Kind::StoreCell {
+                claim,
+                cell,
+                word,
+                value,
+            } => self.store_cell(claim, cell, word, value),
+            Kind::ClearReader { version } => self.clear_reader(version),
+            Kind::LoadReaders { version } => self.load_readers(seat, version, found),
+            Kind::LoadStamp { version, word } => self.load_stamp(found, version, word),
+            Kind::RaiseReader { version, value } => self.raise_reader(version, value),
+            Kind::StoreSucc { version, value } => self.store_succ(version, value),
+            Kind::StoreOverwriter { version, value } => self.store_overwriter(version, value),
+            Kind::LoadDetached { version } => self.load_detached(found, version),
+            _ => self.turn_plain(seat, kind, found),
+        }
+    }
+}

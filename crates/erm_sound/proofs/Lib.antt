@@ -1,0 +1,3 @@
+pub mod OpenedObjects
+pub mod Openings
+pub mod Steps

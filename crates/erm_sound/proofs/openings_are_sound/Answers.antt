@@ -1,0 +1,5 @@
+use Rattle.erm_sound.proofs.Openings.{opening_sound}
+use Rattle.erm_sound.proofs.openings_are_sound.Goals as goal
+
+pub returns : goal.returns
+returns g sessions rows tail run first few positive low room sizes = opening_sound sessions rows tail run first few positive low room sizes

@@ -1,0 +1,67 @@
+//! The laws of sound states: an opening's state is sound, and so is the state after each event and after each step. Each law is
+//! the contract of a function that does nothing. Here alone a sound state is put together from the laws of its parts.
+#![tactic(auto)]
+
+ghost use Rattle.std.specs.Prelude.{◌≡◌, ◌+◌, ◌<◌, ◌≤◌, ℕ, Some, length};
+ghost use Rattle.erm_machine.specs.declared.event.Event.{Event};
+ghost use Rattle.erm_machine.specs.declared.event.Kind.{Kind};
+ghost use Rattle.erm_machine.specs.declared.limits.TheConstants.{OBJECT_LIMIT, SESSIONS, STOP};
+ghost use Rattle.erm_machine.specs.Core.{Core, opening_state};
+ghost use Rattle.erm_machine.specs.Decided.{history_of};
+ghost use Rattle.erm_machine.specs.Lawful.{opening_rows};
+ghost use Rattle.erm_machine.specs.Sound.{Sound};
+ghost use Rattle.erm_machine.specs.Step.{after_event, core_step};
+ghost use Rattle.erm_core_ssn.specs.Laws.{AllBelow};
+ghost use Rattle.erm_model.specs.History.{History, HasNewestRows, RunsSerially, rank_of, rows_after};
+ghost use Rattle.erm_model.specs.Rows.{Rows};
+ghost use Rattle.erm_model.specs.SerialOrder.{IsSerialOrder};
+
+/// From a sound state each event of each seat leads to a sound one.
+pub fn events_keep_sound()
+    ensures { (c d : Core) (seat : ℕ) (kind : Kind) → Sound c → after_event c seat kind ≡ Some d → Sound d }
+{
+    erm_core_log::ranges_are_kept();
+    erm_core_si::looks_stay_true();
+    erm_core_si::begins_are_kept();
+    erm_core_si::tasks_are_kept();
+    erm_core_cells::numbers_are_kept();
+    erm_core_cells::cells_are_kept();
+    erm_core_cells::chains_are_kept();
+    erm_core_si::claims_are_kept();
+    erm_core_si::snapshots_are_kept();
+    erm_core_ssn::marks_are_kept();
+    erm_core_ssn::readers_are_kept();
+    erm_core_ssn::decisions_are_kept();
+    erm_core_ssn::rows_are_kept();
+}
+
+/// Each step of a sound state, also one that isn't taken, leads to a sound one.
+pub fn steps_keep_sound()
+    ensures { (c : Core) (e : Event) → Sound c → Sound (core_step c e).1 }
+{
+    events_keep_sound();
+}
+
+/// An opening's state is sound, where its log begins at 1 or above, and at 2^60 + 4 at most, and the first
+/// number of an object to make is at most the number of objects; rows have 16 words.
+pub fn openings_are_sound()
+    ensures { (sessions : ℕ) (rows : Rows) (tail run first : ℕ) → sessions ≤ SESSIONS → 0 < tail → tail ≤ STOP + 4
+        → first ≤ OBJECT_LIMIT → ((oid : ℕ) → oid < OBJECT_LIMIT → length (rows oid) ≡ 16)
+        → Sound (opening_state sessions rows tail run first) }
+{}
+
+/// What a sound state has committed, run one after another in the serial order over the opening's rows: each transaction finds
+/// the rows that it read, and those that it overwrote, and in the end each object has its newest row. There is one such order.
+pub fn commits_run_serially()
+    ensures one { (c : Core) → Sound c → (order : History) × IsSerialOrder rank_of (history_of c.seats) order }
+    ensures run { (c : Core) → Sound c → (order : History) → IsSerialOrder rank_of (history_of c.seats) order
+        → RunsSerially (history_of c.seats) (opening_rows c.shared) (opening_rows c.shared) order }
+    ensures newest { (c : Core) → Sound c → (order : History) → IsSerialOrder rank_of (history_of c.seats) order
+        → (bound : ℕ) → 0 < bound → AllBelow bound (history_of c.seats)
+        → HasNewestRows (history_of c.seats) (opening_rows c.shared) bound (rows_after order (opening_rows c.shared)) }
+{
+    erm_core_ssn::commits_are_certified();
+    erm_core_ssn::commits_are_a_snapshot_history();
+    erm_core_ssn::serial_order_is_unique();
+    erm_core_ssn::rows_run_serially();
+}
