@@ -1,0 +1,9 @@
+pub mod Allowed
+pub mod Draws
+pub mod Found
+pub mod Handing
+pub mod Joins
+pub mod Notes
+pub mod Opens
+pub mod Parts
+pub mod Telling

@@ -1,0 +1,10 @@
+use Rattle.std.proofs.Common.{arith}
+use Rattle.erm_rule.proofs.Joins.{splits}
+use Rattle.erm_rule.proofs.passes.split.Goals as goal
+
+pub split_seat-requires : goal.split_seat-requires
+split_seat-requires c = (
+  c.requires.fits.same,
+  (let all = c.requires.fits.words in omega (arith, all)),
+  splits c.events_keep_sound.ensures c.args.t.now.shared.key c.args.p.now.id c.args.p.now.me.0 c.requires.gives.several c.requires.gives.giver c.requires.gives.given,
+)

@@ -1,0 +1,11 @@
+use Rattle.std.proofs.Common.{arith}
+use Rattle.erm_rule.proofs.Allowed.{allows_finding}
+use Rattle.erm_rule.proofs.steps.load_as.Goals as goal
+
+pub load-requires : goal.load-requires
+load-requires g c = (
+  c.requires.fits.same,
+  (let low = c.index.ensures.below in let all = c.requires.fits.words in omega (arith, low, all)),
+  allows_finding c.one_number.ensures c.numbers_below.ensures c.events_keep_sound.ensures c.args.t.now.shared.key _ c.args.p.now.id c.args.p.now.me c.args.who c.args.kind c.args.word (λ n. n)
+      c.requires.held c.requires.ready c.requires.known c.requires.tells c.requires.met c.requires.agrees c.index.result c.index.ensures.number _ _ c.requires.deed.0 c.requires.deed.1,
+)

@@ -1,0 +1,58 @@
+-- What a step on a word asks, and what it tells.
+use Rattle.std.specs.Prelude.{◌≡◌, ℕ, false, [], Some, IsSome}
+use Rattle.atomic_table.specs.declared.shared.Seat.{Seat}
+use Rattle.atomic_table.specs.Seated.{TableId}
+use Rattle.erm_layout.specs.declared.limits.TheConstants.{WORDS}
+use Rattle.erm_machine.specs.declared.event.Kind.{Kind}
+use Rattle.erm_machine.specs.declared.part.Part.{Part}
+use Rattle.erm_machine.specs.declared.place.Place.TheVariants.{Vacant}
+use Rattle.erm_machine.specs.Core.{Core, spot_of, word_at, fresh_part}
+use Rattle.erm_machine.specs.Sound.{Sound}
+use Rattle.erm_machine.specs.Step.{part_after, stored, after_event}
+use Rattle.erm_machine.specs.Words.{is_seat}
+use Rattle.erm_rule.specs.declared.view.Opening.{Opening}
+use Rattle.erm_rule.specs.declared.view.View.{View}
+use Rattle.erm_rule.specs.Views.{with_part, IsView, IsInOrder}
+
+-- the pass is one of this table, which has all words and no slots
+pub record Fits (table : TableId) (p : Seat (Unit {0}) View) : Type 0 where
+  pub words : table.words ≡ WORDS
+  pub slots : table.slots ≡ 0
+  pub same : p.table_id ≡ table
+  pub none : p.me.1 ≡ []
+
+-- the seat's step of this kind is one that the machine takes, whatever the view leaves open
+abbrev pub Ready : View → ℕ → Kind → Type 0
+Ready v who kind = (c : Core) → Sound c → IsView v c → IsSome (part_after who kind (word_at c (spot_of who kind)) c.shared (c.seats who))
+
+-- the word becomes what the seat's step of this kind stores
+abbrev pub Agrees : View → ℕ → Kind → (ℕ → ℕ) → Type 0
+Agrees v who kind f =
+    (c : Core) → Sound c → IsView v c → IsSome (part_after who kind (word_at c (spot_of who kind)) c.shared (c.seats who))
+    → f (word_at c (spot_of who kind)) ≡ stored who kind (word_at c (spot_of who kind))
+
+-- A step of a seat, from a sound state with the parts of the view before to one with those of the view after: the word
+-- found, and the seat's part after.
+pub record Told (v : View) (who : ℕ) (kind : Kind) (found : ℕ) (w : View) : Type 0 where
+  pub before : Core
+  pub sound : Sound before
+  pub is_view : IsView v before
+  pub in_order : IsInOrder v
+  pub met : word_at before (spot_of who kind) ≡ found
+  pub part : Part
+  pub part_is : part_after who kind found before.shared (before.seats who) ≡ Some part
+  pub view_is : w ≡ with_part who part v
+  pub after : Core
+  pub event : after_event before who kind ≡ Some after
+  pub sound_after : Sound after
+  pub is_view_after : IsView w after
+
+-- The table's last state: a sound one of its opening, in which the seats of the view have its parts, with this tail. A seat
+-- without words, which no view can have, is one that has done nothing.
+pub record Ends (o : Opening) (v : View) (tail : ℕ) : Type 0 where
+  pub core : Core
+  pub sound : Sound core
+  pub is_view : IsView v core
+  pub opened : core.shared.opening ≡ o.tail
+  pub tail_is : core.shared.tail ≡ tail
+  pub others : (q : ℕ) → is_seat q ≡ false → core.seats q ≡ fresh_part Vacant o.run o.tail

@@ -1,0 +1,18 @@
+//! The rule of the words that threads share: between any two steps on a word they stand, with what each pass knows, for a sound
+//! state of the core machine, and a step on a word is a step of that machine.
+#![tactic(auto)]
+
+mod laws;
+mod life;
+mod passes;
+mod plays;
+mod rule;
+mod steps;
+mod view;
+
+pub use laws::{notes_are_kept, notes_hold, sessions_are_handed_out};
+pub use life::{add_tail, load_begin, load_state, load_tail, store_begin, store_state};
+pub use passes::{close, join, open, split};
+pub use rule::{Pass, Standing, Table};
+pub use steps::{add, load, store};
+pub use view::{Held, Opening, View};

@@ -1,0 +1,22 @@
+//! What a pass knows of the machine.
+use erm_machine::Part;
+use erm_model::{Seat, Stamp};
+use std::collections::LinkedList;
+
+/// A seat that a pass has, with what the seat keeps. No value of it is made.
+pub struct Held {
+    pub seat: Seat,
+    pub part: Part,
+}
+
+/// The seats that a pass has, and nothing else. No value of it is made.
+pub struct View {
+    pub held: LinkedList<Held>,
+}
+
+/// What the table is told when it is made: where the log of this opening begins, and which run of the log it is.
+#[derive(Clone, Copy, Debug, PartialEq, Eq)]
+pub struct Opening {
+    pub tail: Stamp,
+    pub run: u64,
+}

@@ -1,0 +1,11 @@
+//! Calls of a seat on the words that threads share: begin, seal, and a look at another seat. None waits or takes memory.
+#![tactic(auto)]
+
+pub mod answer;
+mod life;
+mod looking;
+#[cfg(test)]
+mod tests;
+
+pub use life::{begin_steps, seal_steps};
+pub use looking::look;
