@@ -1,6 +1,6 @@
 //! What a block of the log says.
 use arrayvec::ArrayVec;
-use erm_model::{Oid, ROW_WORDS, Row, Seat, Stamp, WRITE_LIMIT};
+use erm_model::{GREATEST_BLOCK, LAST_RUN, LEAST_BLOCK, Oid, ROW_WORDS, Row, Seat, Stamp, WRITE_LIMIT};
 
 /// How many words an entry has: an object's number and its row.
 pub const ENTRY_WORDS: usize = 1 + ROW_WORDS;
@@ -9,19 +9,16 @@ pub const ENTRY_WORDS: usize = 1 + ROW_WORDS;
 pub const HEAD_WORDS: usize = 4;
 
 /// How many words a block has around its payload: those before it, and the digest.
-pub const FRAME_WORDS: usize = HEAD_WORDS + 1;
+pub const FRAME_WORDS: usize = LEAST_BLOCK as usize;
 
 /// The most rows that a block has.
 pub const BLOCK_ROWS: usize = WRITE_LIMIT;
 
 /// The most words that a block has.
-pub const BLOCK_WORDS: usize = FRAME_WORDS + ENTRY_WORDS * BLOCK_ROWS;
+pub const BLOCK_WORDS: usize = GREATEST_BLOCK as usize;
 
 /// Runs are below.
-pub const RUN_END: u64 = 1 << 44;
-
-/// Where the log ends: no block ends behind it.
-pub const LOG_END: u64 = 1 << 61;
+pub const RUN_END: u64 = LAST_RUN + 1;
 
 /// What a block is about.
 #[derive(Clone, Copy, Debug, PartialEq, Eq)]

@@ -6,7 +6,7 @@ use Rattle.std.proofs.lemmas.Bool.{and_parts, eqb-true, ltb-true}
 use Rattle.std.proofs.lemmas.List.{drop-append-le}
 use Rattle.std.proofs.lemmas.List.Sums.{sum_by_push}
 use Rattle.std.proofs.lemmas.Option.{same_Some}
-use Rattle.erm_machine.specs.declared.limits.TheConstants.{ANNOUNCERS, CELL_LIMIT, OBJECT_LIMIT}
+use Rattle.erm_machine.specs.declared.limits.TheConstants.{ANNOUNCERS, OBJECT_LIMIT}
 use Rattle.erm_machine.specs.declared.event.Counter.{Counter}
 use Rattle.erm_machine.specs.declared.event.Counter.TheVariants.{Objects, Cells}
 use Rattle.erm_machine.specs.declared.event.Kind.{Kind}
@@ -79,9 +79,9 @@ sums_stay chains chains_after seats seats_after old new e f = omega (arith, e, f
 sums_same : (chains chains_after seats seats_after : ℕ) → chains_after ≡ chains → seats_after ≡ seats → chains_after + seats_after ≡ chains + seats
 sums_same chains chains_after seats seats_after e f = omega (arith, e, f)
 
--- how often a cell is to stand somewhere
-abbrev drawn_once : ℕ → ℕ → ℕ
-drawn_once cell drawn = if ltb cell drawn && ltb cell CELL_LIMIT then 1 else 0
+-- how often a cell is to stand somewhere, where there are so many
+abbrev drawn_once : ℕ → ℕ → ℕ → ℕ
+drawn_once limit cell drawn = if ltb cell drawn && ltb cell limit then 1 else 0
 
 -- a state after a step that moves cells between chains and one seat
 kept_moved : (c : Core) (p : ℕ) (y : Part) (t : Shared) (d : Core) → Sound c → p < ANNOUNCERS → t.cells_drawn ≡ c.shared.cells_drawn
@@ -191,24 +191,24 @@ swap_kept c p v (task.CutFound version horizon) y d sound known on e is =
 swap_kept c p v _ y d sound known on e is = absurd (cc)
 
 -- one more cell is drawn
-drawn_more : (cell n : ℕ) → drawn_once cell (n + 1) ≡ drawn_once cell n + cond (ltb n CELL_LIMIT) (cond (eqb n cell) 1 0) 0
-drawn_more cell n = grind (arith, nat_tests)
+drawn_more : (limit cell n : ℕ) → drawn_once limit cell (n + 1) ≡ drawn_once limit cell n + cond (ltb n limit) (cond (eqb n cell) 1 0) 0
+drawn_more limit cell n = grind (arith, nat_tests)
 
 draw_moves : (chains seats seats_after own own_after more : ℕ) → seats_after + own ≡ seats + own_after → own_after ≡ own + more → chains + seats_after ≡ chains + seats + more
 draw_moves chains seats seats_after own own_after more e f = omega (arith, e, f)
 
 -- the counter of cells is raised
-add_cell_kept : (c : Core) (p : ℕ) (y : Part) (d : Core) → Sound c → DrawsCell (c.seats p) c.shared.cells_drawn (ltb c.shared.cells_drawn CELL_LIMIT) y
+add_cell_kept : (c : Core) (p : ℕ) (y : Part) (d : Core) → Sound c → DrawsCell (c.seats p) c.shared.cells_drawn (ltb c.shared.cells_drawn c.shared.cell_limit) y
     → record { shared = record c.shared { cells_drawn = c.shared.cells_drawn + 1 }; seats = put c.seats p y } ≡ d → Kept d
 add_cell_kept c p y d sound i is =
     subst Kept is (record {
       shared = record {
         once = λ cell.
             draw_moves (in_chains cell c.shared.objects) (total (own_times cell) ANNOUNCERS c.seats) (total (own_times cell) ANNOUNCERS (put c.seats p y))
-            (own_times cell (c.seats p)) (own_times cell y) (cond (ltb c.shared.cells_drawn CELL_LIMIT) (cond (eqb c.shared.cells_drawn cell) 1 0) 0)
+            (own_times cell (c.seats p)) (own_times cell y) (cond (ltb c.shared.cells_drawn c.shared.cell_limit) (cond (eqb c.shared.cells_drawn cell) 1 0) 0)
             (total-put (own_times cell) ANNOUNCERS c.seats p y (begun_below c p sound i.begun)) (i.times cell)
-            ∙ ap (λ n. n + cond (ltb c.shared.cells_drawn CELL_LIMIT) (cond (eqb c.shared.cells_drawn cell) 1 0) 0) (sound.common.cells.once cell)
-            ∙ sym (drawn_more cell c.shared.cells_drawn);
+            ∙ ap (λ n. n + cond (ltb c.shared.cells_drawn c.shared.cell_limit) (cond (eqb c.shared.cells_drawn cell) 1 0) 0) (sound.common.cells.once cell)
+            ∙ sym (drawn_more c.shared.cell_limit cell c.shared.cells_drawn);
       };
       own = each_seat (λ _ (z : Part). OwnCells z) c.seats p y (record { wants = i.wants }) (λ q _. (sound.own q).cells);
     })
@@ -217,10 +217,10 @@ add_kept : (c : Core) (p : ℕ) (counter : Counter) (d : Core) → Sound c → a
 add_kept c p Objects d sound e =
     let m = moves c p (kind.AddCounter Objects) d tt e in
     kept_same c p m.part (record c.shared { objects_drawn = c.shared.objects_drawn + 1 }) d sound refl (λ cell. refl)
-    (add_object_cells p c.shared.objects_drawn (c.seats p) (c.seats p).task m.part m.after) (objects_raised c p m.part d sound (sym m.is))
+    (add_object_cells _ p c.shared.objects_drawn (c.seats p) (c.seats p).task m.part m.after) (objects_raised c p m.part d sound (sym m.is))
 add_kept c p Cells d sound e =
     let m = moves c p (kind.AddCounter Cells) d tt e in
-    add_cell_kept c p m.part d sound (add_cell_moves p c.shared.cells_drawn (c.seats p) (c.seats p).task m.part (sound.own p).cells.wants m.after) (cells_raised c p m.part d sound (sym m.is))
+    add_cell_kept c p m.part d sound (add_cell_moves _ p c.shared.cells_drawn (c.seats p) (c.seats p).task m.part (sound.own p).cells.wants m.after) (cells_raised c p m.part d sound (sym m.is))
 
 -- a part of one seat changes, and nothing that is shared
 part_kept : (c : Core) (p : ℕ) (y : Part) (d : Core) → Sound c → KeepsCells (c.seats p) (c.seats p).task y → record c { seats = put c.seats p y } ≡ d → Kept d
@@ -263,7 +263,7 @@ kept c p (kind.Split other) d sound e = split_kept c p other d sound e
 kept c p (kind.Join other) d sound e = join_kept c p other d sound e
 kept c p (kind.LoadCounter counter) d sound e =
     let m = moves c p (kind.LoadCounter counter) d tt e in
-    kept_same c p m.part c.shared d sound refl (λ cell. refl) (load_counter_cells counter (word_at c (spot_of p (kind.LoadCounter counter))) (c.seats p) (c.seats p).task m.part m.after) (sym m.is)
+    kept_same c p m.part c.shared d sound refl (λ cell. refl) (load_counter_cells _ counter (word_at c (spot_of p (kind.LoadCounter counter))) (c.seats p) (c.seats p).task m.part m.after) (sym m.is)
 kept c p (kind.AddCounter counter) d sound e = add_kept c p counter d sound e
 kept c p (kind.Install oid head) d sound e = install_kept c p oid head d sound e
 kept c p (kind.SwapLink v) d sound e =

@@ -3,7 +3,7 @@ use Rattle.std.proofs.Common.{◌≡◌, ℕ, ◌+◌, ◌<◌, Bool, true, fals
 use Rattle.std.specs.Prelude.{if◌then◌else◌}
 use Rattle.std.proofs.lemmas.Bool.{and_parts, ltb-true, eqb-true}
 use Rattle.std.proofs.lemmas.List.Sums.{sum_by-cons, sum_by-append}
-use Rattle.erm_machine.specs.declared.limits.TheConstants.{CELL_LIMIT, OBJECT_LIMIT}
+use Rattle.erm_machine.specs.declared.limits.TheConstants.{OBJECT_LIMIT}
 use Rattle.erm_machine.specs.declared.attempt.Claim.{Claim}
 use Rattle.erm_machine.specs.declared.attempt.OwnCell.{OwnCell}
 use Rattle.erm_machine.specs.declared.event.Counter.{Counter}
@@ -145,21 +145,21 @@ swap_moves found v o x version horizon y some e =
     })
 
 -- a counter is loaded
-pub load_counter_cells : (counter : Counter) (found : ℕ) (x : Part) (t : Task) (y : Part) → load_counter counter found x t ≡ Some y → KeepsCells x t y
-load_counter_cells Objects found x t y e =
+pub load_counter_cells : (cells : ℕ) (counter : Counter) (found : ℕ) (x : Part) (t : Task) (y : Part) → load_counter cells counter found x t ≡ Some y → KeepsCells x t y
+load_counter_cells cells Objects found x t y e =
     when_then (KeepsCells x t) _ _ y e (λ _.
     let u : Task = if ltb found OBJECT_LIMIT then task.Numbers else task.Rest in
     record { times = λ _. refl; wants = λ _. either_way (λ (v : Task). WantsCell (record x { task = u }) v) (ltb found OBJECT_LIMIT) task.Numbers task.Rest (λ _. tt) (λ _. tt) })
-load_counter_cells Cells found x task.Draws y e =
+load_counter_cells cells Cells found x task.Draws y e =
     when_then (KeepsCells x task.Draws) _ _ y e (λ _.
-    let u : Task = if ltb found CELL_LIMIT then task.Pool else task.Refused in
-    record { times = λ _. refl; wants = λ w. either_way (λ (v : Task). WantsCell (record x { task = u }) v) (ltb found CELL_LIMIT) task.Pool task.Refused (λ _. w) (λ _. w) })
-load_counter_cells Cells found x _ y e = absurd (cc)
+    let u : Task = if ltb found cells then task.Pool else task.Refused in
+    record { times = λ _. refl; wants = λ w. either_way (λ (v : Task). WantsCell (record x { task = u }) v) (ltb found cells) task.Pool task.Refused (λ _. w) (λ _. w) })
+load_counter_cells cells Cells found x _ y e = absurd (cc)
 
 -- the counter of objects is raised
-pub add_object_cells : (seat found : ℕ) (x : Part) (t : Task) (y : Part) → add_counter seat Objects found x t ≡ Some y → KeepsCells x t y
-add_object_cells seat found x task.Numbers y e = when_then (KeepsCells x task.Numbers) _ _ y e (λ _. record { times = λ _. refl; wants = λ _. tt })
-add_object_cells seat found x _ y e = absurd (cc)
+pub add_object_cells : (cells : ℕ) (seat found : ℕ) (x : Part) (t : Task) (y : Part) → add_counter cells seat Objects found x t ≡ Some y → KeepsCells x t y
+add_object_cells cells seat found x task.Numbers y e = when_then (KeepsCells x task.Numbers) _ _ y e (λ _. record { times = λ _. refl; wants = λ _. tt })
+add_object_cells cells seat found x _ y e = absurd (cc)
 
 -- The counter of cells is raised: the cell found is the newest claim's, where it lies below the limit.
 pub record DrawsCell (x : Part) (found : ℕ) (low : Bool) (y : Part) : Type 0 where
@@ -186,7 +186,7 @@ draws_cell : (found : ℕ) (x : Part) (low : Bool) → WantsCell x task.Pool →
 draws_cell found x true wants begun = record { begun = begun; times = λ cell. let sum = drawn_times cell found x wants in omega (arith, sum); wants = tt }
 draws_cell found x false wants begun = record { begun = begun; times = λ cell. omega arith; wants = wants }
 
-pub add_cell_moves : (seat found : ℕ) (x : Part) (t : Task) (y : Part) → WantsCell x t → add_counter seat Cells found x t ≡ Some y → DrawsCell x found (ltb found CELL_LIMIT) y
-add_cell_moves seat found x task.Pool y wants e =
-    when_then (DrawsCell x found (ltb found CELL_LIMIT)) _ _ y e (λ g. draws_cell found x (ltb found CELL_LIMIT) wants (begun_active x.place g))
-add_cell_moves seat found x _ y wants e = absurd (cc)
+pub add_cell_moves : (cells : ℕ) (seat found : ℕ) (x : Part) (t : Task) (y : Part) → WantsCell x t → add_counter cells seat Cells found x t ≡ Some y → DrawsCell x found (ltb found cells) y
+add_cell_moves cells seat found x task.Pool y wants e =
+    when_then (DrawsCell x found (ltb found cells)) _ _ y e (λ g. draws_cell found x (ltb found cells) wants (begun_active x.place g))
+add_cell_moves cells seat found x _ y wants e = absurd (cc)

@@ -4,7 +4,7 @@ use Rattle.std.specs.Prelude.{if◌then◌else◌, count_by, ◌==◌}
 use Rattle.std.proofs.lemmas.Bool.{and_parts, and_right, or_from, lt-leb, ne_eqb, cases_eq, cases_lt, eq-eqb, ltb-true}
 use Rattle.std.proofs.lemmas.List.Sums.{sum_by-drop_more}
 use Rattle.erm_machine.specs.declared.attempt.Claim.{Claim}
-use Rattle.erm_machine.specs.declared.limits.TheConstants.{ANNOUNCERS, CELL_LIMIT, FLUSH_SEAT, OBJECT_LIMIT, SESSIONS}
+use Rattle.erm_machine.specs.declared.limits.TheConstants.{ANNOUNCERS, FLUSH_SEAT, OBJECT_LIMIT, SESSIONS}
 use Rattle.erm_machine.specs.declared.part.Part.{Part}
 use Rattle.erm_machine.specs.declared.place.Place.TheVariants.{Vacant}
 use Rattle.erm_machine.specs.declared.version.Version.{Version}
@@ -81,7 +81,7 @@ some_then_true false h = absurd (omega arith)
 
 -- how often an object's chain and a seat's own cells name a cell
 times_once : (c : Core) (p oid cell : ℕ) → Sound c → p < ANNOUNCERS → oid < OBJECT_LIMIT →
-    chain_times cell (c.shared.objects oid) + own_times cell (c.seats p) ≤ (if nat_lt cell c.shared.cells_drawn && nat_lt cell CELL_LIMIT then 1 else 0)
+    chain_times cell (c.shared.objects oid) + own_times cell (c.seats p) ≤ (if nat_lt cell c.shared.cells_drawn && nat_lt cell c.shared.cell_limit then 1 else 0)
 times_once c p oid cell sound seat known =
     two_terms (chain_times cell) OBJECT_LIMIT c.shared.objects oid (own_times cell) ANNOUNCERS c.seats p _ known seat (sound.common.cells.once cell)
 
@@ -93,7 +93,7 @@ module _ (c : Core) (sound : Sound c) where
       let cell = (version_at (c.shared.objects oid) k).cell in
       let twice = chain_counts_twice cell (c.shared.objects oid) j k attached before within same refl in
       let once = times_once c 0 oid cell sound (omega arith) known in
-      let one = at_most_one (nat_lt cell c.shared.cells_drawn && nat_lt cell CELL_LIMIT) in
+      let one = at_most_one (nat_lt cell c.shared.cells_drawn && nat_lt cell c.shared.cell_limit) in
       absurd (too_many (chain_times cell (c.shared.objects oid)) (own_times cell (c.seats 0)) _ twice once one)
     where
       too_many : (a b n : ℕ) → 2 ≤ a → a + b ≤ n → n ≤ 1 → ⊥
@@ -108,13 +108,13 @@ module _ (c : Core) (sound : Sound c) where
       (cases_lt j k)
 
   -- a claim's own cell was drawn, and is in no chain
-  pub own_small : (p k cell : ℕ) → p < ANNOUNCERS → k < length (c.seats p).current.writes → is_own cell (claim_at (c.seats p).current k).own ≡ true → cell < CELL_LIMIT
+  pub own_small : (p k cell : ℕ) → p < ANNOUNCERS → k < length (c.seats p).current.writes → is_own cell (claim_at (c.seats p).current k).own ≡ true → cell < c.shared.cell_limit
   own_small p k cell seat within is =
       let mine = own_counts cell (c.seats p) k within is in
       let once = times_once c p 0 cell sound seat (omega arith) in
-      let drawn = some_then_true (nat_lt cell c.shared.cells_drawn && nat_lt cell CELL_LIMIT)
+      let drawn = some_then_true (nat_lt cell c.shared.cells_drawn && nat_lt cell c.shared.cell_limit)
       (at_least (chain_times cell (c.shared.objects 0)) (own_times cell (c.seats p)) _ mine once) in
-      ltb-true _ _ (and_parts (nat_lt cell c.shared.cells_drawn) (nat_lt cell CELL_LIMIT) drawn).1
+      ltb-true _ _ (and_parts (nat_lt cell c.shared.cells_drawn) (nat_lt cell c.shared.cell_limit) drawn).1
     where
       at_least : (a b n : ℕ) → 1 ≤ b → a + b ≤ n → 1 ≤ n
       at_least a b n h g = omega arith
@@ -125,7 +125,7 @@ module _ (c : Core) (sound : Sound c) where
       let mine = own_counts cell (c.seats p) k within is in
       let its = chain_counts cell (c.shared.objects oid) place attached there same in
       let once = times_once c p oid cell sound seat known in
-      let one = at_most_one (nat_lt cell c.shared.cells_drawn && nat_lt cell CELL_LIMIT) in
+      let one = at_most_one (nat_lt cell c.shared.cells_drawn && nat_lt cell c.shared.cell_limit) in
       absurd (too_many (chain_times cell (c.shared.objects oid)) (own_times cell (c.seats p)) _ its mine once one)
     where
       too_many : (a b n : ℕ) → 1 ≤ a → 1 ≤ b → a + b ≤ n → n ≤ 1 → ⊥

@@ -3,7 +3,7 @@
 use Rattle.std.proofs.Common.{◌≡◌, ◌≢◌, ℕ, ◌+◌, ◌-◌, ◌*◌, ◌/◌, ◌%◌, ◌^◌, ◌<◌, ◌≤◌, ◌⊎◌, ⊎_elim, Bool, true, false, length, Option, Some, None, refl, sym, ap, ◌∙◌, subst, arith}
 use Rattle.std.specs.Prelude.{if◌then◌else◌}
 use Rattle.std.proofs.lemmas.Bool.{and_parts, cases_lt, leb-true, ltb-true}
-use Rattle.erm_machine.specs.declared.limits.TheConstants.{CELL_LIMIT, OBJECT_LIMIT}
+use Rattle.erm_machine.specs.declared.limits.TheConstants.{MOST_CELLS, OBJECT_LIMIT}
 use Rattle.erm_machine.specs.declared.task.Task.{Task}
 use Rattle.erm_machine.specs.declared.task.Task.TheVariants as task
 use Rattle.erm_machine.specs.declared.version.Version.{Version}
@@ -80,7 +80,7 @@ pub claim_fits : (o : Object) (b : Bool) (new : ℕ) → (b ≡ true → owner_o
 claim_fits o true new owned v entry h = (h.is_head.0, h.is_head.1, λ same. absurd (owned refl (ap owner_of same ∙ h.is_head.0)))
 claim_fits o false new owned v entry h = h.is_head
 
-low_same : (n : ℕ) → n < CELL_LIMIT → head_of n ≡ n
+low_same : (n : ℕ) → n < MOST_CELLS → head_of n ≡ n
 low_same n low = omega arith
 
 head_twice : (n : ℕ) → head_of (head_of n) ≡ head_of n
@@ -107,7 +107,7 @@ module _ (c : Core) (p oid head : ℕ) (sound : Sound c) (known : oid < OBJECT_L
             let seat = seat_within c sound p a.ends.taken in
             let small = own_small c sound p a.claim head seat a.ends.within a.own in
             absurd (own_in_no_chain c sound p a.claim head oid v.place seat a.ends.within a.own known h.attached h.within
-            (h.cell ∙ h.is_head.1 ∙ ap head_of (sym same) ∙ low_same head small)),
+            (h.cell ∙ h.is_head.1 ∙ ap head_of (sym same) ∙ low_same head (let limit = sound.common.counters.limit in omega (arith, small, limit)))),
       )
 
   -- END: the old head is the newest version's cell

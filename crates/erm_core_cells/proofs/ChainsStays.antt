@@ -122,16 +122,16 @@ s_settled_stamp found v word.Stamp x (task.WriteClear write) y e = when_then (St
 s_settled_stamp found v word.ReaderStamp x (task.WriteMade write) y e = when_then (Stays x) _ _ y e (λ _. lets_go_from x _ tt)
 s_settled_stamp found v _ x _ y e = absurd (cc)
 
-s_load_counter : (c : Counter) (found : ℕ) (x : Part) (t : Task) (y : Part) → load_counter c found x t ≡ Some y → Stays x y
-s_load_counter Objects found x t y e = when_then (Stays x) _ _ y e (λ _. lets_go x _ (search (bare_if, bare_from)))
-s_load_counter Cells found x task.Draws y e = when_then (Stays x) _ _ y e (λ _. lets_go x _ (search (bare_if, bare_from)))
-s_load_counter Cells found x _ y e = absurd (cc)
+s_load_counter : (cells : ℕ) (c : Counter) (found : ℕ) (x : Part) (t : Task) (y : Part) → load_counter cells c found x t ≡ Some y → Stays x y
+s_load_counter cells Objects found x t y e = when_then (Stays x) _ _ y e (λ _. lets_go x _ (search (bare_if, bare_from)))
+s_load_counter cells Cells found x task.Draws y e = when_then (Stays x) _ _ y e (λ _. lets_go x _ (search (bare_if, bare_from)))
+s_load_counter cells Cells found x _ y e = absurd (cc)
 
-s_add_counter : (seat : ℕ) (c : Counter) (found : ℕ) (x : Part) (t : Task) (y : Part) → add_counter seat c found x t ≡ Some y → Stays x y
-s_add_counter seat Objects found x task.Numbers y e = when_then (Stays x) _ _ y e (λ _. lets_go_from x _ tt)
-s_add_counter seat Cells found x task.Pool y e = when_then (Stays x) _ _ y e (λ _. lets_go x _ (search (bare_if, bare_from)))
-s_add_counter seat Objects found x _ y e = absurd (cc)
-s_add_counter seat Cells found x _ y e = absurd (cc)
+s_add_counter : (cells : ℕ) (seat : ℕ) (c : Counter) (found : ℕ) (x : Part) (t : Task) (y : Part) → add_counter cells seat c found x t ≡ Some y → Stays x y
+s_add_counter cells seat Objects found x task.Numbers y e = when_then (Stays x) _ _ y e (λ _. lets_go_from x _ tt)
+s_add_counter cells seat Cells found x task.Pool y e = when_then (Stays x) _ _ y e (λ _. lets_go x _ (search (bare_if, bare_from)))
+s_add_counter cells seat Objects found x _ y e = absurd (cc)
+s_add_counter cells seat Cells found x _ y e = absurd (cc)
 
 s_store_ring : (at value : ℕ) (x : Part) (o : Option ℕ) (y : Part) → store_ring at value x o ≡ Some y → Stays x y
 s_store_ring at value x None y e = absurd (cc)
@@ -308,8 +308,8 @@ stays_kind p (kind.Claim oid seen number) found s x y n own e = absurd n
 stays_kind p (kind.Install oid head) found s x y n own e = lets_go x y (over_install oid head x x.task y e)
 stays_kind p (kind.LoadCell v w) found s x y n own e = absurd n
 stays_kind p (kind.StoreCell place cell w value) found s x y n own e = s_store_cell place cell w value x y e
-stays_kind p (kind.LoadCounter counter) found s x y n own e = s_load_counter counter found x x.task y e
-stays_kind p (kind.AddCounter counter) found s x y n own e = s_add_counter p counter found x x.task y e
+stays_kind p (kind.LoadCounter counter) found s x y n own e = s_load_counter _ counter found x x.task y e
+stays_kind p (kind.AddCounter counter) found s x y n own e = s_add_counter _ p counter found x x.task y e
 stays_kind p (kind.SetReader v) found s x y n own e = absurd n
 stays_kind p (kind.ClearReader v) found s x y n own e = s_clear_reader v x (end_of x.task) y e
 stays_kind p (kind.LoadReaders v) found s x y n own e = s_load_readers p v found x x.task y e

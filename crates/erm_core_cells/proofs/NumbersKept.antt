@@ -5,7 +5,7 @@ use Rattle.std.proofs.Math.Nat.{mod-eq_of_lt}
 use Rattle.std.proofs.lemmas.Bool.{and_parts, cases_lt, ltb-true}
 use Rattle.std.proofs.lemmas.List.{length_push, get_or_push, get_or_append_left}
 use Rattle.std.proofs.lemmas.Option.{same_Some}
-use Rattle.erm_machine.specs.declared.limits.TheConstants.{ANNOUNCERS, CELL_LIMIT, OBJECT_LIMIT}
+use Rattle.erm_machine.specs.declared.limits.TheConstants.{ANNOUNCERS, OBJECT_LIMIT}
 use Rattle.erm_machine.specs.declared.attempt.Attempt.{Attempt}
 use Rattle.erm_machine.specs.declared.event.Counter.{Counter}
 use Rattle.erm_machine.specs.declared.event.Counter.TheVariants.{Objects, Cells}
@@ -135,7 +135,7 @@ kept_from c p y t d sound counters grows new is =
 -- the counters, where no seat is to raise one but where it stands below its limit
 counters_from : (s t : Shared) (seats : ℕ → Part) (p : ℕ) (y : Part) → t.objects_drawn ≡ s.objects_drawn → t.cells_drawn ≡ s.cells_drawn
     → (numbers y.task ≤ numbers (seats p).task) ⊎ (s.objects_drawn < OBJECT_LIMIT)
-    → (pools y.task ≤ pools (seats p).task) ⊎ (s.cells_drawn < CELL_LIMIT)
+    → (pools y.task ≤ pools (seats p).task) ⊎ (s.cells_drawn < s.cell_limit)
     → Counters s seats → Counters t (put seats p y)
 counters_from s t seats p y objects cells less_numbers less_pools old = record {
   objects =
@@ -148,7 +148,7 @@ counters_from s t seats p y objects cells less_numbers less_pools old = record {
       let h = old.cells in
       ⊎_elim
       (λ (less : pools y.task ≤ pools (seats p).task). let sum = total_falls (λ (x : Part). pools x.task) ANNOUNCERS seats p y less in omega (arith, h, sum, cells))
-      (λ (low : s.cells_drawn < CELL_LIMIT). let few = total_ones (λ (x : Part). pools x.task) ANNOUNCERS (put seats p y) (λ x. pools-le x.task) in omega (arith, few, low, cells))
+      (λ (low : s.cells_drawn < s.cell_limit). let few = total_ones (λ (x : Part). pools x.task) ANNOUNCERS (put seats p y) (λ x. pools-le x.task) in omega (arith, few, low, cells))
       less_pools;
 }
   where
@@ -180,7 +180,7 @@ same_drawn p _ found x s q = (refl, refl)
 
 -- a counter is loaded: where it lies below its limit it is to be raised
 load_kept : (c : Core) (p : ℕ) (counter : Counter) (t : Task) (y : Part) (d : Core) → Sound c → (c.seats p).task ≡ t
-    → load_counter counter (word_at c (spot_of p (kind.LoadCounter counter))) (c.seats p) t ≡ Some y
+    → load_counter c.shared.cell_limit counter (word_at c (spot_of p (kind.LoadCounter counter))) (c.seats p) t ≡ Some y
     → record { shared = c.shared; seats = put c.seats p y } ≡ d → Kept d
 load_kept c p Objects t y d sound on e =
     when_then (λ z. record { shared = c.shared; seats = put c.seats p z } ≡ d → Kept d) _ _ y e
@@ -191,21 +191,21 @@ load_kept c p Objects t y d sound on e =
     (counters_from c.shared c.shared c.seats p z refl refl
     (either_way (λ (v : Task). (numbers v ≤ numbers (c.seats p).task) ⊎ (c.shared.objects_drawn < OBJECT_LIMIT)) (ltb c.shared.objects_drawn OBJECT_LIMIT) task.Numbers task.Rest
     (λ low. inr (ltb-true c.shared.objects_drawn OBJECT_LIMIT low)) (λ _. inl (omega arith)))
-    (either_way (λ (v : Task). (pools v ≤ pools (c.seats p).task) ⊎ (c.shared.cells_drawn < CELL_LIMIT)) (ltb c.shared.objects_drawn OBJECT_LIMIT) task.Numbers task.Rest
+    (either_way (λ (v : Task). (pools v ≤ pools (c.seats p).task) ⊎ (c.shared.cells_drawn < c.shared.cell_limit)) (ltb c.shared.objects_drawn OBJECT_LIMIT) task.Numbers task.Rest
     (λ _. inl (omega arith)) (λ _. inl (omega arith)))
     sound.common.counters)
     (omega arith) (same_made c p c.shared.objects_drawn z sound (omega arith) refl) is)
 load_kept c p Cells task.Draws y d sound on e =
     when_then (λ z. record { shared = c.shared; seats = put c.seats p z } ≡ d → Kept d) _ _ y e
     (λ _ is.
-    let u : Task = if ltb c.shared.cells_drawn CELL_LIMIT then task.Pool else task.Refused in
+    let u : Task = if ltb c.shared.cells_drawn c.shared.cell_limit then task.Pool else task.Refused in
     let z : Part = record (c.seats p) { task = u } in
     kept_from c p z c.shared d sound
     (counters_from c.shared c.shared c.seats p z refl refl
-    (either_way (λ (v : Task). (numbers v ≤ numbers (c.seats p).task) ⊎ (c.shared.objects_drawn < OBJECT_LIMIT)) (ltb c.shared.cells_drawn CELL_LIMIT) task.Pool task.Refused
+    (either_way (λ (v : Task). (numbers v ≤ numbers (c.seats p).task) ⊎ (c.shared.objects_drawn < OBJECT_LIMIT)) (ltb c.shared.cells_drawn c.shared.cell_limit) task.Pool task.Refused
     (λ _. inl (omega arith)) (λ _. inl (omega arith)))
-    (either_way (λ (v : Task). (pools v ≤ pools (c.seats p).task) ⊎ (c.shared.cells_drawn < CELL_LIMIT)) (ltb c.shared.cells_drawn CELL_LIMIT) task.Pool task.Refused
-    (λ low. inr (ltb-true c.shared.cells_drawn CELL_LIMIT low)) (λ _. inl (omega arith)))
+    (either_way (λ (v : Task). (pools v ≤ pools (c.seats p).task) ⊎ (c.shared.cells_drawn < c.shared.cell_limit)) (ltb c.shared.cells_drawn c.shared.cell_limit) task.Pool task.Refused
+    (λ low. inr (ltb-true c.shared.cells_drawn c.shared.cell_limit low)) (λ _. inl (omega arith)))
     sound.common.counters)
     (omega arith) (same_made c p c.shared.objects_drawn z sound (omega arith) refl) is)
 load_kept c p Cells _ y d sound on e = absurd (cc)
@@ -285,17 +285,17 @@ record TakesCell (c : Core) (p : ℕ) (y : Part) : Type 0 where
   pub pools : pools y.task ≡ 0
   pub made : made_of y ≡ made_of (c.seats p)
 
-takes_cell : (c : Core) (p found : ℕ) (y : Part) → Sound c → add_counter p Cells found (c.seats p) task.Pool ≡ Some y → TakesCell c p y
+takes_cell : (c : Core) (p found : ℕ) (y : Part) → Sound c → add_counter c.shared.cell_limit p Cells found (c.seats p) task.Pool ≡ Some y → TakesCell c p y
 takes_cell c p found y sound e =
     when_then (TakesCell c p) _ _ y e (λ g. record {
       within = begun_below c p sound (begun_active (c.seats p).place g);
-      numbers = either_way (λ (v : Task). numbers v ≡ 0) (ltb found CELL_LIMIT) task.Fetched task.Refused (λ _. refl) (λ _. refl);
-      pools = either_way (λ (v : Task). pools v ≡ 0) (ltb found CELL_LIMIT) task.Fetched task.Refused (λ _. refl) (λ _. refl);
+      numbers = either_way (λ (v : Task). numbers v ≡ 0) (ltb found c.shared.cell_limit) task.Fetched task.Refused (λ _. refl) (λ _. refl);
+      pools = either_way (λ (v : Task). pools v ≡ 0) (ltb found c.shared.cell_limit) task.Fetched task.Refused (λ _. refl) (λ _. refl);
       made = refl;
     })
 
 add_kept : (c : Core) (p : ℕ) (counter : Counter) (t : Task) (y : Part) (d : Core) → Sound c → (c.seats p).task ≡ t
-    → add_counter p counter (word_at c (spot_of p (kind.AddCounter counter))) (c.seats p) t ≡ Some y
+    → add_counter c.shared.cell_limit p counter (word_at c (spot_of p (kind.AddCounter counter))) (c.seats p) t ≡ Some y
     → record { shared = shared_after p (kind.AddCounter counter) (word_at c (spot_of p (kind.AddCounter counter))) (c.seats p) c.shared; seats = put c.seats p y } ≡ d → Kept d
 add_kept c p Objects task.Numbers y d sound on e =
     when_then (λ z. record { shared = record c.shared { objects_drawn = (c.shared.objects_drawn + 1) % 2 ^ 64 }; seats = put c.seats p z } ≡ d → Kept d) _ _ y e

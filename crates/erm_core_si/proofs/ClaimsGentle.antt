@@ -224,11 +224,11 @@ pub g_load_detached : (found : ℕ) (v : VersionAt) (x : Part) (t : Task) (y : P
 g_load_detached found v x (task.Detaches version) y e = when_then (Gentle x _) _ _ y e (λ _. plain_task x _ _ (no_end _ tt) (detached_no_end found version x))
 g_load_detached found v x _ y e = absurd (cc)
 
-pub g_load_counter : (c : Counter) (found : ℕ) (x : Part) (t : Task) (y : Part) → load_counter c found x t ≡ Some y → Gentle x t y
-g_load_counter Objects found x t y e =
+pub g_load_counter : (cells : ℕ) (c : Counter) (found : ℕ) (x : Part) (t : Task) (y : Part) → load_counter cells c found x t ≡ Some y → Gentle x t y
+g_load_counter cells Objects found x t y e =
     when_then (Gentle x t) _ _ y e (λ g. plain_task x _ _ (start_no_end t (and_parts _ _ g).1) (search (no_end_if, no_end)))
-g_load_counter Cells found x task.Draws y e = when_then (Gentle x _) _ _ y e (λ _. plain_task x _ _ (no_end _ tt) (search (no_end_if, no_end)))
-g_load_counter Cells found x _ y e = absurd (cc)
+g_load_counter cells Cells found x task.Draws y e = when_then (Gentle x _) _ _ y e (λ _. plain_task x _ _ (no_end _ tt) (search (no_end_if, no_end)))
+g_load_counter cells Cells found x _ y e = absurd (cc)
 
 pub g_load_read_entry : (seat oid found : ℕ) (x : Part) (t : Task) (y : Part) → load_read_entry seat oid found x t ≡ Some y → Gentle x t y
 g_load_read_entry seat oid found x (task.Settles reads writes) y e =

@@ -3,7 +3,7 @@ use Rattle.std.proofs.Common.{◌≡◌, ℕ, zero, suc, ◌+◌, ◌^◌, ◌<�
 use Rattle.std.specs.Prelude.{if◌then◌else◌}
 use Rattle.std.proofs.lemmas.Bool.{and_parts, cases_eq, cases_lt, eqb-true, ltb-true, leb-true, or_cases}
 use Rattle.std.proofs.lemmas.List.Sums.{sum_by-cons}
-use Rattle.erm_machine.specs.declared.limits.TheConstants.{ANNOUNCERS, CELL_LIMIT, FLUSH_SEAT, OBJECT_LIMIT, SESSIONS}
+use Rattle.erm_machine.specs.declared.limits.TheConstants.{ANNOUNCERS, FLUSH_SEAT, OBJECT_LIMIT, SESSIONS}
 use Rattle.erm_machine.specs.declared.attempt.Attempt.{Attempt}
 use Rattle.erm_machine.specs.declared.attempt.Claim.{Claim}
 use Rattle.erm_machine.specs.declared.attempt.Decision.TheVariants.{Commit}
@@ -59,11 +59,11 @@ counted test (x ∷ xs) (suc k) d low e =
     omega (arith, here, rest)
 
 -- a sum that isn't 0 where it is 1 only under two tests
-second_test : (a b cell drawn : ℕ) → a + b ≡ cond (ltb cell drawn && ltb cell CELL_LIMIT) 1 0 → 0 < b → cell < CELL_LIMIT
-second_test a b cell drawn e positive = by_test (ltb cell drawn && ltb cell CELL_LIMIT) refl e
+second_test : (a b cell drawn limit : ℕ) → a + b ≡ cond (ltb cell drawn && ltb cell limit) 1 0 → 0 < b → cell < limit
+second_test a b cell drawn limit e positive = by_test (ltb cell drawn && ltb cell limit) refl e
   where
-    by_test : (t : Bool) → (ltb cell drawn && ltb cell CELL_LIMIT) ≡ t → a + b ≡ cond t 1 0 → cell < CELL_LIMIT
-    by_test true test f = ltb-true cell CELL_LIMIT (and_parts _ _ test).1
+    by_test : (t : Bool) → (ltb cell drawn && ltb cell limit) ≡ t → a + b ≡ cond t 1 0 → cell < limit
+    by_test true test f = ltb-true cell limit (and_parts _ _ test).1
     by_test false test f = absurd (omega (arith, f, positive))
 
 -- a seat that isn't vacant is one of the seats
@@ -82,13 +82,13 @@ seat_low c p sound taken = by_test (is_seat p) refl
     by_test false e = absurd (taken ((sound.own p).ranges.seat_of e))
 
 -- an own cell is one of the cells
-own_low : (c : Core) (p cell k : ℕ) → Sound c → ((c.seats p).place ≡ Vacant → ⊥) → is_own cell (claim_at (c.seats p).current k).own ≡ true → cell < CELL_LIMIT
+own_low : (c : Core) (p cell k : ℕ) → Sound c → ((c.seats p).place ≡ Vacant → ⊥) → is_own cell (claim_at (c.seats p).current k).own ≡ true → cell < c.shared.cell_limit
 own_low c p cell k sound taken own =
     let once = sound.common.cells.once cell in
     let mine : 0 < count_by (λ (w : Claim). is_own cell w.own) (c.seats p).current.writes =
     counted (λ (w : Claim). is_own cell w.own) (c.seats p).current.writes k no_claim (own_within cell (c.seats p).current k own) own in
     let all : own_times cell (c.seats p) ≤ total (own_times cell) ANNOUNCERS c.seats = total_at (own_times cell) ANNOUNCERS c.seats p (seat_low c p sound taken) in
-    second_test (total (chain_times cell) OBJECT_LIMIT c.shared.objects) (total (own_times cell) ANNOUNCERS c.seats) cell c.shared.cells_drawn once
+    second_test (total (chain_times cell) OBJECT_LIMIT c.shared.objects) (total (own_times cell) ANNOUNCERS c.seats) cell c.shared.cells_drawn c.shared.cell_limit once
     (let parts : 0 < own_times cell (c.seats p) = omega (arith, mine) in omega (arith, parts, all))
 
 -- the begin stamp of a decided transaction is at most its commit stamp, which lies below the tail
@@ -104,7 +104,7 @@ added_fits : (c : Core) (p oid head k : ℕ) → Sound c → is_decided (c.seats
     → step_of (c.seats p).task k ≡ 8 → oid ≡ (claim_at (c.seats p).current k).version.oid → is_own head (claim_at (c.seats p).current k).own ≡ true
     → ObjectFits c.shared.tail (installed head (Some (record { cell = head; words = own_words (claim_at (c.seats p).current k).own })) (c.shared.objects oid))
 added_fits c p oid head k sound decided within waits eight is_oid own =
-    object_installed c.shared.tail o head (record { cell = head; words = own_words w.own }) (let h = low in omega (arith, h)) refl
+    object_installed c.shared.tail o head (record { cell = head; words = own_words w.own }) (let h = low in let limit = sound.common.counters.limit in omega (arith, h, limit)) refl
     (let a = newest_is in let f = fit.first in let b = stamps.0 in let s = own_stamp in omega (arith, a, f, b, s))
     (let b = stamps.1 in let s = own_stamp in omega (arith, b, s))
     (ap (λ n. (version_at o n).words.overwriter) (sym fit.place) ∙ done.mark (omega arith) ∙ sym own_stamp)
@@ -139,7 +139,7 @@ added_fits c p oid head k sound decided within waits eight is_oid own =
     own_stamp : (own_words w.own).stamp ≡ (c.seats p).current.stamp
     own_stamp = done.stamp (omega arith)
 
-    low : head < CELL_LIMIT
+    low : head < c.shared.cell_limit
     low = own_low c p head k sound (decided_taken (c.seats p).place decided) own
 
 -- COMMIT: the version is installed
@@ -169,8 +169,9 @@ install_new_kept c p oid head d n y sound at e =
     let stays = decided_stays x.place decided in
     let over_was : claims_over x ≡ n.1 = over_known x.place x.task (length x.current.writes) stays ∙ at.0 in
     let step_is : step_of x.task n.1 ≡ 8 = at.1 n.1 ∙ step_here n.0 n.1 n.2 n.3 n.1 refl ∙ eight in
-    let low : head < CELL_LIMIT = own_low c p head n.1 sound (decided_taken x.place decided) g1.1 in
-    let short : head < 2 ^ 24 = omega (arith, low) in
+    let low : head < c.shared.cell_limit = own_low c p head n.1 sound (decided_taken x.place decided) g1.1 in
+    let limit = sound.common.counters.limit in
+    let short : head < 2 ^ 24 = omega (arith, low, limit) in
     let v : Version = record { cell = head; words = own_words (claim_at x.current n.1).own } in
     let u = installed head (Some v) (c.shared.objects oid) in
     let there : put c.shared.objects oid u (claim_at x.current n.1).version.oid ≡ u = ap (λ m. put c.shared.objects oid u m) (sym is_oid) ∙ put_same c.shared.objects oid u in

@@ -3,7 +3,6 @@ use Rattle.std.proofs.Common.{◌≡◌, ◌≢◌, ℕ, ◌+◌, ◌<◌, ◌�
 use Rattle.std.specs.Prelude.{if◌then◌else◌}
 use Rattle.std.proofs.lemmas.Bool.{and_parts, cases_lt, eqb-true, eq-eqb, ne_eqb}
 use Rattle.std.proofs.lemmas.List.{get_or_past}
-use Rattle.erm_machine.specs.declared.limits.TheConstants.{CELL_LIMIT}
 use Rattle.erm_machine.specs.declared.attempt.Attempt.{Attempt}
 use Rattle.erm_machine.specs.declared.attempt.Claim.{Claim}
 use Rattle.erm_machine.specs.declared.attempt.OwnCell.{OwnCell}
@@ -196,13 +195,13 @@ pool_soft true found x stays some own =
 pool_soft false found x stays some own =
     inl (gentle_current x _ _ _ x.spare (no_end _ tt) (no_end _ tt) (record { number = refl; begin = refl; stamp = refl; writes = refl }))
 
-pub s_add_counter : (seat : ℕ) (c : Counter) (found : ℕ) (x : Part) (t : Task) (y : Part) → WantsCell x t → add_counter seat c found x t ≡ Some y → Soft x t y
-s_add_counter seat Objects found x task.Numbers y wants e =
+pub s_add_counter : (cells : ℕ) (seat : ℕ) (c : Counter) (found : ℕ) (x : Part) (t : Task) (y : Part) → WantsCell x t → add_counter cells seat c found x t ≡ Some y → Soft x t y
+s_add_counter cells seat Objects found x task.Numbers y wants e =
     when_then (Soft x _) _ _ y e (λ _. inl (gentle_current x _ _ _ x.spare (no_end _ tt) (no_end _ tt) (record { number = refl; begin = refl; stamp = refl; writes = refl })))
-s_add_counter seat Cells found x task.Pool y wants e =
-    when_then (Soft x _) _ _ y e (λ active. pool_soft (ltb found CELL_LIMIT) found x (active_stays x.place active) wants.0 _)
-s_add_counter seat Objects found x _ y wants e = absurd (cc)
-s_add_counter seat Cells found x _ y wants e = absurd (cc)
+s_add_counter cells seat Cells found x task.Pool y wants e =
+    when_then (Soft x _) _ _ y e (λ active. pool_soft (ltb found cells) found x (active_stays x.place active) wants.0 _)
+s_add_counter cells seat Objects found x _ y wants e = absurd (cc)
+s_add_counter cells seat Cells found x _ y wants e = absurd (cc)
 
 -- the newest claim is rated, and may get a spare cell before
 s_active_stamp : (found : ℕ) (v : VersionAt) (w : CellWord) (x : Part) (t : Task) (y : Part) → NotLeaving x.place → WantsCell x t → load_active_stamp found v w x t ≡ Some y → Soft x t y

@@ -93,18 +93,18 @@ pub calm_load_detached : (found : ℕ) (v : VersionAt) (x : Part) (t : Task) (y 
 calm_load_detached found v x (task.Detaches version) y e = when_then (Calm x _) _ _ y e (λ _. calm_task x _ _ (detached_free found version x))
 calm_load_detached found v x _ y e = absurd (cc)
 
-pub calm_load_counter : (n : Counter) (found : ℕ) (x : Part) (t : Task) (y : Part) → load_counter n found x t ≡ Some y → Calm x t y
-calm_load_counter Objects found x t y e = when_then (Calm x _) _ _ y e (λ _. calm_task x _ _ (search (free_if, free_from)))
-calm_load_counter Cells found x task.Draws y e = when_then (Calm x _) _ _ y e (λ _. calm_task x _ _ (search (free_if, free_from)))
-calm_load_counter Cells found x _ y e = absurd (cc)
+pub calm_load_counter : (cells : ℕ) (n : Counter) (found : ℕ) (x : Part) (t : Task) (y : Part) → load_counter cells n found x t ≡ Some y → Calm x t y
+calm_load_counter cells Objects found x t y e = when_then (Calm x _) _ _ y e (λ _. calm_task x _ _ (search (free_if, free_from)))
+calm_load_counter cells Cells found x task.Draws y e = when_then (Calm x _) _ _ y e (λ _. calm_task x _ _ (search (free_if, free_from)))
+calm_load_counter cells Cells found x _ y e = absurd (cc)
 
-pub calm_add_counter : (p : ℕ) (n : Counter) (found : ℕ) (x : Part) (t : Task) (y : Part) → IsCurrent x.place x.current → add_counter p n found x t ≡ Some y → Calm x t y
-calm_add_counter p Objects found x task.Numbers y cur e =
+pub calm_add_counter : (cells : ℕ) (p : ℕ) (n : Counter) (found : ℕ) (x : Part) (t : Task) (y : Part) → IsCurrent x.place x.current → add_counter cells p n found x t ≡ Some y → Calm x t y
+calm_add_counter cells p Objects found x task.Numbers y cur e =
     when_then (Calm x _) _ _ y e (λ _. calm_current x _ _ refl refl refl refl (keeps_same x _ refl) (free_from _ tt tt))
-calm_add_counter p Cells found x task.Pool y cur e =
+calm_add_counter cells p Cells found x task.Pool y cur e =
     when_then (Calm x _) _ _ y e (λ g. calm_current x _ _ refl refl refl refl (keeps_unsealed x _ (active_unsealed x.place x.current cur g)) (search (free_if, free_from)))
-calm_add_counter p Objects found x _ y cur e = absurd (cc)
-calm_add_counter p Cells found x _ y cur e = absurd (cc)
+calm_add_counter cells p Objects found x _ y cur e = absurd (cc)
+calm_add_counter cells p Cells found x _ y cur e = absurd (cc)
 
 pub calm_raise_reader : (v : VersionAt) (value : ℕ) (x : Part) (t : Task) (y : Part) → raise_reader v value x t ≡ Some y → Calm x t y
 calm_raise_reader v value x (task.Ends raised ended step cleared) y e = when_then (Calm x _) _ _ y e (λ _. calm_task x _ _ (free_from _ tt tt))

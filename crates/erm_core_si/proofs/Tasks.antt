@@ -139,16 +139,16 @@ t_load_detached : (found : ℕ) (v : VersionAt) (x : Part) (t : Task) (y : Part)
 t_load_detached found v x (task.Detaches version) y e = when_then OwnTask _ _ y e (λ g. working _ (first _ _ g) (detached_works found version x))
 t_load_detached found v x _ y e = absurd (cc)
 
-t_load_counter : (c : Counter) (found : ℕ) (x : Part) (t : Task) (y : Part) → load_counter c found x t ≡ Some y → OwnTask y
-t_load_counter Objects found x t y e = when_then OwnTask _ _ y e (λ g. working _ (first _ _ g) (search (works_if, works_from)))
-t_load_counter Cells found x task.Draws y e = when_then OwnTask _ _ y e (λ g. working _ (first _ _ g) (search (works_if, works_from)))
-t_load_counter Cells found x _ y e = absurd (cc)
+t_load_counter : (cells : ℕ) (c : Counter) (found : ℕ) (x : Part) (t : Task) (y : Part) → load_counter cells c found x t ≡ Some y → OwnTask y
+t_load_counter cells Objects found x t y e = when_then OwnTask _ _ y e (λ g. working _ (first _ _ g) (search (works_if, works_from)))
+t_load_counter cells Cells found x task.Draws y e = when_then OwnTask _ _ y e (λ g. working _ (first _ _ g) (search (works_if, works_from)))
+t_load_counter cells Cells found x _ y e = absurd (cc)
 
-t_add_counter : (seat : ℕ) (c : Counter) (found : ℕ) (x : Part) (t : Task) (y : Part) → add_counter seat c found x t ≡ Some y → OwnTask y
-t_add_counter seat Objects found x task.Numbers y e = when_then OwnTask _ _ y e (λ g. working _ (first _ _ g) (works_from _ tt))
-t_add_counter seat Cells found x task.Pool y e = when_then OwnTask _ _ y e (λ g. working _ g (search (works_if, works_from)))
-t_add_counter seat Objects found x _ y e = absurd (cc)
-t_add_counter seat Cells found x _ y e = absurd (cc)
+t_add_counter : (cells : ℕ) (seat : ℕ) (c : Counter) (found : ℕ) (x : Part) (t : Task) (y : Part) → add_counter cells seat c found x t ≡ Some y → OwnTask y
+t_add_counter cells seat Objects found x task.Numbers y e = when_then OwnTask _ _ y e (λ g. working _ (first _ _ g) (works_from _ tt))
+t_add_counter cells seat Cells found x task.Pool y e = when_then OwnTask _ _ y e (λ g. working _ g (search (works_if, works_from)))
+t_add_counter cells seat Objects found x _ y e = absurd (cc)
+t_add_counter cells seat Cells found x _ y e = absurd (cc)
 
 t_active_stamp : (found : ℕ) (v : VersionAt) (w : CellWord) (x : Part) (t : Task) (y : Part) → is_active x.place ≡ true → load_active_stamp found v w x t ≡ Some y → OwnTask y
 t_active_stamp found v word.Overwriter x (task.Registered version) y at e = when_then OwnTask _ _ y e (λ _. working _ at (search (works_if, works_from)))
@@ -455,8 +455,8 @@ task_after p (kind.Claim oid seen number) found s x y own e = t_claim p oid seen
 task_after p (kind.Install oid head) found s x y own e = t_install oid head x x.task y refl own e
 task_after p (kind.LoadCell v w) found s x y own e = t_load_cell found v w x y own (unless_some _ _ y e)
 task_after p (kind.StoreCell place cell w value) found s x y own e = t_store_cell place cell w value x y e
-task_after p (kind.LoadCounter counter) found s x y own e = t_load_counter counter found x x.task y e
-task_after p (kind.AddCounter counter) found s x y own e = t_add_counter p counter found x x.task y e
+task_after p (kind.LoadCounter counter) found s x y own e = t_load_counter _ counter found x x.task y e
+task_after p (kind.AddCounter counter) found s x y own e = t_add_counter _ p counter found x x.task y e
 task_after p (kind.SetReader v) found s x y own e = t_set_reader p v (s.objects v.oid) x x.task y e
 task_after p (kind.ClearReader v) found s x y own e = t_clear_reader v x (end_of x.task) y refl own e
 task_after p (kind.LoadReaders v) found s x y own e = t_load_readers p v found x x.task y e

@@ -144,11 +144,11 @@ module _ (c : Core) (p : ℕ) (sound : Sound c) where
       when_then (Leaves c p) _ _ y e (λ _. free_step _ refl refl refl (on_from _ at tt) (free_detached found version (c.seats p)))
   detached_leaves found v _ y at e = absurd (cc)
 
-  pub load_counter_leaves : (n : Counter) (found : ℕ) (t : Task) (y : Part) → (c.seats p).task ≡ t → load_counter n found (c.seats p) t ≡ Some y → Leaves c p y
-  load_counter_leaves Objects found t y at e =
+  pub load_counter_leaves : (cells : ℕ) (n : Counter) (found : ℕ) (t : Task) (y : Part) → (c.seats p).task ≡ t → load_counter cells n found (c.seats p) t ≡ Some y → Leaves c p y
+  load_counter_leaves cells Objects found t y at e =
       when_then (Leaves c p) _ _ y e (λ g. free_step _ refl refl refl (on_from t at (starts_not_ends t (and_parts _ _ g).1)) (search (free_if, free_from)))
-  load_counter_leaves Cells found task.Draws y at e = when_then (Leaves c p) _ _ y e (λ _. free_step _ refl refl refl (on_from _ at tt) (search (free_if, free_from)))
-  load_counter_leaves Cells found _ y at e = absurd (cc)
+  load_counter_leaves cells Cells found task.Draws y at e = when_then (Leaves c p) _ _ y e (λ _. free_step _ refl refl refl (on_from _ at tt) (search (free_if, free_from)))
+  load_counter_leaves cells Cells found _ y at e = absurd (cc)
 
   -- ends
   or_left : (a b : Bool) → a ≡ true → (a || b) ≡ true

@@ -15,7 +15,6 @@ use Rattle.erm_machine.specs.declared.attempt.Read.{Read}
 use Rattle.erm_machine.specs.declared.event.Counter.{Counter}
 use Rattle.erm_machine.specs.declared.event.Counter.TheVariants.{Objects, Cells}
 use Rattle.erm_machine.specs.declared.event.Kind.TheVariants as kind
-use Rattle.erm_machine.specs.declared.limits.TheConstants.{CELL_LIMIT}
 use Rattle.erm_machine.specs.declared.part.Part.{Part}
 use Rattle.erm_machine.specs.declared.task.Task.{Task}
 use Rattle.erm_machine.specs.declared.task.Task.TheVariants as task
@@ -279,13 +278,13 @@ module _ (c : Core) (p : ℕ) (sound : Sound c) where
   pool_leaves found false active at =
       writes_leaves c p sound _ active (subst NotEnds (sym at) tt) refl refl refl refl refl refl (claims_same (c.seats p).current _ refl) (free_from _ tt)
 
-  pub add_counter_leaves : (n : Counter) (found : ℕ) (t : Task) (y : Part) → (c.seats p).task ≡ t → add_counter p n found (c.seats p) t ≡ Some y → Leaves c p y
-  add_counter_leaves Objects found task.Numbers y at e =
+  pub add_counter_leaves : (cells : ℕ) (n : Counter) (found : ℕ) (t : Task) (y : Part) → (c.seats p).task ≡ t → add_counter cells p n found (c.seats p) t ≡ Some y → Leaves c p y
+  add_counter_leaves cells Objects found task.Numbers y at e =
       when_then (Leaves c p) _ _ y e (λ g.
       writes_leaves c p sound _ (first _ _ g) (subst NotEnds (sym at) tt) refl refl refl refl refl refl (claims_same (c.seats p).current _ refl) (free_from _ tt))
-  add_counter_leaves Cells found task.Pool y at e = when_then (Leaves c p) _ _ y e (λ g. pool_leaves found (ltb found CELL_LIMIT) g at)
-  add_counter_leaves Objects found _ y at e = absurd (cc)
-  add_counter_leaves Cells found _ y at e = absurd (cc)
+  add_counter_leaves cells Cells found task.Pool y at e = when_then (Leaves c p) _ _ y e (λ g. pool_leaves found (ltb found cells) g at)
+  add_counter_leaves cells Objects found _ y at e = absurd (cc)
+  add_counter_leaves cells Cells found _ y at e = absurd (cc)
 
   -- a version is registered
   pub set_reader_leaves : (v : VersionAt) (t : Task) (y : Part) → (c.seats p).task ≡ t → set_reader p v (c.shared.objects v.oid) (c.seats p) t ≡ Some y → Leaves c p y

@@ -1,7 +1,6 @@
 -- Kinds of steps after which the claims of a seat's transactions are as before.
 use Rattle.std.proofs.Common.{◌≡◌, ℕ, Bool, true, false, List, set, Option, Some, None, refl, sym, ◌∙◌}
 use Rattle.std.specs.Prelude.{if◌then◌else◌, nat_lt}
-use Rattle.erm_machine.specs.declared.limits.TheConstants.{CELL_LIMIT}
 use Rattle.erm_machine.specs.declared.attempt.Decision.TheVariants.{Commit}
 use Rattle.erm_machine.specs.declared.attempt.Claim.{Claim}
 use Rattle.erm_machine.specs.declared.event.Counter.{Counter}
@@ -92,10 +91,10 @@ pub s_load_detached : (found : ℕ) (v : VersionAt) (x : Part) (t : Task) (y : P
 s_load_detached found v x (task.Detaches version) y e = when_then (Same x) _ _ y e (λ _. still x _ refl refl)
 s_load_detached found v x _ y e = absurd (cc)
 
-pub s_load_counter : (n : Counter) (found : ℕ) (x : Part) (t : Task) (y : Part) → load_counter n found x t ≡ Some y → Same x y
-s_load_counter Objects found x t y e = when_then (Same x) _ _ y e (λ _. still x _ refl refl)
-s_load_counter Cells found x task.Draws y e = when_then (Same x) _ _ y e (λ _. still x _ refl refl)
-s_load_counter Cells found x _ y e = absurd (cc)
+pub s_load_counter : (cells : ℕ) (n : Counter) (found : ℕ) (x : Part) (t : Task) (y : Part) → load_counter cells n found x t ≡ Some y → Same x y
+s_load_counter cells Objects found x t y e = when_then (Same x) _ _ y e (λ _. still x _ refl refl)
+s_load_counter cells Cells found x task.Draws y e = when_then (Same x) _ _ y e (λ _. still x _ refl refl)
+s_load_counter cells Cells found x _ y e = absurd (cc)
 
 -- the newest claim gets its cell, or there is none
 drawn_cell : (x y : Part) (b : Bool) (v : Claim) → y.over ≡ x.over → (x.current.decision ≡ Commit → ⊥) → y.current.decision ≡ x.current.decision
@@ -107,12 +106,12 @@ drawn_cell x y true v over free decision writes version stamp =
 drawn_cell x y false v over free decision writes version stamp =
     same_open x y over free (λ committed. free (sym decision ∙ committed)) (before_same x.current y.current writes)
 
-pub s_add_counter : (p : ℕ) (n : Counter) (found : ℕ) (x : Part) (t : Task) (y : Part) → IsCurrent x.place x.current → add_counter p n found x t ≡ Some y → Same x y
-s_add_counter p Objects found x task.Numbers y cur e = when_then (Same x) _ _ y e (λ _. same_work x _ refl refl refl refl refl)
-s_add_counter p Cells found x task.Pool y cur e =
-    when_then (Same x) _ _ y e (λ g. drawn_cell x _ (nat_lt found CELL_LIMIT) _ refl (active_open x.place x.current cur g) refl refl refl refl)
-s_add_counter p Objects found x _ y cur e = absurd (cc)
-s_add_counter p Cells found x _ y cur e = absurd (cc)
+pub s_add_counter : (cells : ℕ) (p : ℕ) (n : Counter) (found : ℕ) (x : Part) (t : Task) (y : Part) → IsCurrent x.place x.current → add_counter cells p n found x t ≡ Some y → Same x y
+s_add_counter cells p Objects found x task.Numbers y cur e = when_then (Same x) _ _ y e (λ _. same_work x _ refl refl refl refl refl)
+s_add_counter cells p Cells found x task.Pool y cur e =
+    when_then (Same x) _ _ y e (λ g. drawn_cell x _ (nat_lt found cells) _ refl (active_open x.place x.current cur g) refl refl refl refl)
+s_add_counter cells p Objects found x _ y cur e = absurd (cc)
+s_add_counter cells p Cells found x _ y cur e = absurd (cc)
 
 pub s_raise_reader : (v : VersionAt) (value : ℕ) (x : Part) (t : Task) (y : Part) → raise_reader v value x t ≡ Some y → Same x y
 s_raise_reader v value x (task.Ends raised ended step cleared) y e = when_then (Same x) _ _ y e (λ _. still x _ refl refl)

@@ -53,9 +53,9 @@ left_of c p (kind.LoadEntry oid) d sound none m =
 left_of c p (kind.LoadCell v w) d sound none m = left_calm c p sound m.part (s_load_cell (word_at c (spot_of p (kind.LoadCell v w))) v w (c.seats p) m.part (unless_some _ _ m.part m.after))
 left_of c p (kind.StoreCell place cell w value) d sound none m = left_calm c p sound m.part (s_store_cell place cell w value (c.seats p) m.part m.after)
 left_of c p (kind.LoadCounter counter) d sound none m =
-    left_calm c p sound m.part (s_load_counter counter (word_at c (spot_of p (kind.LoadCounter counter))) (c.seats p) (c.seats p).task m.part m.after)
+    left_calm c p sound m.part (s_load_counter _ counter (word_at c (spot_of p (kind.LoadCounter counter))) (c.seats p) (c.seats p).task m.part m.after)
 left_of c p (kind.AddCounter counter) d sound none m =
-    left_calm c p sound m.part (s_add_counter p counter (word_at c (spot_of p (kind.AddCounter counter))) (c.seats p) (c.seats p).task m.part (sound.own p).ranges.current m.after)
+    left_calm c p sound m.part (s_add_counter _ p counter (word_at c (spot_of p (kind.AddCounter counter))) (c.seats p) (c.seats p).task m.part (sound.own p).ranges.current m.after)
 left_of c p (kind.SetReader v) d sound none m = left_calm c p sound m.part (s_set_reader p v (c.shared.objects v.oid) (c.seats p) (c.seats p).task m.part m.after)
 left_of c p (kind.ClearReader v) d sound none m = left_calm c p sound m.part (s_clear_reader v (c.seats p) m.part m.after)
 left_of c p (kind.LoadReaders v) d sound none m =

@@ -155,20 +155,20 @@ calm_load_detached : (found : ℕ) (v : VersionAt) (x : Part) (t : Task) (y : Pa
 calm_load_detached found v x (task.Detaches version) y e = when_then (Calm x _) _ _ y e (λ _. calm_to x _ _ refl (still_from _ refl refl) (detached_still found version x))
 calm_load_detached found v x _ y e = absurd (cc)
 
-calm_load_counter : (n : Counter) (found : ℕ) (x : Part) (t : Task) (y : Part) → load_counter n found x t ≡ Some y → Calm x t y
-calm_load_counter Objects found x t y e =
+calm_load_counter : (cells : ℕ) (n : Counter) (found : ℕ) (x : Part) (t : Task) (y : Part) → load_counter cells n found x t ≡ Some y → Calm x t y
+calm_load_counter cells Objects found x t y e =
     when_then (Calm x _) _ _ y e (λ g. calm_to x _ _ refl (start_still t (and_parts _ _ g).1) (search (still_if, still_from)))
-calm_load_counter Cells found x task.Draws y e =
+calm_load_counter cells Cells found x task.Draws y e =
     when_then (Calm x _) _ _ y e (λ _. calm_to x _ _ refl (still_from _ refl refl) (search (still_if, still_from)))
-calm_load_counter Cells found x _ y e = absurd (cc)
+calm_load_counter cells Cells found x _ y e = absurd (cc)
 
-calm_add_counter : (p : ℕ) (n : Counter) (found : ℕ) (x : Part) (t : Task) (y : Part) → add_counter p n found x t ≡ Some y → Calm x t y
-calm_add_counter p Objects found x task.Numbers y e =
+calm_add_counter : (cells : ℕ) (p : ℕ) (n : Counter) (found : ℕ) (x : Part) (t : Task) (y : Part) → add_counter cells p n found x t ≡ Some y → Calm x t y
+calm_add_counter cells p Objects found x task.Numbers y e =
     when_then (Calm x _) _ _ y e (λ _. calm_to x _ _ refl (still_from _ refl refl) (still_from _ refl refl))
-calm_add_counter p Cells found x task.Pool y e =
+calm_add_counter cells p Cells found x task.Pool y e =
     when_then (Calm x _) _ _ y e (λ _. calm_to x _ _ refl (still_from _ refl refl) (search (still_if, still_from)))
-calm_add_counter p Objects found x _ y e = absurd (cc)
-calm_add_counter p Cells found x _ y e = absurd (cc)
+calm_add_counter cells p Objects found x _ y e = absurd (cc)
+calm_add_counter cells p Cells found x _ y e = absurd (cc)
 
 calm_active_stamp : (found : ℕ) (v : VersionAt) (w : CellWord) (x : Part) (t : Task) (y : Part) → load_active_stamp found v w x t ≡ Some y → Calm x t y
 calm_active_stamp found v word.Overwriter x (task.Registered version) y e =
@@ -355,8 +355,8 @@ calm_kind p (kind.Claim oid seen number) found s x y q e = calm_claim p oid seen
 calm_kind p (kind.Install oid head) found s x y q e = calm_install oid head x x.task y e
 calm_kind p (kind.LoadCell v w) found s x y q e = calm_load_cell found v w x y (unless_some _ _ y e)
 calm_kind p (kind.StoreCell place cell w value) found s x y q e = calm_store_cell place cell w value x y e
-calm_kind p (kind.LoadCounter counter) found s x y q e = calm_load_counter counter found x x.task y e
-calm_kind p (kind.AddCounter counter) found s x y q e = calm_add_counter p counter found x x.task y e
+calm_kind p (kind.LoadCounter counter) found s x y q e = calm_load_counter _ counter found x x.task y e
+calm_kind p (kind.AddCounter counter) found s x y q e = calm_add_counter _ p counter found x x.task y e
 calm_kind p (kind.LoadReaders v) found s x y q e = calm_load_readers p v found x x.task y e
 calm_kind p (kind.LoadStamp v w) found s x y q e = calm_load_stamp found v w x y e
 calm_kind p (kind.StoreSucc v value) found s x y q e = calm_mark 6 v value x.current.succ x x.task y e

@@ -205,11 +205,11 @@ pub goes_load_detached : (found : ℕ) (v : VersionAt) (x : Part) (t : Task) (y 
 goes_load_detached found v x (task.Detaches version) y e = when_then (Goes x _) _ _ y e (λ _. goes_full x _ _ tt (detached_full found version x))
 goes_load_detached found v x _ y e = absurd (cc)
 
-pub goes_load_counter : (n : Counter) (found : ℕ) (x : Part) (t : Task) (y : Part) → load_counter n found x t ≡ Some y → Goes x t y
-goes_load_counter Objects found x t y e =
+pub goes_load_counter : (cells : ℕ) (n : Counter) (found : ℕ) (x : Part) (t : Task) (y : Part) → load_counter cells n found x t ≡ Some y → Goes x t y
+goes_load_counter cells Objects found x t y e =
     when_then (Goes x _) _ _ y e (λ g. goes_task x _ _ (step_full x.place _ _ (start_full t (and_parts _ _ g).1) (search (full_if, full_from))))
-goes_load_counter Cells found x task.Draws y e = when_then (Goes x _) _ _ y e (λ _. goes_full x _ _ tt (search (full_if, full_from)))
-goes_load_counter Cells found x _ y e = absurd (cc)
+goes_load_counter cells Cells found x task.Draws y e = when_then (Goes x _) _ _ y e (λ _. goes_full x _ _ tt (search (full_if, full_from)))
+goes_load_counter cells Cells found x _ y e = absurd (cc)
 
 -- settle
 pub goes_load_read_entry : (seat oid found : ℕ) (x : Part) (t : Task) (y : Part) → load_read_entry seat oid found x t ≡ Some y → Goes x t y

@@ -106,8 +106,8 @@ plain_own c p (kind.Claim oid seen number) d r none sound m e is old =
 plain_own c p (kind.Install oid head) d r none sound m e is old = absurd none
 plain_own c p (kind.LoadCell v w) d r none sound m e is old = goes_own r (c.seats p) m.part (goes_load_cell _ v w (c.seats p) m.part (unless_some _ _ m.part m.after)) old
 plain_own c p (kind.StoreCell place cell w value) d r none sound m e is old = store_cell_own r place cell w value (c.seats p) m.part (given c p sound) m.after old
-plain_own c p (kind.LoadCounter counter) d r none sound m e is old = goes_own r (c.seats p) m.part (goes_load_counter counter _ (c.seats p) (c.seats p).task m.part m.after) old
-plain_own c p (kind.AddCounter counter) d r none sound m e is old = add_counter_own r p counter _ (c.seats p) (c.seats p).task m.part (given c p sound) refl m.after old
+plain_own c p (kind.LoadCounter counter) d r none sound m e is old = goes_own r (c.seats p) m.part (goes_load_counter _ counter _ (c.seats p) (c.seats p).task m.part m.after) old
+plain_own c p (kind.AddCounter counter) d r none sound m e is old = add_counter_own _ r p counter _ (c.seats p) (c.seats p).task m.part (given c p sound) refl m.after old
 plain_own c p (kind.SetReader v) d r none sound m e is old = goes_own r (c.seats p) m.part (goes_set_reader p v (c.shared.objects v.oid) (c.seats p) (c.seats p).task m.part m.after) old
 plain_own c p (kind.ClearReader v) d r none sound m e is old =
     goes_own r (c.seats p) m.part (goes_clear_reader v (c.seats p) (c.seats p).task (end_of (c.seats p).task) m.part (sound.own p).task.fits m.after) old

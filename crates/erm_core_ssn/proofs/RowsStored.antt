@@ -167,14 +167,14 @@ drawn_own r x true own given at active size old =
 drawn_own r x false own given at active size old =
     goes_at r x task.Pool _ at (goes_current x task.Pool task.Refused x.current refl refl refl refl (step_full x.place task.Pool task.Refused (full_from _ tt) (full_from _ tt))) old
 
-pub add_counter_own : (r : Shared) (seat : ℕ) (n : Counter) (found : ℕ) (x : Part) (t : Task) (y : Part) → Given x → x.task ≡ t → add_counter seat n found x t ≡ Some y → OwnWritten r x → OwnWritten r y
-add_counter_own r seat Objects found x task.Numbers y given at e old =
+pub add_counter_own : (cells : ℕ) (r : Shared) (seat : ℕ) (n : Counter) (found : ℕ) (x : Part) (t : Task) (y : Part) → Given x → x.task ≡ t → add_counter cells seat n found x t ≡ Some y → OwnWritten r x → OwnWritten r y
+add_counter_own cells r seat Objects found x task.Numbers y given at e old =
     when_then (OwnWritten r) _ _ y e (λ _.
     goes_at r x task.Numbers _ at (goes_current x task.Numbers task.Rest _ refl refl refl refl (step_full x.place task.Numbers task.Rest (full_from _ tt) (full_from _ tt))) old)
-add_counter_own r seat Cells found x task.Pool y given at e old =
+add_counter_own cells r seat Cells found x task.Pool y given at e old =
     when_then (OwnWritten r) _ _ y e (λ active. drawn_own r x _ (record { cell = found; words = blank_cell }) given at active refl old)
-add_counter_own r seat Objects found x _ y given at e old = absurd (cc)
-add_counter_own r seat Cells found x _ y given at e old = absurd (cc)
+add_counter_own cells r seat Objects found x _ y given at e old = absurd (cc)
+add_counter_own cells r seat Cells found x _ y given at e old = absurd (cc)
 
 -- the spare cell that is last
 last_spare : (os : List OwnCell) (d : OwnCell) → 0 < length os → get_or os (length os - 1) d ∈ os

@@ -2,6 +2,7 @@
 use Rattle.std.proofs.Common.{◌≡◌, ℕ, ◌<◌, ◌≤◌, true, length, sym, ap, ◌∙◌, subst, arith}
 use Rattle.std.proofs.lemmas.Option.{slice_get-get_or, slice_get_within, get_or_from_slice_get}
 use Rattle.erm_model.specs.Member.{◌∈◌}
+use Rattle.erm_machine.specs.declared.limits.TheConstants.{OBJECT_LIMIT}
 use Rattle.erm_machine.specs.declared.attempt.Attempt.{Attempt}
 use Rattle.erm_machine.specs.declared.attempt.Claim.{Claim}
 use Rattle.erm_machine.specs.declared.place.Place.{Place}
@@ -88,7 +89,7 @@ pub works_begun : (c : Core) (p : ℕ) → Sound c → Works (c.seats p).task �
 works_begun c p sound w = active_then (c.seats p).place (c.seats p).current (c.seats p).task (sound.own p).task.fits w
 
 -- a version whose newer ones all have stamps at or above a begin stamp is attached
-pub begun_attached : (c : Core) (p oid place : ℕ) → Sound c → oid < 1024 → HasBegun (c.seats p).place →
+pub begun_attached : (c : Core) (p oid place : ℕ) → Sound c → oid < OBJECT_LIMIT → HasBegun (c.seats p).place →
     NewerFrom (c.shared.objects oid) place (c.seats p).current.begin → (c.shared.objects oid).cut ≤ place
 begun_attached c p oid place sound known begun newer =
     let below = (sound.own p).attached.below oid known begun in

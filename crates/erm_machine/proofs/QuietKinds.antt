@@ -159,11 +159,11 @@ pub q_load_detached : (found : ℕ) (v : VersionAt) (x : Part) (t : Task) (y : P
 q_load_detached found v x (task.Detaches version) y e = when_then (Quiet x _) _ _ y e (λ _. to_plain x _ _ (detached_plain found version x))
 q_load_detached found v x _ y e = absurd (cc)
 
-pub q_load_counter : (c : Counter) (found : ℕ) (x : Part) (t : Task) (y : Part) → load_counter c found x t ≡ Some y → Quiet x t y
-q_load_counter Objects found x t y e = when_then (Quiet x _) _ _ y e (λ _. to_plain x _ _ (search (plain_if, plain_from)))
-q_load_counter Cells found x task.Draws y e =
+pub q_load_counter : (cells : ℕ) (c : Counter) (found : ℕ) (x : Part) (t : Task) (y : Part) → load_counter cells c found x t ≡ Some y → Quiet x t y
+q_load_counter cells Objects found x t y e = when_then (Quiet x _) _ _ y e (λ _. to_plain x _ _ (search (plain_if, plain_from)))
+q_load_counter cells Cells found x task.Draws y e =
     when_then (Quiet x _) _ _ y e (λ _. to_plain x _ _ (search (plain_if, plain_from)))
-q_load_counter Cells found x _ y e = absurd (cc)
+q_load_counter cells Cells found x _ y e = absurd (cc)
 
 working_writes : (b : Bool) (t : Attempt) (place : ℕ) (w : Claim) → Working t (record t { writes = if b then set t.writes place w else t.writes })
 working_writes b t place w = record {
@@ -175,15 +175,15 @@ working_writes b t place w = record {
   few = λ f. either_way (λ ws. length ws ≤ WRITE_LIMIT) b (set t.writes place w) t.writes (λ _. omega (arith, length-set t.writes place w)) (λ _. f);
 }
 
-pub q_add_counter : (seat : ℕ) (c : Counter) (found : ℕ) (x : Part) (t : Task) (y : Part) → add_counter seat c found x t ≡ Some y → Quiet x t y
-q_add_counter seat Objects found x task.Numbers y e =
+pub q_add_counter : (cells : ℕ) (seat : ℕ) (c : Counter) (found : ℕ) (x : Part) (t : Task) (y : Part) → add_counter cells seat c found x t ≡ Some y → Quiet x t y
+q_add_counter cells seat Objects found x task.Numbers y e =
     when_then (Quiet x _) _ _ y e (λ g. working x _ _ _ (begun_active x.place (first _ _ g)) (record { plain = refl })
     (record { number = refl; begin = refl; stamp = refl; size = refl; decision = refl; few = λ f. f }))
-q_add_counter seat Cells found x task.Pool y e =
+q_add_counter cells seat Cells found x task.Pool y e =
     when_then (Quiet x _) _ _ y e (λ g. working x _ _ _ (begun_active x.place g) (search (plain_if, plain_from))
     (working_writes _ x.current _ _))
-q_add_counter seat Objects found x _ y e = absurd (cc)
-q_add_counter seat Cells found x _ y e = absurd (cc)
+q_add_counter cells seat Objects found x _ y e = absurd (cc)
+q_add_counter cells seat Cells found x _ y e = absurd (cc)
 
 q_active_stamp : (found : ℕ) (v : VersionAt) (w : CellWord) (x : Part) (t : Task) (y : Part) → HasBegun x.place → load_active_stamp found v w x t ≡ Some y → Quiet x t y
 q_active_stamp found v word.Overwriter x (task.Registered version) y b e =
@@ -382,8 +382,8 @@ quiet_kind p (kind.Claim oid seen number) found s x y q e = q_claim p oid seen n
 quiet_kind p (kind.Install oid head) found s x y q e = q_install oid head x x.task y e
 quiet_kind p (kind.LoadCell v w) found s x y q e = q_load_cell found v w x y (unless_some _ _ y e)
 quiet_kind p (kind.StoreCell place cell w value) found s x y q e = q_store_cell place cell w value x y e
-quiet_kind p (kind.LoadCounter counter) found s x y q e = q_load_counter counter found x x.task y e
-quiet_kind p (kind.AddCounter counter) found s x y q e = q_add_counter p counter found x x.task y e
+quiet_kind p (kind.LoadCounter counter) found s x y q e = q_load_counter _ counter found x x.task y e
+quiet_kind p (kind.AddCounter counter) found s x y q e = q_add_counter _ p counter found x x.task y e
 quiet_kind p (kind.SetReader v) found s x y q e = q_set_reader p v (s.objects v.oid) x x.task y e
 quiet_kind p (kind.ClearReader v) found s x y q e = q_clear_reader v x x.task (end_of x.task) y e
 quiet_kind p (kind.LoadReaders v) found s x y q e = q_load_readers p v found x x.task y e

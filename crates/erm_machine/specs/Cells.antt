@@ -1,6 +1,6 @@
 -- Cells: each cell drawn is in one place.
 use Rattle.std.specs.Prelude.{◌≡◌, ℕ, ◌+◌, ◌<◌, ◌==◌, nat_lt, true, ◌&&◌, if◌then◌else◌, drop, length, count_by, is_none}
-use Rattle.erm_machine.specs.declared.limits.TheConstants.{ANNOUNCERS, CELL_LIMIT, OBJECT_LIMIT}
+use Rattle.erm_machine.specs.declared.limits.TheConstants.{ANNOUNCERS, OBJECT_LIMIT}
 use Rattle.erm_machine.specs.declared.part.Part.{Part}
 use Rattle.erm_machine.specs.declared.task.Task.{Task}
 use Rattle.erm_machine.specs.declared.task.Task.TheVariants as task
@@ -19,7 +19,7 @@ chain_times cell o = count_by (λ v. v.cell == cell) (drop o.cut o.versions)
 -- Each cell drawn stands once, in one chain or among one seat's own; one that isn't drawn stands nowhere.
 pub record Cells (s : Shared) (seats : ℕ → Part) : Type 0 where
   pub once : (cell : ℕ) → total (chain_times cell) OBJECT_LIMIT s.objects + total (own_times cell) ANNOUNCERS seats
-      ≡ (if nat_lt cell s.cells_drawn && nat_lt cell CELL_LIMIT then 1 else 0)
+      ≡ (if nat_lt cell s.cells_drawn && nat_lt cell s.cell_limit then 1 else 0)
 
 -- the newest claim is still without a cell
 abbrev pub WantsCell : Part → Task → Type 0

@@ -31,9 +31,11 @@ pub record Object : Type 0 where
   pub cut : ℕ
 
 -- what several seats change: the tail and the ranges drawn below it since this opening, in order; the place below which
--- all is synced; the counters; the objects; the ring of the log's last words. The log of this opening begins at `opening`.
+-- all is synced; the counters; the objects; the ring of the log's last words. The log of this opening begins at `opening`,
+-- and it has `cell_limit` cells.
 pub record Shared : Type 0 where
   pub opening : ℕ
+  pub cell_limit : ℕ
   pub tail : ℕ
   pub log : List Span
   pub flushed : ℕ
@@ -225,12 +227,14 @@ no_object = record { entry = 0; versions = []; cut = 0 }
 abbrev pub is_taken : ℕ → ℕ → Bool
 is_taken sessions seat = (nat_lt 0 seat && nat_le seat sessions) || is_flusher seat
 
--- The opening's state: these rows, nothing drawn from the tail on, and the counter of objects at its first number.
+-- The opening's state: these rows, nothing drawn from the tail on, the counter of objects at its first number, and so many
+-- cells.
 -- The sessions' seats are idle, the flusher's too, and the others vacant.
-abbrev pub opening_state : ℕ → Rows → (tail run first : ℕ) → Core
-opening_state sessions rows tail run first = record {
+abbrev pub opening_state : ℕ → Rows → (tail run first cells : ℕ) → Core
+opening_state sessions rows tail run first cells = record {
   shared = record {
     opening = tail;
+    cell_limit = cells;
     tail = tail;
     log = [];
     flushed = tail;

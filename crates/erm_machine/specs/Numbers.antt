@@ -1,6 +1,6 @@
 -- Numbers: what was drawn from the counters.
 use Rattle.std.specs.Prelude.{◌≢◌, ℕ, ◌+◌, ◌<◌, ◌≤◌, List, ◌++◌, length, slice_index, flat_map}
-use Rattle.erm_machine.specs.declared.limits.TheConstants.{ANNOUNCERS, CELL_LIMIT, OBJECT_LIMIT}
+use Rattle.erm_machine.specs.declared.limits.TheConstants.{ANNOUNCERS, MOST_CELLS, OBJECT_LIMIT}
 use Rattle.erm_machine.specs.declared.part.Part.{Part}
 use Rattle.erm_machine.specs.declared.task.Task.{Task}
 use Rattle.erm_machine.specs.declared.task.Task.TheVariants as task
@@ -16,10 +16,12 @@ abbrev pub pools : Task → ℕ
 pools task.Pool = 1
 pools _ = 0
 
--- the counters stand at most so far above their limits that each seat may raise them once more
+-- The counters stand at most so far above their limits that each seat may raise them once more. Numbers of cells have 24
+-- bits.
 pub record Counters (s : Shared) (seats : ℕ → Part) : Type 0 where
+  pub limit : s.cell_limit ≤ MOST_CELLS
   pub objects : s.objects_drawn + total (λ x. numbers x.task) ANNOUNCERS seats ≤ OBJECT_LIMIT + ANNOUNCERS
-  pub cells : s.cells_drawn + total (λ x. pools x.task) ANNOUNCERS seats ≤ CELL_LIMIT + ANNOUNCERS
+  pub cells : s.cells_drawn + total (λ x. pools x.task) ANNOUNCERS seats ≤ s.cell_limit + ANNOUNCERS
 
 -- the objects that a seat's transactions made, in order
 abbrev pub made_of : Part → List ℕ

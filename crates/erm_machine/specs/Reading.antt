@@ -1,7 +1,7 @@
 -- Steps of a read and of a claim, of a cut, and of a write into an own cell.
 use Rattle.std.specs.List.{list_any}
 use Rattle.std.specs.Prelude.{ℕ, ◌+◌, ◌-◌, ◌%◌, ◌^◌, Bool, true, false, not, ◌&&◌, ◌||◌, ◌==◌, nat_lt, if◌then◌else◌, List, [], ◌∷◌, ◌++◌, length, slice_index, slice_index_or, slice_set, take, drop, map, Option, Some, None, is_none}
-use Rattle.erm_machine.specs.declared.limits.TheConstants.{CELL_LIMIT, OBJECT_LIMIT, READ_LIMIT, WRITE_LIMIT}
+use Rattle.erm_machine.specs.declared.limits.TheConstants.{OBJECT_LIMIT, READ_LIMIT, WRITE_LIMIT}
 use Rattle.erm_machine.specs.declared.attempt.Attempt.{Attempt}
 use Rattle.erm_machine.specs.declared.attempt.Claim.{Claim}
 use Rattle.erm_machine.specs.declared.attempt.OwnCell.{OwnCell}
@@ -136,27 +136,27 @@ load_detached found v x _ = None
 abbrev pub with_cell : OwnCell → Attempt → Attempt
 with_cell own t = with_claim (last_claim t) (record (claim_at t (last_claim t)) { own = Some own }) t
 
--- FRESH, CLAIM: a counter is loaded before it is raised
-abbrev pub load_counter : Counter → ℕ → Part → Task → Option Part
-load_counter Objects found x t = when (is_active x.place && may_start t) (with_task (if nat_lt found OBJECT_LIMIT then task.Numbers else task.Rest) x)
-load_counter Cells found x task.Draws =
-    when (is_active x.place && (length x.spare == 0)) (with_task (if nat_lt found CELL_LIMIT then task.Pool else task.Refused) x)
-load_counter Cells found x _ = None
+-- FRESH, CLAIM: a counter is loaded before it is raised. There are so many cells.
+abbrev pub load_counter : ℕ → Counter → ℕ → Part → Task → Option Part
+load_counter cells Objects found x t = when (is_active x.place && may_start t) (with_task (if nat_lt found OBJECT_LIMIT then task.Numbers else task.Rest) x)
+load_counter cells Cells found x task.Draws =
+    when (is_active x.place && (length x.spare == 0)) (with_task (if nat_lt found cells then task.Pool else task.Refused) x)
+load_counter cells Cells found x _ = None
 
 -- FRESH, CLAIM: the number found is this transaction's, where it lies below the limit
-abbrev pub add_counter : ℕ → Counter → ℕ → Part → Task → Option Part
-add_counter seat Objects found x task.Numbers =
+abbrev pub add_counter : ℕ → ℕ → Counter → ℕ → Part → Task → Option Part
+add_counter cells seat Objects found x task.Numbers =
     when (is_active x.place && is_session seat)
     (record x { task = task.Rest; current = record x.current { made = if nat_lt found OBJECT_LIMIT then x.current.made ++ found ∷ [] else x.current.made } })
-add_counter seat Cells found x task.Pool =
+add_counter cells seat Cells found x task.Pool =
     when (is_active x.place)
     (record x {
-      task = if nat_lt found CELL_LIMIT then task.Fetched else task.Refused;
+      task = if nat_lt found cells then task.Fetched else task.Refused;
       current = record x.current {
-        writes = if nat_lt found CELL_LIMIT then (with_cell (record { cell = found; words = blank_cell }) x.current).writes else x.current.writes;
+        writes = if nat_lt found cells then (with_cell (record { cell = found; words = blank_cell }) x.current).writes else x.current.writes;
       };
     })
-add_counter seat _ found x _ = None
+add_counter cells seat _ found x _ = None
 
 -- the last spare cell, if there is one, goes to the newest claim
 abbrev pub with_spare : Part → Part

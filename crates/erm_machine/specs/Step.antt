@@ -35,7 +35,8 @@ reads_early seat (word.Row k) (task.Found version stamp head) = is_session seat
 reads_early seat w t = false
 
 -- The seat's own part after its step, where the guard is met; a word found may lead to different parts. Of what is shared
--- the part takes besides the word how many versions the object has, and the row of a version, which never changes, and the cells that it cuts off.
+-- the part takes besides the word how many versions the object has, the row of a version, which never changes, the cells
+-- that it cuts off, and how many cells there are.
 abbrev pub part_after : ℕ → Kind → ℕ → Shared → Part → Option Part
 part_after seat (kind.LoadTail purpose) found s x = load_tail seat purpose found x
 part_after seat (kind.AddTail size) found s x = add_tail seat size found x x.place
@@ -51,8 +52,8 @@ part_after seat (kind.Claim oid seen number) found s x = claim seat oid seen num
 part_after seat (kind.Install oid head) found s x = install oid head x x.task
 part_after seat (kind.LoadCell v w) found s x = unless (reads_early seat w x.task) (load_cell found v w x)
 part_after seat (kind.StoreCell place cell w value) found s x = store_cell place cell w value x
-part_after seat (kind.LoadCounter counter) found s x = load_counter counter found x x.task
-part_after seat (kind.AddCounter counter) found s x = add_counter seat counter found x x.task
+part_after seat (kind.LoadCounter counter) found s x = load_counter s.cell_limit counter found x x.task
+part_after seat (kind.AddCounter counter) found s x = add_counter s.cell_limit seat counter found x x.task
 part_after seat (kind.SetReader v) found s x = set_reader seat v (s.objects v.oid) x x.task
 part_after seat (kind.ClearReader v) found s x = clear_reader v x (end_of x.task)
 part_after seat (kind.LoadReaders v) found s x = load_readers seat v found x x.task

@@ -19,7 +19,10 @@ mod value;
 pub use history::{Commit, TransactionRecord, VersionRead, VersionWritten};
 pub use key::Key;
 pub use laws::replies_are_determined;
-pub use limits::{OID_LIMIT, READ_LIMIT, SEATS, TABLES, WRITE_LIMIT};
+pub use limits::{
+    GREATEST_BLOCK, LAST_NUMBER, LAST_RUN, LEAST_BLOCK, LOG_END, MOST_CELLS, OID_LIMIT, READ_LIMIT,
+    RING_WORDS, SEGMENT_WORDS, SESSIONS, STOP, TABLE_CELLS, TABLES, WRITE_LIMIT,
+};
 pub use map::{Map, Pair};
 pub use name::{NAME_BYTES, Name};
 pub use operation::{Op, Reply};

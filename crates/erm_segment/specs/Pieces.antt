@@ -2,7 +2,7 @@
 use Rattle.std.specs.Prelude.{◌≡◌, ℕ, ◌+◌, ◌%◌, ◌<◌, ◌≤◌, List, [], ◌∷◌}
 use Rattle.std.specs.List.{All}
 use Rattle.erm_segment.specs.declared.Piece.{Piece}
-use Rattle.erm_segment.specs.declared.TheConstants.{SEGMENT_WORDS}
+use Rattle.erm_model.specs.declared.limits.TheConstants.{SEGMENT_WORDS}
 use Rattle.erm_segment.specs.Place.{place_of}
 
 -- each piece begins where the one before ends: the first at word `from` of the run, and the last ends before word `end`

@@ -6,11 +6,8 @@ ghost use Rattle.erm_segment.specs.Place.{place_of};
 ghost use Rattle.erm_segment.specs.Pieces.{IsRun, IsInOneSegment};
 
 use arrayvec::ArrayVec;
-use erm_model::Stamp;
+use erm_model::{SEGMENT_WORDS, Stamp};
 use erm_outside::File;
-
-/// How many words a segment has.
-pub const SEGMENT_WORDS: u64 = 65_536;
 
 /// How many bytes a word has.
 const WORD_BYTES: u64 = erm_bytes::WORD_BYTES as u64;

@@ -104,7 +104,7 @@ with_none a b n none same = omega (arith, none, same)
 
 module _ (sessions : ℕ) (rows : Rows) (tail run first : ℕ) (few : sessions ≤ SESSIONS) (positive : 0 < tail) (low : tail ≤ STOP + 4) (room : first ≤ OBJECT_LIMIT)
     (sizes : (oid : ℕ) → oid < OBJECT_LIMIT → length (rows oid) ≡ 16) where
-  own_claims : (p : ℕ) → OwnClaims (opening_state sessions rows tail run first).shared p ((opening_state sessions rows tail run first).seats p)
+  own_claims : (p : ℕ) → OwnClaims (opening_state sessions rows tail run first cells).shared p ((opening_state sessions rows tail run first cells).seats p)
   own_claims p = record {
     objects = λ k none. absurd (omega (arith, none));
     over = λ k none. absurd (omega (arith, none));
@@ -114,20 +114,20 @@ module _ (sessions : ℕ) (rows : Rows) (tail run first : ℕ) (few : sessions �
     install = λ k none. absurd (omega (arith, none));
     once = λ j k less none. absurd (omega (arith, none));
     owned = λ oid seated known owner.
-        let entry : ((opening_state sessions rows tail run first).shared.objects oid).entry ≡ oid = ap (λ (o : Object). o.entry) (opened_at rows oid known) in
+        let entry : ((opening_state sessions rows tail run first cells).shared.objects oid).entry ≡ oid = ap (λ (o : Object). o.entry) (opened_at rows oid known) in
         let ownerless = opened_ownerless oid known in
         let is : owner_of oid ≡ p = ap owner_of (sym entry) ∙ owner in
         absurd (omega (arith, ownerless, is, seated));
   }
 
-  own_snapshot : (p : ℕ) → OwnSnapshot (opening_state sessions rows tail run first).shared ((opening_state sessions rows tail run first).seats p)
+  own_snapshot : (p : ℕ) → OwnSnapshot (opening_state sessions rows tail run first cells).shared ((opening_state sessions rows tail run first cells).seats p)
   own_snapshot p = record {
     past = λ t m. subst (λ (u : Attempt). IsPast tail 0 u.begin) (sym (only_blank t m)) (record { past = omega arith; drawn_later = λ _. omega arith });
     reads = λ t r m n. absurd (none_read t r m n);
     in_hand = tt;
   }
 
-  own_readers : (p : ℕ) → OwnReaders (opening_state sessions rows tail run first).shared p ((opening_state sessions rows tail run first).seats p)
+  own_readers : (p : ℕ) → OwnReaders (opening_state sessions rows tail run first cells).shared p ((opening_state sessions rows tail run first cells).seats p)
   own_readers p = record {
     once = λ j k less none. absurd (omega (arith, none));
     stands = λ k above none. absurd (omega (arith, none));
@@ -144,7 +144,7 @@ module _ (sessions : ℕ) (rows : Rows) (tail run first : ℕ) (few : sessions �
       no_bit : (o : Object) → ((place : ℕ) → place < 1 → (version_at o place).words.readers ≡ 0) → (place : ℕ) → place < 1 → bit_at (version_at o place).words.readers p ≡ 1 → ⊥
       no_bit o none place within bit = let zero : bit_at 0 p ≡ 1 = subst (λ n. bit_at n p ≡ 1) (none place within) bit in absurd (zero_bit p zero)
 
-  own_decided : (p : ℕ) → OwnDecided (opening_state sessions rows tail run first).shared ((opening_state sessions rows tail run first).seats p)
+  own_decided : (p : ℕ) → OwnDecided (opening_state sessions rows tail run first cells).shared ((opening_state sessions rows tail run first cells).seats p)
   own_decided p = record {
     drawn = λ t m. subst (λ (u : Attempt). u.stamp < tail) (sym (only_blank t m)) positive;
     earlier = λ t m. absurd (none_in_nil t m);
@@ -152,7 +152,7 @@ module _ (sessions : ℕ) (rows : Rows) (tail run first : ℕ) (few : sessions �
     in_hand = tt;
   }
 
-  own : (p : ℕ) → Own (opening_state sessions rows tail run first).shared p ((opening_state sessions rows tail run first).seats p)
+  own : (p : ℕ) → Own (opening_state sessions rows tail run first cells).shared p ((opening_state sessions rows tail run first cells).seats p)
   own p = record {
     ranges = record {
       seat_of = λ none. ap (λ (b : Bool). if b then Idle else Vacant) (untaken sessions p few none);
@@ -196,7 +196,7 @@ module _ (sessions : ℕ) (rows : Rows) (tail run first : ℕ) (few : sessions �
     };
   }
 
-  common : Common (opening_state sessions rows tail run first).shared (opening_state sessions rows tail run first).seats
+  common : Common (opening_state sessions rows tail run first cells).shared (opening_state sessions rows tail run first cells).seats
   common = record {
     ranges = record {
       positive = positive;
@@ -206,14 +206,14 @@ module _ (sessions : ℕ) (rows : Rows) (tail run first : ℕ) (few : sessions �
       below = omega arith;
     };
     counters = record {
-      objects = let z = total_zeros (λ (x : Part). numbers x.task) ANNOUNCERS (opening_state sessions rows tail run first).seats (λ _. refl) in omega (arith, z, room);
-      cells = let z = total_zeros (λ (x : Part). pools x.task) ANNOUNCERS (opening_state sessions rows tail run first).seats (λ _. refl) in omega (arith, z);
+      objects = let z = total_zeros (λ (x : Part). numbers x.task) ANNOUNCERS (opening_state sessions rows tail run first cells).seats (λ _. refl) in omega (arith, z, room);
+      cells = let z = total_zeros (λ (x : Part). pools x.task) ANNOUNCERS (opening_state sessions rows tail run first cells).seats (λ _. refl) in omega (arith, z);
     };
     cells = record {
       once = λ cell.
-          let z = total_zeros (own_times cell) ANNOUNCERS (opening_state sessions rows tail run first).seats (λ _. refl) in
+          let z = total_zeros (own_times cell) ANNOUNCERS (opening_state sessions rows tail run first cells).seats (λ _. refl) in
           let o = opened_once rows cell in
-          with_none (total (chain_times cell) OBJECT_LIMIT (opening_state sessions rows tail run first).shared.objects) (total (own_times cell) ANNOUNCERS (opening_state sessions rows tail run first).seats) _ z o;
+          with_none (total (chain_times cell) OBJECT_LIMIT (opening_state sessions rows tail run first cells).shared.objects) (total (own_times cell) ANNOUNCERS (opening_state sessions rows tail run first cells).seats) _ z o;
     };
     chains = record { linked = λ oid known. subst Linked (sym (opened_at rows oid known)) (opened_linked rows oid) };
     marks = record {
@@ -242,7 +242,7 @@ module _ (sessions : ℕ) (rows : Rows) (tail run first : ℕ) (few : sessions �
   }
 
   -- nothing is drawn, noted or announced at an opening
-  pub opening_sound : Sound (opening_state sessions rows tail run first)
+  pub opening_sound : Sound (opening_state sessions rows tail run first cells)
   opening_sound = record {
     common = common;
     own = own;

@@ -5,7 +5,7 @@
 ghost use Rattle.std.specs.Prelude.{◌≡◌, ◌+◌, ◌<◌, ◌≤◌, ℕ, Some, length};
 ghost use Rattle.erm_machine.specs.declared.event.Event.{Event};
 ghost use Rattle.erm_machine.specs.declared.event.Kind.{Kind};
-ghost use Rattle.erm_machine.specs.declared.limits.TheConstants.{OBJECT_LIMIT, SESSIONS, STOP};
+ghost use Rattle.erm_machine.specs.declared.limits.TheConstants.{MOST_CELLS, OBJECT_LIMIT, SESSIONS, STOP};
 ghost use Rattle.erm_machine.specs.Core.{Core, opening_state};
 ghost use Rattle.erm_machine.specs.Decided.{history_of};
 ghost use Rattle.erm_machine.specs.Lawful.{opening_rows};
@@ -43,11 +43,12 @@ pub fn steps_keep_sound()
 }
 
 /// An opening's state is sound, where its log begins at 1 or above, and at 2^60 + 4 at most, and the first
-/// number of an object to make is at most the number of objects; rows have 16 words.
+/// number of an object to make is at most the number of objects; rows have 16 words; and there is a cell for each object, but no
+/// more cells than there may be.
 pub fn openings_are_sound()
-    ensures { (sessions : ℕ) (rows : Rows) (tail run first : ℕ) → sessions ≤ SESSIONS → 0 < tail → tail ≤ STOP + 4
-        → first ≤ OBJECT_LIMIT → ((oid : ℕ) → oid < OBJECT_LIMIT → length (rows oid) ≡ 16)
-        → Sound (opening_state sessions rows tail run first) }
+    ensures { (sessions : ℕ) (rows : Rows) (tail run first cells : ℕ) → sessions ≤ SESSIONS → 0 < tail → tail ≤ STOP + 4
+        → first ≤ OBJECT_LIMIT → OBJECT_LIMIT ≤ cells → cells ≤ MOST_CELLS → ((oid : ℕ) → oid < OBJECT_LIMIT → length (rows oid) ≡ 16)
+        → Sound (opening_state sessions rows tail run first cells) }
 {}
 
 /// What a sound state has committed, run one after another in the serial order over the opening's rows: each transaction finds

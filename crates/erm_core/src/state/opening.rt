@@ -1,6 +1,6 @@
 //! The opening's state.
 ghost use Rattle.std.specs.Prelude.{ℕ, ◌≡◌, ◌+◌, ◌<◌, ◌≤◌, IfOk, length, vec_len, slice_index};
-ghost use Rattle.erm_machine.specs.declared.limits.TheConstants.{ANNOUNCERS, OBJECT_LIMIT, SESSIONS, STOP};
+ghost use Rattle.erm_machine.specs.declared.limits.TheConstants.{ANNOUNCERS, MOST_CELLS, OBJECT_LIMIT, SESSIONS, STOP};
 ghost use Rattle.erm_machine.specs.Core as core_specs;
 ghost use Rattle.erm_machine.specs.Sound.{Sound};
 ghost use Rattle.erm_core.specs.Rooms.{Carries};
@@ -66,7 +66,8 @@ fn open_seats(
 
 impl State {
     /// The state of an opening: so many sessions, a row for each object, the place where its log begins, its run, and the number
-    /// of the first object that is made, at most 1,024. The opening's log begins at 1 or above, and at 2^60 + 4 at most.
+    /// of the first object that is made, at most the number of objects, and how many cells there are, one for each object at
+    /// least. The opening's log begins at 1 or above, and at 2^60 + 4 at most.
     pub fn open(
         alloc: Global,
         sessions: Seat,
@@ -74,13 +75,16 @@ impl State {
         tail: Stamp,
         run: u64,
         first: u64,
+        cells: u32,
     ) -> Result<State, AllocError>
         requires sessions { sessions ≤ SESSIONS }
         requires rows { length rows.now ≡ OBJECT_LIMIT }
         requires positive { 0 < tail }
         requires low { tail ≤ STOP + 4 }
         requires first { first ≤ OBJECT_LIMIT }
-        ensures core { IfOk result (λ s. core_of s ≡ core_specs.opening_state sessions (rows_of rows.now) tail run first) }
+        requires enough { OBJECT_LIMIT ≤ cells }
+        requires few { cells ≤ MOST_CELLS }
+        ensures core { IfOk result (λ s. core_of s ≡ core_specs.opening_state sessions (rows_of rows.now) tail run first cells) }
         ensures sound { IfOk result (λ s. Sound (core_of s)) }
         ensures carries { IfOk result Carries }
         ensures shape { IfOk result IsShaped }
@@ -92,6 +96,7 @@ impl State {
         Ok(State {
             run,
             opening: tail,
+            cell_limit: cells,
             tail,
             log: Vec::new(alloc),
             flushed: tail,
