@@ -1,11 +1,15 @@
-//! The rows of records: that there is no value, or which value there is.
+//! The rows of records: that there is no value, or which value there is. How long a row is in the log.
 #![tactic(auto)]
+
+mod stored;
 
 ghost use Rattle.std.specs.Prelude.{◌≡◌, ◌≤◌, ℕ, List, length, Some, None, IfSome};
 ghost use Rattle.erm_record.specs.Record.{IsValue, absent_row, padded, record_value, value_row};
 
 use erm_bytes::{bytes_again, read_words, words_have_bytes, write_words};
 use erm_model::{ROW_WORDS, Row, VALUE_BYTES, Value};
+
+pub use stored::{stored_length, stored_words_tell_the_row};
 
 /// The kind of the row of a record without a value.
 pub const ABSENT: u64 = 1;
