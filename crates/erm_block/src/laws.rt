@@ -1,16 +1,18 @@
 //! Laws of the grammar of blocks.
-ghost use Rattle.std.specs.Prelude.{◌≡◌, ℕ, ◌++◌, List, [], ◌∷◌, length};
+ghost use Rattle.std.specs.Prelude.{◌≡◌, ◌≤◌, ℕ, ◌++◌, List, [], ◌∷◌, length};
 ghost use Rattle.erm_model.specs.Rows.{Rows};
 ghost use Rattle.erm_block.specs.declared.block.Block.{Block};
+ghost use Rattle.erm_block.specs.declared.block.TheConstants.{BLOCK_WORDS};
 ghost use Rattle.erm_block.specs.Block.{IsBlock};
 ghost use Rattle.erm_block.specs.Spelling.{spelling};
 ghost use Rattle.erm_block.specs.LogList.{Continues, End, IsChain, IsLogList, end_of};
 
 use erm_record::stored_words_tell_the_row;
 
-/// A block is spelled in as many words as its size says.
+/// A block is spelled in as many words as its size says, and these are no more than a block has.
 pub fn spelling_size()
-    ensures { (block : Block) (at run_before : ℕ) → IsBlock block at run_before → length (spelling block) ≡ block.size }
+    ensures size { (block : Block) (at run_before : ℕ) → IsBlock block at run_before → length (spelling block) ≡ block.size }
+    ensures most { (block : Block) (at run_before : ℕ) → IsBlock block at run_before → block.size ≤ BLOCK_WORDS }
 {
     stored_words_tell_the_row();
 }

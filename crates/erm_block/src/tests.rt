@@ -247,6 +247,7 @@ fn is_spelled_so(rt: &impl Abort, spelling: &Spelling) {
     };
     assert_eq!(rt; block.kind, spelling.kind);
     assert!(rt; is_block(&block, at, spelling.run_before));
+    assert!(rt; usize::from(block.size) == size);
     let mut out = [7; BLOCK_WORDS];
     let written = encode_into(&mut out, &block);
     assert_eq!(rt; written, size);
