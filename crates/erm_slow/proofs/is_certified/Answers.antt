@@ -1,9 +1,9 @@
 use Rattle.std.proofs.Common.{refl, arith}
 use borrow.Author.Count.{below_more}
 use Rattle.std.proofs.lemmas.Bool.{both_ways}
-use Rattle.erm_core_ssn.specs.Slow.{IsNewStamp, IsOpenAt}
-use Rattle.erm_core_ssn.proofs.Certificates.{certified_from, new_of_certified, open_of_certified}
-use Rattle.erm_core_ssn.proofs.slow.is_certified.Goals as goal
+use Rattle.erm_slow.specs.Slow.{IsNewStamp, IsOpenAt}
+use Rattle.erm_slow.proofs.Certificates.{certified_from, new_of_certified, open_of_certified}
+use Rattle.erm_slow.proofs.is_certified.Goals as goal
 
 pub returns-then-not-is_certified_at : goal.returns-then-not-is_certified_at
 returns-then-not-is_certified_at c =

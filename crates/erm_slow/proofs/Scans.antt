@@ -6,7 +6,7 @@ use Rattle.erm_model.specs.declared.history.TransactionRecord.{TransactionRecord
 use Rattle.erm_model.specs.Member.{◌∈◌}
 use Rattle.erm_model.specs.History.{History, ReadsFrom, OverwritesFrom, OverwritesReadOf, CountsForSucc, CountsForPred, IsSuccessorStamp, IsPredecessorStamp}
 use Rattle.erm_core_ssn.specs.Laws.{AreSuccessorStamps}
-use Rattle.erm_core_ssn.specs.Slow.{HasSuccessorStamp}
+use Rattle.erm_slow.specs.Slow.{HasSuccessorStamp}
 use Rattle.erm_core_ssn.proofs.Successors.{one_numbering}
 
 -- the stamp of the transaction at a place, which falls from one call to the next

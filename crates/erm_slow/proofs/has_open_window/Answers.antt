@@ -1,7 +1,7 @@
 use Rattle.std.proofs.Common.{◌≡◌, Some, slice_get, refl}
 use Rattle.std.proofs.lemmas.Option.{slice_get_read}
-use Rattle.erm_core_ssn.proofs.Certificates.{open_by_stamps}
-use Rattle.erm_core_ssn.proofs.slow.has_open_window.Goals as goal
+use Rattle.erm_slow.proofs.Certificates.{open_by_stamps}
+use Rattle.erm_slow.proofs.has_open_window.Goals as goal
 
 pub returns : goal.returns
 returns c =

@@ -5,8 +5,8 @@ use Rattle.std.proofs.lemmas.Option.{slice_get_within}
 use Rattle.erm_model.specs.declared.history.TransactionRecord.{TransactionRecord}
 use Rattle.erm_model.specs.Member.{◌∈◌}
 use Rattle.erm_model.specs.History.{History, CountsForSucc, CountsForPred, IsSuccessorStamp, IsPredecessorStamp, IsCertified}
-use Rattle.erm_core_ssn.specs.Slow.{HasSuccessorStamp, HasOpenWindow, IsNewStamp, IsOpenAt}
-use Rattle.erm_core_ssn.proofs.Scans.{number_by}
+use Rattle.erm_slow.specs.Slow.{HasSuccessorStamp, HasOpenWindow, IsNewStamp, IsOpenAt}
+use Rattle.erm_slow.proofs.Scans.{number_by}
 use Rattle.erm_core_ssn.proofs.SomeNumbers.{some_numbers}
 
 -- the carried number is the computed one

@@ -1,9 +1,9 @@
 use Rattle.std.proofs.Common.{◌≡◌, ◌+◌, ◌<◌, Some, slice_get, ◌∙◌, subst, sym, refl, arith}
 use Rattle.std.proofs.lemmas.Bool.{both_ways}
 use Rattle.std.proofs.lemmas.Option.{slice_get_read}
-use Rattle.erm_core_ssn.proofs.Scans.{Follows, IsGreatestSoFar, greatest_with, greatest_without, greatest_of_all}
-use Rattle.erm_core_ssn.proofs.slow.predecessor_stamp.Goals as goal
-use Rattle.erm_core_ssn.proofs.slow.predecessor_stamp.Goals.{then-u-t+then-follows, else-u-t, else-u-t-via-then-u-t+else-follows, else-u-t-via-else-u-t}
+use Rattle.erm_slow.proofs.Scans.{Follows, IsGreatestSoFar, greatest_with, greatest_without, greatest_of_all}
+use Rattle.erm_slow.proofs.predecessor_stamp.Goals as goal
+use Rattle.erm_slow.proofs.predecessor_stamp.Goals.{then-u-t+then-follows, else-u-t, else-u-t-via-then-u-t+else-follows, else-u-t-via-else-u-t}
 
 pub loop-u-preserved : goal.loop-u-preserved
 loop-u-preserved c =

@@ -1,8 +1,8 @@
 use Rattle.std.proofs.Common.{ℕ}
 use Rattle.erm_model.specs.declared.history.TransactionRecord.{TransactionRecord}
 use Rattle.erm_core_ssn.specs.Laws.{AreSuccessorStamps}
-use Rattle.erm_core_ssn.proofs.Scans.{stamp_at, IsLeastSoFar}
-use Rattle.erm_core_ssn.proofs.slow.+successor_stamp.Given as goal
+use Rattle.erm_slow.proofs.Scans.{stamp_at, IsLeastSoFar}
+use Rattle.erm_slow.proofs.+successor_stamp.Given as goal
 
 abbrev pub decreases-successor_stamp : goal.decreases-successor_stamp
 decreases-successor_stamp l = stamp_at l.history.now l.place

@@ -3,9 +3,9 @@ use Rattle.std.proofs.lemmas.Bool.{both_ways}
 use Rattle.std.proofs.lemmas.Option.{slice_get_read}
 use Rattle.erm_model.specs.History.{OverwritesReadOf}
 use Rattle.erm_core_ssn.proofs.SomeNumbers.{some_numbers}
-use Rattle.erm_core_ssn.proofs.Scans.{stamp_at-Some, IsLeastSoFar, least_with, least_without, least_of_all, number_by}
-use Rattle.erm_core_ssn.proofs.slow.+successor_stamp.Goals as goal
-use Rattle.erm_core_ssn.proofs.slow.+successor_stamp.Goals.{then-u-t+then-overwrites_read_of, else-u-t, else-u-t-via-then-u-t+else-overwrites_read_of, else-u-t-via-else-u-t}
+use Rattle.erm_slow.proofs.Scans.{stamp_at-Some, IsLeastSoFar, least_with, least_without, least_of_all, number_by}
+use Rattle.erm_slow.proofs.+successor_stamp.Goals as goal
+use Rattle.erm_slow.proofs.+successor_stamp.Goals.{then-u-t+then-overwrites_read_of, else-u-t, else-u-t-via-then-u-t+else-overwrites_read_of, else-u-t-via-else-u-t}
 
 pub successor_stamp-requires : goal.successor_stamp-requires
 successor_stamp-requires n c =

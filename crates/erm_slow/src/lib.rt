@@ -1,8 +1,13 @@
 //! The dependency graph and the stamps of a small history, computed from their definitions. Slow, and for tests alone.
+#![tactic(auto)]
+
+#[cfg(test)]
+mod tests;
+
 ghost use Rattle.std.specs.Prelude.{◌≡◌, ◌<◌, ◌↔◌, ◌⊎◌, IsTrue, length, slice_get};
 ghost use Rattle.erm_model.specs.History.{Makes, Overwrites, ReadsFrom, OverwritesFrom, OverwritesReadOf, Depends, IsPredecessorStamp, IsCertified};
 ghost use Rattle.erm_model.specs.declared.history.TransactionRecord.{TransactionRecord};
-ghost use Rattle.erm_core_ssn.specs.Slow.{HasSuccessorStamp, IsNewStamp, IsOpenAt};
+ghost use Rattle.erm_slow.specs.Slow.{HasSuccessorStamp, IsNewStamp, IsOpenAt};
 
 use erm_model::{Oid, Stamp, TransactionRecord};
 
@@ -140,6 +145,3 @@ fn overwrites(t: &TransactionRecord, oid: Oid, stamp: Stamp) -> bool
 {
     t.writes.iter().any(|w| w.oid == oid && w.stamp == stamp)
 }
-
-#[cfg(test)]
-mod tests;
