@@ -13,20 +13,21 @@ ghost use Rattle.erm_run.specs.declared.runner.Session.TheVariants as session;
 use crate::changes::Changes;
 use crate::keys::KeySet;
 use crate::marks::Marks;
-use erm_model::{Key, Map, OID_LIMIT, READ_LIMIT, Reply, Stamp, TABLES, Value, WRITE_LIMIT};
+use crate::whole::OPENING;
+use erm_model::{
+    Key, LEAST_BLOCK, Map, OID_LIMIT, READ_LIMIT, ROW_WORDS, Reply, Stamp, TABLES, Value,
+    WRITE_LIMIT,
+};
 use erm_report::Answer;
 use erm_script::Command;
 use std::alloc::{AllocError, Global};
 use std::mem;
 
 /// The first stamp after the block of the opening.
-pub const FIRST_STAMP: Stamp = 13;
-
-/// The words of a block beside its rows.
-pub const FRAME_WORDS: u64 = 5;
+pub const FIRST_STAMP: Stamp = OPENING + LEAST_BLOCK;
 
 /// The words of a row in a block, with its object's number.
-pub const ENTRY_WORDS: u64 = 17;
+pub const ENTRY_WORDS: u64 = 1 + ROW_WORDS as u64;
 
 /// How many keys get an object: the others are the roots of the tables.
 const KEY_LIMIT: usize = OID_LIMIT as usize - TABLES as usize;
@@ -147,7 +148,7 @@ impl Runner {
 
     /// Answers a line. After an `Err` the runner is of no more use.
     pub fn answer(&mut self, alloc: Global, command: &Command) -> Result<Answer, AllocError>
-        requires room { self.old.tail + ENTRY_WORDS * pending self.old.session + (FRAME_WORDS + ENTRY_WORDS) < 2 ^ 64 }
+        requires room { self.old.tail + ENTRY_WORDS * pending self.old.session + (LEAST_BLOCK + ENTRY_WORDS) < 2 ^ 64 }
         requires number { self.old.over + 1 < 2 ^ 32 }
         ensures { IfOk result (λ a. (p : Progress) → StandsAt p self.old → Steps p command.now a self.old self.new) }
     {
@@ -256,7 +257,7 @@ impl Runner {
     }
 
     fn seal(&mut self) -> Answer
-        requires room { self.old.tail + ENTRY_WORDS * pending self.old.session + (FRAME_WORDS + ENTRY_WORDS) < 2 ^ 64 }
+        requires room { self.old.tail + ENTRY_WORDS * pending self.old.session + (LEAST_BLOCK + ENTRY_WORDS) < 2 ^ 64 }
         ensures { (p : Progress) → StandsAt p self.old → Steps p command.Seal result self.old self.new }
     {
         let work = match self.take_active() {
@@ -282,7 +283,7 @@ impl Runner {
     }
 
     fn commit(&mut self) -> Result<Answer, AllocError>
-        requires room { self.old.tail + ENTRY_WORDS * pending self.old.session + (FRAME_WORDS + ENTRY_WORDS) < 2 ^ 64 }
+        requires room { self.old.tail + ENTRY_WORDS * pending self.old.session + (LEAST_BLOCK + ENTRY_WORDS) < 2 ^ 64 }
         requires number { self.old.over + 1 < 2 ^ 32 }
         ensures { IfOk result (λ a. (p : Progress) → StandsAt p self.old → Steps p command.Commit a self.old self.new) }
     {
@@ -323,12 +324,12 @@ impl Runner {
 
     // Draws the place of a transaction's block in the log: its commit stamp.
     fn draw(&mut self, work: &Work) -> Stamp
-        requires { self.old.tail + ENTRY_WORDS * length work.now.writes + FRAME_WORDS < 2 ^ 64 }
+        requires { self.old.tail + ENTRY_WORDS * length work.now.writes + LEAST_BLOCK < 2 ^ 64 }
         ensures stamp { result ≡ self.old.tail }
-        ensures drawn { self.new ≡ record self.old { tail = self.old.tail + (FRAME_WORDS + ENTRY_WORDS * length work.now.writes) } }
+        ensures drawn { self.new ≡ record self.old { tail = self.old.tail + (LEAST_BLOCK + ENTRY_WORDS * length work.now.writes) } }
     {
         let stamp = self.tail;
-        self.tail += FRAME_WORDS + ENTRY_WORDS * work.writes.len() as u64;
+        self.tail += LEAST_BLOCK + ENTRY_WORDS * work.writes.len() as u64;
         stamp
     }
 
