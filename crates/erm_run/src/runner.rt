@@ -101,7 +101,7 @@ impl Session {
 }
 
 /// The numbers of a commit.
-#[derive(Clone, Copy, Debug, PartialEq, Eq)]
+#[derive(Clone, Copy)]
 pub struct Numbers {
     pub number: u32,
     pub stamp: Stamp,
