@@ -3,7 +3,6 @@ use Rattle.std.proofs.Common.{◌≡◌, ℕ, ◌⊎◌, ◌+◌, ◌*◌, ◌<�
 use Rattle.std.specs.Option.{option_map}
 use Rattle.std.specs.FinMap.{empty, insert}
 use Rattle.std.proofs.lemmas.Bool.{false≢true, true≢false}
-use Rattle.std.proofs.lemmas.Bool.Decides.{nat_tests}
 use Rattle.erm_model.specs.declared.key.Key.{Key}
 use Rattle.erm_model.specs.declared.limits.TheConstants.{LEAST_BLOCK, OID_LIMIT, READ_LIMIT, TABLES, WRITE_LIMIT}
 use Rattle.erm_model.specs.declared.operation.Reply.TheVariants as reply
@@ -19,7 +18,7 @@ use Rattle.erm_promise.specs.Footprint.{Footprint, has_key, with_key, reading, w
 use Rattle.erm_promise.specs.Refusals.{refusal_in, refusal_of, refusal_in_idle, refusal_in_active, refusal_in_sealed, limit_in, limit_of, limit_at, write_limit_of, is_full, number_of, named_after}
 use Rattle.erm_promise.specs.Transactions.{Transaction, Progress, nothing, Commits, ended, heard, replied, with_line, with_seal, phase_after}
 use Rattle.erm_promise.specs.GoodReport.{IsAnswerTo, begin_stamp, commit_stamp, is_idle}
-use Rattle.erm_run.specs.declared.runner.TheConstants.{ENTRY_WORDS, FIRST_STAMP, KEY_LIMIT}
+use Rattle.erm_run.specs.declared.runner.TheConstants.{ENTRY_WORDS, FIRST_STAMP}
 use Rattle.erm_run.specs.declared.runner.Runner.{Runner}
 use Rattle.erm_run.specs.declared.runner.Session.{Session}
 use Rattle.erm_run.specs.declared.runner.Session.TheVariants as session
@@ -380,16 +379,9 @@ closed_sealed p a old mid new w stamp is at d s =
     decided p None (Some stamp) w stamp a (record old { session = session.Idle }) new (stands_in p old (session.Sealed w stamp) is s) refl drawn refl
     (subst (λ m. Decides w stamp a m new) at d)
 
--- the number of a key is one for which an object is left, or none is
-pub no_room_left : (named : List Key) (k : Key) (number : ℕ) → number ≡ number_of named k → KEY_LIMIT ≤ number → oids_full named k ≡ true
-no_room_left named k number is full =
-    let full_of : (n : ℕ) → KEY_LIMIT ≤ n → nat_le OID_LIMIT (TABLES + n) ≡ true = (λ n h. grind (arith, nat_tests)) in
-    subst (λ n. nat_le OID_LIMIT (TABLES + n) ≡ true) is (full_of number full)
-
-pub room_left : (named : List Key) (k : Key) (number : ℕ) → number ≡ number_of named k → number < KEY_LIMIT → oids_full named k ≡ false
-room_left named k number is room =
-    let room_of : (n : ℕ) → n < KEY_LIMIT → nat_le OID_LIMIT (TABLES + n) ≡ false = (λ n h. grind (arith, nat_tests)) in
-    subst (λ n. nat_le OID_LIMIT (TABLES + n) ≡ false) is (room_of number room)
+-- the test of a key's number is that of the key
+pub objects_tested : (named : List Key) (k : Key) (number : ℕ) (out : Bool) → number ≡ number_of named k → out ≡ nat_le OID_LIMIT (TABLES + number) → oids_full named k ≡ out
+objects_tested named k number out is tested = ap (λ n. nat_le OID_LIMIT (TABLES + n)) (sym is) ∙ sym tested
 
 -- the state at the start, where nothing was told
 pub opened : (r : Runner) → r.values ≡ empty → r.marks ≡ empty → r.commits.items ≡ [] → r.session ≡ session.Idle → r.over ≡ 0 → r.tail ≡ FIRST_STAMP → StandsAt nothing r

@@ -1,5 +1,5 @@
 //! The state between two lines of a script of one session.
-ghost use Rattle.std.specs.Prelude.{◌≡◌, ℕ, ◌+◌, ◌*◌, ◌^◌, ◌<◌, ◌&&◌, not, [], IfOk, OnOk, length, MatchOption};
+ghost use Rattle.std.specs.Prelude.{◌≡◌, ℕ, ◌+◌, ◌*◌, ◌^◌, ◌<◌, ◌&&◌, nat_le, not, [], IfOk, OnOk, length, MatchOption};
 ghost use Rattle.std.specs.FinMap.{insert};
 ghost use Rattle.erm_promise.specs.Footprint.{has_key, reading, writing};
 ghost use Rattle.erm_promise.specs.GoodReport.{Closes, is_idle};
@@ -31,6 +31,13 @@ pub const ENTRY_WORDS: u64 = 1 + ROW_WORDS as u64;
 
 /// How many keys get an object: the others are the roots of the tables.
 const KEY_LIMIT: usize = OID_LIMIT as usize - TABLES as usize;
+
+// Whether no object is left for the key with this number.
+fn is_out_of_objects(number: usize) -> bool
+    ensures { result ≡ nat_le OID_LIMIT (TABLES + number) }
+{
+    number >= KEY_LIMIT
+}
 
 /// What a transaction has done.
 #[derive(Drop)]
@@ -225,7 +232,7 @@ impl Runner {
             Ok(work) => work,
             Err(refusal) => return Ok(refusal),
         };
-        let answer = if number >= KEY_LIMIT {
+        let answer = if is_out_of_objects(number) {
             Answer::OidsFull { drawn: OID_LIMIT }
         } else if work.is_write_full(&key) {
             Answer::WritesFull
