@@ -1,8 +1,6 @@
 //! Orders of a few commits, and a few transactions replayed.
-ghost use Rattle.std.specs.Prelude.{◌≤◌, length};
-
 use super::*;
-use erm_model::{Commit, Map, Op, Reply, Stamp, VALUE_BYTES, Value};
+use erm_model::{Commit, Map, Op, Reply, Stamp, Value};
 use std::alloc::{AllocError, Global};
 use std::test::Fail;
 
@@ -22,72 +20,91 @@ fn order_of(alloc: Global, stamps: &[(Stamp, Stamp)]) -> Result<Vec<usize>, Allo
 
 #[test]
 fn orders(rt: HostRuntime) -> Result<(), Fail> {
-    let alloc = rt.alloc();
-    let with_commit_order = order_of(alloc, &[(13, 13), (69, 69), (91, 91)])?;
-    assert_eq!(rt; with_commit_order.as_slice(), [0, 1, 2].as_slice());
-    let against_commit_order = order_of(alloc, &[(13, 13), (69, 69), (91, 69), (113, 69)])?;
-    assert_eq!(rt; against_commit_order.as_slice(), [0, 3, 2, 1].as_slice());
-    let given_backwards = order_of(alloc, &[(91, 69), (69, 69), (13, 13)])?;
-    assert_eq!(rt; given_backwards.as_slice(), [2, 0, 1].as_slice());
-    let equal_ones = order_of(alloc, &[(69, 69), (13, 13), (69, 69)])?;
-    assert_eq!(rt; equal_ones.as_slice(), [1, 0, 2].as_slice());
-    assert!(rt; order_of(alloc, &[])?.is_empty());
+    let cases: [(&[(Stamp, Stamp)], &[usize]); 5] = [
+        // With the order of the commits, against it, given backwards, of equal ones, and of none.
+        (&[(13, 13), (69, 69), (91, 91)], &[0, 1, 2]),
+        (&[(13, 13), (69, 69), (91, 69), (113, 69)], &[0, 3, 2, 1]),
+        (&[(91, 69), (69, 69), (13, 13)], &[2, 0, 1]),
+        (&[(69, 69), (13, 13), (69, 69)], &[1, 0, 2]),
+        (&[], &[]),
+    ];
+    for (stamps, places) in cases {
+        assert!(rt; order_of(rt.alloc(), stamps)?.as_slice() == places);
+    }
     Ok(())
 }
 
-fn value(bytes: &[u8]) -> Value
-    requires { length bytes.now ≤ VALUE_BYTES }
-{
-    Value::new(bytes).unwrap()
+// What is asked of a key. What is put is a value of one byte.
+#[derive(Clone, Copy)]
+enum Ask {
+    Get,
+    Put(u8),
+    Del,
+    Next,
 }
 
-fn put(key: u64, bytes: &[u8]) -> Op
-    requires { length bytes.now ≤ VALUE_BYTES }
-{
-    Op::Put {
-        table: 0,
-        key,
-        value: value(bytes),
+// Of which transaction it is, what is asked, of which key, and the key and the byte that are found.
+type Line = (u8, Ask, u64, Option<(u64, u8)>);
+
+// Transaction 2 asks nothing.
+const LINES: [Line; 7] = [
+    (0, Ask::Put(b'a'), 10, None),
+    (0, Ask::Put(b'b'), 20, None),
+    (1, Ask::Get, 10, Some((10, b'a'))),
+    (1, Ask::Put(b'c'), 20, None),
+    (3, Ask::Next, 11, Some((20, b'c'))),
+    (3, Ask::Del, 10, None),
+    (3, Ask::Next, 0, Some((20, b'c'))),
+];
+
+fn value(byte: u8) -> Value {
+    Value::new(&[byte]).unwrap()
+}
+
+fn op(ask: Ask, key: u64) -> Op {
+    match ask {
+        Ask::Get => Op::Get { table: 0, key },
+        Ask::Put(byte) => Op::Put {
+            table: 0,
+            key,
+            value: value(byte),
+        },
+        Ask::Del => Op::Del { table: 0, key },
+        Ask::Next => Op::Next {
+            table: 0,
+            from: key,
+        },
     }
 }
 
-fn get(key: u64) -> Op {
-    Op::Get { table: 0, key }
-}
-
-fn del(key: u64) -> Op {
-    Op::Del { table: 0, key }
-}
-
-fn next(from: u64) -> Op {
-    Op::Next { table: 0, from }
+fn reply(ask: Ask, found: Option<(u64, u8)>) -> Reply {
+    match (ask, found) {
+        (Ask::Get, Some((_, byte))) => Reply::Value(Some(value(byte))),
+        (Ask::Get, None) => Reply::Value(None),
+        (Ask::Next, Some((key, byte))) => Reply::Pair(Some((key, value(byte)))),
+        (Ask::Next, None) => Reply::Pair(None),
+        _ => Reply::Done,
+    }
 }
 
 #[test]
 fn replays_transactions(rt: HostRuntime) -> Result<(), Fail> {
-    let alloc = rt.alloc();
-    let transactions = vec![in alloc;
-        vec![in alloc; put(10, b"aa"), put(20, b"bb")]?,
-        vec![in alloc; get(10), put(20, b"a2")]?,
-        vec![in alloc]?,
-        vec![in alloc; next(11), del(10), next(0)]?,
-    ]?;
-    let mut map = Map::new(alloc);
-    let replies = replay(alloc, &mut map, &transactions)?;
-    assert_eq!(rt; replies.len(), 4);
-    assert_eq!(rt;
-        replies[0].as_slice(),
-        [Reply::Done, Reply::Done].as_slice()
-    );
-    let wanted = [Reply::Value(Some(value(b"aa"))), Reply::Done];
-    assert_eq!(rt; replies[1].as_slice(), wanted.as_slice());
-    assert!(rt; replies[2].is_empty());
-    let wanted = [
-        Reply::Pair(Some((20, value(b"a2")))),
-        Reply::Done,
-        Reply::Pair(Some((20, value(b"a2")))),
-    ];
-    assert_eq!(rt; replies[3].as_slice(), wanted.as_slice());
-    assert_eq!(rt; map.len(), 1);
+    let mut transactions = Vec::new(rt.alloc());
+    let mut wanted = Vec::new(rt.alloc());
+    for transaction in 0..4 {
+        let mut ops = Vec::new(rt.alloc());
+        let mut replies = Vec::new(rt.alloc());
+        for (of, ask, key, found) in LINES {
+            if of == transaction {
+                ops.push(op(ask, key))?;
+                replies.push(reply(ask, found))?;
+            }
+        }
+        transactions.push(ops)?;
+        wanted.push(replies)?;
+    }
+    let mut map = Map::new(rt.alloc());
+    assert!(rt; replay(rt.alloc(), &mut map, &transactions)? == wanted);
+    assert!(rt; map.len() == 1);
     Ok(())
 }

@@ -1,6 +1,6 @@
 pub mod Payload
 pub mod Frame
-pub mod Entries
+pub mod EntryWords
 pub mod Encoded
 pub mod Distinct
 pub mod Reading

@@ -1,55 +1,62 @@
 -- What the words of a block are where they are read.
-use Rattle.std.proofs.Common.{◌≡◌, ℕ, ◌+◌, ◌-◌, ◌*◌, ◌^◌, ◌<◌, ◌≤◌, List, [], ◌∷◌, ◌++◌, length, get_or, take, drop, Option, Some, None, sym, ap, ◌∙◌, arith, length-append}
+use Rattle.std.proofs.Common.{◌≡◌, ℕ, ◌+◌, ◌-◌, ◌*◌, ◌^◌, ◌<◌, ◌≤◌, List, [], ◌∷◌, ◌++◌, length, get_or, take, drop, map, replicate, Option, Some, None, refl, sym, ap, ◌∙◌, arith}
 use Rattle.std.specs.List.{flat_map, All}
-use Rattle.std.proofs.lemmas.List.{append_assoc, take_rest, take_at, take_more}
-use Rattle.std.proofs.lemmas.List.Elements.{All-weaker}
+use Rattle.std.proofs.lemmas.List.{append_assoc, append-nil, drop-replicate, length-take-le, take_rest, take_at, take_more}
+use Rattle.std.proofs.lemmas.List.Elements.{All-head, All-tail}
 use borrow.Rule.Slice.PartMut.{mid_of}
 use Rattle.arrayvec.specs.ArrayVec.{ArrayVec}
 use Rattle.erm_bytes.specs.Digest.{digest_of}
 use Rattle.erm_block.specs.declared.block.Block.{Block}
 use Rattle.erm_block.specs.declared.block.Kind.{Kind}
-use Rattle.erm_block.specs.declared.block.Kind.TheVariants.{Commit, Skip, Open}
-use Rattle.erm_block.specs.Block.{Entry, IsEntry, KeepsRulesOf}
-use Rattle.erm_block.specs.Spelling.{entry_words, header_word, name_word, payload_of, body_of, Spells}
-use Rattle.erm_block.proofs.Entries.{drop-flat_map, length-flat_map_same}
+use Rattle.erm_block.specs.declared.block.Kind.TheVariants.{OldCommit, OldSkip, Open, Commit, Skip}
+use Rattle.erm_model.specs.declared.limits.TheConstants.{GREATEST_BLOCK}
+use Rattle.erm_record.specs.Stored.{stored_length, stored_words}
+use Rattle.erm_block.specs.declared.block.Form.{Form}
+use Rattle.erm_block.specs.declared.block.Form.TheVariants.{Whole, Stored}
+use Rattle.erm_block.specs.Block.{Entry, IsEntry, IsCommit, IsSkip, KeepsRulesOf, size_with}
+use Rattle.erm_block.specs.Spelling.{entry_words, row_words, header_word, name_word, payload_of, body_of, Spells}
+use Rattle.std.proofs.lemmas.List.Sums.{sum_by-cons}
 
 -- ---- entries
 
--- an entry has seventeen words
-length-entry : (entry : Entry) → IsEntry entry → length (entry_words entry) ≡ 17
-length-entry entry is = let row = is.row in omega arith
-
--- an entry that stands in front
-pub same_entry : (oid : ℕ) (row words rest : List ℕ) (entry : Entry) → IsEntry entry → words ≡ entry_words entry ++ rest → oid ≡ get_or words 0 0 → row ≡ mid_of 1 16 words → Some (oid, row) ≡ Some entry
-same_entry oid row words rest entry is e first others =
-    let left : oid ≡ entry.0 = first ∙ ap (λ (ws : List ℕ). get_or ws 0 0) e in
-    let right : row ≡ entry.1 = others ∙ ap (λ (ws : List ℕ). mid_of 1 16 ws) e ∙ take_at entry.1 rest 16 is.row in
-    ap (λ (o : ℕ). Some (o, row)) left ∙ ap (λ (r : List ℕ). Some (entry.0, r)) right
-
 -- the words of entries and of a rest
-pub record SpellsEntries (words : List ℕ) (entries : List Entry) (rest : List ℕ) : Type 0 where
+pub record SpellsEntries (form : Form) (words : List ℕ) (entries : List Entry) (rest : List ℕ) : Type 0 where
   pub each : All IsEntry entries
-  pub words_are : words ≡ flat_map entry_words entries ++ rest
+  pub words_are : words ≡ flat_map (entry_words form) entries ++ rest
 
-counts : (entries : List Entry) → All IsEntry entries → All (λ e. length (entry_words e) ≡ 17) entries
-counts entries each = All-weaker IsEntry (λ e. length (entry_words e) ≡ 17) length-entry entries each
+-- the row of its stored words and zeros behind them
+pub stored_row : (row words rest : List ℕ) → take (stored_length row) row ++ replicate (length row - stored_length row) 0 ≡ row → stored_length row ≤ length row
+    → length row ≡ 16 → words ≡ row_words Stored row ++ rest → take (stored_length row) words ++ replicate (16 - stored_length row) 0 ≡ row
+stored_row row words rest whole short len is =
+    let many : length (take (stored_length row) row) ≡ stored_length row = length-take-le (stored_length row) row short in
+    let front : take (stored_length row) words ≡ take (stored_length row) row = ap (take (stored_length row)) is ∙ take_at (take (stored_length row) row) rest (stored_length row) many in
+    ap (λ (ws : List ℕ). ws ++ replicate (16 - stored_length row) 0) front ∙ ap (λ (n : ℕ). take (stored_length row) row ++ replicate (n - stored_length row) 0) (sym len) ∙ whole
 
--- the next entry stands in front of what wasn't read
-pub next_entry : (words : List ℕ) (entries : List Entry) (rest : List ℕ) (i : ℕ) → SpellsEntries words entries rest → i < length entries
-    → mid_of (17 * i) (length words - 17 * i) words ≡ entry_words (get_or entries i (0, [])) ++ (flat_map entry_words (drop (i + 1) entries) ++ rest)
-next_entry words entries rest i spells below =
-    take_rest words (17 * i) ∙ ap (λ (ws : List ℕ). drop (17 * i) ws) spells.words_are ∙ drop-flat_map entry_words 17 entries rest i (0, []) (counts entries spells.each) below
-
--- there are words for each entry
-pub length-spelled_entries : (words : List ℕ) (entries : List Entry) (rest : List ℕ) → SpellsEntries words entries rest → 17 * length entries ≤ length words
-length-spelled_entries words entries rest spells =
-    omega (arith, ap length spells.words_are, length-append (flat_map entry_words entries) rest, length-flat_map_same entry_words 17 entries (counts entries spells.each))
+-- an entry of which the object and the words of the row were read, with zeros behind them
+pub read_row : (short : (row : List ℕ) → stored_length row ≤ length row) (whole : (row : List ℕ) → take (stored_length row) row ++ replicate (length row - stored_length row) 0 ≡ row)
+    (form : Form) (entry : Entry) (words rest copied : List ℕ) (oid size : ℕ) → IsEntry entry → words ≡ row_words form entry.1 ++ rest → oid ≡ entry.0
+    → size ≡ length (row_words form entry.1) → copied ≡ take (size - 0) words → ◌≡◌ {A = Entry} (oid, copied ++ drop size (replicate 16 0)) entry
+read_row short whole form entry words rest copied oid size is words_are oid_is size_is copied_is =
+    let row : copied ++ drop size (replicate 16 0) ≡ entry.1 =
+    ap (λ (ws : List ℕ). ws ++ drop size (replicate 16 0)) (copied_is ∙ (let e : size - 0 ≡ size = omega arith in ap (λ (n : ℕ). take n words) e))
+    ∙ ap (λ (ws : List ℕ). take size words ++ ws) (drop-replicate size 16 0)
+    ∙ ap (λ (n : ℕ). take n words ++ replicate (16 - n) 0) size_is ∙ from form words_are in
+    ap (λ (o : ℕ). let e : Entry = (o, copied ++ drop size (replicate 16 0)) in e) oid_is ∙ ap (λ (r : List ℕ). let e : Entry = (entry.0, r) in e) row
+  where
+    from : (form : Form) → words ≡ row_words form entry.1 ++ rest → take (length (row_words form entry.1)) words ++ replicate (16 - length (row_words form entry.1)) 0 ≡ entry.1
+    from Whole at =
+        let none : 16 - length entry.1 ≡ 0 = let row = is.row in omega (arith, row) in
+        ap (λ (ws : List ℕ). take (length entry.1) ws ++ replicate (16 - length entry.1) 0) at
+        ∙ ap (λ (k : ℕ). take (length entry.1) (entry.1 ++ rest) ++ replicate k 0) none ∙ append-nil (take (length entry.1) (entry.1 ++ rest))
+        ∙ take_at entry.1 rest (length entry.1) refl
+    from Stored at =
+        let many : length (row_words Stored entry.1) ≡ stored_length entry.1 = length-take-le (stored_length entry.1) entry.1 (short entry.1) in
+        ap (λ (k : ℕ). take k words ++ replicate (16 - k) 0) many ∙ stored_row entry.1 words rest (whole entry.1) (short entry.1) is.row at
 
 -- one more entry was read
-pub read_more : (entries : List Entry) (i : ℕ) (read now : List Entry) (entry : Entry) (r : Option Entry) → i < length entries → read ≡ take i entries
-    → r ≡ Some entry → r ≡ Some (get_or entries i (0, [])) → now ≡ read ++ entry ∷ [] → now ≡ take (i + 1) entries
-read_more entries i read now entry r below before found is pushed =
-    let same : entry ≡ get_or entries i (0, []) = cc in
+pub read_more : (entries : List Entry) (i : ℕ) (read now : List Entry) (entry : Entry) → i < length entries → read ≡ take i entries
+    → entry ≡ get_or entries i (0, []) → now ≡ read ++ entry ∷ [] → now ≡ take (i + 1) entries
+read_more entries i read now entry below before same pushed =
     pushed ∙ ap (λ (es : List Entry). es ++ entry ∷ []) before ∙ ap (λ (e : Entry). take i entries ++ e ∷ []) same ∙ sym (take_more entries i (0, []) below)
 
 -- what there is is one thing
@@ -67,31 +74,41 @@ pub record IsInRange (block : Block) : Type 0 where
   pub seat : block.seat < 2 ^ 8
   pub n : block.n < 2 ^ 16
   pub number : block.number < 2 ^ 32
-  pub size : block.size ≤ 1093
+  pub size : block.size ≤ GREATEST_BLOCK
 
-pub in_range : (kind : Kind) (block : Block) (run_before : ℕ) → KeepsRulesOf kind block run_before → IsInRange block
-in_range Commit block run_before rules =
+commit_in_range : (form : Form) (block : Block) (run_before : ℕ) → IsCommit form block run_before → block.size ≤ GREATEST_BLOCK → IsInRange block
+commit_in_range form block run_before rules most =
     let t = rules.transaction in
-    record {
-      seat = omega (arith, t.seat_high);
-      n = omega (arith, t.few);
-      number = t.number_high;
-      size = omega (arith, t.few, rules.size);
-    }
-in_range Skip block run_before rules =
+    record { seat = omega (arith, t.seat_high); n = omega (arith, t.few); number = t.number_high; size = most }
+
+skip_in_range : (least : ℕ) (block : Block) (run_before : ℕ) → IsSkip least block run_before → IsInRange block
+skip_in_range least block run_before rules =
     let t = rules.transaction in
-    record {
-      seat = omega (arith, t.seat_high);
-      n = omega (arith, t.few);
-      number = t.number_high;
-      size = omega (arith, t.few, rules.size);
-    }
-in_range Open block run_before rules = record {
-  seat = omega (arith, rules.no_seat);
-  n = omega (arith, rules.no_count);
-  number = omega (arith, rules.no_number);
-  size = omega (arith, rules.size);
-}
+    record { seat = omega (arith, t.seat_high); n = omega (arith, t.few); number = t.number_high; size = omega (arith, t.few, rules.size_high) }
+
+module _ (short : (row : List ℕ) → stored_length row ≤ length row) where
+  -- stored rows take no more words than whole ones
+  pub stored_few : (entries : List Entry) → All IsEntry entries → size_with Stored entries ≤ 5 + 17 * length entries
+  stored_few [] are = omega arith
+  stored_few (e ∷ es) are =
+      let row = (All-head IsEntry e es are).row in
+      let rest = stored_few es (All-tail IsEntry e es are) in
+      omega (arith, row, rest, short e.1, sum_by-cons stored_words e.1 (map (λ (x : Entry). x.1) es))
+
+  pub in_range : (kind : Kind) (block : Block) (run_before : ℕ) → KeepsRulesOf kind block run_before → IsInRange block
+  in_range OldCommit block run_before rules =
+      let t = rules.transaction in commit_in_range Whole block run_before rules (omega (arith, t.few, rules.size, rules.count))
+  in_range OldSkip block run_before rules = skip_in_range 17 block run_before rules
+  in_range Open block run_before rules = record {
+    seat = omega (arith, rules.no_seat);
+    n = omega (arith, rules.no_count);
+    number = omega (arith, rules.no_number);
+    size = omega (arith, rules.size);
+  }
+  in_range Commit block run_before rules =
+      let t = rules.transaction in
+      commit_in_range Stored block run_before rules (omega (arith, t.few, rules.size, rules.count, stored_few block.rows.items rules.rows.each))
+  in_range Skip block run_before rules = skip_in_range 1 block run_before rules
 
 -- what stands where in words that spell a block
 pub record HasFront (words : List ℕ) (block : Block) (behind : List ℕ) : Type 0 where

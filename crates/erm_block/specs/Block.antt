@@ -1,12 +1,15 @@
 -- The grammar of log blocks: the rules that a block keeps, by its kind.
-use Rattle.std.specs.Prelude.{◌≡◌, ◌≢◌, ℕ, ◌+◌, ◌*◌, ◌<◌, ◌≤◌, ◌^◌, List, [], length}
+use Rattle.std.specs.Prelude.{◌≡◌, ◌≢◌, ℕ, ◌+◌, ◌*◌, ◌<◌, ◌≤◌, ◌^◌, List, [], length, map}
 use Rattle.std.specs.List.{All, AllPairs}
 use Rattle.erm_model.specs.declared.TheConstants.{ROW_WORDS}
+use Rattle.erm_model.specs.declared.limits.TheConstants.{LOG_END, OID_LIMIT, SESSIONS}
+use Rattle.erm_record.specs.Stored.{block_words}
 use Rattle.erm_block.specs.declared.block.Block.{Block}
+use Rattle.erm_block.specs.declared.block.Form.{Form}
+use Rattle.erm_block.specs.declared.block.Form.TheVariants.{Whole, Stored}
 use Rattle.erm_block.specs.declared.block.Kind.{Kind}
-use Rattle.erm_block.specs.declared.block.Kind.TheVariants.{Commit, Skip, Open}
-use Rattle.erm_block.specs.declared.block.TheConstants.{BLOCK_ROWS, ENTRY_WORDS, FRAME_WORDS, LOG_END, RUN_END}
-use Rattle.erm_model.specs.declared.limits.TheConstants.{OID_LIMIT, SEATS}
+use Rattle.erm_block.specs.declared.block.Kind.TheVariants.{OldCommit, OldSkip, Open, Commit, Skip}
+use Rattle.erm_block.specs.declared.block.TheConstants.{BLOCK_ROWS, ENTRY_WORDS, FRAME_WORDS, RUN_END}
 
 -- an object's number, and its row
 abbrev pub Entry : Type 0
@@ -25,11 +28,16 @@ pub record AreEntries (entries : List Entry) : Type 0 where
   -- no object has two rows
   pub distinct : AllPairs (λ a b. a.0 ≢ b.0) entries
 
+-- the size of a block with these rows, in words: whole, each takes as many words; stored, up to its last word that isn't 0
+abbrev pub size_with : Form → List Entry → ℕ
+size_with Whole entries = FRAME_WORDS + ENTRY_WORDS * length entries
+size_with Stored entries = block_words (map (λ entry. entry.1) entries)
+
 -- the block is about a transaction: it names one, and has its successor stamp
 pub record NamesTransaction (block : Block) : Type 0 where
   -- it is of one of the sessions
   pub seat_low : 1 ≤ block.seat
-  pub seat_high : block.seat ≤ SEATS
+  pub seat_high : block.seat ≤ SESSIONS
   -- its number in the session, of 32 bits, isn't 0
   pub number_low : 1 ≤ block.number
   pub number_high : block.number < 2 ^ 32
@@ -39,21 +47,22 @@ pub record NamesTransaction (block : Block) : Type 0 where
   pub succ_low : 1 ≤ block.succ
   pub succ_high : block.succ ≤ block.stamp
 
--- the transaction committed: the block has the rows that it wrote
-pub record IsCommit (block : Block) (run_before : ℕ) : Type 0 where
+-- the transaction committed: the block has the rows that it wrote, in this form
+pub record IsCommit (form : Form) (block : Block) (run_before : ℕ) : Type 0 where
   pub transaction : NamesTransaction block
   -- it is of the same run as the block before
   pub run : block.run ≡ run_before
-  pub size : block.size ≡ FRAME_WORDS + ENTRY_WORDS * block.n
+  pub size : block.size ≡ size_with form block.rows.items
   pub count : length block.rows.items ≡ block.n
   pub rows : AreEntries block.rows.items
 
--- the transaction was excluded: its place in the log is passed over
-pub record IsSkip (block : Block) (run_before : ℕ) : Type 0 where
+-- the transaction was excluded: its place in the log is passed over, of so many words at least for each row that it wrote
+pub record IsSkip (least : ℕ) (block : Block) (run_before : ℕ) : Type 0 where
   pub transaction : NamesTransaction block
   -- it is of the same run as the block before
   pub run : block.run ≡ run_before
-  pub size : block.size ≡ FRAME_WORDS + ENTRY_WORDS * block.n
+  pub size_low : FRAME_WORDS + least * block.n ≤ block.size
+  pub size_high : block.size ≤ FRAME_WORDS + ENTRY_WORDS * block.n
   pub no_rows : block.rows.items ≡ []
 
 -- a run of the engine opens: it is about no transaction
@@ -69,9 +78,11 @@ pub record IsOpen (block : Block) (run_before : ℕ) : Type 0 where
 
 -- what a block of this kind keeps
 abbrev pub KeepsRulesOf : Kind → Block → ℕ → Type 0
-KeepsRulesOf Commit block run_before = IsCommit block run_before
-KeepsRulesOf Skip block run_before = IsSkip block run_before
+KeepsRulesOf OldCommit block run_before = IsCommit Whole block run_before
+KeepsRulesOf OldSkip block run_before = IsSkip ENTRY_WORDS block run_before
 KeepsRulesOf Open block run_before = IsOpen block run_before
+KeepsRulesOf Commit block run_before = IsCommit Stored block run_before
+KeepsRulesOf Skip block run_before = IsSkip 1 block run_before
 
 -- a block of the grammar at this place of the log, behind a block of this run
 pub record IsBlock (block : Block) (at run_before : ℕ) : Type 0 where

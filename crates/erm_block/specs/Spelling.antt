@@ -1,36 +1,55 @@
 -- The words that spell a block: each block has one spelling.
-use Rattle.std.specs.Prelude.{◌≡◌, ℕ, ◌+◌, ◌*◌, ◌^◌, List, [], ◌∷◌, ◌++◌, replicate}
+use Rattle.std.specs.Prelude.{◌≡◌, ℕ, ◌+◌, ◌-◌, ◌*◌, List, [], ◌∷◌, ◌++◌, replicate, take}
 use Rattle.std.specs.List.{flat_map}
 use Rattle.erm_bytes.specs.Digest.{digest_of}
+use Rattle.erm_record.specs.Stored.{stored_length}
 use Rattle.erm_block.specs.declared.block.Block.{Block}
+use Rattle.erm_block.specs.declared.block.Form.{Form}
+use Rattle.erm_block.specs.declared.block.Form.TheVariants.{Whole, Stored}
 use Rattle.erm_block.specs.declared.block.Kind.{Kind}
-use Rattle.erm_block.specs.declared.block.Kind.TheVariants.{Commit, Skip, Open}
-use Rattle.erm_block.specs.declared.block.TheConstants.{ENTRY_WORDS}
+use Rattle.erm_block.specs.declared.block.Kind.TheVariants.{OldCommit, OldSkip, Open, Commit, Skip}
+use Rattle.erm_block.specs.declared.block.TheConstants.{FRAME_WORDS}
+use Rattle.erm_block.specs.declared.words.TheConstants.{COUNT_UNIT, LENGTH_UNIT, NUMBER_UNIT, RUN_UNIT, SIZE_UNIT}
 use Rattle.erm_block.specs.Block.{Entry, IsBlock}
 
 -- the number of a kind
 abbrev pub code_of : Kind → ℕ
-code_of Commit = 1
-code_of Skip = 2
+code_of OldCommit = 1
+code_of OldSkip = 2
 code_of Open = 3
+code_of Commit = 4
+code_of Skip = 5
 
 -- the header: the kind in bits 0 to 3, the size in bits 4 to 19, the run in bits 20 to 63
 abbrev pub header_word : Kind → ℕ → ℕ → ℕ
-header_word kind size run = code_of kind + 2 ^ 4 * size + 2 ^ 20 * run
+header_word kind size run = code_of kind + SIZE_UNIT * size + RUN_UNIT * run
 
 -- the name: the seat in bits 0 to 7, the count of rows in bits 8 to 23, the transaction's number in bits 24 to 55
 abbrev pub name_word : ℕ → ℕ → ℕ → ℕ
-name_word seat n number = seat + 2 ^ 8 * n + 2 ^ 24 * number
+name_word seat n number = seat + COUNT_UNIT * n + NUMBER_UNIT * number
 
--- an entry: the object's number, then its row
-abbrev pub entry_words : Entry → List ℕ
-entry_words entry = entry.0 ∷ entry.1
+-- the words of a row: all, or those up to the last that isn't 0
+abbrev pub row_words : Form → List ℕ → List ℕ
+row_words Whole row = row
+row_words Stored row = take (stored_length row) row
+
+-- the first word of an entry: the object's number in bits 0 to 31 and, where the row is stored up to its last word that isn't 0,
+-- how many words these are in bits 32 to 39
+abbrev pub first_word : Form → Entry → ℕ
+first_word Whole entry = entry.0
+first_word Stored entry = entry.0 + LENGTH_UNIT * stored_length entry.1
+
+-- an entry: its first word, then those of its row
+abbrev pub entry_words : Form → Entry → List ℕ
+entry_words form entry = first_word form entry ∷ row_words form entry.1
 
 -- what stands between the name and the digest in a block of this kind
 abbrev pub payload_of : Kind → Block → List ℕ
-payload_of Commit block = flat_map entry_words block.rows.items
-payload_of Skip block = replicate (ENTRY_WORDS * block.n) 0
+payload_of OldCommit block = flat_map (entry_words Whole) block.rows.items
+payload_of OldSkip block = replicate (block.size - FRAME_WORDS) 0
 payload_of Open block = []
+payload_of Commit block = flat_map (entry_words Stored) block.rows.items
+payload_of Skip block = replicate (block.size - FRAME_WORDS) 0
 
 -- a block's words but the digest
 abbrev pub body_of : Block → List ℕ

@@ -1,8 +1,10 @@
 //! What a block of the log says.
 use arrayvec::ArrayVec;
-use erm_model::{GREATEST_BLOCK, LAST_RUN, LEAST_BLOCK, Oid, ROW_WORDS, Row, Seat, Stamp, WRITE_LIMIT};
+use erm_model::{
+    GREATEST_BLOCK, LAST_RUN, LEAST_BLOCK, Oid, ROW_WORDS, Row, Seat, Stamp, WRITE_LIMIT,
+};
 
-/// How many words an entry has: an object's number and its row.
+/// The most words that an entry has: an object's number and its whole row.
 pub const ENTRY_WORDS: usize = 1 + ROW_WORDS;
 
 /// How many words a block has before its payload.
@@ -23,12 +25,26 @@ pub const RUN_END: u64 = LAST_RUN + 1;
 /// What a block is about.
 #[derive(Clone, Copy, Debug, PartialEq, Eq)]
 pub enum Kind {
-    /// A transaction that committed, with the rows that it wrote.
-    Commit = 1,
-    /// A transaction that was excluded: its place is passed over.
-    Skip = 2,
+    /// A transaction that committed, with the rows that it wrote, each whole. It is read, and no longer written.
+    OldCommit = 1,
+    /// A transaction that was excluded: its place, of as many words as a commit of whole rows, is passed over. It is read,
+    /// and no longer written.
+    OldSkip = 2,
     /// A run of the engine that opens.
     Open = 3,
+    /// A transaction that committed, with the rows that it wrote, each up to its last word that isn't 0.
+    Commit = 4,
+    /// A transaction that was excluded: its place is passed over.
+    Skip = 5,
+}
+
+/// How the rows of a commit stand in its block.
+#[derive(Clone, Copy, Debug, PartialEq, Eq)]
+pub enum Form {
+    /// Each with all its words.
+    Whole,
+    /// Each up to its last word that isn't 0.
+    Stored,
 }
 
 /// A block of the log.

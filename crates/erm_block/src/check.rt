@@ -1,10 +1,11 @@
 //! Whether a block keeps the rules.
-ghost use Rattle.std.specs.Prelude.{◌≡◌, ◌≢◌, ◌↔◌, IsTrue};
+ghost use Rattle.std.specs.Prelude.{◌≡◌, ◌≢◌, ◌≤◌, ◌↔◌, IsTrue};
 ghost use Rattle.std.specs.List.{All, AllPairs, Any};
 ghost use Rattle.erm_block.specs.Block.{AreEntries, IsBlock, IsCommit, IsEntry, IsOpen, IsSkip, KeepsRulesOf, NamesTransaction};
 
-use crate::{BLOCK_ROWS, Block, ENTRY_WORDS, FRAME_WORDS, Kind, LOG_END, RUN_END};
-use erm_model::{OID_LIMIT, Oid, Row, SEATS, Stamp};
+use crate::entries::size_with;
+use crate::{BLOCK_ROWS, Block, ENTRY_WORDS, FRAME_WORDS, Form, Kind, RUN_END};
+use erm_model::{LOG_END, OID_LIMIT, Oid, Row, SESSIONS, Stamp};
 
 /// Whether it is a block of the grammar at this place, behind a block of this run. Where it is one at its own stamp,
 /// `encode_into` can write it.
@@ -21,28 +22,35 @@ fn keeps_rules(block: &Block, run_before: u64) -> bool
     ensures { IsTrue result ↔ KeepsRulesOf block.now.kind block.now run_before }
 {
     match block.kind {
-        Kind::Commit => is_commit(block, run_before),
-        Kind::Skip => is_skip(block, run_before),
+        Kind::OldCommit => is_commit(block, Form::Whole, run_before),
+        Kind::OldSkip => is_skip(block, ENTRY_WORDS, run_before),
         Kind::Open => is_open(block, run_before),
+        Kind::Commit => is_commit(block, Form::Stored, run_before),
+        Kind::Skip => is_skip(block, 1, run_before),
     }
 }
 
-fn is_commit(block: &Block, run_before: u64) -> bool
-    ensures { IsTrue result ↔ IsCommit block.now run_before }
+fn is_commit(block: &Block, form: Form, run_before: u64) -> bool
+    ensures { IsTrue result ↔ IsCommit form block.now run_before }
 {
     names_transaction(block)
         && block.run == run_before
-        && usize::from(block.size) == FRAME_WORDS + ENTRY_WORDS * usize::from(block.n)
+        && usize::from(block.size) == size_with(form, &block.rows)
         && block.rows.len() == usize::from(block.n)
         && are_entries(&block.rows)
 }
 
-fn is_skip(block: &Block, run_before: u64) -> bool
-    ensures { IsTrue result ↔ IsSkip block.now run_before }
+// Whether the block is of a transaction that was excluded, with so many words at least for each row.
+fn is_skip(block: &Block, least: usize, run_before: u64) -> bool
+    requires { least ≤ ENTRY_WORDS }
+    ensures { IsTrue result ↔ IsSkip least block.now run_before }
 {
+    let size = usize::from(block.size);
+    let count = usize::from(block.n);
     names_transaction(block)
         && block.run == run_before
-        && usize::from(block.size) == FRAME_WORDS + ENTRY_WORDS * usize::from(block.n)
+        && FRAME_WORDS + least * count <= size
+        && size <= FRAME_WORDS + ENTRY_WORDS * count
         && block.rows.is_empty()
 }
 
@@ -61,7 +69,7 @@ fn is_open(block: &Block, run_before: u64) -> bool
 fn names_transaction(block: &Block) -> bool
     ensures { IsTrue result ↔ NamesTransaction block.now }
 {
-    (1..=SEATS).contains(&block.seat)
+    (1..=SESSIONS).contains(&block.seat)
         && block.number >= 1
         && usize::from(block.n) <= BLOCK_ROWS
         && (1..=block.stamp).contains(&block.succ)

@@ -1,21 +1,29 @@
 //! Laws of the grammar of blocks.
-ghost use Rattle.std.specs.Prelude.{◌≡◌, ℕ, ◌++◌, List, [], ◌∷◌, length};
+ghost use Rattle.std.specs.Prelude.{◌≡◌, ◌≤◌, ℕ, ◌++◌, List, [], ◌∷◌, length};
 ghost use Rattle.erm_model.specs.Rows.{Rows};
 ghost use Rattle.erm_block.specs.declared.block.Block.{Block};
+ghost use Rattle.erm_block.specs.declared.block.TheConstants.{BLOCK_WORDS};
 ghost use Rattle.erm_block.specs.Block.{IsBlock};
 ghost use Rattle.erm_block.specs.Spelling.{spelling};
-ghost use Rattle.erm_block.specs.LogList.{Continues, IsChain, IsLogList, end_of};
+ghost use Rattle.erm_block.specs.LogList.{Continues, End, IsChain, IsLogList, end_of};
 
-/// A block is spelled in as many words as its size says.
+use erm_record::stored_words_tell_the_row;
+
+/// A block is spelled in as many words as its size says, and these are no more than a block has.
 pub fn spelling_size()
-    ensures { (block : Block) (at run_before : ℕ) → IsBlock block at run_before → length (spelling block) ≡ block.size }
-{}
+    ensures size { (block : Block) (at run_before : ℕ) → IsBlock block at run_before → length (spelling block) ≡ block.size }
+    ensures most { (block : Block) (at run_before : ℕ) → IsBlock block at run_before → block.size ≤ BLOCK_WORDS }
+{
+    stored_words_tell_the_row();
+}
 
 /// No block's spelling begins another's: where two stand at one place they are one block.
 pub fn one_spelling()
     ensures { (a b : Block) (at_a run_a at_b run_b : ℕ) (x y : List ℕ) → IsBlock a at_a run_a → IsBlock b at_b run_b
         → spelling a ++ x ≡ spelling b ++ y → a ≡ b }
-{}
+{
+    stored_words_tell_the_row();
+}
 
 /// What makes the rows of all objects sound.
 pub trait RowRule {
@@ -25,21 +33,22 @@ pub trait RowRule {
 
 /// Words have one log list from a place with a run and rows on.
 pub fn one_log_list<R: RowRule>()
-    ensures { (words : List ℕ) (at run : ℕ) (rows : Rows) (a b : List Block)
-        → IsLogList R.sound words at run rows a → IsLogList R.sound words at run rows b → a ≡ b }
-{}
+    ensures { (end : End) (a b : List Block) → IsLogList R.sound end a → IsLogList R.sound end b → a ≡ b }
+{
+    stored_words_tell_the_row();
+}
 
 /// A block that goes on from the end of a chain makes it longer.
 pub fn chain_grows<R: RowRule>()
-    ensures { (words : List ℕ) (at run : ℕ) (rows : Rows) (blocks : List Block) (block : Block)
-        → IsChain R.sound words at run rows blocks → Continues R.sound (end_of words at run rows blocks) block
-        → IsChain R.sound words at run rows (blocks ++ block ∷ []) }
+    ensures { (end : End) (blocks : List Block) (block : Block)
+        → IsChain R.sound end blocks → Continues R.sound (end_of end blocks) block
+        → IsChain R.sound end (blocks ++ block ∷ []) }
 {}
 
 /// A chain from whose end no block goes on is the log list.
 pub fn chain_ends<R: RowRule>()
-    ensures { (words : List ℕ) (at run : ℕ) (rows : Rows) (blocks : List Block)
-        → IsChain R.sound words at run rows blocks
-        → ((block : Block) → Continues R.sound (end_of words at run rows blocks) block → ⊥)
-        → IsLogList R.sound words at run rows blocks }
-{}
+    ensures { (end : End) (blocks : List Block) → IsChain R.sound end blocks
+        → ((block : Block) → Continues R.sound (end_of end blocks) block → ⊥) → IsLogList R.sound end blocks }
+{
+    stored_words_tell_the_row();
+}

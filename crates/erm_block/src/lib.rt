@@ -4,12 +4,13 @@
 mod block;
 mod check;
 mod encode;
+mod entries;
 mod laws;
 mod read;
 mod words;
 
 pub use block::{
-    BLOCK_ROWS, BLOCK_WORDS, Block, ENTRY_WORDS, FRAME_WORDS, HEAD_WORDS, Kind, LOG_END, RUN_END,
+    BLOCK_ROWS, BLOCK_WORDS, Block, ENTRY_WORDS, FRAME_WORDS, Form, HEAD_WORDS, Kind, RUN_END,
 };
 pub use check::is_block;
 pub use encode::encode_into;

@@ -1,17 +1,16 @@
 //! Blocks from words.
-ghost use Rattle.std.specs.Prelude.{◌≡◌, ℕ, ◌≤◌, ◌++◌, List, Some, IfSome, length};
-ghost use Rattle.std.specs.List.{flat_map, All};
+ghost use Rattle.std.specs.Prelude.{◌≡◌, ℕ, ◌++◌, List, Some, IfSome};
 ghost use Rattle.erm_block.specs.declared.block.Block.{Block};
-ghost use Rattle.erm_block.specs.Block.{Entry, IsEntry, KeepsRulesOf};
-ghost use Rattle.erm_block.specs.Spelling.{StandsAt, entry_words, payload_of};
+ghost use Rattle.erm_block.specs.Block.{KeepsRulesOf};
+ghost use Rattle.erm_block.specs.Spelling.{StandsAt, payload_of};
 
 use crate::check::is_block;
+use crate::entries::read_entries;
 use crate::words::{header_parts, name_parts};
-use crate::{
-    BLOCK_ROWS, BLOCK_WORDS, Block, ENTRY_WORDS, FRAME_WORDS, HEAD_WORDS, Kind, encode_into,
-};
+use crate::{BLOCK_ROWS, BLOCK_WORDS, Block, FRAME_WORDS, Form, HEAD_WORDS, Kind, encode_into};
 use arrayvec::ArrayVec;
-use erm_model::{OID_LIMIT, Oid, ROW_WORDS, Row, Stamp};
+use erm_model::{Oid, Row, Stamp};
+use erm_record::stored_words_tell_the_row;
 
 /// Reads the block at the front of the words, which are the log's from `at` on, behind a block of this run. Where no
 /// block of the grammar stands there, it answers `None`. What follows the block isn't looked at.
@@ -19,6 +18,7 @@ pub fn read_block(words: &[u64], at: Stamp, run_before: u64) -> Option<Block>
     ensures found { IfSome result (λ block. StandsAt words.now block at run_before) }
     ensures given { (block : Block) → StandsAt words.now block at run_before → result ≡ Some block }
 {
+    stored_words_tell_the_row();
     let block = candidate(words)?;
     if !is_block(&block, at, run_before) {
         return None;
@@ -32,6 +32,7 @@ pub fn read_block(words: &[u64], at: Stamp, run_before: u64) -> Option<Block>
 fn candidate(words: &[u64]) -> Option<Block>
     ensures { (block : Block) (at run_before : ℕ) → StandsAt words.now block at run_before → result ≡ Some block }
 {
+    stored_words_tell_the_row();
     if words.len() < FRAME_WORDS {
         return None;
     }
@@ -57,36 +58,8 @@ fn read_payload(payload: &[u64], kind: Kind, n: u16) -> Option<ArrayVec<(Oid, Ro
         → payload.now ≡ payload_of kind block ++ rest → result ≡ Some block.rows }
 {
     match kind {
-        Kind::Commit => read_entries(payload, usize::from(n)),
-        Kind::Skip | Kind::Open => Some(ArrayVec::new()),
+        Kind::OldCommit => read_entries(payload, Form::Whole, usize::from(n)),
+        Kind::Commit => read_entries(payload, Form::Stored, usize::from(n)),
+        Kind::OldSkip | Kind::Skip | Kind::Open => Some(ArrayVec::new()),
     }
-}
-
-// The entries at the front of the words.
-fn read_entries(words: &[u64], count: usize) -> Option<ArrayVec<(Oid, Row), BLOCK_ROWS>>
-    ensures { (entries : List Entry) (rest : List ℕ) → All IsEntry entries → length entries ≡ count → count ≤ BLOCK_ROWS
-        → words.now ≡ flat_map entry_words entries ++ rest → result ≡ Some (record { items = entries }) }
-{
-    if count > BLOCK_ROWS || words.len() < ENTRY_WORDS * count {
-        return None;
-    }
-    let mut entries = ArrayVec::new();
-    for i in 0..count {
-        let entry = read_entry(&words[ENTRY_WORDS * i..])?;
-        entries.push(entry);
-    }
-    Some(entries)
-}
-
-// The entry at the front of the words.
-fn read_entry(words: &[u64]) -> Option<(Oid, Row)>
-    requires { ENTRY_WORDS ≤ length words.now }
-    ensures { (entry : Entry) (rest : List ℕ) → IsEntry entry → words.now ≡ entry_words entry ++ rest → result ≡ Some entry }
-{
-    if words[0] >= u64::from(OID_LIMIT) {
-        return None;
-    }
-    let mut row = [0; ROW_WORDS];
-    row.copy_from_slice(&words[1..ENTRY_WORDS]);
-    Some((words[0] as Oid, row))
 }

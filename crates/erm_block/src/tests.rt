@@ -1,231 +1,334 @@
 use super::*;
 use arrayvec::ArrayVec;
+use erm_bytes::digest_word;
 use erm_model::{Oid, Row};
 use std::process::Abort;
 use std::test::*;
 
+// A block's words: their number, the block's kind, the run of the block before, and the words that aren't 0 by their places.
 // The digests are of another implementation of SHA-256.
-const OPEN: [u64; 5] = [1048659, 8, 0, 0, 0x1f73_ff74_8bce_0b21];
+#[derive(Clone, Copy)]
+struct Spelling {
+    size: usize,
+    kind: Kind,
+    run_before: u64,
+    places: &'static [(usize, u64)],
+}
 
-const COMMIT: [(usize, u64); 15] = [
-    (0, 1049473),
-    (1, 13),
-    (2, 13),
-    (3, 16777985),
-    (4, 16),
-    (5, 2),
-    (6, 1),
-    (7, 0x61),
-    (21, 17),
-    (22, 1),
-    (38, 18),
-    (39, 2),
-    (40, 8),
-    (41, 0x6867_6665_6463_6261),
-    (55, 0xe193_60b5_e959_3815),
+// A run that opens.
+const OPEN: Spelling = Spelling {
+    size: 5,
+    kind: Kind::Open,
+    run_before: 0,
+    places: &[(0, 1048659), (1, 8), (4, 0x1f73ff748bce0b21)],
+};
+
+// A commit of three whole rows.
+const OLD_COMMIT: Spelling = Spelling {
+    size: 56,
+    kind: Kind::OldCommit,
+    run_before: 1,
+    places: &[
+        (0, 1049473),
+        (1, 13),
+        (2, 13),
+        (3, 16777985),
+        (4, 16),
+        (5, 2),
+        (6, 1),
+        (7, 97),
+        (21, 17),
+        (22, 1),
+        (38, 18),
+        (39, 2),
+        (40, 8),
+        (41, 0x6867666564636261),
+        (55, 0xe19360b5e9593815),
+    ],
+};
+
+// A skip of as many words as a whole row takes.
+const OLD_SKIP: Spelling = Spelling {
+    size: 22,
+    kind: Kind::OldSkip,
+    run_before: 1,
+    places: &[
+        (0, 1048930),
+        (1, 69),
+        (2, 13),
+        (3, 33554689),
+        (21, 0x3e3920d4a274ec76),
+    ],
+};
+
+// A commit of two records and a leaf, each up to its last word that isn't 0.
+const COMMIT: Spelling = Spelling {
+    size: 25,
+    kind: Kind::Commit,
+    run_before: 1,
+    places: &[
+        (0, 1048980),
+        (1, 13),
+        (2, 13),
+        (3, 16777985),
+        (4, 0x300000010),
+        (5, 2),
+        (6, 1),
+        (7, 170),
+        (8, 0xb00000000),
+        (9, 3),
+        (10, 2),
+        (11, 10),
+        (12, 20),
+        (18, 16),
+        (19, 17),
+        (20, 0x300000011),
+        (21, 2),
+        (22, 1),
+        (23, 187),
+        (24, 0x6619f08dce89f283),
+    ],
+};
+
+// A skip for two rows.
+const SKIP: Spelling = Spelling {
+    size: 22,
+    kind: Kind::Skip,
+    run_before: 1,
+    places: &[
+        (0, 1048933),
+        (1, 47),
+        (2, 38),
+        (3, 16777730),
+        (21, 0xc1c62812661b90cf),
+    ],
+};
+
+// A commit of a row of zeros, of one with zeros inside, and of one without zeros.
+const ZEROS: Spelling = Spelling {
+    size: 34,
+    kind: Kind::Commit,
+    run_before: 2,
+    places: &[
+        (0, 2097700),
+        (1, 100),
+        (2, 60),
+        (3, 0xffffffff000330),
+        (4, 5),
+        (5, 0xa00003fff),
+        (11, 7),
+        (15, 0x8000000000000000),
+        (16, 0x1000000011),
+        (17, 1),
+        (18, 1),
+        (19, 1),
+        (20, 1),
+        (21, 1),
+        (22, 1),
+        (23, 1),
+        (24, 1),
+        (25, 1),
+        (26, 1),
+        (27, 1),
+        (28, 1),
+        (29, 1),
+        (30, 1),
+        (31, 1),
+        (32, 1),
+        (33, 0x339ff97466111db4),
+    ],
+};
+
+// A commit without rows.
+const EMPTY: Spelling = Spelling {
+    size: 5,
+    kind: Kind::Commit,
+    run_before: 1,
+    places: &[
+        (0, 1048660),
+        (1, 13),
+        (2, 13),
+        (3, 16777217),
+        (4, 0xe6802a0a51c9e91d),
+    ],
+};
+
+const SPELLINGS: [Spelling; 7] = [OPEN, OLD_COMMIT, OLD_SKIP, COMMIT, SKIP, ZEROS, EMPTY];
+
+// The header, the name and the digest of the greatest commit: the words of row i are all i + 1.
+const GREATEST: [(usize, u64); 5] = [
+    (0, 3180628),
+    (1, 65526),
+    (2, 9),
+    (3, 0xffffffff008030),
+    (2180, 0xa8f9dd142f0d99ff),
 ];
 
-const SKIP: [(usize, u64); 5] = [
-    (0, 1048930),
-    (1, 69),
-    (2, 13),
-    (3, 33554689),
-    (21, 0x3e39_20d4_a274_ec76),
+// One word of a spelling is another: which spelling and word, what it says, and whether this is a block once the digest is right.
+const CHANGES: [(usize, usize, u64, bool); 49] = [
+    // OPEN
+    (0, 0, 1048675, false),
+    (0, 0, 2097235, true),
+    (0, 1, 0x1ffffffffffffffb, true),
+    (0, 1, 0x1ffffffffffffffc, false),
+    (0, 2, 1, false),
+    (0, 3, 1, false),
+    // OLD_COMMIT
+    (1, 20, 9, true),
+    (1, 21, 16, false),
+    (1, 38, 16383, true),
+    (1, 38, 16384, false),
+    (1, 38, 0x1000000012, false),
+    // OLD_SKIP
+    (2, 0, 1048928, false),
+    (2, 0, 1048933, true),
+    (2, 0, 1048934, false),
+    (2, 2, 0, false),
+    (2, 2, 69, true),
+    (2, 2, 70, false),
+    (2, 3, 33554736, true),
+    (2, 3, 33554737, false),
+    (2, 3, 33554688, false),
+    (2, 3, 257, false),
+    (2, 3, 33554945, false),
+    (2, 3, 0x100000002000101, false),
+    (2, 4, 16, false),
+    (2, 20, 1, false),
+    // COMMIT
+    (3, 0, 1048977, false),
+    (3, 0, 1048981, false),
+    (3, 4, 0x200000010, false),
+    (3, 4, 0x300000011, false),
+    (3, 4, 0x10300000010, false),
+    (3, 6, 0, true),
+    (3, 7, 0, false),
+    (3, 20, 0x300000010, false),
+    (3, 20, 0x300003fff, true),
+    (3, 20, 0x300004000, false),
+    (3, 23, 0, false),
+    // SKIP
+    (4, 0, 1048949, false),
+    (4, 3, 16777218, false),
+    (4, 3, 16777474, true),
+    (4, 3, 16781570, true),
+    (4, 3, 16781826, false),
+    (4, 20, 1, false),
+    // ZEROS
+    (5, 4, 0x100000005, false),
+    (5, 15, 0, false),
+    (5, 32, 0, false),
+    (5, 32, 9, true),
+    // EMPTY
+    (6, 0, 1048657, true),
+    (6, 0, 1048658, true),
+    (6, 0, 1048661, true),
 ];
 
-const COMMIT_WITHOUT_ROWS: [u64; 5] = [1048657, 13, 13, 0x0100_0001, 0xf263_2eca_62db_8290];
-
-// One word of an example is another: which, what it says, the digest that is right then, and whether this is a block.
-type Change = (usize, u64, u64, bool);
-
-const OPEN_CHANGES: [Change; 5] = [
-    (0, 1048675, 0xa84a_a14b_7270_ea55, false),
-    (1, (1 << 61) - 5, 0x0303_24bc_4935_a109, true),
-    (1, (1 << 61) - 4, 0xc45b_bd34_1491_95d8, false),
-    (2, 1, 0x7edc_fc23_8323_7483, false),
-    (3, 1, 0x12fb_7410_0226_b85a, false),
-];
-
-const COMMIT_CHANGES: [Change; 3] = [
-    (21, 16, 0x1906_0489_f546_55d0, false),
-    (38, 1023, 0xe1a1_938e_498e_2730, true),
-    (38, 1024, 0x2091_85c9_5a79_5116, false),
-];
-
-const SKIP_CHANGES: [Change; 13] = [
-    (0, 1048928, 0xee3e_82be_e1b4_5aad, false),
-    (0, 1048932, 0xdafb_f30b_7cde_923f, false),
-    (2, 0, 0xff2a_1187_dfb3_d0de, false),
-    (2, 69, 0x072c_8c81_6438_8775, true),
-    (2, 70, 0x1e66_a493_f24d_1b1d, false),
-    (3, 0x0200_0110, 0x603f_3d63_30e6_c5bd, true),
-    (3, 0x0200_0111, 0x3152_3bcc_c732_0e8a, false),
-    (3, 0x0200_0100, 0xa8d2_ffac_3af7_bcb2, false),
-    (3, 0x0101, 0x8c8b_388f_9531_fc54, false),
-    (3, 0x0200_0201, 0x6aa0_13fd_abb0_61e0, false),
-    (3, 0x0100_0000_0200_0101, 0x1359_d637_1dda_7644, false),
-    (4, 16, 0xd8fe_2857_31fe_24b8, false),
-    (20, 1, 0x8f10_81b5_4c39_a68d, false),
-];
-
-fn words_at<const N: usize>(rt: &impl Abort, places: &[(usize, u64)]) -> [u64; N] {
-    let mut words = [0; N];
+// The words of places.
+fn words_at(rt: &impl Abort, places: &[(usize, u64)]) -> [u64; BLOCK_WORDS] {
+    let mut words = [0; BLOCK_WORDS];
     for (place, word) in places {
-        assert!(rt; *place < N);
+        assert!(rt; *place < BLOCK_WORDS);
         words[*place] = *word;
     }
     words
 }
 
-fn block_without_rows(kind: Kind, stamp: u64, size: u16) -> Block {
-    Block {
-        kind,
-        run: 1,
-        stamp,
-        succ: 0,
-        seat: 0,
-        number: 0,
-        n: 0,
-        size,
-        rows: ArrayVec::new(),
+// The block is read, spelled so again, with nothing written behind, and no block with a bit of a word turned, with the last word
+// missing, at another place, or behind another run.
+fn is_spelled_so(rt: &impl Abort, spelling: &Spelling) {
+    let size = spelling.size;
+    assert!(rt; 5 <= size && size <= BLOCK_WORDS);
+    let mut words = words_at(rt, spelling.places);
+    let at = words[1];
+    let found = read_block(&words[..size], at, spelling.run_before);
+    let Some(block) = found else {
+        panic!(rt; "no block of {size} words")
+    };
+    assert_eq!(rt; block.kind, spelling.kind);
+    assert!(rt; is_block(&block, at, spelling.run_before));
+    assert!(rt; usize::from(block.size) == size);
+    let mut out = [7; BLOCK_WORDS];
+    let written = encode_into(&mut out, &block);
+    assert_eq!(rt; written, size);
+    assert_eq!(rt; out[..size], words[..size]);
+    assert!(rt; out[size..].iter().all(|word| *word == 7));
+    for word in 0..size {
+        words[word] ^= 1 << (word % 64);
+        assert_eq!(rt;
+            read_block(&words, at, spelling.run_before),
+            None,
+            "word {word} of {size}"
+        );
+        words[word] ^= 1 << (word % 64);
     }
-}
-
-// The block is spelled so, and read again, whatever stands behind it.
-fn is_spelled_so(rt: &impl Abort, block: Block, run_before: u64, want: &[u64]) {
-    assert!(rt; is_block(&block, block.stamp, run_before));
-    assert!(rt; usize::from(block.size) <= BLOCK_WORDS);
-    let mut words = [7; BLOCK_WORDS];
-    assert_eq!(rt; encode_into(&mut words, &block), want.len());
-    assert!(rt; words.starts_with(want));
-    assert!(rt; words.iter().skip(want.len()).all(|word| *word == 7));
-    assert_eq!(rt; read_block(&words, block.stamp, run_before), Some(block));
+    assert_eq!(rt;
+        read_block(&words[..size - 1], at, spelling.run_before),
+        None
+    );
+    assert_eq!(rt; read_block(&words, at + 1, spelling.run_before), None);
+    assert_eq!(rt; read_block(&words, at, spelling.run_before + 1), None);
 }
 
 #[test]
-fn each_kind(rt: HostRuntime) -> Result<(), Fail> {
-    is_spelled_so(&rt, block_without_rows(Kind::Open, 8, 5), 0, &OPEN);
-
-    let mut rows: [(Oid, Row); 3] = [(16, [0; 16]), (17, [0; 16]), (18, [0; 16])];
-    rows[0].1[0] = 2;
-    rows[0].1[1] = 1;
-    rows[0].1[2] = 0x61;
-    rows[1].1[0] = 1;
-    rows[2].1[0] = 2;
-    rows[2].1[1] = 8;
-    rows[2].1[2] = 0x6867_6665_6463_6261;
-    let commit = Block {
-        succ: 13,
-        seat: 1,
-        number: 1,
-        n: 3,
-        rows: ArrayVec::try_from(rows.as_slice())
-            .ok()
-            .ok_or("three rows fit")?,
-        ..block_without_rows(Kind::Commit, 13, 56)
-    };
-    is_spelled_so(&rt, commit, 1, &words_at::<56>(&rt, &COMMIT));
-
-    let skip = Block {
-        succ: 13,
-        seat: 1,
-        number: 2,
-        n: 1,
-        ..block_without_rows(Kind::Skip, 69, 22)
-    };
-    is_spelled_so(&rt, skip, 1, &words_at::<22>(&rt, &SKIP));
-    Ok(())
-}
-
-// A block with all the rows that one has, the front of which lies in one segment and the rest in the next.
-#[test]
-fn most_rows(rt: HostRuntime) -> Result<(), Fail> {
-    let mut rows: [(Oid, Row); BLOCK_ROWS] = [(0, [0; 16]); BLOCK_ROWS];
-    let mut want = [0; BLOCK_WORDS];
-    want[0] = 3163217;
-    want[1] = 65526;
-    want[2] = 9;
-    want[3] = 0x00ff_ffff_ff00_4010;
-    for i in 0..BLOCK_ROWS {
-        rows[i].0 = 960 + i as Oid;
-        rows[i].1[0] = 2;
-        rows[i].1[1] = 8;
-        rows[i].1[2] = i as u64;
-        want[4 + 17 * i] = 960 + i as u64;
-        want[5 + 17 * i] = 2;
-        want[6 + 17 * i] = 8;
-        want[7 + 17 * i] = i as u64;
-    }
-    want[1092] = 0x9e9b_b974_91d3_6024;
-    let block = Block {
-        kind: Kind::Commit,
-        run: 3,
-        stamp: 65526,
-        succ: 9,
-        seat: 16,
-        number: u32::MAX,
-        n: 64,
-        size: 1093,
-        rows: ArrayVec::try_from(rows.as_slice())
-            .ok()
-            .ok_or("64 rows fit")?,
-    };
-    is_spelled_so(&rt, block, 3, &want);
-    Ok(())
-}
-
-// A block that follows run 1, and no block where a bit of one word is turned.
-fn no_word_may_change<const N: usize>(rt: &impl Abort, words: &[u64; N]) {
-    assert!(rt; N > 1);
-    assert!(rt; read_block(words, words[1], 1).is_some());
-    for word in 0..N {
-        let mut other = *words;
-        other[word] ^= 1 << (word % 64);
-        assert_eq!(rt; read_block(&other, words[1], 1), None, "word {word}");
-    }
-}
-
-#[test]
-fn other_words(rt: HostRuntime) {
-    let words = words_at::<56>(&rt, &COMMIT);
-    let short = &words[..55];
-    no_word_may_change(&rt, &words);
-    no_word_may_change(&rt, &words_at::<22>(&rt, &SKIP));
-    // At another place, of another run, and with its last word missing.
-    assert_eq!(rt; read_block(&words, 12, 1), None);
-    assert_eq!(rt; read_block(&words, 13, 2), None);
-    assert_eq!(rt; read_block(&words, 13, 0), None);
-    assert_eq!(rt; read_block(short, 13, 1), None);
-    // An Open block is of a later run than the block before.
-    assert!(rt; read_block(&OPEN, 8, 0).is_some());
-    assert_eq!(rt; read_block(&OPEN, 8, 1), None);
-}
-
-// With each change and the digest that is right then: at its own place, behind this run.
-fn are_judged_so<const N: usize>(
-    rt: &impl Abort,
-    words: &[u64; N],
-    run_before: u64,
-    changes: &[Change],
-) {
-    assert!(rt; N > 1);
-    for (word, value, digest, is) in changes {
-        let mut other = *words;
-        assert!(rt; *word < N);
-        other[*word] = *value;
-        other[N - 1] = *digest;
-        let block = read_block(&other, other[1], run_before);
-        assert_eq!(rt; block.is_some(), *is, "word {word}: {value}");
+fn spellings(rt: HostRuntime) {
+    for spelling in &SPELLINGS {
+        is_spelled_so(&rt, spelling);
     }
 }
 
 // The digest is right, so that the rules of the grammar decide.
 #[test]
 fn rules(rt: HostRuntime) {
-    are_judged_so(&rt, &OPEN, 0, &OPEN_CHANGES);
-    are_judged_so(&rt, &words_at::<56>(&rt, &COMMIT), 1, &COMMIT_CHANGES);
-    are_judged_so(&rt, &words_at::<22>(&rt, &SKIP), 1, &SKIP_CHANGES);
-    assert!(rt; read_block(&COMMIT_WITHOUT_ROWS, 13, 1).is_some());
+    for (index, word, value, is) in &CHANGES {
+        assert!(rt; *index < SPELLINGS.len());
+        let spelling = &SPELLINGS[*index];
+        let size = spelling.size;
+        assert!(rt; 5 <= size && size <= BLOCK_WORDS && *word < BLOCK_WORDS);
+        let mut words = words_at(&rt, spelling.places);
+        words[*word] = *value;
+        words[size - 1] = digest_word(&words[..size - 1]);
+        let block = read_block(&words[..size], words[1], spelling.run_before);
+        assert_eq!(rt;
+            block.is_some(),
+            *is,
+            "spelling {index}, word {word}: {value}"
+        );
+    }
+}
+
+// A block with as many whole rows as there may be, the front of which lies in one segment and the rest in the next.
+#[test]
+fn greatest(rt: HostRuntime) -> Result<(), Fail> {
+    let mut want = words_at(&rt, &GREATEST);
+    let mut rows: [(Oid, Row); BLOCK_ROWS] = [(0, [0; 16]); BLOCK_ROWS];
+    for i in 0..BLOCK_ROWS {
+        rows[i] = (16256 + i as Oid, [i as u64 + 1; 16]);
+        want[4 + 17 * i] = (16 << 32) + 16256 + i as u64;
+        for k in 0..16 {
+            want[5 + 17 * i + k] = i as u64 + 1;
+        }
+    }
+    let rows = ArrayVec::try_from(rows.as_slice())
+        .ok()
+        .ok_or("128 rows fit")?;
+    let block = Block {
+        kind: Kind::Commit,
+        run: 3,
+        stamp: 65526,
+        succ: 9,
+        seat: 48,
+        number: u32::MAX,
+        n: 128,
+        size: 2181,
+        rows,
+    };
+    assert!(rt; is_block(&block, 65526, 3));
+    let mut words = [7; BLOCK_WORDS];
+    assert_eq!(rt; encode_into(&mut words, &block), BLOCK_WORDS);
+    assert_eq!(rt; words, want);
+    assert_eq!(rt; read_block(&words, 65526, 3), Some(block));
+    Ok(())
 }
 
 struct AnyRows;

@@ -1,7 +1,6 @@
 use super::*;
-use std::test::*;
 
-// Made by another implementation of SHA-256.
+// Words and their digests, made by another implementation of SHA-256.
 #[test]
 fn digests(rt: HostRuntime) {
     let cases: [(&[u64], u64); 6] = [
@@ -13,27 +12,25 @@ fn digests(rt: HostRuntime) {
         (&[1048659, 8, 0, 0], 0x1f73_ff74_8bce_0b21),
     ];
     for (words, want) in cases {
-        assert_eq!(rt; digest_word(words), want);
+        assert!(rt; digest_word(words) == want);
     }
 }
 
-#[test]
-fn words_and_bytes(rt: HostRuntime) {
-    let words = [1048659, 1049473, 1048930, 16777985];
-    let bytes = [
-        0x53, 0x00, 0x10, 0, 0, 0, 0, 0, 0x81, 0x03, 0x10, 0, 0, 0, 0, 0, 0x62, 0x01, 0x10, 0, 0,
-        0, 0, 0, 0x01, 0x03, 0x00, 0x01, 0, 0, 0, 0,
-    ];
-    let mut written = [0; 32];
-    write_words(&words, &mut written);
-    assert_eq!(rt; written, bytes);
-    let mut read = [0; 4];
-    read_words(&bytes, &mut read);
-    assert_eq!(rt; read, words);
-}
+const WORDS: [u64; 4] = [1048659, 1049473, 1048930, 16777985];
+
+const BYTES: [u8; 32] = [
+    0x53, 0x00, 0x10, 0, 0, 0, 0, 0, 0x81, 0x03, 0x10, 0, 0, 0, 0, 0, 0x62, 0x01, 0x10, 0, 0, 0, 0,
+    0, 0x01, 0x03, 0x00, 0x01, 0, 0, 0, 0,
+];
 
 #[test]
-fn laws() {
+fn words_and_bytes(rt: HostRuntime) {
+    let mut written = [0; 32];
+    write_words(&WORDS, &mut written);
+    assert!(rt; written == BYTES);
+    let mut read = [0; 4];
+    read_words(&BYTES, &mut read);
+    assert!(rt; read == WORDS);
     same_bytes_same_words();
     words_again();
     words_have_bytes();

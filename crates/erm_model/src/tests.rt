@@ -1,82 +1,95 @@
 //! One small transaction, and values at the edges of their length.
-ghost use Rattle.std.specs.Prelude.{◌≤◌, length};
-
-use crate::{Key, Map, Op, Pair, Reply, VALUE_BYTES, Value, run_one};
+use crate::{Key, Map, Op, Reply, VALUE_BYTES, Value, run_one};
 use std::test::Fail;
 
 const TABLE: u8 = 2;
 
-fn value(bytes: &[u8]) -> Value
-    requires { length bytes.now ≤ VALUE_BYTES }
-{
-    Value::new(bytes).unwrap()
+// What is asked of a key. What is put is a value of one byte.
+#[derive(Clone, Copy)]
+enum Ask {
+    Get,
+    Put(u8),
+    Del,
+    Next,
 }
 
-fn get(key: u64) -> Op {
-    Op::Get { table: TABLE, key }
-}
+// What is asked, of which key, and the key and the byte that are found.
+type Line = (Ask, u64, Option<(u64, u8)>);
 
-fn put(key: u64, value: Value) -> Op {
-    Op::Put {
+const TRANSACTION: [Line; 11] = [
+    (Ask::Get, 7, Some((7, b's'))),
+    (Ask::Get, 8, None),
+    (Ask::Put(b'9'), 9, None),
+    (Ask::Put(b'7'), 7, None),
+    (Ask::Next, 7, Some((7, b'7'))),
+    (Ask::Next, 8, Some((9, b'9'))),
+    (Ask::Del, 7, None),
+    (Ask::Del, 7, None),
+    (Ask::Get, 7, None),
+    (Ask::Next, 0, Some((9, b'9'))),
+    (Ask::Next, 10, None),
+];
+
+// The keys that have a value at the end.
+const KEYS: [Key; 2] = [
+    Key {
         table: TABLE,
-        key,
-        value,
+        key: 9,
+    },
+    Key {
+        table: TABLE + 1,
+        key: 0,
+    },
+];
+
+fn value(byte: u8) -> Value {
+    Value::new(&[byte]).unwrap()
+}
+
+fn op(ask: Ask, key: u64) -> Op {
+    match ask {
+        Ask::Get => Op::Get { table: TABLE, key },
+        Ask::Put(byte) => Op::Put {
+            table: TABLE,
+            key,
+            value: value(byte),
+        },
+        Ask::Del => Op::Del { table: TABLE, key },
+        Ask::Next => Op::Next {
+            table: TABLE,
+            from: key,
+        },
     }
 }
 
-fn del(key: u64) -> Op {
-    Op::Del { table: TABLE, key }
-}
-
-fn next(from: u64) -> Op {
-    Op::Next { table: TABLE, from }
-}
-
-fn transaction() -> [(Op, Reply); 11] {
-    [
-        (get(7), Reply::Value(Some(value(b"seven")))),
-        (get(8), Reply::Value(None)),
-        (put(9, value(b"")), Reply::Done),
-        (put(7, value(b"7")), Reply::Done),
-        (next(7), Reply::Pair(Some((7, value(b"7"))))),
-        (next(8), Reply::Pair(Some((9, value(b""))))),
-        (del(7), Reply::Done),
-        (del(7), Reply::Done),
-        (get(7), Reply::Value(None)),
-        (next(0), Reply::Pair(Some((9, value(b""))))),
-        (next(10), Reply::Pair(None)),
-    ]
+fn reply(ask: Ask, found: Option<(u64, u8)>) -> Reply {
+    match (ask, found) {
+        (Ask::Get, Some((_, byte))) => Reply::Value(Some(value(byte))),
+        (Ask::Get, None) => Reply::Value(None),
+        (Ask::Next, Some((key, byte))) => Reply::Pair(Some((key, value(byte)))),
+        (Ask::Next, None) => Reply::Pair(None),
+        _ => Reply::Done,
+    }
 }
 
 #[test]
 fn one_transaction(rt: HostRuntime) -> Result<(), Fail> {
     let mut map = Map::new(rt.alloc());
     assert!(rt; map.is_empty());
-    map.insert(TABLE, 7, value(b"seven"))?;
-    map.insert(TABLE + 1, 0, value(b"another table"))?;
-
+    map.insert(TABLE, 7, value(b's'))?;
+    map.insert(TABLE + 1, 0, value(b'o'))?;
     let mut ops = Vec::new(rt.alloc());
     let mut wanted = Vec::new(rt.alloc());
-    for (op, reply) in transaction() {
-        ops.push(op)?;
-        wanted.push(reply)?;
+    for (ask, key, found) in TRANSACTION {
+        ops.push(op(ask, key))?;
+        wanted.push(reply(ask, found))?;
     }
     let replies = run_one(rt.alloc(), &mut map, ops.as_slice())?;
-    assert_eq!(rt; replies, wanted);
-
-    assert_eq!(rt; map.len(), 2);
-    let pairs = map.pairs(rt.alloc())?;
-    let keys = [
-        Key {
-            table: TABLE,
-            key: 9,
-        },
-        Key {
-            table: TABLE + 1,
-            key: 0,
-        },
-    ];
-    assert!(rt; pairs.iter().map(|pair| pair.key).eq(keys));
+    assert!(rt; replies == wanted);
+    assert!(rt; map.len() == KEYS.len());
+    for (pair, key) in map.pairs(rt.alloc())?.iter().zip(KEYS) {
+        assert!(rt; pair.key == key);
+    }
     Ok(())
 }
 
@@ -85,10 +98,10 @@ fn lengths_of_values(rt: HostRuntime) {
     let bytes = [7; VALUE_BYTES + 1];
     for (length, fits) in [(0, true), (112, true), (113, false)] {
         let value = Value::new(&bytes[..length]);
-        assert_eq!(rt; value.is_some(), fits, "of {length} bytes");
+        assert!(rt; value.is_some() == fits);
         if let Some(value) = value {
-            assert_eq!(rt; value.as_slice(), &bytes[..length]);
-            assert_eq!(rt; value.copied(), value);
+            assert!(rt; value.as_slice() == &bytes[..length]);
+            assert!(rt; value.copied() == value);
         }
     }
 }

@@ -2,6 +2,7 @@
 -- children show.
 use Rattle.std.proofs.Common.{◌≡◌, ℕ, zero, suc, ◌+◌, ◌-◌, ◌*◌, ◌<◌, ◌≤◌, ◌==◌, List, [], ◌∷◌, Bool, true, false, length, Some, None, refl, ap, ◌∙◌, inl, inr, arith}
 use Rattle.std.proofs.lemmas.Bool.Decides.{nat_tests, eqb_tells, leb_tells}
+use Rattle.erm_model.specs.declared.limits.TheConstants.{OID_LIMIT}
 use Rattle.erm_model.specs.Rows.{Rows}
 use Rattle.erm_node.specs.Node.{node_of, pairs_of}
 use Rattle.erm_node.specs.Tree.{Fan, IsTree, first_key, same_oid, times, total}
@@ -121,15 +122,15 @@ unfolding least_size
 many = refl
 
 -- a tree that reaches no object twice and none that there may not be has twelve levels at most
-pub IsTree-low : (rows : Rows) (levels least oid lo hi : ℕ) → IsTree rows levels least oid lo hi → ((x : ℕ) → times rows levels oid x ≤ 1) → ((x : ℕ) → 1024 ≤ x → times rows levels oid x ≡ 0) → levels ≤ 12
+pub IsTree-low : (rows : Rows) (levels least oid lo hi : ℕ) → IsTree rows levels least oid lo hi → ((x : ℕ) → times rows levels oid x ≤ 1) → ((x : ℕ) → OID_LIMIT ≤ x → times rows levels oid x ≡ 0) → levels ≤ 12
 IsTree-low rows zero least oid lo hi tree once bounded = omega arith
 IsTree-low rows (suc zero) least oid lo hi tree once bounded = omega arith
 IsTree-low rows (suc (suc levels)) least oid lo hi tree once bounded =
     let pairs = pairs_of (rows oid) in
-    let fan = Fan-size (λ child from to. IsTree rows (suc levels) 4 child from to) (times rows (suc levels)) 1024 (least_size (suc levels)) (IsTree-size rows 1024 (suc levels)) pairs hi tree.fan (λ x above. omega (arith, bounded x above)) in
+    let fan = Fan-size (λ child from to. IsTree rows (suc levels) 4 child from to) (times rows (suc levels)) OID_LIMIT (least_size (suc levels)) (IsTree-size rows OID_LIMIT (suc levels)) pairs hi tree.fan (λ x above. omega (arith, bounded x above)) in
     let two = copies-two (length pairs) (least_size (suc levels)) (inner_pairs rows levels least oid lo hi tree) in
-    let whole = node_size rows (suc levels) oid 1024 (root_below rows (suc (suc levels)) oid 1024 bounded) in
-    let all = sum_below-le (times rows (suc (suc levels)) oid) 1024 once in
+    let whole = node_size rows (suc levels) oid OID_LIMIT (root_below rows (suc (suc levels)) oid OID_LIMIT bounded) in
+    let all = sum_below-le (times rows (suc (suc levels)) oid) OID_LIMIT once in
     elim (leb_tells 12 (suc levels)) as (λ _. suc (suc levels) ≤ 12) [
       | inl deep ↦
           let more : (suc levels - 12) + 12 ≡ suc levels = omega (arith, deep.1) in

@@ -1,6 +1,7 @@
 -- What the trees of all tables reach, table by table.
 use Rattle.std.proofs.Common.{◌≡◌, ℕ, zero, suc, ◌+◌, ◌-◌, ◌^◌, ◌≤◌, ◌<◌, List, Bool, false, replicate, refl, sym, ap, ◌∙◌, subst, below_more, arith}
 use Rattle.std.specs.Prelude.{slice_index_or}
+use Rattle.erm_model.specs.declared.limits.TheConstants.{OID_LIMIT}
 use Rattle.erm_node.proofs.Walks.{marked-none}
 use Rattle.erm_model.specs.Rows.{Rows}
 use Rattle.erm_node.specs.Tree.{IsTree, times}
@@ -36,7 +37,7 @@ IsSound-free rows before table sound below same = record {
 pub record AreTables (rows : Rows) (marks : List Bool) (table : ℕ) : Type 0 where
   pub trees : (k : ℕ) → k < table → IsTree rows (levels_of rows k) 0 k 0 (2 ^ 64)
   pub counted : (x : ℕ) → marked marks x ≡ reached_below rows table x
-  pub bounded : (x : ℕ) → 1024 ≤ x → reached_below rows table x ≡ 0
+  pub bounded : (x : ℕ) → OID_LIMIT ≤ x → reached_below rows table x ≡ 0
 
 -- one table more
 pub AreTables-more : (rows : Rows) (marks later : List Bool) (table : ℕ) → AreTables rows marks table → IsFreeTree rows (marked marks) (levels_of rows table) 0 table 0 (2 ^ 64)
@@ -72,10 +73,10 @@ from_table P rows levels oid table levels_are oid_is there =
     subst (λ (n : ℕ). P n oid) (sym levels_are) (subst (λ (o : ℕ). P (levels_of rows o) o) (sym oid_is) there)
 
 -- at first nothing is marked
-pub AreTables-none : (rows : Rows) → AreTables rows (replicate 1024 false) 0
+pub AreTables-none : (rows : Rows) → AreTables rows (replicate OID_LIMIT false) 0
 AreTables-none rows = record {
   trees = λ k below. absurd (omega arith);
-  counted = λ x. marked-none (replicate 1024 false) x (get_or-replicate_same 1024 x);
+  counted = λ x. marked-none (replicate OID_LIMIT false) x (get_or-replicate_same OID_LIMIT x);
   bounded = λ x above. refl;
 }
   where

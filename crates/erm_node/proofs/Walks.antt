@@ -7,6 +7,7 @@ use Rattle.std.specs.Bool.{OnTrue}
 use Rattle.std.proofs.lemmas.Bool.{false≢true}
 use Rattle.std.proofs.lemmas.List.{get_or-set_same, get_or-set_other}
 use Rattle.std.proofs.lemmas.Bool.Decides.{nat_tests, eqb_tells}
+use Rattle.erm_model.specs.declared.limits.TheConstants.{OID_LIMIT}
 use Rattle.erm_model.specs.Rows.{Rows}
 use Rattle.erm_record.specs.Record.{IsRecord}
 use Rattle.erm_node.specs.Node.{Shape, node_of, pairs_of}
@@ -55,10 +56,10 @@ marked-set marks oid x some none = elim (eqb_tells x oid) as (λ _. marked (set 
 ]
 
 -- a free tree's root isn't reached before, and is one that there may be
-pub IsFreeTree-root : (rows : Rows) (before : ℕ → ℕ) (levels least oid lo hi : ℕ) → IsFreeTree rows before levels least oid lo hi → (before oid ≡ 0) × (oid < 1024)
+pub IsFreeTree-root : (rows : Rows) (before : ℕ → ℕ) (levels least oid lo hi : ℕ) → IsFreeTree rows before levels least oid lo hi → (before oid ≡ 0) × (oid < OID_LIMIT)
 IsFreeTree-root rows before levels least oid lo hi free = (
   omega (arith, free.once oid, times-itself rows levels oid),
-  elim (lt_or_ge oid 1024) as (λ _. oid < 1024) [ inl below ↦ below | inr above ↦ absurd (omega (arith, free.bounded oid above, times-itself rows levels oid)) ],
+  elim (lt_or_ge oid OID_LIMIT) as (λ _. oid < OID_LIMIT) [ inl below ↦ below | inr above ↦ absurd (omega (arith, free.bounded oid above, times-itself rows levels oid)) ],
 )
   where
     lt_or_ge : (a b : ℕ) → (a < b) ⊎ (b ≤ a)
@@ -68,7 +69,7 @@ IsFreeTree-root rows before levels least oid lo hi free = (
 pub record IsNew (before : ℕ → ℕ) (oid : ℕ) : Type 0 where
   pub none : before oid ≡ 0
   pub few : (x : ℕ) → before x ≤ 1
-  pub below : oid < 1024
+  pub below : oid < OID_LIMIT
 
 new_once : (before : ℕ → ℕ) (oid : ℕ) → IsNew before oid → (x : ℕ) → before x + same_oid oid x ≤ 1
 new_once before oid new x = elim (eqb_tells x oid) as (λ _. before x + same_oid oid x ≤ 1) [
@@ -76,7 +77,7 @@ new_once before oid new x = elim (eqb_tells x oid) as (λ _. before x + same_oid
   | inr other ↦ omega (arith, new.few x, same_oid-other oid x other.1)
 ]
 
-new_bounded : (before : ℕ → ℕ) (oid : ℕ) → IsNew before oid → (x : ℕ) → 1024 ≤ x → same_oid oid x ≡ 0
+new_bounded : (before : ℕ → ℕ) (oid : ℕ) → IsNew before oid → (x : ℕ) → OID_LIMIT ≤ x → same_oid oid x ≡ 0
 new_bounded before oid new x above = same_oid-other oid x (λ same. omega (arith, new.below, same, above))
 
 -- a record is a free tree where it is one
@@ -175,19 +176,19 @@ told_on false P is told = absurd (cc)
 pub told_no : (P : Type 0) → (P → ⊥) → IsTrue false ↔ P
 told_no P none = (λ e. absurd (false≢true e), λ is. absurd (none is))
 
-module _ (rows : Rows) (marks : List Bool) (oid : ℕ) (many : length marks ≡ 1024) where
+module _ (rows : Rows) (marks : List Bool) (oid : ℕ) (many : length marks ≡ OID_LIMIT) where
   -- an object that isn't marked, and that there may be, is new
-  pub IsNew-unmarked : oid < 1024 → slice_index_or marks oid false ≡ false → IsNew (marked marks) oid
+  pub IsNew-unmarked : oid < OID_LIMIT → slice_index_or marks oid false ≡ false → IsNew (marked marks) oid
   IsNew-unmarked below none = record { none = marked-none marks oid none; few = marked-le marks; below = below }
 
   -- at an object that isn't new stands no free tree
-  pub IsFreeTree-not_new : (levels least lo hi : ℕ) → ((oid < 1024) × (slice_index_or marks oid false ≡ false) → ⊥) → IsTrue false ↔ IsFreeTree rows (marked marks) levels least oid lo hi
+  pub IsFreeTree-not_new : (levels least lo hi : ℕ) → ((oid < OID_LIMIT) × (slice_index_or marks oid false ≡ false) → ⊥) → IsTrue false ↔ IsFreeTree rows (marked marks) levels least oid lo hi
   IsFreeTree-not_new levels least lo hi not_new =
       told_no (IsFreeTree rows (marked marks) levels least oid lo hi) (λ free.
       let root = IsFreeTree-root rows (marked marks) levels least oid lo hi free in
       not_new (root.1, unmarked marks oid root.0))
 
-  module _ (is_new : (oid < 1024) × (slice_index_or marks oid false ≡ false)) (least lo hi : ℕ) where
+  module _ (is_new : (oid < OID_LIMIT) × (slice_index_or marks oid false ≡ false)) (least lo hi : ℕ) where
     -- of no levels: a record
     pub IsFreeTree-leaf_of : (levels : ℕ) → levels ≡ 0 → (result : Bool) → IsTrue result ↔ IsRecord (rows oid) → IsTrue result ↔ IsFreeTree rows (marked marks) levels least oid lo hi
     IsFreeTree-leaf_of zero none result told =

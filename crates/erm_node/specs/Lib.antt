@@ -4,4 +4,3 @@ pub mod Sound
 pub mod TreeMap
 pub mod NodeShape
 pub mod Walk
-pub mod InMemory

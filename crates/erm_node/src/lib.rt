@@ -2,8 +2,6 @@
 #![tactic(auto)]
 
 mod laws;
-#[cfg(test)]
-mod memory_txn;
 mod node;
 mod soundness;
 #[cfg(test)]

@@ -1,29 +1,12 @@
 //! Nodes and their rows; sound rows, and one array for each rule that they break.
 use super::*;
 use arrayvec::ArrayVec;
-use erm_model::{OID_LIMIT, Oid, ROW_WORDS, Row, TABLES, Value};
-use erm_record::{absent, row_of};
-use std::alloc::Global;
-use std::process::Abort;
+use erm_model::{Map, OID_LIMIT, Oid, ROW_WORDS, Row, TABLES};
 use std::test::Fail;
 
 const ZEROS: Row = [0; ROW_WORDS];
 
-// The row of a node, or that of no node where the pairs are too many.
-fn node(leaf: bool, pairs: &[(u64, Oid)]) -> Row {
-    match ArrayVec::try_from(pairs) {
-        Ok(pairs) => row_of_node(&Node { leaf, pairs }),
-        Err(_) => ZEROS,
-    }
-}
-
-fn leaf(pairs: &[(u64, Oid)]) -> Row {
-    node(true, pairs)
-}
-
-fn inner(pairs: &[(u64, Oid)]) -> Row {
-    node(false, pairs)
-}
+const ABSENT: Row = [1, 0, 0, 0, 0, 0, 0, 0, 0, 0, 0, 0, 0, 0, 0, 0];
 
 const SEVEN: [(u64, Oid); 7] = [
     (1, 16),
@@ -37,12 +20,16 @@ const SEVEN: [(u64, Oid); 7] = [
 
 const SEVEN_ROW: Row = [3, 7, 1, 2, 3, 4, 5, 6, 7, 16, 17, 18, 19, 20, 21, 22];
 
+const TWO_ROW: Row = [3, 2, 1, 2, 0, 0, 0, 0, 0, 16, 17, 0, 0, 0, 0, 0];
+
 #[test]
 fn seven_keys(rt: HostRuntime) {
-    assert_eq!(rt; leaf(&SEVEN), SEVEN_ROW);
-    let read = read_node(&SEVEN_ROW).expect(&rt, "it is a leaf");
-    assert!(rt; read.leaf);
-    assert_eq!(rt; read.pairs.as_slice(), SEVEN.as_slice());
+    let node = Node {
+        leaf: true,
+        pairs: ArrayVec::from(SEVEN),
+    };
+    assert!(rt; row_of_node(&node) == SEVEN_ROW);
+    assert!(rt; read_node(&SEVEN_ROW) == Some(node));
     nodes_are_read_back();
     map_has_values_of_records();
     trees_are_low();
@@ -50,290 +37,310 @@ fn seven_keys(rt: HostRuntime) {
     zero_rows_are_not_reached();
 }
 
-#[test]
-fn other_nodes(rt: HostRuntime) {
-    let two = [4, 2, 0, 5, 0, 0, 0, 0, 0, 24, 25, 0, 0, 0, 0, 0];
-    assert_eq!(rt; inner(&[(0, 24), (5, 25)]), two);
-    let read = read_node(&two).expect(&rt, "it is an inner node");
-    assert!(rt; !read.leaf);
-    assert_eq!(rt; read.pairs.as_slice(), [(0, 24), (5, 25)].as_slice());
+// Rows of nodes, each with whether it is a leaf's and how many pairs it has.
+const NODES: [(Row, bool, usize); 4] = [
+    (ZEROS, true, 0),
+    (TWO_ROW, true, 2),
+    ([4, 2, 0, 5, 0, 0, 0, 0, 0, 24, 25, 0, 0, 0, 0, 0], false, 2),
+    (
+        [
+            3,
+            1,
+            0xffff_ffff_ffff_ffff,
+            0,
+            0,
+            0,
+            0,
+            0,
+            0,
+            0xffff_ffff,
+            0,
+            0,
+            0,
+            0,
+            0,
+            0,
+        ],
+        true,
+        1,
+    ),
+];
 
-    assert_eq!(rt; leaf(&[]), ZEROS);
-    let read = read_node(&ZEROS).expect(&rt, "the row of zeros is the empty leaf");
-    assert!(rt; read.leaf && read.pairs.is_empty());
+// Rows of no node: a row, and one of its words changed.
+const OTHERS: [(Row, usize, u64); 22] = [
+    (SEVEN_ROW, 0, 0),
+    (SEVEN_ROW, 0, 1),
+    (SEVEN_ROW, 0, 5),
+    (SEVEN_ROW, 1, 0),
+    (SEVEN_ROW, 1, 6),
+    (SEVEN_ROW, 1, 8),
+    // Keys that don't ascend, and an object's number of 33 bits.
+    (SEVEN_ROW, 2, 2),
+    (SEVEN_ROW, 8, 6),
+    (SEVEN_ROW, 8, 5),
+    (SEVEN_ROW, 9, 1 << 32),
+    // Words that aren't named.
+    (TWO_ROW, 4, 3),
+    (TWO_ROW, 8, 3),
+    (TWO_ROW, 11, 3),
+    (TWO_ROW, 15, 3),
+    (ZEROS, 1, 9),
+    (ZEROS, 2, 9),
+    (ZEROS, 9, 9),
+    (ZEROS, 15, 9),
+    // Inner nodes with too few pairs, and the rows of records.
+    (ZEROS, 0, 4),
+    ([4, 1, 0, 0, 0, 0, 0, 0, 0, 24, 0, 0, 0, 0, 0, 0], 2, 0),
+    (ABSENT, 0, 1),
+    (ABSENT, 0, 2),
+];
 
-    let last = leaf(&[(u64::MAX, Oid::MAX)]);
-    let read = read_node(&last).expect(&rt, "the greatest key and object");
-    assert_eq!(rt; read.pairs.as_slice(), [(u64::MAX, Oid::MAX)].as_slice());
-}
-
-// A word of the row changed, so that no node has it.
 #[test]
 fn strict_reading(rt: HostRuntime) {
-    for (word, value) in [(0, 0), (0, 1), (0, 5), (1, 0), (1, 6), (1, 8)] {
-        let mut other = SEVEN_ROW;
-        other[word] = value;
-        assert_eq!(rt; read_node(&other), None, "word {word}: {value}");
+    for (row, leaf, count) in NODES {
+        let node = read_node(&row).expect(&rt, "it is a node");
+        assert!(rt; node.leaf == leaf);
+        assert!(rt; node.pairs.len() == count);
+        assert!(rt; row_of_node(&node) == row);
     }
-    // Keys that don't ascend, and an object's number of 33 bits.
-    for (word, value) in [(2, 2), (8, 6), (8, 5), (9, 1 << 32)] {
-        let mut other = SEVEN_ROW;
-        other[word] = value;
-        assert_eq!(rt; read_node(&other), None, "word {word}: {value}");
-    }
-    // Words that aren't named, in a leaf of two pairs and in the row of zeros.
-    for word in [4, 8, 11, 15] {
-        let mut other = leaf(&[(1, 16), (2, 17)]);
-        assert!(rt; read_node(&other).is_some());
-        other[word] = 3;
-        assert_eq!(rt; read_node(&other), None, "word {word}");
-    }
-    for word in 0..ROW_WORDS {
-        let mut other = ZEROS;
-        other[word] = 9;
-        assert_eq!(rt; read_node(&other), None, "word {word}");
-    }
-    assert_eq!(rt; read_node(&inner(&[(0, 24)])), None);
-    assert_eq!(rt; read_node(&inner(&[])), None);
-    assert_eq!(rt; read_node(&absent()), None);
-    assert_eq!(rt; read_node(&value(7)), None);
-}
-
-fn value(byte: u8) -> Row {
-    match Value::new(&[byte]) {
-        Some(value) => row_of(&value),
-        None => ZEROS,
+    for (row, word, value) in OTHERS {
+        let mut other = row;
+        other[word % ROW_WORDS] = value;
+        assert!(rt; read_node(&other).is_none());
     }
 }
 
-fn set(rt: &impl Abort, rows: &mut Vec<Row>, oid: Oid, row: Row) {
-    assert!(rt; (oid as usize) < rows.len());
-    rows[oid as usize] = row;
-}
-
-// Table 0 has the keys 1 to 8 in two leaves, table 1 the key 9 without a value, table 3 three levels.
-fn example(rt: &impl Abort, alloc: Global) -> Result<Vec<Row>, Fail> {
-    let mut rows = vec![in alloc; ZEROS; OID_LIMIT as usize]?;
-    for oid in 16..24 {
-        set(rt, &mut rows, oid, value(oid as u8));
-    }
-    set(rt, &mut rows, 0, inner(&[(0, 24), (5, 25)]));
-    set(
-        rt,
-        &mut rows,
-        24,
-        leaf(&[(1, 16), (2, 17), (3, 18), (4, 19)]),
-    );
-    set(
-        rt,
-        &mut rows,
-        25,
-        leaf(&[(5, 20), (6, 21), (7, 22), (8, 23)]),
-    );
-    set(rt, &mut rows, 1, leaf(&[(9, 26)]));
-    set(rt, &mut rows, 26, absent());
-    set_three_levels(rt, &mut rows);
-    Ok(rows)
-}
-
-// Table 3 with the keys 1 to 4, 11 to 14, .. 31 to 34, 101 to 104, .. 131 to 134 in eight leaves below two inner nodes.
-fn set_three_levels(rt: &impl Abort, rows: &mut Vec<Row>) {
-    set(rt, rows, 3, inner(&[(0, 30), (100, 31)]));
-    set(
-        rt,
-        rows,
-        30,
-        inner(&[(0, 32), (10, 33), (20, 34), (30, 35)]),
-    );
-    set(
-        rt,
-        rows,
+// Table 0 has the keys 1 to 8 in two leaves, table 1 the key 9 without a value, table 2 the keys 5 to 8 in its root, and
+// table 3 three levels: the keys 1 to 4, 11 to 14, .. 31 to 34, 101 to 104, .. 131 to 134 in eight leaves below two inner
+// nodes. The last three rows are reached by no tree.
+const EXAMPLE: [(Oid, Row); 20] = [
+    (0, [4, 2, 0, 5, 0, 0, 0, 0, 0, 24, 25, 0, 0, 0, 0, 0]),
+    (24, [3, 4, 1, 2, 3, 4, 0, 0, 0, 16, 17, 18, 19, 0, 0, 0]),
+    (25, [3, 4, 5, 6, 7, 8, 0, 0, 0, 20, 21, 22, 23, 0, 0, 0]),
+    (1, [3, 1, 9, 0, 0, 0, 0, 0, 0, 26, 0, 0, 0, 0, 0, 0]),
+    (26, ABSENT),
+    (2, [3, 4, 5, 6, 7, 8, 0, 0, 0, 80, 81, 82, 83, 0, 0, 0]),
+    (3, [4, 2, 0, 100, 0, 0, 0, 0, 0, 30, 31, 0, 0, 0, 0, 0]),
+    (30, [4, 4, 0, 10, 20, 30, 0, 0, 0, 32, 33, 34, 35, 0, 0, 0]),
+    (
         31,
-        inner(&[(100, 36), (110, 37), (120, 38), (130, 39)]),
-    );
-    for i in 0..8 {
-        let low = u64::from(i) * 10 + if i < 4 { 0 } else { 60 };
-        let record = 40 + 4 * i;
-        let pairs = [
-            (low + 1, record),
-            (low + 2, record + 1),
-            (low + 3, record + 2),
-            (low + 4, record + 3),
-        ];
-        set(rt, rows, 32 + i, leaf(&pairs));
-        for oid in record..record + 4 {
-            set(rt, rows, oid, value(oid as u8));
-        }
+        [4, 4, 100, 110, 120, 130, 0, 0, 0, 36, 37, 38, 39, 0, 0, 0],
+    ),
+    (32, [3, 4, 1, 2, 3, 4, 0, 0, 0, 40, 41, 42, 43, 0, 0, 0]),
+    (33, [3, 4, 11, 12, 13, 14, 0, 0, 0, 44, 45, 46, 47, 0, 0, 0]),
+    (34, [3, 4, 21, 22, 23, 24, 0, 0, 0, 48, 49, 50, 51, 0, 0, 0]),
+    (35, [3, 4, 31, 32, 33, 34, 0, 0, 0, 52, 53, 54, 55, 0, 0, 0]),
+    (
+        36,
+        [3, 4, 101, 102, 103, 104, 0, 0, 0, 56, 57, 58, 59, 0, 0, 0],
+    ),
+    (
+        37,
+        [3, 4, 111, 112, 113, 114, 0, 0, 0, 60, 61, 62, 63, 0, 0, 0],
+    ),
+    (
+        38,
+        [3, 4, 121, 122, 123, 124, 0, 0, 0, 64, 65, 66, 67, 0, 0, 0],
+    ),
+    (
+        39,
+        [3, 4, 131, 132, 133, 134, 0, 0, 0, 68, 69, 70, 71, 0, 0, 0],
+    ),
+    (100, ABSENT),
+    (101, [4, 2, 0, 5, 0, 0, 0, 0, 0, 24, 25, 0, 0, 0, 0, 0]),
+    (LAST, ABSENT),
+];
+
+// The last object.
+const LAST: Oid = OID_LIMIT - 1;
+
+// The first word of a row that says where a leaf's one pair leads.
+const BEHIND: u64 = OID_LIMIT as u64;
+
+// One row of the example changed, and whether it is sound then.
+const CHANGES: [(bool, Oid, Row); 28] = [
+    // Rows that no tree reaches may be any.
+    (true, 102, [7; ROW_WORDS]),
+    // The root alone may have fewer than four pairs, and the greatest key and the last object are some.
+    (
+        true,
+        2,
+        [
+            3,
+            1,
+            0xffff_ffff_ffff_ffff,
+            0,
+            0,
+            0,
+            0,
+            0,
+            0,
+            100,
+            0,
+            0,
+            0,
+            0,
+            0,
+            0,
+        ],
+    ),
+    (
+        true,
+        1,
+        [3, 1, 9, 0, 0, 0, 0, 0, 0, BEHIND - 1, 0, 0, 0, 0, 0, 0],
+    ),
+    (
+        true,
+        35,
+        [3, 4, 31, 32, 33, 99, 0, 0, 0, 52, 53, 54, 55, 0, 0, 0],
+    ),
+    // Rows that are no tree's.
+    (false, 0, ABSENT),
+    (false, 1, [5, 1, 9, 0, 0, 0, 0, 0, 0, 26, 0, 0, 0, 0, 0, 0]),
+    (false, 1, [3, 1, 9, 1, 0, 0, 0, 0, 0, 26, 0, 0, 0, 0, 0, 0]),
+    (false, 26, ZEROS),
+    (
+        false,
+        26,
+        [2, 1, 256, 0, 0, 0, 0, 0, 0, 0, 0, 0, 0, 0, 0, 0],
+    ),
+    (false, 26, [3, 1, 9, 0, 0, 0, 0, 0, 0, 27, 0, 0, 0, 0, 0, 0]),
+    // An object that is reached twice: in one table, over two, or as a root too; and one that there may not be.
+    (
+        false,
+        25,
+        [3, 4, 5, 6, 7, 8, 0, 0, 0, 20, 21, 22, 22, 0, 0, 0],
+    ),
+    (false, 1, [3, 1, 9, 0, 0, 0, 0, 0, 0, 16, 0, 0, 0, 0, 0, 0]),
+    (false, 1, [3, 1, 9, 0, 0, 0, 0, 0, 0, 1, 0, 0, 0, 0, 0, 0]),
+    (false, 0, [4, 2, 0, 5, 0, 0, 0, 0, 0, 24, 2, 0, 0, 0, 0, 0]),
+    (
+        false,
+        1,
+        [3, 1, 9, 0, 0, 0, 0, 0, 0, BEHIND, 0, 0, 0, 0, 0, 0],
+    ),
+    // A tree whose first child is its root again.
+    (false, 0, [4, 2, 0, 5, 0, 0, 0, 0, 0, 0, 25, 0, 0, 0, 0, 0]),
+    // A first key that isn't the bound, and keys outside their bounds, those of the node above too.
+    (false, 0, [4, 2, 1, 5, 0, 0, 0, 0, 0, 24, 25, 0, 0, 0, 0, 0]),
+    (
+        false,
+        24,
+        [3, 4, 1, 2, 3, 5, 0, 0, 0, 16, 17, 18, 19, 0, 0, 0],
+    ),
+    (
+        false,
+        25,
+        [3, 4, 4, 6, 7, 8, 0, 0, 0, 20, 21, 22, 23, 0, 0, 0],
+    ),
+    (
+        false,
+        31,
+        [4, 4, 101, 110, 120, 130, 0, 0, 0, 36, 37, 38, 39, 0, 0, 0],
+    ),
+    (
+        false,
+        31,
+        [4, 4, 99, 110, 120, 130, 0, 0, 0, 36, 37, 38, 39, 0, 0, 0],
+    ),
+    (
+        false,
+        35,
+        [3, 4, 31, 32, 33, 100, 0, 0, 0, 52, 53, 54, 55, 0, 0, 0],
+    ),
+    // Too few pairs, and leaves of two depths.
+    (
+        false,
+        24,
+        [3, 3, 1, 2, 3, 0, 0, 0, 0, 16, 17, 18, 0, 0, 0, 0],
+    ),
+    (false, 25, ZEROS),
+    (
+        false,
+        30,
+        [4, 3, 0, 10, 20, 0, 0, 0, 0, 32, 33, 34, 0, 0, 0, 0],
+    ),
+    (
+        false,
+        3,
+        [4, 2, 0, 100, 0, 0, 0, 0, 0, 32, 31, 0, 0, 0, 0, 0],
+    ),
+    (
+        false,
+        3,
+        [4, 2, 0, 100, 0, 0, 0, 0, 0, 30, 36, 0, 0, 0, 0, 0],
+    ),
+    (false, 0, [3, 2, 1, 5, 0, 0, 0, 0, 0, 24, 25, 0, 0, 0, 0, 0]),
+];
+
+fn set(rows: &mut [Row], oid: Oid, row: Row) {
+    if (oid as usize) < rows.len() {
+        rows[oid as usize] = row;
     }
 }
 
-// Whether the example is sound with these rows changed.
-fn is_sound(rt: &impl Abort, alloc: Global, changes: &[(Oid, Row)]) -> Result<bool, Fail> {
-    let mut rows = example(rt, alloc)?;
-    for change in changes {
-        set(rt, &mut rows, change.0, change.1);
+// The example in rows, where each other record's value is one byte: its object's number.
+fn set_example(rows: &mut [Row]) {
+    for oid in 16..84 {
+        let mut row = ZEROS;
+        row[0] = 2;
+        row[1] = 1;
+        row[2] = u64::from(oid);
+        set(rows, oid, row);
     }
-    assert_eq!(rt; rows.len(), OID_LIMIT as usize);
-    Ok(sound(rows.as_slice()))
+    for (oid, row) in EXAMPLE {
+        set(rows, oid, row);
+    }
 }
 
 #[test]
-fn sound_rows(rt: HostRuntime) -> Result<(), Fail> {
-    let zeros = vec![in rt.alloc(); ZEROS; OID_LIMIT as usize]?;
-    assert_eq!(rt; zeros.len(), OID_LIMIT as usize);
-    assert!(rt; sound(zeros.as_slice()));
-    assert!(rt; map_of(rt.alloc(), zeros.as_slice())?.is_empty());
-
-    assert!(rt; is_sound(&rt, rt.alloc(), &[])?);
-    // Rows that no tree reaches may be any.
-    assert!(rt;
-        is_sound(
-            &rt,
-            rt.alloc(),
-            &[(100, [7; ROW_WORDS]), (101, inner(&[(0, 24), (5, 25)]))]
-        )?
-    );
-    // The root alone may have fewer than four pairs, and the greatest key is one.
-    assert!(rt;
-        is_sound(
-            &rt,
-            rt.alloc(),
-            &[(2, leaf(&[(u64::MAX, 100)])), (100, absent())]
-        )?
-    );
+fn soundness(rt: HostRuntime) -> Result<(), Fail> {
+    let mut array = vec![in rt.alloc(); ZEROS; OID_LIMIT as usize]?;
+    let rows = array.as_mut_slice();
+    assert!(rt; rows.len() == OID_LIMIT as usize);
+    assert!(rt; sound(rows));
+    for (wanted, oid, row) in CHANGES {
+        set_example(rows);
+        set(rows, oid, row);
+        assert!(rt; sound(rows) == wanted);
+    }
     Ok(())
+}
+
+// Keys of the example's tables, and the byte of their values.
+const VALUES: [(u8, u64, Option<u8>); 15] = [
+    (0, 1, Some(16)),
+    (0, 8, Some(23)),
+    (2, 5, Some(80)),
+    (3, 1, Some(40)),
+    (3, 34, Some(55)),
+    (3, 101, Some(56)),
+    (3, 134, Some(71)),
+    (0, 0, None),
+    (0, 9, None),
+    (1, 9, None),
+    (1, 1, None),
+    (3, 5, None),
+    (3, 100, None),
+    (4, 1, None),
+    (TABLES, 1, None),
+];
+
+fn byte_of(map: &Map, table: u8, key: u64) -> Option<u8> {
+    map.get(table, key)?.as_slice().first().copied()
 }
 
 #[test]
 fn map_of_example(rt: HostRuntime) -> Result<(), Fail> {
-    let rows = example(&rt, rt.alloc())?;
-    let map = map_of(rt.alloc(), rows.as_slice())?;
-    assert_eq!(rt; map.len(), 40);
-    for (table, key, byte) in [
-        (0, 1, 16),
-        (0, 8, 23),
-        (3, 1, 40),
-        (3, 34, 55),
-        (3, 101, 56),
-        (3, 134, 71),
-    ] {
-        let found = map.get(table, key).expect(&rt, "it has a value");
-        assert_eq!(rt;
-            found.as_slice(),
-            [byte].as_slice(),
-            "table {table}, key {key}"
-        );
+    let mut array = vec![in rt.alloc(); ZEROS; OID_LIMIT as usize]?;
+    let rows = array.as_mut_slice();
+    assert!(rt; rows.len() == OID_LIMIT as usize);
+    assert!(rt; map_of(rt.alloc(), rows)?.is_empty());
+    set_example(rows);
+    let map = map_of(rt.alloc(), rows)?;
+    assert!(rt; map.len() == 44);
+    for (table, key, byte) in VALUES {
+        assert!(rt; byte_of(&map, table, key) == byte);
     }
-    for (table, key) in [
-        (0, 0),
-        (0, 9),
-        (1, 9),
-        (1, 1),
-        (3, 5),
-        (3, 100),
-        (TABLES, 1),
-    ] {
-        assert!(rt; map.get(table, key).is_none(), "table {table}, key {key}");
-    }
-    Ok(())
-}
-
-// Rows that are no tree's, each in one place.
-#[test]
-fn wrong_rows(rt: HostRuntime) -> Result<(), Fail> {
-    let changes = [
-        (0, absent()),
-        (1, [5, 1, 9, 0, 0, 0, 0, 0, 0, 26, 0, 0, 0, 0, 0, 0]),
-        (1, [3, 1, 9, 1, 0, 0, 0, 0, 0, 26, 0, 0, 0, 0, 0, 0]),
-        (26, ZEROS),
-        (26, [2, 1, 256, 0, 0, 0, 0, 0, 0, 0, 0, 0, 0, 0, 0, 0]),
-        (26, leaf(&[(9, 27)])),
-    ];
-    for change in changes {
-        assert!(rt;
-            !is_sound(&rt, rt.alloc(), &[change])?,
-            "object {}",
-            change.0
-        );
-    }
-    Ok(())
-}
-
-// An object that is reached twice, in one table, over two, or as a root too; and one that there may not be.
-#[test]
-fn wrong_objects(rt: HostRuntime) -> Result<(), Fail> {
-    let twice = (25, leaf(&[(5, 20), (6, 21), (7, 22), (8, 22)]));
-    assert!(rt; !is_sound(&rt, rt.alloc(), &[twice])?);
-    assert!(rt; !is_sound(&rt, rt.alloc(), &[(1, leaf(&[(9, 16)]))])?);
-    assert!(rt; !is_sound(&rt, rt.alloc(), &[(1, leaf(&[(9, 1)]))])?);
-    let root = [
-        (0, inner(&[(0, 24), (5, 2)])),
-        (2, leaf(&[(5, 20), (6, 21), (7, 22), (8, 23)])),
-    ];
-    assert!(rt; !is_sound(&rt, rt.alloc(), &root)?);
-    assert!(rt; !is_sound(&rt, rt.alloc(), &[(1, leaf(&[(9, OID_LIMIT)]))])?);
-    assert!(rt;
-        is_sound(
-            &rt,
-            rt.alloc(),
-            &[(1, leaf(&[(9, OID_LIMIT - 1)])), (OID_LIMIT - 1, absent())]
-        )?
-    );
-    Ok(())
-}
-
-// A first key that isn't the bound, keys outside their bounds, those of the node above too.
-#[test]
-fn wrong_bounds(rt: HostRuntime) -> Result<(), Fail> {
-    let changes = [
-        (0, inner(&[(1, 24), (5, 25)])),
-        (24, leaf(&[(1, 16), (2, 17), (3, 18), (5, 19)])),
-        (25, leaf(&[(4, 20), (6, 21), (7, 22), (8, 23)])),
-        (31, inner(&[(101, 36), (110, 37), (120, 38), (130, 39)])),
-        (31, inner(&[(99, 36), (110, 37), (120, 38), (130, 39)])),
-        (35, leaf(&[(31, 52), (32, 53), (33, 54), (100, 55)])),
-    ];
-    for change in changes {
-        assert!(rt;
-            !is_sound(&rt, rt.alloc(), &[change])?,
-            "object {}",
-            change.0
-        );
-    }
-    assert!(rt;
-        is_sound(
-            &rt,
-            rt.alloc(),
-            &[(35, leaf(&[(31, 52), (32, 53), (33, 54), (99, 55)]))]
-        )?
-    );
-    Ok(())
-}
-
-// Too few pairs, and leaves of two depths.
-#[test]
-fn wrong_forms(rt: HostRuntime) -> Result<(), Fail> {
-    let changes = [
-        (24, leaf(&[(1, 16), (2, 17), (3, 18)])),
-        (25, leaf(&[])),
-        (30, inner(&[(0, 32), (10, 33), (20, 34)])),
-        (3, inner(&[(0, 32), (100, 31)])),
-        (3, inner(&[(0, 30), (100, 36)])),
-        (0, leaf(&[(1, 24), (5, 25)])),
-    ];
-    for change in changes {
-        assert!(rt;
-            !is_sound(&rt, rt.alloc(), &[change])?,
-            "object {}",
-            change.0
-        );
-    }
-    Ok(())
-}
-
-// A tree whose first child is its root again.
-#[test]
-fn endless(rt: HostRuntime) -> Result<(), Fail> {
-    assert!(rt; !is_sound(&rt, rt.alloc(), &[(0, inner(&[(0, 0), (5, 25)]))])?);
     Ok(())
 }

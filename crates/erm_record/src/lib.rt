@@ -1,11 +1,15 @@
-//! The rows of records: that there is no value, or which value there is.
+//! The rows of records: that there is no value, or which value there is. How long a row is in the log.
 #![tactic(auto)]
+
+mod stored;
 
 ghost use Rattle.std.specs.Prelude.{◌≡◌, ◌≤◌, ℕ, List, length, Some, None, IfSome};
 ghost use Rattle.erm_record.specs.Record.{IsValue, absent_row, padded, record_value, value_row};
 
 use erm_bytes::{bytes_again, read_words, words_have_bytes, write_words};
 use erm_model::{ROW_WORDS, Row, VALUE_BYTES, Value};
+
+pub use stored::{stored_length, stored_words_tell_the_row};
 
 /// The kind of the row of a record without a value.
 pub const ABSENT: u64 = 1;
@@ -105,70 +109,48 @@ pub fn one_value()
 mod tests {
     use super::*;
 
+    const THREE: Row = [2, 3, 0x63_62_61, 0, 0, 0, 0, 0, 0, 0, 0, 0, 0, 0, 0, 0];
+
     #[test]
     fn three_bytes(rt: HostRuntime) {
-        let row = [2, 3, 0x63_62_61, 0, 0, 0, 0, 0, 0, 0, 0, 0, 0, 0, 0, 0];
         let value = Value::new(b"abc").expect(&rt, "three bytes are a value");
-        assert_eq!(rt; row_of(&value), row);
-        assert_eq!(rt; value_of(&row), Some(value));
-        assert_eq!(rt; absent(), [1, 0, 0, 0, 0, 0, 0, 0, 0, 0, 0, 0, 0, 0, 0, 0]);
-        assert_eq!(rt; value_of(&absent()), None);
+        assert!(rt; row_of(&value) == THREE);
+        assert!(rt; value_of(&THREE) == Some(value));
+        assert!(rt; absent() == [1, 0, 0, 0, 0, 0, 0, 0, 0, 0, 0, 0, 0, 0, 0, 0]);
+        assert!(rt; value_of(&absent()).is_none());
+        assert!(rt; value_of(&[0; ROW_WORDS]).is_none());
         one_value();
         record_values();
     }
 
-    // The row of eight bytes.
-    const EIGHT: Row = [
-        2,
-        8,
-        0x68_67_66_65_64_63_62_61,
-        0,
-        0,
-        0,
-        0,
-        0,
-        0,
-        0,
-        0,
-        0,
-        0,
-        0,
-        0,
-        0,
+    const EIGHT: u64 = 0x68_67_66_65_64_63_62_61;
+
+    // The row of eight bytes with one word changed, and whether a value has that row. A longer value ends in zeros.
+    const CHANGES: [(usize, u64, bool); 13] = [
+        (0, 2, true),
+        (0, 3, false),
+        (0, 0, false),
+        (2, EIGHT - 1, true),
+        (3, 1, false),
+        (15, 1 << 63, false),
+        (1, 0, false),
+        (1, 7, false),
+        (1, 9, true),
+        (1, 112, true),
+        (1, 113, false),
+        (1, 136, false),
+        (1, (1 << 63) + 8, false),
     ];
 
-    // One bit of the row changed, and whether a value has that row.
     #[test]
     fn other_rows(rt: HostRuntime) {
-        for (word, flipped, found) in [
-            (0, 1, false),
-            (0, 2, false),
-            (2, 1, true),
-            (3, 1, false),
-            (15, 1 << 63, false),
-        ] {
-            let mut other = EIGHT;
-            other[word] ^= flipped;
-            assert_eq!(rt; value_of(&other).is_some(), found, "word {word}, {flipped}");
-        }
-        assert_eq!(rt; value_of(&[0; ROW_WORDS]), None);
-    }
-
-    // Another length in the row, and whether a value has that row. A longer one ends in zeros.
-    #[test]
-    fn other_lengths(rt: HostRuntime) {
-        for (length, found) in [
-            (0, false),
-            (7, false),
-            (9, true),
-            (112, true),
-            (113, false),
-            (136, false),
-            ((1 << 63) + 8, false),
-        ] {
-            let mut other = EIGHT;
-            other[1] = length;
-            assert_eq!(rt; value_of(&other).is_some(), found, "length {length}");
+        for (word, changed, found) in CHANGES {
+            let mut row = [0; ROW_WORDS];
+            row[0] = PRESENT;
+            row[1] = 8;
+            row[2] = EIGHT;
+            row[word % ROW_WORDS] = changed;
+            assert!(rt; value_of(&row).is_some() == found);
         }
     }
 
@@ -178,8 +160,8 @@ mod tests {
         for len in 0..=VALUE_BYTES {
             let value = Value::new(&bytes[..len]).expect(&rt, "at most 112 bytes are a value");
             let row = row_of(&value);
-            assert_eq!(rt; row[1], len as u64);
-            assert_eq!(rt; value_of(&row), Some(value));
+            assert!(rt; row[1] == len as u64);
+            assert!(rt; value_of(&row) == Some(value));
         }
     }
 }

@@ -4,6 +4,7 @@ use Rattle.std.specs.Prelude.{◌==◌, option_and_then}
 use Rattle.std.specs.Option.{option_map_or}
 use Rattle.std.proofs.lemmas.Bool.{cases_lt}
 use Rattle.std.proofs.lemmas.Bool.Decides.{nat_tests}
+use Rattle.erm_model.specs.declared.limits.TheConstants.{OID_LIMIT}
 use Rattle.erm_model.specs.Rows.{Rows}
 use Rattle.erm_node.specs.Node.{Shape, node_of, node_row, pairs_of, is_node, fewest_pairs, child_of, first_child}
 use Rattle.erm_node.specs.Sound.{levels_of, inner_levels}
@@ -130,5 +131,5 @@ module _ (rows : Rows) (limit : ℕ) where
   quads-limit levels oid lo hi tree once few = omega (arith, quads-tree levels oid lo hi tree few, sum_below-few limit (times rows levels oid) once)
 
 -- twelve levels of four are more than there are objects
-pub quads-twelve : quads 12 ≤ 1024 → ⊥
+pub quads-twelve : quads 12 ≤ OID_LIMIT → ⊥
 quads-twelve few = omega arith

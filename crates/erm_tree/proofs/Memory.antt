@@ -4,6 +4,7 @@ use Rattle.std.specs.Prelude.{◌⊎◌, ◌==◌, ◌↔◌, nat_le, nat_lt}
 use Rattle.std.proofs.lemmas.List.{set-get_or}
 use Rattle.std.proofs.lemmas.Bool.{cases_lt, false≢true}
 use Rattle.std.proofs.lemmas.Bool.Decides.{nat_tests}
+use Rattle.erm_model.specs.declared.limits.TheConstants.{OID_LIMIT}
 use Rattle.erm_model.specs.declared.row_stop.RowStop.{RowStop}
 use Rattle.erm_model.specs.Rows.{Rows, rows_of, set_row}
 use Rattle.erm_model.specs.RowTransaction.{did_read, did_claim, did_write, did_make, Face, IsPossible, Does, IsRefused, ends}
@@ -20,9 +21,9 @@ get_or-start zero t below = absurd (omega arith)
 get_or-start (suc n) zero below = refl
 get_or-start (suc n) (suc t) below = get_or-start n t (omega arith)
 
-start_row : (t : ℕ) → t < 1024 → start_rows t ≡ zero_row
+start_row : (t : ℕ) → t < OID_LIMIT → start_rows t ≡ zero_row
 unfolding start_rows
-start_row t below = get_or-start 1024 t below
+start_row t below = get_or-start OID_LIMIT t below
 
 zero_is_row : node_row (record { leaf = true; pairs = [] }) ≡ zero_row
 unfolding node_row
@@ -142,7 +143,7 @@ claimed-set bs oid inside x =
       | inr not_less ↦ elim (cases_lt b a) as (λ _. (a ≡ b) ⊎ (a ≢ b)) [ inl more ↦ inr (λ e. omega arith) | inr same ↦ inl (omega arith) ]
     ]
 
-start_rows-told : start_rows ≡ rows_of (replicate 1024 zero_row)
+start_rows-told : start_rows ≡ rows_of (replicate OID_LIMIT zero_row)
 unfolding start_rows
 start_rows-told = refl
 
@@ -263,7 +264,7 @@ module _ {S : Type 0} (rows_in : S → List (List ℕ)) (claimed_in : S → List
     }
 
     -- at the start it may be called
-    pub Memory-ready : (s : S) → rows_in s ≡ replicate 1024 zero_row → IsReady memory_face s
+    pub Memory-ready : (s : S) → rows_in s ≡ replicate OID_LIMIT zero_row → IsReady memory_face s
     Memory-ready s rows =
         let same : rows_of (rows_in s) ≡ start_rows = ap rows_of rows ∙ sym start_rows-told in
         record {

@@ -3,6 +3,7 @@ use Rattle.std.proofs.Common.{◌≡◌, ℕ, zero, suc, ◌-◌, ◌^◌, ◌<�
 use Rattle.std.specs.Prelude.{◌⊎◌, option_and_then}
 use Rattle.std.proofs.lemmas.Bool.{cases_lt}
 use Rattle.std.proofs.Math.ListN.{drop_of_length-le}
+use Rattle.erm_model.specs.declared.limits.TheConstants.{OID_LIMIT}
 use Rattle.erm_model.specs.declared.row_stop.RowStop.{RowStop}
 use Rattle.erm_model.specs.Database.{value_at, IsNextAt}
 use Rattle.erm_model.specs.Rows.{Rows}
@@ -105,7 +106,7 @@ module _ {S : Type 0} (face : Face S) (goes_on : (a b c : S) → face.follows a 
 
   module _ (s t : S) (i : ℕ) (inside : i < length pairs) (seen : SawIn face (read_below (first_key (drop i pairs) to - 1)) s t (HasNoneUpTo low pairs to i)) where
     -- its objects are ones that there may be
-    pub Along-bounded : IsLawful face s → IsTold face s (λ rows. (table : ℕ) × IsLeafFor rows table low pairs to) → (get_or pairs i (0, 0)).1 < 1024
+    pub Along-bounded : IsLawful face s → IsTold face s (λ rows. (table : ℕ) × IsLeafFor rows table low pairs to) → (get_or pairs i (0, 0)).1 < OID_LIMIT
     Along-bounded lawful told =
         let (begun, meets, fits) = seen.saw.goes_on.possible in
         let (table, leaf) = told begun meets (Runs-fitted face seen.saw.events s t seen.saw.goes_on.runs begun fits) in

@@ -1,6 +1,7 @@
 -- A walk down a tree that keeps the nodes on its way.
 use Rattle.std.proofs.Common.{◌≡◌, ℕ, suc, ◌-◌, ◌^◌, ◌<◌, List, [], ◌∷◌, ◌++◌, get_or, drop, Bool, true, false, Some, refl, sym, ap, ◌∙◌, subst, inl, arith, append_assoc}
 use Rattle.std.specs.Prelude.{◌==◌}
+use Rattle.erm_model.specs.declared.limits.TheConstants.{OID_LIMIT}
 use Rattle.erm_model.specs.Rows.{Rows}
 use Rattle.erm_model.specs.RowTransaction.{did_read, Face, SameLaw, Does, IsLawful}
 use Rattle.erm_node.specs.Node.{Shape, node_of, node_row, pairs_of, is_node}
@@ -84,7 +85,7 @@ module _ {S : Type 0} (face : Face S) (goes_on : (a b c : S) → face.follows a 
       SawIn-start face goes_on way s (λ rows. IsOnPath rows table key 0 table []) ready stands (λ array meets. IsOnPath-root array table key ((law.meets array).0 meets) below fits)
 
   -- it stands at an object that there may be
-  pub Path-bounded : (s t : S) (walked oid : ℕ) (places : List Place) → IsLawful face s → SawIn face way s t (λ rows. IsOnPath rows table key walked oid places) → oid < 1024
+  pub Path-bounded : (s t : S) (walked oid : ℕ) (places : List Place) → IsLawful face s → SawIn face way s t (λ rows. IsOnPath rows table key walked oid places) → oid < OID_LIMIT
   Path-bounded s t walked oid places lawful seen =
       let (array, meets, is) = SawIn-possible face goes_on way s t (λ rows. IsOnPath rows table key walked oid places) lawful seen in
       StandsAt-bounded array table key walked oid is.to ((law.meets array).0 meets) is.at

@@ -4,6 +4,7 @@ use Rattle.std.specs.Prelude.{◌⊎◌, ◌==◌, nat_eq, flat_map, slice_index
 use Rattle.std.specs.Map.{lookup}
 use Rattle.std.proofs.lemmas.Bool.{cases_lt}
 use Rattle.std.proofs.lemmas.Bool.Decides.{nat_tests}
+use Rattle.erm_model.specs.declared.limits.TheConstants.{OID_LIMIT}
 use Rattle.erm_model.specs.Rows.{Rows}
 use Rattle.erm_record.specs.Record.{IsRecord, record_value}
 use Rattle.erm_node.specs.Node.{Shape, node_of, node_row, pairs_of, is_node}
@@ -83,7 +84,7 @@ module _ (found : (row : List ℕ) (shape : Shape) → node_of row ≡ Some shap
 -- should have, the record has its row, and every other row that is reached stays.
 pub record IsPlanted (rows new : Rows) (made : List ℕ) (table key levels : ℕ) (row : List ℕ) : Type 0 where
   pub some : 0 < length made
-  pub bounded : (i : ℕ) → i < length made → slice_index made i < 1024
+  pub bounded : (i : ℕ) → i < length made → slice_index made i < OID_LIMIT
   pub apart : (x : ℕ) → total (λ o. same_oid o x) made ≤ 1
   pub fresh : (x : ℕ) → 0 < total (λ o. same_oid o x) made → reached rows x ≡ 0
   pub record_there : new (slice_index made 0) ≡ row
@@ -208,7 +209,7 @@ module _ (rows new : Rows) (made : List ℕ) (table key levels : ℕ) (row : Lis
       | inl none ↦ omega (arith, reached-planted x, sound.once x)
       | inr more ↦ omega (arith, reached-planted x, planted.fresh x more, planted.apart x)
     ];
-    bounded = λ x above. omega (arith, reached-planted x, sound.bounded x above, made_above made 1024 x planted.bounded above);
+    bounded = λ x above. omega (arith, reached-planted x, sound.bounded x above, made_above made OID_LIMIT x planted.bounded above);
   }
 
   -- each record keeps its row

@@ -5,6 +5,7 @@ use Rattle.std.specs.List.{All}
 use Rattle.std.proofs.lemmas.List.Elements.{All-nil, All-cons}
 use Rattle.std.proofs.lemmas.Bool.{cases_lt}
 use Rattle.std.proofs.lemmas.Bool.Decides.{nat_tests}
+use Rattle.erm_model.specs.declared.limits.TheConstants.{OID_LIMIT}
 use Rattle.erm_model.specs.Rows.{Rows}
 use Rattle.erm_model.specs.RowTransaction.{Event, did_claim, did_write, did_make, after_all, made_by_all, Law, SameLaw, TellsAll, Face}
 use Rattle.erm_model.proofs.RowCalls.{after_all-append, made_by_all-append}
@@ -83,7 +84,7 @@ told_makes law (o ∷ os) fs begun seen told x more =
 
 module _ (found : (row : List ℕ) (shape : Shape) → node_of row ≡ Some shape → (is_node shape ≡ true) × (row ≡ node_row shape)) (given : (shape : Shape) → is_node shape ≡ true → node_of (node_row shape) ≡ Some shape)
     (array : Rows) (made : List ℕ) (table key : ℕ) (row : List ℕ) (sound : IsSound array) (below : table < 16) (fits : key < 2 ^ 64) (record_row : IsRecord row)
-    (many : length made ≡ objects_for (path_to array (levels_of array table) table key)) (small : All (λ o. o < 1024) made) (apart : (x : ℕ) → total (λ o. same_oid o x) made ≤ 1) (fresh : (x : ℕ) → 0 < total (λ o. same_oid o x) made → reached array x ≡ 0) where
+    (many : length made ≡ objects_for (path_to array (levels_of array table) table key)) (small : All (λ o. o < OID_LIMIT) made) (apart : (x : ℕ) → total (λ o. same_oid o x) made ≤ 1) (fresh : (x : ℕ) → 0 < total (λ o. same_oid o x) made → reached array x ≡ 0) where
   -- the rows after a new key was put in
   abbrev pub put_rows : Rows
   put_rows = set_all (new_rows made key row (path_to array (levels_of array table) table key)) array
@@ -165,14 +166,14 @@ made_above (o ∷ os) limit x small above =
 
 -- the rows that are set are of objects that there may be
 pub rows_bounded : (found : (row : List ℕ) (shape : Shape) → node_of row ≡ Some shape → (is_node shape ≡ true) × (row ≡ node_row shape)) (array : Rows) (made : List ℕ) (table key : ℕ) (row : List ℕ) (places : List Place) → IsSound array → table < 16 → key < 2 ^ 64
-    → places ≡ path_to array (levels_of array table) table key → length made ≡ objects_for places → All (λ o. o < 1024) made → All (λ (e : ℕ × List ℕ). e.0 < 1024) (new_rows made key row places)
+    → places ≡ path_to array (levels_of array table) table key → length made ≡ objects_for places → All (λ o. o < OID_LIMIT) made → All (λ (e : ℕ × List ℕ). e.0 < OID_LIMIT) (new_rows made key row places)
 rows_bounded found array made table key row places sound below fits path many small =
     let (n, depth, few) = levels_of-bounds array table in
     let here : places ≡ path_to array (suc n) table key = path ∙ ap (λ (m : ℕ). path_to array m table key) depth in
     let count : length made ≡ objects_for (path_to array (suc n) table key) = many ∙ ap objects_for here in
     let some : 0 < length made = omega (arith, objects_for-some (path_to array (suc n) table key)) in
     let tree : IsTree array (suc n) 0 table 0 (2 ^ 64) = subst (λ (m : ℕ). IsTree array m 0 table 0 (2 ^ 64)) depth (sound.trees table below) in
-    let none : (x : ℕ) → 1024 ≤ x → set_times (new_rows made key row (path_to array (suc n) table key)) x ≡ 0 = λ x above.
+    let none : (x : ℕ) → OID_LIMIT ≤ x → set_times (new_rows made key row (path_to array (suc n) table key)) x ≡ 0 = λ x above.
     omega (
       arith,
       set_times-new_rows array made key row some table n count x,
@@ -180,9 +181,9 @@ rows_bounded found array made table key row places sound below fits path many sm
       reached-table array table x below,
       ap (λ (m : ℕ). times array m table x) depth,
       sound.bounded x above,
-      made_above made 1024 x (λ i inside. small i 0 inside) above,
+      made_above made OID_LIMIT x (λ i inside. small i 0 inside) above,
     ) in
-    subst (λ (ps : List Place). All (λ (e : ℕ × List ℕ). e.0 < 1024) (new_rows made key row ps)) (sym here) (all_below (new_rows made key row (path_to array (suc n) table key)) 1024 none)
+    subst (λ (ps : List Place). All (λ (e : ℕ × List ℕ). e.0 < OID_LIMIT) (new_rows made key row ps)) (sym here) (all_below (new_rows made key row (path_to array (suc n) table key)) OID_LIMIT none)
 
 -- what holds of each by recursion holds by places
 pub All-Each : {X : Type 0} (P : X → Type 0) (xs : List X) → Each P xs → All P xs
@@ -197,7 +198,7 @@ module _ {S : Type 0} (face : Face S) (goes_on : (a b c : S) → face.follows a 
       → SawIn face (λ rows x. IsMetIn rows table key key x) s t (λ rows. IsRecordFor rows table key None)
       → SawIn face (λ rows x. IsMetIn rows table key key x) t u (λ rows. places ≡ path_to rows (levels_of rows table) table key)
       → Ran face u (map did_make made) v → Ran face v (map (λ e. did_claim e.0) ws) w → Ran face w (map (λ e. did_write e.0 e.1) ws) z
-      → length made ≡ objects_for places → ws ≡ new_rows made key row places → All (λ o. o < 1024) made
+      → length made ≡ objects_for places → ws ≡ new_rows made key row places → All (λ o. o < OID_LIMIT) made
       → ((rows new : Rows) → IsSound rows → IsSound new → IsSetAt rows new table key (record_value row) → change rows new)
       → DidBy face (λ rows events. IsPut rows table key row events) s z change
   DidBy-put_new s t u v w z row places made ws change record_row absent path makes claims writes many planned small result =

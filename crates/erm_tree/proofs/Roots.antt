@@ -5,6 +5,7 @@ use Rattle.std.specs.Option.{option_map_or}
 use Rattle.std.proofs.lemmas.List.{append-nil}
 use Rattle.std.proofs.lemmas.Bool.{cases_lt}
 use Rattle.std.proofs.lemmas.Bool.Decides.{nat_tests}
+use Rattle.erm_model.specs.declared.limits.TheConstants.{OID_LIMIT}
 use Rattle.erm_model.specs.Rows.{Rows}
 use Rattle.erm_record.specs.Record.{IsRecord}
 use Rattle.erm_node.specs.Node.{Shape, node_of, node_row, pairs_of, is_node}
@@ -39,7 +40,7 @@ full_length n e = grind (arith, nat_tests)
 module _ (rows new : Rows) (made : List ℕ) (key : ℕ)
     (found : (row : List ℕ) (shape : Shape) → node_of row ≡ Some shape → (is_node shape ≡ true) × (row ≡ node_row shape)) (given : (shape : Shape) → is_node shape ≡ true → node_of (node_row shape) ≡ Some shape)
     (some : 0 < length made) (small : (i : ℕ) → i < length made → slice_index made i < 2 ^ 32) (record_row : IsRecord (new (slice_index made 0)))
-    (levels oid : ℕ) (few : levels ≤ 11) (before : Before rows new key (suc levels) 0 oid 0 (2 ^ 64)) (bounded : (x : ℕ) → 1024 ≤ x → times rows (suc levels) oid x ≡ 0) where
+    (levels oid : ℕ) (few : levels ≤ 11) (before : Before rows new key (suc levels) 0 oid 0 (2 ^ 64)) (bounded : (x : ℕ) → OID_LIMIT ≤ x → times rows (suc levels) oid x ≡ 0) where
   after_grown : Grown rows new made key (suc levels) 0 oid 0 (2 ^ 64) → IsRootAfter rows new made key levels oid
   after_grown grown = record {
     now = levels;
@@ -55,13 +56,13 @@ module _ (rows new : Rows) (made : List ℕ) (key : ℕ)
       let tree = before.tree in
       let seven : length (pairs_of (rows oid)) ≡ 7 = full_length (length (pairs_of (rows oid))) full in
       let wide : IsTree rows (suc levels) 4 oid 0 (2 ^ 64) = record { node = tree.node; enough = omega arith; starts = tree.starts; fan = tree.fan } in
-      let limit = quads-limit rows 1024 (suc levels) oid 0 (2 ^ 64) wide before.once bounded in
+      let limit = quads-limit rows OID_LIMIT (suc levels) oid 0 (2 ^ 64) wide before.once bounded in
       at_most levels few limit
     where
-      at_most : (n : ℕ) → n ≤ 11 → quads (suc n) ≤ 1024 → suc n ≤ 11
+      at_most : (n : ℕ) → n ≤ 11 → quads (suc n) ≤ OID_LIMIT → suc n ≤ 11
       at_most n under limit = elim (cases_lt n 11) as (λ _. suc n ≤ 11) [
         | inl less ↦ omega arith
-        | inr last ↦ let same : n ≡ 11 = omega arith in absurd (quads-twelve (subst (λ (m : ℕ). quads (suc m) ≤ 1024) same limit))
+        | inr last ↦ let same : n ≡ 11 = omega arith in absurd (quads-twelve (subst (λ (m : ℕ). quads (suc m) ≤ OID_LIMIT) same limit))
       ]
 
   -- a full root is cut

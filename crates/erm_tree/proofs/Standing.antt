@@ -5,6 +5,7 @@ use Rattle.std.specs.Option.{option_map_or}
 use Rattle.std.specs.Map.{lookup}
 use Rattle.std.proofs.lemmas.Bool.{cases_lt}
 use Rattle.std.proofs.lemmas.Bool.Decides.{nat_tests}
+use Rattle.erm_model.specs.declared.limits.TheConstants.{OID_LIMIT}
 use Rattle.erm_model.specs.Rows.{Rows}
 use Rattle.erm_node.specs.Node.{pairs_of, first_child}
 use Rattle.erm_node.specs.Tree.{Fan, first_key, total, IsTree, entries, times, same_oid}
@@ -79,9 +80,9 @@ same_oid-itself : (oid : ℕ) → same_oid oid oid ≡ 1
 same_oid-itself oid = grind (arith, nat_tests)
 
 -- where it stands there is an object that there may be
-pub StandsAt-bounded : (rows : Rows) (table key walked oid to : ℕ) → IsSound rows → StandsAt rows table key walked oid to → oid < 1024
+pub StandsAt-bounded : (rows : Rows) (table key walked oid to : ℕ) → IsSound rows → StandsAt rows table key walked oid to → oid < OID_LIMIT
 StandsAt-bounded rows table key walked oid to sound at =
-    elim (cases_lt oid 1024) as (λ _. oid < 1024) [
+    elim (cases_lt oid OID_LIMIT) as (λ _. oid < OID_LIMIT) [
       | inl less ↦ less
       | inr not_less ↦ absurd (omega (arith, sound.bounded oid not_less, at.reaches oid, same_oid-itself oid))
     ]
@@ -193,7 +194,7 @@ StandsAt-leaf rows table key walked oid to sound at last =
             entry = here pair.0 (omega arith) wide ∙ lookup-itself pair.0 pair.1;
             alone = λ k above below. here k (omega arith) below ∙ lookup-other k pair.0 pair.1 above;
             record_row = row;
-            bounded = elim (cases_lt pair.1 1024) as (λ _. pair.1 < 1024) [ inl less ↦ less | inr not_less ↦ absurd (omega (arith, sound.bounded pair.1 not_less)) ];
+            bounded = elim (cases_lt pair.1 OID_LIMIT) as (λ _. pair.1 < OID_LIMIT) [ inl less ↦ less | inr not_less ↦ absurd (omega (arith, sound.bounded pair.1 not_less)) ];
             met = λ l h above below. at.met l h pair.1 (
               omega arith,
               omega arith,

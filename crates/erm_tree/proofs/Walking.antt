@@ -6,6 +6,7 @@ use Rattle.erm_record.specs.Record.{IsRecord}
 use Rattle.std.specs.List.{list_all}
 use Rattle.std.proofs.lemmas.Bool.{leb-true, false≢true}
 use Rattle.std.proofs.lemmas.Bool.Decides.{nat_tests}
+use Rattle.erm_model.specs.declared.limits.TheConstants.{OID_LIMIT}
 use Rattle.erm_model.specs.Rows.{Rows}
 use Rattle.erm_model.specs.RowTransaction.{did_read, Face, SameLaw, Does, IsLawful}
 use Rattle.erm_node.specs.Node.{Shape, node_of, node_row, pairs_of, is_node, fewest_pairs, ascends}
@@ -99,11 +100,11 @@ IsRecordFor-leaf rows table key pairs to leaf = record {
   is = sym (leaf.found key leaf.low leaf.high);
   there = there (lookup (nat_eq key) pairs) (Fan-lookup (λ oid from up. IsEntry rows table oid from up) pairs to key leaf.entries);
 } where
-  there : (found : Option ℕ) → IfSome found (λ oid. (up : ℕ) × IsEntry rows table oid key up) → IfSome found (λ oid. IsRecord (rows oid) × (oid < 1024) × IsMetIn rows table key key oid)
+  there : (found : Option ℕ) → IfSome found (λ oid. (up : ℕ) × IsEntry rows table oid key up) → IfSome found (λ oid. IsRecord (rows oid) × (oid < OID_LIMIT) × IsMetIn rows table key key oid)
   there None has = tt
   there (Some oid) (up, is) = (is.record_row, is.bounded, is.met key key (omega arith) (omega arith))
 
-object_of : (rows : Rows) (table key : ℕ) (found : Option ℕ) → IfSome found (λ oid. IsRecord (rows oid) × (oid < 1024) × IsMetIn rows table key key oid) → IfSome found (λ oid. oid < 1024)
+object_of : (rows : Rows) (table key : ℕ) (found : Option ℕ) → IfSome found (λ oid. IsRecord (rows oid) × (oid < OID_LIMIT) × IsMetIn rows table key key oid) → IfSome found (λ oid. oid < OID_LIMIT)
 object_of rows table key None there = tt
 object_of rows table key (Some oid) there = there.1
 
@@ -119,7 +120,7 @@ module _ {S : Type 0} (face : Face S) (goes_on : (a b c : S) → face.follows a 
       (λ array meets. StandsAt-root array table key ((law.meets array).0 meets) below fits)
 
   -- it stands at an object that there may be
-  pub Walking-bounded : (s t : S) (walked oid to : ℕ) → IsLawful face s → SawIn face on_way s t (λ rows. StandsAt rows table key walked oid to) → oid < 1024
+  pub Walking-bounded : (s t : S) (walked oid to : ℕ) → IsLawful face s → SawIn face on_way s t (λ rows. StandsAt rows table key walked oid to) → oid < OID_LIMIT
   Walking-bounded s t walked oid to lawful seen =
       let (array, meets, at) = SawIn-possible face goes_on on_way s t (λ rows. StandsAt rows table key walked oid to) lawful seen in
       StandsAt-bounded array table key walked oid to ((law.meets array).0 meets) at
@@ -190,7 +191,7 @@ module _ {S : Type 0} (face : Face S) (goes_on : (a b c : S) → face.follows a 
       (λ array meets leaf. IsRecordFor-leaf array table key pairs to leaf) (λ array meets leaf x on. on) seen
 
   -- where there is one, it is an object that there may be
-  pub Walking-object : (s t : S) (found : Option ℕ) → IsLawful face s → SawIn face on_way s t (λ rows. IsRecordFor rows table key found) → IfSome found (λ oid. oid < 1024)
+  pub Walking-object : (s t : S) (found : Option ℕ) → IsLawful face s → SawIn face on_way s t (λ rows. IsRecordFor rows table key found) → IfSome found (λ oid. oid < OID_LIMIT)
   Walking-object s t found lawful seen =
       let (array, meets, is) = SawIn-possible face goes_on on_way s t (λ rows. IsRecordFor rows table key found) lawful seen in
       object_of array table key found is.there

@@ -5,7 +5,7 @@ ghost use Rattle.erm_tree.specs.Calls.{IsReady};
 mod memory;
 
 use crate::{del, find, get, next, operations_are_run_one, put};
-use erm_model::{Map, Op, Reply, RowStop, RowTxn, TABLES, Value, run_one};
+use erm_model::{Map, OID_LIMIT, Oid, Op, Reply, Row, RowStop, RowTxn, TABLES, Value, run_one};
 use memory::MemoryTxn;
 use std::alloc::Global;
 use std::process::Abort;
@@ -46,6 +46,41 @@ fn answer_all(alloc: Global, txn: &mut MemoryTxn, ops: &[Op]) -> Result<Vec<Repl
     Ok(replies)
 }
 
+// How many operations are answered, where objects below a limit are made. What the calls answer is what is answered on a map.
+fn answered(rt: &impl Abort, alloc: Global, limit: Oid, ops: &[Op]) -> Result<usize, Fail> {
+    let mut txn = MemoryTxn::new(alloc, limit)?;
+    let replies = answer_all(alloc, &mut txn, ops)?;
+    let done = ops
+        .get(..replies.len())
+        .ok_or("more replies than operations")?;
+    let mut map = Map::new(alloc);
+    assert!(rt; replies == run_one(alloc, &mut map, done)?);
+    Ok(replies.len())
+}
+
+// What is asked of a key.
+#[derive(Clone, Copy)]
+enum Ask {
+    Get,
+    Put,
+    Del,
+    Next,
+}
+
+// What is put for a key has one byte.
+fn op(ask: Ask, table: u8, key: u64) -> Op {
+    match ask {
+        Ask::Get => Op::Get { table, key },
+        Ask::Put => Op::Put {
+            table,
+            key,
+            value: value((key % 251) as u8),
+        },
+        Ask::Del => Op::Del { table, key },
+        Ask::Next => Op::Next { table, from: key },
+    }
+}
+
 // A value of one byte.
 fn value(byte: u8) -> Value {
     Value::new(&[byte]).unwrap()
@@ -66,87 +101,51 @@ fn script(alloc: Global, order: u8, keys: u64) -> Result<Vec<Op>, Fail> {
     for number in 0..keys {
         let table = (number % 16) as u8;
         let key = key_of(order, number);
-        ops.push(Op::Put {
-            table,
-            key,
-            value: value((number % 251) as u8),
-        })?;
+        ops.push(op(Ask::Put, table, key))?;
         if number % 3 == 0 {
-            ops.push(Op::Del { table, key })?;
+            ops.push(op(Ask::Del, table, key))?;
         }
-        ops.push(Op::Get { table, key })?;
-        ops.push(Op::Next {
-            table,
-            from: key / 2,
-        })?;
+        ops.push(op(Ask::Get, table, key))?;
+        ops.push(op(Ask::Next, table, key / 2))?;
     }
     Ok(ops)
 }
 
-// What the calls answer to operations is what they are answered on a map.
-fn same_as_on_a_map(rt: &impl Abort, alloc: Global, ops: &[Op]) -> Result<usize, Fail> {
-    let mut txn = MemoryTxn::new(alloc)?;
-    let replies = answer_all(alloc, &mut txn, ops)?;
-    let answered = ops
-        .get(..replies.len())
-        .ok_or("more replies than operations")?;
-    let mut map = Map::new(alloc);
-    let expected = run_one(alloc, &mut map, answered)?;
-    assert!(rt; replies == expected);
-    Ok(replies.len())
-}
-
 #[test]
-fn ascending_keys(rt: HostRuntime) -> Result<(), Fail> {
-    let ops = script(rt.alloc(), 0, 1000)?;
-    let answered = same_as_on_a_map(&rt, rt.alloc(), ops.as_slice())?;
-    assert!(rt; answered > 1500, "objects run out late");
-    assert!(rt; answered < ops.len(), "objects run out");
+fn keys_until_objects_run_out(rt: HostRuntime) -> Result<(), Fail> {
+    for order in 0..3 {
+        let ops = script(rt.alloc(), order, 1000)?;
+        let answered = answered(&rt, rt.alloc(), 1000, ops.as_slice())?;
+        assert!(rt; answered > 1500, "objects run out late");
+        assert!(rt; answered < ops.len(), "objects run out");
+    }
     Ok(())
 }
 
-#[test]
-fn descending_keys(rt: HostRuntime) -> Result<(), Fail> {
-    let ops = script(rt.alloc(), 1, 1000)?;
-    let answered = same_as_on_a_map(&rt, rt.alloc(), ops.as_slice())?;
-    assert!(rt; answered > 1500, "objects run out late");
-    assert!(rt; answered < ops.len(), "objects run out");
-    Ok(())
-}
-
-#[test]
-fn shuffled_keys(rt: HostRuntime) -> Result<(), Fail> {
-    let ops = script(rt.alloc(), 2, 1000)?;
-    let answered = same_as_on_a_map(&rt, rt.alloc(), ops.as_slice())?;
-    assert!(rt; answered > 1500, "objects run out late");
-    assert!(rt; answered < ops.len(), "objects run out");
-    Ok(())
-}
+const EDGES: [(Ask, u8, u64); 13] = [
+    (Ask::Put, 15, 0),
+    (Ask::Get, 15, 0),
+    (Ask::Next, 15, 0),
+    (Ask::Next, 15, 1),
+    (Ask::Next, 14, 0),
+    (Ask::Put, 15, 0xffff_ffff_ffff_ffff),
+    (Ask::Get, 15, 0xffff_ffff_ffff_ffff),
+    (Ask::Next, 15, 0xffff_ffff_ffff_ffff),
+    (Ask::Next, 15, 1),
+    (Ask::Next, 14, 0),
+    (Ask::Del, 15, 0),
+    (Ask::Del, 15, 5),
+    (Ask::Next, 15, 0),
+];
 
 #[test]
 fn least_and_greatest_key(rt: HostRuntime) -> Result<(), Fail> {
     let mut ops = Vec::new(rt.alloc());
-    for key in [0, u64::MAX] {
-        ops.push(Op::Put {
-            table: 15,
-            key,
-            value: value(7),
-        })?;
-        ops.push(Op::Get { table: 15, key })?;
-        ops.push(Op::Next {
-            table: 15,
-            from: key,
-        })?;
-        ops.push(Op::Next { table: 15, from: 1 })?;
-        ops.push(Op::Next { table: 14, from: 0 })?;
+    for (ask, table, key) in EDGES {
+        ops.push(op(ask, table, key))?;
     }
-    ops.push(Op::Del { table: 15, key: 0 })?;
-    ops.push(Op::Del { table: 15, key: 5 })?;
-    ops.push(Op::Next { table: 15, from: 0 })?;
-    assert_eq!(rt;
-        same_as_on_a_map(&rt, rt.alloc(), ops.as_slice())?,
-        ops.len()
-    );
+    let answered = answered(&rt, rt.alloc(), OID_LIMIT, ops.as_slice())?;
+    assert!(rt; answered == EDGES.len());
     Ok(())
 }
 
@@ -154,36 +153,31 @@ fn least_and_greatest_key(rt: HostRuntime) -> Result<(), Fail> {
 fn seven_keys(alloc: Global) -> Result<MemoryTxn, Fail>
     ensures { IfOk result (λ txn. IsReady ⟦<MemoryTxn as RowTxn>⟧.face txn) }
 {
-    let mut txn = MemoryTxn::new(alloc)?;
+    let mut txn = MemoryTxn::new(alloc, OID_LIMIT)?;
     for number in 1..8 {
-        let op = Op::Put {
-            table: 0,
-            key: 10 * number,
-            value: value(1),
-        };
-        let _ = answer(&mut txn, &op);
+        let _ = answer(&mut txn, &op(Ask::Put, 0, 10 * number));
     }
     txn.claims.clear();
     Ok(txn)
 }
 
+// The rows that an eighth key in the root makes: the root, and its two halves.
+const CUT: [(usize, Row); 3] = [
+    (0, [4, 2, 0, 50, 0, 0, 0, 0, 0, 24, 25, 0, 0, 0, 0, 0]),
+    (24, [3, 4, 10, 20, 30, 40, 0, 0, 0, 16, 17, 18, 19, 0, 0, 0]),
+    (25, [3, 4, 50, 60, 70, 80, 0, 0, 0, 20, 21, 22, 23, 0, 0, 0]),
+];
+
 #[test]
 fn the_eighth_key_cuts_the_root(rt: HostRuntime) -> Result<(), Fail> {
     let mut txn = seven_keys(rt.alloc())?;
+    assert!(rt; find(&mut txn, 0, 70) == Ok(Some(22)));
+    let mut txn = seven_keys(rt.alloc())?;
     assert!(rt; put(&mut txn, 0, 80, &value(2)).is_ok());
     assert!(rt; txn.claims.as_slice() == [23, 0, 24, 25].as_slice());
-    assert_eq!(rt;
-        txn.rows[0],
-        [4, 2, 0, 50, 0, 0, 0, 0, 0, 24, 25, 0, 0, 0, 0, 0]
-    );
-    assert_eq!(rt;
-        txn.rows[24],
-        [3, 4, 10, 20, 30, 40, 0, 0, 0, 16, 17, 18, 19, 0, 0, 0]
-    );
-    assert_eq!(rt;
-        txn.rows[25],
-        [3, 4, 50, 60, 70, 80, 0, 0, 0, 20, 21, 22, 23, 0, 0, 0]
-    );
+    for (oid, row) in CUT {
+        assert!(rt; txn.rows.get(oid) == Some(&row));
+    }
     operations_are_run_one::<MemoryTxn>();
     Ok(())
 }
@@ -201,15 +195,6 @@ fn a_refusal_leaves_the_rows(rt: HostRuntime) -> Result<(), Fail> {
         }
     }
     // Two reads of the root, three objects made and four claims.
-    assert_eq!(rt; last_refused, 8);
-    Ok(())
-}
-
-#[test]
-fn records_are_found(rt: HostRuntime) -> Result<(), Fail> {
-    let mut txn = seven_keys(rt.alloc())?;
-    assert_eq!(rt; find(&mut txn, 0, 70), Ok(Some(22)));
-    let mut other = seven_keys(rt.alloc())?;
-    assert_eq!(rt; find(&mut other, 1, 70), Ok(None));
+    assert!(rt; last_refused == 8);
     Ok(())
 }

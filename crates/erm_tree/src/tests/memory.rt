@@ -1,5 +1,6 @@
 //! A transaction in memory.
 ghost use Rattle.std.specs.Prelude.{◌≡◌, ◌<◌, ◌≤◌, ◌^◌, true, false, IfOk, replicate, slice_index_or, vec_len};
+ghost use Rattle.erm_model.specs.declared.limits.TheConstants.{OID_LIMIT, TABLES};
 ghost use Rattle.erm_model.specs.Rows.{rows_of};
 ghost use Rattle.erm_node.specs.Sound.{sound_law};
 ghost use Rattle.erm_tree.specs.Calls.{IsReady};
@@ -18,18 +19,21 @@ pub struct MemoryTxn {
     pub claimed: Vec<bool>,
     /// The object that is made next.
     pub next: Oid,
+    /// Objects below are made.
+    pub limit: Oid,
     /// How many calls are answered before one is refused.
     pub left: u64,
     /// The object of each claim, in turn.
     pub claims: Vec<Oid>,
-    ghost rows_there: { vec_len rows ≡ 1024 },
-    ghost claimed_there: { vec_len claimed ≡ 1024 },
-    ghost next_above: { 16 ≤ next },
+    ghost rows_there: { vec_len rows ≡ OID_LIMIT },
+    ghost claimed_there: { vec_len claimed ≡ OID_LIMIT },
+    ghost next_above: { TABLES ≤ next },
+    ghost limit_below: { limit ≤ OID_LIMIT },
 }
 
 // As many rows of zeros as there may be objects.
 fn zero_rows(alloc: Global) -> Result<Vec<Row>, AllocError>
-    ensures { IfOk result (λ rows. rows.items ≡ replicate 1024 zero_row) }
+    ensures { IfOk result (λ rows. rows.items ≡ replicate OID_LIMIT zero_row) }
 {
     let mut rows = Vec::new(alloc);
     for _oid in 0..OID_LIMIT {
@@ -39,8 +43,8 @@ fn zero_rows(alloc: Global) -> Result<Vec<Row>, AllocError>
 }
 
 impl MemoryTxn {
-    /// A transaction on rows of zeros, which refuses no call soon.
-    pub fn new(alloc: Global) -> Result<MemoryTxn, AllocError>
+    /// A transaction on rows of zeros, which makes objects below a limit and else refuses no call soon.
+    pub fn new(alloc: Global, limit: Oid) -> Result<MemoryTxn, AllocError>
         ensures { IfOk result (λ txn. IsReady ⟦<MemoryTxn as RowTxn>⟧.face txn) }
     {
         nodes_are_read_back();
@@ -48,6 +52,7 @@ impl MemoryTxn {
             rows: zero_rows(alloc)?,
             claimed: Vec::from_elem(alloc, false, OID_LIMIT as usize)?,
             next: Oid::from(TABLES),
+            limit: limit.min(OID_LIMIT),
             left: u64::MAX,
             claims: Vec::new(alloc),
         })
@@ -120,7 +125,7 @@ impl RowTxn for MemoryTxn {
         if !self.answers() {
             return Err(RowStop::OidsFull { drawn });
         }
-        if oid >= OID_LIMIT {
+        if oid >= self.limit {
             return Err(RowStop::OidsFull { drawn });
         }
         self.next += 1;

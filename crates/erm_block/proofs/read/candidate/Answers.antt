@@ -8,14 +8,14 @@ use Rattle.erm_block.proofs.read.candidate.Goals as goal
 
 pub returns-in_err-kind : goal.returns-in_err-kind
 returns-in_err-kind c = λ block at run_before stands.
-    let small = (in_range block.kind block run_before stands.is.rules).size in
+    let small = (in_range c.stored_words_tell_the_row.ensures.short block.kind block run_before stands.is.rules).size in
     let header = c.header_parts.ensures block.kind block.size block.run (omega arith) (front_of c.args.words.now block stands.spelled).header in
     None≢Some c.header_parts.result _ c.in_err-kind.was header
 
 pub returns-in_err-rows : goal.returns-in_err-rows
 returns-in_err-rows c = λ block at run_before stands.
     let front = front_of c.args.words.now block stands.spelled in
-    let range = in_range block.kind block run_before stands.is.rules in
+    let range = in_range c.stored_words_tell_the_row.ensures.short block.kind block run_before stands.is.rules in
     let header = c.header_parts.ensures block.kind block.size block.run (omega (arith, range.size)) front.header in
     let name = c.name_parts-seat.ensures block.seat block.n block.number range.seat range.n range.number front.name in
     let parts = Some≡Some c.header_parts.result (c.in_ok-kind.kind, c.in_ok-kind.size, c.in_ok-kind.run') (block.kind, block.size, block.run) c.in_ok-kind.was header in
@@ -27,7 +27,7 @@ returns-in_err-rows c = λ block at run_before stands.
 pub returns : goal.returns
 returns c = λ block at run_before stands.
     let front = front_of c.args.words.now block stands.spelled in
-    let range = in_range block.kind block run_before stands.is.rules in
+    let range = in_range c.stored_words_tell_the_row.ensures.short block.kind block run_before stands.is.rules in
     let header = c.header_parts.ensures block.kind block.size block.run (omega (arith, range.size)) front.header in
     let name = c.name_parts-seat.ensures block.seat block.n block.number range.seat range.n range.number front.name in
     let parts = Some≡Some c.header_parts.result (c.in_ok-kind.kind, c.in_ok-kind.size, c.in_ok-kind.run') (block.kind, block.size, block.run) c.in_ok-kind.was header in

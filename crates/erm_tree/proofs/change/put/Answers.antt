@@ -3,6 +3,7 @@ use Rattle.std.specs.List.{All}
 use Rattle.std.specs.FinMap.{insert}
 use Rattle.std.proofs.lemmas.List.{length-map}
 use Rattle.std.proofs.lemmas.Result.{IfOk-weaker, IfErr-weaker, err_from_is_err_and}
+use Rattle.erm_model.specs.declared.limits.TheConstants.{OID_LIMIT}
 use Rattle.erm_model.specs.Database.{at}
 use Rattle.erm_model.specs.Rows.{Rows}
 use Rattle.erm_model.specs.RowTransaction.{Event, did_write, did_claim, did_make, Does, StopsRead, StopsClaim, StopsMake}
@@ -106,7 +107,7 @@ claim_all-requires-clause-objects g c =
     let lawful = (SawIn-ready face t.goes_on (way c.args.table key) c.args.txn.now c.record_for.new.txn (record_seen c.args.table key c.in_ok-oid.field-0) c.requires.ready.lawful c.in_ok-oid.ensures.ok).lawful in
     let (array, meets, path) = SawIn-possible face t.goes_on (way c.args.table key) c.record_for.new.txn c.path_for.new.txn (path_seen c.args.table key places) lawful c.in_ok-path.ensures.ok in
     let bounded = rows_bounded c.nodes_are_read_back.ensures.found array made c.args.table key row places ((c.requires.law.meets array).0 meets) c.requires.table c.ranges.key.fits path many c.in_ok-made.ensures.objects in
-    subst (λ (ws : List (ℕ × List ℕ)). All (λ (e : ℕ × List ℕ). e.0 < 1024) ws) (sym (c.as_slice-4.ensures.value ∙ planned)) bounded
+    subst (λ (ws : List (ℕ × List ℕ)). All (λ (e : ℕ × List ℕ). e.0 < OID_LIMIT) ws) (sym (c.as_slice-4.ensures.value ∙ planned)) bounded
 
 pub returns-in_err-claim_all-clause-err : goal.returns-in_err-claim_all-clause-err
 returns-in_err-claim_all-clause-err g c =
@@ -134,7 +135,7 @@ write_all-requires-clause-objects g c =
     let lawful = (SawIn-ready face t.goes_on (way c.args.table key) c.args.txn.now c.record_for.new.txn (record_seen c.args.table key c.in_ok-oid.field-0) c.requires.ready.lawful c.in_ok-oid.ensures.ok).lawful in
     let (array, meets, path) = SawIn-possible face t.goes_on (way c.args.table key) c.record_for.new.txn c.path_for.new.txn (path_seen c.args.table key places) lawful c.in_ok-path.ensures.ok in
     let bounded = rows_bounded c.nodes_are_read_back.ensures.found array made c.args.table key row places ((c.requires.law.meets array).0 meets) c.requires.table c.ranges.key.fits path many c.in_ok-made.ensures.objects in
-    subst (λ (ws : List (ℕ × List ℕ)). All (λ (e : ℕ × List ℕ). e.0 < 1024) ws) (sym (c.as_slice-5.ensures.value ∙ planned)) bounded
+    subst (λ (ws : List (ℕ × List ℕ)). All (λ (e : ℕ × List ℕ). e.0 < OID_LIMIT) ws) (sym (c.as_slice-5.ensures.value ∙ planned)) bounded
 
 pub write_all-requires-clause-claimed : goal.write_all-requires-clause-claimed
 write_all-requires-clause-claimed g c =

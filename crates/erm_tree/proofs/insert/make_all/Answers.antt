@@ -2,6 +2,7 @@ use Rattle.std.proofs.Common.{◌<◌, [], ◌∷◌, ℕ, List, map, sym, subst
 use Rattle.std.specs.List.{All}
 use Rattle.std.proofs.lemmas.List.Elements.{All-append, All-cons, All-nil}
 use Rattle.std.proofs.lemmas.Result.{err_from_is_err_and}
+use Rattle.erm_model.specs.declared.limits.TheConstants.{OID_LIMIT}
 use Rattle.erm_model.specs.RowTransaction.{did_make, StopsMake}
 use Rattle.erm_tree.specs.Calls.{AreQuiet, Ran}
 use Rattle.erm_tree.proofs.Calls.{IsStopped-ran}
@@ -19,7 +20,7 @@ loop-object-preserved g c =
     let face = g.T.RowTxn.face in
     let made = c.loop-object.made.items in
     let oid = c.in_ok-fresh.field-0 in
-    let small : ℕ → Type 0 = λ (o : ℕ). o < 1024 in
+    let small : ℕ → Type 0 = λ (o : ℕ). o < OID_LIMIT in
     let ran = Ran-object face g.met.T.RowTxn.goes_on made oid c.args.txn.now c.loop-object.txn c.fresh.new.self c.loop-object.invariant.0 c.in_ok-fresh.ensures.ok in
     let all = All-append small made (oid ∷ []) c.loop-object.invariant.2 (All-cons small oid [] c.in_ok-fresh.ensures.object (All-nil small)) in (
       subst (λ (os : List ℕ). Ran face c.args.txn.now (map did_make os) c.fresh.new.self) (sym c.push.ensures.items) ran,
