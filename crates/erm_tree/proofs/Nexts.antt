@@ -28,15 +28,15 @@ AnyOfFan-weaker P Q (p ∷ ps) hi each any = elim any as (λ _. AnyOfFan Q (p �
   | inr there ↦ inr (AnyOfFan-weaker P Q ps hi each there)
 ]
 
-IsMet-wider_at : (rows : Rows) (low high below above levels oid lo hi x : ℕ) → below ≤ low → high ≤ above → IsMet rows low high levels oid lo hi x → IsMet rows below above levels oid lo hi x
-IsMet-wider_at rows low high below above zero oid lo hi x l h met = (met.0, omega (arith, met.1), omega (arith, met.2))
+IsMet-wider_at : (rows : Rows) (low high below above levels oid lo hi x : ℕ) → below ≤ low → high ≤ above → IsMet true rows low high levels oid lo hi x → IsMet true rows below above levels oid lo hi x
+IsMet-wider_at rows low high below above zero oid lo hi x l h met = (met.0, met.1, omega (arith, met.2), omega (arith, met.3))
 IsMet-wider_at rows low high below above (suc levels) oid lo hi x l h met = (
   omega (arith, met.0),
   omega (arith, met.1),
-  elim met.2 as (λ _. (x ≡ oid) ⊎ AnyOfFan (λ child from to. IsMet rows below above levels child from to x) (pairs_of (rows oid)) hi) [
+  elim met.2 as (λ _. (x ≡ oid) ⊎ AnyOfFan (λ child from to. IsMet true rows below above levels child from to x) (pairs_of (rows oid)) hi) [
     | inl same ↦ inl same
     | inr inside ↦
-        inr (AnyOfFan-weaker (λ child from to. IsMet rows low high levels child from to x) (λ child from to. IsMet rows below above levels child from to x) (pairs_of (rows oid)) hi
+        inr (AnyOfFan-weaker (λ child from to. IsMet true rows low high levels child from to x) (λ child from to. IsMet true rows below above levels child from to x) (pairs_of (rows oid)) hi
         (λ child from to is. IsMet-wider_at rows low high below above levels child from to x l h is) inside)
   ],
 )
@@ -49,7 +49,7 @@ IsMetIn-wider rows table low high below above x l h met = IsMet-wider_at rows lo
 IsMetIn-few : (rows : Rows) (table low high x : ℕ) → IsMetIn rows table low high x → low < 2 ^ 64
 IsMetIn-few rows table low high x met =
     let (n, many, few) = levels_of-bounds rows table in
-    let there : IsMet rows low high (suc n) table 0 (2 ^ 64) x = subst (λ (m : ℕ). IsMet rows low high m table 0 (2 ^ 64) x) many met in
+    let there : IsMet true rows low high (suc n) table 0 (2 ^ 64) x = subst (λ (m : ℕ). IsMet true rows low high m table 0 (2 ^ 64) x) many met in
     there.0
 
 -- a pair in its place along a fan
@@ -296,7 +296,7 @@ module _ {S : Type 0} (face : Face S) (goes_on : (a b c : S) → face.follows a 
     Seeks-leaf_stopped stopped =
         let above = seeks.above in
         let top = seeks.top in
-        IsStopped-both face goes_on later (λ rows x. IsMetIn rows table from (low - 1) x) (λ rows x. IsMetIn rows table low low x) (λ rows x. IsMetIn rows table from (2 ^ 64 - 1) x) may s t u stop (λ rows. HasNoValueIn rows table from low) seeks.seen stopped
+        IsStopped-both face goes_on (λ rows x. IsMetIn rows table from (low - 1) x) (λ rows x. IsMetIn rows table low low x) (λ rows x. IsMetIn rows table from (2 ^ 64 - 1) x) may s t u stop (λ rows. HasNoValueIn rows table from low) seeks.seen stopped
         (λ array meets none x on. IsMetIn-wider array table from (low - 1) from (2 ^ 64 - 1) x (omega arith) (omega arith) on)
         (λ array meets none x on. let few = IsMetIn-few array table low low x on in IsMetIn-wider array table low low from (2 ^ 64 - 1) x above (omega arith) on)
 
@@ -305,7 +305,7 @@ module _ {S : Type 0} (face : Face S) (goes_on : (a b c : S) → face.follows a 
         → IsStopped face may (Reads face.law (λ rows x. IsMetIn rows table from (2 ^ 64 - 1) x)) s stop v
     Seeks-along_stopped v pairs to leaf stopped =
         let above = seeks.above in
-        IsStopped-both face goes_on later (λ rows x. IsMetIn rows table from low x) (λ rows x. IsOfLeaf rows low pairs to (to - 1) x) (λ rows x. IsMetIn rows table from (2 ^ 64 - 1) x) may s u v stop
+        IsStopped-both face goes_on (λ rows x. IsMetIn rows table from low x) (λ rows x. IsOfLeaf rows low pairs to (to - 1) x) (λ rows x. IsMetIn rows table from (2 ^ 64 - 1) x) may s u v stop
         (λ rows. HasNoValueIn rows table from low × IsLeafFor rows table low pairs to) (Seeks-leaf s t u low pairs to seeks leaf) stopped
         (λ array meets is x on. let top = is.1.top in let high = is.1.high in IsMetIn-wider array table from low from (2 ^ 64 - 1) x (omega arith) (omega arith) on)
         (λ array meets is x on. let top = is.1.top in IsMetIn-wider array table low (to - 1) from (2 ^ 64 - 1) x above (omega arith) (on table is.1))

@@ -1,7 +1,8 @@
 -- What calls of the tree ask of a transaction, and what they say of its events. This project's own.
-use Rattle.std.specs.Prelude.{ℕ, List, [], ◌∷◌}
+use Rattle.std.specs.Prelude.{◌≡◌, ℕ, List, [], ◌∷◌}
+use Rattle.std.specs.List.{Any}
 use Rattle.erm_model.specs.Rows.{Rows}
-use Rattle.erm_model.specs.RowTransaction.{Event, did_read, did_claim, did_write, did_make, Law, Agrees, Face, IsPossible, IsLawful, GoesOn, OnlyReads, Saw, Did}
+use Rattle.erm_model.specs.RowTransaction.{Event, did_read, did_claim, did_write, did_make, Asked, asked_read, asked_claim, asked_make, Law, Agrees, Face, IsPossible, IsLawful, GoesOn, OnlyReads, Saw, Did}
 
 -- a transaction that tree calls may be made on: it is active, and lawful so far, on some array that meets the law
 pub record IsReady {S : Type 0} (face : Face S) (s : S) : Type 0 where
@@ -30,6 +31,23 @@ pub record Reads (law : Law) (objects : Rows → ℕ → Type 0) (events : List 
 pub record SawIn {S : Type 0} (face : Face S) (objects : Rows → ℕ → Type 0) (s t : S) (fact : Rows → Type 0) : Type 0 where
   pub saw : Saw face s t fact
   pub reads : Reads face.law objects saw.events
+
+-- what a look for objects asks for: to read one of these
+abbrev pub AsksReads : (Rows → ℕ → Type 0) → List Event → Rows → Asked → Type 0
+AsksReads objects events rows (asked_read oid) = objects rows oid
+AsksReads objects events rows (asked_claim oid) = ⊥
+AsksReads objects events rows asked_make = ⊥
+
+-- what calls for new objects ask for; what claims of the objects of these rows ask for
+abbrev pub AsksMake : List Event → Rows → Asked → Type 0
+AsksMake events rows (asked_read oid) = ⊥
+AsksMake events rows (asked_claim oid) = ⊥
+AsksMake events rows asked_make = Unit {0}
+
+abbrev pub AsksClaims : List (ℕ × List ℕ) → List Event → Rows → Asked → Type 0
+AsksClaims entries events rows (asked_read oid) = ⊥
+AsksClaims entries events rows (asked_claim oid) = Any (λ entry. entry.0 ≡ oid) entries
+AsksClaims entries events rows asked_make = ⊥
 
 -- several calls changed the rows, and on each array that meets the law and agrees with their events, these are of this kind
 pub record DidBy {S : Type 0} (face : Face S) (kind : Rows → List Event → Type 0) (s t : S) (change : Rows → Rows → Type 0) : Type 0 where

@@ -22,7 +22,7 @@ returns-in_err-oid-clause-err g c =
     let t = g.met.T.RowTxn in
     let kind : List Event → Type 0 = Reads g.T.RowTxn.face.law (λ (rows : Rows) (x : ℕ). IsMetIn rows c.args.table c.args.key c.args.key x) in
     let p = err_from_is_err_and c.from_residual.result c.from_residual.ensures.1 in
-    rw (p.1, p.2) (IsStopped-among g.T.RowTxn.face t.goes_on t.stops_later StopsRead StopsChange kind kind c.args.txn.now c.record_for.new.txn c.in_err-oid.field-0.0 (λ stop named. inl named) (λ es is. is) c.in_err-oid.ensures.err)
+    rw (p.1, p.2) (IsStopped-among g.T.RowTxn.face t.goes_on StopsRead StopsChange kind kind c.args.txn.now c.record_for.new.txn c.in_err-oid.field-0.0 (λ stop named. inl named) (λ es is. is) c.in_err-oid.ensures.err)
 
 pub returns-in-Some-clause-ok : goal.returns-in-Some-clause-ok
 returns-in-Some-clause-ok g c =
@@ -43,7 +43,7 @@ pub returns-in-Some-clause-err : goal.returns-in-Some-clause-err
 returns-in-Some-clause-err g c =
     let t = g.met.T.RowTxn in
     IfErr-weaker c.write.result _ _ (λ stop refused.
-    IsStopped-change g.T.RowTxn.face t.goes_on t.stops_later (λ (rows : Rows) (x : ℕ). IsMetIn rows c.args.table c.args.key c.args.key x) StopsClaim StopsChange c.args.txn.now c.record_for.new.txn c.write.new.self stop
+    IsStopped-change g.T.RowTxn.face t.goes_on (λ (rows : Rows) (x : ℕ). IsMetIn rows c.args.table c.args.key c.args.key x) StopsClaim StopsChange c.args.txn.now c.record_for.new.txn c.write.new.self stop
     (λ (rows : Rows). IsRecordFor rows c.args.table c.args.key c.in_ok-oid.field-0) (λ x named. inr named) c.in_ok-oid.ensures.ok refused)
     c.write.ensures.err
 

@@ -41,7 +41,7 @@ pub returns-in_err-oid-clause-err : goal.returns-in_err-oid-clause-err
 returns-in_err-oid-clause-err g c =
     let t = g.met.T.RowTxn in
     let p = err_from_is_err_and c.from_residual.result c.from_residual.ensures.1 in
-    rw (p.1, p.2) (Refused-reads g.T.RowTxn.face t.goes_on t.stops_later (way c.args.table c.args.key) StopsRead StopsPut (λ stop named. inl (inl named)) c.args.txn.now c.record_for.new.txn c.in_err-oid.field-0.0 c.in_err-oid.ensures.err)
+    rw (p.1, p.2) (Refused-reads g.T.RowTxn.face t.goes_on (way c.args.table c.args.key) StopsRead StopsPut (λ stop named. inl (inl named)) c.args.txn.now c.record_for.new.txn c.in_err-oid.field-0.0 c.in_err-oid.ensures.err)
 
 pub returns-in-Some-clause-ok : goal.returns-in-Some-clause-ok
 returns-in-Some-clause-ok g c =
@@ -61,7 +61,7 @@ pub returns-in-Some-clause-err : goal.returns-in-Some-clause-err
 returns-in-Some-clause-err g c =
     let t = g.met.T.RowTxn in
     IfErr-weaker c.write.result _ _ (λ stop refused.
-    Refused-write g.T.RowTxn.face t.goes_on t.stops_later (way c.args.table c.args.key) StopsClaim StopsPut (λ x named. inl (inr named)) c.args.txn.now c.record_for.new.txn c.write.new.self stop
+    Refused-write g.T.RowTxn.face t.goes_on (way c.args.table c.args.key) StopsClaim StopsPut (λ x named. inl (inr named)) c.args.txn.now c.record_for.new.txn c.write.new.self stop
     (record_seen c.args.table c.args.key c.in_ok-oid.field-0) c.in_ok-oid.ensures.ok refused)
     c.write.ensures.err
 
@@ -73,7 +73,7 @@ pub returns-in_err-path-clause-err : goal.returns-in_err-path-clause-err
 returns-in_err-path-clause-err g c =
     let t = g.met.T.RowTxn in
     let p = err_from_is_err_and c.from_residual-in_err-path.result c.from_residual-in_err-path.ensures.1 in
-    rw (p.1, p.2) (Refused-more_reads g.T.RowTxn.face t.goes_on t.stops_later (way c.args.table c.args.key) StopsRead StopsPut (λ stop named. inl (inl named)) c.args.txn.now c.record_for.new.txn c.path_for.new.txn c.in_err-path.field-0.0
+    rw (p.1, p.2) (Refused-more_reads g.T.RowTxn.face t.goes_on (way c.args.table c.args.key) StopsRead StopsPut (λ stop named. inl (inl named)) c.args.txn.now c.record_for.new.txn c.path_for.new.txn c.in_err-path.field-0.0
     (record_seen c.args.table c.args.key c.in_ok-oid.field-0) c.in_ok-oid.ensures.ok c.in_err-path.ensures.err)
 
 pub make_all-requires-clause-room : goal.make_all-requires-clause-room
@@ -89,7 +89,7 @@ returns-in_err-made-clause-err g c =
     let found = record_seen c.args.table c.args.key c.in_ok-oid.field-0 in
     let path = path_seen c.args.table c.args.key (places_of c.in_ok-path.path.items) in
     let seen = SawIn-then face t.goes_on (way c.args.table c.args.key) c.args.txn.now c.record_for.new.txn c.path_for.new.txn found path c.in_ok-oid.ensures.ok c.in_ok-path.ensures.ok in
-    rw (p.1, p.2) (Refused-quiet face t.goes_on t.stops_later (way c.args.table c.args.key) StopsMake StopsPut (λ stop named. inr named) c.args.txn.now c.path_for.new.txn c.make_all.new.txn c.in_err-made.field-0.0
+    rw (p.1, p.2) (Refused-quiet face t.goes_on (way c.args.table c.args.key) StopsMake StopsPut (λ stop named. inr named) c.args.txn.now c.path_for.new.txn c.make_all.new.txn c.in_err-made.field-0.0
     (λ (rows : Rows). found rows × path rows) seen c.in_err-made.ensures.err)
 
 pub claim_all-requires-clause-objects : goal.claim_all-requires-clause-objects
@@ -117,7 +117,7 @@ returns-in_err-claim_all-clause-err g c =
     let found = record_seen c.args.table c.args.key c.in_ok-oid.field-0 in
     let path = path_seen c.args.table c.args.key (places_of c.in_ok-path.path.items) in
     let seen = SawIn-then face t.goes_on (way c.args.table c.args.key) c.args.txn.now c.record_for.new.txn c.path_for.new.txn found path c.in_ok-oid.ensures.ok c.in_ok-path.ensures.ok in
-    rw (p.1, p.2) (Refused-more_quiet face t.goes_on t.stops_later (way c.args.table c.args.key) StopsClaim StopsPut (λ stop named. inl (inr named)) c.args.txn.now c.path_for.new.txn c.make_all.new.txn c.claim_all.new.txn c.in_err-claim_all.field-0.0
+    rw (p.1, p.2) (Refused-more_quiet face t.goes_on (way c.args.table c.args.key) StopsClaim StopsPut (λ stop named. inl (inr named)) c.args.txn.now c.path_for.new.txn c.make_all.new.txn c.claim_all.new.txn c.in_err-claim_all.field-0.0
     (λ (rows : Rows). found rows × path rows) (map did_make c.in_ok-made.made.items) (AreQuiet-makes c.in_ok-made.made.items) seen c.in_ok-made.ensures.ok c.in_err-claim_all.ensures.err)
 
 pub write_all-requires-clause-objects : goal.write_all-requires-clause-objects

@@ -11,7 +11,7 @@ returns-in_err-claim-clause-err g c =
     let t = g.met.T.RowTxn in
     let p = err_from_is_err_and c.from_residual.result c.from_residual.ensures.1 in
     let ws = take c.loop-oid.oid-index c.args.rows.now in
-    rw (p.1, p.2) (IsStopped-ran g.T.RowTxn.face t.goes_on t.stops_later StopsClaim AreQuiet c.args.txn.now c.loop-oid.txn c.claim.new.self c.in_err-claim.field-0.0 (map (λ (entry : ℕ × List ℕ). did_claim entry.0) ws) c.loop-oid.invariant (AreQuiet-claims ws) c.in_err-claim.ensures.err)
+    rw (p.1, p.2) (IsStopped-ran g.T.RowTxn.face t.goes_on StopsClaim AreQuiet c.args.txn.now c.loop-oid.txn c.claim.new.self c.in_err-claim.field-0.0 (map (λ (entry : ℕ × List ℕ). did_claim entry.0) ws) c.loop-oid.invariant (AreQuiet-claims ws) c.in_err-claim.ensures.err)
 
 pub loop-oid-preserved : goal.loop-oid-preserved
 loop-oid-preserved g c =

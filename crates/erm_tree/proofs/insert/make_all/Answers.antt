@@ -13,7 +13,7 @@ pub returns-in_err-fresh-clause-err : goal.returns-in_err-fresh-clause-err
 returns-in_err-fresh-clause-err g c =
     let t = g.met.T.RowTxn in
     let p = err_from_is_err_and c.from_residual.result c.from_residual.ensures.1 in
-    rw (p.1, p.2) (IsStopped-ran g.T.RowTxn.face t.goes_on t.stops_later StopsMake AreQuiet c.args.txn.now c.loop-object.txn c.fresh.new.self c.in_err-fresh.field-0.0 (map did_make c.loop-object.made.items) c.loop-object.invariant.0 (AreQuiet-makes c.loop-object.made.items) c.in_err-fresh.ensures.err)
+    rw (p.1, p.2) (IsStopped-ran g.T.RowTxn.face t.goes_on StopsMake AreQuiet c.args.txn.now c.loop-object.txn c.fresh.new.self c.in_err-fresh.field-0.0 (map did_make c.loop-object.made.items) c.loop-object.invariant.0 (AreQuiet-makes c.loop-object.made.items) c.in_err-fresh.ensures.err)
 
 pub loop-object-preserved : goal.loop-object-preserved
 loop-object-preserved g c =

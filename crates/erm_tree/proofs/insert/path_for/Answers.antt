@@ -34,7 +34,7 @@ pub returns-in_err-row-clause-err : goal.returns-in_err-row-clause-err
 returns-in_err-row-clause-err g c =
     let t = g.met.T.RowTxn in
     let p = err_from_is_err_and c.from_residual.result c.from_residual.ensures.1 in
-    rw (p.1, p.2) (IsStopped-read g.T.RowTxn.face t.goes_on t.stops_later (way g.T.RowTxn.face g.met.T.RowTxn.goes_on c.requires.law c.args.table c.args.key) StopsRead c.args.txn.now c.loop-level.txn c.read.new.self c.in_err-row.field-0.0
+    rw (p.1, p.2) (IsStopped-read g.T.RowTxn.face t.goes_on (way g.T.RowTxn.face g.met.T.RowTxn.goes_on c.requires.law c.args.table c.args.key) StopsRead c.args.txn.now c.loop-level.txn c.read.new.self c.in_err-row.field-0.0
     (λ (rows : Rows). IsOnPath rows c.args.table c.args.key c.loop-level._level c.loop-level.oid (places_of c.loop-level.path.items)) c.loop-level.invariant.0 c.in_err-row.ensures.err)
 
 pub unreachable-requires : goal.unreachable-requires

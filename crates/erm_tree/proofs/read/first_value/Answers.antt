@@ -29,7 +29,7 @@ returns-in_err-row-clause-err g c =
     let pairs = c.as_slice-pairs.result.now in
     let p = err_from_is_err_and c.from_residual.result c.from_residual.ensures.1 in
     let seen = Along-wide face t.goes_on c.args.low pairs to c.args.txn.now c.loop-pair.txn c.loop-pair.pair-index c.loop-pair-test.true c.loop-pair.invariant in
-    let stopped = IsStopped-read face t.goes_on t.stops_later (λ (rows : Rows) (x : ℕ). IsOfLeaf rows c.args.low pairs to (to - 1) x) StopsRead c.args.txn.now c.loop-pair.txn c.read.new.self c.in_err-row.field-0.0 (HasNoneUpTo c.args.low pairs to c.loop-pair.pair-index) seen c.in_err-row.ensures.err in
+    let stopped = IsStopped-read face t.goes_on (λ (rows : Rows) (x : ℕ). IsOfLeaf rows c.args.low pairs to (to - 1) x) StopsRead c.args.txn.now c.loop-pair.txn c.read.new.self c.in_err-row.field-0.0 (HasNoneUpTo c.args.low pairs to c.loop-pair.pair-index) seen c.in_err-row.ensures.err in
     rw (p.1, p.2) (subst (λ (ps : List (ℕ × ℕ)). IsStopped face StopsRead (Reads face.law (λ (rows : Rows) (x : ℕ). IsOfLeaf rows c.args.low ps to (to - 1) x)) c.args.txn.now c.in_err-row.field-0.0 c.read.new.self) c.as_slice-pairs.ensures.value stopped)
 
 pub returns-in-Some-clause-ok : goal.returns-in-Some-clause-ok

@@ -16,7 +16,7 @@ returns-in_err-row-in-Some-clause-err g c =
     let t = g.met.T.RowTxn in
     let face = g.T.RowTxn.face in
     let p = err_from_is_err_and c.from_residual-in_err-row-in-Some.result c.from_residual-in_err-row-in-Some.ensures.1 in
-    rw (p.1, p.2) (IsStopped-read face t.goes_on t.stops_later (on_way face t.goes_on c.requires.law c.args.table c.args.key) StopsRead c.args.txn.now c.record_for.new.txn c.read.new.self c.in_err-row-in-Some.field-0.0
+    rw (p.1, p.2) (IsStopped-read face t.goes_on (on_way face t.goes_on c.requires.law c.args.table c.args.key) StopsRead c.args.txn.now c.record_for.new.txn c.read.new.self c.in_err-row-in-Some.field-0.0
     (λ (rows : Rows). IsRecordFor rows c.args.table c.args.key c.in_ok-oid.field-0) c.in_ok-oid.ensures.ok c.in_err-row-in-Some.ensures.err)
 
 pub returns-in_ok-row-in-Some-clause-ok : goal.returns-in_ok-row-in-Some-clause-ok

@@ -31,7 +31,7 @@ returns-in_err-row-clause-err g c =
     let face = g.T.RowTxn.face in
     let way = on_way face t.goes_on c.requires.law c.args.table c.args.key in
     let p = err_from_is_err_and c.from_residual.result c.from_residual.ensures.1 in
-    let stopped = IsStopped-read face t.goes_on t.stops_later way StopsRead c.args.txn.now c.loop-level.txn c.read.new.self c.in_err-row.field-0.0 (λ (rows : Rows). StandsAt rows c.args.table c.args.key c.loop-level._level c.loop-level.oid (bound_of c.loop-level.end)) c.loop-level.invariant c.in_err-row.ensures.err in
+    let stopped = IsStopped-read face t.goes_on way StopsRead c.args.txn.now c.loop-level.txn c.read.new.self c.in_err-row.field-0.0 (λ (rows : Rows). StandsAt rows c.args.table c.args.key c.loop-level._level c.loop-level.oid (bound_of c.loop-level.end)) c.loop-level.invariant c.in_err-row.ensures.err in
     rw (p.1, p.2) stopped
 
 pub unreachable-requires : goal.unreachable-requires
