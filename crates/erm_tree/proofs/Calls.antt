@@ -269,7 +269,7 @@ module _ {S : Type 0} (face : Face S) (goes_on : (a b c : S) → face.follows a 
   -- calls that ran to an end, and then calls that were cut off
   pub IsStopped-then : (may : RowStop → Type 0) (then_kind whole : List Event → Type 0) (then_asks asks : List Event → Rows → Asked → Type 0) (s t u : S) (stop : RowStop) (es : List Event) → Runs face s es t → face.follows s t
       → ((fs : List Event) → then_kind fs → whole (es ++ fs))
-      → ((fs : List Event) (asked : Asked) → ((array : Rows) → face.law.meets array → Agrees face.law fs array → then_asks fs array asked) → (array : Rows) → face.law.meets array → Agrees face.law (es ++ fs) array → asks (es ++ fs) array asked)
+      → ((fs : List Event) → then_kind fs → (asked : Asked) → ((array : Rows) → face.law.meets array → Agrees face.law fs array → then_asks fs array asked) → (array : Rows) → face.law.meets array → Agrees face.law (es ++ fs) array → asks (es ++ fs) array asked)
       → IsStopped face may then_kind then_asks t stop u → IsStopped face may whole asks s stop u
   IsStopped-then may then_kind whole then_asks asks s t u stop es runs follows both so stopped = record {
     events = es ++ stopped.events;
@@ -282,7 +282,7 @@ module _ {S : Type 0} (face : Face S) (goes_on : (a b c : S) → face.follows a 
     };
     follows = goes_on s t stopped.at follows stopped.follows;
     asked = stopped.asked;
-    asks_so = so stopped.events stopped.asked stopped.asks_so;
+    asks_so = so stopped.events stopped.of_kind stopped.asked stopped.asks_so;
     refused = stopped.refused;
   }
 
@@ -306,6 +306,13 @@ module _ {S : Type 0} (face : Face S) (goes_on : (a b c : S) → face.follows a 
   AsksReads-weaker P Q es fs array (asked_claim oid) among asks = asks
   AsksReads-weaker P Q es fs array asked_make among asks = asks
 
+  -- reads that were cut off are reads of others that theirs are among
+  pub IsStopped-wider : (P Q : Rows → ℕ → Type 0) (may : RowStop → Type 0) (s t : S) (stop : RowStop) → ((array : Rows) (x : ℕ) → P array x → Q array x) → IsStopped face may (Reads face.law P) (AsksReads P) s stop t
+      → IsStopped face may (Reads face.law Q) (AsksReads Q) s stop t
+  IsStopped-wider P Q may s t stop among stopped =
+      IsStopped-among may may (Reads face.law P) (Reads face.law Q) (AsksReads P) (AsksReads Q) s t stop (λ x named. named)
+      (λ es is. Reads-weaker face.law P Q es (λ array meets agrees. among array) is) (λ es array asked asks. AsksReads-weaker P Q es es array asked (among array) asks) stopped
+
   -- reads of one kind of objects, and then reads of another that were cut off, both of a third
   pub IsStopped-both : (P Q R : Rows → ℕ → Type 0) (may : RowStop → Type 0) (s t u : S) (stop : RowStop) (fact : Rows → Type 0) → SawIn face P s t fact → IsStopped face may (Reads face.law Q) (AsksReads Q) t stop u
       → ((array : Rows) → face.law.meets array → fact array → (x : ℕ) → P array x → R array x) → ((array : Rows) → face.law.meets array → fact array → (x : ℕ) → Q array x → R array x)
@@ -322,7 +329,7 @@ module _ {S : Type 0} (face : Face S) (goes_on : (a b c : S) → face.follows a 
             (ReadsAre-weaker (P array) (R array) es (first array meets so) (seen.reads.of array meets parts.0))
             (ReadsAre-weaker (Q array) (R array) fs (second array meets so) (is.of array meets parts.1));
       })
-      (λ fs asked so array meets agrees.
+      (λ fs is asked so array meets agrees.
       let parts = Agrees-after_reads face.law es fs array seen.saw.reads agrees in
       AsksReads-weaker Q R fs (es ++ fs) array asked (second array meets (seen.saw.saw array meets parts.0)) (so array meets parts.1))
       stopped

@@ -66,3 +66,11 @@ AreQuiet (did_read oid row ∷ events) = ⊥
 AreQuiet (did_claim oid ∷ events) = AreQuiet events
 AreQuiet (did_write oid row ∷ events) = ⊥
 AreQuiet (did_make oid ∷ events) = AreQuiet events
+
+-- events that claim alone
+abbrev pub AreClaims : List Event → Type 0
+AreClaims [] = Unit {0}
+AreClaims (did_read oid row ∷ events) = ⊥
+AreClaims (did_claim oid ∷ events) = AreClaims events
+AreClaims (did_write oid row ∷ events) = ⊥
+AreClaims (did_make oid ∷ events) = ⊥
