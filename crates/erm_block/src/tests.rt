@@ -165,8 +165,9 @@ const GREATEST: [(usize, u64); 5] = [
 ];
 
 // One word of a spelling is another: which spelling and word, what it says, and whether this is a block once the digest is right.
-const CHANGES: [(usize, usize, u64, bool); 49] = [
-    // OPEN
+const CHANGES: [(usize, usize, u64, bool); 50] = [
+    // OPEN: another size, another run, the last run; the last place, one behind it; a successor stamp, a name
+    (0, 0, 0xffff_ffff_fff0_0053, true),
     (0, 0, 1048675, false),
     (0, 0, 2097235, true),
     (0, 1, 0x1ffffffffffffffb, true),

@@ -49,6 +49,7 @@ begun_below c p sound begun = by_test (is_seat p) refl
 
 -- a sum where one value falls
 pub total_falls : {X : Type 0} (g : X → ℕ) (n : ℕ) (f : ℕ → X) (k : ℕ) (v : X) → g v ≤ g (f k) → total g n (put f k v) ≤ total g n f
+unfolding total
 total_falls g zero f k v less = omega arith
 total_falls g (suc n) f k v less =
     let before = total_falls g n f k v less in
@@ -57,5 +58,6 @@ total_falls g (suc n) f k v less =
 
 -- a sum of values of 0 and 1
 pub total_ones : {X : Type 0} (g : X → ℕ) (n : ℕ) (f : ℕ → X) → ((x : X) → g x ≤ 1) → total g n f ≤ n
+unfolding total
 total_ones g zero f few = omega arith
 total_ones g (suc n) f few = let rest = total_ones g n f few in let here = few (f n) in omega (arith, rest, here)

@@ -84,31 +84,31 @@ abbrev drawn_once : ℕ → ℕ → ℕ → ℕ
 drawn_once limit cell drawn = if ltb cell drawn && ltb cell limit then 1 else 0
 
 -- a state after a step that moves cells between chains and one seat
-kept_moved : (c : Core) (p : ℕ) (y : Part) (t : Shared) (d : Core) → Sound c → p < ANNOUNCERS → t.cells_drawn ≡ c.shared.cells_drawn
+kept_moved : (c : Core) (p : ℕ) (y : Part) (t : Shared) (d : Core) → Sound c → p < ANNOUNCERS → t.cells_drawn ≡ c.shared.cells_drawn → t.cell_limit ≡ c.shared.cell_limit
     → ((cell : ℕ) → in_chains cell t.objects + own_times cell y ≡ in_chains cell c.shared.objects + own_times cell (c.seats p))
     → WantsCell y y.task → record { shared = t; seats = put c.seats p y } ≡ d → Kept d
-kept_moved c p y t d sound within drawn times wants is =
+kept_moved c p y t d sound within drawn limit times wants is =
     subst Kept is (record {
       shared = record {
         once = λ cell.
             sums_stay (in_chains cell c.shared.objects) (in_chains cell t.objects) (total (own_times cell) ANNOUNCERS c.seats) (total (own_times cell) ANNOUNCERS (put c.seats p y))
             (own_times cell (c.seats p)) (own_times cell y) (total-put (own_times cell) ANNOUNCERS c.seats p y within) (times cell)
-            ∙ sound.common.cells.once cell ∙ ap (λ n. drawn_once cell n) (sym drawn);
+            ∙ sound.common.cells.once cell ∙ ap (λ n. drawn_once c.shared.cell_limit cell n) (sym drawn) ∙ ap (λ n. drawn_once n cell t.cells_drawn) (sym limit);
       };
       own = each_seat (λ _ (z : Part). OwnCells z) c.seats p y (record { wants = wants }) (λ q _. (sound.own q).cells);
     })
 
 -- a state after a step that leaves the cells
-kept_same : (c : Core) (p : ℕ) (y : Part) (t : Shared) (d : Core) → Sound c → t.cells_drawn ≡ c.shared.cells_drawn
+kept_same : (c : Core) (p : ℕ) (y : Part) (t : Shared) (d : Core) → Sound c → t.cells_drawn ≡ c.shared.cells_drawn → t.cell_limit ≡ c.shared.cell_limit
     → ((cell : ℕ) → in_chains cell t.objects ≡ in_chains cell c.shared.objects)
     → KeepsCells (c.seats p) (c.seats p).task y → record { shared = t; seats = put c.seats p y } ≡ d → Kept d
-kept_same c p y t d sound drawn chains keeps is =
+kept_same c p y t d sound drawn limit chains keeps is =
     subst Kept is (record {
       shared = record {
         once = λ cell.
             sums_same (in_chains cell c.shared.objects) (in_chains cell t.objects) (total (own_times cell) ANNOUNCERS c.seats) (total (own_times cell) ANNOUNCERS (put c.seats p y))
             (chains cell) (total_same (own_times cell) ANNOUNCERS c.seats p y (keeps.times cell))
-            ∙ sound.common.cells.once cell ∙ ap (λ n. drawn_once cell n) (sym drawn);
+            ∙ sound.common.cells.once cell ∙ ap (λ n. drawn_once c.shared.cell_limit cell n) (sym drawn) ∙ ap (λ n. drawn_once n cell t.cells_drawn) (sym limit);
       };
       own = each_seat (λ _ (z : Part). OwnCells z) c.seats p y (record { wants = keeps.wants (sound.own p).cells.wants }) (λ q _. (sound.own q).cells);
     })
@@ -156,7 +156,7 @@ install_kept c p oid head d sound e =
     let v : Option Version = added head (c.seats p) (end_of (c.seats p).task) in
     let i : Installs (c.seats p) v m.part = install_moves oid head (c.seats p) (c.seats p).task m.part (sound.own p).cells.wants m.after in
     let attached = (sound.common.chains.linked oid known).attached in
-    kept_moved c p m.part (shared_after p (kind.Install oid head) (word_at c (spot_of p (kind.Install oid head))) (c.seats p) c.shared) d sound (begun_below c p sound i.begun) refl
+    kept_moved c p m.part (shared_after p (kind.Install oid head) (word_at c (spot_of p (kind.Install oid head))) (c.seats p) c.shared) d sound (begun_below c p sound i.begun) refl refl
     (λ cell.
     gain_moves (in_chains cell c.shared.objects) (in_chains cell (put c.shared.objects oid (installed head v (c.shared.objects oid)))) (own_times cell (c.seats p)) (own_times cell m.part) (gained cell v)
     (put_gains (chain_times cell) OBJECT_LIMIT c.shared.objects oid (installed head v (c.shared.objects oid)) (gained cell v) known
@@ -181,7 +181,7 @@ swap_kept c p v (task.CutFound version horizon) y d sound known on e is =
     let place_is : v.place ≡ version.place = eqb-true _ _ names.1 in
     let attached : o.cut ≤ version.place = subst (λ n. (c.shared.objects n).cut ≤ version.place) (sym oid_is) in_hand.0.attached in
     let words : Cell = set_word word.Link 0 (version_at o v.place).words in
-    kept_moved c p y (shared_after p (kind.SwapLink v) (word_at c (spot_of p (kind.SwapLink v))) (c.seats p) c.shared) d sound (begun_below c p sound i.begun) refl
+    kept_moved c p y (shared_after p (kind.SwapLink v) (word_at c (spot_of p (kind.SwapLink v))) (c.seats p) c.shared) d sound (begun_below c p sound i.begun) refl refl
     (λ cell.
     let off : ℕ = count_by (λ (u : Version). eqb u.cell cell) (drop o.cut (take v.place o.versions)) in
     loss_moves (in_chains cell c.shared.objects) (in_chains cell (put c.shared.objects v.oid (record (with_version o v.place words) { cut = v.place }))) (own_times cell (c.seats p)) (own_times cell y) off
@@ -216,15 +216,15 @@ add_cell_kept c p y d sound i is =
 add_kept : (c : Core) (p : ℕ) (counter : Counter) (d : Core) → Sound c → after_event c p (kind.AddCounter counter) ≡ Some d → Kept d
 add_kept c p Objects d sound e =
     let m = moves c p (kind.AddCounter Objects) d tt e in
-    kept_same c p m.part (record c.shared { objects_drawn = c.shared.objects_drawn + 1 }) d sound refl (λ cell. refl)
-    (add_object_cells _ p c.shared.objects_drawn (c.seats p) (c.seats p).task m.part m.after) (objects_raised c p m.part d sound (sym m.is))
+    kept_same c p m.part (record c.shared { objects_drawn = c.shared.objects_drawn + 1 }) d sound refl refl (λ cell. refl)
+    (add_object_cells c.shared.cell_limit p c.shared.objects_drawn (c.seats p) (c.seats p).task m.part m.after) (objects_raised c p m.part d sound (sym m.is))
 add_kept c p Cells d sound e =
     let m = moves c p (kind.AddCounter Cells) d tt e in
-    add_cell_kept c p m.part d sound (add_cell_moves _ p c.shared.cells_drawn (c.seats p) (c.seats p).task m.part (sound.own p).cells.wants m.after) (cells_raised c p m.part d sound (sym m.is))
+    add_cell_kept c p m.part d sound (add_cell_moves c.shared.cell_limit p c.shared.cells_drawn (c.seats p) (c.seats p).task m.part (sound.own p).cells.wants m.after) (cells_raised c p m.part d sound (sym m.is))
 
 -- a part of one seat changes, and nothing that is shared
 part_kept : (c : Core) (p : ℕ) (y : Part) (d : Core) → Sound c → KeepsCells (c.seats p) (c.seats p).task y → record c { seats = put c.seats p y } ≡ d → Kept d
-part_kept c p y d sound keeps is = kept_same c p y c.shared d sound refl (λ cell. refl) keeps is
+part_kept c p y d sound keeps is = kept_same c p y c.shared d sound refl refl (λ cell. refl) keeps is
 
 split_kept : (c : Core) (p other : ℕ) (d : Core) → Sound c → after_event c p (kind.Split other) ≡ Some d → Kept d
 split_kept c p other d sound e = by_test _ e
@@ -254,7 +254,7 @@ step_kept c p k d leaves_all chains counters one sound e =
     let m = moves c p k d one e in
     let found : ℕ = word_at c (spot_of p k) in
     let same = same_drawn p k found (c.seats p) c.shared counters in
-    kept_same c p m.part (shared_after p k found (c.seats p) c.shared) d sound same.1 (λ cell. same_chains p k found (c.seats p) c.shared cell chains)
+    kept_same c p m.part (shared_after p k found (c.seats p) c.shared) d sound same.1 same.2 (λ cell. same_chains p k found (c.seats p) c.shared cell chains)
     (leaves p k found c.shared (c.seats p) m.part leaves_all (given c p sound) m.after).cells (sym m.is)
 
 -- Each event keeps each cell in its one place.
@@ -263,7 +263,7 @@ kept c p (kind.Split other) d sound e = split_kept c p other d sound e
 kept c p (kind.Join other) d sound e = join_kept c p other d sound e
 kept c p (kind.LoadCounter counter) d sound e =
     let m = moves c p (kind.LoadCounter counter) d tt e in
-    kept_same c p m.part c.shared d sound refl (λ cell. refl) (load_counter_cells _ counter (word_at c (spot_of p (kind.LoadCounter counter))) (c.seats p) (c.seats p).task m.part m.after) (sym m.is)
+    kept_same c p m.part c.shared d sound refl refl (λ cell. refl) (load_counter_cells c.shared.cell_limit counter (word_at c (spot_of p (kind.LoadCounter counter))) (c.seats p) (c.seats p).task m.part m.after) (sym m.is)
 kept c p (kind.AddCounter counter) d sound e = add_kept c p counter d sound e
 kept c p (kind.Install oid head) d sound e = install_kept c p oid head d sound e
 kept c p (kind.SwapLink v) d sound e =

@@ -13,6 +13,7 @@ use Rattle.erm_machine.specs.Core.{Core, Object, version_at, no_version, claim_a
 use Rattle.erm_machine.specs.Facts.{total}
 use Rattle.erm_machine.specs.Seat.{is_own}
 use Rattle.erm_machine.specs.Sound.{Sound}
+use Rattle.erm_machine.proofs.Frames.{total_at}
 use Rattle.erm_machine.specs.Words.{is_seat}
 
 module _ {X : Type 0} (p : X → Bool) (xs : List X) (d : X) where
@@ -35,13 +36,6 @@ module _ {X : Type 0} (p : X → Bool) (xs : List X) (d : X) where
       let step = sum_by-drop_more (λ x. cond (p x) 1 0) xs k d within in
       let one = one_if (p (get_or xs k d)) passes in
       omega (arith, rest, step, one)
-
--- a sum is at least each of its terms
-total_at : {X : Type 0} (g : X → ℕ) (n : ℕ) (f : ℕ → X) (k : ℕ) → k < n → g (f k) ≤ total g n f
-total_at g zero f k within = absurd (omega arith)
-total_at g (suc n) f k within =
-    ⊎_elim (λ (same : k ≡ n). let h = ap (λ m. g (f m)) same in omega (arith, h))
-    (λ (ne : k ≡ n → ⊥). let before = total_at g n f k (omega (arith, ne, within)) in omega (arith, before)) (cases_eq k n)
 
 -- terms of two sums are at most what both come to
 two_terms : {X Y : Type 0} (g : X → ℕ) (n : ℕ) (f : ℕ → X) (k : ℕ) (h : Y → ℕ) (m : ℕ) (e : ℕ → Y) (j one : ℕ) → k < n → j < m →

@@ -5,7 +5,7 @@ use Rattle.std.proofs.Math.Nat.{mod-eq_of_lt}
 use Rattle.std.proofs.lemmas.Bool.{and_parts, cases_lt, ltb-true}
 use Rattle.std.proofs.lemmas.List.{length_push, get_or_push, get_or_append_left}
 use Rattle.std.proofs.lemmas.Option.{same_Some}
-use Rattle.erm_machine.specs.declared.limits.TheConstants.{ANNOUNCERS, OBJECT_LIMIT}
+use Rattle.erm_machine.specs.declared.limits.TheConstants.{ANNOUNCERS, MOST_CELLS, OBJECT_LIMIT}
 use Rattle.erm_machine.specs.declared.attempt.Attempt.{Attempt}
 use Rattle.erm_machine.specs.declared.event.Counter.{Counter}
 use Rattle.erm_machine.specs.declared.event.Counter.TheVariants.{Objects, Cells}
@@ -133,11 +133,12 @@ kept_from c p y t d sound counters grows new is =
     })
 
 -- the counters, where no seat is to raise one but where it stands below its limit
-counters_from : (s t : Shared) (seats : ℕ → Part) (p : ℕ) (y : Part) → t.objects_drawn ≡ s.objects_drawn → t.cells_drawn ≡ s.cells_drawn
+counters_from : (s t : Shared) (seats : ℕ → Part) (p : ℕ) (y : Part) → t.cell_limit ≡ s.cell_limit → t.objects_drawn ≡ s.objects_drawn → t.cells_drawn ≡ s.cells_drawn
     → (numbers y.task ≤ numbers (seats p).task) ⊎ (s.objects_drawn < OBJECT_LIMIT)
     → (pools y.task ≤ pools (seats p).task) ⊎ (s.cells_drawn < s.cell_limit)
     → Counters s seats → Counters t (put seats p y)
-counters_from s t seats p y objects cells less_numbers less_pools old = record {
+counters_from s t seats p y limit objects cells less_numbers less_pools old = record {
+  limit = subst (λ n. n ≤ MOST_CELLS) (sym limit) old.limit;
   objects =
       let h = old.objects in
       ⊎_elim
@@ -147,8 +148,8 @@ counters_from s t seats p y objects cells less_numbers less_pools old = record {
   cells =
       let h = old.cells in
       ⊎_elim
-      (λ (less : pools y.task ≤ pools (seats p).task). let sum = total_falls (λ (x : Part). pools x.task) ANNOUNCERS seats p y less in omega (arith, h, sum, cells))
-      (λ (low : s.cells_drawn < s.cell_limit). let few = total_ones (λ (x : Part). pools x.task) ANNOUNCERS (put seats p y) (λ x. pools-le x.task) in omega (arith, few, low, cells))
+      (λ (less : pools y.task ≤ pools (seats p).task). let sum = total_falls (λ (x : Part). pools x.task) ANNOUNCERS seats p y less in omega (arith, h, sum, cells, limit))
+      (λ (low : s.cells_drawn < s.cell_limit). let few = total_ones (λ (x : Part). pools x.task) ANNOUNCERS (put seats p y) (λ x. pools-le x.task) in omega (arith, few, low, cells, limit))
       less_pools;
 }
   where
@@ -161,11 +162,11 @@ counters_from s t seats p y objects cells less_numbers less_pools old = record {
     pools-le _ = omega arith
 
 -- a step that leaves the counters and what was made
-plain_kept : (c : Core) (p : ℕ) (y : Part) (t : Shared) (d : Core) → Sound c → t.objects_drawn ≡ c.shared.objects_drawn → t.cells_drawn ≡ c.shared.cells_drawn
+plain_kept : (c : Core) (p : ℕ) (y : Part) (t : Shared) (d : Core) → Sound c → t.cell_limit ≡ c.shared.cell_limit → t.objects_drawn ≡ c.shared.objects_drawn → t.cells_drawn ≡ c.shared.cells_drawn
     → KeepsMade (c.seats p) (c.seats p).task y → record { shared = t; seats = put c.seats p y } ≡ d → Kept d
-plain_kept c p y t d sound objects cells keeps is =
+plain_kept c p y t d sound limit objects cells keeps is =
     kept_from c p y t d sound
-    (counters_from c.shared t c.seats p y objects cells (inl keeps.numbers) (inl keeps.pools) sound.common.counters) (omega (arith, objects))
+    (counters_from c.shared t c.seats p y limit objects cells (inl keeps.numbers) (inl keeps.pools) sound.common.counters) (omega (arith, objects))
     (same_made c p t.objects_drawn y sound (omega (arith, objects)) keeps.made) is
 
 -- kinds that raise no counter
@@ -175,8 +176,9 @@ LeavesCounters _ = Unit {0}
 
 pub same_drawn : (p : ℕ) (k : Kind) (found : ℕ) (x : Part) (s : Shared) → LeavesCounters k
     → ((shared_after p k found x s).objects_drawn ≡ s.objects_drawn) × ((shared_after p k found x s).cells_drawn ≡ s.cells_drawn)
+    × ((shared_after p k found x s).cell_limit ≡ s.cell_limit)
 same_drawn p (kind.AddCounter counter) found x s q = absurd q
-same_drawn p _ found x s q = (refl, refl)
+same_drawn p _ found x s q = (refl, refl, refl)
 
 -- a counter is loaded: where it lies below its limit it is to be raised
 load_kept : (c : Core) (p : ℕ) (counter : Counter) (t : Task) (y : Part) (d : Core) → Sound c → (c.seats p).task ≡ t
@@ -188,7 +190,7 @@ load_kept c p Objects t y d sound on e =
     let u : Task = if ltb c.shared.objects_drawn OBJECT_LIMIT then task.Numbers else task.Rest in
     let z : Part = record (c.seats p) { task = u } in
     kept_from c p z c.shared d sound
-    (counters_from c.shared c.shared c.seats p z refl refl
+    (counters_from c.shared c.shared c.seats p z refl refl refl
     (either_way (λ (v : Task). (numbers v ≤ numbers (c.seats p).task) ⊎ (c.shared.objects_drawn < OBJECT_LIMIT)) (ltb c.shared.objects_drawn OBJECT_LIMIT) task.Numbers task.Rest
     (λ low. inr (ltb-true c.shared.objects_drawn OBJECT_LIMIT low)) (λ _. inl (omega arith)))
     (either_way (λ (v : Task). (pools v ≤ pools (c.seats p).task) ⊎ (c.shared.cells_drawn < c.shared.cell_limit)) (ltb c.shared.objects_drawn OBJECT_LIMIT) task.Numbers task.Rest
@@ -201,7 +203,7 @@ load_kept c p Cells task.Draws y d sound on e =
     let u : Task = if ltb c.shared.cells_drawn c.shared.cell_limit then task.Pool else task.Refused in
     let z : Part = record (c.seats p) { task = u } in
     kept_from c p z c.shared d sound
-    (counters_from c.shared c.shared c.seats p z refl refl
+    (counters_from c.shared c.shared c.seats p z refl refl refl
     (either_way (λ (v : Task). (numbers v ≤ numbers (c.seats p).task) ⊎ (c.shared.objects_drawn < OBJECT_LIMIT)) (ltb c.shared.cells_drawn c.shared.cell_limit) task.Pool task.Refused
     (λ _. inl (omega arith)) (λ _. inl (omega arith)))
     (either_way (λ (v : Task). (pools v ≤ pools (c.seats p).task) ⊎ (c.shared.cells_drawn < c.shared.cell_limit)) (ltb c.shared.cells_drawn c.shared.cell_limit) task.Pool task.Refused
@@ -217,6 +219,7 @@ raised n low = mod-eq_of_lt (omega (arith, low))
 raised_objects : (s : Shared) (seats : ℕ → Part) (p : ℕ) (y : Part) → p < ANNOUNCERS → numbers (seats p).task ≡ 1 → numbers y.task ≡ 0 → pools y.task ≡ 0
     → Counters s seats → Counters (record s { objects_drawn = s.objects_drawn + 1 }) (put seats p y)
 raised_objects s seats p y within was now other old = record {
+  limit = old.limit;
   objects = let h = old.objects in let sum = total-put (λ (x : Part). numbers x.task) ANNOUNCERS seats p y within in omega (arith, h, sum, was, now);
   cells = let h = old.cells in let sum = total_falls (λ (x : Part). pools x.task) ANNOUNCERS seats p y (omega (arith, other)) in omega (arith, h, sum);
 }
@@ -224,6 +227,7 @@ raised_objects s seats p y within was now other old = record {
 raised_cells : (s : Shared) (seats : ℕ → Part) (p : ℕ) (y : Part) → p < ANNOUNCERS → pools (seats p).task ≡ 1 → pools y.task ≡ 0 → numbers y.task ≡ 0
     → Counters s seats → Counters (record s { cells_drawn = s.cells_drawn + 1 }) (put seats p y)
 raised_cells s seats p y within was now other old = record {
+  limit = old.limit;
   objects = let h = old.objects in let sum = total_falls (λ (x : Part). numbers x.task) ANNOUNCERS seats p y (omega (arith, other)) in omega (arith, h, sum);
   cells = let h = old.cells in let sum = total-put (λ (x : Part). pools x.task) ANNOUNCERS seats p y within in omega (arith, h, sum, was, now);
 }
@@ -264,7 +268,7 @@ pub low_objects : (c : Core) → Sound c → c.shared.objects_drawn < 2 ^ 63
 low_objects c sound = let h = sound.common.counters.objects in omega (arith, h)
 
 pub low_cells : (c : Core) → Sound c → c.shared.cells_drawn < 2 ^ 63
-low_cells c sound = let h = sound.common.counters.cells in omega (arith, h)
+low_cells c sound = let h = sound.common.counters.cells in let limit = sound.common.counters.limit in omega (arith, h, limit)
 
 pub objects_raised : (c : Core) (p : ℕ) (y : Part) (d : Core) → Sound c
     → record { shared = record c.shared { objects_drawn = (c.shared.objects_drawn + 1) % 2 ^ 64 }; seats = put c.seats p y } ≡ d
@@ -313,7 +317,7 @@ add_kept c p Cells _ y d sound on e = absurd (cc)
 
 -- a part of one seat changes, and nothing that is shared
 part_kept : (c : Core) (p : ℕ) (y : Part) (d : Core) → Sound c → KeepsMade (c.seats p) (c.seats p).task y → record c { seats = put c.seats p y } ≡ d → Kept d
-part_kept c p y d sound keeps is = plain_kept c p y c.shared d sound refl refl keeps is
+part_kept c p y d sound keeps is = plain_kept c p y c.shared d sound refl refl refl keeps is
 
 split_kept : (c : Core) (p other : ℕ) (d : Core) → Sound c → after_event c p (kind.Split other) ≡ Some d → Kept d
 split_kept c p other d sound e = by_test _ e
@@ -342,7 +346,7 @@ step_kept : (c : Core) (p : ℕ) (k : Kind) (d : Core) → LeavesMade k → Leav
 step_kept c p k d leaves counters one sound e =
     let m = moves c p k d one e in
     let same = same_drawn p k (word_at c (spot_of p k)) (c.seats p) c.shared counters in
-    plain_kept c p m.part (shared_after p k (word_at c (spot_of p k)) (c.seats p) c.shared) d sound same.0 same.1
+    plain_kept c p m.part (shared_after p k (word_at c (spot_of p k)) (c.seats p) c.shared) d sound same.2 same.0 same.1
     (leaves_made p k (word_at c (spot_of p k)) c.shared (c.seats p) m.part leaves (given c p sound) m.after) (sym m.is)
 
 -- Each event keeps the counters, and what was made.

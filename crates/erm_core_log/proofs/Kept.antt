@@ -1,12 +1,12 @@
 -- Each event keeps the ranges.
-use Rattle.std.proofs.Common.{◌≡◌, ◌≢◌, ℕ, ◌+◌, ◌*◌, ◌<◌, ◌≤◌, ◌⊎◌, ⊎_elim, Bool, true, false, cond, not, ◌&&◌, eqb, leb, List, [], ◌∷◌, ◌++◌, filter, count_by, length, Option, Some, None, refl, sym, ap, ◌∙◌, subst, arith}
+use Rattle.std.proofs.Common.{◌≡◌, ◌≢◌, ℕ, ◌+◌, ◌*◌, ◌<◌, ◌≤◌, ◌⊎◌, ⊎_elim, Bool, true, false, cond, not, ◌&&◌, eqb, leb, List, [], ◌∷◌, ◌++◌, filter, count_by, Option, Some, None, refl, sym, ap, ◌∙◌, subst, arith}
 use Rattle.std.specs.Prelude.{if◌then◌else◌}
-use Rattle.std.proofs.lemmas.Bool.{and_parts, cases_lt, eqb-true, leb-true, le-leb}
+use Rattle.std.proofs.lemmas.Bool.{and_parts, cases_lt, leb-true, le-leb}
 use Rattle.std.proofs.lemmas.List.Sums.{sum_by_push}
 use Rattle.std.proofs.lemmas.Option.{same_Some}
 use Rattle.erm_model.specs.Member.{◌∈◌}
 use Rattle.erm_model.proofs.Members.{∈-push}
-use Rattle.erm_machine.specs.declared.limits.TheConstants.{STOP, ANNOUNCERS, LEAST_BLOCK, GREATEST_BLOCK}
+use Rattle.erm_machine.specs.declared.limits.TheConstants.{STOP, ANNOUNCERS, LEAST_BLOCK, GREATEST_BLOCK, SESSIONS}
 use Rattle.erm_machine.specs.declared.attempt.Attempt.{Attempt}
 use Rattle.erm_machine.specs.declared.event.Kind.{Kind}
 use Rattle.erm_machine.specs.declared.event.Kind.TheVariants as kind
@@ -94,7 +94,7 @@ same_log_shared s t seats p y same old new common =
     }
 
 -- the shared ranges after one is drawn at the tail
-pub drawn_shared : (s : Shared) (seats : ℕ → Part) (p size : ℕ) (y : Part) → p < ANNOUNCERS → (5 ≤ size) × (size ≤ 1093) →
+pub drawn_shared : (s : Shared) (seats : ℕ → Part) (p size : ℕ) (y : Part) → p < ANNOUNCERS → (LEAST_BLOCK ≤ size) × (size ≤ GREATEST_BLOCK) →
     ((q : ℕ) → high_of (seats q) ≤ 1) → high_of y ≤ 1 →
     OwnRanges s p (seats p) →
     OwnRanges (record s { tail = s.tail + size; log = s.log ++ record { seat = p; start = s.tail; size = size } ∷ [] }) p y →
@@ -108,7 +108,7 @@ drawn_shared s seats p size y within fits few own_few old new common =
     let high_more : high_of y ≡ high_of (seats p) + high s.tail = omega (arith, before, after, lists, push) in
     let sum = total-put high_of ANNOUNCERS seats p y within in
     let all = total_few ANNOUNCERS (put seats p y) (each_seat (λ _ (z : Part). high_of z ≤ 1) seats p y own_few (λ q _. few q)) in
-    let grown : s.tail + size ≤ STOP + 1093 * (1 + total high_of ANNOUNCERS (put seats p y)) =
+    let grown : s.tail + size ≤ STOP + GREATEST_BLOCK * (1 + total high_of ANNOUNCERS (put seats p y)) =
     let h = common.bounded in
     ⊎_elim
     (λ (low : s.tail < STOP). let m = fits.1 in omega (arith, low, m))
@@ -118,7 +118,7 @@ drawn_shared s seats p size y within fits few own_few old new common =
     record {
       positive = common.positive;
       end_to_end = end_to_end_push s.opening s.tail s.log span common.end_to_end refl;
-      sizes = λ r m. ⊎_elim (λ (there : r ∈ s.log). common.sizes r there) (λ (same : r ≡ span). subst (λ (q : Span). (5 ≤ q.size) × (q.size ≤ 1093)) (sym same) fits) (∈-push s.log span r m);
+      sizes = λ r m. ⊎_elim (λ (there : r ∈ s.log). common.sizes r there) (λ (same : r ≡ span). subst (λ (q : Span). (LEAST_BLOCK ≤ q.size) × (q.size ≤ GREATEST_BLOCK)) (sym same) fits) (∈-push s.log span r m);
       bounded = grown;
       below = omega (arith, grown, all);
     }
@@ -189,12 +189,12 @@ begin_steady other found x (task.Horizon version least next) y e = when_then (St
 begin_steady other found x _ y e = absurd (cc)
 
 -- what a draw asks of its size, and of the seat
-draw_size : (p size found : ℕ) (x : Part) (pl : Place) (y : Part) → add_tail p size found x pl ≡ Some y → (5 ≤ size) × (size ≤ 1093) × (p < ANNOUNCERS)
+draw_size : (p size found : ℕ) (x : Part) (pl : Place) (y : Part) → add_tail p size found x pl ≡ Some y → (LEAST_BLOCK ≤ size) × (size ≤ GREATEST_BLOCK) × (p < ANNOUNCERS)
 draw_size p size found x (Sealing tail) y e =
-    when_then (λ _. (5 ≤ size) × (size ≤ 1093) × (p < ANNOUNCERS)) _ _ y e (λ g.
+    when_then (λ _. (LEAST_BLOCK ≤ size) × (size ≤ GREATEST_BLOCK) × (p < ANNOUNCERS)) _ _ y e (λ g.
     let most = leb-true size GREATEST_BLOCK (and_parts _ _ g).1 in
     let least = leb-true LEAST_BLOCK size (and_parts _ _ (and_parts _ _ g).0).1 in
-    let seat = leb-true p 16 (and_parts _ _ (and_parts _ _ (and_parts _ _ g).0).0).1 in
+    let seat = leb-true p SESSIONS (and_parts _ _ (and_parts _ _ (and_parts _ _ g).0).0).1 in
     (omega (arith, least), omega (arith, most), omega (arith, seat)))
 draw_size p size found x _ y e = absurd (cc)
 

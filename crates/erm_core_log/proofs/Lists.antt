@@ -6,7 +6,7 @@ use Rattle.std.proofs.lemmas.List.Elements.{filter-append}
 use Rattle.std.proofs.lemmas.Bool.{ltb-false, lt-leb, eq-eqb, ne_eqb}
 use Rattle.erm_model.specs.Member.{◌∈◌}
 use Rattle.erm_model.proofs.Members.{∈-behind}
-use Rattle.erm_machine.specs.declared.limits.TheConstants.{STOP}
+use Rattle.erm_machine.specs.declared.limits.TheConstants.{STOP, LEAST_BLOCK}
 use Rattle.erm_machine.specs.declared.attempt.Attempt.{Attempt}
 use Rattle.erm_machine.specs.declared.part.Part.{Part}
 use Rattle.erm_machine.specs.declared.version.Span.{Span}
@@ -28,13 +28,13 @@ abbrev pub high_ranges : List Span → ℕ
 high_ranges rs = count_by (λ r. leb STOP r.start) rs
 
 -- none does where the tail is low
-pub high_ranges_none : (from to : ℕ) (rs : List Span) → EndToEnd from rs to → ((r : Span) → r ∈ rs → 5 ≤ r.size) → to < STOP → high_ranges rs ≡ 0
+pub high_ranges_none : (from to : ℕ) (rs : List Span) → EndToEnd from rs to → ((r : Span) → r ∈ rs → LEAST_BLOCK ≤ r.size) → to < STOP → high_ranges rs ≡ 0
 high_ranges_none from to [] e sizes low = refl
 high_ranges_none from to (r ∷ rs) e sizes low =
     let rest = high_ranges_none (from + r.size) to rs e.1 (λ q m. sizes q (∈-behind r rs q m)) low in
     let after = end_to_end_ascends (from + r.size) to rs e.1 in
     let start : r.start ≡ from = e.0 in
-    let size : 5 ≤ r.size = sizes r (zero, refl) in
+    let size : LEAST_BLOCK ≤ r.size = sizes r (zero, refl) in
     let test : leb STOP r.start ≡ false = lt-leb STOP r.start (omega arith) in
     let here : high_ranges (r ∷ rs) ≡ cond (leb STOP r.start) 1 0 + high_ranges rs = sum_by-cons (λ (q : Span). cond (leb STOP q.start) 1 0) r rs in
     let none : ◌≡◌ {A = ℕ} (cond (leb STOP r.start) 1 0) 0 = ap (λ (b : Bool). cond b 1 0) test in
@@ -99,6 +99,7 @@ filter_other seat other start size rs ne =
 
 -- where each seat has one such range at most, all have as many as there are seats
 pub total_few : (n : ℕ) (f : ℕ → Part) → ((p : ℕ) → high_of (f p) ≤ 1) → total high_of n f ≤ n
+unfolding total
 total_few zero f few = omega arith
 total_few (suc n) f few = let rest = total_few n f few in let here = few n in omega (arith, rest, here)
 

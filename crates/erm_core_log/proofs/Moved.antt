@@ -2,7 +2,7 @@
 use Rattle.std.proofs.Common.{◌≡◌, ◌≢◌, ℕ, ◌+◌, ◌<◌, ◌≤◌, ⊎_elim, Bool, true, false, cond, not, eqb, ltb, leb, List, [], ◌∷◌, ◌++◌, filter, count_by, Some, refl, sym, ap, ◌∙◌, subst, arith}
 use Rattle.std.specs.Prelude.{if◌then◌else◌}
 use Rattle.std.proofs.lemmas.List.{append-nil}
-use Rattle.std.proofs.lemmas.Bool.{and_parts, and_cases, leb-false, lt-ltb, eqb-true, not-false}
+use Rattle.std.proofs.lemmas.Bool.{and_parts, and_cases, leb-false, lt-ltb, not-false}
 use Rattle.erm_model.specs.Member.{◌∈◌}
 use Rattle.erm_model.proofs.Members.{∈-push}
 use Rattle.erm_machine.specs.declared.limits.TheConstants.{STOP}

@@ -1,7 +1,7 @@
 -- An install adds a version, or the entry is released with its old head.
 use Rattle.std.proofs.Common.{◌≡◌, ℕ, zero, suc, ◌+◌, ◌^◌, ◌<◌, ◌≤◌, ⊎_elim, Bool, true, false, ◌&&◌, ◌||◌, cond, eqb, ltb, leb, List, [], ◌∷◌, count_by, length, get_or, Option, Some, None, refl, sym, ap, ◌∙◌, subst, arith}
 use Rattle.std.specs.Prelude.{if◌then◌else◌}
-use Rattle.std.proofs.lemmas.Bool.{and_parts, cases_eq, cases_lt, eqb-true, ltb-true, leb-true, or_cases}
+use Rattle.std.proofs.lemmas.Bool.{and_parts, cases_lt, eqb-true, ltb-true, leb-true, or_cases}
 use Rattle.std.proofs.lemmas.List.Sums.{sum_by-cons}
 use Rattle.erm_machine.specs.declared.limits.TheConstants.{ANNOUNCERS, FLUSH_SEAT, OBJECT_LIMIT, SESSIONS}
 use Rattle.erm_machine.specs.declared.attempt.Attempt.{Attempt}
@@ -25,7 +25,7 @@ use Rattle.erm_machine.specs.Sound.{Sound}
 use Rattle.erm_machine.specs.Step.{with_object, installed, added}
 use Rattle.erm_machine.specs.Tasks.{TaskFits}
 use Rattle.erm_machine.specs.Words.{put, owner_of, is_seat, is_session, is_flusher}
-use Rattle.erm_machine.proofs.Frames.{put_same, put_other}
+use Rattle.erm_machine.proofs.Frames.{put_same, put_other, total_at}
 use Rattle.erm_machine.proofs.Guards.{when_then, either_way}
 use Rattle.erm_machine.proofs.QuietKinds.{Moves}
 use Rattle.erm_core_si.proofs.ClaimsObjects.{alike_same, plain_owner, newest_within, object_released, object_installed}
@@ -33,15 +33,6 @@ use Rattle.erm_core_si.proofs.ClaimsOwn.{holds_claim, Kept}
 use Rattle.erm_core_si.proofs.ClaimsGentle.{NoEnd, no_end, NotLeaving, over_known, EndsAt, ends_at}
 use Rattle.erm_core_si.proofs.ClaimsRefilled.{step_here, active_stays, decided_stays, own_within}
 use Rattle.erm_core_si.proofs.ClaimsOver.{ended_own, drops_own, freed_kept}
-
--- a value is at most the sum in which it stands
-total_at : {X : Type 0} (f : X → ℕ) (n : ℕ) (xs : ℕ → X) (k : ℕ) → k < n → f (xs k) ≤ total f n xs
-total_at f zero xs k low = absurd (omega arith)
-total_at f (suc n) xs k low =
-    ⊎_elim
-    (λ (e : k ≡ n). let same = ap (λ m. f (xs m)) e in omega (arith, same))
-    (λ (ne : k ≡ n → ⊥). let rest = total_at f n xs k (omega (arith, low, ne)) in omega (arith, rest))
-    (cases_eq k n)
 
 one_of : (b : Bool) (n : ℕ) → b ≡ true → cond b n 0 ≡ n
 one_of b n e = ap (λ (t : Bool). cond t n 0) e
@@ -70,7 +61,7 @@ second_test a b cell drawn limit e positive = by_test (ltb cell drawn && ltb cel
 seat_low : (c : Core) (p : ℕ) → Sound c → ((c.seats p).place ≡ Vacant → ⊥) → p < ANNOUNCERS
 seat_low c p sound taken = by_test (is_seat p) refl
   where
-    low : (q : ℕ) → is_seat q ≡ true → q < 18
+    low : (q : ℕ) → is_seat q ≡ true → q < ANNOUNCERS
     low q e =
         ⊎_elim
         (λ (session : is_session q ≡ true). let h = leb-true q SESSIONS (and_parts (ltb 0 q) (leb q SESSIONS) session).1 in omega (arith, h))

@@ -6,6 +6,7 @@ use Rattle.erm_model.specs.declared.history.VersionWritten.{VersionWritten}
 use Rattle.erm_model.specs.History.{Overwrites, OverwritesReadOf, ReadsFrom, OverwritesFrom}
 use Rattle.erm_model.specs.Member.{◌∈◌}
 use Rattle.erm_model.proofs.Members.{∈-push, ∈-at}
+use Rattle.erm_machine.specs.declared.limits.TheConstants.{ANNOUNCERS}
 use Rattle.erm_machine.specs.declared.attempt.Attempt.{Attempt}
 use Rattle.erm_machine.specs.declared.attempt.Decision.TheVariants.{Undecided, Commit}
 use Rattle.erm_machine.specs.declared.part.Part.{Part}
@@ -55,7 +56,7 @@ module _ (c : Core) (p tail stamp words header at : ℕ) (sound : Sound c) (read
       let h = cur.positive in
       (omega (arith, e, h), cur.decision)
 
-  low : p < 18
+  low : p < ANNOUNCERS
   low = not_vacant c p sound (λ (e : (c.seats p).place ≡ Vacant). let z = ready.place in cc)
 
   -- a transaction of the seat before, and after
@@ -90,7 +91,7 @@ module _ (c : Core) (p tail stamp words header at : ℕ) (sound : Sound c) (read
       let r = history_has after u m in
       from r.seat r.attempt r.below r.stands r.commit r.is
     where
-      from : (q : ℕ) (v : Attempt) → q < 18 → v ∈ all_of (after q) → v.decision ≡ Commit → record_of q v ≡ u → (u ∈ history_of c.seats) ⊎ (u ≡ record_of p (c.seats p).current)
+      from : (q : ℕ) (v : Attempt) → q < ANNOUNCERS → v ∈ all_of (after q) → v.decision ≡ Commit → record_of q v ≡ u → (u ∈ history_of c.seats) ⊎ (u ≡ record_of p (c.seats p).current)
       from q v below n commit is =
           (at_cases (λ z. v ∈ all_of z → (u ∈ history_of c.seats) ⊎ (u ≡ record_of p (c.seats p).current)) c.seats p part q
           (λ same n. ⊎_elim
@@ -309,7 +310,7 @@ module _ (c : Core) (p tail stamp words header at : ℕ) (sound : Sound c) (read
   decide_kept d is =
       subst Kept is (record {
         shared = record {
-          seats_of = each_seat (λ q z. (u : Attempt) → u ∈ all_of z → u.decision ≡ Commit → q < 18) c.seats p part (λ _ _ _. low) (λ q _. sound.common.decided.seats_of q);
+          seats_of = each_seat (λ q z. (u : Attempt) → u ∈ all_of z → u.decision ≡ Commit → q < ANNOUNCERS) c.seats p part (λ _ _ _. low) (λ q _. sound.common.decided.seats_of q);
           decided = each_seat (λ q z. (u : Attempt) → u ∈ all_of z → 0 < u.stamp → u.decision ≢ Undecided → DecisionFits (history_of after) q u) c.seats p part
               (λ u m positive _. own_fit u m positive) others_fit;
           running = each_seat (λ q z. z.current.decision ≡ Undecided → MayCommit z.place z.task → RunningFits (history_of after) c.shared.tail q z) c.seats p part

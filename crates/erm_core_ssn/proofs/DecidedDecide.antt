@@ -4,6 +4,7 @@ use Rattle.std.proofs.lemmas.Bool.{lt-ltb, ltb-true}
 use Rattle.erm_model.specs.declared.history.TransactionRecord.{TransactionRecord}
 use Rattle.erm_model.specs.History.{History, OverwritesReadOf, ReadsFrom, OverwritesFrom}
 use Rattle.erm_model.specs.Member.{◌∈◌}
+use Rattle.erm_machine.specs.declared.limits.TheConstants.{ANNOUNCERS}
 use Rattle.erm_machine.specs.declared.attempt.Attempt.{Attempt}
 use Rattle.erm_machine.specs.declared.attempt.Claim.{Claim}
 use Rattle.erm_machine.specs.declared.attempt.Decision.TheVariants.{Undecided, Commit, Skip}
@@ -89,13 +90,13 @@ decides_not t e = by_test (ltb t.pred t.succ) e
     by_test true e = cc
     by_test false e = cc
 
--- a seat with words lies below 18
-pub seat_low : (p : ℕ) → is_seat p ≡ true → p < 18
+-- a seat with words lies below their number
+pub seat_low : (p : ℕ) → is_seat p ≡ true → p < ANNOUNCERS
 seat_low p e = grind arith
 
-pub not_vacant : (c : Core) (p : ℕ) → Sound c → ((c.seats p).place ≡ Vacant → ⊥) → p < 18
+pub not_vacant : (c : Core) (p : ℕ) → Sound c → ((c.seats p).place ≡ Vacant → ⊥) → p < ANNOUNCERS
 not_vacant c p sound ne = by_test (is_seat p) refl
   where
-    by_test : (b : Bool) → is_seat p ≡ b → p < 18
+    by_test : (b : Bool) → is_seat p ≡ b → p < ANNOUNCERS
     by_test true e = seat_low p e
     by_test false e = absurd (ne ((sound.own p).ranges.seat_of e))

@@ -5,6 +5,7 @@ use Rattle.std.proofs.lemmas.Option.{slice_get-map}
 use Rattle.erm_model.specs.declared.history.TransactionRecord.{TransactionRecord}
 use Rattle.erm_model.specs.Member.{◌∈◌}
 use Rattle.erm_model.proofs.Members.{none_in_nil, ∈-behind}
+use Rattle.erm_machine.specs.declared.limits.TheConstants.{ANNOUNCERS}
 use Rattle.erm_machine.specs.declared.attempt.Attempt.{Attempt}
 use Rattle.erm_machine.specs.declared.attempt.Decision.{Decision}
 use Rattle.erm_machine.specs.declared.attempt.Decision.TheVariants.{Undecided, Commit, Skip, Abort}
@@ -63,6 +64,7 @@ pub record Committed (seats : ℕ → Part) (n : ℕ) (u : TransactionRecord) : 
   pub is : record_of seat attempt ≡ u
 
 pub history_in : (n : ℕ) (seats : ℕ → Part) (u : TransactionRecord) → u ∈ history_below n seats → Committed seats n u
+unfolding history_below
 history_in zero seats u m = absurd (none_in_nil u m)
 history_in (suc n) seats u m =
     ⊎_elim
@@ -81,6 +83,7 @@ in_committed q x t m commit =
     (∈-filter_from (λ (t : Attempt). is_commit t.decision) t (all_of x) m (ap is_commit commit))
 
 pub in_history_below : (n : ℕ) (seats : ℕ → Part) (q : ℕ) (t : Attempt) → q < n → t ∈ all_of (seats q) → t.decision ≡ Commit → record_of q t ∈ history_below n seats
+unfolding history_below
 in_history_below zero seats q t low m commit = absurd (omega (arith, low))
 in_history_below (suc n) seats q t low m commit =
     ⊎_elim
@@ -89,12 +92,12 @@ in_history_below (suc n) seats q t low m commit =
     (λ (ne : q ≡ n → ⊥). ∈-first (history_below n seats) (committed_of n (seats n)) (record_of q t) (in_history_below n seats q t (omega (arith, low, ne)) m commit))
     (cases_eq q n)
 
--- a commit of a seat below 18 stands in the history
-pub in_history : (seats : ℕ → Part) (q : ℕ) (t : Attempt) → q < 18 → t ∈ all_of (seats q) → t.decision ≡ Commit → record_of q t ∈ history_of seats
-in_history seats q t low m commit = in_history_below 18 seats q t low m commit
+-- a commit of a seat with words stands in the history
+pub in_history : (seats : ℕ → Part) (q : ℕ) (t : Attempt) → q < ANNOUNCERS → t ∈ all_of (seats q) → t.decision ≡ Commit → record_of q t ∈ history_of seats
+in_history seats q t low m commit = in_history_below ANNOUNCERS seats q t low m commit
 
-pub history_has : (seats : ℕ → Part) (u : TransactionRecord) → u ∈ history_of seats → Committed seats 18 u
-history_has seats u m = history_in 18 seats u m
+pub history_has : (seats : ℕ → Part) (u : TransactionRecord) → u ∈ history_of seats → Committed seats ANNOUNCERS u
+history_has seats u m = history_in ANNOUNCERS seats u m
 
 -- the history where each seat's commits are those that it had
 pub history_from : (f g : ℕ → Part) (u : TransactionRecord) → u ∈ history_of f →

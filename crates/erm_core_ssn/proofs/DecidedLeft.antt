@@ -3,6 +3,7 @@ use Rattle.std.proofs.Common.{◌≡◌, ◌≢◌, ℕ, ◌<◌, ◌≤◌, ◌
 use Rattle.erm_model.specs.declared.history.TransactionRecord.{TransactionRecord}
 use Rattle.erm_model.specs.History.{OverwritesReadOf, ReadsFrom, OverwritesFrom}
 use Rattle.erm_model.specs.Member.{◌∈◌}
+use Rattle.erm_machine.specs.declared.limits.TheConstants.{ANNOUNCERS}
 use Rattle.erm_machine.specs.declared.attempt.Attempt.{Attempt}
 use Rattle.erm_machine.specs.declared.attempt.Decision.TheVariants.{Undecided, Commit}
 use Rattle.erm_machine.specs.declared.part.Part.{Part}
@@ -75,7 +76,7 @@ module _ (c : Core) (t : Shared) (p : ℕ) (y : Part) (sound : Sound c) (left : 
 
   shared_kept : Decided t (put c.seats p y)
   shared_kept = record {
-    seats_of = each_seat (λ q z. (u : Attempt) → u ∈ all_of z → u.decision ≡ Commit → q < 18) c.seats p y
+    seats_of = each_seat (λ q z. (u : Attempt) → u ∈ all_of z → u.decision ≡ Commit → q < ANNOUNCERS) c.seats p y
         (λ u m commit. let o = (left.comes u m).commit commit in sound.common.decided.seats_of p o.attempt o.stands (o.decision ∙ commit))
         (λ q _. sound.common.decided.seats_of q);
     decided = each_seat (λ q z. (u : Attempt) → u ∈ all_of z → 0 < u.stamp → u.decision ≢ Undecided → DecisionFits (history_of (put c.seats p y)) q u) c.seats p y

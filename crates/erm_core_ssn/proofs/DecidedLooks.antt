@@ -4,6 +4,7 @@ use Rattle.std.specs.Prelude.{if◌then◌else◌}
 use Rattle.std.specs.Int.{w64, bit_at, trailing_zeros}
 use Rattle.std.proofs.lemmas.Bool.{and_parts, cases_eq, eqb-true, leb-true, ltb-true}
 use Rattle.std.proofs.lemmas.Nat.Bits.{bit_at-zero}
+use Rattle.erm_machine.specs.declared.limits.TheConstants.{ANNOUNCERS}
 use Rattle.erm_machine.specs.declared.attempt.Attempt.{Attempt}
 use Rattle.erm_machine.specs.declared.part.Part.{Part}
 use Rattle.erm_machine.specs.declared.place.Place.{Place}
@@ -54,16 +55,16 @@ sealed_by (Decided tail stamp) t write bits f = absurd f
 sealed_by _ t write bits f = absurd (cc)
 
 -- a bit that isn't set where another one is cleared
-bit_before : (bits p q : ℕ) → p < 18 → q < 18 → q ≢ p → bit_at (without_bit bits p) q ≡ 0 → bit_at bits q ≡ 0
+bit_before : (bits p q : ℕ) → p < ANNOUNCERS → q < ANNOUNCERS → q ≢ p → bit_at (without_bit bits p) q ≡ 0 → bit_at bits q ≡ 0
 bit_before bits p q a b ne e = sym (bit_cleared_other bits p q (omega (arith, a)) (omega (arith, b)) ne) ∙ e
 
--- a seat whose bit is the least lies below 18
-least_low : (bits other : ℕ) → is_least_bit bits other ≡ true → other < 18
-least_low bits other e = ltb-true other 18 (and_parts (eqb (trailing_zeros w64 bits) other) (ltb other 18) e).1
+-- a seat whose bit is the least is one with words
+least_low : (bits other : ℕ) → is_least_bit bits other ≡ true → other < ANNOUNCERS
+least_low bits other e = ltb-true other ANNOUNCERS (and_parts (eqb (trailing_zeros w64 bits) other) (ltb other ANNOUNCERS) e).1
 
 module _ (c : Core) (p : ℕ) (sound : Sound c) where
   -- a seat that has a range has words
-  reader_low : (q : ℕ) → 0 < (c.seats q).current.stamp → q < 18
+  reader_low : (q : ℕ) → 0 < (c.seats q).current.stamp → q < ANNOUNCERS
   reader_low q positive = not_vacant c q sound (λ (v : (c.seats q).place ≡ Vacant).
       let cur : (c.seats q).current ≡ blank = subst (λ l. IsCurrent l (c.seats q).current) v (sound.own q).ranges.current in
       let e = ap (λ (t : Attempt). t.stamp) cur in omega (arith, e, positive))
@@ -85,7 +86,7 @@ module _ (c : Core) (p : ℕ) (sound : Sound c) where
       (λ (other : k ≡ write → ⊥). old q ne k (omega (arith, low, other)) within reads)
       (cases_eq k write)
 
-  module _ (found writes : ℕ) (v : VersionAt) (is : found ≡ (version_at (c.shared.objects v.oid) v.place).words.readers) (same : v ≡ (claim_at (c.seats p).current writes).version) (low : p < 18) where
+  module _ (found writes : ℕ) (v : VersionAt) (is : found ≡ (version_at (c.shared.objects v.oid) v.place).words.readers) (same : v ≡ (claim_at (c.seats p).current writes).version) (low : p < ANNOUNCERS) where
     none_by_bit : (q : ℕ) → q ≢ p → bit_at (without_bit found p) q ≡ 0 → Reading (c.seats q) (claim_at (c.seats p).current writes).version (c.seats p).current.stamp → ⊥
     none_by_bit q ne zero h =
         not_reading q v.oid v.place (c.seats p).current.stamp (claim_at (c.seats p).current writes).version (ap (λ (w : VersionAt). w.oid) (sym same)) (ap (λ (w : VersionAt). w.place) (sym same))
@@ -120,7 +121,7 @@ module _ (c : Core) (p : ℕ) (sound : Sound c) where
     unfolding looked
     same_task t clear at = stays c p sound _ refl refl (sym at) refl
 
-    reader_clear : (write bits : ℕ) → (c.seats p).task ≡ task.ReadersLeft write bits → is_clear (state_of (c.seats other).place) bound ≡ true → (c.seats p).current.stamp ≤ bound → is_least_bit bits other ≡ true → p < 18 →
+    reader_clear : (write bits : ℕ) → (c.seats p).task ≡ task.ReadersLeft write bits → is_clear (state_of (c.seats other).place) bound ≡ true → (c.seats p).current.stamp ≤ bound → is_least_bit bits other ≡ true → p < ANNOUNCERS →
         (q : ℕ) → q ≢ p → bit_at (without_bit bits other) q ≡ 0 → Reading (c.seats q) (claim_at (c.seats p).current write).version (c.seats p).current.stamp → ⊥
     reader_clear write bits at clear below least low q ne zero h =
         ⊎_elim

@@ -8,6 +8,7 @@ use Rattle.erm_model.specs.declared.history.VersionRead.{VersionRead}
 use Rattle.erm_model.specs.History.{History, Makes, OverwritesReadOf, ReadsFrom}
 use Rattle.erm_model.specs.Member.{◌∈◌}
 use Rattle.erm_model.proofs.Members.{∈-at}
+use Rattle.erm_machine.specs.declared.limits.TheConstants.{OBJECT_LIMIT}
 use Rattle.erm_machine.specs.declared.attempt.Attempt.{Attempt}
 use Rattle.erm_machine.specs.declared.attempt.Claim.{Claim}
 use Rattle.erm_machine.specs.declared.attempt.OwnCell.{OwnCell}
@@ -160,7 +161,7 @@ module _ (c : Core) (p : ℕ) (sound : Sound c) where
       let k = read.0 in
       let r = read_at (c.seats p).current k in
       let fits = read_fits k read.1 in
-      let known = subst (λ (w : VersionAt). w.oid < 1024) read.2 fits.named.object in
+      let known = subst (λ (w : VersionAt). w.oid < OBJECT_LIMIT) read.2 fits.named.object in
       let within = subst (λ (w : VersionAt). w.place < length (c.shared.objects w.oid).versions) read.2 fits.named.within in
       let o = marked_by c sound (seats_low c sound) v.oid v.place mark known within is positive in
       let m = ∈-at (c.seats p).current.reads k no_read read.1 in

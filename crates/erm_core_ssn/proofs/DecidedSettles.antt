@@ -2,6 +2,7 @@
 use Rattle.std.proofs.Common.{◌≡◌, ◌≢◌, ℕ, ◌+◌, ◌<◌, ◌≤◌, Bool, true, false, ◌&&◌, not, eqb, length, Option, Some, None, refl, sym, ap, subst, arith}
 use Rattle.std.specs.Prelude.{if◌then◌else◌}
 use Rattle.std.proofs.lemmas.Bool.{and_parts, eqb-true}
+use Rattle.erm_machine.specs.declared.limits.TheConstants.{ANNOUNCERS}
 use Rattle.erm_machine.specs.declared.attempt.Attempt.{Attempt}
 use Rattle.erm_machine.specs.declared.part.Flushing.{Flushing}
 use Rattle.erm_machine.specs.declared.part.Flushing.TheVariants as flushing
@@ -34,7 +35,7 @@ module _ (c : Core) (p : ℕ) (sound : Sound c) where
   pub sealed_open : is_sealed (c.seats p).place ≡ true → IsOpen (c.seats p).current
   sealed_open e = sealed_current (c.seats p).place (c.seats p).current (sound.own p).ranges.current e
 
-  pub sealed_low : is_sealed (c.seats p).place ≡ true → p < 18
+  pub sealed_low : is_sealed (c.seats p).place ≡ true → p < ANNOUNCERS
   sealed_low e = not_vacant c p sound (λ (v : (c.seats p).place ≡ Vacant). let no : is_sealed Vacant ≡ true = subst (λ l. is_sealed l ≡ true) v e in cc)
 
   -- what is rated of the task now

@@ -5,6 +5,7 @@ use Rattle.erm_model.specs.declared.history.TransactionRecord.{TransactionRecord
 use Rattle.erm_model.specs.declared.history.VersionRead.{VersionRead}
 use Rattle.erm_model.specs.History.{Makes, Overwrites}
 use Rattle.erm_model.specs.Member.{◌∈◌}
+use Rattle.erm_machine.specs.declared.limits.TheConstants.{ANNOUNCERS, OBJECT_LIMIT}
 use Rattle.erm_machine.specs.declared.attempt.Attempt.{Attempt}
 use Rattle.erm_machine.specs.declared.attempt.Claim.{Claim}
 use Rattle.erm_machine.specs.declared.attempt.Read.{Read}
@@ -32,9 +33,9 @@ use Rattle.erm_core_ssn.proofs.DecidedHistory.{∈-second, ∈-map_from, in_hist
 pub current_stands : (x : Part) → x.current ∈ all_of x
 current_stands x = ∈-second x.over (x.current ∷ []) x.current (∈-head x.current [])
 
--- commits are of seats below 18
+-- commits are of seats with words
 pub record SeatsLow (c : Core) : Type 0 where
-  pub low : (q : ℕ) (t : Attempt) → t ∈ all_of (c.seats q) → t.decision ≡ Commit → q < 18
+  pub low : (q : ℕ) (t : Attempt) → t ∈ all_of (c.seats q) → t.decision ≡ Commit → q < ANNOUNCERS
 
 -- two places of an object with one stamp are one
 pub one_place : (now : ℕ) (o : Object) (i j : ℕ) → ObjectFits now o → i < length o.versions → j < length o.versions →
@@ -140,7 +141,7 @@ module _ (c : Core) (sound : Sound c) (seats : SeatsLow c) where
       }
 
   -- the version of a claim that its seat still holds: the marks are those of its commit
-  marked_newest : (oid place mark owner : ℕ) → oid < 1024 → place ≡ newest (c.shared.objects oid) → (version_at (c.shared.objects oid) place).words.overwriter ≡ mark → 0 < mark →
+  marked_newest : (oid place mark owner : ℕ) → oid < OBJECT_LIMIT → place ≡ newest (c.shared.objects oid) → (version_at (c.shared.objects oid) place).words.overwriter ≡ mark → 0 < mark →
       owner_of (c.shared.objects oid).entry ≡ owner → 0 < owner → HasOverwritten c.seats oid place mark (version_at (c.shared.objects oid) place).words.overwriter_succ
   marked_newest oid place mark owner known last is positive owned seat =
       let held = held_claim c owner oid sound ((sound.own owner).claims.owned oid seat known owned) in
@@ -158,7 +159,7 @@ module _ (c : Core) (sound : Sound c) (seats : SeatsLow c) where
       (cases_lt (step_of x.task k) 8)
 
   -- a mark that isn't 0 is that of a commit that overwrote the version
-  pub marked_by : (oid place mark : ℕ) → oid < 1024 → place < length (c.shared.objects oid).versions → (version_at (c.shared.objects oid) place).words.overwriter ≡ mark → 0 < mark →
+  pub marked_by : (oid place mark : ℕ) → oid < OBJECT_LIMIT → place < length (c.shared.objects oid).versions → (version_at (c.shared.objects oid) place).words.overwriter ≡ mark → 0 < mark →
       Overwriter c oid place mark (version_at (c.shared.objects oid) place).words.overwriter_succ
   marked_by oid place mark known within is positive =
       let o = c.shared.objects oid in
@@ -181,7 +182,7 @@ module _ (c : Core) (sound : Sound c) (seats : SeatsLow c) where
       not_zero n f = omega (arith, f)
 
   -- a version is the opening's, or a commit made it
-  pub made_by : (oid place : ℕ) → oid < 1024 → place < length (c.shared.objects oid).versions →
+  pub made_by : (oid place : ℕ) → oid < OBJECT_LIMIT → place < length (c.shared.objects oid).versions →
       ((version_at (c.shared.objects oid) place).words.stamp ≡ 0) ⊎ Maker c oid (version_at (c.shared.objects oid) place).words.stamp
   made_by oid zero known within = inl (sound.common.marks.opened oid known)
   made_by oid (suc place) known within =

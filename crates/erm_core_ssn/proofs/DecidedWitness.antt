@@ -5,6 +5,7 @@ use Rattle.erm_model.specs.declared.history.TransactionRecord.{TransactionRecord
 use Rattle.erm_model.specs.declared.history.VersionRead.{VersionRead}
 use Rattle.erm_model.specs.History.{Makes}
 use Rattle.erm_model.specs.Member.{◌∈◌}
+use Rattle.erm_machine.specs.declared.limits.TheConstants.{OBJECT_LIMIT}
 use Rattle.erm_machine.specs.declared.attempt.Attempt.{Attempt}
 use Rattle.erm_machine.specs.declared.attempt.Claim.{Claim}
 use Rattle.erm_machine.specs.declared.version.VersionAt.{VersionAt}
@@ -80,7 +81,7 @@ IsFrom c w found = (found ≡ 0) ⊎ ((u : TransactionRecord) × (u ∈ history_
 
 module _ (c : Core) (p k : ℕ) (sound : Sound c) (within : k < length (c.seats p).current.writes) where
   -- the version that a claim overwrites
-  claim_known : (claim_at (c.seats p).current k).version.oid < 1024
+  claim_known : (claim_at (c.seats p).current k).version.oid < OBJECT_LIMIT
   claim_known = (sound.own p).claims.objects k within
 
   place_within : (claim_at (c.seats p).current k).version.place < length (c.shared.objects (claim_at (c.seats p).current k).version.oid).versions

@@ -1,4 +1,3 @@
-pub mod Certificates
 pub mod Chains
 pub mod DecidedActive
 pub mod DecidedBuild
@@ -57,6 +56,5 @@ pub mod RowsMoved
 pub mod RowsRun
 pub mod RowsSteps
 pub mod RowsStored
-pub mod Scans
 pub mod SomeNumbers
 pub mod Successors

@@ -5,6 +5,7 @@ use Rattle.erm_model.specs.declared.history.TransactionRecord.{TransactionRecord
 use Rattle.erm_model.specs.History.{IsSuccessorStamp, IsPredecessorStamp, IsCertified}
 use Rattle.erm_model.specs.Member.{◌∈◌}
 use Rattle.erm_model.proofs.Members.{none_in_nil, ∈-behind}
+use Rattle.erm_machine.specs.declared.limits.TheConstants.{ANNOUNCERS}
 use Rattle.erm_machine.specs.declared.attempt.Attempt.{Attempt}
 use Rattle.erm_machine.specs.declared.attempt.Decision.TheVariants.{Undecided}
 use Rattle.erm_machine.specs.Core.{Core}
@@ -63,6 +64,7 @@ module _ (c : Core) (sound : Sound c) where
       omega (arith, above, same)))
 
   history_apart : (n : ℕ) → TellsApart (λ (u : TransactionRecord). u.stamp) (history_below n c.seats)
+  unfolding history_below
   history_apart zero = λ i j x y at_i at_j same. absurd (none_in_nil x (i, at_i))
   history_apart (suc n) =
       apart_append (λ (u : TransactionRecord). u.stamp) (history_below n c.seats) (committed_of n (c.seats n)) (history_apart n) (committed_apart n)
@@ -83,8 +85,8 @@ module _ (c : Core) (sound : Sound c) where
 
   pub certified : IsCertified (history_of c.seats)
   certified = record {
-    differ = history_apart 18;
-    succ = λ u m. let r = history_has c.seats u m in subst (λ v. IsSuccessorStamp (history_of c.seats) (λ w. w.succ) v) r.is (fits 18 u r).succ;
-    pred = λ u m. let r = history_has c.seats u m in subst (λ (v : TransactionRecord). IsPredecessorStamp (history_of c.seats) v.pred v) r.is (fits 18 u r).pred;
-    window = λ u m. let r = history_has c.seats u m in subst (λ (v : TransactionRecord). v.pred < v.succ) r.is ((fits 18 u r).window.0 r.commit);
+    differ = history_apart ANNOUNCERS;
+    succ = λ u m. let r = history_has c.seats u m in subst (λ v. IsSuccessorStamp (history_of c.seats) (λ w. w.succ) v) r.is (fits ANNOUNCERS u r).succ;
+    pred = λ u m. let r = history_has c.seats u m in subst (λ (v : TransactionRecord). IsPredecessorStamp (history_of c.seats) v.pred v) r.is (fits ANNOUNCERS u r).pred;
+    window = λ u m. let r = history_has c.seats u m in subst (λ (v : TransactionRecord). v.pred < v.succ) r.is ((fits ANNOUNCERS u r).window.0 r.commit);
   }

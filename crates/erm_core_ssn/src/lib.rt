@@ -3,7 +3,6 @@
 #![tactic(auto)]
 
 mod machine;
-pub mod slow;
 
 ghost use Rattle.std.specs.Prelude.{◌≡◌, ◌<◌, ℕ, List};
 ghost use Rattle.erm_model.specs.declared.history.TransactionRecord.{TransactionRecord};

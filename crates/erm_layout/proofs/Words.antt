@@ -1,7 +1,8 @@
 -- Every number below the count of the words is some word's.
 use Rattle.std.proofs.Common.{◌≡◌, ℕ, zero, suc, ◌+◌, ◌-◌, ◌*◌, ◌/◌, ◌%◌, ◌<◌, ◌≤◌, inl, inr, refl, subst, arith}
 use Rattle.std.proofs.lemmas.Bool.{cases_lt}
-use Rattle.erm_machine.specs.declared.limits.TheConstants.{ANNOUNCERS, CELL_LIMIT}
+use Rattle.erm_model.specs.declared.limits.TheConstants.{TABLE_CELLS}
+use Rattle.erm_machine.specs.declared.limits.TheConstants.{ANNOUNCERS}
 use Rattle.erm_machine.specs.declared.event.Counter.TheVariants.{Objects, Cells}
 use Rattle.erm_machine.specs.declared.version.CellWord.{CellWord}
 use Rattle.erm_machine.specs.declared.version.CellWord.TheVariants.{Stamp, Link, Readers, ReaderStamp, Overwriter, OverwriterSucc, Row}
@@ -41,7 +42,7 @@ word_in_cell (suc (suc (suc (suc (suc zero))))) h = (OverwriterSucc, tt, refl)
 word_in_cell (suc (suc (suc (suc (suc (suc n)))))) h = (Row n, omega arith, omega arith)
 
 -- each place of the cells' words
-pub cell_word : (n : ℕ) → n < CELL_WORDS * CELL_LIMIT → HasWord (CELLS_FROM + n)
+pub cell_word : (n : ℕ) → n < CELL_WORDS * TABLE_CELLS → HasWord (CELLS_FROM + n)
 cell_word n h =
     let inner = word_in_cell (n % CELL_WORDS) (omega arith) in
     (word.Cell (n / CELL_WORDS) inner.0, (omega arith, inner.1), omega (arith, inner.2))

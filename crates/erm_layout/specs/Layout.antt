@@ -2,7 +2,8 @@
 -- cells' words and the ring.
 use Rattle.std.specs.Prelude.{ℕ, ◌+◌, ◌-◌, ◌*◌, ◌<◌, ◌≤◌}
 use Rattle.erm_model.specs.declared.TheConstants.{ROW_WORDS}
-use Rattle.erm_machine.specs.declared.limits.TheConstants.{ANNOUNCERS, CELL_LIMIT, OBJECT_LIMIT, RING_WORDS}
+use Rattle.erm_model.specs.declared.limits.TheConstants.{TABLE_CELLS}
+use Rattle.erm_machine.specs.declared.limits.TheConstants.{ANNOUNCERS, OBJECT_LIMIT, RING_WORDS}
 use Rattle.erm_machine.specs.declared.event.Counter.TheVariants.{Objects, Cells}
 use Rattle.erm_machine.specs.declared.version.CellWord.{CellWord}
 use Rattle.erm_machine.specs.declared.version.CellWord.TheVariants.{Stamp, Link, Readers, ReaderStamp, Overwriter, OverwriterSucc, Row}
@@ -38,7 +39,7 @@ HasNumber (word.Counter counter) = Unit {0}
 HasNumber (word.Begin seat) = (1 ≤ seat) × (seat < ANNOUNCERS)
 HasNumber (word.State seat) = (1 ≤ seat) × (seat < ANNOUNCERS)
 HasNumber (word.Entry oid) = oid < OBJECT_LIMIT
-HasNumber (word.Cell cell w) = (cell < CELL_LIMIT) × IsInCell w
+HasNumber (word.Cell cell w) = (cell < TABLE_CELLS) × IsInCell w
 HasNumber (word.Ring place) = place < RING_WORDS
 
 -- the number of a word of the table

@@ -1,6 +1,6 @@
 //! Where the parts of the table begin, and how many words it has.
-use erm_machine::{ANNOUNCERS, CELL_LIMIT, OBJECT_LIMIT, RING_WORDS};
-use erm_model::ROW_WORDS;
+use erm_machine::{ANNOUNCERS, OBJECT_LIMIT, RING_WORDS};
+use erm_model::{ROW_WORDS, TABLE_CELLS};
 
 /// How many words a seat has: its begin word and its state word.
 pub const SEAT_WORDS: usize = 2;
@@ -21,7 +21,7 @@ pub const ENTRIES_FROM: usize = SEATS_FROM + SEAT_WORDS * (ANNOUNCERS as usize -
 pub const CELLS_FROM: usize = ENTRIES_FROM + OBJECT_LIMIT as usize;
 
 /// The number of the ring's first word.
-pub const RING_FROM: usize = CELLS_FROM + CELL_WORDS * CELL_LIMIT as usize;
+pub const RING_FROM: usize = CELLS_FROM + CELL_WORDS * TABLE_CELLS as usize;
 
 /// How many words the table has: all numbers are below.
 pub const WORDS: usize = RING_FROM + RING_WORDS as usize;

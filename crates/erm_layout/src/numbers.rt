@@ -6,8 +6,8 @@ use crate::Word;
 use crate::limits::{
     CELL_HEAD_WORDS, CELL_WORDS, CELLS_FROM, ENTRIES_FROM, RING_FROM, SEAT_WORDS, SEATS_FROM, WORDS,
 };
-use erm_machine::{ANNOUNCERS, CELL_LIMIT, CellWord, Counter};
-use erm_model::{Oid, Seat};
+use erm_machine::{ANNOUNCERS, CellWord, Counter};
+use erm_model::{Oid, Seat, TABLE_CELLS};
 
 /// The number of a word.
 pub fn index(word: Word) -> usize
@@ -95,7 +95,7 @@ fn seat_word(place: usize) -> Word
 
 // The word at a place of the cells' words.
 fn cell_word(place: usize) -> Word
-    requires { place < CELL_WORDS * CELL_LIMIT }
+    requires { place < CELL_WORDS * TABLE_CELLS }
     ensures has { HasNumber result }
     ensures number { index_of result ≡ CELLS_FROM + place }
 {

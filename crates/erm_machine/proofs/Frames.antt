@@ -1,6 +1,6 @@
 -- What one seat's step leaves of facts on all seats: a function with one value changed.
 use Rattle.std.proofs.Common.{◌≡◌, ◌≢◌, ℕ, zero, suc, ◌+◌, ◌<◌, ◌≤◌, ◌⊎◌, ⊎_elim, Bool, true, false, cond, eqb, refl, sym, ap, subst, arith, eqb-true}
-use Rattle.std.proofs.lemmas.Bool.{eqb-false}
+use Rattle.std.proofs.lemmas.Bool.{cases_eq, eqb-false}
 use Rattle.erm_machine.specs.Words.{put}
 use Rattle.erm_machine.specs.Facts.{total}
 
@@ -40,6 +40,7 @@ each_two G f p y new_eyes on_new others q r ne =
 
 -- a sum over places below n where one value is changed
 pub total-put_outside : {X : Type 0} (g : X → ℕ) (n : ℕ) (f : ℕ → X) (k : ℕ) (v : X) → n ≤ k → total g n (put f k v) ≡ total g n f
+unfolding total
 total-put_outside g zero f k v out = refl
 total-put_outside g (suc n) f k v out =
     let before = total-put_outside g n f k v (omega arith) in
@@ -47,6 +48,7 @@ total-put_outside g (suc n) f k v out =
     omega (arith, before, here)
 
 pub total-put : {X : Type 0} (g : X → ℕ) (n : ℕ) (f : ℕ → X) (k : ℕ) (v : X) → k < n → total g n (put f k v) + g (f k) ≡ total g n f + g v
+unfolding total
 total-put g zero f k v within = absurd (omega arith)
 total-put g (suc n) f k v within =
     ⊎_elim
@@ -64,8 +66,17 @@ total-put g (suc n) f k v within =
     same_or_not : (a b : ℕ) → (a ≡ b) ⊎ (a ≡ b → ⊥)
     same_or_not a b = grind arith
 
+-- a value is at most the sum in which it stands
+pub total_at : {X : Type 0} (g : X → ℕ) (n : ℕ) (f : ℕ → X) (k : ℕ) → k < n → g (f k) ≤ total g n f
+unfolding total
+total_at g zero f k within = absurd (omega arith)
+total_at g (suc n) f k within =
+    ⊎_elim (λ (same : k ≡ n). let h = ap (λ m. g (f m)) same in omega (arith, h))
+    (λ (ne : k ≡ n → ⊥). let before = total_at g n f k (omega (arith, ne, within)) in omega (arith, before)) (cases_eq k n)
+
 -- a sum whose values stay
 pub total_same : {X : Type 0} (g : X → ℕ) (n : ℕ) (f : ℕ → X) (k : ℕ) (v : X) → g v ≡ g (f k) → total g n (put f k v) ≡ total g n f
+unfolding total
 total_same g zero f k v e = refl
 total_same g (suc n) f k v e =
     let before = total_same g n f k v e in

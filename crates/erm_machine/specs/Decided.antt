@@ -46,7 +46,7 @@ record_of seat t = record {
 abbrev pub committed_of : ℕ → Part → History
 committed_of seat x = map (record_of seat) (filter (λ t. is_commit t.decision) (all_of x))
 
-abbrev pub history_below : ℕ → (ℕ → Part) → History
+unfoldable pub history_below : ℕ → (ℕ → Part) → History
 history_below zero seats = []
 history_below (suc n) seats = history_below n seats ++ committed_of n (seats n)
 

@@ -12,7 +12,7 @@ use Rattle.erm_machine.specs.declared.task.Task.TheVariants as task
 use Rattle.erm_machine.specs.Core.{blank}
 
 -- the sum of a number over the seats, or the objects, below a bound
-abbrev pub total : {X : Type 0} → (X → ℕ) → ℕ → (ℕ → X) → ℕ
+unfoldable pub total : {X : Type 0} → (X → ℕ) → ℕ → (ℕ → X) → ℕ
 total f zero xs = 0
 total f (suc n) xs = total f n xs + f (xs n)
 

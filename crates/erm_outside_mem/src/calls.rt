@@ -10,7 +10,7 @@ use std::alloc::Global;
 use std::marker::Model;
 
 /// Counts the calls of an object and its faults. Both counts stand still at `u64::MAX`.
-#[derive(Debug, Drop)]
+#[derive(Drop)]
 pub struct Calls {
     count: u64,
     failing: Vec<u64>,

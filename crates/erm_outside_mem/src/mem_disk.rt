@@ -13,7 +13,7 @@ type Files = BTreeMap<File, Vec<u8>>;
 
 /// A disk that keeps its files in memory. What was written lasts at once. Where memory is refused, or a write would
 /// end behind 2^64 - 1, the call fails.
-#[derive(Debug, Drop)]
+#[derive(Drop)]
 pub struct MemDisk {
     alloc: Global,
     files: Files,

@@ -9,7 +9,7 @@ use erm_outside::{Failed, Source};
 use std::marker::Model;
 
 /// A source over bytes in memory, which hands out at most so many a call.
-#[derive(Debug, Drop)]
+#[derive(Drop)]
 pub struct MemSource {
     source: SteadySource,
     per_call: usize,

@@ -5,7 +5,7 @@ use erm_outside::{Failed, Source};
 use std::marker::Model;
 
 /// A source over bytes in memory. No call of it fails.
-#[derive(Debug, Drop)]
+#[derive(Drop)]
 pub struct SteadySource {
     bytes: Vec<u8>,
     taken: usize,

@@ -2,6 +2,7 @@
 use Rattle.std.specs.Prelude.{◌≡◌, ◌≢◌, ℕ, ◌+◌, ◌<◌, ◌≤◌, Bool, true, false, not, List, [], ◌∷◌, ◌++◌, map, length, take, Option, Some, None, IfSome}
 use Rattle.std.specs.List.{AllPairs, filter, slice_get, range_with_len}
 use Rattle.std.specs.FinMap.{from_entries}
+use Rattle.erm_model.specs.declared.limits.TheConstants.{LEAST_BLOCK}
 use Rattle.erm_model.specs.declared.map.Pair.{Pair}
 use Rattle.erm_model.specs.declared.outcome.Phase.{Phase}
 use Rattle.erm_model.specs.declared.outcome.Phase.TheVariants.{Idle, Active, Sealed}
@@ -188,7 +189,7 @@ pub record IsGoodReport (opening : Database) (stamp run : ℕ) (names : List (Li
   pub lines_ok : lines ≡ report_lines stamp run names script report
   pub phases : PhasesAgree script report.answers
   pub closes : ClosesAgree (length names) (said_of script report.answers) report.closed
-  pub stamps : StampsAgree (stamp + 5) (transactions (length names) script report) report.answers
+  pub stamps : StampsAgree (stamp + LEAST_BLOCK) (transactions (length names) script report) report.answers
   pub snapshots : (t : Transaction) → t ∈ transactions (length names) script report →
       HasSnapshotReplies (history (length names) script report) opening t.begin t.steps
   pub order : OrderAgrees (history (length names) script report) opening report

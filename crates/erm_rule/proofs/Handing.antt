@@ -1,6 +1,6 @@
 -- The first pass hands out the sessions one by one.
 use Rattle.std.proofs.Common.{◌≡◌, ℕ, zero, suc, ◌+◌, ◌-◌, ◌<◌, ◌≤◌, List, [], ◌∷◌, length, take, get_or, refl, sym, ap, ◌∙◌, arith}
-use Rattle.erm_machine.specs.declared.limits.TheConstants.{FLUSH_SEAT, SESSIONS}
+use Rattle.erm_machine.specs.declared.limits.TheConstants.{ANNOUNCERS, FLUSH_SEAT, SESSIONS}
 use Rattle.erm_machine.specs.declared.place.Place.TheVariants.{Vacant, Idle}
 use Rattle.erm_machine.specs.Core.{fresh_part}
 use Rattle.erm_machine.specs.Seat.{is_vacant}
@@ -52,7 +52,7 @@ module _ (o : Opening) where
   all = flush ∷ vacant_from o SESSIONS
 
   -- the first so many of the seats: how many, the first and the last of them
-  module _ (m q : ℕ) (two : 2 ≤ m) (at : m + q ≡ 18) (some_left : 1 ≤ q) where
+  module _ (m q : ℕ) (two : 2 ≤ m) (at : m + q ≡ ANNOUNCERS) (some_left : 1 ≤ q) where
     many : length (take m all) ≡ m
     many = let vacant = length_vacant o SESSIONS in length_taken m all (omega (arith, vacant, at, some_left))
 
@@ -77,7 +77,7 @@ module _ (o : Opening) where
   unfolding rest_view first_view
   hands_out given low =
       let two : 2 ≤ FLUSH_SEAT - given = omega (arith, low) in
-      let at : (FLUSH_SEAT - given) + (given + 1) ≡ 18 = omega (arith, low) in
+      let at : (FLUSH_SEAT - given) + (given + 1) ≡ ANNOUNCERS = omega (arith, low) in
       let some_left : 1 ≤ given + 1 = omega arith in
       let less : (FLUSH_SEAT - (given + 1)) + 1 ≡ FLUSH_SEAT - given = omega (arith, low) in
       let first = first_is (FLUSH_SEAT - given) (given + 1) two at some_left in

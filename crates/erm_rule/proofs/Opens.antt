@@ -12,12 +12,13 @@ use Rattle.erm_layout.specs.declared.limits.TheConstants.{WORDS}
 use Rattle.erm_layout.specs.declared.word.Word.{Word}
 use Rattle.erm_layout.specs.Layout.{index_of}
 use Rattle.erm_layout.specs.Spots.{word_of_spot}
-use Rattle.erm_machine.specs.declared.limits.TheConstants.{FLUSH_SEAT, OBJECT_LIMIT, SESSIONS, STOP}
+use Rattle.erm_machine.specs.declared.limits.TheConstants.{FLUSH_SEAT, MOST_CELLS, OBJECT_LIMIT, SESSIONS, STOP}
 use Rattle.erm_machine.specs.declared.place.Place.TheVariants.{Vacant, Idle}
 use Rattle.erm_machine.specs.Core.{Core, Spot, tail_word, begin_word, state_word, word_at, fresh_part, opening_state, is_taken}
 use Rattle.erm_machine.specs.Sound.{Sound}
 use Rattle.erm_machine.specs.Words.{begin_of, state_of, is_seat}
 use Rattle.erm_machine.proofs.Guards.{either_way}
+use Rattle.erm_model.specs.declared.limits.TheConstants.{TABLE_CELLS}
 use Rattle.erm_model.specs.Member.{◌∈◌}
 use Rattle.erm_model.specs.Rows.{Rows}
 use Rattle.erm_rule.specs.declared.view.Held.{Held}
@@ -30,12 +31,12 @@ use Rattle.erm_rule.proofs.Parts.{here, split_at, none_there}
 -- the law that an opening's state is sound
 abbrev pub OpensSound : Type 0
 OpensSound =
-    (sessions : ℕ) (rows : Rows) (tail run first : ℕ) → sessions ≤ SESSIONS → 0 < tail → tail ≤ STOP + 4 → first ≤ OBJECT_LIMIT
-    → ((oid : ℕ) → oid < OBJECT_LIMIT → length (rows oid) ≡ 16) → Sound (opening_state sessions rows tail run first)
+    (sessions : ℕ) (rows : Rows) (tail run first cells : ℕ) → sessions ≤ SESSIONS → 0 < tail → tail ≤ STOP + 4 → first ≤ OBJECT_LIMIT
+    → OBJECT_LIMIT ≤ cells → cells ≤ MOST_CELLS → ((oid : ℕ) → oid < OBJECT_LIMIT → length (rows oid) ≡ 16) → Sound (opening_state sessions rows tail run first cells)
 
--- the opening's state: no session is taken yet, and all rows are zeros
+-- the opening's state: no session is taken yet, all rows are zeros, and the cells are those of the table
 abbrev pub first_core : Opening → Core
-first_core opening = opening_state 0 (λ _. replicate 16 0) opening.tail opening.run 0
+first_core opening = opening_state 0 (λ _. replicate 16 0) opening.tail opening.run 0 TABLE_CELLS
 
 zeros : (n k : ℕ) → get_or (replicate {A = ℕ} n 0) k 0 ≡ 0
 zeros n k =
@@ -77,7 +78,7 @@ once_vacant o (suc n) = ((λ h m. λ same. let high = (vacant_in o n h m).1 in o
 module _ (o : Opening) where
   -- what is so of the flush seat and of each vacant session is so of each seat of the first view
   each_first : (P : Held → Type 0) → P (record { seat = FLUSH_SEAT; part = fresh_part Idle o.run o.tail }) →
-      ((q : ℕ) → 1 ≤ q → q ≤ 16 → P (record { seat = q; part = fresh_part Vacant o.run o.tail })) → (h : Held) → h ∈ (first_view o).held → P h
+      ((q : ℕ) → 1 ≤ q → q ≤ SESSIONS → P (record { seat = q; part = fresh_part Vacant o.run o.tail })) → (h : Held) → h ∈ (first_view o).held → P h
   unfolding first_view
   each_first P flush session h m =
       ⊎_elim (λ (same : record { seat = FLUSH_SEAT; part = fresh_part Idle o.run o.tail } ≡ h). subst P same flush)
@@ -86,10 +87,10 @@ module _ (o : Opening) where
       subst (λ x. P (record { seat = h.seat; part = x })) (sym is.2) (session h.seat is.0 is.1))
       (split_at _ h (vacant_from o SESSIONS) m)
 
-  not_taken : (q : ℕ) → 1 ≤ q → q ≤ 16 → is_taken 0 q ≡ false
+  not_taken : (q : ℕ) → 1 ≤ q → q ≤ SESSIONS → is_taken 0 q ≡ false
   not_taken q low high = grind arith
 
-  a_session : (q : ℕ) → 1 ≤ q → q ≤ 16 → is_seat q ≡ true
+  a_session : (q : ℕ) → 1 ≤ q → q ≤ SESSIONS → is_seat q ≡ true
   a_session q low high = grind arith
 
   first_parts : (h : Held) → h ∈ (first_view o).held → (first_core o).seats h.seat ≡ h.part
@@ -152,6 +153,6 @@ module _ (o : Opening) where
     holder = λ _. 0;
     stands = first_stands words is;
     others = first_others;
-    sound = opens 0 (λ _. replicate 16 0) o.tail o.run 0 (omega arith) positive low (omega arith) (λ oid known. length-replicate {A = ℕ} 16 0);
+    sound = opens 0 (λ _. replicate 16 0) o.tail o.run 0 TABLE_CELLS (omega arith) positive low (omega arith) (omega arith) (omega arith) (λ oid known. length-replicate {A = ℕ} 16 0);
     opened = refl;
   }

@@ -3,8 +3,8 @@ use Rattle.std.proofs.Common.{◌≡◌, ℕ, ◌⊎◌, ◌+◌, ◌*◌, ◌<�
 use Rattle.std.specs.Option.{option_map}
 use Rattle.std.specs.FinMap.{empty, insert}
 use Rattle.std.proofs.lemmas.Bool.{false≢true, true≢false}
-use Rattle.std.proofs.lemmas.Bool.Decides.{nat_tests}
 use Rattle.erm_model.specs.declared.key.Key.{Key}
+use Rattle.erm_model.specs.declared.limits.TheConstants.{LEAST_BLOCK, OID_LIMIT, READ_LIMIT, TABLES, WRITE_LIMIT}
 use Rattle.erm_model.specs.declared.operation.Reply.TheVariants as reply
 use Rattle.erm_model.specs.declared.outcome.Phase.{Phase}
 use Rattle.erm_model.specs.declared.outcome.Phase.TheVariants as phase
@@ -18,6 +18,7 @@ use Rattle.erm_promise.specs.Footprint.{Footprint, has_key, with_key, reading, w
 use Rattle.erm_promise.specs.Refusals.{refusal_in, refusal_of, refusal_in_idle, refusal_in_active, refusal_in_sealed, limit_in, limit_of, limit_at, write_limit_of, is_full, number_of, named_after}
 use Rattle.erm_promise.specs.Transactions.{Transaction, Progress, nothing, Commits, ended, heard, replied, with_line, with_seal, phase_after}
 use Rattle.erm_promise.specs.GoodReport.{IsAnswerTo, begin_stamp, commit_stamp, is_idle}
+use Rattle.erm_run.specs.declared.runner.TheConstants.{ENTRY_WORDS, FIRST_STAMP}
 use Rattle.erm_run.specs.declared.runner.Runner.{Runner}
 use Rattle.erm_run.specs.declared.runner.Session.{Session}
 use Rattle.erm_run.specs.declared.runner.Session.TheVariants as session
@@ -184,7 +185,7 @@ chosen_limit b c a same = ap (λ x. cond x (Some a) None) same
 -- a value read
 pub got : (p : Progress) (old new : Runner) (v w : Work) (named : List Key) (table key : ℕ) (value : Option (List ℕ)) → old.session ≡ session.Active v →
     new ≡ record old { named = named; session = session.Active w } → named ≡ with_key old.named (at table key) →
-    (not (has_key v.writes (at table key)) && is_full 512 v.reads (at table key)) ≡ false → w.changes ≡ v.changes → touched_by w ≡ reading (at table key) (touched_by v) →
+    (not (has_key v.writes (at table key)) && is_full READ_LIMIT v.reads (at table key)) ≡ false → w.changes ≡ v.changes → touched_by w ≡ reading (at table key) (touched_by v) →
     value ≡ seen v.changes old.values table key → StandsAt p old → Steps p (command.Get table key) (answer.Replied (reply.Value value)) old new
 got p old new v w named table key value active is names room same touch value_is s =
     subst (λ o. Steps p (command.Get table key) (answer.Replied (reply.Value o)) old new) (sym value_is)
@@ -197,7 +198,7 @@ got p old new v w named table key value active is names room same touch value_is
 -- a key that is one too many to be read
 pub reads_full : (p : Progress) (old new : Runner) (v : Work) (named : List Key) (table key : ℕ) → old.session ≡ session.Active v →
     new ≡ record old { named = named; session = session.Active v } → named ≡ with_key old.named (at table key) →
-    (not (has_key v.writes (at table key)) && is_full 512 v.reads (at table key)) ≡ true → StandsAt p old → Steps p (command.Get table key) answer.ReadsFull old new
+    (not (has_key v.writes (at table key)) && is_full READ_LIMIT v.reads (at table key)) ≡ true → StandsAt p old → Steps p (command.Get table key) answer.ReadsFull old new
 reads_full p old new v named table key active is names full s =
     stepped p (command.Get table key) answer.ReadsFull (λ t. with_line (Some (command.Get table key)) t) old new v v named active is names refl
     (λ t c. current_lined old.values old.tail old.over t v (command.Get table key) c) tt refl
@@ -205,40 +206,40 @@ reads_full p old new v named table key active is names full s =
 
 -- whether all objects were given out before a key's
 abbrev pub oids_full : List Key → Key → Bool
-oids_full named k = nat_le 1024 (16 + number_of named k)
+oids_full named k = nat_le OID_LIMIT (TABLES + number_of named k)
 
 -- a value written
 pub wrote : (p : Progress) (old new : Runner) (v w : Work) (named : List Key) (table key : ℕ) (value : List ℕ) → old.session ≡ session.Active v →
     new ≡ record old { named = named; session = session.Active w } → named ≡ with_key old.named (at table key) →
-    oids_full old.named (at table key) ≡ false → is_full 64 v.writes (at table key) ≡ false →
+    oids_full old.named (at table key) ≡ false → is_full WRITE_LIMIT v.writes (at table key) ≡ false →
     w.changes ≡ insert v.changes (at table key) (Some value) → touched_by w ≡ writing (at table key) (touched_by v) → StandsAt p old →
     Steps p (command.Put table key value) (answer.Replied reply.Done) old new
 wrote p old new v w named table key value active is names oids room changed touch s =
     stepped p (command.Put table key value) (answer.Replied reply.Done) (λ t. replied (Some (command.Put table key value)) reply.Done t) old new v w named active is names refl
     (λ t c. current_put old.values old.tail old.over t v w table key value changed touch c) tt refl
-    (ap (λ b. cond b (Some answer.WritesFull) None) (sym room) ∙ ap (λ b. cond b (Some (answer.OidsFull 1024)) (write_limit_of (touched_by v) (at table key))) (sym oids)) refl refl refl refl
+    (ap (λ b. cond b (Some answer.WritesFull) None) (sym room) ∙ ap (λ b. cond b (Some (answer.OidsFull OID_LIMIT)) (write_limit_of (touched_by v) (at table key))) (sym oids)) refl refl refl refl
     (subst (λ (f : Footprint). length f.writes ≤ length v.writes + 1) (sym touch) (few_more v.writes (at table key))) s
 
 -- a key that is one too many to be written, and one that no object is left for
 pub put_full : (p : Progress) (old new : Runner) (v : Work) (named : List Key) (table key : ℕ) (value : List ℕ) → old.session ≡ session.Active v →
     new ≡ record old { named = named; session = session.Active v } → named ≡ with_key old.named (at table key) →
-    oids_full old.named (at table key) ≡ false → is_full 64 v.writes (at table key) ≡ true → StandsAt p old → Steps p (command.Put table key value) answer.WritesFull old new
+    oids_full old.named (at table key) ≡ false → is_full WRITE_LIMIT v.writes (at table key) ≡ true → StandsAt p old → Steps p (command.Put table key value) answer.WritesFull old new
 put_full p old new v named table key value active is names oids full s =
     stepped p (command.Put table key value) answer.WritesFull (λ t. with_line (Some (command.Put table key value)) t) old new v v named active is names refl
     (λ t c. current_lined old.values old.tail old.over t v (command.Put table key value) c) tt refl
-    (ap (λ b. cond b (Some answer.WritesFull) None) (sym full) ∙ ap (λ b. cond b (Some (answer.OidsFull 1024)) (write_limit_of (touched_by v) (at table key))) (sym oids)) refl refl refl refl (omega arith) s
+    (ap (λ b. cond b (Some answer.WritesFull) None) (sym full) ∙ ap (λ b. cond b (Some (answer.OidsFull OID_LIMIT)) (write_limit_of (touched_by v) (at table key))) (sym oids)) refl refl refl refl (omega arith) s
 
 pub none_left : (p : Progress) (old new : Runner) (v : Work) (named : List Key) (table key : ℕ) (value : List ℕ) → old.session ≡ session.Active v →
     new ≡ record old { named = named; session = session.Active v } → named ≡ with_key old.named (at table key) →
-    oids_full old.named (at table key) ≡ true → StandsAt p old → Steps p (command.Put table key value) (answer.OidsFull 1024) old new
+    oids_full old.named (at table key) ≡ true → StandsAt p old → Steps p (command.Put table key value) (answer.OidsFull OID_LIMIT) old new
 none_left p old new v named table key value active is names oids s =
-    stepped p (command.Put table key value) (answer.OidsFull 1024) (λ t. with_line (Some (command.Put table key value)) t) old new v v named active is names refl
+    stepped p (command.Put table key value) (answer.OidsFull OID_LIMIT) (λ t. with_line (Some (command.Put table key value)) t) old new v v named active is names refl
     (λ t c. current_lined old.values old.tail old.over t v (command.Put table key value) c) tt refl
-    (ap (λ b. cond b (Some (answer.OidsFull 1024)) (write_limit_of (touched_by v) (at table key))) (sym oids)) refl refl refl refl (omega arith) s
+    (ap (λ b. cond b (Some (answer.OidsFull OID_LIMIT)) (write_limit_of (touched_by v) (at table key))) (sym oids)) refl refl refl refl (omega arith) s
 
 -- a value taken away
 pub took : (p : Progress) (old new : Runner) (v w : Work) (named : List Key) (table key : ℕ) → old.session ≡ session.Active v →
-    new ≡ record old { named = named; session = session.Active w } → named ≡ with_key old.named (at table key) → is_full 64 v.writes (at table key) ≡ false →
+    new ≡ record old { named = named; session = session.Active w } → named ≡ with_key old.named (at table key) → is_full WRITE_LIMIT v.writes (at table key) ≡ false →
     w.changes ≡ insert v.changes (at table key) None → touched_by w ≡ writing (at table key) (touched_by v) → StandsAt p old →
     Steps p (command.Del table key) (answer.Replied reply.Done) old new
 took p old new v w named table key active is names room changed touch s =
@@ -249,7 +250,7 @@ took p old new v w named table key active is names room changed touch s =
 
 -- a key that is one too many to be written
 pub del_full : (p : Progress) (old new : Runner) (v : Work) (named : List Key) (table key : ℕ) → old.session ≡ session.Active v →
-    new ≡ record old { named = named; session = session.Active v } → named ≡ with_key old.named (at table key) → is_full 64 v.writes (at table key) ≡ true → StandsAt p old →
+    new ≡ record old { named = named; session = session.Active v } → named ≡ with_key old.named (at table key) → is_full WRITE_LIMIT v.writes (at table key) ≡ true → StandsAt p old →
     Steps p (command.Del table key) answer.WritesFull old new
 del_full p old new v named table key active is names full s =
     stepped p (command.Del table key) answer.WritesFull (λ t. with_line (Some (command.Del table key)) t) old new v v named active is names refl
@@ -258,9 +259,9 @@ del_full p old new v named table key active is names full s =
 
 -- a seal
 pub sealed : (p : Progress) (old new : Runner) (w : Work) (stamp : ℕ) → old.session ≡ session.Active w → stamp ≡ old.tail →
-    new ≡ record old { tail = old.tail + (5 + 17 * length w.writes); session = session.Sealed w stamp } → StandsAt p old →
+    new ≡ record old { tail = old.tail + (LEAST_BLOCK + ENTRY_WORDS * length w.writes); session = session.Sealed w stamp } → StandsAt p old →
     Steps p command.Seal (answer.Sealed stamp) old new
-sealed p old new w stamp active at_tail is s = subst (λ n. Steps p command.Seal (answer.Sealed n) old new) (sym at_tail) (subst (λ (r : Runner). Steps p command.Seal (answer.Sealed old.tail) old r) (sym (is ∙ ap (λ n. record old { tail = old.tail + (5 + 17 * length w.writes); session = session.Sealed w n }) at_tail)) (record {
+sealed p old new w stamp active at_tail is s = subst (λ n. Steps p command.Seal (answer.Sealed n) old new) (sym at_tail) (subst (λ (r : Runner). Steps p command.Seal (answer.Sealed old.tail) old r) (sym (is ∙ ap (λ n. record old { tail = old.tail + (LEAST_BLOCK + ENTRY_WORDS * length w.writes); session = session.Sealed w n }) at_tail)) (record {
   stands = record {
     stands = stands_changed p old.values old.tail old.over old.commits.items None (Some old.tail) w w old.marks (with_seal old.tail)
         (λ t c. current_sealed old.values old.tail old.over t w c) (stands_in p old (session.Active w) active s);
@@ -328,7 +329,7 @@ settles : (p : Progress) (command : Command) (sealed : Option ℕ) (w : Work) (s
     None ≡ limit_at (phase_in old.session) old.named (touched_in p.current) command → old.named ≡ named_after old.named command →
     Stands p mid.values stamp mid.over mid.commits.items sealed (Some w) mid.marks → IfSome sealed (λ s. s ≡ stamp) → stamp < mid.tail → mid.session ≡ session.Idle →
     mid.named ≡ old.named → mid.marks ≡ old.marks → mid.over ≡ old.over → work_in old.session ≡ Some w → old.tail ≤ mid.tail →
-    mid.tail ≤ old.tail + 17 * pending old.session + 22 → Decides w stamp a mid new → Steps p command a old new
+    mid.tail ≤ old.tail + ENTRY_WORDS * pending old.session + (LEAST_BLOCK + ENTRY_WORDS) → Decides w stamp a mid new → Steps p command a old new
 settles p command sealed w stamp a old mid new refusal kind limit names s kept below idle same_names same_marks same_over work tail room d =
     let now : new.session ≡ session.Idle = d.session ∙ idle in
     let none_pending : pending new.session ≡ 0 = ap pending now in
@@ -360,11 +361,11 @@ settled p a old mid new w stamp is at d s =
 
 -- a transaction that is sealed and settled at once
 pub committed : (p : Progress) (a : Answer) (old mid new : Runner) (w : Work) → old.session ≡ session.Active w →
-    mid ≡ record old { session = session.Idle; tail = old.tail + (5 + 17 * length w.writes) } →
+    mid ≡ record old { session = session.Idle; tail = old.tail + (LEAST_BLOCK + ENTRY_WORDS * length w.writes) } →
     Decides w old.tail a mid new → StandsAt p old → Steps p command.Commit a old new
 committed p a old mid new w is at d s =
     let had : pending old.session ≡ length w.writes = ap pending is in
-    settles p command.Commit None w old.tail a old (record old { session = session.Idle; tail = old.tail + (5 + 17 * length w.writes) }) new
+    settles p command.Commit None w old.tail a old (record old { session = session.Idle; tail = old.tail + (LEAST_BLOCK + ENTRY_WORDS * length w.writes) }) new
     (ap (λ x. refusal_of (phase_in x) command.Commit) (sym is)) tt
     (ap (λ x. limit_at (phase_in x) old.named (touched_in p.current) command.Commit) (sym is)) refl
     (stands_in p old (session.Active w) is s) tt (omega arith) refl refl refl refl (ap work_in is) (omega arith) (omega (arith, had))
@@ -378,19 +379,12 @@ closed_sealed p a old mid new w stamp is at d s =
     decided p None (Some stamp) w stamp a (record old { session = session.Idle }) new (stands_in p old (session.Sealed w stamp) is s) refl drawn refl
     (subst (λ m. Decides w stamp a m new) at d)
 
--- the number of a key is one for which an object is left, or none is
-pub no_room_left : (named : List Key) (k : Key) (number : ℕ) → number ≡ number_of named k → 1008 ≤ number → oids_full named k ≡ true
-no_room_left named k number is full =
-    let full_of : (n : ℕ) → 1008 ≤ n → nat_le 1024 (16 + n) ≡ true = (λ n h. grind (arith, nat_tests)) in
-    subst (λ n. nat_le 1024 (16 + n) ≡ true) is (full_of number full)
-
-pub room_left : (named : List Key) (k : Key) (number : ℕ) → number ≡ number_of named k → number < 1008 → oids_full named k ≡ false
-room_left named k number is room =
-    let room_of : (n : ℕ) → n < 1008 → nat_le 1024 (16 + n) ≡ false = (λ n h. grind (arith, nat_tests)) in
-    subst (λ n. nat_le 1024 (16 + n) ≡ false) is (room_of number room)
+-- the test of a key's number is that of the key
+pub objects_tested : (named : List Key) (k : Key) (number : ℕ) (out : Bool) → number ≡ number_of named k → out ≡ nat_le OID_LIMIT (TABLES + number) → oids_full named k ≡ out
+objects_tested named k number out is tested = ap (λ n. nat_le OID_LIMIT (TABLES + n)) (sym is) ∙ sym tested
 
 -- the state at the start, where nothing was told
-pub opened : (r : Runner) → r.values ≡ empty → r.marks ≡ empty → r.commits.items ≡ [] → r.session ≡ session.Idle → r.over ≡ 0 → r.tail ≡ 13 → StandsAt nothing r
+pub opened : (r : Runner) → r.values ≡ empty → r.marks ≡ empty → r.commits.items ≡ [] → r.session ≡ session.Idle → r.over ≡ 0 → r.tail ≡ FIRST_STAMP → StandsAt nothing r
 opened r values marks commits idle over tail = record {
   stands = subst (λ x. Stands nothing r.values (place_in x r.tail) r.over r.commits.items (seal_in x) (work_in x) r.marks) (sym idle)
       (subst (λ m. Stands nothing r.values r.tail r.over r.commits.items None None m) (sym marks) (record {

@@ -19,7 +19,9 @@ use Rattle.erm_script.specs.Script.{AreNumbered, name_of}
 use Rattle.erm_promise.specs.Transactions.{Said, said_of, Transaction, Progress, progress_of, transactions_of, history_of, phase_of, heard}
 use Rattle.erm_promise.specs.Causes.{HasCommitCause}
 use Rattle.erm_promise.specs.GoodReport.{Closed, Report, report_lines, answer_lines, close_line, commit_line, transactions, history, Closes, is_idle, ClosesAgree, StampsAgree, OrderAgrees, IsGoodReport}
+use Rattle.erm_run.specs.declared.runner.TheConstants.{FIRST_STAMP}
 use Rattle.erm_run.specs.declared.runner.Runner.{Runner}
+use Rattle.erm_run.specs.declared.whole.TheConstants.{FIRST_RUN, OPENING}
 use Rattle.erm_run.specs.declared.runner.Session.TheVariants as session
 use Rattle.erm_run.specs.Runner.{numbers_of, AreCurrent, Stands, StandsAt, phase_in, place_in, seal_in, work_in}
 use Rattle.erm_run.specs.Whole.{IsTold, numbers_line}
@@ -136,7 +138,7 @@ report_of script answers closed pairs = record {
 pub good_report : (names : List (List ℕ)) (script : List ScriptLine) (answers : List Answer) (closed : Option Answer) (pairs : List Pair) (old new : Runner) →
     AreNumbered 0 script (length names) → length names ≤ 1 → IsTold script answers old →
     WasClosed closed old new → new.session ≡ session.Idle → AscendByKey pairs → from_entries (entries_of pairs) ≡ new.values →
-    IsGoodReport empty 8 1 names script (report_lines 8 1 names script (report_of script answers closed pairs))
+    IsGoodReport empty OPENING FIRST_RUN names script (report_lines OPENING FIRST_RUN names script (report_of script answers closed pairs))
 good_report names script answers closed pairs old new numbered few told h idle ascends all =
     let said = said_of script answers in
     let report = report_of script answers closed pairs in
@@ -154,7 +156,7 @@ good_report names script answers closed pairs old new numbered few told h idle a
       lines_ok = refl;
       phases = told.phases;
       closes = closes_agree (length names) said closed old new few idle_first told.phase h;
-      stamps = subst (λ ts. StampsAgree 13 ts answers) (sym whole) (record {
+      stamps = subst (λ ts. StampsAgree FIRST_STAMP ts answers) (sym whole) (record {
         differ = stamps_differ (history_of p.over) s.history.ascends;
         least = λ c m. let e = s.history.each c m in (e.first, e.begin);
         sealed = λ t m. (s.each t m).sealed;
@@ -188,18 +190,18 @@ commit_lines names (c ∷ commits) first =
 -- the lines pushed are those of the report
 pub lines_told : (names : List (List ℕ)) (script : List ScriptLine) (answers : List Answer) (closed : Option Answer) (pairs : List Pair) (old new : Runner)
     (opened answered finished ordered mapped whole : List Line) → IsTold script answers old →
-    WasClosed closed old new → opened ≡ line.Open 8 1 ∷ [] → answered ≡ opened ++ answer_lines script answers →
+    WasClosed closed old new → opened ≡ line.Open OPENING FIRST_RUN ∷ [] → answered ≡ opened ++ answer_lines script answers →
     MatchOption closed (finished ≡ answered) (λ a. finished ≡ answered ++ line.Close (name_of names 1) a ∷ []) →
     ordered ≡ finished ++ line.Order (length new.commits.items) ∷ map (numbers_line names) new.commits.items →
     mapped ≡ ordered ++ line.Map (length pairs) ∷ map line.Pair pairs → whole ≡ mapped ++ line.End ∷ [] →
-    whole ≡ report_lines 8 1 names script (report_of script answers closed pairs)
+    whole ≡ report_lines OPENING FIRST_RUN names script (report_of script answers closed pairs)
 lines_told names script answers closed pairs old new opened answered finished ordered mapped whole told h open_is answered_is closed_is ordered_is mapped_is whole_is =
     let s = (stands_closed (said_of script answers) closed old new told.stands h).stands in
     let order = (report_of script answers closed pairs).order in
     let count : length new.commits.items ≡ length order = ap length s.numbers ∙ length-map order numbers_of in
     let commits : map (numbers_line names) new.commits.items ≡ map (commit_line names) order =
     ap (λ ns. map (numbers_line names) ns) s.numbers ∙ commit_lines names order (λ c m. (s.history.each c m).session) in
-    let start : answered ≡ line.Open 8 1 ∷ answer_lines script answers = answered_is ∙ ap (λ ls. ls ++ answer_lines script answers) open_is in
+    let start : answered ≡ line.Open OPENING FIRST_RUN ∷ answer_lines script answers = answered_is ∙ ap (λ ls. ls ++ answer_lines script answers) open_is in
     whole_is
     ∙ ap (λ ls. ls ++ line.End ∷ []) (mapped_is
     ∙ ap (λ ls. ls ++ line.Map (length pairs) ∷ map line.Pair pairs) (ordered_is

@@ -26,6 +26,7 @@ use Rattle.erm_script.specs.declared.script.Command.TheVariants as command
 use Rattle.erm_promise.specs.Causes.{NamesTable, HasWindow, HasCauseOf, HasCommitCause}
 use Rattle.erm_promise.specs.Footprint.{Footprint, footprint, touched, untouched, has_key, with_key, reading, writing}
 use Rattle.erm_promise.specs.Transactions.{Ending, Unfinished, Commits, Aborts, TableLine, Transaction, Progress, begun, ended, with_ending, with_line, with_seal, replied, table_of, committed_of, history_of}
+use Rattle.erm_run.specs.declared.runner.TheConstants.{FIRST_STAMP}
 use Rattle.erm_run.specs.declared.runner.Work.{Work}
 use Rattle.erm_run.specs.declared.runner.Numbers.{Numbers}
 use Rattle.erm_run.specs.Changes.{seen}
@@ -364,7 +365,7 @@ committed_over over t stamp pred = filter_map-append committed_of over (with_end
 
 -- the history after one more commit
 history_more : (commits : List Committed) (values after_values : Database) (place next pred : ℕ) (t : Transaction) →
-    t.session ≡ 1 → t.begin ≡ place → 13 ≤ place → place < next → RunsOne values t.steps → after_values ≡ after_all (ops_of t.steps) values →
+    t.session ≡ 1 → t.begin ≡ place → FIRST_STAMP ≤ place → place < next → RunsOne values t.steps → after_values ≡ after_all (ops_of t.steps) values →
     IsHistory commits values place → IsHistory (commits ++ committed_as place pred t ∷ []) after_values next
 history_more commits values after_values place next pred t one begin first more run is h =
     let new : Committed = committed_as place pred t in
@@ -381,7 +382,7 @@ history_more commits values after_values place next pred t one begin first more 
     }
 
 -- the window of a commit with its own stamp as successor stamp
-own_window : (over : List Transaction) (t x : Transaction) (place pred : ℕ) → 13 ≤ place → x.lines ≡ t.lines →
+own_window : (over : List Transaction) (t x : Transaction) (place pred : ℕ) → FIRST_STAMP ≤ place → x.lines ≡ t.lines →
     (pred ≡ 0) ⊎ ((table : ℕ) × CommittedIn over place table pred × NamesTable t table) → HasWindow (over ++ x ∷ []) x place place pred
 own_window over t x place pred first lines told = record {
   opens = elim told [ inl none ↦ omega (arith, none) | inr c ↦ omega (arith, c.1.below) ];

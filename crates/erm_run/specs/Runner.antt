@@ -3,6 +3,7 @@ use Rattle.std.specs.Prelude.{◌≡◌, ℕ, ◌⊎◌, ◌+◌, ◌*◌, ◌<�
 use Rattle.std.specs.List.{AllPairs}
 use Rattle.std.specs.FinMap as finite
 use Rattle.erm_model.specs.declared.key.Key.{Key}
+use Rattle.erm_model.specs.declared.limits.TheConstants.{LEAST_BLOCK}
 use Rattle.erm_model.specs.declared.outcome.Phase.{Phase}
 use Rattle.erm_model.specs.declared.outcome.Phase.TheVariants as phase
 use Rattle.erm_model.specs.Database.{Database, value_at}
@@ -19,7 +20,7 @@ use Rattle.erm_promise.specs.Transactions.{Transaction, Commits, Progress, heard
 use Rattle.erm_promise.specs.GoodReport.{FitsPhase, KeepsItsStamp, begin_stamp, commit_stamp}
 use Rattle.erm_run.specs.Changes.{seen}
 use Rattle.erm_run.specs.Marks.{Marked, mark_of, marked, predecessor}
-use Rattle.erm_run.specs.declared.runner.TheConstants.{ENTRY_WORDS, FIRST_STAMP, FRAME_WORDS}
+use Rattle.erm_run.specs.declared.runner.TheConstants.{ENTRY_WORDS, FIRST_STAMP}
 use Rattle.erm_run.specs.declared.runner.Numbers.{Numbers}
 use Rattle.erm_run.specs.declared.runner.Runner.{Runner}
 use Rattle.erm_run.specs.declared.runner.Session.{Session}
@@ -178,7 +179,7 @@ pub record Steps (p : Progress) (command : Command) (answer : Answer) (old new :
   pub begin : IfSome (begin_stamp answer) (λ stamp. stamp ≡ old.tail)
   pub commit : IfSome (commit_stamp answer) (λ stamp. stamp < new.tail)
   pub pred : IfSome (pred_stamp answer) (λ pred. predecessor_in old ≡ Some pred)
-  pub room : new.tail + ENTRY_WORDS * pending new.session ≤ old.tail + ENTRY_WORDS * pending old.session + (FRAME_WORDS + ENTRY_WORDS)
+  pub room : new.tail + ENTRY_WORDS * pending new.session ≤ old.tail + ENTRY_WORDS * pending old.session + (LEAST_BLOCK + ENTRY_WORDS)
   pub number : new.over ≤ old.over + 1
 
 -- the refusal that a session gives where its transaction is not active

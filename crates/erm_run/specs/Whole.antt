@@ -2,6 +2,7 @@
 use Rattle.std.specs.Prelude.{◌≡◌, ℕ, ◌+◌, ◌*◌, ◌<◌, ◌≤◌, List, ◌∷◌, ◌++◌, map, length, IfSome}
 use Rattle.std.specs.List.{AllPairs}
 use Rattle.std.specs.FinMap.{from_entries}
+use Rattle.erm_model.specs.declared.limits.TheConstants.{LEAST_BLOCK}
 use Rattle.erm_model.specs.declared.map.Pair.{Pair}
 use Rattle.erm_model.specs.Database.{Database, AscendByKey, entries_of}
 use Rattle.erm_model.specs.Member.{◌∈◌}
@@ -14,7 +15,7 @@ use Rattle.erm_promise.specs.Transactions.{said_of, progress_of, phase_of}
 use Rattle.erm_promise.specs.Causes.{HasRefusalCauses}
 use Rattle.erm_promise.specs.GoodReport.{PhasesAgree, commit_stamp, begin_stamp, answer_lines}
 use Rattle.erm_promise.specs.Refusals.{keys_named}
-use Rattle.erm_run.specs.declared.runner.TheConstants.{ENTRY_WORDS, FIRST_STAMP, FRAME_WORDS}
+use Rattle.erm_run.specs.declared.runner.TheConstants.{ENTRY_WORDS, FIRST_STAMP}
 use Rattle.erm_run.specs.declared.runner.Numbers.{Numbers}
 use Rattle.erm_run.specs.declared.runner.Runner.{Runner}
 use Rattle.erm_run.specs.Runner.{StandsAt, phase_in, pending}
@@ -28,7 +29,7 @@ pub record IsTold (script : List ScriptLine) (answers : List Answer) (r : Runner
   pub phase : phase_of 1 (said_of script answers) ≡ phase_in r.session
   pub named : r.named ≡ keys_named script
   pub below : (a : Answer) → a ∈ answers → IfSome (commit_stamp a) (λ stamp. stamp < r.tail)
-  pub room : r.tail + ENTRY_WORDS * pending r.session ≤ FIRST_STAMP + (FRAME_WORDS + ENTRY_WORDS) * length script
+  pub room : r.tail + ENTRY_WORDS * pending r.session ≤ FIRST_STAMP + (LEAST_BLOCK + ENTRY_WORDS) * length script
   pub number : r.over ≤ length script
 
 -- each line of the script was answered, and the report has a line for it

@@ -11,7 +11,7 @@ use std::collections::BTreeMap;
 use std::marker::Model;
 
 /// The stamps of a version. Both are 0 for the opening's.
-#[derive(Clone, Copy, Debug)]
+#[derive(Clone, Copy)]
 pub struct Mark {
     /// The commit stamp of the transaction that made it.
     pub creator: Stamp,

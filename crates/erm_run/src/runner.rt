@@ -1,5 +1,5 @@
 //! The state between two lines of a script of one session.
-ghost use Rattle.std.specs.Prelude.{◌≡◌, ℕ, ◌+◌, ◌*◌, ◌^◌, ◌<◌, ◌&&◌, not, [], IfOk, OnOk, length, MatchOption};
+ghost use Rattle.std.specs.Prelude.{◌≡◌, ℕ, ◌+◌, ◌*◌, ◌^◌, ◌<◌, ◌&&◌, nat_le, not, [], IfOk, OnOk, length, MatchOption};
 ghost use Rattle.std.specs.FinMap.{insert};
 ghost use Rattle.erm_promise.specs.Footprint.{has_key, reading, writing};
 ghost use Rattle.erm_promise.specs.GoodReport.{Closes, is_idle};
@@ -13,23 +13,31 @@ ghost use Rattle.erm_run.specs.declared.runner.Session.TheVariants as session;
 use crate::changes::Changes;
 use crate::keys::KeySet;
 use crate::marks::Marks;
-use erm_model::{Key, Map, OID_LIMIT, READ_LIMIT, Reply, Stamp, TABLES, Value, WRITE_LIMIT};
+use crate::whole::OPENING;
+use erm_model::{
+    Key, LEAST_BLOCK, Map, OID_LIMIT, READ_LIMIT, ROW_WORDS, Reply, Stamp, TABLES, Value,
+    WRITE_LIMIT,
+};
 use erm_report::Answer;
 use erm_script::Command;
 use std::alloc::{AllocError, Global};
 use std::mem;
 
 /// The first stamp after the block of the opening.
-pub const FIRST_STAMP: Stamp = 13;
-
-/// The words of a block beside its rows.
-pub const FRAME_WORDS: u64 = 5;
+pub const FIRST_STAMP: Stamp = OPENING + LEAST_BLOCK;
 
 /// The words of a row in a block, with its object's number.
-pub const ENTRY_WORDS: u64 = 17;
+pub const ENTRY_WORDS: u64 = 1 + ROW_WORDS as u64;
 
 /// How many keys get an object: the others are the roots of the tables.
 const KEY_LIMIT: usize = OID_LIMIT as usize - TABLES as usize;
+
+// Whether no object is left for the key with this number.
+fn is_out_of_objects(number: usize) -> bool
+    ensures { result ≡ nat_le OID_LIMIT (TABLES + number) }
+{
+    number >= KEY_LIMIT
+}
 
 /// What a transaction has done.
 #[derive(Drop)]
@@ -100,7 +108,7 @@ impl Session {
 }
 
 /// The numbers of a commit.
-#[derive(Clone, Copy, Debug, PartialEq, Eq)]
+#[derive(Clone, Copy)]
 pub struct Numbers {
     pub number: u32,
     pub stamp: Stamp,
@@ -147,7 +155,7 @@ impl Runner {
 
     /// Answers a line. After an `Err` the runner is of no more use.
     pub fn answer(&mut self, alloc: Global, command: &Command) -> Result<Answer, AllocError>
-        requires room { self.old.tail + ENTRY_WORDS * pending self.old.session + (FRAME_WORDS + ENTRY_WORDS) < 2 ^ 64 }
+        requires room { self.old.tail + ENTRY_WORDS * pending self.old.session + (LEAST_BLOCK + ENTRY_WORDS) < 2 ^ 64 }
         requires number { self.old.over + 1 < 2 ^ 32 }
         ensures { IfOk result (λ a. (p : Progress) → StandsAt p self.old → Steps p command.now a self.old self.new) }
     {
@@ -224,7 +232,7 @@ impl Runner {
             Ok(work) => work,
             Err(refusal) => return Ok(refusal),
         };
-        let answer = if number >= KEY_LIMIT {
+        let answer = if is_out_of_objects(number) {
             Answer::OidsFull { drawn: OID_LIMIT }
         } else if work.is_write_full(&key) {
             Answer::WritesFull
@@ -256,7 +264,7 @@ impl Runner {
     }
 
     fn seal(&mut self) -> Answer
-        requires room { self.old.tail + ENTRY_WORDS * pending self.old.session + (FRAME_WORDS + ENTRY_WORDS) < 2 ^ 64 }
+        requires room { self.old.tail + ENTRY_WORDS * pending self.old.session + (LEAST_BLOCK + ENTRY_WORDS) < 2 ^ 64 }
         ensures { (p : Progress) → StandsAt p self.old → Steps p command.Seal result self.old self.new }
     {
         let work = match self.take_active() {
@@ -282,7 +290,7 @@ impl Runner {
     }
 
     fn commit(&mut self) -> Result<Answer, AllocError>
-        requires room { self.old.tail + ENTRY_WORDS * pending self.old.session + (FRAME_WORDS + ENTRY_WORDS) < 2 ^ 64 }
+        requires room { self.old.tail + ENTRY_WORDS * pending self.old.session + (LEAST_BLOCK + ENTRY_WORDS) < 2 ^ 64 }
         requires number { self.old.over + 1 < 2 ^ 32 }
         ensures { IfOk result (λ a. (p : Progress) → StandsAt p self.old → Steps p command.Commit a self.old self.new) }
     {
@@ -323,12 +331,12 @@ impl Runner {
 
     // Draws the place of a transaction's block in the log: its commit stamp.
     fn draw(&mut self, work: &Work) -> Stamp
-        requires { self.old.tail + ENTRY_WORDS * length work.now.writes + FRAME_WORDS < 2 ^ 64 }
+        requires { self.old.tail + ENTRY_WORDS * length work.now.writes + LEAST_BLOCK < 2 ^ 64 }
         ensures stamp { result ≡ self.old.tail }
-        ensures drawn { self.new ≡ record self.old { tail = self.old.tail + (FRAME_WORDS + ENTRY_WORDS * length work.now.writes) } }
+        ensures drawn { self.new ≡ record self.old { tail = self.old.tail + (LEAST_BLOCK + ENTRY_WORDS * length work.now.writes) } }
     {
         let stamp = self.tail;
-        self.tail += FRAME_WORDS + ENTRY_WORDS * work.writes.len() as u64;
+        self.tail += LEAST_BLOCK + ENTRY_WORDS * work.writes.len() as u64;
         stamp
     }
 

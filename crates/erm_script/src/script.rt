@@ -1,8 +1,8 @@
 //! The lines of a script.
-use erm_model::{Seat, Value};
+use erm_model::{Seat, TABLES, Value};
 
 /// The last table. The first is 0.
-pub const LAST_TABLE: u8 = 15;
+pub const LAST_TABLE: u8 = TABLES - 1;
 
 /// How many sessions a script has at most.
 pub const SESSIONS: usize = 1;

@@ -1,6 +1,4 @@
 //! One script, and lines that are only sometimes in their place.
-ghost use Rattle.std.specs.Prelude.{◌<◌, ◌-◌, ◌^◌, length};
-
 use crate::{Command, FaultKind, ParseError, Script, ScriptFault, ScriptLine, parse};
 use erm_model::Value;
 use std::alloc::Global;
@@ -8,11 +6,21 @@ use std::test::Fail;
 
 const SCRIPT: &[u8] = b"# two lines\na begin\n\na put 15 18446744073709551615 00ff";
 
-// the kind of fault that a line has, as the only one of a script
-fn fault(alloc: Global, line: &[u8], threads: bool) -> Option<FaultKind>
-    requires { length line.now < 2 ^ 32 - 1 }
-{
-    match parse(alloc, line, threads) {
+// Lines, whether they are for threads, and the kind of fault of each.
+const LINES: [(&[u8], bool, Option<FaultKind>); 8] = [
+    (b"flush", true, Some(FaultKind::Threads)),
+    (b"flush", false, Some(FaultKind::Command)),
+    (b"checkpoint", true, Some(FaultKind::Threads)),
+    (b"checkpoint", false, Some(FaultKind::Command)),
+    (b"a flush", true, Some(FaultKind::Command)),
+    (b"a flush", false, Some(FaultKind::Command)),
+    (b"a get 0 1", true, None),
+    (b"a get 0 1", false, None),
+];
+
+// The kind of fault that a line of at most 20 bytes has, as the only one of a script.
+fn fault(alloc: Global, line: &[u8], threads: bool) -> Option<FaultKind> {
+    match parse(alloc, &line[..line.len().min(20)], threads) {
         Err(ParseError::Fault(fault)) => Some(fault.kind),
         _ => None,
     }
@@ -44,19 +52,8 @@ fn one_script(rt: HostRuntime) -> Result<(), Fail> {
 }
 
 #[test]
-fn lines_without_a_session(rt: HostRuntime) -> Result<(), Fail> {
-    for line in [b"flush".as_slice(), b"checkpoint".as_slice()] {
-        assert!(rt; fault(rt.alloc(), line, true) == Some(FaultKind::Threads));
-        assert!(rt; fault(rt.alloc(), line, false) == Some(FaultKind::Command));
+fn lines_with_and_without_a_fault(rt: HostRuntime) {
+    for (line, threads, want) in LINES {
+        assert!(rt; fault(rt.alloc(), line, threads) == want);
     }
-    Ok(())
-}
-
-#[test]
-fn the_same_line_in_both_commands(rt: HostRuntime) -> Result<(), Fail> {
-    for threads in [false, true] {
-        assert!(rt; fault(rt.alloc(), b"a flush", threads) == Some(FaultKind::Command));
-        assert!(rt; fault(rt.alloc(), b"a get 0 1", threads).is_none());
-    }
-    Ok(())
 }

@@ -1,21 +1,20 @@
 //! Steps of a claim and of a cut, of the counters, and of a write into an own cell.
-ghost use Rattle.std.specs.Prelude.{◌++◌, ◌≡◌, ◌+◌, ◌<◌, ◌≤◌, if◌then◌else◌, false, true, Some, None, length, vec_len, vec_capacity};
+ghost use Rattle.std.specs.Prelude.{ℕ, ◌++◌, ◌≡◌, ◌+◌, ◌<◌, ◌≤◌, if◌then◌else◌, false, true, Some, None, length, vec_len, vec_capacity};
 ghost use Rattle.erm_machine.specs.Reading as reading_specs;
 ghost use Rattle.erm_kept.specs.Objects.{object_of};
 ghost use Rattle.erm_kept.specs.Tasks.{IsFresh};
 ghost use Rattle.erm_machine.specs.declared.limits.TheConstants.{WRITE_LIMIT};
 ghost use Rattle.erm_seat.specs.Parts.{part_of};
 ghost use Rattle.erm_seat.specs.Rooms.{HasClaimRoom, HasSpareRoom};
-ghost use Rattle.erm_machine.specs.declared.task.Task.TheVariants.{Copies, Writes, Registered};
+ghost use Rattle.erm_machine.specs.declared.task.Task.TheVariants.{Copies, Numbers, Pool, Registered, Writes};
+ghost use Rattle.erm_machine.specs.declared.event.Counter.TheVariants.{Objects, Cells};
 ghost use Rattle.erm_machine.specs.declared.version.CellWord.TheVariants.{Overwriter};
 
 use crate::SeatState;
 use crate::reading::{entered, older};
 use erm_kept::words::{blank_cell, is_active, is_session, may_start, same_version};
 use erm_kept::{ObjectState, is_own};
-use erm_machine::{
-    CELL_LIMIT, CellWord, Claim, Counter, OBJECT_LIMIT, OwnCell, Task, VersionAt, WRITE_LIMIT,
-};
+use erm_machine::{CellWord, Claim, Counter, OBJECT_LIMIT, OwnCell, Task, VersionAt, WRITE_LIMIT};
 use erm_model::{Oid, ROW_WORDS, Seat, Stamp};
 
 // The cells of the versions that a cut at a place takes off the chain become spare ones.
@@ -151,8 +150,9 @@ impl SeatState {
         true
     }
 
-    pub(crate) fn load_counter(&mut self, counter: Counter, found: u64) -> bool
-        ensures turn { reading_specs.load_counter counter found (part_of self.old) self.old.task ≡ (if result then Some (part_of self.new) else None) }
+    /// Loads a counter, where there are so many cells.
+    pub(crate) fn load_counter(&mut self, cells: u32, counter: Counter, found: u64) -> bool
+        ensures turn { reading_specs.load_counter cells counter found (part_of self.old) self.old.task ≡ (if result then Some (part_of self.new) else None) }
         ensures kept { result ≡ false → part_of self.new ≡ part_of self.old }
     {
         if !is_active(self.place) {
@@ -177,7 +177,7 @@ impl SeatState {
                 if !self.spare.is_empty() {
                     return false;
                 }
-                self.task = if found < CELL_LIMIT as u64 {
+                self.task = if found < cells as u64 {
                     Task::Pool
                 } else {
                     Task::Refused
@@ -187,39 +187,62 @@ impl SeatState {
         }
     }
 
-    pub(crate) fn add_counter(&mut self, seat: Seat, counter: Counter, found: u64) -> bool
+    /// Raises a counter, where there are so many cells.
+    pub(crate) fn add_counter(
+        &mut self,
+        cells: u32,
+        seat: Seat,
+        counter: Counter,
+        found: u64,
+    ) -> bool
         requires room { vec_len self.old.current.made < vec_capacity self.old.current.made }
-        ensures turn { reading_specs.add_counter seat counter found (part_of self.old) self.old.task ≡ (if result then Some (part_of self.new) else None) }
+        ensures turn { reading_specs.add_counter cells seat counter found (part_of self.old) self.old.task ≡ (if result then Some (part_of self.new) else None) }
+        ensures kept { result ≡ false → part_of self.new ≡ part_of self.old }
+    {
+        match (counter, self.task) {
+            (Counter::Objects, Task::Numbers) => self.add_object(seat, found),
+            (Counter::Cells, Task::Pool) => self.add_cell(cells, found),
+            _ => false,
+        }
+    }
+
+    // Raises the counter of objects.
+    fn add_object(&mut self, seat: Seat, found: u64) -> bool
+        requires fresh { IsFresh self.old.task }
+        requires room { vec_len self.old.current.made < vec_capacity self.old.current.made }
+        ensures turn { (cells : ℕ) → reading_specs.add_counter cells seat Objects found (part_of self.old) Numbers ≡ (if result then Some (part_of self.new) else None) }
+        ensures kept { result ≡ false → part_of self.new ≡ part_of self.old }
+    {
+        if !is_active(self.place) || !is_session(seat) {
+            return false;
+        }
+        self.task = Task::Rest;
+        if found >= OBJECT_LIMIT as u64 {
+            return true;
+        }
+        self.current.made.push_reserved(found as u32);
+        true
+    }
+
+    // Raises the counter of cells.
+    fn add_cell(&mut self, cells: u32, found: u64) -> bool
+        requires fresh { IsFresh self.old.task }
+        ensures turn { (seat : ℕ) → reading_specs.add_counter cells seat Cells found (part_of self.old) Pool ≡ (if result then Some (part_of self.new) else None) }
         ensures kept { result ≡ false → part_of self.new ≡ part_of self.old }
     {
         if !is_active(self.place) {
             return false;
         }
-        match (counter, self.task) {
-            (Counter::Objects, Task::Numbers) => {
-                if !is_session(seat) {
-                    return false;
-                }
-                self.task = Task::Rest;
-                if found < OBJECT_LIMIT as u64 {
-                    self.current.made.push_reserved(found as u32);
-                }
-                true
-            }
-            (Counter::Cells, Task::Pool) => {
-                if found < CELL_LIMIT as u64 {
-                    self.task = Task::Fetched;
-                    self.current.set_cell(OwnCell {
-                        cell: found as u32,
-                        words: blank_cell(),
-                    });
-                } else {
-                    self.task = Task::Refused;
-                }
-                true
-            }
-            _ => false,
+        if found >= cells as u64 {
+            self.task = Task::Refused;
+            return true;
         }
+        self.task = Task::Fetched;
+        self.current.set_cell(OwnCell {
+            cell: found as u32,
+            words: blank_cell(),
+        });
+        true
     }
 
     // The last spare cell goes to the newest claim.

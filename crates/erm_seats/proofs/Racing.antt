@@ -4,7 +4,7 @@ use Rattle.std.specs.Prelude.{if◌then◌else◌, Option, Result, Ok, Err, IfEr
 use Rattle.std.specs.Result.{result_ok}
 use Rattle.std.proofs.lemmas.Option.{same_Some}
 use Rattle.erm_machine.specs.declared.attempt.Attempt.{Attempt}
-use Rattle.erm_machine.specs.declared.limits.TheConstants.{SESSIONS}
+use Rattle.erm_machine.specs.declared.limits.TheConstants.{FLUSH_SEAT, SESSIONS}
 use Rattle.erm_machine.specs.declared.part.Part.{Part}
 use Rattle.erm_machine.specs.declared.place.Place.TheVariants.{Vacant, Idle}
 use Rattle.erm_machine.specs.Core.{Core, fresh_part}
@@ -247,7 +247,7 @@ pub some_says : {X : Type 0} (P : X → Type 0) (o : Option X) (x : X) → o ≡
 some_says P o x e h = subst (λ r. IfSome r P) e h
 
 -- the flush seat is idle in the pass that is left
-pub flush_idle : (o : Opening) → (part_of (rest_view o 2) 17).place ≡ Idle
+pub flush_idle : (o : Opening) → (part_of (rest_view o 2) FLUSH_SEAT).place ≡ Idle
 unfolding rest_view first_view
 flush_idle o = refl
 

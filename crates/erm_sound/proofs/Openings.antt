@@ -11,7 +11,7 @@ use Rattle.erm_machine.specs.declared.attempt.Attempt.{Attempt}
 use Rattle.erm_machine.specs.declared.attempt.Claim.{Claim}
 use Rattle.erm_machine.specs.declared.attempt.Decision.TheVariants.{Commit, Undecided}
 use Rattle.erm_machine.specs.declared.attempt.Read.{Read}
-use Rattle.erm_machine.specs.declared.limits.TheConstants.{ANNOUNCERS, OBJECT_LIMIT, STOP, SESSIONS}
+use Rattle.erm_machine.specs.declared.limits.TheConstants.{ANNOUNCERS, MOST_CELLS, OBJECT_LIMIT, STOP, SESSIONS}
 use Rattle.erm_machine.specs.declared.part.Part.{Part}
 use Rattle.erm_machine.specs.declared.task.Task.TheVariants.{Rest}
 use Rattle.erm_machine.specs.declared.place.Place.{Place}
@@ -80,29 +80,30 @@ zero_bit : (p : ℕ) → bit_at 0 p ≡ 1 → ⊥
 zero_bit p bit = grind arith
 
 -- the one version of an opened object
-opened_version : (P : Version → Type 0) (rows : Rows) (oid : ℕ) → oid < 1024 → P (version_at (opened_object rows oid) 0) → (place : ℕ)
-    → place < length (if ltb oid 1024 then opened_object rows oid else no_object).versions → P (version_at (if ltb oid 1024 then opened_object rows oid else no_object) place)
+opened_version : (P : Version → Type 0) (rows : Rows) (oid : ℕ) → oid < OBJECT_LIMIT → P (version_at (opened_object rows oid) 0) → (place : ℕ)
+    → place < length (if ltb oid OBJECT_LIMIT then opened_object rows oid else no_object).versions → P (version_at (if ltb oid OBJECT_LIMIT then opened_object rows oid else no_object) place)
 opened_version P rows oid known h place within =
     let in_one : place < 1 = subst (λ (o : Object). place < length o.versions) (opened_at rows oid known) within in
     let first : place ≡ 0 = omega (arith, in_one) in
     subst (λ (o : Object). P (version_at o place)) (sym (opened_at rows oid known)) (subst (λ n. P (version_at (opened_object rows oid) n)) (sym first) h)
 
-opened_least : (rows : Rows) (oid : ℕ) → oid < 1024 → (place : ℕ) → place < length (if ltb oid 1024 then opened_object rows oid else no_object).versions →
-    (version_at (if ltb oid 1024 then opened_object rows oid else no_object) place).words.stamp ≤ (version_at (if ltb oid 1024 then opened_object rows oid else no_object) place).words.reader_stamp
+opened_least : (rows : Rows) (oid : ℕ) → oid < OBJECT_LIMIT → (place : ℕ) → place < length (if ltb oid OBJECT_LIMIT then opened_object rows oid else no_object).versions →
+    (version_at (if ltb oid OBJECT_LIMIT then opened_object rows oid else no_object) place).words.stamp ≤ (version_at (if ltb oid OBJECT_LIMIT then opened_object rows oid else no_object) place).words.reader_stamp
 opened_least rows oid known = opened_version (λ v. v.words.stamp ≤ v.words.reader_stamp) rows oid known (omega arith)
 
-opened_attained : (rows : Rows) (oid : ℕ) → oid < 1024 → (place : ℕ) → place < length (if ltb oid 1024 then opened_object rows oid else no_object).versions →
-    (version_at (if ltb oid 1024 then opened_object rows oid else no_object) place).words.reader_stamp ≡ (version_at (if ltb oid 1024 then opened_object rows oid else no_object) place).words.stamp
+opened_attained : (rows : Rows) (oid : ℕ) → oid < OBJECT_LIMIT → (place : ℕ) → place < length (if ltb oid OBJECT_LIMIT then opened_object rows oid else no_object).versions →
+    (version_at (if ltb oid OBJECT_LIMIT then opened_object rows oid else no_object) place).words.reader_stamp ≡ (version_at (if ltb oid OBJECT_LIMIT then opened_object rows oid else no_object) place).words.stamp
 opened_attained rows oid known = opened_version (λ v. v.words.reader_stamp ≡ v.words.stamp) rows oid known refl
 
-opened_rowed : (rows : Rows) (oid : ℕ) → oid < 1024 → length (rows oid) ≡ 16 → (place : ℕ) → place < length (if ltb oid 1024 then opened_object rows oid else no_object).versions →
-    length (version_at (if ltb oid 1024 then opened_object rows oid else no_object) place).words.row ≡ 16
+opened_rowed : (rows : Rows) (oid : ℕ) → oid < OBJECT_LIMIT → length (rows oid) ≡ 16 → (place : ℕ) → place < length (if ltb oid OBJECT_LIMIT then opened_object rows oid else no_object).versions →
+    length (version_at (if ltb oid OBJECT_LIMIT then opened_object rows oid else no_object) place).words.row ≡ 16
 opened_rowed rows oid known size = opened_version (λ v. length v.words.row ≡ 16) rows oid known size
 
 with_none : (a b n : ℕ) → b ≡ 0 → a ≡ n → a + b ≡ n
 with_none a b n none same = omega (arith, none, same)
 
-module _ (sessions : ℕ) (rows : Rows) (tail run first : ℕ) (few : sessions ≤ SESSIONS) (positive : 0 < tail) (low : tail ≤ STOP + 4) (room : first ≤ OBJECT_LIMIT)
+module _ (sessions : ℕ) (rows : Rows) (tail run first cells : ℕ) (few : sessions ≤ SESSIONS) (positive : 0 < tail) (low : tail ≤ STOP + 4) (room : first ≤ OBJECT_LIMIT)
+    (enough : OBJECT_LIMIT ≤ cells) (most : cells ≤ MOST_CELLS)
     (sizes : (oid : ℕ) → oid < OBJECT_LIMIT → length (rows oid) ≡ 16) where
   own_claims : (p : ℕ) → OwnClaims (opening_state sessions rows tail run first cells).shared p ((opening_state sessions rows tail run first cells).seats p)
   own_claims p = record {
@@ -163,7 +164,7 @@ module _ (sessions : ℕ) (rows : Rows) (tail run first : ℕ) (few : sessions �
       one_high = let h = few_draw p (is_taken sessions p) in omega (arith, h);
       few = omega arith;
     };
-    clear = record { seen = omega arith; bounds = λ q. let z = zero_there 18 q in omega (arith, z); notes = length-replicate {A = ℕ} 18 0 };
+    clear = record { seen = omega arith; bounds = λ q. let z = zero_there ANNOUNCERS q in omega (arith, z); notes = length-replicate {A = ℕ} ANNOUNCERS 0 };
     begins = record {
       begins = idle_or (λ pl. BeginsAt pl 0 tail) (is_taken sessions p) tt tt;
       least = tt;
@@ -206,13 +207,14 @@ module _ (sessions : ℕ) (rows : Rows) (tail run first : ℕ) (few : sessions �
       below = omega arith;
     };
     counters = record {
+      limit = most;
       objects = let z = total_zeros (λ (x : Part). numbers x.task) ANNOUNCERS (opening_state sessions rows tail run first cells).seats (λ _. refl) in omega (arith, z, room);
-      cells = let z = total_zeros (λ (x : Part). pools x.task) ANNOUNCERS (opening_state sessions rows tail run first cells).seats (λ _. refl) in omega (arith, z);
+      cells = let z = total_zeros (λ (x : Part). pools x.task) ANNOUNCERS (opening_state sessions rows tail run first cells).seats (λ _. refl) in omega (arith, z, enough);
     };
     cells = record {
       once = λ cell.
           let z = total_zeros (own_times cell) ANNOUNCERS (opening_state sessions rows tail run first cells).seats (λ _. refl) in
-          let o = opened_once rows cell in
+          let o = opened_once rows cell cells enough in
           with_none (total (chain_times cell) OBJECT_LIMIT (opening_state sessions rows tail run first cells).shared.objects) (total (own_times cell) ANNOUNCERS (opening_state sessions rows tail run first cells).seats) _ z o;
     };
     chains = record { linked = λ oid known. subst Linked (sym (opened_at rows oid known)) (opened_linked rows oid) };

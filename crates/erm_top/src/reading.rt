@@ -13,7 +13,7 @@ pub const SCRIPT_BYTES: usize = 16_777_216;
 const CHUNK_BYTES: usize = 4096;
 
 /// Why a script was not read to its end.
-#[derive(Clone, Copy, Debug, PartialEq, Eq)]
+#[derive(Clone, Copy)]
 pub enum ReadError {
     /// Memory ran out.
     Memory,

@@ -5,8 +5,8 @@ use Rattle.erm_script.specs.declared.script.Command.TheVariants as command
 use Rattle.erm_run.specs.declared.runner.Runner.{Runner}
 use Rattle.erm_run.specs.declared.runner.Session.TheVariants as session
 use Rattle.erm_run.specs.Runner.{Steps}
-use Rattle.erm_run.proofs.Answering.{wrote, put_full, none_left, not_active, room_left, no_room_left}
-use Rattle.erm_run.proofs.runner.Runner.put.Goals.{then-number-ge-KEY_LIMIT, else-number-ge-KEY_LIMIT+then-is_write_full, else-number-ge-KEY_LIMIT+else-is_write_full+in_ok-write}
+use Rattle.erm_run.proofs.Answering.{wrote, put_full, none_left, not_active, objects_tested}
+use Rattle.erm_run.proofs.runner.Runner.put.Goals.{then-is_out_of_objects, else-is_out_of_objects+then-is_write_full, else-is_out_of_objects+else-is_write_full+in_ok-write}
 use Rattle.erm_run.proofs.runner.Runner.put.Goals as goal
 
 pub returns-in-Err : goal.returns-in-Err
@@ -18,24 +18,25 @@ pub returns : goal.returns
 returns c = λ p s.
     let taken = rw c.in-Ok.is at c.take_active.ensures in
     let k = at c.args.table c.args.key in
-    let after = ap (λ (r : Runner). record r { session = session.Active c.if-number-ge-KEY_LIMIT.work }) taken.1 in
-    elim c.if-number-ge-KEY_LIMIT.branch [
-      | then-number-ge-KEY_LIMIT w ↦
-          subst (λ a. Steps p (command.Put c.args.table c.args.key c.args.value.now) a c.args.self.now (record c.take_active.new.self { session = session.Active c.if-number-ge-KEY_LIMIT.work })) (sym w.answer-is)
+    let tested = objects_tested c.args.self.now.named k c.in_ok-number.number c.is_out_of_objects.result c.in_ok-number.ensures.number c.is_out_of_objects.ensures in
+    let after = ap (λ (r : Runner). record r { session = session.Active c.if-is_out_of_objects.work }) taken.1 in
+    elim c.if-is_out_of_objects.branch [
+      | then-is_out_of_objects w ↦
+          subst (λ a. Steps p (command.Put c.args.table c.args.key c.args.value.now) a c.args.self.now (record c.take_active.new.self { session = session.Active c.if-is_out_of_objects.work })) (sym w.answer-is)
           (none_left p c.args.self.now _ c.in-Ok.work c.insert.new.self c.args.table c.args.key c.args.value.now taken.0
           (after ∙ ap (λ x. record c.args.self.now { named = c.insert.new.self; session = session.Active x }) w.work-is)
-          c.in_ok-number.ensures.inserted (no_room_left c.args.self.now.named k c.in_ok-number.number c.in_ok-number.ensures.number w.if-number-ge-KEY_LIMIT.true) s)
-      | else-number-ge-KEY_LIMIT+then-is_write_full w ↦
-          subst (λ a. Steps p (command.Put c.args.table c.args.key c.args.value.now) a c.args.self.now (record c.take_active.new.self { session = session.Active c.if-number-ge-KEY_LIMIT.work })) (sym w.answer-is)
+          c.in_ok-number.ensures.inserted (tested ∙ w.if-is_out_of_objects.true) s)
+      | else-is_out_of_objects+then-is_write_full w ↦
+          subst (λ a. Steps p (command.Put c.args.table c.args.key c.args.value.now) a c.args.self.now (record c.take_active.new.self { session = session.Active c.if-is_out_of_objects.work })) (sym w.answer-is)
           (put_full p c.args.self.now _ c.in-Ok.work c.insert.new.self c.args.table c.args.key c.args.value.now taken.0
           (after ∙ ap (λ x. record c.args.self.now { named = c.insert.new.self; session = session.Active x }) w.work-is)
-          c.in_ok-number.ensures.inserted (room_left c.args.self.now.named k c.in_ok-number.number c.in_ok-number.ensures.number w.if-number-ge-KEY_LIMIT.false)
+          c.in_ok-number.ensures.inserted (tested ∙ w.if-is_out_of_objects.false)
           (sym w.is_write_full.ensures ∙ w.if-is_write_full.true) s)
-      | else-number-ge-KEY_LIMIT+else-is_write_full+in_ok-write w ↦
-          subst (λ a. Steps p (command.Put c.args.table c.args.key c.args.value.now) a c.args.self.now (record c.take_active.new.self { session = session.Active c.if-number-ge-KEY_LIMIT.work })) (sym w.answer-is)
+      | else-is_out_of_objects+else-is_write_full+in_ok-write w ↦
+          subst (λ a. Steps p (command.Put c.args.table c.args.key c.args.value.now) a c.args.self.now (record c.take_active.new.self { session = session.Active c.if-is_out_of_objects.work })) (sym w.answer-is)
           (wrote p c.args.self.now _ c.in-Ok.work _ c.insert.new.self c.args.table c.args.key c.args.value.now taken.0
           (after ∙ ap (λ x. record c.args.self.now { named = c.insert.new.self; session = session.Active x }) w.work-is)
-          c.in_ok-number.ensures.inserted (room_left c.args.self.now.named k c.in_ok-number.number c.in_ok-number.ensures.number w.if-number-ge-KEY_LIMIT.false)
+          c.in_ok-number.ensures.inserted (tested ∙ w.if-is_out_of_objects.false)
           (sym w.is_write_full.ensures ∙ w.if-is_write_full.false)
           (w.in_ok-write.ensures.changed ∙ ap (λ v. insert c.in-Ok.work.changes k (Some v)) w.copied.ensures) w.in_ok-write.ensures.touched s)
     ]

@@ -1,5 +1,0 @@
-use Rattle.erm_core_ssn.proofs.Scans.{IsGreatestSoFar}
-use Rattle.erm_core_ssn.proofs.slow.predecessor_stamp.Given as goal
-
-abbrev pub invariant-loop-u : goal.invariant-loop-u
-invariant-loop-u l = IsGreatestSoFar l.history l.t l.u-index l.greatest
