@@ -48,6 +48,10 @@ pub record Law : Type 1 where
   pub meets : Rows → Type 0
   pub reach : Rows → ℕ → ℕ
 
+-- the law that every array meets, and by which it reaches nothing
+abbrev pub any_law : Law
+any_law = record { meets = λ _. Unit {0}; reach = λ _ _. 0 }
+
 -- two laws say the same
 pub record SameLaw (a b : Law) : Type 0 where
   pub meets : (rows : Rows) → a.meets rows ↔ b.meets rows

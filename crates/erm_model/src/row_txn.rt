@@ -1,7 +1,7 @@
 //! A transaction over rows, and the law that its rows keep.
 ghost use Rattle.std.specs.Prelude.{◌<◌, IsOk, OnOk, IfOk, IfErr};
 ghost use Rattle.erm_model.specs.declared.row_stop.RowStop.{RowStop};
-ghost use Rattle.erm_model.specs.RowTransaction.{Asked, Event, did_read, did_claim, did_write, did_make, asked_read, asked_claim, asked_make, Law, Face, Does, IsRefused, StopsRead, StopsClaim, StopsMake};
+ghost use Rattle.erm_model.specs.RowTransaction.{any_law, Asked, Event, did_read, did_claim, did_write, did_make, asked_read, asked_claim, asked_make, Law, Face, Does, IsRefused, StopsRead, StopsClaim, StopsMake};
 
 use crate::{OID_LIMIT, Oid, Row, RowStop};
 
@@ -9,6 +9,13 @@ use crate::{OID_LIMIT, Oid, Row, RowStop};
 pub trait RowLaw {
     /// Which arrays of rows meet it, and how often such an array reaches an object.
     ghost law: { Law };
+}
+
+/// The law that every array of rows meets, and by which it reaches no object.
+pub struct AnyRows;
+
+impl RowLaw for AnyRows {
+    ghost law = { any_law };
 }
 
 /// A transaction that reads and writes rows. What it means to its caller is its face: the arrays of rows that it may
