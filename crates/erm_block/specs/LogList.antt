@@ -1,4 +1,4 @@
--- The log list: the longest chain of blocks from a place on. What makes rows sound is a parameter.
+-- The log list: the longest chain of blocks from a place on. Which rows are sound is a parameter: those that meet a law.
 use Rattle.std.specs.Prelude.{ℕ, ◌+◌, ◌≤◌, List, [], ◌∷◌, length, drop}
 use Rattle.erm_model.specs.Rows.{Rows, set_row}
 use Rattle.erm_block.specs.declared.block.Block.{Block}

@@ -1,12 +1,12 @@
 //! Laws of the grammar of blocks.
 ghost use Rattle.std.specs.Prelude.{◌≡◌, ◌≤◌, ℕ, ◌++◌, List, [], ◌∷◌, length};
-ghost use Rattle.erm_model.specs.Rows.{Rows};
 ghost use Rattle.erm_block.specs.declared.block.Block.{Block};
 ghost use Rattle.erm_block.specs.declared.block.TheConstants.{BLOCK_WORDS};
 ghost use Rattle.erm_block.specs.Block.{IsBlock};
 ghost use Rattle.erm_block.specs.Spelling.{spelling};
 ghost use Rattle.erm_block.specs.LogList.{Continues, End, IsChain, IsLogList, end_of};
 
+use erm_model::RowLaw;
 use erm_record::stored_words_tell_the_row;
 
 /// A block is spelled in as many words as its size says, and these are no more than a block has.
@@ -25,30 +25,24 @@ pub fn one_spelling()
     stored_words_tell_the_row();
 }
 
-/// What makes the rows of all objects sound.
-pub trait RowRule {
-    /// These rows are sound.
-    ghost sound: { Rows → Type 0 };
-}
-
 /// Words have one log list from a place with a run and rows on.
-pub fn one_log_list<R: RowRule>()
-    ensures { (end : End) (a b : List Block) → IsLogList R.sound end a → IsLogList R.sound end b → a ≡ b }
+pub fn one_log_list<R: RowLaw>()
+    ensures { (end : End) (a b : List Block) → IsLogList R.law.meets end a → IsLogList R.law.meets end b → a ≡ b }
 {
     stored_words_tell_the_row();
 }
 
 /// A block that goes on from the end of a chain makes it longer.
-pub fn chain_grows<R: RowRule>()
+pub fn chain_grows<R: RowLaw>()
     ensures { (end : End) (blocks : List Block) (block : Block)
-        → IsChain R.sound end blocks → Continues R.sound (end_of end blocks) block
-        → IsChain R.sound end (blocks ++ block ∷ []) }
+        → IsChain R.law.meets end blocks → Continues R.law.meets (end_of end blocks) block
+        → IsChain R.law.meets end (blocks ++ block ∷ []) }
 {}
 
 /// A chain from whose end no block goes on is the log list.
-pub fn chain_ends<R: RowRule>()
-    ensures { (end : End) (blocks : List Block) → IsChain R.sound end blocks
-        → ((block : Block) → Continues R.sound (end_of end blocks) block → ⊥) → IsLogList R.sound end blocks }
+pub fn chain_ends<R: RowLaw>()
+    ensures { (end : End) (blocks : List Block) → IsChain R.law.meets end blocks
+        → ((block : Block) → Continues R.law.meets (end_of end blocks) block → ⊥) → IsLogList R.law.meets end blocks }
 {
     stored_words_tell_the_row();
 }

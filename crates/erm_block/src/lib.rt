@@ -14,7 +14,7 @@ pub use block::{
 };
 pub use check::is_block;
 pub use encode::encode_into;
-pub use laws::{RowRule, chain_ends, chain_grows, one_log_list, one_spelling, spelling_size};
+pub use laws::{chain_ends, chain_grows, one_log_list, one_spelling, spelling_size};
 pub use read::read_block;
 
 #[cfg(test)]

@@ -1,7 +1,7 @@
 use super::*;
 use arrayvec::ArrayVec;
 use erm_bytes::digest_word;
-use erm_model::{Oid, Row};
+use erm_model::{AnyRows, Oid, Row};
 use std::process::Abort;
 use std::test::*;
 
@@ -330,12 +330,6 @@ fn greatest(rt: HostRuntime) -> Result<(), Fail> {
     assert_eq!(rt; words, want);
     assert_eq!(rt; read_block(&words, 65526, 3), Some(block));
     Ok(())
-}
-
-struct AnyRows;
-
-impl RowRule for AnyRows {
-    ghost sound = { λ _. Unit {0} };
 }
 
 #[test]

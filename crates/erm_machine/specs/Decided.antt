@@ -27,7 +27,7 @@ abbrev pub read_of : Read → VersionRead
 read_of r = record { oid = r.version.oid; stamp = r.stamp; row = r.row }
 
 abbrev pub written_of : Claim → VersionWritten
-written_of w = record { oid = w.version.oid; stamp = w.stamp; row = w.row; is_set = w.is_set }
+written_of w = record { oid = w.version.oid; stamp = w.stamp; base = w.base; row = w.row; is_set = w.is_set }
 
 abbrev pub record_of : ℕ → Attempt → TransactionRecord
 record_of seat t = record {

@@ -3,7 +3,7 @@ use Rattle.std.proofs.Common.{◌≡◌, ℕ, zero, suc, ◌+◌, ◌<◌, ◌�
 use Rattle.std.specs.Prelude.{◌⊎◌}
 use Rattle.std.proofs.lemmas.Bool.Decides.{nat_tests}
 use Rattle.erm_model.specs.Rows.{Rows}
-use Rattle.erm_model.specs.RowTransaction.{Event, did_read, did_claim, did_write, did_make, after, after_all, made_by, made_by_all, ClaimedBy, Law, Tells, TellsAll, Agrees, Face, Steps, SameView, Runs, IsLawful, OnlyReads, WritesNothing, Saw, Did}
+use Rattle.erm_model.specs.RowTransaction.{Event, did_read, did_claim, did_write, did_make, after, after_all, made_by, made_by_all, ClaimedBy, ReadBy, Law, Tells, TellsAll, Agrees, Face, Steps, SameView, Runs, IsLawful, OnlyReads, WritesNothing, Saw, Did}
 
 zero_or_more : (n : ℕ) → (n ≡ 0) ⊎ (0 < n)
 zero_or_more zero = inl refl
@@ -91,6 +91,7 @@ module _ {S : Type 0} (face : Face S) where
     seen = λ begun fits. refl;
     made = λ x. refl;
     claims = λ x. (λ claims. claims, λ claims. claims);
+    reads = λ x. (λ reads. reads, λ reads. reads);
   }
 
   -- and nothing more
@@ -100,7 +101,21 @@ module _ {S : Type 0} (face : Face S) where
     seen = λ begun fits. b.seen begun fits ∙ a.seen begun (b.fitted begun fits);
     made = λ x. b.made x ∙ a.made x;
     claims = λ x. (λ claims. (a.claims x).0 ((b.claims x).0 claims), λ claims. (b.claims x).1 ((a.claims x).1 claims));
+    reads = λ x. (λ reads. (a.reads x).0 ((b.reads x).0 reads), λ reads. (b.reads x).1 ((a.reads x).1 reads));
   }
+
+  -- what an event reads anew is the same where the same is claimed
+  ReadBy-same : (s t : S) (e : Event) (x : ℕ) → SameView face s t → ReadBy face t e x → ReadBy face s e x
+  ReadBy-same s t (did_read oid row) x a read = (read.0, λ claims. read.1 ((a.claims oid).1 claims))
+  ReadBy-same s t (did_claim oid) x a read = read
+  ReadBy-same s t (did_write oid row) x a read = read
+  ReadBy-same s t (did_make oid) x a read = read
+
+  ReadBy-back : (s t : S) (e : Event) (x : ℕ) → SameView face s t → ReadBy face s e x → ReadBy face t e x
+  ReadBy-back s t (did_read oid row) x a read = (read.0, λ claims. read.1 ((a.claims oid).0 claims))
+  ReadBy-back s t (did_claim oid) x a read = read
+  ReadBy-back s t (did_write oid row) x a read = read
+  ReadBy-back s t (did_make oid) x a read = read
 
   -- an event after nothing
   pub Steps-after_same : (s t u : S) (e : Event) → SameView face s t → Steps face t e u → Steps face s e u
@@ -113,6 +128,10 @@ module _ {S : Type 0} (face : Face S) where
     claims = λ x. (
       λ claims. elim ((b.claims x).0 claims) as (λ _. face.claims s x ⊎ ClaimedBy e x) [ inl before ↦ inl ((a.claims x).0 before) | inr now ↦ inr now ],
       λ claims. (b.claims x).1 (elim claims as (λ _. face.claims t x ⊎ ClaimedBy e x) [ inl before ↦ inl ((a.claims x).1 before) | inr now ↦ inr now ]),
+    );
+    reads = λ x. (
+      λ reads. elim ((b.reads x).0 reads) as (λ _. face.reads s x ⊎ ReadBy face s e x) [ inl before ↦ inl ((a.reads x).0 before) | inr now ↦ inr (ReadBy-same s t e x a now) ],
+      λ reads. (b.reads x).1 (elim reads as (λ _. face.reads t x ⊎ ReadBy face t e x) [ inl before ↦ inl ((a.reads x).1 before) | inr now ↦ inr (ReadBy-back s t e x a now) ]),
     );
   }
 

@@ -48,6 +48,10 @@ pub record Law : Type 1 where
   pub meets : Rows → Type 0
   pub reach : Rows → ℕ → ℕ
 
+-- the law that every array meets, and by which it reaches nothing
+abbrev pub any_law : Law
+any_law = record { meets = λ _. Unit {0}; reach = λ _ _. 0 }
+
 -- two laws say the same
 pub record SameLaw (a b : Law) : Type 0 where
   pub meets : (rows : Rows) → a.meets rows ↔ b.meets rows
@@ -69,6 +73,12 @@ TellsAll law (event ∷ events) begun seen = Tells law event begun seen × Tells
 abbrev pub Agrees : Law → List Event → Rows → Type 0
 Agrees law events array = TellsAll law events array array
 
+-- what a call asked for: an object's row, to write an object, or a new object
+pub data Asked : Type 0 where
+  asked_read : ℕ → Asked
+  asked_claim : ℕ → Asked
+  asked_make : Asked
+
 -- what a transaction means to its caller, by the states of the object that is called
 pub record Face (S : Type 0) : Type 1 where
   -- the law of its rows
@@ -84,10 +94,19 @@ pub record Face (S : Type 0) : Type 1 where
   pub made : S → ℕ → ℕ
   -- it has claimed the object
   pub claims : S → ℕ → Type 0
+  -- it has read the object: the row that it found counts as read, and others may not change it behind its back
+  pub reads : S → ℕ → Type 0
   -- a later state of the transaction, and of what else the object holds
   pub follows : S → S → Type 0
-  -- in this state, or one that follows it, a call was refused so, which left the last state
-  pub stops : S → RowStop → S → Type 0
+  -- in this state, or one that follows it, a call that asked for this was refused so, which left the last state
+  pub stops : S → Asked → RowStop → S → Type 0
+
+-- an event reads the object anew: the row of a claimed object is the transaction's own, and counts as no read
+abbrev pub ReadBy : {S : Type 0} → Face S → S → Event → ℕ → Type 0
+ReadBy face s (did_read oid row) x = (x ≡ oid) × (face.claims s oid → ⊥)
+ReadBy face s (did_claim oid) x = ⊥
+ReadBy face s (did_write oid row) x = ⊥
+ReadBy face s (did_make oid) x = ⊥
 
 -- one call's event
 pub record Steps {S : Type 0} (face : Face S) (s : S) (event : Event) (t : S) : Type 0 where
@@ -102,6 +121,8 @@ pub record Steps {S : Type 0} (face : Face S) (s : S) (event : Event) (t : S) : 
   pub once : (x : ℕ) → face.made t x ≤ 1
   -- just the objects claimed before, and the event's
   pub claims : (x : ℕ) → face.claims t x ↔ (face.claims s x ⊎ ClaimedBy event x)
+  -- just the objects read before, and the event's
+  pub reads : (x : ℕ) → face.reads t x ↔ (face.reads s x ⊎ ReadBy face s event x)
 
 -- nothing was read, claimed, written or made
 pub record SameView {S : Type 0} (face : Face S) (s t : S) : Type 0 where
@@ -109,6 +130,7 @@ pub record SameView {S : Type 0} (face : Face S) (s t : S) : Type 0 where
   pub seen : (begun : Rows) → face.fits t begun → face.rows t begun ≡ face.rows s begun
   pub made : (x : ℕ) → face.made t x ≡ face.made s x
   pub claims : (x : ℕ) → face.claims t x ↔ face.claims s x
+  pub reads : (x : ℕ) → face.reads t x ↔ face.reads s x
 
 -- events in turn
 abbrev pub Runs : {S : Type 0} → Face S → S → List Event → S → Type 0
@@ -185,10 +207,11 @@ pub record GoesOn {S : Type 0} (face : Face S) (s : S) (events : List Event) (t 
   pub active : face.active t
   pub possible : IsPossible face t
 
--- One call was refused, by a refusal that it may have: either that ends the transaction, or all is as it was.
-pub record IsRefused {S : Type 0} (face : Face S) (may : RowStop → Type 0) (s : S) (stop : RowStop) (t : S) : Type 0 where
+-- One call that asked for this was refused, by a refusal that it may have: either that ends the transaction, or all is as it
+-- was.
+pub record IsRefused {S : Type 0} (face : Face S) (may : RowStop → Type 0) (s : S) (asked : Asked) (stop : RowStop) (t : S) : Type 0 where
   pub named : may stop
-  pub stopped : face.stops s stop t
+  pub stopped : face.stops s asked stop t
   pub follows : face.follows s t
   pub ended : ends stop ≡ true → face.active t → ⊥
   pub stays : ends stop ≡ false → GoesOn face s [] t
@@ -209,14 +232,19 @@ WritesNothing (did_claim oid ∷ events) = WritesNothing events
 WritesNothing (did_write oid row ∷ events) = ⊥
 WritesNothing (did_make oid ∷ events) = WritesNothing events
 
--- Several calls were cut off by a refusal of the last, one that they may have: either it ended the transaction, or it left it
--- after events of this kind.
-pub record IsStopped {S : Type 0} (face : Face S) (may : RowStop → Type 0) (kind : List Event → Type 0) (s : S) (stop : RowStop) (t : S) : Type 0 where
-  pub named : may stop
-  pub stopped : face.stops s stop t
-  pub follows : face.follows s t
-  pub ended : ends stop ≡ true → face.active t → ⊥
-  pub stays : ends stop ≡ false → (events : List Event) × kind events × GoesOn face s events t
+-- Several calls were cut off by a refusal of the last, one that they may have, after events of this kind. What the last one
+-- asked for is, on each array that meets the law and agrees with these events, one of the things that they ask for.
+pub record IsStopped {S : Type 0} (face : Face S) (may : RowStop → Type 0) (kind : List Event → Type 0) (asks : List Event → Rows → Asked → Type 0) (s : S) (stop : RowStop) (t : S) : Type 0 where
+  -- the events before the refusal, and the state that they left
+  pub events : List Event
+  pub of_kind : kind events
+  pub at : S
+  pub goes_on : GoesOn face s events at
+  pub follows : face.follows s at
+  -- what was refused
+  pub asked : Asked
+  pub asks_so : (array : Rows) → face.law.meets array → Agrees face.law events array → asks events array asked
+  pub refused : IsRefused face may at asked stop t
 
 -- Several calls saw a fact: their events are reads alone, and the fact is so of each array that meets the law and agrees
 -- with them.

@@ -17,6 +17,9 @@ pub struct VersionWritten {
     pub oid: Oid,
     /// The stamp of the version overwritten, or 0 for the opening's.
     pub stamp: Stamp,
+    /// The row of the version overwritten, as the claim found it.
+    pub base: Row,
+    /// The row of the version made.
     pub row: Row,
     /// Whether a write set the row; else it is that of the version overwritten.
     pub is_set: bool,

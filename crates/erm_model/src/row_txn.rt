@@ -1,7 +1,7 @@
 //! A transaction over rows, and the law that its rows keep.
 ghost use Rattle.std.specs.Prelude.{◌<◌, IsOk, OnOk, IfOk, IfErr};
 ghost use Rattle.erm_model.specs.declared.row_stop.RowStop.{RowStop};
-ghost use Rattle.erm_model.specs.RowTransaction.{Event, did_read, did_claim, did_write, did_make, Law, Face, Does, IsRefused, StopsRead, StopsClaim, StopsMake};
+ghost use Rattle.erm_model.specs.RowTransaction.{any_law, Asked, Event, did_read, did_claim, did_write, did_make, asked_read, asked_claim, asked_make, Law, Face, Does, IsRefused, StopsRead, StopsClaim, StopsMake};
 
 use crate::{OID_LIMIT, Oid, Row, RowStop};
 
@@ -9,6 +9,13 @@ use crate::{OID_LIMIT, Oid, Row, RowStop};
 pub trait RowLaw {
     /// Which arrays of rows meet it, and how often such an array reaches an object.
     ghost law: { Law };
+}
+
+/// The law that every array of rows meets, and by which it reaches no object.
+pub struct AnyRows;
+
+impl RowLaw for AnyRows {
+    ghost law = { any_law };
 }
 
 /// A transaction that reads and writes rows. What it means to its caller is its face: the arrays of rows that it may
@@ -22,14 +29,14 @@ pub trait RowTxn {
         requires active { face.active self.old }
         requires object { oid < OID_LIMIT }
         ensures ok { IfOk result (λ row. Does face self.old (did_read oid row) self.new) }
-        ensures err { IfErr result (λ stop. IsRefused face StopsRead self.old stop self.new) };
+        ensures err { IfErr result (λ stop. IsRefused face StopsRead self.old (asked_read oid) stop self.new) };
 
     /// Claims an object for writing. Its row stays, and counts as written.
     fn claim(&mut self, oid: Oid) -> Result<(), RowStop>
         requires active { face.active self.old }
         requires object { oid < OID_LIMIT }
         ensures ok { OnOk result (Does face self.old (did_claim oid) self.new) }
-        ensures err { IfErr result (λ stop. IsRefused face StopsClaim self.old stop self.new) };
+        ensures err { IfErr result (λ stop. IsRefused face StopsClaim self.old (asked_claim oid) stop self.new) };
 
     /// Sets the row of an object, and claims it where it isn't claimed yet. For a claimed object the answer is `Ok`.
     fn write(&mut self, oid: Oid, row: &Row) -> Result<(), RowStop>
@@ -37,14 +44,14 @@ pub trait RowTxn {
         requires object { oid < OID_LIMIT }
         ensures ok { OnOk result (Does face self.old (did_write oid row.now) self.new) }
         ensures claimed { face.claims self.old oid → IsOk result }
-        ensures err { IfErr result (λ stop. IsRefused face StopsClaim self.old stop self.new) };
+        ensures err { IfErr result (λ stop. IsRefused face StopsClaim self.old (asked_claim oid) stop self.new) };
 
     /// A new object: no other call gets it, and no row that the transaction may have begun on reaches it.
     fn fresh(&mut self) -> Result<Oid, RowStop>
         requires { face.active self.old }
         ensures object { IfOk result (λ oid. oid < OID_LIMIT) }
         ensures ok { IfOk result (λ oid. Does face self.old (did_make oid) self.new) }
-        ensures err { IfErr result (λ stop. IsRefused face StopsMake self.old stop self.new) };
+        ensures err { IfErr result (λ stop. IsRefused face StopsMake self.old asked_make stop self.new) };
 
     /// What goes on from a state goes on from each one before.
     ghost goes_on: { (s t u : Self) → face.follows s t → face.follows t u → face.follows s u };
@@ -53,5 +60,5 @@ pub trait RowTxn {
     ghost stands: { (s : Self) → face.follows s s };
 
     /// A refusal of a later state counts as one of each state before.
-    ghost stops_later: { (s t u : Self) (stop : RowStop) → face.follows s t → face.stops t stop u → face.stops s stop u };
+    ghost stops_later: { (s t u : Self) (asked : Asked) (stop : RowStop) → face.follows s t → face.stops t asked stop u → face.stops s asked stop u };
 }

@@ -38,7 +38,3 @@ pub record IsSound (rows : Rows) : Type 0 where
 -- the law of sound rows
 abbrev pub sound_law : Law
 sound_law = record { meets = IsSound; reach = reached }
-
--- the law that every array meets, and by which it reaches nothing
-abbrev pub any_law : Law
-any_law = record { meets = λ _. Unit {0}; reach = λ _ _. 0 }

@@ -6,7 +6,7 @@ ghost use Rattle.erm_model.specs.Rows.{Rows};
 ghost use Rattle.erm_record.specs.Record.{IsRecord};
 ghost use Rattle.erm_node.specs.Node.{Shape, is_node, node_of, node_row};
 ghost use Rattle.erm_node.specs.Tree.{AscendWithin, IsTree, entries, times};
-ghost use Rattle.erm_node.specs.Sound.{IsSound, any_law, levels_of, reached, sound_law};
+ghost use Rattle.erm_node.specs.Sound.{IsSound, levels_of, reached, sound_law};
 ghost use Rattle.erm_node.specs.TreeMap.{map_of_rows, value_in};
 
 use crate::LEVELS;
@@ -17,13 +17,6 @@ pub struct SoundRows;
 
 impl RowLaw for SoundRows {
     ghost law = { sound_law };
-}
-
-/// The law that every array of rows meets, and by which it reaches no object.
-pub struct AnyRows;
-
-impl RowLaw for AnyRows {
-    ghost law = { any_law };
 }
 
 /// A row is a node's exactly where it is spelled so, and no record's row is a node's.

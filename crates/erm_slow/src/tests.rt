@@ -242,6 +242,7 @@ fn writes(
         writes.push_back(VersionWritten {
             oid: *oid,
             stamp: *stamp,
+            base: [0; 16],
             row: [0; 16],
             is_set: true,
         })?;

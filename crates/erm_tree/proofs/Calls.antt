@@ -4,10 +4,10 @@ use Rattle.std.proofs.lemmas.List.{append-nil}
 use Rattle.std.specs.Prelude.{◌⊎◌, ◌==◌}
 use Rattle.erm_model.specs.declared.row_stop.RowStop.{RowStop}
 use Rattle.erm_model.specs.Rows.{Rows}
-use Rattle.erm_model.specs.RowTransaction.{Event, did_read, did_claim, did_write, did_make, made_by, made_by_all, Law, TellsAll, Agrees, Face, Runs, IsPossible, IsLawful, Does, IsRefused, IsStopped, OnlyReads}
+use Rattle.erm_model.specs.RowTransaction.{Event, did_read, did_claim, did_write, did_make, made_by, made_by_all, Asked, asked_read, asked_claim, asked_make, GoesOn, Law, TellsAll, Agrees, Face, Runs, IsPossible, IsLawful, Does, IsRefused, IsStopped, OnlyReads}
 use Rattle.erm_model.proofs.RowCalls.{after_all-OnlyReads, OnlyReads-append, TellsAll-append, SameView-itself, Runs-append, Runs-one, Runs-once, Runs-fitted, Saw-on, Saw-lawful}
 use Rattle.erm_tree.proofs.Insertion.{Each}
-use Rattle.erm_tree.specs.Calls.{IsReady, IsTold, ReadsAre, Reads, SawIn, Ran}
+use Rattle.erm_tree.specs.Calls.{AsksReads, IsReady, IsTold, ReadsAre, Reads, SawIn, Ran}
 
 -- events in two parts read these objects where each part does
 pub ReadsAre-append : (P : ℕ → Type 0) (es fs : List Event) → ReadsAre P es → ReadsAre P fs → ReadsAre P (es ++ fs)
@@ -242,78 +242,107 @@ module _ {S : Type 0} (face : Face S) (goes_on : (a b c : S) → face.follows a 
         | inr more ↦ omega (arith, Runs-made_once es u t rest x, Runs-once face (e ∷ []) es s u t (Runs-one face s u e step) rest x more)
       ]
 
-  module _ (later : (a b c : S) (stop : RowStop) → face.follows a b → face.stops b stop c → face.stops a stop c) where
-    -- calls that ran to an end, and then calls that were cut off
-    pub IsStopped-then : (may : RowStop → Type 0) (kind then_kind whole : List Event → Type 0) (s t u : S) (stop : RowStop) (es : List Event) → Runs face s es t → face.follows s t
-        → ((fs : List Event) → then_kind fs → whole (es ++ fs)) → IsStopped face may then_kind t stop u → IsStopped face may whole s stop u
-    IsStopped-then may kind then_kind whole s t u stop es runs follows both stopped = record {
-      named = stopped.named;
-      stopped = later s t u stop follows stopped.stopped;
-      follows = goes_on s t u follows stopped.follows;
-      ended = stopped.ended;
-      stays = λ e.
-          let (fs, is, on) = stopped.stays e in
-          (es ++ fs, both fs is, record { runs = Runs-append face es fs s t u runs on.runs; active = on.active; possible = on.possible });
-    }
+  -- what one refusal may be, another that has it among its own may be
+  pub IsRefused-among : (may then_may : RowStop → Type 0) (s t : S) (asked : Asked) (stop : RowStop) → ((x : RowStop) → may x → then_may x) → IsRefused face may s asked stop t → IsRefused face then_may s asked stop t
+  IsRefused-among may then_may s t asked stop among refused = record {
+    named = among stop refused.named;
+    stopped = refused.stopped;
+    follows = refused.follows;
+    ended = refused.ended;
+    stays = refused.stays;
+  }
 
-    -- one call that was refused was cut off with no events
-    pub IsStopped-refused : (may : RowStop → Type 0) (kind : List Event → Type 0) (s t : S) (stop : RowStop) → kind [] → IsRefused face may s stop t → IsStopped face may kind s stop t
-    IsStopped-refused may kind s t stop none refused = record {
-      named = refused.named;
-      stopped = refused.stopped;
-      follows = refused.follows;
-      ended = refused.ended;
-      stays = λ e. ([], none, refused.stays e);
-    }
+  -- events, and then a call that was refused
+  pub IsStopped-after : (may : RowStop → Type 0) (kind : List Event → Type 0) (asks : List Event → Rows → Asked → Type 0) (s t u : S) (asked : Asked) (stop : RowStop) (es : List Event) → GoesOn face s es t → face.follows s t → kind es
+      → ((array : Rows) → face.law.meets array → Agrees face.law es array → asks es array asked) → IsRefused face may t asked stop u → IsStopped face may kind asks s stop u
+  IsStopped-after may kind asks s t u asked stop es on follows is so refused = record {
+    events = es;
+    of_kind = is;
+    at = t;
+    goes_on = on;
+    follows = follows;
+    asked = asked;
+    asks_so = so;
+    refused = refused;
+  }
 
-    -- reads, and then reads that were cut off
-    pub IsStopped-reads : (P : Rows → ℕ → Type 0) (may : RowStop → Type 0) (s t u : S) (stop : RowStop) (fact : Rows → Type 0) → SawIn face P s t fact → IsStopped face may (Reads face.law P) t stop u → IsStopped face may (Reads face.law P) s stop u
-    IsStopped-reads P may s t u stop fact seen stopped =
-        IsStopped-then may (Reads face.law P) (Reads face.law P) (Reads face.law P) s t u stop seen.saw.events seen.saw.goes_on.runs seen.saw.follows
-        (λ fs is. Reads-append face.law P seen.saw.events fs seen.reads is) stopped
+  -- calls that ran to an end, and then calls that were cut off
+  pub IsStopped-then : (may : RowStop → Type 0) (then_kind whole : List Event → Type 0) (then_asks asks : List Event → Rows → Asked → Type 0) (s t u : S) (stop : RowStop) (es : List Event) → Runs face s es t → face.follows s t
+      → ((fs : List Event) → then_kind fs → whole (es ++ fs))
+      → ((fs : List Event) → then_kind fs → (asked : Asked) → ((array : Rows) → face.law.meets array → Agrees face.law fs array → then_asks fs array asked) → (array : Rows) → face.law.meets array → Agrees face.law (es ++ fs) array → asks (es ++ fs) array asked)
+      → IsStopped face may then_kind then_asks t stop u → IsStopped face may whole asks s stop u
+  IsStopped-then may then_kind whole then_asks asks s t u stop es runs follows both so stopped = record {
+    events = es ++ stopped.events;
+    of_kind = both stopped.events stopped.of_kind;
+    at = stopped.at;
+    goes_on = record {
+      runs = Runs-append face es stopped.events s t stopped.at runs stopped.goes_on.runs;
+      active = stopped.goes_on.active;
+      possible = stopped.goes_on.possible;
+    };
+    follows = goes_on s t stopped.at follows stopped.follows;
+    asked = stopped.asked;
+    asks_so = so stopped.events stopped.of_kind stopped.asked stopped.asks_so;
+    refused = stopped.refused;
+  }
 
-    -- reads of one kind of objects, and then reads of another that were cut off, both of a third
-    pub IsStopped-both : (P Q R : Rows → ℕ → Type 0) (may : RowStop → Type 0) (s t u : S) (stop : RowStop) (fact : Rows → Type 0) → SawIn face P s t fact → IsStopped face may (Reads face.law Q) t stop u
-        → ((array : Rows) → face.law.meets array → fact array → (x : ℕ) → P array x → R array x) → ((array : Rows) → face.law.meets array → fact array → (x : ℕ) → Q array x → R array x)
-        → IsStopped face may (Reads face.law R) s stop u
-    IsStopped-both P Q R may s t u stop fact seen stopped first second =
-        let es = seen.saw.events in
-        IsStopped-then may (Reads face.law R) (Reads face.law Q) (Reads face.law R) s t u stop es seen.saw.goes_on.runs seen.saw.follows
-        (λ fs is. record {
-          only = OnlyReads-append es fs seen.saw.reads is.only;
-          of = λ array meets agrees.
-              let parts = Agrees-after_reads face.law es fs array seen.saw.reads agrees in
-              let so = seen.saw.saw array meets parts.0 in
-              ReadsAre-append (R array) es fs
-              (ReadsAre-weaker (P array) (R array) es (first array meets so) (seen.reads.of array meets parts.0))
-              (ReadsAre-weaker (Q array) (R array) fs (second array meets so) (is.of array meets parts.1));
-        })
-        stopped
+  -- what is cut off by some refusals is cut off by others that they are among
+  pub IsStopped-among : (may then_may : RowStop → Type 0) (kind then_kind : List Event → Type 0) (asks then_asks : List Event → Rows → Asked → Type 0) (s t : S) (stop : RowStop) → ((x : RowStop) → may x → then_may x) → ((es : List Event) → kind es → then_kind es)
+      → ((es : List Event) (array : Rows) (asked : Asked) → asks es array asked → then_asks es array asked) → IsStopped face may kind asks s stop t → IsStopped face then_may then_kind then_asks s stop t
+  IsStopped-among may then_may kind then_kind asks then_asks s t stop among of so stopped = record {
+    events = stopped.events;
+    of_kind = of stopped.events stopped.of_kind;
+    at = stopped.at;
+    goes_on = stopped.goes_on;
+    follows = stopped.follows;
+    asked = stopped.asked;
+    asks_so = λ array meets agrees. so stopped.events array stopped.asked (stopped.asks_so array meets agrees);
+    refused = IsRefused-among may then_may stopped.at t stopped.asked stop among stopped.refused;
+  }
 
-    -- reads, and then a read that was refused
-    pub IsStopped-read : (P : Rows → ℕ → Type 0) (may : RowStop → Type 0) (s t u : S) (stop : RowStop) (fact : Rows → Type 0) → SawIn face P s t fact → IsRefused face may t stop u → IsStopped face may (Reads face.law P) s stop u
-    IsStopped-read P may s t u stop fact seen refused =
-        IsStopped-reads P may s t u stop fact seen (IsStopped-refused may (Reads face.law P) t u stop (Reads-none face.law P) refused)
+  -- what is asked of some objects is asked of others that they are among
+  AsksReads-weaker : (P Q : Rows → ℕ → Type 0) (es fs : List Event) (array : Rows) (asked : Asked) → ((x : ℕ) → P array x → Q array x) → AsksReads P es array asked → AsksReads Q fs array asked
+  AsksReads-weaker P Q es fs array (asked_read oid) among asks = among oid asks
+  AsksReads-weaker P Q es fs array (asked_claim oid) among asks = asks
+  AsksReads-weaker P Q es fs array asked_make among asks = asks
 
-    -- reads, and then a change that was refused
-    pub IsStopped-change : (P : Rows → ℕ → Type 0) (may then_may : RowStop → Type 0) (s t u : S) (stop : RowStop) (fact : Rows → Type 0) → ((x : RowStop) → may x → then_may x) → SawIn face P s t fact → IsRefused face may t stop u → IsStopped face then_may (Reads face.law P) s stop u
-    IsStopped-change P may then_may s t u stop fact among seen refused =
-        IsStopped-read P then_may s t u stop fact seen
-        (record { named = among stop refused.named; stopped = refused.stopped; follows = refused.follows; ended = refused.ended; stays = refused.stays })
+  -- reads that were cut off are reads of others that theirs are among
+  pub IsStopped-wider : (P Q : Rows → ℕ → Type 0) (may : RowStop → Type 0) (s t : S) (stop : RowStop) → ((array : Rows) (x : ℕ) → P array x → Q array x) → IsStopped face may (Reads face.law P) (AsksReads P) s stop t
+      → IsStopped face may (Reads face.law Q) (AsksReads Q) s stop t
+  IsStopped-wider P Q may s t stop among stopped =
+      IsStopped-among may may (Reads face.law P) (Reads face.law Q) (AsksReads P) (AsksReads Q) s t stop (λ x named. named)
+      (λ es is. Reads-weaker face.law P Q es (λ array meets agrees. among array) is) (λ es array asked asks. AsksReads-weaker P Q es es array asked (among array) asks) stopped
 
-    -- what is cut off by some refusals is cut off by others that they are among
-    pub IsStopped-among : (may then_may : RowStop → Type 0) (kind then_kind : List Event → Type 0) (s t : S) (stop : RowStop) → ((x : RowStop) → may x → then_may x) → ((es : List Event) → kind es → then_kind es) → IsStopped face may kind s stop t → IsStopped face then_may then_kind s stop t
-    IsStopped-among may then_may kind then_kind s t stop among of stopped = record {
-      named = among stop stopped.named;
-      stopped = stopped.stopped;
-      follows = stopped.follows;
-      ended = stopped.ended;
-      stays = λ e. let (es, is, on) = stopped.stays e in (es, of es is, on);
-    }
+  -- reads of one kind of objects, and then reads of another that were cut off, both of a third
+  pub IsStopped-both : (P Q R : Rows → ℕ → Type 0) (may : RowStop → Type 0) (s t u : S) (stop : RowStop) (fact : Rows → Type 0) → SawIn face P s t fact → IsStopped face may (Reads face.law Q) (AsksReads Q) t stop u
+      → ((array : Rows) → face.law.meets array → fact array → (x : ℕ) → P array x → R array x) → ((array : Rows) → face.law.meets array → fact array → (x : ℕ) → Q array x → R array x)
+      → IsStopped face may (Reads face.law R) (AsksReads R) s stop u
+  IsStopped-both P Q R may s t u stop fact seen stopped first second =
+      let es = seen.saw.events in
+      IsStopped-then may (Reads face.law Q) (Reads face.law R) (AsksReads Q) (AsksReads R) s t u stop es seen.saw.goes_on.runs seen.saw.follows
+      (λ fs is. record {
+        only = OnlyReads-append es fs seen.saw.reads is.only;
+        of = λ array meets agrees.
+            let parts = Agrees-after_reads face.law es fs array seen.saw.reads agrees in
+            let so = seen.saw.saw array meets parts.0 in
+            ReadsAre-append (R array) es fs
+            (ReadsAre-weaker (P array) (R array) es (first array meets so) (seen.reads.of array meets parts.0))
+            (ReadsAre-weaker (Q array) (R array) fs (second array meets so) (is.of array meets parts.1));
+      })
+      (λ fs is asked so array meets agrees.
+      let parts = Agrees-after_reads face.law es fs array seen.saw.reads agrees in
+      AsksReads-weaker Q R fs (es ++ fs) array asked (second array meets (seen.saw.saw array meets parts.0)) (so array meets parts.1))
+      stopped
 
-    -- some events, and then a call that was refused
-    pub IsStopped-ran : (may : RowStop → Type 0) (kind : List Event → Type 0) (s t u : S) (stop : RowStop) (es : List Event) → Ran face s es t → kind es → IsRefused face may t stop u → IsStopped face may kind s stop u
-    IsStopped-ran may kind s t u stop es ran is refused =
-        IsStopped-then may kind (λ fs. fs ≡ []) kind s t u stop es ran.goes_on.runs ran.follows
-        (λ fs none. subst kind (sym (ap (λ (gs : List Event). es ++ gs) none ∙ append-nil es)) is)
-        (IsStopped-refused may (λ fs. fs ≡ []) t u stop refl refused)
+  -- reads, and then a read of one of these objects that was refused
+  pub IsStopped-read : (P : Rows → ℕ → Type 0) (may : RowStop → Type 0) (s t u : S) (oid : ℕ) (stop : RowStop) (fact : Rows → Type 0) → ((array : Rows) → face.law.meets array → fact array → P array oid)
+      → SawIn face P s t fact → IsRefused face may t (asked_read oid) stop u → IsStopped face may (Reads face.law P) (AsksReads P) s stop u
+  IsStopped-read P may s t u oid stop fact among seen refused =
+      IsStopped-after may (Reads face.law P) (AsksReads P) s t u (asked_read oid) stop seen.saw.events seen.saw.goes_on seen.saw.follows seen.reads
+      (λ array meets agrees. among array meets (seen.saw.saw array meets agrees)) refused
+
+  -- some events, and then a call that was refused
+  pub IsStopped-ran : (may : RowStop → Type 0) (kind : List Event → Type 0) (asks : List Event → Rows → Asked → Type 0) (s t u : S) (asked : Asked) (stop : RowStop) (es : List Event) → Ran face s es t → kind es
+      → ((array : Rows) → asks es array asked) → IsRefused face may t asked stop u → IsStopped face may kind asks s stop u
+  IsStopped-ran may kind asks s t u asked stop es ran is so refused =
+      IsStopped-after may kind asks s t u asked stop es ran.goes_on ran.follows is (λ array meets agrees. so array) refused

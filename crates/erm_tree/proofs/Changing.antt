@@ -10,7 +10,7 @@ use Rattle.erm_node.specs.Sound.{IsSound, sound_law}
 use Rattle.erm_node.specs.TreeMap.{record_in}
 use Rattle.erm_tree.specs.Calls.{ReadsAre, SawIn, DidBy}
 use Rattle.erm_tree.specs.Change.{AreReadsThen}
-use Rattle.erm_tree.specs.Reads.{IsMetIn}
+use Rattle.erm_tree.specs.Reads.{IsOnWay}
 use Rattle.erm_tree.specs.Walk.{IsRecordFor}
 use Rattle.erm_tree.proofs.Calls.{Agrees-after_reads}
 use Rattle.erm_tree.proofs.Records.{IsSound-same, reached-same}
@@ -75,15 +75,15 @@ module _ {S : Type 0} (face : Face S) (goes_on : (a b c : S) → face.follows a 
   module _ (law : SameLaw face.law sound_law) (no_node : (row : List ℕ) → IsRecord row → node_of row ≡ None) (table key : ℕ) (below : table < 16) where
     -- what the events are where a key's record is set alone
     abbrev pub SetsRecord : (Rows → List Event → Type 0) → List ℕ → Rows → List Event → Type 0
-    SetsRecord other row rows events = MatchOption (record_in rows table key) (other rows events) (λ oid. AreReadsThen (IsMetIn rows table key key) (did_write oid row ∷ []) events)
+    SetsRecord other row rows events = MatchOption (record_in rows table key) (other rows events) (λ oid. AreReadsThen (IsOnWay table key rows) (did_write oid row ∷ []) events)
 
     -- a key's record is set
     pub DidBy-set_record : (s t u : S) (oid : ℕ) (row : List ℕ) (other : Rows → List Event → Type 0) (change : Rows → Rows → Type 0) → IsRecord row
-        → SawIn face (λ rows x. IsMetIn rows table key key x) s t (λ rows. IsRecordFor rows table key (Some oid)) → Does face t (did_write oid row) u
+        → SawIn face (IsOnWay table key) s t (λ rows. IsRecordFor rows table key (Some oid)) → Does face t (did_write oid row) u
         → ((rows new : Rows) → IsSound rows → IsSound new → IsSetAt rows new table key (record_value row) → change rows new)
         → DidBy face (SetsRecord other row) s u change
     DidBy-set_record s t u oid row other change record_row seen does result =
-        DidBy-after (λ rows x. IsMetIn rows table key key x) (SetsRecord other row) s t u (λ rows. IsRecordFor rows table key (Some oid)) change (did_write oid row ∷ []) seen
+        DidBy-after (IsOnWay table key) (SetsRecord other row) s t u (λ rows. IsRecordFor rows table key (Some oid)) change (did_write oid row ∷ []) seen
         (record { runs = Runs-one face t u (did_write oid row) does.step; active = does.active; possible = does.possible }) does.follows
         (λ array meets is agrees.
         let sound = (law.meets array).0 meets in
@@ -98,5 +98,5 @@ module _ {S : Type 0} (face : Face S) (goes_on : (a b c : S) → face.follows a 
           result array (set_row array oid row) sound new_sound (IsSetAt-set_row array sound no_node table key oid below found was row record_row),
         ))
         (λ array meets is agrees es only of.
-        subst (λ (found : Option ℕ). MatchOption found (other array (es ++ did_write oid row ∷ [])) (λ x. AreReadsThen (IsMetIn array table key key) (did_write x row ∷ []) (es ++ did_write oid row ∷ []))) is.is
+        subst (λ (found : Option ℕ). MatchOption found (other array (es ++ did_write oid row ∷ [])) (λ x. AreReadsThen (IsOnWay table key array) (did_write x row ∷ []) (es ++ did_write oid row ∷ []))) is.is
         (record { reads = es; only = only; of = of; split = refl }))

@@ -1,6 +1,7 @@
 pub mod Fans
 pub mod Trees
 pub mod Standing
+pub mod Meetings
 pub mod Calls
 pub mod Walking
 pub mod Lookups

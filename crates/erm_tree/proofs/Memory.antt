@@ -1,13 +1,13 @@
 -- The rows at the start are sound, and reach the roots of the tables alone.
 use Rattle.std.proofs.Common.{◌≡◌, ◌≢◌, ℕ, zero, suc, ◌+◌, ◌^◌, ◌<◌, ◌≤◌, List, [], ◌∷◌, length, get_or, set, get_or-set_same, get_or-set_other, replicate, Bool, true, false, ◌&&◌, cond, Some, refl, sym, ap, ◌∙◌, subst, inl, inr, arith}
 use Rattle.std.specs.Prelude.{◌⊎◌, ◌==◌, ◌↔◌, nat_le, nat_lt}
-use Rattle.std.proofs.lemmas.List.{set-get_or}
+use Rattle.std.proofs.lemmas.List.{get_or_default, set-get_or}
 use Rattle.std.proofs.lemmas.Bool.{cases_lt, false≢true}
 use Rattle.std.proofs.lemmas.Bool.Decides.{nat_tests}
 use Rattle.erm_model.specs.declared.limits.TheConstants.{OID_LIMIT}
 use Rattle.erm_model.specs.declared.row_stop.RowStop.{RowStop}
 use Rattle.erm_model.specs.Rows.{Rows, rows_of, set_row}
-use Rattle.erm_model.specs.RowTransaction.{did_read, did_claim, did_write, did_make, Face, IsPossible, Does, IsRefused, ends}
+use Rattle.erm_model.specs.RowTransaction.{did_read, did_claim, did_write, did_make, Asked, Face, IsPossible, Does, IsRefused, ends}
 use Rattle.erm_node.specs.Node.{Shape, node_of, node_row, pairs_of, is_node}
 use Rattle.erm_node.specs.Sound.{IsSound, sound_law, levels_of, reached, reached_below}
 use Rattle.erm_node.specs.Tree.{Fan, same_oid, IsTree, times, total}
@@ -101,11 +101,6 @@ made_up_to-more next x above = grind (arith, nat_tests)
 pub made_up_to-once : (next x : ℕ) → made_up_to next x ≤ 1
 made_up_to-once next x = elim (nat_le 16 x && nat_lt x next) as (λ b. cond b 1 0 ≤ 1) [ true ↦ omega arith | false ↦ omega arith ]
 
-get_or-any : {X : Type 0} (xs : List X) (i : ℕ) (a b : X) → i < length xs → get_or xs i a ≡ get_or xs i b
-get_or-any [] i a b inside = absurd (omega arith)
-get_or-any (x ∷ xs) zero a b inside = refl
-get_or-any (x ∷ xs) (suc i) a b inside = get_or-any xs i a b (omega arith)
-
 differ : (a b : ℕ) → a ≢ b → (a == b) ≡ false
 differ a b apart = grind (arith, nat_tests)
 
@@ -152,8 +147,8 @@ pub set_again : (bs : List Bool) (oid : ℕ) (b : Bool) → b ≡ get_or bs oid 
 set_again bs oid b is on = sym (set-get_or bs oid b) ∙ ap (λ (c : Bool). set bs oid c) (sym is ∙ on)
 
 -- A transaction in memory that began on the rows at the start: what it means, by the rows that it has, whether each object is
--- claimed, and the object that it makes next.
-module _ {S : Type 0} (rows_in : S → List (List ℕ)) (claimed_in : S → List Bool) (next_in : S → ℕ) where
+-- claimed, whether each was read, and the object that it makes next.
+module _ {S : Type 0} (rows_in : S → List (List ℕ)) (claimed_in seen_in : S → List Bool) (next_in : S → ℕ) where
   abbrev pub memory_face : Face S
   memory_face = record {
     law = sound_law;
@@ -162,8 +157,9 @@ module _ {S : Type 0} (rows_in : S → List (List ℕ)) (claimed_in : S → List
     rows = λ s begun. rows_of (rows_in s);
     made = λ s x. made_up_to (next_in s) x;
     claims = λ s x. get_or (claimed_in s) x false ≡ true;
+    reads = λ s x. get_or (seen_in s) x false ≡ true;
     follows = λ s t. Unit {0};
-    stops = λ s stop t. Unit {0};
+    stops = λ s asked stop t. Unit {0};
   }
 
   module _ (found : (row : List ℕ) (shape : Shape) → node_of row ≡ Some shape → (is_node shape ≡ true) × (row ≡ node_row shape)) (given : (shape : Shape) → is_node shape ≡ true → node_of (node_row shape) ≡ Some shape) where
@@ -171,8 +167,8 @@ module _ {S : Type 0} (rows_in : S → List (List ℕ)) (claimed_in : S → List
     possible t = (start_rows, IsSound-start found given, refl)
 
     -- a call that changed nothing was refused
-    pub Memory-refused : (may : RowStop → Type 0) (s t : S) (stop : RowStop) → may stop → ends stop ≡ false → rows_in t ≡ rows_in s → claimed_in t ≡ claimed_in s → next_in t ≡ next_in s → IsRefused memory_face may s stop t
-    Memory-refused may s t stop named goes_on rows claimed next = record {
+    pub Memory-refused : (may : RowStop → Type 0) (s t : S) (asked : Asked) (stop : RowStop) → may stop → ends stop ≡ false → rows_in t ≡ rows_in s → claimed_in t ≡ claimed_in s → seen_in t ≡ seen_in s → next_in t ≡ next_in s → IsRefused memory_face may s asked stop t
+    Memory-refused may s t asked stop named goes_on rows claimed read next = record {
       named = named;
       stopped = tt;
       follows = tt;
@@ -183,25 +179,59 @@ module _ {S : Type 0} (rows_in : S → List (List ℕ)) (claimed_in : S → List
           seen = λ begun fits. ap rows_of rows;
           made = λ x. ap (λ (n : ℕ). made_up_to n x) next;
           claims = λ x. (λ is. ap (λ (bs : List Bool). get_or bs x false) (sym claimed) ∙ is, λ is. ap (λ (bs : List Bool). get_or bs x false) claimed ∙ is);
+          reads = λ x. (λ is. ap (λ (bs : List Bool). get_or bs x false) (sym read) ∙ is, λ is. ap (λ (bs : List Bool). get_or bs x false) read ∙ is);
         };
         active = tt;
         possible = possible t;
       };
     }
 
+    -- marks that stay as they are
+    same_marks : (marks_in : S → List Bool) (s t : S) → marks_in t ≡ marks_in s → (x : ℕ) → (get_or (marks_in t) x false ≡ true) ↔ ((get_or (marks_in s) x false ≡ true) ⊎ ⊥)
+    same_marks marks_in s t same x = (
+      λ was. inl (ap (λ (bs : List Bool). get_or bs x false) (sym same) ∙ was),
+      elim [ inl was ↦ ap (λ (bs : List Bool). get_or bs x false) same ∙ was | inr none ↦ absurd none ],
+    )
+
+    -- a read of a claimed object marks nothing
+    pub Memory-marks_claimed : (s t : S) (oid : ℕ) (b : Bool) → b ≡ get_or (claimed_in s) oid b → b ≡ true → oid < length (claimed_in s) → seen_in t ≡ seen_in s
+        → (x : ℕ) → (get_or (seen_in t) x false ≡ true) ↔ ((get_or (seen_in s) x false ≡ true) ⊎ ((x ≡ oid) × (get_or (claimed_in s) oid false ≡ true → ⊥)))
+    Memory-marks_claimed s t oid b is on inside same x = (
+      λ was. inl (ap (λ (bs : List Bool). get_or bs x false) (sym same) ∙ was),
+      elim [
+        | inl was ↦ ap (λ (bs : List Bool). get_or bs x false) same ∙ was
+        | inr read ↦ absurd (read.1 (get_or_default (claimed_in s) oid false b inside ∙ sym is ∙ on))
+      ],
+    )
+
+    -- a read of another marks it
+    pub Memory-marks_read : (s t : S) (oid : ℕ) (b : Bool) → b ≡ get_or (claimed_in s) oid b → b ≡ false → oid < length (claimed_in s) → oid < length (seen_in s) → seen_in t ≡ set (seen_in s) oid true
+        → (x : ℕ) → (get_or (seen_in t) x false ≡ true) ↔ ((get_or (seen_in s) x false ≡ true) ⊎ ((x ≡ oid) × (get_or (claimed_in s) oid false ≡ true → ⊥)))
+    Memory-marks_read s t oid b is off inside inside_too marked x =
+        let free : get_or (claimed_in s) oid false ≡ true → ⊥ = λ claimed. false≢true (sym off ∙ is ∙ get_or_default (claimed_in s) oid b false inside ∙ claimed) in
+        let both = claimed-set (seen_in s) oid inside_too x in (
+          λ was. elim (both.0 (ap (λ (bs : List Bool). get_or bs x false) (sym marked) ∙ was)) as (λ _. (get_or (seen_in s) x false ≡ true) ⊎ ((x ≡ oid) × (get_or (claimed_in s) oid false ≡ true → ⊥))) [
+            | inl before ↦ inl before
+            | inr same ↦ inr (same, free)
+          ],
+          elim [
+            | inl before ↦ ap (λ (bs : List Bool). get_or bs x false) marked ∙ both.1 (inl before)
+            | inr read ↦ ap (λ (bs : List Bool). get_or bs x false) marked ∙ both.1 (inr read.0)
+          ],
+        )
+
     -- a read
-    pub Memory-read : (s t : S) (oid : ℕ) (row d : List ℕ) → oid < length (rows_in s) → row ≡ get_or (rows_in s) oid d → rows_in t ≡ rows_in s → claimed_in t ≡ claimed_in s → next_in t ≡ next_in s → Does memory_face s (did_read oid row) t
-    Memory-read s t oid row d inside is rows claimed next = record {
+    pub Memory-read : (s t : S) (oid : ℕ) (row d : List ℕ) → oid < length (rows_in s) → row ≡ get_or (rows_in s) oid d → rows_in t ≡ rows_in s → claimed_in t ≡ claimed_in s
+        → ((x : ℕ) → (get_or (seen_in t) x false ≡ true) ↔ ((get_or (seen_in s) x false ≡ true) ⊎ ((x ≡ oid) × (get_or (claimed_in s) oid false ≡ true → ⊥)))) → next_in t ≡ next_in s → Does memory_face s (did_read oid row) t
+    Memory-read s t oid row d inside is rows claimed marks next = record {
       step = record {
         fitted = λ begun fits. fits;
-        told = λ begun fits. get_or-any (rows_in s) oid [] d inside ∙ sym is;
+        told = λ begun fits. get_or_default (rows_in s) oid [] d inside ∙ sym is;
         seen = λ begun fits. ap rows_of rows;
         made = λ x. ap (λ (n : ℕ). made_up_to n x) next ∙ omega arith;
         once = λ x. made_up_to-once (next_in t) x;
-        claims = λ x. (
-          λ was. inl (ap (λ (bs : List Bool). get_or bs x false) (sym claimed) ∙ was),
-          elim [ inl was ↦ ap (λ (bs : List Bool). get_or bs x false) claimed ∙ was | inr none ↦ absurd none ],
-        );
+        claims = same_marks claimed_in s t claimed;
+        reads = marks;
       };
       active = tt;
       possible = possible t;
@@ -213,8 +243,8 @@ module _ {S : Type 0} (rows_in : S → List (List ℕ)) (claimed_in : S → List
         subst (λ (bs : List Bool). (get_or bs x false ≡ true) ↔ ((get_or (claimed_in s) x false ≡ true) ⊎ (x ≡ oid))) (sym claimed) (claimed-set (claimed_in s) oid inside x)
 
     -- a claim
-    pub Memory-claim : (s t : S) (oid : ℕ) → oid < length (claimed_in s) → rows_in t ≡ rows_in s → claimed_in t ≡ set (claimed_in s) oid true → next_in t ≡ next_in s → Does memory_face s (did_claim oid) t
-    Memory-claim s t oid inside rows claimed next = record {
+    pub Memory-claim : (s t : S) (oid : ℕ) → oid < length (claimed_in s) → rows_in t ≡ rows_in s → claimed_in t ≡ set (claimed_in s) oid true → seen_in t ≡ seen_in s → next_in t ≡ next_in s → Does memory_face s (did_claim oid) t
+    Memory-claim s t oid inside rows claimed read next = record {
       step = record {
         fitted = λ begun fits. fits;
         told = λ begun fits. tt;
@@ -222,6 +252,7 @@ module _ {S : Type 0} (rows_in : S → List (List ℕ)) (claimed_in : S → List
         made = λ x. ap (λ (n : ℕ). made_up_to n x) next ∙ omega arith;
         once = λ x. made_up_to-once (next_in t) x;
         claims = claims_more s t oid inside claimed;
+        reads = same_marks seen_in s t read;
       };
       active = tt;
       possible = possible t;
@@ -229,8 +260,8 @@ module _ {S : Type 0} (rows_in : S → List (List ℕ)) (claimed_in : S → List
     }
 
     -- a write
-    pub Memory-write : (s t : S) (oid : ℕ) (row : List ℕ) → oid < length (rows_in s) → oid < length (claimed_in s) → rows_in t ≡ set (rows_in s) oid row → claimed_in t ≡ set (claimed_in s) oid true → next_in t ≡ next_in s → Does memory_face s (did_write oid row) t
-    Memory-write s t oid row inside inside_too rows claimed next = record {
+    pub Memory-write : (s t : S) (oid : ℕ) (row : List ℕ) → oid < length (rows_in s) → oid < length (claimed_in s) → rows_in t ≡ set (rows_in s) oid row → claimed_in t ≡ set (claimed_in s) oid true → seen_in t ≡ seen_in s → next_in t ≡ next_in s → Does memory_face s (did_write oid row) t
+    Memory-write s t oid row inside inside_too rows claimed read next = record {
       step = record {
         fitted = λ begun fits. fits;
         told = λ begun fits. tt;
@@ -238,6 +269,7 @@ module _ {S : Type 0} (rows_in : S → List (List ℕ)) (claimed_in : S → List
         made = λ x. ap (λ (n : ℕ). made_up_to n x) next ∙ omega arith;
         once = λ x. made_up_to-once (next_in t) x;
         claims = claims_more s t oid inside_too claimed;
+        reads = same_marks seen_in s t read;
       };
       active = tt;
       possible = possible t;
@@ -245,18 +277,16 @@ module _ {S : Type 0} (rows_in : S → List (List ℕ)) (claimed_in : S → List
     }
 
     -- a new object
-    pub Memory-make : (s t : S) → 16 ≤ next_in s → rows_in t ≡ rows_in s → claimed_in t ≡ claimed_in s → next_in t ≡ next_in s + 1 → Does memory_face s (did_make (next_in s)) t
-    Memory-make s t above rows claimed next = record {
+    pub Memory-make : (s t : S) → 16 ≤ next_in s → rows_in t ≡ rows_in s → claimed_in t ≡ claimed_in s → seen_in t ≡ seen_in s → next_in t ≡ next_in s + 1 → Does memory_face s (did_make (next_in s)) t
+    Memory-make s t above rows claimed read next = record {
       step = record {
         fitted = λ begun fits. fits;
         told = λ begun fits. ap (λ (array : Rows). reached array (next_in s)) fits ∙ reached-start found given (next_in s) above;
         seen = λ begun fits. ap rows_of rows;
         made = λ x. ap (λ (n : ℕ). made_up_to n x) next ∙ made_up_to-more (next_in s) x above;
         once = λ x. made_up_to-once (next_in t) x;
-        claims = λ x. (
-          λ was. inl (ap (λ (bs : List Bool). get_or bs x false) (sym claimed) ∙ was),
-          elim [ inl was ↦ ap (λ (bs : List Bool). get_or bs x false) claimed ∙ was | inr none ↦ absurd none ],
-        );
+        claims = same_marks claimed_in s t claimed;
+        reads = same_marks seen_in s t read;
       };
       active = tt;
       possible = possible t;

@@ -14,43 +14,12 @@ use Rattle.erm_node.specs.Node.{pairs_of}
 use Rattle.erm_node.specs.Sound.{IsSound, sound_law, levels_of}
 use Rattle.erm_node.specs.Tree.{Fan, first_key}
 use Rattle.erm_node.specs.TreeMap.{map_of_rows, record_in, value_in}
-use Rattle.erm_tree.specs.Calls.{IsReady, IsTold, Reads, SawIn}
-use Rattle.erm_tree.specs.Reads.{AnyOfFan, IsMet, IsMetIn}
+use Rattle.erm_tree.specs.Calls.{AsksReads, IsReady, IsTold, Reads, SawIn}
+use Rattle.erm_tree.specs.Reads.{IsMetIn, IsOnWay}
 use Rattle.erm_tree.specs.Walk.{IsEntry, IsLeafFor, IsOfLeaf, IsFirstIn, HasNoValueIn, bound_of, last_sought}
 use Rattle.erm_tree.proofs.Fans.{first_key-Fan}
 use Rattle.erm_tree.proofs.Calls.{SawIn-start, SawIn-both, SawIn-weaker, SawIn-then_read, SawIn-possible, SawIn-ready, IsStopped-both}
-use Rattle.erm_tree.proofs.Standing.{levels_of-bounds}
-
-AnyOfFan-weaker : (P Q : ℕ → ℕ → ℕ → Type 0) (pairs : List (ℕ × ℕ)) (hi : ℕ) → ((oid from to : ℕ) → P oid from to → Q oid from to) → AnyOfFan P pairs hi → AnyOfFan Q pairs hi
-AnyOfFan-weaker P Q [] hi each any = any
-AnyOfFan-weaker P Q (p ∷ ps) hi each any = elim any as (λ _. AnyOfFan Q (p ∷ ps) hi) [
-  | inl here ↦ inl (each p.1 p.0 (first_key ps hi) here)
-  | inr there ↦ inr (AnyOfFan-weaker P Q ps hi each there)
-]
-
-IsMet-wider_at : (rows : Rows) (low high below above levels oid lo hi x : ℕ) → below ≤ low → high ≤ above → IsMet rows low high levels oid lo hi x → IsMet rows below above levels oid lo hi x
-IsMet-wider_at rows low high below above zero oid lo hi x l h met = (met.0, omega (arith, met.1), omega (arith, met.2))
-IsMet-wider_at rows low high below above (suc levels) oid lo hi x l h met = (
-  omega (arith, met.0),
-  omega (arith, met.1),
-  elim met.2 as (λ _. (x ≡ oid) ⊎ AnyOfFan (λ child from to. IsMet rows below above levels child from to x) (pairs_of (rows oid)) hi) [
-    | inl same ↦ inl same
-    | inr inside ↦
-        inr (AnyOfFan-weaker (λ child from to. IsMet rows low high levels child from to x) (λ child from to. IsMet rows below above levels child from to x) (pairs_of (rows oid)) hi
-        (λ child from to is. IsMet-wider_at rows low high below above levels child from to x l h is) inside)
-  ],
-)
-
--- what some keys meet more keys meet
-pub IsMetIn-wider : (rows : Rows) (table low high below above x : ℕ) → below ≤ low → high ≤ above → IsMetIn rows table low high x → IsMetIn rows table below above x
-IsMetIn-wider rows table low high below above x l h met = IsMet-wider_at rows low high below above (levels_of rows table) table 0 (2 ^ 64) x l h met
-
--- keys that something meets are keys that there may be
-IsMetIn-few : (rows : Rows) (table low high x : ℕ) → IsMetIn rows table low high x → low < 2 ^ 64
-IsMetIn-few rows table low high x met =
-    let (n, many, few) = levels_of-bounds rows table in
-    let there : IsMet rows low high (suc n) table 0 (2 ^ 64) x = subst (λ (m : ℕ). IsMet rows low high m table 0 (2 ^ 64) x) many met in
-    there.0
+use Rattle.erm_tree.proofs.Meetings.{IsMetIn-wider, IsMetIn-few, IsMetIn-node}
 
 -- a pair in its place along a fan
 pub record IsPlaced (Q : ℕ → ℕ → ℕ → Type 0) (pairs : List (ℕ × ℕ)) (hi i : ℕ) : Type 0 where
@@ -94,6 +63,12 @@ module _ (rows : Rows) (table low : ℕ) (pairs : List (ℕ × ℕ)) (to : ℕ) 
 -- along the pairs of a leaf, of the first so many: there is no value up to the next one
 abbrev pub HasNoneUpTo : ℕ → List (ℕ × ℕ) → ℕ → ℕ → Rows → Type 0
 HasNoneUpTo low pairs to i rows = (table : ℕ) → IsLeafFor rows table low pairs to → HasNoValueIn rows table low (first_key (drop i pairs) to)
+
+-- the record of a pair in its place is one of the leaf's
+pub Along-read_at : (low : ℕ) (pairs : List (ℕ × ℕ)) (to i : ℕ) → i < length pairs → low ≤ (get_or pairs i (0, 0)).0 → (rows : Rows) → IsOfLeaf rows low pairs to (to - 1) (get_or pairs i (0, 0)).1
+Along-read_at low pairs to i inside above rows table leaf =
+    let at = Fan-at (λ oid from up. IsEntry rows table oid from up) pairs to i inside leaf.entries in
+    at.is.met low (to - 1) above (omega (arith, at.wide, at.top))
 
 module _ {S : Type 0} (face : Face S) (goes_on : (a b c : S) → face.follows a b → face.follows b c → face.follows a c) (low : ℕ) (pairs : List (ℕ × ℕ)) (to : ℕ) where
   -- the objects that may be read before so many pairs
@@ -213,14 +188,14 @@ module _ {S : Type 0} (face : Face S) (goes_on : (a b c : S) → face.follows a 
   sought_there rows low pairs to None is = let high = is.leaf.high in omega arith
   sought_there rows low pairs to (Some found) is = is.first.0
 
-  module _ (s t u : S) (low : ℕ) (pairs : List (ℕ × ℕ)) (to : ℕ) (seeks : Seeks face s t table from low) (leaf : SawIn face (λ rows x. IsMetIn rows table low low x) t u (λ rows. IsLeafFor rows table low pairs to)) where
+  module _ (s t u : S) (low : ℕ) (pairs : List (ℕ × ℕ)) (to : ℕ) (seeks : Seeks face s t table from low) (leaf : SawIn face (IsOnWay table low) t u (λ rows. IsLeafFor rows table low pairs to)) where
     -- it reads the leaf
     Seeks-leaf : SawIn face (λ rows x. IsMetIn rows table from low x) s u (λ rows. HasNoValueIn rows table from low × IsLeafFor rows table low pairs to)
     Seeks-leaf =
         let above = seeks.above in
-        SawIn-both face goes_on (λ rows x. IsMetIn rows table from (low - 1) x) (λ rows x. IsMetIn rows table low low x) (λ rows x. IsMetIn rows table from low x) s t u (λ rows. HasNoValueIn rows table from low) (λ rows. IsLeafFor rows table low pairs to) seeks.seen leaf
+        SawIn-both face goes_on (λ rows x. IsMetIn rows table from (low - 1) x) (IsOnWay table low) (λ rows x. IsMetIn rows table from low x) s t u (λ rows. HasNoValueIn rows table from low) (λ rows. IsLeafFor rows table low pairs to) seeks.seen leaf
         (λ array meets none is x on. IsMetIn-wider array table from (low - 1) from low x (omega arith) (omega arith) on)
-        (λ array meets none is x on. IsMetIn-wider array table low low from low x (omega arith) (omega arith) on)
+        (λ array meets none is x on. IsMetIn-wider array table low low from low x (omega arith) (omega arith) (IsMetIn-node array table low low x on))
 
     module _ (v : S) (found : Option (ℕ × List ℕ)) (first : SawIn face (λ rows x. IsOfLeaf rows low pairs to (last_sought to found) x) u v (λ rows. (t : ℕ) → IsLeafFor rows t low pairs to → IsFirstIn rows t low to found)) where
       -- and looks along it
@@ -290,22 +265,22 @@ module _ {S : Type 0} (face : Face S) (goes_on : (a b c : S) → face.follows a 
         let first_none = subst (λ (r : Option (ℕ × List ℕ)). SawIn face (λ rows x. IsOfLeaf rows low pairs to (last_sought to r) x) u v (λ rows. (t : ℕ) → IsLeafFor rows t low pairs to → IsFirstIn rows t low to r)) no_one first in
         subst (λ (n : ℕ). Seeks face s v table from n × (low < n)) to_is (Seeks-behind v lawful first_none)
 
-  module _ (later : (a b c : S) (stop : RowStop) → face.follows a b → face.stops b stop c → face.stops a stop c) (may : RowStop → Type 0) (s t u : S) (low : ℕ) (stop : RowStop) (seeks : Seeks face s t table from low) where
+  module _ (may : RowStop → Type 0) (s t u : S) (low : ℕ) (stop : RowStop) (seeks : Seeks face s t table from low) where
     -- a walk was cut off
-    pub Seeks-leaf_stopped : IsStopped face may (Reads face.law (λ rows x. IsMetIn rows table low low x)) t stop u → IsStopped face may (Reads face.law (λ rows x. IsMetIn rows table from (2 ^ 64 - 1) x)) s stop u
+    pub Seeks-leaf_stopped : IsStopped face may (Reads face.law (IsOnWay table low)) (AsksReads (IsOnWay table low)) t stop u → IsStopped face may (Reads face.law (λ rows x. IsMetIn rows table from (2 ^ 64 - 1) x)) (AsksReads (λ rows x. IsMetIn rows table from (2 ^ 64 - 1) x)) s stop u
     Seeks-leaf_stopped stopped =
         let above = seeks.above in
         let top = seeks.top in
-        IsStopped-both face goes_on later (λ rows x. IsMetIn rows table from (low - 1) x) (λ rows x. IsMetIn rows table low low x) (λ rows x. IsMetIn rows table from (2 ^ 64 - 1) x) may s t u stop (λ rows. HasNoValueIn rows table from low) seeks.seen stopped
+        IsStopped-both face goes_on (λ rows x. IsMetIn rows table from (low - 1) x) (IsOnWay table low) (λ rows x. IsMetIn rows table from (2 ^ 64 - 1) x) may s t u stop (λ rows. HasNoValueIn rows table from low) seeks.seen stopped
         (λ array meets none x on. IsMetIn-wider array table from (low - 1) from (2 ^ 64 - 1) x (omega arith) (omega arith) on)
-        (λ array meets none x on. let few = IsMetIn-few array table low low x on in IsMetIn-wider array table low low from (2 ^ 64 - 1) x above (omega arith) on)
+        (λ array meets none x on. let node = IsMetIn-node array table low low x on in let few = IsMetIn-few array table low low x node in IsMetIn-wider array table low low from (2 ^ 64 - 1) x above (omega arith) node)
 
     -- a look along a leaf was cut off
-    pub Seeks-along_stopped : (v : S) (pairs : List (ℕ × ℕ)) (to : ℕ) → SawIn face (λ rows x. IsMetIn rows table low low x) t u (λ rows. IsLeafFor rows table low pairs to) → IsStopped face may (Reads face.law (λ rows x. IsOfLeaf rows low pairs to (to - 1) x)) u stop v
-        → IsStopped face may (Reads face.law (λ rows x. IsMetIn rows table from (2 ^ 64 - 1) x)) s stop v
+    pub Seeks-along_stopped : (v : S) (pairs : List (ℕ × ℕ)) (to : ℕ) → SawIn face (IsOnWay table low) t u (λ rows. IsLeafFor rows table low pairs to) → IsStopped face may (Reads face.law (λ rows x. IsOfLeaf rows low pairs to (to - 1) x)) (AsksReads (λ rows x. IsOfLeaf rows low pairs to (to - 1) x)) u stop v
+        → IsStopped face may (Reads face.law (λ rows x. IsMetIn rows table from (2 ^ 64 - 1) x)) (AsksReads (λ rows x. IsMetIn rows table from (2 ^ 64 - 1) x)) s stop v
     Seeks-along_stopped v pairs to leaf stopped =
         let above = seeks.above in
-        IsStopped-both face goes_on later (λ rows x. IsMetIn rows table from low x) (λ rows x. IsOfLeaf rows low pairs to (to - 1) x) (λ rows x. IsMetIn rows table from (2 ^ 64 - 1) x) may s u v stop
+        IsStopped-both face goes_on (λ rows x. IsMetIn rows table from low x) (λ rows x. IsOfLeaf rows low pairs to (to - 1) x) (λ rows x. IsMetIn rows table from (2 ^ 64 - 1) x) may s u v stop
         (λ rows. HasNoValueIn rows table from low × IsLeafFor rows table low pairs to) (Seeks-leaf s t u low pairs to seeks leaf) stopped
         (λ array meets is x on. let top = is.1.top in let high = is.1.high in IsMetIn-wider array table from low from (2 ^ 64 - 1) x (omega arith) (omega arith) on)
         (λ array meets is x on. let top = is.1.top in IsMetIn-wider array table low (to - 1) from (2 ^ 64 - 1) x above (omega arith) (on table is.1))

@@ -8,7 +8,7 @@ use Rattle.erm_node.specs.Node.{Shape, node_of, node_row, pairs_of, is_node}
 use Rattle.erm_node.specs.Sound.{IsSound, sound_law, levels_of}
 use Rattle.erm_node.specs.Tree.{first_key}
 use Rattle.erm_tree.specs.Calls.{IsReady, SawIn}
-use Rattle.erm_tree.specs.Reads.{IsMetIn}
+use Rattle.erm_tree.specs.Reads.{IsOnWay}
 use Rattle.erm_tree.specs.Walk.{rank}
 use Rattle.erm_tree.specs.Insert.{Place, child_for, path_to}
 use Rattle.erm_tree.proofs.Standing.{StandsAt, StandsAt-root, StandsAt-bounded, StandsAt-child, levels_of-bounds}
@@ -76,61 +76,58 @@ module _ (found : (row : List ℕ) (shape : Shape) → node_of row ≡ Some shap
       }
 
 module _ {S : Type 0} (face : Face S) (goes_on : (a b c : S) → face.follows a b → face.follows b c → face.follows a c) (law : SameLaw face.law sound_law) (table key : ℕ) where
-  abbrev pub way : Rows → ℕ → Type 0
-  way rows x = IsMetIn rows table key key x
-
   -- it begins
-  pub Path-start : (s : S) → IsReady face s → face.follows s s → table < 16 → key < 2 ^ 64 → SawIn face way s s (λ rows. IsOnPath rows table key 0 table [])
+  pub Path-start : (s : S) → IsReady face s → face.follows s s → table < 16 → key < 2 ^ 64 → SawIn face (IsOnWay table key) s s (λ rows. IsOnPath rows table key 0 table [])
   Path-start s ready stands below fits =
-      SawIn-start face goes_on way s (λ rows. IsOnPath rows table key 0 table []) ready stands (λ array meets. IsOnPath-root array table key ((law.meets array).0 meets) below fits)
+      SawIn-start face goes_on (IsOnWay table key) s (λ rows. IsOnPath rows table key 0 table []) ready stands (λ array meets. IsOnPath-root array table key ((law.meets array).0 meets) below fits)
 
   -- it stands at an object that there may be
-  pub Path-bounded : (s t : S) (walked oid : ℕ) (places : List Place) → IsLawful face s → SawIn face way s t (λ rows. IsOnPath rows table key walked oid places) → oid < OID_LIMIT
+  pub Path-bounded : (s t : S) (walked oid : ℕ) (places : List Place) → IsLawful face s → SawIn face (IsOnWay table key) s t (λ rows. IsOnPath rows table key walked oid places) → oid < OID_LIMIT
   Path-bounded s t walked oid places lawful seen =
-      let (array, meets, is) = SawIn-possible face goes_on way s t (λ rows. IsOnPath rows table key walked oid places) lawful seen in
+      let (array, meets, is) = SawIn-possible face goes_on (IsOnWay table key) s t (λ rows. IsOnPath rows table key walked oid places) lawful seen in
       StandsAt-bounded array table key walked oid is.to ((law.meets array).0 meets) is.at
 
   -- it reads there
-  pub Path-read : (s t u : S) (walked oid : ℕ) (row : List ℕ) (places : List Place) → SawIn face way s t (λ rows. IsOnPath rows table key walked oid places) → Does face t (did_read oid row) u
-      → SawIn face way s u (λ rows. IsNodeOnPath rows table key walked oid row places)
+  pub Path-read : (s t u : S) (walked oid : ℕ) (row : List ℕ) (places : List Place) → SawIn face (IsOnWay table key) s t (λ rows. IsOnPath rows table key walked oid places) → Does face t (did_read oid row) u
+      → SawIn face (IsOnWay table key) s u (λ rows. IsNodeOnPath rows table key walked oid row places)
   Path-read s t u walked oid row places seen does =
-      SawIn-weaker face goes_on way way s u (λ rows. IsOnPath rows table key walked oid places × (rows oid ≡ row)) (λ rows. IsNodeOnPath rows table key walked oid row places)
+      SawIn-weaker face goes_on (IsOnWay table key) (IsOnWay table key) s u (λ rows. IsOnPath rows table key walked oid places × (rows oid ≡ row)) (λ rows. IsNodeOnPath rows table key walked oid row places)
       (λ array meets is. record { to = is.0.to; node = record { at = is.0.at; is = is.1 }; path = is.0.path }) (λ array meets is x on. on)
-      (SawIn-then_read face goes_on way s t u (λ rows. IsOnPath rows table key walked oid places) oid row seen does
-      (λ array meets is. is.at.met key key oid (is.at.high, is.at.low, inl refl)))
+      (SawIn-then_read face goes_on (IsOnWay table key) s t u (λ rows. IsOnPath rows table key walked oid places) oid row seen does
+      (λ array meets is. is.at.met false key key oid (is.at.high, is.at.low, inl refl)))
 
   -- what it reads is a node
-  pub Path-node : (s u : S) (walked oid : ℕ) (row : List ℕ) (places : List Place) → IsLawful face s → SawIn face way s u (λ rows. IsNodeOnPath rows table key walked oid row places) → (shape : Shape) × (node_of row ≡ Some shape)
+  pub Path-node : (s u : S) (walked oid : ℕ) (row : List ℕ) (places : List Place) → IsLawful face s → SawIn face (IsOnWay table key) s u (λ rows. IsNodeOnPath rows table key walked oid row places) → (shape : Shape) × (node_of row ≡ Some shape)
   Path-node s u walked oid row places lawful seen =
-      let (array, meets, is) = SawIn-possible face goes_on way s u (λ rows. IsNodeOnPath rows table key walked oid row places) lawful seen in
+      let (array, meets, is) = SawIn-possible face goes_on (IsOnWay table key) s u (λ rows. IsNodeOnPath rows table key walked oid row places) lawful seen in
       (record { leaf = is.node.at.levels == 0; pairs = pairs_of (array oid) }, sym (ap node_of is.node.is) ∙ is.node.at.tree.node)
 
   -- it ends at a leaf
-  pub Path-leaf : (s u : S) (walked oid : ℕ) (row : List ℕ) (places : List Place) (shape : Shape) → SawIn face way s u (λ rows. IsNodeOnPath rows table key walked oid row places) → node_of row ≡ Some shape → shape.leaf ≡ true
-      → SawIn face way s u (λ rows. places ++ record { oid = oid; shape = shape } ∷ [] ≡ path_to rows (levels_of rows table) table key)
+  pub Path-leaf : (s u : S) (walked oid : ℕ) (row : List ℕ) (places : List Place) (shape : Shape) → SawIn face (IsOnWay table key) s u (λ rows. IsNodeOnPath rows table key walked oid row places) → node_of row ≡ Some shape → shape.leaf ≡ true
+      → SawIn face (IsOnWay table key) s u (λ rows. places ++ record { oid = oid; shape = shape } ∷ [] ≡ path_to rows (levels_of rows table) table key)
   Path-leaf s u walked oid row places shape seen reads leaf =
-      SawIn-weaker face goes_on way way s u (λ rows. IsNodeOnPath rows table key walked oid row places) (λ rows. places ++ record { oid = oid; shape = shape } ∷ [] ≡ path_to rows (levels_of rows table) table key)
+      SawIn-weaker face goes_on (IsOnWay table key) (IsOnWay table key) s u (λ rows. IsNodeOnPath rows table key walked oid row places) (λ rows. places ++ record { oid = oid; shape = shape } ∷ [] ≡ path_to rows (levels_of rows table) table key)
       (λ array meets is. path_at_leaf array table key walked oid row places shape is reads leaf) (λ array meets is x on. on) seen
 
   -- it isn't behind the last level that there may be
-  pub Path-end : (s t : S) (walked oid : ℕ) (places : List Place) → IsLawful face s → SawIn face way s t (λ rows. IsOnPath rows table key walked oid places) → walked < 12
+  pub Path-end : (s t : S) (walked oid : ℕ) (places : List Place) → IsLawful face s → SawIn face (IsOnWay table key) s t (λ rows. IsOnPath rows table key walked oid places) → walked < 12
   Path-end s t walked oid places lawful seen =
-      let (array, meets, is) = SawIn-possible face goes_on way s t (λ rows. IsOnPath rows table key walked oid places) lawful seen in
+      let (array, meets, is) = SawIn-possible face goes_on (IsOnWay table key) s t (λ rows. IsOnPath rows table key walked oid places) lawful seen in
       let (n, many, few) = levels_of-bounds array table in
       omega (arith, is.at.counted, many, few)
 
   module _ (found : (row : List ℕ) (shape : Shape) → node_of row ≡ Some shape → (is_node shape ≡ true) × (row ≡ node_row shape)) where
     -- an inner node has a pair up to the key
-    pub Path-inner : (s u : S) (walked oid : ℕ) (row : List ℕ) (places : List Place) (shape : Shape) → IsLawful face s → SawIn face way s u (λ rows. IsNodeOnPath rows table key walked oid row places) → node_of row ≡ Some shape → shape.leaf ≡ false
+    pub Path-inner : (s u : S) (walked oid : ℕ) (row : List ℕ) (places : List Place) (shape : Shape) → IsLawful face s → SawIn face (IsOnWay table key) s u (λ rows. IsNodeOnPath rows table key walked oid row places) → node_of row ≡ Some shape → shape.leaf ≡ false
         → 0 < rank key shape.pairs
     Path-inner s u walked oid row places shape lawful seen reads inner =
-        let (array, meets, is) = SawIn-possible face goes_on way s u (λ rows. IsNodeOnPath rows table key walked oid row places) lawful seen in
+        let (array, meets, is) = SawIn-possible face goes_on (IsOnWay table key) s u (λ rows. IsNodeOnPath rows table key walked oid row places) lawful seen in
         let child = child_at found array table key walked oid is.to row shape is.node reads inner in
         omega (arith, child.many)
 
     -- it goes down
-    pub Path-down : (s u : S) (walked oid : ℕ) (row : List ℕ) (places : List Place) (shape : Shape) (child : ℕ) → SawIn face way s u (λ rows. IsNodeOnPath rows table key walked oid row places) → node_of row ≡ Some shape → shape.leaf ≡ false
-        → child ≡ child_for key shape.pairs → SawIn face way s u (λ rows. IsOnPath rows table key (suc walked) child (places ++ record { oid = oid; shape = shape } ∷ []))
+    pub Path-down : (s u : S) (walked oid : ℕ) (row : List ℕ) (places : List Place) (shape : Shape) (child : ℕ) → SawIn face (IsOnWay table key) s u (λ rows. IsNodeOnPath rows table key walked oid row places) → node_of row ≡ Some shape → shape.leaf ≡ false
+        → child ≡ child_for key shape.pairs → SawIn face (IsOnWay table key) s u (λ rows. IsOnPath rows table key (suc walked) child (places ++ record { oid = oid; shape = shape } ∷ []))
     Path-down s u walked oid row places shape child seen reads inner child_is =
-        SawIn-weaker face goes_on way way s u (λ rows. IsNodeOnPath rows table key walked oid row places) (λ rows. IsOnPath rows table key (suc walked) child (places ++ record { oid = oid; shape = shape } ∷ []))
+        SawIn-weaker face goes_on (IsOnWay table key) (IsOnWay table key) s u (λ rows. IsNodeOnPath rows table key walked oid row places) (λ rows. IsOnPath rows table key (suc walked) child (places ++ record { oid = oid; shape = shape } ∷ []))
         (λ array meets is. on_path_down found array table key walked oid row places shape child is reads inner child_is) (λ array meets is x on. on) seen

@@ -1,8 +1,8 @@
 -- Objects that are made, and rows that are claimed and set, one after another.
-use Rattle.std.proofs.Common.{◌≡◌, ℕ, ◌+◌, ◌<◌, List, [], ◌∷◌, ◌++◌, map, take, length, get_or, sym, ap, ◌∙◌, subst}
+use Rattle.std.proofs.Common.{◌≡◌, ℕ, ◌+◌, ◌<◌, List, [], ◌∷◌, ◌++◌, map, take, length, get_or, refl, sym, ap, ◌∙◌, subst, arith}
 use Rattle.std.proofs.lemmas.List.{take_more, map-append}
-use Rattle.erm_model.specs.RowTransaction.{Event, did_read, did_claim, did_write, did_make, Face, Does}
-use Rattle.erm_tree.specs.Calls.{Ran, AreQuiet}
+use Rattle.erm_model.specs.RowTransaction.{Event, did_read, did_claim, did_write, did_make, made_by_all, Face, Does, OnlyReads}
+use Rattle.erm_tree.specs.Calls.{Ran, AreClaims, AreQuiet}
 use Rattle.erm_tree.proofs.Calls.{Ran-more}
 
 -- makes are quiet
@@ -11,9 +11,33 @@ AreQuiet-makes [] = tt
 AreQuiet-makes (o ∷ os) = AreQuiet-makes os
 
 -- so are claims
-pub AreQuiet-claims : (ws : List (ℕ × List ℕ)) → AreQuiet (map (λ w. did_claim w.0) ws)
-AreQuiet-claims [] = tt
-AreQuiet-claims (w ∷ ws) = AreQuiet-claims ws
+pub AreQuiet-claims : (es : List Event) → AreClaims es → AreQuiet es
+AreQuiet-claims [] claims = tt
+AreQuiet-claims (did_read oid row ∷ es) claims = absurd claims
+AreQuiet-claims (did_claim oid ∷ es) claims = AreQuiet-claims es claims
+AreQuiet-claims (did_write oid row ∷ es) claims = absurd claims
+AreQuiet-claims (did_make oid ∷ es) claims = absurd claims
+
+-- which make nothing
+pub AreClaims-made : (es : List Event) (x : ℕ) → AreClaims es → made_by_all es x ≡ 0
+AreClaims-made [] x claims = refl
+AreClaims-made (did_read oid row ∷ es) x claims = absurd claims
+AreClaims-made (did_claim oid ∷ es) x claims = omega (arith, AreClaims-made es x claims)
+AreClaims-made (did_write oid row ∷ es) x claims = absurd claims
+AreClaims-made (did_make oid ∷ es) x claims = absurd claims
+
+-- nor do reads
+pub OnlyReads-made : (es : List Event) (x : ℕ) → OnlyReads es → made_by_all es x ≡ 0
+OnlyReads-made [] x reads = refl
+OnlyReads-made (did_read oid row ∷ es) x reads = omega (arith, OnlyReads-made es x reads)
+OnlyReads-made (did_claim oid ∷ es) x reads = absurd reads
+OnlyReads-made (did_write oid row ∷ es) x reads = absurd reads
+OnlyReads-made (did_make oid ∷ es) x reads = absurd reads
+
+-- claims of the objects of rows
+pub AreClaims-rows : (ws : List (ℕ × List ℕ)) → AreClaims (map (λ w. did_claim w.0) ws)
+AreClaims-rows [] = tt
+AreClaims-rows (w ∷ ws) = AreClaims-rows ws
 
 -- and what is quiet in two parts
 pub AreQuiet-append : (es fs : List Event) → AreQuiet es → AreQuiet fs → AreQuiet (es ++ fs)

@@ -17,12 +17,13 @@ use Rattle.erm_node.specs.TreeMap.{record_in}
 use Rattle.erm_tree.specs.Calls.{SawIn, DidBy, Ran}
 use Rattle.erm_tree.specs.Change.{AreReadsThen, makes_claims_writes, IsPutOfNew, IsPut}
 use Rattle.erm_tree.specs.Insert.{Place, path_to, new_rows, objects_for}
-use Rattle.erm_tree.specs.Reads.{IsMetIn}
+use Rattle.erm_tree.specs.Reads.{IsOnWay}
 use Rattle.erm_tree.specs.Walk.{IsRecordFor}
 use Rattle.erm_tree.proofs.Calls.{SawIn-then, Ran-then, Runs-made_once}
 use Rattle.erm_tree.proofs.Changing.{DidBy-after}
 use Rattle.erm_tree.proofs.Growth.{on_path, on_path-times}
 use Rattle.erm_tree.proofs.Insertion.{Each}
+use Rattle.erm_tree.proofs.Phases.{AreClaims-made, AreClaims-rows}
 use Rattle.erm_tree.proofs.Planted.{IsPlanted, IsSound-planted, reached-planted, IsSetAt-planted}
 use Rattle.erm_tree.proofs.Plans.{set_all, set_times, set_all-other, set_times-new_rows, AreWritten-new_rows}
 use Rattle.erm_tree.proofs.Runs.{objects_for-some}
@@ -40,10 +41,6 @@ after_all-claims (w ∷ ws) rows = after_all-claims ws rows
 made_by_all-makes : (made : List ℕ) (x : ℕ) → made_by_all (map did_make made) x ≡ total (λ o. same_oid o x) made
 made_by_all-makes [] x = refl
 made_by_all-makes (o ∷ os) x = omega (arith, made_by_all-makes os x)
-
-made_by_all-claims : (ws : List (ℕ × List ℕ)) (x : ℕ) → made_by_all (map (λ w. did_claim w.0) ws) x ≡ 0
-made_by_all-claims [] x = refl
-made_by_all-claims (w ∷ ws) x = omega (arith, made_by_all-claims ws x)
 
 made_by_all-writes : (ws : List (ℕ × List ℕ)) (x : ℕ) → made_by_all (map (λ w. did_write w.0 w.1) ws) x ≡ 0
 made_by_all-writes [] x = refl
@@ -64,7 +61,7 @@ made_by_all-put : (made : List ℕ) (ws : List (ℕ × List ℕ)) (x : ℕ) → 
 made_by_all-put made ws x =
     let claims = map (λ (w : ℕ × List ℕ). did_claim w.0) ws in
     let writes = map (λ (w : ℕ × List ℕ). did_write w.0 w.1) ws in
-    omega (arith, made_by_all-append (map did_make made) (claims ++ writes) x, made_by_all-append claims writes x, made_by_all-makes made x, made_by_all-claims ws x, made_by_all-writes ws x)
+    omega (arith, made_by_all-append (map did_make made) (claims ++ writes) x, made_by_all-append claims writes x, made_by_all-makes made x, AreClaims-made claims x (AreClaims-rows ws), made_by_all-writes ws x)
 
 same_number : (o x : ℕ) → 0 < same_oid o x → x ≡ o
 same_number o x more = grind (arith, nat_tests)
@@ -195,14 +192,14 @@ module _ {S : Type 0} (face : Face S) (goes_on : (a b c : S) → face.follows a 
     (table key : ℕ) (below : table < 16) (fits : key < 2 ^ 64) where
   -- a new key was put in
   pub DidBy-put_new : (s t u v w z : S) (row : List ℕ) (places : List Place) (made : List ℕ) (ws : List (ℕ × List ℕ)) (change : Rows → Rows → Type 0) → IsRecord row
-      → SawIn face (λ rows x. IsMetIn rows table key key x) s t (λ rows. IsRecordFor rows table key None)
-      → SawIn face (λ rows x. IsMetIn rows table key key x) t u (λ rows. places ≡ path_to rows (levels_of rows table) table key)
+      → SawIn face (IsOnWay table key) s t (λ rows. IsRecordFor rows table key None)
+      → SawIn face (IsOnWay table key) t u (λ rows. places ≡ path_to rows (levels_of rows table) table key)
       → Ran face u (map did_make made) v → Ran face v (map (λ e. did_claim e.0) ws) w → Ran face w (map (λ e. did_write e.0 e.1) ws) z
       → length made ≡ objects_for places → ws ≡ new_rows made key row places → All (λ o. o < OID_LIMIT) made
       → ((rows new : Rows) → IsSound rows → IsSound new → IsSetAt rows new table key (record_value row) → change rows new)
       → DidBy face (λ rows events. IsPut rows table key row events) s z change
   DidBy-put_new s t u v w z row places made ws change record_row absent path makes claims writes many planned small result =
-      let objects : Rows → ℕ → Type 0 = λ rows x. IsMetIn rows table key key x in
+      let objects : Rows → ℕ → Type 0 = IsOnWay table key in
       let fs = makes_claims_writes made ws in
       let seen = SawIn-then face goes_on objects s t u (λ rows. IsRecordFor rows table key None) (λ rows. places ≡ path_to rows (levels_of rows table) table key) absent path in
       let es = map did_make made in
@@ -227,7 +224,7 @@ module _ {S : Type 0} (face : Face S) (goes_on : (a b c : S) → face.follows a 
       (λ array meets is agrees ds only of.
       let here = path_to array (levels_of array table) table key in
       let same : ws ≡ new_rows made key row here = planned ∙ ap (new_rows made key row) is.1 in
-      subst (λ (r : Option ℕ). MatchOption r (IsPutOfNew array table key row (ds ++ fs)) (λ oid. AreReadsThen (IsMetIn array table key key) (did_write oid row ∷ []) (ds ++ fs))) is.0.is
+      subst (λ (r : Option ℕ). MatchOption r (IsPutOfNew array table key row (ds ++ fs)) (λ oid. AreReadsThen (IsOnWay table key array) (did_write oid row ∷ []) (ds ++ fs))) is.0.is
       (record {
         made = made;
         many = many ∙ ap objects_for is.1;

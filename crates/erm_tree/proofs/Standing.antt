@@ -11,7 +11,7 @@ use Rattle.erm_node.specs.Node.{pairs_of, first_child}
 use Rattle.erm_node.specs.Tree.{Fan, first_key, total, IsTree, entries, times, same_oid}
 use Rattle.erm_node.specs.Sound.{IsSound, levels_of, inner_levels, reached, reached_below}
 use Rattle.erm_node.specs.TreeMap.{record_in}
-use Rattle.erm_tree.specs.Reads.{AnyOfFan, IsMet, IsMetIn}
+use Rattle.erm_tree.specs.Reads.{AnyOfFan, IsMet}
 use Rattle.erm_tree.specs.Walk.{IsEntry, IsLeafFor}
 use Rattle.erm_tree.proofs.Fans.{Fan-back, first_key-Fan, AnyOfFan-append, Fan-each, first_key-before, total-part, IsPairFor}
 use Rattle.erm_tree.proofs.Trees.{IsOutside, lookup-entries_outside, lookup-Fan_outside, lookup-Fan_inside, low_enough}
@@ -55,7 +55,7 @@ pub record StandsAt (rows : Rows) (table key walked oid to : ℕ) : Type 0 where
   pub high : key < to
   pub top : to ≤ 2 ^ 64
   pub found : (k : ℕ) → from ≤ k → k < to → record_in rows table k ≡ lookup (nat_eq k) (entries rows (suc levels) oid from)
-  pub met : (l h x : ℕ) → IsMet rows l h (suc levels) oid from to x → IsMetIn rows table l h x
+  pub met : (records : Bool) (l h x : ℕ) → IsMet records rows l h (suc levels) oid from to x → IsMet records rows l h (levels_of rows table) table 0 (2 ^ 64) x
   pub reaches : (x : ℕ) → times rows (suc levels) oid x ≤ reached rows x
 
 -- the walk begins at the root
@@ -72,7 +72,7 @@ StandsAt-root rows table key sound below fits =
       high = fits;
       top = omega arith;
       found = λ k low high. ap (λ (m : ℕ). lookup (nat_eq k) (entries rows m table 0)) many;
-      met = λ l h x is. subst (λ (m : ℕ). IsMet rows l h m table 0 (2 ^ 64) x) (sym many) is;
+      met = λ r l h x is. subst (λ (m : ℕ). IsMet r rows l h m table 0 (2 ^ 64) x) (sym many) is;
       reaches = λ x. omega (arith, reached-table rows table x below, ap (λ (m : ℕ). times rows m table x) many);
     }
 
@@ -115,10 +115,10 @@ StandsAt-child rows table key walked oid to child end at below deeper is =
           ∙ ap (λ (m : ℕ). lookup (nat_eq k) (entries rows (suc m) oid at.from)) deeper
           ∙ ap (λ (ps : List (ℕ × ℕ)). lookup (nat_eq k) (flat_map each ps)) is.split
           ∙ lookup-Fan_inside E P (λ c f t q inside wide out. lookup-entries_outside rows (suc below) 4 c f t q inside wide out) is.before child is.rest to k fan low (omega (arith, is.end));
-      met = λ l h x met. at.met l h x (
+      met = λ r l h x met. at.met r l h x (
         omega (arith, met.0, is.end),
         omega (arith, met.1),
-        let M : ℕ → ℕ → ℕ → ℕ → Type 0 = λ m c f t. IsMet rows l h m c f t x in
+        let M : ℕ → ℕ → ℕ → ℕ → Type 0 = λ m c f t. IsMet r rows l h m c f t x in
             let inside : AnyOfFan (M (suc below)) (is.before ++ child ∷ is.rest) to =
             AnyOfFan-append (M (suc below)) is.before (child ∷ is.rest) to (inl (subst (λ (t : ℕ). M (suc below) child.1 child.0 t) is.end met)) in
             let inside_node : AnyOfFan (M (suc below)) (pairs_of (rows oid)) to = subst (λ (ps : List (ℕ × ℕ)). AnyOfFan (M (suc below)) ps to) (sym is.split) inside in
@@ -195,11 +195,11 @@ StandsAt-leaf rows table key walked oid to sound at last =
             alone = λ k above below. here k (omega arith) below ∙ lookup-other k pair.0 pair.1 above;
             record_row = row;
             bounded = elim (cases_lt pair.1 OID_LIMIT) as (λ _. pair.1 < OID_LIMIT) [ inl less ↦ less | inr not_less ↦ absurd (omega (arith, sound.bounded pair.1 not_less)) ];
-            met = λ l h above below. at.met l h pair.1 (
+            met = λ l h above below. at.met true l h pair.1 (
               omega arith,
               omega arith,
-              let M : ℕ → ℕ → ℕ → ℕ → Type 0 = λ m c f t. IsMet rows l h m c f t pair.1 in
-                  let inside : AnyOfFan (M 0) (before ++ pair ∷ after) to = AnyOfFan-append (M 0) before (pair ∷ after) to (inl (refl, above, below)) in
+              let M : ℕ → ℕ → ℕ → ℕ → Type 0 = λ m c f t. IsMet true rows l h m c f t pair.1 in
+                  let inside : AnyOfFan (M 0) (before ++ pair ∷ after) to = AnyOfFan-append (M 0) before (pair ∷ after) to (inl (refl, refl, above, below)) in
                   let inside_node : AnyOfFan (M 0) pairs to = subst (λ (ps : List (ℕ × ℕ)). AnyOfFan (M 0) ps to) (sym is) inside in
                   inr (subst (λ (m : ℕ). AnyOfFan (M m) pairs to) (sym last) inside_node),
             );

@@ -13,7 +13,7 @@ use Rattle.erm_node.specs.Node.{Shape, node_of, node_row, pairs_of, is_node, few
 use Rattle.erm_node.specs.Sound.{sound_law}
 use Rattle.erm_node.specs.Tree.{first_key, Starts, IsTree}
 use Rattle.erm_tree.specs.Calls.{IsReady, SawIn}
-use Rattle.erm_tree.specs.Reads.{IsMetIn}
+use Rattle.erm_tree.specs.Reads.{IsMetIn, IsOnWay}
 use Rattle.erm_tree.specs.Walk.{rank, IsEntry, IsLeafFor, IsRecordFor}
 use Rattle.erm_tree.proofs.Fans.{IsPairFor, pair_for, Fan-lookup}
 use Rattle.erm_tree.proofs.Standing.{StandsAt, StandsAt-root, StandsAt-bounded, StandsAt-child, StandsAt-leaf, levels_of-bounds}
@@ -109,42 +109,38 @@ object_of rows table key None there = tt
 object_of rows table key (Some oid) there = there.1
 
 module _ {S : Type 0} (face : Face S) (goes_on : (a b c : S) → face.follows a b → face.follows b c → face.follows a c) (law : SameLaw face.law sound_law) (table key : ℕ) where
-  -- the objects that a walk to the key may read
-  abbrev pub on_way : Rows → ℕ → Type 0
-  on_way rows x = IsMetIn rows table key key x
-
   -- it begins
-  pub Walking-start : (s : S) → IsReady face s → face.follows s s → table < 16 → key < 2 ^ 64 → SawIn face on_way s s (λ rows. StandsAt rows table key 0 table (2 ^ 64))
+  pub Walking-start : (s : S) → IsReady face s → face.follows s s → table < 16 → key < 2 ^ 64 → SawIn face (IsOnWay table key) s s (λ rows. StandsAt rows table key 0 table (2 ^ 64))
   Walking-start s ready stands below fits =
-      SawIn-start face goes_on on_way s (λ rows. StandsAt rows table key 0 table (2 ^ 64)) ready stands
+      SawIn-start face goes_on (IsOnWay table key) s (λ rows. StandsAt rows table key 0 table (2 ^ 64)) ready stands
       (λ array meets. StandsAt-root array table key ((law.meets array).0 meets) below fits)
 
   -- it stands at an object that there may be
-  pub Walking-bounded : (s t : S) (walked oid to : ℕ) → IsLawful face s → SawIn face on_way s t (λ rows. StandsAt rows table key walked oid to) → oid < OID_LIMIT
+  pub Walking-bounded : (s t : S) (walked oid to : ℕ) → IsLawful face s → SawIn face (IsOnWay table key) s t (λ rows. StandsAt rows table key walked oid to) → oid < OID_LIMIT
   Walking-bounded s t walked oid to lawful seen =
-      let (array, meets, at) = SawIn-possible face goes_on on_way s t (λ rows. StandsAt rows table key walked oid to) lawful seen in
+      let (array, meets, at) = SawIn-possible face goes_on (IsOnWay table key) s t (λ rows. StandsAt rows table key walked oid to) lawful seen in
       StandsAt-bounded array table key walked oid to ((law.meets array).0 meets) at
 
   -- it reads there
-  pub Walking-read : (s t u : S) (walked oid to : ℕ) (row : List ℕ) → SawIn face on_way s t (λ rows. StandsAt rows table key walked oid to) → Does face t (did_read oid row) u
-      → SawIn face on_way s u (λ rows. IsNodeAt rows table key walked oid to row)
+  pub Walking-read : (s t u : S) (walked oid to : ℕ) (row : List ℕ) → SawIn face (IsOnWay table key) s t (λ rows. StandsAt rows table key walked oid to) → Does face t (did_read oid row) u
+      → SawIn face (IsOnWay table key) s u (λ rows. IsNodeAt rows table key walked oid to row)
   Walking-read s t u walked oid to row seen does =
-      SawIn-weaker face goes_on on_way on_way s u (λ rows. StandsAt rows table key walked oid to × (rows oid ≡ row)) (λ rows. IsNodeAt rows table key walked oid to row)
+      SawIn-weaker face goes_on (IsOnWay table key) (IsOnWay table key) s u (λ rows. StandsAt rows table key walked oid to × (rows oid ≡ row)) (λ rows. IsNodeAt rows table key walked oid to row)
       (λ array meets is. record { at = is.0; is = is.1 }) (λ array meets is x on. on)
-      (SawIn-then_read face goes_on on_way s t u (λ rows. StandsAt rows table key walked oid to) oid row seen does
-      (λ array meets at. at.met key key oid (at.high, at.low, inl refl)))
+      (SawIn-then_read face goes_on (IsOnWay table key) s t u (λ rows. StandsAt rows table key walked oid to) oid row seen does
+      (λ array meets at. at.met false key key oid (at.high, at.low, inl refl)))
 
   -- what it reads is a node
-  pub Walking-node : (s u : S) (walked oid to : ℕ) (row : List ℕ) → IsLawful face s → SawIn face on_way s u (λ rows. IsNodeAt rows table key walked oid to row) → (shape : Shape) × (node_of row ≡ Some shape)
+  pub Walking-node : (s u : S) (walked oid to : ℕ) (row : List ℕ) → IsLawful face s → SawIn face (IsOnWay table key) s u (λ rows. IsNodeAt rows table key walked oid to row) → (shape : Shape) × (node_of row ≡ Some shape)
   Walking-node s u walked oid to row lawful seen =
-      let (array, meets, is) = SawIn-possible face goes_on on_way s u (λ rows. IsNodeAt rows table key walked oid to row) lawful seen in
+      let (array, meets, is) = SawIn-possible face goes_on (IsOnWay table key) s u (λ rows. IsNodeAt rows table key walked oid to row) lawful seen in
       (record { leaf = is.at.levels == 0; pairs = pairs_of (array oid) }, sym (ap node_of is.is) ∙ is.at.tree.node)
 
   -- it ends at a leaf
-  pub Walking-leaf : (s u : S) (walked oid to : ℕ) (row : List ℕ) (shape : Shape) → SawIn face on_way s u (λ rows. IsNodeAt rows table key walked oid to row) → node_of row ≡ Some shape → shape.leaf ≡ true
-      → SawIn face on_way s u (λ rows. IsLeafFor rows table key shape.pairs to)
+  pub Walking-leaf : (s u : S) (walked oid to : ℕ) (row : List ℕ) (shape : Shape) → SawIn face (IsOnWay table key) s u (λ rows. IsNodeAt rows table key walked oid to row) → node_of row ≡ Some shape → shape.leaf ≡ true
+      → SawIn face (IsOnWay table key) s u (λ rows. IsLeafFor rows table key shape.pairs to)
   Walking-leaf s u walked oid to row shape seen reads leaf =
-      SawIn-weaker face goes_on on_way on_way s u (λ rows. IsNodeAt rows table key walked oid to row) (λ rows. IsLeafFor rows table key shape.pairs to)
+      SawIn-weaker face goes_on (IsOnWay table key) (IsOnWay table key) s u (λ rows. IsNodeAt rows table key walked oid to row) (λ rows. IsLeafFor rows table key shape.pairs to)
       (λ array meets is.
       let same = shape_at array table key walked oid to row shape is reads in
       let last : is.at.levels ≡ 0 = levels_zero is.at.levels (sym same.0 ∙ leaf) in
@@ -152,27 +148,27 @@ module _ {S : Type 0} (face : Face S) (goes_on : (a b c : S) → face.follows a 
       (λ array meets is x on. on) seen
 
   -- it isn't behind the last level that there may be
-  pub Walking-end : (s t : S) (walked oid to : ℕ) → IsLawful face s → SawIn face on_way s t (λ rows. StandsAt rows table key walked oid to) → walked < 12
+  pub Walking-end : (s t : S) (walked oid to : ℕ) → IsLawful face s → SawIn face (IsOnWay table key) s t (λ rows. StandsAt rows table key walked oid to) → walked < 12
   Walking-end s t walked oid to lawful seen =
-      let (array, meets, at) = SawIn-possible face goes_on on_way s t (λ rows. StandsAt rows table key walked oid to) lawful seen in
+      let (array, meets, at) = SawIn-possible face goes_on (IsOnWay table key) s t (λ rows. StandsAt rows table key walked oid to) lawful seen in
       let (n, many, few) = levels_of-bounds array table in
       omega (arith, at.counted, many, few)
 
   module _ (found : (row : List ℕ) (shape : Shape) → node_of row ≡ Some shape → (is_node shape ≡ true) × (row ≡ node_row shape)) where
     -- an inner node has a pair up to the key
-    pub Walking-inner : (s u : S) (walked oid to : ℕ) (row : List ℕ) (shape : Shape) → IsLawful face s → SawIn face on_way s u (λ rows. IsNodeAt rows table key walked oid to row) → node_of row ≡ Some shape → shape.leaf ≡ false
+    pub Walking-inner : (s u : S) (walked oid to : ℕ) (row : List ℕ) (shape : Shape) → IsLawful face s → SawIn face (IsOnWay table key) s u (λ rows. IsNodeAt rows table key walked oid to row) → node_of row ≡ Some shape → shape.leaf ≡ false
         → 0 < rank key shape.pairs
     Walking-inner s u walked oid to row shape lawful seen reads inner =
-        let (array, meets, is) = SawIn-possible face goes_on on_way s u (λ rows. IsNodeAt rows table key walked oid to row) lawful seen in
+        let (array, meets, is) = SawIn-possible face goes_on (IsOnWay table key) s u (λ rows. IsNodeAt rows table key walked oid to row) lawful seen in
         let child = child_at found array table key walked oid to row shape is reads inner in
         omega (arith, child.many)
 
     -- it goes down
-    pub Walking-down : (s u : S) (walked oid to : ℕ) (row : List ℕ) (shape : Shape) (child end : ℕ) → SawIn face on_way s u (λ rows. IsNodeAt rows table key walked oid to row) → node_of row ≡ Some shape → shape.leaf ≡ false
+    pub Walking-down : (s u : S) (walked oid to : ℕ) (row : List ℕ) (shape : Shape) (child end : ℕ) → SawIn face (IsOnWay table key) s u (λ rows. IsNodeAt rows table key walked oid to row) → node_of row ≡ Some shape → shape.leaf ≡ false
         → child ≡ (get_or shape.pairs (rank key shape.pairs - 1) (0, 0)).1 → end ≡ first_key (drop (rank key shape.pairs) shape.pairs) to
-        → SawIn face on_way s u (λ rows. StandsAt rows table key (suc walked) child end)
+        → SawIn face (IsOnWay table key) s u (λ rows. StandsAt rows table key (suc walked) child end)
     Walking-down s u walked oid to row shape child end seen reads inner child_is end_is =
-        SawIn-weaker face goes_on on_way on_way s u (λ rows. IsNodeAt rows table key walked oid to row) (λ rows. StandsAt rows table key (suc walked) child end)
+        SawIn-weaker face goes_on (IsOnWay table key) (IsOnWay table key) s u (λ rows. IsNodeAt rows table key walked oid to row) (λ rows. StandsAt rows table key (suc walked) child end)
         (λ array meets is.
         let has = child_at found array table key walked oid to row shape is reads inner in
         let before : rank key shape.pairs - 1 ≡ has.before = omega (arith, has.many) in
@@ -184,14 +180,14 @@ module _ {S : Type 0} (face : Face S) (goes_on : (a b c : S) → face.follows a 
         (λ array meets is x on. on) seen
 
   -- and finds the record there
-  pub Walking-record : (s t : S) (pairs : List (ℕ × ℕ)) (to : ℕ) → SawIn face on_way s t (λ rows. IsLeafFor rows table key pairs to)
-      → SawIn face on_way s t (λ rows. IsRecordFor rows table key (lookup (nat_eq key) pairs))
+  pub Walking-record : (s t : S) (pairs : List (ℕ × ℕ)) (to : ℕ) → SawIn face (IsOnWay table key) s t (λ rows. IsLeafFor rows table key pairs to)
+      → SawIn face (IsOnWay table key) s t (λ rows. IsRecordFor rows table key (lookup (nat_eq key) pairs))
   Walking-record s t pairs to seen =
-      SawIn-weaker face goes_on on_way on_way s t (λ rows. IsLeafFor rows table key pairs to) (λ rows. IsRecordFor rows table key (lookup (nat_eq key) pairs))
+      SawIn-weaker face goes_on (IsOnWay table key) (IsOnWay table key) s t (λ rows. IsLeafFor rows table key pairs to) (λ rows. IsRecordFor rows table key (lookup (nat_eq key) pairs))
       (λ array meets leaf. IsRecordFor-leaf array table key pairs to leaf) (λ array meets leaf x on. on) seen
 
   -- where there is one, it is an object that there may be
-  pub Walking-object : (s t : S) (found : Option ℕ) → IsLawful face s → SawIn face on_way s t (λ rows. IsRecordFor rows table key found) → IfSome found (λ oid. oid < OID_LIMIT)
+  pub Walking-object : (s t : S) (found : Option ℕ) → IsLawful face s → SawIn face (IsOnWay table key) s t (λ rows. IsRecordFor rows table key found) → IfSome found (λ oid. oid < OID_LIMIT)
   Walking-object s t found lawful seen =
-      let (array, meets, is) = SawIn-possible face goes_on on_way s t (λ rows. IsRecordFor rows table key found) lawful seen in
+      let (array, meets, is) = SawIn-possible face goes_on (IsOnWay table key) s t (λ rows. IsRecordFor rows table key found) lawful seen in
       object_of array table key found is.there

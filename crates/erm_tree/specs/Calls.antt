@@ -1,7 +1,8 @@
 -- What calls of the tree ask of a transaction, and what they say of its events. This project's own.
-use Rattle.std.specs.Prelude.{ℕ, List, [], ◌∷◌}
+use Rattle.std.specs.Prelude.{◌≡◌, ℕ, List, [], ◌∷◌}
+use Rattle.std.specs.List.{Any}
 use Rattle.erm_model.specs.Rows.{Rows}
-use Rattle.erm_model.specs.RowTransaction.{Event, did_read, did_claim, did_write, did_make, Law, Agrees, Face, IsPossible, IsLawful, GoesOn, OnlyReads, Saw, Did}
+use Rattle.erm_model.specs.RowTransaction.{Event, did_read, did_claim, did_write, did_make, Asked, asked_read, asked_claim, asked_make, Law, Agrees, Face, IsPossible, IsLawful, GoesOn, OnlyReads, Saw, Did}
 
 -- a transaction that tree calls may be made on: it is active, and lawful so far, on some array that meets the law
 pub record IsReady {S : Type 0} (face : Face S) (s : S) : Type 0 where
@@ -31,6 +32,23 @@ pub record SawIn {S : Type 0} (face : Face S) (objects : Rows → ℕ → Type 0
   pub saw : Saw face s t fact
   pub reads : Reads face.law objects saw.events
 
+-- what a look for objects asks for: to read one of these
+abbrev pub AsksReads : (Rows → ℕ → Type 0) → List Event → Rows → Asked → Type 0
+AsksReads objects events rows (asked_read oid) = objects rows oid
+AsksReads objects events rows (asked_claim oid) = ⊥
+AsksReads objects events rows asked_make = ⊥
+
+-- what calls for new objects ask for; what claims of the objects of these rows ask for
+abbrev pub AsksMake : List Event → Rows → Asked → Type 0
+AsksMake events rows (asked_read oid) = ⊥
+AsksMake events rows (asked_claim oid) = ⊥
+AsksMake events rows asked_make = Unit {0}
+
+abbrev pub AsksClaims : List (ℕ × List ℕ) → List Event → Rows → Asked → Type 0
+AsksClaims entries events rows (asked_read oid) = ⊥
+AsksClaims entries events rows (asked_claim oid) = Any (λ entry. entry.0 ≡ oid) entries
+AsksClaims entries events rows asked_make = ⊥
+
 -- several calls changed the rows, and on each array that meets the law and agrees with their events, these are of this kind
 pub record DidBy {S : Type 0} (face : Face S) (kind : Rows → List Event → Type 0) (s t : S) (change : Rows → Rows → Type 0) : Type 0 where
   pub did : Did face s t change
@@ -48,3 +66,11 @@ AreQuiet (did_read oid row ∷ events) = ⊥
 AreQuiet (did_claim oid ∷ events) = AreQuiet events
 AreQuiet (did_write oid row ∷ events) = ⊥
 AreQuiet (did_make oid ∷ events) = AreQuiet events
+
+-- events that claim alone
+abbrev pub AreClaims : List Event → Type 0
+AreClaims [] = Unit {0}
+AreClaims (did_read oid row ∷ events) = ⊥
+AreClaims (did_claim oid ∷ events) = AreClaims events
+AreClaims (did_write oid row ∷ events) = ⊥
+AreClaims (did_make oid ∷ events) = ⊥

@@ -4,9 +4,9 @@ ghost use Rattle.std.specs.Prelude.{◌≡◌, ◌<◌, ◌≤◌, ℕ, IfOk, On
 ghost use Rattle.std.specs.List.{All};
 ghost use Rattle.erm_model.specs.RowTransaction.{did_claim, did_make, did_write, IsPossible, SameLaw, StopsRead, StopsClaim, StopsMake, IsStopped};
 ghost use Rattle.erm_node.specs.Sound.{levels_of, sound_law};
-ghost use Rattle.erm_tree.specs.Calls.{AreQuiet, IsReady, Ran, Reads, SawIn};
+ghost use Rattle.erm_tree.specs.Calls.{AreClaims, AreQuiet, AsksClaims, AsksMake, AsksReads, IsReady, Ran, Reads, SawIn};
 ghost use Rattle.erm_tree.specs.Insert.{path_to};
-ghost use Rattle.erm_tree.specs.Reads.{IsMetIn};
+ghost use Rattle.erm_tree.specs.Reads.{IsOnWay};
 ghost use Rattle.erm_tree.specs.Step.{places_of};
 
 use crate::plan::{MOST_OBJECTS, Step};
@@ -24,9 +24,9 @@ pub(crate) fn path_for<T: RowTxn>(
     requires ready { IsReady T.face txn.old }
     requires law { SameLaw T.face.law sound_law }
     requires table { table < TABLES }
-    ensures ok { IfOk result (λ path. SawIn T.face (λ rows x. IsMetIn rows table key key x) txn.old txn.new (λ rows. places_of path.items ≡ path_to rows (levels_of rows table) table key)) }
+    ensures ok { IfOk result (λ path. SawIn T.face (IsOnWay table key) txn.old txn.new (λ rows. places_of path.items ≡ path_to rows (levels_of rows table) table key)) }
     ensures nodes { IfOk result (λ path. 0 < length path.items) }
-    ensures err { IfErr result (λ stop. IsStopped T.face StopsRead (Reads T.face.law (λ rows x. IsMetIn rows table key key x)) txn.old stop txn.new) }
+    ensures err { IfErr result (λ stop. IsStopped T.face StopsRead (Reads T.face.law (IsOnWay table key)) (AsksReads (IsOnWay table key)) txn.old stop txn.new) }
 {
     nodes_are_read_back();
     let mut path = ArrayVec::new();
@@ -66,7 +66,7 @@ pub(crate) fn make_all<T: RowTxn>(
     ensures ok { IfOk result (λ made. Ran T.face txn.old (map did_make made.items) txn.new) }
     ensures count { IfOk result (λ made. length made.items ≡ count) }
     ensures objects { IfOk result (λ made. All (λ oid. oid < OID_LIMIT) made.items) }
-    ensures err { IfErr result (λ stop. IsStopped T.face StopsMake AreQuiet txn.old stop txn.new) }
+    ensures err { IfErr result (λ stop. IsStopped T.face StopsMake AreQuiet AsksMake txn.old stop txn.new) }
 {
     let mut made = ArrayVec::new();
     for _object in 0..count {
@@ -81,7 +81,7 @@ pub(crate) fn claim_all<T: RowTxn>(txn: &mut T, rows: &[(Oid, Row)]) -> Result<(
     requires possible { IsPossible T.face txn.old }
     requires objects { All (λ entry. entry.0 < OID_LIMIT) rows.now }
     ensures ok { OnOk result (Ran T.face txn.old (map (λ entry. did_claim entry.0) rows.now) txn.new) }
-    ensures err { IfErr result (λ stop. IsStopped T.face StopsClaim AreQuiet txn.old stop txn.new) }
+    ensures err { IfErr result (λ stop. IsStopped T.face StopsClaim AreClaims (AsksClaims rows.now) txn.old stop txn.new) }
 {
     for (oid, _row) in rows {
         txn.claim(*oid)?;

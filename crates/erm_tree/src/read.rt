@@ -4,8 +4,8 @@ ghost use Rattle.erm_model.specs.Database.{IsNextAt, value_at};
 ghost use Rattle.erm_model.specs.RowTransaction.{SameLaw, StopsRead, IsStopped};
 ghost use Rattle.erm_node.specs.Sound.{sound_law};
 ghost use Rattle.erm_node.specs.TreeMap.{map_of_rows, record_in};
-ghost use Rattle.erm_tree.specs.Calls.{IsReady, IsTold, Reads, SawIn};
-ghost use Rattle.erm_tree.specs.Reads.{IsMetIn};
+ghost use Rattle.erm_tree.specs.Calls.{AsksReads, IsReady, IsTold, Reads, SawIn};
+ghost use Rattle.erm_tree.specs.Reads.{IsMetIn, IsOnWay, IsSought};
 ghost use Rattle.erm_tree.specs.Walk.{IsFirstIn, IsLeafFor, IsOfLeaf, bound_of, last_sought};
 
 use crate::walk::{Leaf, leaf_for, record_for};
@@ -18,8 +18,8 @@ pub fn get<T: RowTxn>(txn: &mut T, table: u8, key: u64) -> Result<Option<Value>,
     requires ready { IsReady T.face txn.old }
     requires law { SameLaw T.face.law sound_law }
     requires table { table < TABLES }
-    ensures ok { IfOk result (λ value. SawIn T.face (λ rows x. IsMetIn rows table key key x) txn.old txn.new (λ rows. value ≡ value_at (map_of_rows rows) table key)) }
-    ensures err { IfErr result (λ stop. IsStopped T.face StopsRead (Reads T.face.law (λ rows x. IsMetIn rows table key key x)) txn.old stop txn.new) }
+    ensures ok { IfOk result (λ value. SawIn T.face (IsSought table key) txn.old txn.new (λ rows. value ≡ value_at (map_of_rows rows) table key)) }
+    ensures err { IfErr result (λ stop. IsStopped T.face StopsRead (Reads T.face.law (IsSought table key)) (AsksReads (IsSought table key)) txn.old stop txn.new) }
 {
     map_has_values_of_records();
     match record_for(txn, table, key)? {
@@ -36,9 +36,9 @@ pub fn find<T: RowTxn>(txn: &mut T, table: u8, key: u64) -> Result<Option<Oid>, 
     requires ready { IsReady T.face txn.old }
     requires law { SameLaw T.face.law sound_law }
     requires table { table < TABLES }
-    ensures ok { IfOk result (λ oid. SawIn T.face (λ rows x. IsMetIn rows table key key x) txn.old txn.new (λ rows. oid ≡ record_in rows table key)) }
+    ensures ok { IfOk result (λ oid. SawIn T.face (IsOnWay table key) txn.old txn.new (λ rows. oid ≡ record_in rows table key)) }
     ensures object { IfOk result (λ found. IfSome found (λ oid. oid < OID_LIMIT)) }
-    ensures err { IfErr result (λ stop. IsStopped T.face StopsRead (Reads T.face.law (λ rows x. IsMetIn rows table key key x)) txn.old stop txn.new) }
+    ensures err { IfErr result (λ stop. IsStopped T.face StopsRead (Reads T.face.law (IsOnWay table key)) (AsksReads (IsOnWay table key)) txn.old stop txn.new) }
 {
     record_for(txn, table, key)
 }
@@ -49,7 +49,7 @@ pub fn next<T: RowTxn>(txn: &mut T, table: u8, from: u64) -> Result<Option<(u64,
     requires law { SameLaw T.face.law sound_law }
     requires table { table < TABLES }
     ensures ok { IfOk result (λ found. SawIn T.face (λ rows x. IsMetIn rows table from (last_sought (2 ^ 64) found) x) txn.old txn.new (λ rows. IsNextAt (map_of_rows rows) table from found)) }
-    ensures err { IfErr result (λ stop. IsStopped T.face StopsRead (Reads T.face.law (λ rows x. IsMetIn rows table from (2 ^ 64 - 1) x)) txn.old stop txn.new) }
+    ensures err { IfErr result (λ stop. IsStopped T.face StopsRead (Reads T.face.law (λ rows x. IsMetIn rows table from (2 ^ 64 - 1) x)) (AsksReads (λ rows x. IsMetIn rows table from (2 ^ 64 - 1) x)) txn.old stop txn.new) }
 {
     map_has_values_of_records();
     let mut low = from;
@@ -75,7 +75,7 @@ fn first_value<T: RowTxn>(
     requires leaf { IsTold T.face txn.old (λ rows. (table : ℕ) × IsLeafFor rows table low leaf.now.pairs.items (bound_of leaf.now.end)) }
     ensures ok { IfOk result (λ found. SawIn T.face (λ rows x. IsOfLeaf rows low leaf.now.pairs.items (bound_of leaf.now.end) (last_sought (bound_of leaf.now.end) found) x) txn.old txn.new
         (λ rows. (table : ℕ) → IsLeafFor rows table low leaf.now.pairs.items (bound_of leaf.now.end) → IsFirstIn rows table low (bound_of leaf.now.end) found)) }
-    ensures err { IfErr result (λ stop. IsStopped T.face StopsRead (Reads T.face.law (λ rows x. IsOfLeaf rows low leaf.now.pairs.items (bound_of leaf.now.end) (bound_of leaf.now.end - 1) x)) txn.old stop txn.new) }
+    ensures err { IfErr result (λ stop. IsStopped T.face StopsRead (Reads T.face.law (λ rows x. IsOfLeaf rows low leaf.now.pairs.items (bound_of leaf.now.end) (bound_of leaf.now.end - 1) x)) (AsksReads (λ rows x. IsOfLeaf rows low leaf.now.pairs.items (bound_of leaf.now.end) (bound_of leaf.now.end - 1) x)) txn.old stop txn.new) }
 {
     let pairs = leaf.pairs.as_slice();
     for pair in pairs {

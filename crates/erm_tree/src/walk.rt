@@ -5,8 +5,8 @@ ghost use Rattle.erm_model.specs.Rows.{Rows};
 ghost use Rattle.erm_model.specs.RowTransaction.{SameLaw, StopsRead, IsStopped};
 ghost use Rattle.erm_node.specs.Sound.{sound_law};
 ghost use Rattle.erm_node.specs.Tree.{first_key};
-ghost use Rattle.erm_tree.specs.Calls.{IsReady, Reads, SawIn};
-ghost use Rattle.erm_tree.specs.Reads.{IsMetIn};
+ghost use Rattle.erm_tree.specs.Calls.{AsksReads, IsReady, Reads, SawIn};
+ghost use Rattle.erm_tree.specs.Reads.{IsOnWay};
 ghost use Rattle.erm_tree.specs.Walk.{IsLeafFor, IsRecordFor, bound_of, rank};
 
 use arrayvec::ArrayVec;
@@ -25,8 +25,8 @@ pub(crate) fn leaf_for<T: RowTxn>(txn: &mut T, table: u8, key: u64) -> Result<Le
     requires ready { IsReady T.face txn.old }
     requires law { SameLaw T.face.law sound_law }
     requires table { table < TABLES }
-    ensures ok { IfOk result (λ leaf. SawIn T.face (λ rows x. IsMetIn rows table key key x) txn.old txn.new (λ rows. IsLeafFor rows table key leaf.pairs.items (bound_of leaf.end))) }
-    ensures err { IfErr result (λ stop. IsStopped T.face StopsRead (Reads T.face.law (λ rows x. IsMetIn rows table key key x)) txn.old stop txn.new) }
+    ensures ok { IfOk result (λ leaf. SawIn T.face (IsOnWay table key) txn.old txn.new (λ rows. IsLeafFor rows table key leaf.pairs.items (bound_of leaf.end))) }
+    ensures err { IfErr result (λ stop. IsStopped T.face StopsRead (Reads T.face.law (IsOnWay table key)) (AsksReads (IsOnWay table key)) txn.old stop txn.new) }
 {
     nodes_are_read_back();
     let mut oid = Oid::from(table);
@@ -90,9 +90,9 @@ pub(crate) fn record_for<T: RowTxn>(
     requires ready { IsReady T.face txn.old }
     requires law { SameLaw T.face.law sound_law }
     requires table { table < TABLES }
-    ensures ok { IfOk result (λ found. SawIn T.face (λ rows x. IsMetIn rows table key key x) txn.old txn.new (λ rows. IsRecordFor rows table key found)) }
+    ensures ok { IfOk result (λ found. SawIn T.face (IsOnWay table key) txn.old txn.new (λ rows. IsRecordFor rows table key found)) }
     ensures object { IfOk result (λ found. IfSome found (λ oid. oid < OID_LIMIT)) }
-    ensures err { IfErr result (λ stop. IsStopped T.face StopsRead (Reads T.face.law (λ rows x. IsMetIn rows table key key x)) txn.old stop txn.new) }
+    ensures err { IfErr result (λ stop. IsStopped T.face StopsRead (Reads T.face.law (IsOnWay table key)) (AsksReads (IsOnWay table key)) txn.old stop txn.new) }
 {
     let leaf = leaf_for(txn, table, key)?;
     Ok(record_in(leaf.pairs.as_slice(), key))

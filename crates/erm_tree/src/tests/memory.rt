@@ -17,6 +17,8 @@ pub struct MemoryTxn {
     pub rows: Vec<Row>,
     /// Whether each object is claimed.
     pub claimed: Vec<bool>,
+    /// Whether each object was read while it wasn't claimed.
+    pub seen: Vec<bool>,
     /// The object that is made next.
     pub next: Oid,
     /// Objects below are made.
@@ -27,6 +29,7 @@ pub struct MemoryTxn {
     pub claims: Vec<Oid>,
     ghost rows_there: { vec_len rows ≡ OID_LIMIT },
     ghost claimed_there: { vec_len claimed ≡ OID_LIMIT },
+    ghost seen_there: { vec_len seen ≡ OID_LIMIT },
     ghost next_above: { TABLES ≤ next },
     ghost limit_below: { limit ≤ OID_LIMIT },
 }
@@ -51,6 +54,7 @@ impl MemoryTxn {
         Ok(MemoryTxn {
             rows: zero_rows(alloc)?,
             claimed: Vec::from_elem(alloc, false, OID_LIMIT as usize)?,
+            seen: Vec::from_elem(alloc, false, OID_LIMIT as usize)?,
             next: Oid::from(TABLES),
             limit: limit.min(OID_LIMIT),
             left: u64::MAX,
@@ -62,6 +66,7 @@ impl MemoryTxn {
     fn answers(&mut self) -> bool
         ensures rows { self.new.rows.items ≡ self.old.rows.items }
         ensures claimed { self.new.claimed.items ≡ self.old.claimed.items }
+        ensures seen { self.new.seen.items ≡ self.old.seen.items }
         ensures next { self.new.next ≡ self.old.next }
     {
         if self.left == 0 {
@@ -80,8 +85,9 @@ impl RowTxn for MemoryTxn {
       rows = λ s begun. rows_of s.rows.items;
       made = λ s x. made_up_to s.next x;
       claims = λ s x. slice_index_or s.claimed.items x false ≡ true;
+      reads = λ s x. slice_index_or s.seen.items x false ≡ true;
       follows = λ s t. Unit {0};
-      stops = λ s stop t. Unit {0};
+      stops = λ s asked stop t. Unit {0};
     } };
 
     fn read(&mut self, oid: Oid) -> Result<Row, RowStop> {
@@ -89,6 +95,10 @@ impl RowTxn for MemoryTxn {
         if !self.answers() {
             return Err(RowStop::ReadsFull);
         }
+        if self.claimed[oid as usize] {
+            return Ok(self.rows[oid as usize]);
+        }
+        self.seen[oid as usize] = true;
         Ok(self.rows[oid as usize])
     }
 
@@ -136,5 +146,5 @@ impl RowTxn for MemoryTxn {
 
     ghost stands = { λ s. tt };
 
-    ghost stops_later = { λ s t u stop first second. tt };
+    ghost stops_later = { λ s t u asked stop first second. tt };
 }

@@ -2,4 +2,4 @@ use Rattle.erm_block.proofs.OneLogList.{IsChain-push}
 use Rattle.erm_block.proofs.laws.chain_grows.Goals as goal
 
 pub returns : goal.returns
-returns g c = IsChain-push g.R.RowRule.sound
+returns g c = IsChain-push g.R.RowLaw.law.meets

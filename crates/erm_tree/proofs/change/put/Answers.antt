@@ -1,4 +1,4 @@
-use Rattle.std.proofs.Common.{◌≡◌, ◌<◌, ℕ, List, map, length, Option, refl, sym, ap, ◌∙◌, subst, inl, inr, arith}
+use Rattle.std.proofs.Common.{◌≡◌, ◌<◌, ℕ, List, ◌++◌, map, length, Option, Some, refl, sym, ap, ◌∙◌, subst, inl, inr, arith}
 use Rattle.std.specs.List.{All}
 use Rattle.std.specs.FinMap.{insert}
 use Rattle.std.proofs.lemmas.List.{length-map}
@@ -6,29 +6,24 @@ use Rattle.std.proofs.lemmas.Result.{IfOk-weaker, IfErr-weaker, err_from_is_err_
 use Rattle.erm_model.specs.declared.limits.TheConstants.{OID_LIMIT}
 use Rattle.erm_model.specs.Database.{at}
 use Rattle.erm_model.specs.Rows.{Rows}
-use Rattle.erm_model.specs.RowTransaction.{Event, did_write, did_claim, did_make, Does, StopsRead, StopsClaim, StopsMake}
+use Rattle.erm_model.specs.RowTransaction.{Asked, Event, did_write, did_claim, did_make, Does, StopsRead, StopsClaim, StopsMake}
 use Rattle.erm_record.specs.Record.{value_row}
 use Rattle.erm_node.specs.Sound.{levels_of}
 use Rattle.erm_node.specs.TreeMap.{map_of_rows}
 use Rattle.erm_tree.specs.declared.plan.Step.{Step}
-use Rattle.erm_tree.specs.Calls.{SawIn, Ran}
-use Rattle.erm_tree.specs.Change.{IsPutOfNew, StopsPut}
+use Rattle.erm_tree.specs.Calls.{AreQuiet, AsksClaims, AsksMake, AsksReads, SawIn, Ran}
+use Rattle.erm_tree.specs.Change.{AsksPut, IsPutOfNew, StopsPut}
 use Rattle.erm_tree.specs.Insert.{Place, path_to, new_rows, objects_for}
-use Rattle.erm_tree.specs.Reads.{IsMetIn}
+use Rattle.erm_tree.specs.Reads.{IsOnWay}
 use Rattle.erm_tree.specs.Step.{place_of, places_of}
 use Rattle.erm_tree.specs.Walk.{IsRecordFor}
 use Rattle.erm_tree.proofs.Calls.{SawIn-ready, SawIn-possible, SawIn-then, Runs-claimed}
 use Rattle.erm_tree.proofs.Changing.{DidBy-set_record}
-use Rattle.erm_tree.proofs.Phases.{AreQuiet-makes}
 use Rattle.erm_tree.proofs.Puts.{DidBy-put_new, rows_bounded, All-Each}
-use Rattle.erm_tree.proofs.Refusals.{Refused-reads, Refused-more_reads, Refused-write, Refused-quiet, Refused-more_quiet}
+use Rattle.erm_tree.proofs.Refusals.{AreMakesThenClaims, AsksPut-reads, AsksPut-makes, AsksPut-claims, IsStopped-made, Refused-reads, Refused-more_reads, Refused-write, Refused-quiet}
 use Rattle.erm_tree.proofs.Runs.{objects_for-most}
 use Rattle.erm_tree.proofs.Settings.{IsSetAt, map_of_rows-insert}
 use Rattle.erm_tree.proofs.change.put.Goals as goal
-
--- what a call may read
-abbrev way : ℕ → ℕ → Rows → ℕ → Type 0
-way table key rows x = IsMetIn rows table key key x
 
 -- what was seen before a new key is put
 abbrev record_seen : ℕ → ℕ → Option ℕ → Rows → Type 0
@@ -37,17 +32,24 @@ record_seen table key found rows = IsRecordFor rows table key found
 abbrev path_seen : ℕ → ℕ → List Place → Rows → Type 0
 path_seen table key places rows = places ≡ path_to rows (levels_of rows table) table key
 
+-- what a put of a value asks for, the reads among it
+abbrev asks_put : ℕ → ℕ → List ℕ → List Event → Rows → Asked → Type 0
+asks_put table key value events rows asked = AsksPut table key (value_row value) events rows asked
+
+put_reads : (table key : ℕ) (value : List ℕ) (es : List Event) (array : Rows) (asked : Asked) → AsksReads (IsOnWay table key) es array asked → asks_put table key value es array asked
+put_reads table key value es array asked asks = AsksPut-reads table key (value_row value) es array asked asks
+
 pub returns-in_err-oid-clause-err : goal.returns-in_err-oid-clause-err
 returns-in_err-oid-clause-err g c =
     let t = g.met.T.RowTxn in
     let p = err_from_is_err_and c.from_residual.result c.from_residual.ensures.1 in
-    rw (p.1, p.2) (Refused-reads g.T.RowTxn.face t.goes_on t.stops_later (way c.args.table c.args.key) StopsRead StopsPut (λ stop named. inl (inl named)) c.args.txn.now c.record_for.new.txn c.in_err-oid.field-0.0 c.in_err-oid.ensures.err)
+    rw (p.1, p.2) (Refused-reads g.T.RowTxn.face t.goes_on (IsOnWay c.args.table c.args.key) StopsRead StopsPut (λ stop named. inl (inl named)) (asks_put c.args.table c.args.key c.args.value.now) (put_reads c.args.table c.args.key c.args.value.now) c.args.txn.now c.record_for.new.txn c.in_err-oid.field-0.0 c.in_err-oid.ensures.err)
 
 pub returns-in-Some-clause-ok : goal.returns-in-Some-clause-ok
 returns-in-Some-clause-ok g c =
     let face = g.T.RowTxn.face in
     let row = value_row c.args.value.now in
-    let seen = subst (λ (r : Option ℕ). SawIn face (way c.args.table c.args.key) c.args.txn.now c.record_for.new.txn (record_seen c.args.table c.args.key r)) c.in-Some.is c.in_ok-oid.ensures.ok in
+    let seen = subst (λ (r : Option ℕ). SawIn face (IsOnWay c.args.table c.args.key) c.args.txn.now c.record_for.new.txn (record_seen c.args.table c.args.key r)) c.in-Some.is c.in_ok-oid.ensures.ok in
     IfOk-weaker c.write.result _ _ (λ ok does.
     DidBy-set_record face g.met.T.RowTxn.goes_on c.requires.law c.nodes_are_read_back.ensures.record c.args.table c.args.key c.requires.table c.args.txn.now c.record_for.new.txn c.write.new.self c.in-Some.oid row
     (λ (rows : Rows) (events : List Event). IsPutOfNew rows c.args.table c.args.key row events)
@@ -60,20 +62,22 @@ returns-in-Some-clause-ok g c =
 pub returns-in-Some-clause-err : goal.returns-in-Some-clause-err
 returns-in-Some-clause-err g c =
     let t = g.met.T.RowTxn in
+    let face = g.T.RowTxn.face in
+    let seen = subst (λ (r : Option ℕ). SawIn face (IsOnWay c.args.table c.args.key) c.args.txn.now c.record_for.new.txn (record_seen c.args.table c.args.key r)) c.in-Some.is c.in_ok-oid.ensures.ok in
     IfErr-weaker c.write.result _ _ (λ stop refused.
-    Refused-write g.T.RowTxn.face t.goes_on t.stops_later (way c.args.table c.args.key) StopsClaim StopsPut (λ x named. inl (inr named)) c.args.txn.now c.record_for.new.txn c.write.new.self stop
-    (record_seen c.args.table c.args.key c.in_ok-oid.field-0) c.in_ok-oid.ensures.ok refused)
+    Refused-write face t.goes_on (IsOnWay c.args.table c.args.key) StopsClaim StopsPut (λ x named. inl (inr named)) (asks_put c.args.table c.args.key c.args.value.now) c.args.txn.now c.record_for.new.txn c.write.new.self c.in-Some.oid stop
+    (record_seen c.args.table c.args.key (Some c.in-Some.oid)) (λ es array meets is. inl (sym is.is)) seen refused)
     c.write.ensures.err
 
 pub path_for-requires-clause-ready : goal.path_for-requires-clause-ready
 path_for-requires-clause-ready g c =
-    SawIn-ready g.T.RowTxn.face g.met.T.RowTxn.goes_on (way c.args.table c.args.key) c.args.txn.now c.record_for.new.txn (record_seen c.args.table c.args.key c.in_ok-oid.field-0) c.requires.ready.lawful c.in_ok-oid.ensures.ok
+    SawIn-ready g.T.RowTxn.face g.met.T.RowTxn.goes_on (IsOnWay c.args.table c.args.key) c.args.txn.now c.record_for.new.txn (record_seen c.args.table c.args.key c.in_ok-oid.field-0) c.requires.ready.lawful c.in_ok-oid.ensures.ok
 
 pub returns-in_err-path-clause-err : goal.returns-in_err-path-clause-err
 returns-in_err-path-clause-err g c =
     let t = g.met.T.RowTxn in
     let p = err_from_is_err_and c.from_residual-in_err-path.result c.from_residual-in_err-path.ensures.1 in
-    rw (p.1, p.2) (Refused-more_reads g.T.RowTxn.face t.goes_on t.stops_later (way c.args.table c.args.key) StopsRead StopsPut (λ stop named. inl (inl named)) c.args.txn.now c.record_for.new.txn c.path_for.new.txn c.in_err-path.field-0.0
+    rw (p.1, p.2) (Refused-more_reads g.T.RowTxn.face t.goes_on (IsOnWay c.args.table c.args.key) StopsRead StopsPut (λ stop named. inl (inl named)) (asks_put c.args.table c.args.key c.args.value.now) (put_reads c.args.table c.args.key c.args.value.now) c.args.txn.now c.record_for.new.txn c.path_for.new.txn c.in_err-path.field-0.0
     (record_seen c.args.table c.args.key c.in_ok-oid.field-0) c.in_ok-oid.ensures.ok c.in_err-path.ensures.err)
 
 pub make_all-requires-clause-room : goal.make_all-requires-clause-room
@@ -88,9 +92,10 @@ returns-in_err-made-clause-err g c =
     let p = err_from_is_err_and c.from_residual-in_err-made.result c.from_residual-in_err-made.ensures.1 in
     let found = record_seen c.args.table c.args.key c.in_ok-oid.field-0 in
     let path = path_seen c.args.table c.args.key (places_of c.in_ok-path.path.items) in
-    let seen = SawIn-then face t.goes_on (way c.args.table c.args.key) c.args.txn.now c.record_for.new.txn c.path_for.new.txn found path c.in_ok-oid.ensures.ok c.in_ok-path.ensures.ok in
-    rw (p.1, p.2) (Refused-quiet face t.goes_on t.stops_later (way c.args.table c.args.key) StopsMake StopsPut (λ stop named. inr named) c.args.txn.now c.path_for.new.txn c.make_all.new.txn c.in_err-made.field-0.0
-    (λ (rows : Rows). found rows × path rows) seen c.in_err-made.ensures.err)
+    let seen = SawIn-then face t.goes_on (IsOnWay c.args.table c.args.key) c.args.txn.now c.record_for.new.txn c.path_for.new.txn found path c.in_ok-oid.ensures.ok c.in_ok-path.ensures.ok in
+    rw (p.1, p.2) (Refused-quiet face t.goes_on (IsOnWay c.args.table c.args.key) StopsMake StopsPut (λ stop named. inr named) (asks_put c.args.table c.args.key c.args.value.now) AreQuiet AsksMake c.args.txn.now c.path_for.new.txn c.make_all.new.txn c.in_err-made.field-0.0
+    (λ (rows : Rows). found rows × path rows) (λ fs quiet. quiet)
+    (λ es fs array asked reads quiet meets is asks. AsksPut-makes c.args.table c.args.key (value_row c.args.value.now) (es ++ fs) fs array asked asks) seen c.in_err-made.ensures.err)
 
 pub claim_all-requires-clause-objects : goal.claim_all-requires-clause-objects
 claim_all-requires-clause-objects g c =
@@ -104,8 +109,8 @@ claim_all-requires-clause-objects g c =
     c.plan-rows.ensures ∙ ap (λ (os : List ℕ). new_rows os key c.row_of-row.result (places_of c.as_slice-2.result.now)) c.as_slice-3.ensures.value
     ∙ ap (λ (r : List ℕ). new_rows made key r (places_of c.as_slice-2.result.now)) c.row_of-row.ensures.row ∙ ap (λ (steps : List Step). new_rows made key row (places_of steps)) c.as_slice-2.ensures.value in
     let many : length made ≡ objects_for places = c.in_ok-made.ensures.count ∙ c.objects_for.ensures ∙ ap (λ (steps : List Step). objects_for (places_of steps)) c.as_slice.ensures.value in
-    let lawful = (SawIn-ready face t.goes_on (way c.args.table key) c.args.txn.now c.record_for.new.txn (record_seen c.args.table key c.in_ok-oid.field-0) c.requires.ready.lawful c.in_ok-oid.ensures.ok).lawful in
-    let (array, meets, path) = SawIn-possible face t.goes_on (way c.args.table key) c.record_for.new.txn c.path_for.new.txn (path_seen c.args.table key places) lawful c.in_ok-path.ensures.ok in
+    let lawful = (SawIn-ready face t.goes_on (IsOnWay c.args.table key) c.args.txn.now c.record_for.new.txn (record_seen c.args.table key c.in_ok-oid.field-0) c.requires.ready.lawful c.in_ok-oid.ensures.ok).lawful in
+    let (array, meets, path) = SawIn-possible face t.goes_on (IsOnWay c.args.table key) c.record_for.new.txn c.path_for.new.txn (path_seen c.args.table key places) lawful c.in_ok-path.ensures.ok in
     let bounded = rows_bounded c.nodes_are_read_back.ensures.found array made c.args.table key row places ((c.requires.law.meets array).0 meets) c.requires.table c.ranges.key.fits path many c.in_ok-made.ensures.objects in
     subst (λ (ws : List (ℕ × List ℕ)). All (λ (e : ℕ × List ℕ). e.0 < OID_LIMIT) ws) (sym (c.as_slice-4.ensures.value ∙ planned)) bounded
 
@@ -116,9 +121,19 @@ returns-in_err-claim_all-clause-err g c =
     let p = err_from_is_err_and c.from_residual-in_err-claim_all.result c.from_residual-in_err-claim_all.ensures.1 in
     let found = record_seen c.args.table c.args.key c.in_ok-oid.field-0 in
     let path = path_seen c.args.table c.args.key (places_of c.in_ok-path.path.items) in
-    let seen = SawIn-then face t.goes_on (way c.args.table c.args.key) c.args.txn.now c.record_for.new.txn c.path_for.new.txn found path c.in_ok-oid.ensures.ok c.in_ok-path.ensures.ok in
-    rw (p.1, p.2) (Refused-more_quiet face t.goes_on t.stops_later (way c.args.table c.args.key) StopsClaim StopsPut (λ stop named. inl (inr named)) c.args.txn.now c.path_for.new.txn c.make_all.new.txn c.claim_all.new.txn c.in_err-claim_all.field-0.0
-    (λ (rows : Rows). found rows × path rows) (map did_make c.in_ok-made.made.items) (AreQuiet-makes c.in_ok-made.made.items) seen c.in_ok-made.ensures.ok c.in_err-claim_all.ensures.err)
+    let seen = SawIn-then face t.goes_on (IsOnWay c.args.table c.args.key) c.args.txn.now c.record_for.new.txn c.path_for.new.txn found path c.in_ok-oid.ensures.ok c.in_ok-path.ensures.ok in
+    let key = c.args.key in
+    let row = value_row c.args.value.now in
+    let places = places_of c.in_ok-path.path.items in
+    let made = c.in_ok-made.made.items in
+    let ws = c.as_slice-4.result.now in
+    let planned : ws ≡ new_rows made key row places =
+    c.as_slice-4.ensures.value ∙ c.plan-rows.ensures ∙ ap (λ (os : List ℕ). new_rows os key c.row_of-row.result (places_of c.as_slice-2.result.now)) c.as_slice-3.ensures.value
+    ∙ ap (λ (r : List ℕ). new_rows made key r (places_of c.as_slice-2.result.now)) c.row_of-row.ensures.row ∙ ap (λ (steps : List Step). new_rows made key row (places_of steps)) c.as_slice-2.ensures.value in
+    let stopped = IsStopped-made face t.goes_on StopsClaim c.path_for.new.txn c.make_all.new.txn c.claim_all.new.txn c.in_err-claim_all.field-0.0 made ws c.in_ok-made.ensures.ok c.in_err-claim_all.ensures.err in
+    rw (p.1, p.2) (Refused-quiet face t.goes_on (IsOnWay c.args.table key) StopsClaim StopsPut (λ stop named. inl (inr named)) (asks_put c.args.table key c.args.value.now) (AreMakesThenClaims made) (AsksClaims ws)
+    c.args.txn.now c.path_for.new.txn c.claim_all.new.txn c.in_err-claim_all.field-0.0 (λ (rows : Rows). found rows × path rows) (λ fs is. is.quiet)
+    (λ es fs array asked reads is meets so asks. AsksPut-claims c.args.table key row made ws es fs array asked reads is (planned ∙ ap (new_rows made key row) so.1) asks) seen stopped)
 
 pub write_all-requires-clause-objects : goal.write_all-requires-clause-objects
 write_all-requires-clause-objects g c =
@@ -132,8 +147,8 @@ write_all-requires-clause-objects g c =
     c.plan-rows.ensures ∙ ap (λ (os : List ℕ). new_rows os key c.row_of-row.result (places_of c.as_slice-2.result.now)) c.as_slice-3.ensures.value
     ∙ ap (λ (r : List ℕ). new_rows made key r (places_of c.as_slice-2.result.now)) c.row_of-row.ensures.row ∙ ap (λ (steps : List Step). new_rows made key row (places_of steps)) c.as_slice-2.ensures.value in
     let many : length made ≡ objects_for places = c.in_ok-made.ensures.count ∙ c.objects_for.ensures ∙ ap (λ (steps : List Step). objects_for (places_of steps)) c.as_slice.ensures.value in
-    let lawful = (SawIn-ready face t.goes_on (way c.args.table key) c.args.txn.now c.record_for.new.txn (record_seen c.args.table key c.in_ok-oid.field-0) c.requires.ready.lawful c.in_ok-oid.ensures.ok).lawful in
-    let (array, meets, path) = SawIn-possible face t.goes_on (way c.args.table key) c.record_for.new.txn c.path_for.new.txn (path_seen c.args.table key places) lawful c.in_ok-path.ensures.ok in
+    let lawful = (SawIn-ready face t.goes_on (IsOnWay c.args.table key) c.args.txn.now c.record_for.new.txn (record_seen c.args.table key c.in_ok-oid.field-0) c.requires.ready.lawful c.in_ok-oid.ensures.ok).lawful in
+    let (array, meets, path) = SawIn-possible face t.goes_on (IsOnWay c.args.table key) c.record_for.new.txn c.path_for.new.txn (path_seen c.args.table key places) lawful c.in_ok-path.ensures.ok in
     let bounded = rows_bounded c.nodes_are_read_back.ensures.found array made c.args.table key row places ((c.requires.law.meets array).0 meets) c.requires.table c.ranges.key.fits path many c.in_ok-made.ensures.objects in
     subst (λ (ws : List (ℕ × List ℕ)). All (λ (e : ℕ × List ℕ). e.0 < OID_LIMIT) ws) (sym (c.as_slice-5.ensures.value ∙ planned)) bounded
 
@@ -156,7 +171,7 @@ returns-clause-ok g c =
     c.plan-rows.ensures ∙ ap (λ (os : List ℕ). new_rows os key c.row_of-row.result (places_of c.as_slice-2.result.now)) c.as_slice-3.ensures.value
     ∙ ap (λ (r : List ℕ). new_rows made key r (places_of c.as_slice-2.result.now)) c.row_of-row.ensures.row ∙ ap (λ (steps : List Step). new_rows made key row (places_of steps)) c.as_slice-2.ensures.value in
     let many : length made ≡ objects_for places = c.in_ok-made.ensures.count ∙ c.objects_for.ensures ∙ ap (λ (steps : List Step). objects_for (places_of steps)) c.as_slice.ensures.value in
-    let absent = subst (λ (r : Option ℕ). SawIn face (way c.args.table key) c.args.txn.now c.record_for.new.txn (record_seen c.args.table key r)) c.in_default.is c.in_ok-oid.ensures.ok in
+    let absent = subst (λ (r : Option ℕ). SawIn face (IsOnWay c.args.table key) c.args.txn.now c.record_for.new.txn (record_seen c.args.table key r)) c.in_default.is c.in_ok-oid.ensures.ok in
     let claims = subst (λ (ws : List (ℕ × List ℕ)). Ran face c.make_all.new.txn (map (λ (e : ℕ × List ℕ). did_claim e.0) ws) c.claim_all.new.txn) c.as_slice-4.ensures.value c.in_ok-claim_all.ensures.ok in
     let writes = subst (λ (ws : List (ℕ × List ℕ)). Ran face c.claim_all.new.txn (map (λ (e : ℕ × List ℕ). did_write e.0 e.1) ws) c.write_all.new.txn) c.as_slice-5.ensures.value c.write_all.ensures in
     DidBy-put_new face t.goes_on c.requires.law c.nodes_are_read_back.ensures.found c.nodes_are_read_back.ensures.given c.args.table key c.requires.table c.ranges.key.fits

@@ -1,4 +1,4 @@
-use Rattle.std.proofs.Common.{◌≡◌, ◌-◌, ◌<◌, ℕ, suc, Bool, true, false, List, [], ◌∷◌, ◌++◌, length, Option, Some, None, get_or, add-one, sym, ap, ◌∙◌, subst, arith}
+use Rattle.std.proofs.Common.{◌≡◌, ◌-◌, ◌<◌, ℕ, suc, Bool, true, false, List, [], ◌∷◌, ◌++◌, length, Option, Some, None, get_or, add-one, refl, sym, ap, ◌∙◌, subst, inl, arith}
 use Rattle.std.proofs.lemmas.List.{map-append}
 use Rattle.std.proofs.lemmas.Result.{err_from_is_err_and}
 use Rattle.erm_model.specs.Rows.{Rows}
@@ -8,10 +8,11 @@ use Rattle.erm_node.specs.Sound.{levels_of}
 use Rattle.erm_tree.specs.declared.plan.Step.{Step}
 use Rattle.erm_tree.specs.Calls.{SawIn}
 use Rattle.erm_tree.specs.Insert.{Place, path_to}
+use Rattle.erm_tree.specs.Reads.{IsOnWay}
 use Rattle.erm_tree.specs.Step.{place_of, places_of}
 use Rattle.erm_tree.specs.Walk.{rank}
 use Rattle.erm_tree.proofs.Calls.{IsStopped-read}
-use Rattle.erm_tree.proofs.Paths.{IsOnPath, way, Path-start, Path-bounded, Path-read, Path-node, Path-leaf, Path-end, Path-inner, Path-down}
+use Rattle.erm_tree.proofs.Paths.{IsOnPath, Path-start, Path-bounded, Path-read, Path-node, Path-leaf, Path-end, Path-inner, Path-down}
 use Rattle.erm_tree.proofs.insert.path_for.Goals as goal
 
 none_is_some : {X : Type 0} {x : X} → let none : Option X = None in none ≡ Some x → ⊥
@@ -21,8 +22,8 @@ pub loop-level-init : goal.loop-level-init
 loop-level-init g c =
     let t = g.met.T.RowTxn in
     let start = Path-start g.T.RowTxn.face g.met.T.RowTxn.goes_on c.requires.law c.args.table c.args.key c.args.txn.now c.requires.ready (t.stands c.args.txn.now) c.requires.table c.ranges.key.fits in
-    let at_root = subst (λ (oid : ℕ). SawIn g.T.RowTxn.face (way g.T.RowTxn.face g.met.T.RowTxn.goes_on c.requires.law c.args.table c.args.key) c.args.txn.now c.args.txn.now (λ (rows : Rows). IsOnPath rows c.args.table c.args.key 0 oid [])) (sym c.from-oid.ensures) start in (
-      subst (λ (steps : List Step). SawIn g.T.RowTxn.face (way g.T.RowTxn.face g.met.T.RowTxn.goes_on c.requires.law c.args.table c.args.key) c.args.txn.now c.args.txn.now (λ (rows : Rows). IsOnPath rows c.args.table c.args.key 0 c.from-oid.result (places_of steps))) (sym c.new-path.ensures) at_root,
+    let at_root = subst (λ (oid : ℕ). SawIn g.T.RowTxn.face (IsOnWay c.args.table c.args.key) c.args.txn.now c.args.txn.now (λ (rows : Rows). IsOnPath rows c.args.table c.args.key 0 oid [])) (sym c.from-oid.ensures) start in (
+      subst (λ (steps : List Step). SawIn g.T.RowTxn.face (IsOnWay c.args.table c.args.key) c.args.txn.now c.args.txn.now (λ (rows : Rows). IsOnPath rows c.args.table c.args.key 0 c.from-oid.result (places_of steps))) (sym c.new-path.ensures) at_root,
       ap (λ (steps : List Step). length steps) c.new-path.ensures,
     )
 
@@ -34,8 +35,9 @@ pub returns-in_err-row-clause-err : goal.returns-in_err-row-clause-err
 returns-in_err-row-clause-err g c =
     let t = g.met.T.RowTxn in
     let p = err_from_is_err_and c.from_residual.result c.from_residual.ensures.1 in
-    rw (p.1, p.2) (IsStopped-read g.T.RowTxn.face t.goes_on t.stops_later (way g.T.RowTxn.face g.met.T.RowTxn.goes_on c.requires.law c.args.table c.args.key) StopsRead c.args.txn.now c.loop-level.txn c.read.new.self c.in_err-row.field-0.0
-    (λ (rows : Rows). IsOnPath rows c.args.table c.args.key c.loop-level._level c.loop-level.oid (places_of c.loop-level.path.items)) c.loop-level.invariant.0 c.in_err-row.ensures.err)
+    rw (p.1, p.2) (IsStopped-read g.T.RowTxn.face t.goes_on (IsOnWay c.args.table c.args.key) StopsRead c.args.txn.now c.loop-level.txn c.read.new.self c.loop-level.oid c.in_err-row.field-0.0
+    (λ (rows : Rows). IsOnPath rows c.args.table c.args.key c.loop-level._level c.loop-level.oid (places_of c.loop-level.path.items))
+    (λ array meets is. is.at.met false c.args.key c.args.key c.loop-level.oid (is.at.high, is.at.low, inl refl)) c.loop-level.invariant.0 c.in_err-row.ensures.err)
 
 pub unreachable-requires : goal.unreachable-requires
 unreachable-requires g c =
@@ -50,7 +52,7 @@ returns-then-node-clause-ok g c =
     let step : Bool → Step = λ (b : Bool). record { oid = c.loop-level.oid; leaf = b; pairs = c.in-Some.node.pairs } in
     let pushed : places_of c.push.new.self.items ≡ (places_of c.loop-level.path.items) ++ place_of (step c.in-Some.node.leaf) ∷ [] =
     ap places_of c.push.ensures.items ∙ map-append place_of c.loop-level.path.items (step true ∷ []) ∙ ap (λ (b : Bool). (places_of c.loop-level.path.items) ++ place_of (step b) ∷ []) (sym c.if-node.true) in
-    subst (λ (ps : List Place). SawIn g.T.RowTxn.face (way g.T.RowTxn.face g.met.T.RowTxn.goes_on c.requires.law c.args.table c.args.key) c.args.txn.now c.read.new.self (λ (rows : Rows). ps ≡ path_to rows (levels_of rows c.args.table) c.args.table c.args.key)) (sym pushed) leaf
+    subst (λ (ps : List Place). SawIn g.T.RowTxn.face (IsOnWay c.args.table c.args.key) c.args.txn.now c.read.new.self (λ (rows : Rows). ps ≡ path_to rows (levels_of rows c.args.table) c.args.table c.args.key)) (sym pushed) leaf
 
 pub child_for-child-requires : goal.child_for-child-requires
 child_for-child-requires g c =
@@ -68,7 +70,7 @@ loop-level-preserved g c =
     let step : Bool → Step = λ (b : Bool). record { oid = c.loop-level.oid; leaf = b; pairs = c.in-Some.node.pairs } in
     let pushed : places_of c.push-in-loop-level.new.self.items ≡ (places_of c.loop-level.path.items) ++ place_of (step c.in-Some.node.leaf) ∷ [] =
     ap places_of c.push-in-loop-level.ensures.items ∙ map-append place_of c.loop-level.path.items (step false ∷ []) ∙ ap (λ (b : Bool). (places_of c.loop-level.path.items) ++ place_of (step b) ∷ []) (sym c.if-node.false) in (
-      rw (add-one) (subst (λ (ps : List Place). SawIn g.T.RowTxn.face (way g.T.RowTxn.face g.met.T.RowTxn.goes_on c.requires.law c.args.table c.args.key) c.args.txn.now c.read.new.self (λ (rows : Rows). IsOnPath rows c.args.table c.args.key (suc c.loop-level._level) c.child_for-child.result.oid ps)) (sym pushed) down),
+      rw (add-one) (subst (λ (ps : List Place). SawIn g.T.RowTxn.face (IsOnWay c.args.table c.args.key) c.args.txn.now c.read.new.self (λ (rows : Rows). IsOnPath rows c.args.table c.args.key (suc c.loop-level._level) c.child_for-child.result.oid ps)) (sym pushed) down),
       omega (arith, c.push-in-loop-level.ensures.len, c.loop-level.invariant.1),
     )
 

@@ -1,12 +1,12 @@
 use Rattle.std.proofs.Common.{◌≡◌, ℕ, length}
 use Rattle.erm_model.specs.Rows.{Rows}
 use Rattle.erm_tree.specs.Calls.{SawIn}
-use Rattle.erm_tree.specs.Reads.{IsMetIn}
+use Rattle.erm_tree.specs.Reads.{IsOnWay}
 use Rattle.erm_tree.specs.Step.{places_of}
 use Rattle.erm_tree.proofs.Paths.{IsOnPath}
 use Rattle.erm_tree.proofs.insert.path_for.Given as goal
 
 abbrev pub invariant-loop-level : goal.invariant-loop-level
 invariant-loop-level g l =
-    SawIn g.T.RowTxn.face (λ (rows : Rows) (x : ℕ). IsMetIn rows l.table l.key l.key x) l.fn.txn l.txn (λ (rows : Rows). IsOnPath rows l.table l.key l._level l.oid (places_of l.path.items))
+    SawIn g.T.RowTxn.face (IsOnWay l.table l.key) l.fn.txn l.txn (λ (rows : Rows). IsOnPath rows l.table l.key l._level l.oid (places_of l.path.items))
     × (length l.path.items ≡ l._level)

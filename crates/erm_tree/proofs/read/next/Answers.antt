@@ -3,7 +3,7 @@ use Rattle.std.proofs.lemmas.Result.{err_from_is_err_and}
 use Rattle.erm_model.specs.Rows.{Rows}
 use Rattle.erm_model.specs.RowTransaction.{StopsRead}
 use Rattle.erm_tree.specs.Calls.{SawIn}
-use Rattle.erm_tree.specs.Reads.{IsMetIn}
+use Rattle.erm_tree.specs.Reads.{IsOnWay}
 use Rattle.erm_tree.specs.Walk.{IsFirstIn, IsLeafFor, IsOfLeaf, bound_of, last_sought}
 use Rattle.erm_tree.proofs.Calls.{SawIn-ready, SawIn-told}
 use Rattle.erm_tree.proofs.Nexts.{Seeks-ready, Seeks-start, Seeks-found, Seeks-none, Seeks-on, Seeks-leaf_stopped, Seeks-along_stopped}
@@ -22,23 +22,23 @@ pub returns-in_err-leaf-clause-err : goal.returns-in_err-leaf-clause-err
 returns-in_err-leaf-clause-err g c =
     let t = g.met.T.RowTxn in
     let p = err_from_is_err_and c.from_residual.result c.from_residual.ensures.1 in
-    rw (p.1, p.2) (Seeks-leaf_stopped g.T.RowTxn.face t.goes_on c.requires.law c.args.table c.args.from c.requires.table c.map_has_values_of_records.ensures.value t.stops_later StopsRead c.args.txn.now c.loop-leaf.txn c.leaf_for.new.txn c.loop-leaf.low c.in_err-leaf.field-0.0 c.loop-leaf.invariant c.in_err-leaf.ensures.err)
+    rw (p.1, p.2) (Seeks-leaf_stopped g.T.RowTxn.face t.goes_on c.requires.law c.args.table c.args.from c.requires.table c.map_has_values_of_records.ensures.value StopsRead c.args.txn.now c.loop-leaf.txn c.leaf_for.new.txn c.loop-leaf.low c.in_err-leaf.field-0.0 c.loop-leaf.invariant c.in_err-leaf.ensures.err)
 
 pub first_value-requires-clause-ready : goal.first_value-requires-clause-ready
 first_value-requires-clause-ready g c =
     let ready = Seeks-ready g.T.RowTxn.face g.met.T.RowTxn.goes_on c.requires.law c.args.table c.args.from c.requires.table c.map_has_values_of_records.ensures.value c.args.txn.now c.loop-leaf.txn c.loop-leaf.low c.requires.ready.lawful c.loop-leaf.invariant in
-    SawIn-ready g.T.RowTxn.face g.met.T.RowTxn.goes_on (λ (rows : Rows) (x : ℕ). IsMetIn rows c.args.table c.loop-leaf.low c.loop-leaf.low x) c.loop-leaf.txn c.leaf_for.new.txn (λ (rows : Rows). IsLeafFor rows c.args.table c.loop-leaf.low c.in_ok-leaf.leaf.pairs.items (bound_of c.in_ok-leaf.leaf.end)) ready.lawful c.in_ok-leaf.ensures.ok
+    SawIn-ready g.T.RowTxn.face g.met.T.RowTxn.goes_on (IsOnWay c.args.table c.loop-leaf.low) c.loop-leaf.txn c.leaf_for.new.txn (λ (rows : Rows). IsLeafFor rows c.args.table c.loop-leaf.low c.in_ok-leaf.leaf.pairs.items (bound_of c.in_ok-leaf.leaf.end)) ready.lawful c.in_ok-leaf.ensures.ok
 
 pub first_value-requires-clause-leaf : goal.first_value-requires-clause-leaf
 first_value-requires-clause-leaf g c begun meets fits =
     let ready = Seeks-ready g.T.RowTxn.face g.met.T.RowTxn.goes_on c.requires.law c.args.table c.args.from c.requires.table c.map_has_values_of_records.ensures.value c.args.txn.now c.loop-leaf.txn c.loop-leaf.low c.requires.ready.lawful c.loop-leaf.invariant in
-    (c.args.table, SawIn-told g.T.RowTxn.face g.met.T.RowTxn.goes_on (λ (rows : Rows) (x : ℕ). IsMetIn rows c.args.table c.loop-leaf.low c.loop-leaf.low x) c.loop-leaf.txn c.leaf_for.new.txn (λ (rows : Rows). IsLeafFor rows c.args.table c.loop-leaf.low c.in_ok-leaf.leaf.pairs.items (bound_of c.in_ok-leaf.leaf.end)) ready.lawful c.in_ok-leaf.ensures.ok begun meets fits)
+    (c.args.table, SawIn-told g.T.RowTxn.face g.met.T.RowTxn.goes_on (IsOnWay c.args.table c.loop-leaf.low) c.loop-leaf.txn c.leaf_for.new.txn (λ (rows : Rows). IsLeafFor rows c.args.table c.loop-leaf.low c.in_ok-leaf.leaf.pairs.items (bound_of c.in_ok-leaf.leaf.end)) ready.lawful c.in_ok-leaf.ensures.ok begun meets fits)
 
 pub returns-in_err-found-clause-err : goal.returns-in_err-found-clause-err
 returns-in_err-found-clause-err g c =
     let t = g.met.T.RowTxn in
     let p = err_from_is_err_and c.from_residual-in_err-found.result c.from_residual-in_err-found.ensures.1 in
-    rw (p.1, p.2) (Seeks-along_stopped g.T.RowTxn.face t.goes_on c.requires.law c.args.table c.args.from c.requires.table c.map_has_values_of_records.ensures.value t.stops_later StopsRead c.args.txn.now c.loop-leaf.txn c.leaf_for.new.txn c.loop-leaf.low c.in_err-found.field-0.0 c.loop-leaf.invariant
+    rw (p.1, p.2) (Seeks-along_stopped g.T.RowTxn.face t.goes_on c.requires.law c.args.table c.args.from c.requires.table c.map_has_values_of_records.ensures.value StopsRead c.args.txn.now c.loop-leaf.txn c.leaf_for.new.txn c.loop-leaf.low c.in_err-found.field-0.0 c.loop-leaf.invariant
     c.first_value.new.txn c.in_ok-leaf.leaf.pairs.items (bound_of c.in_ok-leaf.leaf.end) c.in_ok-leaf.ensures.ok c.in_err-found.ensures.err)
 
 pub returns-in-Some-clause-ok : goal.returns-in-Some-clause-ok

@@ -1,14 +1,15 @@
-use Rattle.std.proofs.Common.{◌≡◌, ◌^◌, ◌<◌, ℕ, Option, Some, None, List, ◌-◌, get_or, drop, add-one, sym, ap, ◌∙◌, subst, arith}
+use Rattle.std.proofs.Common.{◌≡◌, ◌^◌, ◌<◌, ℕ, false, Option, Some, None, List, ◌-◌, get_or, drop, add-one, refl, sym, ap, ◌∙◌, subst, inl, arith}
 use Rattle.std.proofs.lemmas.Result.{err_from_is_err_and}
 use Rattle.erm_node.specs.NodeShape.{shape_of}
 use Rattle.erm_node.specs.Tree.{first_key}
 use Rattle.erm_model.specs.Rows.{Rows}
 use Rattle.erm_model.specs.RowTransaction.{StopsRead}
 use Rattle.erm_tree.specs.Calls.{SawIn}
+use Rattle.erm_tree.specs.Reads.{IsOnWay}
 use Rattle.erm_tree.specs.Walk.{bound_of, rank}
 use Rattle.erm_tree.proofs.Standing.{StandsAt}
 use Rattle.erm_tree.proofs.Calls.{IsStopped-read}
-use Rattle.erm_tree.proofs.Walking.{on_way, Walking-start, Walking-bounded, Walking-read, Walking-node, Walking-leaf, Walking-end, Walking-inner, Walking-down}
+use Rattle.erm_tree.proofs.Walking.{Walking-start, Walking-bounded, Walking-read, Walking-node, Walking-leaf, Walking-end, Walking-inner, Walking-down}
 use Rattle.erm_tree.proofs.walk.leaf_for.Goals as goal
 
 none_is_some : {X : Type 0} {x : X} → let none : Option X = None in none ≡ Some x → ⊥
@@ -17,7 +18,7 @@ none_is_some e = cc
 pub loop-level-init : goal.loop-level-init
 loop-level-init g c =
     let t = g.met.T.RowTxn in
-    subst (λ (oid : ℕ). SawIn g.T.RowTxn.face (on_way g.T.RowTxn.face t.goes_on c.requires.law c.args.table c.args.key) c.args.txn.now c.args.txn.now (λ (rows : Rows). StandsAt rows c.args.table c.args.key 0 oid (2 ^ 64)))
+    subst (λ (oid : ℕ). SawIn g.T.RowTxn.face (IsOnWay c.args.table c.args.key) c.args.txn.now c.args.txn.now (λ (rows : Rows). StandsAt rows c.args.table c.args.key 0 oid (2 ^ 64)))
     (sym c.from-oid.ensures)
     (Walking-start g.T.RowTxn.face t.goes_on c.requires.law c.args.table c.args.key c.args.txn.now c.requires.ready (t.stands c.args.txn.now) c.requires.table c.ranges.key.fits)
 
@@ -29,9 +30,9 @@ pub returns-in_err-row-clause-err : goal.returns-in_err-row-clause-err
 returns-in_err-row-clause-err g c =
     let t = g.met.T.RowTxn in
     let face = g.T.RowTxn.face in
-    let way = on_way face t.goes_on c.requires.law c.args.table c.args.key in
     let p = err_from_is_err_and c.from_residual.result c.from_residual.ensures.1 in
-    let stopped = IsStopped-read face t.goes_on t.stops_later way StopsRead c.args.txn.now c.loop-level.txn c.read.new.self c.in_err-row.field-0.0 (λ (rows : Rows). StandsAt rows c.args.table c.args.key c.loop-level._level c.loop-level.oid (bound_of c.loop-level.end)) c.loop-level.invariant c.in_err-row.ensures.err in
+    let stopped = IsStopped-read face t.goes_on (IsOnWay c.args.table c.args.key) StopsRead c.args.txn.now c.loop-level.txn c.read.new.self c.loop-level.oid c.in_err-row.field-0.0 (λ (rows : Rows). StandsAt rows c.args.table c.args.key c.loop-level._level c.loop-level.oid (bound_of c.loop-level.end))
+    (λ array meets at. at.met false c.args.key c.args.key c.loop-level.oid (at.high, at.low, inl refl)) c.loop-level.invariant c.in_err-row.ensures.err in
     rw (p.1, p.2) stopped
 
 pub unreachable-requires : goal.unreachable-requires

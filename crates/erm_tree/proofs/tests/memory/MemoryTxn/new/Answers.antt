@@ -12,4 +12,4 @@ invariant_of-result-clause-rows_there c =
     omega (arith, c.in_ok-zero_rows.field-0.ok)
 
 pub returns : goal.returns
-returns c = Memory-ready (λ (s : MemoryTxn). s.rows.items) (λ (s : MemoryTxn). s.claimed.items) (λ (s : MemoryTxn). s.next) c.nodes_are_read_back.ensures.found c.nodes_are_read_back.ensures.given _ c.in_ok-zero_rows.ensures
+returns c = Memory-ready (λ (s : MemoryTxn). s.rows.items) (λ (s : MemoryTxn). s.claimed.items) (λ (s : MemoryTxn). s.seen.items) (λ (s : MemoryTxn). s.next) c.nodes_are_read_back.ensures.found c.nodes_are_read_back.ensures.given _ c.in_ok-zero_rows.ensures
