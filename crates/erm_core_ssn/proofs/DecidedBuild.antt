@@ -37,10 +37,12 @@ may_commit _ _ h = tt
 
 -- such a task has cleared nothing more than another
 not_ends_cleared : (pl : Place) (t u : Task) (n : ℕ) → NotEnds t → NotEnds u → cleared_of pl t n ≡ cleared_of pl u n
-not_ends_cleared (Leaving stamp) t u n f g = refl
-not_ends_cleared pl (task.Ends raised ended step cleared) u n f g = absurd f
-not_ends_cleared pl t (task.Ends raised ended step cleared) n f g = absurd g
-not_ends_cleared pl t u n f g = refl
+not_ends_cleared pl t u n f g = as_rest pl t f ∙ sym (as_rest pl u g)
+  where
+    as_rest : (l : Place) (v : Task) → NotEnds v → cleared_of l v n ≡ cleared_of l task.Rest n
+    as_rest (Leaving stamp) v h = refl
+    as_rest l (task.Ends raised ended step cleared) h = absurd h
+    as_rest l v h = refl
 
 -- none of the other seat's open reads is of a claim that is passed
 abbrev pub Passing : Part → Task → Attempt → Type 0

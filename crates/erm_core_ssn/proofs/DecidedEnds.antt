@@ -1,5 +1,5 @@
 -- Steps that change what a transaction writes, and its end.
-use Rattle.std.proofs.Common.{◌≡◌, ℕ, ◌+◌, ◌-◌, ◌<◌, ◌≤◌, ⊎_elim, Bool, true, false, ◌||◌, not, is_none, eqb, List, [], ◌∷◌, ◌++◌, length, set, get_or, take, Option, Some, None, refl, sym, ap, ◌∙◌, subst, arith, length-set, get_or-set_same, get_or-set_other}
+use Rattle.std.proofs.Common.{◌≡◌, ℕ, ◌+◌, ◌-◌, ◌<◌, ◌≤◌, ◌⊎◌, ⊎_elim, inl, inr, Bool, true, false, ◌||◌, not, is_none, eqb, List, [], ◌∷◌, ◌++◌, length, set, get_or, take, Option, Some, None, refl, sym, ap, ◌∙◌, subst, arith, length-set, get_or-set_same, get_or-set_other}
 use Rattle.std.specs.Prelude.{if◌then◌else◌}
 use Rattle.std.proofs.lemmas.Bool.{cases_eq}
 use Rattle.std.proofs.lemmas.List.{get_or-take, length-take, get_or_append_left, length_push}
@@ -94,6 +94,18 @@ own_word_cell : (w : CellWord) (value : ℕ) (o : Option OwnCell) → not (is_no
 own_word_cell w value None h = h
 own_word_cell w value (Some own) h = refl
 
+-- a decided transaction's task is its end
+decided_ends : (tail stamp : ℕ) (a : Attempt) (t : Task) (e : ℕ × ℕ × ℕ × ℕ) → end_of t ≡ Some e → TaskFits (Decided tail stamp) a t → t ≡ task.Ends e.0 e.1 e.2 e.3
+decided_ends tail stamp a (task.Ends r n s l) e is fits = ap (λ (f : ℕ × ℕ × ℕ × ℕ). task.Ends f.0 f.1 f.2 f.3) (same_Some _ _ is)
+decided_ends tail stamp a t e is fits = absurd fits
+
+-- an end goes on, or an active transaction's begins
+ends_or_active : (l : Place) (a : Attempt) (t : Task) (e : ℕ × ℕ × ℕ × ℕ) → end_of t ≡ Some e → (is_decided l || is_active l) ≡ true → TaskFits l a t →
+    (t ≡ task.Ends e.0 e.1 e.2 e.3) ⊎ (is_active l ≡ true)
+ends_or_active (Active tail) a t e is g fits = inr refl
+ends_or_active (Decided tail stamp) a t e is g fits = inl (decided_ends tail stamp a t e is fits)
+ends_or_active _ a t e is g fits = absurd (cc)
+
 module _ (c : Core) (p : ℕ) (sound : Sound c) where
   -- an active transaction's claims change
   pub writes_leaves : (y : Part) → is_active (c.seats p).place ≡ true → NotEnds (c.seats p).task → y.over ≡ (c.seats p).over → y.current.decision ≡ (c.seats p).current.decision →
@@ -108,23 +120,20 @@ module _ (c : Core) (p : ℕ) (sound : Sound c) where
   pub ending : (y : Part) (t : Task) (e : ℕ × ℕ × ℕ × ℕ) (raised ended step cleared : ℕ) → (c.seats p).task ≡ t → end_of t ≡ Some e →
       (is_decided (c.seats p).place || is_active (c.seats p).place) ≡ true → y.task ≡ task.Ends raised ended step cleared → e.3 ≤ cleared → y.place ≡ (c.seats p).place → y.over ≡ (c.seats p).over →
       y.current.decision ≡ (c.seats p).current.decision → y.current.stamp ≡ (c.seats p).current.stamp → y.current.reads ≡ (c.seats p).current.reads → bare (c.seats p).current ≡ bare y.current → Leaves c p y
-  ending y (task.Ends r n s l) e raised ended step cleared at is where_it now more place over decision stamp reads whole =
-      let same : l ≡ e.3 = ap (λ (f : ℕ × ℕ × ℕ × ℕ). f.3) (same_Some _ _ is) in
-      ends c p sound y r n s l raised ended step cleared at now (omega (arith, same, more)) place over where_it decision reads whole
   ending y t e raised ended step cleared at is where_it now more place over decision stamp reads whole =
-      works c p sound y (active_at (c.seats p).place where_it (subst (λ (u : Task). TaskFits (c.seats p).place (c.seats p).current u) at (sound.own p).task.fits)) over decision stamp
+      let fits : TaskFits (c.seats p).place (c.seats p).current t = subst (λ (u : Task). TaskFits (c.seats p).place (c.seats p).current u) at (sound.own p).task.fits in
+      ⊎_elim
+      (λ (goes_on : t ≡ task.Ends e.0 e.1 e.2 e.3). ends c p sound y e.0 e.1 e.2 e.3 raised ended step cleared (at ∙ goes_on) now more place over where_it decision reads whole)
+      (λ (active : is_active (c.seats p).place ≡ true).
+      works c p sound y active over decision stamp
       (subst (λ (u : Task). MarkInHand c.shared y.current u) (sym now) tt)
       (λ n. subst (λ (u : Task). writes_passed u n ≡ 0) (sym now) refl)
       (λ n. subst (λ (u : Task). writes_rated u n ≡ 0) (sym now) refl)
       (λ q. subst (λ (u : Task). NoneReadsLeft y u q (c.seats q)) (sym now) tt)
-      (λ may. absurd (no_commit (c.seats p).place (active_at (c.seats p).place where_it (subst (λ (u : Task). TaskFits (c.seats p).place (c.seats p).current u) at (sound.own p).task.fits))
-      (subst (λ (u : Task). MayCommit (c.seats p).place u) now (subst (λ (l : Place). MayCommit l y.task) place may))))
+      (λ may. absurd (no_commit (c.seats p).place active
+      (subst (λ (u : Task). MayCommit (c.seats p).place u) now (subst (λ (l : Place). MayCommit l y.task) place may)))))
+      (ends_or_active (c.seats p).place (c.seats p).current t e is where_it fits)
     where
-      active_at : (l : Place) → (is_decided l || is_active l) ≡ true → TaskFits l (c.seats p).current t → is_active l ≡ true
-      active_at (Active tail) g fits = refl
-      active_at (Decided tail stamp) g fits = absurd fits
-      active_at _ g fits = absurd (cc)
-
       no_commit : (l : Place) → is_active l ≡ true → MayCommit l (task.Ends raised ended step cleared) → ⊥
       no_commit (Active tail) g may = may
       no_commit _ g may = absurd (cc)

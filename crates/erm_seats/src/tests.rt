@@ -151,24 +151,25 @@ fn looks_at_a_sealed_session(rt: HostRuntime) -> Result<(), Fail> {
     Ok(())
 }
 
-#[test]
-fn begins_below_the_end(rt: HostRuntime) -> Result<(), Fail> {
-    let opening = Opening {
-        tail: STOP - 1,
-        run: 1,
-    };
-    let (table, rest, first, _second) = open_two(rt.alloc(), &opening)?;
-    let begun = begin_both(&table, rest, first, &opening);
-    assert_eq!(rt; begun, (Ok(STOP - 1), Ok(STOP - 1)));
-    Ok(())
+// What a begin of session 1, and one of the flush seat, answer where the log is opened at this tail.
+type Begun = (Result<Stamp, BeginStop>, Result<Stamp, BeginStop>);
+
+fn begun_at(alloc: Global, tail: Stamp) -> Result<Begun, AllocError>
+    requires positive { 0 < tail }
+    requires low { tail ≤ STOP + 4 }
+{
+    let opening = Opening { tail, run: 1 };
+    let (table, rest, first, _second) = open_two(alloc, &opening)?;
+    Ok(begin_both(&table, rest, first, &opening))
 }
 
 #[test]
-fn stops_at_the_end(rt: HostRuntime) -> Result<(), Fail> {
-    let opening = Opening { tail: STOP, run: 1 };
-    let (table, rest, first, _second) = open_two(rt.alloc(), &opening)?;
-    let begun = begin_both(&table, rest, first, &opening);
-    assert_eq!(rt; begun, (Err(BeginStop::LogEnd { tail: STOP }), Ok(STOP)));
+fn begins_below_the_end_alone(rt: HostRuntime) -> Result<(), Fail> {
+    let stop = BeginStop::LogEnd { tail: STOP };
+    let below = begun_at(rt.alloc(), STOP - 1)?;
+    let at = begun_at(rt.alloc(), STOP)?;
+    assert_eq!(rt; below, (Ok(STOP - 1), Ok(STOP - 1)));
+    assert_eq!(rt; at, (Err(stop), Ok(STOP)));
     Ok(())
 }
 
