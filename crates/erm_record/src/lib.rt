@@ -8,7 +8,6 @@ ghost use Rattle.erm_record.specs.Record.{IsValue, absent_row, padded, record_va
 
 use erm_bytes::{bytes_again, read_words, words_have_bytes, write_words};
 use erm_model::{ROW_WORDS, Row, VALUE_BYTES, Value};
-
 pub use stored::{stored_length, stored_words_tell_the_row};
 
 /// The kind of the row of a record without a value.
