@@ -1,5 +1,5 @@
 -- The rows at the start are sound, and reach the roots of the tables alone.
-use Rattle.std.proofs.Common.{◌≡◌, ◌≢◌, ℕ, zero, suc, ◌+◌, ◌^◌, ◌<◌, ◌≤◌, List, [], ◌∷◌, length, get_or, set, get_or-set_same, get_or-set_other, replicate, Bool, true, false, ◌&&◌, cond, Some, refl, sym, ap, ◌∙◌, subst, inl, inr, arith}
+use Rattle.std.proofs.Common.{◌≡◌, ◌≢◌, ℕ, zero, suc, ◌+◌, ◌^◌, ◌<◌, ◌≤◌, List, [], length, get_or, set, get_or-set_same, get_or-set_other, replicate, Bool, true, false, ◌&&◌, cond, Some, refl, sym, ap, ◌∙◌, subst, inl, inr, arith}
 use Rattle.std.specs.Prelude.{◌⊎◌, ◌==◌, ◌↔◌, nat_le, nat_lt}
 use Rattle.std.proofs.lemmas.List.{get_or_default, set-get_or}
 use Rattle.std.proofs.lemmas.Bool.{cases_lt, false≢true}
@@ -146,6 +146,33 @@ start_rows-told = refl
 pub set_again : (bs : List Bool) (oid : ℕ) (b : Bool) → b ≡ get_or bs oid b → b ≡ true → bs ≡ set bs oid true
 set_again bs oid b is on = sym (set-get_or bs oid b) ∙ ap (λ (c : Bool). set bs oid c) (sym is ∙ on)
 
+-- a read of a claimed object marks nothing
+pub marks_claimed : (claimed seen now : List Bool) (oid : ℕ) (b : Bool) → b ≡ get_or claimed oid b → b ≡ true → oid < length claimed → now ≡ seen
+    → (x : ℕ) → (get_or now x false ≡ true) ↔ ((get_or seen x false ≡ true) ⊎ ((x ≡ oid) × (get_or claimed oid false ≡ true → ⊥)))
+marks_claimed claimed seen now oid b is on inside same x = (
+  λ was. inl (ap (λ (bs : List Bool). get_or bs x false) (sym same) ∙ was),
+  elim [
+    | inl was ↦ ap (λ (bs : List Bool). get_or bs x false) same ∙ was
+    | inr read ↦ absurd (read.1 (get_or_default claimed oid false b inside ∙ sym is ∙ on))
+  ],
+)
+
+-- a read of another marks it
+pub marks_read : (claimed seen now : List Bool) (oid : ℕ) (b : Bool) → b ≡ get_or claimed oid b → b ≡ false → oid < length claimed → oid < length seen → now ≡ set seen oid true
+    → (x : ℕ) → (get_or now x false ≡ true) ↔ ((get_or seen x false ≡ true) ⊎ ((x ≡ oid) × (get_or claimed oid false ≡ true → ⊥)))
+marks_read claimed seen now oid b is off inside inside_too marked x =
+    let free : get_or claimed oid false ≡ true → ⊥ = λ on. false≢true (sym off ∙ is ∙ get_or_default claimed oid b false inside ∙ on) in
+    let both = claimed-set seen oid inside_too x in (
+      λ was. elim (both.0 (ap (λ (bs : List Bool). get_or bs x false) (sym marked) ∙ was)) as (λ _. (get_or seen x false ≡ true) ⊎ ((x ≡ oid) × (get_or claimed oid false ≡ true → ⊥))) [
+        | inl before ↦ inl before
+        | inr same ↦ inr (same, free)
+      ],
+      elim [
+        | inl before ↦ ap (λ (bs : List Bool). get_or bs x false) marked ∙ both.1 (inl before)
+        | inr read ↦ ap (λ (bs : List Bool). get_or bs x false) marked ∙ both.1 (inr read.0)
+      ],
+    )
+
 -- A transaction in memory that began on the rows at the start: what it means, by the rows that it has, whether each object is
 -- claimed, whether each was read, and the object that it makes next.
 module _ {S : Type 0} (rows_in : S → List (List ℕ)) (claimed_in seen_in : S → List Bool) (next_in : S → ℕ) where
@@ -192,33 +219,6 @@ module _ {S : Type 0} (rows_in : S → List (List ℕ)) (claimed_in seen_in : S 
       λ was. inl (ap (λ (bs : List Bool). get_or bs x false) (sym same) ∙ was),
       elim [ inl was ↦ ap (λ (bs : List Bool). get_or bs x false) same ∙ was | inr none ↦ absurd none ],
     )
-
-    -- a read of a claimed object marks nothing
-    pub Memory-marks_claimed : (s t : S) (oid : ℕ) (b : Bool) → b ≡ get_or (claimed_in s) oid b → b ≡ true → oid < length (claimed_in s) → seen_in t ≡ seen_in s
-        → (x : ℕ) → (get_or (seen_in t) x false ≡ true) ↔ ((get_or (seen_in s) x false ≡ true) ⊎ ((x ≡ oid) × (get_or (claimed_in s) oid false ≡ true → ⊥)))
-    Memory-marks_claimed s t oid b is on inside same x = (
-      λ was. inl (ap (λ (bs : List Bool). get_or bs x false) (sym same) ∙ was),
-      elim [
-        | inl was ↦ ap (λ (bs : List Bool). get_or bs x false) same ∙ was
-        | inr read ↦ absurd (read.1 (get_or_default (claimed_in s) oid false b inside ∙ sym is ∙ on))
-      ],
-    )
-
-    -- a read of another marks it
-    pub Memory-marks_read : (s t : S) (oid : ℕ) (b : Bool) → b ≡ get_or (claimed_in s) oid b → b ≡ false → oid < length (claimed_in s) → oid < length (seen_in s) → seen_in t ≡ set (seen_in s) oid true
-        → (x : ℕ) → (get_or (seen_in t) x false ≡ true) ↔ ((get_or (seen_in s) x false ≡ true) ⊎ ((x ≡ oid) × (get_or (claimed_in s) oid false ≡ true → ⊥)))
-    Memory-marks_read s t oid b is off inside inside_too marked x =
-        let free : get_or (claimed_in s) oid false ≡ true → ⊥ = λ claimed. false≢true (sym off ∙ is ∙ get_or_default (claimed_in s) oid b false inside ∙ claimed) in
-        let both = claimed-set (seen_in s) oid inside_too x in (
-          λ was. elim (both.0 (ap (λ (bs : List Bool). get_or bs x false) (sym marked) ∙ was)) as (λ _. (get_or (seen_in s) x false ≡ true) ⊎ ((x ≡ oid) × (get_or (claimed_in s) oid false ≡ true → ⊥))) [
-            | inl before ↦ inl before
-            | inr same ↦ inr (same, free)
-          ],
-          elim [
-            | inl before ↦ ap (λ (bs : List Bool). get_or bs x false) marked ∙ both.1 (inl before)
-            | inr read ↦ ap (λ (bs : List Bool). get_or bs x false) marked ∙ both.1 (inr read.0)
-          ],
-        )
 
     -- a read
     pub Memory-read : (s t : S) (oid : ℕ) (row d : List ℕ) → oid < length (rows_in s) → row ≡ get_or (rows_in s) oid d → rows_in t ≡ rows_in s → claimed_in t ≡ claimed_in s

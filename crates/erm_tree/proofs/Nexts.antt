@@ -10,8 +10,7 @@ use Rattle.erm_model.specs.Rows.{Rows}
 use Rattle.erm_model.specs.RowTransaction.{did_read, Face, SameLaw, Does, IsLawful, IsStopped}
 use Rattle.erm_model.proofs.RowCalls.{Runs-fitted}
 use Rattle.erm_record.specs.Record.{record_value}
-use Rattle.erm_node.specs.Node.{pairs_of}
-use Rattle.erm_node.specs.Sound.{IsSound, sound_law, levels_of}
+use Rattle.erm_node.specs.Sound.{IsSound, sound_law}
 use Rattle.erm_node.specs.Tree.{Fan, first_key}
 use Rattle.erm_node.specs.TreeMap.{map_of_rows, record_in, value_in}
 use Rattle.erm_tree.specs.Calls.{AsksReads, IsReady, IsTold, Reads, SawIn}

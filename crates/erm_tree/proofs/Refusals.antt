@@ -32,7 +32,7 @@ pub SetNothing-reads : (law : Law) (P : Rows → ℕ → Type 0) (es : List Even
 SetNothing-reads law P es reads = record { none = WritesNothing-OnlyReads es reads.only; of = reads.of }
 
 module _ {S : Type 0} (face : Face S) (goes_on : (a b c : S) → face.follows a b → face.follows b c → face.follows a c) (P : Rows → ℕ → Type 0) (may then_may : RowStop → Type 0) (among : (x : RowStop) → may x → then_may x)
-  (asks : List Event → Rows → Asked → Type 0) where
+    (asks : List Event → Rows → Asked → Type 0) where
   module _ (reads_ask : (es : List Event) (array : Rows) (asked : Asked) → AsksReads P es array asked → asks es array asked) where
     -- reads that were cut off
     pub Refused-reads : (s t : S) (stop : RowStop) → IsStopped face may (Reads face.law P) (AsksReads P) s stop t → IsStopped face then_may (SetNothing face.law P) asks s stop t

@@ -6,7 +6,7 @@ use Rattle.std.proofs.lemmas.Result.{IfOk-weaker, IfErr-weaker, err_from_is_err_
 use Rattle.erm_model.specs.declared.limits.TheConstants.{OID_LIMIT}
 use Rattle.erm_model.specs.Database.{at}
 use Rattle.erm_model.specs.Rows.{Rows}
-use Rattle.erm_model.specs.RowTransaction.{Asked, Event, did_write, did_claim, did_make, Does, StopsRead, StopsClaim, StopsMake}
+use Rattle.erm_model.specs.RowTransaction.{Asked, Event, did_write, did_claim, Does, StopsRead, StopsClaim, StopsMake}
 use Rattle.erm_record.specs.Record.{value_row}
 use Rattle.erm_node.specs.Sound.{levels_of}
 use Rattle.erm_node.specs.TreeMap.{map_of_rows}

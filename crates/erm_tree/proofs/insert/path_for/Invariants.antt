@@ -1,4 +1,4 @@
-use Rattle.std.proofs.Common.{◌≡◌, ℕ, length}
+use Rattle.std.proofs.Common.{◌≡◌, length}
 use Rattle.erm_model.specs.Rows.{Rows}
 use Rattle.erm_tree.specs.Calls.{SawIn}
 use Rattle.erm_tree.specs.Reads.{IsOnWay}

@@ -1,4 +1,3 @@
-use Rattle.std.proofs.Common.{ℕ}
 use Rattle.erm_model.specs.Rows.{Rows}
 use Rattle.erm_tree.specs.Calls.{SawIn}
 use Rattle.erm_tree.specs.Reads.{IsOnWay}

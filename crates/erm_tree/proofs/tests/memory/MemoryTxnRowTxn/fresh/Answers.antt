@@ -11,4 +11,4 @@ pub returns-then-oid-self-clause-err : goal.returns-then-oid-self-clause-err
 returns-then-oid-self-clause-err c = Memory-refused (λ (s : MemoryTxn). s.rows.items) (λ (s : MemoryTxn). s.claimed.items) (λ (s : MemoryTxn). s.seen.items) (λ (s : MemoryTxn). s.next) c.nodes_are_read_back.ensures.found c.nodes_are_read_back.ensures.given StopsMake c.args.self.now c.answers.new.self asked_make _ tt refl c.answers.ensures.rows c.answers.ensures.claimed c.answers.ensures.seen c.answers.ensures.next
 
 pub returns-clause-ok : goal.returns-clause-ok
-returns-clause-ok c = Memory-make (λ (s : MemoryTxn). s.rows.items) (λ (s : MemoryTxn). s.claimed.items) (λ (s : MemoryTxn). s.seen.items) (λ (s : MemoryTxn). s.next) c.nodes_are_read_back.ensures.found c.nodes_are_read_back.ensures.given c.args.self.now _ c.args.self.now.next_above c.answers.ensures.rows c.answers.ensures.claimed (ap (λ (n : ℕ). n + 1) c.answers.ensures.next)
+returns-clause-ok c = Memory-make (λ (s : MemoryTxn). s.rows.items) (λ (s : MemoryTxn). s.claimed.items) (λ (s : MemoryTxn). s.seen.items) (λ (s : MemoryTxn). s.next) c.nodes_are_read_back.ensures.found c.nodes_are_read_back.ensures.given c.args.self.now _ c.args.self.now.next_above c.answers.ensures.rows c.answers.ensures.claimed c.answers.ensures.seen (ap (λ (n : ℕ). n + 1) c.answers.ensures.next)
