@@ -44,7 +44,15 @@ impl Driver {
         ensures { IfOk result (λ d. IsReady d.state) }
     {
         let rows = vec![in alloc; [0; ROW_WORDS]; OBJECT_LIMIT as usize]?;
-        let state = State::open(alloc, sessions, rows.as_slice(), OPENING, RUN, 16, TABLE_CELLS)?;
+        let state = State::open(
+            alloc,
+            sessions,
+            rows.as_slice(),
+            OPENING,
+            RUN,
+            16,
+            TABLE_CELLS,
+        )?;
         let newest = vec![in alloc; 0; OBJECT_LIMIT as usize]?;
         let spare = no_cells(alloc)?;
         Ok(Driver {
