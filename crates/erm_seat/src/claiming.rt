@@ -13,9 +13,7 @@ use crate::SeatState;
 use crate::reading::{entered, older};
 use erm_kept::words::{blank_cell, is_active, is_session, may_start, same_version};
 use erm_kept::{ObjectState, is_own};
-use erm_machine::{
-    CELL_LIMIT, CellWord, Claim, Counter, OBJECT_LIMIT, OwnCell, Task, VersionAt, WRITE_LIMIT,
-};
+use erm_machine::{CellWord, Claim, Counter, OBJECT_LIMIT, OwnCell, Task, VersionAt, WRITE_LIMIT};
 use erm_model::{Oid, ROW_WORDS, Seat, Stamp};
 
 // The cells of the versions that a cut at a place takes off the chain become spare ones.
@@ -151,8 +149,9 @@ impl SeatState {
         true
     }
 
-    pub(crate) fn load_counter(&mut self, counter: Counter, found: u64) -> bool
-        ensures turn { reading_specs.load_counter counter found (part_of self.old) self.old.task ≡ (if result then Some (part_of self.new) else None) }
+    /// Loads a counter, where there are so many cells.
+    pub(crate) fn load_counter(&mut self, cells: u32, counter: Counter, found: u64) -> bool
+        ensures turn { reading_specs.load_counter cells counter found (part_of self.old) self.old.task ≡ (if result then Some (part_of self.new) else None) }
         ensures kept { result ≡ false → part_of self.new ≡ part_of self.old }
     {
         if !is_active(self.place) {
@@ -177,7 +176,7 @@ impl SeatState {
                 if !self.spare.is_empty() {
                     return false;
                 }
-                self.task = if found < CELL_LIMIT as u64 {
+                self.task = if found < cells as u64 {
                     Task::Pool
                 } else {
                     Task::Refused
@@ -187,9 +186,16 @@ impl SeatState {
         }
     }
 
-    pub(crate) fn add_counter(&mut self, seat: Seat, counter: Counter, found: u64) -> bool
+    /// Raises a counter, where there are so many cells.
+    pub(crate) fn add_counter(
+        &mut self,
+        cells: u32,
+        seat: Seat,
+        counter: Counter,
+        found: u64,
+    ) -> bool
         requires room { vec_len self.old.current.made < vec_capacity self.old.current.made }
-        ensures turn { reading_specs.add_counter seat counter found (part_of self.old) self.old.task ≡ (if result then Some (part_of self.new) else None) }
+        ensures turn { reading_specs.add_counter cells seat counter found (part_of self.old) self.old.task ≡ (if result then Some (part_of self.new) else None) }
         ensures kept { result ≡ false → part_of self.new ≡ part_of self.old }
     {
         if !is_active(self.place) {
@@ -207,7 +213,7 @@ impl SeatState {
                 true
             }
             (Counter::Cells, Task::Pool) => {
-                if found < CELL_LIMIT as u64 {
+                if found < cells as u64 {
                     self.task = Task::Fetched;
                     self.current.set_cell(OwnCell {
                         cell: found as u32,

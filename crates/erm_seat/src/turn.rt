@@ -31,10 +31,10 @@ impl SeatState {
         }
     }
 
-    // A step that meets no object.
-    fn turn_plain(&mut self, seat: Seat, kind: Kind, found: u64) -> bool
-        requires room { (cells : ℕ) × HasSeatRoom self.old kind cells }
-        ensures turn { IsPlain kind → (s : Shared) → step_specs.part_after seat kind found s (part_of self.old) ≡ (if result then Some (part_of self.new) else None) }
+    // A step that meets no object, where there are so many cells.
+    fn turn_plain(&mut self, seat: Seat, kind: Kind, found: u64, cells: u32) -> bool
+        requires room { (spare : ℕ) × HasSeatRoom self.old kind spare }
+        ensures turn { IsPlain kind → (s : Shared) → s.cell_limit ≡ cells → step_specs.part_after seat kind found s (part_of self.old) ≡ (if result then Some (part_of self.new) else None) }
         ensures kept { result ≡ false → part_of self.new ≡ part_of self.old }
     {
         match kind {
@@ -44,8 +44,8 @@ impl SeatState {
             Kind::StoreState { value } => self.store_state(seat, value),
             Kind::LoadBegin { seat: other } => self.load_begin(other, found),
             Kind::LoadState { seat: other, bound } => self.load_state(seat, other, bound, found),
-            Kind::LoadCounter { counter } => self.load_counter(counter, found),
-            Kind::AddCounter { counter } => self.add_counter(seat, counter, found),
+            Kind::LoadCounter { counter } => self.load_counter(cells, counter, found),
+            Kind::AddCounter { counter } => self.add_counter(cells, seat, counter, found),
             Kind::StoreRing { at, value } => self.store_ring(at, value),
             Kind::Decide { at, header } => self.decide(at, header),
             Kind::LoadRing { at } => self.load_ring(at, found),
@@ -76,11 +76,18 @@ impl SeatState {
         }
     }
 
-    /// A step of this kind that found this word, at this object where it names one.
-    pub fn turn(&mut self, seat: Seat, kind: Kind, found: u64, object: &ObjectState) -> bool
+    /// A step of this kind that found this word, at this object where it names one, where there are so many cells.
+    pub fn turn(
+        &mut self,
+        seat: Seat,
+        kind: Kind,
+        found: u64,
+        object: &ObjectState,
+        cells: u32,
+    ) -> bool
         requires seat { seat < ANNOUNCERS }
         requires room { HasSeatRoom self.old kind (cells_in kind (object_of object.now)) }
-        ensures turn { (s : Shared) → s.objects (object_in kind) ≡ object_of object.now → step_specs.part_after seat kind found s (part_of self.old) ≡ (if result then Some (part_of self.new) else None) }
+        ensures turn { (s : Shared) → s.cell_limit ≡ cells → s.objects (object_in kind) ≡ object_of object.now → step_specs.part_after seat kind found s (part_of self.old) ≡ (if result then Some (part_of self.new) else None) }
         ensures kept { result ≡ false → part_of self.new ≡ part_of self.old }
     {
         match kind {
@@ -105,7 +112,7 @@ impl SeatState {
             Kind::StoreSucc { version, value } => self.store_succ(version, value),
             Kind::StoreOverwriter { version, value } => self.store_overwriter(version, value),
             Kind::LoadDetached { version } => self.load_detached(found, version),
-            _ => self.turn_plain(seat, kind, found),
+            _ => self.turn_plain(seat, kind, found, cells),
         }
     }
 }
