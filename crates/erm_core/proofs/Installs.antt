@@ -1,11 +1,12 @@
 -- An install or a release of an entry, in a sound state: the seat owns the entry, and the head is a cell that an entry can name.
-use Rattle.std.proofs.Common.{◌≡◌, ◌≢◌, ℕ, zero, suc, ◌+◌, ◌^◌, ◌<◌, ◌≤◌, ⊎_elim, Bool, true, false, cond, ◌&&◌, ◌||◌, ltb, List, [], ◌∷◌, count_by, length, get_or, Option, Some, None, refl, sym, ap, ◌∙◌, subst, arith}
+use Rattle.std.proofs.Common.{◌≡◌, ◌≢◌, ℕ, zero, suc, ◌+◌, ◌^◌, ◌<◌, ◌≤◌, ⊎_elim, Bool, true, false, cond, ◌&&◌, ◌||◌, ltb, List, [], ◌∷◌, count_by, eqb, length, get_or, Option, Some, None, refl, sym, ap, ◌∙◌, subst, arith}
 use Rattle.std.proofs.lemmas.Bool.{and_parts, cases_eq, eqb-true, ltb-true}
 use Rattle.std.proofs.lemmas.List.Sums.{sum_by-cons}
 use Rattle.std.proofs.lemmas.Option.{same_Some}
 use Rattle.erm_machine.specs.declared.attempt.Claim.{Claim}
+use Rattle.erm_machine.specs.declared.attempt.OwnCell.{OwnCell}
 use Rattle.erm_machine.specs.declared.event.Kind.TheVariants as kind
-use Rattle.erm_machine.specs.declared.limits.TheConstants.{ANNOUNCERS, CELL_LIMIT, OBJECT_LIMIT}
+use Rattle.erm_machine.specs.declared.limits.TheConstants.{ANNOUNCERS, OBJECT_LIMIT}
 use Rattle.erm_machine.specs.declared.part.Part.{Part}
 use Rattle.erm_machine.specs.declared.place.Place.{Place}
 use Rattle.erm_machine.specs.declared.place.Place.TheVariants.{Vacant, Active, Decided}
@@ -13,13 +14,14 @@ use Rattle.erm_machine.specs.declared.task.Task.{Task}
 use Rattle.erm_machine.specs.declared.task.Task.TheVariants as task
 use Rattle.erm_machine.specs.Cells.{own_times, chain_times}
 use Rattle.erm_machine.specs.Claims.{ClaimFits}
-use Rattle.erm_machine.specs.Core.{Core, claim_at, no_claim}
+use Rattle.erm_machine.specs.Core.{Core, Object, claim_at, no_claim}
 use Rattle.erm_machine.specs.Facts.{over_of, total}
 use Rattle.erm_machine.specs.Seat.{end_of, is_active, is_decided, is_own, last_claim}
 use Rattle.erm_machine.specs.Settling.{installs, adds_version, install_new, release_old, install_claim, unclaim, install}
 use Rattle.erm_machine.specs.Sound.{Sound}
 use Rattle.erm_machine.specs.Step.{part_after}
 use Rattle.erm_machine.specs.Words.{head_of, owner_of, is_seat}
+use Rattle.erm_machine.proofs.Frames.{total_at}
 use Rattle.erm_machine.proofs.Guards.{when_then, if_then}
 
 -- what an install finds
@@ -27,15 +29,6 @@ pub record Owned (c : Core) (p oid head : ℕ) : Type 0 where
   pub owner : owner_of (c.shared.objects oid).entry ≡ p
   pub positive : 0 < p
   pub low : head < 2 ^ 24
-
--- a value is at most the sum in which it stands
-total_at : {X : Type 0} (f : X → ℕ) (n : ℕ) (xs : ℕ → X) (k : ℕ) → k < n → f (xs k) ≤ total f n xs
-total_at f zero xs k low = absurd (omega arith)
-total_at f (suc n) xs k low =
-    ⊎_elim
-    (λ (e : k ≡ n). let same = ap (λ m. f (xs m)) e in omega (arith, same))
-    (λ (ne : k ≡ n → ⊥). let rest = total_at f n xs k (omega (arith, low, ne)) in omega (arith, rest))
-    (cases_eq k n)
 
 one_of : (b : Bool) (n : ℕ) → b ≡ true → cond b n 0 ≡ n
 one_of b n e = ap (λ (t : Bool). cond t n 0) e
@@ -53,15 +46,25 @@ counted test (x ∷ xs) (suc k) d low e =
     omega (arith, here, rest)
 
 -- a sum that isn't 0 where it is 1 only under two tests
-second_test : (a b cell drawn : ℕ) → a + b ≡ cond (ltb cell drawn && ltb cell CELL_LIMIT) 1 0 → 0 < b → cell < CELL_LIMIT
-second_test a b cell drawn e positive = by_test (ltb cell drawn && ltb cell CELL_LIMIT) refl e
+second_test : (a b cell drawn limit : ℕ) → a + b ≡ cond (ltb cell drawn && ltb cell limit) 1 0 → 0 < b → cell < limit
+second_test a b cell drawn limit e positive = by_test (ltb cell drawn && ltb cell limit) refl e
   where
-    by_test : (t : Bool) → (ltb cell drawn && ltb cell CELL_LIMIT) ≡ t → a + b ≡ cond t 1 0 → cell < CELL_LIMIT
-    by_test true test f = ltb-true cell CELL_LIMIT (and_parts _ _ test).1
+    by_test : (t : Bool) → (ltb cell drawn && ltb cell limit) ≡ t → a + b ≡ cond t 1 0 → cell < limit
+    by_test true test f = ltb-true cell limit (and_parts _ _ test).1
     by_test false test f = absurd (omega (arith, f, positive))
 
+-- a cell that stands among a seat's own is one of the cells
+own_cell : (cell n m p drawn limit : ℕ) (objects : ℕ → Object) (seats : ℕ → Part) →
+    total (chain_times cell) n objects + total (own_times cell) m seats ≡ cond (ltb cell drawn && ltb cell limit) 1 0 → p < m → 0 < own_times cell (seats p) → cell < limit
+own_cell cell n m p drawn limit objects seats once within some =
+    let all = total_at (own_times cell) m seats p within in
+    second_test (total (chain_times cell) n objects) (total (own_times cell) m seats) cell drawn limit once (positive (own_times cell (seats p)) (total (own_times cell) m seats) some all)
+  where
+    positive : (a b : ℕ) → 0 < a → a ≤ b → 0 < b
+    positive a b h le = omega arith
+
 -- a seat that has words
-seat_range : (q : ℕ) → is_seat q ≡ true → (0 < q) × (q < 18)
+seat_range : (q : ℕ) → is_seat q ≡ true → (0 < q) × (q < ANNOUNCERS)
 seat_range q e = grind arith
 
 -- the claims before the one that an end has come to are over
@@ -108,13 +111,14 @@ module _ (c : Core) (p oid head : ℕ) (sound : Sound c) where
       by_test false e = absurd (taken ((sound.own p).ranges.seat_of e))
 
   -- an own cell is one of the cells
-  own_low : (k : ℕ) → (c.seats p).place ≢ Vacant → k < length (c.seats p).current.writes → is_own head (claim_at (c.seats p).current k).own ≡ true → head < CELL_LIMIT
+  own_low : (k : ℕ) → (c.seats p).place ≢ Vacant → k < length (c.seats p).current.writes → is_own head (claim_at (c.seats p).current k).own ≡ true → head < c.shared.cell_limit
   own_low k taken within own =
-      let once = sound.common.cells.once head in
       let mine : 0 < count_by (λ (w : Claim). is_own head w.own) (c.seats p).current.writes = counted (λ (w : Claim). is_own head w.own) (c.seats p).current.writes k no_claim within own in
-      let all : own_times head (c.seats p) ≤ total (own_times head) ANNOUNCERS c.seats = total_at (own_times head) ANNOUNCERS c.seats p (seat_range p (taken_seat taken)).1 in
-      second_test (total (chain_times head) OBJECT_LIMIT c.shared.objects) (total (own_times head) ANNOUNCERS c.seats) head c.shared.cells_drawn once
-      (let parts : 0 < own_times head (c.seats p) = omega (arith, mine) in omega (arith, parts, all))
+      own_cell head OBJECT_LIMIT ANNOUNCERS p c.shared.cells_drawn c.shared.cell_limit c.shared.objects c.seats (sound.common.cells.once head) (seat_range p (taken_seat taken)).1
+      (more (count_by (λ (own : OwnCell). eqb own.cell head) (c.seats p).spare) (count_by (λ (w : Claim). is_own head w.own) (c.seats p).current.writes) mine)
+    where
+      more : (a b : ℕ) → 0 < b → 0 < a + b
+      more a b h = omega arith
 
   -- the claim fits the object that it names
   claim_fits : (k : ℕ) → k < length (c.seats p).current.writes → over_of (c.seats p).place (c.seats p).task (length (c.seats p).current.writes) ≤ k →
@@ -142,7 +146,8 @@ module _ (c : Core) (p oid head : ℕ) (sound : Sound c) where
       let fits = claim_fits n.1 within (over_end x.place x.task n (length x.current.writes) either at) (eqb-true _ _ (second _ _ (first _ _ g))) in
       let taken = either_taken x.place either in
       let below = own_low n.1 taken within (second _ _ g) in
-      record { owner = fits.owner; positive = (seat_range p (taken_seat taken)).0; low = omega (arith, below) })
+      let limit = sound.common.counters.limit in
+      record { owner = fits.owner; positive = (seat_range p (taken_seat taken)).0; low = omega (arith, below, limit) })
 
   old_owned : (n : ℕ × ℕ × ℕ × ℕ) (y : Part) → end_of (c.seats p).task ≡ Some n → release_old oid head (c.seats p) n ≡ Some y → Owned c p oid head
   old_owned n y at e =

@@ -5,6 +5,7 @@ use Rattle.erm_machine.specs.declared.event.Kind.{Kind}
 use Rattle.erm_machine.specs.declared.event.Kind.TheVariants as kind
 use Rattle.erm_machine.specs.declared.event.TailUse.{TailUse}
 use Rattle.erm_machine.specs.declared.event.TailUse.TheVariants as purpose
+use Rattle.erm_machine.specs.declared.limits.TheConstants.{ANNOUNCERS}
 use Rattle.erm_machine.specs.declared.part.Part.{Part}
 use Rattle.erm_machine.specs.declared.place.Place.{Place}
 use Rattle.erm_machine.specs.declared.place.Place.TheVariants.{Begun, Announced, Active, Sealing, Drawn, Sealed, Decided, Leaving}
@@ -45,6 +46,13 @@ begun_by _ = 0
 abbrev pub begun_in : Kind → ℕ
 begun_in (kind.LoadTail purpose) = begun_by purpose
 begun_in _ = 0
+
+-- how many seats may still draw a range, where the seats' parts are the same, or one is another
+draws_same : (c d : Core) → c.seats ≡ d.seats → still_to_draw c ≡ still_to_draw d
+draws_same c d same = ap (λ (f : ℕ → Part). total draws ANNOUNCERS f) same
+
+draws_put : (c d : Core) (p : ℕ) (y : Part) → p < ANNOUNCERS → d.seats ≡ put c.seats p y → still_to_draw d + draws (c.seats p) ≡ still_to_draw c + draws y
+draws_put c d p y within same = ap (λ (f : ℕ → Part). total draws ANNOUNCERS f + draws (c.seats p)) same ∙ total-put draws ANNOUNCERS c.seats p y within
 
 -- a seat that stays at its place
 same_place : (x y : Part) → y.place ≡ x.place → draws y + 0 ≤ draws x + 0
@@ -108,12 +116,12 @@ object_kept : (os : List ObjectState) (oid : ℕ) (o : ObjectState) → slice_ge
 object_kept os oid o there =
     get_or-map object_of os oid o no_object (slice_get_within os oid o there) ∙ ap object_of (get_or_from_slice_get os oid o o there)
 
-module _ (s t : State) (p : ℕ) (k : Kind) (found : ℕ) (within : p < 18) (sound : Sound (core_of s)) (carries : Carries s) (rest : t ≡ record s { seats = t.seats })
+module _ (s t : State) (p : ℕ) (k : Kind) (found : ℕ) (within : p < ANNOUNCERS) (sound : Sound (core_of s)) (carries : Carries s) (rest : t ≡ record s { seats = t.seats })
     (seats : (core_of t).seats ≡ put (core_of s).seats p ((core_of t).seats p))
     (after : part_after p k found (shared_of s) ((core_of s).seats p) ≡ Some ((core_of t).seats p)) where
   -- the sum over the seats, before and after
   sums : still_to_draw (core_of t) + draws ((core_of s).seats p) ≡ still_to_draw (core_of s) + draws ((core_of t).seats p)
-  sums = ap (λ (f : ℕ → Part). total draws 18 f + draws ((core_of s).seats p)) seats ∙ total-put draws 18 (core_of s).seats p ((core_of t).seats p) within
+  sums = draws_put (core_of s) (core_of t) p ((core_of t).seats p) within seats
 
   same_len : vec_len t.log ≡ vec_len s.log
   same_len = ap (λ (u : State). vec_len u.log) rest
@@ -160,7 +168,7 @@ module _ (s t : State) (p : ℕ) (k : Kind) (found : ℕ) (within : p < 18) (sou
       let sum = sums in
       let len = same_len in
       let capacity = same_capacity in
-      let seats_same : still_to_draw (core_of u) ≡ still_to_draw (core_of t) = ap (λ (f : ℕ → Part). total draws 18 f) same in
+      let seats_same : still_to_draw (core_of u) ≡ still_to_draw (core_of t) = draws_same (core_of u) (core_of t) same in
       let room = begin_room s k carries shared in
       let drawn = drawn_after p k found (shared_of s) ((core_of s).seats p) ((core_of t).seats p) after in
       let log_len = log.len in
@@ -172,32 +180,33 @@ pub carries_same : (s t : State) → Carries s → t.log ≡ s.log → (core_of 
 carries_same s t carries log seats =
     let len : vec_len t.log ≡ vec_len s.log = ap vec_len log in
     let capacity : vec_capacity t.log ≡ vec_capacity s.log = ap vec_capacity log in
-    let sum : still_to_draw (core_of t) ≡ still_to_draw (core_of s) = ap (λ (f : ℕ → Part). total draws 18 f) seats in
+    let sum : still_to_draw (core_of t) ≡ still_to_draw (core_of s) = draws_same (core_of t) (core_of s) seats in
     let room = carries.log in
     record { log = omega (arith, len, capacity, sum, room) }
 
 -- a state in which one seat's part is another one, from which no more ranges are drawn
-pub carries_part : (s t : State) (p : ℕ) (y : Part) → p < 18 → Carries s → t.log ≡ s.log → (core_of t).seats ≡ put (core_of s).seats p y → draws y ≤ draws ((core_of s).seats p) → Carries t
+pub carries_part : (s t : State) (p : ℕ) (y : Part) → p < ANNOUNCERS → Carries s → t.log ≡ s.log → (core_of t).seats ≡ put (core_of s).seats p y → draws y ≤ draws ((core_of s).seats p) → Carries t
 carries_part s t p y within carries log seats less =
     let len : vec_len t.log ≡ vec_len s.log = ap vec_len log in
     let capacity : vec_capacity t.log ≡ vec_capacity s.log = ap vec_capacity log in
-    let now : still_to_draw (core_of t) ≡ total draws 18 (put (core_of s).seats p y) = ap (λ (f : ℕ → Part). total draws 18 f) seats in
-    let sum = total-put draws 18 (core_of s).seats p y within in
+    let sum = draws_put (core_of s) (core_of t) p y within seats in
     let room = carries.log in
-    record { log = omega (arith, len, capacity, now, sum, room, less) }
+    record { log = omega (arith, len, capacity, sum, room, less) }
 
 -- no more seats than there are may draw
 total_few : (n : ℕ) (f : ℕ → Part) → total draws n f ≤ n
+unfolding total
 total_few zero f = omega arith
 total_few (suc n) f = let before = total_few n f in let here = drawing-le (f n).place in omega (arith, before, here)
 
-pub few_draw : (s : State) → still_to_draw (core_of s) ≤ 18
-few_draw s = total_few 18 (core_of s).seats
+pub few_draw : (s : State) → still_to_draw (core_of s) ≤ ANNOUNCERS
+few_draw s = total_few ANNOUNCERS (core_of s).seats
 
 total_none : (n : ℕ) (f : ℕ → Part) → ((p : ℕ) → draws (f p) ≡ 0) → total draws n f ≡ 0
+unfolding total
 total_none zero f none = refl
 total_none (suc n) f none = let before = total_none n f none in let here = none n in omega (arith, before, here)
 
 -- where no seat has begun none draws
-pub none_draw : (s : State) (c : Core) → core_of s ≡ c → ((p : ℕ) → draws (c.seats p) ≡ 0) → still_to_draw (core_of s) ≡ 0
-none_draw s c is none = ap (λ (d : Core). total draws 18 d.seats) is ∙ total_none 18 c.seats none
+pub none_draw : (c d : Core) → c ≡ d → ((p : ℕ) → draws (d.seats p) ≡ 0) → still_to_draw c ≡ 0
+none_draw c d is none = ap still_to_draw is ∙ total_none ANNOUNCERS d.seats none

@@ -62,12 +62,12 @@ refused_none c p k found one known is none =
     ∙ ap (λ (o : Option Part). moved p k w c o) none_w
 
 -- a range that is drawn from a sound state ends below 2 ^ 64
-draw_small : (p size found : ℕ) (x : Part) (pl : Place) (y : Part) → add_tail p size found x pl ≡ Some y → size ≤ 1093
+draw_small : (p size found : ℕ) (x : Part) (pl : Place) (y : Part) → add_tail p size found x pl ≡ Some y → size ≤ GREATEST_BLOCK
 draw_small p size found x (Sealing tail) y e = by_guard _ _ e (λ g.
     let most = leb-true size GREATEST_BLOCK (and_parts _ _ g).1 in
     omega (arith, most))
   where
-    by_guard : (z : Part) (b : Bool) → cond b (Some z) None ≡ Some y → (b ≡ true → size ≤ 1093) → size ≤ 1093
+    by_guard : (z : Part) (b : Bool) → cond b (Some z) None ≡ Some y → (b ≡ true → size ≤ GREATEST_BLOCK) → size ≤ GREATEST_BLOCK
     by_guard z true e f = f refl
     by_guard z false e f = absurd (cc)
 draw_small p size found x _ y e = absurd (cc)

@@ -6,6 +6,7 @@ use Rattle.erm_machine.specs.declared.event.Counter.TheVariants.{Objects, Cells}
 use Rattle.erm_machine.specs.declared.event.Kind.{Kind}
 use Rattle.erm_machine.specs.declared.event.Kind.TheVariants as kind
 use Rattle.erm_machine.specs.declared.event.TailUse.TheVariants as purpose
+use Rattle.erm_machine.specs.declared.limits.TheConstants.{ANNOUNCERS}
 use Rattle.erm_machine.specs.declared.part.Part.{Part}
 use Rattle.erm_machine.specs.declared.place.Place.TheVariants.{Vacant}
 use Rattle.erm_machine.specs.declared.version.CellWord.TheVariants as word
@@ -66,7 +67,7 @@ module _ (c : Core) (p run opening : ℕ) (is : c.seats p ≡ fresh_part Vacant 
   vacant_none k = vacant_word k tt
 
 -- a seat above those that have words
-pub seat_above : (s : State) (p : ℕ) → IsShaped s → 18 ≤ p → (core_of s).seats p ≡ fresh_part Vacant s.run s.opening
+pub seat_above : (s : State) (p : ℕ) → IsShaped s → ANNOUNCERS ≤ p → (core_of s).seats p ≡ fresh_part Vacant s.run s.opening
 seat_above s p shape above =
     let len : length (map part_of s.seats.items) ≡ length s.seats.items = length-map s.seats.items part_of in
     let items = s.seats.ok.0 in

@@ -27,6 +27,7 @@ parts_of run opening xs = λ p. slice_index_or (map part_of xs) p (fresh_part Va
 abbrev pub shared_of : State → Shared
 shared_of s = record {
   opening = s.opening;
+  cell_limit = s.cell_limit;
   tail = s.tail;
   log = s.log.items;
   flushed = s.flushed;

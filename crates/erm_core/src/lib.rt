@@ -2,7 +2,5 @@
 #![tactic(auto)]
 
 mod state;
-#[cfg(test)]
-mod tests;
 
 pub use state::State;

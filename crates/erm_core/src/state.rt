@@ -5,10 +5,11 @@ mod room;
 mod run;
 mod step;
 
-ghost use Rattle.std.specs.Prelude.{◌≡◌, ◌%◌, Some, None};
+ghost use Rattle.std.specs.Prelude.{◌≡◌, ◌%◌, ◌≤◌, Some, None, MatchOption, vec_len};
 ghost use Rattle.erm_machine.specs.Core as core_specs;
 ghost use Rattle.erm_core.specs.Cores.{core_of};
 ghost use Rattle.erm_seat.specs.Kinds.{IsPlain};
+ghost use Rattle.erm_seat.specs.Parts.{part_of};
 
 use erm_kept::ObjectState;
 use erm_kept::words::{begin_of, blank_cell, cell_word, state_of};
@@ -21,6 +22,8 @@ use erm_seat::SeatState;
 pub struct State {
     pub(crate) run: u64,
     pub(crate) opening: Stamp,
+    /// How many cells there are.
+    pub(crate) cell_limit: u32,
     pub(crate) tail: Stamp,
     pub(crate) log: Vec<Span>,
     pub(crate) flushed: Stamp,
@@ -32,6 +35,13 @@ pub struct State {
 }
 
 impl State {
+    /// A seat that has words, as it is kept.
+    pub fn seat(&self, seat: Seat) -> Option<&SeatState>
+        ensures { MatchOption result (vec_len self.now.seats ≤ seat) (λ x. part_of x.now ≡ (core_of self.now).seats seat) }
+    {
+        self.seats.get(seat as usize)
+    }
+
     // The begin word of a seat.
     fn begin_word(&self, seat: Seat) -> u64
         ensures { result ≡ core_specs.word_at (core_of self.now) (core_specs.begin_word seat) }

@@ -5,7 +5,7 @@ ghost use Rattle.erm_core.specs.Ready.{IsReady};
 
 use erm_core::State;
 use erm_machine::{ANNOUNCERS, Answer, Event, Kind, OBJECT_LIMIT, VersionAt};
-use erm_model::{Oid, ROW_WORDS, Seat, Stamp};
+use erm_model::{Oid, ROW_WORDS, Seat, Stamp, TABLE_CELLS};
 use std::alloc::{AllocError, Global};
 use thiserror::Error;
 
@@ -44,7 +44,7 @@ impl Driver {
         ensures { IfOk result (λ d. IsReady d.state) }
     {
         let rows = vec![in alloc; [0; ROW_WORDS]; OBJECT_LIMIT as usize]?;
-        let state = State::open(alloc, sessions, rows.as_slice(), OPENING, RUN, 16)?;
+        let state = State::open(alloc, sessions, rows.as_slice(), OPENING, RUN, 16, TABLE_CELLS)?;
         let newest = vec![in alloc; 0; OBJECT_LIMIT as usize]?;
         let spare = no_cells(alloc)?;
         Ok(Driver {

@@ -91,7 +91,7 @@ impl State {
         ensures shape { IsShaped self.new }
     {
         let oid = object_of_kind(kind) as usize;
-        self.seats[seat as usize].turn(seat, kind, found, &self.objects[oid])
+        self.seats[seat as usize].turn(seat, kind, found, &self.objects[oid], self.cell_limit)
     }
 }
 

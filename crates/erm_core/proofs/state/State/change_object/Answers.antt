@@ -2,6 +2,7 @@ use Rattle.std.proofs.Common.{ℕ, ◌≡◌, ◌<◌, Some, List, length, slice
 use Rattle.std.proofs.lemmas.Option.{slice_get-get_or}
 use Rattle.erm_machine.specs.declared.event.Kind.{Kind}
 use Rattle.erm_machine.specs.declared.event.Kind.TheVariants as kind
+use Rattle.erm_machine.specs.declared.limits.TheConstants.{OBJECT_LIMIT}
 use Rattle.erm_core.specs.declared.state.State.{State}
 use Rattle.erm_core.specs.Rooms.{HasChangeRoom}
 use Rattle.erm_kept.specs.Objects.{HasObjectRoom}
@@ -19,7 +20,7 @@ object_room s (kind.Install n head) oid o named there h = (h.0, h.1 o (ap (λ m.
 object_room s (kind.Claim n seen number) oid o named there h = h o (ap (λ m. slice_get s.objects.items m) (sym named) ∙ there)
 object_room s _ oid o named there h = tt
 
-within : (len oid : ℕ) (os : List ObjectState) → len ≡ length os → len ≡ 1024 → oid < 1024 → oid < length os
+within : (len oid : ℕ) (os : List ObjectState) → len ≡ length os → len ≡ OBJECT_LIMIT → oid < OBJECT_LIMIT → oid < length os
 within len oid os a b h = omega arith
 
 pub change-requires-clause-room : goal.change-requires-clause-room

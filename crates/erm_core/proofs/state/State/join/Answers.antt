@@ -1,5 +1,6 @@
 use Rattle.std.proofs.Common.{ℕ, max, ◌≡◌, ◌<◌, ◌≤◌, Bool, Some, None, true, false, length, ap, ◌∙◌, sym, refl, arith}
 use Rattle.std.proofs.lemmas.Bool.{ne_eqb}
+use Rattle.erm_machine.specs.declared.limits.TheConstants.{ANNOUNCERS}
 use Rattle.erm_machine.specs.declared.part.Part.{Part}
 use Rattle.std.specs.Prelude.{if◌then◌else◌}
 use Rattle.erm_machine.specs.Life.{join}
@@ -18,7 +19,7 @@ within len k bound n a b h = omega arith
 pub returns-then-not-join-clause-step : goal.returns-then-not-join-clause-step
 returns-then-not-join-clause-step c =
     let s = c.args.self.now in
-    let inside = within s.seats.len c.args.seat 18 (length s.seats.items) s.seats.ok.0 c.requires.shape.seats c.requires.seat in
+    let inside = within s.seats.len c.args.seat ANNOUNCERS (length s.seats.items) s.seats.ok.0 c.requires.shape.seats c.requires.seat in
     let at = parts_at s.run s.opening s.seats.items c.args.seat c.index_mut.result.now inside c.index_mut.ensures.value in
     join_step (core_of s) c.args.seat c.args.other false (part_of c.join.new.self) _ (ne_eqb c.args.other c.args.seat c.if-other-seat.false)
     (ap (λ (x : Part). join x ((core_of s).seats c.args.other)) at
@@ -31,7 +32,7 @@ returns-then-not-join-clause-step c =
 pub returns-clause-step : goal.returns-clause-step
 returns-clause-step c =
     let s = c.args.self.now in
-    let inside = within s.seats.len c.args.seat 18 (length s.seats.items) s.seats.ok.0 c.requires.shape.seats c.requires.seat in
+    let inside = within s.seats.len c.args.seat ANNOUNCERS (length s.seats.items) s.seats.ok.0 c.requires.shape.seats c.requires.seat in
     let at = parts_at s.run s.opening s.seats.items c.args.seat c.index_mut.result.now inside c.index_mut.ensures.value in
     join_step (core_of s) c.args.seat c.args.other true (part_of c.join.new.self) _ (ne_eqb c.args.other c.args.seat c.if-other-seat.false)
     (ap (λ (x : Part). join x ((core_of s).seats c.args.other)) at
@@ -42,7 +43,7 @@ returns-clause-step c =
 pub returns-then-not-join-clause-carries : goal.returns-then-not-join-clause-carries
 returns-then-not-join-clause-carries c =
     let s = c.args.self.now in
-    let inside = within s.seats.len c.args.seat 18 (length s.seats.items) s.seats.ok.0 c.requires.shape.seats c.requires.seat in
+    let inside = within s.seats.len c.args.seat ANNOUNCERS (length s.seats.items) s.seats.ok.0 c.requires.shape.seats c.requires.seat in
     let at = parts_at s.run s.opening s.seats.items c.args.seat c.index_mut.result.now inside c.index_mut.ensures.value in
     carries_same s _ c.requires.carries refl
     (parts_set s.run s.opening s.seats.items c.args.seat c.join.new.self inside
@@ -57,7 +58,7 @@ taken false false y z e = cc
 pub returns-clause-carries : goal.returns-clause-carries
 returns-clause-carries c =
     let s = c.args.self.now in
-    let inside = within s.seats.len c.args.seat 18 (length s.seats.items) s.seats.ok.0 c.requires.shape.seats c.requires.seat in
+    let inside = within s.seats.len c.args.seat ANNOUNCERS (length s.seats.items) s.seats.ok.0 c.requires.shape.seats c.requires.seat in
     let at = parts_at s.run s.opening s.seats.items c.args.seat c.index_mut.result.now inside c.index_mut.ensures.value in
     let same : (part_of c.join.new.self).place ≡ (part_of c.index_mut.result.now).place =
     ap (λ (x : Part). x.place) (taken _ _ (record (part_of c.index_mut.result.now) { seen = max c.index_mut.result.now.seen c.sight-place.result.1 }) _ c.if-not-join.ensures.turn) in

@@ -2,6 +2,7 @@ use Rattle.std.proofs.Common.{ℕ, ◌≡◌, ◌<◌, Some, List, set, length, 
 use Rattle.std.specs.Prelude.{Result, Ok, Err, OnOk}
 use Rattle.std.proofs.lemmas.Option.{get_or_from_slice_get}
 use Rattle.std.proofs.lemmas.List.{get_or-set_same}
+use Rattle.erm_machine.specs.declared.limits.TheConstants.{ANNOUNCERS}
 use Rattle.erm_machine.specs.declared.event.Kind.{Kind}
 use Rattle.erm_seat.specs.declared.seat.SeatState.{SeatState}
 use Rattle.erm_seat.specs.Parts.{part_of}
@@ -29,7 +30,7 @@ within len k bound n a b h = omega arith
 pub returns-clause-core : goal.returns-clause-core
 returns-clause-core c =
     let s = c.args.self.now in
-    let inside = within s.seats.len c.args.event.seat 18 (length s.seats.items) s.seats.ok.0 c.requires.shape.seats c.requires.seat in
+    let inside = within s.seats.len c.args.event.seat ANNOUNCERS (length s.seats.items) s.seats.ok.0 c.requires.shape.seats c.requires.seat in
     core_path _ _ refl
     (parts_set s.run s.opening s.seats.items c.args.event.seat c.reserve.new.self inside
     ∙ put_same_value (parts_of s.run s.opening s.seats.items) c.args.event.seat (part_of c.reserve.new.self)
@@ -38,13 +39,13 @@ returns-clause-core c =
 pub returns-clause-ok : goal.returns-clause-ok
 returns-clause-ok c =
     let s = c.args.self.now in
-    let inside = within s.seats.len c.args.event.seat 18 (length s.seats.items) s.seats.ok.0 c.requires.shape.seats c.requires.seat in
+    let inside = within s.seats.len c.args.event.seat ANNOUNCERS (length s.seats.items) s.seats.ok.0 c.requires.shape.seats c.requires.seat in
     on_ok c.reserve.result c.reserve.ensures.ok (λ room. room_there s.seats.items c.args.event.seat c.reserve.new.self c.args.event.kind c.cells-cells.result _ inside c.cells-cells.ensures room)
 
 pub returns-clause-carries : goal.returns-clause-carries
 returns-clause-carries c =
     let s = c.args.self.now in
-    let inside = within s.seats.len c.args.event.seat 18 (length s.seats.items) s.seats.ok.0 c.requires.shape.seats c.requires.seat in
+    let inside = within s.seats.len c.args.event.seat ANNOUNCERS (length s.seats.items) s.seats.ok.0 c.requires.shape.seats c.requires.seat in
     carries_same s _ c.requires.carries refl
     (parts_set s.run s.opening s.seats.items c.args.event.seat c.reserve.new.self inside
     ∙ put_same_value (parts_of s.run s.opening s.seats.items) c.args.event.seat (part_of c.reserve.new.self)

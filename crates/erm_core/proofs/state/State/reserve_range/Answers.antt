@@ -1,5 +1,6 @@
 use Rattle.std.proofs.Common.{◌+◌, ◌≤◌, List, refl, ap, sym, subst, arith}
 use Rattle.std.specs.Prelude.{Result, Ok, Err, OnOk, vec_len, vec_capacity}
+use Rattle.erm_machine.specs.declared.limits.TheConstants.{ANNOUNCERS}
 use Rattle.erm_machine.specs.declared.version.Span.{Span}
 use Rattle.erm_machine.specs.Core.{Shared}
 use Rattle.erm_core.specs.declared.state.State.{State}
@@ -13,7 +14,7 @@ on_ok : {A E : Type 0} {P Q : Type 0} (r : Result A E) → OnOk r P → (P → Q
 on_ok (Ok v) h f = f h
 on_ok (Err e) h f = h
 
-enough : (s : State) → vec_len s.log + 19 ≤ vec_capacity s.log → vec_len s.log + still_to_draw (core_of s) + 1 ≤ vec_capacity s.log
+enough : (s : State) → vec_len s.log + (ANNOUNCERS + 1) ≤ vec_capacity s.log → vec_len s.log + still_to_draw (core_of s) + 1 ≤ vec_capacity s.log
 enough s room = let few = few_draw s in omega (arith, room, few)
 
 pub returns-in-Begin-clause-ok : goal.returns-in-Begin-clause-ok

@@ -2,6 +2,7 @@ use Rattle.std.proofs.Common.{ℕ, ◌≡◌, ◌<◌, ◌≤◌, Bool, Some, No
 use Rattle.std.proofs.lemmas.Bool.{ne_eqb, and_from, not_from_false}
 use Rattle.erm_machine.specs.declared.part.Part.{Part}
 use Rattle.std.specs.Prelude.{if◌then◌else◌}
+use Rattle.erm_machine.specs.declared.limits.TheConstants.{ANNOUNCERS}
 use Rattle.erm_machine.specs.declared.place.Place.TheVariants.{Idle}
 use Rattle.erm_machine.specs.Life.{split}
 use Rattle.erm_machine.specs.Ranges.{drawing}
@@ -14,7 +15,7 @@ use Rattle.erm_core.proofs.Steps.{split_is, split_step, core_path}
 use Rattle.erm_core.proofs.Tables.{parts_set, parts_at, put_same_value}
 use Rattle.erm_core.proofs.state.State.split.Goals as goal
 
-below : (len other n : ℕ) → len ≡ n → len ≡ 18 → is_seat other ≡ true → other < n
+below : (len other n : ℕ) → len ≡ n → len ≡ ANNOUNCERS → is_seat other ≡ true → other < n
 below len other n a b seat = grind arith
 
 tests : (other seat : ℕ) → (other ≡ seat → ⊥) → is_seat other ≡ true → (not (eqb other seat) && is_seat other) ≡ true
@@ -72,7 +73,7 @@ returns-clause-carries c =
     (parts_set s.run s.opening s.seats.items c.args.other c.split.new.self inside)
     (none (part_of c.split.new.self) _ (ap (λ (x : Part). x.place) (taken _ _ _ _ c.if-not-split.ensures.turn)))
   where
-    below_all : (other : ℕ) → is_seat other ≡ true → other < 18
+    below_all : (other : ℕ) → is_seat other ≡ true → other < ANNOUNCERS
     below_all other seat = grind arith
 
     none : (y : Part) (n : ℕ) → y.place ≡ Idle → draws y ≤ n

@@ -1,6 +1,7 @@
-use Rattle.std.proofs.Common.{◌≡◌, refl, ap, sym, subst}
+use Rattle.std.proofs.Common.{◌≡◌, refl, ap, sym, subst, ◌∙◌}
 use Rattle.erm_machine.specs.declared.event.Answer.{Answer}
 use Rattle.erm_machine.specs.declared.event.Event.{Event}
+use Rattle.erm_machine.specs.declared.event.Kind.{Kind}
 use Rattle.erm_machine.specs.declared.event.Kind.TheVariants as kind
 use Rattle.erm_machine.specs.Core.{Core}
 use Rattle.erm_machine.specs.Sound.{Sound}
@@ -40,3 +41,13 @@ returns-then-event-ge-ANNOUNCERS-clause-step c =
     let s = c.args.self.now in
     let e = c.args.event in
     failed_step (core_of s) e.seat e.kind (core_of s) (vacant_none (core_of s) e.seat s.run s.opening (seat_above s e.seat c.requires.shape c.if-event-ge-ANNOUNCERS.true) e.kind) refl
+
+-- the core step of an event of this kind
+step_of_kind : (c : Core) (e : Event) (k : Kind) → e.kind ≡ k → core_step c (event_at e.seat k) ≡ core_step c e
+step_of_kind c e k is = ap (λ (m : Kind). core_step c (event_at e.seat m)) (sym is)
+
+pub returns-in-Split-clause-step : goal.returns-in-Split-clause-step
+returns-in-Split-clause-step c = c.split.ensures.step ∙ step_of_kind (core_of c.args.self.now) c.args.event (kind.Split c.in-Split.seat) c.in-Split.is
+
+pub returns-in-Join-clause-step : goal.returns-in-Join-clause-step
+returns-in-Join-clause-step c = c.join.ensures.step ∙ step_of_kind (core_of c.args.self.now) c.args.event (kind.Join c.in-Join.seat) c.in-Join.is

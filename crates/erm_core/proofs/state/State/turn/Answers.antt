@@ -1,5 +1,6 @@
-use Rattle.std.proofs.Common.{ℕ, ◌≡◌, ◌<◌, Some, None, length, ap, ◌∙◌, sym, arith}
+use Rattle.std.proofs.Common.{ℕ, ◌≡◌, ◌<◌, Some, None, length, ap, ◌∙◌, sym, refl, arith}
 use Rattle.std.specs.Prelude.{if◌then◌else◌}
+use Rattle.erm_machine.specs.declared.limits.TheConstants.{ANNOUNCERS, OBJECT_LIMIT}
 use Rattle.erm_machine.specs.declared.part.Part.{Part}
 use Rattle.erm_machine.specs.Step.{part_after}
 use Rattle.erm_machine.specs.Words.{put}
@@ -17,24 +18,24 @@ below n m bound e h = omega arith
 pub returns-clause-after : goal.returns-clause-after
 returns-clause-after c =
     let s = c.args.self.now in
-    let inside = within s.seats.len c.args.seat 18 (length s.seats.items) s.seats.ok.0 c.requires.shape.seats c.requires.seat in
-    let there = within s.objects.len c.object_of_kind-oid.result 1024 (length s.objects.items) s.objects.ok.0 c.requires.shape.objects
-    (below _ c.object_of_kind-oid.result 1024 c.object_of_kind-oid.ensures c.requires.known) in
+    let inside = within s.seats.len c.args.seat ANNOUNCERS (length s.seats.items) s.seats.ok.0 c.requires.shape.seats c.requires.seat in
+    let there = within s.objects.len c.object_of_kind-oid.result OBJECT_LIMIT (length s.objects.items) s.objects.ok.0 c.requires.shape.objects
+    (below _ c.object_of_kind-oid.result OBJECT_LIMIT c.object_of_kind-oid.ensures c.requires.known) in
     ap (λ (z : Part). part_after c.args.seat c.args.kind c.args.found (shared_of s) z) (parts_at s.run s.opening s.seats.items c.args.seat c.index_mut.result.now inside c.index_mut.ensures.value)
-    ∙ c.turn.ensures.turn (shared_of s) (object_there s.objects.items _ c.object_of_kind-oid.result c.index.result.now c.object_of_kind-oid.ensures there c.index.ensures)
+    ∙ c.turn.ensures.turn (shared_of s) refl (object_there s.objects.items _ c.object_of_kind-oid.result c.index.result.now c.object_of_kind-oid.ensures there c.index.ensures)
     ∙ ap (λ (z : Part). if c.turn.result then Some z else None) (sym (parts_here s.run s.opening s.seats.items c.args.seat c.turn.new.self inside))
 
 pub returns-clause-seats : goal.returns-clause-seats
 returns-clause-seats c = λ _.
     let s = c.args.self.now in
-    let inside = within s.seats.len c.args.seat 18 (length s.seats.items) s.seats.ok.0 c.requires.shape.seats c.requires.seat in
+    let inside = within s.seats.len c.args.seat ANNOUNCERS (length s.seats.items) s.seats.ok.0 c.requires.shape.seats c.requires.seat in
     parts_set s.run s.opening s.seats.items c.args.seat c.turn.new.self inside
     ∙ ap (λ (z : Part). put (parts_of s.run s.opening s.seats.items) c.args.seat z) (sym (parts_here s.run s.opening s.seats.items c.args.seat c.turn.new.self inside))
 
 pub returns-clause-kept : goal.returns-clause-kept
 returns-clause-kept c = λ failed.
     let s = c.args.self.now in
-    let inside = within s.seats.len c.args.seat 18 (length s.seats.items) s.seats.ok.0 c.requires.shape.seats c.requires.seat in
+    let inside = within s.seats.len c.args.seat ANNOUNCERS (length s.seats.items) s.seats.ok.0 c.requires.shape.seats c.requires.seat in
     parts_set s.run s.opening s.seats.items c.args.seat c.turn.new.self inside
     ∙ put_same_value (parts_of s.run s.opening s.seats.items) c.args.seat (part_of c.turn.new.self)
     (parts_at s.run s.opening s.seats.items c.args.seat c.index_mut.result.now inside c.index_mut.ensures.value ∙ sym (c.turn.ensures.kept failed))

@@ -1,0 +1,119 @@
+//! Lines of walks.
+//!
+//!     open SESSIONS TAIL FIRST CELLS     a new machine
+//!     SEAT NAME NUMBERS                  a step
+//!     SEAT each FROM TO NAME NUMBERS     a step for each number from one up to another, which stands behind the others, twice
+//!     see SEAT NAME NUMBERS              the word that a step would meet
+//!     task SEAT                          how far a seat has come in a call
+//!     over SEAT                          the numbers of its last transaction that is over
+//!     spare SEAT                         its spare cells
+//!     gathered SEAT                      what it has gathered of the log
+use crate::kinds::kind;
+use crate::machine::Machine;
+use crate::numbers::{Numbers, seat, sum};
+use crate::told::{Answers, Told};
+use erm_model::Seat;
+use erm_seat::SeatState;
+use std::alloc::{AllocError, Global};
+
+/// Takes what a line says, and tells what was found.
+pub fn walk(alloc: Global, machine: &mut Machine, line: &str) -> Result<Told, AllocError> {
+    if line.is_empty() || line.starts_with('#') {
+        return Ok(Told::Nothing);
+    }
+    let words: Vec<&str> = line.split(' ').collect(alloc)?;
+    let words = words.as_slice();
+    let first = word(words, 0);
+    match first {
+        "open" => {
+            *machine = Machine::open(alloc, &numbers(words, 1))?;
+            Ok(Told::Nothing)
+        }
+        "see" => Ok(see(machine, words)),
+        "task" | "over" | "spare" | "gathered" => Ok(look(machine, first, number(words, 1))),
+        _ => step(machine, words),
+    }
+}
+
+// A word of a line.
+fn word<'a>(words: &[&'a str], at: usize) -> &'a str {
+    match words.get(at) {
+        Some(word) => *word,
+        None => "",
+    }
+}
+
+// A number of a line.
+fn number(words: &[&str], at: usize) -> u64 {
+    sum(word(words, at)).unwrap_or(0)
+}
+
+// The numbers of a line from a word on.
+fn numbers(words: &[&str], from: usize) -> Numbers {
+    let mut numbers = [0; 6];
+    for k in 0..6 {
+        numbers[k] = number(words, from.saturating_add(k));
+    }
+    numbers
+}
+
+// The word that a step would meet.
+fn see(machine: &Machine, words: &[&str]) -> Told {
+    match kind(word(words, 2), &numbers(words, 3)) {
+        Some(kind) => Told::Word(machine.word(seat(number(words, 1)), kind)),
+        None => Told::Unknown,
+    }
+}
+
+// What a seat keeps.
+fn look(machine: &Machine, name: &str, number: u64) -> Told {
+    match machine.seat(seat(number)) {
+        Some(x) => kept(x, name),
+        None => Told::Unknown,
+    }
+}
+
+fn kept(x: &SeatState, name: &str) -> Told {
+    match name {
+        "task" => Told::Task(x.task),
+        "spare" => Told::Spare(x.spare.len()),
+        "gathered" => Told::Gathered(x.gathered.len(), x.gathered_to, x.synced),
+        _ => match x.over.last() {
+            Some(t) => Told::Over(t.stamp, t.succ, t.pred, t.decision),
+            None => Told::Unknown,
+        },
+    }
+}
+
+// A step, or one for each of some numbers.
+fn step(machine: &mut Machine, words: &[&str]) -> Result<Told, AllocError> {
+    let by = seat(number(words, 0));
+    if word(words, 1) == "each" {
+        return each(machine, by, words);
+    }
+    match kind(word(words, 1), &numbers(words, 2)) {
+        Some(kind) => Ok(Told::One(machine.take(by, kind)?)),
+        None => Ok(Told::Unknown),
+    }
+}
+
+// A step for each number from one up to another.
+fn each(machine: &mut Machine, by: Seat, words: &[&str]) -> Result<Told, AllocError> {
+    let mut numbers = numbers(words, 5);
+    let last = words.len().saturating_sub(5).min(4);
+    let mut answers = Answers {
+        done: 0,
+        words: 0,
+        sum: 0,
+        failed: 0,
+    };
+    for k in number(words, 2)..number(words, 3) {
+        numbers[last] = k;
+        numbers[last + 1] = k;
+        let Some(kind) = kind(word(words, 4), &numbers) else {
+            return Ok(Told::Unknown);
+        };
+        answers.add(machine.take(by, kind)?);
+    }
+    Ok(Told::Many(answers))
+}

@@ -1,0 +1,26 @@
+//! Walks through the orders of steps of the core machine. The input is a walk, a line for each step; the output is the same lines,
+//! each with what the machine answers. A line that begins with '#' says what follows.
+#![tactic(auto)]
+
+mod kinds;
+mod line;
+mod machine;
+mod numbers;
+mod told;
+
+use anyhow::Result;
+use line::walk;
+use machine::Machine;
+use std::io::{self, BufRead, BufReader, BufWriter, Write};
+
+fn main(rt: HostRuntime) -> Result<()> {
+    let mut machine = Machine::open(rt.alloc(), &[0; 6])?;
+    let mut output = BufWriter::new(rt.alloc(), io::writer(&rt))?;
+    for line in BufReader::new(rt.alloc(), rt.reader())?.lines(rt.alloc()) {
+        let line = line?;
+        let told = walk(rt.alloc(), &mut machine, line.as_str())?;
+        writeln!(output, "{line}{told}")?;
+    }
+    output.flush()?;
+    Ok(())
+}
