@@ -1,12 +1,13 @@
 //! Steps of a claim and of a cut, of the counters, and of a write into an own cell.
-ghost use Rattle.std.specs.Prelude.{◌++◌, ◌≡◌, ◌+◌, ◌<◌, ◌≤◌, if◌then◌else◌, false, true, Some, None, length, vec_len, vec_capacity};
+ghost use Rattle.std.specs.Prelude.{ℕ, ◌++◌, ◌≡◌, ◌+◌, ◌<◌, ◌≤◌, if◌then◌else◌, false, true, Some, None, length, vec_len, vec_capacity};
 ghost use Rattle.erm_machine.specs.Reading as reading_specs;
 ghost use Rattle.erm_kept.specs.Objects.{object_of};
 ghost use Rattle.erm_kept.specs.Tasks.{IsFresh};
 ghost use Rattle.erm_machine.specs.declared.limits.TheConstants.{WRITE_LIMIT};
 ghost use Rattle.erm_seat.specs.Parts.{part_of};
 ghost use Rattle.erm_seat.specs.Rooms.{HasClaimRoom, HasSpareRoom};
-ghost use Rattle.erm_machine.specs.declared.task.Task.TheVariants.{Copies, Writes, Registered};
+ghost use Rattle.erm_machine.specs.declared.task.Task.TheVariants.{Copies, Numbers, Pool, Registered, Writes};
+ghost use Rattle.erm_machine.specs.declared.event.Counter.TheVariants.{Objects, Cells};
 ghost use Rattle.erm_machine.specs.declared.version.CellWord.TheVariants.{Overwriter};
 
 use crate::SeatState;
@@ -198,34 +199,50 @@ impl SeatState {
         ensures turn { reading_specs.add_counter cells seat counter found (part_of self.old) self.old.task ≡ (if result then Some (part_of self.new) else None) }
         ensures kept { result ≡ false → part_of self.new ≡ part_of self.old }
     {
+        match (counter, self.task) {
+            (Counter::Objects, Task::Numbers) => self.add_object(seat, found),
+            (Counter::Cells, Task::Pool) => self.add_cell(cells, found),
+            _ => false,
+        }
+    }
+
+    // Raises the counter of objects.
+    fn add_object(&mut self, seat: Seat, found: u64) -> bool
+        requires fresh { IsFresh self.old.task }
+        requires room { vec_len self.old.current.made < vec_capacity self.old.current.made }
+        ensures turn { (cells : ℕ) → reading_specs.add_counter cells seat Objects found (part_of self.old) Numbers ≡ (if result then Some (part_of self.new) else None) }
+        ensures kept { result ≡ false → part_of self.new ≡ part_of self.old }
+    {
+        if !is_active(self.place) || !is_session(seat) {
+            return false;
+        }
+        self.task = Task::Rest;
+        if found >= OBJECT_LIMIT as u64 {
+            return true;
+        }
+        self.current.made.push_reserved(found as u32);
+        true
+    }
+
+    // Raises the counter of cells.
+    fn add_cell(&mut self, cells: u32, found: u64) -> bool
+        requires fresh { IsFresh self.old.task }
+        ensures turn { (seat : ℕ) → reading_specs.add_counter cells seat Cells found (part_of self.old) Pool ≡ (if result then Some (part_of self.new) else None) }
+        ensures kept { result ≡ false → part_of self.new ≡ part_of self.old }
+    {
         if !is_active(self.place) {
             return false;
         }
-        match (counter, self.task) {
-            (Counter::Objects, Task::Numbers) => {
-                if !is_session(seat) {
-                    return false;
-                }
-                self.task = Task::Rest;
-                if found < OBJECT_LIMIT as u64 {
-                    self.current.made.push_reserved(found as u32);
-                }
-                true
-            }
-            (Counter::Cells, Task::Pool) => {
-                if found < cells as u64 {
-                    self.task = Task::Fetched;
-                    self.current.set_cell(OwnCell {
-                        cell: found as u32,
-                        words: blank_cell(),
-                    });
-                } else {
-                    self.task = Task::Refused;
-                }
-                true
-            }
-            _ => false,
+        if found >= cells as u64 {
+            self.task = Task::Refused;
+            return true;
         }
+        self.task = Task::Fetched;
+        self.current.set_cell(OwnCell {
+            cell: found as u32,
+            words: blank_cell(),
+        });
+        true
     }
 
     // The last spare cell goes to the newest claim.
