@@ -8,16 +8,23 @@
 //!     over SEAT                          the numbers of its last transaction that is over
 //!     spare SEAT                         its spare cells
 //!     gathered SEAT                      what it has gathered of the log
+ghost use Rattle.erm_core.specs.Ready.{IsReady};
+
 use crate::kinds::kind;
-use crate::machine::Machine;
 use crate::numbers::{Numbers, seat, sum};
+use crate::opening::open;
 use crate::told::{Answers, Told};
+use erm_core::State;
+use erm_machine::Event;
 use erm_model::Seat;
 use erm_seat::SeatState;
 use std::alloc::{AllocError, Global};
 
 /// Takes what a line says, and tells what was found.
-pub fn walk(alloc: Global, machine: &mut Machine, line: &str) -> Result<Told, AllocError> {
+pub fn walk(alloc: Global, state: &mut State, line: &str) -> Result<Told, AllocError>
+    requires { IsReady state.old }
+    ensures { IsReady state.new }
+{
     if line.is_empty() || line.starts_with('#') {
         return Ok(Told::Nothing);
     }
@@ -26,12 +33,12 @@ pub fn walk(alloc: Global, machine: &mut Machine, line: &str) -> Result<Told, Al
     let first = word(words, 0);
     match first {
         "open" => {
-            *machine = Machine::open(alloc, &numbers(words, 1))?;
+            *state = open(alloc, &numbers(words, 1))?;
             Ok(Told::Nothing)
         }
-        "see" => Ok(see(machine, words)),
-        "task" | "over" | "spare" | "gathered" => Ok(look(machine, first, number(words, 1))),
-        _ => step(machine, words),
+        "see" => Ok(see(state, words)),
+        "task" | "over" | "spare" | "gathered" => Ok(look(state, first, number(words, 1))),
+        _ => step(state, words),
     }
 }
 
@@ -58,16 +65,16 @@ fn numbers(words: &[&str], from: usize) -> Numbers {
 }
 
 // The word that a step would meet.
-fn see(machine: &Machine, words: &[&str]) -> Told {
+fn see(state: &State, words: &[&str]) -> Told {
     match kind(word(words, 2), &numbers(words, 3)) {
-        Some(kind) => Told::Word(machine.word(seat(number(words, 1)), kind)),
+        Some(kind) => Told::Word(state.word(seat(number(words, 1)), kind)),
         None => Told::Unknown,
     }
 }
 
 // What a seat keeps.
-fn look(machine: &Machine, name: &str, number: u64) -> Told {
-    match machine.seat(seat(number)) {
+fn look(state: &State, name: &str, number: u64) -> Told {
+    match state.seat(seat(number)) {
         Some(x) => kept(x, name),
         None => Told::Unknown,
     }
@@ -86,19 +93,25 @@ fn kept(x: &SeatState, name: &str) -> Told {
 }
 
 // A step, or one for each of some numbers.
-fn step(machine: &mut Machine, words: &[&str]) -> Result<Told, AllocError> {
+fn step(state: &mut State, words: &[&str]) -> Result<Told, AllocError>
+    requires { IsReady state.old }
+    ensures { IsReady state.new }
+{
     let by = seat(number(words, 0));
     if word(words, 1) == "each" {
-        return each(machine, by, words);
+        return each(state, by, words);
     }
     match kind(word(words, 1), &numbers(words, 2)) {
-        Some(kind) => Ok(Told::One(machine.take(by, kind)?)),
+        Some(kind) => Ok(Told::One(state.take(Event { seat: by, kind })?)),
         None => Ok(Told::Unknown),
     }
 }
 
 // A step for each number from one up to another.
-fn each(machine: &mut Machine, by: Seat, words: &[&str]) -> Result<Told, AllocError> {
+fn each(state: &mut State, by: Seat, words: &[&str]) -> Result<Told, AllocError>
+    requires { IsReady state.old }
+    ensures { IsReady state.new }
+{
     let mut numbers = numbers(words, 5);
     let last = words.len().saturating_sub(5).min(4);
     let mut answers = Answers {
@@ -113,7 +126,7 @@ fn each(machine: &mut Machine, by: Seat, words: &[&str]) -> Result<Told, AllocEr
         let Some(kind) = kind(word(words, 4), &numbers) else {
             return Ok(Told::Unknown);
         };
-        answers.add(machine.take(by, kind)?);
+        answers.add(state.take(Event { seat: by, kind })?);
     }
     Ok(Told::Many(answers))
 }

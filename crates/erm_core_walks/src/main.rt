@@ -4,21 +4,21 @@
 
 mod kinds;
 mod line;
-mod machine;
 mod numbers;
+mod opening;
 mod told;
 
 use anyhow::Result;
 use line::walk;
-use machine::Machine;
+use opening::open;
 use std::io::{self, BufRead, BufReader, BufWriter, Write};
 
 fn main(rt: HostRuntime) -> Result<()> {
-    let mut machine = Machine::open(rt.alloc(), &[0; 6])?;
+    let mut state = open(rt.alloc(), &[0; 6])?;
     let mut output = BufWriter::new(rt.alloc(), io::writer(&rt))?;
     for line in BufReader::new(rt.alloc(), rt.reader())?.lines(rt.alloc()) {
         let line = line?;
-        let told = walk(rt.alloc(), &mut machine, line.as_str())?;
+        let told = walk(rt.alloc(), &mut state, line.as_str())?;
         writeln!(output, "{line}{told}")?;
     }
     output.flush()?;

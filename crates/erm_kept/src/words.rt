@@ -2,6 +2,7 @@
 ghost use Rattle.std.specs.Prelude.{true, IfSome, ◌≡◌, ◌<◌, ◌^◌, ◌||◌, nat_lt, slice_index};
 ghost use Rattle.erm_machine.specs.Life as life_specs;
 ghost use Rattle.erm_machine.specs.Seat as seat_specs;
+ghost use Rattle.erm_machine.specs.Settling as settling_specs;
 ghost use Rattle.erm_machine.specs.Step as step_specs;
 ghost use Rattle.erm_machine.specs.Words as word_specs;
 ghost use Rattle.erm_kept.specs.Tasks.{IsEndOf, IsFresh};
@@ -282,6 +283,21 @@ pub fn reads_early(seat: Seat, word: CellWord, task: Task) -> bool
     ensures { result ≡ step_specs.reads_early seat word task }
 {
     matches!(word, CellWord::Row(_)) && matches!(task, Task::Found { .. }) && is_session(seat)
+}
+
+/// Whether this is the word that is stored at this step of an install.
+pub fn head_word(step: u8, word: CellWord) -> bool
+    ensures { result ≡ settling_specs.head_word step word }
+{
+    match word {
+        CellWord::Stamp => step == 0,
+        CellWord::Link => step == 1,
+        CellWord::Readers => step == 2,
+        CellWord::ReaderStamp => step == 3,
+        CellWord::Overwriter => step == 4,
+        CellWord::OverwriterSucc => step == 5,
+        CellWord::Row(_) => false,
+    }
 }
 
 /// Whether two names of versions are one.

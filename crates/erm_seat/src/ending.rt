@@ -8,24 +8,11 @@ ghost use Rattle.erm_seat.specs.Parts.{part_of};
 
 use crate::SeatState;
 use erm_kept::is_own;
-use erm_kept::words::{blank_cell, end_of, is_active, is_commit, is_decided, same_version};
+use erm_kept::words::{
+    blank_cell, end_of, head_word, is_active, is_commit, is_decided, same_version,
+};
 use erm_machine::{CellWord, Task, Version, VersionAt};
 use erm_model::{Oid, Stamp};
-
-// Whether this is the word that is stored at this step of an install.
-fn head_word(step: u8, word: CellWord) -> bool
-    ensures { result ≡ settling_specs.head_word step word }
-{
-    match word {
-        CellWord::Stamp => step == 0,
-        CellWord::Link => step == 1,
-        CellWord::Readers => step == 2,
-        CellWord::ReaderStamp => step == 3,
-        CellWord::Overwriter => step == 4,
-        CellWord::OverwriterSucc => step == 5,
-        CellWord::Row(_) => false,
-    }
-}
 
 impl SeatState {
     fn installs(&self, raised: usize, ended: usize, step: u8) -> bool
