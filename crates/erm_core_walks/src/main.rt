@@ -11,16 +11,13 @@ mod told;
 use anyhow::Result;
 use line::walk;
 use opening::open;
-use std::io::{self, BufRead, BufReader, BufWriter, Write};
 
 fn main(rt: HostRuntime) -> Result<()> {
     let mut state = open(rt.alloc(), &[0; 6])?;
-    let mut output = BufWriter::new(rt.alloc(), io::writer(&rt))?;
-    for line in BufReader::new(rt.alloc(), rt.reader())?.lines(rt.alloc()) {
+    for line in rt.lines(rt.alloc()) {
         let line = line?;
         let told = walk(rt.alloc(), &mut state, line.as_str())?;
-        writeln!(output, "{line}{told}")?;
+        println!(rt; "{line}{told}")?;
     }
-    output.flush()?;
     Ok(())
 }
