@@ -23,7 +23,7 @@ pub enum Counter {
 }
 
 /// A kind of atomic step, with the word that it meets and the number that it stores, or a call of the disk.
-#[derive(Clone, Copy, Debug, PartialEq, Eq)]
+#[derive(Clone, Copy)]
 pub enum Kind {
     LoadTail {
         purpose: TailUse,
@@ -172,7 +172,7 @@ pub enum Kind {
 }
 
 /// A step of a seat.
-#[derive(Clone, Copy, Debug, PartialEq, Eq)]
+#[derive(Clone, Copy)]
 pub struct Event {
     pub seat: Seat,
     pub kind: Kind,

@@ -3,7 +3,7 @@ use crate::version::VersionAt;
 use erm_model::{Oid, Seat, Stamp};
 
 /// How far a seat has come in a call of several steps.
-#[derive(Clone, Copy, Debug, PartialEq, Eq)]
+#[derive(Clone, Copy, Debug)]
 pub enum Task {
     /// Between calls.
     Rest,
