@@ -98,7 +98,7 @@ pub record Face (S : Type 0) : Type 1 where
   pub reads : S → ℕ → Type 0
   -- a later state of the transaction, and of what else the object holds
   pub follows : S → S → Type 0
-  -- in this state, or one that follows it, a call that asked for this was refused so, which left the last state
+  -- in the first state a call that asked for this was refused so, and left the second
   pub stops : S → Asked → RowStop → S → Type 0
 
 -- an event reads the object anew: the row of a claimed object is the transaction's own, and counts as no read

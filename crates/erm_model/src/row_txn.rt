@@ -1,7 +1,6 @@
 //! A transaction over rows, and the law that its rows keep.
 ghost use Rattle.std.specs.Prelude.{◌<◌, IsOk, OnOk, IfOk, IfErr};
-ghost use Rattle.erm_model.specs.declared.row_stop.RowStop.{RowStop};
-ghost use Rattle.erm_model.specs.RowTransaction.{any_law, Asked, Event, did_read, did_claim, did_write, did_make, asked_read, asked_claim, asked_make, Law, Face, Does, IsRefused, StopsRead, StopsClaim, StopsMake};
+ghost use Rattle.erm_model.specs.RowTransaction.{any_law, Event, did_read, did_claim, did_write, did_make, asked_read, asked_claim, asked_make, Law, Face, Does, IsRefused, StopsRead, StopsClaim, StopsMake};
 
 use crate::{OID_LIMIT, Oid, Row, RowStop};
 
@@ -58,7 +57,4 @@ pub trait RowTxn {
 
     /// No call is a going on too.
     ghost stands: { (s : Self) → face.follows s s };
-
-    /// A refusal of a later state counts as one of each state before.
-    ghost stops_later: { (s t u : Self) (asked : Asked) (stop : RowStop) → face.follows s t → face.stops t asked stop u → face.stops s asked stop u };
 }

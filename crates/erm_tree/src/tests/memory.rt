@@ -145,6 +145,4 @@ impl RowTxn for MemoryTxn {
     ghost goes_on = { λ s t u first second. tt };
 
     ghost stands = { λ s. tt };
-
-    ghost stops_later = { λ s t u asked stop first second. tt };
 }
