@@ -8,8 +8,9 @@ pub record SourceState : Type 0 where
   pub per_call : ℕ
   pub calls : CallState
 
--- the bytes that were put, at most how many a call puts, and the calls
+-- the bytes that were put, how many there may be in all without more memory, at most how many a call puts, and the calls
 pub record SinkState : Type 0 where
   pub written : List ℕ
+  pub room : ℕ
   pub per_call : ℕ
   pub calls : CallState

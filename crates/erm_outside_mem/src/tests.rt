@@ -119,7 +119,7 @@ fn a_disk_keeps_its_files(rt: HostRuntime) -> Result<(), Fail> {
 fn bytes_come_through(rt: HostRuntime) -> Result<(), Fail> {
     let alloc = rt.alloc();
     let mut source = MemSource::new(b"hello there".to_vec(alloc)?, 3).failing([2].to_vec(alloc)?);
-    let mut sink = MemSink::new(alloc, 3).failing([2].to_vec(alloc)?);
+    let mut sink = MemSink::with_room(alloc, 3, 11)?.failing([2].to_vec(alloc)?);
     let mut buf = [b'.'; 8];
     for want in [Ok(3), Err(Failed), Ok(3), Ok(3), Ok(2), Ok(0)] {
         assert!(rt; source.take(&mut buf) == want);
