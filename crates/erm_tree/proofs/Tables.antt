@@ -1,9 +1,9 @@
 -- What a put or a del of one table does to the trees of the others.
-use Rattle.std.proofs.Common.{◌≡◌, ◌≢◌, ℕ, zero, suc, ◌+◌, ◌^◌, ◌<◌, ◌≤◌, List, [], ◌∷◌, length, Bool, true, false, cond, Option, Some, None, refl, ap, ◌∙◌, subst, inl, inr, arith}
+use Rattle.std.proofs.Common.{◌≡◌, ◌≢◌, ℕ, zero, suc, ◌+◌, ◌^◌, ◌<◌, ◌≤◌, List, [], ◌∷◌, length, Bool, true, false, cond, Option, Some, None, refl, sym, ap, ◌∙◌, subst, inl, inr, arith}
 use Rattle.std.specs.Prelude.{◌⊎◌, ◌==◌, MatchOption}
 use Rattle.std.proofs.lemmas.Bool.Decides.{nat_tests}
 use Rattle.erm_model.specs.Rows.{Rows}
-use Rattle.erm_model.specs.RowTransaction.{Event, did_read, did_claim, did_write, did_make, after, after_all, made_by_all, Law, TellsAll, Agrees, KeepsLaw}
+use Rattle.erm_model.specs.RowTransaction.{Event, did_read, did_claim, did_write, did_make, after, after_all, made_by_all, Law, SameLaw, TellsAll, Agrees, Face, KeepsLaw}
 use Rattle.erm_model.proofs.RowCalls.{after_all-append, after_all-OnlyReads, made_by_all-append}
 use Rattle.erm_node.specs.Node.{Shape, node_of, node_row, is_node}
 use Rattle.erm_node.specs.Sound.{IsSound, sound_law, levels_of, reached}
@@ -12,7 +12,7 @@ use Rattle.erm_node.specs.TreeMap.{table_entries, record_in}
 use Rattle.erm_tree.specs.Change.{AreReadsThen, makes_claims_writes, IsPutOfNew, IsPut, IsDel}
 use Rattle.erm_tree.specs.Insert.{path_to, new_rows, objects_for}
 use Rattle.erm_tree.specs.Reads.{IsOnWay}
-use Rattle.erm_tree.specs.Tables.{KeepsTables, ObjectsHaveOneTable}
+use Rattle.erm_tree.specs.Tables.{KeepsTables, ChangesOne, CallsChangeOne, ObjectsHaveOneTable}
 use Rattle.erm_tree.proofs.Apart.{two_tables, row_kept, times_kept, record_other_table, value_other_table, reached-one}
 use Rattle.erm_tree.proofs.Growth.{on_path-times}
 use Rattle.erm_tree.proofs.Plans.{set_all, set_all-other, set_times-new_rows}
@@ -121,10 +121,35 @@ module _ (found : (row : List ℕ) (shape : Shape) → node_of row ≡ Some shap
             omega (arith, reach, reached-one found rows new table sound below same x);
       }
 
-  -- a put changes one table alone
-  pub KeepsTables-put : IsPut rows table key row events → KeepsTables rows table events
+  KeepsTables-put : IsPut rows table key row events → KeepsTables rows table events
   KeepsTables-put put = tables_kept (same_put (record_in rows table key) refl put)
 
-  -- and so does a del
-  pub KeepsTables-del : IsDel rows table key row events → KeepsTables rows table events
+  KeepsTables-del : IsDel rows table key row events → KeepsTables rows table events
   KeepsTables-del del = tables_kept (same_del (record_in rows table key) refl del)
+
+module _ (found : (row : List ℕ) (shape : Shape) → node_of row ≡ Some shape → (is_node shape ≡ true) × (row ≡ node_row shape)) where
+  -- a put changes one table alone
+  pub ChangesOne-put : ChangesOne IsPut
+  ChangesOne-put rows table key row events sound agrees keeps below fits put = KeepsTables-put found rows table key row events sound agrees keeps below fits put
+
+  -- and so does a del
+  pub ChangesOne-del : ChangesOne IsDel
+  ChangesOne-del rows table key row events sound agrees keeps below fits del = KeepsTables-del found rows table key row events sound agrees keeps below fits del
+
+-- what events tell by a law they tell by one that says the same
+told_same : (a b : Law) → SameLaw a b → (es : List Event) (begun seen : Rows) → TellsAll a es begun seen → TellsAll b es begun seen
+told_same a b same [] begun seen told = tt
+told_same a b same (did_read oid row ∷ es) begun seen told = (told.0, told_same a b same es begun seen told.1)
+told_same a b same (did_claim oid ∷ es) begun seen told = (tt, told_same a b same es begun seen told.1)
+told_same a b same (did_write oid row ∷ es) begun seen told = (tt, told_same a b same es begun (after (did_write oid row) seen) told.1)
+told_same a b same (did_make oid ∷ es) begun seen told = (sym (same.reach begun oid) ∙ told.0, told_same a b same es begun seen told.1)
+
+-- calls do what their events do
+pub calls_change_one : {S : Type 0} (face : Face S) → SameLaw face.law sound_law → (kind : Rows → ℕ → ℕ → List ℕ → List Event → Type 0) → ChangesOne kind
+    → (table key : ℕ) (row : List ℕ) (change : Rows → Rows → Type 0) → table < 16 → key < 2 ^ 64 → CallsChangeOne face (λ rows events. kind rows table key row events) change table
+calls_change_one face law kind changes table key row change below fits s t done array meets agrees =
+    let events = done.did.events in
+    let keeps = done.did.lawful array meets agrees in
+    let new = after_all events array in
+    changes array table key row events ((law.meets array).0 meets) (told_same face.law sound_law law events array array agrees)
+    (record { meets = (law.meets new).0 keeps.meets; reach = λ x. omega (arith, keeps.reach x, law.reach new x, law.reach array x) }) below fits (done.by array meets agrees)

@@ -1,6 +1,6 @@
 //! Laws of the calls. Each holds for every value, and its function does nothing.
 ghost use Rattle.erm_tree.specs.Operations.{OperationsAreRunOne};
-ghost use Rattle.erm_tree.specs.Tables.{ObjectsHaveOneTable, TablesStandApart};
+ghost use Rattle.erm_tree.specs.Tables.{DelsChangeOne, ObjectsHaveOneTable, PutsChangeOne, TablesStandApart};
 
 use erm_model::RowTxn;
 use erm_node::nodes_are_read_back;
@@ -18,4 +18,13 @@ pub fn tables_stand_apart()
     ensures one { ObjectsHaveOneTable }
 {
     nodes_are_read_back();
+}
+
+/// Each put and each del of a transaction over sound rows changed the tree of its table alone, on all rows that it may have seen
+/// before.
+pub fn calls_change_one_table<T: RowTxn>()
+    ensures put { PutsChangeOne T.face }
+    ensures del { DelsChangeOne T.face }
+{
+    tables_stand_apart();
 }

@@ -1,12 +1,8 @@
-use Rattle.erm_tree.proofs.Tables.{one_table, KeepsTables-put, KeepsTables-del}
+use Rattle.erm_tree.proofs.Tables.{ChangesOne-put, ChangesOne-del, one_table}
 use Rattle.erm_tree.proofs.laws.tables_stand_apart.Goals as goal
 
 pub returns-clause-apart : goal.returns-clause-apart
-returns-clause-apart c =
-    let found = c.nodes_are_read_back.ensures.found in (
-      λ rows table key row events sound agrees keeps below fits put. KeepsTables-put found rows table key row events sound agrees keeps below fits put,
-      λ rows table key row events sound agrees keeps below fits del. KeepsTables-del found rows table key row events sound agrees keeps below fits del,
-    )
+returns-clause-apart c = (ChangesOne-put c.nodes_are_read_back.ensures.found, ChangesOne-del c.nodes_are_read_back.ensures.found)
 
 pub returns-clause-one : goal.returns-clause-one
 returns-clause-one c = one_table
