@@ -16,6 +16,7 @@ pub mod Growth
 pub mod Descents
 pub mod Depths
 pub mod Roots
+pub mod Apart
 pub mod Planted
 pub mod Runs
 pub mod Plans
@@ -24,4 +25,5 @@ pub mod Phases
 pub mod Puts
 pub mod Refusals
 pub mod Operations
+pub mod Tables
 pub mod Memory

@@ -11,5 +11,5 @@ mod tests;
 mod walk;
 
 pub use change::{del, put};
-pub use laws::operations_are_run_one;
+pub use laws::{calls_change_one_table, operations_are_run_one, tables_stand_apart};
 pub use read::{find, get, next};

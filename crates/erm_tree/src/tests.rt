@@ -4,7 +4,9 @@ ghost use Rattle.erm_tree.specs.Calls.{IsReady};
 
 mod memory;
 
-use crate::{del, find, get, next, operations_are_run_one, put};
+use crate::{
+    calls_change_one_table, del, find, get, next, operations_are_run_one, put, tables_stand_apart,
+};
 use erm_model::{Map, OID_LIMIT, Oid, Op, Reply, Row, RowStop, RowTxn, TABLES, Value, run_one};
 use memory::MemoryTxn;
 use std::alloc::Global;
@@ -179,6 +181,8 @@ fn the_eighth_key_cuts_the_root(rt: HostRuntime) -> Result<(), Fail> {
         assert!(rt; txn.rows.get(oid) == Some(&row));
     }
     operations_are_run_one::<MemoryTxn>();
+    tables_stand_apart();
+    calls_change_one_table::<MemoryTxn>();
     Ok(())
 }
 
