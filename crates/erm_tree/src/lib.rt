@@ -11,5 +11,6 @@ mod tests;
 mod walk;
 
 pub use change::{del, put};
-pub use laws::operations_are_run_one;
+pub use laws::{operations_are_run_one, puts_are_bounded};
+pub use plan::{MOST_OBJECTS, MOST_ROWS};
 pub use read::{find, get, next};
