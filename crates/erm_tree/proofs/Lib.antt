@@ -24,6 +24,7 @@ pub mod Paths
 pub mod Phases
 pub mod Puts
 pub mod Refusals
+pub mod Bounds
 pub mod Operations
 pub mod Tables
 pub mod Memory

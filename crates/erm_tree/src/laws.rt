@@ -1,4 +1,5 @@
 //! Laws of the calls. Each holds for every value, and its function does nothing.
+ghost use Rattle.erm_tree.specs.Change.{PutsAreBounded, RefusedPutsAreBounded};
 ghost use Rattle.erm_tree.specs.Operations.{OperationsAreRunOne};
 ghost use Rattle.erm_tree.specs.Tables.{DelsChangeOne, ObjectsHaveOneTable, PutsChangeOne, TablesStandApart};
 
@@ -28,3 +29,10 @@ pub fn calls_change_one_table<T: RowTxn>()
 {
     tables_stand_apart();
 }
+
+/// The events of a put make at most `MOST_OBJECTS` objects, claim at most `MOST_ROWS` times, and set at most `MOST_ROWS`
+/// rows. Those of a put that was refused do too.
+pub fn puts_are_bounded<T: RowTxn>()
+    ensures whole { PutsAreBounded }
+    ensures refused { RefusedPutsAreBounded T.face }
+{}

@@ -11,5 +11,8 @@ mod tests;
 mod walk;
 
 pub use change::{del, put};
-pub use laws::{calls_change_one_table, operations_are_run_one, tables_stand_apart};
+pub use laws::{
+    calls_change_one_table, operations_are_run_one, puts_are_bounded, tables_stand_apart,
+};
+pub use plan::{MOST_OBJECTS, MOST_ROWS};
 pub use read::{find, get, next};
