@@ -9,7 +9,8 @@ use Rattle.erm_block.specs.declared.block.Form.TheVariants.{Whole, Stored}
 use Rattle.erm_block.specs.declared.block.Kind.{Kind}
 use Rattle.erm_block.specs.declared.block.Kind.TheVariants.{OldCommit, OldSkip, Open, Commit, Skip}
 use Rattle.erm_block.specs.declared.block.TheConstants.{FRAME_WORDS}
-use Rattle.erm_block.specs.declared.words.TheConstants.{COUNT_UNIT, LENGTH_UNIT, NUMBER_UNIT, RUN_UNIT, SIZE_UNIT}
+use Rattle.erm_model.specs.declared.header.TheConstants.{RUN_UNIT, SIZE_UNIT}
+use Rattle.erm_block.specs.declared.words.TheConstants.{COUNT_UNIT, LENGTH_UNIT, NUMBER_UNIT}
 use Rattle.erm_block.specs.Block.{Entry, IsBlock}
 
 -- the number of a kind

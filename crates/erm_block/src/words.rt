@@ -4,12 +4,7 @@ ghost use Rattle.erm_block.specs.declared.block.Kind.{Kind};
 ghost use Rattle.erm_block.specs.Spelling.{header_word, name_word};
 
 use crate::{Kind, RUN_END};
-
-/// What one more word of size adds to a header: below is the kind.
-pub const SIZE_UNIT: u64 = 1 << 4;
-
-/// What one more run adds to a header.
-pub const RUN_UNIT: u64 = 1 << 20;
+use erm_model::{RUN_UNIT, SIZE_UNIT};
 
 /// What one more row adds to a name: below is the seat.
 pub const COUNT_UNIT: u64 = 1 << 8;

@@ -5,7 +5,7 @@ ghost use Rattle.erm_core.specs.Ready.{IsReady};
 use crate::driver::{Driver, Fault, RUN};
 use crate::writer::{BLOCK, Writer, owner_of, store};
 use erm_machine::{ANNOUNCERS, CellWord, Kind, VersionAt};
-use erm_model::Seat;
+use erm_model::{COMMIT_KIND, RUN_UNIT, SIZE_UNIT, Seat};
 
 /// Settles the transaction, which commits, and ends it.
 pub fn settle(driver: &mut Driver, writer: Writer) -> Result<(), Fault>
@@ -20,7 +20,7 @@ pub fn settle(driver: &mut Driver, writer: Writer) -> Result<(), Fault>
         let at = writer.stamp.saturating_add(k);
         driver.done(writer.seat, Kind::StoreRing { at, value: at })?;
     }
-    let header = 1 + BLOCK * 16 + RUN * (1 << 20);
+    let header = COMMIT_KIND + BLOCK * SIZE_UNIT + RUN * RUN_UNIT;
     let at = writer.stamp;
     driver.done(writer.seat, Kind::Decide { at, header })?;
     raise(driver, writer)?;

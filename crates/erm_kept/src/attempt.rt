@@ -10,7 +10,7 @@ ghost use Rattle.erm_kept.specs.Tasks.{stored};
 
 use crate::words::is_commit;
 use erm_machine::{Claim, Decision, RING_WORDS, Read, Task, VersionAt};
-use erm_model::{Oid, ROW_WORDS, Stamp};
+use erm_model::{COMMIT_KIND, Oid, ROW_WORDS, RUN_UNIT, SIZE_UNIT, SKIP_KIND, Stamp};
 use std::alloc::Global;
 
 /// A transaction as its seat keeps it.
@@ -126,8 +126,13 @@ impl AttemptState {
     pub fn is_header(&self, run: u64, header: u64) -> bool
         ensures { result ≡ life_specs.is_header (attempt_of self.now) run header }
     {
-        let kind = if is_commit(self.decision()) { 1 } else { 2 };
-        header % 16 == kind && header / 16 % (1 << 16) == self.size && header / (1 << 20) == run
+        let kind = if is_commit(self.decision()) {
+            COMMIT_KIND
+        } else {
+            SKIP_KIND
+        };
+        let size = header / SIZE_UNIT % (RUN_UNIT / SIZE_UNIT);
+        header % SIZE_UNIT == kind && size == self.size && header / RUN_UNIT == run
     }
 
     /// Whether an end that has come so far is done: each claim and each read is passed.

@@ -1,5 +1,6 @@
 -- Steps of the flush seat: gather, the disk's calls of a flush turn and of a checkpoint, and what follows them.
-use Rattle.std.specs.Prelude.{ℕ, ◌+◌, ◌-◌, ◌/◌, ◌%◌, ◌^◌, not, ◌&&◌, ◌||◌, ◌==◌, nat_lt, nat_le, if◌then◌else◌, List, [], ◌∷◌, ◌++◌, Option, Some, None}
+use Rattle.std.specs.Prelude.{ℕ, ◌+◌, ◌-◌, ◌/◌, ◌%◌, not, ◌&&◌, ◌||◌, ◌==◌, nat_lt, nat_le, if◌then◌else◌, List, [], ◌∷◌, ◌++◌, Option, Some, None}
+use Rattle.erm_model.specs.declared.header.TheConstants.{RUN_UNIT, SIZE_UNIT}
 use Rattle.erm_machine.specs.declared.limits.TheConstants.{LOG_END, RING_WORDS, SEGMENT_WORDS}
 use Rattle.erm_machine.specs.declared.part.Flushing.{Flushing}
 use Rattle.erm_machine.specs.declared.part.Flushing.TheVariants as flushing
@@ -21,7 +22,7 @@ load_flushed found x _ = when (not (is_vacant x.place)) (load_flushed_to_settle 
 
 -- the size that a header spells
 abbrev pub size_of : ℕ → ℕ
-size_of header = header / 16 % 2 ^ 16
+size_of header = header / SIZE_UNIT % (RUN_UNIT / SIZE_UNIT)
 
 -- the blocks gathered with a whole one, once
 abbrev pub with_block : ℕ → List ℕ → ℕ → List GatheredBlock → List GatheredBlock

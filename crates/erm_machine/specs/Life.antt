@@ -1,5 +1,6 @@
 -- Steps that move a seat on in the life of a transaction: begin, seal, decision, end; and what it sees of other seats.
-use Rattle.std.specs.Prelude.{nat_lt, ◌%◌, ◌/◌, List, ℕ, ◌+◌, ◌^◌, Bool, true, false, not, ◌&&◌, ◌==◌, nat_le, if◌then◌else◌, min, max, length, slice_index, slice_set, Option, Some, None}
+use Rattle.std.specs.Prelude.{nat_lt, ◌%◌, ◌/◌, List, ℕ, ◌+◌, Bool, true, false, not, ◌&&◌, ◌==◌, nat_le, if◌then◌else◌, min, max, length, slice_index, slice_set, Option, Some, None}
+use Rattle.erm_model.specs.declared.header.TheConstants.{COMMIT_KIND, RUN_UNIT, SIZE_UNIT, SKIP_KIND}
 use Rattle.erm_machine.specs.declared.limits.TheConstants.{ANNOUNCERS, LEAST_BLOCK, GREATEST_BLOCK}
 use Rattle.erm_machine.specs.declared.attempt.Attempt.{Attempt}
 use Rattle.erm_machine.specs.declared.attempt.Decision.TheVariants.{Abort}
@@ -134,7 +135,7 @@ join x other = when (not (is_vacant x.place) && not (is_vacant other.place)) (sa
 -- DECISION. The header is stored last: its kind by the exclusion window, its size, its run.
 abbrev pub is_header : Attempt → ℕ → ℕ → Bool
 is_header t run header =
-    (header % 16 == (if is_commit (decision_of t) then 1 else 2)) && (header / 16 % 2 ^ 16 == t.size) && (header / 2 ^ 20 == run)
+    (header % SIZE_UNIT == (if is_commit (decision_of t) then COMMIT_KIND else SKIP_KIND)) && (header / SIZE_UNIT % (RUN_UNIT / SIZE_UNIT) == t.size) && (header / RUN_UNIT == run)
 
 abbrev pub decide : ℕ → ℕ → Part → Place → Task → Option Part
 decide at header x (Sealed tail stamp) (task.Fills words) =

@@ -1,6 +1,7 @@
 //! The types that every layer shares, and the definitions of what a transaction and a history of transactions mean.
 #![tactic(auto)]
 
+mod header;
 mod history;
 mod key;
 mod laws;
@@ -16,6 +17,7 @@ mod run;
 mod tests;
 mod value;
 
+pub use header::{COMMIT_KIND, RUN_UNIT, SIZE_UNIT, SKIP_KIND};
 pub use history::{Commit, TransactionRecord, VersionRead, VersionWritten};
 pub use key::Key;
 pub use laws::replies_are_determined;

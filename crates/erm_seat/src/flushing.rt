@@ -1,12 +1,12 @@
 //! Steps of the flush seat.
-ghost use Rattle.std.specs.Prelude.{◌≡◌, ◌<◌, if◌then◌else◌, false, true, Some, None, nat_le, [], vec_len, vec_capacity};
+ghost use Rattle.std.specs.Prelude.{◌≡◌, ◌/◌, ◌<◌, if◌then◌else◌, false, true, Some, None, nat_le, [], vec_len, vec_capacity};
 ghost use Rattle.erm_machine.specs.Flushing as flushing_specs;
 ghost use Rattle.erm_seat.specs.Parts.{part_of};
 
 use crate::{BlockState, SeatState};
 use erm_kept::words::{is_active, is_between, is_flusher, is_vacant};
 use erm_machine::{Flushing, LOG_END, RING_WORDS, SEGMENT_WORDS};
-use erm_model::{Seat, Stamp};
+use erm_model::{RUN_UNIT, SIZE_UNIT, Seat, Stamp};
 use std::mem;
 
 // How many segments the words from one place up to another touch.
@@ -19,9 +19,9 @@ fn segments(from: Stamp, to: Stamp) -> u64
 // The size that a header spells.
 fn size_of(header: u64) -> u64
     ensures size { result ≡ flushing_specs.size_of header }
-    ensures small { result < 65536 }
+    ensures small { result < RUN_UNIT / SIZE_UNIT }
 {
-    header / 16 % (1 << 16)
+    header / SIZE_UNIT % (RUN_UNIT / SIZE_UNIT)
 }
 
 impl SeatState {
