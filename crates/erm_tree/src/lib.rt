@@ -11,5 +11,5 @@ mod tests;
 mod walk;
 
 pub use change::{del, put};
-pub use laws::operations_are_run_one;
+pub use laws::{looks_and_claims_set_no_row, operations_are_run_one, refused_calls_set_no_row};
 pub use read::{find, get, next};

@@ -1,5 +1,5 @@
-use Rattle.erm_tree.proofs.Operations.{AreRunOne-answered}
+use Rattle.erm_tree.proofs.Operations.{AreRunOne-called}
 use Rattle.erm_tree.proofs.laws.operations_are_run_one.Goals as goal
 
 pub returns : goal.returns
-returns g c law s t steps lawful answered = AreRunOne-answered g.T.RowTxn.face law s t steps lawful answered
+returns g c law s t calls lawful called = AreRunOne-called g.T.RowTxn.face law s t calls lawful called
