@@ -7,7 +7,7 @@ use Rattle.erm_model.specs.declared.operation.Reply.TheVariants as reply
 use Rattle.erm_model.specs.declared.row_stop.RowStop.{RowStop}
 use Rattle.erm_model.specs.Database.{Database}
 use Rattle.erm_model.specs.Rows.{Rows}
-use Rattle.erm_model.specs.RowTransaction.{Event, Asked, Face, WritesNothing, IsLawful, SameLaw, GoesOn, Saw}
+use Rattle.erm_model.specs.RowTransaction.{Event, Asked, Face, WritesNothing, IsLawful, SameLaw, GoesOn, Saw, Did}
 use Rattle.erm_model.specs.Run.{RunsOne, IsReply, after, after_all, ops_of}
 use Rattle.erm_model.proofs.RowCalls.{WritesNothing-append, WritesNothing-OnlyReads, after_all-WritesNothing, Runs-append, Runs-fitted, Runs-lawful, Runs-one, Runs-seen, Saw-on, Saw-lawful, Did-on, Did-lawful}
 use Rattle.erm_node.specs.Sound.{IsSound, sound_law}
@@ -27,6 +27,9 @@ module _ {S : Type 0} (face : Face S) where
   -- after which it may be called on
   pub Stutters-ready : (s t : S) → IsReady face s → Stutters face s t → IsReady face t
   Stutters-ready s t ready same = record { active = same.goes_on.active; possible = same.goes_on.possible; lawful = Stutters-lawful s t ready.lawful same }
+
+  Did-ready : (s t : S) (change : Rows → Rows → Type 0) → IsReady face s → Did face s t change → IsReady face t
+  Did-ready s t change ready did = record { active = did.goes_on.active; possible = did.goes_on.possible; lawful = Did-lawful face s t change ready.lawful did }
 
   -- events that set no row, and then a call that left all as it was
   pub Stutters-cut_off : (s at t : S) (events : List Event) → WritesNothing events → GoesOn face s events at → GoesOn face at [] t → Stutters face s t
@@ -56,6 +59,18 @@ module _ {S : Type 0} (face : Face S) where
   -- calls that saw a fact
   pub Stutters-saw : (s t : S) (fact : Rows → Type 0) → Saw face s t fact → Stutters face s t
   Stutters-saw s t fact saw = record { events = saw.events; none = WritesNothing-OnlyReads saw.events saw.reads; goes_on = saw.goes_on }
+
+  Answered-ready : (s t : S) (op : Op) (r : Reply) → IsReady face s → IsAnswered face s op r t → IsReady face t
+  Answered-ready s t (Get table key) r ready (value, is, saw) = Stutters-ready s t ready (Stutters-saw s t _ saw)
+  Answered-ready s t (Put table key value) r ready (is, did) = Did-ready s t _ ready did
+  Answered-ready s t (Del table key) r ready (is, did) = Did-ready s t _ ready did
+  Answered-ready s t (Next table from) r ready (found, is, saw) = Stutters-ready s t ready (Stutters-saw s t _ saw)
+
+  -- after calls in turn the transaction may be called on
+  pub Called-ready : (calls : List Call) (s t : S) → IsReady face s → AreCalled face s calls t → IsReady face t
+  Called-ready [] s t ready same = subst (λ (u : S). IsReady face u) (sym same) ready
+  Called-ready (answered step ∷ calls) s t ready (u, did, rest) = Called-ready calls u t (Answered-ready s u step.op step.reply ready did) rest
+  Called-ready (stuttered ∷ calls) s t ready (u, same, rest) = Called-ready calls u t (Stutters-ready s u ready same) rest
 
 module _ {S : Type 0} (face : Face S) (law : SameLaw face.law sound_law) where
   -- one operation

@@ -12,7 +12,7 @@ use Rattle.erm_model.specs.RowTransaction.{Event, Asked, Face, IsLawful, SameLaw
 use Rattle.erm_model.specs.Run.{Step, RunsOne, after_all, ops_of}
 use Rattle.erm_node.specs.Sound.{IsSound, sound_law}
 use Rattle.erm_node.specs.TreeMap.{map_of_rows}
-use Rattle.erm_tree.specs.Calls.{SawIn}
+use Rattle.erm_tree.specs.Calls.{IsReady, SawIn}
 
 -- a call answered an operation: the value by `get`, the pair by `next`, and `put` and `del` by what they changed
 abbrev pub IsAnswered : {S : Type 0} → Face S → S → Op → Reply → S → Type 0
@@ -58,6 +58,10 @@ pub record AreRunOne {S : Type 0} (face : Face S) (s : S) (steps : List Step) (t
 -- Where a transaction over sound rows is lawful, the operations that calls in turn answer are one transaction's.
 abbrev pub OperationsAreRunOne : {S : Type 0} → Face S → Type 0
 OperationsAreRunOne {S} face = SameLaw face.law sound_law → (s t : S) (calls : List Call) → IsLawful face s → AreCalled face s calls t → AreRunOne face s (answered_steps calls) t
+
+-- where a transaction may be called on, it may be after calls in turn
+abbrev pub StaysReady : {S : Type 0} → Face S → Type 0
+StaysReady {S} face = (s t : S) (calls : List Call) → IsReady face s → AreCalled face s calls t → IsReady face t
 
 -- calls that are cut off so are a stuttering step, where the refusal doesn't end the transaction
 abbrev pub CutOffsStutter : {S : Type 0} → Face S → (RowStop → Type 0) → (List Event → Type 0) → (List Event → Rows → Asked → Type 0) → Type 0

@@ -4,16 +4,17 @@ ghost use Rattle.erm_model.specs.RowTransaction.{Event, did_read, did_claim, did
 ghost use Rattle.erm_node.specs.TreeMap.{record_in};
 ghost use Rattle.erm_tree.specs.Calls.{AsksReads, IsReady, Reads};
 ghost use Rattle.erm_tree.specs.Change.{AsksDel, StopsChange};
-ghost use Rattle.erm_tree.specs.Operations.{AnswersStutter, CutOffsStutter, LooksStutter, OperationsAreRunOne, RefusalsStutter, Stutters};
+ghost use Rattle.erm_tree.specs.Operations.{AnswersStutter, StaysReady, CutOffsStutter, LooksStutter, OperationsAreRunOne, RefusalsStutter, Stutters};
 ghost use Rattle.erm_tree.specs.Reads.{IsMetIn, IsOnWay, IsSought};
 
 use erm_model::RowTxn;
 
 /// Operations that calls of one transaction answer in turn are answered as by one transaction on the database map of the
 /// rows that it saw at first, and the rows that it sees at the end have the map after them. Calls between that set no row, as
-/// those do of which the other laws tell, count as no operation.
+/// those do of which the other laws tell, count as no operation. The transaction is ready for the next call.
 pub fn operations_are_run_one<T: RowTxn>()
-    ensures { OperationsAreRunOne T.face }
+    ensures run { OperationsAreRunOne T.face }
+    ensures ready { StaysReady T.face }
 {}
 
 /// A call that is refused sets no row, and the transaction goes on where the refusal doesn't end it. `cut_off` is of any calls:
