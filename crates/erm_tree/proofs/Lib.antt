@@ -23,5 +23,6 @@ pub mod Paths
 pub mod Phases
 pub mod Puts
 pub mod Refusals
+pub mod Bounds
 pub mod Operations
 pub mod Memory

@@ -1,6 +1,5 @@
 -- What calls of the tree ask of a transaction, and what they say of its events. This project's own.
-use Rattle.std.specs.Prelude.{◌≡◌, ℕ, List, [], ◌∷◌}
-use Rattle.std.specs.List.{Any}
+use Rattle.std.specs.Prelude.{◌≡◌, ℕ, List, [], ◌∷◌, ◌++◌, map, length}
 use Rattle.erm_model.specs.Rows.{Rows}
 use Rattle.erm_model.specs.RowTransaction.{Event, did_read, did_claim, did_write, did_make, Asked, asked_read, asked_claim, asked_make, Law, Agrees, Face, IsPossible, IsLawful, GoesOn, OnlyReads, Saw, Did}
 
@@ -38,15 +37,24 @@ AsksReads objects events rows (asked_read oid) = objects rows oid
 AsksReads objects events rows (asked_claim oid) = ⊥
 AsksReads objects events rows asked_make = ⊥
 
--- what calls for new objects ask for; what claims of the objects of these rows ask for
-abbrev pub AsksMake : List Event → Rows → Asked → Type 0
-AsksMake events rows (asked_read oid) = ⊥
-AsksMake events rows (asked_claim oid) = ⊥
-AsksMake events rows asked_make = Unit {0}
+-- events are the first ones of others
+abbrev pub IsPrefixOf : List Event → List Event → Type 0
+IsPrefixOf whole events = (others : List Event) × (whole ≡ events ++ others)
 
+-- events are the first ones of those by which so many objects are made
+abbrev pub AreFirstMakes : ℕ → List Event → Type 0
+AreFirstMakes count events = (made : List ℕ) × (length made ≡ count) × IsPrefixOf (map did_make made) events
+
+-- what calls for so many new objects ask for: one more, while fewer were made
+abbrev pub AsksMake : ℕ → List Event → Rows → Asked → Type 0
+AsksMake count events rows (asked_read oid) = ⊥
+AsksMake count events rows (asked_claim oid) = ⊥
+AsksMake count events rows asked_make = (oid : ℕ) × AreFirstMakes count (events ++ did_make oid ∷ [])
+
+-- what claims of the objects of these rows ask for: to claim the next one
 abbrev pub AsksClaims : List (ℕ × List ℕ) → List Event → Rows → Asked → Type 0
 AsksClaims entries events rows (asked_read oid) = ⊥
-AsksClaims entries events rows (asked_claim oid) = Any (λ entry. entry.0 ≡ oid) entries
+AsksClaims entries events rows (asked_claim oid) = IsPrefixOf (map (λ entry. did_claim entry.0) entries) (events ++ did_claim oid ∷ [])
 AsksClaims entries events rows asked_make = ⊥
 
 -- several calls changed the rows, and on each array that meets the law and agrees with their events, these are of this kind
@@ -58,19 +66,3 @@ pub record DidBy {S : Type 0} (face : Face S) (kind : Rows → List Event → Ty
 pub record Ran {S : Type 0} (face : Face S) (s : S) (events : List Event) (t : S) : Type 0 where
   pub goes_on : GoesOn face s events t
   pub follows : face.follows s t
-
--- events that neither read nor set a row
-abbrev pub AreQuiet : List Event → Type 0
-AreQuiet [] = Unit {0}
-AreQuiet (did_read oid row ∷ events) = ⊥
-AreQuiet (did_claim oid ∷ events) = AreQuiet events
-AreQuiet (did_write oid row ∷ events) = ⊥
-AreQuiet (did_make oid ∷ events) = AreQuiet events
-
--- events that claim alone
-abbrev pub AreClaims : List Event → Type 0
-AreClaims [] = Unit {0}
-AreClaims (did_read oid row ∷ events) = ⊥
-AreClaims (did_claim oid ∷ events) = AreClaims events
-AreClaims (did_write oid row ∷ events) = ⊥
-AreClaims (did_make oid ∷ events) = ⊥

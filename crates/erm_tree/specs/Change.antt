@@ -1,11 +1,11 @@
 -- The events of the calls that change a table. This project's own.
-use Rattle.std.specs.Prelude.{◌≡◌, ℕ, ◌⊎◌, Some, List, [], ◌∷◌, ◌++◌, map, length, MatchOption}
-use Rattle.std.specs.List.{Any}
+use Rattle.std.specs.Prelude.{◌≡◌, ℕ, suc, ◌≤◌, ◌⊎◌, Some, List, [], ◌∷◌, ◌++◌, map, length, MatchOption}
 use Rattle.erm_model.specs.declared.row_stop.RowStop.{RowStop}
 use Rattle.erm_model.specs.Rows.{Rows}
-use Rattle.erm_model.specs.RowTransaction.{Event, did_claim, did_write, did_make, made_by_all, Asked, asked_read, asked_claim, asked_make, Law, Agrees, OnlyReads, WritesNothing, StopsRead, StopsClaim, StopsMake}
+use Rattle.erm_model.specs.RowTransaction.{Event, did_read, did_claim, did_write, did_make, Asked, asked_read, asked_claim, asked_make, Law, Agrees, Face, IsLawful, IsStopped, OnlyReads, WritesNothing, StopsRead, StopsClaim, StopsMake}
 use Rattle.erm_node.specs.Sound.{levels_of}
 use Rattle.erm_node.specs.TreeMap.{record_in}
+use Rattle.erm_tree.specs.declared.plan.TheConstants.{MOST_OBJECTS, MOST_ROWS}
 use Rattle.erm_tree.specs.Calls.{ReadsAre}
 use Rattle.erm_tree.specs.Insert.{path_to, new_rows, objects_for}
 use Rattle.erm_tree.specs.Reads.{IsOnWay}
@@ -37,10 +37,12 @@ abbrev pub IsDel : Rows → ℕ → ℕ → List ℕ → List Event → Type 0
 IsDel rows table key row events =
     MatchOption (record_in rows table key) (AreReadsThen (IsOnWay table key rows) [] events) (λ oid. AreReadsThen (IsOnWay table key rows) (did_write oid row ∷ []) events)
 
--- events set no row, and on each array that meets the law and agrees with them they read these objects
-pub record SetNothing (law : Law) (objects : Rows → ℕ → Type 0) (events : List Event) : Type 0 where
+-- Events of a call that was cut off: they set no row, and on each array that meets the law and agrees with them they read these
+-- objects and are the first ones of a whole call's.
+pub record IsPrefix (law : Law) (objects : Rows → ℕ → Type 0) (whole : Rows → List Event → Type 0) (events : List Event) : Type 0 where
   pub none : WritesNothing events
   pub of : (array : Rows) → law.meets array → Agrees law events array → ReadsAre (objects array) events
+  pub rest : (array : Rows) → law.meets array → Agrees law events array → (others : List Event) × whole array (events ++ others)
 
 -- what a del asks for: to read a node on the way to the key, and to write its record
 abbrev pub AsksDel : ℕ → ℕ → List Event → Rows → Asked → Type 0
@@ -48,15 +50,13 @@ AsksDel table key events rows (asked_read oid) = IsOnWay table key rows oid
 AsksDel table key events rows (asked_claim oid) = record_in rows table key ≡ Some oid
 AsksDel table key events rows asked_make = ⊥
 
--- what a put of this row asks for: to read a node on the way to the key, new objects, and to write the key's record or, where it
--- has none, an object whose row is set as the key is put in
+-- What a put of this row asks for: to read a node on the way to the key, to write the key's record, or else what a whole put does
+-- next, which is to make an object or to claim one.
 abbrev pub AsksPut : ℕ → ℕ → List ℕ → List Event → Rows → Asked → Type 0
 AsksPut table key row events rows (asked_read oid) = IsOnWay table key rows oid
 AsksPut table key row events rows (asked_claim oid) =
-    (record_in rows table key ≡ Some oid)
-    ⊎ ((made : List ℕ) × ((x : ℕ) → made_by_all events x ≡ made_by_all (map did_make made) x)
-    × Any (λ entry. entry.0 ≡ oid) (new_rows made key row (path_to rows (levels_of rows table) table key)))
-AsksPut table key row events rows asked_make = Unit {0}
+    (record_in rows table key ≡ Some oid) ⊎ ((others : List Event) × IsPut rows table key row (events ++ did_claim oid ∷ others))
+AsksPut table key row events rows asked_make = (oid : ℕ) × (others : List Event) × IsPut rows table key row (events ++ did_make oid ∷ others)
 
 -- the refusals that a read, a claim or a write may have
 abbrev pub StopsChange : RowStop → Type 0
@@ -65,3 +65,43 @@ StopsChange stop = StopsRead stop ⊎ StopsClaim stop
 -- the refusals that a read, a claim, a write or a call for a new object may have
 abbrev pub StopsPut : RowStop → Type 0
 StopsPut stop = StopsChange stop ⊎ StopsMake stop
+
+-- how many objects events make
+abbrev pub count_makes : List Event → ℕ
+count_makes [] = 0
+count_makes (did_read oid row ∷ events) = count_makes events
+count_makes (did_claim oid ∷ events) = count_makes events
+count_makes (did_write oid row ∷ events) = count_makes events
+count_makes (did_make oid ∷ events) = suc (count_makes events)
+
+-- how many times events claim an object, other than by setting its row
+abbrev pub count_claims : List Event → ℕ
+count_claims [] = 0
+count_claims (did_read oid row ∷ events) = count_claims events
+count_claims (did_claim oid ∷ events) = suc (count_claims events)
+count_claims (did_write oid row ∷ events) = count_claims events
+count_claims (did_make oid ∷ events) = count_claims events
+
+-- how many times events set a row
+abbrev pub count_writes : List Event → ℕ
+count_writes [] = 0
+count_writes (did_read oid row ∷ events) = count_writes events
+count_writes (did_claim oid ∷ events) = count_writes events
+count_writes (did_write oid row ∷ events) = suc (count_writes events)
+count_writes (did_make oid ∷ events) = count_writes events
+
+-- events make at most so many objects, claim at most so many times and set at most so many rows
+pub record AreFew (events : List Event) : Type 0 where
+  pub makes : count_makes events ≤ MOST_OBJECTS
+  pub claims : count_claims events ≤ MOST_ROWS
+  pub writes : count_writes events ≤ MOST_ROWS
+
+-- the events of a put are few, and so are the first ones of them
+abbrev pub PutsAreBounded : Type 0
+PutsAreBounded = (rows : Rows) (table key : ℕ) (row : List ℕ) (events others : List Event) → IsPut rows table key row (events ++ others) → AreFew events
+
+-- and so are those of a put that was refused
+abbrev pub RefusedPutsAreBounded : {S : Type 0} → Face S → Type 0
+RefusedPutsAreBounded {S} face =
+    (table key : ℕ) (row : List ℕ) (s t : S) (stop : RowStop) → IsLawful face s
+    → (stopped : IsStopped face StopsPut (IsPrefix face.law (IsOnWay table key) (λ rows events. IsPut rows table key row events)) (AsksPut table key row) s stop t) → AreFew stopped.events

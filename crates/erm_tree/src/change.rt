@@ -7,7 +7,7 @@ ghost use Rattle.erm_record.specs.Record.{absent_row, value_row};
 ghost use Rattle.erm_node.specs.Sound.{sound_law};
 ghost use Rattle.erm_node.specs.TreeMap.{map_of_rows};
 ghost use Rattle.erm_tree.specs.Calls.{DidBy, IsReady, Reads};
-ghost use Rattle.erm_tree.specs.Change.{AsksDel, AsksPut, IsDel, IsPut, StopsChange, StopsPut, SetNothing};
+ghost use Rattle.erm_tree.specs.Change.{AsksDel, AsksPut, IsDel, IsPrefix, IsPut, StopsChange, StopsPut};
 ghost use Rattle.erm_tree.specs.Reads.{IsOnWay};
 
 use crate::insert::{claim_all, make_all, path_for, write_all};
@@ -40,7 +40,7 @@ pub fn put<T: RowTxn>(txn: &mut T, table: u8, key: u64, value: &Value) -> Result
     requires law { SameLaw T.face.law sound_law }
     requires table { table < TABLES }
     ensures ok { OnOk result (DidBy T.face (λ rows events. IsPut rows table key (value_row value.now) events) txn.old txn.new (λ old new. map_of_rows new ≡ insert (map_of_rows old) (at table key) value.now)) }
-    ensures err { IfErr result (λ stop. IsStopped T.face StopsPut (SetNothing T.face.law (IsOnWay table key)) (AsksPut table key (value_row value.now)) txn.old stop txn.new) }
+    ensures err { IfErr result (λ stop. IsStopped T.face StopsPut (IsPrefix T.face.law (IsOnWay table key) (λ rows events. IsPut rows table key (value_row value.now) events)) (AsksPut table key (value_row value.now)) txn.old stop txn.new) }
 {
     map_has_values_of_records();
     nodes_are_read_back();

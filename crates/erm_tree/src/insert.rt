@@ -4,7 +4,7 @@ ghost use Rattle.std.specs.Prelude.{◌≡◌, ◌<◌, ◌≤◌, ℕ, IfOk, On
 ghost use Rattle.std.specs.List.{All};
 ghost use Rattle.erm_model.specs.RowTransaction.{did_claim, did_make, did_write, IsPossible, SameLaw, StopsRead, StopsClaim, StopsMake, IsStopped};
 ghost use Rattle.erm_node.specs.Sound.{levels_of, sound_law};
-ghost use Rattle.erm_tree.specs.Calls.{AreClaims, AreQuiet, AsksClaims, AsksMake, AsksReads, IsReady, Ran, Reads, SawIn};
+ghost use Rattle.erm_tree.specs.Calls.{AreFirstMakes, AsksClaims, AsksMake, AsksReads, IsPrefixOf, IsReady, Ran, Reads, SawIn};
 ghost use Rattle.erm_tree.specs.Insert.{path_to};
 ghost use Rattle.erm_tree.specs.Reads.{IsOnWay};
 ghost use Rattle.erm_tree.specs.Step.{places_of};
@@ -66,7 +66,7 @@ pub(crate) fn make_all<T: RowTxn>(
     ensures ok { IfOk result (λ made. Ran T.face txn.old (map did_make made.items) txn.new) }
     ensures count { IfOk result (λ made. length made.items ≡ count) }
     ensures objects { IfOk result (λ made. All (λ oid. oid < OID_LIMIT) made.items) }
-    ensures err { IfErr result (λ stop. IsStopped T.face StopsMake AreQuiet AsksMake txn.old stop txn.new) }
+    ensures err { IfErr result (λ stop. IsStopped T.face StopsMake (AreFirstMakes count) (AsksMake count) txn.old stop txn.new) }
 {
     let mut made = ArrayVec::new();
     for _object in 0..count {
@@ -81,7 +81,7 @@ pub(crate) fn claim_all<T: RowTxn>(txn: &mut T, rows: &[(Oid, Row)]) -> Result<(
     requires possible { IsPossible T.face txn.old }
     requires objects { All (λ entry. entry.0 < OID_LIMIT) rows.now }
     ensures ok { OnOk result (Ran T.face txn.old (map (λ entry. did_claim entry.0) rows.now) txn.new) }
-    ensures err { IfErr result (λ stop. IsStopped T.face StopsClaim AreClaims (AsksClaims rows.now) txn.old stop txn.new) }
+    ensures err { IfErr result (λ stop. IsStopped T.face StopsClaim (IsPrefixOf (map (λ entry. did_claim entry.0) rows.now)) (AsksClaims rows.now) txn.old stop txn.new) }
 {
     for (oid, _row) in rows {
         txn.claim(*oid)?;

@@ -4,7 +4,7 @@ ghost use Rattle.erm_model.specs.RowTransaction.{Event, did_read, did_claim, did
 ghost use Rattle.erm_record.specs.Record.{value_row};
 ghost use Rattle.erm_node.specs.TreeMap.{record_in};
 ghost use Rattle.erm_tree.specs.Calls.{AsksReads, IsReady, Reads};
-ghost use Rattle.erm_tree.specs.Change.{AsksDel, AsksPut, SetNothing, StopsChange, StopsPut};
+ghost use Rattle.erm_tree.specs.Change.{AsksDel, AsksPut, IsPrefix, IsPut, PutsAreBounded, RefusedPutsAreBounded, StopsChange, StopsPut};
 ghost use Rattle.erm_tree.specs.Operations.{AnswersStutter, CutOffsStutter, LooksStutter, OperationsAreRunOne, RefusalsStutter, StaysReady, Stutters};
 ghost use Rattle.erm_tree.specs.Reads.{IsMetIn, IsOnWay, IsSought};
 
@@ -25,7 +25,7 @@ pub fn refused_calls_set_no_row<T: RowTxn>()
     ensures next { (table from : ℕ) → CutOffsStutter T.face StopsRead (Reads T.face.law (λ rows x. IsMetIn rows table from (2 ^ 64 - 1) x)) (AsksReads (λ rows x. IsMetIn rows table from (2 ^ 64 - 1) x)) }
     ensures find { (table key : ℕ) → CutOffsStutter T.face StopsRead (Reads T.face.law (IsOnWay table key)) (AsksReads (IsOnWay table key)) }
     ensures del { (table key : ℕ) → CutOffsStutter T.face StopsChange (Reads T.face.law (IsOnWay table key)) (AsksDel table key) }
-    ensures put { (table key : ℕ) (value : List ℕ) → CutOffsStutter T.face StopsPut (SetNothing T.face.law (IsOnWay table key)) (AsksPut table key (value_row value)) }
+    ensures put { (table key : ℕ) (value : List ℕ) → CutOffsStutter T.face StopsPut (IsPrefix T.face.law (IsOnWay table key) (λ rows events. IsPut rows table key (value_row value) events)) (AsksPut table key (value_row value)) }
     ensures cut_off { (s at t : T) (events : List Event) → WritesNothing events → GoesOn T.face s events at → GoesOn T.face at [] t → Stutters T.face s t }
     ensures read { (oid : ℕ) → RefusalsStutter T.face StopsRead (asked_read oid) }
     ensures claim { (oid : ℕ) → RefusalsStutter T.face StopsClaim (asked_claim oid) }
@@ -40,4 +40,11 @@ pub fn looks_and_claims_set_no_row<T: RowTxn>()
     ensures claim { (oid : ℕ) → AnswersStutter T.face (did_claim oid) }
     ensures fresh { (oid : ℕ) → AnswersStutter T.face (did_make oid) }
     ensures ready { (s t : T) → IsReady T.face s → Stutters T.face s t → IsReady T.face t }
+{}
+
+/// The events of a put make at most `MOST_OBJECTS` objects, claim at most `MOST_ROWS` times, and set at most `MOST_ROWS`
+/// rows. Those of a put that was refused do too.
+pub fn puts_are_bounded<T: RowTxn>()
+    ensures whole { PutsAreBounded }
+    ensures refused { RefusedPutsAreBounded T.face }
 {}

@@ -11,5 +11,8 @@ mod tests;
 mod walk;
 
 pub use change::{del, put};
-pub use laws::{looks_and_claims_set_no_row, operations_are_run_one, refused_calls_set_no_row};
+pub use laws::{
+    looks_and_claims_set_no_row, operations_are_run_one, puts_are_bounded, refused_calls_set_no_row,
+};
+pub use plan::{MOST_OBJECTS, MOST_ROWS};
 pub use read::{find, get, next};

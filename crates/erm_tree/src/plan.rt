@@ -18,11 +18,11 @@ pub(crate) struct Step {
     pub pairs: ArrayVec<(u64, Oid), NODE_PAIRS>,
 }
 
-/// The most objects that are made: one for the record, one for each node that is cut, and one more for the root.
-pub(crate) const MOST_OBJECTS: usize = LEVELS + 2;
+/// The most objects that a put makes: one for the record, one for each node that is cut, and one more for the root.
+pub const MOST_OBJECTS: usize = LEVELS + 2;
 
-/// The most rows that are set: the record's, for each node its own and its right half's, and the root's left half's.
-pub(crate) const MOST_ROWS: usize = 2 * LEVELS + 2;
+/// The most rows that a put claims and sets: the record's, for each node its own and its right half's, and the root's left half's.
+pub const MOST_ROWS: usize = 2 * LEVELS + 2;
 
 /// Rows to set, each with its object.
 pub(crate) type NewRows = ArrayVec<(Oid, Row), MOST_ROWS>;

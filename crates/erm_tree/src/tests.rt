@@ -4,7 +4,9 @@ ghost use Rattle.erm_tree.specs.Calls.{IsReady};
 
 mod memory;
 
-use crate::{del, find, get, next, operations_are_run_one, put};
+use crate::{
+    MOST_OBJECTS, MOST_ROWS, del, find, get, next, operations_are_run_one, put, puts_are_bounded,
+};
 use erm_model::{Map, OID_LIMIT, Oid, Op, Reply, Row, RowStop, RowTxn, TABLES, Value, run_one};
 use memory::MemoryTxn;
 use std::alloc::Global;
@@ -196,5 +198,8 @@ fn a_refusal_leaves_the_rows(rt: HostRuntime) -> Result<(), Fail> {
     }
     // Two reads of the root, three objects made and four claims.
     assert!(rt; last_refused == 8);
+    puts_are_bounded::<MemoryTxn>();
+    assert!(rt; MOST_OBJECTS == 14);
+    assert!(rt; MOST_ROWS == 26);
     Ok(())
 }

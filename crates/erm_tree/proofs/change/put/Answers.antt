@@ -6,21 +6,22 @@ use Rattle.std.proofs.lemmas.Result.{IfOk-weaker, IfErr-weaker, err_from_is_err_
 use Rattle.erm_model.specs.declared.limits.TheConstants.{OID_LIMIT}
 use Rattle.erm_model.specs.Database.{at}
 use Rattle.erm_model.specs.Rows.{Rows}
-use Rattle.erm_model.specs.RowTransaction.{Asked, Event, did_write, did_claim, Does, StopsRead, StopsClaim, StopsMake}
+use Rattle.erm_model.specs.RowTransaction.{Asked, Event, did_write, did_claim, Does, OnlyReads, StopsRead, StopsClaim, StopsMake}
 use Rattle.erm_record.specs.Record.{value_row}
 use Rattle.erm_node.specs.Sound.{levels_of}
 use Rattle.erm_node.specs.TreeMap.{map_of_rows}
 use Rattle.erm_tree.specs.declared.plan.Step.{Step}
-use Rattle.erm_tree.specs.Calls.{AreQuiet, AsksClaims, AsksMake, AsksReads, SawIn, Ran}
-use Rattle.erm_tree.specs.Change.{AsksPut, IsPutOfNew, StopsPut}
+use Rattle.erm_tree.specs.Calls.{AreFirstMakes, AsksMake, AsksReads, ReadsAre, SawIn, Ran}
+use Rattle.erm_tree.specs.Change.{AsksPut, IsPut, IsPutOfNew, StopsPut}
 use Rattle.erm_tree.specs.Insert.{Place, path_to, new_rows, objects_for}
 use Rattle.erm_tree.specs.Reads.{IsOnWay}
 use Rattle.erm_tree.specs.Step.{place_of, places_of}
 use Rattle.erm_tree.specs.Walk.{IsRecordFor}
 use Rattle.erm_tree.proofs.Calls.{SawIn-ready, SawIn-possible, SawIn-then, Runs-claimed}
 use Rattle.erm_tree.proofs.Changing.{DidBy-set_record}
+use Rattle.erm_tree.proofs.Phases.{AreQuiet-first_makes}
 use Rattle.erm_tree.proofs.Puts.{DidBy-put_new, rows_bounded, All-Each}
-use Rattle.erm_tree.proofs.Refusals.{AreMakesThenClaims, AsksPut-reads, AsksPut-makes, AsksPut-claims, IsStopped-made, Refused-reads, Refused-more_reads, Refused-write, Refused-quiet}
+use Rattle.erm_tree.proofs.Refusals.{AreMakesThenClaims, AsksNextClaim, AsksPut-reads, AsksPut-makes, AsksPut-claims, IsPut-claims, IsPut-makes, IsPut-reads, IsStopped-made, Refused-reads, Refused-more_reads, Refused-write, Refused-quiet}
 use Rattle.erm_tree.proofs.Runs.{objects_for-most}
 use Rattle.erm_tree.proofs.Settings.{IsSetAt, map_of_rows-insert}
 use Rattle.erm_tree.proofs.change.put.Goals as goal
@@ -36,6 +37,13 @@ path_seen table key places rows = places ≡ path_to rows (levels_of rows table)
 abbrev asks_put : ℕ → ℕ → List ℕ → List Event → Rows → Asked → Type 0
 asks_put table key value events rows asked = AsksPut table key (value_row value) events rows asked
 
+-- the events of such a put, and that reads on the way begin it
+abbrev whole_put : ℕ → ℕ → List ℕ → Rows → List Event → Type 0
+whole_put table key value rows events = IsPut rows table key (value_row value) events
+
+reads_begin : (table key : ℕ) (value : List ℕ) (array : Rows) (es : List Event) → OnlyReads es → ReadsAre (IsOnWay table key array) es → (others : List Event) × whole_put table key value array (es ++ others)
+reads_begin table key value array es only of = IsPut-reads table key (value_row value) array es only of
+
 put_reads : (table key : ℕ) (value : List ℕ) (es : List Event) (array : Rows) (asked : Asked) → AsksReads (IsOnWay table key) es array asked → asks_put table key value es array asked
 put_reads table key value es array asked asks = AsksPut-reads table key (value_row value) es array asked asks
 
@@ -43,7 +51,7 @@ pub returns-in_err-oid-clause-err : goal.returns-in_err-oid-clause-err
 returns-in_err-oid-clause-err g c =
     let t = g.met.T.RowTxn in
     let p = err_from_is_err_and c.from_residual.result c.from_residual.ensures.1 in
-    rw (p.1, p.2) (Refused-reads g.T.RowTxn.face t.goes_on (IsOnWay c.args.table c.args.key) StopsRead StopsPut (λ stop named. inl (inl named)) (asks_put c.args.table c.args.key c.args.value.now) (put_reads c.args.table c.args.key c.args.value.now) c.args.txn.now c.record_for.new.txn c.in_err-oid.field-0.0 c.in_err-oid.ensures.err)
+    rw (p.1, p.2) (Refused-reads g.T.RowTxn.face t.goes_on (IsOnWay c.args.table c.args.key) StopsRead StopsPut (λ stop named. inl (inl named)) (whole_put c.args.table c.args.key c.args.value.now) (reads_begin c.args.table c.args.key c.args.value.now) (asks_put c.args.table c.args.key c.args.value.now) (put_reads c.args.table c.args.key c.args.value.now) c.args.txn.now c.record_for.new.txn c.in_err-oid.field-0.0 c.in_err-oid.ensures.err)
 
 pub returns-in-Some-clause-ok : goal.returns-in-Some-clause-ok
 returns-in-Some-clause-ok g c =
@@ -65,7 +73,7 @@ returns-in-Some-clause-err g c =
     let face = g.T.RowTxn.face in
     let seen = subst (λ (r : Option ℕ). SawIn face (IsOnWay c.args.table c.args.key) c.args.txn.now c.record_for.new.txn (record_seen c.args.table c.args.key r)) c.in-Some.is c.in_ok-oid.ensures.ok in
     IfErr-weaker c.write.result _ _ (λ stop refused.
-    Refused-write face t.goes_on (IsOnWay c.args.table c.args.key) StopsClaim StopsPut (λ x named. inl (inr named)) (asks_put c.args.table c.args.key c.args.value.now) c.args.txn.now c.record_for.new.txn c.write.new.self c.in-Some.oid stop
+    Refused-write face t.goes_on (IsOnWay c.args.table c.args.key) StopsClaim StopsPut (λ x named. inl (inr named)) (whole_put c.args.table c.args.key c.args.value.now) (reads_begin c.args.table c.args.key c.args.value.now) (asks_put c.args.table c.args.key c.args.value.now) c.args.txn.now c.record_for.new.txn c.write.new.self c.in-Some.oid stop
     (record_seen c.args.table c.args.key (Some c.in-Some.oid)) (λ es array meets is. inl (sym is.is)) seen refused)
     c.write.ensures.err
 
@@ -77,7 +85,7 @@ pub returns-in_err-path-clause-err : goal.returns-in_err-path-clause-err
 returns-in_err-path-clause-err g c =
     let t = g.met.T.RowTxn in
     let p = err_from_is_err_and c.from_residual-in_err-path.result c.from_residual-in_err-path.ensures.1 in
-    rw (p.1, p.2) (Refused-more_reads g.T.RowTxn.face t.goes_on (IsOnWay c.args.table c.args.key) StopsRead StopsPut (λ stop named. inl (inl named)) (asks_put c.args.table c.args.key c.args.value.now) (put_reads c.args.table c.args.key c.args.value.now) c.args.txn.now c.record_for.new.txn c.path_for.new.txn c.in_err-path.field-0.0
+    rw (p.1, p.2) (Refused-more_reads g.T.RowTxn.face t.goes_on (IsOnWay c.args.table c.args.key) StopsRead StopsPut (λ stop named. inl (inl named)) (whole_put c.args.table c.args.key c.args.value.now) (reads_begin c.args.table c.args.key c.args.value.now) (asks_put c.args.table c.args.key c.args.value.now) (put_reads c.args.table c.args.key c.args.value.now) c.args.txn.now c.record_for.new.txn c.path_for.new.txn c.in_err-path.field-0.0
     (record_seen c.args.table c.args.key c.in_ok-oid.field-0) c.in_ok-oid.ensures.ok c.in_err-path.ensures.err)
 
 pub make_all-requires-clause-room : goal.make_all-requires-clause-room
@@ -93,9 +101,11 @@ returns-in_err-made-clause-err g c =
     let found = record_seen c.args.table c.args.key c.in_ok-oid.field-0 in
     let path = path_seen c.args.table c.args.key (places_of c.in_ok-path.path.items) in
     let seen = SawIn-then face t.goes_on (IsOnWay c.args.table c.args.key) c.args.txn.now c.record_for.new.txn c.path_for.new.txn found path c.in_ok-oid.ensures.ok c.in_ok-path.ensures.ok in
-    rw (p.1, p.2) (Refused-quiet face t.goes_on (IsOnWay c.args.table c.args.key) StopsMake StopsPut (λ stop named. inr named) (asks_put c.args.table c.args.key c.args.value.now) AreQuiet AsksMake c.args.txn.now c.path_for.new.txn c.make_all.new.txn c.in_err-made.field-0.0
-    (λ (rows : Rows). found rows × path rows) (λ fs quiet. quiet)
-    (λ es fs array asked reads quiet meets is asks. AsksPut-makes c.args.table c.args.key (value_row c.args.value.now) (es ++ fs) fs array asked asks) seen c.in_err-made.ensures.err)
+    let count : c.objects_for.result ≡ objects_for (places_of c.in_ok-path.path.items) = c.objects_for.ensures ∙ ap (λ (steps : List Step). objects_for (places_of steps)) c.as_slice.ensures.value in
+    rw (p.1, p.2) (Refused-quiet face t.goes_on (IsOnWay c.args.table c.args.key) StopsMake StopsPut (λ stop named. inr named) (whole_put c.args.table c.args.key c.args.value.now) (reads_begin c.args.table c.args.key c.args.value.now) (asks_put c.args.table c.args.key c.args.value.now) (AreFirstMakes c.objects_for.result) (AsksMake c.objects_for.result) c.args.txn.now c.path_for.new.txn c.make_all.new.txn c.in_err-made.field-0.0
+    (λ (rows : Rows). found rows × path rows) (λ fs is. AreQuiet-first_makes c.objects_for.result fs is)
+    (λ es fs array only of is so. IsPut-makes c.args.table c.args.key (value_row c.args.value.now) es fs array only of (sym so.0.is ∙ c.in_default.is) c.objects_for.result (count ∙ ap objects_for so.1) is)
+    (λ es fs array asked only of is so asks. AsksPut-makes c.args.table c.args.key (value_row c.args.value.now) es fs array only of (sym so.0.is ∙ c.in_default.is) c.objects_for.result (count ∙ ap objects_for so.1) asked asks) seen c.in_err-made.ensures.err)
 
 pub claim_all-requires-clause-objects : goal.claim_all-requires-clause-objects
 claim_all-requires-clause-objects g c =
@@ -130,10 +140,12 @@ returns-in_err-claim_all-clause-err g c =
     let planned : ws ≡ new_rows made key row places =
     c.as_slice-4.ensures.value ∙ c.plan-rows.ensures ∙ ap (λ (os : List ℕ). new_rows os key c.row_of-row.result (places_of c.as_slice-2.result.now)) c.as_slice-3.ensures.value
     ∙ ap (λ (r : List ℕ). new_rows made key r (places_of c.as_slice-2.result.now)) c.row_of-row.ensures.row ∙ ap (λ (steps : List Step). new_rows made key row (places_of steps)) c.as_slice-2.ensures.value in
+    let many : length made ≡ objects_for places = c.in_ok-made.ensures.count ∙ c.objects_for.ensures ∙ ap (λ (steps : List Step). objects_for (places_of steps)) c.as_slice.ensures.value in
     let stopped = IsStopped-made face t.goes_on StopsClaim c.path_for.new.txn c.make_all.new.txn c.claim_all.new.txn c.in_err-claim_all.field-0.0 made ws c.in_ok-made.ensures.ok c.in_err-claim_all.ensures.err in
-    rw (p.1, p.2) (Refused-quiet face t.goes_on (IsOnWay c.args.table key) StopsClaim StopsPut (λ stop named. inl (inr named)) (asks_put c.args.table key c.args.value.now) (AreMakesThenClaims made) (AsksClaims ws)
+    rw (p.1, p.2) (Refused-quiet face t.goes_on (IsOnWay c.args.table key) StopsClaim StopsPut (λ stop named. inl (inr named)) (whole_put c.args.table key c.args.value.now) (reads_begin c.args.table key c.args.value.now) (asks_put c.args.table key c.args.value.now) (AreMakesThenClaims made ws) (AsksNextClaim made ws)
     c.args.txn.now c.path_for.new.txn c.claim_all.new.txn c.in_err-claim_all.field-0.0 (λ (rows : Rows). found rows × path rows) (λ fs is. is.quiet)
-    (λ es fs array asked reads is meets so asks. AsksPut-claims c.args.table key row made ws es fs array asked reads is (planned ∙ ap (new_rows made key row) so.1) asks) seen stopped)
+    (λ es fs array only of is so. IsPut-claims c.args.table key row es fs array only of (sym so.0.is ∙ c.in_default.is) made ws (many ∙ ap objects_for so.1) (planned ∙ ap (new_rows made key row) so.1) is)
+    (λ es fs array asked only of is so asks. AsksPut-claims c.args.table key row es fs array only of (sym so.0.is ∙ c.in_default.is) made ws (many ∙ ap objects_for so.1) (planned ∙ ap (new_rows made key row) so.1) asked asks) seen stopped)
 
 pub write_all-requires-clause-objects : goal.write_all-requires-clause-objects
 write_all-requires-clause-objects g c =

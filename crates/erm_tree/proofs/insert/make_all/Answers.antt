@@ -4,16 +4,16 @@ use Rattle.std.proofs.lemmas.List.Elements.{All-append, All-cons, All-nil}
 use Rattle.std.proofs.lemmas.Result.{err_from_is_err_and}
 use Rattle.erm_model.specs.declared.limits.TheConstants.{OID_LIMIT}
 use Rattle.erm_model.specs.RowTransaction.{did_make, asked_make, StopsMake}
-use Rattle.erm_tree.specs.Calls.{AreQuiet, AsksMake, Ran}
+use Rattle.erm_tree.specs.Calls.{AreFirstMakes, AsksMake, Ran}
 use Rattle.erm_tree.proofs.Calls.{IsStopped-ran}
-use Rattle.erm_tree.proofs.Phases.{AreQuiet-makes, Ran-object}
+use Rattle.erm_tree.proofs.Phases.{AreFirstMakes-next, AreFirstMakes-some, Ran-object}
 use Rattle.erm_tree.proofs.insert.make_all.Goals as goal
 
 pub returns-in_err-fresh-clause-err : goal.returns-in_err-fresh-clause-err
 returns-in_err-fresh-clause-err g c =
     let t = g.met.T.RowTxn in
     let p = err_from_is_err_and c.from_residual.result c.from_residual.ensures.1 in
-    rw (p.1, p.2) (IsStopped-ran g.T.RowTxn.face t.goes_on StopsMake AreQuiet AsksMake c.args.txn.now c.loop-object.txn c.fresh.new.self asked_make c.in_err-fresh.field-0.0 (map did_make c.loop-object.made.items) c.loop-object.invariant.0 (AreQuiet-makes c.loop-object.made.items) (λ array. tt) c.in_err-fresh.ensures.err)
+    rw (p.1, p.2) (IsStopped-ran g.T.RowTxn.face t.goes_on StopsMake (AreFirstMakes c.args.count) (AsksMake c.args.count) c.args.txn.now c.loop-object.txn c.fresh.new.self asked_make c.in_err-fresh.field-0.0 (map did_make c.loop-object.made.items) c.loop-object.invariant.0 (AreFirstMakes-some c.args.count c.loop-object.made.items (omega (arith, c.loop-object.invariant.1, c.loop-object-test.true))) (λ array. (0, AreFirstMakes-next c.args.count c.loop-object.made.items 0 (omega (arith, c.loop-object.invariant.1, c.loop-object-test.true)))) c.in_err-fresh.ensures.err)
 
 pub loop-object-preserved : goal.loop-object-preserved
 loop-object-preserved g c =

@@ -9,7 +9,7 @@ use Rattle.erm_node.specs.Sound.{sound_law}
 use Rattle.erm_node.specs.TreeMap.{map_of_rows}
 use Rattle.erm_tree.specs.declared.tests.memory.MemoryTxn.{MemoryTxn}
 use Rattle.erm_tree.specs.Calls.{AsksReads, Reads}
-use Rattle.erm_tree.specs.Change.{AsksDel, AsksPut, IsDel, IsPut, SetNothing, StopsChange, StopsPut}
+use Rattle.erm_tree.specs.Change.{AsksDel, AsksPut, IsDel, IsPrefix, IsPut, StopsChange, StopsPut}
 use Rattle.erm_tree.specs.Reads.{IsMetIn, IsOnWay, IsSought}
 use Rattle.erm_tree.specs.Walk.{last_sought}
 use Rattle.erm_tree.proofs.Calls.{SawIn-ready}
@@ -21,7 +21,7 @@ pub returns-in_err-get-in-Get : goal.returns-in_err-get-in-Get
 returns-in_err-get-in-Get c = Ready-stopped (memory_face (λ (s : MemoryTxn). s.rows.items) (λ (s : MemoryTxn). s.claimed.items) (λ (s : MemoryTxn). s.seen.items) (λ (s : MemoryTxn). s.next)) StopsRead (Reads sound_law (IsSought c.in-Get.table c.in-Get.key)) (AsksReads (IsSought c.in-Get.table c.in-Get.key)) c.args.txn.now c.get.new.txn c.in_err-get-in-Get.field-0.0 (λ es is. WritesNothing-OnlyReads es is.only) c.requires.lawful tt c.in_err-get-in-Get.ensures.err
 
 pub returns-in_err-put-in-Put : goal.returns-in_err-put-in-Put
-returns-in_err-put-in-Put c = Ready-stopped (memory_face (λ (s : MemoryTxn). s.rows.items) (λ (s : MemoryTxn). s.claimed.items) (λ (s : MemoryTxn). s.seen.items) (λ (s : MemoryTxn). s.next)) StopsPut (SetNothing sound_law (IsOnWay c.in-Put.table c.in-Put.key)) (AsksPut c.in-Put.table c.in-Put.key (value_row c.in-Put.value)) c.args.txn.now c.put.new.txn c.in_err-put-in-Put.field-0.0 (λ es is. is.none) c.requires.lawful tt c.in_err-put-in-Put.ensures.err
+returns-in_err-put-in-Put c = Ready-stopped (memory_face (λ (s : MemoryTxn). s.rows.items) (λ (s : MemoryTxn). s.claimed.items) (λ (s : MemoryTxn). s.seen.items) (λ (s : MemoryTxn). s.next)) StopsPut (IsPrefix sound_law (IsOnWay c.in-Put.table c.in-Put.key) (λ (rows : Rows) (events : List Event). IsPut rows c.in-Put.table c.in-Put.key (value_row c.in-Put.value) events)) (AsksPut c.in-Put.table c.in-Put.key (value_row c.in-Put.value)) c.args.txn.now c.put.new.txn c.in_err-put-in-Put.field-0.0 (λ es is. is.none) c.requires.lawful tt c.in_err-put-in-Put.ensures.err
 
 pub returns-in_err-del-in-Del : goal.returns-in_err-del-in-Del
 returns-in_err-del-in-Del c = Ready-stopped (memory_face (λ (s : MemoryTxn). s.rows.items) (λ (s : MemoryTxn). s.claimed.items) (λ (s : MemoryTxn). s.seen.items) (λ (s : MemoryTxn). s.next)) StopsChange (Reads sound_law (IsOnWay c.in-Del.table c.in-Del.key)) (AsksDel c.in-Del.table c.in-Del.key) c.args.txn.now c.del.new.txn c.in_err-del-in-Del.field-0.0 (λ es is. WritesNothing-OnlyReads es is.only) c.requires.lawful tt c.in_err-del-in-Del.ensures.err
