@@ -16,6 +16,7 @@ pub mod Growth
 pub mod Descents
 pub mod Depths
 pub mod Roots
+pub mod Apart
 pub mod Planted
 pub mod Runs
 pub mod Plans
@@ -25,4 +26,5 @@ pub mod Puts
 pub mod Refusals
 pub mod Bounds
 pub mod Operations
+pub mod Tables
 pub mod Memory

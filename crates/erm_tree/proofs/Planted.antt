@@ -8,7 +8,7 @@ use Rattle.erm_model.specs.declared.limits.TheConstants.{OID_LIMIT}
 use Rattle.erm_model.specs.Rows.{Rows}
 use Rattle.erm_record.specs.Record.{IsRecord, record_value}
 use Rattle.erm_node.specs.Node.{Shape, node_of, node_row, pairs_of, is_node}
-use Rattle.erm_node.specs.Sound.{IsSound, levels_of, reached, reached_below}
+use Rattle.erm_node.specs.Sound.{IsSound, levels_of, reached}
 use Rattle.erm_node.specs.Tree.{Fan, first_key, total, same_oid, IsTree, entries, times}
 use Rattle.erm_node.specs.TreeMap.{table_entries, record_in, value_in}
 use Rattle.erm_tree.specs.Insert.{child_for}
@@ -16,10 +16,10 @@ use Rattle.erm_tree.proofs.Fans.{total-append, flat_map-append, Fan-back}
 use Rattle.erm_tree.proofs.Trees.{lookup-append_none}
 use Rattle.erm_tree.proofs.Standing.{reached-table, levels_of-bounds}
 use Rattle.erm_tree.proofs.Records.{occurs, occurs-entries, occurs-found, occurs-flat_map}
-use Rattle.erm_tree.proofs.Settings.{IsSetAt, reached-two}
-use Rattle.erm_tree.proofs.Frames.{IsKept, IsKept-frame}
+use Rattle.erm_tree.proofs.Settings.{IsSetAt}
 use Rattle.erm_tree.proofs.Depths.{levels_of-tree}
 use Rattle.erm_tree.proofs.Growth.{on_path, on_path-times, has_pair_for, hands, Before, AreWritten}
+use Rattle.erm_tree.proofs.Apart.{two_tables, kept, kept_depth, value_other_table, reached-one}
 use Rattle.erm_tree.proofs.Roots.{IsRootWritten, IsRootAfter, IsRootAfter-written}
 
 other_test : (a b : ℕ) → a ≢ b → (a == b) ≡ false
@@ -136,62 +136,27 @@ module _ (rows new : Rows) (made : List ℕ) (table key levels : ℕ) (row : Lis
   root_depth : levels_of new table ≡ suc root.now
   root_depth = levels_of-tree found new root.now 0 table 0 (2 ^ 64) root.tree root.few
 
-  -- two tables reach nothing in common
+  -- of what is reached, only what this table's tree reaches has another row now
+  same_else : (x : ℕ) → 0 < reached rows x → times rows (levels_of rows table) table x ≡ 0 → new x ≡ rows x
+  same_else x there off = planted.same x there (omega (arith, way_reached x, ap (λ (m : ℕ). times rows m table x) depth))
+
   two : (t x : ℕ) → t < 16 → t ≢ table → times rows (levels_of rows t) t x + times rows (suc levels) table x ≤ 1
-  two t x t_below other =
-      let here = ap (λ (m : ℕ). times rows m table x) depth in
-      elim (cases_lt t table) as (λ _. times rows (levels_of rows t) t x + times rows (suc levels) table x ≤ 1) [
-        | inl less ↦ omega (arith, here, reached-two rows t table x less below, sound.once x)
-        | inr not_less ↦ elim (cases_lt table t) as (λ _. times rows (levels_of rows t) t x + times rows (suc levels) table x ≤ 1) [
-          | inl more ↦ omega (arith, here, reached-two rows table t x more t_below, sound.once x)
-          | inr same ↦ absurd (other (omega arith))
-        ]
-      ]
-
-  -- each other table's tree stays
-  kept : (t : ℕ) → t < 16 → t ≢ table → IsKept rows new (levels_of rows t) 0 t 0 (2 ^ 64)
-  kept t t_below other =
-      IsKept-frame rows new (levels_of rows t) 0 t 0 (2 ^ 64) (sound.trees t t_below)
-      (λ x some. planted.same x (omega (arith, reached-table rows t x t_below)) (omega (arith, two t x t_below other, way_reached x)))
-
-  kept_depth : (t : ℕ) → t < 16 → t ≢ table → levels_of new t ≡ levels_of rows t
-  kept_depth t t_below other =
-      let (n, many, at_most) = levels_of-bounds rows t in
-      let tree : IsTree new (suc n) 0 t 0 (2 ^ 64) = subst (λ (m : ℕ). IsTree new m 0 t 0 (2 ^ 64)) many (kept t t_below other).tree in
-      levels_of-tree found new n 0 t 0 (2 ^ 64) tree at_most ∙ sym many
-
-  times_kept : (t x : ℕ) → t < 16 → t ≢ table → times new (levels_of new t) t x ≡ times rows (levels_of rows t) t x
-  times_kept t x t_below other = ap (λ (m : ℕ). times new m t x) (kept_depth t t_below other) ∙ (kept t t_below other).times x
-
-  reached_up_to : (n x : ℕ) → n ≤ table → reached_below new n x ≡ reached_below rows n x
-  reached_up_to zero x under = refl
-  reached_up_to (suc n) x under = omega (arith, reached_up_to n x (omega arith), times_kept n x (omega arith) (λ e. omega arith))
-
-  reached_past : (n x : ℕ) → table < n → n ≤ 16 → reached_below new n x ≤ reached_below rows n x + total (λ o. same_oid o x) made
-  reached_past zero x over at_most = absurd (omega arith)
-  reached_past (suc n) x over at_most =
-      elim (cases_lt table n) as (λ _. reached_below new (suc n) x ≤ reached_below rows (suc n) x + total (λ o. same_oid o x) made) [
-        | inl less ↦ omega (arith, reached_past n x less (omega arith), times_kept n x (omega arith) (λ e. omega arith))
-        | inr here ↦
-            let same : n ≡ table = omega arith in
-            omega (
-              arith,
-              reached_up_to n x (omega arith),
-              root.times x,
-              ap (λ (t : ℕ). times new (levels_of new t) t x) same,
-              ap (λ (t : ℕ). times rows (levels_of rows t) t x) same,
-              ap (λ (m : ℕ). times new m table x) root_depth,
-              ap (λ (m : ℕ). times rows m table x) depth,
-            )
-      ]
+  two t x t_below other = omega (arith, ap (λ (m : ℕ). times rows m table x) depth, two_tables rows table t x sound below t_below other)
 
   -- they reach besides only objects that were made
   pub reached-planted : (x : ℕ) → reached new x ≤ reached rows x + total (λ o. same_oid o x) made
-  unfolding reached
-  reached-planted x = reached_past 16 x below (omega arith)
+  reached-planted x =
+      omega (
+        arith,
+        reached-one found rows new table sound below same_else x,
+        root.times x,
+        ap (λ (m : ℕ). times new m table x) root_depth,
+        ap (λ (m : ℕ). times rows m table x) depth,
+      )
 
   other_tree : (t : ℕ) → t < 16 → t ≢ table → IsTree new (levels_of new t) 0 t 0 (2 ^ 64)
-  other_tree t t_below other = subst (λ (m : ℕ). IsTree new m 0 t 0 (2 ^ 64)) (sym (kept_depth t t_below other)) (kept t t_below other).tree
+  other_tree t t_below other =
+      subst (λ (m : ℕ). IsTree new m 0 t 0 (2 ^ 64)) (sym (kept_depth found rows new table sound below same_else t t_below other)) (kept found rows new table sound below same_else t t_below other).tree
 
   -- they are sound
   pub IsSound-planted : IsSound new
@@ -247,9 +212,6 @@ module _ (rows new : Rows) (made : List ℕ) (table key levels : ℕ) (row : Lis
   value_stays : (t k : ℕ) → t < 16 → record_in new t k ≡ record_in rows t k → value_in new t k ≡ value_in rows t k
   value_stays t k t_below same = ap (option_and_then (λ o. record_value (new o))) same ∙ value_kept t k t_below (record_in rows t k) refl
 
-  record_other_table : (t k : ℕ) → t < 16 → t ≢ table → record_in new t k ≡ record_in rows t k
-  record_other_table t k t_below other = ap (λ (m : ℕ). lookup (nat_eq k) (entries new m t 0)) (kept_depth t t_below other) ∙ ap (lookup (nat_eq k)) (kept t t_below other).entries
-
   now_entries : (k : ℕ) → record_in new table k ≡ lookup (nat_eq k) (root.entries.before ++ (key, slice_index made 0) ∷ root.entries.rest)
   now_entries k = ap (λ (m : ℕ). lookup (nat_eq k) (entries new m table 0)) root_depth ∙ ap (lookup (nat_eq k)) root.entries.is
 
@@ -280,7 +242,7 @@ module _ (rows new : Rows) (made : List ℕ) (table key levels : ℕ) (row : Lis
             ∙ ap (option_and_then (λ o. record_value (new o))) (now_entries key ∙ lookup-inserted root.entries.before root.entries.rest key (slice_index made 0) none)
             ∙ ap record_value planted.record_there
         | false ↦ λ e. elim (either_false t k e) as (λ _. value_in new t k ≡ value_in rows t k) [
-          | inl other ↦ value_stays t k t_below (record_other_table t k t_below other)
+          | inl other ↦ value_other_table found rows new table sound below same_else t k t_below other
           | inr here ↦
               let same : record_in new t k ≡ record_in rows t k =
               ap (λ (n : ℕ). record_in new n k) here.0

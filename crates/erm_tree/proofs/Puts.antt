@@ -47,7 +47,7 @@ made_by_all-writes [] x = refl
 made_by_all-writes (w ∷ ws) x = omega (arith, made_by_all-writes ws x)
 
 -- the rows after all
-after_all-put : (made : List ℕ) (ws : List (ℕ × List ℕ)) (rows : Rows) → after_all (makes_claims_writes made ws) rows ≡ set_all ws rows
+pub after_all-put : (made : List ℕ) (ws : List (ℕ × List ℕ)) (rows : Rows) → after_all (makes_claims_writes made ws) rows ≡ set_all ws rows
 after_all-put made ws rows =
     let claims = map (λ (w : ℕ × List ℕ). did_claim w.0) ws in
     let writes = map (λ (w : ℕ × List ℕ). did_write w.0 w.1) ws in
@@ -57,7 +57,7 @@ after_all-put made ws rows =
     ∙ ap (after_all writes) (after_all-claims ws rows)
 
 -- what all make
-made_by_all-put : (made : List ℕ) (ws : List (ℕ × List ℕ)) (x : ℕ) → made_by_all (makes_claims_writes made ws) x ≡ total (λ o. same_oid o x) made
+pub made_by_all-put : (made : List ℕ) (ws : List (ℕ × List ℕ)) (x : ℕ) → made_by_all (makes_claims_writes made ws) x ≡ total (λ o. same_oid o x) made
 made_by_all-put made ws x =
     let claims = map (λ (w : ℕ × List ℕ). did_claim w.0) ws in
     let writes = map (λ (w : ℕ × List ℕ). did_write w.0 w.1) ws in

@@ -5,4 +5,5 @@ pub mod Insert
 pub mod Change
 pub mod Step
 pub mod Operations
+pub mod Tables
 pub mod Memory

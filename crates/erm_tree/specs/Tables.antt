@@ -1,0 +1,65 @@
+-- Each table has a tree of its own: what calls that change one table do to the trees of the others. This project's own.
+use Rattle.std.specs.Prelude.{◌≡◌, ℕ, ◌+◌, ◌^◌, ◌<◌, ◌≤◌, List}
+use Rattle.std.specs.FinMap.{insert, remove}
+use Rattle.erm_model.specs.declared.limits.TheConstants.{TABLES}
+use Rattle.erm_model.specs.Database.{at}
+use Rattle.erm_model.specs.Rows.{Rows}
+use Rattle.erm_model.specs.RowTransaction.{Event, after_all, made_by_all, SameLaw, Agrees, Face, KeepsLaw}
+use Rattle.erm_record.specs.Record.{absent_row, value_row}
+use Rattle.erm_node.specs.Sound.{IsSound, sound_law, levels_of}
+use Rattle.erm_node.specs.Tree.{times}
+use Rattle.erm_node.specs.TreeMap.{map_of_rows, record_in, value_in}
+use Rattle.erm_tree.specs.Calls.{DidBy}
+use Rattle.erm_tree.specs.Change.{IsPut, IsDel}
+
+-- how often the tree of a table reaches an object
+abbrev pub reached_by : Rows → ℕ → ℕ → ℕ
+reached_by rows table x = times rows (levels_of rows table) table x
+
+-- events that change one table leave another as it was
+pub record KeepsOther (rows : Rows) (other : ℕ) (events : List Event) : Type 0 where
+  -- its tree reaches what it reached
+  pub reached : (x : ℕ) → reached_by (after_all events rows) other x ≡ reached_by rows other x
+  -- each object that its tree reaches keeps its row
+  pub same : (x : ℕ) → 0 < reached_by rows other x → after_all events rows x ≡ rows x
+  -- each key has the record that it had, and the value
+  pub records : (key : ℕ) → record_in (after_all events rows) other key ≡ record_in rows other key
+  pub values : (key : ℕ) → value_in (after_all events rows) other key ≡ value_in rows other key
+  -- its tree reaches no object that the events made
+  pub made : (x : ℕ) → 0 < made_by_all events x → reached_by (after_all events rows) other x ≡ 0
+
+-- events change one table alone: the others stay, and its own tree reaches besides only objects that the events made
+pub record KeepsTables (rows : Rows) (table : ℕ) (events : List Event) : Type 0 where
+  pub others : (other : ℕ) → other < TABLES → (other ≡ table → ⊥) → KeepsOther rows other events
+  pub grows : (x : ℕ) → reached_by (after_all events rows) table x ≤ reached_by rows table x + made_by_all events x
+
+-- Events of this kind change one table alone, wherever sound rows agree with them and they keep the law, as those of each call do.
+abbrev pub ChangesOne : (Rows → ℕ → ℕ → List ℕ → List Event → Type 0) → Type 0
+ChangesOne kind =
+    (rows : Rows) (table key : ℕ) (row : List ℕ) (events : List Event) → IsSound rows → Agrees sound_law events rows → KeepsLaw sound_law events rows → table < TABLES → key < 2 ^ 64
+    → kind rows table key row events → KeepsTables rows table events
+
+-- Tables stand apart: a put changes one table alone, and so does a del.
+abbrev pub TablesStandApart : Type 0
+TablesStandApart = ChangesOne IsPut × ChangesOne IsDel
+
+-- calls that did this changed one table alone, on each array that meets the law and agrees with their events
+abbrev pub CallsChangeOne : {S : Type 0} → Face S → (Rows → List Event → Type 0) → (Rows → Rows → Type 0) → ℕ → Type 0
+CallsChangeOne {S} face kind change table =
+    (s t : S) (done : DidBy face kind s t change) (array : Rows) → face.law.meets array → Agrees face.law done.did.events array → KeepsTables array table done.did.events
+
+-- each put of a transaction over sound rows did so
+abbrev pub PutsChangeOne : {S : Type 0} → Face S → Type 0
+PutsChangeOne face =
+    SameLaw face.law sound_law → (table key : ℕ) (value : List ℕ) → table < TABLES → key < 2 ^ 64
+    → CallsChangeOne face (λ rows events. IsPut rows table key (value_row value) events) (λ old new. map_of_rows new ≡ insert (map_of_rows old) (at table key) value) table
+
+-- and each del
+abbrev pub DelsChangeOne : {S : Type 0} → Face S → Type 0
+DelsChangeOne face =
+    SameLaw face.law sound_law → (table key : ℕ) → table < TABLES → key < 2 ^ 64
+    → CallsChangeOne face (λ rows events. IsDel rows table key absent_row events) (λ old new. map_of_rows new ≡ remove (map_of_rows old) (at table key)) table
+
+-- no object is in the trees of two tables
+abbrev pub ObjectsHaveOneTable : Type 0
+ObjectsHaveOneTable = (rows : Rows) (table other x : ℕ) → IsSound rows → table < TABLES → other < TABLES → (other ≡ table → ⊥) → 0 < reached_by rows table x → reached_by rows other x ≡ 0
