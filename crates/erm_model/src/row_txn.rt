@@ -28,6 +28,7 @@ pub trait RowTxn {
         requires active { face.active self.old }
         requires object { oid < OID_LIMIT }
         ensures ok { IfOk result (λ row. Does face self.old (did_read oid row) self.new) }
+        ensures claimed { face.claims self.old oid → IsOk result }
         ensures err { IfErr result (λ stop. IsRefused face StopsRead self.old (asked_read oid) stop self.new) };
 
     /// Claims an object for writing. Its row stays, and counts as written.
@@ -35,6 +36,7 @@ pub trait RowTxn {
         requires active { face.active self.old }
         requires object { oid < OID_LIMIT }
         ensures ok { OnOk result (Does face self.old (did_claim oid) self.new) }
+        ensures claimed { face.claims self.old oid → IsOk result }
         ensures err { IfErr result (λ stop. IsRefused face StopsClaim self.old (asked_claim oid) stop self.new) };
 
     /// Sets the row of an object, and claims it where it isn't claimed yet. For a claimed object the answer is `Ok`.

@@ -1,5 +1,5 @@
-//! One small transaction, and values at the edges of their length.
-use crate::{Key, Map, Op, Reply, VALUE_BYTES, Value, run_one};
+//! One small transaction, values at the edges of their length, and the limits as numbers.
+use crate::*;
 use std::test::Fail;
 
 const TABLE: u8 = 2;
@@ -103,5 +103,35 @@ fn lengths_of_values(rt: HostRuntime) {
             assert!(rt; value.as_slice() == &bytes[..length]);
             assert!(rt; value.copied() == value);
         }
+    }
+}
+
+// Each limit, and the numbers of a header, spelled out.
+const LIMITS: [(u64, u64); 19] = [
+    (OID_LIMIT as u64, 16_384),
+    (TABLES as u64, 16),
+    (SESSIONS as u64, 48),
+    (READ_LIMIT as u64, 512),
+    (WRITE_LIMIT as u64, 128),
+    (TABLE_CELLS as u64, 65_536),
+    (MOST_CELLS as u64, 1 << 24),
+    (RING_WORDS, 32_768),
+    (SEGMENT_WORDS, 65_536),
+    (LEAST_BLOCK, 5),
+    (GREATEST_BLOCK, 2_181),
+    (STOP, 1 << 60),
+    (LOG_END, 1 << 61),
+    (LAST_RUN, (1 << 44) - 1),
+    (LAST_NUMBER as u64, (1 << 32) - 1),
+    (SIZE_UNIT, 1 << 4),
+    (RUN_UNIT, 1 << 20),
+    (COMMIT_KIND, 4),
+    (SKIP_KIND, 5),
+];
+
+#[test]
+fn limits(rt: HostRuntime) {
+    for (limit, number) in LIMITS {
+        assert!(rt; limit == number);
     }
 }

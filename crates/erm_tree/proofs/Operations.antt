@@ -1,17 +1,76 @@
 -- Operations of one transaction, one after another.
-use Rattle.std.proofs.Common.{◌≡◌, List, [], ◌∷◌, sym, ap, ◌∙◌, subst}
+use Rattle.std.proofs.Common.{◌≡◌, ℕ, List, [], ◌∷◌, ◌++◌, sym, ap, ◌∙◌, subst}
 use Rattle.erm_model.specs.declared.operation.Op.{Op}
 use Rattle.erm_model.specs.declared.operation.Op.TheVariants.{Get, Put, Del, Next}
 use Rattle.erm_model.specs.declared.operation.Reply.{Reply}
 use Rattle.erm_model.specs.declared.operation.Reply.TheVariants as reply
+use Rattle.erm_model.specs.declared.row_stop.RowStop.{RowStop}
 use Rattle.erm_model.specs.Database.{Database}
 use Rattle.erm_model.specs.Rows.{Rows}
-use Rattle.erm_model.specs.RowTransaction.{Face, IsLawful, SameLaw}
-use Rattle.erm_model.specs.Run.{Step, RunsOne, IsReply, after, after_all, ops_of}
-use Rattle.erm_model.proofs.RowCalls.{Runs-fitted, Saw-on, Saw-lawful, Did-on, Did-lawful}
+use Rattle.erm_model.specs.RowTransaction.{Event, Asked, Face, WritesNothing, IsLawful, SameLaw, GoesOn, Saw, Did}
+use Rattle.erm_model.specs.Run.{RunsOne, IsReply, after, after_all, ops_of}
+use Rattle.erm_model.proofs.RowCalls.{WritesNothing-append, WritesNothing-OnlyReads, after_all-WritesNothing, Runs-append, Runs-fitted, Runs-lawful, Runs-one, Runs-seen, Saw-on, Saw-lawful, Did-on, Did-lawful}
 use Rattle.erm_node.specs.Sound.{IsSound, sound_law}
 use Rattle.erm_node.specs.TreeMap.{map_of_rows}
-use Rattle.erm_tree.specs.Operations.{IsAnswered, AreAnswered, AreRunOne}
+use Rattle.erm_tree.specs.Calls.{IsReady, Reads}
+use Rattle.erm_tree.specs.Operations.{IsAnswered, Stutters, CutOffsStutter, AnswersStutter, Call, answered, stuttered, answered_steps, AreCalled, AreRunOne}
+
+module _ {S : Type 0} (face : Face S) where
+  -- where no row was set, the rows seen are the same
+  pub Stutters-seen : (s t : S) → Stutters face s t → (begun : Rows) → face.fits t begun → face.rows t begun ≡ face.rows s begun
+  Stutters-seen s t same begun fits = Runs-seen face same.events s t same.goes_on.runs begun fits ∙ after_all-WritesNothing same.events same.none (face.rows s begun)
+
+  -- and the transaction is lawful still
+  pub Stutters-lawful : (s t : S) → IsLawful face s → Stutters face s t → IsLawful face t
+  Stutters-lawful s t lawful same = Runs-lawful face same.events s t lawful same.goes_on.runs same.none
+
+  -- after which it may be called on
+  pub Stutters-ready : (s t : S) → IsReady face s → Stutters face s t → IsReady face t
+  Stutters-ready s t ready same = record { active = same.goes_on.active; possible = same.goes_on.possible; lawful = Stutters-lawful s t ready.lawful same }
+
+  Did-ready : (s t : S) (change : Rows → Rows → Type 0) → IsReady face s → Did face s t change → IsReady face t
+  Did-ready s t change ready did = record { active = did.goes_on.active; possible = did.goes_on.possible; lawful = Did-lawful face s t change ready.lawful did }
+
+  -- events that set no row, and then a call that left all as it was
+  pub Stutters-cut_off : (s at t : S) (events : List Event) → WritesNothing events → GoesOn face s events at → GoesOn face at [] t → Stutters face s t
+  Stutters-cut_off s at t events none before refused = record {
+    events = events ++ [];
+    none = WritesNothing-append events [] none tt;
+    goes_on = record { runs = Runs-append face events [] s at t before.runs refused.runs; active = refused.active; possible = refused.possible };
+  }
+
+  -- calls that were cut off after events of a kind that sets no row
+  pub Stutters-stopped : (may : RowStop → Type 0) (kind : List Event → Type 0) (asks : List Event → Rows → Asked → Type 0) → ((events : List Event) → kind events → WritesNothing events) → CutOffsStutter face may kind asks
+  Stutters-stopped may kind asks none s t stop stopped goes =
+      Stutters-cut_off s stopped.at t stopped.events (none stopped.events stopped.of_kind) stopped.goes_on (stopped.refused.stays goes)
+
+  -- looks that were cut off
+  pub Stutters-look : (may : RowStop → Type 0) (objects : Rows → ℕ → Type 0) (asks : List Event → Rows → Asked → Type 0) → CutOffsStutter face may (Reads face.law objects) asks
+  Stutters-look may objects asks = Stutters-stopped may (Reads face.law objects) asks (λ events reads. WritesNothing-OnlyReads events reads.only)
+
+  -- one call that was answered
+  pub Stutters-does : (event : Event) → WritesNothing (event ∷ []) → AnswersStutter face event
+  Stutters-does event none s t does = record {
+    events = event ∷ [];
+    none = none;
+    goes_on = record { runs = Runs-one face s t event does.step; active = does.active; possible = does.possible };
+  }
+
+  -- calls that saw a fact
+  pub Stutters-saw : (s t : S) (fact : Rows → Type 0) → Saw face s t fact → Stutters face s t
+  Stutters-saw s t fact saw = record { events = saw.events; none = WritesNothing-OnlyReads saw.events saw.reads; goes_on = saw.goes_on }
+
+  Answered-ready : (s t : S) (op : Op) (r : Reply) → IsReady face s → IsAnswered face s op r t → IsReady face t
+  Answered-ready s t (Get table key) r ready (value, is, saw) = Stutters-ready s t ready (Stutters-saw s t _ saw)
+  Answered-ready s t (Put table key value) r ready (is, did) = Did-ready s t _ ready did
+  Answered-ready s t (Del table key) r ready (is, did) = Did-ready s t _ ready did
+  Answered-ready s t (Next table from) r ready (found, is, saw) = Stutters-ready s t ready (Stutters-saw s t _ saw)
+
+  -- after calls in turn the transaction may be called on
+  pub Called-ready : (calls : List Call) (s t : S) → IsReady face s → AreCalled face s calls t → IsReady face t
+  Called-ready [] s t ready same = subst (λ (u : S). IsReady face u) (sym same) ready
+  Called-ready (answered step ∷ calls) s t ready (u, did, rest) = Called-ready calls u t (Answered-ready s u step.op step.reply ready did) rest
+  Called-ready (stuttered ∷ calls) s t ready (u, same, rest) = Called-ready calls u t (Stutters-ready s u ready same) rest
 
 module _ {S : Type 0} (face : Face S) (law : SameLaw face.law sound_law) where
   -- one operation
@@ -47,11 +106,11 @@ module _ {S : Type 0} (face : Face S) (law : SameLaw face.law sound_law) where
     lawful = Saw-lawful face s t _ lawful saw;
   }
 
-  record IsAll (s : S) (steps : List Step) (t : S) : Type 0 where
+  record IsAll (s : S) (calls : List Call) (t : S) : Type 0 where
     fitted : (begun : Rows) → face.fits t begun → face.fits s begun
-    all : AreRunOne face s steps t
+    all : AreRunOne face s (answered_steps calls) t
 
-  all_of : (steps : List Step) (s t : S) → IsLawful face s → AreAnswered face s steps t → IsAll s steps t
+  all_of : (calls : List Call) (s t : S) → IsLawful face s → AreCalled face s calls t → IsAll s calls t
   all_of [] s t lawful same = record {
     fitted = λ begun fits. subst (λ (u : S). face.fits u begun) same fits;
     all = record {
@@ -60,9 +119,10 @@ module _ {S : Type 0} (face : Face S) (law : SameLaw face.law sound_law) where
       lawful = subst (λ (u : S). IsLawful face u) (sym same) lawful;
     };
   }
-  all_of (step ∷ steps) s t lawful (u, answered, rest) =
-      let one = step_of s step.op step.reply u lawful answered in
-      let more = all_of steps u t one.lawful rest in
+  all_of (answered step ∷ calls) s t lawful (u, did, rest) =
+      let one = step_of s step.op step.reply u lawful did in
+      let more = all_of calls u t one.lawful rest in
+      let steps = answered_steps calls in
       record {
         fitted = λ begun fits. one.fitted begun (more.fitted begun fits);
         all = record {
@@ -73,7 +133,19 @@ module _ {S : Type 0} (face : Face S) (law : SameLaw face.law sound_law) where
           lawful = more.all.lawful;
         };
       }
+  all_of (stuttered ∷ calls) s t lawful (u, same, rest) =
+      let steps = answered_steps calls in
+      let more = all_of calls u t (Stutters-lawful face s u lawful same) rest in
+      let now = λ (begun : Rows) (fits : face.fits t begun). ap map_of_rows (Stutters-seen face s u same begun (more.fitted begun fits)) in
+      record {
+        fitted = λ begun fits. Runs-fitted face same.events s u same.goes_on.runs begun (more.fitted begun fits);
+        all = record {
+          run = λ begun sound fits. subst (λ (m : Database). RunsOne m steps) (now begun fits) (more.all.run begun sound fits);
+          after = λ begun sound fits. more.all.after begun sound fits ∙ ap (after_all (ops_of steps)) (now begun fits);
+          lawful = more.all.lawful;
+        };
+      }
 
   -- they are one transaction's
-  pub AreRunOne-answered : (s t : S) (steps : List Step) → IsLawful face s → AreAnswered face s steps t → AreRunOne face s steps t
-  AreRunOne-answered s t steps lawful answered = (all_of steps s t lawful answered).all
+  pub AreRunOne-called : (s t : S) (calls : List Call) → IsLawful face s → AreCalled face s calls t → AreRunOne face s (answered_steps calls) t
+  AreRunOne-called s t calls lawful called = (all_of calls s t lawful called).all

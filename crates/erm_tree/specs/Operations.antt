@@ -1,16 +1,18 @@
--- Operations of one transaction, answered by calls of the tree one after another.
-use Rattle.std.specs.Prelude.{◌≡◌, ℕ, List, [], ◌∷◌, Option}
+-- Operations of one transaction, answered by calls of the tree one after another, with calls between that set no row.
+use Rattle.std.specs.Prelude.{◌≡◌, false, ℕ, List, [], ◌∷◌, Option}
 use Rattle.std.specs.FinMap.{insert, remove}
 use Rattle.erm_model.specs.declared.operation.Op.{Op}
 use Rattle.erm_model.specs.declared.operation.Op.TheVariants.{Get, Put, Del, Next}
 use Rattle.erm_model.specs.declared.operation.Reply.{Reply}
 use Rattle.erm_model.specs.declared.operation.Reply.TheVariants as reply
+use Rattle.erm_model.specs.declared.row_stop.RowStop.{RowStop}
 use Rattle.erm_model.specs.Database.{at, value_at, IsNextAt}
 use Rattle.erm_model.specs.Rows.{Rows}
-use Rattle.erm_model.specs.RowTransaction.{Face, IsLawful, SameLaw, Saw, Did}
+use Rattle.erm_model.specs.RowTransaction.{Event, Asked, Face, IsLawful, SameLaw, WritesNothing, GoesOn, Does, IsRefused, IsStopped, Saw, Did, ends}
 use Rattle.erm_model.specs.Run.{Step, RunsOne, after_all, ops_of}
 use Rattle.erm_node.specs.Sound.{IsSound, sound_law}
 use Rattle.erm_node.specs.TreeMap.{map_of_rows}
+use Rattle.erm_tree.specs.Calls.{IsReady, SawIn}
 
 -- a call answered an operation: the value by `get`, the pair by `next`, and `put` and `del` by what they changed
 abbrev pub IsAnswered : {S : Type 0} → Face S → S → Op → Reply → S → Type 0
@@ -19,10 +21,32 @@ IsAnswered {S} face s (Put table key value) r t = (r ≡ reply.Done) × Did face
 IsAnswered {S} face s (Del table key) r t = (r ≡ reply.Done) × Did face s t (λ old new. map_of_rows new ≡ remove (map_of_rows old) (at table key))
 IsAnswered {S} face s (Next table from) r t = (found : Option (ℕ × List ℕ)) × (r ≡ reply.Pair found) × Saw face s t (λ rows. IsNextAt (map_of_rows rows) table from found)
 
--- operations were answered in turn
-abbrev pub AreAnswered : {S : Type 0} → Face S → S → List Step → S → Type 0
-AreAnswered {S} face s [] t = t ≡ s
-AreAnswered {S} face s (step ∷ steps) t = (u : S) × IsAnswered face s step.op step.reply u × AreAnswered face u steps t
+-- The transaction goes on after events that set no row: for its map a stuttering step (Lamport).
+pub record Stutters {S : Type 0} (face : Face S) (s t : S) : Type 0 where
+  pub events : List Event
+  pub none : WritesNothing events
+  pub goes_on : GoesOn face s events t
+
+-- a call that answered an operation, or one that set no row
+pub data Call : Type 0 where
+  answered : Step → Call
+  stuttered : Call
+
+-- the operations that calls answered
+abbrev pub answered_steps : List Call → List Step
+answered_steps [] = []
+answered_steps (answered step ∷ calls) = step ∷ answered_steps calls
+answered_steps (stuttered ∷ calls) = answered_steps calls
+
+-- a call was made
+abbrev pub IsCalled : {S : Type 0} → Face S → S → Call → S → Type 0
+IsCalled {S} face s (answered step) t = IsAnswered face s step.op step.reply t
+IsCalled {S} face s stuttered t = Stutters face s t
+
+-- calls were made in turn
+abbrev pub AreCalled : {S : Type 0} → Face S → S → List Call → S → Type 0
+AreCalled {S} face s [] t = t ≡ s
+AreCalled {S} face s (call ∷ calls) t = (u : S) × IsCalled face s call u × AreCalled face u calls t
 
 -- Steps are one transaction's on the map of what it saw at first, and leave the map of what it sees now, wherever it began on rows
 -- that are sound.
@@ -31,6 +55,26 @@ pub record AreRunOne {S : Type 0} (face : Face S) (s : S) (steps : List Step) (t
   pub after : (begun : Rows) → IsSound begun → face.fits t begun → map_of_rows (face.rows t begun) ≡ after_all (ops_of steps) (map_of_rows (face.rows s begun))
   pub lawful : IsLawful face t
 
--- where a transaction over sound rows is lawful, operations that are answered in turn are one transaction's
+-- Where a transaction over sound rows is lawful, the operations that calls in turn answer are one transaction's.
 abbrev pub OperationsAreRunOne : {S : Type 0} → Face S → Type 0
-OperationsAreRunOne {S} face = SameLaw face.law sound_law → (s t : S) (steps : List Step) → IsLawful face s → AreAnswered face s steps t → AreRunOne face s steps t
+OperationsAreRunOne {S} face = SameLaw face.law sound_law → (s t : S) (calls : List Call) → IsLawful face s → AreCalled face s calls t → AreRunOne face s (answered_steps calls) t
+
+-- where a transaction may be called on, it may be after calls in turn
+abbrev pub StaysReady : {S : Type 0} → Face S → Type 0
+StaysReady {S} face = (s t : S) (calls : List Call) → IsReady face s → AreCalled face s calls t → IsReady face t
+
+-- calls that are cut off so are a stuttering step, where the refusal doesn't end the transaction
+abbrev pub CutOffsStutter : {S : Type 0} → Face S → (RowStop → Type 0) → (List Event → Type 0) → (List Event → Rows → Asked → Type 0) → Type 0
+CutOffsStutter {S} face may kind asks = (s t : S) (stop : RowStop) → IsStopped face may kind asks s stop t → ends stop ≡ false → Stutters face s t
+
+-- a call that asked for this is one, where it is refused so
+abbrev pub RefusalsStutter : {S : Type 0} → Face S → (RowStop → Type 0) → Asked → Type 0
+RefusalsStutter {S} face may asked = (s t : S) (stop : RowStop) → IsRefused face may s asked stop t → ends stop ≡ false → Stutters face s t
+
+-- a call that did this is one
+abbrev pub AnswersStutter : {S : Type 0} → Face S → Event → Type 0
+AnswersStutter {S} face event = (s t : S) → Does face s event t → Stutters face s t
+
+-- calls that saw this fact are one
+abbrev pub LooksStutter : {S : Type 0} → Face S → (Rows → ℕ → Type 0) → (Rows → Type 0) → Type 0
+LooksStutter {S} face objects fact = (s t : S) → SawIn face objects s t fact → Stutters face s t

@@ -12,7 +12,8 @@ mod walk;
 
 pub use change::{del, put};
 pub use laws::{
-    calls_change_one_table, operations_are_run_one, puts_are_bounded, tables_stand_apart,
+    calls_change_one_table, looks_and_claims_set_no_row, operations_are_run_one, puts_are_bounded,
+    refused_calls_set_no_row, tables_stand_apart,
 };
 pub use plan::{MOST_OBJECTS, MOST_ROWS};
 pub use read::{find, get, next};

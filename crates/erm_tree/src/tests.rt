@@ -5,8 +5,9 @@ ghost use Rattle.erm_tree.specs.Calls.{IsReady};
 mod memory;
 
 use crate::{
-    MOST_OBJECTS, MOST_ROWS, calls_change_one_table, del, find, get, next, operations_are_run_one,
-    put, puts_are_bounded, tables_stand_apart,
+    MOST_OBJECTS, MOST_ROWS, calls_change_one_table, del, find, get, looks_and_claims_set_no_row,
+    next, operations_are_run_one, put, puts_are_bounded, refused_calls_set_no_row,
+    tables_stand_apart,
 };
 use erm_model::{Map, OID_LIMIT, Oid, Op, Reply, Row, RowStop, RowTxn, TABLES, Value, run_one};
 use memory::MemoryTxn;
@@ -202,6 +203,8 @@ fn a_refusal_leaves_the_rows(rt: HostRuntime) -> Result<(), Fail> {
     // Two reads of the root, three objects made and four claims.
     assert!(rt; last_refused == 8);
     puts_are_bounded::<MemoryTxn>();
+    refused_calls_set_no_row::<MemoryTxn>();
+    looks_and_claims_set_no_row::<MemoryTxn>();
     assert!(rt; MOST_OBJECTS == 14);
     assert!(rt; MOST_ROWS == 26);
     Ok(())
