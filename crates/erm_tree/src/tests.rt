@@ -199,8 +199,8 @@ fn a_refusal_leaves_the_rows(rt: HostRuntime) -> Result<(), Fail> {
             assert!(rt; txn.rows == before);
         }
     }
-    // Two reads of the root, three objects made and four claims.
-    assert!(rt; last_refused == 8);
+    // One read of the root, three objects made and four claims.
+    assert!(rt; last_refused == 7);
     puts_are_bounded::<MemoryTxn>();
     assert!(rt; MOST_OBJECTS == 14);
     assert!(rt; MOST_ROWS == 26);
