@@ -30,15 +30,6 @@ Agrees-after_reads law es fs array only agrees =
     let parts = TellsAll-append law es fs array array agrees in
     (parts.0, subst (λ (seen : Rows). TellsAll law fs array seen) (after_all-OnlyReads es only array) parts.1)
 
--- reads and more reads
-pub Reads-append : (law : Law) (objects : Rows → ℕ → Type 0) (es fs : List Event) → Reads law objects es → Reads law objects fs → Reads law objects (es ++ fs)
-Reads-append law objects es fs a b = record {
-  only = OnlyReads-append es fs a.only b.only;
-  of = λ array meets agrees.
-      let parts = Agrees-after_reads law es fs array a.only agrees in
-      ReadsAre-append (objects array) es fs (a.of array meets parts.0) (b.of array meets parts.1);
-}
-
 -- reads of these objects are reads of others that they are among
 pub Reads-weaker : (law : Law) (P Q : Rows → ℕ → Type 0) (es : List Event) → ((array : Rows) → law.meets array → Agrees law es array → (x : ℕ) → P array x → Q array x) → Reads law P es → Reads law Q es
 Reads-weaker law P Q es among a = record {
@@ -78,28 +69,6 @@ module _ {S : Type 0} (face : Face S) (goes_on : (a b c : S) → face.follows a 
     possible = seen.saw.goes_on.possible;
     lawful = Saw-lawful face s t fact lawful seen.saw;
   }
-
-  -- a fact of two parts that were seen in turn
-  pub SawIn-then : (objects : Rows → ℕ → Type 0) (s t u : S) (fact next : Rows → Type 0) → SawIn face objects s t fact → SawIn face objects t u next → SawIn face objects s u (λ array. fact array × next array)
-  SawIn-then objects s t u fact next a b =
-      let es = a.saw.events in
-      let fs = b.saw.events in
-      record {
-        saw = record {
-          events = es ++ fs;
-          reads = OnlyReads-append es fs a.saw.reads b.saw.reads;
-          goes_on = record {
-            runs = Runs-append face es fs s t u a.saw.goes_on.runs b.saw.goes_on.runs;
-            active = b.saw.goes_on.active;
-            possible = b.saw.goes_on.possible;
-          };
-          follows = goes_on s t u a.saw.follows b.saw.follows;
-          saw = λ array meets agrees.
-              let parts = Agrees-after_reads face.law es fs array a.saw.reads agrees in
-              (a.saw.saw array meets parts.0, b.saw.saw array meets parts.1);
-        };
-        reads = Reads-append face.law objects es fs a.reads b.reads;
-      }
 
   -- a fact that follows from what was seen; and the objects read are among others
   pub SawIn-weaker : (P Q : Rows → ℕ → Type 0) (s t : S) (fact next : Rows → Type 0) → ((array : Rows) → face.law.meets array → fact array → next array) → ((array : Rows) → face.law.meets array → fact array → (x : ℕ) → P array x → Q array x) → SawIn face P s t fact → SawIn face Q s t next

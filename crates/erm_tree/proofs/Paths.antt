@@ -1,6 +1,7 @@
 -- A walk down a tree that keeps the nodes on its way.
-use Rattle.std.proofs.Common.{◌≡◌, ℕ, suc, ◌-◌, ◌^◌, ◌<◌, List, [], ◌∷◌, ◌++◌, get_or, drop, Bool, true, false, Some, refl, sym, ap, ◌∙◌, subst, inl, arith, append_assoc}
-use Rattle.std.specs.Prelude.{◌==◌}
+use Rattle.std.proofs.Common.{◌≡◌, ℕ, suc, ◌-◌, ◌^◌, ◌<◌, List, [], ◌∷◌, ◌++◌, get_or, drop, Bool, true, false, Option, Some, refl, sym, ap, ◌∙◌, subst, inl, arith, append_assoc}
+use Rattle.std.specs.Prelude.{◌==◌, nat_eq}
+use Rattle.std.specs.Map.{lookup}
 use Rattle.erm_model.specs.declared.limits.TheConstants.{OID_LIMIT}
 use Rattle.erm_model.specs.Rows.{Rows}
 use Rattle.erm_model.specs.RowTransaction.{did_read, Face, SameLaw, Does, IsLawful}
@@ -9,11 +10,11 @@ use Rattle.erm_node.specs.Sound.{IsSound, sound_law, levels_of}
 use Rattle.erm_node.specs.Tree.{first_key}
 use Rattle.erm_tree.specs.Calls.{IsReady, SawIn}
 use Rattle.erm_tree.specs.Reads.{IsOnWay}
-use Rattle.erm_tree.specs.Walk.{rank}
-use Rattle.erm_tree.specs.Insert.{Place, child_for, path_to}
+use Rattle.erm_tree.specs.Walk.{IsRecordFor, rank}
+use Rattle.erm_tree.specs.Insert.{IsPathFor, Place, child_for, path_to}
 use Rattle.erm_tree.proofs.Standing.{StandsAt, StandsAt-root, StandsAt-bounded, StandsAt-child, levels_of-bounds}
 use Rattle.erm_tree.proofs.Calls.{SawIn-start, SawIn-possible, SawIn-then_read, SawIn-weaker}
-use Rattle.erm_tree.proofs.Walking.{IsNodeAt, shape_at, child_at, levels_zero}
+use Rattle.erm_tree.proofs.Walking.{IsNodeAt, IsRecordFor-leaf, shape_at, child_at, leaf_at, levels_zero}
 
 -- a walk stands at an object, and these are the nodes behind it
 pub record IsOnPath (rows : Rows) (table key walked oid : ℕ) (places : List Place) : Type 0 where
@@ -102,12 +103,22 @@ module _ {S : Type 0} (face : Face S) (goes_on : (a b c : S) → face.follows a 
       let (array, meets, is) = SawIn-possible face goes_on (IsOnWay table key) s u (λ rows. IsNodeOnPath rows table key walked oid row places) lawful seen in
       (record { leaf = is.node.at.levels == 0; pairs = pairs_of (array oid) }, sym (ap node_of is.node.is) ∙ is.node.at.tree.node)
 
-  -- it ends at a leaf
+  -- it ends at a leaf, and finds the record there
   pub Path-leaf : (s u : S) (walked oid : ℕ) (row : List ℕ) (places : List Place) (shape : Shape) → SawIn face (IsOnWay table key) s u (λ rows. IsNodeOnPath rows table key walked oid row places) → node_of row ≡ Some shape → shape.leaf ≡ true
-      → SawIn face (IsOnWay table key) s u (λ rows. places ++ record { oid = oid; shape = shape } ∷ [] ≡ path_to rows (levels_of rows table) table key)
+      → SawIn face (IsOnWay table key) s u (λ rows. IsPathFor rows table key (places ++ record { oid = oid; shape = shape } ∷ []) (lookup (nat_eq key) shape.pairs))
   Path-leaf s u walked oid row places shape seen reads leaf =
-      SawIn-weaker face goes_on (IsOnWay table key) (IsOnWay table key) s u (λ rows. IsNodeOnPath rows table key walked oid row places) (λ rows. places ++ record { oid = oid; shape = shape } ∷ [] ≡ path_to rows (levels_of rows table) table key)
-      (λ array meets is. path_at_leaf array table key walked oid row places shape is reads leaf) (λ array meets is x on. on) seen
+      SawIn-weaker face goes_on (IsOnWay table key) (IsOnWay table key) s u (λ rows. IsNodeOnPath rows table key walked oid row places)
+      (λ rows. IsPathFor rows table key (places ++ record { oid = oid; shape = shape } ∷ []) (lookup (nat_eq key) shape.pairs))
+      (λ array meets is. record {
+        nodes = path_at_leaf array table key walked oid row places shape is reads leaf;
+        entry = IsRecordFor-leaf array table key shape.pairs is.to (leaf_at array table key walked oid is.to row shape ((law.meets array).0 meets) is.node reads leaf);
+      })
+      (λ array meets is x on. on) seen
+
+  -- what was found is the record
+  pub Path-record : (s u : S) (places : List Place) (found : Option ℕ) → SawIn face (IsOnWay table key) s u (λ rows. IsPathFor rows table key places found) → SawIn face (IsOnWay table key) s u (λ rows. IsRecordFor rows table key found)
+  Path-record s u places found seen =
+      SawIn-weaker face goes_on (IsOnWay table key) (IsOnWay table key) s u (λ rows. IsPathFor rows table key places found) (λ rows. IsRecordFor rows table key found) (λ array meets is. is.entry) (λ array meets is x on. on) seen
 
   -- it isn't behind the last level that there may be
   pub Path-end : (s t : S) (walked oid : ℕ) (places : List Place) → IsLawful face s → SawIn face (IsOnWay table key) s t (λ rows. IsOnPath rows table key walked oid places) → walked < 12

@@ -16,10 +16,9 @@ use Rattle.erm_node.specs.Tree.{total, same_oid, IsTree, times}
 use Rattle.erm_node.specs.TreeMap.{record_in}
 use Rattle.erm_tree.specs.Calls.{SawIn, DidBy, Ran}
 use Rattle.erm_tree.specs.Change.{AreReadsThen, makes_claims_writes, IsPutOfNew, IsPut}
-use Rattle.erm_tree.specs.Insert.{Place, path_to, new_rows, objects_for}
+use Rattle.erm_tree.specs.Insert.{IsPathFor, Place, path_to, new_rows, objects_for}
 use Rattle.erm_tree.specs.Reads.{IsOnWay}
-use Rattle.erm_tree.specs.Walk.{IsRecordFor}
-use Rattle.erm_tree.proofs.Calls.{SawIn-then, Ran-then, Runs-made_once}
+use Rattle.erm_tree.proofs.Calls.{Ran-then, Runs-made_once}
 use Rattle.erm_tree.proofs.Changing.{DidBy-after}
 use Rattle.erm_tree.proofs.Growth.{on_path, on_path-times}
 use Rattle.erm_tree.proofs.Insertion.{Each}
@@ -191,30 +190,28 @@ module _ {S : Type 0} (face : Face S) (goes_on : (a b c : S) → face.follows a 
     (found : (row : List ℕ) (shape : Shape) → node_of row ≡ Some shape → (is_node shape ≡ true) × (row ≡ node_row shape)) (given : (shape : Shape) → is_node shape ≡ true → node_of (node_row shape) ≡ Some shape)
     (table key : ℕ) (below : table < 16) (fits : key < 2 ^ 64) where
   -- a new key was put in
-  pub DidBy-put_new : (s t u v w z : S) (row : List ℕ) (places : List Place) (made : List ℕ) (ws : List (ℕ × List ℕ)) (change : Rows → Rows → Type 0) → IsRecord row
-      → SawIn face (IsOnWay table key) s t (λ rows. IsRecordFor rows table key None)
-      → SawIn face (IsOnWay table key) t u (λ rows. places ≡ path_to rows (levels_of rows table) table key)
+  pub DidBy-put_new : (s u v w z : S) (row : List ℕ) (places : List Place) (made : List ℕ) (ws : List (ℕ × List ℕ)) (change : Rows → Rows → Type 0) → IsRecord row
+      → SawIn face (IsOnWay table key) s u (λ rows. IsPathFor rows table key places None)
       → Ran face u (map did_make made) v → Ran face v (map (λ e. did_claim e.0) ws) w → Ran face w (map (λ e. did_write e.0 e.1) ws) z
       → length made ≡ objects_for places → ws ≡ new_rows made key row places → All (λ o. o < OID_LIMIT) made
       → ((rows new : Rows) → IsSound rows → IsSound new → IsSetAt rows new table key (record_value row) → change rows new)
       → DidBy face (λ rows events. IsPut rows table key row events) s z change
-  DidBy-put_new s t u v w z row places made ws change record_row absent path makes claims writes many planned small result =
+  DidBy-put_new s u v w z row places made ws change record_row seen makes claims writes many planned small result =
       let objects : Rows → ℕ → Type 0 = IsOnWay table key in
       let fs = makes_claims_writes made ws in
-      let seen = SawIn-then face goes_on objects s t u (λ rows. IsRecordFor rows table key None) (λ rows. places ≡ path_to rows (levels_of rows table) table key) absent path in
       let es = map did_make made in
       let ran = Ran-then face goes_on u v z es _ makes (Ran-then face goes_on v w z _ _ claims writes) in
       let once : (x : ℕ) → total (λ o. same_oid o x) made ≤ 1 = λ x. omega (arith, Runs-made_once face goes_on fs u z ran.goes_on.runs x, made_by_all-put made ws x) in
-      DidBy-after face goes_on objects (λ rows events. IsPut rows table key row events) s u z (λ rows. IsRecordFor rows table key None × (places ≡ path_to rows (levels_of rows table) table key)) change fs seen ran.goes_on ran.follows
+      DidBy-after face goes_on objects (λ rows events. IsPut rows table key row events) s u z (λ rows. IsPathFor rows table key places None) change fs seen ran.goes_on ran.follows
       (λ array meets is agrees.
       let sound = (law.meets array).0 meets in
       let fresh : (x : ℕ) → 0 < total (λ o. same_oid o x) made → reached array x ≡ 0 = λ x more.
       let none = told_makes face.law made _ array array agrees x more in omega (arith, none, law.reach array x) in
       let here = path_to array (levels_of array table) table key in
-      let count : length made ≡ objects_for here = many ∙ ap objects_for is.1 in
-      let all = put_rows-sound found given array made table key row sound below fits record_row count small once fresh (sym is.0.is) in
+      let count : length made ≡ objects_for here = many ∙ ap objects_for is.nodes in
+      let all = put_rows-sound found given array made table key row sound below fits record_row count small once fresh (sym is.entry.is) in
       let new = set_all (new_rows made key row here) array in
-      let rows_are : after_all fs array ≡ new = after_all-put made ws array ∙ ap (λ (us : List (ℕ × List ℕ)). set_all us array) (planned ∙ ap (new_rows made key row) is.1) in (
+      let rows_are : after_all fs array ≡ new = after_all-put made ws array ∙ ap (λ (us : List (ℕ × List ℕ)). set_all us array) (planned ∙ ap (new_rows made key row) is.nodes) in (
         record {
           meets = subst face.law.meets (sym rows_are) ((law.meets new).1 all.0);
           reach = λ x. omega (arith, ap (λ (rows : Rows). face.law.reach rows x) rows_are, law.reach new x, law.reach array x, all.1 x, made_by_all-put made ws x);
@@ -223,10 +220,10 @@ module _ {S : Type 0} (face : Face S) (goes_on : (a b c : S) → face.follows a 
       ))
       (λ array meets is agrees ds only of.
       let here = path_to array (levels_of array table) table key in
-      let same : ws ≡ new_rows made key row here = planned ∙ ap (new_rows made key row) is.1 in
-      subst (λ (r : Option ℕ). MatchOption r (IsPutOfNew array table key row (ds ++ fs)) (λ oid. AreReadsThen (IsOnWay table key array) (did_write oid row ∷ []) (ds ++ fs))) is.0.is
+      let same : ws ≡ new_rows made key row here = planned ∙ ap (new_rows made key row) is.nodes in
+      subst (λ (r : Option ℕ). MatchOption r (IsPutOfNew array table key row (ds ++ fs)) (λ oid. AreReadsThen (IsOnWay table key array) (did_write oid row ∷ []) (ds ++ fs))) is.entry.is
       (record {
         made = made;
-        many = many ∙ ap objects_for is.1;
+        many = many ∙ ap objects_for is.nodes;
         then_all = record { reads = ds; only = only; of = of; split = ap (λ (us : List (ℕ × List ℕ)). ds ++ makes_claims_writes made us) same };
       }))

@@ -12,7 +12,7 @@ use Rattle.erm_tree.specs.Calls.{AsksClaims, AsksMake, AsksReads, AreFirstMakes,
 use Rattle.erm_tree.specs.Change.{AreReadsThen, AsksDel, AsksPut, IsPrefix, IsPut, IsPutOfNew, makes_claims_writes}
 use Rattle.erm_tree.specs.Insert.{Place, path_to, new_rows, objects_for}
 use Rattle.erm_tree.specs.Reads.{IsOnWay}
-use Rattle.erm_tree.proofs.Calls.{ReadsAre-append, Agrees-after_reads, IsRefused-among, IsStopped-after, IsStopped-then, IsStopped-among, IsStopped-both}
+use Rattle.erm_tree.proofs.Calls.{ReadsAre-append, Agrees-after_reads, IsRefused-among, IsStopped-after, IsStopped-then, IsStopped-among}
 use Rattle.erm_tree.proofs.Phases.{AreQuiet, AreClaims-prefix, AreQuiet-append, AreQuiet-claims, AreQuiet-makes}
 
 WritesNothing-quiet : (es : List Event) → AreQuiet es → WritesNothing es
@@ -40,16 +40,11 @@ Prefix-reads law P whole begins es reads = record {
 
 module _ {S : Type 0} (face : Face S) (goes_on : (a b c : S) → face.follows a b → face.follows b c → face.follows a c) (P : Rows → ℕ → Type 0) (may then_may : RowStop → Type 0) (among : (x : RowStop) → may x → then_may x)
     (whole : Rows → List Event → Type 0) (begins : (array : Rows) (es : List Event) → OnlyReads es → ReadsAre (P array) es → (others : List Event) × whole array (es ++ others)) (asks : List Event → Rows → Asked → Type 0) where
-  module _ (reads_ask : (es : List Event) (array : Rows) (asked : Asked) → AsksReads P es array asked → asks es array asked) where
-    -- reads that were cut off
-    pub Refused-reads : (s t : S) (stop : RowStop) → IsStopped face may (Reads face.law P) (AsksReads P) s stop t → IsStopped face then_may (IsPrefix face.law P whole) asks s stop t
-    Refused-reads s t stop stopped =
-        IsStopped-among face goes_on may then_may (Reads face.law P) (IsPrefix face.law P whole) (AsksReads P) asks s t stop among (Prefix-reads face.law P whole begins) reads_ask stopped
-
-    -- reads after others
-    pub Refused-more_reads : (s t u : S) (stop : RowStop) (fact : Rows → Type 0) → SawIn face P s t fact → IsStopped face may (Reads face.law P) (AsksReads P) t stop u → IsStopped face then_may (IsPrefix face.law P whole) asks s stop u
-    Refused-more_reads s t u stop fact seen stopped =
-        Refused-reads s u stop (IsStopped-both face goes_on P P P may s t u stop fact seen stopped (λ array meets is x on. on) (λ array meets is x on. on))
+  -- reads that were cut off
+  pub Refused-reads : ((es : List Event) (array : Rows) (asked : Asked) → AsksReads P es array asked → asks es array asked) → (s t : S) (stop : RowStop) → IsStopped face may (Reads face.law P) (AsksReads P) s stop t
+      → IsStopped face then_may (IsPrefix face.law P whole) asks s stop t
+  Refused-reads reads_ask s t stop stopped =
+      IsStopped-among face goes_on may then_may (Reads face.law P) (IsPrefix face.law P whole) (AsksReads P) asks s t stop among (Prefix-reads face.law P whole begins) reads_ask stopped
 
   -- a write after reads
   pub Refused-write : (s t u : S) (oid : ℕ) (stop : RowStop) (fact : Rows → Type 0) → ((es : List Event) (array : Rows) → face.law.meets array → fact array → asks es array (asked_claim oid))

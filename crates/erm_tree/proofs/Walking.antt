@@ -10,7 +10,7 @@ use Rattle.erm_model.specs.declared.limits.TheConstants.{OID_LIMIT}
 use Rattle.erm_model.specs.Rows.{Rows}
 use Rattle.erm_model.specs.RowTransaction.{did_read, Face, SameLaw, Does, IsLawful}
 use Rattle.erm_node.specs.Node.{Shape, node_of, node_row, pairs_of, is_node, fewest_pairs, ascends}
-use Rattle.erm_node.specs.Sound.{sound_law}
+use Rattle.erm_node.specs.Sound.{IsSound, sound_law}
 use Rattle.erm_node.specs.Tree.{first_key, Starts, IsTree}
 use Rattle.erm_tree.specs.Calls.{IsReady, SawIn}
 use Rattle.erm_tree.specs.Reads.{IsMetIn, IsOnWay}
@@ -94,8 +94,15 @@ module _ (found : (row : List ℕ) (shape : Shape) → node_of row ≡ Some shap
         is_for = subst (λ (ps : List (ℕ × ℕ)). IsPairFor (pairs_of (rows oid)) to key (get_or ps before (0, 0)) (first_key (drop (suc before) ps) to)) (sym same.1) is_for;
       }
 
+-- a leaf that was read is the leaf for the key
+pub leaf_at : (rows : Rows) (table key walked oid to : ℕ) (row : List ℕ) (shape : Shape) → IsSound rows → (is : IsNodeAt rows table key walked oid to row) → node_of row ≡ Some shape → shape.leaf ≡ true → IsLeafFor rows table key shape.pairs to
+leaf_at rows table key walked oid to row shape sound is reads leaf =
+    let same = shape_at rows table key walked oid to row shape is reads in
+    let last : is.at.levels ≡ 0 = levels_zero is.at.levels (sym same.0 ∙ leaf) in
+    subst (λ (ps : List (ℕ × ℕ)). IsLeafFor rows table key ps to) (sym same.1) (StandsAt-leaf rows table key walked oid to sound is.at last)
+
 -- what a leaf's pairs have for the key is the record
-IsRecordFor-leaf : (rows : Rows) (table key : ℕ) (pairs : List (ℕ × ℕ)) (to : ℕ) → IsLeafFor rows table key pairs to → IsRecordFor rows table key (lookup (nat_eq key) pairs)
+pub IsRecordFor-leaf : (rows : Rows) (table key : ℕ) (pairs : List (ℕ × ℕ)) (to : ℕ) → IsLeafFor rows table key pairs to → IsRecordFor rows table key (lookup (nat_eq key) pairs)
 IsRecordFor-leaf rows table key pairs to leaf = record {
   is = sym (leaf.found key leaf.low leaf.high);
   there = there (lookup (nat_eq key) pairs) (Fan-lookup (λ oid from up. IsEntry rows table oid from up) pairs to key leaf.entries);
@@ -141,11 +148,7 @@ module _ {S : Type 0} (face : Face S) (goes_on : (a b c : S) → face.follows a 
       → SawIn face (IsOnWay table key) s u (λ rows. IsLeafFor rows table key shape.pairs to)
   Walking-leaf s u walked oid to row shape seen reads leaf =
       SawIn-weaker face goes_on (IsOnWay table key) (IsOnWay table key) s u (λ rows. IsNodeAt rows table key walked oid to row) (λ rows. IsLeafFor rows table key shape.pairs to)
-      (λ array meets is.
-      let same = shape_at array table key walked oid to row shape is reads in
-      let last : is.at.levels ≡ 0 = levels_zero is.at.levels (sym same.0 ∙ leaf) in
-      subst (λ (ps : List (ℕ × ℕ)). IsLeafFor array table key ps to) (sym same.1) (StandsAt-leaf array table key walked oid to ((law.meets array).0 meets) is.at last))
-      (λ array meets is x on. on) seen
+      (λ array meets is. leaf_at array table key walked oid to row shape ((law.meets array).0 meets) is reads leaf) (λ array meets is x on. on) seen
 
   -- it isn't behind the last level that there may be
   pub Walking-end : (s t : S) (walked oid to : ℕ) → IsLawful face s → SawIn face (IsOnWay table key) s t (λ rows. StandsAt rows table key walked oid to) → walked < 12

@@ -1,13 +1,14 @@
 -- A key put into the tree of a table: which objects are made, and which rows are set. Insertion into a B+-tree (Bayer and
 -- McCreight, 1972), with this project's choice of halves and of objects.
-use Rattle.std.specs.Prelude.{ℕ, zero, suc, ◌+◌, ◌-◌, ◌==◌, nat_eq, if◌then◌else◌, Bool, false, List, [], ◌∷◌, ◌++◌, length, take, drop, insert, slice_index, slice_index_or, Option, Some, None, option_and_then}
+use Rattle.std.specs.Prelude.{◌≡◌, ℕ, zero, suc, ◌+◌, ◌-◌, ◌==◌, nat_eq, if◌then◌else◌, Bool, false, List, [], ◌∷◌, ◌++◌, length, take, drop, insert, slice_index, slice_index_or, Option, Some, None, option_and_then}
 use Rattle.std.specs.List.{suffix_len}
 use Rattle.std.specs.Option.{option_map_or}
 use Rattle.erm_model.specs.Rows.{Rows}
 use Rattle.erm_node.specs.declared.node.TheConstants.{NODE_PAIRS, LEAST_PAIRS}
 use Rattle.erm_node.specs.Node.{Shape, node_row, pairs_of}
+use Rattle.erm_node.specs.Sound.{levels_of}
 use Rattle.erm_node.specs.Tree.{first_key}
-use Rattle.erm_tree.specs.Walk.{rank}
+use Rattle.erm_tree.specs.Walk.{IsRecordFor, rank}
 
 -- a node on the way to a key: its object, and what its row says
 pub record Place : Type 0 where
@@ -23,6 +24,11 @@ abbrev pub path_to : Rows → ℕ → ℕ → ℕ → List Place
 path_to rows zero oid key = []
 path_to rows (suc levels) oid key =
     record { oid = oid; shape = record { leaf = levels == 0; pairs = pairs_of (rows oid) } } ∷ path_to rows levels (child_for key (pairs_of (rows oid))) key
+
+-- these are the nodes on the way to a key of a table, and this is the key's record, or there is none
+pub record IsPathFor (rows : Rows) (table key : ℕ) (places : List Place) (found : Option ℕ) : Type 0 where
+  pub nodes : places ≡ path_to rows (levels_of rows table) table key
+  pub entry : IsRecordFor rows table key found
 
 -- pairs with one more in its place
 abbrev pub with_pair : ℕ × ℕ → List (ℕ × ℕ) → List (ℕ × ℕ)

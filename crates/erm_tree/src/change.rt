@@ -46,12 +46,12 @@ pub fn put<T: RowTxn>(txn: &mut T, table: u8, key: u64, value: &Value) -> Result
     nodes_are_read_back();
     record_values();
     let row = row_of(value);
-    if let Some(oid) = record_for(txn, table, key)? {
+    let path = path_for(txn, table, key)?;
+    if let Some(oid) = path.found {
         return txn.write(oid, &row);
     }
-    let path = path_for(txn, table, key)?;
-    let made = make_all(txn, objects_for(path.as_slice()))?;
-    let rows = plan(path.as_slice(), made.as_slice(), key, &row);
+    let made = make_all(txn, objects_for(path.steps.as_slice()))?;
+    let rows = plan(path.steps.as_slice(), made.as_slice(), key, &row);
     claim_all(txn, rows.as_slice())?;
     write_all(txn, rows.as_slice());
     Ok(())

@@ -1,35 +1,39 @@
 //! The steps of putting a new key into a tree: the nodes on the way are read, then all objects are made, then all rows are claimed, then they are set. So a refusal in the
 //! middle changes no row.
-ghost use Rattle.std.specs.Prelude.{◌≡◌, ◌<◌, ◌≤◌, ℕ, IfOk, OnOk, IfErr, map, length};
+ghost use Rattle.std.specs.Prelude.{◌≡◌, ◌<◌, ◌≤◌, ℕ, IfOk, OnOk, IfErr, IfSome, map, length};
 ghost use Rattle.std.specs.List.{All};
 ghost use Rattle.erm_model.specs.RowTransaction.{did_claim, did_make, did_write, IsPossible, SameLaw, StopsRead, StopsClaim, StopsMake, IsStopped};
-ghost use Rattle.erm_node.specs.Sound.{levels_of, sound_law};
+ghost use Rattle.erm_node.specs.Sound.{sound_law};
 ghost use Rattle.erm_tree.specs.Calls.{AreFirstMakes, AsksClaims, AsksMake, AsksReads, IsPrefixOf, IsReady, Ran, Reads, SawIn};
-ghost use Rattle.erm_tree.specs.Insert.{path_to};
+ghost use Rattle.erm_tree.specs.Insert.{IsPathFor};
 ghost use Rattle.erm_tree.specs.Reads.{IsOnWay};
 ghost use Rattle.erm_tree.specs.Step.{places_of};
 
 use crate::plan::{MOST_OBJECTS, Step};
-use crate::walk::child_for;
+use crate::walk::{child_for, record_in};
 use arrayvec::ArrayVec;
 use erm_model::{OID_LIMIT, Oid, Row, RowStop, RowTxn, TABLES};
 use erm_node::{LEVELS, nodes_are_read_back, read_node};
 
-/// Reads the nodes on the way to a key, the root first.
-pub(crate) fn path_for<T: RowTxn>(
-    txn: &mut T,
-    table: u8,
-    key: u64,
-) -> Result<ArrayVec<Step, LEVELS>, RowStop>
+/// The nodes on the way to a key, the root first, and the key's record, or none where the key has no entry.
+#[derive(Drop)]
+pub(crate) struct Path {
+    pub steps: ArrayVec<Step, LEVELS>,
+    pub found: Option<Oid>,
+}
+
+/// Reads down from a table's root to the leaf for a key, keeps the nodes on the way, and finds the record.
+pub(crate) fn path_for<T: RowTxn>(txn: &mut T, table: u8, key: u64) -> Result<Path, RowStop>
     requires ready { IsReady T.face txn.old }
     requires law { SameLaw T.face.law sound_law }
     requires table { table < TABLES }
-    ensures ok { IfOk result (λ path. SawIn T.face (IsOnWay table key) txn.old txn.new (λ rows. places_of path.items ≡ path_to rows (levels_of rows table) table key)) }
-    ensures nodes { IfOk result (λ path. 0 < length path.items) }
+    ensures ok { IfOk result (λ path. SawIn T.face (IsOnWay table key) txn.old txn.new (λ rows. IsPathFor rows table key (places_of path.steps.items) path.found)) }
+    ensures object { IfOk result (λ path. IfSome path.found (λ oid. oid < OID_LIMIT)) }
+    ensures nodes { IfOk result (λ path. 0 < length path.steps.items) }
     ensures err { IfErr result (λ stop. IsStopped T.face StopsRead (Reads T.face.law (IsOnWay table key)) (AsksReads (IsOnWay table key)) txn.old stop txn.new) }
 {
     nodes_are_read_back();
-    let mut path = ArrayVec::new();
+    let mut steps = ArrayVec::new();
     let mut oid = Oid::from(table);
     for _level in 0..LEVELS {
         let row = txn.read(oid)?;
@@ -37,15 +41,16 @@ pub(crate) fn path_for<T: RowTxn>(
             unreachable!()
         };
         if node.leaf {
-            path.push(Step {
+            let found = record_in(node.pairs.as_slice(), key);
+            steps.push(Step {
                 oid,
                 leaf: true,
                 pairs: node.pairs,
             });
-            return Ok(path);
+            return Ok(Path { steps, found });
         }
         let child = child_for(node.pairs.as_slice(), key, None);
-        path.push(Step {
+        steps.push(Step {
             oid,
             leaf: false,
             pairs: node.pairs,

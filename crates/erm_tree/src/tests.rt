@@ -200,8 +200,8 @@ fn a_refusal_leaves_the_rows(rt: HostRuntime) -> Result<(), Fail> {
             assert!(rt; txn.rows == before);
         }
     }
-    // Two reads of the root, three objects made and four claims.
-    assert!(rt; last_refused == 8);
+    // One read of the root, three objects made and four claims.
+    assert!(rt; last_refused == 7);
     puts_are_bounded::<MemoryTxn>();
     refused_calls_set_no_row::<MemoryTxn>();
     looks_and_claims_set_no_row::<MemoryTxn>();

@@ -98,8 +98,8 @@ pub(crate) fn record_for<T: RowTxn>(
     Ok(record_in(leaf.pairs.as_slice(), key))
 }
 
-// The record of a key among the pairs of a leaf.
-fn record_in(pairs: &[(u64, Oid)], key: u64) -> Option<Oid>
+/// The record of a key among the pairs of a leaf.
+pub(crate) fn record_in(pairs: &[(u64, Oid)], key: u64) -> Option<Oid>
     ensures { result ≡ lookup (nat_eq key) pairs.now }
 {
     for pair in pairs {
