@@ -1,7 +1,7 @@
 use Rattle.std.proofs.Common.{List, Bool, true, set, refl, ap, arith}
 use Rattle.erm_model.specs.RowTransaction.{asked_claim, StopsClaim}
 use Rattle.erm_tree.specs.declared.tests.memory.MemoryTxn.{MemoryTxn}
-use Rattle.erm_tree.proofs.Memory.{Memory-refused, Memory-claim}
+use Rattle.erm_tree.proofs.Memory.{Memory-refused, Memory-claim, set_again}
 use Rattle.erm_tree.proofs.tests.memory.MemoryTxnRowTxn.claim.Goals as goal
 
 pub returns-then-not-answers-clause-err : goal.returns-then-not-answers-clause-err
@@ -12,3 +12,6 @@ returns-then-is_err-clause-err c = Memory-refused (λ (s : MemoryTxn). s.rows.it
 
 pub returns-clause-ok : goal.returns-clause-ok
 returns-clause-ok c = Memory-claim (λ (s : MemoryTxn). s.rows.items) (λ (s : MemoryTxn). s.claimed.items) (λ (s : MemoryTxn). s.seen.items) (λ (s : MemoryTxn). s.next) c.nodes_are_read_back.ensures.found c.nodes_are_read_back.ensures.given c.args.self.now _ c.args.oid (omega (arith, c.requires.object, c.args.self.now.claimed_there)) c.answers.ensures.rows (ap (λ (bs : List Bool). set bs c.args.oid true) c.answers.ensures.claimed) c.answers.ensures.seen c.answers.ensures.next
+
+pub returns-then-index-clause-ok : goal.returns-then-index-clause-ok
+returns-then-index-clause-ok c = Memory-claim (λ (s : MemoryTxn). s.rows.items) (λ (s : MemoryTxn). s.claimed.items) (λ (s : MemoryTxn). s.seen.items) (λ (s : MemoryTxn). s.next) c.nodes_are_read_back.ensures.found c.nodes_are_read_back.ensures.given c.args.self.now _ c.args.oid (omega (arith, c.requires.object, c.args.self.now.claimed_there)) refl (set_again c.args.self.now.claimed.items c.args.oid c.index.result.now c.index.ensures c.if-index.true) refl refl

@@ -10,14 +10,13 @@ returns-then-not-answers-clause-err c = Memory-refused (λ (s : MemoryTxn). s.ro
 pub returns-then-index-clause-ok : goal.returns-then-index-clause-ok
 returns-then-index-clause-ok c =
     let inside : c.args.oid < length c.args.self.now.claimed.items = omega (arith, c.requires.object, c.args.self.now.claimed_there) in
-    let is : c.index.result.now ≡ get_or c.args.self.now.claimed.items c.args.oid c.index.result.now = c.index.ensures ∙ ap (λ (bs : List Bool). get_or bs c.args.oid c.index.result.now) c.answers.ensures.claimed in
-    let marks = marks_claimed c.args.self.now.claimed.items c.args.self.now.seen.items c.answers.new.self.seen.items c.args.oid c.index.result.now is c.if-index.true inside c.answers.ensures.seen in
-    Memory-read (λ (s : MemoryTxn). s.rows.items) (λ (s : MemoryTxn). s.claimed.items) (λ (s : MemoryTxn). s.seen.items) (λ (s : MemoryTxn). s.next) c.nodes_are_read_back.ensures.found c.nodes_are_read_back.ensures.given c.args.self.now c.answers.new.self c.args.oid c.index-then-index.result.now _ (omega (arith, c.requires.object, c.args.self.now.rows_there)) (c.index-then-index.ensures ∙ ap (λ (xs : List (List ℕ)). get_or xs c.args.oid c.index-then-index.result.now) c.answers.ensures.rows) c.answers.ensures.rows c.answers.ensures.claimed marks c.answers.ensures.next
+    let marks = marks_claimed c.args.self.now.claimed.items c.args.self.now.seen.items c.args.self.now.seen.items c.args.oid c.index.result.now c.index.ensures c.if-index.true inside refl in
+    Memory-read (λ (s : MemoryTxn). s.rows.items) (λ (s : MemoryTxn). s.claimed.items) (λ (s : MemoryTxn). s.seen.items) (λ (s : MemoryTxn). s.next) c.nodes_are_read_back.ensures.found c.nodes_are_read_back.ensures.given c.args.self.now c.args.self.now c.args.oid c.index-then-index.result.now _ (omega (arith, c.requires.object, c.args.self.now.rows_there)) c.index-then-index.ensures refl refl marks refl
 
 pub returns-clause-ok : goal.returns-clause-ok
 returns-clause-ok c =
     let inside : c.args.oid < length c.args.self.now.claimed.items = omega (arith, c.requires.object, c.args.self.now.claimed_there) in
     let inside_too : c.args.oid < length c.args.self.now.seen.items = omega (arith, c.requires.object, c.args.self.now.seen_there) in
-    let is : c.index.result.now ≡ get_or c.args.self.now.claimed.items c.args.oid c.index.result.now = c.index.ensures ∙ ap (λ (bs : List Bool). get_or bs c.args.oid c.index.result.now) c.answers.ensures.claimed in
+    let is : c.index.result.now ≡ get_or c.args.self.now.claimed.items c.args.oid c.index.result.now = c.index.ensures in
     let marks = marks_read c.args.self.now.claimed.items c.args.self.now.seen.items (set c.answers.new.self.seen.items c.args.oid true) c.args.oid c.index.result.now is c.if-index.false inside inside_too (ap (λ (bs : List Bool). set bs c.args.oid true) c.answers.ensures.seen) in
     Memory-read (λ (s : MemoryTxn). s.rows.items) (λ (s : MemoryTxn). s.claimed.items) (λ (s : MemoryTxn). s.seen.items) (λ (s : MemoryTxn). s.next) c.nodes_are_read_back.ensures.found c.nodes_are_read_back.ensures.given c.args.self.now _ c.args.oid c.index-2.result.now _ (omega (arith, c.requires.object, c.args.self.now.rows_there)) (c.index-2.ensures ∙ ap (λ (xs : List (List ℕ)). get_or xs c.args.oid c.index-2.result.now) c.answers.ensures.rows) c.answers.ensures.rows c.answers.ensures.claimed marks c.answers.ensures.next
