@@ -153,7 +153,278 @@ const EMPTY: Spelling = Spelling {
     ],
 };
 
-const SPELLINGS: [Spelling; 7] = [OPEN, OLD_COMMIT, OLD_SKIP, COMMIT, SKIP, ZEROS, EMPTY];
+// A commit of whole rows, those of two records and a leaf.
+const OLD_RECORDS: Spelling = Spelling {
+    size: 56,
+    kind: Kind::OldCommit,
+    run_before: 1,
+    places: &[
+        (0, 1049473),
+        (1, 13),
+        (2, 13),
+        (3, 16777985),
+        (4, 16),
+        (5, 2),
+        (6, 1),
+        (7, 170),
+        (22, 3),
+        (23, 2),
+        (24, 10),
+        (25, 20),
+        (31, 16),
+        (32, 17),
+        (38, 17),
+        (39, 2),
+        (40, 1),
+        (41, 187),
+        (55, 0x344205ad131087be),
+    ],
+};
+
+// A second run that opens, behind the first one.
+const OPEN_AGAIN: Spelling = Spelling {
+    size: 5,
+    kind: Kind::Open,
+    run_before: 1,
+    places: &[(0, 2097235), (1, 69), (4, 0xa40278c1d03627f0)],
+};
+
+// A commit of one record in the second run.
+const NEXT_RUN: Spelling = Spelling {
+    size: 9,
+    kind: Kind::Commit,
+    run_before: 2,
+    places: &[
+        (0, 2097300),
+        (1, 74),
+        (2, 74),
+        (3, 16777473),
+        (4, 0x300000010),
+        (5, 2),
+        (6, 1),
+        (7, 204),
+        (8, 0x1dd2ac7a115fda72),
+    ],
+};
+
+// A commit of one record.
+const RECORD: Spelling = Spelling {
+    size: 9,
+    kind: Kind::Commit,
+    run_before: 1,
+    places: &[
+        (0, 1048724),
+        (1, 38),
+        (2, 38),
+        (3, 33554689),
+        (4, 0x300000010),
+        (5, 2),
+        (6, 1),
+        (7, 161),
+        (8, 0xcfe64f0d07fc40f9),
+    ],
+};
+
+// A commit whose successor stamp is below its own.
+const BEFORE: Spelling = Spelling {
+    size: 9,
+    kind: Kind::Commit,
+    run_before: 1,
+    places: &[
+        (0, 1048724),
+        (1, 47),
+        (2, 38),
+        (3, 16777474),
+        (4, 0x300000010),
+        (5, 2),
+        (6, 1),
+        (7, 178),
+        (8, 0xc5da91e9a5c84126),
+    ],
+};
+
+// A skip of as many words as a record of a short value takes.
+const SHORT_SKIP: Spelling = Spelling {
+    size: 9,
+    kind: Kind::Skip,
+    run_before: 1,
+    places: &[
+        (0, 1048725),
+        (1, 47),
+        (2, 38),
+        (3, 16777474),
+        (8, 0x19122d4f3a432d12),
+    ],
+};
+
+// A commit of seven records and a full leaf.
+const FULL_LEAF: Spelling = Spelling {
+    size: 50,
+    kind: Kind::Commit,
+    run_before: 1,
+    places: &[
+        (0, 1049380),
+        (1, 13),
+        (2, 13),
+        (3, 16779265),
+        (4, 0x300000010),
+        (5, 2),
+        (6, 1),
+        (7, 1),
+        (8, 0x1000000000),
+        (9, 3),
+        (10, 7),
+        (11, 1),
+        (12, 2),
+        (13, 3),
+        (14, 4),
+        (15, 5),
+        (16, 6),
+        (17, 7),
+        (18, 16),
+        (19, 17),
+        (20, 18),
+        (21, 19),
+        (22, 20),
+        (23, 21),
+        (24, 22),
+        (25, 0x300000011),
+        (26, 2),
+        (27, 1),
+        (28, 2),
+        (29, 0x300000012),
+        (30, 2),
+        (31, 1),
+        (32, 3),
+        (33, 0x300000013),
+        (34, 2),
+        (35, 1),
+        (36, 4),
+        (37, 0x300000014),
+        (38, 2),
+        (39, 1),
+        (40, 5),
+        (41, 0x300000015),
+        (42, 2),
+        (43, 1),
+        (44, 6),
+        (45, 0x300000016),
+        (46, 2),
+        (47, 1),
+        (48, 7),
+        (49, 0xb15becf263e9c11a),
+    ],
+};
+
+// A commit of a record, an inner root and its two leaves.
+const CUT_ROOT: Spelling = Spelling {
+    size: 49,
+    kind: Kind::Commit,
+    run_before: 1,
+    places: &[
+        (0, 1049364),
+        (1, 63),
+        (2, 63),
+        (3, 33555457),
+        (4, 0x300000017),
+        (5, 2),
+        (6, 1),
+        (7, 8),
+        (8, 0xb00000000),
+        (9, 4),
+        (10, 2),
+        (12, 5),
+        (18, 24),
+        (19, 25),
+        (20, 0xd00000018),
+        (21, 3),
+        (22, 4),
+        (23, 1),
+        (24, 2),
+        (25, 3),
+        (26, 4),
+        (30, 16),
+        (31, 17),
+        (32, 18),
+        (33, 19),
+        (34, 0xd00000019),
+        (35, 3),
+        (36, 4),
+        (37, 5),
+        (38, 6),
+        (39, 7),
+        (40, 8),
+        (44, 20),
+        (45, 21),
+        (46, 22),
+        (47, 23),
+        (48, 0x63befe2b4a930aa8),
+    ],
+};
+
+// A commit of a removed record, which has one word, and a leaf with the last key.
+const REMOVED: Spelling = Spelling {
+    size: 18,
+    kind: Kind::Commit,
+    run_before: 1,
+    places: &[
+        (0, 1048868),
+        (1, 13),
+        (2, 13),
+        (3, 16777729),
+        (4, 0x100000010),
+        (5, 1),
+        (6, 0xa00000000),
+        (7, 3),
+        (8, 1),
+        (9, 0xffffffffffffffff),
+        (16, 16),
+        (17, 0x142330c487e45e70),
+    ],
+};
+
+// A commit of a record and a leaf of one pair.
+const FIRST_PAIR: Spelling = Spelling {
+    size: 20,
+    kind: Kind::Commit,
+    run_before: 1,
+    places: &[
+        (0, 1048900),
+        (1, 18),
+        (2, 18),
+        (3, 33554945),
+        (4, 0x300000010),
+        (5, 2),
+        (6, 1),
+        (7, 1),
+        (8, 0xa00000000),
+        (9, 3),
+        (10, 1),
+        (11, 1),
+        (18, 16),
+        (19, 0x80f0bfbe2dc947c4),
+    ],
+};
+
+const SPELLINGS: [Spelling; 17] = [
+    OPEN,
+    OLD_COMMIT,
+    OLD_SKIP,
+    COMMIT,
+    SKIP,
+    ZEROS,
+    EMPTY,
+    OLD_RECORDS,
+    OPEN_AGAIN,
+    NEXT_RUN,
+    RECORD,
+    BEFORE,
+    SHORT_SKIP,
+    FULL_LEAF,
+    CUT_ROOT,
+    REMOVED,
+    FIRST_PAIR,
+];
 
 // The header, the name and the digest of the greatest commit: the words of row i are all i + 1.
 const GREATEST: [(usize, u64); 5] = [
@@ -165,7 +436,7 @@ const GREATEST: [(usize, u64); 5] = [
 ];
 
 // One word of a spelling is another: which spelling and word, what it says, and whether this is a block once the digest is right.
-const CHANGES: [(usize, usize, u64, bool); 50] = [
+const CHANGES: [(usize, usize, u64, bool); 119] = [
     // OPEN: another size, another run, the last run; the last place, one behind it; a successor stamp, a name
     (0, 0, 0xffff_ffff_fff0_0053, true),
     (0, 0, 1048675, false),
@@ -223,6 +494,84 @@ const CHANGES: [(usize, usize, u64, bool); 50] = [
     (6, 0, 1048657, true),
     (6, 0, 1048658, true),
     (6, 0, 1048661, true),
+    // COMMIT: the run below, later ones, one word less; places, successor stamps, names
+    (3, 0, 404, false),
+    (3, 0, 2097556, false),
+    (3, 0, 3146132, false),
+    (3, 0, 1048964, false),
+    (3, 1, 0x1fffffffffffffe7, true),
+    (3, 1, 0x1fffffffffffffe8, false),
+    (3, 1, 12, false),
+    (3, 2, 0, false),
+    (3, 2, 1, true),
+    (3, 2, 12, true),
+    (3, 2, 14, false),
+    (3, 3, 16777984, false),
+    (3, 3, 16778032, true),
+    (3, 3, 16778033, false),
+    (3, 3, 769, false),
+    (3, 3, 0xffffffff000301, true),
+    (3, 3, 16777217, false),
+    (3, 3, 16777729, false),
+    (3, 3, 16778241, false),
+    (3, 3, 16810241, false),
+    (3, 3, 0x100000001000301, false),
+    // SKIP: runs, places, successor stamps and names again; a word inside
+    (4, 0, 357, false),
+    (4, 0, 2097509, false),
+    (4, 0, 3146085, false),
+    (4, 1, 0x1fffffffffffffea, true),
+    (4, 1, 0x1fffffffffffffeb, false),
+    (4, 1, 37, false),
+    (4, 2, 0, false),
+    (4, 2, 1, true),
+    (4, 2, 47, true),
+    (4, 2, 48, false),
+    (4, 3, 16777728, false),
+    (4, 3, 16777776, true),
+    (4, 3, 16777777, false),
+    (4, 3, 514, false),
+    (4, 3, 0xffffffff000202, true),
+    (4, 3, 16810242, false),
+    (4, 3, 0x100000001000202, false),
+    (4, 4, 16, false),
+    // OPEN_AGAIN: no later run, a run in between left out, the last run; a successor stamp, names
+    (8, 0, 83, false),
+    (8, 0, 1048659, false),
+    (8, 0, 4194387, true),
+    (8, 0, 0xfffffffffff00053, true),
+    (8, 2, 69, false),
+    (8, 3, 1, false),
+    (8, 3, 256, false),
+    (8, 3, 16777216, false),
+    // NEXT_RUN: the run below, later ones; successor stamps, counts of rows
+    (9, 0, 1048724, false),
+    (9, 0, 3145876, false),
+    (9, 0, 4194452, false),
+    (9, 2, 1, true),
+    (9, 2, 75, false),
+    (9, 3, 16777729, false),
+    (9, 3, 16777217, false),
+    // BEFORE: its own stamp as successor stamp, one above
+    (11, 2, 47, true),
+    (11, 2, 48, false),
+    // SHORT_SKIP: other kinds; no rows, as many as there may be, one more
+    (12, 0, 1048722, false),
+    (12, 0, 1048724, false),
+    (12, 3, 16777218, false),
+    (12, 3, 16778242, true),
+    (12, 3, 16778498, false),
+    // FULL_LEAF: one row less, one more
+    (13, 3, 16779009, false),
+    (13, 3, 16779521, false),
+    // CUT_ROOT: the root's length is one more, one less
+    (14, 8, 0xc00000000, false),
+    (14, 8, 0xa00000000, false),
+    // REMOVED: the record has no words, two; its word is another, 0
+    (15, 4, 16, false),
+    (15, 4, 0x200000010, false),
+    (15, 5, 2, true),
+    (15, 5, 0, false),
 ];
 
 // The words of places.
