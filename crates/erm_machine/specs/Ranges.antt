@@ -1,7 +1,7 @@
 -- Ranges: what the seats have drawn of the log.
 use Rattle.std.specs.Prelude.{◌≡◌, ◌≢◌, ℕ, ◌+◌, ◌*◌, ◌^◌, ◌<◌, ◌≤◌, false, ◌==◌, nat_lt, nat_le, if◌then◌else◌, List, [], ◌∷◌, ◌++◌, length, count_by, filter}
 use Rattle.erm_model.specs.Member.{◌∈◌}
-use Rattle.erm_machine.specs.declared.limits.TheConstants.{LOG_END, STOP, ANNOUNCERS, GREATEST_BLOCK, LEAST_BLOCK, WRITE_LIMIT}
+use Rattle.erm_machine.specs.declared.limits.TheConstants.{STOP, ANNOUNCERS, GREATEST_BLOCK, LEAST_BLOCK, WRITE_LIMIT}
 use Rattle.erm_machine.specs.declared.attempt.Attempt.{Attempt}
 use Rattle.erm_machine.specs.declared.attempt.Decision.TheVariants.{Undecided, Abort}
 use Rattle.erm_machine.specs.declared.part.Part.{Part}
@@ -45,14 +45,14 @@ drawing _ = 0
 abbrev pub may_draw : ℕ → Place → ℕ
 may_draw seat p = if is_flusher seat then 0 else drawing p
 
--- Ranges lie end to end from the opening's place to the tail, which is below the end of the log; each has as many words as a block may have. Only one
+-- Ranges lie end to end from the opening's place to the tail, which is below 2 ^ 61; each has as many words as a block may have. Only one
 -- range of each seat starts at or above 2 ^ 60, so the tail is bounded by how many did.
 pub record Ranges (s : Shared) (seats : ℕ → Part) : Type 0 where
   pub positive : 0 < s.opening
   pub end_to_end : EndToEnd s.opening s.log s.tail
   pub sizes : (r : Span) → r ∈ s.log → (LEAST_BLOCK ≤ r.size) × (r.size ≤ GREATEST_BLOCK)
   pub bounded : s.tail ≤ STOP + GREATEST_BLOCK * (1 + total high_of ANNOUNCERS seats)
-  pub below : s.tail < LOG_END
+  pub below : s.tail < 2 ^ 61
 
 -- A seat's ranges are those of its transactions, in order; of them one at most starts at or above 2 ^ 60, and none while
 -- the seat may still draw. The seat of an unfinished range has state 1 or that stamp, and a finished one is a commit or
