@@ -178,7 +178,8 @@ fn the_eighth_key_cuts_the_root(rt: HostRuntime) -> Result<(), Fail> {
     assert!(rt; find(&mut txn, 0, 70) == Ok(Some(22)));
     let mut txn = seven_keys(rt.alloc())?;
     assert!(rt; put(&mut txn, 0, 80, &value(2)).is_ok());
-    assert!(rt; txn.claims.as_slice() == [23, 0, 24, 25].as_slice());
+    // The root was claimed before.
+    assert!(rt; txn.claims.as_slice() == [23, 24, 25].as_slice());
     for (oid, row) in CUT {
         assert!(rt; txn.rows.get(oid) == Some(&row));
     }
@@ -200,8 +201,8 @@ fn a_refusal_leaves_the_rows(rt: HostRuntime) -> Result<(), Fail> {
             assert!(rt; txn.rows == before);
         }
     }
-    // One read of the root, three objects made and four claims.
-    assert!(rt; last_refused == 7);
+    // Three objects made and three claims: the root was claimed before, so its row is the transaction's own.
+    assert!(rt; last_refused == 5);
     puts_are_bounded::<MemoryTxn>();
     refused_calls_set_no_row::<MemoryTxn>();
     looks_and_claims_set_no_row::<MemoryTxn>();
