@@ -7,3 +7,4 @@ pub mod Reading
 pub mod Found
 pub mod OneSpelling
 pub mod OneLogList
+pub mod Sizes

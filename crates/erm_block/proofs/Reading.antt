@@ -15,7 +15,7 @@ use Rattle.erm_block.specs.declared.block.Form.{Form}
 use Rattle.erm_block.specs.declared.block.Form.TheVariants.{Whole, Stored}
 use Rattle.erm_block.specs.Block.{Entry, IsEntry, IsCommit, IsSkip, KeepsRulesOf, size_with}
 use Rattle.erm_block.specs.Spelling.{entry_words, row_words, header_word, name_word, payload_of, body_of, Spells}
-use Rattle.std.proofs.lemmas.List.Sums.{sum_by-cons}
+use Rattle.erm_block.proofs.Sizes.{size-between, stored_few}
 
 -- ---- entries
 
@@ -81,24 +81,17 @@ commit_in_range form block run_before rules most =
     let t = rules.transaction in
     record { seat = omega (arith, t.seat_high); n = omega (arith, t.few); number = t.number_high; size = most }
 
-skip_in_range : (least : ℕ) (block : Block) (run_before : ℕ) → IsSkip least block run_before → IsInRange block
-skip_in_range least block run_before rules =
-    let t = rules.transaction in
-    record { seat = omega (arith, t.seat_high); n = omega (arith, t.few); number = t.number_high; size = omega (arith, t.few, rules.size_high) }
-
 module _ (short : (row : List ℕ) → stored_length row ≤ length row) where
-  -- stored rows take no more words than whole ones
-  pub stored_few : (entries : List Entry) → All IsEntry entries → size_with Stored entries ≤ 5 + 17 * length entries
-  stored_few [] are = omega arith
-  stored_few (e ∷ es) are =
-      let row = (All-head IsEntry e es are).row in
-      let rest = stored_few es (All-tail IsEntry e es are) in
-      omega (arith, row, rest, short e.1, sum_by-cons stored_words e.1 (map (λ (x : Entry). x.1) es))
+  skip_in_range : (form : Form) (block : Block) (run_before : ℕ) → IsSkip form block run_before → IsInRange block
+  skip_in_range form block run_before rules =
+      let t = rules.transaction in
+      let high = (size-between short form block.n block.size rules.size).1 in
+      record { seat = omega (arith, t.seat_high); n = omega (arith, t.few); number = t.number_high; size = omega (arith, t.few, high) }
 
   pub in_range : (kind : Kind) (block : Block) (run_before : ℕ) → KeepsRulesOf kind block run_before → IsInRange block
   in_range OldCommit block run_before rules =
       let t = rules.transaction in commit_in_range Whole block run_before rules (omega (arith, t.few, rules.size, rules.count))
-  in_range OldSkip block run_before rules = skip_in_range 17 block run_before rules
+  in_range OldSkip block run_before rules = skip_in_range Whole block run_before rules
   in_range Open block run_before rules = record {
     seat = omega (arith, rules.no_seat);
     n = omega (arith, rules.no_count);
@@ -107,8 +100,8 @@ module _ (short : (row : List ℕ) → stored_length row ≤ length row) where
   }
   in_range Commit block run_before rules =
       let t = rules.transaction in
-      commit_in_range Stored block run_before rules (omega (arith, t.few, rules.size, rules.count, stored_few block.rows.items rules.rows.each))
-  in_range Skip block run_before rules = skip_in_range 1 block run_before rules
+      commit_in_range Stored block run_before rules (omega (arith, t.few, rules.size, rules.count, stored_few short block.rows.items rules.rows.each))
+  in_range Skip block run_before rules = skip_in_range Stored block run_before rules
 
 -- what stands where in words that spell a block
 pub record HasFront (words : List ℕ) (block : Block) (behind : List ℕ) : Type 0 where

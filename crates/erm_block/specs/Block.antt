@@ -2,14 +2,14 @@
 use Rattle.std.specs.Prelude.{◌≡◌, ◌≢◌, ℕ, ◌+◌, ◌*◌, ◌<◌, ◌≤◌, ◌^◌, List, [], length, map}
 use Rattle.std.specs.List.{All, AllPairs}
 use Rattle.erm_model.specs.declared.TheConstants.{ROW_WORDS}
-use Rattle.erm_model.specs.declared.limits.TheConstants.{LOG_END, OID_LIMIT, SESSIONS}
+use Rattle.erm_model.specs.declared.limits.TheConstants.{LEAST_BLOCK, LOG_END, OID_LIMIT, SESSIONS}
 use Rattle.erm_record.specs.Stored.{block_words}
 use Rattle.erm_block.specs.declared.block.Block.{Block}
 use Rattle.erm_block.specs.declared.block.Form.{Form}
 use Rattle.erm_block.specs.declared.block.Form.TheVariants.{Whole, Stored}
 use Rattle.erm_block.specs.declared.block.Kind.{Kind}
 use Rattle.erm_block.specs.declared.block.Kind.TheVariants.{OldCommit, OldSkip, Open, Commit, Skip}
-use Rattle.erm_block.specs.declared.block.TheConstants.{BLOCK_ROWS, ENTRY_WORDS, FRAME_WORDS, RUN_END}
+use Rattle.erm_block.specs.declared.block.TheConstants.{BLOCK_ROWS, ENTRY_WORDS, RUN_END}
 
 -- an object's number, and its row
 abbrev pub Entry : Type 0
@@ -30,8 +30,15 @@ pub record AreEntries (entries : List Entry) : Type 0 where
 
 -- the size of a block with these rows, in words: whole, each takes as many words; stored, up to its last word that isn't 0
 abbrev pub size_with : Form → List Entry → ℕ
-size_with Whole entries = FRAME_WORDS + ENTRY_WORDS * length entries
+size_with Whole entries = LEAST_BLOCK + ENTRY_WORDS * length entries
 size_with Stored entries = block_words (map (λ entry. entry.1) entries)
+
+-- a block with so many rows, in this form, may have so many words: with these entries it has
+pub record IsSizeFor (form : Form) (n size : ℕ) : Type 0 where
+  pub entries : List Entry
+  pub each : All IsEntry entries
+  pub count : length entries ≡ n
+  pub size_is : size ≡ size_with form entries
 
 -- the block is about a transaction: it names one, and has its successor stamp
 pub record NamesTransaction (block : Block) : Type 0 where
@@ -56,20 +63,19 @@ pub record IsCommit (form : Form) (block : Block) (run_before : ℕ) : Type 0 wh
   pub count : length block.rows.items ≡ block.n
   pub rows : AreEntries block.rows.items
 
--- the transaction was excluded: its place in the log is passed over, of so many words at least for each row that it wrote
-pub record IsSkip (least : ℕ) (block : Block) (run_before : ℕ) : Type 0 where
+-- the transaction was excluded: its place in the log, of the size of a commit of as many rows in this form, is passed over
+pub record IsSkip (form : Form) (block : Block) (run_before : ℕ) : Type 0 where
   pub transaction : NamesTransaction block
   -- it is of the same run as the block before
   pub run : block.run ≡ run_before
-  pub size_low : FRAME_WORDS + least * block.n ≤ block.size
-  pub size_high : block.size ≤ FRAME_WORDS + ENTRY_WORDS * block.n
+  pub size : IsSizeFor form block.n block.size
   pub no_rows : block.rows.items ≡ []
 
 -- a run of the engine opens: it is about no transaction
 pub record IsOpen (block : Block) (run_before : ℕ) : Type 0 where
   -- it is of a later run than the block before, and so not of run 0
   pub run : run_before < block.run
-  pub size : block.size ≡ FRAME_WORDS
+  pub size : block.size ≡ LEAST_BLOCK
   pub no_seat : block.seat ≡ 0
   pub no_number : block.number ≡ 0
   pub no_count : block.n ≡ 0
@@ -79,10 +85,10 @@ pub record IsOpen (block : Block) (run_before : ℕ) : Type 0 where
 -- what a block of this kind keeps
 abbrev pub KeepsRulesOf : Kind → Block → ℕ → Type 0
 KeepsRulesOf OldCommit block run_before = IsCommit Whole block run_before
-KeepsRulesOf OldSkip block run_before = IsSkip ENTRY_WORDS block run_before
+KeepsRulesOf OldSkip block run_before = IsSkip Whole block run_before
 KeepsRulesOf Open block run_before = IsOpen block run_before
 KeepsRulesOf Commit block run_before = IsCommit Stored block run_before
-KeepsRulesOf Skip block run_before = IsSkip 1 block run_before
+KeepsRulesOf Skip block run_before = IsSkip Stored block run_before
 
 -- a block of the grammar at this place of the log, behind a block of this run
 pub record IsBlock (block : Block) (at run_before : ℕ) : Type 0 where

@@ -8,8 +8,8 @@ use Rattle.erm_block.specs.declared.block.Form.{Form}
 use Rattle.erm_block.specs.declared.block.Form.TheVariants.{Whole, Stored}
 use Rattle.erm_block.specs.declared.block.Kind.{Kind}
 use Rattle.erm_block.specs.declared.block.Kind.TheVariants.{OldCommit, OldSkip, Open, Commit, Skip}
-use Rattle.erm_block.specs.declared.block.TheConstants.{FRAME_WORDS}
 use Rattle.erm_model.specs.declared.header.TheConstants.{RUN_UNIT, SIZE_UNIT}
+use Rattle.erm_model.specs.declared.limits.TheConstants.{LEAST_BLOCK}
 use Rattle.erm_block.specs.declared.words.TheConstants.{COUNT_UNIT, LENGTH_UNIT, NUMBER_UNIT}
 use Rattle.erm_block.specs.Block.{Entry, IsBlock}
 
@@ -47,10 +47,10 @@ entry_words form entry = first_word form entry ∷ row_words form entry.1
 -- what stands between the name and the digest in a block of this kind
 abbrev pub payload_of : Kind → Block → List ℕ
 payload_of OldCommit block = flat_map (entry_words Whole) block.rows.items
-payload_of OldSkip block = replicate (block.size - FRAME_WORDS) 0
+payload_of OldSkip block = replicate (block.size - LEAST_BLOCK) 0
 payload_of Open block = []
 payload_of Commit block = flat_map (entry_words Stored) block.rows.items
-payload_of Skip block = replicate (block.size - FRAME_WORDS) 0
+payload_of Skip block = replicate (block.size - LEAST_BLOCK) 0
 
 -- a block's words but the digest
 abbrev pub body_of : Block → List ℕ

@@ -1,11 +1,12 @@
 //! Whether a block keeps the rules.
 ghost use Rattle.std.specs.Prelude.{◌≡◌, ◌≢◌, ◌≤◌, ◌↔◌, IsTrue};
 ghost use Rattle.std.specs.List.{All, AllPairs, Any};
-ghost use Rattle.erm_block.specs.Block.{AreEntries, IsBlock, IsCommit, IsEntry, IsOpen, IsSkip, KeepsRulesOf, NamesTransaction};
+ghost use Rattle.erm_block.specs.Block.{AreEntries, IsBlock, IsCommit, IsEntry, IsOpen, IsSizeFor, IsSkip, KeepsRulesOf, NamesTransaction};
 
 use crate::entries::size_with;
 use crate::{BLOCK_ROWS, Block, ENTRY_WORDS, FRAME_WORDS, Form, Kind, RUN_END};
 use erm_model::{LOG_END, OID_LIMIT, Oid, Row, SESSIONS, Stamp};
+use erm_record::stored_words_tell_the_row;
 
 /// Whether it is a block of the grammar at this place, behind a block of this run. Where it is one at its own stamp,
 /// `encode_into` can write it.
@@ -23,10 +24,10 @@ fn keeps_rules(block: &Block, run_before: u64) -> bool
 {
     match block.kind {
         Kind::OldCommit => is_commit(block, Form::Whole, run_before),
-        Kind::OldSkip => is_skip(block, ENTRY_WORDS, run_before),
+        Kind::OldSkip => is_skip(block, Form::Whole, run_before),
         Kind::Open => is_open(block, run_before),
         Kind::Commit => is_commit(block, Form::Stored, run_before),
-        Kind::Skip => is_skip(block, 1, run_before),
+        Kind::Skip => is_skip(block, Form::Stored, run_before),
     }
 }
 
@@ -40,18 +41,26 @@ fn is_commit(block: &Block, form: Form, run_before: u64) -> bool
         && are_entries(&block.rows)
 }
 
-// Whether the block is of a transaction that was excluded, with so many words at least for each row.
-fn is_skip(block: &Block, least: usize, run_before: u64) -> bool
-    requires { least ≤ ENTRY_WORDS }
-    ensures { IsTrue result ↔ IsSkip least block.now run_before }
+fn is_skip(block: &Block, form: Form, run_before: u64) -> bool
+    ensures { IsTrue result ↔ IsSkip form block.now run_before }
 {
-    let size = usize::from(block.size);
-    let count = usize::from(block.n);
     names_transaction(block)
         && block.run == run_before
-        && FRAME_WORDS + least * count <= size
-        && size <= FRAME_WORDS + ENTRY_WORDS * count
+        && is_size_for(form, block.n, block.size)
         && block.rows.is_empty()
+}
+
+// Whether a block with so many rows may have so many words.
+fn is_size_for(form: Form, n: u16, size: u16) -> bool
+    ensures { IsTrue result ↔ IsSizeFor form n size }
+{
+    stored_words_tell_the_row();
+    let (n, size) = (usize::from(n), usize::from(size));
+    let most = FRAME_WORDS + ENTRY_WORDS * n;
+    match form {
+        Form::Whole => size == most,
+        Form::Stored => (FRAME_WORDS + n..=most).contains(&size),
+    }
 }
 
 fn is_open(block: &Block, run_before: u64) -> bool

@@ -9,7 +9,7 @@ use crate::words::LENGTH_UNIT;
 use crate::{BLOCK_ROWS, ENTRY_WORDS, FRAME_WORDS, Form};
 use arrayvec::ArrayVec;
 use erm_model::{OID_LIMIT, Oid, ROW_WORDS, Row};
-use erm_record::{stored_length, stored_words_tell_the_row};
+use erm_record::{stored_length, stored_words, stored_words_tell_the_row};
 
 /// The size of a block with these rows, in words.
 pub fn size_with(form: Form, entries: &[(Oid, Row)]) -> usize
@@ -29,7 +29,7 @@ fn stored_size(entries: &[(Oid, Row)]) -> usize
 {
     let mut size = FRAME_WORDS;
     for entry in entries {
-        size += stored_length(&entry.1) + 1;
+        size += stored_words(&entry.1);
     }
     size
 }

@@ -8,7 +8,7 @@ ghost use Rattle.erm_record.specs.Record.{IsValue, absent_row, padded, record_va
 
 use erm_bytes::{bytes_again, read_words, words_have_bytes, write_words};
 use erm_model::{ROW_WORDS, Row, VALUE_BYTES, Value};
-pub use stored::{stored_length, stored_words_tell_the_row};
+pub use stored::{stored_length, stored_words, stored_words_tell_the_row};
 
 /// The kind of the row of a record without a value.
 pub const ABSENT: u64 = 1;
@@ -118,6 +118,8 @@ mod tests {
         assert!(rt; absent() == [1, 0, 0, 0, 0, 0, 0, 0, 0, 0, 0, 0, 0, 0, 0, 0]);
         assert!(rt; value_of(&absent()).is_none());
         assert!(rt; value_of(&[0; ROW_WORDS]).is_none());
+        assert!(rt; stored_words(&THREE) == 4);
+        assert!(rt; stored_words(&[0; ROW_WORDS]) == 1);
         one_value();
         record_values();
     }

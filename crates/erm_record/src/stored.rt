@@ -1,6 +1,6 @@
 //! A row as the log stores it: up to its last word that isn't 0.
-ghost use Rattle.std.specs.Prelude.{◌≡◌, ◌≢◌, ◌≤◌, ◌<◌, ◌-◌, ◌++◌, ℕ, List, length, replicate, slice_index, take};
-ghost use Rattle.erm_record.specs.Stored.{stored_length};
+ghost use Rattle.std.specs.Prelude.{◌≡◌, ◌≢◌, ◌≤◌, ◌<◌, ◌+◌, ◌-◌, ◌++◌, ℕ, List, length, replicate, slice_index, take};
+ghost use Rattle.erm_record.specs.Stored.{stored_length, stored_words};
 
 use erm_model::{ROW_WORDS, Row};
 
@@ -17,6 +17,14 @@ pub fn stored_length(row: &Row) -> usize
         }
     }
     0
+}
+
+/// How many words a row takes in a block of the log: one for its object, and those up to its last word that isn't 0.
+pub fn stored_words(row: &Row) -> usize
+    ensures words { result ≡ stored_words row.now }
+    ensures short { result ≤ 1 + ROW_WORDS }
+{
+    1 + stored_length(row)
 }
 
 /// A row is its stored words and zeros after them, as many as it has words more.
