@@ -1,8 +1,7 @@
 -- What the words of a block are where they are read.
-use Rattle.std.proofs.Common.{◌≡◌, ℕ, ◌+◌, ◌-◌, ◌*◌, ◌^◌, ◌<◌, ◌≤◌, List, [], ◌∷◌, ◌++◌, length, get_or, take, drop, map, replicate, Option, Some, None, refl, sym, ap, ◌∙◌, arith}
+use Rattle.std.proofs.Common.{◌≡◌, ℕ, ◌+◌, ◌-◌, ◌^◌, ◌<◌, ◌≤◌, List, [], ◌∷◌, ◌++◌, length, get_or, take, drop, replicate, Option, Some, None, refl, sym, ap, ◌∙◌, arith}
 use Rattle.std.specs.List.{flat_map, All}
 use Rattle.std.proofs.lemmas.List.{append_assoc, append-nil, drop-replicate, length-take-le, take_rest, take_at, take_more}
-use Rattle.std.proofs.lemmas.List.Elements.{All-head, All-tail}
 use borrow.Rule.Slice.PartMut.{mid_of}
 use Rattle.arrayvec.specs.ArrayVec.{ArrayVec}
 use Rattle.erm_bytes.specs.Digest.{digest_of}
@@ -10,10 +9,10 @@ use Rattle.erm_block.specs.declared.block.Block.{Block}
 use Rattle.erm_block.specs.declared.block.Kind.{Kind}
 use Rattle.erm_block.specs.declared.block.Kind.TheVariants.{OldCommit, OldSkip, Open, Commit, Skip}
 use Rattle.erm_model.specs.declared.limits.TheConstants.{GREATEST_BLOCK}
-use Rattle.erm_record.specs.Stored.{stored_length, stored_words}
+use Rattle.erm_record.specs.Stored.{stored_length}
 use Rattle.erm_block.specs.declared.block.Form.{Form}
 use Rattle.erm_block.specs.declared.block.Form.TheVariants.{Whole, Stored}
-use Rattle.erm_block.specs.Block.{Entry, IsEntry, IsCommit, IsSkip, KeepsRulesOf, size_with}
+use Rattle.erm_block.specs.Block.{Entry, IsEntry, IsCommit, IsSkip, KeepsRulesOf}
 use Rattle.erm_block.specs.Spelling.{entry_words, row_words, header_word, name_word, payload_of, body_of, Spells}
 use Rattle.erm_block.proofs.Sizes.{size-between, stored_few}
 
