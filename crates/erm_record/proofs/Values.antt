@@ -1,12 +1,12 @@
 -- The value in a row.
-use Rattle.std.proofs.Common.{◌≡◌, ℕ, ◌*◌, ◌-◌, ◌≤◌, ◌<◌, ◌^◌, List, ◌∷◌, ◌++◌, length, take, drop, replicate, Bool, true, false, cond, Option, Some, None, refl, subst, sym, ap, ◌∙◌, arith, length-drop, length-take, slice_index}
+use Rattle.std.proofs.Common.{◌≡◌, ℕ, ◌*◌, ◌≤◌, ◌<◌, ◌^◌, List, length, take, drop, Bool, true, false, cond, Option, Some, None, refl, subst, sym, ap, ◌∙◌, arith, length-drop, length-take, slice_index}
 use Rattle.std.specs.Prelude.{nat_eq, IfSome}
 use Rattle.std.specs.Cmp.Lexicographic.{pointwise}
 use Rattle.std.proofs.lemmas.List.Elements.{All-take}
 use Rattle.std.proofs.lemmas.Slice.Eq.{bytes_eq-Decides}
 use Rattle.erm_bytes.specs.Bytes.{AreBytes, bytes_of, words_of}
 use Rattle.erm_record.specs.Record.{IsValue, absent_row, bytes_in, padded, record_value, value_row}
-use Rattle.erm_record.proofs.Rows.{length-padded, AreBytes-padded, take-padded}
+use Rattle.erm_record.proofs.Rows.{take-padded}
 
 record_value-told : (row : List ℕ) → record_value row ≡ cond (pointwise nat_eq (value_row (bytes_in row)) row) (Some (bytes_in row)) None
 unfolding record_value
