@@ -30,7 +30,7 @@ pub use name::{NAME_BYTES, Name};
 pub use operation::{Op, Reply};
 pub use outcome::{Outcome, Phase, Receipt};
 pub use row_stop::RowStop;
-pub use row_txn::{AnyRows, RowLaw, RowTxn};
+pub use row_txn::{AnyRows, RowLaw, RowRead, RowTxn};
 pub use run::run_one;
 pub use value::{VALUE_BYTES, Value};
 

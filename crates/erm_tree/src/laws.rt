@@ -9,20 +9,20 @@ ghost use Rattle.erm_tree.specs.Operations.{AnswersStutter, CutOffsStutter, Look
 ghost use Rattle.erm_tree.specs.Reads.{IsMetIn, IsOnWay, IsSought};
 ghost use Rattle.erm_tree.specs.Tables.{DelsChangeOne, ObjectsHaveOneTable, PutsChangeOne, TablesStandApart};
 
-use erm_model::RowTxn;
+use erm_model::RowRead;
 use erm_node::nodes_are_read_back;
 
 /// Operations that calls of one transaction answer in turn are answered as by one transaction on the database map of the
 /// rows that it saw at first, and the rows that it sees at the end have the map after them. Calls between that set no row, as
 /// those do of which the other laws tell, count as no operation. The transaction is ready for the next call.
-pub fn operations_are_run_one<T: RowTxn>()
+pub fn operations_are_run_one<T: RowRead>()
     ensures run { OperationsAreRunOne T.face }
     ensures ready { StaysReady T.face }
 {}
 
 /// A call that is refused sets no row, and the transaction goes on where the refusal doesn't end it. `cut_off` is of any calls:
 /// what they did sets no row, and the last one left all as it was.
-pub fn refused_calls_set_no_row<T: RowTxn>()
+pub fn refused_calls_set_no_row<T: RowRead>()
     ensures get { (table key : ℕ) → CutOffsStutter T.face StopsRead (Reads T.face.law (IsSought table key)) (AsksReads (IsSought table key)) }
     ensures next { (table from : ℕ) → CutOffsStutter T.face StopsRead (Reads T.face.law (λ rows x. IsMetIn rows table from (2 ^ 64 - 1) x)) (AsksReads (λ rows x. IsMetIn rows table from (2 ^ 64 - 1) x)) }
     ensures find { (table key : ℕ) → CutOffsStutter T.face StopsRead (Reads T.face.law (IsOnWay table key)) (AsksReads (IsOnWay table key)) }
@@ -36,7 +36,7 @@ pub fn refused_calls_set_no_row<T: RowTxn>()
 
 /// Looks for a key's object, reads, claims and calls for a new object set no row, and after calls that set no row the
 /// transaction is ready for the next one.
-pub fn looks_and_claims_set_no_row<T: RowTxn>()
+pub fn looks_and_claims_set_no_row<T: RowRead>()
     ensures find { (table key : ℕ) (oid : Option ℕ) → LooksStutter T.face (IsOnWay table key) (λ rows. oid ≡ record_in rows table key) }
     ensures read { (oid : ℕ) (row : List ℕ) → AnswersStutter T.face (did_read oid row) }
     ensures claim { (oid : ℕ) → AnswersStutter T.face (did_claim oid) }
@@ -46,7 +46,7 @@ pub fn looks_and_claims_set_no_row<T: RowTxn>()
 
 /// The events of a put make at most `MOST_OBJECTS` objects, claim at most `MOST_ROWS` times, and set at most `MOST_ROWS`
 /// rows. Those of a put that was refused do too.
-pub fn puts_are_bounded<T: RowTxn>()
+pub fn puts_are_bounded<T: RowRead>()
     ensures whole { PutsAreBounded }
     ensures refused { RefusedPutsAreBounded T.face }
 {}
@@ -62,7 +62,7 @@ pub fn tables_stand_apart()
 
 /// Each put and each del of a transaction over sound rows changed the tree of its table alone, on all rows that it may have seen
 /// before.
-pub fn calls_change_one_table<T: RowTxn>()
+pub fn calls_change_one_table<T: RowRead>()
     ensures put { PutsChangeOne T.face }
     ensures del { DelsChangeOne T.face }
 {
