@@ -26,4 +26,5 @@ pub mod Refusals
 pub mod Bounds
 pub mod Operations
 pub mod Tables
+mod Ways
 pub mod Memory

@@ -7,7 +7,7 @@ ghost use Rattle.erm_tree.specs.Calls.{AsksReads, IsReady, Reads};
 ghost use Rattle.erm_tree.specs.Change.{AsksDel, AsksPut, IsPrefix, IsPut, PutsAreBounded, RefusedPutsAreBounded, StopsChange, StopsPut};
 ghost use Rattle.erm_tree.specs.Operations.{AnswersStutter, CutOffsStutter, LooksStutter, OperationsAreRunOne, RefusalsStutter, StaysReady, Stutters};
 ghost use Rattle.erm_tree.specs.Reads.{IsMetIn, IsOnWay, IsSought};
-ghost use Rattle.erm_tree.specs.Tables.{DelsChangeOne, ObjectsHaveOneTable, PutsChangeOne, TablesStandApart};
+ghost use Rattle.erm_tree.specs.Tables.{DelsChangeOne, ObjectsHaveOneTable, OtherRootsAreOffWay, PutsChangeOne, RecordsAreOffWay, TablesStandApart};
 
 use erm_model::RowRead;
 use erm_node::nodes_are_read_back;
@@ -56,6 +56,15 @@ pub fn puts_are_bounded<T: RowRead>()
 pub fn tables_stand_apart()
     ensures apart { TablesStandApart }
     ensures one { ObjectsHaveOneTable }
+{
+    nodes_are_read_back();
+}
+
+/// On the way to a key of a table, over sound rows, stands no other table's root, and no object that is the record of a key. So
+/// a call that reads objects on the way alone reads none of these.
+pub fn ways_are_of_own_nodes()
+    ensures roots { OtherRootsAreOffWay }
+    ensures records { RecordsAreOffWay }
 {
     nodes_are_read_back();
 }
