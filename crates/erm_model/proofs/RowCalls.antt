@@ -94,16 +94,6 @@ module _ {S : Type 0} (face : Face S) where
     reads = λ x. (λ reads. reads, λ reads. reads);
   }
 
-  -- and nothing more
-  pub SameView-then : (s t u : S) → SameView face s t → SameView face t u → SameView face s u
-  SameView-then s t u a b = record {
-    fitted = λ begun fits. a.fitted begun (b.fitted begun fits);
-    seen = λ begun fits. b.seen begun fits ∙ a.seen begun (b.fitted begun fits);
-    made = λ x. b.made x ∙ a.made x;
-    claims = λ x. (λ claims. (a.claims x).0 ((b.claims x).0 claims), λ claims. (b.claims x).1 ((a.claims x).1 claims));
-    reads = λ x. (λ reads. (a.reads x).0 ((b.reads x).0 reads), λ reads. (b.reads x).1 ((a.reads x).1 reads));
-  }
-
   -- and the transaction is lawful still
   pub SameView-lawful : (s t : S) → IsLawful face s → SameView face s t → IsLawful face t
   SameView-lawful s t lawful same begun meets fits =

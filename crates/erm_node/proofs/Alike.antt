@@ -1,25 +1,15 @@
 -- Sound rows are told by the rows of the objects that there may be.
-use Rattle.std.proofs.Common.{◌≡◌, ℕ, zero, suc, ◌^◌, ◌<◌, ◌≤◌, Some, None, refl, sym, ap, ◌∙◌, subst, inl, inr, arith}
-use Rattle.std.specs.Option.{option_map_or}
+use Rattle.std.proofs.Common.{◌≡◌, ℕ, zero, suc, ◌^◌, ◌<◌, ◌≤◌, refl, sym, ap, ◌∙◌, subst, inl, inr, arith}
 use Rattle.std.proofs.lemmas.Bool.{cases_lt}
 use Rattle.erm_model.specs.declared.limits.TheConstants.{OID_LIMIT}
 use Rattle.erm_model.specs.Rows.{Rows}
 use Rattle.erm_model.specs.RowTransaction.{SameRows, RespectsRows}
-use Rattle.erm_node.specs.Node.{first_child}
 use Rattle.erm_node.specs.Tree.{IsTree, times}
 use Rattle.erm_node.specs.Sound.{IsSound, inner_levels, levels_of, reached, reached_below, sound_law}
 use Rattle.erm_node.proofs.Depth.{levels_of-tree}
 use Rattle.erm_node.proofs.Frames.{IsKept-frame}
-use Rattle.erm_node.proofs.Levels.{levels_of-root}
+use Rattle.erm_node.proofs.Levels.{inner_levels-limit, levels_of-root}
 use Rattle.erm_node.proofs.Reached.{reached-is, reached-table}
-
-inner_levels-limit : (rows : Rows) (limit oid : ℕ) → inner_levels rows limit oid ≤ limit
-inner_levels-limit rows zero oid = omega arith
-inner_levels-limit rows (suc limit) oid =
-    elim (first_child (rows oid)) as (λ child. option_map_or (λ c. suc (inner_levels rows limit c)) child 0 ≤ suc limit) [
-      | None ↦ omega arith
-      | Some c ↦ omega (arith, inner_levels-limit rows limit c)
-    ]
 
 -- a table's tree is one in both
 record IsAlike (a b : Rows) (table : ℕ) : Type 0 where

@@ -83,19 +83,6 @@ module _ {S : Type 0} (face : Face S) (goes_on : (a b c : S) → face.follows a 
     reads = Reads-weaker face.law P Q seen.saw.events (λ array meets agrees. among array meets (seen.saw.saw array meets agrees)) seen.reads;
   }
 
-  -- one read
-  pub SawIn-read : (objects : Rows → ℕ → Type 0) (s t : S) (oid : ℕ) (row : List ℕ) → Does face s (did_read oid row) t → ((array : Rows) → face.law.meets array → objects array oid) → SawIn face objects s t (λ array. array oid ≡ row)
-  SawIn-read objects s t oid row does is = record {
-    saw = record {
-      events = did_read oid row ∷ [];
-      reads = tt;
-      goes_on = record { runs = Runs-one face s t (did_read oid row) does.step; active = does.active; possible = does.possible };
-      follows = does.follows;
-      saw = λ array meets agrees. agrees.0;
-    };
-    reads = record { only = tt; of = λ array meets agrees. (is array meets, tt) };
-  }
-
   -- a read of an object that what was seen before lets be read
   pub SawIn-then_read : (objects : Rows → ℕ → Type 0) (s t u : S) (fact : Rows → Type 0) (oid : ℕ) (row : List ℕ) → SawIn face objects s t fact → Does face t (did_read oid row) u → ((array : Rows) → face.law.meets array → fact array → objects array oid)
       → SawIn face objects s u (λ array. fact array × (array oid ≡ row))

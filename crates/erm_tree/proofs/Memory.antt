@@ -29,9 +29,6 @@ zero_is_row : node_row (record { leaf = true; pairs = [] }) ≡ zero_row
 unfolding node_row
 zero_is_row = refl
 
-other_table : (t x : ℕ) → t < 16 → 16 ≤ x → same_oid t x ≡ 0
-other_table t x below above = grind (arith, nat_tests)
-
 one_table : (t x : ℕ) → t < x → same_oid t x ≡ 0
 one_table t x below = grind (arith, nat_tests)
 

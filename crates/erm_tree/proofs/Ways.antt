@@ -1,16 +1,15 @@
 -- What stands on the way to a key: nodes of its table alone.
-use Rattle.std.proofs.Common.{◌≡◌, ◌≢◌, ℕ, zero, suc, ◌+◌, ◌^◌, ◌<◌, ◌≤◌, List, [], ◌∷◌, ◌++◌, Bool, true, false, cond, Option, Some, None, refl, sym, ap, ◌∙◌, subst, inl, inr, arith}
-use Rattle.std.specs.Prelude.{◌⊎◌, ◌==◌, nat_eq, flat_map}
+use Rattle.std.proofs.Common.{◌≡◌, ℕ, zero, suc, ◌^◌, ◌<◌, List, [], ◌∷◌, ◌++◌, Bool, true, false, cond, Some, None, refl, ap, ◌∙◌, subst, inl, inr, arith}
+use Rattle.std.specs.Prelude.{◌==◌, nat_eq, flat_map}
 use Rattle.std.specs.Map.{lookup}
 use Rattle.std.proofs.lemmas.Bool.{false≢true}
 use Rattle.std.proofs.lemmas.Bool.Decides.{nat_tests}
 use Rattle.erm_model.specs.Rows.{Rows}
 use Rattle.erm_record.specs.Record.{IsRecord}
 use Rattle.erm_node.specs.Node.{Shape, node_of, pairs_of}
-use Rattle.erm_node.specs.Sound.{IsSound, levels_of}
+use Rattle.erm_node.specs.Sound.{levels_of}
 use Rattle.erm_node.specs.Tree.{Fan, first_key, total, same_oid, IsTree, entries, times}
-use Rattle.erm_node.specs.TreeMap.{record_in}
-use Rattle.erm_tree.specs.Reads.{AnyOfFan, IsMet, IsOnWay}
+use Rattle.erm_tree.specs.Reads.{AnyOfFan, IsMet}
 use Rattle.erm_tree.specs.Tables.{OtherRootsAreOffWay, RecordsAreOffWay}
 use Rattle.erm_tree.proofs.Insertion.{Each}
 use Rattle.erm_tree.proofs.Standing.{levels_of-bounds}

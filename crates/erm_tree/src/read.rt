@@ -9,7 +9,7 @@ ghost use Rattle.erm_tree.specs.Reads.{IsMetIn, IsOnWay, IsSought};
 ghost use Rattle.erm_tree.specs.Walk.{IsFirstIn, IsLeafFor, IsOfLeaf, bound_of, last_sought};
 
 use crate::walk::{Leaf, leaf_for, record_for};
-use erm_model::{OID_LIMIT, Oid, RowStop, RowRead, TABLES, Value};
+use erm_model::{OID_LIMIT, Oid, RowRead, RowStop, TABLES, Value};
 use erm_node::map_has_values_of_records;
 use erm_record::value_of;
 

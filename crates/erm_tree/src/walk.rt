@@ -10,7 +10,7 @@ ghost use Rattle.erm_tree.specs.Reads.{IsOnWay};
 ghost use Rattle.erm_tree.specs.Walk.{IsLeafFor, IsRecordFor, bound_of, rank};
 
 use arrayvec::ArrayVec;
-use erm_model::{OID_LIMIT, Oid, RowStop, RowRead, TABLES};
+use erm_model::{OID_LIMIT, Oid, RowRead, RowStop, TABLES};
 use erm_node::{LEVELS, NODE_PAIRS, nodes_are_read_back, read_node};
 
 /// A leaf, and where its range of keys ends: at a key that isn't in it, or behind the greatest one.
