@@ -1,8 +1,9 @@
 -- What a transaction over rows means to its caller: which arrays of rows it may have begun on, what it sees, and what
 -- each call does to that. Nothing here knows how rows and versions are kept. The definitions are this project's own.
-use Rattle.std.specs.Prelude.{◌≡◌, ℕ, ◌+◌, ◌≤◌, ◌⊎◌, ◌↔◌, ◌==◌, if◌then◌else◌, Bool, true, false, List, [], ◌∷◌}
+use Rattle.std.specs.Prelude.{◌≡◌, ℕ, ◌+◌, ◌<◌, ◌≤◌, ◌⊎◌, ◌↔◌, ◌==◌, if◌then◌else◌, Bool, true, false, List, [], ◌∷◌}
 use Rattle.erm_model.specs.declared.row_stop.RowStop.{RowStop}
 use Rattle.erm_model.specs.declared.row_stop.RowStop.TheVariants.{NotYet, ReadsFull, Owned, Newer, WritesFull, CellsFull, OidsFull, Excluded, Memory}
+use Rattle.erm_model.specs.declared.limits.TheConstants.{OID_LIMIT}
 use Rattle.erm_model.specs.Rows.{Rows, set_row}
 
 -- what a call did: it read an object's row, claimed an object, set its row, or made a new one
@@ -57,6 +58,16 @@ pub record SameLaw (a b : Law) : Type 0 where
   pub meets : (rows : Rows) → a.meets rows ↔ b.meets rows
   pub reach : (rows : Rows) (x : ℕ) → a.reach rows x ≡ b.reach rows x
 
+-- two arrays have the same row of each object that there may be
+abbrev pub SameRows : Rows → Rows → Type 0
+SameRows a b = (oid : ℕ) → oid < OID_LIMIT → a oid ≡ b oid
+
+-- A law looks at the rows of the objects that there may be alone: of two arrays that have the same ones both meet it or neither
+-- does, and where they do, both reach each object equally often.
+pub record RespectsRows (law : Law) : Type 0 where
+  pub meets : (a b : Rows) → SameRows a b → law.meets a ↔ law.meets b
+  pub reach : (a b : Rows) (x : ℕ) → SameRows a b → law.meets a → law.reach a x ≡ law.reach b x
+
 -- what an event tells: a read, that this is the row seen; a new object, that the array begun on doesn't reach it
 abbrev pub Tells : Law → Event → Rows → Rows → Type 0
 Tells law (did_read oid row) begun seen = seen oid ≡ row
@@ -98,6 +109,8 @@ pub record Face (S : Type 0) : Type 1 where
   pub reads : S → ℕ → Type 0
   -- a later state of the transaction, and of what else the object holds
   pub follows : S → S → Type 0
+  -- in the first state a call was answered, of which this was the event, and it left the second
+  pub answers : S → Event → S → Type 0
   -- in the first state a call that asked for this was refused so, and left the second
   pub stops : S → Asked → RowStop → S → Type 0
 
@@ -110,6 +123,8 @@ ReadBy face s (did_make oid) x = ⊥
 
 -- one call's event
 pub record Steps {S : Type 0} (face : Face S) (s : S) (event : Event) (t : S) : Type 0 where
+  -- it is one call, that was answered: a call that was refused and one that was answered then are two
+  pub answered : face.answers s event t
   -- no array fits now that didn't before
   pub fitted : (begun : Rows) → face.fits t begun → face.fits s begun
   -- the event tells what is so of each one that fits
@@ -132,9 +147,9 @@ pub record SameView {S : Type 0} (face : Face S) (s t : S) : Type 0 where
   pub claims : (x : ℕ) → face.claims t x ↔ face.claims s x
   pub reads : (x : ℕ) → face.reads t x ↔ face.reads s x
 
--- events in turn
+-- Events in turn, and nothing between: no events leave the very state, so that no call was made, not even one that was refused.
 abbrev pub Runs : {S : Type 0} → Face S → S → List Event → S → Type 0
-Runs {S} face s [] t = SameView face s t
+Runs {S} face s [] t = t ≡ s
 Runs {S} face s (event ∷ events) t = (u : S) × Steps face s event u × Runs face u events t
 
 -- some array that meets the law fits
@@ -207,6 +222,12 @@ pub record GoesOn {S : Type 0} (face : Face S) (s : S) (events : List Event) (t 
   pub active : face.active t
   pub possible : IsPossible face t
 
+-- a call that was refused left all as it was, and the transaction goes on
+pub record Stays {S : Type 0} (face : Face S) (s t : S) : Type 0 where
+  pub same : SameView face s t
+  pub active : face.active t
+  pub possible : IsPossible face t
+
 -- One call that asked for this was refused, by a refusal that it may have: either that ends the transaction, or all is as it
 -- was.
 pub record IsRefused {S : Type 0} (face : Face S) (may : RowStop → Type 0) (s : S) (asked : Asked) (stop : RowStop) (t : S) : Type 0 where
@@ -214,7 +235,7 @@ pub record IsRefused {S : Type 0} (face : Face S) (may : RowStop → Type 0) (s 
   pub stopped : face.stops s asked stop t
   pub follows : face.follows s t
   pub ended : ends stop ≡ true → face.active t → ⊥
-  pub stays : ends stop ≡ false → GoesOn face s [] t
+  pub stays : ends stop ≡ false → Stays face s t
 
 -- events of reading alone
 abbrev pub OnlyReads : List Event → Type 0

@@ -20,7 +20,10 @@ mod value;
 pub use header::{COMMIT_KIND, RUN_UNIT, SIZE_UNIT, SKIP_KIND};
 pub use history::{Commit, TransactionRecord, VersionRead, VersionWritten};
 pub use key::Key;
-pub use laws::replies_are_determined;
+pub use laws::{
+    arrays_fit_what_they_agree_with, lawful_transactions_have_lawful_records,
+    replies_are_determined,
+};
 pub use limits::{
     GREATEST_BLOCK, LAST_NUMBER, LAST_RUN, LEAST_BLOCK, LOG_END, MOST_CELLS, OID_LIMIT, READ_LIMIT,
     RING_WORDS, SEGMENT_WORDS, SESSIONS, STOP, TABLE_CELLS, TABLES, WRITE_LIMIT,
@@ -30,7 +33,7 @@ pub use name::{NAME_BYTES, Name};
 pub use operation::{Op, Reply};
 pub use outcome::{Outcome, Phase, Receipt};
 pub use row_stop::RowStop;
-pub use row_txn::{AnyRows, RowLaw, RowTxn};
+pub use row_txn::{AnyRows, RowLaw, RowRead, RowTxn};
 pub use run::run_one;
 pub use value::{VALUE_BYTES, Value};
 

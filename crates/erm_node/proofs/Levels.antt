@@ -1,5 +1,5 @@
 -- How many levels a tree has, found by its first children.
-use Rattle.std.proofs.Common.{◌≡◌, ℕ, suc, ◌+◌, ◌-◌, ◌≤◌, ◌<◌, List, [], ◌∷◌, Bool, true, false, length, get_or, Option, Some, None, refl, ap, ◌∙◌, arith}
+use Rattle.std.proofs.Common.{◌≡◌, ℕ, zero, suc, ◌+◌, ◌-◌, ◌≤◌, ◌<◌, List, [], ◌∷◌, Bool, true, false, length, get_or, Option, Some, None, refl, ap, ◌∙◌, arith}
 use Rattle.std.specs.Prelude.{option_and_then}
 use Rattle.std.specs.Option.{option_map_or}
 use Rattle.erm_model.specs.Rows.{Rows}
@@ -28,6 +28,15 @@ levels_of-root rows oid = omega arith
 
 pub inner_at : (rows : Rows) (left at : ℕ) (found : Option ℕ) → first_child (rows at) ≡ found → inner_levels rows (suc left) at ≡ option_map_or (λ child. suc (inner_levels rows left child)) found 0
 inner_at rows left at found is = ap (λ (o : Option ℕ). option_map_or (λ child. suc (inner_levels rows left child)) o 0) is
+
+-- no more inner levels are counted than there may be
+pub inner_levels-limit : (rows : Rows) (limit oid : ℕ) → inner_levels rows limit oid ≤ limit
+inner_levels-limit rows zero oid = omega arith
+inner_levels-limit rows (suc limit) oid =
+    elim (first_child (rows oid)) as (λ child. option_map_or (λ c. suc (inner_levels rows limit c)) child 0 ≤ suc limit) [
+      | None ↦ omega arith
+      | Some c ↦ omega (arith, inner_levels-limit rows limit c)
+    ]
 
 -- one level down
 pub levels_of-down : (rows : Rows) (oid level at child : ℕ) → level < 12 → first_child (rows at) ≡ Some child → levels_of rows oid ≡ level + inner_levels rows (12 - level) at → levels_of rows oid ≡ (level + 1) + inner_levels rows (12 - (level + 1)) child

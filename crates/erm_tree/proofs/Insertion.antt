@@ -1,5 +1,5 @@
 -- A key put into a tree, node by node from the leaf up: the trees, the entries and what they reach then.
-use Rattle.std.proofs.Common.{◌≡◌, ◌≢◌, ℕ, suc, ◌+◌, ◌<◌, ◌≤◌, List, [], ◌∷◌, ◌++◌, length, Bool, true, false, cond, Some, None, refl, sym, ap, ◌∙◌, subst, inl, inr, arith, append_assoc, length-append}
+use Rattle.std.proofs.Common.{◌≡◌, ◌≢◌, ℕ, suc, ◌+◌, ◌<◌, ◌≤◌, List, [], ◌∷◌, ◌++◌, Bool, true, false, cond, Some, None, refl, sym, ap, ◌∙◌, subst, inl, inr, arith, append_assoc}
 use Rattle.std.specs.Prelude.{nat_eq, insert}
 use Rattle.std.specs.Map.{lookup}
 use Rattle.std.proofs.lemmas.Bool.{cases_lt, le-leb}
@@ -57,10 +57,6 @@ pub with_pair-split : (P : ℕ → ℕ → ℕ → Type 0) (key oid : ℕ) (xs y
 with_pair-split P key oid [] ys hi fan below = with_pair-here key oid ys hi below
 with_pair-split P key oid (x ∷ xs) ys hi fan below =
     with_pair-later key oid x (xs ++ ys) (omega (arith, fan.1, first_key-Fan P xs key fan.2)) ∙ ap (λ (qs : List (ℕ × ℕ)). x ∷ qs) (with_pair-split P key oid xs ys hi fan.2 below)
-
--- one pair more
-pub length-with_pair : (pair : ℕ × ℕ) (ps xs ys : List (ℕ × ℕ)) → ps ≡ xs ++ ys → with_pair pair ps ≡ xs ++ pair ∷ ys → length (with_pair pair ps) ≡ suc (length ps)
-length-with_pair pair ps xs ys was is = omega (arith, ap length was, ap length is, length-append xs ys, length-append xs (pair ∷ ys))
 
 -- pairs cut at a key that isn't among them
 pub record CutAt (Q : ℕ → Type 0) (ps : List (ℕ × ℕ)) (hi key : ℕ) : Type 0 where

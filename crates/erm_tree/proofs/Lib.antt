@@ -10,7 +10,6 @@ pub mod Records
 pub mod Settings
 pub mod Changing
 pub mod Nodes
-pub mod Frames
 pub mod Insertion
 pub mod Growth
 pub mod Descents
@@ -27,4 +26,5 @@ pub mod Refusals
 pub mod Bounds
 pub mod Operations
 pub mod Tables
+mod Ways
 pub mod Memory

@@ -1,28 +1,20 @@
 -- Where a walk from a table's root down to a key stands.
 use Rattle.std.proofs.Common.{◌≡◌, ℕ, zero, suc, ◌+◌, ◌^◌, ◌<◌, ◌≤◌, List, [], ◌∷◌, ◌++◌, Bool, true, false, cond, Some, None, refl, sym, ap, ◌∙◌, subst, inl, inr, arith}
 use Rattle.std.specs.Prelude.{◌==◌, nat_eq, flat_map}
-use Rattle.std.specs.Option.{option_map_or}
 use Rattle.std.specs.Map.{lookup}
 use Rattle.std.proofs.lemmas.Bool.{cases_lt}
 use Rattle.std.proofs.lemmas.Bool.Decides.{nat_tests}
 use Rattle.erm_model.specs.declared.limits.TheConstants.{OID_LIMIT}
 use Rattle.erm_model.specs.Rows.{Rows}
-use Rattle.erm_node.specs.Node.{pairs_of, first_child}
+use Rattle.erm_node.specs.Node.{pairs_of}
 use Rattle.erm_node.specs.Tree.{Fan, first_key, total, IsTree, entries, times, same_oid}
 use Rattle.erm_node.specs.Sound.{IsSound, levels_of, inner_levels, reached, reached_below}
 use Rattle.erm_node.specs.TreeMap.{record_in}
+use Rattle.erm_node.proofs.Levels.{inner_levels-limit}
 use Rattle.erm_tree.specs.Reads.{AnyOfFan, IsMet}
 use Rattle.erm_tree.specs.Walk.{IsEntry, IsLeafFor}
 use Rattle.erm_tree.proofs.Fans.{Fan-back, first_key-Fan, AnyOfFan-append, Fan-each, first_key-before, total-part, IsPairFor}
 use Rattle.erm_tree.proofs.Trees.{IsOutside, lookup-entries_outside, lookup-Fan_outside, lookup-Fan_inside, low_enough}
-
-inner_levels-limit : (rows : Rows) (limit oid : ℕ) → inner_levels rows limit oid ≤ limit
-inner_levels-limit rows zero oid = omega arith
-inner_levels-limit rows (suc limit) oid =
-    elim (first_child (rows oid)) as (λ child. option_map_or (λ c. suc (inner_levels rows limit c)) child 0 ≤ suc limit) [
-      | None ↦ omega arith
-      | Some c ↦ omega (arith, inner_levels-limit rows limit c)
-    ]
 
 -- a tree has one level at least and twelve at most
 pub levels_of-bounds : (rows : Rows) (oid : ℕ) → (n : ℕ) × (levels_of rows oid ≡ suc n) × (n ≤ 11)

@@ -1,5 +1,5 @@
 -- Each table has a tree of its own: what calls that change one table do to the trees of the others. This project's own.
-use Rattle.std.specs.Prelude.{◌≡◌, ℕ, ◌+◌, ◌^◌, ◌<◌, ◌≤◌, List}
+use Rattle.std.specs.Prelude.{◌≡◌, ℕ, ◌+◌, ◌^◌, ◌<◌, ◌≤◌, List, Some}
 use Rattle.std.specs.FinMap.{insert, remove}
 use Rattle.erm_model.specs.declared.limits.TheConstants.{TABLES}
 use Rattle.erm_model.specs.Database.{at}
@@ -11,6 +11,7 @@ use Rattle.erm_node.specs.Tree.{times}
 use Rattle.erm_node.specs.TreeMap.{map_of_rows, record_in, value_in}
 use Rattle.erm_tree.specs.Calls.{DidBy}
 use Rattle.erm_tree.specs.Change.{IsPut, IsDel}
+use Rattle.erm_tree.specs.Reads.{IsOnWay}
 
 -- how often the tree of a table reaches an object
 abbrev pub reached_by : Rows → ℕ → ℕ → ℕ
@@ -63,3 +64,11 @@ DelsChangeOne face =
 -- no object is in the trees of two tables
 abbrev pub ObjectsHaveOneTable : Type 0
 ObjectsHaveOneTable = (rows : Rows) (table other x : ℕ) → IsSound rows → table < TABLES → other < TABLES → (other ≡ table → ⊥) → 0 < reached_by rows table x → reached_by rows other x ≡ 0
+
+-- the root of another table is on the way to no key
+abbrev pub OtherRootsAreOffWay : Type 0
+OtherRootsAreOffWay = (rows : Rows) (table other key : ℕ) → IsSound rows → table < TABLES → other < TABLES → (other ≡ table → ⊥) → IsOnWay table key rows other → ⊥
+
+-- and so is no object that is the record of a key
+abbrev pub RecordsAreOffWay : Type 0
+RecordsAreOffWay = (rows : Rows) (table key other other_key oid : ℕ) → IsSound rows → table < TABLES → other < TABLES → record_in rows other other_key ≡ Some oid → IsOnWay table key rows oid → ⊥

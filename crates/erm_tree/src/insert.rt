@@ -12,7 +12,7 @@ ghost use Rattle.erm_tree.specs.Step.{places_of};
 use crate::plan::{MOST_OBJECTS, Step};
 use crate::walk::{child_for, record_in};
 use arrayvec::ArrayVec;
-use erm_model::{OID_LIMIT, Oid, Row, RowStop, RowTxn, TABLES};
+use erm_model::{OID_LIMIT, Oid, Row, RowRead, RowStop, RowTxn, TABLES};
 use erm_node::{LEVELS, nodes_are_read_back, read_node};
 
 /// The nodes on the way to a key, the root first, and the key's record, or none where the key has no entry.
@@ -23,7 +23,7 @@ pub(crate) struct Path {
 }
 
 /// Reads down from a table's root to the leaf for a key, keeps the nodes on the way, and finds the record.
-pub(crate) fn path_for<T: RowTxn>(txn: &mut T, table: u8, key: u64) -> Result<Path, RowStop>
+pub(crate) fn path_for<T: RowRead>(txn: &mut T, table: u8, key: u64) -> Result<Path, RowStop>
     requires ready { IsReady T.face txn.old }
     requires law { SameLaw T.face.law sound_law }
     requires table { table < TABLES }

@@ -1,34 +1,34 @@
 //! Laws of the calls. Each holds for every value, and its function does nothing.
 ghost use Rattle.std.specs.Prelude.{◌≡◌, ℕ, ◌-◌, ◌^◌, List, [], Option};
-ghost use Rattle.erm_model.specs.RowTransaction.{Event, did_read, did_claim, did_make, asked_read, asked_claim, asked_make, WritesNothing, GoesOn, StopsRead, StopsClaim, StopsMake};
+ghost use Rattle.erm_model.specs.RowTransaction.{Event, did_read, did_claim, did_make, asked_read, asked_claim, asked_make, WritesNothing, GoesOn, Stays, StopsRead, StopsClaim, StopsMake};
 ghost use Rattle.erm_record.specs.Record.{value_row};
 ghost use Rattle.erm_node.specs.TreeMap.{record_in};
 ghost use Rattle.erm_tree.specs.Calls.{AsksReads, IsReady, Reads};
 ghost use Rattle.erm_tree.specs.Change.{AsksDel, AsksPut, IsPrefix, IsPut, PutsAreBounded, RefusedPutsAreBounded, StopsChange, StopsPut};
 ghost use Rattle.erm_tree.specs.Operations.{AnswersStutter, CutOffsStutter, LooksStutter, OperationsAreRunOne, RefusalsStutter, StaysReady, Stutters};
 ghost use Rattle.erm_tree.specs.Reads.{IsMetIn, IsOnWay, IsSought};
-ghost use Rattle.erm_tree.specs.Tables.{DelsChangeOne, ObjectsHaveOneTable, PutsChangeOne, TablesStandApart};
+ghost use Rattle.erm_tree.specs.Tables.{DelsChangeOne, ObjectsHaveOneTable, OtherRootsAreOffWay, PutsChangeOne, RecordsAreOffWay, TablesStandApart};
 
-use erm_model::RowTxn;
+use erm_model::RowRead;
 use erm_node::nodes_are_read_back;
 
 /// Operations that calls of one transaction answer in turn are answered as by one transaction on the database map of the
 /// rows that it saw at first, and the rows that it sees at the end have the map after them. Calls between that set no row, as
 /// those do of which the other laws tell, count as no operation. The transaction is ready for the next call.
-pub fn operations_are_run_one<T: RowTxn>()
+pub fn operations_are_run_one<T: RowRead>()
     ensures run { OperationsAreRunOne T.face }
     ensures ready { StaysReady T.face }
 {}
 
 /// A call that is refused sets no row, and the transaction goes on where the refusal doesn't end it. `cut_off` is of any calls:
 /// what they did sets no row, and the last one left all as it was.
-pub fn refused_calls_set_no_row<T: RowTxn>()
+pub fn refused_calls_set_no_row<T: RowRead>()
     ensures get { (table key : ℕ) → CutOffsStutter T.face StopsRead (Reads T.face.law (IsSought table key)) (AsksReads (IsSought table key)) }
     ensures next { (table from : ℕ) → CutOffsStutter T.face StopsRead (Reads T.face.law (λ rows x. IsMetIn rows table from (2 ^ 64 - 1) x)) (AsksReads (λ rows x. IsMetIn rows table from (2 ^ 64 - 1) x)) }
     ensures find { (table key : ℕ) → CutOffsStutter T.face StopsRead (Reads T.face.law (IsOnWay table key)) (AsksReads (IsOnWay table key)) }
     ensures del { (table key : ℕ) → CutOffsStutter T.face StopsChange (Reads T.face.law (IsOnWay table key)) (AsksDel table key) }
     ensures put { (table key : ℕ) (value : List ℕ) → CutOffsStutter T.face StopsPut (IsPrefix T.face.law (IsOnWay table key) (λ rows events. IsPut rows table key (value_row value) events)) (AsksPut table key (value_row value)) }
-    ensures cut_off { (s at t : T) (events : List Event) → WritesNothing events → GoesOn T.face s events at → GoesOn T.face at [] t → Stutters T.face s t }
+    ensures cut_off { (s at t : T) (events : List Event) → WritesNothing events → GoesOn T.face s events at → Stays T.face at t → Stutters T.face s t }
     ensures read { (oid : ℕ) → RefusalsStutter T.face StopsRead (asked_read oid) }
     ensures claim { (oid : ℕ) → RefusalsStutter T.face StopsClaim (asked_claim oid) }
     ensures fresh { RefusalsStutter T.face StopsMake asked_make }
@@ -36,7 +36,7 @@ pub fn refused_calls_set_no_row<T: RowTxn>()
 
 /// Looks for a key's object, reads, claims and calls for a new object set no row, and after calls that set no row the
 /// transaction is ready for the next one.
-pub fn looks_and_claims_set_no_row<T: RowTxn>()
+pub fn looks_and_claims_set_no_row<T: RowRead>()
     ensures find { (table key : ℕ) (oid : Option ℕ) → LooksStutter T.face (IsOnWay table key) (λ rows. oid ≡ record_in rows table key) }
     ensures read { (oid : ℕ) (row : List ℕ) → AnswersStutter T.face (did_read oid row) }
     ensures claim { (oid : ℕ) → AnswersStutter T.face (did_claim oid) }
@@ -46,7 +46,7 @@ pub fn looks_and_claims_set_no_row<T: RowTxn>()
 
 /// The events of a put make at most `MOST_OBJECTS` objects, claim at most `MOST_ROWS` times, and set at most `MOST_ROWS`
 /// rows. Those of a put that was refused do too.
-pub fn puts_are_bounded<T: RowTxn>()
+pub fn puts_are_bounded<T: RowRead>()
     ensures whole { PutsAreBounded }
     ensures refused { RefusedPutsAreBounded T.face }
 {}
@@ -60,9 +60,18 @@ pub fn tables_stand_apart()
     nodes_are_read_back();
 }
 
+/// On the way to a key of a table, over sound rows, stands no other table's root, and no object that is the record of a key. So
+/// a call that reads objects on the way alone reads none of these.
+pub fn ways_are_of_own_nodes()
+    ensures roots { OtherRootsAreOffWay }
+    ensures records { RecordsAreOffWay }
+{
+    nodes_are_read_back();
+}
+
 /// Each put and each del of a transaction over sound rows changed the tree of its table alone, on all rows that it may have seen
 /// before.
-pub fn calls_change_one_table<T: RowTxn>()
+pub fn calls_change_one_table<T: RowRead>()
     ensures put { PutsChangeOne T.face }
     ensures del { DelsChangeOne T.face }
 {

@@ -13,7 +13,7 @@ mod walk;
 pub use change::{del, put};
 pub use laws::{
     calls_change_one_table, looks_and_claims_set_no_row, operations_are_run_one, puts_are_bounded,
-    refused_calls_set_no_row, tables_stand_apart,
+    refused_calls_set_no_row, tables_stand_apart, ways_are_of_own_nodes,
 };
 pub use plan::{MOST_OBJECTS, MOST_ROWS};
 pub use read::{find, get, next};

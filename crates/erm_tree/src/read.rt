@@ -9,12 +9,12 @@ ghost use Rattle.erm_tree.specs.Reads.{IsMetIn, IsOnWay, IsSought};
 ghost use Rattle.erm_tree.specs.Walk.{IsFirstIn, IsLeafFor, IsOfLeaf, bound_of, last_sought};
 
 use crate::walk::{Leaf, leaf_for, record_for};
-use erm_model::{OID_LIMIT, Oid, RowStop, RowTxn, TABLES, Value};
+use erm_model::{OID_LIMIT, Oid, RowRead, RowStop, TABLES, Value};
 use erm_node::map_has_values_of_records;
 use erm_record::value_of;
 
 /// The value of a key of a table.
-pub fn get<T: RowTxn>(txn: &mut T, table: u8, key: u64) -> Result<Option<Value>, RowStop>
+pub fn get<T: RowRead>(txn: &mut T, table: u8, key: u64) -> Result<Option<Value>, RowStop>
     requires ready { IsReady T.face txn.old }
     requires law { SameLaw T.face.law sound_law }
     requires table { table < TABLES }
@@ -32,7 +32,7 @@ pub fn get<T: RowTxn>(txn: &mut T, table: u8, key: u64) -> Result<Option<Value>,
 }
 
 /// The object of a key's record, or none where the key has no entry. A key whose value was taken away keeps its entry.
-pub fn find<T: RowTxn>(txn: &mut T, table: u8, key: u64) -> Result<Option<Oid>, RowStop>
+pub fn find<T: RowRead>(txn: &mut T, table: u8, key: u64) -> Result<Option<Oid>, RowStop>
     requires ready { IsReady T.face txn.old }
     requires law { SameLaw T.face.law sound_law }
     requires table { table < TABLES }
@@ -44,7 +44,7 @@ pub fn find<T: RowTxn>(txn: &mut T, table: u8, key: u64) -> Result<Option<Oid>, 
 }
 
 /// The least key of a table at or above `from` that has a value, with the value.
-pub fn next<T: RowTxn>(txn: &mut T, table: u8, from: u64) -> Result<Option<(u64, Value)>, RowStop>
+pub fn next<T: RowRead>(txn: &mut T, table: u8, from: u64) -> Result<Option<(u64, Value)>, RowStop>
     requires ready { IsReady T.face txn.old }
     requires law { SameLaw T.face.law sound_law }
     requires table { table < TABLES }
@@ -66,7 +66,7 @@ pub fn next<T: RowTxn>(txn: &mut T, table: u8, from: u64) -> Result<Option<(u64,
 }
 
 // The first key of a leaf at or above `low` that has a value, with the value.
-fn first_value<T: RowTxn>(
+fn first_value<T: RowRead>(
     txn: &mut T,
     leaf: &Leaf,
     low: u64,

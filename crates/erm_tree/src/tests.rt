@@ -9,7 +9,7 @@ use crate::{
     next, operations_are_run_one, put, puts_are_bounded, refused_calls_set_no_row,
     tables_stand_apart,
 };
-use erm_model::{Map, OID_LIMIT, Oid, Op, Reply, Row, RowStop, RowTxn, TABLES, Value, run_one};
+use erm_model::{Map, OID_LIMIT, Oid, Op, Reply, Row, RowRead, RowStop, TABLES, Value, run_one};
 use memory::MemoryTxn;
 use std::alloc::Global;
 use std::process::Abort;
@@ -17,8 +17,8 @@ use std::test::Fail;
 
 // Answers an operation by a call.
 fn answer(txn: &mut MemoryTxn, op: &Op) -> Result<Reply, RowStop>
-    requires { IsReady ⟦<MemoryTxn as RowTxn>⟧.face txn.old }
-    ensures { IsReady ⟦<MemoryTxn as RowTxn>⟧.face txn.new }
+    requires { IsReady ⟦<MemoryTxn as RowRead>⟧.face txn.old }
+    ensures { IsReady ⟦<MemoryTxn as RowRead>⟧.face txn.new }
 {
     match op {
         Op::Get { table, key } if *table < TABLES => Ok(Reply::Value(get(txn, *table, *key)?)),
@@ -37,8 +37,8 @@ fn answer(txn: &mut MemoryTxn, op: &Op) -> Result<Reply, RowStop>
 
 // Answers operations in turn, as far as none is refused.
 fn answer_all(alloc: Global, txn: &mut MemoryTxn, ops: &[Op]) -> Result<Vec<Reply>, Fail>
-    requires { IsReady ⟦<MemoryTxn as RowTxn>⟧.face txn.old }
-    ensures { IsReady ⟦<MemoryTxn as RowTxn>⟧.face txn.new }
+    requires { IsReady ⟦<MemoryTxn as RowRead>⟧.face txn.old }
+    ensures { IsReady ⟦<MemoryTxn as RowRead>⟧.face txn.new }
 {
     let mut replies = Vec::with_capacity(alloc, ops.len())?;
     for op in ops {
@@ -155,7 +155,7 @@ fn least_and_greatest_key(rt: HostRuntime) -> Result<(), Fail> {
 
 // A transaction in which seven keys have a value: 10, 20, .. in table 0.
 fn seven_keys(alloc: Global) -> Result<MemoryTxn, Fail>
-    ensures { IfOk result (λ txn. IsReady ⟦<MemoryTxn as RowTxn>⟧.face txn) }
+    ensures { IfOk result (λ txn. IsReady ⟦<MemoryTxn as RowRead>⟧.face txn) }
 {
     let mut txn = MemoryTxn::new(alloc, OID_LIMIT)?;
     for number in 1..8 {

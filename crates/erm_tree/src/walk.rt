@@ -10,7 +10,7 @@ ghost use Rattle.erm_tree.specs.Reads.{IsOnWay};
 ghost use Rattle.erm_tree.specs.Walk.{IsLeafFor, IsRecordFor, bound_of, rank};
 
 use arrayvec::ArrayVec;
-use erm_model::{OID_LIMIT, Oid, RowStop, RowTxn, TABLES};
+use erm_model::{OID_LIMIT, Oid, RowRead, RowStop, TABLES};
 use erm_node::{LEVELS, NODE_PAIRS, nodes_are_read_back, read_node};
 
 /// A leaf, and where its range of keys ends: at a key that isn't in it, or behind the greatest one.
@@ -21,7 +21,7 @@ pub(crate) struct Leaf {
 }
 
 /// Reads down from a table's root to the leaf for a key.
-pub(crate) fn leaf_for<T: RowTxn>(txn: &mut T, table: u8, key: u64) -> Result<Leaf, RowStop>
+pub(crate) fn leaf_for<T: RowRead>(txn: &mut T, table: u8, key: u64) -> Result<Leaf, RowStop>
     requires ready { IsReady T.face txn.old }
     requires law { SameLaw T.face.law sound_law }
     requires table { table < TABLES }
@@ -82,7 +82,7 @@ pub(crate) fn rank_of(pairs: &[(u64, Oid)], key: u64) -> usize
 }
 
 /// Finds the record of a key by reads down from the table's root, or none where the key has no entry.
-pub(crate) fn record_for<T: RowTxn>(
+pub(crate) fn record_for<T: RowRead>(
     txn: &mut T,
     table: u8,
     key: u64,

@@ -6,7 +6,7 @@ ghost use Rattle.erm_node.specs.Sound.{sound_law};
 ghost use Rattle.erm_tree.specs.Calls.{IsReady};
 ghost use Rattle.erm_tree.specs.Memory.{made_up_to, start_rows, zero_row};
 
-use erm_model::{OID_LIMIT, Oid, ROW_WORDS, Row, RowStop, RowTxn, TABLES};
+use erm_model::{OID_LIMIT, Oid, ROW_WORDS, Row, RowRead, RowStop, RowTxn, TABLES};
 use erm_node::nodes_are_read_back;
 use std::alloc::{AllocError, Global};
 
@@ -48,7 +48,7 @@ fn zero_rows(alloc: Global) -> Result<Vec<Row>, AllocError>
 impl MemoryTxn {
     /// A transaction on rows of zeros, which makes objects below a limit and else refuses no call soon.
     pub fn new(alloc: Global, limit: Oid) -> Result<MemoryTxn, AllocError>
-        ensures { IfOk result (λ txn. IsReady ⟦<MemoryTxn as RowTxn>⟧.face txn) }
+        ensures { IfOk result (λ txn. IsReady ⟦<MemoryTxn as RowRead>⟧.face txn) }
     {
         nodes_are_read_back();
         Ok(MemoryTxn {
@@ -77,7 +77,7 @@ impl MemoryTxn {
     }
 }
 
-impl RowTxn for MemoryTxn {
+impl RowRead for MemoryTxn {
     ghost face = { record {
       law = sound_law;
       active = λ s. Unit {0};
@@ -87,6 +87,7 @@ impl RowTxn for MemoryTxn {
       claims = λ s x. slice_index_or s.claimed.items x false ≡ true;
       reads = λ s x. slice_index_or s.seen.items x false ≡ true;
       follows = λ s t. Unit {0};
+      answers = λ s event t. Unit {0};
       stops = λ s asked stop t. Unit {0};
     } };
 
@@ -102,6 +103,12 @@ impl RowTxn for MemoryTxn {
         Ok(self.rows[oid as usize])
     }
 
+    ghost goes_on = { λ s t u first second. tt };
+
+    ghost stands = { λ s. tt };
+}
+
+impl RowTxn for MemoryTxn {
     fn claim(&mut self, oid: Oid) -> Result<(), RowStop> {
         nodes_are_read_back();
         if self.claimed[oid as usize] {
@@ -144,8 +151,4 @@ impl RowTxn for MemoryTxn {
         self.next += 1;
         Ok(oid)
     }
-
-    ghost goes_on = { λ s t u first second. tt };
-
-    ghost stands = { λ s. tt };
 }

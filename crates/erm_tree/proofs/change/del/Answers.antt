@@ -20,20 +20,20 @@ use Rattle.erm_tree.proofs.change.del.Goals as goal
 
 pub returns-in_err-oid-clause-err : goal.returns-in_err-oid-clause-err
 returns-in_err-oid-clause-err g c =
-    let t = g.met.T.RowTxn in
-    let kind : List Event → Type 0 = Reads g.T.RowTxn.face.law (IsOnWay c.args.table c.args.key) in
+    let t = g.met.T.RowRead in
+    let kind : List Event → Type 0 = Reads g.T.RowRead.face.law (IsOnWay c.args.table c.args.key) in
     let p = err_from_is_err_and c.from_residual.result c.from_residual.ensures.1 in
-    rw (p.1, p.2) (IsStopped-among g.T.RowTxn.face t.goes_on StopsRead StopsChange kind kind (AsksReads (IsOnWay c.args.table c.args.key)) (AsksDel c.args.table c.args.key) c.args.txn.now c.record_for.new.txn c.in_err-oid.field-0.0 (λ stop named. inl named) (λ es is. is)
+    rw (p.1, p.2) (IsStopped-among g.T.RowRead.face t.goes_on StopsRead StopsChange kind kind (AsksReads (IsOnWay c.args.table c.args.key)) (AsksDel c.args.table c.args.key) c.args.txn.now c.record_for.new.txn c.in_err-oid.field-0.0 (λ stop named. inl named) (λ es is. is)
     (λ es array asked asks. AsksDel-reads c.args.table c.args.key es array asked asks) c.in_err-oid.ensures.err)
 
 pub returns-in-Some-clause-ok : goal.returns-in-Some-clause-ok
 returns-in-Some-clause-ok g c =
-    let face = g.T.RowTxn.face in
+    let face = g.T.RowRead.face in
     let way : Rows → ℕ → Type 0 = IsOnWay c.args.table c.args.key in
     let seen = subst (λ (r : Option ℕ). SawIn face way c.args.txn.now c.record_for.new.txn (λ (rows : Rows). IsRecordFor rows c.args.table c.args.key r)) c.in-Some.is c.in_ok-oid.ensures.ok in
     let same = c.absent.ensures in
     IfOk-weaker c.write.result _ _ (λ ok does.
-    DidBy-set_record face g.met.T.RowTxn.goes_on c.requires.law c.nodes_are_read_back.ensures.record c.args.table c.args.key c.requires.table c.args.txn.now c.record_for.new.txn c.write.new.self c.in-Some.oid absent_row
+    DidBy-set_record face g.met.T.RowRead.goes_on c.requires.law c.nodes_are_read_back.ensures.record c.args.table c.args.key c.requires.table c.args.txn.now c.record_for.new.txn c.write.new.self c.in-Some.oid absent_row
     (λ (rows : Rows) (events : List Event). AreReadsThen (IsOnWay c.args.table c.args.key rows) [] events)
     (λ (old now : Rows). map_of_rows now ≡ remove (map_of_rows old) (at c.args.table c.args.key)) (inl refl) seen
     (subst (λ (row : List ℕ). Does face c.record_for.new.txn (did_write c.in-Some.oid row) c.write.new.self) same does)
@@ -43,8 +43,8 @@ returns-in-Some-clause-ok g c =
 
 pub returns-in-Some-clause-err : goal.returns-in-Some-clause-err
 returns-in-Some-clause-err g c =
-    let t = g.met.T.RowTxn in
-    let face = g.T.RowTxn.face in
+    let t = g.met.T.RowRead in
+    let face = g.T.RowRead.face in
     let seen = subst (λ (r : Option ℕ). SawIn face (IsOnWay c.args.table c.args.key) c.args.txn.now c.record_for.new.txn (λ (rows : Rows). IsRecordFor rows c.args.table c.args.key r)) c.in-Some.is c.in_ok-oid.ensures.ok in
     IfErr-weaker c.write.result _ _ (λ stop refused.
     IsStopped-after face t.goes_on StopsChange (Reads face.law (IsOnWay c.args.table c.args.key)) (AsksDel c.args.table c.args.key) c.args.txn.now c.record_for.new.txn c.write.new.self (asked_claim c.in-Some.oid) stop
@@ -54,10 +54,10 @@ returns-in-Some-clause-err g c =
 
 pub returns-in-None-clause-ok : goal.returns-in-None-clause-ok
 returns-in-None-clause-ok g c =
-    let face = g.T.RowTxn.face in
+    let face = g.T.RowRead.face in
     let way : Rows → ℕ → Type 0 = IsOnWay c.args.table c.args.key in
     let seen = subst (λ (r : Option ℕ). SawIn face way c.args.txn.now c.record_for.new.txn (λ (rows : Rows). IsRecordFor rows c.args.table c.args.key r)) c.in-None.is c.in_ok-oid.ensures.ok in
-    DidBy-nothing face g.met.T.RowTxn.goes_on way (λ (rows : Rows) (events : List Event). IsDel rows c.args.table c.args.key absent_row events) c.args.txn.now c.record_for.new.txn
+    DidBy-nothing face g.met.T.RowRead.goes_on way (λ (rows : Rows) (events : List Event). IsDel rows c.args.table c.args.key absent_row events) c.args.txn.now c.record_for.new.txn
     (λ (rows : Rows). IsRecordFor rows c.args.table c.args.key None)
     (λ (old now : Rows). map_of_rows now ≡ remove (map_of_rows old) (at c.args.table c.args.key)) seen
     (λ array meets is.

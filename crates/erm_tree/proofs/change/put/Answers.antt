@@ -45,19 +45,19 @@ put_reads table key value es array asked asks = AsksPut-reads table key (value_r
 
 pub returns-in_err-path-clause-err : goal.returns-in_err-path-clause-err
 returns-in_err-path-clause-err g c =
-    let t = g.met.T.RowTxn in
+    let t = g.met.T.RowRead in
     let p = err_from_is_err_and c.from_residual.result c.from_residual.ensures.1 in
-    rw (p.1, p.2) (Refused-reads g.T.RowTxn.face t.goes_on (IsOnWay c.args.table c.args.key) StopsRead StopsPut (λ stop named. inl (inl named)) (whole_put c.args.table c.args.key c.args.value.now) (reads_begin c.args.table c.args.key c.args.value.now) (asks_put c.args.table c.args.key c.args.value.now) (put_reads c.args.table c.args.key c.args.value.now) c.args.txn.now c.path_for.new.txn c.in_err-path.field-0.0 c.in_err-path.ensures.err)
+    rw (p.1, p.2) (Refused-reads g.T.RowRead.face t.goes_on (IsOnWay c.args.table c.args.key) StopsRead StopsPut (λ stop named. inl (inl named)) (whole_put c.args.table c.args.key c.args.value.now) (reads_begin c.args.table c.args.key c.args.value.now) (asks_put c.args.table c.args.key c.args.value.now) (put_reads c.args.table c.args.key c.args.value.now) c.args.txn.now c.path_for.new.txn c.in_err-path.field-0.0 c.in_err-path.ensures.err)
 
 pub returns-in-Some-clause-ok : goal.returns-in-Some-clause-ok
 returns-in-Some-clause-ok g c =
-    let face = g.T.RowTxn.face in
+    let face = g.T.RowRead.face in
     let row = value_row c.args.value.now in
     let places = places_of c.in_ok-path.path.steps.items in
     let seen = subst (λ (r : Option ℕ). SawIn face (IsOnWay c.args.table c.args.key) c.args.txn.now c.path_for.new.txn (path_seen c.args.table c.args.key places r)) c.in-Some.is c.in_ok-path.ensures.ok in
-    let found = Path-record face g.met.T.RowTxn.goes_on c.requires.law c.args.table c.args.key c.args.txn.now c.path_for.new.txn places (Some c.in-Some.oid) seen in
+    let found = Path-record face g.met.T.RowRead.goes_on c.requires.law c.args.table c.args.key c.args.txn.now c.path_for.new.txn places (Some c.in-Some.oid) seen in
     IfOk-weaker c.write.result _ _ (λ ok does.
-    DidBy-set_record face g.met.T.RowTxn.goes_on c.requires.law c.nodes_are_read_back.ensures.record c.args.table c.args.key c.requires.table c.args.txn.now c.path_for.new.txn c.write.new.self c.in-Some.oid row
+    DidBy-set_record face g.met.T.RowRead.goes_on c.requires.law c.nodes_are_read_back.ensures.record c.args.table c.args.key c.requires.table c.args.txn.now c.path_for.new.txn c.write.new.self c.in-Some.oid row
     (λ (rows : Rows) (events : List Event). IsPutOfNew rows c.args.table c.args.key row events)
     (λ (old now : Rows). map_of_rows now ≡ insert (map_of_rows old) (at c.args.table c.args.key) c.args.value.now) (inr (c.args.value.now, c.row_of-row.ensures.value, refl)) found
     (subst (λ (r : List ℕ). Does face c.path_for.new.txn (did_write c.in-Some.oid r) c.write.new.self) c.row_of-row.ensures.row does)
@@ -67,8 +67,8 @@ returns-in-Some-clause-ok g c =
 
 pub returns-in-Some-clause-err : goal.returns-in-Some-clause-err
 returns-in-Some-clause-err g c =
-    let t = g.met.T.RowTxn in
-    let face = g.T.RowTxn.face in
+    let t = g.met.T.RowRead in
+    let face = g.T.RowRead.face in
     let places = places_of c.in_ok-path.path.steps.items in
     let seen = subst (λ (r : Option ℕ). SawIn face (IsOnWay c.args.table c.args.key) c.args.txn.now c.path_for.new.txn (path_seen c.args.table c.args.key places r)) c.in-Some.is c.in_ok-path.ensures.ok in
     IfErr-weaker c.write.result _ _ (λ stop refused.
@@ -83,8 +83,8 @@ make_all-requires-clause-room g c =
 
 pub returns-in_err-made-clause-err : goal.returns-in_err-made-clause-err
 returns-in_err-made-clause-err g c =
-    let t = g.met.T.RowTxn in
-    let face = g.T.RowTxn.face in
+    let t = g.met.T.RowRead in
+    let face = g.T.RowRead.face in
     let p = err_from_is_err_and c.from_residual-in_err-made.result c.from_residual-in_err-made.ensures.1 in
     let count : c.objects_for.result ≡ objects_for (places_of c.in_ok-path.path.steps.items) = c.objects_for.ensures ∙ ap (λ (steps : List Step). objects_for (places_of steps)) c.as_slice.ensures.value in
     rw (p.1, p.2) (Refused-quiet face t.goes_on (IsOnWay c.args.table c.args.key) StopsMake StopsPut (λ stop named. inr named) (whole_put c.args.table c.args.key c.args.value.now) (reads_begin c.args.table c.args.key c.args.value.now) (asks_put c.args.table c.args.key c.args.value.now) (AreFirstMakes c.objects_for.result) (AsksMake c.objects_for.result) c.args.txn.now c.path_for.new.txn c.make_all.new.txn c.in_err-made.field-0.0
@@ -94,8 +94,8 @@ returns-in_err-made-clause-err g c =
 
 pub claim_all-requires-clause-objects : goal.claim_all-requires-clause-objects
 claim_all-requires-clause-objects g c =
-    let face = g.T.RowTxn.face in
-    let t = g.met.T.RowTxn in
+    let face = g.T.RowRead.face in
+    let t = g.met.T.RowRead in
     let key = c.args.key in
     let row = value_row c.args.value.now in
     let places = places_of c.in_ok-path.path.steps.items in
@@ -110,8 +110,8 @@ claim_all-requires-clause-objects g c =
 
 pub returns-in_err-claim_all-clause-err : goal.returns-in_err-claim_all-clause-err
 returns-in_err-claim_all-clause-err g c =
-    let t = g.met.T.RowTxn in
-    let face = g.T.RowTxn.face in
+    let t = g.met.T.RowRead in
+    let face = g.T.RowRead.face in
     let p = err_from_is_err_and c.from_residual-in_err-claim_all.result c.from_residual-in_err-claim_all.ensures.1 in
     let key = c.args.key in
     let row = value_row c.args.value.now in
@@ -130,8 +130,8 @@ returns-in_err-claim_all-clause-err g c =
 
 pub write_all-requires-clause-objects : goal.write_all-requires-clause-objects
 write_all-requires-clause-objects g c =
-    let face = g.T.RowTxn.face in
-    let t = g.met.T.RowTxn in
+    let face = g.T.RowRead.face in
+    let t = g.met.T.RowRead in
     let key = c.args.key in
     let row = value_row c.args.value.now in
     let places = places_of c.in_ok-path.path.steps.items in
@@ -146,15 +146,15 @@ write_all-requires-clause-objects g c =
 
 pub write_all-requires-clause-claimed : goal.write_all-requires-clause-claimed
 write_all-requires-clause-claimed g c =
-    let face = g.T.RowTxn.face in
-    let each = Runs-claimed face g.met.T.RowTxn.goes_on c.as_slice-4.result.now c.make_all.new.txn c.claim_all.new.txn c.in_ok-claim_all.ensures.ok.goes_on.runs in
+    let face = g.T.RowRead.face in
+    let each = Runs-claimed face g.met.T.RowRead.goes_on c.as_slice-4.result.now c.make_all.new.txn c.claim_all.new.txn c.in_ok-claim_all.ensures.ok.goes_on.runs in
     let claimed : ℕ × List ℕ → Type 0 = λ (e : ℕ × List ℕ). face.claims c.claim_all.new.txn e.0 in
     subst (λ (ws : List (ℕ × List ℕ)). All claimed ws) (c.as_slice-4.ensures.value ∙ sym c.as_slice-5.ensures.value) (All-Each claimed c.as_slice-4.result.now each)
 
 pub returns-clause-ok : goal.returns-clause-ok
 returns-clause-ok g c =
-    let face = g.T.RowTxn.face in
-    let t = g.met.T.RowTxn in
+    let face = g.T.RowRead.face in
+    let t = g.met.T.RowRead in
     let key = c.args.key in
     let row = value_row c.args.value.now in
     let places = places_of c.in_ok-path.path.steps.items in

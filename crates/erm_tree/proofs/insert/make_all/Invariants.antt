@@ -6,4 +6,4 @@ use Rattle.erm_tree.specs.Calls.{Ran}
 use Rattle.erm_tree.proofs.insert.make_all.Given as goal
 
 abbrev pub invariant-loop-object : goal.invariant-loop-object
-invariant-loop-object g l = Ran g.T.RowTxn.face l.fn.txn (map did_make l.made.items) l.txn × (length l.made.items ≡ l._object) × All (λ (oid : ℕ). oid < OID_LIMIT) l.made.items
+invariant-loop-object g l = Ran g.T.RowRead.face l.fn.txn (map did_make l.made.items) l.txn × (length l.made.items ≡ l._object) × All (λ (oid : ℕ). oid < OID_LIMIT) l.made.items

@@ -8,5 +8,5 @@ use Rattle.erm_tree.proofs.insert.path_for.Given as goal
 
 abbrev pub invariant-loop-level : goal.invariant-loop-level
 invariant-loop-level g l =
-    SawIn g.T.RowTxn.face (IsOnWay l.table l.key) l.fn.txn l.txn (λ (rows : Rows). IsOnPath rows l.table l.key l._level l.oid (places_of l.steps.items))
+    SawIn g.T.RowRead.face (IsOnWay l.table l.key) l.fn.txn l.txn (λ (rows : Rows). IsOnPath rows l.table l.key l._level l.oid (places_of l.steps.items))
     × (length l.steps.items ≡ l._level)

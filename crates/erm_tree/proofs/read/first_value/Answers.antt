@@ -12,19 +12,19 @@ use Rattle.erm_tree.proofs.read.first_value.Goals.{then-pair-low+in_ok-row+in_de
 
 pub loop-pair-init : goal.loop-pair-init
 loop-pair-init g c =
-    let t = g.met.T.RowTxn in
-    Along-start g.T.RowTxn.face t.goes_on c.args.low c.as_slice-pairs.result.now (bound_of c.args.leaf.now.end) c.args.txn.now c.requires.ready (t.stands c.args.txn.now)
+    let t = g.met.T.RowRead in
+    Along-start g.T.RowRead.face t.goes_on c.args.low c.as_slice-pairs.result.now (bound_of c.args.leaf.now.end) c.args.txn.now c.requires.ready (t.stands c.args.txn.now)
 
 pub read-requires-clause-object : goal.read-requires-clause-object
 read-requires-clause-object g c =
-    let face = g.T.RowTxn.face in
+    let face = g.T.RowRead.face in
     let told = subst (λ (pairs : List (ℕ × ℕ)). IsTold face c.args.txn.now (λ (rows : Rows). (table : ℕ) × IsLeafFor rows table c.args.low pairs (bound_of c.args.leaf.now.end))) (sym c.as_slice-pairs.ensures.value) c.requires.leaf in
-    Along-bounded face g.met.T.RowTxn.goes_on c.args.low c.as_slice-pairs.result.now (bound_of c.args.leaf.now.end) c.args.txn.now c.loop-pair.txn c.loop-pair.pair-index c.loop-pair-test.true c.loop-pair.invariant c.requires.ready.lawful told
+    Along-bounded face g.met.T.RowRead.goes_on c.args.low c.as_slice-pairs.result.now (bound_of c.args.leaf.now.end) c.args.txn.now c.loop-pair.txn c.loop-pair.pair-index c.loop-pair-test.true c.loop-pair.invariant c.requires.ready.lawful told
 
 pub returns-in_err-row-clause-err : goal.returns-in_err-row-clause-err
 returns-in_err-row-clause-err g c =
-    let t = g.met.T.RowTxn in
-    let face = g.T.RowTxn.face in
+    let t = g.met.T.RowRead in
+    let face = g.T.RowRead.face in
     let to = bound_of c.args.leaf.now.end in
     let pairs = c.as_slice-pairs.result.now in
     let p = err_from_is_err_and c.from_residual.result c.from_residual.ensures.1 in
@@ -35,19 +35,19 @@ returns-in_err-row-clause-err g c =
 
 pub returns-in-Some-clause-ok : goal.returns-in-Some-clause-ok
 returns-in-Some-clause-ok g c =
-    let face = g.T.RowTxn.face in
+    let face = g.T.RowRead.face in
     let to = bound_of c.args.leaf.now.end in
     let pairs = c.as_slice-pairs.result.now in
     let pair = get_or pairs c.loop-pair.pair-index (0, 0) in
-    let some = Along-some face g.met.T.RowTxn.goes_on c.args.low pairs to c.args.txn.now c.loop-pair.txn c.loop-pair.pair-index c.loop-pair-test.true c.loop-pair.invariant c.if-pair-low.true c.read.new.self c.in_ok-row.row c.in_ok-row.ensures.ok
+    let some = Along-some face g.met.T.RowRead.goes_on c.args.low pairs to c.args.txn.now c.loop-pair.txn c.loop-pair.pair-index c.loop-pair-test.true c.loop-pair.invariant c.if-pair-low.true c.read.new.self c.in_ok-row.row c.in_ok-row.ensures.ok
     c.in-Some.value (sym c.in-Some.ensures.value) in
     subst (λ (ps : List (ℕ × ℕ)). SawIn face (λ (rows : Rows) (x : ℕ). IsOfLeaf rows c.args.low ps to pair.0 x) c.args.txn.now c.read.new.self (λ (rows : Rows). (table : ℕ) → IsLeafFor rows table c.args.low ps to → IsFirstIn rows table c.args.low to (Some (pair.0, c.in-Some.value))))
     c.as_slice-pairs.ensures.value some
 
 pub loop-pair-preserved : goal.loop-pair-preserved
 loop-pair-preserved g c =
-    let face = g.T.RowTxn.face in
-    let t = g.met.T.RowTxn in
+    let face = g.T.RowRead.face in
+    let t = g.met.T.RowRead in
     let low = c.args.low in
     let to = bound_of c.args.leaf.now.end in
     let pairs = c.as_slice-pairs.result.now in
@@ -61,8 +61,8 @@ loop-pair-preserved g c =
 
 pub returns-clause-ok : goal.returns-clause-ok
 returns-clause-ok g c =
-    let face = g.T.RowTxn.face in
+    let face = g.T.RowRead.face in
     let to = bound_of c.args.leaf.now.end in
-    let end = Along-end face g.met.T.RowTxn.goes_on c.args.low c.as_slice-pairs.result.now to c.args.txn.now c.loop-pair.txn c.loop-pair.pair-index c.loop-pair-test.false c.loop-pair.invariant in
+    let end = Along-end face g.met.T.RowRead.goes_on c.args.low c.as_slice-pairs.result.now to c.args.txn.now c.loop-pair.txn c.loop-pair.pair-index c.loop-pair-test.false c.loop-pair.invariant in
     subst (λ (ps : List (ℕ × ℕ)). SawIn face (λ (rows : Rows) (x : ℕ). IsOfLeaf rows c.args.low ps to (to - 1) x) c.args.txn.now c.loop-pair.txn (λ (rows : Rows). (table : ℕ) → IsLeafFor rows table c.args.low ps to → IsFirstIn rows table c.args.low to None))
     c.as_slice-pairs.ensures.value end

@@ -8,5 +8,5 @@ use Rattle.erm_tree.proofs.read.first_value.Given as goal
 
 abbrev pub invariant-loop-pair : goal.invariant-loop-pair
 invariant-loop-pair g l =
-    SawIn g.T.RowTxn.face (λ (rows : Rows) (x : ℕ). IsOfLeaf rows l.low l.pairs (bound_of l.leaf.end) (first_key (drop l.pair-index l.pairs) (bound_of l.leaf.end) - 1) x) l.fn.txn l.txn
+    SawIn g.T.RowRead.face (λ (rows : Rows) (x : ℕ). IsOfLeaf rows l.low l.pairs (bound_of l.leaf.end) (first_key (drop l.pair-index l.pairs) (bound_of l.leaf.end) - 1) x) l.fn.txn l.txn
     (HasNoneUpTo l.low l.pairs (bound_of l.leaf.end) l.pair-index)

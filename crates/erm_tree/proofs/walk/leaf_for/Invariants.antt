@@ -7,4 +7,4 @@ use Rattle.erm_tree.proofs.walk.leaf_for.Given as goal
 
 abbrev pub invariant-loop-level : goal.invariant-loop-level
 invariant-loop-level g l =
-    SawIn g.T.RowTxn.face (IsOnWay l.table l.key) l.fn.txn l.txn (λ (rows : Rows). StandsAt rows l.table l.key l._level l.oid (bound_of l.end))
+    SawIn g.T.RowRead.face (IsOnWay l.table l.key) l.fn.txn l.txn (λ (rows : Rows). StandsAt rows l.table l.key l._level l.oid (bound_of l.end))
