@@ -6,6 +6,3 @@ mod replays;
 
 pub use order::serial_order;
 pub use replays::replay;
-
-#[cfg(test)]
-mod tests;

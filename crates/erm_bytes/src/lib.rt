@@ -9,6 +9,3 @@ pub use bytes::{
     write_words,
 };
 pub use digest::digest_word;
-
-#[cfg(test)]
-mod tests;

@@ -4,8 +4,6 @@
 mod laws;
 mod limits;
 mod numbers;
-#[cfg(test)]
-mod tests;
 mod word;
 
 pub use laws::{every_number, numbers_below, one_number};

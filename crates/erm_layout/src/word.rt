@@ -3,7 +3,7 @@ use erm_machine::{CellWord, Counter};
 use erm_model::{Oid, Seat};
 
 /// A word of the table.
-#[derive(Clone, Copy, Debug, PartialEq, Eq)]
+#[derive(Clone, Copy, PartialEq, Eq)]
 pub enum Word {
     /// The tail of the log.
     Tail,

@@ -14,6 +14,3 @@ pub use mem_sink::MemSink;
 pub use mem_source::MemSource;
 pub use open_gate::OpenGate;
 pub use steady_source::SteadySource;
-
-#[cfg(test)]
-mod tests;

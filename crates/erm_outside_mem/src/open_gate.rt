@@ -4,7 +4,7 @@ use erm_outside::{Gate, Place};
 use std::sync::Wait;
 
 /// A gate that lets every worker pass at once.
-#[derive(Clone, Copy, Debug)]
+#[derive(Clone, Copy)]
 pub struct OpenGate;
 
 impl Gate for OpenGate {

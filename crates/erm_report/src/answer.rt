@@ -2,7 +2,7 @@
 use erm_model::{Oid, Reply, Stamp};
 
 /// The answer to a line of a script, or to a session at the end.
-#[derive(Debug, Drop, PartialEq, Eq)]
+#[derive(Drop)]
 pub enum Answer {
     /// A transaction began, with this begin stamp.
     Began(Stamp),

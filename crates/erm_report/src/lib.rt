@@ -5,8 +5,6 @@ mod answer;
 mod laws;
 mod line;
 mod printing;
-#[cfg(test)]
-mod tests;
 mod text;
 
 pub use answer::Answer;

@@ -4,7 +4,7 @@ use erm_model::{Name, Pair, Stamp};
 use erm_script::FaultKind;
 
 /// A line that the program prints.
-#[derive(Debug, Drop, PartialEq, Eq)]
+#[derive(Drop)]
 pub enum Line {
     /// The opening's own block in the log, and its run.
     Open {

@@ -1,7 +1,7 @@
 //! What is wrong with a script.
 
 /// A kind of fault of a line. They are tried in this order.
-#[derive(Clone, Copy, Debug, PartialEq, Eq)]
+#[derive(Clone, Copy, PartialEq, Eq)]
 pub enum FaultKind {
     /// A line that is not for a session's own thread.
     Threads,
@@ -20,7 +20,7 @@ pub enum FaultKind {
 }
 
 /// The first line of a script that is not in the grammar.
-#[derive(Clone, Copy, Debug, PartialEq, Eq)]
+#[derive(Clone, Copy)]
 pub struct ScriptFault {
     /// Its number, from 1. Skipped lines count.
     pub line: u32,

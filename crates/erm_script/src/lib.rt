@@ -5,8 +5,6 @@ mod fault;
 mod laws;
 mod parser;
 mod script;
-#[cfg(test)]
-mod tests;
 
 pub use fault::{FaultKind, ScriptFault};
 pub use laws::{first_faults_are_unique, lines_of_scripts_have_no_fault, scripts_have_one_reading};

@@ -12,14 +12,14 @@ use erm_model::{Name, Seat};
 use std::alloc::{AllocError, Global};
 
 /// A script: its sessions' names by the order of their first lines, and its lines but for those that are skipped.
-#[derive(Debug, Drop)]
+#[derive(Drop)]
 pub struct Script {
     pub names: Vec<Name>,
     pub lines: Vec<ScriptLine>,
 }
 
 /// Why bytes were not read as a script.
-#[derive(Debug, Drop, PartialEq, Eq)]
+#[derive(Drop)]
 pub enum ParseError {
     /// Memory ran out.
     Memory,

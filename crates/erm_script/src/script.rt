@@ -8,7 +8,7 @@ pub const LAST_TABLE: u8 = TABLES - 1;
 pub const SESSIONS: usize = 1;
 
 /// What a line of a script asks of its session.
-#[derive(Debug, Drop, PartialEq, Eq)]
+#[derive(Drop)]
 pub enum Command {
     /// Begins a transaction.
     Begin,
@@ -29,7 +29,7 @@ pub enum Command {
 }
 
 /// A line of a script.
-#[derive(Debug, Drop, PartialEq, Eq)]
+#[derive(Drop)]
 pub struct ScriptLine {
     /// Its number, from 1. Skipped lines count.
     pub line: u32,

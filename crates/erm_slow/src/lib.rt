@@ -1,9 +1,6 @@
 //! The dependency graph and the stamps of a small history, computed from their definitions. Slow, and for tests alone.
 #![tactic(auto)]
 
-#[cfg(test)]
-mod tests;
-
 ghost use Rattle.std.specs.Prelude.{◌≡◌, ◌<◌, ◌↔◌, ◌⊎◌, IsTrue, length, slice_get};
 ghost use Rattle.erm_model.specs.History.{Makes, Overwrites, ReadsFrom, OverwritesFrom, OverwritesReadOf, Depends, IsPredecessorStamp, IsCertified};
 ghost use Rattle.erm_model.specs.declared.history.TransactionRecord.{TransactionRecord};

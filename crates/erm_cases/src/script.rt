@@ -1,6 +1,5 @@
 //! One script, and lines that are only sometimes in their place.
-use crate::{Command, FaultKind, ParseError, Script, ScriptFault, ScriptLine, parse};
-use erm_model::Value;
+use erm_script::{Command, FaultKind, ParseError, parse};
 use std::alloc::Global;
 use std::test::Fail;
 
@@ -28,26 +27,19 @@ fn fault(alloc: Global, line: &[u8], threads: bool) -> Option<FaultKind> {
 
 #[test]
 fn one_script(rt: HostRuntime) -> Result<(), Fail> {
-    let script = parse(rt.alloc(), SCRIPT, false)?;
-    assert_eq!(rt; script.names.len(), 1);
-    let put = Command::Put {
-        table: 15,
-        key: u64::MAX,
-        value: Value::new(b"\x00\xff").unwrap(),
+    let Ok(script) = parse(rt.alloc(), SCRIPT, false) else {
+        return Err(Fail::new("no script"));
     };
-    let lines = [
-        ScriptLine {
-            line: 2,
-            session: 1,
-            command: Command::Begin,
-        },
-        ScriptLine {
-            line: 4,
-            session: 1,
-            command: put,
-        },
-    ];
-    assert!(rt; script.lines.as_slice() == lines.as_slice());
+    assert!(rt; script.names.len() == 1);
+    let [begin, put] = script.lines.as_slice() else {
+        return Err(Fail::new("not two lines"));
+    };
+    assert!(rt; begin.line == 2 && begin.session == 1 && matches!(begin.command, Command::Begin));
+    assert!(rt; put.line == 4 && put.session == 1);
+    let Command::Put { table, key, value } = &put.command else {
+        return Err(Fail::new("no put"));
+    };
+    assert!(rt; *table == 15 && *key == u64::MAX && value.as_slice() == b"\x00\xff".as_slice());
     Ok(())
 }
 

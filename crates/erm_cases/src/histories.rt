@@ -1,7 +1,7 @@
 //! Small histories of transactions on the records of keys 10 and 20, objects 16 and 17, under one leaf, object 0. Their
 //! numbers were worked out by hand.
-use super::*;
-use erm_model::{VersionRead, VersionWritten};
+use erm_model::{Oid, Stamp, TransactionRecord, VersionRead, VersionWritten};
+use erm_slow::{depends, is_certified, predecessor_stamp, successor_stamp};
 use std::alloc::{AllocError, Global};
 use std::collections::LinkedList;
 use std::test::Fail;
@@ -285,7 +285,7 @@ fn small_histories(rt: HostRuntime) -> Result<(), Fail> {
         let carrying = history(rt.alloc(), story.sketches, true)?;
         assert!(rt; has_stamps(&bare, story.sketches), "stamps of {place}");
         assert!(rt; has_edges(&bare, story.edges), "edges of {place}");
-        assert_eq!(rt; is_certified(&carrying), story.certified, "{place}");
+        assert!(rt; is_certified(&carrying) == story.certified, "{place}");
     }
     for sketches in UNCERTIFIED {
         let carrying = history(rt.alloc(), sketches, true)?;

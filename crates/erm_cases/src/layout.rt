@@ -1,4 +1,5 @@
-use super::*;
+//! The numbers of the table's words.
+use erm_layout::{WORDS, Word, index, word_of};
 use erm_machine::{CellWord, Counter};
 
 // All four first words, the first and the last word of each part, and all kinds of words of a cell with those beside it.
@@ -98,12 +99,10 @@ const PLACES: [(usize, Word); 25] = [
 
 #[test]
 fn numbers(rt: HostRuntime) {
-    assert_eq!(rt; WORDS, 1_491_046);
-    assert_eq!(rt; word_of(1_491_046), None);
-    assert_eq!(rt; word_of(usize::MAX), None);
+    assert!(rt; WORDS == 1_491_046);
+    assert!(rt; word_of(1_491_046).is_none() && word_of(usize::MAX).is_none());
     for (number, word) in PLACES {
-        assert_eq!(rt; word_of(number), Some(word));
+        assert!(rt; word_of(number) == Some(word), "{number}");
     }
-    assert_eq!(rt; index(Word::State(49)), 101);
-    assert_eq!(rt; index(Word::Ring(32_767)), 1_491_045);
+    assert!(rt; index(Word::State(49)) == 101 && index(Word::Ring(32_767)) == 1_491_045);
 }

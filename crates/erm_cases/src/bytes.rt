@@ -1,4 +1,8 @@
-use super::*;
+//! Words, their bytes and their digests.
+use erm_bytes::{
+    bytes_again, digest_word, read_words, same_bytes_same_words, words_again, words_have_bytes,
+    write_words,
+};
 
 // Words and their digests, made by another implementation of SHA-256.
 #[test]

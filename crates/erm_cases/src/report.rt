@@ -1,8 +1,10 @@
 //! The text of each kind of line, once.
 ghost use Rattle.std.specs.Prelude.{◌≤◌, length};
 
-use crate::{Answer, Line, NO_MEMORY, READ_FAULT, TOO_LONG, Text, USAGE, texts_determine_lines};
 use erm_model::{Key, NAME_BYTES, Name, Pair, Reply, VALUE_BYTES, Value};
+use erm_report::{
+    Answer, Line, NO_MEMORY, READ_FAULT, TOO_LONG, Text, USAGE, texts_determine_lines,
+};
 use erm_script::FaultKind;
 use std::test::Fail;
 

@@ -1,5 +1,5 @@
 //! Orders of a few commits, and a few transactions replayed.
-use super::*;
+use erm_audit::{replay, serial_order};
 use erm_model::{Commit, Map, Op, Reply, Stamp, Value};
 use std::alloc::{AllocError, Global};
 use std::test::Fail;
