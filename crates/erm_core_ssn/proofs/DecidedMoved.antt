@@ -24,8 +24,7 @@ use Rattle.erm_machine.specs.Sound.{Sound}
 use Rattle.erm_machine.specs.Tasks.{TaskFits}
 use Rattle.erm_machine.specs.Words.{is_flusher}
 use Rattle.erm_machine.proofs.Guards.{when_then, either_way}
-use Rattle.erm_core_ssn.proofs.Members.{∈-head}
-use Rattle.erm_core_ssn.proofs.DecidedHistory.{∈-first, ∈-second}
+use Rattle.erm_machine.proofs.Listed.{∈-first, ∈-head, ∈-second}
 use Rattle.erm_core_ssn.proofs.DecidedVersions.{current_stands}
 use Rattle.erm_core_ssn.proofs.DecidedFrames.{Old, Comes, shape}
 use Rattle.erm_core_ssn.proofs.DecidedOpen.{none_over}

@@ -21,7 +21,8 @@ use Rattle.erm_machine.specs.Lawful.{opening_rows}
 use Rattle.erm_machine.specs.Snapshot.{NewerFrom}
 use Rattle.erm_machine.specs.Sound.{Sound}
 use Rattle.erm_machine.proofs.Holders.{stands_at, held_once}
-use Rattle.erm_core_ssn.proofs.DecidedHistory.{∈-map, ∈-map_from, in_history, history_has}
+use Rattle.erm_machine.proofs.Histories.{history_has, in_history}
+use Rattle.erm_machine.proofs.Listed.{∈-map, ∈-map_from}
 
 -- what stands at a place of a list that was mapped
 at_map : {X Y : Type 0} (f : X → Y) (xs : List X) (i : ℕ) (v : Y) (d : X) → slice_get (map f xs) i ≡ Some v → (i < length xs) × (f (get_or xs i d) ≡ v)
