@@ -1,0 +1,4 @@
+pub mod Lasting
+pub mod LawKept
+pub mod LivesLists
+pub mod Recalls
