@@ -1,4 +1,5 @@
 pub mod Lasting
 pub mod LawKept
 pub mod LivesLists
+pub mod Openings
 pub mod Recalls
