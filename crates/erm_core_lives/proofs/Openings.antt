@@ -1,22 +1,15 @@
 -- An opening's state keeps a law of rows that looks at the rows of the objects that there are alone.
-use Rattle.std.proofs.Common.{◌≡◌, ℕ, ◌<◌, ◌≤◌, ⊎_elim, Bool, [], refl, sym, ap, ◌∙◌, subst, arith}
+use Rattle.std.proofs.Common.{◌≡◌, ℕ, ◌≤◌, ⊎_elim, Bool, [], sym, ap, ◌∙◌, arith}
 use Rattle.std.specs.Prelude.{if◌then◌else◌}
 use Rattle.std.proofs.lemmas.Bool.{lt-ltb}
 use Rattle.erm_model.specs.Member.{◌∈◌}
-use Rattle.erm_model.specs.Lawful.{IsLawfulRecord}
-use Rattle.erm_model.specs.RowTransaction.{Law}
+use Rattle.erm_model.specs.RowTransaction.{Law, RespectsRows, SameRows}
 use Rattle.erm_model.specs.Rows.{Rows}
 use Rattle.erm_model.proofs.Members.{none_in_nil, ∈-push}
 use Rattle.erm_machine.specs.declared.limits.TheConstants.{OBJECT_LIMIT}
 use Rattle.erm_machine.specs.declared.attempt.Attempt.{Attempt}
-use Rattle.erm_machine.specs.Core.{Object, blank, no_object, opened_object, opening_state, version_at}
-use Rattle.erm_machine.specs.Decided.{record_of}
+use Rattle.erm_machine.specs.Core.{blank, no_object, opened_object, opening_state, version_at}
 use Rattle.erm_machine.specs.Lawful.{Lawful, opening_rows}
-use Rattle.erm_machine.proofs.Guards.{either_way}
-
--- two arrays have the same row of each object
-abbrev SameRows : Rows → Rows → Type 0
-SameRows a b = (oid : ℕ) → oid < OBJECT_LIMIT → a oid ≡ b oid
 
 -- the rows found at opening are those that it was given
 opened_rows : (sessions : ℕ) (rows : Rows) (tail run first cells : ℕ) → SameRows rows (opening_rows (opening_state sessions rows tail run first cells).shared)
@@ -24,15 +17,14 @@ opened_rows sessions rows tail run first cells oid within =
     ap (λ (b : Bool). (version_at (if b then opened_object rows oid else no_object) 0).words.row) (sym (lt-ltb oid OBJECT_LIMIT within))
 
 module _ (law : Law) where
-  pub opening_lawful : (sessions : ℕ) (rows : Rows) (tail run first cells : ℕ) → ((a b : Rows) → SameRows a b → law.meets a → law.meets b)
-      → ((a b : Rows) (x : ℕ) → SameRows a b → law.meets a → law.reach a x ≡ law.reach b x) → law.meets rows → ((oid : ℕ) → first ≤ oid → law.reach rows oid ≡ 0)
+  pub opening_lawful : (sessions : ℕ) (rows : Rows) (tail run first cells : ℕ) → RespectsRows law → law.meets rows → ((oid : ℕ) → first ≤ oid → law.reach rows oid ≡ 0)
       → Lawful law (opening_state sessions rows tail run first cells).shared (opening_state sessions rows tail run first cells).seats
-  opening_lawful sessions rows tail run first cells meets_same reach_same meets unreached =
+  opening_lawful sessions rows tail run first cells respects meets unreached =
       let same = opened_rows sessions rows tail run first cells in
       let found : Rows = opening_rows (opening_state sessions rows tail run first cells).shared in
       record {
-        opening = meets_same rows found same meets;
-        below = λ oid above. sym (reach_same rows found oid same meets) ∙ unreached oid above;
+        opening = (respects.meets rows found same).0 meets;
+        below = λ oid above. sym (respects.reach rows found oid same meets) ∙ unreached oid above;
         lawful = λ seat t m drawn.
             let none : t.stamp ≡ 0 = ⊎_elim (λ (before : t ∈ []). absurd (none_in_nil t before)) (λ (is : t ≡ blank). ap (λ (a : Attempt). a.stamp) is) (∈-push [] blank t m) in
             absurd (omega (arith, none, drawn));
