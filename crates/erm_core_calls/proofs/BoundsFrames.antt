@@ -1,12 +1,12 @@
 -- How far a call may have come: what a step has to show where it leaves the seat at its place.
-use Rattle.std.proofs.Common.{◌≡◌, ℕ, ◌<◌, ◌≤◌, Bool, true, false, ◌&&◌, ◌||◌, eqb, List, length, refl, sym, ap, ◌∙◌, subst, arith}
+use Rattle.std.proofs.Common.{◌≡◌, ℕ, ◌<◌, Bool, true, false, ◌&&◌, eqb, List, length, refl, sym, ap, ◌∙◌, subst, arith}
 use Rattle.std.specs.Prelude.{if◌then◌else◌}
 use Rattle.std.proofs.lemmas.Bool.{and_parts, eqb-false}
 use Rattle.erm_machine.specs.declared.attempt.Attempt.{Attempt}
 use Rattle.erm_machine.specs.declared.attempt.OwnCell.{OwnCell}
 use Rattle.erm_machine.specs.declared.part.Part.{Part}
 use Rattle.erm_machine.specs.declared.place.Place.{Place}
-use Rattle.erm_machine.specs.declared.place.Place.TheVariants.{Vacant, Idle, Begun, Announced, Active, Sealing, Drawn, Sealed, Decided, Leaving}
+use Rattle.erm_machine.specs.declared.place.Place.TheVariants.{Active, Sealed, Decided, Leaving}
 use Rattle.erm_machine.specs.declared.task.Task.{Task}
 use Rattle.erm_machine.specs.declared.task.Task.TheVariants as task
 use Rattle.erm_machine.specs.Bounds.{IsBounded, words_stored, OwnBounds}

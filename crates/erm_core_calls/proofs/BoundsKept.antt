@@ -1,14 +1,13 @@
 -- Each event keeps how far a call may have come.
-use Rattle.std.proofs.Common.{◌≡◌, ◌≢◌, ℕ, ◌+◌, ◌-◌, ◌<◌, ◌≤◌, ◌⊎◌, ⊎_elim, Bool, true, false, not, ◌&&◌, ◌||◌, eqb, ltb, max, List, [], ◌∷◌, ◌++◌, length, Option, Some, None, refl, sym, ap, ◌∙◌, subst, arith}
+use Rattle.std.proofs.Common.{◌≡◌, ℕ, ◌+◌, ◌-◌, ◌<◌, ◌≤◌, ⊎_elim, Bool, true, false, not, eqb, ltb, List, [], ◌∷◌, ◌++◌, length, Option, Some, None, refl, sym, ap, ◌∙◌, subst, arith}
 use Rattle.std.specs.Int.{bit_at}
 use Rattle.std.specs.Prelude.{if◌then◌else◌}
-use Rattle.std.proofs.lemmas.Bool.{and_parts, eqb-true, eqb-false, ltb-true, true_from_ne_false, false≢true}
+use Rattle.std.proofs.lemmas.Bool.{eqb-true, eqb-false, ltb-true, true_from_ne_false, false≢true}
 use Rattle.std.proofs.lemmas.Option.{same_Some}
 use Rattle.erm_model.specs.Member.{◌∈◌}
 use Rattle.erm_model.proofs.Members.{∈-push, ∈-at}
 use Rattle.erm_machine.specs.declared.limits.TheConstants.{ANNOUNCERS, OBJECT_LIMIT}
 use Rattle.erm_machine.specs.declared.attempt.Attempt.{Attempt}
-use Rattle.erm_machine.specs.declared.attempt.Claim.{Claim}
 use Rattle.erm_machine.specs.declared.attempt.Decision.TheVariants.{Abort}
 use Rattle.erm_machine.specs.declared.event.Kind.{Kind}
 use Rattle.erm_machine.specs.declared.event.Kind.TheVariants as kind
@@ -27,23 +26,23 @@ use Rattle.erm_machine.specs.Bounds.{IsOther, IsBounded, words_stored, OwnBounds
 use Rattle.erm_machine.specs.Cells.{WantsCell}
 use Rattle.erm_machine.specs.Decided.{MarkInHand}
 use Rattle.erm_machine.specs.Core.{Core, Shared, spot_of, word_at, version_at, claim_at, blank}
-use Rattle.erm_machine.specs.Facts.{IsCurrent, all_of}
+use Rattle.erm_machine.specs.Facts.{IsCurrent}
 use Rattle.erm_machine.specs.Flushing.{load_flushed, gathered_word, load_ring, write_log, after_sync, sync_log, clear_ring, store_flushed, write_slot, sync_slot, remove_log, sync_removal}
 use Rattle.erm_machine.specs.Life.{load_tail_to_begin, load_tail_for_horizon, load_tail, add_tail, store_begin, store_state, load_begin, after_clear, load_state, split, join, decide}
 use Rattle.erm_machine.specs.Reading.{load_entry}
-use Rattle.erm_machine.specs.Seat.{end_of, no_read, over, with_current, with_range, is_active, is_sealed, is_vacant, read_at, same_version}
-use Rattle.erm_machine.specs.Settling.{load_flushed_to_settle, load_read_entry, load_settled_stamp, load_stamp, store_head_word, store_cell, install, filled}
+use Rattle.erm_machine.specs.Seat.{end_of, no_read, over, with_range, is_active, is_sealed, is_vacant, read_at, same_version}
+use Rattle.erm_machine.specs.Settling.{load_read_entry, load_stamp, store_cell, install, filled}
 use Rattle.erm_machine.specs.Sound.{Sound}
-use Rattle.erm_machine.specs.Step.{part_after, after_event, is_known, moved, with_part}
+use Rattle.erm_machine.specs.Step.{part_after, after_event, is_known, with_part}
 use Rattle.erm_machine.specs.Tasks.{TaskFits}
-use Rattle.erm_machine.specs.Words.{put, is_clear, is_flusher, is_seat, is_least_bit, refuses, state_of, without_bit}
+use Rattle.erm_machine.specs.Words.{put, is_clear, is_flusher, is_seat, refuses, state_of, without_bit}
 use Rattle.erm_machine.proofs.Frames.{each_seat}
 use Rattle.erm_machine.proofs.Guards.{when_then, some_then, unless_then, if_then, either_way, unless_some}
 use Rattle.erm_machine.proofs.Holders.{stands_in}
 use Rattle.erm_machine.proofs.QuietKinds.{MeetsOne, moves}
 use Rattle.erm_core_calls.proofs.Bits.{bit_left, left_other}
 use Rattle.erm_core_calls.proofs.Seats.{seat_low, last_member, owner_seat, reader_seat, range_size}
-use Rattle.erm_core_calls.proofs.BoundsFrames.{first, second, positive_of, Early, FillsNone, none_stored, Ready, ready_from, ready_active, Bound, bound_if, bound_from, goes_on, task_on}
+use Rattle.erm_core_calls.proofs.BoundsFrames.{first, second, positive_of, Early, FillsNone, none_stored, Ready, ready_from, ready_active, Bound, bound_from, task_on}
 use Rattle.erm_core_calls.proofs.BoundsActive.{b_load_entry, b_claim, b_set_reader, b_load_cell, b_swap_link, b_load_detached, b_load_counter, b_add_counter, b_active_stamp, b_active_word, b_unclaim}
 use Rattle.erm_core_calls.proofs.BoundsSettled.{b_to_settle, b_load_read_entry, b_load_readers, b_settled_stamp, b_store_ring, b_raise_reader, b_mark, b_head_word, b_install_claim, b_clear_reader}
 

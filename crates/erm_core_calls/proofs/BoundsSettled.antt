@@ -1,8 +1,8 @@
 -- How far a call may have come: the steps of settle, and of an end.
-use Rattle.std.proofs.Common.{◌≡◌, ℕ, ◌+◌, ◌-◌, ◌<◌, ◌≤◌, Bool, true, false, not, ◌&&◌, ◌||◌, eqb, ltb, List, ◌∷◌, [], ◌++◌, length, Option, Some, None, refl, sym, ap, ◌∙◌, subst, arith, length-set}
+use Rattle.std.proofs.Common.{◌≡◌, ℕ, ◌+◌, ◌<◌, ◌≤◌, Bool, true, false, not, ◌&&◌, ◌||◌, eqb, ltb, List, length, Option, Some, None, refl, sym, ap, ◌∙◌, subst, arith, length-set}
 use Rattle.std.specs.Prelude.{if◌then◌else◌}
 use Rattle.std.specs.Int.{bit_at}
-use Rattle.std.proofs.lemmas.Bool.{and_parts, eqb-true, eqb-false, ltb-true}
+use Rattle.std.proofs.lemmas.Bool.{eqb-true, eqb-false, ltb-true}
 use Rattle.std.proofs.lemmas.List.{length_push}
 use Rattle.std.proofs.lemmas.Option.{same_Some}
 use Rattle.erm_machine.specs.declared.attempt.Attempt.{Attempt}
@@ -19,11 +19,11 @@ use Rattle.erm_machine.specs.declared.version.VersionAt.{VersionAt}
 use Rattle.erm_machine.specs.Bounds.{IsOther, IsBounded, words_stored, OwnBounds}
 use Rattle.erm_machine.specs.Core.{claim_at}
 use Rattle.erm_machine.specs.Seat.{end_of, may_start, is_active, is_sealed, is_decided, read_at, same_version}
-use Rattle.erm_machine.specs.Settling.{may_settle, has_room, load_flushed_to_settle, load_read_entry, load_readers, load_settled_stamp, filled, store_ring, raise_reader, installs, store_head_word, mark_overwritten, install_claim, adds_version, install_new, release_old, clear_reader}
-use Rattle.erm_machine.specs.Tasks.{InActive, TaskFits, OwnTask}
+use Rattle.erm_machine.specs.Settling.{may_settle, load_flushed_to_settle, load_read_entry, load_readers, load_settled_stamp, filled, store_ring, raise_reader, installs, store_head_word, mark_overwritten, install_claim, adds_version, install_new, release_old, clear_reader}
+use Rattle.erm_machine.specs.Tasks.{OwnTask}
 use Rattle.erm_machine.specs.Words.{is_seat, owner_of, without_bit}
 use Rattle.erm_machine.proofs.Guards.{when_then, if_then, either_way}
-use Rattle.erm_core_calls.proofs.BoundsFrames.{first, second, positive_of, FillsNone, none_stored, early_sealed, unfilled, Ready, ready_sealed, ready_active, Bound, bound_if, bound_from, goes_on, task_on}
+use Rattle.erm_core_calls.proofs.BoundsFrames.{first, second, positive_of, FillsNone, none_stored, early_sealed, unfilled, Ready, ready_sealed, Bound, bound_from, goes_on, task_on}
 
 -- settle may begin where no word is stored
 settle_fills : (u : Task) → may_settle u ≡ true → FillsNone u

@@ -1,9 +1,7 @@
 -- Calls go on: the step that each takes, by its place and its task.
-use Rattle.std.proofs.Common.{◌≡◌, ◌≢◌, ℕ, ◌+◌, ◌<◌, ◌≤◌, ◌⊎◌, Bool, true, false, not, ◌&&◌, ◌||◌, eqb, length, Option, Some, None, refl, sym, ap, ◌∙◌, subst, inl, inr, arith}
+use Rattle.std.proofs.Common.{◌≡◌, ℕ, ◌⊎◌, true, length, refl, sym, ap, subst, inl}
 use Rattle.std.proofs.lemmas.Bool.{and_from, eq-eqb, lt-ltb, not_from_false}
 use Rattle.erm_machine.specs.declared.limits.TheConstants.{OBJECT_LIMIT, READ_LIMIT, WRITE_LIMIT}
-use Rattle.erm_machine.specs.declared.attempt.Attempt.{Attempt}
-use Rattle.erm_machine.specs.declared.event.Kind.{Kind}
 use Rattle.erm_machine.specs.declared.event.Kind.TheVariants as kind
 use Rattle.erm_machine.specs.declared.event.TailUse.TheVariants as purpose
 use Rattle.erm_machine.specs.declared.part.Part.{Part}
@@ -25,7 +23,7 @@ use Rattle.erm_core_calls.proofs.GoesActive.{g_owned, g_cleared, g_walks, g_pass
 use Rattle.erm_core_calls.proofs.GoesClaims.{g_draws, g_pool, g_fetched, g_refused, g_copies, g_writes}
 use Rattle.erm_core_calls.proofs.GoesEnds.{aborts, ends}
 use Rattle.erm_core_calls.proofs.GoesSettled.{s_settles, s_read_owned, s_read_clear, s_read_overtaken, s_readers_left, s_write_clear, s_write_made, s_fills}
-use Rattle.erm_core_calls.proofs.Moving.{stepped, taken, met, to_place, same_self}
+use Rattle.erm_core_calls.proofs.Moving.{taken, met, to_place, same_self}
 
 module _ (c : Core) (p : ℕ) (sound : Sound c) where
   -- the calls of an active transaction

@@ -1,14 +1,10 @@
 -- The calls of an active transaction go on.
-use Rattle.std.proofs.Common.{◌≡◌, ◌≢◌, ℕ, ◌+◌, ◌-◌, ◌<◌, ◌≤◌, ◌⊎◌, ⊎_elim, Bool, true, false, not, cond, ◌&&◌, ◌||◌, eqb, ltb, leb, length, is_none, Option, Some, None, refl, sym, ap, ◌∙◌, subst, inl, inr, arith}
-use Rattle.std.specs.Prelude.{if◌then◌else◌}
-use Rattle.std.proofs.lemmas.Bool.{and_from, cases_Bool, cases_eq, eq-eqb, eqb-false, ne_eqb, lt-ltb, le-leb, cond-true, not_from_false}
+use Rattle.std.proofs.Common.{◌≡◌, ◌≢◌, ℕ, ◌+◌, ◌-◌, ◌<◌, ◌≤◌, ◌⊎◌, ⊎_elim, true, false, eqb, Option, Some, None, refl, sym, ap, ◌∙◌, subst, inl, inr, arith}
+use Rattle.std.proofs.lemmas.Bool.{and_from, cases_Bool, eq-eqb, eqb-false, ne_eqb, lt-ltb, le-leb, cond-true, not_from_false}
 use Rattle.erm_machine.specs.declared.limits.TheConstants.{ANNOUNCERS, OBJECT_LIMIT}
-use Rattle.erm_machine.specs.declared.event.Kind.{Kind}
 use Rattle.erm_machine.specs.declared.event.Kind.TheVariants as kind
-use Rattle.erm_machine.specs.declared.event.Counter.TheVariants.{Objects, Cells}
+use Rattle.erm_machine.specs.declared.event.Counter.TheVariants.{Objects}
 use Rattle.erm_machine.specs.declared.event.TailUse.TheVariants as purpose
-use Rattle.erm_machine.specs.declared.part.Part.{Part}
-use Rattle.erm_machine.specs.declared.place.Place.{Place}
 use Rattle.erm_machine.specs.declared.place.Place.TheVariants.{Active}
 use Rattle.erm_machine.specs.declared.task.Task.{Task}
 use Rattle.erm_machine.specs.declared.task.Task.TheVariants as task
@@ -16,10 +12,10 @@ use Rattle.erm_machine.specs.declared.version.CellWord.TheVariants as word
 use Rattle.erm_machine.specs.declared.version.VersionAt.{VersionAt}
 use Rattle.erm_machine.specs.Bounds.{IsBounded}
 use Rattle.erm_machine.specs.Chains.{NamedInHand, IsDetached, CutInHand}
-use Rattle.erm_machine.specs.Core.{Core, Object, claim_at, version_at}
+use Rattle.erm_machine.specs.Core.{Core, Object, version_at}
 use Rattle.erm_machine.specs.Life.{load_tail_for_horizon, load_begin, lower, after_clear}
 use Rattle.erm_machine.specs.Reading.{head_version, entered, load_entry, load_walked_stamp, load_walked_link, older, after_cut, swap_link, load_detached, add_counter, load_active_stamp}
-use Rattle.erm_machine.specs.Seat.{is_active, is_sealed, is_vacant, last_claim, same_version}
+use Rattle.erm_machine.specs.Seat.{is_active, is_sealed, is_vacant}
 use Rattle.erm_machine.specs.Snapshot.{InHand}
 use Rattle.erm_machine.specs.Sound.{Sound}
 use Rattle.erm_machine.specs.Words.{begin_of, is_clear, is_seat, is_session, owner_of, state_of}
@@ -27,7 +23,7 @@ use Rattle.erm_machine.proofs.Guards.{either_way}
 use Rattle.erm_machine.proofs.Holders.{begun_attached}
 use Rattle.erm_machine.proofs.QuietKinds.{begun_active}
 use Rattle.erm_core_calls.specs.Going.{MovesOn, Waits, for_owner}
-use Rattle.erm_core_calls.proofs.Moving.{rank, Apart, unlike, unlike_if, place_at, next_at, word_come, ends_at, more, to_task, same_self, branch, other_branch}
+use Rattle.erm_core_calls.proofs.Moving.{rank, Apart, unlike, unlike_if, place_at, next_at, more, to_task, same_self, branch, other_branch}
 
 -- a task to which the load of an entry doesn't lead
 entered_other : (p oid entry : ℕ) (o : Object) (t : Task) → eqb 1 (rank t) ≡ false → eqb 3 (rank t) ≡ false → eqb 10 (rank t) ≡ false → Apart t (entered p oid entry o)

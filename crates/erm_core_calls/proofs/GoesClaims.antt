@@ -1,20 +1,16 @@
 -- A claim and a write go on: they have their cells.
-use Rattle.std.proofs.Common.{◌≡◌, ◌≢◌, ℕ, ◌+◌, ◌-◌, ◌<◌, ◌≤◌, ◌⊎◌, ⊎_elim, Bool, true, false, not, cond, ◌&&◌, ◌||◌, eqb, ltb, length, is_none, Option, Some, None, refl, sym, ap, ◌∙◌, subst, inl, inr, arith}
-use Rattle.std.specs.Prelude.{if◌then◌else◌, slice_index}
+use Rattle.std.proofs.Common.{◌≡◌, ℕ, ◌+◌, ◌<◌, ◌≤◌, ⊎_elim, true, eqb, length, Option, Some, None, refl, ap, ◌∙◌, subst, arith}
+use Rattle.std.specs.Prelude.{slice_index}
 use Rattle.std.proofs.lemmas.Bool.{and_from, cases_lt, eq-eqb, lt-ltb}
 use Rattle.erm_machine.specs.declared.limits.TheConstants.{OBJECT_LIMIT}
 use Rattle.erm_machine.specs.declared.attempt.OwnCell.{OwnCell}
-use Rattle.erm_machine.specs.declared.event.Kind.{Kind}
 use Rattle.erm_machine.specs.declared.event.Kind.TheVariants as kind
-use Rattle.erm_machine.specs.declared.event.Counter.TheVariants.{Objects, Cells}
-use Rattle.erm_machine.specs.declared.part.Part.{Part}
-use Rattle.erm_machine.specs.declared.place.Place.{Place}
+use Rattle.erm_machine.specs.declared.event.Counter.TheVariants.{Cells}
 use Rattle.erm_machine.specs.declared.place.Place.TheVariants.{Active}
 use Rattle.erm_machine.specs.declared.task.Task.{Task}
 use Rattle.erm_machine.specs.declared.task.Task.TheVariants as task
 use Rattle.erm_machine.specs.declared.version.CellWord.TheVariants as word
 use Rattle.erm_machine.specs.declared.version.VersionAt.{VersionAt}
-use Rattle.erm_machine.specs.Bounds.{IsBounded}
 use Rattle.erm_machine.specs.Cells.{WantsCell, MayWant}
 use Rattle.erm_machine.specs.Claims.{claims_over}
 use Rattle.erm_machine.specs.Core.{Core, claim_at}
@@ -26,7 +22,7 @@ use Rattle.erm_machine.specs.Settling.{install}
 use Rattle.erm_machine.specs.Sound.{Sound}
 use Rattle.erm_core_calls.specs.Going.{MovesOn}
 use Rattle.erm_core_calls.proofs.GoesActive.{bound_at}
-use Rattle.erm_core_calls.proofs.Moving.{Apart, unlike, unlike_if, word_come, more, to_task, same_self, branch}
+use Rattle.erm_core_calls.proofs.Moving.{unlike, unlike_if, word_come, more, to_task, same_self, branch}
 
 -- a cell that is there
 pub record OwnsCell (own : Option OwnCell) : Type 0 where

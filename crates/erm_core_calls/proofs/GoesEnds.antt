@@ -1,36 +1,27 @@
 -- The ends go on: of a transaction that is decided, and of one that aborts.
-use Rattle.std.proofs.Common.{◌≡◌, ◌≢◌, ℕ, ◌+◌, ◌-◌, ◌<◌, ◌≤◌, ◌⊎◌, ⊎_elim, Bool, true, false, not, cond, ◌&&◌, ◌||◌, eqb, ltb, length, Option, Some, None, refl, sym, ap, ◌∙◌, subst, inl, inr, arith}
-use Rattle.std.specs.Prelude.{if◌then◌else◌}
+use Rattle.std.proofs.Common.{◌≡◌, ℕ, ◌+◌, ◌<◌, ◌≤◌, ⊎_elim, true, false, not, ◌||◌, eqb, length, refl, sym, ap, ◌∙◌, subst, arith}
 use Rattle.std.proofs.lemmas.Bool.{and_from, or_left, or_right, and_left, and_right, cases_Bool, cases_eq, cases_lt, eq-eqb, lt-ltb, not_from_false}
 use Rattle.erm_machine.specs.declared.limits.TheConstants.{OBJECT_LIMIT}
-use Rattle.erm_machine.specs.declared.attempt.Attempt.{Attempt}
-use Rattle.erm_machine.specs.declared.attempt.Decision.{Decision}
-use Rattle.erm_machine.specs.declared.attempt.Decision.TheVariants.{Undecided, Abort}
-use Rattle.erm_machine.specs.declared.event.Kind.{Kind}
+use Rattle.erm_machine.specs.declared.attempt.Decision.TheVariants.{Abort}
 use Rattle.erm_machine.specs.declared.event.Kind.TheVariants as kind
 use Rattle.erm_machine.specs.declared.part.Part.{Part}
-use Rattle.erm_machine.specs.declared.place.Place.{Place}
-use Rattle.erm_machine.specs.declared.place.Place.TheVariants.{Idle, Active, Decided, Leaving}
-use Rattle.erm_machine.specs.declared.task.Task.{Task}
+use Rattle.erm_machine.specs.declared.place.Place.TheVariants.{Idle, Active, Decided}
 use Rattle.erm_machine.specs.declared.task.Task.TheVariants as task
 use Rattle.erm_machine.specs.declared.version.CellWord.{CellWord}
 use Rattle.erm_machine.specs.declared.version.CellWord.TheVariants as word
-use Rattle.erm_machine.specs.declared.version.VersionAt.{VersionAt}
-use Rattle.erm_machine.specs.Claims.{claims_over}
 use Rattle.erm_machine.specs.Core.{Core, blank, claim_at}
 use Rattle.erm_machine.specs.Facts.{IsCurrent, over_of}
 use Rattle.erm_machine.specs.Life.{has_ended, store_begin}
-use Rattle.erm_machine.specs.Seat.{end_of, over, is_active, is_commit, is_decided, is_own, read_at}
-use Rattle.erm_machine.specs.Settling.{adds_version, clear_reader, head_value, head_word, install, install_claim, install_new, installs, mark_overwritten, raise_reader, release_old, store_head_word}
+use Rattle.erm_machine.specs.Seat.{end_of, over, is_active, is_commit, is_decided, read_at}
+use Rattle.erm_machine.specs.Settling.{adds_version, clear_reader, head_value, head_word, install, install_new, installs, mark_overwritten, raise_reader, release_old, store_head_word}
 use Rattle.erm_machine.specs.Sound.{Sound}
-use Rattle.erm_machine.specs.Tasks.{TaskFits, InEnd}
 use Rattle.erm_machine.specs.Words.{is_flusher}
 use Rattle.erm_machine.proofs.Guards.{either_way}
 use Rattle.erm_core_calls.specs.Going.{MovesOn}
 use Rattle.erm_core_calls.proofs.GoesActive.{bound_at}
 use Rattle.erm_core_calls.proofs.GoesClaims.{OwnsCell, claim_cell}
 use Rattle.erm_core_calls.proofs.GoesSettled.{read_known}
-use Rattle.erm_core_calls.proofs.Moving.{Apart, unlike, placed, ends_at, more, to_task, to_place, same_self, branch, other_branch}
+use Rattle.erm_core_calls.proofs.Moving.{Apart, placed, ends_at, more, to_task, to_place, same_self, branch, other_branch}
 
 module _ (c : Core) (p : ℕ) (sound : Sound c) (raised ended step cleared : ℕ) (at : (c.seats p).task ≡ task.Ends raised ended step cleared) where
   -- an end that has come further

@@ -1,5 +1,5 @@
 -- Settle goes on.
-use Rattle.std.proofs.Common.{◌≡◌, ◌≢◌, ℕ, ◌+◌, ◌-◌, ◌*◌, ◌/◌, ◌%◌, ◌<◌, ◌≤◌, ◌⊎◌, ⊎_elim, Bool, true, false, not, cond, ◌&&◌, ◌||◌, eqb, ltb, length, Option, Some, None, refl, sym, ap, ◌∙◌, subst, inl, inr, arith}
+use Rattle.std.proofs.Common.{◌≡◌, ◌≢◌, ℕ, ◌+◌, ◌-◌, ◌*◌, ◌/◌, ◌%◌, ◌<◌, ◌≤◌, ◌⊎◌, ⊎_elim, true, false, eqb, length, Some, None, refl, ap, ◌∙◌, subst, inl, inr, arith}
 use Rattle.std.specs.Prelude.{if◌then◌else◌}
 use Rattle.std.specs.Int.{bit_at}
 use Rattle.std.proofs.lemmas.Bool.{and_from, cases_Bool, cases_lt, eq-eqb, lt-ltb, le-leb, cond-true, cond_both}
@@ -7,24 +7,20 @@ use Rattle.erm_model.proofs.Members.{∈-at}
 use Rattle.erm_model.specs.declared.header.TheConstants.{COMMIT_KIND, RUN_UNIT, SIZE_UNIT, SKIP_KIND}
 use Rattle.erm_machine.specs.declared.limits.TheConstants.{ANNOUNCERS, OBJECT_LIMIT, LEAST_BLOCK, GREATEST_BLOCK}
 use Rattle.erm_machine.specs.declared.attempt.Attempt.{Attempt}
-use Rattle.erm_machine.specs.declared.event.Kind.{Kind}
 use Rattle.erm_machine.specs.declared.event.Kind.TheVariants as kind
-use Rattle.erm_machine.specs.declared.part.Part.{Part}
-use Rattle.erm_machine.specs.declared.place.Place.{Place}
-use Rattle.erm_machine.specs.declared.place.Place.TheVariants.{Sealed, Decided}
+use Rattle.erm_machine.specs.declared.place.Place.TheVariants.{Sealed}
 use Rattle.erm_machine.specs.declared.task.Task.{Task}
 use Rattle.erm_machine.specs.declared.task.Task.TheVariants as task
 use Rattle.erm_machine.specs.declared.version.CellWord.TheVariants as word
-use Rattle.erm_machine.specs.declared.version.VersionAt.{VersionAt}
 use Rattle.erm_machine.specs.Core.{Core, version_at, claim_at}
 use Rattle.erm_machine.specs.Facts.{IsCurrent}
-use Rattle.erm_machine.specs.Life.{after_clear, is_header, decide}
-use Rattle.erm_machine.specs.Seat.{decision_of, is_active, is_commit, is_sealed, is_vacant, read_at, no_read, same_version}
+use Rattle.erm_machine.specs.Life.{is_header, decide}
+use Rattle.erm_machine.specs.Seat.{decision_of, is_active, is_commit, is_sealed, is_vacant, read_at, no_read}
 use Rattle.erm_machine.specs.Settling.{filled, load_read_entry, load_readers, load_settled_stamp, store_ring}
 use Rattle.erm_machine.specs.Sound.{Sound}
-use Rattle.erm_machine.specs.Words.{is_clear, is_least_bit, is_seat, owner_of, head_of, state_of, without_bit}
+use Rattle.erm_machine.specs.Words.{is_clear, state_of, without_bit}
 use Rattle.erm_core_calls.specs.Going.{MovesOn, Waits, for_overwriter, for_reader}
-use Rattle.erm_core_calls.proofs.Bits.{Least, least_bit, bit_cleared}
+use Rattle.erm_core_calls.proofs.Bits.{least_bit, bit_cleared}
 use Rattle.erm_core_calls.proofs.GoesActive.{bound_at, looks_on}
 use Rattle.erm_core_calls.proofs.Moving.{Apart, unlike, unlike_if, word_come, bits_left, more, to_task, to_place, same_self, branch, other_branch}
 use Rattle.erm_core_calls.proofs.Seats.{seat_low, last_member, range_size}
