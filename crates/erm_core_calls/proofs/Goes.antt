@@ -104,7 +104,7 @@ module _ (c : Core) (p : ℕ) (sound : Sound c) where
       (v, _, taken c p (kind.SetReader v) _ tt (lt-ltb v.oid OBJECT_LIMIT named.object) step, ap (λ (y : Part). y.task) (put_same c.seats p _))
 
   -- a head that is found is claimed
-  pub claims : MayClaim p (c.seats p) → Claims c p
+  pub claims : (m : MayClaim p (c.seats p)) → Claims c p m.version.oid m.entry
   claims m =
       let named = subst (NamedInHand c.shared) m.found (sound.own p).chains.named in
       let v = m.version in
@@ -112,4 +112,4 @@ module _ (c : Core) (p : ℕ) (sound : Sound c) where
       let step = met _ _ _ (ap (claim p v.oid m.entry number (c.shared.objects v.oid).entry (c.shared.objects v.oid) (c.seats p)) m.found)
       (and_from _ _ (and_from _ _ (and_from _ _ (and_from _ _ (and_from _ _ m.active m.session) (eq-eqb v.oid v.oid refl)) (eq-eqb m.entry m.entry refl)) (eq-eqb number number refl))
       (lt-ltb (length (c.seats p).current.writes) WRITE_LIMIT m.room)) in
-      (v.oid, m.entry, number, _, taken c p (kind.Claim v.oid m.entry number) _ tt (lt-ltb v.oid OBJECT_LIMIT named.object) step)
+      (_, taken c p (kind.Claim v.oid m.entry number) _ tt (lt-ltb v.oid OBJECT_LIMIT named.object) step)

@@ -8,10 +8,11 @@ use Rattle.erm_model.proofs.Members.{∈-behind}
 use Rattle.erm_machine.specs.declared.limits.TheConstants.{ANNOUNCERS, SESSIONS, FLUSH_SEAT, OBJECT_LIMIT, LEAST_BLOCK, GREATEST_BLOCK}
 use Rattle.erm_machine.specs.declared.attempt.Attempt.{Attempt}
 use Rattle.erm_machine.specs.declared.place.Place.{Place}
-use Rattle.erm_machine.specs.declared.place.Place.TheVariants.{Vacant}
+use Rattle.erm_machine.specs.declared.place.Place.TheVariants.{Vacant, Sealing}
 use Rattle.erm_machine.specs.declared.version.Span.{Span}
 use Rattle.erm_machine.specs.Core.{Core, blank, version_at}
 use Rattle.erm_machine.specs.Facts.{IsCurrent}
+use Rattle.erm_machine.specs.Lives.{IsPin}
 use Rattle.erm_machine.specs.Ranges.{range_at, ranges_of}
 use Rattle.erm_machine.specs.Sound.{Sound}
 use Rattle.erm_machine.specs.Words.{is_seat, is_session, is_flusher, owner_of}
@@ -73,3 +74,11 @@ module _ (c : Core) (sound : Sound c) where
       let all : filter (λ r. eqb r.seat p) c.shared.log ≡ ranges_of p (c.seats p).over ++ range ∷ [] = (sound.own p).ranges.ranges ∙ ap (λ (rs : List Span). ranges_of p (c.seats p).over ++ rs) some in
       sound.common.ranges.sizes range (filter_member (λ (r : Span). eqb r.seat p) c.shared.log range
       (subst (λ (rs : List Span). range ∈ rs) (sym all) (last_member (ranges_of p (c.seats p).over) range)))
+
+  -- a seat that is to draw its range is a session's
+  pub sealing_session : (p tail : ℕ) → (c.seats p).place ≡ Sealing tail → is_session p ≡ true
+  sealing_session p tail is =
+      ⊎_elim
+      (λ (session : is_session p ≡ true). session)
+      (λ (flusher : is_flusher p ≡ true). absurd (subst IsPin is ((sound.own p).lives.pinned flusher)))
+      (or_cases (is_session p) (is_flusher p) (true_from_ne_false (is_seat p) (λ none. let at = sym ((sound.own p).ranges.seat_of none) ∙ is in absurd (cc))))

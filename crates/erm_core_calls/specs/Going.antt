@@ -69,6 +69,6 @@ pub record MayClaim (seat : ℕ) (x : Part) : Type 0 where
   pub found : x.task ≡ task.Found version stamp (Some entry)
   pub room : length x.current.writes < WRITE_LIMIT
 
--- its entry is exchanged, or found to be another by now
-abbrev pub Claims : Core → ℕ → Type 0
-Claims c seat = (oid entry number : ℕ) × (d : Core) × (after_event c seat (kind.Claim oid entry number) ≡ Some d)
+-- this entry of the object is exchanged for an own one, or found to be another by now
+abbrev pub Claims : Core → (seat oid entry : ℕ) → Type 0
+Claims c seat oid entry = (d : Core) × (after_event c seat (kind.Claim oid entry (c.seats seat).current.number) ≡ Some d)

@@ -24,5 +24,5 @@ pub fn calls_go_on()
     ensures goes { (c : Core) (seat : ℕ) → Sound c → IsInCall (c.seats seat).place (c.seats seat).task
         → MovesOn c seat ⊎ Waits c seat }
     ensures registers { (c : Core) (seat : ℕ) → Sound c → MayRegister seat (c.seats seat) → Registers c seat }
-    ensures claims { (c : Core) (seat : ℕ) → Sound c → MayClaim seat (c.seats seat) → Claims c seat }
+    ensures claims { (c : Core) (seat : ℕ) → Sound c → (m : MayClaim seat (c.seats seat)) → Claims c seat m.version.oid m.entry }
 {}
