@@ -19,7 +19,7 @@ use Rattle.erm_machine.specs.Core.{Shared, blank}
 use Rattle.erm_machine.specs.Facts.{IsCurrent, IsUnsealed, IsUndecided, IsDecided}
 use Rattle.erm_machine.specs.Life.{load_tail_to_begin, add_tail, store_begin, store_state, decide, split}
 use Rattle.erm_machine.specs.Ranges.{Ranges, OwnRanges, range_at, ranges_of, high, high_of, may_draw, drawing}
-use Rattle.erm_machine.specs.Seat.{is_vacant, over}
+use Rattle.erm_machine.specs.Seat.{is_vacant, with_current, over}
 use Rattle.erm_machine.specs.Words.{is_flusher, is_session, is_seat, refuses}
 use Rattle.erm_machine.proofs.Guards.{when_then, either_way}
 use Rattle.erm_core_log.proofs.Lists.{ranges_of-push, high_count-push, filter_own, high_ranges_none, high_of-le, end_to_end_ascends}
@@ -161,8 +161,25 @@ module _ (s : Shared) (seats : ℕ → Part) (common : Ranges s seats) (p : ℕ)
     few = omega arith;
   }
 
+  -- a pin that leaves nothing
+  unpinned_own : x.current.stamp ≡ 0 → x.place ≢ Vacant → OwnRanges s p (with_current blank (record x { place = Idle; task = task.Rest }))
+  unpinned_own none taken = record {
+    seat_of = λ f. absurd (taken (own.seat_of f));
+    current = refl;
+    decided = own.decided;
+    kept = own.kept;
+    ranges = subst (λ n. filter (λ (r : Span). eqb r.seat p) s.log ≡ ranges_of p x.over ++ range_at p n x.current.size) none own.ranges;
+    one_high =
+        let few = few_high in
+        let z : high 0 ≡ 0 = refl in
+        may_draw-le p Idle (count_by (λ (u : Attempt). leb STOP u.stamp) x.over + high 0)
+        (λ _. let n : drawing Idle ≡ 0 = refl in omega (arith, few, z, n))
+        (omega (arith, few, z));
+    few = omega arith;
+  }
+
   -- BEGIN announces; an end clears the begin word
-  pub announces_own : (value : ℕ) (pl : Place) (y : Part) → x.place ≡ pl → store_begin value x pl ≡ Some y → OwnRanges s p y
+  pub announces_own : (value : ℕ) (pl : Place) (y : Part) → x.place ≡ pl → store_begin p value x pl ≡ Some y → OwnRanges s p y
   announces_own value (Begun tail) y at e = when_then (OwnRanges s p) _ _ y e (λ _. record {
     seat_of = λ f. let v = own.seat_of f in absurd (cc);
     current = current_at (Begun tail) at;
@@ -173,7 +190,10 @@ module _ (s : Shared) (seats : ℕ → Part) (common : Ranges s seats) (p : ℕ)
     few = own.few;
   })
   announces_own value (Active tail) y at e =
-      when_then (OwnRanges s p) _ _ y e (λ _. ended_own Abort task.Rest (λ (e : Abort ≡ Undecided). cc) (λ drawn. let cur : IsUnsealed x.current = current_at (Active tail) at in absurd (let none = cur.stamp in omega (arith, none, drawn))) (λ (v : x.place ≡ Vacant). cc))
+      let cur : IsUnsealed x.current = current_at (Active tail) at in
+      when_then (OwnRanges s p) _ _ y e (λ _. either_way (OwnRanges s p) (is_flusher p) _ _
+      (λ _. unpinned_own cur.stamp (λ (v : x.place ≡ Vacant). cc))
+      (λ _. ended_own Abort task.Rest (λ (e : Abort ≡ Undecided). cc) (λ drawn. absurd (let none = cur.stamp in omega (arith, none, drawn))) (λ (v : x.place ≡ Vacant). cc)))
   announces_own value (Decided tail stamp) y at e = when_then (OwnRanges s p) _ _ y e (λ _. record {
     seat_of = λ f. let v = own.seat_of f in absurd (cc);
     current = current_at (Decided tail stamp) at;

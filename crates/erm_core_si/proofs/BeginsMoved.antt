@@ -15,7 +15,7 @@ use Rattle.erm_machine.specs.Begins.{IsTail, IsBegin, IsSealedBegin, BeginsAt, h
 use Rattle.erm_machine.specs.Core.{Core, spot_of, word_at}
 use Rattle.erm_machine.specs.Facts.{HasBegun}
 use Rattle.erm_machine.specs.Life.{load_tail_to_begin, load_tail_to_gather, add_tail, store_begin, store_state, load_state, after_clear, decide}
-use Rattle.erm_machine.specs.Words.{state_of}
+use Rattle.erm_machine.specs.Words.{state_of, is_flusher}
 use Rattle.erm_machine.proofs.Guards.{when_then, either_way}
 use Rattle.erm_machine.proofs.Quiet.{KeepsHorizon, no_horizon, same_horizon, Quiet}
 use Rattle.erm_machine.proofs.QuietKinds.{IsQuiet, Moves, quiet_kind}
@@ -104,15 +104,17 @@ module _ (now : ℕ) (positive : 0 < now) (x : Part) (b : BeginsAt x.place x.cur
       })
   paces_draw p size _ y at e = absurd (cc)
 
-  pub paces_store_begin : (value : ℕ) (pl : Place) (y : Part) → x.place ≡ pl → store_begin value x pl ≡ Some y → Paces now now x y
-  paces_store_begin value (Begun tail) y at e =
+  pub paces_store_begin : (p value : ℕ) (pl : Place) (y : Part) → x.place ≡ pl → store_begin p value x pl ≡ Some y → Paces now now x y
+  paces_store_begin p value (Begun tail) y at e =
       when_then (Paces now now x) _ _ y e (λ _. record { begins = at_place (Begun tail) at; begun = λ h. absurd h; horizon = same_horizon x.task })
-  paces_store_begin value (Active tail) y at e =
-      when_then (Paces now now x) _ _ y e (λ _. record { begins = tt; begun = λ h. absurd h; horizon = no_horizon _ _ (record { plain = refl }) })
-  paces_store_begin value (Decided tail stamp) y at e =
+  paces_store_begin p value (Active tail) y at e =
+      when_then (Paces now now x) _ _ y e (λ _. either_way (Paces now now x) (is_flusher p) _ _
+      (λ _. record { begins = tt; begun = λ h. absurd h; horizon = no_horizon _ _ (record { plain = refl }) })
+      (λ _. record { begins = tt; begun = λ h. absurd h; horizon = no_horizon _ _ (record { plain = refl }) }))
+  paces_store_begin p value (Decided tail stamp) y at e =
       let old : IsSealedBegin tail x.current.begin stamp now = at_place (Decided tail stamp) at in
       when_then (Paces now now x) _ _ y e (λ _. record { begins = (old.sealed, old.drawn); begun = λ h. absurd h; horizon = no_horizon _ _ (record { plain = refl }) })
-  paces_store_begin value _ y at e = absurd (cc)
+  paces_store_begin p value _ y at e = absurd (cc)
 
   pub paces_store_state : (p value : ℕ) (pl : Place) (y : Part) → x.place ≡ pl → store_state p value x pl ≡ Some y → Paces now now x y
   paces_store_state p value (Active tail) y at e =
@@ -183,7 +185,7 @@ paces c p (kind.LoadTail purpose.Begin) d n positive own m = paces_begin c.share
 paces c p (kind.LoadTail purpose.Horizon) d n positive own m = absurd n
 paces c p (kind.LoadTail purpose.Gather) d n positive own m = paces_gather c.shared.tail positive (c.seats p) own.begins p m.part m.after
 paces c p (kind.AddTail size) d n positive own m = absurd n
-paces c p (kind.StoreBegin value) d n positive own m = paces_store_begin c.shared.tail positive (c.seats p) own.begins value (c.seats p).place m.part refl m.after
+paces c p (kind.StoreBegin value) d n positive own m = paces_store_begin c.shared.tail positive (c.seats p) own.begins p value (c.seats p).place m.part refl m.after
 paces c p (kind.StoreState value) d n positive own m = paces_store_state c.shared.tail positive (c.seats p) own.begins p value (c.seats p).place m.part refl m.after
 paces c p (kind.LoadBegin other) d n positive own m = absurd n
 paces c p (kind.LoadState other bound) d n positive own m = paces_look c.shared.tail positive (c.seats p) own.begins p other bound (state_of (c.seats other).place) m.part m.after

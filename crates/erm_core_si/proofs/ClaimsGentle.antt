@@ -1,5 +1,5 @@
 -- Gentle steps: those that leave a seat at its place with its claims and their installs as they are.
-use Rattle.std.proofs.Common.{◌≡◌, ℕ, ◌⊎◌, ⊎_elim, Bool, true, false, List, length, Option, Some, None, refl, sym, ap, ◌∙◌, subst, inl, inr, arith}
+use Rattle.std.proofs.Common.{◌≡◌, ℕ, ◌⊎◌, ⊎_elim, Bool, true, false, List, length, Option, Some, None, refl, sym, ap, ◌∙◌, inl, inr, arith}
 use Rattle.std.specs.Prelude.{if◌then◌else◌}
 use Rattle.std.proofs.lemmas.Bool.{and_parts}
 use Rattle.erm_machine.specs.declared.attempt.Attempt.{Attempt}
@@ -9,7 +9,6 @@ use Rattle.erm_machine.specs.declared.event.Counter.{Counter}
 use Rattle.erm_machine.specs.declared.event.Counter.TheVariants.{Objects, Cells}
 use Rattle.erm_machine.specs.declared.part.Flushing.{Flushing}
 use Rattle.erm_machine.specs.declared.part.Flushing.TheVariants as flushing
-use Rattle.erm_machine.specs.declared.part.GatheredBlock.{GatheredBlock}
 use Rattle.erm_machine.specs.declared.part.Part.{Part}
 use Rattle.erm_machine.specs.declared.place.Place.{Place}
 use Rattle.erm_machine.specs.declared.place.Place.TheVariants.{Leaving}
@@ -25,7 +24,7 @@ use Rattle.erm_machine.specs.Flushing.{load_flushed, gathered_word, load_ring, w
 use Rattle.erm_machine.specs.Life.{load_tail_for_horizon, load_tail_to_gather, load_begin, after_clear, load_state}
 use Rattle.erm_machine.specs.Reading.{entered, after_cut, detached, load_entry, set_reader, load_walked_stamp, load_walked_link, load_cell, swap_link, load_detached, load_counter}
 use Rattle.erm_machine.specs.Seat.{end_of, is_active, may_start}
-use Rattle.erm_machine.specs.Settling.{load_flushed_to_settle, load_read_entry, load_readers, load_settled_stamp, store_ring, filled, raise_reader, clear_reader}
+use Rattle.erm_machine.specs.Settling.{may_settle, load_flushed_to_settle, load_read_entry, load_readers, load_settled_stamp, store_ring, filled, raise_reader, clear_reader}
 use Rattle.erm_machine.proofs.Guards.{when_then, some_then, if_then, either_way}
 use Rattle.erm_core_si.proofs.ClaimsOwn.{Stands}
 
@@ -145,9 +144,8 @@ gentle_seen : (x : Part) (t u : Task) (seen : ℕ) (clear : List ℕ) → SameEn
 gentle_seen x t u seen clear e = record { place = refl; number = refl; begin = refl; stamp = refl; writes = refl; end = e; succ = inl refl }
 
 -- the flush seat's own fields change
-gentle_flushing : (x : Part) (f : Flushing) (ws : List ℕ) (bs : List GatheredBlock) (to synced seen : ℕ) →
-    Gentle x x.task (record x { flushing = f; words = ws; gathered = bs; gathered_to = to; synced = synced; seen = seen })
-gentle_flushing x f ws bs to synced seen = record { place = refl; number = refl; begin = refl; stamp = refl; writes = refl; end = same_end x.task; succ = inl refl }
+gentle_flushing : (x : Part) (f : Flushing) (to synced seen : ℕ) → Gentle x x.task (record x { flushing = f; gathered_to = to; synced = synced; seen = seen })
+gentle_flushing x f to synced seen = record { place = refl; number = refl; begin = refl; stamp = refl; writes = refl; end = same_end x.task; succ = inl refl }
 
 pub entered_no_end : (seat oid entry : ℕ) (o : Object) → NoEnd (entered seat oid entry o)
 entered_no_end seat oid entry o = search (no_end_if, no_end)
@@ -163,7 +161,7 @@ g_horizon found x (task.Claimed version) y e = when_then (Gentle x _) _ _ y e (�
 g_horizon found x _ y e = absurd (cc)
 
 pub g_gather : (seat found : ℕ) (x y : Part) → load_tail_to_gather seat found x ≡ Some y → Gentle x x.task y
-g_gather seat found x y e = when_then (Gentle x x.task) _ _ y e (λ _. gentle_flushing x _ _ _ _ _ _)
+g_gather seat found x y e = when_then (Gentle x x.task) _ _ y e (λ _. gentle_flushing x _ _ _ _)
 
 pub g_load_begin : (other found : ℕ) (x : Part) (t : Task) (y : Part) → load_begin other found x t ≡ Some y → Gentle x t y
 g_load_begin other found x (task.Horizon version least next) y e =
@@ -293,31 +291,37 @@ g_clear v x t (Some n) y at e = when_then (Gentle x t) _ _ y e (λ _. gentle_tas
 pub g_clear_reader : (v : VersionAt) (x : Part) (t : Task) (y : Part) → clear_reader v x (end_of t) ≡ Some y → Gentle x t y
 g_clear_reader v x t y e = g_clear v x t (end_of t) y (ends_at t) e
 
-g_to_settle : (found : ℕ) (x : Part) (t : Task) → x.task ≡ t → Gentle x t (load_flushed_to_settle found x t)
-g_to_settle found x task.Rest same = plain_task x _ _ (no_end _ tt) (search (no_end_if, no_end))
-g_to_settle found x t same = subst (λ u. Gentle x u x) same (gentle_refl x)
+-- settle may begin only where no end is in progress
+settle_no_end : (t : Task) → may_settle t ≡ true → NoEnd t
+settle_no_end (task.Ends raised ended step cleared) e = absurd (cc)
+settle_no_end _ e = record { ended = refl; step = λ k. refl }
+
+g_to_settle : (found : ℕ) (x : Part) → Gentle x x.task (load_flushed_to_settle found x)
+g_to_settle found x =
+    either_way (Gentle x x.task) _ _ _
+    (λ g. plain_task x _ _ (settle_no_end x.task (and_parts _ _ (and_parts _ _ g).0).1) (no_end _ tt)) (λ _. gentle_refl x)
 
 pub g_load_flushed : (found : ℕ) (x : Part) (f : Flushing) (y : Part) → load_flushed found x f ≡ Some y → Gentle x x.task y
-g_load_flushed found x (flushing.Tail tail) y e = some_then (Gentle x x.task) _ y e (gentle_flushing x _ _ _ _ _ _)
-g_load_flushed found x _ y e = when_then (Gentle x x.task) _ _ y e (λ _. g_to_settle found x x.task refl)
+g_load_flushed found x (flushing.Tail tail) y e = some_then (Gentle x x.task) _ y e (gentle_flushing x _ _ _ _)
+g_load_flushed found x _ y e = when_then (Gentle x x.task) _ _ y e (λ _. g_to_settle found x)
 
 gentle_if : (x : Part) (t : Task) (b : Bool) (l r : Part) → Gentle x t l → Gentle x t r → Gentle x t (if b then l else r)
 gentle_if x t b l r f g = either_way (Gentle x t) b l r (λ _. f) (λ _. g)
 
-g_gathered : (tail from block next end w : ℕ) (x : Part) → Gentle x x.task (gathered_word tail from block next end w x)
-g_gathered tail from block next end w x = either_way (Gentle x x.task) _ _ _ (λ _. gentle_flushing x _ _ _ _ _ _) (λ _. gentle_flushing x _ _ _ _ _ _)
+g_gathered : (tail from block next end : ℕ) (x : Part) → Gentle x x.task (gathered_word tail from block next end x)
+g_gathered tail from block next end x = either_way (Gentle x x.task) _ _ _ (λ _. gentle_flushing x _ _ _ _) (λ _. gentle_flushing x _ _ _ _)
 
 pub g_load_ring : (at found : ℕ) (x : Part) (f : Flushing) (y : Part) → load_ring at found x f ≡ Some y → Gentle x x.task y
 g_load_ring at found x (flushing.Gathers tail from block next end) y e = when_then (Gentle x x.task) _ _ y e (λ _. search (gentle_if, g_gathered, gentle_refl))
 g_load_ring at found x _ y e = absurd (cc)
 
 pub g_write_log : (segment : ℕ) (x : Part) (f : Flushing) (y : Part) → write_log segment x f ≡ Some y → Gentle x x.task y
-g_write_log segment x (flushing.Gathers tail from block next end) y e = when_then (Gentle x x.task) _ _ y e (λ _. gentle_flushing x _ _ _ _ _ _)
-g_write_log segment x (flushing.Puts from to written) y e = when_then (Gentle x x.task) _ _ y e (λ _. gentle_flushing x _ _ _ _ _ _)
+g_write_log segment x (flushing.Gathers tail from block next end) y e = when_then (Gentle x x.task) _ _ y e (λ _. gentle_flushing x _ _ _ _)
+g_write_log segment x (flushing.Puts from to written) y e = when_then (Gentle x x.task) _ _ y e (λ _. gentle_flushing x _ _ _ _)
 g_write_log segment x _ y e = absurd (cc)
 
 g_after_sync : (from to synced : ℕ) (x : Part) → Gentle x x.task (after_sync from to synced x)
-g_after_sync from to synced x = either_way (Gentle x x.task) _ _ _ (λ _. gentle_flushing x _ _ _ _ _ _) (λ _. gentle_flushing x _ _ _ _ _ _)
+g_after_sync from to synced x = either_way (Gentle x x.task) _ _ _ (λ _. gentle_flushing x _ _ _ _) (λ _. gentle_flushing x _ _ _ _)
 
 pub g_sync_log : (segment : ℕ) (x : Part) (f : Flushing) (y : Part) → sync_log segment x f ≡ Some y → Gentle x x.task y
 g_sync_log segment x (flushing.Puts from to written) y e = when_then (Gentle x x.task) _ _ y e (λ _. g_after_sync from to 1 x)
@@ -325,24 +329,24 @@ g_sync_log segment x (flushing.Syncs from to synced) y e = when_then (Gentle x x
 g_sync_log segment x _ y e = absurd (cc)
 
 pub g_clear_ring : (at : ℕ) (x : Part) (f : Flushing) (y : Part) → clear_ring at x f ≡ Some y → Gentle x x.task y
-g_clear_ring at x (flushing.Clears next to) y e = when_then (Gentle x x.task) _ _ y e (λ _. gentle_flushing x _ _ _ _ _ _)
+g_clear_ring at x (flushing.Clears next to) y e = when_then (Gentle x x.task) _ _ y e (λ _. gentle_flushing x _ _ _ _)
 g_clear_ring at x _ y e = absurd (cc)
 
 pub g_store_flushed : (value : ℕ) (x : Part) (f : Flushing) (y : Part) → store_flushed value x f ≡ Some y → Gentle x x.task y
-g_store_flushed value x (flushing.Clears next to) y e = when_then (Gentle x x.task) _ _ y e (λ _. gentle_flushing x _ _ _ _ _ _)
+g_store_flushed value x (flushing.Clears next to) y e = when_then (Gentle x x.task) _ _ y e (λ _. gentle_flushing x _ _ _ _)
 g_store_flushed value x _ y e = absurd (cc)
 
 pub g_write_slot : (seat : ℕ) (x : Part) (y : Part) → write_slot seat x ≡ Some y → Gentle x x.task y
-g_write_slot seat x y e = when_then (Gentle x x.task) _ _ y e (λ _. gentle_flushing x _ _ _ _ _ _)
+g_write_slot seat x y e = when_then (Gentle x x.task) _ _ y e (λ _. gentle_flushing x _ _ _ _)
 
 pub g_sync_slot : (x : Part) (f : Flushing) (y : Part) → sync_slot x f ≡ Some y → Gentle x x.task y
-g_sync_slot x flushing.SlotPut y e = some_then (Gentle x x.task) _ y e (gentle_flushing x _ _ _ _ _ _)
+g_sync_slot x flushing.SlotPut y e = some_then (Gentle x x.task) _ y e (gentle_flushing x _ _ _ _)
 g_sync_slot x _ y e = absurd (cc)
 
 pub g_remove_log : (segment : ℕ) (x : Part) (f : Flushing) (y : Part) → remove_log segment x f ≡ Some y → Gentle x x.task y
-g_remove_log segment x flushing.SlotSynced y e = some_then (Gentle x x.task) _ y e (gentle_flushing x _ _ _ _ _ _)
+g_remove_log segment x flushing.SlotSynced y e = some_then (Gentle x x.task) _ y e (gentle_flushing x _ _ _ _)
 g_remove_log segment x _ y e = absurd (cc)
 
 pub g_sync_removal : (segment : ℕ) (x : Part) (f : Flushing) (y : Part) → sync_removal segment x f ≡ Some y → Gentle x x.task y
-g_sync_removal segment x (flushing.Removed removed) y e = when_then (Gentle x x.task) _ _ y e (λ _. gentle_flushing x _ _ _ _ _ _)
+g_sync_removal segment x (flushing.Removed removed) y e = when_then (Gentle x x.task) _ _ y e (λ _. gentle_flushing x _ _ _ _)
 g_sync_removal segment x _ y e = absurd (cc)

@@ -100,6 +100,7 @@ added_fits c p oid head k sound decided within waits eight is_oid own =
     (let b = stamps.1 in let s = own_stamp in omega (arith, b, s))
     (ap (λ n. (version_at o n).words.overwriter) (sym fit.place) ∙ done.mark (omega arith) ∙ sym own_stamp)
     (done.unmarked (omega arith))
+    (done.unset (omega arith))
     old
   where
     o : Object
@@ -185,13 +186,13 @@ install_new_kept c p oid head d n y sound at e =
     }) (sound.own p).claims)
     is)
 
--- an install in progress has passed its last step only where the transaction commits
-release_step : (pl : Place) (t : Attempt) (u : Task) → TaskFits pl t u → (is_decided pl || is_active pl) ≡ true → (is_decided pl && is_commit t.decision) ≡ false → (k : ℕ) → step_of u k < 8
+-- an install in progress has come to the version overwritten only where the transaction commits
+release_step : (pl : Place) (t : Attempt) (u : Task) → TaskFits pl t u → (is_decided pl || is_active pl) ≡ true → (is_decided pl && is_commit t.decision) ≡ false → (k : ℕ) → step_of u k < 7
 release_step (Active tail) t (task.Ends raised ended step cleared) fits e f k =
-    let z = fits.1 in either_way (λ n. n < 8) (eqb k ended) step 0 (λ _. omega (arith, z)) (λ _. omega arith)
+    let z = fits.1 in either_way (λ n. n < 7) (eqb k ended) step 0 (λ _. omega (arith, z)) (λ _. omega arith)
 release_step (Active tail) t _ fits e f k = omega arith
 release_step (Decided tail stamp) t (task.Ends raised ended step cleared) fits e f k =
-    either_way (λ n. n < 8) (eqb k ended) step 0
+    either_way (λ n. n < 7) (eqb k ended) step 0
     (λ _.
     ⊎_elim
     (λ (some : 0 < step). let commits : is_commit Commit ≡ false = subst (λ n. is_commit n ≡ false) (fits.1 some).0 f in absurd (cc))
@@ -210,11 +211,12 @@ pub record Released (c : Core) (oid head : ℕ) : Type 0 where
   pub short : head < 2 ^ 24
   pub fits : ObjectFits c.shared.tail (record (c.shared.objects oid) { entry = head })
 
-released_fits : (c : Core) (p oid head k : ℕ) → Sound c → k < length (c.seats p).current.writes → claims_over (c.seats p) ≤ k → step_of (c.seats p).task k < 8
+released_fits : (c : Core) (p oid head k : ℕ) → Sound c → k < length (c.seats p).current.writes → claims_over (c.seats p) ≤ k → step_of (c.seats p).task k < 7
     → oid ≡ (claim_at (c.seats p).current k).version.oid → head ≡ (claim_at (c.seats p).current k).version.cell → Released c oid head
 released_fits c p oid head k sound within waits early is_oid is_head = record {
   short = let h = old.cells (newest o) (newest_within c.shared.tail o old) in let e = head_is in omega (arith, h, e);
-  fits = object_released c.shared.tail o head head_is (ap (λ n. (version_at o n).words.overwriter) (sym fit.place) ∙ done.no_mark early) old;
+  fits = object_released c.shared.tail o head head_is (ap (λ n. (version_at o n).words.overwriter) (sym fit.place) ∙ done.no_mark (omega (arith, early)))
+      (ap (λ n. (version_at o n).words.overwriter_succ) (sym fit.place) ∙ done.no_succ early) old;
 }
   where
     o : Object
@@ -256,7 +258,7 @@ release_kept c p oid head d n y sound at skips e =
     let is_head : head ≡ (claim_at x.current n.1).version.cell = eqb-true head _ g1.1 in
     let stays = ending_stays x.place g3.0 in
     let over_was : claims_over x ≡ n.1 = over_known x.place x.task (length x.current.writes) stays ∙ at.0 in
-    let early : step_of x.task n.1 < 8 = release_step x.place x.current x.task (sound.own p).task.fits g3.0 skips n.1 in
+    let early : step_of x.task n.1 < 7 = release_step x.place x.current x.task (sound.own p).task.fits g3.0 skips n.1 in
     let waits : claims_over x ≤ n.1 = omega (arith, over_was) in
     let released = released_fits c p oid head n.1 sound within waits early is_oid is_head in
     let u = record (c.shared.objects oid) { entry = head } in
@@ -299,7 +301,7 @@ unclaim_kept c p oid head d y sound at e =
     let none : NoEnd x.task = subst NoEnd (sym at) (no_end _ tt) in
     let over_was : claims_over x ≡ 0 = over_known x.place x.task (length x.current.writes) stays ∙ none.ended in
     let step_is = none.step (last_claim x.current) in
-    let early : step_of x.task (last_claim x.current) < 8 = omega (arith, step_is) in
+    let early : step_of x.task (last_claim x.current) < 7 = omega (arith, step_is) in
     let waits : claims_over x ≤ last_claim x.current = omega (arith, over_was) in
     let released = released_fits c p oid head (last_claim x.current) sound within waits early is_oid is_head in
     let u = record (c.shared.objects oid) { entry = head } in

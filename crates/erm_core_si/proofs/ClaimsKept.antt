@@ -183,7 +183,7 @@ kept c p (kind.StoreBegin value) d sound e =
     let m = moves c p (kind.StoreBegin value) d tt e in
     mild_kept c p (kind.StoreBegin value) d tt tt sound m
     (announces_own c.shared c.shared p (c.seats p) (λ oid. alike_refl (c.shared.objects oid)) (sound.own p).ranges.current (sound.own p).task.fits (sound.own p).claims
-    value (c.seats p).place m.part refl m.after)
+    p value (c.seats p).place m.part refl m.after)
 kept c p (kind.StoreState value) d sound e =
     let m = moves c p (kind.StoreState value) d tt e in
     mild_kept c p (kind.StoreState value) d tt tt sound m

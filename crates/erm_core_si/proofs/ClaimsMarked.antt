@@ -208,7 +208,8 @@ succ_marks c p v value d (task.Ends raised ended step cleared) y sound at e =
     let six : step ≡ 6 = eqb-true step 6 g3.1 in
     let value_is : value ≡ (c.seats p).current.succ = eqb-true value _ g1.1 in
     word_kept c p v d (set_word word.OverwriterSucc value (version_at (c.shared.objects v.oid) v.place).words) raised ended step cleared sound at g3.0 g2.1 refl refl
-    (λ _ _ _ old. object_words c.shared.tail (c.shared.objects v.oid) v.place _ refl (λ i low same. refl) (λ free. refl) old)
+    (λ positive _ owner old.
+    object_words c.shared.tail (c.shared.objects v.oid) v.place _ refl (λ i low same. refl) (λ free. refl) (λ free. absurd (omega (arith, free, owner, positive))) old)
     (λ within was is_place. succ_on (c.seats p).current (c.shared.objects v.oid) (claim_at (c.seats p).current ended) v.place value step six value_is within is_place was)
     is)
   where
@@ -222,10 +223,12 @@ succ_marks c p v value d (task.Ends raised ended step cleared) y sound at e =
           unread = λ _. was.unread (omega (arith, six));
           reader_stamp = λ _. was.reader_stamp (omega (arith, six));
           unmarked = λ _. was.unmarked (omega (arith, six));
+          unset = λ _. was.unset (omega (arith, six));
           succ = λ _.
               ap (λ n. (version_at (with_version o place words) n).words.overwriter_succ) (sym is_place)
               ∙ ap (λ (n : Version). n.words.overwriter_succ) (version_here o place words within) ∙ value_is;
           mark = λ h. absurd (omega (arith, six, h));
+          no_succ = λ h. absurd (omega (arith, six, h));
           no_mark = λ _. seen_same (λ (n : Version). n.words.overwriter) o place words refl w.version.place ∙ was.no_mark (omega (arith, six));
         }
 succ_marks c p v value d _ y sound at e = absurd (cc)
@@ -245,7 +248,7 @@ stamp_marks c p v value d (task.Ends raised ended step cleared) y sound at e =
     word_kept c p v d (set_word word.Overwriter value (version_at (c.shared.objects v.oid) v.place).words) raised ended step cleared sound at g3.0 g2.1 refl refl
     (λ positive newest_is owner old.
     object_words c.shared.tail (c.shared.objects v.oid) v.place _ refl (λ i low same. absurd (omega (arith, low, same, newest_is)))
-    (λ free. absurd (omega (arith, free, owner, positive))) old)
+    (λ free. absurd (omega (arith, free, owner, positive))) (λ free. refl) old)
     (λ within was is_place. mark_on (c.seats p).current (c.shared.objects v.oid) (claim_at (c.seats p).current ended) v.place value step seven value_is within is_place was)
     is)
   where
@@ -259,10 +262,12 @@ stamp_marks c p v value d (task.Ends raised ended step cleared) y sound at e =
           unread = λ _. was.unread (omega (arith, seven));
           reader_stamp = λ _. was.reader_stamp (omega (arith, seven));
           unmarked = λ _. was.unmarked (omega (arith, seven));
+          unset = λ _. was.unset (omega (arith, seven));
           succ = λ _. seen_same (λ (n : Version). n.words.overwriter_succ) o place words refl w.version.place ∙ was.succ (omega (arith, seven));
           mark = λ _.
               ap (λ n. (version_at (with_version o place words) n).words.overwriter) (sym is_place)
               ∙ ap (λ (n : Version). n.words.overwriter) (version_here o place words within) ∙ value_is;
+          no_succ = λ h. absurd (omega (arith, seven, h));
           no_mark = λ h. absurd (omega (arith, seven, h));
         }
 stamp_marks c p v value d _ y sound at e = absurd (cc)

@@ -82,6 +82,7 @@ object_alike now later o u grows a f =
       plain = λ free. a.entry ∙ f.plain (ap owner_of (sym a.entry) ∙ free) ∙ ap head_of (sym a.entry);
       marked = λ i within. a.overwriter i ∙ f.marked i (omega (arith, n, within)) ∙ sym (a.stamp (i + 1));
       unmarked = λ free. ap (λ m. (version_at u (m - 1)).words.overwriter) n ∙ a.overwriter (newest o) ∙ f.unmarked (ap owner_of (sym a.entry) ∙ free);
+      unset = λ free. ap (λ m. (version_at u (m - 1)).words.overwriter_succ) n ∙ a.succ (newest o) ∙ f.unset (ap owner_of (sym a.entry) ∙ free);
     }
 
 pub claim_alike : (seat number begin : ℕ) (o u : Object) (w : Claim) → Alike o u → ClaimFits seat number begin o w → ClaimFits seat number begin u w
@@ -102,21 +103,26 @@ install_alike t o u w step a f = record {
   unread = f.unread;
   reader_stamp = f.reader_stamp;
   unmarked = f.unmarked;
+  unset = f.unset;
   succ = λ h. a.succ w.version.place ∙ f.succ h;
   mark = λ h. a.overwriter w.version.place ∙ f.mark h;
+  no_succ = λ h. a.succ w.version.place ∙ f.no_succ h;
   no_mark = λ h. a.overwriter w.version.place ∙ f.no_mark h;
 }
 
--- an install that hasn't begun asks only that the version overwritten isn't marked
-pub install_waits : (t : Attempt) (o : Object) (w : Claim) (step : ℕ) → step ≡ 0 → (version_at o w.version.place).words.overwriter ≡ 0 → InstallFits t o w step
-install_waits t o w step zero_is e = record {
+-- an install that hasn't begun asks only that the version overwritten isn't marked, and has no overwriter's successor stamp
+pub install_waits : (t : Attempt) (o : Object) (w : Claim) (step : ℕ) → step ≡ 0 → (version_at o w.version.place).words.overwriter ≡ 0
+    → (version_at o w.version.place).words.overwriter_succ ≡ 0 → InstallFits t o w step
+install_waits t o w step zero_is e unset = record {
   stamp = λ h. absurd (omega (arith, h, zero_is));
   link = λ h. absurd (omega (arith, h, zero_is));
   unread = λ h. absurd (omega (arith, h, zero_is));
   reader_stamp = λ h. absurd (omega (arith, h, zero_is));
   unmarked = λ h. absurd (omega (arith, h, zero_is));
+  unset = λ h. absurd (omega (arith, h, zero_is));
   succ = λ h. absurd (omega (arith, h, zero_is));
   mark = λ h. absurd (omega (arith, h, zero_is));
+  no_succ = λ _. unset;
   no_mark = λ _. e;
 }
 
@@ -148,6 +154,7 @@ object_claimed now o entry head owned f = record {
   plain = λ free. absurd (owned free);
   marked = f.marked;
   unmarked = λ free. absurd (owned free);
+  unset = λ free. absurd (owned free);
 }
 
 -- the newest place
@@ -155,9 +162,9 @@ pub newest_within : (now : ℕ) (o : Object) → ObjectFits now o → newest o <
 newest_within now o f = let h = f.some in omega (arith, h)
 
 -- the entry is released with its old head
-pub object_released : (now : ℕ) (o : Object) (head : ℕ) → head ≡ (version_at o (newest o)).cell → (version_at o (newest o)).words.overwriter ≡ 0 → ObjectFits now o →
-    ObjectFits now (record o { entry = head })
-object_released now o head is unmarked f =
+pub object_released : (now : ℕ) (o : Object) (head : ℕ) → head ≡ (version_at o (newest o)).cell → (version_at o (newest o)).words.overwriter ≡ 0
+    → (version_at o (newest o)).words.overwriter_succ ≡ 0 → ObjectFits now o → ObjectFits now (record o { entry = head })
+object_released now o head is unmarked unset f =
     let low : head < 2 ^ 24 = let h = f.cells (newest o) (newest_within now o f) in omega (arith, h, is) in
     record {
       some = f.some;
@@ -168,14 +175,16 @@ object_released now o head is unmarked f =
       plain = λ _. sym (plain_head head low);
       marked = f.marked;
       unmarked = λ _. unmarked;
+      unset = λ _. unset;
     }
 
--- words of a version are changed: its stamp stays, and its mark does where it counts
+-- words of a version are changed: its stamp stays, and its marks do where they count
 pub object_words : (now : ℕ) (o : Object) (place : ℕ) (words : Cell) → words.stamp ≡ (version_at o place).words.stamp
     → ((i : ℕ) → i + 1 < length o.versions → i ≡ place → words.overwriter ≡ (version_at o place).words.overwriter)
     → (owner_of o.entry ≡ 0 → words.overwriter ≡ (version_at o place).words.overwriter)
+    → (owner_of o.entry ≡ 0 → words.overwriter_succ ≡ (version_at o place).words.overwriter_succ)
     → ObjectFits now o → ObjectFits now (with_version o place words)
-object_words now o place words same marked unmarked f =
+object_words now o place words same marked unmarked unset f =
     let n = many_same o place words in
     let stamp = seen_same (λ (v : Version). v.words.stamp) o place words same in
     let cell = seen_same (λ (v : Version). v.cell) o place words refl in
@@ -197,6 +206,10 @@ object_words now o place words same marked unmarked f =
           ap (λ m. (version_at (with_version o place words) (m - 1)).words.overwriter) n
           ∙ at_word (λ (v : Version). v.words.overwriter ≡ 0) o place words (newest o)
           (λ is. unmarked free ∙ ap (λ m. (version_at o m).words.overwriter) (sym is) ∙ f.unmarked free) (f.unmarked free);
+      unset = λ free.
+          ap (λ m. (version_at (with_version o place words) (m - 1)).words.overwriter_succ) n
+          ∙ at_word (λ (v : Version). v.words.overwriter_succ ≡ 0) o place words (newest o)
+          (λ is. unset free ∙ ap (λ m. (version_at o m).words.overwriter_succ) (sym is) ∙ f.unset free) (f.unset free);
     }
 
 -- a version of an object that has one more
@@ -222,8 +235,8 @@ stamp_le_newest now o i f within =
 -- a version is installed on the newest one, which is marked with its stamp
 pub object_installed : (now : ℕ) (o : Object) (head : ℕ) (v : Version) → head < 2 ^ 24 → v.cell ≡ head
     → (version_at o (newest o)).words.stamp < v.words.stamp → v.words.stamp < now → (version_at o (newest o)).words.overwriter ≡ v.words.stamp → v.words.overwriter ≡ 0
-    → ObjectFits now o → ObjectFits now (installed head (Some v) o)
-object_installed now o head v low cell above below mark unmarked f =
+    → v.words.overwriter_succ ≡ 0 → ObjectFits now o → ObjectFits now (installed head (Some v) o)
+object_installed now o head v low cell above below mark unmarked unset f =
     let u = installed head (Some v) o in
     let n : length u.versions ≡ length o.versions + 1 = length_installed head v o in
     let last : version_at u (length o.versions) ≡ v = at_push-new head v o (length o.versions) refl in
@@ -247,4 +260,5 @@ object_installed now o head v low cell above below mark unmarked f =
           (f.marked i)
           (λ is. let top_is : i ≡ newest o = omega (arith, is) in ap (λ k. (version_at o k).words.overwriter) top_is ∙ mark);
       unmarked = λ _. ap (λ k. (version_at u k).words.overwriter) top ∙ ap (λ (w : Version). w.words.overwriter) last ∙ unmarked;
+      unset = λ _. ap (λ k. (version_at u k).words.overwriter_succ) top ∙ ap (λ (w : Version). w.words.overwriter_succ) last ∙ unset;
     }

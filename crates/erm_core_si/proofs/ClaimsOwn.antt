@@ -69,9 +69,9 @@ holds_of x oid h = (claim_at x.current h.place, stands_in x.current h.place h.wi
 pub holds_claim : (x : Part) (k : ℕ) → k < length x.current.writes → (claim_at x.current k).held ≡ true → Holds x (claim_at x.current k).version.oid
 holds_claim x k within held = (claim_at x.current k, stands_in x.current k within, held, refl)
 
--- an install stays where it was, or hasn't begun and wasn't at its last step
+-- an install stays where it was, or hasn't begun and had stored no word of the version overwritten
 abbrev pub StepStays : Attempt → Attempt → ℕ → ℕ → Type 0
-StepStays t u old new = ((new ≡ old) × (u.stamp ≡ t.stamp) × (u.succ ≡ t.succ)) ⊎ ((new ≡ 0) × (old < 8))
+StepStays t u old new = ((new ≡ old) × (u.stamp ≡ t.stamp) × (u.succ ≡ t.succ)) ⊎ ((new ≡ 0) × (old < 7))
 
 pub install_stays : (t u : Attempt) (o : Object) (w : Claim) (old new : ℕ) → StepStays t u old new → InstallFits t o w old → InstallFits u o w new
 install_stays t u o w old new stays f =
@@ -84,11 +84,13 @@ install_stays t u o w old new stays f =
       unread = λ h. f.unread (omega (arith, e, h));
       reader_stamp = λ h. f.reader_stamp (omega (arith, e, h)) ∙ sym same.1;
       unmarked = λ h. f.unmarked (omega (arith, e, h));
+      unset = λ h. f.unset (omega (arith, e, h));
       succ = λ h. f.succ (omega (arith, e, h)) ∙ sym same.2;
       mark = λ h. f.mark (omega (arith, e, h)) ∙ sym same.1;
+      no_succ = λ h. f.no_succ (omega (arith, e, h));
       no_mark = λ h. f.no_mark (omega (arith, e, h));
     })
-    (λ (waits : (new ≡ 0) × (old < 8)). install_waits u o w new waits.0 (f.no_mark waits.1))
+    (λ (waits : (new ≡ 0) × (old < 7)). let early = waits.1 in install_waits u o w new waits.0 (f.no_mark (omega (arith, early))) (f.no_succ early))
     stays
 
 -- a claim that goes on as it is

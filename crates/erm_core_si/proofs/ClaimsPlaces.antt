@@ -13,8 +13,8 @@ use Rattle.erm_machine.specs.Facts.{Holds, IsCurrent, over_of}
 use Rattle.erm_machine.specs.Life.{load_tail_to_begin, add_tail, has_ended, store_begin, store_state, split, join, decide}
 use Rattle.erm_machine.specs.Seat.{end_of, is_vacant}
 use Rattle.erm_machine.specs.Tasks.{TaskFits}
-use Rattle.erm_machine.specs.Words.{owner_of}
-use Rattle.erm_machine.proofs.Guards.{when_then}
+use Rattle.erm_machine.specs.Words.{owner_of, is_flusher}
+use Rattle.erm_machine.proofs.Guards.{when_then, either_way}
 use Rattle.erm_core_si.proofs.ClaimsObjects.{Alike}
 use Rattle.erm_core_si.proofs.ClaimsOwn.{held_at, Stands, stands_own, none_own}
 use Rattle.erm_core_si.proofs.ClaimsGentle.{ended_of, start_no_end, NotLeaving, over_known, EndsAt, ends_at, zero_step, gentle_stands, same_end}
@@ -93,14 +93,16 @@ module _ (s r : Shared) (seat : ℕ) (x : Part) (alike : (oid : ℕ) → Alike (
       stays _ (stands_on x _ refl refl refl (stays_at (Sealing tail) at tt) tt refl (rest_step rest) (rest_step rest)))
   draws_own p size found _ y at e = absurd (cc)
 
-  pub announces_own : (value : ℕ) (pl : Place) (y : Part) → x.place ≡ pl → store_begin value x pl ≡ Some y → OwnClaims r seat y
-  announces_own value (Begun tail) y at e =
+  pub announces_own : (p value : ℕ) (pl : Place) (y : Part) → x.place ≡ pl → store_begin p value x pl ≡ Some y → OwnClaims r seat y
+  announces_own p value (Begun tail) y at e =
       when_then (OwnClaims r seat) _ _ y e (λ _. freed _ (ap (λ (t : Attempt). t.writes) (current_at (Begun tail) at)) (blank_holds (current_at (Begun tail) at)))
-  announces_own value (Active tail) y at e =
+  announces_own p value (Active tail) y at e =
       when_then (OwnClaims r seat) _ _ y e (λ g.
-      freed _ refl (over_holds (over_known x.place x.task (length x.current.writes) (stays_at (Active tail) at tt)
-      ∙ ended_all x.current x.task (end_of x.task) (ends_at x.task) (and_parts _ _ g).1)))
-  announces_own value (Decided tail stamp) y at e =
+      let none : (oid : ℕ) → Holds x oid → ⊥ =
+      over_holds (over_known x.place x.task (length x.current.writes) (stays_at (Active tail) at tt)
+      ∙ ended_all x.current x.task (end_of x.task) (ends_at x.task) (and_parts _ _ g).1) in
+      either_way (OwnClaims r seat) (is_flusher p) _ _ (λ _. freed _ refl none) (λ _. freed _ refl none))
+  announces_own p value (Decided tail stamp) y at e =
       when_then (OwnClaims r seat) _ _ y e (λ g.
       let all : claims_over x ≡ length x.current.writes =
       over_known x.place x.task (length x.current.writes) (stays_at (Decided tail stamp) at tt)
@@ -112,7 +114,7 @@ module _ (s r : Shared) (seat : ℕ) (x : Part) (alike : (oid : ℕ) → Alike (
         over = sym all;
         step = λ k high low. absurd (omega (arith, all, high, low));
       }))
-  announces_own value _ y at e = absurd (cc)
+  announces_own p value _ y at e = absurd (cc)
 
   pub seals_own : (p value : ℕ) (pl : Place) (y : Part) → x.place ≡ pl → store_state p value x pl ≡ Some y → OwnClaims r seat y
   seals_own p value (Active tail) y at e =

@@ -160,7 +160,8 @@ refills_plain x t u c spare at own row is_set from to within stays number begin 
   others = λ k _. (from.step k, to.step k);
   install = λ o f.
       let z = from.step at in
-      install_waits c o (record (claim_at x.current at) { own = own; row = row; is_set = is_set }) (step_of u at) (to.step at) (f.no_mark (omega (arith, z)));
+      install_waits c o (record (claim_at x.current at) { own = own; row = row; is_set = is_set }) (step_of u at) (to.step at) (f.no_mark (omega (arith, z)))
+      (f.no_succ (omega (arith, z)));
 }
 
 -- a claim with an own cell is one of the transaction's
@@ -278,8 +279,10 @@ install_word t o w value step cell word.Stamp (Some own) at is_it turn same f =
       unread = λ h. absurd (omega (arith, n, h));
       reader_stamp = λ h. absurd (omega (arith, n, h));
       unmarked = λ h. absurd (omega (arith, n, h));
+      unset = λ h. absurd (omega (arith, n, h));
       succ = λ h. absurd (omega (arith, n, h));
       mark = λ h. absurd (omega (arith, n, h));
+      no_succ = λ h. f.no_succ (omega (arith, h));
       no_mark = λ h. f.no_mark (omega (arith, h));
     }
 install_word t o w value step cell word.Link (Some own) at is_it turn same f =
@@ -290,8 +293,10 @@ install_word t o w value step cell word.Link (Some own) at is_it turn same f =
       unread = λ h. absurd (omega (arith, n, h));
       reader_stamp = λ h. absurd (omega (arith, n, h));
       unmarked = λ h. absurd (omega (arith, n, h));
+      unset = λ h. absurd (omega (arith, n, h));
       succ = λ h. absurd (omega (arith, n, h));
       mark = λ h. absurd (omega (arith, n, h));
+      no_succ = λ h. f.no_succ (omega (arith, h));
       no_mark = λ h. f.no_mark (omega (arith, h));
     }
 install_word t o w value step cell word.Readers (Some own) at is_it turn same f =
@@ -302,8 +307,10 @@ install_word t o w value step cell word.Readers (Some own) at is_it turn same f 
       unread = λ _. same;
       reader_stamp = λ h. absurd (omega (arith, n, h));
       unmarked = λ h. absurd (omega (arith, n, h));
+      unset = λ h. absurd (omega (arith, n, h));
       succ = λ h. absurd (omega (arith, n, h));
       mark = λ h. absurd (omega (arith, n, h));
+      no_succ = λ h. f.no_succ (omega (arith, h));
       no_mark = λ h. f.no_mark (omega (arith, h));
     }
 install_word t o w value step cell word.ReaderStamp (Some own) at is_it turn same f =
@@ -314,8 +321,10 @@ install_word t o w value step cell word.ReaderStamp (Some own) at is_it turn sam
       unread = λ _. was (λ c. c.readers) w own 0 at (f.unread (omega (arith, n)));
       reader_stamp = λ _. same;
       unmarked = λ h. absurd (omega (arith, n, h));
+      unset = λ h. absurd (omega (arith, n, h));
       succ = λ h. absurd (omega (arith, n, h));
       mark = λ h. absurd (omega (arith, n, h));
+      no_succ = λ h. f.no_succ (omega (arith, h));
       no_mark = λ h. f.no_mark (omega (arith, h));
     }
 install_word t o w value step cell word.Overwriter (Some own) at is_it turn same f =
@@ -326,8 +335,10 @@ install_word t o w value step cell word.Overwriter (Some own) at is_it turn same
       unread = λ _. was (λ c. c.readers) w own 0 at (f.unread (omega (arith, n)));
       reader_stamp = λ _. was (λ c. c.reader_stamp) w own t.stamp at (f.reader_stamp (omega (arith, n)));
       unmarked = λ _. same;
+      unset = λ h. absurd (omega (arith, n, h));
       succ = λ h. absurd (omega (arith, n, h));
       mark = λ h. absurd (omega (arith, n, h));
+      no_succ = λ h. f.no_succ (omega (arith, h));
       no_mark = λ h. f.no_mark (omega (arith, h));
     }
 install_word t o w value step cell word.OverwriterSucc (Some own) at is_it turn same f =
@@ -338,8 +349,10 @@ install_word t o w value step cell word.OverwriterSucc (Some own) at is_it turn 
       unread = λ _. was (λ c. c.readers) w own 0 at (f.unread (omega (arith, n)));
       reader_stamp = λ _. was (λ c. c.reader_stamp) w own t.stamp at (f.reader_stamp (omega (arith, n)));
       unmarked = λ _. was (λ c. c.overwriter) w own 0 at (f.unmarked (omega (arith, n)));
+      unset = λ _. same;
       succ = λ h. absurd (omega (arith, n, h));
       mark = λ h. absurd (omega (arith, n, h));
+      no_succ = λ h. f.no_succ (omega (arith, h));
       no_mark = λ h. f.no_mark (omega (arith, h));
     }
 install_word t o w value step cell (word.Row k) (Some own) at is_it turn same f = absurd (cc)

@@ -45,6 +45,7 @@ pub record Gains (s r : Shared) (seat : ℕ) (x y : Part) (w : Claim) : Type 0 w
   pub held : w.held ≡ true
   pub fit : ClaimFits seat y.current.number y.current.begin (r.objects w.version.oid) w
   pub unmarked : (version_at (r.objects w.version.oid) w.version.place).words.overwriter ≡ 0
+  pub unset : (version_at (r.objects w.version.oid) w.version.place).words.overwriter_succ ≡ 0
 
 pub gains_own : (s r : Shared) (seat : ℕ) (x y : Part) (w : Claim) → Gains s r seat x y w → OwnClaims s seat x → OwnClaims r seat y
 gains_own s r seat x y w g own = own_from r seat y ok once owned
@@ -99,7 +100,7 @@ gains_own s r seat x y w g own = own_from r seat y ok once owned
           none = λ h. let a = none_over_now in absurd (omega (arith, a, h));
           held = λ _. g.held;
           fit = λ _. g.fit;
-          install = λ _. install_waits y.current (r.objects w.version.oid) w (step_of y.task k) (g.new.step k) g.unmarked;
+          install = λ _. install_waits y.current (r.objects w.version.oid) w (step_of y.task k) (g.new.step k) g.unmarked g.unset;
         })
 
     once : (j k : ℕ) → j < k → k < length y.current.writes → (claim_at y.current j).version.oid ≢ (claim_at y.current k).version.oid
@@ -179,6 +180,7 @@ taken_own c p oid number entry stamp v y sound at from positive low is_oid is_en
           (subst (λ n. ClaimFits p (c.seats p).current.number n (r.objects v.oid) w) (sym same_begin)
           (subst (λ o. ClaimFits p (c.seats p).current.number (c.seats p).current.begin o w) (sym there) fit));
       unmarked = ap (λ (o : Object). (version_at o v.place).words.overwriter) there ∙ unmarked;
+      unset = ap (λ (o : Object). (version_at o v.place).words.overwriter_succ) there ∙ unset;
     }) (sound.own p).claims
   where
     u : Object
@@ -211,6 +213,9 @@ taken_own c p oid number entry stamp v y sound at from positive low is_oid is_en
 
     unmarked : (version_at (c.shared.objects oid) v.place).words.overwriter ≡ 0
     unmarked = ap (λ n. (version_at (c.shared.objects oid) n).words.overwriter) (head.2 is_entry) ∙ old.unmarked unowned
+
+    unset : (version_at (c.shared.objects oid) v.place).words.overwriter_succ ≡ 0
+    unset = ap (λ n. (version_at (c.shared.objects oid) n).words.overwriter_succ) (head.2 is_entry) ∙ old.unset unowned
 
     fit : ClaimFits p (c.seats p).current.number (c.seats p).current.begin u w
     fit = record {

@@ -11,7 +11,8 @@ use Rattle.erm_machine.specs.declared.task.Task.{Task}
 use Rattle.erm_machine.specs.declared.task.Task.TheVariants as task
 use Rattle.erm_machine.specs.Core.{Core, spot_of, word_at}
 use Rattle.erm_machine.specs.Life.{load_tail, load_tail_to_begin, load_tail_for_horizon, add_tail, store_begin, store_state, load_begin, decide}
-use Rattle.erm_machine.proofs.Guards.{when_then}
+use Rattle.erm_machine.specs.Words.{is_flusher}
+use Rattle.erm_machine.proofs.Guards.{when_then, either_way}
 use Rattle.erm_machine.proofs.Quiet.{Quiet}
 use Rattle.erm_machine.proofs.QuietKinds.{IsQuiet, Moves, quiet_kind}
 
@@ -43,11 +44,13 @@ module _ (now : ℕ) (x : Part) (seen : x.seen ≤ now) where
   sees_draw p size (Sealing tail) y e = when_then (Sees now (now + size) x) _ _ y e (λ _. record { seen = omega arith; clear = refl; stamp = inr (inr refl) })
   sees_draw p size _ y e = absurd (cc)
 
-  pub sees_store_begin : (value : ℕ) (pl : Place) (y : Part) → store_begin value x pl ≡ Some y → Sees now now x y
-  sees_store_begin value (Begun tail) y e = when_then (Sees now now x) _ _ y e (λ _. record { seen = seen; clear = refl; stamp = inl refl })
-  sees_store_begin value (Active tail) y e = when_then (Sees now now x) _ _ y e (λ _. record { seen = seen; clear = refl; stamp = inr (inl refl) })
-  sees_store_begin value (Decided tail stamp) y e = when_then (Sees now now x) _ _ y e (λ _. record { seen = seen; clear = refl; stamp = inl refl })
-  sees_store_begin value _ y e = absurd (cc)
+  pub sees_store_begin : (p value : ℕ) (pl : Place) (y : Part) → store_begin p value x pl ≡ Some y → Sees now now x y
+  sees_store_begin p value (Begun tail) y e = when_then (Sees now now x) _ _ y e (λ _. record { seen = seen; clear = refl; stamp = inl refl })
+  sees_store_begin p value (Active tail) y e =
+      when_then (Sees now now x) _ _ y e (λ _. either_way (Sees now now x) (is_flusher p) _ _
+      (λ _. record { seen = seen; clear = refl; stamp = inr (inl refl) }) (λ _. record { seen = seen; clear = refl; stamp = inr (inl refl) }))
+  sees_store_begin p value (Decided tail stamp) y e = when_then (Sees now now x) _ _ y e (λ _. record { seen = seen; clear = refl; stamp = inl refl })
+  sees_store_begin p value _ y e = absurd (cc)
 
   pub sees_store_state : (p value : ℕ) (pl : Place) (y : Part) → store_state p value x pl ≡ Some y → Sees now now x y
   sees_store_state p value (Active tail) y e = when_then (Sees now now x) _ _ y e (λ _. record { seen = seen; clear = refl; stamp = inl refl })
@@ -79,7 +82,7 @@ pub sees : (c : Core) (p : ℕ) (k : Kind) (d : Core) → NotesNone k → (c.sea
     Sees c.shared.tail c.shared.tail (c.seats p) m.part
 sees c p (kind.LoadTail reason) d n seen m = sees_tail c.shared.tail (c.seats p) seen p reason m.part m.after
 sees c p (kind.AddTail size) d n seen m = absurd n
-sees c p (kind.StoreBegin value) d n seen m = sees_store_begin c.shared.tail (c.seats p) seen value (c.seats p).place m.part m.after
+sees c p (kind.StoreBegin value) d n seen m = sees_store_begin c.shared.tail (c.seats p) seen p value (c.seats p).place m.part m.after
 sees c p (kind.StoreState value) d n seen m = sees_store_state c.shared.tail (c.seats p) seen p value (c.seats p).place m.part m.after
 sees c p (kind.LoadBegin other) d n seen m = sees_load_begin c.shared.tail (c.seats p) seen other _ (c.seats p).task m.part m.after
 sees c p (kind.LoadState other bound) d n seen m = absurd n

@@ -13,6 +13,7 @@ pub mod ClaimsTaken
 pub mod ClearKept
 pub mod ClearMoved
 pub mod SnapshotCalm
+pub mod SnapshotClaims
 pub mod SnapshotGrown
 pub mod SnapshotKept
 pub mod SnapshotLeft

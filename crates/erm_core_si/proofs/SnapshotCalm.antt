@@ -1,13 +1,15 @@
 -- Calm steps: those after which what was read is as before, and the task has no version in hand or is as before.
-use Rattle.std.proofs.Common.{◌≡◌, ℕ, ◌⊎◌, Bool, true, false, ◌&&◌, List, Option, Some, None, refl, ap, inl, inr}
+use Rattle.std.proofs.Common.{◌≡◌, ℕ, ◌⊎◌, Bool, true, false, ◌&&◌, ltb, Option, Some, None, refl, ap, inl, inr}
 use Rattle.std.specs.Prelude.{if◌then◌else◌}
 use Rattle.std.proofs.lemmas.Bool.{and_parts}
+use Rattle.erm_model.specs.Member.{◌∈◌}
 use Rattle.erm_machine.specs.declared.attempt.Attempt.{Attempt}
+use Rattle.erm_machine.specs.declared.attempt.Claim.{Claim}
+use Rattle.erm_machine.specs.declared.attempt.OwnCell.{OwnCell}
 use Rattle.erm_machine.specs.declared.event.Counter.{Counter}
 use Rattle.erm_machine.specs.declared.event.Counter.TheVariants.{Objects, Cells}
 use Rattle.erm_machine.specs.declared.part.Flushing.{Flushing}
 use Rattle.erm_machine.specs.declared.part.Flushing.TheVariants as flushing
-use Rattle.erm_machine.specs.declared.part.GatheredBlock.{GatheredBlock}
 use Rattle.erm_machine.specs.declared.part.Part.{Part}
 use Rattle.erm_machine.specs.declared.place.Place.{Place}
 use Rattle.erm_machine.specs.declared.place.Place.TheVariants.{Sealed}
@@ -20,10 +22,12 @@ use Rattle.erm_machine.specs.Core.{Object}
 use Rattle.erm_machine.specs.Facts.{IsCurrent}
 use Rattle.erm_machine.specs.Seat.{end_of, last_claim}
 use Rattle.erm_machine.specs.Life.{load_tail_to_gather, load_tail_for_horizon, load_begin, decide, split, join}
-use Rattle.erm_machine.specs.Reading.{after_cut, detached, swap_link, load_detached, load_counter, add_counter, load_active_stamp, start_row, store_row_word}
+use Rattle.erm_machine.specs.Reading.{with_cell, after_cut, detached, swap_link, load_detached, load_counter, add_counter, load_active_stamp, start_row, store_row_word}
 use Rattle.erm_machine.specs.Settling.{load_flushed_to_settle, raise_reader, store_head_word, store_active_word, store_cell, mark_overwritten, store_succ, store_overwriter, install_claim, adds_version, install_new, release_old, unclaim, install, clear_reader}
 use Rattle.erm_machine.specs.Flushing.{load_flushed, gathered_word, load_ring, write_log, after_sync, sync_log, clear_ring, store_flushed, write_slot, sync_slot, remove_log, sync_removal}
 use Rattle.erm_machine.proofs.Guards.{when_then, some_then, if_then, either_way}
+use Rattle.erm_core_si.proofs.SnapshotClaims.{ClaimedIn, claimed_in, claimed_set}
+use Rattle.erm_core_si.proofs.SnapshotLists.{∈-take}
 use Rattle.erm_core_si.proofs.SnapshotSame.{Free, free_if, free_from, KeepsClaims, Same, keeps_same, keeps_unsealed, keeps_set, active_unsealed}
 
 -- a calm step of a seat whose task was t
@@ -98,11 +102,16 @@ calm_load_counter cells Objects found x t y e = when_then (Calm x _) _ _ y e (λ
 calm_load_counter cells Cells found x task.Draws y e = when_then (Calm x _) _ _ y e (λ _. calm_task x _ _ (search (free_if, free_from)))
 calm_load_counter cells Cells found x _ y e = absurd (cc)
 
+-- a cell drawn goes to the newest claim
+pool_known : (b : Bool) (t : Attempt) (own : OwnCell) (w : Claim) → w ∈ (if b then (with_cell own t).writes else t.writes) → ClaimedIn t w
+pool_known true t own w m = claimed_set t (last_claim t) _ refl w m
+pool_known false t own w m = claimed_in t w m
+
 pub calm_add_counter : (cells : ℕ) (p : ℕ) (n : Counter) (found : ℕ) (x : Part) (t : Task) (y : Part) → IsCurrent x.place x.current → add_counter cells p n found x t ≡ Some y → Calm x t y
 calm_add_counter cells p Objects found x task.Numbers y cur e =
     when_then (Calm x _) _ _ y e (λ _. calm_current x _ _ refl refl refl refl (keeps_same x _ refl) (free_from _ tt tt))
 calm_add_counter cells p Cells found x task.Pool y cur e =
-    when_then (Calm x _) _ _ y e (λ g. calm_current x _ _ refl refl refl refl (keeps_unsealed x _ (active_unsealed x.place x.current cur g)) (search (free_if, free_from)))
+    when_then (Calm x _) _ _ y e (λ g. calm_current x _ _ refl refl refl refl (keeps_unsealed x _ (active_unsealed x.place x.current cur g) (pool_known (ltb found cells) x.current _)) (search (free_if, free_from)))
 calm_add_counter cells p Objects found x _ y cur e = absurd (cc)
 calm_add_counter cells p Cells found x _ y cur e = absurd (cc)
 
@@ -151,7 +160,8 @@ first a b h = (and_parts a b h).0
 
 calm_unclaim : (oid head : ℕ) (x : Part) (t : Task) (y : Part) → IsCurrent x.place x.current → unclaim oid head x ≡ Some y → Calm x t y
 calm_unclaim oid head x t y cur e =
-    when_then (Calm x _) _ _ y e (λ g. calm_current x _ _ refl refl refl refl (keeps_unsealed x _ (active_unsealed x.place x.current cur (first _ _ (first _ _ (first _ _ g))))) (free_from _ tt tt))
+    when_then (Calm x _) _ _ y e (λ g. calm_current x _ _ refl refl refl refl (keeps_unsealed x _ (active_unsealed x.place x.current cur (first _ _ (first _ _ (first _ _ g))))
+    (λ w m. claimed_in x.current w (∈-take (last_claim x.current) x.current.writes w m))) (free_from _ tt tt))
 
 calm_install_claim : (oid head : ℕ) (x : Part) (t : Task) (e : Option (ℕ × ℕ × ℕ × ℕ)) (y : Part) → install_claim oid head x e ≡ Some y → Calm x t y
 calm_install_claim oid head x t None y e = absurd (cc)
@@ -181,23 +191,21 @@ calm_active_stamp found v word.ReaderStamp x task.Fetched y e =
 calm_active_stamp found v _ x _ y e = absurd (cc)
 
 -- the flush seat's own fields change; a settle begins
-calm_to_settle : (found : ℕ) (x : Part) (t : Task) → x.task ≡ t → Calm x t (load_flushed_to_settle found x t)
-calm_to_settle found x task.Rest same = calm_task x _ _ (search (free_if, free_from))
-calm_to_settle found x t same = calm_stay x _ x refl refl same
+calm_to_settle : (found : ℕ) (x : Part) → Calm x x.task (load_flushed_to_settle found x)
+calm_to_settle found x = either_way (Calm x x.task) _ _ _ (λ _. calm_task x _ _ (free_from (task.Settles 0 0) tt refl)) (λ _. calm_stay x x.task x refl refl refl)
 
 pub calm_load_flushed : (found : ℕ) (x : Part) (f : Flushing) (y : Part) → load_flushed found x f ≡ Some y → Calm x x.task y
 calm_load_flushed found x (flushing.Tail tail) y e = some_then (Calm x x.task) _ y e (calm_stay x x.task _ refl refl refl)
-calm_load_flushed found x _ y e = when_then (Calm x x.task) _ _ y e (λ _. calm_to_settle found x x.task refl)
+calm_load_flushed found x _ y e = when_then (Calm x x.task) _ _ y e (λ _. calm_to_settle found x)
 
-calm_flushing : (x : Part) (f : Flushing) (ws : List ℕ) (bs : List GatheredBlock) (to synced : ℕ) →
-    Calm x x.task (record x { flushing = f; words = ws; gathered = bs; gathered_to = to; synced = synced })
-calm_flushing x f ws bs to synced = calm_stay x x.task _ refl refl refl
+calm_flushing : (x : Part) (f : Flushing) (to synced : ℕ) → Calm x x.task (record x { flushing = f; gathered_to = to; synced = synced })
+calm_flushing x f to synced = calm_stay x x.task _ refl refl refl
 
 calm_if : (x : Part) (t : Task) (b : Bool) (l r : Part) → Calm x t l → Calm x t r → Calm x t (if b then l else r)
 calm_if x t b l r f g = either_way (Calm x t) b l r (λ _. f) (λ _. g)
 
-calm_gathered : (tail from block next end w : ℕ) (x : Part) → Calm x x.task (gathered_word tail from block next end w x)
-calm_gathered tail from block next end w x = either_way (Calm x x.task) _ _ _ (λ _. calm_flushing x _ _ _ _ _) (λ _. calm_flushing x _ _ _ _ _)
+calm_gathered : (tail from block next end : ℕ) (x : Part) → Calm x x.task (gathered_word tail from block next end x)
+calm_gathered tail from block next end x = either_way (Calm x x.task) _ _ _ (λ _. calm_flushing x _ _ _) (λ _. calm_flushing x _ _ _)
 
 calm_refl : (x : Part) → Calm x x.task x
 calm_refl x = calm_stay x x.task x refl refl refl
@@ -213,7 +221,7 @@ calm_write_log segment x (flushing.Puts from to written) y e = when_then (Calm x
 calm_write_log segment x _ y e = absurd (cc)
 
 calm_after_sync : (from to synced : ℕ) (x : Part) → Calm x x.task (after_sync from to synced x)
-calm_after_sync from to synced x = either_way (Calm x x.task) _ _ _ (λ _. calm_flushing x _ _ _ _ _) (λ _. calm_flushing x _ _ _ _ _)
+calm_after_sync from to synced x = either_way (Calm x x.task) _ _ _ (λ _. calm_flushing x _ _ _) (λ _. calm_flushing x _ _ _)
 
 pub calm_sync_log : (segment : ℕ) (x : Part) (f : Flushing) (y : Part) → sync_log segment x f ≡ Some y → Calm x x.task y
 calm_sync_log segment x (flushing.Puts from to written) y e = when_then (Calm x x.task) _ _ y e (λ _. calm_after_sync from to 1 x)

@@ -83,7 +83,7 @@ same_grown : (s : Shared) (x : Part) → Grown s s x
 same_grown s x = record { tail = omega arith; extends = λ oid. extends_refl (s.objects oid); new = λ oid k late within. absurd (omega (arith, late, within)) }
 
 part_kept : (c : Core) (p : ℕ) (y : Part) (d : Core) → Sound c → Left c p y → record c { seats = put c.seats p y } ≡ d → Kept d
-part_kept c p y d sound left is = kept_from c p y c.shared d sound (same_grown c.shared (c.seats p)) left.covers left.recalls left.hand left.settle is
+part_kept c p y d sound left is = kept_from c p y c.shared d sound (same_grown c.shared (c.seats p)) left.covers left.recalls left.claims left.hand left.settle is
 
 split_kept : (c : Core) (p other : ℕ) (d : Core) → Sound c → after_event c p (kind.Split other) ≡ Some d → Kept d
 split_kept c p other d sound e = by_test _ e

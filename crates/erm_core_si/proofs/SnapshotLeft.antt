@@ -22,7 +22,8 @@ use Rattle.erm_machine.specs.Words.{owner_of, is_seat}
 use Rattle.erm_machine.proofs.Guards.{either_way}
 use Rattle.erm_machine.proofs.Holders.{owner_holds}
 use Rattle.erm_machine.proofs.QuietKinds.{Moves}
-use Rattle.erm_core_si.proofs.SnapshotSteps.{Kept, Covers, Hand, Settle, Recalls, kept_from}
+use Rattle.erm_core_si.proofs.SnapshotSteps.{Kept, Covers, Hand, Settle, Recalls, Claiming, kept_from}
+use Rattle.erm_core_si.proofs.SnapshotClaims.{claiming_known}
 use Rattle.erm_core_si.proofs.SnapshotSame.{Free, free_from, Same, covers_same, recalls_same, free_hand, Unsettled, unsettled, hand_same, settle_same}
 use Rattle.erm_core_si.proofs.SnapshotCalm.{Calm, same_current}
 use Rattle.erm_core_si.proofs.SnapshotGrown.{grown}
@@ -31,6 +32,7 @@ use Rattle.erm_core_si.proofs.SnapshotGrown.{grown}
 pub record Left (c : Core) (p : ℕ) (y : Part) : Type 0 where
   pub covers : Covers c.shared.tail (c.seats p) y
   pub recalls : Recalls c p y
+  pub claims : Claiming c p y
   pub hand : Hand c p y.current.begin y.task
   pub settle : Settle c p y
 
@@ -38,6 +40,7 @@ pub left_same : (c : Core) (p : ℕ) (y : Part) → Sound c → Same (c.seats p)
 left_same c p y sound same hand settle = record {
   covers = covers_same c.shared.tail (c.seats p) y same;
   recalls = recalls_same c p y sound same;
+  claims = claiming_known c p y sound same.over same.begin same.claims.known;
   hand = hand;
   settle = settle;
 }
@@ -56,7 +59,7 @@ left_calm c p y sound calm =
 -- the law after a step
 pub kept_moves : (c : Core) (p : ℕ) (k : Kind) (d : Core) → Sound c → (m : Moves c p k d) → Left c p m.part → Kept d
 kept_moves c p k d sound m left =
-    kept_from c p m.part (shared_after p k (word_at c (spot_of p k)) (c.seats p) c.shared) d sound (grown c p k d sound m) left.covers left.recalls left.hand left.settle (sym m.is)
+    kept_from c p m.part (shared_after p k (word_at c (spot_of p k)) (c.seats p) c.shared) d sound (grown c p k d sound m) left.covers left.recalls left.claims left.hand left.settle (sym m.is)
 
 -- the task alone changes, outside of settle
 pub left_task : (c : Core) (p : ℕ) (u : Task) → Sound c → Hand c p (c.seats p).current.begin u → Unsettled u → Left c p (record (c.seats p) { task = u })

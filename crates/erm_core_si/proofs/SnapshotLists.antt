@@ -1,5 +1,5 @@
 -- What stands in a list that grows, or in which one value is changed.
-use Rattle.std.proofs.Common.{◌≡◌, ℕ, zero, suc, ◌<◌, ◌⊎◌, List, [], ◌∷◌, ◌++◌, length, set, Some, refl, sym, inl, inr, arith}
+use Rattle.std.proofs.Common.{◌≡◌, ℕ, zero, suc, ◌<◌, ◌⊎◌, List, [], ◌∷◌, ◌++◌, length, set, take, Some, refl, sym, inl, inr, arith}
 use Rattle.std.specs.List.{slice_get}
 use Rattle.std.proofs.lemmas.Option.{same_Some}
 use Rattle.erm_model.specs.Member.{◌∈◌}
@@ -28,3 +28,13 @@ module _ {X : Type 0} where
       at (z ∷ xs) zero y x (suc j) e = inl (suc j, e)
       at (z ∷ xs) (suc k) y x zero e = inl (zero, e)
       at (z ∷ xs) (suc k) y x (suc j) e = elim (at xs k y x j e) [ inl m ↦ inl (suc m.0, m.1) | inr same ↦ inr (same.0, let h = same.1 in omega (arith, h)) ]
+
+  -- what stands in a list's first part stands in the list
+  pub ∈-take : (n : ℕ) (xs : List X) (x : X) → x ∈ take n xs → x ∈ xs
+  ∈-take n xs x m = at n xs x m.0 m.1
+    where
+      at : (n : ℕ) (xs : List X) (x : X) (k : ℕ) → slice_get (take n xs) k ≡ Some x → x ∈ xs
+      at zero xs x k e = absurd (cc)
+      at (suc n) [] x k e = absurd (cc)
+      at (suc n) (z ∷ xs) x zero e = (zero, e)
+      at (suc n) (z ∷ xs) x (suc k) e = let m = at n xs x k e in (suc m.0, m.1)

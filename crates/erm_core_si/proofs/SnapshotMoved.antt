@@ -17,22 +17,17 @@ use Rattle.erm_machine.specs.Facts.{all_of, IsCurrent}
 use Rattle.erm_machine.specs.Life.{load_tail, load_tail_to_begin, add_tail, store_begin, store_state, next_number}
 use Rattle.erm_machine.specs.Sound.{Sound}
 use Rattle.erm_machine.specs.Tasks.{TaskFits}
-use Rattle.erm_machine.proofs.Guards.{when_then}
+use Rattle.erm_machine.specs.Words.{is_flusher}
+use Rattle.erm_machine.proofs.Guards.{when_then, either_way}
 use Rattle.erm_core_si.proofs.SnapshotLists.{∈-last, ∈-front}
-use Rattle.erm_core_si.proofs.SnapshotSteps.{Covers}
-use Rattle.erm_core_si.proofs.SnapshotSame.{Free, free_from, free_hand, unsettled, Remembered, Fresh, remembers, recalls_from}
+use Rattle.erm_core_si.proofs.SnapshotSteps.{Covers, Claiming}
+use Rattle.erm_core_si.proofs.SnapshotClaims.{claimed_same, claiming_known, claiming_begun, claiming_over}
+use Rattle.erm_core_si.proofs.SnapshotSame.{Free, free_from, free_hand, unsettled, covers_none, Remembered, Fresh, remembers, recalls_from}
 use Rattle.erm_core_si.proofs.SnapshotCalm.{calm_to, calm_stay, calm_horizon, calm_gather}
 use Rattle.erm_core_si.proofs.SnapshotLeft.{Left, left_calm}
 
 rest_free : (u : Task) → u ≡ task.Rest → Free u
 rest_free u e = subst Free (sym e) (free_from task.Rest tt tt)
-
--- a transaction without a range holds no claim of one
-covers_none : (now : ℕ) (x y : Part) → y.current.stamp ≡ 0 → Covers now x y
-covers_none now x y e = record {
-  stamp = λ positive _. absurd (omega (arith, positive, e));
-  claims = λ positive _ w m held. absurd (omega (arith, positive, e));
-}
 
 -- a range at the tail isn't below it
 covers_drawn : (now : ℕ) (x y : Part) → y.current.stamp ≡ now → Covers now x y
@@ -41,13 +36,10 @@ covers_drawn now x y e = record {
   claims = λ _ low w m held. absurd (omega (arith, low, e));
 }
 
--- the transactions of a seat whose current one is over
-remembers_over : (now : ℕ) (x y : Part) (decision : Decision) → y.over ≡ x.over ++ record x.current { decision = decision } ∷ [] → y.current ≡ blank →
-    (u : Attempt) → u ∈ all_of y → Remembered x u ⊎ Fresh now x y u
-remembers_over now x y decision over current u m =
+-- the transactions that are over, after the current one is, or where it leaves nothing
+over_remembered : (x y : Part) (decision : Decision) → y.over ≡ x.over ++ record x.current { decision = decision } ∷ [] → (u : Attempt) → u ∈ y.over → Remembered x u
+over_remembered x y decision over u before =
     ⊎_elim
-    (λ (before : u ∈ y.over).
-    inl (⊎_elim
     (λ (old : u ∈ x.over). record { attempt = u; stands = ∈-front x.over x.current u old; begin = refl; reads = refl })
     (λ (last : u ≡ record x.current { decision = decision }). record {
       attempt = x.current;
@@ -55,7 +47,16 @@ remembers_over now x y decision over current u m =
       begin = ap (λ (t : Attempt). t.begin) last;
       reads = ap (λ (t : Attempt). t.reads) last;
     })
-    (∈-push x.over (record x.current { decision = decision }) u (subst (λ ts. u ∈ ts) over before))))
+    (∈-push x.over (record x.current { decision = decision }) u (subst (λ ts. u ∈ ts) over before))
+
+same_remembered : (x y : Part) → y.over ≡ x.over → (u : Attempt) → u ∈ y.over → Remembered x u
+same_remembered x y over u m = record { attempt = u; stands = ∈-front x.over x.current u (subst (λ ts. u ∈ ts) over m); begin = refl; reads = refl }
+
+-- the transactions of a seat that has no current one any more
+remembers_over : (now : ℕ) (x y : Part) → ((u : Attempt) → u ∈ y.over → Remembered x u) → y.current ≡ blank → (u : Attempt) → u ∈ all_of y → Remembered x u ⊎ Fresh now x y u
+remembers_over now x y over current u m =
+    ⊎_elim
+    (λ (before : u ∈ y.over). inl (over u before))
     (λ (new : u ≡ y.current).
     let is : u ≡ blank = new ∙ current in
     let begin : u.begin ≡ 0 = ap (λ (t : Attempt). t.begin) is in
@@ -68,15 +69,25 @@ remembers_over now x y decision over current u m =
     (∈-push y.over y.current u m)
 
 module _ (c : Core) (p : ℕ) (sound : Sound c) where
-  over_left : (y : Part) (decision : Decision) → y.over ≡ (c.seats p).over ++ record (c.seats p).current { decision = decision } ∷ [] → y.current ≡ blank → Free y.task → Left c p y
-  over_left y decision over current free =
+  blank_left : (y : Part) → ((u : Attempt) → u ∈ y.over → Remembered (c.seats p) u) → y.current ≡ blank → Claiming c p y → Free y.task → Left c p y
+  blank_left y over current claims free =
       let stamp : y.current.stamp ≡ 0 = ap (λ (t : Attempt). t.stamp) current in
       record {
         covers = covers_none c.shared.tail (c.seats p) y stamp;
-        recalls = recalls_from c p y sound (record { stamp = inr (inl stamp) }) (remembers_over c.shared.tail (c.seats p) y decision over current);
+        recalls = recalls_from c p y sound (record { stamp = inr (inl stamp) }) (remembers_over c.shared.tail (c.seats p) y over current);
+        claims = claims;
         hand = free_hand c p y.current.begin y.task free;
         settle = unsettled c p y free.settled;
       }
+
+  over_left : (y : Part) (decision : Decision) → y.over ≡ (c.seats p).over ++ record (c.seats p).current { decision = decision } ∷ [] → y.current ≡ blank → Free y.task → Left c p y
+  over_left y decision over current free =
+      blank_left y (over_remembered (c.seats p) y decision over) current (claiming_over c p y decision sound over (ap (λ (t : Attempt). t.writes) current)) free
+
+  -- a pin that leaves nothing
+  unpinned_left : (y : Part) → y.over ≡ (c.seats p).over → y.current ≡ blank → Free y.task → Left c p y
+  unpinned_left y over current free =
+      blank_left y (same_remembered (c.seats p) y over) current (claiming_begun c p y sound over (ap (λ (t : Attempt). t.writes) current)) free
 
   -- a begin: the begin stamp is the tail
   begun_left : (y : Part) (number : ℕ) → y.over ≡ (c.seats p).over → (c.seats p).current ≡ blank → y.current ≡ begun number c.shared.tail → Free y.task → Left c p y
@@ -87,7 +98,7 @@ module _ (c : Core) (p : ℕ) (sound : Sound c) where
         covers = covers_none c.shared.tail (c.seats p) y stamp;
         recalls = recalls_from c p y sound (record { stamp = inr (inl stamp) }) (λ u m.
             ⊎_elim
-            (λ (there : u ∈ y.over). inl (record { attempt = u; stands = ∈-front (c.seats p).over (c.seats p).current u (subst (λ ts. u ∈ ts) over there); begin = refl; reads = refl }))
+            (λ (there : u ∈ y.over). inl (same_remembered (c.seats p) y over u there))
             (λ (new : u ≡ y.current).
             let is : u ≡ begun number c.shared.tail = new ∙ current in
             let begin : u.begin ≡ c.shared.tail = ap (λ (t : Attempt). t.begin) is in
@@ -98,6 +109,7 @@ module _ (c : Core) (p : ℕ) (sound : Sound c) where
               reads = ap (λ (t : Attempt). t.reads) is;
             }))
             (∈-push y.over y.current u m));
+        claims = claiming_begun c p y sound over (ap (λ (t : Attempt). t.writes) current);
         hand = free_hand c p y.current.begin y.task free;
         settle = unsettled c p y free.settled;
       }
@@ -121,21 +133,24 @@ module _ (c : Core) (p : ℕ) (sound : Sound c) where
   load_tail_left purpose.Gather y e = left_calm c p y sound (calm_gather p c.shared.tail (c.seats p) y e)
 
   drawn_left : (y : Part) → y.over ≡ (c.seats p).over → y.current.begin ≡ (c.seats p).current.begin → y.current.reads ≡ (c.seats p).current.reads →
-      y.current.stamp ≡ c.shared.tail → Free y.task → Left c p y
-  drawn_left y over begin reads stamp free = record {
+      y.current.writes ≡ (c.seats p).current.writes → y.current.stamp ≡ c.shared.tail → Free y.task → Left c p y
+  drawn_left y over begin reads writes stamp free = record {
     covers = covers_drawn c.shared.tail (c.seats p) y stamp;
     recalls = recalls_from c p y sound (record { stamp = inr (inr stamp) }) (λ u m. inl (remembers (c.seats p) y over begin reads u m));
+    claims = claiming_known c p y sound over begin (claimed_same (c.seats p).current y.current.writes writes);
     hand = free_hand c p y.current.begin y.task free;
     settle = unsettled c p y free.settled;
   }
 
   pub add_tail_left : (size : ℕ) (pl : Place) (y : Part) → (c.seats p).place ≡ pl → add_tail p size c.shared.tail (c.seats p) pl ≡ Some y → Left c p y
-  add_tail_left size (Sealing tail) y at e = when_then (Left c p) _ _ y e (λ _. drawn_left _ refl refl refl refl (rest_free (c.seats p).task (at_rest (Sealing tail) at)))
+  add_tail_left size (Sealing tail) y at e = when_then (Left c p) _ _ y e (λ _. drawn_left _ refl refl refl refl refl (rest_free (c.seats p).task (at_rest (Sealing tail) at)))
   add_tail_left size _ y at e = absurd (cc)
 
-  pub store_begin_left : (value : ℕ) (pl : Place) (y : Part) → (c.seats p).place ≡ pl → store_begin value (c.seats p) pl ≡ Some y → Left c p y
+  pub store_begin_left : (value : ℕ) (pl : Place) (y : Part) → (c.seats p).place ≡ pl → store_begin p value (c.seats p) pl ≡ Some y → Left c p y
   store_begin_left value (Begun tail) y at e = when_then (Left c p) _ _ y e (λ _. left_calm c p _ sound (calm_stay (c.seats p) (c.seats p).task _ refl refl refl))
-  store_begin_left value (Active tail) y at e = when_then (Left c p) _ _ y e (λ _. over_left _ Abort refl refl (free_from task.Rest tt tt))
+  store_begin_left value (Active tail) y at e =
+      when_then (Left c p) _ _ y e (λ _.
+      either_way (Left c p) (is_flusher p) _ _ (λ _. unpinned_left _ refl refl (free_from task.Rest tt tt)) (λ _. over_left _ Abort refl refl (free_from task.Rest tt tt)))
   store_begin_left value (Decided tail stamp) y at e = when_then (Left c p) _ _ y e (λ _. left_calm c p _ sound (calm_to (c.seats p) (c.seats p).task _ refl refl (free_from task.Rest tt tt)))
   store_begin_left value _ y at e = absurd (cc)
 

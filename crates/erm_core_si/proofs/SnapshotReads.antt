@@ -1,6 +1,10 @@
 -- Steps of a read and of a claim.
-use Rattle.std.proofs.Common.{◌≡◌, ◌≢◌, ℕ, ◌<◌, ◌≤◌, ⊎_elim, Bool, true, ◌&&◌, eqb, ltb, Option, Some, None, refl, sym, subst, arith}
+use Rattle.std.proofs.Common.{◌≡◌, ◌≢◌, ℕ, ◌<◌, ◌≤◌, ⊎_elim, Bool, true, false, ◌&&◌, eqb, ltb, List, [], ◌∷◌, ◌++◌, Option, Some, None, refl, sym, subst, arith}
+use Rattle.std.specs.Prelude.{if◌then◌else◌}
 use Rattle.std.proofs.lemmas.Bool.{and_parts, cases_eq, eqb-true, ltb-true, ltb-false}
+use Rattle.erm_model.specs.Member.{◌∈◌}
+use Rattle.erm_model.proofs.Members.{∈-push}
+use Rattle.erm_machine.specs.declared.attempt.Claim.{Claim}
 use Rattle.erm_machine.specs.declared.part.Part.{Part}
 use Rattle.erm_machine.specs.declared.task.Task.{Task}
 use Rattle.erm_machine.specs.declared.task.Task.TheVariants as task
@@ -10,16 +14,17 @@ use Rattle.erm_machine.specs.declared.version.VersionAt.{VersionAt}
 use Rattle.erm_machine.specs.Chains.{NamedInHand}
 use Rattle.erm_machine.specs.Core.{Core, version_at}
 use Rattle.erm_machine.specs.Facts.{HoldsBelow}
-use Rattle.erm_machine.specs.Reading.{head_version, older, entered, load_entry, claim, load_walked_stamp, load_walked_link, load_cell}
+use Rattle.erm_machine.specs.Reading.{head_version, older, entered, load_entry, new_claim, claim, load_walked_stamp, load_walked_link, load_cell}
 use Rattle.erm_machine.specs.Seat.{is_active, same_version}
 use Rattle.erm_machine.specs.Snapshot.{InHand, NoneInHand}
 use Rattle.erm_machine.specs.Sound.{Sound}
 use Rattle.erm_machine.specs.Words.{cell_word}
 use Rattle.erm_machine.proofs.Guards.{when_then, if_then, either_way}
-use Rattle.erm_core_si.proofs.SnapshotSteps.{Hand}
-use Rattle.erm_core_si.proofs.SnapshotSame.{free_if, free_from, keeps_unsealed, active_unsealed, Unsettled, unsettled, free_hand}
+use Rattle.erm_core_si.proofs.SnapshotSteps.{Hand, Stays}
+use Rattle.erm_core_si.proofs.SnapshotClaims.{claimed_in, stays_now, claiming_now}
+use Rattle.erm_core_si.proofs.SnapshotSame.{free_if, free_from, covers_none, active_unsealed, recalls_stay, Unsettled, unsettled, free_hand}
 use Rattle.erm_core_si.proofs.SnapshotCalm.{calm_task, calm_stay, after_cut_free}
-use Rattle.erm_core_si.proofs.SnapshotLeft.{Left, left_same, left_calm, left_task, same_place, hand_entered, unsettled_entered}
+use Rattle.erm_core_si.proofs.SnapshotLeft.{Left, left_calm, left_task, same_place, hand_entered, unsettled_entered}
 
 first : (a b : Bool) → (a && b) ≡ true → a ≡ true
 first a b h = (and_parts a b h).0
@@ -124,21 +129,37 @@ module _ (c : Core) (p : ℕ) (sound : Sound c) where
   load_cell_left v (word.Row k) y e = when_then (Left c p) _ _ y e (λ _. left_calm c p (c.seats p) sound (calm_stay (c.seats p) (c.seats p).task (c.seats p) refl refl refl))
   load_cell_left v _ y e = absurd (cc)
 
+  -- the version in hand may be claimed
+  may_claim : (version : VersionAt) (stamp : ℕ) (head : Option ℕ) (base : List ℕ) → (c.seats p).task ≡ task.Found version stamp head →
+      Stays c p (c.seats p).current.begin (new_claim version stamp base)
+  may_claim version stamp head base at = record {
+    newer = (in_hand (task.Found version stamp head) at).newer;
+    apart = none_in_hand (task.Found version stamp head) at;
+  }
+
+  -- one claim more, or none
+  stays_gained : (b : Bool) (new : Claim) → Stays c p (c.seats p).current.begin new → (w : Claim) →
+      w ∈ (if b then (c.seats p).current.writes ++ new ∷ [] else (c.seats p).current.writes) → Stays c p (c.seats p).current.begin w
+  stays_gained true new may w m =
+      ⊎_elim (λ (old : w ∈ (c.seats p).current.writes). stays_now c p w sound (claimed_in (c.seats p).current w old))
+      (λ (is : w ≡ new). subst (λ (v : Claim). Stays c p (c.seats p).current.begin v) (sym is) may)
+      (∈-push (c.seats p).current.writes new w m)
+  stays_gained false new may w m = stays_now c p w sound (claimed_in (c.seats p).current w m)
+
   -- the exchange of a claim
   pub claim_left : (oid seen number : ℕ) (t : Task) (y : Part) → (c.seats p).task ≡ t →
       claim p oid seen number (c.shared.objects oid).entry (c.shared.objects oid) (c.seats p) t ≡ Some y → Left c p y
   claim_left oid seen number (task.Found version stamp (Some entry)) y at e =
       when_then (Left c p) _ _ y e (λ g.
-      left_same c p _ sound
-      (record {
-        over = refl;
-        begin = refl;
-        stamp = refl;
-        reads = refl;
-        claims = keeps_unsealed (c.seats p) _ (active_unsealed (c.seats p).place (c.seats p).current (sound.own p).ranges.current (first _ _ (first _ _ (first _ _ (first _ _ (first _ _ g))))));
+      let unsealed = active_unsealed (c.seats p).place (c.seats p).current (sound.own p).ranges.current (first _ _ (first _ _ (first _ _ (first _ _ (first _ _ g))))) in
+      record {
+        covers = covers_none c.shared.tail (c.seats p) _ unsealed;
+        recalls = recalls_stay c p _ sound refl refl refl refl;
+        claims = claiming_now c p _ sound refl refl
+            (stays_gained (eqb (c.shared.objects oid).entry seen) _ (may_claim version stamp (Some entry) (version_at (c.shared.objects oid) version.place).words.row at));
+        hand = either_way (Hand c p (c.seats p).current.begin) (eqb (c.shared.objects oid).entry seen) (task.Claimed version) (entered p oid (c.shared.objects oid).entry (c.shared.objects oid))
+            (λ _. free_hand c p (c.seats p).current.begin _ (free_from _ tt tt)) (λ _. hand_entered c p (c.seats p).current.begin oid sound);
+        settle = unsettled c p _ (either_way Unsettled (eqb (c.shared.objects oid).entry seen) (task.Claimed version) (entered p oid (c.shared.objects oid).entry (c.shared.objects oid))
+            (λ _. tt) (λ _. unsettled_entered p oid (c.shared.objects oid).entry (c.shared.objects oid)));
       })
-      (either_way (Hand c p (c.seats p).current.begin) (eqb (c.shared.objects oid).entry seen) (task.Claimed version) (entered p oid (c.shared.objects oid).entry (c.shared.objects oid))
-      (λ _. free_hand c p (c.seats p).current.begin _ (free_from _ tt tt)) (λ _. hand_entered c p (c.seats p).current.begin oid sound))
-      (unsettled c p _ (either_way Unsettled (eqb (c.shared.objects oid).entry seen) (task.Claimed version) (entered p oid (c.shared.objects oid).entry (c.shared.objects oid))
-      (λ _. tt) (λ _. unsettled_entered p oid (c.shared.objects oid).entry (c.shared.objects oid)))))
   claim_left oid seen number _ y at e = absurd (cc)

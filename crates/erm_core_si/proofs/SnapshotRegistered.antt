@@ -19,6 +19,7 @@ use Rattle.erm_machine.specs.Sound.{Sound}
 use Rattle.erm_machine.proofs.Guards.{when_then}
 use Rattle.erm_core_si.proofs.SnapshotLists.{∈-last, ∈-front}
 use Rattle.erm_core_si.proofs.SnapshotSteps.{Recalls}
+use Rattle.erm_core_si.proofs.SnapshotClaims.{claimed_same, claiming_known}
 use Rattle.erm_core_si.proofs.SnapshotSame.{free_from, free_hand, unsettled}
 use Rattle.erm_core_si.proofs.SnapshotLeft.{Left}
 use Rattle.erm_core_si.proofs.SnapshotReads.{in_hand, named, none_in_hand}
@@ -113,6 +114,7 @@ set_reader_left c p v (task.Found found stamp head) y sound at e =
         claims = λ _ _ w m held. record { claim = w; stands = m; held = held; version = refl };
       };
       recalls = recalls_gained c p _ new sound refl (may_read c p v found stamp head sound at same) (gains (c.seats p) after new refl refl refl);
+      claims = claiming_known c p after sound refl refl (claimed_same (c.seats p).current (c.seats p).current.writes refl);
       hand = free_hand c p (c.seats p).current.begin _ (free_from _ tt tt);
       settle = unsettled c p _ tt;
     })

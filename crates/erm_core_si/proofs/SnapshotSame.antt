@@ -20,6 +20,7 @@ use Rattle.erm_machine.specs.Sound.{Sound}
 use Rattle.erm_machine.proofs.Guards.{either_way}
 use Rattle.erm_machine.proofs.Holders.{stands_in}
 use Rattle.erm_core_si.proofs.SnapshotLists.{∈-last, ∈-front, ∈-set}
+use Rattle.erm_core_si.proofs.SnapshotClaims.{ClaimedIn, claimed_same, claimed_set}
 use Rattle.erm_core_si.proofs.SnapshotSteps.{HeldBefore, Covers, HandWithin, named_within, Hand, Settle, Recalls}
 
 -- tasks with no version in hand of a read
@@ -54,8 +55,9 @@ free_if b t u f g = either_way Free b t u (λ _. f) (λ _. g)
 pub free_from : (t : Task) → Handless t → Unsettled t → Free t
 free_from t h u = record { hand = h; settled = u }
 
--- no held claim of a range is new
+-- no claim is of a version that is new, and no held claim of a range is new
 pub record KeepsClaims (x y : Part) : Type 0 where
+  pub known : (w : Claim) → w ∈ y.current.writes → ClaimedIn x.current w
   pub kept : 0 < x.current.stamp → (w : Claim) → w ∈ y.current.writes → w.held ≡ true → HeldBefore x w
 
 -- what a seat has read, its begin stamp and its range stay
@@ -68,14 +70,18 @@ pub record Same (x y : Part) : Type 0 where
 
 -- the same claims; claims before the seal; claims of which one is changed
 pub keeps_same : (x y : Part) → y.current.writes ≡ x.current.writes → KeepsClaims x y
-keeps_same x y e = record { kept = λ _ w m held. record { claim = w; stands = subst (λ (ws : List Claim). w ∈ ws) e m; held = held; version = refl } }
+keeps_same x y e = record {
+  known = claimed_same x.current y.current.writes e;
+  kept = λ _ w m held. record { claim = w; stands = subst (λ (ws : List Claim). w ∈ ws) e m; held = held; version = refl };
+}
 
-pub keeps_unsealed : (x y : Part) → x.current.stamp ≡ 0 → KeepsClaims x y
-keeps_unsealed x y e = record { kept = λ positive w m held. absurd (omega (arith, positive, e)) }
+pub keeps_unsealed : (x y : Part) → x.current.stamp ≡ 0 → ((w : Claim) → w ∈ y.current.writes → ClaimedIn x.current w) → KeepsClaims x y
+keeps_unsealed x y e known = record { known = known; kept = λ positive w m held. absurd (omega (arith, positive, e)) }
 
 pub keeps_set : (x y : Part) (place : ℕ) (v : Claim) → y.current.writes ≡ set x.current.writes place v → v.version ≡ (claim_at x.current place).version
     → (v.held ≡ true → (claim_at x.current place).held ≡ true) → KeepsClaims x y
 keeps_set x y place v e version held = record {
+  known = λ w m. claimed_set x.current place v version w (subst (λ (ws : List Claim). w ∈ ws) e m);
   kept = λ _ w m is.
       ⊎_elim
       (λ (old : w ∈ x.current.writes). record { claim = w; stands = old; held = is; version = refl })
@@ -97,6 +103,13 @@ pub covers_same : (now : ℕ) (x y : Part) → Same x y → Covers now x y
 covers_same now x y same = record {
   stamp = λ _ _. same.stamp;
   claims = λ positive _ w m held. same.claims.kept (let e = same.stamp in omega (arith, positive, e)) w m held;
+}
+
+-- a transaction without a range holds no claim of one
+pub covers_none : (now : ℕ) (x y : Part) → y.current.stamp ≡ 0 → Covers now x y
+covers_none now x y e = record {
+  stamp = λ positive _. absurd (omega (arith, positive, e));
+  claims = λ positive _ w m held. absurd (omega (arith, positive, e));
 }
 
 -- a transaction that the seat had before, with what it has read; one that has read nothing
@@ -160,8 +173,12 @@ remembers x y over begin reads u m =
     })
     (∈-push y.over y.current u m)
 
+pub recalls_stay : (c : Core) (p : ℕ) (y : Part) → Sound c → y.over ≡ (c.seats p).over → y.current.begin ≡ (c.seats p).current.begin →
+    y.current.stamp ≡ (c.seats p).current.stamp → y.current.reads ≡ (c.seats p).current.reads → Recalls c p y
+recalls_stay c p y sound over begin stamp reads = recalls_from c p y sound (record { stamp = inl stamp }) (λ u m. inl (remembers (c.seats p) y over begin reads u m))
+
 pub recalls_same : (c : Core) (p : ℕ) (y : Part) → Sound c → Same (c.seats p) y → Recalls c p y
-recalls_same c p y sound same = recalls_from c p y sound (record { stamp = inl same.stamp }) (λ u m. inl (remembers (c.seats p) y same.over same.begin same.reads u m))
+recalls_same c p y sound same = recalls_stay c p y sound same.over same.begin same.stamp same.reads
 
 -- a task without a version in hand
 hand_in : (s : Shared) (begin : ℕ) (u : Task) → Handless u → InHand s begin u

@@ -16,7 +16,7 @@ use Rattle.erm_machine.specs.Chains.{IsNamed, NamedInHand}
 use Rattle.erm_machine.specs.Core.{Core, Shared, version_at}
 use Rattle.erm_machine.specs.Facts.{all_of, Holds, HoldsBelow, IsCurrent}
 use Rattle.erm_machine.specs.Seat.{read_at}
-use Rattle.erm_machine.specs.Snapshot.{NewerFrom, IsNewestAt, ReadFits, InHand, OwnSnapshot, NoneInHand, Overwriting, passed_of, NoneLeft, Snapshot}
+use Rattle.erm_machine.specs.Snapshot.{NewerFrom, IsNewestAt, ReadFits, InHand, ClaimStays, OwnSnapshot, NoneInHand, Overwriting, passed_of, NoneLeft, Snapshot}
 use Rattle.erm_machine.specs.Sound.{Sound}
 use Rattle.erm_machine.specs.Words.{put}
 use Rattle.erm_machine.proofs.Frames.{each_seat, each_two}
@@ -170,6 +170,16 @@ pub record Recalls (c : Core) (p : ℕ) (y : Part) : Type 0 where
   pub reads : (u : Attempt) (r : Read) → u ∈ all_of y → r ∈ u.reads → ReadFits c.shared u.begin r
   pub apart : (u : Attempt) (r : Read) → u ∈ all_of y → r ∈ u.reads → (q : ℕ) → q ≢ p → HoldsBelow (c.seats q) r.version.oid u.begin → ⊥
 
+-- of the versions newer than the one that a claim overwrites none lies below this begin stamp, and no range of another seat
+-- below it holds a claim on the object
+pub record Stays (c : Core) (p begin : ℕ) (w : Claim) : Type 0 where
+  pub newer : ClaimStays c.shared begin w
+  pub apart : (q : ℕ) → q ≢ p → HoldsBelow (c.seats q) w.version.oid begin → ⊥
+
+-- what a seat has claimed after a step, against the objects and the other seats as they were
+pub record Claiming (c : Core) (p : ℕ) (y : Part) : Type 0 where
+  pub each : (u : Attempt) (w : Claim) → u ∈ all_of y → w ∈ u.writes → Stays c p u.begin w
+
 -- the current transaction is one of all
 pub current_stands : (x : Part) → x.current ∈ all_of x
 current_stands x = ∈-last x.over x.current
@@ -193,8 +203,8 @@ not_own x oid begin late h = let a = late h.0 in let b = h.1 in omega (arith, a,
 
 -- What a step leaves makes the law hold of the state after.
 pub kept_from : (c : Core) (p : ℕ) (y : Part) (t : Shared) (d : Core) → Sound c → Grown c.shared t (c.seats p) → Covers c.shared.tail (c.seats p) y →
-    Recalls c p y → Hand c p y.current.begin y.task → Settle c p y → record { shared = t; seats = put c.seats p y } ≡ d → Kept d
-kept_from c p y t d sound g covers recalls hand settle is =
+    Recalls c p y → Claiming c p y → Hand c p y.current.begin y.task → Settle c p y → record { shared = t; seats = put c.seats p y } ≡ d → Kept d
+kept_from c p y t d sound g covers recalls claiming hand settle is =
     subst Kept is (record {
       own = each_seat (λ _ (z : Part). OwnSnapshot t z) c.seats p y own_new own_other;
       both = each_two Snapshot c.seats p y new_eyes on_new (λ q r _ _ ne. (sound.both q r ne).snapshot);
@@ -204,6 +214,8 @@ kept_from c p y t d sound g covers recalls hand settle is =
     own_new = record {
       past = λ u m. record { past = let a = recalls.past u m in let b = g.tail in omega (arith, a, b); drawn_later = recalls.drawn u m };
       reads = λ u r m n. fits_stays c.shared t (c.seats p) g u.begin r (not_own (c.seats p) r.version.oid u.begin (recalls.late u m)) (recalls.reads u r m n);
+      claims = λ u w m n.
+          newer_stays c.shared t (c.seats p) g w.version.oid w.version.place u.begin (not_own (c.seats p) w.version.oid u.begin (recalls.late u m)) (claiming.each u w m n).newer;
       in_hand = hand_stays c.shared t p (c.seats p) y.current.begin y.task g hand.within
           (none_holds y.current.begin y.task p (c.seats p) (λ oid. not_own (c.seats p) oid y.current.begin (recalls.late y.current (current_stands y)))) hand.in_hand;
     }
@@ -215,12 +227,14 @@ kept_from c p y t d sound g covers recalls hand settle is =
         record {
           past = λ u m. record { past = let a = (old.past u m).past in let b = g.tail in omega (arith, a, b); drawn_later = (old.past u m).drawn_later };
           reads = λ u r m n. fits_stays c.shared t (c.seats p) g u.begin r (apart.reads u r m n) (old.reads u r m n);
+          claims = λ u w m n. newer_stays c.shared t (c.seats p) g w.version.oid w.version.place u.begin (apart.claims u w m n) (old.claims u w m n);
           in_hand = hand_stays c.shared t p (c.seats p) (c.seats q).current.begin (c.seats q).task g (named_within c.shared (c.seats q).task (sound.own q).chains.named) apart.in_hand old.in_hand;
         }
 
     new_eyes : (q : ℕ) → q ≢ p → Snapshot y q (c.seats q)
     new_eyes q ne = record {
       reads = λ u r m n. recalls.apart u r m n q ne;
+      claims = λ u w m n. (claiming.each u w m n).apart q ne;
       in_hand = hand.none q ne;
       passed = settle.passed q ne;
       left = settle.left q ne;
@@ -233,6 +247,7 @@ kept_from c p y t d sound g covers recalls hand settle is =
         let stamp = stamp_past (c.seats q).place (c.seats q).current c.shared.tail (sound.own q).ranges.current (sound.own q).begins.begins in
         record {
           reads = λ u r m n h. apart.reads u r m n (held_covered c.shared.tail (c.seats p) y covers r.version.oid u.begin (old.past u m).past h);
+          claims = λ u w m n h. apart.claims u w m n (held_covered c.shared.tail (c.seats p) y covers w.version.oid u.begin (old.past u m).past h);
           in_hand = none_covered c.shared.tail (c.seats p) y covers (c.seats q).current.begin (c.seats q).task p
               (old.past (c.seats q).current (current_stands (c.seats q))).past apart.in_hand;
           passed = λ k a b h. apart.passed k a b (over_covered c.shared.tail (c.seats p) y covers (read_at (c.seats q).current k).version (c.seats q).current.stamp stamp h);

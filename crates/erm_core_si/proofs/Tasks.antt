@@ -28,11 +28,11 @@ use Rattle.erm_machine.specs.Flushing.{load_flushed, gathered_word, load_ring, w
 use Rattle.erm_machine.specs.Life.{load_tail_to_begin, load_tail_for_horizon, load_tail, add_tail, store_begin, store_state, load_begin, after_clear, load_state, split, join, decide}
 use Rattle.erm_machine.specs.Reading.{entered, after_cut, detached, load_entry, claim, set_reader, load_walked_stamp, load_walked_link, load_cell, swap_link, load_detached, load_counter, add_counter, load_active_stamp, start_row, store_row_word}
 use Rattle.erm_machine.specs.Seat.{end_of, may_start, is_active, is_sealed, is_decided, is_vacant, is_commit}
-use Rattle.erm_machine.specs.Settling.{has_room, load_flushed_to_settle, load_read_entry, load_readers, load_settled_stamp, load_stamp, store_ring, raise_reader, installs, store_head_word, store_active_word, store_cell, mark_overwritten, install_claim, adds_version, install_new, release_old, unclaim, install, clear_reader, filled}
+use Rattle.erm_machine.specs.Settling.{load_flushed_to_settle, load_read_entry, load_readers, load_settled_stamp, load_stamp, store_ring, raise_reader, installs, store_head_word, store_active_word, store_cell, mark_overwritten, install_claim, adds_version, install_new, release_old, unclaim, install, clear_reader, filled}
 use Rattle.erm_machine.specs.Sound.{Sound}
 use Rattle.erm_machine.specs.Step.{part_after, after_event, with_part}
 use Rattle.erm_machine.specs.Tasks.{InActive, InSettle, InEnd, TaskFits, OwnTask}
-use Rattle.erm_machine.specs.Words.{put, is_clear}
+use Rattle.erm_machine.specs.Words.{put, is_clear, is_flusher}
 use Rattle.erm_machine.proofs.Frames.{each_seat}
 use Rattle.erm_machine.proofs.Guards.{when_then, some_then, unless_then, if_then, either_way, unless_some}
 use Rattle.erm_machine.proofs.QuietKinds.{MeetsOne, moves}
@@ -294,28 +294,26 @@ t_clear_reader v x (Some n) y is own e =
     })
 
 -- what the flush seat does leaves the place, the transaction and the call
-t_to_settle : (found : ℕ) (x : Part) (t : Task) → x.task ≡ t → OwnTask x → OwnTask (load_flushed_to_settle found x t)
-t_to_settle found x task.Rest is own = record {
-  fits = rest_or_settles x.place (subst (λ u. TaskFits x.place x.current u) is own.fits);
-}
+t_to_settle : (found : ℕ) (x : Part) → OwnTask x → OwnTask (load_flushed_to_settle found x)
+t_to_settle found x own =
+    either_way OwnTask _ _ _ (λ g. record { fits = begins_settle x.place x.current (first _ _ (first _ _ g)) }) (λ _. own)
   where
-    rest_or_settles : (pl : Place) → TaskFits pl x.current task.Rest → TaskFits pl x.current (if is_sealed pl && has_room found x.current then task.Settles 0 0 else task.Rest)
-    rest_or_settles (Sealed tail stamp) f = (settles_if (has_room found x.current) (task.Settles 0 0) task.Rest (settles_from _ tt) (settles_from _ tt)).settles
-    rest_or_settles _ f = f
-t_to_settle found x _ is own = own
+    begins_settle : (pl : Place) (t : Attempt) → is_sealed pl ≡ true → TaskFits pl t (task.Settles 0 0)
+    begins_settle (Sealed tail stamp) t e = tt
+    begins_settle _ t e = absurd (cc)
 
 t_load_flushed : (found : ℕ) (x : Part) (f : Flushing) (y : Part) → OwnTask x → load_flushed found x f ≡ Some y → OwnTask y
 t_load_flushed found x (flushing.Tail tail) y own e = some_then OwnTask _ y e (record { fits = own.fits })
-t_load_flushed found x _ y own e = when_then OwnTask _ _ y e (λ _. t_to_settle found x x.task refl own)
+t_load_flushed found x _ y own e = when_then OwnTask _ _ y e (λ _. t_to_settle found x own)
 
 own_if : (b : Bool) (l r : Part) → OwnTask l → OwnTask r → OwnTask (if b then l else r)
 own_if b l r f g = either_way OwnTask b l r (λ _. f) (λ _. g)
 
-t_gathered : (tail from block next end w : ℕ) (x : Part) → OwnTask x → OwnTask (gathered_word tail from block next end w x)
-t_gathered tail from block next end w x own = either_way OwnTask _ _ _ (λ _. record { fits = own.fits }) (λ _. record { fits = own.fits })
+t_gathered : (tail from block next end : ℕ) (x : Part) → OwnTask x → OwnTask (gathered_word tail from block next end x)
+t_gathered tail from block next end x own = either_way OwnTask _ _ _ (λ _. record { fits = own.fits }) (λ _. record { fits = own.fits })
 
 t_load_ring : (at found : ℕ) (x : Part) (f : Flushing) (y : Part) → OwnTask x → load_ring at found x f ≡ Some y → OwnTask y
-t_load_ring at found x (flushing.Gathers tail from block next end) y own e = when_then OwnTask _ _ y e (λ _. own_if _ _ _ (t_gathered tail from block next end found x own) (own_if _ _ _ own (t_gathered tail from next next _ found x own)))
+t_load_ring at found x (flushing.Gathers tail from block next end) y own e = when_then OwnTask _ _ y e (λ _. own_if _ _ _ (t_gathered tail from block next end x own) (own_if _ _ _ own (t_gathered tail from next next _ x own)))
 t_load_ring at found x _ y own e = absurd (cc)
 
 t_write_log : (segment : ℕ) (x : Part) (f : Flushing) (y : Part) → OwnTask x → write_log segment x f ≡ Some y → OwnTask y
@@ -377,13 +375,14 @@ t_add_tail seat size found x (Sealing tail) y is own e =
     when_then OwnTask _ _ y e (λ _. record { fits = rest })
 t_add_tail seat size found x _ y is own e = absurd (cc)
 
-t_store_begin : (value : ℕ) (x : Part) (pl : Place) (y : Part) → x.place ≡ pl → OwnTask x → store_begin value x pl ≡ Some y → OwnTask y
-t_store_begin value x (Begun tail) y is own e =
+t_store_begin : (seat value : ℕ) (x : Part) (pl : Place) (y : Part) → x.place ≡ pl → OwnTask x → store_begin seat value x pl ≡ Some y → OwnTask y
+t_store_begin seat value x (Begun tail) y is own e =
     let rest : x.task ≡ task.Rest = subst (λ q. TaskFits q x.current x.task) is own.fits in
     when_then OwnTask _ _ y e (λ _. record { fits = rest })
-t_store_begin value x (Active tail) y is own e = when_then OwnTask _ _ y e (λ _. record { fits = refl })
-t_store_begin value x (Decided tail stamp) y is own e = when_then OwnTask _ _ y e (λ _. record { fits = refl })
-t_store_begin value x _ y is own e = absurd (cc)
+t_store_begin seat value x (Active tail) y is own e =
+    when_then OwnTask _ _ y e (λ _. either_way OwnTask (is_flusher seat) _ _ (λ _. record { fits = refl }) (λ _. record { fits = refl }))
+t_store_begin seat value x (Decided tail stamp) y is own e = when_then OwnTask _ _ y e (λ _. record { fits = refl })
+t_store_begin seat value x _ y is own e = absurd (cc)
 
 t_store_state : (seat value : ℕ) (x : Part) (pl : Place) (y : Part) → x.place ≡ pl → OwnTask x → store_state seat value x pl ≡ Some y → OwnTask y
 t_store_state seat value x (Active tail) y is own e = when_then OwnTask _ _ y e (λ _. record { fits = refl })
@@ -442,7 +441,7 @@ t_load_state seat other bound found x y own e =
 task_after : (p : ℕ) (k : Kind) (found : ℕ) (s : Shared) (x y : Part) → OwnTask x → part_after p k found s x ≡ Some y → OwnTask y
 task_after p (kind.LoadTail reason) found s x y own e = t_load_tail p reason found x y own e
 task_after p (kind.AddTail size) found s x y own e = t_add_tail p size found x x.place y refl own e
-task_after p (kind.StoreBegin value) found s x y own e = t_store_begin value x x.place y refl own e
+task_after p (kind.StoreBegin value) found s x y own e = t_store_begin p value x x.place y refl own e
 task_after p (kind.StoreState value) found s x y own e = t_store_state p value x x.place y refl own e
 task_after p (kind.LoadBegin other) found s x y own e = t_load_begin other found x x.task y e
 task_after p (kind.LoadState other bound) found s x y own e = t_load_state p other bound found x y own e

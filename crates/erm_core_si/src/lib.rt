@@ -39,8 +39,8 @@ pub fn tasks_are_kept()
 {}
 
 /// From a sound state each event of each seat leads to one in which an entry's owner is the one seat that holds a claim on the
-/// object, what a claim overwrites is the newest version and lies below the begin stamp, and each older version is marked by
-/// the stamp of the next one.
+/// object, what a claim overwrites is the newest version and lies below the begin stamp, each older version is marked by the
+/// stamp of the next one, and the newest one of an entry without owner is not marked and has no overwriter's successor stamp.
 pub fn claims_are_kept()
     ensures shared { (c d : Core) (seat : ℕ) (kind : Kind) → Sound c → after_event c seat kind ≡ Some d
         → Claims d.shared }
@@ -49,7 +49,8 @@ pub fn claims_are_kept()
 {}
 
 /// From a sound state each event of each seat leads to one in which each version read is the newest one below the begin stamp,
-/// and stays so: no range below it holds a claim on the object.
+/// and stays so: no range below it holds a claim on the object. So it is with each claim: of the versions newer than the one that
+/// it overwrites none lies below the begin stamp.
 pub fn snapshots_are_kept()
     ensures seats { (c d : Core) (seat : ℕ) (kind : Kind) → Sound c → after_event c seat kind ≡ Some d
         → (p : ℕ) → OwnSnapshot d.shared (d.seats p) }

@@ -13,8 +13,7 @@ use Rattle.erm_machine.specs.declared.part.Part.{Part}
 use Rattle.erm_machine.specs.Core.{claim_at, no_claim}
 use Rattle.erm_machine.specs.Decided.{bare, written_of, record_of, bound_of, counted, writes_rated, RunningFits}
 use Rattle.erm_machine.specs.Seat.{read_at, no_read}
-use Rattle.erm_core_ssn.proofs.Members.{∈-filter, ∈-filter_from}
-use Rattle.erm_core_ssn.proofs.DecidedHistory.{∈-map, ∈-map_from}
+use Rattle.erm_machine.proofs.Listed.{∈-filter, ∈-filter_from, ∈-map, ∈-map_from}
 
 -- a claim with a cell
 abbrev pub has_cell : Claim → Bool

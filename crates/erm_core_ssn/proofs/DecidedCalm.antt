@@ -220,8 +220,8 @@ module _ (c : Core) (p : ℕ) (sound : Sound c) where
   sync_removal_leaves segment (flushing.Removed removed) y e = when_then (Leaves c p) _ _ y e (λ _. stays c p sound _ refl refl refl refl)
   sync_removal_leaves segment _ y e = absurd (cc)
 
-  gathered_leaves : (tail from block next end w : ℕ) → Leaves c p (gathered_word tail from block next end w (c.seats p))
-  gathered_leaves tail from block next end w = either_way (Leaves c p) _ _ _ (λ _. stays c p sound _ refl refl refl refl) (λ _. stays c p sound _ refl refl refl refl)
+  gathered_leaves : (tail from block next end : ℕ) → Leaves c p (gathered_word tail from block next end (c.seats p))
+  gathered_leaves tail from block next end = either_way (Leaves c p) _ _ _ (λ _. stays c p sound _ refl refl refl refl) (λ _. stays c p sound _ refl refl refl refl)
 
   leaves_if : (b : Bool) (l r : Part) → Leaves c p l → Leaves c p r → Leaves c p (if b then l else r)
   leaves_if b l r f g = either_way (Leaves c p) b l r (λ _. f) (λ _. g)

@@ -25,7 +25,8 @@ use Rattle.erm_machine.specs.Step.{with_ring}
 use Rattle.erm_machine.specs.Words.{put}
 use Rattle.erm_machine.proofs.Frames.{at_cases, each_seat, each_two}
 use Rattle.erm_machine.proofs.Holders.{held_once, stands_in}
-use Rattle.erm_core_ssn.proofs.DecidedHistory.{∈-first, history_has, history_from, in_history}
+use Rattle.erm_machine.proofs.Histories.{history_from, history_has, in_history}
+use Rattle.erm_machine.proofs.Listed.{∈-first}
 use Rattle.erm_core_ssn.proofs.DecidedVersions.{current_stands}
 use Rattle.erm_core_ssn.proofs.DecidedFrames.{Kept, Within}
 use Rattle.erm_core_ssn.proofs.DecidedOpen.{read_place, claim_place, none_over, open_held, overwriting, reading, not_made}

@@ -21,7 +21,7 @@ use Rattle.erm_machine.specs.Sound.{Sound}
 use Rattle.erm_machine.specs.Tasks.{TaskFits}
 use Rattle.erm_machine.proofs.Guards.{when_then}
 use Rattle.erm_machine.proofs.Holders.{stands_in}
-use Rattle.erm_core_ssn.proofs.DecidedHistory.{∈-first, ∈-map_from}
+use Rattle.erm_machine.proofs.Listed.{∈-first, ∈-map_from}
 use Rattle.erm_core_ssn.proofs.DecidedDecide.{all_counted, bound_own}
 use Rattle.erm_core_ssn.proofs.DecidedFrames.{Old, Comes}
 use Rattle.erm_core_ssn.proofs.DecidedLeft.{KeepsMarks, Left}

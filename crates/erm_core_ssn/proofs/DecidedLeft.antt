@@ -17,7 +17,7 @@ use Rattle.erm_machine.specs.Seat.{read_at}
 use Rattle.erm_machine.specs.Sound.{Sound}
 use Rattle.erm_machine.specs.Words.{put}
 use Rattle.erm_machine.proofs.Frames.{at_cases, each_seat, each_two}
-use Rattle.erm_core_ssn.proofs.DecidedHistory.{history_from}
+use Rattle.erm_machine.proofs.Histories.{history_from}
 use Rattle.erm_core_ssn.proofs.DecidedVersions.{current_stands}
 use Rattle.erm_core_ssn.proofs.DecidedFrames.{Kept, Old, Comes, shape, Within, fits_same, fits_moves, running_later}
 

@@ -14,17 +14,17 @@ use Rattle.erm_machine.specs.declared.place.Place.{Place}
 use Rattle.erm_machine.specs.declared.place.Place.TheVariants.{Vacant, Idle, Begun, Announced, Active, Drawn, Decided, Leaving}
 use Rattle.erm_machine.specs.declared.task.Task.{Task}
 use Rattle.erm_machine.specs.declared.task.Task.TheVariants as task
-use Rattle.erm_machine.specs.Core.{Core, blank, begun}
+use Rattle.erm_machine.specs.Core.{Core, blank}
 use Rattle.erm_machine.specs.Decided.{bare, history_of, writes_rated, IsOpen, RunningFits, MarkInHand, NoneReadsLeft}
 use Rattle.erm_machine.specs.Facts.{all_of, IsCurrent}
-use Rattle.erm_machine.specs.Life.{load_tail, load_tail_to_begin, store_begin, store_state, next_number, has_ended, split, join}
+use Rattle.erm_machine.specs.Life.{load_tail, load_tail_to_begin, store_begin, store_state, has_ended, split, join}
 use Rattle.erm_machine.specs.Readers.{cleared_of, cleared}
 use Rattle.erm_machine.specs.Seat.{end_of, is_vacant}
 use Rattle.erm_machine.specs.Sound.{Sound}
 use Rattle.erm_machine.specs.Tasks.{TaskFits}
-use Rattle.erm_machine.proofs.Guards.{when_then}
-use Rattle.erm_core_ssn.proofs.Members.{∈-head}
-use Rattle.erm_core_ssn.proofs.DecidedHistory.{∈-first, ∈-second}
+use Rattle.erm_machine.specs.Words.{is_flusher}
+use Rattle.erm_machine.proofs.Guards.{when_then, either_way}
+use Rattle.erm_machine.proofs.Listed.{∈-first, ∈-head, ∈-second}
 use Rattle.erm_core_ssn.proofs.DecidedVersions.{current_stands}
 use Rattle.erm_core_ssn.proofs.DecidedFrames.{Old, Comes, shape}
 use Rattle.erm_core_ssn.proofs.DecidedOpen.{none_over}
@@ -93,16 +93,14 @@ module _ (c : Core) (p : ℕ) (sound : Sound c) where
   blank_stamp : (c.seats p).current ≡ blank → (c.seats p).current.stamp ≡ 0
   blank_stamp e = ap (λ (t : Attempt). t.stamp) e
 
-  -- a begin
-  begun_leaves : (y : Part) (number begin : ℕ) → (c.seats p).current ≡ blank → y.over ≡ (c.seats p).over → y.current ≡ begun number begin → y.task ≡ task.Rest → Leaves c p y
-  begun_leaves y number begin old over current rest =
-      let none : (c.seats p).current.stamp ≡ 0 = blank_stamp old in
-      let stamp : y.current.stamp ≡ 0 = ap (λ (t : Attempt). t.stamp) current in
+  -- in place of a transaction without a range one that has done nothing: a begin, and the end of a pin
+  fresh_leaves : (y : Part) → (c.seats p).current.stamp ≡ 0 → (c.seats p).current.decision ≡ Undecided → y.over ≡ (c.seats p).over → y.current.stamp ≡ 0 → y.current.decision ≡ Undecided →
+      y.current.succ ≡ 0 → y.current.pred ≡ 0 → y.current.reads ≡ [] → y.task ≡ task.Rest → Leaves c p y
+  fresh_leaves y none un over stamp decision succ pred reads rest =
       let no : 0 < (c.seats p).current.stamp → ⊥ = λ positive. omega (arith, none, positive) in
-      let un : (c.seats p).current.decision ≡ Undecided = ap (λ (t : Attempt). t.decision) old in
       steady_leaves c p y sound (record {
         over = over;
-        decision = ap (λ (t : Attempt). t.decision) current ∙ sym un;
+        decision = decision ∙ sym un;
         stamp = stamp ∙ sym none;
         whole = λ ne. absurd (ne un);
         ranged = λ positive. absurd (no positive);
@@ -113,13 +111,14 @@ module _ (c : Core) (p : ℕ) (sound : Sound c) where
       (λ q _. subst (λ (u : Task). Passing (c.seats q) u y.current) (sym rest) (none_passing (c.seats q) task.Rest y.current (λ _. refl)))
       (λ q _. subst (λ (u : Task). NoneReadsLeft y u q (c.seats q)) (sym rest) tt)
       (λ _ _. active_to (history_of c.seats) c.shared.tail p y stamp (ap (λ u. writes_rated u (length y.current.writes)) rest)
-      (fresh_fits (history_of c.seats) c.shared.tail y.current (ap (λ (t : Attempt). t.succ) current) (ap (λ (t : Attempt). t.pred) current) (ap (λ (t : Attempt). t.reads) current)))
+      (fresh_fits (history_of c.seats) c.shared.tail y.current succ pred reads))
 
   tail_to_begin_leaves : (found : ℕ) (pl : Place) (y : Part) → (c.seats p).place ≡ pl → load_tail_to_begin p found (c.seats p) pl ≡ Some y → Leaves c p y
   tail_to_begin_leaves found Idle y at e =
       when_then (Leaves c p) _ _ y e (λ _. moves_on _ refl refl (at_rest Idle at) (λ positive. absurd (none_yet (blank_stamp (at_current Idle at)) positive)) (λ _. rest_on _ (at_rest Idle at)))
   tail_to_begin_leaves found (Announced tail) y at e =
-      when_then (Leaves c p) _ _ y e (λ _. begun_leaves _ (next_number p (c.seats p).number) found (at_current (Announced tail) at) refl refl refl)
+      when_then (Leaves c p) _ _ y e (λ _.
+      fresh_leaves _ (blank_stamp (at_current (Announced tail) at)) (ap (λ (t : Attempt). t.decision) (at_current (Announced tail) at)) refl refl refl refl refl refl refl)
   tail_to_begin_leaves found _ y at e = absurd (cc)
 
   pub load_tail_leaves : (reason : TailUse) (found : ℕ) (y : Part) → load_tail p reason found (c.seats p) ≡ Some y → Leaves c p y
@@ -224,11 +223,14 @@ module _ (c : Core) (p : ℕ) (sound : Sound c) where
           rest)
           (parts u m)
 
-  pub store_begin_leaves : (value : ℕ) (pl : Place) (y : Part) → (c.seats p).place ≡ pl → store_begin value (c.seats p) pl ≡ Some y → Leaves c p y
+  pub store_begin_leaves : (value : ℕ) (pl : Place) (y : Part) → (c.seats p).place ≡ pl → store_begin p value (c.seats p) pl ≡ Some y → Leaves c p y
   store_begin_leaves value (Begun tail) y at e =
       when_then (Leaves c p) _ _ y e (λ _. moves_on _ refl refl (at_rest (Begun tail) at) (λ positive. absurd (none_yet (blank_stamp (at_current (Begun tail) at)) positive)) (λ _. rest_on _ (at_rest (Begun tail) at)))
   store_begin_leaves value (Active tail) y at e =
-      when_then (Leaves c p) _ _ y e (λ _. let cur = at_current (Active tail) at in over_leaves _ Abort (inr (cur.stamp, cur.decision, refl)) refl refl refl)
+      when_then (Leaves c p) _ _ y e (λ _.
+      let cur = at_current (Active tail) at in
+      either_way (Leaves c p) (is_flusher p) _ _ (λ _. fresh_leaves _ cur.stamp cur.decision refl refl refl refl refl refl refl)
+      (λ _. over_leaves _ Abort (inr (cur.stamp, cur.decision, refl)) refl refl refl))
   store_begin_leaves value (Decided tail stamp) y at e =
       when_then (Leaves c p) _ _ y e (λ g.
       moves_on _ refl refl refl

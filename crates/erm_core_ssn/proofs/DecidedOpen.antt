@@ -24,7 +24,7 @@ use Rattle.erm_machine.specs.Snapshot.{Overwriting}
 use Rattle.erm_machine.specs.Sound.{Sound}
 use Rattle.erm_machine.specs.Tasks.{TaskFits, InSettle}
 use Rattle.erm_machine.proofs.Holders.{stands_in}
-use Rattle.erm_core_ssn.proofs.DecidedHistory.{∈-map}
+use Rattle.erm_machine.proofs.Listed.{∈-map}
 use Rattle.erm_core_ssn.proofs.DecidedVersions.{current_stands, claim_of_read}
 
 -- no claim is over, no bit cleared

@@ -32,8 +32,7 @@ use Rattle.erm_machine.specs.Snapshot.{InHand, IsNewestAt, ReadFits}
 use Rattle.erm_machine.specs.Sound.{Sound}
 use Rattle.erm_machine.specs.Words.{blank_cell}
 use Rattle.erm_machine.proofs.Guards.{when_then, either_way}
-use Rattle.erm_core_ssn.proofs.Members.{∈-head}
-use Rattle.erm_core_ssn.proofs.DecidedHistory.{∈-first, ∈-second, ∈-map_from}
+use Rattle.erm_machine.proofs.Listed.{∈-first, ∈-head, ∈-map_from, ∈-second}
 use Rattle.erm_core_ssn.proofs.DecidedVersions.{current_stands, read_stamp, marked_by, made_by, Maker}
 use Rattle.erm_core_ssn.proofs.DecidedSteady.{Leaves}
 use Rattle.erm_core_ssn.proofs.DecidedActive.{has_cell, ActiveFits, ClaimFrom, ClaimRead, active_moves}

@@ -18,7 +18,8 @@ use Rattle.erm_machine.specs.Seat.{read_at, no_read}
 use Rattle.erm_machine.specs.Snapshot.{passed_of}
 use Rattle.erm_machine.specs.Sound.{Sound}
 use Rattle.erm_machine.proofs.Holders.{stands_in}
-use Rattle.erm_core_ssn.proofs.DecidedHistory.{∈-map, ∈-map_from, history_has}
+use Rattle.erm_machine.proofs.Histories.{history_has}
+use Rattle.erm_machine.proofs.Listed.{∈-map, ∈-map_from}
 use Rattle.erm_core_ssn.proofs.DecidedVersions.{current_stands, claim_of_read}
 use Rattle.erm_core_ssn.proofs.DecidedOpen.{read_place, open_held}
 use Rattle.erm_core_ssn.proofs.DecidedWitness.{From}

@@ -16,7 +16,7 @@ use Rattle.erm_machine.specs.Decided.{history_of, reads_rated, writes_rated, IsO
 use Rattle.erm_machine.specs.Facts.{IsCurrent}
 use Rattle.erm_machine.specs.Seat.{is_sealed, read_at}
 use Rattle.erm_machine.specs.Flushing.{load_flushed}
-use Rattle.erm_machine.specs.Settling.{has_room, load_read_entry, filled, store_ring, load_flushed_to_settle}
+use Rattle.erm_machine.specs.Settling.{has_room, may_settle, load_read_entry, filled, store_ring, load_flushed_to_settle}
 use Rattle.erm_machine.specs.Sound.{Sound}
 use Rattle.erm_machine.specs.Words.{head_of, owner_of}
 use Rattle.erm_machine.proofs.Guards.{when_then, some_then, either_way}
@@ -30,6 +30,11 @@ use Rattle.erm_core_ssn.proofs.DecidedCalm.{first}
 sealed_current : (pl : Place) (t : Attempt) → IsCurrent pl t → is_sealed pl ≡ true → IsOpen t
 sealed_current (Sealed tail stamp) t cur e = (let a = cur.stamp_is in let b = cur.positive in omega (arith, a, b), cur.decision)
 sealed_current _ t cur e = absurd (cc)
+
+-- settle that may begin isn't an end
+settle_not_ends : (t : Task) → may_settle t ≡ true → NotEnds t
+settle_not_ends (task.Ends raised ended step cleared) e = absurd (cc)
+settle_not_ends _ e = tt
 
 module _ (c : Core) (p : ℕ) (sound : Sound c) where
   pub sealed_open : is_sealed (c.seats p).place ≡ true → IsOpen (c.seats p).current
@@ -83,18 +88,17 @@ module _ (c : Core) (p : ℕ) (sound : Sound c) where
       (λ q _. none_passing (c.seats q) (task.ReadClear reads) (c.seats p).current (λ _. refl)) (λ q _. tt)))
   read_entry_leaves oid found _ y at e = absurd (cc)
 
-  -- settle begins
-  to_settle_leaves : (found : ℕ) (t : Task) → (c.seats p).task ≡ t → Leaves c p (load_flushed_to_settle found (c.seats p) t)
-  to_settle_leaves found task.Rest at =
-      either_way (λ (u : Task). Leaves c p (record (c.seats p) { task = u })) (is_sealed (c.seats p).place && has_room found (c.seats p).current) (task.Settles 0 0) task.Rest
-      (λ _. retask c p sound _ (task.Settles 0 0) refl refl refl refl (on_at _ at tt) tt (omega arith) (omega arith) tt
+  -- settle begins, or begins anew: no version is passed, and the running numbers stay
+  to_settle_leaves : (found : ℕ) → Leaves c p (load_flushed_to_settle found (c.seats p))
+  to_settle_leaves found =
+      either_way (Leaves c p) (is_sealed (c.seats p).place && may_settle (c.seats p).task && has_room found (c.seats p).current) (record (c.seats p) { task = task.Settles 0 0 }) (c.seats p)
+      (λ g. retask c p sound _ (task.Settles 0 0) refl refl refl refl (settle_not_ends (c.seats p).task (and_parts _ _ (and_parts _ _ g).0).1) tt (omega arith) (omega arith) tt
       (λ q _. λ k low. absurd (omega (arith, low))) (λ q _. tt))
-      (λ _. stays c p sound _ refl refl (sym at) refl)
-  to_settle_leaves found _ at = stays c p sound _ refl refl refl refl
+      (λ _. stays c p sound _ refl refl refl refl)
 
   pub load_flushed_leaves : (found : ℕ) (f : Flushing) (y : Part) → load_flushed found (c.seats p) f ≡ Some y → Leaves c p y
   load_flushed_leaves found (flushing.Tail tail) y e = some_then (Leaves c p) _ y e (stays c p sound _ refl refl refl refl)
-  load_flushed_leaves found _ y e = when_then (Leaves c p) _ _ y e (λ _. to_settle_leaves found (c.seats p).task refl)
+  load_flushed_leaves found _ y e = when_then (Leaves c p) _ _ y e (λ _. to_settle_leaves found)
 
   -- the words of the block
   fills_leaves : (at value : ℕ) (o : Option ℕ) (y : Part) → NotEnds (c.seats p).task →

@@ -23,7 +23,8 @@ use Rattle.erm_machine.specs.Snapshot.{passed_of}
 use Rattle.erm_machine.specs.Sound.{Sound}
 use Rattle.erm_machine.proofs.Guards.{when_then, either_way}
 use Rattle.erm_machine.proofs.Holders.{stands_in}
-use Rattle.erm_core_ssn.proofs.DecidedHistory.{∈-map_from, history_has}
+use Rattle.erm_machine.proofs.Histories.{history_has}
+use Rattle.erm_machine.proofs.Listed.{∈-map_from}
 use Rattle.erm_core_ssn.proofs.DecidedDecide.{all_counted, bound_own}
 use Rattle.erm_core_ssn.proofs.DecidedSteady.{Leaves}
 use Rattle.erm_core_ssn.proofs.DecidedActive.{Counts}

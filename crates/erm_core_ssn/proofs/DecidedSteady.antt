@@ -13,7 +13,7 @@ use Rattle.erm_machine.specs.Facts.{all_of}
 use Rattle.erm_machine.specs.Readers.{cleared}
 use Rattle.erm_machine.specs.Seat.{no_read}
 use Rattle.erm_machine.specs.Sound.{Sound}
-use Rattle.erm_core_ssn.proofs.DecidedHistory.{∈-first}
+use Rattle.erm_machine.proofs.Listed.{∈-first}
 use Rattle.erm_core_ssn.proofs.DecidedVersions.{current_stands}
 use Rattle.erm_core_ssn.proofs.DecidedFrames.{Old, Comes, shape, running_later}
 use Rattle.erm_core_ssn.proofs.DecidedLeft.{KeepsMarks, Left, mark_stays}

@@ -26,8 +26,8 @@ use Rattle.erm_machine.specs.Sound.{Sound}
 use Rattle.erm_machine.specs.Tasks.{TaskFits}
 use Rattle.erm_machine.specs.Words.{owner_of}
 use Rattle.erm_machine.proofs.Holders.{held_claim, stands_in}
-use Rattle.erm_core_ssn.proofs.Members.{∈-head}
-use Rattle.erm_core_ssn.proofs.DecidedHistory.{∈-second, ∈-map_from, in_history}
+use Rattle.erm_machine.proofs.Histories.{in_history}
+use Rattle.erm_machine.proofs.Listed.{∈-head, ∈-map_from, ∈-second}
 
 -- the current transaction is one of all
 pub current_stands : (x : Part) → x.current ∈ all_of x

@@ -15,7 +15,7 @@ use Rattle.erm_machine.specs.Readers.{HasRead}
 use Rattle.erm_machine.specs.Seat.{same_version, is_least}
 use Rattle.erm_machine.specs.Sound.{Sound}
 use Rattle.erm_machine.proofs.Holders.{stands_in}
-use Rattle.erm_core_ssn.proofs.DecidedHistory.{history_has}
+use Rattle.erm_machine.proofs.Histories.{history_has}
 use Rattle.erm_core_ssn.proofs.DecidedVersions.{current_stands, SeatsLow, Maker, claim_stamp, made_by, read_by}
 
 -- two names that are one

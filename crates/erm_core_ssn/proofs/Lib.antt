@@ -7,7 +7,6 @@ pub mod DecidedDecide
 pub mod DecidedDrawn
 pub mod DecidedEnds
 pub mod DecidedFrames
-pub mod DecidedHistory
 pub mod DecidedKept
 pub mod DecidedLeft
 pub mod DecidedLooks

@@ -12,7 +12,7 @@ use Rattle.erm_machine.specs.Core.{Core}
 use Rattle.erm_machine.specs.Facts.{all_of}
 use Rattle.erm_machine.specs.Ranges.{EndToEnd, range_at, ranges_of}
 use Rattle.erm_machine.specs.Sound.{Sound}
-use Rattle.erm_core_ssn.proofs.Members.{∈-head}
+use Rattle.erm_machine.proofs.Listed.{∈-head}
 
 -- ranges start at ascending places, the first at or above a bound
 abbrev Ascends : ℕ → List Span → Type 0

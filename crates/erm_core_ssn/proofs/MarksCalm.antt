@@ -1,5 +1,5 @@
 -- Kinds of steps after which the claims of a seat's transactions are as before.
-use Rattle.std.proofs.Common.{◌≡◌, ℕ, Bool, true, false, List, set, Option, Some, None, refl, sym, ◌∙◌}
+use Rattle.std.proofs.Common.{◌≡◌, ℕ, Bool, true, false, ◌&&◌, set, Option, Some, None, refl, sym, ◌∙◌}
 use Rattle.std.specs.Prelude.{if◌then◌else◌, nat_lt}
 use Rattle.erm_machine.specs.declared.attempt.Decision.TheVariants.{Commit}
 use Rattle.erm_machine.specs.declared.attempt.Claim.{Claim}
@@ -7,7 +7,6 @@ use Rattle.erm_machine.specs.declared.event.Counter.{Counter}
 use Rattle.erm_machine.specs.declared.event.Counter.TheVariants.{Objects, Cells}
 use Rattle.erm_machine.specs.declared.part.Flushing.{Flushing}
 use Rattle.erm_machine.specs.declared.part.Flushing.TheVariants as flushing
-use Rattle.erm_machine.specs.declared.part.GatheredBlock.{GatheredBlock}
 use Rattle.erm_machine.specs.declared.part.Part.{Part}
 use Rattle.erm_machine.specs.declared.task.Task.{Task}
 use Rattle.erm_machine.specs.declared.task.Task.TheVariants as task
@@ -16,10 +15,10 @@ use Rattle.erm_machine.specs.declared.version.CellWord.TheVariants as word
 use Rattle.erm_machine.specs.declared.version.VersionAt.{VersionAt}
 use Rattle.erm_machine.specs.Core.{Object, claim_at}
 use Rattle.erm_machine.specs.Facts.{IsCurrent}
-use Rattle.erm_machine.specs.Seat.{end_of, is_active, last_claim}
+use Rattle.erm_machine.specs.Seat.{end_of, is_active, is_sealed, last_claim}
 use Rattle.erm_machine.specs.Life.{load_tail_to_gather, load_tail_for_horizon, load_begin, load_state, split, join}
 use Rattle.erm_machine.specs.Reading.{load_entry, set_reader, load_walked_stamp, load_walked_link, load_cell, swap_link, load_detached, load_counter, add_counter, load_active_stamp, start_row, store_row_word}
-use Rattle.erm_machine.specs.Settling.{load_flushed_to_settle, load_read_entry, load_readers, load_settled_stamp, load_stamp, filled, store_ring, raise_reader, store_head_word, store_active_word, store_cell, mark_overwritten, store_succ, store_overwriter, clear_reader}
+use Rattle.erm_machine.specs.Settling.{has_room, may_settle, load_flushed_to_settle, load_read_entry, load_readers, load_settled_stamp, load_stamp, filled, store_ring, raise_reader, store_head_word, store_active_word, store_cell, mark_overwritten, store_succ, store_overwriter, clear_reader}
 use Rattle.erm_machine.specs.Flushing.{load_flushed, gathered_word, load_ring, write_log, after_sync, sync_log, clear_ring, store_flushed, write_slot, sync_slot, remove_log, sync_removal}
 use Rattle.erm_machine.proofs.Guards.{when_then, some_then, if_then, either_way}
 use Rattle.erm_core_ssn.proofs.MarksSame.{Same, same_current, same_claims, same_set, same_open, before_same, before_set, active_open, sealed_open}
@@ -190,24 +189,23 @@ s_filled at value x (Some words) y e = when_then (Same x) _ _ y e (λ _. same_wo
 pub s_store_ring : (at value : ℕ) (x : Part) (t : Task) (y : Part) → store_ring at value x (filled x.current t) ≡ Some y → Same x y
 s_store_ring at value x t y e = s_filled at value x (filled x.current t) y e
 
--- the flush seat's own fields change; a settle begins
-s_to_settle : (found : ℕ) (x : Part) (t : Task) → Same x (load_flushed_to_settle found x t)
-s_to_settle found x task.Rest = still x _ refl refl
-s_to_settle found x _ = still x x refl refl
+-- the flush seat's own fields change; a settle begins, or begins anew
+s_to_settle : (found : ℕ) (x : Part) → Same x (load_flushed_to_settle found x)
+s_to_settle found x =
+    either_way (Same x) (is_sealed x.place && may_settle x.task && has_room found x.current) (record x { task = task.Settles 0 0 }) x (λ _. still x _ refl refl) (λ _. still x x refl refl)
 
 pub s_load_flushed : (found : ℕ) (x : Part) (f : Flushing) (y : Part) → load_flushed found x f ≡ Some y → Same x y
 s_load_flushed found x (flushing.Tail tail) y e = some_then (Same x) _ y e (still x _ refl refl)
-s_load_flushed found x _ y e = when_then (Same x) _ _ y e (λ _. s_to_settle found x x.task)
+s_load_flushed found x _ y e = when_then (Same x) _ _ y e (λ _. s_to_settle found x)
 
-s_flushing : (x : Part) (f : Flushing) (ws : List ℕ) (bs : List GatheredBlock) (to synced : ℕ)
-    → Same x (record x { flushing = f; words = ws; gathered = bs; gathered_to = to; synced = synced })
-s_flushing x f ws bs to synced = still x _ refl refl
+s_flushing : (x : Part) (f : Flushing) (to synced : ℕ) → Same x (record x { flushing = f; gathered_to = to; synced = synced })
+s_flushing x f to synced = still x _ refl refl
 
 s_if : (x : Part) (b : Bool) (l r : Part) → Same x l → Same x r → Same x (if b then l else r)
 s_if x b l r f g = either_way (Same x) b l r (λ _. f) (λ _. g)
 
-s_gathered : (tail from block next end w : ℕ) (x : Part) → Same x (gathered_word tail from block next end w x)
-s_gathered tail from block next end w x = either_way (Same x) _ _ _ (λ _. s_flushing x _ _ _ _ _) (λ _. s_flushing x _ _ _ _ _)
+s_gathered : (tail from block next end : ℕ) (x : Part) → Same x (gathered_word tail from block next end x)
+s_gathered tail from block next end x = either_way (Same x) _ _ _ (λ _. s_flushing x _ _ _) (λ _. s_flushing x _ _ _)
 
 s_refl : (x : Part) → Same x x
 s_refl x = still x x refl refl
@@ -222,7 +220,7 @@ s_write_log segment x (flushing.Puts from to written) y e = when_then (Same x) _
 s_write_log segment x _ y e = absurd (cc)
 
 s_after_sync : (from to synced : ℕ) (x : Part) → Same x (after_sync from to synced x)
-s_after_sync from to synced x = either_way (Same x) _ _ _ (λ _. s_flushing x _ _ _ _ _) (λ _. s_flushing x _ _ _ _ _)
+s_after_sync from to synced x = either_way (Same x) _ _ _ (λ _. s_flushing x _ _ _) (λ _. s_flushing x _ _ _)
 
 pub s_sync_log : (segment : ℕ) (x : Part) (f : Flushing) (y : Part) → sync_log segment x f ≡ Some y → Same x y
 s_sync_log segment x (flushing.Puts from to written) y e = when_then (Same x) _ _ y e (λ _. s_after_sync from to 1 x)

@@ -13,10 +13,11 @@ use Rattle.erm_machine.specs.Decided.{DecisionFits, record_of, committed_of, his
 use Rattle.erm_machine.specs.Facts.{all_of}
 use Rattle.erm_machine.specs.Seat.{is_commit}
 use Rattle.erm_machine.specs.Sound.{Sound}
-use Rattle.erm_core_ssn.proofs.DecidedHistory.{Committed, ∈-map, ∈-either, history_in, history_has}
+use Rattle.erm_machine.proofs.Histories.{Committed, history_has, history_in}
+use Rattle.erm_machine.proofs.Listed.{∈-either, ∈-filter, ∈-head, ∈-map}
 use Rattle.erm_core_ssn.proofs.MarksAscend.{ascending}
 use Rattle.erm_core_ssn.proofs.MarksSame.{commit_is}
-use Rattle.erm_core_ssn.proofs.Members.{TellsApart, TellsApart-cons, TellsApart-head, TellsApart-tail, ∈-head, ∈-filter}
+use Rattle.erm_core_ssn.proofs.Members.{TellsApart, TellsApart-cons, TellsApart-head, TellsApart-tail}
 
 -- two lists, one behind the other, whose keys are apart
 apart_append : {X : Type 0} (key : X → ℕ) (xs ys : List X) → TellsApart key xs → TellsApart key ys → ((x y : X) → x ∈ xs → y ∈ ys → key x ≡ key y → ⊥) → TellsApart key (xs ++ ys)

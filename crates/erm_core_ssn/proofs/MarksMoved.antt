@@ -25,7 +25,8 @@ use Rattle.erm_machine.specs.Seat.{is_active, is_decided, is_commit, may_start, 
 use Rattle.erm_machine.specs.Settling.{adds_version, release_old, unclaim}
 use Rattle.erm_machine.specs.Snapshot.{InHand}
 use Rattle.erm_machine.specs.Sound.{Sound}
-use Rattle.erm_machine.proofs.Guards.{when_then}
+use Rattle.erm_machine.specs.Words.{is_flusher}
+use Rattle.erm_machine.proofs.Guards.{when_then, either_way}
 use Rattle.erm_machine.proofs.Holders.{stands_at}
 use Rattle.erm_core_ssn.proofs.MarksLists.{∈-last, ∈-take}
 use Rattle.erm_core_ssn.proofs.MarksSteps.{ahead_current, written_stays, ok_of, own_current}
@@ -94,13 +95,15 @@ module _ (c : Core) (p : ℕ) (sound : Sound c) where
       when_then (Left c.shared (c.seats p)) _ _ y e (λ _. left_calm _ (loaded (c.seats p) _ (λ committed. absurd (cc)) refl refl refl))
   add_tail_left size found _ y at e = absurd (cc)
 
-  pub store_begin_left : (value : ℕ) (pl : Place) (y : Part) → (c.seats p).place ≡ pl → store_begin value (c.seats p) pl ≡ Some y → Left c.shared (c.seats p) y
+  pub store_begin_left : (value : ℕ) (pl : Place) (y : Part) → (c.seats p).place ≡ pl → store_begin p value (c.seats p) pl ≡ Some y → Left c.shared (c.seats p) y
   store_begin_left value (Begun tail) y at e = when_then (Left c.shared (c.seats p)) _ _ y e (λ _. left_calm _ (still (c.seats p) _ refl refl))
   store_begin_left value (Active tail) y at e =
       let none = (at_current (Active tail) at).decision in
       when_then (Left c.shared (c.seats p)) _ _ y e (λ g.
-      left_over c.shared (c.seats p) _ Abort (sound.own p).marks refl refl (λ (committed : Abort ≡ Commit). absurd (cc)) (λ committed. absurd (cc))
-      (all_over (ap (λ l. over_of l (c.seats p).task (length (c.seats p).current.writes)) at ∙ ended_all tail (c.seats p).task (c.seats p).current (and_parts _ _ g).1)))
+      either_way (Left c.shared (c.seats p)) (is_flusher p) _ _
+      (λ _. left_calm _ (same_open (c.seats p) _ refl (λ committed. absurd (cc)) (λ (committed : Undecided ≡ Commit). absurd (cc)) (λ w m. absurd (none_in_nil w m))))
+      (λ _. left_over c.shared (c.seats p) _ Abort (sound.own p).marks refl refl (λ (committed : Abort ≡ Commit). absurd (cc)) (λ committed. absurd (cc))
+      (all_over (ap (λ l. over_of l (c.seats p).task (length (c.seats p).current.writes)) at ∙ ended_all tail (c.seats p).task (c.seats p).current (and_parts _ _ g).1))))
   store_begin_left value (Decided tail stamp) y at e = when_then (Left c.shared (c.seats p)) _ _ y e (λ _. left_calm _ (still (c.seats p) _ refl refl))
   store_begin_left value _ y at e = absurd (cc)
 

@@ -1,58 +1,16 @@
 -- Membership in a list, and keys that tell a list's elements apart.
-use Rattle.std.proofs.Common.{◌≡◌, ℕ, zero, suc, ◌⊎◌, Bool, true, false, cond, List, [], ◌∷◌, Some, slice_get, filter, Contains, IsPermutation, refl, sym, ap, ◌∙◌, subst, inl, inr, ⊎_elim, arith}
+use Rattle.std.proofs.Common.{◌≡◌, ℕ, zero, suc, Bool, List, [], ◌∷◌, Some, slice_get, filter, Contains, IsPermutation, refl, sym, ap, ◌∙◌, arith}
 use Rattle.std.proofs.lemmas.Bool.{cond_both}
 use Rattle.std.proofs.lemmas.Option.{get_or_from_slice_get, slice_get_within, slice_get-get_or}
 use Rattle.std.proofs.lemmas.List.Sorted.{Contains-permutation}
 use Rattle.erm_model.specs.Member.{◌∈◌}
-use Rattle.erm_model.proofs.Members.{none_in_nil, ∈-behind}
-
--- what stands in a list with one more element in front
-pub ∈-head : {X : Type 0} (x : X) (xs : List X) → x ∈ (x ∷ xs)
-∈-head x xs = (zero, refl)
-
--- the first, or one behind it
-place_cases : {X : Type 0} (x y : X) (xs : List X) (k : ℕ) → slice_get (y ∷ xs) k ≡ Some x → (y ≡ x) ⊎ (x ∈ xs)
-place_cases x y xs zero e = inl cc
-place_cases x y xs (suc k) e = inr (k, e)
-
-pub ∈-cons : {X : Type 0} (x y : X) (xs : List X) → x ∈ (y ∷ xs) → (y ≡ x) ⊎ (x ∈ xs)
-∈-cons x y xs h = place_cases x y xs h.0 h.1
+use Rattle.erm_machine.proofs.Listed.{∈-filter}
 
 -- what stands in a list stands in each order of it
 pub ∈-permutation : {X : Type 0} (x : X) (xs ys : List X) → IsPermutation xs ys → x ∈ xs → x ∈ ys
 ∈-permutation x xs ys p h =
     let there : Contains ys x = Contains-permutation xs ys x p (h.0, slice_get_within xs h.0 x h.1, get_or_from_slice_get xs h.0 x x h.1) in
     (there.0, slice_get-get_or ys there.0 x there.1 ∙ ap Some there.2)
-
--- what stands in what a filter keeps
-kept_cases : {X : Type 0} (b : Bool) (x y : X) (kept : List X) → x ∈ cond b (y ∷ kept) kept → ((b ≡ true) × (y ≡ x)) ⊎ (x ∈ kept)
-kept_cases true x y kept h =
-    ⊎_elim (λ (e : y ≡ x). inl (refl, e)) (λ (there : x ∈ kept). inr there) (∈-cons x y kept h)
-kept_cases false x y kept h = inr h
-
-pub ∈-filter : {X : Type 0} (p : X → Bool) (x : X) (xs : List X) → x ∈ filter p xs → (x ∈ xs) × (p x ≡ true)
-∈-filter p x [] h = absurd (none_in_nil x h)
-∈-filter p x (y ∷ ys) h =
-    ⊎_elim
-    (λ (e : (p y ≡ true) × (y ≡ x)). (subst (λ v. v ∈ (y ∷ ys)) e.1 (∈-head y ys), subst (λ v. p v ≡ true) e.1 e.0))
-    (λ (there : x ∈ filter p ys). (∈-behind y ys x (∈-filter p x ys there).0, (∈-filter p x ys there).1))
-    (kept_cases (p y) x y (filter p ys) h)
-
-keeps_head : {X : Type 0} (b : Bool) (y : X) (kept : List X) → b ≡ true → y ∈ cond b (y ∷ kept) kept
-keeps_head true y kept e = ∈-head y kept
-keeps_head false y kept e = cc
-
-keeps_tail : {X : Type 0} (b : Bool) (x y : X) (kept : List X) → x ∈ kept → x ∈ cond b (y ∷ kept) kept
-keeps_tail true x y kept h = ∈-behind y kept x h
-keeps_tail false x y kept h = h
-
-pub ∈-filter_from : {X : Type 0} (p : X → Bool) (x : X) (xs : List X) → x ∈ xs → p x ≡ true → x ∈ filter p xs
-∈-filter_from p x [] h passes = absurd (none_in_nil x h)
-∈-filter_from p x (y ∷ ys) h passes =
-    ⊎_elim
-    (λ (e : y ≡ x). subst (λ v. v ∈ filter p (y ∷ ys)) e (keeps_head (p y) y (filter p ys) (subst (λ v. p v ≡ true) (sym e) passes)))
-    (λ (there : x ∈ ys). keeps_tail (p y) x y (filter p ys) (∈-filter_from p x ys there passes))
-    (∈-cons x y ys h)
 
 -- elements with one key stand at one place
 abbrev pub TellsApart : {X : Type 0} → (X → ℕ) → List X → Type 0

@@ -5,7 +5,8 @@ use Rattle.std.proofs.lemmas.List.Sorted.{IsPermutation-sym, IsPermutation-refl,
 use Rattle.erm_model.specs.Member.{◌∈◌}
 use Rattle.erm_model.specs.SerialOrder.{Rank, ComesBefore, IsSerialOrder}
 use Rattle.erm_model.proofs.Members.{none_in_nil, ∈-behind}
-use Rattle.erm_core_ssn.proofs.Members.{∈-head, ∈-cons, ∈-permutation, TellsApart, TellsApart-tail, TellsApart-head}
+use Rattle.erm_machine.proofs.Listed.{∈-cons, ∈-head}
+use Rattle.erm_core_ssn.proofs.Members.{∈-permutation, TellsApart, TellsApart-tail, TellsApart-head}
 use Rattle.erm_core_ssn.proofs.Orders.{ComesBefore-trans, ComesBefore-asym, Ascends, Ascends-from_AllPairs}
 
 never_before_itself : (a : Rank) → ComesBefore a a → ⊥

@@ -6,7 +6,8 @@ use Rattle.std.proofs.lemmas.Option.{get_or_from_slice_get, slice_get_within}
 use Rattle.erm_model.specs.Member.{◌∈◌}
 use Rattle.erm_model.specs.SerialOrder.{Rank, ComesBefore, IsSerialOrder}
 use Rattle.erm_model.proofs.Members.{none_in_nil, ∈-behind}
-use Rattle.erm_core_ssn.proofs.Members.{∈-head, ∈-cons, ∈-permutation}
+use Rattle.erm_machine.proofs.Listed.{∈-cons, ∈-head}
+use Rattle.erm_core_ssn.proofs.Members.{∈-permutation}
 
 -- the serial order is transitive, and what comes before another does not come after it
 pub ComesBefore-trans : (a b c : Rank) → ComesBefore a b → ComesBefore b c → ComesBefore a c

@@ -6,7 +6,8 @@ use Rattle.erm_model.specs.declared.history.VersionWritten.{VersionWritten}
 use Rattle.erm_model.specs.Member.{◌∈◌}
 use Rattle.erm_model.specs.History.{History, IsSnapshot, IsCertified, ReadsSnapshot, OverwritesNewest, IsMade, IsVersion, IsNewestBelow, IsSuccessorStamp, IsPredecessorStamp, CountsForPred, CountsForSucc, HasNewestRows, below}
 use Rattle.erm_model.specs.Rows.{Rows}
-use Rattle.erm_core_ssn.proofs.Members.{∈-filter, ∈-filter_from, TellsApart-filter}
+use Rattle.erm_machine.proofs.Listed.{∈-filter, ∈-filter_from}
+use Rattle.erm_core_ssn.proofs.Members.{TellsApart-filter}
 
 module _ (h : History) (bound : ℕ) where
   -- what stands below a stamp

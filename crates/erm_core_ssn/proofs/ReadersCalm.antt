@@ -1,5 +1,5 @@
 -- Calm steps: those after which a seat has read what it had read, and has cleared and raised as many.
-use Rattle.std.proofs.Common.{◌≡◌, ℕ, ◌+◌, Bool, true, false, List, Option, Some, None, refl, sym, ap, ◌∙◌}
+use Rattle.std.proofs.Common.{◌≡◌, ℕ, ◌+◌, Bool, true, false, ◌&&◌, Option, Some, None, refl, sym, ap, ◌∙◌}
 use Rattle.std.specs.Prelude.{if◌then◌else◌}
 use Rattle.std.proofs.lemmas.Bool.{and_parts}
 use Rattle.std.proofs.lemmas.Option.{same_Some}
@@ -9,7 +9,6 @@ use Rattle.erm_machine.specs.declared.event.Kind.{Kind}
 use Rattle.erm_machine.specs.declared.event.Kind.TheVariants as kind
 use Rattle.erm_machine.specs.declared.part.Flushing.{Flushing}
 use Rattle.erm_machine.specs.declared.part.Flushing.TheVariants as flushing
-use Rattle.erm_machine.specs.declared.part.GatheredBlock.{GatheredBlock}
 use Rattle.erm_machine.specs.declared.part.Part.{Part}
 use Rattle.erm_machine.specs.declared.task.Task.{Task}
 use Rattle.erm_machine.specs.declared.task.Task.TheVariants as task
@@ -20,7 +19,7 @@ use Rattle.erm_machine.specs.Core.{Object, Shared}
 use Rattle.erm_machine.specs.Seat.{is_active, is_sealed, end_of, may_start}
 use Rattle.erm_machine.specs.Life.{after_clear}
 use Rattle.erm_machine.specs.Reading.{entered, after_cut, detached, load_entry, claim, load_walked_stamp, load_walked_link, load_cell, swap_link, load_detached, load_counter, add_counter, load_active_stamp, start_row, store_row_word}
-use Rattle.erm_machine.specs.Settling.{load_flushed_to_settle, load_read_entry, load_readers, load_settled_stamp, load_stamp, filled, store_ring, store_head_word, store_active_word, store_cell, mark_overwritten, install_claim, adds_version, install_new, release_old, install}
+use Rattle.erm_machine.specs.Settling.{has_room, may_settle, load_flushed_to_settle, load_read_entry, load_readers, load_settled_stamp, load_stamp, filled, store_ring, store_head_word, store_active_word, store_cell, mark_overwritten, install_claim, adds_version, install_new, release_old, install}
 use Rattle.erm_machine.specs.Flushing.{load_flushed, gathered_word, load_ring, write_log, after_sync, sync_log, clear_ring, store_flushed, sync_slot, remove_log, sync_removal}
 use Rattle.erm_machine.specs.Step.{part_after}
 use Rattle.erm_machine.proofs.Guards.{when_then, some_then, unless_then, if_then, either_way, unless_some}
@@ -255,30 +254,34 @@ calm_install : (oid head : ℕ) (x : Part) (t : Task) (y : Part) → install oid
 calm_install oid head x task.Refused y e = when_then (Calm x _) _ _ y e (λ _. calm_to x _ _ refl (still_from _ refl refl) (still_from _ refl refl))
 calm_install oid head x t y e = calm_install_claim oid head x t (end_of t) y refl e
 
--- the flush seat's own fields change; a settle begins
-calm_to_settle : (found : ℕ) (x : Part) (t : Task) → x.task ≡ t → Calm x t (load_flushed_to_settle found x t)
-calm_to_settle found x task.Rest same = calm_to x _ _ refl (still_from _ refl refl) (search (still_if, still_from))
-calm_to_settle found x t same = calm_even x t x refl (record { cleared = ap bits_cleared same; raised = ap stamps_raised same })
+-- the flush seat's own fields change; a settle begins, or begins anew
+settle_still : (t : Task) → may_settle t ≡ true → Still t
+settle_still (task.Ends raised ended step cleared) e = absurd (cc)
+settle_still _ e = record { cleared = refl; raised = refl }
 
 pub calm_same : (x y : Part) → y.current.reads ≡ x.current.reads → y.task ≡ x.task → Calm x x.task y
 calm_same x y reads same = calm_even x x.task y reads (record { cleared = ap bits_cleared same; raised = ap stamps_raised same })
 
-calm_flushing : (x : Part) (f : Flushing) (ws : List ℕ) (bs : List GatheredBlock) (to synced : ℕ) →
-    Calm x x.task (record x { flushing = f; words = ws; gathered = bs; gathered_to = to; synced = synced })
-calm_flushing x f ws bs to synced = calm_same x _ refl refl
+calm_flushing : (x : Part) (f : Flushing) (to synced : ℕ) → Calm x x.task (record x { flushing = f; gathered_to = to; synced = synced })
+calm_flushing x f to synced = calm_same x _ refl refl
 
 calm_stays : (x : Part) → Calm x x.task x
 calm_stays x = calm_same x x refl refl
 
+calm_to_settle : (found : ℕ) (x : Part) → Calm x x.task (load_flushed_to_settle found x)
+calm_to_settle found x =
+    either_way (Calm x x.task) (is_sealed x.place && may_settle x.task && has_room found x.current) (record x { task = task.Settles 0 0 }) x
+    (λ g. calm_to x _ _ refl (settle_still x.task (and_parts _ _ (and_parts _ _ g).0).1) (still_from _ refl refl)) (λ _. calm_stays x)
+
 calm_load_flushed : (found : ℕ) (x : Part) (f : Flushing) (y : Part) → load_flushed found x f ≡ Some y → Calm x x.task y
 calm_load_flushed found x (flushing.Tail tail) y e = some_then (Calm x x.task) _ y e (calm_same x _ refl refl)
-calm_load_flushed found x _ y e = when_then (Calm x x.task) _ _ y e (λ _. calm_to_settle found x x.task refl)
+calm_load_flushed found x _ y e = when_then (Calm x x.task) _ _ y e (λ _. calm_to_settle found x)
 
 calm_if : (x : Part) (b : Bool) (l r : Part) → Calm x x.task l → Calm x x.task r → Calm x x.task (if b then l else r)
 calm_if x b l r f g = either_way (Calm x x.task) b l r (λ _. f) (λ _. g)
 
-calm_gathered : (tail from block next end w : ℕ) (x : Part) → Calm x x.task (gathered_word tail from block next end w x)
-calm_gathered tail from block next end w x = either_way (Calm x x.task) _ _ _ (λ _. calm_flushing x _ _ _ _ _) (λ _. calm_flushing x _ _ _ _ _)
+calm_gathered : (tail from block next end : ℕ) (x : Part) → Calm x x.task (gathered_word tail from block next end x)
+calm_gathered tail from block next end x = either_way (Calm x x.task) _ _ _ (λ _. calm_flushing x _ _ _) (λ _. calm_flushing x _ _ _)
 
 calm_load_ring : (at found : ℕ) (x : Part) (f : Flushing) (y : Part) → load_ring at found x f ≡ Some y → Calm x x.task y
 calm_load_ring at found x (flushing.Gathers tail from block next end) y e =
@@ -292,7 +295,7 @@ calm_write_log segment x (flushing.Puts from to written) y e = when_then (Calm x
 calm_write_log segment x _ y e = absurd (cc)
 
 calm_after_sync : (from to synced : ℕ) (x : Part) → Calm x x.task (after_sync from to synced x)
-calm_after_sync from to synced x = either_way (Calm x x.task) _ _ _ (λ _. calm_flushing x _ _ _ _ _) (λ _. calm_flushing x _ _ _ _ _)
+calm_after_sync from to synced x = either_way (Calm x x.task) _ _ _ (λ _. calm_flushing x _ _ _) (λ _. calm_flushing x _ _ _)
 
 calm_sync_log : (segment : ℕ) (x : Part) (f : Flushing) (y : Part) → sync_log segment x f ≡ Some y → Calm x x.task y
 calm_sync_log segment x (flushing.Puts from to written) y e = when_then (Calm x x.task) _ _ y e (λ _. calm_after_sync from to 1 x)

@@ -17,7 +17,7 @@ use Rattle.erm_machine.specs.Life.{load_tail, load_tail_to_begin, load_tail_for_
 use Rattle.erm_machine.specs.Readers.{OwnReaders, cleared, raised, cleared_of, raised_of}
 use Rattle.erm_machine.specs.Seat.{is_vacant, end_of, read_at}
 use Rattle.erm_machine.specs.Sound.{Sound}
-use Rattle.erm_machine.specs.Words.{refuses, is_clear}
+use Rattle.erm_machine.specs.Words.{refuses, is_clear, is_flusher}
 use Rattle.erm_machine.proofs.Guards.{when_then, either_way}
 use Rattle.erm_machine.proofs.Quiet.{steady_same}
 use Rattle.erm_core_ssn.proofs.ReadersSteps.{Left}
@@ -138,14 +138,19 @@ module _ (c : Core) (p : ℕ) (sound : Sound c) (t : Shared) (o : OwnReaders t p
         recalls = recalls_from (c.seats p) y over (λ commit. (ap (λ (u : Attempt). u.decision) current ∙ commit, ap (λ (u : Attempt). u.stamp) current, reads));
       }
 
-  pub store_begin_left : (value : ℕ) (pl : Place) (y : Part) → (c.seats p).place ≡ pl → store_begin value (c.seats p) pl ≡ Some y → Left c t p y
+  pub store_begin_left : (value : ℕ) (pl : Place) (y : Part) → (c.seats p).place ≡ pl → store_begin p value (c.seats p) pl ≡ Some y → Left c t p y
   store_begin_left value (Begun tail) y at e =
       when_then (Left c t p) _ _ y e (λ _. moves_on _ (Begun tail) at tt tt tt refl refl refl (same_raises _ (Begun tail) at tt refl))
   store_begin_left value (Active tail) y at e =
       when_then (Left c t p) _ _ y e (λ g.
       let all = ended_all (c.seats p).current (c.seats p).task (end_of (c.seats p).task) refl (and_parts _ _ g).1 in
       let was = clears (Active tail) at tt in
-      ends_over _ Abort refl refl (omega (arith, all, was)) (λ (no : Abort ≡ Commit). absurd (cc)) (λ commit. absurd (undecided (Active tail) at tt commit)))
+      either_way (Left c t p) (is_flusher p) _ _
+      (λ _. record {
+        own = own_empty t p (c.seats p) _ refl (omega (arith, all, was)) o.over o;
+        recalls = recalls_from (c.seats p) _ refl (λ commit. absurd (undecided (Active tail) at tt commit));
+      })
+      (λ _. ends_over _ Abort refl refl (omega (arith, all, was)) (λ (no : Abort ≡ Commit). absurd (cc)) (λ commit. absurd (undecided (Active tail) at tt commit))))
   store_begin_left value (Decided tail stamp) y at e =
       when_then (Left c t p) _ _ y e (λ g.
       leaves _ tail stamp at refl refl refl (ended_all (c.seats p).current (c.seats p).task (end_of (c.seats p).task) refl (and_parts _ _ g).1))

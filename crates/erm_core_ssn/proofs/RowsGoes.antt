@@ -9,7 +9,6 @@ use Rattle.erm_machine.specs.declared.event.Counter.{Counter}
 use Rattle.erm_machine.specs.declared.event.Counter.TheVariants.{Objects, Cells}
 use Rattle.erm_machine.specs.declared.part.Flushing.{Flushing}
 use Rattle.erm_machine.specs.declared.part.Flushing.TheVariants as flushing
-use Rattle.erm_machine.specs.declared.part.GatheredBlock.{GatheredBlock}
 use Rattle.erm_machine.specs.declared.part.Part.{Part}
 use Rattle.erm_machine.specs.declared.place.Place.{Place}
 use Rattle.erm_machine.specs.declared.place.Place.TheVariants.{Active, Decided}
@@ -23,7 +22,7 @@ use Rattle.erm_machine.specs.Flushing.{load_flushed, gathered_word, load_ring, w
 use Rattle.erm_machine.specs.Life.{load_tail_to_gather, load_tail_for_horizon, load_begin, after_clear, load_state, join}
 use Rattle.erm_machine.specs.Reading.{entered, load_entry, set_reader, after_cut, load_walked_stamp, load_walked_link, load_cell, detached, load_detached, load_counter}
 use Rattle.erm_machine.specs.Seat.{is_active, is_decided, may_start}
-use Rattle.erm_machine.specs.Settling.{load_flushed_to_settle, load_read_entry, load_readers, load_settled_stamp, filled, store_ring, raise_reader, mark_overwritten, store_succ, store_overwriter, clear_reader}
+use Rattle.erm_machine.specs.Settling.{may_settle, load_flushed_to_settle, load_read_entry, load_readers, load_settled_stamp, filled, store_ring, raise_reader, mark_overwritten, store_succ, store_overwriter, clear_reader}
 use Rattle.erm_machine.specs.Tasks.{TaskFits}
 use Rattle.erm_machine.specs.Written.{copied, Copying}
 use Rattle.erm_machine.proofs.Guards.{when_then, some_then, if_then, either_way}
@@ -260,27 +259,33 @@ goes_clear_reader v x t (Some c) y fits e =
     when_then (Goes x t) _ _ y e (λ g.
     goes_task x t _ (step_end x.place x.current t _ _ _ _ fits (and_parts _ _ (and_parts _ _ (and_parts _ _ (and_parts _ _ g).0).0).0).0))
 
--- the flush seat's own fields change; a settle begins
-goes_to_settle : (found : ℕ) (x : Part) (t : Task) → x.task ≡ t → Goes x t (load_flushed_to_settle found x t)
-goes_to_settle found x task.Rest same = goes_full x _ _ tt (search (full_if, full_from))
-goes_to_settle found x t same = goes_stay x _ x refl refl refl refl same
+-- the flush seat's own fields change; a settle begins, or begins anew
+settle_full : (t : Task) → may_settle t ≡ true → IsFull t
+settle_full (task.Ends raised ended step cleared) e = absurd (cc)
+settle_full task.Fetched e = absurd (cc)
+settle_full (task.Copies w) e = absurd (cc)
+settle_full t e = record { full = tt }
 
-goes_flushing : (x : Part) (f : Flushing) (ws : List ℕ) (bs : List GatheredBlock) (to synced : ℕ) →
-    Goes x x.task (record x { flushing = f; words = ws; gathered = bs; gathered_to = to; synced = synced })
-goes_flushing x f ws bs to synced = goes_stay x x.task _ refl refl refl refl refl
+goes_refl : (x : Part) → Goes x x.task x
+goes_refl x = goes_stay x x.task x refl refl refl refl refl
+
+goes_to_settle : (found : ℕ) (x : Part) → Goes x x.task (load_flushed_to_settle found x)
+goes_to_settle found x =
+    either_way (Goes x x.task) _ _ _
+    (λ g. goes_task x x.task _ (step_full x.place _ _ (settle_full x.task (and_parts _ _ (and_parts _ _ g).0).1) (full_from _ tt))) (λ _. goes_refl x)
+
+goes_flushing : (x : Part) (f : Flushing) (to synced : ℕ) → Goes x x.task (record x { flushing = f; gathered_to = to; synced = synced })
+goes_flushing x f to synced = goes_stay x x.task _ refl refl refl refl refl
 
 pub goes_load_flushed : (found : ℕ) (x : Part) (f : Flushing) (y : Part) → load_flushed found x f ≡ Some y → Goes x x.task y
-goes_load_flushed found x (flushing.Tail tail) y e = some_then (Goes x x.task) _ y e (goes_flushing x _ _ _ _ _)
-goes_load_flushed found x _ y e = when_then (Goes x x.task) _ _ y e (λ _. goes_to_settle found x x.task refl)
+goes_load_flushed found x (flushing.Tail tail) y e = some_then (Goes x x.task) _ y e (goes_flushing x _ _ _)
+goes_load_flushed found x _ y e = when_then (Goes x x.task) _ _ y e (λ _. goes_to_settle found x)
 
 goes_if : (x : Part) (t : Task) (b : Bool) (l r : Part) → Goes x t l → Goes x t r → Goes x t (if b then l else r)
 goes_if x t b l r f g = either_way (Goes x t) b l r (λ _. f) (λ _. g)
 
-goes_gathered : (tail from block next end w : ℕ) (x : Part) → Goes x x.task (gathered_word tail from block next end w x)
-goes_gathered tail from block next end w x = either_way (Goes x x.task) _ _ _ (λ _. goes_flushing x _ _ _ _ _) (λ _. goes_flushing x _ _ _ _ _)
-
-goes_refl : (x : Part) → Goes x x.task x
-goes_refl x = goes_stay x x.task x refl refl refl refl refl
+goes_gathered : (tail from block next end : ℕ) (x : Part) → Goes x x.task (gathered_word tail from block next end x)
+goes_gathered tail from block next end x = either_way (Goes x x.task) _ _ _ (λ _. goes_flushing x _ _ _) (λ _. goes_flushing x _ _ _)
 
 pub goes_load_ring : (at found : ℕ) (x : Part) (f : Flushing) (y : Part) → load_ring at found x f ≡ Some y → Goes x x.task y
 goes_load_ring at found x (flushing.Gathers tail from block next end) y e =
@@ -288,12 +293,12 @@ goes_load_ring at found x (flushing.Gathers tail from block next end) y e =
 goes_load_ring at found x _ y e = absurd (cc)
 
 pub goes_write_log : (segment : ℕ) (x : Part) (f : Flushing) (y : Part) → write_log segment x f ≡ Some y → Goes x x.task y
-goes_write_log segment x (flushing.Gathers tail from block next end) y e = when_then (Goes x x.task) _ _ y e (λ _. goes_flushing x _ _ _ _ _)
-goes_write_log segment x (flushing.Puts from to written) y e = when_then (Goes x x.task) _ _ y e (λ _. goes_flushing x _ _ _ _ _)
+goes_write_log segment x (flushing.Gathers tail from block next end) y e = when_then (Goes x x.task) _ _ y e (λ _. goes_flushing x _ _ _)
+goes_write_log segment x (flushing.Puts from to written) y e = when_then (Goes x x.task) _ _ y e (λ _. goes_flushing x _ _ _)
 goes_write_log segment x _ y e = absurd (cc)
 
 goes_after_sync : (from to synced : ℕ) (x : Part) → Goes x x.task (after_sync from to synced x)
-goes_after_sync from to synced x = either_way (Goes x x.task) _ _ _ (λ _. goes_flushing x _ _ _ _ _) (λ _. goes_flushing x _ _ _ _ _)
+goes_after_sync from to synced x = either_way (Goes x x.task) _ _ _ (λ _. goes_flushing x _ _ _) (λ _. goes_flushing x _ _ _)
 
 pub goes_sync_log : (segment : ℕ) (x : Part) (f : Flushing) (y : Part) → sync_log segment x f ≡ Some y → Goes x x.task y
 goes_sync_log segment x (flushing.Puts from to written) y e = when_then (Goes x x.task) _ _ y e (λ _. goes_after_sync from to 1 x)
@@ -301,24 +306,24 @@ goes_sync_log segment x (flushing.Syncs from to synced) y e = when_then (Goes x 
 goes_sync_log segment x _ y e = absurd (cc)
 
 pub goes_clear_ring : (at : ℕ) (x : Part) (f : Flushing) (y : Part) → clear_ring at x f ≡ Some y → Goes x x.task y
-goes_clear_ring at x (flushing.Clears next to) y e = when_then (Goes x x.task) _ _ y e (λ _. goes_flushing x _ _ _ _ _)
+goes_clear_ring at x (flushing.Clears next to) y e = when_then (Goes x x.task) _ _ y e (λ _. goes_flushing x _ _ _)
 goes_clear_ring at x _ y e = absurd (cc)
 
 pub goes_store_flushed : (value : ℕ) (x : Part) (f : Flushing) (y : Part) → store_flushed value x f ≡ Some y → Goes x x.task y
-goes_store_flushed value x (flushing.Clears next to) y e = when_then (Goes x x.task) _ _ y e (λ _. goes_flushing x _ _ _ _ _)
+goes_store_flushed value x (flushing.Clears next to) y e = when_then (Goes x x.task) _ _ y e (λ _. goes_flushing x _ _ _)
 goes_store_flushed value x _ y e = absurd (cc)
 
 pub goes_write_slot : (p : ℕ) (x : Part) (y : Part) → write_slot p x ≡ Some y → Goes x x.task y
-goes_write_slot p x y e = when_then (Goes x x.task) _ _ y e (λ _. goes_flushing x _ _ _ _ _)
+goes_write_slot p x y e = when_then (Goes x x.task) _ _ y e (λ _. goes_flushing x _ _ _)
 
 pub goes_sync_slot : (x : Part) (f : Flushing) (y : Part) → sync_slot x f ≡ Some y → Goes x x.task y
-goes_sync_slot x flushing.SlotPut y e = some_then (Goes x x.task) _ y e (goes_flushing x _ _ _ _ _)
+goes_sync_slot x flushing.SlotPut y e = some_then (Goes x x.task) _ y e (goes_flushing x _ _ _)
 goes_sync_slot x _ y e = absurd (cc)
 
 pub goes_remove_log : (segment : ℕ) (x : Part) (f : Flushing) (y : Part) → remove_log segment x f ≡ Some y → Goes x x.task y
-goes_remove_log segment x flushing.SlotSynced y e = some_then (Goes x x.task) _ y e (goes_flushing x _ _ _ _ _)
+goes_remove_log segment x flushing.SlotSynced y e = some_then (Goes x x.task) _ y e (goes_flushing x _ _ _)
 goes_remove_log segment x _ y e = absurd (cc)
 
 pub goes_sync_removal : (segment : ℕ) (x : Part) (f : Flushing) (y : Part) → sync_removal segment x f ≡ Some y → Goes x x.task y
-goes_sync_removal segment x (flushing.Removed removed) y e = when_then (Goes x x.task) _ _ y e (λ _. goes_flushing x _ _ _ _ _)
+goes_sync_removal segment x (flushing.Removed removed) y e = when_then (Goes x x.task) _ _ y e (λ _. goes_flushing x _ _ _)
 goes_sync_removal segment x _ y e = absurd (cc)

@@ -1,4 +1,4 @@
--- What a sound state has committed is a snapshot history.
+-- What a sound state has committed is a snapshot history; all of its transactions read and claim by snapshots of it.
 use Rattle.std.proofs.Common.{◌≡◌, ◌≢◌, ℕ, zero, suc, ◌+◌, ◌<◌, ◌≤◌, ◌⊎◌, ⊎_elim, Bool, true, false, List, [], ◌∷◌, length, get_or, map, Some, slice_get, refl, sym, ap, ◌∙◌, subst, inl, inr, arith}
 use Rattle.std.proofs.lemmas.Bool.{cases_eq, cases_lt}
 use Rattle.std.proofs.lemmas.Option.{same_Some}
@@ -16,12 +16,13 @@ use Rattle.erm_machine.specs.declared.attempt.Decision.TheVariants.{Commit}
 use Rattle.erm_machine.specs.Claims.{ObjectFits}
 use Rattle.erm_machine.specs.Core.{Core, Object, version_at, newest, claim_at, no_claim}
 use Rattle.erm_machine.specs.Decided.{read_of, written_of, record_of, history_of}
-use Rattle.erm_machine.specs.Facts.{all_of, Holds}
+use Rattle.erm_machine.specs.Facts.{all_of, Holds, HoldsBelow}
 use Rattle.erm_machine.specs.Lawful.{opening_rows}
-use Rattle.erm_machine.specs.Snapshot.{ReadFits}
+use Rattle.erm_machine.specs.Snapshot.{NewerFrom}
 use Rattle.erm_machine.specs.Sound.{Sound}
 use Rattle.erm_machine.proofs.Holders.{stands_at, held_once}
-use Rattle.erm_core_ssn.proofs.DecidedHistory.{∈-map, ∈-map_from, in_history, history_has}
+use Rattle.erm_machine.proofs.Histories.{history_has, in_history}
+use Rattle.erm_machine.proofs.Listed.{∈-map, ∈-map_from}
 
 -- what stands at a place of a list that was mapped
 at_map : {X Y : Type 0} (f : X → Y) (xs : List X) (i : ℕ) (v : Y) (d : X) → slice_get (map f xs) i ≡ Some v → (i < length xs) × (f (get_or xs i d) ≡ v)
@@ -132,46 +133,87 @@ module _ (c : Core) (sound : Sound c) where
         stamp = ap (λ (z : TransactionRecord). z.stamp) (sym h.is);
       }
 
-  -- no commit below the begin stamp made a newer version than the one that was read
-  read_newest : (q : ℕ) (t : Attempt) (r : Read) → t ∈ all_of (c.seats q) → r ∈ t.reads → (p : ℕ) (b : Attempt) (w : Claim) → Claims p b w r.version.oid → b.stamp < t.begin → b.stamp ≤ r.stamp
-  read_newest q t r m n p b w k less = ⊎_elim held behind (where_is p b w r.version.oid k)
+  -- a version that a transaction read or claimed: all newer ones, and all that other seats are about to install, lie at or
+  -- above its begin stamp
+  record StaysNewest (q : ℕ) (t : Attempt) (oid place stamp : ℕ) : Type 0 where
+    known : oid < OBJECT_LIMIT
+    within : place < length (c.shared.objects oid).versions
+    stamp_is : (version_at (c.shared.objects oid) place).words.stamp ≡ stamp
+    newer : NewerFrom (c.shared.objects oid) place t.begin
+    apart : (p : ℕ) → q ≢ p → HoldsBelow (c.seats p) oid t.begin → ⊥
+
+  read_stays : (q : ℕ) (t : Attempt) (r : Read) → t ∈ all_of (c.seats q) → r ∈ t.reads → StaysNewest q t r.version.oid r.version.place r.stamp
+  read_stays q t r m n =
+      let f = (sound.own q).snapshot.reads t r m n in
+      record {
+        known = f.named.object;
+        within = f.newest.within;
+        stamp_is = f.newest.stamp_is;
+        newer = f.newest.newer;
+        apart = λ p e. (sound.both q p e).snapshot.reads t r m n;
+      }
+
+  claim_stays : (q : ℕ) (t : Attempt) (w : Claim) → t ∈ all_of (c.seats q) → w ∈ t.writes → StaysNewest q t w.version.oid w.version.place w.stamp
+  claim_stays q t w m n =
+      let f = (sound.own q).marks.written t w m n in
+      record {
+        known = f.object;
+        within = f.within;
+        stamp_is = f.stamp;
+        newer = (sound.own q).snapshot.claims t w m n;
+        apart = λ p e. (sound.both q p e).snapshot.claims t w m n;
+      }
+
+  -- no commit below the begin stamp made a newer version than that one
+  none_newer : (q : ℕ) (t : Attempt) (oid place stamp : ℕ) → t ∈ all_of (c.seats q) → StaysNewest q t oid place stamp → (p : ℕ) (b : Attempt) (w : Claim) → Claims p b w oid → b.stamp < t.begin →
+      b.stamp ≤ stamp
+  none_newer q t oid place stamp m stays p b w k less = ⊎_elim held behind (where_is p b w oid k)
     where
-      o : Object
-      o = c.shared.objects r.version.oid
-
-      read : ReadFits c.shared t.begin r
-      read = (sound.own q).snapshot.reads t r m n
-
-      fits : ObjectFits c.shared.tail o
-      fits = sound.common.claims.objects r.version.oid read.named.object
+      fits : ObjectFits c.shared.tail (c.shared.objects oid)
+      fits = sound.common.claims.objects oid stays.known
 
       positive : 0 < b.stamp
       positive = (sound.own p).decided.positive b k.stands k.commit
 
-      held : AtNewest p b w r.version.oid → b.stamp ≤ r.stamp
+      held : AtNewest p b w oid → b.stamp ≤ stamp
       held a =
-          let stamp : b.stamp ≡ (c.seats p).current.stamp = ap (λ (z : Attempt). z.stamp) a.current in
+          let drawn : b.stamp ≡ (c.seats p).current.stamp = ap (λ (z : Attempt). z.stamp) a.current in
           ⊎_elim
           (λ (same : p ≡ q).
-          let own : b.stamp ≡ (c.seats q).current.stamp = stamp ∙ ap (λ i. (c.seats i).current.stamp) same in
+          let own : b.stamp ≡ (c.seats q).current.stamp = drawn ∙ ap (λ i. (c.seats i).current.stamp) same in
           let late = ((sound.own q).snapshot.past t m).drawn_later (let g = positive in omega (arith, own, g)) in
           absurd (omega (arith, own, late, less)))
           (λ (other : p ≡ q → ⊥).
-          absurd ((sound.both q p (λ e. other (sym e))).snapshot.reads t r m n ((let g = positive in omega (arith, stamp, g)), omega (arith, stamp, less), a.holds)))
+          absurd (stays.apart p (λ e. other (sym e)) ((let g = positive in omega (arith, drawn, g)), omega (arith, drawn, less), a.holds)))
           (cases_eq p q)
 
-      behind : Behind b w r.version.oid → b.stamp ≤ r.stamp
+      behind : Behind b w oid → b.stamp ≤ stamp
       behind a =
-          let stamp = a.stamp in
-          let is = read.newest.stamp_is in
+          let made = a.stamp in
+          let is = stays.stamp_is in
           ⊎_elim
-          (λ (newer : r.version.place < w.version.place + 1).
-          let late = read.newest.newer (w.version.place + 1) newer a.next in
-          absurd (omega (arith, stamp, late, less)))
-          (λ (older : w.version.place + 1 ≤ r.version.place).
-          let up = ascends c.shared.tail o (w.version.place + 1) r.version.place fits older read.newest.within in
-          omega (arith, stamp, is, up))
-          (cases_lt r.version.place (w.version.place + 1))
+          (λ (newer : place < w.version.place + 1).
+          let late = stays.newer (w.version.place + 1) newer a.next in
+          absurd (omega (arith, made, late, less)))
+          (λ (older : w.version.place + 1 ≤ place).
+          let up = ascends c.shared.tail (c.shared.objects oid) (w.version.place + 1) place fits older stays.within in
+          omega (arith, made, is, up))
+          (cases_lt place (w.version.place + 1))
+
+  -- so it is the newest one below the begin stamp
+  newest_below : (q : ℕ) (t : Attempt) (oid place stamp : ℕ) (row : List ℕ) → t ∈ all_of (c.seats q) → StaysNewest q t oid place stamp → stamp < t.begin →
+      (version_at (c.shared.objects oid) place).words.row ≡ row → IsNewestBelow (history_of c.seats) (opening_rows c.shared) oid t.begin stamp row
+  newest_below q t oid place stamp row m stays low is_row = record {
+    version =
+        subst (λ v. IsVersion (history_of c.seats) (opening_rows c.shared) oid stamp v) is_row
+        (subst (λ n. IsVersion (history_of c.seats) (opening_rows c.shared) oid n (version_at (c.shared.objects oid) place).words.row) stays.stamp_is (version_of oid place stays.known stays.within));
+    below = low;
+    newest = λ u mu makes less.
+        let by = maker u oid mu makes in
+        let is = by.stamp in
+        let h = none_newer q t oid place stamp m stays by.seat by.attempt by.claim by.claims (omega (arith, is, less)) in
+        omega (arith, is, h);
+  }
 
   -- what a claim overwrites, at its object
   claim_stamp : (q : ℕ) (t : Attempt) (w : Claim) (oid : ℕ) → Claims q t w oid → (version_at (c.shared.objects oid) w.version.place).words.stamp ≡ w.stamp
@@ -240,24 +282,23 @@ module _ (c : Core) (sound : Sound c) where
           omega (arith, others_is, is, up))
           (cases_lt w.version.place (v.version.place + 1))
 
-  -- a commit reads and overwrites by the rules of snapshot isolation
-  read_snapshot : (q : ℕ) (t : Attempt) (r : Read) → t ∈ all_of (c.seats q) → r ∈ t.reads
+  -- each transaction reads and claims by the rules of snapshot isolation, whether it commits or not
+  pub read_snapshot : (q : ℕ) (t : Attempt) (r : Read) → t ∈ all_of (c.seats q) → r ∈ t.reads
       → IsNewestBelow (history_of c.seats) (opening_rows c.shared) r.version.oid t.begin r.stamp r.row
   read_snapshot q t r m n =
       let f = (sound.own q).snapshot.reads t r m n in
-      record {
-        version =
-            subst (λ row. IsVersion (history_of c.seats) (opening_rows c.shared) r.version.oid r.stamp row) f.row
-            (subst (λ stamp. IsVersion (history_of c.seats) (opening_rows c.shared) r.version.oid stamp (version_at (c.shared.objects r.version.oid) r.version.place).words.row) f.newest.stamp_is
-            (version_of r.version.oid r.version.place f.named.object f.newest.within));
-        below = f.newest.below;
-        newest = λ u mu makes less.
-            let by = maker u r.version.oid mu makes in
-            let is = by.stamp in
-            let h = read_newest q t r m n by.seat by.attempt by.claim by.claims (omega (arith, is, less)) in
-            omega (arith, is, h);
-      }
+      newest_below q t r.version.oid r.version.place r.stamp r.row m (read_stays q t r m n) f.newest.below f.row
 
+  pub claim_snapshot : (q : ℕ) (t : Attempt) (w : Claim) → t ∈ all_of (c.seats q) → w ∈ t.writes
+      → IsNewestBelow (history_of c.seats) (opening_rows c.shared) w.version.oid t.begin w.stamp w.base
+  claim_snapshot q t w m n =
+      newest_below q t w.version.oid w.version.place w.stamp w.base m (claim_stays q t w m n) ((sound.own q).written.first t w m n) (sym ((sound.own q).written.rows t w m n).base)
+
+  -- a claim that isn't set has the row that it overwrites
+  pub claim_kept : (q : ℕ) (t : Attempt) (w : Claim) → t ∈ all_of (c.seats q) → w ∈ t.writes → w.is_set ≡ false → w.row ≡ w.base
+  claim_kept q t w m n = ((sound.own q).written.rows t w m n).kept
+
+  -- a commit overwrites by those rules
   write_snapshot : (q : ℕ) (t : Attempt) (w : Claim) → t ∈ all_of (c.seats q) → t.decision ≡ Commit → w ∈ t.writes
       → OverwritesNewest (history_of c.seats) (opening_rows c.shared) (record_of q t) (written_of w)
   write_snapshot q t w m commit n =

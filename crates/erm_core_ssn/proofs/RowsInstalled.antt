@@ -33,7 +33,7 @@ use Rattle.erm_machine.specs.Written.{copied, copied_at, CellFits, OwnWritten}
 use Rattle.erm_machine.proofs.Frames.{put_same}
 use Rattle.erm_machine.proofs.Guards.{when_then, if_then, either_way}
 use Rattle.erm_machine.proofs.Objects.{Extends, at_push-new}
-use Rattle.erm_core_ssn.proofs.DecidedHistory.{∈-map, ∈-either}
+use Rattle.erm_machine.proofs.Listed.{∈-either, ∈-map}
 use Rattle.erm_core_ssn.proofs.MarksLists.{∈-last, ∈-take}
 use Rattle.erm_core_ssn.proofs.RowsLists.{∈-drop, front_whole}
 use Rattle.erm_core_ssn.proofs.RowsSteps.{Left, ClaimOk, ok_at, over_at, ok_less, own_from, adds_own}

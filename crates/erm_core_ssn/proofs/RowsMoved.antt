@@ -23,6 +23,7 @@ use Rattle.erm_machine.specs.Life.{load_tail, load_tail_to_begin, add_tail, stor
 use Rattle.erm_machine.specs.Seat.{is_decided, is_vacant}
 use Rattle.erm_machine.specs.Sound.{Sound}
 use Rattle.erm_machine.specs.Tasks.{TaskFits}
+use Rattle.erm_machine.specs.Words.{is_flusher}
 use Rattle.erm_machine.specs.Written.{copied, copied_at, Copying, OwnWritten}
 use Rattle.erm_machine.proofs.Guards.{when_then, either_way}
 use Rattle.erm_core_ssn.proofs.MarksLists.{∈-last}
@@ -118,10 +119,12 @@ module _ (c : Core) (p : ℕ) (r : Shared) (sound : Sound c) where
   add_tail_own size (Sealing tail) y at e own = when_then (OwnWritten r) _ _ y e (λ _. goes_own r (c.seats p) _ (drawn_goes _ tail at refl refl refl refl refl refl) own)
   add_tail_own size _ y at e own = absurd (cc)
 
-  pub store_begin_own : (value : ℕ) (pl : Place) (y : Part) → (c.seats p).place ≡ pl → store_begin value (c.seats p) pl ≡ Some y → OwnWritten r (c.seats p) → OwnWritten r y
+  pub store_begin_own : (value : ℕ) (pl : Place) (y : Part) → (c.seats p).place ≡ pl → store_begin p value (c.seats p) pl ≡ Some y → OwnWritten r (c.seats p) → OwnWritten r y
   store_begin_own value (Begun tail) y at e own = when_then (OwnWritten r) _ _ y e (λ _. moves_own _ refl refl refl refl (at_rest (Begun tail) at) own)
   store_begin_own value (Active tail) y at e own =
-      when_then (OwnWritten r) _ _ y e (λ _. over_own r (c.seats p) _ Abort (λ h. absurd (cc)) (sound.own p).claims.once refl refl (λ h. h) refl own)
+      when_then (OwnWritten r) _ _ y e (λ _.
+      either_way (OwnWritten r) (is_flusher p) _ _ (λ _. none_own r _ refl (λ h. absurd (cc)) (λ h. h) own.spare (λ t m. over_at r (c.seats p) own t m))
+      (λ _. over_own r (c.seats p) _ Abort (λ h. absurd (cc)) (sound.own p).claims.once refl refl (λ h. h) refl own))
   store_begin_own value (Decided tail stamp) y at e own =
       when_then (OwnWritten r) _ _ y e (λ _.
       goes_own r (c.seats p) _ (goes_moves (c.seats p) (c.seats p).task _ refl refl refl

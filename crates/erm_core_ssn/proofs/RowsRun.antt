@@ -8,7 +8,8 @@ use Rattle.erm_model.specs.SerialOrder.{ComesBefore, IsSerialOrder}
 use Rattle.erm_model.specs.History.{History, IsSnapshot, IsCertified, IsMade, IsVersion, IsNewestBelow, HasNewestRows, FindsItsRows, RunsSerially, Makes, after_writes, rows_after, rank_of}
 use Rattle.erm_model.specs.Rows.{Rows, set_row}
 use Rattle.erm_model.proofs.Members.{none_in_nil, ∈-behind}
-use Rattle.erm_core_ssn.proofs.Members.{∈-head, ∈-cons, TellsApart, TellsApart-tail, TellsApart-head, one_element}
+use Rattle.erm_machine.proofs.Listed.{∈-cons, ∈-head}
+use Rattle.erm_core_ssn.proofs.Members.{TellsApart, TellsApart-tail, TellsApart-head, one_element}
 use Rattle.erm_core_ssn.proofs.Orders.{ComesBefore-asym, IsCut, first_cut, next_cut, has_had_turn, no_turn_twice}
 use Rattle.erm_core_ssn.proofs.Forward.{Reads, goes_forward, read_below}
 use Rattle.erm_core_ssn.proofs.Chains.{HasMaker, maker_of, one_transaction, writers_in_order, reader_in_order, read_maker, no_newer, overwritten_maker, overwritten_before}

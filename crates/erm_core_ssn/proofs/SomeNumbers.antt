@@ -8,7 +8,7 @@ use Rattle.erm_model.specs.Member.{◌∈◌}
 use Rattle.erm_model.specs.History.{History, Overwrites, OverwritesReadOf, CountsForSucc, IsSuccessorStamp}
 use Rattle.erm_core_ssn.specs.Laws.{AreSuccessorStamps, AllBelow}
 use Rattle.erm_model.proofs.Members.{none_in_nil, ∈-behind}
-use Rattle.erm_core_ssn.proofs.Members.{∈-head, ∈-cons}
+use Rattle.erm_machine.proofs.Listed.{∈-cons, ∈-head}
 
 -- a list has an element of some kind, or it has none
 abbrev HasOne : {X : Type 0} → (X → Type 0) → List X → Type 0

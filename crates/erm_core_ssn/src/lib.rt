@@ -16,7 +16,7 @@ ghost use Rattle.erm_core_ssn.specs.Laws.{DependenciesGoForward, StandsAfterItsD
 
 pub use machine::{
     commits_are_a_snapshot_history, commits_are_certified, decisions_are_kept, marks_are_kept,
-    readers_are_kept, rows_are_kept,
+    readers_are_kept, reads_and_claims_are_snapshots, rows_are_kept,
 };
 
 /// Successor stamps are unique: each history has them, and the definition leaves each transaction one number.

@@ -1,16 +1,21 @@
 //! The laws of the machine's readers, marks and decisions, and that what it commits is certified. Each law is the contract of
 //! a function that does nothing.
-ghost use Rattle.std.specs.Prelude.{◌≡◌, ◌≢◌, ℕ, Some};
+ghost use Rattle.std.specs.Prelude.{◌≡◌, ◌≢◌, ℕ, Some, false};
+ghost use Rattle.erm_machine.specs.declared.attempt.Attempt.{Attempt};
+ghost use Rattle.erm_machine.specs.declared.attempt.Claim.{Claim};
+ghost use Rattle.erm_machine.specs.declared.attempt.Read.{Read};
 ghost use Rattle.erm_machine.specs.declared.event.Kind.{Kind};
 ghost use Rattle.erm_machine.specs.Core.{Core};
 ghost use Rattle.erm_machine.specs.Decided.{Decided, OwnDecided, DecidedApart, history_of};
+ghost use Rattle.erm_machine.specs.Facts.{all_of};
 ghost use Rattle.erm_machine.specs.Marks.{Marks, OwnMarks};
 ghost use Rattle.erm_machine.specs.Readers.{Readers, OwnReaders};
 ghost use Rattle.erm_machine.specs.Sound.{Sound};
 ghost use Rattle.erm_machine.specs.Step.{after_event};
 ghost use Rattle.erm_machine.specs.Written.{Rowed, OwnWritten};
 ghost use Rattle.erm_machine.specs.Lawful.{opening_rows};
-ghost use Rattle.erm_model.specs.History.{IsCertified, IsSnapshot};
+ghost use Rattle.erm_model.specs.History.{IsCertified, IsNewestBelow, IsSnapshot};
+ghost use Rattle.erm_model.specs.Member.{◌∈◌};
 
 /// From a sound state each event of each seat leads to one in which the bit of a reader stands until its clearing, a committed
 /// reader has raised the reader stamp before, and each reader stamp is a creator's or a committed reader's.
@@ -58,4 +63,16 @@ pub fn commits_are_a_snapshot_history()
 /// What a sound state has committed is certified: stamps differ, and each exclusion window is open.
 pub fn commits_are_certified()
     ensures { (c : Core) → Sound c → IsCertified (history_of c.seats) }
+{}
+
+/// In a sound state each transaction of each seat, whether it has committed, was excluded, aborted or is still in progress, has
+/// read and claimed the newest versions below its begin stamp, of those that commits have made. A claim that no write has set
+/// has the row that it overwrites.
+pub fn reads_and_claims_are_snapshots()
+    ensures reads { (c : Core) → Sound c → (seat : ℕ) (t : Attempt) (r : Read) → t ∈ all_of (c.seats seat) → r ∈ t.reads
+        → IsNewestBelow (history_of c.seats) (opening_rows c.shared) r.version.oid t.begin r.stamp r.row }
+    ensures claims { (c : Core) → Sound c → (seat : ℕ) (t : Attempt) (w : Claim) → t ∈ all_of (c.seats seat) → w ∈ t.writes
+        → IsNewestBelow (history_of c.seats) (opening_rows c.shared) w.version.oid t.begin w.stamp w.base }
+    ensures kept { (c : Core) → Sound c → (seat : ℕ) (t : Attempt) (w : Claim) → t ∈ all_of (c.seats seat) → w ∈ t.writes
+        → w.is_set ≡ false → w.row ≡ w.base }
 {}

@@ -1,6 +1,8 @@
 pub mod Frames
 pub mod Guards
+pub mod Histories
 pub mod Holders
+pub mod Listed
 pub mod Local
 pub mod Objects
 pub mod Quiet

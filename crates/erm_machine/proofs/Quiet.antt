@@ -4,7 +4,6 @@ use Rattle.erm_machine.specs.declared.limits.TheConstants.{WRITE_LIMIT}
 use Rattle.erm_machine.specs.declared.attempt.Attempt.{Attempt}
 use Rattle.erm_machine.specs.declared.attempt.OwnCell.{OwnCell}
 use Rattle.erm_machine.specs.declared.part.Flushing.{Flushing}
-use Rattle.erm_machine.specs.declared.part.GatheredBlock.{GatheredBlock}
 use Rattle.erm_machine.specs.declared.part.Part.{Part}
 use Rattle.erm_machine.specs.declared.task.Task.{Task}
 use Rattle.erm_machine.specs.Begins.{horizon_of}
@@ -62,9 +61,8 @@ pub quiet_task : (x : Part) (t u : Task) → KeepsHorizon t u → Quiet x t (rec
 quiet_task x t u h = record { steady = steady_same x _ refl refl refl; seen = refl; clear = refl; horizon = h }
 
 -- the flush seat's own fields change
-pub quiet_flushing : (x : Part) (f : Flushing) (ws : List ℕ) (bs : List GatheredBlock) (to synced : ℕ) →
-    Quiet x x.task (record x { flushing = f; words = ws; gathered = bs; gathered_to = to; synced = synced })
-quiet_flushing x f ws bs to synced = record { steady = steady_same x _ refl refl refl; seen = refl; clear = refl; horizon = same_horizon x.task }
+pub quiet_flushing : (x : Part) (f : Flushing) (to synced : ℕ) → Quiet x x.task (record x { flushing = f; gathered_to = to; synced = synced })
+quiet_flushing x f to synced = record { steady = steady_same x _ refl refl refl; seen = refl; clear = refl; horizon = same_horizon x.task }
 
 -- the current transaction changes in what it reads, writes or makes
 pub record Working (t u : Attempt) : Type 0 where

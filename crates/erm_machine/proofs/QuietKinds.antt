@@ -297,19 +297,18 @@ pub q_clear_reader : (v : VersionAt) (x : Part) (t : Task) (e : Option (ℕ × �
 q_clear_reader v x t None y e = absurd (cc)
 q_clear_reader v x t (Some c) y e = when_then (Quiet x _) _ _ y e (λ _. plain_task x _ _ refl)
 
-q_to_settle : (found : ℕ) (x : Part) (t : Task) → Quiet x t (record x { task = x.task }) → x.task ≡ t → Quiet x t (load_flushed_to_settle found x t)
-q_to_settle found x task.Rest q same = to_plain x _ _ (search (plain_if, plain_from))
-q_to_settle found x _ q same = q
+q_to_settle : (found : ℕ) (x : Part) → Quiet x x.task (load_flushed_to_settle found x)
+q_to_settle found x = either_way (Quiet x x.task) _ _ _ (λ _. plain_task x _ _ refl) (λ _. quiet_refl x)
 
 pub q_load_flushed : (found : ℕ) (x : Part) (f : Flushing) (y : Part) → load_flushed found x f ≡ Some y → Quiet x x.task y
-q_load_flushed found x (flushing.Tail tail) y e = some_then (Quiet x x.task) _ y e (quiet_flushing x _ _ _ _ _)
-q_load_flushed found x _ y e = when_then (Quiet x x.task) _ _ y e (λ _. q_to_settle found x x.task (quiet_refl x) refl)
+q_load_flushed found x (flushing.Tail tail) y e = some_then (Quiet x x.task) _ y e (quiet_flushing x _ _ _)
+q_load_flushed found x _ y e = when_then (Quiet x x.task) _ _ y e (λ _. q_to_settle found x)
 
 quiet_if : (x : Part) (t : Task) (b : Bool) (l r : Part) → Quiet x t l → Quiet x t r → Quiet x t (if b then l else r)
 quiet_if x t b l r f g = either_way (Quiet x t) b l r (λ _. f) (λ _. g)
 
-q_gathered : (tail from block next end w : ℕ) (x : Part) → Quiet x x.task (gathered_word tail from block next end w x)
-q_gathered tail from block next end w x = either_way (Quiet x x.task) _ _ _ (λ _. quiet_flushing x _ _ _ _ _) (λ _. quiet_flushing x _ _ _ _ _)
+q_gathered : (tail from block next end : ℕ) (x : Part) → Quiet x x.task (gathered_word tail from block next end x)
+q_gathered tail from block next end x = either_way (Quiet x x.task) _ _ _ (λ _. quiet_flushing x _ _ _) (λ _. quiet_flushing x _ _ _)
 
 pub q_load_ring : (at found : ℕ) (x : Part) (f : Flushing) (y : Part) → load_ring at found x f ≡ Some y → Quiet x x.task y
 q_load_ring at found x (flushing.Gathers tail from block next end) y e =
@@ -318,12 +317,12 @@ q_load_ring at found x (flushing.Gathers tail from block next end) y e =
 q_load_ring at found x _ y e = absurd (cc)
 
 pub q_write_log : (segment : ℕ) (x : Part) (f : Flushing) (y : Part) → write_log segment x f ≡ Some y → Quiet x x.task y
-q_write_log segment x (flushing.Gathers tail from block next end) y e = when_then (Quiet x x.task) _ _ y e (λ _. quiet_flushing x _ _ _ _ _)
-q_write_log segment x (flushing.Puts from to written) y e = when_then (Quiet x x.task) _ _ y e (λ _. quiet_flushing x _ _ _ _ _)
+q_write_log segment x (flushing.Gathers tail from block next end) y e = when_then (Quiet x x.task) _ _ y e (λ _. quiet_flushing x _ _ _)
+q_write_log segment x (flushing.Puts from to written) y e = when_then (Quiet x x.task) _ _ y e (λ _. quiet_flushing x _ _ _)
 q_write_log segment x _ y e = absurd (cc)
 
 q_after_sync : (from to synced : ℕ) (x : Part) → Quiet x x.task (after_sync from to synced x)
-q_after_sync from to synced x = either_way (Quiet x x.task) _ _ _ (λ _. quiet_flushing x _ _ _ _ _) (λ _. quiet_flushing x _ _ _ _ _)
+q_after_sync from to synced x = either_way (Quiet x x.task) _ _ _ (λ _. quiet_flushing x _ _ _) (λ _. quiet_flushing x _ _ _)
 
 pub q_sync_log : (segment : ℕ) (x : Part) (f : Flushing) (y : Part) → sync_log segment x f ≡ Some y → Quiet x x.task y
 q_sync_log segment x (flushing.Puts from to written) y e = when_then (Quiet x x.task) _ _ y e (λ _. q_after_sync from to 1 x)
@@ -331,26 +330,26 @@ q_sync_log segment x (flushing.Syncs from to synced) y e = when_then (Quiet x x.
 q_sync_log segment x _ y e = absurd (cc)
 
 pub q_clear_ring : (at : ℕ) (x : Part) (f : Flushing) (y : Part) → clear_ring at x f ≡ Some y → Quiet x x.task y
-q_clear_ring at x (flushing.Clears next to) y e = when_then (Quiet x x.task) _ _ y e (λ _. quiet_flushing x _ _ _ _ _)
+q_clear_ring at x (flushing.Clears next to) y e = when_then (Quiet x x.task) _ _ y e (λ _. quiet_flushing x _ _ _)
 q_clear_ring at x _ y e = absurd (cc)
 
 pub q_store_flushed : (value : ℕ) (x : Part) (f : Flushing) (y : Part) → store_flushed value x f ≡ Some y → Quiet x x.task y
-q_store_flushed value x (flushing.Clears next to) y e = when_then (Quiet x x.task) _ _ y e (λ _. quiet_flushing x _ _ _ _ _)
+q_store_flushed value x (flushing.Clears next to) y e = when_then (Quiet x x.task) _ _ y e (λ _. quiet_flushing x _ _ _)
 q_store_flushed value x _ y e = absurd (cc)
 
 pub q_write_slot : (seat : ℕ) (x : Part) (y : Part) → write_slot seat x ≡ Some y → Quiet x x.task y
-q_write_slot seat x y e = when_then (Quiet x x.task) _ _ y e (λ _. quiet_flushing x _ _ _ _ _)
+q_write_slot seat x y e = when_then (Quiet x x.task) _ _ y e (λ _. quiet_flushing x _ _ _)
 
 pub q_sync_slot : (x : Part) (f : Flushing) (y : Part) → sync_slot x f ≡ Some y → Quiet x x.task y
-q_sync_slot x flushing.SlotPut y e = some_then (Quiet x x.task) _ y e (quiet_flushing x _ _ _ _ _)
+q_sync_slot x flushing.SlotPut y e = some_then (Quiet x x.task) _ y e (quiet_flushing x _ _ _)
 q_sync_slot x _ y e = absurd (cc)
 
 pub q_remove_log : (segment : ℕ) (x : Part) (f : Flushing) (y : Part) → remove_log segment x f ≡ Some y → Quiet x x.task y
-q_remove_log segment x flushing.SlotSynced y e = some_then (Quiet x x.task) _ y e (quiet_flushing x _ _ _ _ _)
+q_remove_log segment x flushing.SlotSynced y e = some_then (Quiet x x.task) _ y e (quiet_flushing x _ _ _)
 q_remove_log segment x _ y e = absurd (cc)
 
 pub q_sync_removal : (segment : ℕ) (x : Part) (f : Flushing) (y : Part) → sync_removal segment x f ≡ Some y → Quiet x x.task y
-q_sync_removal segment x (flushing.Removed removed) y e = when_then (Quiet x x.task) _ _ y e (λ _. quiet_flushing x _ _ _ _ _)
+q_sync_removal segment x (flushing.Removed removed) y e = when_then (Quiet x x.task) _ _ y e (λ _. quiet_flushing x _ _ _)
 q_sync_removal segment x _ y e = absurd (cc)
 
 -- kinds that leave the seat at its place, and see no other seat's words

@@ -1,5 +1,5 @@
 -- Cells: each cell drawn is in one place.
-use Rattle.std.specs.Prelude.{◌≡◌, ℕ, ◌+◌, ◌<◌, ◌==◌, nat_lt, true, ◌&&◌, if◌then◌else◌, drop, length, count_by, is_none}
+use Rattle.std.specs.Prelude.{◌≡◌, ℕ, ◌+◌, ◌<◌, ◌==◌, nat_lt, true, ◌&&◌, if◌then◌else◌, drop, length, count_by, is_none, None}
 use Rattle.erm_machine.specs.declared.limits.TheConstants.{ANNOUNCERS, OBJECT_LIMIT}
 use Rattle.erm_machine.specs.declared.part.Part.{Part}
 use Rattle.erm_machine.specs.declared.task.Task.{Task}
@@ -28,5 +28,21 @@ WantsCell x task.Pool = (0 < length x.current.writes) × (is_none (claim_at x.cu
 WantsCell x task.Refused = (0 < length x.current.writes) × (is_none (claim_at x.current (last_claim x.current)).own ≡ true)
 WantsCell x _ = Unit {0}
 
+-- where the newest claim may still be without a cell
+abbrev pub MayWant : Task → Type 0
+MayWant (task.Claimed version) = Unit {0}
+MayWant (task.Horizon version least next) = Unit {0}
+MayWant (task.CutWalks version horizon) = Unit {0}
+MayWant (task.CutPassed version horizon) = Unit {0}
+MayWant (task.CutFound version horizon) = Unit {0}
+MayWant (task.Detaches version) = Unit {0}
+MayWant task.Draws = Unit {0}
+MayWant task.Pool = Unit {0}
+MayWant task.Refused = Unit {0}
+MayWant _ = ⊥
+
+-- Each claim that is held has its own cell, but for the newest one while it is made.
 pub record OwnCells (x : Part) : Type 0 where
   pub wants : WantsCell x x.task
+  pub bare : (k : ℕ) → k < length x.current.writes → (claim_at x.current k).held ≡ true → (claim_at x.current k).own ≡ None
+      → (k ≡ last_claim x.current) × MayWant x.task

@@ -12,7 +12,7 @@ use Rattle.erm_machine.specs.Words.{head_of, owner_of, number_of}
 
 -- An object has versions whose stamps ascend and lie below the tail; the entry names the newest one's cell, and without an
 -- owner nothing else. The version before another is marked with that one's stamp; the newest one of an entry without owner
--- isn't marked.
+-- isn't marked, and has no overwriter's successor stamp.
 pub record ObjectFits (now : ℕ) (o : Object) : Type 0 where
   pub some : 0 < length o.versions
   pub ascend : (i j : ℕ) → i < j → j < length o.versions → (version_at o i).words.stamp < (version_at o j).words.stamp
@@ -22,6 +22,7 @@ pub record ObjectFits (now : ℕ) (o : Object) : Type 0 where
   pub plain : owner_of o.entry ≡ 0 → o.entry ≡ head_of o.entry
   pub marked : (i : ℕ) → i + 1 < length o.versions → (version_at o i).words.overwriter ≡ (version_at o (i + 1)).words.stamp
   pub unmarked : owner_of o.entry ≡ 0 → (version_at o (newest o)).words.overwriter ≡ 0
+  pub unset : owner_of o.entry ≡ 0 → (version_at o (newest o)).words.overwriter_succ ≡ 0
 
 pub record Claims (s : Shared) : Type 0 where
   pub objects : (oid : ℕ) → oid < OBJECT_LIMIT → ObjectFits s.tail (s.objects oid)
@@ -43,8 +44,10 @@ pub record InstallFits (t : Attempt) (o : Object) (w : Claim) (step : ℕ) : Typ
   pub unread : 2 < step → (own_words w.own).readers ≡ 0
   pub reader_stamp : 3 < step → (own_words w.own).reader_stamp ≡ t.stamp
   pub unmarked : 4 < step → (own_words w.own).overwriter ≡ 0
+  pub unset : 5 < step → (own_words w.own).overwriter_succ ≡ 0
   pub succ : 6 < step → (version_at o w.version.place).words.overwriter_succ ≡ t.succ
   pub mark : 7 < step → (version_at o w.version.place).words.overwriter ≡ t.stamp
+  pub no_succ : step < 7 → (version_at o w.version.place).words.overwriter_succ ≡ 0
   pub no_mark : step < 8 → (version_at o w.version.place).words.overwriter ≡ 0
 
 -- how far the install of the claim at a place has come: 0 for those that wait for their turn

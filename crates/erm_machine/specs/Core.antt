@@ -31,10 +31,12 @@ pub record Object : Type 0 where
   pub cut : ℕ
 
 -- what several seats change: the tail and the ranges drawn below it since this opening, in order; the place below which
--- all is synced; the counters; the objects; the ring of the log's last words. The log of this opening begins at `opening`,
--- and it has `cell_limit` cells.
+-- all is synced; the counters; the objects; the ring of the log's last words. The log of this opening begins at `opening`
+-- and is written as this run, the objects that it makes have numbers from `first` on, and it has `cell_limit` cells.
 pub record Shared : Type 0 where
   pub opening : ℕ
+  pub run : ℕ
+  pub first : ℕ
   pub cell_limit : ℕ
   pub tail : ℕ
   pub log : List Span
@@ -205,8 +207,6 @@ fresh_part place run tail = record {
   spare = [];
   run = run;
   flushing = Still;
-  words = [];
-  gathered = [];
   gathered_to = tail;
   synced = tail;
 }
@@ -234,6 +234,8 @@ abbrev pub opening_state : ℕ → Rows → (tail run first cells : ℕ) → Cor
 opening_state sessions rows tail run first cells = record {
   shared = record {
     opening = tail;
+    run = run;
+    first = first;
     cell_limit = cells;
     tail = tail;
     log = [];

@@ -1,10 +1,9 @@
 -- Steps of the flush seat: gather, the disk's calls of a flush turn and of a checkpoint, and what follows them.
-use Rattle.std.specs.Prelude.{ℕ, ◌+◌, ◌-◌, ◌/◌, ◌%◌, not, ◌&&◌, ◌||◌, ◌==◌, nat_lt, nat_le, if◌then◌else◌, List, [], ◌∷◌, ◌++◌, Option, Some, None}
+use Rattle.std.specs.Prelude.{ℕ, ◌+◌, ◌-◌, ◌/◌, ◌%◌, not, ◌&&◌, ◌||◌, ◌==◌, nat_lt, nat_le, if◌then◌else◌, max, Option, Some, None}
 use Rattle.erm_model.specs.declared.header.TheConstants.{RUN_UNIT, SIZE_UNIT}
 use Rattle.erm_machine.specs.declared.limits.TheConstants.{LOG_END, RING_WORDS, SEGMENT_WORDS}
 use Rattle.erm_machine.specs.declared.part.Flushing.{Flushing}
 use Rattle.erm_machine.specs.declared.part.Flushing.TheVariants as flushing
-use Rattle.erm_machine.specs.declared.part.GatheredBlock.{GatheredBlock}
 use Rattle.erm_machine.specs.declared.part.Part.{Part}
 use Rattle.erm_machine.specs.Settling.{load_flushed_to_settle}
 use Rattle.erm_machine.specs.Life.{is_between}
@@ -17,36 +16,27 @@ with_flushing f x = record x { flushing = f }
 
 -- GATHER begins at the place below which all is synced. A session loads that place to settle, or to see what is durable.
 abbrev pub load_flushed : ℕ → Part → Flushing → Option Part
-load_flushed found x (flushing.Tail tail) = Some (record x { flushing = flushing.Gathers tail found found found found; words = [] })
-load_flushed found x _ = when (not (is_vacant x.place)) (load_flushed_to_settle found x x.task)
+load_flushed found x (flushing.Tail tail) = Some (with_flushing (flushing.Gathers tail found found found found) x)
+load_flushed found x _ = when (not (is_vacant x.place)) (load_flushed_to_settle found x)
 
 -- the size that a header spells
 abbrev pub size_of : ℕ → ℕ
 size_of header = header / SIZE_UNIT % (RUN_UNIT / SIZE_UNIT)
 
--- the blocks gathered with a whole one, once
-abbrev pub with_block : ℕ → List ℕ → ℕ → List GatheredBlock → List GatheredBlock
-with_block start words to bs = if nat_le to start then bs ++ record { start = start; words = words } ∷ [] else bs
-
--- a word of the block in hand, which may be its last
-abbrev pub gathered_word : (tail from block next end word : ℕ) → Part → Part
-gathered_word tail from block next end word x =
+-- a word of the block in hand, which may be its last: then the block is gathered, if it wasn't before
+abbrev pub gathered_word : (tail from block next end : ℕ) → Part → Part
+gathered_word tail from block next end x =
     if (next + 1) == end
-    then record x {
-      flushing = flushing.Gathers tail from end end end;
-      words = [];
-      gathered = with_block block (x.words ++ word ∷ []) x.gathered_to x.gathered;
-      gathered_to = if nat_le x.gathered_to block then end else x.gathered_to;
-    }
-    else record x { flushing = flushing.Gathers tail from block (next + 1) end; words = x.words ++ word ∷ [] }
+    then record x { flushing = flushing.Gathers tail from end end end; gathered_to = max x.gathered_to end }
+    else with_flushing (flushing.Gathers tail from block (next + 1) end) x
 
 -- GATHER: block by block below the tail loaded and within the ring, up to a header that is 0
 abbrev pub load_ring : ℕ → ℕ → Part → Flushing → Option Part
 load_ring at found x (flushing.Gathers tail from block next end) =
     when ((at == next) && nat_lt next LOG_END && (nat_lt next end || (nat_lt next tail && nat_lt (next - from) RING_WORDS)))
-    (if nat_lt next end then gathered_word tail from block next end found x
+    (if nat_lt next end then gathered_word tail from block next end x
     else if found == 0 then x
-    else gathered_word tail from next next (next + size_of found) found x)
+    else gathered_word tail from next next (next + size_of found) x)
 load_ring at found x _ = None
 
 -- how many segments the words from one place up to another touch

@@ -1,5 +1,6 @@
 pub mod Attached
 pub mod Begins
+pub mod Bounds
 pub mod Cells
 pub mod Chains
 pub mod Claims
@@ -10,6 +11,7 @@ pub mod Facts
 pub mod Flushing
 pub mod Lawful
 pub mod Life
+pub mod Lives
 pub mod Log
 pub mod Marks
 pub mod Numbers

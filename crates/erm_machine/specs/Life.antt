@@ -14,8 +14,8 @@ use Rattle.erm_machine.specs.declared.place.Place.TheVariants.{Idle, Begun, Anno
 use Rattle.erm_machine.specs.declared.task.Task.{Task}
 use Rattle.erm_machine.specs.declared.task.Task.TheVariants as task
 use Rattle.erm_machine.specs.declared.version.VersionAt.{VersionAt}
-use Rattle.erm_machine.specs.Core.{begun}
-use Rattle.erm_machine.specs.Seat.{when, saw, with_task, is_vacant, is_active, is_commit, may_start, end_of, has_number, with_range, decision_of, over}
+use Rattle.erm_machine.specs.Core.{begun, blank}
+use Rattle.erm_machine.specs.Seat.{when, saw, with_task, with_current, is_vacant, is_active, is_commit, may_start, end_of, has_number, with_range, decision_of, over}
 use Rattle.erm_machine.specs.Words.{is_session, is_flusher, refuses, is_clear, is_least_bit, without_bit}
 
 -- the number of a seat's next transaction; a pin of the flush seat takes none
@@ -71,12 +71,16 @@ abbrev pub has_ended : Attempt → Option (ℕ × ℕ × ℕ × ℕ) → Bool
 has_ended t None = false
 has_ended t (Some e) = (e.1 == length t.writes) && (e.3 == length t.reads)
 
+-- a transaction without a range is over; a pin of the flush seat leaves nothing
+abbrev pub aborted : ℕ → Part → Part
+aborted seat x = if is_flusher seat then with_current blank x else over Abort x
+
 -- BEGIN announces the tail loaded. At its end a transaction clears its begin word: one without a range is over then.
-abbrev pub store_begin : ℕ → Part → Place → Option Part
-store_begin value x (Begun tail) = when (value == tail) (record x { place = Announced tail })
-store_begin value x (Active tail) = when ((value == 0) && has_ended x.current (end_of x.task)) (over Abort (record x { place = Idle; task = task.Rest }))
-store_begin value x (Decided tail stamp) = when ((value == 0) && has_ended x.current (end_of x.task)) (record x { place = Leaving stamp; task = task.Rest })
-store_begin value x _ = None
+abbrev pub store_begin : ℕ → ℕ → Part → Place → Option Part
+store_begin seat value x (Begun tail) = when (value == tail) (record x { place = Announced tail })
+store_begin seat value x (Active tail) = when ((value == 0) && has_ended x.current (end_of x.task)) (aborted seat (record x { place = Idle; task = task.Rest }))
+store_begin seat value x (Decided tail stamp) = when ((value == 0) && has_ended x.current (end_of x.task)) (record x { place = Leaving stamp; task = task.Rest })
+store_begin seat value x _ = None
 
 -- SEAL stores 1, and after its draw the stamp. The last step of a sealed transaction stores 0: it is over.
 abbrev pub store_state : ℕ → ℕ → Part → Place → Option Part

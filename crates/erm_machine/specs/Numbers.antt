@@ -16,10 +16,11 @@ abbrev pub pools : Task → ℕ
 pools task.Pool = 1
 pools _ = 0
 
--- The counters stand at most so far above their limits that each seat may raise them once more. Numbers of cells have 24
--- bits.
+-- The counters stand at most so far above their limits that each seat may raise them once more; that of objects began at the
+-- opening's first number. Numbers of cells have 24 bits.
 pub record Counters (s : Shared) (seats : ℕ → Part) : Type 0 where
   pub limit : s.cell_limit ≤ MOST_CELLS
+  pub first : s.first ≤ s.objects_drawn
   pub objects : s.objects_drawn + total (λ x. numbers x.task) ANNOUNCERS seats ≤ OBJECT_LIMIT + ANNOUNCERS
   pub cells : s.cells_drawn + total (λ x. pools x.task) ANNOUNCERS seats ≤ s.cell_limit + ANNOUNCERS
 
@@ -27,8 +28,9 @@ pub record Counters (s : Shared) (seats : ℕ → Part) : Type 0 where
 abbrev pub made_of : Part → List ℕ
 made_of x = flat_map (λ t. t.made) x.over ++ x.current.made
 
--- what a seat made was drawn, each number once
+-- what a seat made was drawn, from the opening's first number on, each number once
 pub record OwnMade (s : Shared) (x : Part) : Type 0 where
+  pub from : (k : ℕ) → k < length (made_of x) → s.first ≤ slice_index (made_of x) k
   pub drawn : (k : ℕ) → k < length (made_of x) → slice_index (made_of x) k < s.objects_drawn
   pub once : (j k : ℕ) → j < k → k < length (made_of x) → slice_index (made_of x) j ≢ slice_index (made_of x) k
 

@@ -1,6 +1,6 @@
 -- Steps of settle: what counts for the exclusion window, the block's words, what a decided transaction leaves behind; and
 -- the end of one that aborts.
-use Rattle.std.specs.Prelude.{◌-◌, ℕ, ◌+◌, Bool, false, not, ◌&&◌, ◌||◌, ◌==◌, nat_lt, nat_le, if◌then◌else◌, [], ◌∷◌, ◌++◌, length, take, Option, Some, None}
+use Rattle.std.specs.Prelude.{◌-◌, ℕ, ◌+◌, Bool, true, false, not, ◌&&◌, ◌||◌, ◌==◌, nat_lt, nat_le, if◌then◌else◌, [], ◌∷◌, ◌++◌, length, take, Option, Some, None}
 use Rattle.erm_machine.specs.declared.limits.TheConstants.{RING_WORDS}
 use Rattle.erm_machine.specs.declared.attempt.Attempt.{Attempt}
 use Rattle.erm_machine.specs.declared.attempt.Claim.{Claim}
@@ -19,9 +19,21 @@ use Rattle.erm_machine.specs.Words.{head_of, owner_of, without_bit}
 abbrev pub has_room : ℕ → Attempt → Bool
 has_room flushed t = nat_le t.size RING_WORDS && nat_le (t.stamp - (RING_WORDS - t.size)) flushed
 
-abbrev pub load_flushed_to_settle : ℕ → Part → Task → Part
-load_flushed_to_settle found x task.Rest = with_task (if is_sealed x.place && has_room found x.current then task.Settles 0 0 else task.Rest) x
-load_flushed_to_settle found x _ = x
+-- settle may begin, or begin anew: it stores no words of the block yet
+abbrev pub may_settle : Task → Bool
+may_settle task.Rest = true
+may_settle (task.Settles reads writes) = true
+may_settle (task.ReadOwned read owner) = true
+may_settle (task.ReadClear read) = true
+may_settle (task.ReadOvertaken read overwriter) = true
+may_settle (task.ReadersLeft write bits) = true
+may_settle (task.WriteClear write) = true
+may_settle (task.WriteMade write) = true
+may_settle _ = false
+
+-- SETTLE begins, or begins anew where it waited, once the ring has room for the block
+abbrev pub load_flushed_to_settle : ℕ → Part → Part
+load_flushed_to_settle found x = if is_sealed x.place && may_settle x.task && has_room found x.current then with_task (task.Settles 0 0) x else x
 
 -- SETTLE, a version read: the entry of a version read. Where its head is that version and another seat owns it, that one is looked at.
 abbrev pub load_read_entry : ℕ → ℕ → ℕ → Part → Task → Option Part

@@ -1,4 +1,4 @@
--- Snapshot: a version read is, and stays, the newest one below the begin stamp.
+-- Snapshot: a version read or overwritten is, and stays, the newest one below the begin stamp.
 use Rattle.std.specs.Prelude.{◌≡◌, ◌≢◌, ℕ, ◌+◌, ◌<◌, ◌≤◌, true, length}
 use Rattle.erm_model.specs.Member.{◌∈◌}
 use Rattle.erm_machine.specs.declared.attempt.Attempt.{Attempt}
@@ -43,10 +43,15 @@ pub record IsPast (now drawn begin : ℕ) : Type 0 where
   pub past : begin ≤ now
   pub drawn_later : 0 < drawn → begin ≤ drawn
 
--- the reads of all of a seat's transactions, those that are over too, and the one in progress
+-- a claim: of the versions newer than the one that it overwrites none lies below the begin stamp
+abbrev pub ClaimStays : Shared → ℕ → Claim → Type 0
+ClaimStays s begin w = NewerFrom (s.objects w.version.oid) w.version.place begin
+
+-- the reads and claims of all of a seat's transactions, those that are over too, and the read in progress
 pub record OwnSnapshot (s : Shared) (x : Part) : Type 0 where
   pub past : (t : Attempt) → t ∈ all_of x → IsPast s.tail x.current.stamp t.begin
   pub reads : (t : Attempt) (r : Read) → t ∈ all_of x → r ∈ t.reads → ReadFits s t.begin r
+  pub claims : (t : Attempt) (w : Claim) → t ∈ all_of x → w ∈ t.writes → ClaimStays s t.begin w
   pub in_hand : InHand s x.current.begin x.task
 
 -- No range of the other seat below the bound holds a claim on the object of the read in progress; where another owner is
@@ -81,10 +86,11 @@ abbrev pub NoneLeft : Part → Task → ℕ → Part → Type 0
 NoneLeft x (task.ReadOwned read owner) q y = q ≢ owner → Overwriting y (read_at x.current read).version x.current.stamp → ⊥
 NoneLeft x _ q y = Unit {0}
 
--- No range of the other seat below a begin stamp holds a claim on an object that a transaction has read, or is about to
--- read. In settle none below the own stamp overwrites a version that is passed.
+-- No range of the other seat below a begin stamp holds a claim on an object that a transaction has read or claimed, or is
+-- about to read. In settle none below the own stamp overwrites a version that is passed.
 pub record Snapshot (x : Part) (q : ℕ) (y : Part) : Type 0 where
   pub reads : (t : Attempt) (r : Read) → t ∈ all_of x → r ∈ t.reads → HoldsBelow y r.version.oid t.begin → ⊥
+  pub claims : (t : Attempt) (w : Claim) → t ∈ all_of x → w ∈ t.writes → HoldsBelow y w.version.oid t.begin → ⊥
   pub in_hand : NoneInHand x.current.begin x.task q y
   pub passed : (k : ℕ) → k < passed_of x.task (length x.current.reads) → k < length x.current.reads
       → Overwriting y (read_at x.current k).version x.current.stamp → ⊥

@@ -1,14 +1,18 @@
 -- The sound state, by what a fact speaks of: what is shared, one seat, or two.
 use Rattle.std.specs.Prelude.{ℕ, ◌≢◌}
 use Rattle.erm_machine.specs.declared.part.Part.{Part}
+use Rattle.erm_model.specs.RowTransaction.{Law}
 use Rattle.erm_machine.specs.Attached.{OwnAttached}
 use Rattle.erm_machine.specs.Begins.{OwnBegins, Begins}
+use Rattle.erm_machine.specs.Bounds.{OwnBounds}
 use Rattle.erm_machine.specs.Cells.{Cells, OwnCells}
 use Rattle.erm_machine.specs.Chains.{Chains, OwnChains}
 use Rattle.erm_machine.specs.Claims.{Claims, OwnClaims}
 use Rattle.erm_machine.specs.Clear.{OwnClear, Clear}
 use Rattle.erm_machine.specs.Core.{Core, Shared}
 use Rattle.erm_machine.specs.Decided.{Decided, OwnDecided, DecidedApart}
+use Rattle.erm_machine.specs.Lawful.{Lawful}
+use Rattle.erm_machine.specs.Lives.{OwnLives}
 use Rattle.erm_machine.specs.Marks.{Marks, OwnMarks}
 use Rattle.erm_machine.specs.Numbers.{Counters, OwnMade, MadeApart}
 use Rattle.erm_machine.specs.Ranges.{Ranges, OwnRanges}
@@ -35,6 +39,8 @@ pub record Own (s : Shared) (seat : ℕ) (x : Part) : Type 0 where
   pub clear : OwnClear s x
   pub begins : OwnBegins s seat x
   pub task : OwnTask x
+  pub bounds : OwnBounds seat x
+  pub lives : OwnLives s seat x
   pub made : OwnMade s x
   pub cells : OwnCells x
   pub chains : OwnChains s x
@@ -54,9 +60,13 @@ pub record Both (x : Part) (q : ℕ) (y : Part) : Type 0 where
   pub snapshot : Snapshot x q y
   pub decided : DecidedApart x q y
 
--- The sound state. Of the parts stated in this folder, some aren't among its facts yet: the log's words and the
--- law of rows.
+-- The sound state, whatever law its rows keep. Of the parts stated in this folder the log's words aren't among its facts yet.
 pub record Sound (c : Core) : Type 0 where
   pub common : Common c.shared c.seats
   pub own : (p : ℕ) → Own c.shared p (c.seats p)
   pub both : (p q : ℕ) → p ≢ q → Both (c.seats p) q (c.seats q)
+
+-- The sound state whose rows keep a law.
+pub record SoundUnder (law : Law) (c : Core) : Type 0 where
+  pub sound : Sound c
+  pub lawful : Lawful law c.shared c.seats

@@ -40,7 +40,7 @@ reads_early seat w t = false
 abbrev pub part_after : ℕ → Kind → ℕ → Shared → Part → Option Part
 part_after seat (kind.LoadTail purpose) found s x = load_tail seat purpose found x
 part_after seat (kind.AddTail size) found s x = add_tail seat size found x x.place
-part_after seat (kind.StoreBegin value) found s x = store_begin value x x.place
+part_after seat (kind.StoreBegin value) found s x = store_begin seat value x x.place
 part_after seat (kind.StoreState value) found s x = store_state seat value x x.place
 part_after seat (kind.LoadBegin other) found s x = load_begin other found x x.task
 part_after seat (kind.LoadState other bound) found s x = load_state seat other bound found x

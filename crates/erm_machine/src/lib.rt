@@ -18,7 +18,7 @@ pub use limits::{
     ANNOUNCERS, FLUSH_SEAT, GREATEST_BLOCK, LAST_NUMBER, LEAST_BLOCK, LOG_END, MOST_CELLS,
     OBJECT_LIMIT, READ_LIMIT, RING_WORDS, SEGMENT_WORDS, SESSIONS, STOP, WRITE_LIMIT,
 };
-pub use part::{Flushing, GatheredBlock, Part};
+pub use part::{Flushing, Part};
 pub use place::Place;
 pub use task::Task;
 pub use version::{Cell, CellWord, Span, Version, VersionAt};

@@ -3,13 +3,6 @@ use crate::{Attempt, OwnCell, Place, Task};
 use erm_model::Stamp;
 use std::collections::LinkedList;
 
-/// A block of the log that the flusher has gathered.
-#[derive(Debug, Drop)]
-pub struct GatheredBlock {
-    pub start: Stamp,
-    pub words: LinkedList<u64>,
-}
-
 /// How far the flush seat has come in a flush turn or a checkpoint.
 #[derive(Clone, Copy, Debug, PartialEq, Eq)]
 pub enum Flushing {
@@ -75,11 +68,7 @@ pub struct Part {
     /// The run of the log that this opening writes.
     pub run: u64,
     pub flushing: Flushing,
-    /// The words of the block in hand.
-    pub words: LinkedList<u64>,
-    /// The blocks gathered, each once, in order.
-    pub gathered: LinkedList<GatheredBlock>,
-    /// The end of the last of them.
+    /// The end of the last block of the log that the flusher has gathered.
     pub gathered_to: Stamp,
     /// All words of the log below are known to be on the disk.
     pub synced: Stamp,

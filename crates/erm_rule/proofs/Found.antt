@@ -8,6 +8,7 @@ use Rattle.erm_layout.specs.declared.word.Word.TheVariants as word
 use Rattle.erm_layout.specs.Layout.{HasNumber}
 use Rattle.erm_layout.specs.Spots.{word_of_spot}
 use Rattle.erm_machine.specs.declared.limits.TheConstants.{ANNOUNCERS}
+use Rattle.erm_machine.specs.declared.attempt.Decision.TheVariants.{Abort}
 use Rattle.erm_machine.specs.declared.event.Kind.{Kind}
 use Rattle.erm_machine.specs.declared.event.Kind.TheVariants as kind
 use Rattle.erm_machine.specs.declared.event.TailUse.TheVariants as purpose
@@ -16,10 +17,11 @@ use Rattle.erm_machine.specs.declared.place.Place.{Place}
 use Rattle.erm_machine.specs.declared.place.Place.TheVariants.{Idle, Begun, Announced, Active, Sealing, Drawn, Sealed, Decided, Leaving}
 use Rattle.erm_machine.specs.declared.task.Task.{Task}
 use Rattle.erm_machine.specs.declared.task.Task.TheVariants as task
-use Rattle.erm_machine.specs.Core.{Core, Shared, Spot, tail_word, begin_word, state_word, spot_of, word_at}
-use Rattle.erm_machine.specs.Life.{load_tail_to_begin, load_tail_for_horizon, load_tail_to_gather, add_tail, store_begin, store_state, load_begin, load_state, decide}
+use Rattle.erm_machine.specs.Core.{Core, Shared, Spot, blank, tail_word, begin_word, state_word, spot_of, word_at}
+use Rattle.erm_machine.specs.Life.{load_tail_to_begin, load_tail_for_horizon, load_tail_to_gather, add_tail, aborted, store_begin, store_state, load_begin, load_state, decide}
+use Rattle.erm_machine.specs.Seat.{with_current, over}
 use Rattle.erm_machine.specs.Step.{part_after, stored, shared_after, moved, is_known, after_event}
-use Rattle.erm_machine.specs.Words.{put, begin_of, state_of, is_seat}
+use Rattle.erm_machine.specs.Words.{put, begin_of, state_of, is_seat, is_flusher}
 use Rattle.erm_machine.proofs.Frames.{at_cases, put_same}
 use Rattle.erm_machine.proofs.Guards.{when_then, either_way}
 use Rattle.erm_machine.proofs.QuietKinds.{quiet_kind, keeps_log}
@@ -64,11 +66,17 @@ has_drawn : (p size found : ℕ) (x : Part) (pl : Place) (y : Part) → add_tail
 has_drawn p size found x (Sealing tail) y e = when_then (Has tail 1) _ _ y e (λ _. record { begin_is = refl; state_is = refl })
 has_drawn p size found x _ y e = absurd (cc)
 
-has_begin : (value : ℕ) (x : Part) (pl : Place) (y : Part) → store_begin value x pl ≡ Some y → Has value (state_of pl) y
-has_begin value x (Begun tail) y e = when_then (Has value 0) _ _ y e (λ g. record { begin_is = sym (eqb-true value tail g); state_is = refl })
-has_begin value x (Active tail) y e = when_then (Has value 0) _ _ y e (λ g. record { begin_is = sym (eqb-true value 0 (and_parts _ _ g).0); state_is = refl })
-has_begin value x (Decided tail stamp) y e = when_then (Has value stamp) _ _ y e (λ g. record { begin_is = sym (eqb-true value 0 (and_parts _ _ g).0); state_is = refl })
-has_begin value x _ y e = absurd (cc)
+aborted_place : (p : ℕ) (x : Part) → (aborted p x).place ≡ x.place
+aborted_place p x = either_way (λ (z : Part). z.place ≡ x.place) (is_flusher p) (with_current blank x) (over Abort x) (λ _. refl) (λ _. refl)
+
+has_begin : (p value : ℕ) (x : Part) (pl : Place) (y : Part) → store_begin p value x pl ≡ Some y → Has value (state_of pl) y
+has_begin p value x (Begun tail) y e = when_then (Has value 0) _ _ y e (λ g. record { begin_is = sym (eqb-true value tail g); state_is = refl })
+has_begin p value x (Active tail) y e =
+    when_then (Has value 0) _ _ y e (λ g.
+    let same = aborted_place p (record x { place = Idle; task = task.Rest }) in
+    record { begin_is = ap begin_of same ∙ sym (eqb-true value 0 (and_parts _ _ g).0); state_is = ap state_of same })
+has_begin p value x (Decided tail stamp) y e = when_then (Has value stamp) _ _ y e (λ g. record { begin_is = sym (eqb-true value 0 (and_parts _ _ g).0); state_is = refl })
+has_begin p value x _ y e = absurd (cc)
 
 has_state : (p value : ℕ) (x : Part) (pl : Place) (y : Part) → store_state p value x pl ≡ Some y → Has (begin_of pl) value y
 has_state p value x (Active tail) y e =
@@ -96,7 +104,7 @@ own_words_after p (kind.LoadTail purpose.Begin) found s x y e = has_tail p found
 own_words_after p (kind.LoadTail purpose.Horizon) found s x y e = has_horizon found x x.task y e
 own_words_after p (kind.LoadTail purpose.Gather) found s x y e = has_gather p found x y e
 own_words_after p (kind.AddTail size) found s x y e = has_drawn p size found x x.place y e
-own_words_after p (kind.StoreBegin value) found s x y e = has_begin value x x.place y e
+own_words_after p (kind.StoreBegin value) found s x y e = has_begin p value x x.place y e
 own_words_after p (kind.StoreState value) found s x y e = has_state p value x x.place y e
 own_words_after p (kind.LoadBegin other) found s x y e = has_load_begin other found x x.task y e
 own_words_after p (kind.LoadState other bound) found s x y e = has_load_state p other bound found x y e

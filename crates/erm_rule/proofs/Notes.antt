@@ -4,6 +4,7 @@ use Rattle.std.specs.Prelude.{if◌then◌else◌}
 use Rattle.std.proofs.lemmas.Bool.{cases_eq, cases_lt}
 use Rattle.std.proofs.lemmas.List.{get_or_past}
 use Rattle.std.proofs.lemmas.Option.{same_Some}
+use Rattle.erm_machine.specs.declared.attempt.Decision.TheVariants.{Abort}
 use Rattle.erm_machine.specs.declared.event.Kind.{Kind}
 use Rattle.erm_machine.specs.declared.event.Kind.TheVariants as kind
 use Rattle.erm_machine.specs.declared.event.TailUse.TheVariants as purpose
@@ -12,12 +13,13 @@ use Rattle.erm_machine.specs.declared.place.Place.{Place}
 use Rattle.erm_machine.specs.declared.place.Place.TheVariants.{Idle, Begun, Announced, Active, Sealing, Drawn, Sealed, Decided, Leaving}
 use Rattle.erm_machine.specs.declared.task.Task.{Task}
 use Rattle.erm_machine.specs.declared.task.Task.TheVariants as task
-use Rattle.erm_machine.specs.Core.{Core, Shared}
-use Rattle.erm_machine.specs.Life.{load_tail_to_begin, load_tail_for_horizon, load_tail_to_gather, add_tail, store_begin, store_state, load_begin, load_state, noted, split, join, decide}
+use Rattle.erm_machine.specs.Core.{Core, Shared, blank}
+use Rattle.erm_machine.specs.Life.{load_tail_to_begin, load_tail_for_horizon, load_tail_to_gather, add_tail, aborted, store_begin, store_state, load_begin, load_state, noted, split, join, decide}
+use Rattle.erm_machine.specs.Seat.{with_current, over}
 use Rattle.erm_machine.specs.Sound.{Sound}
 use Rattle.erm_machine.specs.Step as step
 use Rattle.erm_machine.specs.Step.{part_after, after_event}
-use Rattle.erm_machine.specs.Words.{put}
+use Rattle.erm_machine.specs.Words.{put, is_flusher}
 use Rattle.erm_machine.proofs.Frames.{at_cases}
 use Rattle.erm_machine.proofs.Guards.{when_then, either_way}
 use Rattle.erm_machine.proofs.QuietKinds.{Moves, moves, quiet_kind}
@@ -60,11 +62,14 @@ notes_drawn : (p size found : ℕ) (x : Part) (pl : Place) (y : Part) → add_ta
 notes_drawn p size found x (Sealing tail) y e = when_then (NotesMore x) _ _ y e (λ _. same_notes x _ refl)
 notes_drawn p size found x _ y e = absurd (cc)
 
-notes_begin : (value : ℕ) (x : Part) (pl : Place) (y : Part) → store_begin value x pl ≡ Some y → NotesMore x y
-notes_begin value x (Begun tail) y e = when_then (NotesMore x) _ _ y e (λ _. same_notes x _ refl)
-notes_begin value x (Active tail) y e = when_then (NotesMore x) _ _ y e (λ _. same_notes x _ refl)
-notes_begin value x (Decided tail stamp) y e = when_then (NotesMore x) _ _ y e (λ _. same_notes x _ refl)
-notes_begin value x _ y e = absurd (cc)
+aborted_notes : (p : ℕ) (x : Part) → (aborted p x).clear ≡ x.clear
+aborted_notes p x = either_way (λ (z : Part). z.clear ≡ x.clear) (is_flusher p) (with_current blank x) (over Abort x) (λ _. refl) (λ _. refl)
+
+notes_begin : (p value : ℕ) (x : Part) (pl : Place) (y : Part) → store_begin p value x pl ≡ Some y → NotesMore x y
+notes_begin p value x (Begun tail) y e = when_then (NotesMore x) _ _ y e (λ _. same_notes x _ refl)
+notes_begin p value x (Active tail) y e = when_then (NotesMore x) _ _ y e (λ _. same_notes x _ (aborted_notes p (record x { place = Idle; task = task.Rest })))
+notes_begin p value x (Decided tail stamp) y e = when_then (NotesMore x) _ _ y e (λ _. same_notes x _ refl)
+notes_begin p value x _ y e = absurd (cc)
 
 notes_state : (p value : ℕ) (x : Part) (pl : Place) (y : Part) → store_state p value x pl ≡ Some y → NotesMore x y
 notes_state p value x (Active tail) y e = when_then (NotesMore x) _ _ y e (λ _. same_notes x _ refl)
@@ -92,7 +97,7 @@ notes_kept p (kind.LoadTail purpose.Begin) found s x y e = notes_tail p found x 
 notes_kept p (kind.LoadTail purpose.Horizon) found s x y e = notes_horizon found x x.task y e
 notes_kept p (kind.LoadTail purpose.Gather) found s x y e = notes_gather p found x y e
 notes_kept p (kind.AddTail size) found s x y e = notes_drawn p size found x x.place y e
-notes_kept p (kind.StoreBegin value) found s x y e = notes_begin value x x.place y e
+notes_kept p (kind.StoreBegin value) found s x y e = notes_begin p value x x.place y e
 notes_kept p (kind.StoreState value) found s x y e = notes_state p value x x.place y e
 notes_kept p (kind.LoadBegin other) found s x y e = notes_load_begin other found x x.task y e
 notes_kept p (kind.LoadState other bound) found s x y e = notes_look p other bound found x y e

@@ -31,6 +31,7 @@ opened_fits rows tail oid positive known = record {
   plain = λ none. omega (arith, known);
   marked = λ i within. absurd (omega (arith, within));
   unmarked = λ none. refl;
+  unset = λ none. refl;
 }
 
 pub opened_linked : (rows : Rows) (oid : ℕ) → Linked (opened_object rows oid)

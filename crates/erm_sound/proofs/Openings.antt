@@ -17,6 +17,8 @@ use Rattle.erm_machine.specs.declared.task.Task.TheVariants.{Rest}
 use Rattle.erm_machine.specs.declared.place.Place.{Place}
 use Rattle.erm_machine.specs.declared.place.Place.TheVariants.{Vacant, Idle}
 use Rattle.erm_machine.specs.Begins.{BeginsAt}
+use Rattle.erm_machine.specs.Bounds.{words_stored}
+use Rattle.erm_machine.specs.Lives.{IsBeginning, IsPin, OwnLives, in_progress}
 use Rattle.erm_machine.specs.Cells.{chain_times, own_times}
 use Rattle.erm_machine.specs.Chains.{Linked}
 use Rattle.erm_machine.specs.Claims.{ObjectFits, OwnClaims}
@@ -125,6 +127,7 @@ module _ (sessions : ℕ) (rows : Rows) (tail run first cells : ℕ) (few : sess
   own_snapshot p = record {
     past = λ t m. subst (λ (u : Attempt). IsPast tail 0 u.begin) (sym (only_blank t m)) (record { past = omega arith; drawn_later = λ _. omega arith });
     reads = λ t r m n. absurd (none_read t r m n);
+    claims = λ t w m n. absurd (none_written t w m n);
     in_hand = tt;
   }
 
@@ -153,6 +156,24 @@ module _ (sessions : ℕ) (rows : Rows) (tail run first cells : ℕ) (few : sess
     in_hand = tt;
   }
 
+  own_lives : (p : ℕ) → OwnLives (opening_state sessions rows tail run first cells).shared p ((opening_state sessions rows tail run first cells).seats p)
+  own_lives p = record {
+    run = refl;
+    opened = λ t m. absurd (none_in_nil t m);
+    opened_now = λ busy. absurd (not_busy busy);
+    sealed = λ t m drawn. absurd (let none : t.stamp ≡ 0 = ap (λ (u : Attempt). u.stamp) (only_blank t m) in omega (arith, none, drawn));
+    earlier = λ t m. absurd (none_in_nil t m);
+    numbers = λ session k none. absurd (omega (arith, none));
+    number = λ session. let none = idle_or (λ pl. in_progress pl ≡ 0) (is_taken sessions p) refl refl in omega (arith, none);
+    current = λ busy. absurd (not_busy busy);
+    left = λ beginning. absurd (idle_or (λ pl. IsBeginning pl → ⊥) (is_taken sessions p) (λ n. n) (λ n. n) beginning);
+    pins = λ flusher. refl;
+    pinned = λ flusher. idle_or IsPin (is_taken sessions p) tt tt;
+  }
+    where
+      not_busy : in_progress (if is_taken sessions p then Idle else Vacant) ≡ 1 → ⊥
+      not_busy busy = let none = idle_or (λ pl. in_progress pl ≡ 0) (is_taken sessions p) refl refl in omega (arith, none, busy)
+
   own : (p : ℕ) → Own (opening_state sessions rows tail run first cells).shared p ((opening_state sessions rows tail run first cells).seats p)
   own p = record {
     ranges = record {
@@ -171,8 +192,16 @@ module _ (sessions : ℕ) (rows : Rows) (tail run first cells : ℕ) (few : sess
       own = tt;
     };
     task = record { fits = idle_or (λ pl. TaskFits pl blank Rest) (is_taken sessions p) refl refl };
-    made = record { drawn = λ k none. absurd (omega (arith, none)); once = λ j k less none. absurd (omega (arith, none)) };
-    cells = record { wants = tt };
+    bounds = record {
+      bounded = tt;
+      stored = idle_or (λ pl. length {A = ℕ} [] ≡ words_stored pl Rest 0) (is_taken sessions p) refl refl;
+      blocks = λ t m. absurd (none_in_nil t m);
+      begin_seen = omega arith;
+      stamp_seen = omega arith;
+    };
+    lives = own_lives p;
+    made = record { from = λ k none. absurd (omega (arith, none)); drawn = λ k none. absurd (omega (arith, none)); once = λ j k less none. absurd (omega (arith, none)) };
+    cells = record { wants = tt; bare = λ k none. absurd (omega (arith, none)) };
     chains = record { named = tt; cut = tt; head = tt };
     attached = record { below = λ oid known begun. absurd (none_begun (is_taken sessions p) begun) };
     claims = own_claims p;
@@ -208,6 +237,7 @@ module _ (sessions : ℕ) (rows : Rows) (tail run first cells : ℕ) (few : sess
     };
     counters = record {
       limit = most;
+      first = omega arith;
       objects = let z = total_zeros (λ (x : Part). numbers x.task) ANNOUNCERS (opening_state sessions rows tail run first cells).seats (λ _. refl) in omega (arith, z, room);
       cells = let z = total_zeros (λ (x : Part). pools x.task) ANNOUNCERS (opening_state sessions rows tail run first cells).seats (λ _. refl) in omega (arith, z, enough);
     };
@@ -254,6 +284,7 @@ module _ (sessions : ℕ) (rows : Rows) (tail run first cells : ℕ) (few : sess
       made = record { apart = λ j k none. absurd (omega (arith, none)) };
       snapshot = record {
         reads = λ t r m n. absurd (none_read t r m n);
+        claims = λ t w m n. absurd (none_written t w m n);
         in_hand = tt;
         passed = λ k none. absurd (omega (arith, none));
         left = tt;

@@ -8,13 +8,15 @@ ghost use Rattle.erm_machine.specs.declared.event.Kind.{Kind};
 ghost use Rattle.erm_machine.specs.declared.limits.TheConstants.{MOST_CELLS, OBJECT_LIMIT, SESSIONS, STOP};
 ghost use Rattle.erm_machine.specs.Core.{Core, opening_state};
 ghost use Rattle.erm_machine.specs.Decided.{history_of};
-ghost use Rattle.erm_machine.specs.Lawful.{opening_rows};
-ghost use Rattle.erm_machine.specs.Sound.{Sound};
+ghost use Rattle.erm_machine.specs.Lawful.{DrawsLawfully, opening_rows};
+ghost use Rattle.erm_machine.specs.Sound.{Sound, SoundUnder};
 ghost use Rattle.erm_machine.specs.Step.{after_event, core_step};
 ghost use Rattle.erm_core_ssn.specs.Laws.{AllBelow};
 ghost use Rattle.erm_model.specs.History.{History, HasNewestRows, RunsSerially, rank_of, rows_after};
 ghost use Rattle.erm_model.specs.Rows.{Rows};
 ghost use Rattle.erm_model.specs.SerialOrder.{IsSerialOrder};
+
+use erm_model::RowLaw;
 
 /// From a sound state each event of each seat leads to a sound one.
 pub fn events_keep_sound()
@@ -24,6 +26,8 @@ pub fn events_keep_sound()
     erm_core_si::looks_stay_true();
     erm_core_si::begins_are_kept();
     erm_core_si::tasks_are_kept();
+    erm_core_calls::bounds_are_kept();
+    erm_core_lives::lives_are_kept();
     erm_core_cells::numbers_are_kept();
     erm_core_cells::cells_are_kept();
     erm_core_cells::chains_are_kept();
@@ -42,6 +46,15 @@ pub fn steps_keep_sound()
     events_keep_sound();
 }
 
+/// A sound state whose rows keep a law leads to such a one, where an event draws a range for a lawful transaction alone.
+pub fn events_keep_law<L: RowLaw>()
+    ensures { (c d : Core) (seat : ℕ) (kind : Kind) → SoundUnder L.law c → DrawsLawfully L.law c seat kind
+        → after_event c seat kind ≡ Some d → SoundUnder L.law d }
+{
+    events_keep_sound();
+    erm_core_lives::law_is_kept::<L>();
+}
+
 /// An opening's state is sound, where its log begins at 1 or above, and at 2^60 + 4 at most, and the first
 /// number of an object to make is at most the number of objects; rows have 16 words; and there is a cell for each object, but no
 /// more cells than there may be.
@@ -50,6 +63,15 @@ pub fn openings_are_sound()
         → first ≤ OBJECT_LIMIT → OBJECT_LIMIT ≤ cells → cells ≤ MOST_CELLS → ((oid : ℕ) → oid < OBJECT_LIMIT → length (rows oid) ≡ 16)
         → Sound (opening_state sessions rows tail run first cells) }
 {}
+
+/// An opening's state keeps a law of rows that its rows meet, where they reach no object from its first number on.
+pub fn openings_are_lawful<L: RowLaw>()
+    ensures { (sessions : ℕ) (rows : Rows) (tail run first cells : ℕ) → Sound (opening_state sessions rows tail run first cells)
+        → L.law.meets rows → ((oid : ℕ) → first ≤ oid → L.law.reach rows oid ≡ 0)
+        → SoundUnder L.law (opening_state sessions rows tail run first cells) }
+{
+    erm_core_lives::openings_are_lawful::<L>();
+}
 
 /// What a sound state has committed, run one after another in the serial order over the opening's rows: each transaction finds
 /// the rows that it read, and those that it overwrote, and in the end each object has its newest row. There is one such order.

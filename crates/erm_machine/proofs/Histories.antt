@@ -1,10 +1,9 @@
 -- Who stands in the history of an opening.
-use Rattle.std.proofs.Common.{◌≡◌, ℕ, zero, suc, ◌<◌, ◌⊎◌, ⊎_elim, true, List, [], ◌∷◌, ◌++◌, refl, ap, ◌∙◌, subst, inl, inr, arith, filter, map, option_map}
+use Rattle.std.proofs.Common.{◌≡◌, ℕ, zero, suc, ◌<◌, ⊎_elim, true, refl, ap, ◌∙◌, subst, arith, filter}
 use Rattle.std.proofs.lemmas.Bool.{cases_eq}
-use Rattle.std.proofs.lemmas.Option.{slice_get-map}
 use Rattle.erm_model.specs.declared.history.TransactionRecord.{TransactionRecord}
 use Rattle.erm_model.specs.Member.{◌∈◌}
-use Rattle.erm_model.proofs.Members.{none_in_nil, ∈-behind}
+use Rattle.erm_model.proofs.Members.{none_in_nil}
 use Rattle.erm_machine.specs.declared.limits.TheConstants.{ANNOUNCERS}
 use Rattle.erm_machine.specs.declared.attempt.Attempt.{Attempt}
 use Rattle.erm_machine.specs.declared.attempt.Decision.{Decision}
@@ -13,40 +12,7 @@ use Rattle.erm_machine.specs.declared.part.Part.{Part}
 use Rattle.erm_machine.specs.Decided.{record_of, committed_of, history_below, history_of}
 use Rattle.erm_machine.specs.Facts.{all_of}
 use Rattle.erm_machine.specs.Seat.{is_commit}
-use Rattle.erm_core_ssn.proofs.Members.{∈-head, ∈-cons, ∈-filter, ∈-filter_from}
-
--- what stands in a list that is mapped
-pub ∈-map : {X Y : Type 0} (f : X → Y) (xs : List X) (y : Y) → y ∈ map f xs → (x : X) × (x ∈ xs) × (f x ≡ y)
-∈-map f [] y m = absurd (none_in_nil y m)
-∈-map f (x ∷ xs) y m =
-    ⊎_elim
-    (λ (e : f x ≡ y). (x, ∈-head x xs, e))
-    (λ (there : y ∈ map f xs). let r = ∈-map f xs y there in (r.0, ∈-behind x xs r.0 r.1, r.2))
-    (∈-cons y (f x) (map f xs) m)
-
-pub ∈-map_from : {X Y : Type 0} (f : X → Y) (xs : List X) (x : X) → x ∈ xs → f x ∈ map f xs
-∈-map_from f xs x m = (m.0, slice_get-map f xs m.0 ∙ ap (option_map f) m.1)
-
--- what stands in two lists, one behind the other
-pub ∈-either : {X : Type 0} (xs ys : List X) (x : X) → x ∈ (xs ++ ys) → (x ∈ xs) ⊎ (x ∈ ys)
-∈-either [] ys x m = inr m
-∈-either (z ∷ xs) ys x m =
-    ⊎_elim
-    (λ (e : z ≡ x). inl (subst (λ v. v ∈ (z ∷ xs)) e (∈-head z xs)))
-    (λ (there : x ∈ (xs ++ ys)). ⊎_elim (λ (h : x ∈ xs). inl (∈-behind z xs x h)) (λ (h : x ∈ ys). inr h) (∈-either xs ys x there))
-    (∈-cons x z (xs ++ ys) m)
-
-pub ∈-second : {X : Type 0} (xs ys : List X) (x : X) → x ∈ ys → x ∈ (xs ++ ys)
-∈-second [] ys x m = m
-∈-second (z ∷ xs) ys x m = ∈-behind z (xs ++ ys) x (∈-second xs ys x m)
-
-pub ∈-first : {X : Type 0} (xs ys : List X) (x : X) → x ∈ xs → x ∈ (xs ++ ys)
-∈-first [] ys x m = absurd (none_in_nil x m)
-∈-first (z ∷ xs) ys x m =
-    ⊎_elim
-    (λ (e : z ≡ x). subst (λ v. v ∈ (z ∷ (xs ++ ys))) e (∈-head z (xs ++ ys)))
-    (λ (there : x ∈ xs). ∈-behind z (xs ++ ys) x (∈-first xs ys x there))
-    (∈-cons x z xs m)
+use Rattle.erm_machine.proofs.Listed.{∈-filter, ∈-filter_from, ∈-map, ∈-map_from, ∈-either, ∈-first, ∈-second}
 
 commit_is : (d : Decision) → is_commit d ≡ true → d ≡ Commit
 commit_is Commit e = refl

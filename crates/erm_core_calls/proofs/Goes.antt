@@ -1,0 +1,115 @@
+-- Calls go on: the step that each takes, by its place and its task.
+use Rattle.std.proofs.Common.{◌≡◌, ℕ, ◌⊎◌, true, length, refl, sym, ap, subst, inl}
+use Rattle.std.proofs.lemmas.Bool.{and_from, eq-eqb, lt-ltb, not_from_false}
+use Rattle.erm_machine.specs.declared.limits.TheConstants.{OBJECT_LIMIT, READ_LIMIT, WRITE_LIMIT}
+use Rattle.erm_machine.specs.declared.event.Kind.TheVariants as kind
+use Rattle.erm_machine.specs.declared.event.TailUse.TheVariants as purpose
+use Rattle.erm_machine.specs.declared.part.Part.{Part}
+use Rattle.erm_machine.specs.declared.place.Place.{Place}
+use Rattle.erm_machine.specs.declared.place.Place.TheVariants.{Vacant, Idle, Begun, Announced, Active, Sealing, Drawn, Sealed, Decided, Leaving}
+use Rattle.erm_machine.specs.declared.task.Task.{Task}
+use Rattle.erm_machine.specs.declared.task.Task.TheVariants as task
+use Rattle.erm_machine.specs.Chains.{NamedInHand}
+use Rattle.erm_machine.specs.Core.{Core}
+use Rattle.erm_machine.specs.Life.{load_tail_to_begin, add_tail, store_begin, store_state}
+use Rattle.erm_machine.specs.Lives.{IsBeginning}
+use Rattle.erm_machine.specs.Reading.{claim, set_reader}
+use Rattle.erm_machine.specs.Sound.{Sound}
+use Rattle.erm_machine.specs.Tasks.{TaskFits, InActive, InSettle, InEnd}
+use Rattle.erm_machine.specs.Words.{is_session}
+use Rattle.erm_machine.proofs.Frames.{put_same}
+use Rattle.erm_core_calls.specs.Going.{IsInCall, MovesOn, Waits, MayRegister, Registers, MayClaim, Claims}
+use Rattle.erm_core_calls.proofs.GoesActive.{g_owned, g_cleared, g_walks, g_passed, g_registered, g_overtaken, g_numbers, g_claimed, g_horizon, g_cut_walks, g_cut_passed, g_cut_found, g_detaches}
+use Rattle.erm_core_calls.proofs.GoesClaims.{g_draws, g_pool, g_fetched, g_refused, g_copies, g_writes}
+use Rattle.erm_core_calls.proofs.GoesEnds.{aborts, ends}
+use Rattle.erm_core_calls.proofs.GoesSettled.{s_settles, s_read_owned, s_read_clear, s_read_overtaken, s_readers_left, s_write_clear, s_write_made, s_fills}
+use Rattle.erm_core_calls.proofs.Moving.{taken, met, to_place, same_self}
+
+module _ (c : Core) (p : ℕ) (sound : Sound c) where
+  -- the calls of an active transaction
+  active_goes : (tail : ℕ) (u : Task) → (c.seats p).place ≡ Active tail → (c.seats p).task ≡ u → InActive u → IsInCall (Active tail) u → MovesOn c p ⊎ Waits c p
+  active_goes tail task.Rest pl at fits call = absurd call
+  active_goes tail (task.Owned oid owner) pl at fits call = g_owned c p sound tail pl oid owner at
+  active_goes tail (task.Cleared oid) pl at fits call = inl (g_cleared c p sound tail pl oid at)
+  active_goes tail (task.Walks v head) pl at fits call = inl (g_walks c p sound tail pl v head at)
+  active_goes tail (task.Passed v) pl at fits call = inl (g_passed c p sound tail pl v at)
+  active_goes tail (task.Found v stamp head) pl at fits call = absurd call
+  active_goes tail (task.Registered v) pl at fits call = inl (g_registered c p sound tail pl v at)
+  active_goes tail (task.Overtaken v overwriter) pl at fits call = inl (g_overtaken c p sound tail pl v overwriter at)
+  active_goes tail (task.Rated v) pl at fits call = absurd call
+  active_goes tail task.Numbers pl at fits call = inl (g_numbers c p sound tail pl at)
+  active_goes tail (task.Claimed v) pl at fits call = inl (g_claimed c p sound tail pl v at)
+  active_goes tail (task.Horizon v least next) pl at fits call = inl (g_horizon c p sound tail pl v least next at)
+  active_goes tail (task.CutWalks v horizon) pl at fits call = inl (g_cut_walks c p sound tail pl v horizon at)
+  active_goes tail (task.CutPassed v horizon) pl at fits call = inl (g_cut_passed c p sound tail pl v horizon at)
+  active_goes tail (task.CutFound v horizon) pl at fits call = inl (g_cut_found c p sound tail pl v horizon at)
+  active_goes tail (task.Detaches v) pl at fits call = inl (g_detaches c p sound tail pl v at)
+  active_goes tail task.Draws pl at fits call = inl (g_draws c p sound tail pl at)
+  active_goes tail task.Pool pl at fits call = inl (g_pool c p sound tail pl at)
+  active_goes tail task.Fetched pl at fits call = inl (g_fetched c p sound tail pl at)
+  active_goes tail task.Refused pl at fits call = inl (g_refused c p sound tail pl at)
+  active_goes tail (task.Copies w) pl at fits call = inl (g_copies c p sound tail pl w at)
+  active_goes tail (task.Writes k w) pl at fits call = inl (g_writes c p sound tail pl k w at)
+  active_goes tail (task.Ends raised ended step cleared) pl at fits call = inl (aborts c p sound raised ended step cleared at tail pl)
+  active_goes tail u pl at fits call = absurd fits
+
+  -- settle
+  sealed_goes : (tail stamp : ℕ) (u : Task) → (c.seats p).place ≡ Sealed tail stamp → (c.seats p).task ≡ u → InSettle u → IsInCall (Sealed tail stamp) u → MovesOn c p ⊎ Waits c p
+  sealed_goes tail stamp task.Rest pl at fits call = absurd call
+  sealed_goes tail stamp (task.Settles r w) pl at fits call = inl (s_settles c p sound tail stamp pl r w at)
+  sealed_goes tail stamp (task.ReadOwned read owner) pl at fits call = s_read_owned c p sound tail stamp pl read owner at
+  sealed_goes tail stamp (task.ReadClear read) pl at fits call = inl (s_read_clear c p sound tail stamp pl read at)
+  sealed_goes tail stamp (task.ReadOvertaken read overwriter) pl at fits call = inl (s_read_overtaken c p sound tail stamp pl read overwriter at)
+  sealed_goes tail stamp (task.ReadersLeft write bits) pl at fits call = s_readers_left c p sound tail stamp pl write bits at
+  sealed_goes tail stamp (task.WriteClear write) pl at fits call = inl (s_write_clear c p sound tail stamp pl write at)
+  sealed_goes tail stamp (task.WriteMade write) pl at fits call = inl (s_write_made c p sound tail stamp pl write at)
+  sealed_goes tail stamp (task.Fills n) pl at fits call = inl (s_fills c p sound tail stamp pl n at)
+  sealed_goes tail stamp u pl at fits call = absurd fits
+
+  -- the end of a decided transaction
+  decided_goes : (tail stamp : ℕ) (u : Task) → (c.seats p).place ≡ Decided tail stamp → (c.seats p).task ≡ u → InEnd (c.seats p).current u → MovesOn c p
+  decided_goes tail stamp (task.Ends raised ended step cleared) pl at fits = ends c p sound raised ended step cleared at tail stamp pl fits.0
+  decided_goes tail stamp u pl at fits = absurd fits
+
+  -- Each call goes on, where a seat that is to draw its range is a session's.
+  goes_where : ((tail : ℕ) → (c.seats p).place ≡ Sealing tail → is_session p ≡ true) → (pl : Place) (u : Task) → (c.seats p).place ≡ pl → (c.seats p).task ≡ u →
+      TaskFits pl (c.seats p).current u → IsInCall pl u → MovesOn c p ⊎ Waits c p
+  goes_where session Vacant u is at fits call = absurd call
+  goes_where session Idle u is at fits call = absurd call
+  goes_where session (Begun tail) u is at fits call =
+      inl (to_place c p (kind.StoreBegin tail) (Begun tail) _ _ is tt refl (ap (store_begin p tail (c.seats p)) is) (eq-eqb tail tail refl) refl)
+  goes_where session (Announced tail) u is at fits call =
+      inl (to_place c p (kind.LoadTail purpose.Begin) (Announced tail) _ _ is tt refl (ap (load_tail_to_begin p c.shared.tail (c.seats p)) is)
+      ((sound.own p).lives.left (subst IsBeginning (sym is) tt)) refl)
+  goes_where session (Active tail) u is at fits call = active_goes tail u is at fits call
+  goes_where session (Sealing tail) u is at fits call =
+      inl (to_place c p (kind.AddTail 5) (Sealing tail) _ _ is tt refl (ap (add_tail p 5 c.shared.tail (c.seats p)) is) (and_from _ _ (and_from _ _ (session tail is) refl) refl) refl)
+  goes_where session (Drawn tail stamp) u is at fits call =
+      inl (to_place c p (kind.StoreState stamp) (Drawn tail stamp) _ _ is tt refl (ap (store_state p stamp (c.seats p)) is) (eq-eqb stamp stamp refl) refl)
+  goes_where session (Sealed tail stamp) u is at fits call = sealed_goes tail stamp u is at fits call
+  goes_where session (Decided tail stamp) u is at fits call = inl (decided_goes tail stamp u is at fits)
+  goes_where session (Leaving stamp) u is at fits call =
+      inl (to_place c p (kind.StoreState 0) (Leaving stamp) _ _ is tt refl (ap (store_state p 0 (c.seats p)) is) refl refl)
+
+  pub goes_from : ((tail : ℕ) → (c.seats p).place ≡ Sealing tail → is_session p ≡ true) → IsInCall (c.seats p).place (c.seats p).task → MovesOn c p ⊎ Waits c p
+  goes_from session call = goes_where session (c.seats p).place (c.seats p).task refl refl (sound.own p).task.fits call
+
+  -- a version that is found is registered
+  pub registers : MayRegister p (c.seats p) → Registers c p
+  registers m =
+      let named = subst (NamedInHand c.shared) m.found (sound.own p).chains.named in
+      let v = m.version in
+      let step = met _ _ _ (ap (set_reader p v (c.shared.objects v.oid) (c.seats p)) m.found)
+      (and_from _ _ (and_from _ _ (and_from _ _ (and_from _ _ m.active m.session) (same_self v)) (lt-ltb (length (c.seats p).current.reads) READ_LIMIT m.room)) (not_from_false _ m.unread)) in
+      (v, _, taken c p (kind.SetReader v) _ tt (lt-ltb v.oid OBJECT_LIMIT named.object) step, ap (λ (y : Part). y.task) (put_same c.seats p _))
+
+  -- a head that is found is claimed
+  pub claims : (m : MayClaim p (c.seats p)) → Claims c p m.version.oid m.entry
+  claims m =
+      let named = subst (NamedInHand c.shared) m.found (sound.own p).chains.named in
+      let v = m.version in
+      let number = (c.seats p).current.number in
+      let step = met _ _ _ (ap (claim p v.oid m.entry number (c.shared.objects v.oid).entry (c.shared.objects v.oid) (c.seats p)) m.found)
+      (and_from _ _ (and_from _ _ (and_from _ _ (and_from _ _ (and_from _ _ m.active m.session) (eq-eqb v.oid v.oid refl)) (eq-eqb m.entry m.entry refl)) (eq-eqb number number refl))
+      (lt-ltb (length (c.seats p).current.writes) WRITE_LIMIT m.room)) in
+      (_, taken c p (kind.Claim v.oid m.entry number) _ tt (lt-ltb v.oid OBJECT_LIMIT named.object) step)

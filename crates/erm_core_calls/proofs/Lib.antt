@@ -1,0 +1,12 @@
+pub mod Bits
+pub mod BoundsActive
+pub mod BoundsFrames
+pub mod BoundsKept
+pub mod BoundsSettled
+pub mod Goes
+pub mod GoesActive
+pub mod GoesClaims
+pub mod GoesEnds
+pub mod GoesSettled
+pub mod Moving
+pub mod Seats
