@@ -1,12 +1,11 @@
 -- What each call of a world does to its view, and what each refusal says of the other sessions.
-use Rattle.std.specs.Prelude.{◌≡◌, ◌≢◌, ℕ, ◌+◌, ◌<◌, ◌≤◌, ◌⊎◌, Bool, true, false, List, [], ◌∷◌, ◌++◌, length, Some, None}
+use Rattle.std.specs.Prelude.{◌≡◌, ◌≢◌, ℕ, ◌+◌, ◌<◌, ◌≤◌, ◌⊎◌, true, false, List, [], ◌∷◌, ◌++◌, length, Some, None}
 use Rattle.erm_model.specs.declared.history.TransactionRecord.{TransactionRecord}
 use Rattle.erm_model.specs.declared.history.VersionRead.{VersionRead}
 use Rattle.erm_model.specs.declared.history.VersionWritten.{VersionWritten}
 use Rattle.erm_model.specs.declared.limits.TheConstants.{LAST_NUMBER, OID_LIMIT, READ_LIMIT, RING_WORDS, STOP, WRITE_LIMIT}
 use Rattle.erm_model.specs.declared.outcome.Outcome.{Outcome}
 use Rattle.erm_model.specs.declared.outcome.Outcome.TheVariants.{Committed, Excluded}
-use Rattle.erm_model.specs.declared.outcome.Receipt.{Receipt}
 use Rattle.erm_model.specs.declared.row_stop.RowStop.{RowStop}
 use Rattle.erm_model.specs.declared.row_stop.RowStop.TheVariants as stop
 use Rattle.erm_model.specs.History.{IsPredecessorStamp, IsSuccessorStamp, Makes, OverwritesFrom, OverwritesReadOf, ReadsFrom}
@@ -114,14 +113,15 @@ pub record IsShut (v : View) (seat : ℕ) (w : Work) (succ pred : ℕ) : Type 0 
   pub pred_is : before.stamp ≡ pred
   pub closed : succ ≤ pred
 
--- A read was refused. Where it was read and then excluded, it stays read in the transaction that has ended.
+-- A read was refused, and so the object isn't claimed. Where it was read and then excluded, it stays read in the transaction that
+-- has ended.
 abbrev pub DidNotRead : View → ℕ → ℕ → RowStop → View → Type 0
 DidNotRead v seat oid stop.ReadsFull t = (t ≡ v) × IsNew (work_at v seat) oid × (length (work_at v seat).reads ≡ READ_LIMIT)
 DidNotRead v seat oid (stop.NotYet other seen) t =
     (t ≡ v) × IsNew (work_at v seat) oid × (length (work_at v seat).reads < READ_LIMIT) × IsAhead v seat oid (work_at v seat).begin other seen
 DidNotRead v seat oid (stop.Excluded succ pred) t = IsNew (work_at v seat) oid
     × ((r : VersionRead) × (r.oid ≡ oid) × IsDone v seat (reading r (work_at v seat)) world.aborts t × IsShut v seat (reading r (work_at v seat)) succ pred)
-DidNotRead v seat oid stop.Memory t = t ≡ v
+DidNotRead v seat oid stop.Memory t = (t ≡ v) × (is_claimed (work_at v seat).claims oid ≡ false)
 DidNotRead v seat oid (stop.Owned other number) t = ⊥
 DidNotRead v seat oid (stop.Newer stamp) t = ⊥
 DidNotRead v seat oid stop.WritesFull t = ⊥

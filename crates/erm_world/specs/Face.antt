@@ -1,5 +1,5 @@
 -- What a session of a world is as a transaction over rows.
-use Rattle.std.specs.Prelude.{◌≡◌, ◌≢◌, ℕ, true, is_some, List, ◌∷◌, [], ◌++◌}
+use Rattle.std.specs.Prelude.{◌≡◌, ◌≢◌, ℕ, true, is_some, ◌∷◌, [], ◌++◌}
 use Rattle.erm_model.specs.declared.outcome.Phase.TheVariants.{Active}
 use Rattle.erm_model.specs.declared.row_stop.RowStop.{RowStop}
 use Rattle.erm_model.specs.Lawful.{times_made}
@@ -40,9 +40,9 @@ pub record Goes (v : View) (seat : ℕ) (t : View) : Type 0 where
   pub flushed : t.flushed ≡ v.flushed
 
 -- A session of a world as a transaction: it may have begun on the arrays that fit its work, and sees what its claims leave laid
--- over them. `same` says that two states hold one world.
+-- over them. `one` says that two states hold one world.
 abbrev pub world_face : {S : Type 0} → Law → (S → View) → (S → ℕ) → (S → Type 0) → (S → S → Type 0) → Face S
-world_face law view seat stands same = record {
+world_face law view seat stands one = record {
   law = law;
   active = λ s. stands s × IsSession (view s) (seat s) × (phase_at (view s) (seat s) ≡ Active);
   fits = λ s begun. FitsWork law (work_at (view s) (seat s)) begun;
@@ -50,7 +50,7 @@ world_face law view seat stands same = record {
   made = λ s x. times_made (work_at (view s) (seat s)).made x;
   claims = λ s x. is_claimed (work_at (view s) (seat s)).claims x ≡ true;
   reads = λ s x. is_some (row_read (work_at (view s) (seat s)).reads x) ≡ true;
-  follows = λ s t. same s t × (seat t ≡ seat s) × (stands s → stands t) × Goes (view s) (seat s) (view t);
+  follows = λ s t. one s t × (seat t ≡ seat s) × (stands s → stands t) × Goes (view s) (seat s) (view t);
   answers = λ s event t. Answered (view s) (seat s) event (view t);
   stops = λ s asked stop t. WasRefused (view s) (seat s) asked stop (view t);
 }

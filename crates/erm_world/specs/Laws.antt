@@ -1,8 +1,8 @@
 -- What is so of every view of a world whose rows keep a law.
-use Rattle.std.specs.Prelude.{◌≡◌, ◌≢◌, ℕ, ◌+◌, ◌<◌, ◌≤◌, false, List, length, slice_get, Some}
+use Rattle.std.specs.Prelude.{◌≡◌, ◌≢◌, ℕ, ◌+◌, ◌<◌, ◌≤◌, false, length, slice_get, Some}
 use Rattle.erm_model.specs.declared.history.VersionRead.{VersionRead}
 use Rattle.erm_model.specs.declared.history.VersionWritten.{VersionWritten}
-use Rattle.erm_model.specs.History.{History, IsCertified, IsNewestBelow, IsSnapshot}
+use Rattle.erm_model.specs.History.{IsCertified, IsNewestBelow, IsSnapshot}
 use Rattle.erm_model.specs.Lawful.{Fits, IsLawfulRecord}
 use Rattle.erm_model.specs.Member.{◌∈◌}
 use Rattle.erm_model.specs.RowTransaction.{Law}

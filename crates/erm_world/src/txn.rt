@@ -1,6 +1,8 @@
 //! A session of a world as a transaction over rows.
-ghost use Rattle.std.specs.Prelude.{◌≡◌};
+ghost use Rattle.std.proofs.Common.{◌∙◌};
+ghost use Rattle.std.specs.Prelude.{◌≡◌, refl};
 ghost use Rattle.erm_world.specs.Face.{world_face};
+ghost use Rattle.erm_world.specs.Onward.{goes_itself, goes_then};
 
 use crate::RowWorld;
 use erm_model::{Oid, Row, RowStop, RowTxn, Seat};
@@ -30,4 +32,8 @@ impl<'a, W: RowWorld> RowTxn for WorldTxn<'a, W> {
     fn fresh(&mut self) -> Result<Oid, RowStop> {
         self.world.fresh(self.seat)
     }
+
+    ghost goes_on = { λ s t u first second. (second.0 ∙ first.0, second.1 ∙ first.1, λ standing. second.2 (first.2 standing), goes_then (W.view s.world.now) (W.view t.world.now) (W.view u.world.now) s.seat t.seat first.1 first.3 second.3) };
+
+    ghost stands = { λ s. (refl, refl, λ standing. standing, goes_itself (W.view s.world.now) s.seat) };
 }
