@@ -1,3 +1,4 @@
+pub mod Commits
 pub mod Lists
 pub mod Txns
 pub mod Works

@@ -1,5 +1,6 @@
 -- What is so of every view of a world whose rows keep a law.
 use Rattle.std.specs.Prelude.{◌≡◌, ◌≢◌, ℕ, ◌+◌, ◌<◌, ◌≤◌, false, length, slice_get, Some}
+use Rattle.erm_model.specs.declared.history.TransactionRecord.{TransactionRecord}
 use Rattle.erm_model.specs.declared.history.VersionRead.{VersionRead}
 use Rattle.erm_model.specs.declared.history.VersionWritten.{VersionWritten}
 use Rattle.erm_model.specs.History.{IsCertified, IsNewestBelow, IsSnapshot}
@@ -7,7 +8,7 @@ use Rattle.erm_model.specs.Lawful.{Fits, IsLawfulRecord}
 use Rattle.erm_model.specs.Member.{◌∈◌}
 use Rattle.erm_model.specs.RowTransaction.{Law}
 use Rattle.erm_model.specs.Rows.{Rows}
-use Rattle.erm_world.specs.World.{Finished, Has, HasStamp, IsSession, Session, View, Work, bare, history_of, made_by_all, size_of, stamp_of, work_at}
+use Rattle.erm_world.specs.World.{Finished, Has, HasStamp, IsSession, Session, View, Work, bare, history_of, made_by_all, record_of, size_of, stamp_of, work_at}
 use Rattle.erm_world.specs.World as world
 
 -- an array of rows on which a transaction may have begun
@@ -60,3 +61,20 @@ pub record IsSerializable (law : Law) (v : View) : Type 0 where
 -- each transaction may have begun on some array of rows that meets the law
 abbrev pub IsPossibleIn : Law → View → Type 0
 IsPossibleIn law v = (seat : ℕ) (w : Work) → IsSession v seat → Has v seat w → (rows : Rows) × law.meets rows × FitsWork law w rows
+
+-- a transaction of a session that has committed, as the history has it
+pub record IsCommitOf (v : View) (t : TransactionRecord) : Type 0 where
+  pub seat : ℕ
+  pub session : IsSession v seat
+  pub work : Work
+  pub stamp : ℕ
+  pub succ : ℕ
+  pub pred : ℕ
+  pub over : record { work = work; fate = world.commits stamp succ pred } ∈ (v.session seat).over
+  pub is : t ≡ record_of seat work stamp succ pred
+
+-- The history is what the sessions have committed: each of its records is that of a transaction that is over and committed, and
+-- the record of each such transaction is in it.
+pub record TellsCommits (v : View) : Type 0 where
+  pub only : (t : TransactionRecord) → t ∈ history_of v → IsCommitOf v t
+  pub each : (t : TransactionRecord) → IsCommitOf v t → t ∈ history_of v
