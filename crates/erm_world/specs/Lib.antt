@@ -1,0 +1,7 @@
+pub mod Calls
+pub mod Face
+pub mod Going
+pub mod Laws
+pub mod Onward
+pub mod Works
+pub mod World

@@ -1,0 +1,12 @@
+//! The contract of a world of sessions: what its calls mean, what their refusals say, and the laws that all of them keep.
+#![tactic(auto)]
+
+mod laws;
+mod stops;
+mod txn;
+mod world;
+
+pub use laws::{histories_tell_commits, laws_that_say_the_same};
+pub use stops::{BeginStop, NotFlushed, Wait};
+pub use txn::WorldTxn;
+pub use world::RowWorld;
