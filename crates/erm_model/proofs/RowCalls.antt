@@ -3,7 +3,7 @@ use Rattle.std.proofs.Common.{◌≡◌, ℕ, zero, suc, ◌+◌, ◌<◌, ◌�
 use Rattle.std.specs.Prelude.{◌⊎◌}
 use Rattle.std.proofs.lemmas.Bool.Decides.{nat_tests}
 use Rattle.erm_model.specs.Rows.{Rows}
-use Rattle.erm_model.specs.RowTransaction.{Event, did_read, did_claim, did_write, did_make, after, after_all, made_by, made_by_all, ClaimedBy, ReadBy, Law, Tells, TellsAll, Agrees, Face, Steps, SameView, Runs, IsLawful, OnlyReads, WritesNothing, Saw, Did}
+use Rattle.erm_model.specs.RowTransaction.{Event, did_read, did_claim, did_write, did_make, after, after_all, made_by, made_by_all, Law, Tells, TellsAll, Agrees, Face, Steps, SameView, Runs, IsLawful, OnlyReads, WritesNothing, Saw, Did}
 
 zero_or_more : (n : ℕ) → (n ≡ 0) ⊎ (0 < n)
 zero_or_more zero = inl refl
@@ -104,65 +104,38 @@ module _ {S : Type 0} (face : Face S) where
     reads = λ x. (λ reads. (a.reads x).0 ((b.reads x).0 reads), λ reads. (b.reads x).1 ((a.reads x).1 reads));
   }
 
-  -- what an event reads anew is the same where the same is claimed
-  ReadBy-same : (s t : S) (e : Event) (x : ℕ) → SameView face s t → ReadBy face t e x → ReadBy face s e x
-  ReadBy-same s t (did_read oid row) x a read = (read.0, λ claims. read.1 ((a.claims oid).1 claims))
-  ReadBy-same s t (did_claim oid) x a read = read
-  ReadBy-same s t (did_write oid row) x a read = read
-  ReadBy-same s t (did_make oid) x a read = read
-
-  ReadBy-back : (s t : S) (e : Event) (x : ℕ) → SameView face s t → ReadBy face s e x → ReadBy face t e x
-  ReadBy-back s t (did_read oid row) x a read = (read.0, λ claims. read.1 ((a.claims oid).0 claims))
-  ReadBy-back s t (did_claim oid) x a read = read
-  ReadBy-back s t (did_write oid row) x a read = read
-  ReadBy-back s t (did_make oid) x a read = read
-
-  -- an event after nothing
-  pub Steps-after_same : (s t u : S) (e : Event) → SameView face s t → Steps face t e u → Steps face s e u
-  Steps-after_same s t u e a b = record {
-    fitted = λ begun fits. a.fitted begun (b.fitted begun fits);
-    told = λ begun fits. subst (λ (seen : Rows). Tells face.law e begun seen) (a.seen begun (b.fitted begun fits)) (b.told begun fits);
-    seen = λ begun fits. b.seen begun fits ∙ ap (after e) (a.seen begun (b.fitted begun fits));
-    made = λ x. b.made x ∙ ap (λ n. n + made_by e x) (a.made x);
-    once = b.once;
-    claims = λ x. (
-      λ claims. elim ((b.claims x).0 claims) as (λ _. face.claims s x ⊎ ClaimedBy e x) [ inl before ↦ inl ((a.claims x).0 before) | inr now ↦ inr now ],
-      λ claims. (b.claims x).1 (elim claims as (λ _. face.claims t x ⊎ ClaimedBy e x) [ inl before ↦ inl ((a.claims x).1 before) | inr now ↦ inr now ]),
-    );
-    reads = λ x. (
-      λ reads. elim ((b.reads x).0 reads) as (λ _. face.reads s x ⊎ ReadBy face s e x) [ inl before ↦ inl ((a.reads x).0 before) | inr now ↦ inr (ReadBy-same s t e x a now) ],
-      λ reads. (b.reads x).1 (elim reads as (λ _. face.reads t x ⊎ ReadBy face t e x) [ inl before ↦ inl ((a.reads x).1 before) | inr now ↦ inr (ReadBy-back s t e x a now) ]),
-    );
-  }
-
-  -- events after nothing
-  pub Runs-after_same : (es : List Event) (s t u : S) → SameView face s t → Runs face t es u → Runs face s es u
-  Runs-after_same [] s t u a run = SameView-then s t u a run
-  Runs-after_same (e ∷ es) s t u a (v, step, rest) = (v, Steps-after_same s t v e a step, rest)
+  -- and the transaction is lawful still
+  pub SameView-lawful : (s t : S) → IsLawful face s → SameView face s t → IsLawful face t
+  SameView-lawful s t lawful same begun meets fits =
+      let seen = same.seen begun fits in
+      let before = lawful begun meets (same.fitted begun fits) in (
+        subst face.law.meets (sym seen) before.0,
+        λ x. omega (arith, before.1 x, same.made x, ap (λ (rows : Rows). face.law.reach rows x) seen),
+      )
 
   -- events in two parts
   pub Runs-append : (es fs : List Event) (s t u : S) → Runs face s es t → Runs face t fs u → Runs face s (es ++ fs) u
-  Runs-append [] fs s t u first second = Runs-after_same fs s t u first second
+  Runs-append [] fs s t u first second = subst (λ (at : S). Runs face at fs u) first second
   Runs-append (e ∷ es) fs s t u (v, step, rest) second = (v, step, Runs-append es fs v t u rest second)
 
   -- one event
   pub Runs-one : (s t : S) (e : Event) → Steps face s e t → Runs face s (e ∷ []) t
-  Runs-one s t e step = (t, step, SameView-itself t)
+  Runs-one s t e step = (t, step, refl)
 
   -- no array fits after events that didn't before
   pub Runs-fitted : (es : List Event) (s t : S) → Runs face s es t → (begun : Rows) → face.fits t begun → face.fits s begun
-  Runs-fitted [] s t run begun fits = run.fitted begun fits
+  Runs-fitted [] s t run begun fits = subst (λ (at : S). face.fits at begun) run fits
   Runs-fitted (e ∷ es) s t (u, step, rest) begun fits = step.fitted begun (Runs-fitted es u t rest begun fits)
 
   -- the rows seen are those after the events
   pub Runs-seen : (es : List Event) (s t : S) → Runs face s es t → (begun : Rows) → face.fits t begun → face.rows t begun ≡ after_all es (face.rows s begun)
-  Runs-seen [] s t run begun fits = run.seen begun fits
+  Runs-seen [] s t run begun fits = ap (λ (at : S). face.rows at begun) run
   Runs-seen (e ∷ es) s t (u, step, rest) begun fits =
       Runs-seen es u t rest begun fits ∙ ap (after_all es) (step.seen begun (Runs-fitted es u t rest begun fits))
 
   -- what was made is counted
   pub Runs-made : (es : List Event) (s t : S) → Runs face s es t → (x : ℕ) → face.made t x ≡ face.made s x + made_by_all es x
-  Runs-made [] s t run x = omega (arith, run.made x)
+  Runs-made [] s t run x = omega (arith, ap (λ (at : S). face.made at x) run)
   Runs-made (e ∷ es) s t (u, step, rest) x = omega (arith, step.made x, Runs-made es u t rest x)
 
   tells_one : (e : Event) (s t : S) → Steps face s e t → (begun array : Rows) → face.fits t begun

@@ -98,6 +98,8 @@ pub record Face (S : Type 0) : Type 1 where
   pub reads : S → ℕ → Type 0
   -- a later state of the transaction, and of what else the object holds
   pub follows : S → S → Type 0
+  -- in the first state a call was answered, of which this was the event, and it left the second
+  pub answers : S → Event → S → Type 0
   -- in the first state a call that asked for this was refused so, and left the second
   pub stops : S → Asked → RowStop → S → Type 0
 
@@ -110,6 +112,8 @@ ReadBy face s (did_make oid) x = ⊥
 
 -- one call's event
 pub record Steps {S : Type 0} (face : Face S) (s : S) (event : Event) (t : S) : Type 0 where
+  -- it is one call, that was answered: a call that was refused and one that was answered then are two
+  pub answered : face.answers s event t
   -- no array fits now that didn't before
   pub fitted : (begun : Rows) → face.fits t begun → face.fits s begun
   -- the event tells what is so of each one that fits
@@ -132,9 +136,9 @@ pub record SameView {S : Type 0} (face : Face S) (s t : S) : Type 0 where
   pub claims : (x : ℕ) → face.claims t x ↔ face.claims s x
   pub reads : (x : ℕ) → face.reads t x ↔ face.reads s x
 
--- events in turn
+-- Events in turn, and nothing between: no events leave the very state, so that no call was made, not even one that was refused.
 abbrev pub Runs : {S : Type 0} → Face S → S → List Event → S → Type 0
-Runs {S} face s [] t = SameView face s t
+Runs {S} face s [] t = t ≡ s
 Runs {S} face s (event ∷ events) t = (u : S) × Steps face s event u × Runs face u events t
 
 -- some array that meets the law fits
@@ -207,6 +211,12 @@ pub record GoesOn {S : Type 0} (face : Face S) (s : S) (events : List Event) (t 
   pub active : face.active t
   pub possible : IsPossible face t
 
+-- a call that was refused left all as it was, and the transaction goes on
+pub record Stays {S : Type 0} (face : Face S) (s t : S) : Type 0 where
+  pub same : SameView face s t
+  pub active : face.active t
+  pub possible : IsPossible face t
+
 -- One call that asked for this was refused, by a refusal that it may have: either that ends the transaction, or all is as it
 -- was.
 pub record IsRefused {S : Type 0} (face : Face S) (may : RowStop → Type 0) (s : S) (asked : Asked) (stop : RowStop) (t : S) : Type 0 where
@@ -214,7 +224,7 @@ pub record IsRefused {S : Type 0} (face : Face S) (may : RowStop → Type 0) (s 
   pub stopped : face.stops s asked stop t
   pub follows : face.follows s t
   pub ended : ends stop ≡ true → face.active t → ⊥
-  pub stays : ends stop ≡ false → GoesOn face s [] t
+  pub stays : ends stop ≡ false → Stays face s t
 
 -- events of reading alone
 abbrev pub OnlyReads : List Event → Type 0

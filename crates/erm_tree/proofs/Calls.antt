@@ -3,8 +3,8 @@ use Rattle.std.proofs.Common.{◌≡◌, ℕ, zero, suc, ◌+◌, ◌<◌, ◌�
 use Rattle.std.specs.Prelude.{◌⊎◌, ◌==◌}
 use Rattle.erm_model.specs.declared.row_stop.RowStop.{RowStop}
 use Rattle.erm_model.specs.Rows.{Rows}
-use Rattle.erm_model.specs.RowTransaction.{Event, did_read, did_claim, did_write, did_make, made_by, made_by_all, Asked, asked_read, asked_claim, asked_make, GoesOn, Law, TellsAll, Agrees, Face, Runs, IsPossible, IsLawful, Does, IsRefused, IsStopped, OnlyReads}
-use Rattle.erm_model.proofs.RowCalls.{after_all-OnlyReads, OnlyReads-append, TellsAll-append, SameView-itself, Runs-append, Runs-one, Runs-once, Runs-fitted, Saw-on, Saw-lawful}
+use Rattle.erm_model.specs.RowTransaction.{Event, did_read, did_claim, did_write, did_make, made_by, made_by_all, Asked, asked_read, asked_claim, asked_make, GoesOn, Law, TellsAll, Agrees, Face, Runs, IsLawful, Does, IsRefused, IsStopped, OnlyReads}
+use Rattle.erm_model.proofs.RowCalls.{after_all-OnlyReads, OnlyReads-append, TellsAll-append, Runs-append, Runs-one, Runs-once, Runs-fitted, Saw-on, Saw-lawful}
 use Rattle.erm_tree.proofs.Insertion.{Each}
 use Rattle.erm_tree.specs.Calls.{AsksReads, IsReady, IsTold, ReadsAre, Reads, SawIn, Ran}
 
@@ -48,7 +48,7 @@ module _ {S : Type 0} (face : Face S) (goes_on : (a b c : S) → face.follows a 
     saw = record {
       events = [];
       reads = tt;
-      goes_on = record { runs = SameView-itself face s; active = ready.active; possible = ready.possible };
+      goes_on = record { runs = refl; active = ready.active; possible = ready.possible };
       follows = stands;
       saw = λ array meets agrees. is array meets;
     };
@@ -163,10 +163,6 @@ module _ {S : Type 0} (face : Face S) (goes_on : (a b c : S) → face.follows a 
       let on = Saw-on face s t fact lawful seen.saw begun meets fits in
       subst fact (sym on.1) on.0
 
-  -- nothing happened yet
-  pub Ran-start : (s : S) → face.active s → IsPossible face s → face.follows s s → Ran face s [] s
-  Ran-start s active possible stands = record { goes_on = record { runs = SameView-itself face s; active = active; possible = possible }; follows = stands }
-
   -- one event more
   pub Ran-more : (s t u : S) (es : List Event) (e : Event) → Ran face s es t → Does face t e u → Ran face s (es ++ e ∷ []) u
   Ran-more s t u es e ran does = record {
@@ -183,7 +179,7 @@ module _ {S : Type 0} (face : Face S) (goes_on : (a b c : S) → face.follows a 
 
   -- what was claimed is claimed still
   pub Runs-claims : (es : List Event) (s t : S) → Runs face s es t → (x : ℕ) → face.claims s x → face.claims t x
-  Runs-claims [] s t run x claimed = (run.claims x).1 claimed
+  Runs-claims [] s t run x claimed = subst (λ (at : S). face.claims at x) (sym run) claimed
   Runs-claims (e ∷ es) s t (u, step, rest) x claimed = Runs-claims es u t rest x ((step.claims x).1 (inl claimed))
 
   -- all objects that were claimed are

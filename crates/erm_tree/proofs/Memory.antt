@@ -186,6 +186,7 @@ module _ {S : Type 0} (rows_in : S → List (List ℕ)) (claimed_in seen_in : S 
     claims = λ s x. get_or (claimed_in s) x false ≡ true;
     reads = λ s x. get_or (seen_in s) x false ≡ true;
     follows = λ s t. Unit {0};
+    answers = λ s event t. Unit {0};
     stops = λ s asked stop t. Unit {0};
   }
 
@@ -201,7 +202,7 @@ module _ {S : Type 0} (rows_in : S → List (List ℕ)) (claimed_in seen_in : S 
       follows = tt;
       ended = λ e active. absurd (false≢true (sym goes_on ∙ e));
       stays = λ e. record {
-        runs = record {
+        same = record {
           fitted = λ begun fits. fits;
           seen = λ begun fits. ap rows_of rows;
           made = λ x. ap (λ (n : ℕ). made_up_to n x) next;
@@ -225,6 +226,7 @@ module _ {S : Type 0} (rows_in : S → List (List ℕ)) (claimed_in seen_in : S 
         → ((x : ℕ) → (get_or (seen_in t) x false ≡ true) ↔ ((get_or (seen_in s) x false ≡ true) ⊎ ((x ≡ oid) × (get_or (claimed_in s) oid false ≡ true → ⊥)))) → next_in t ≡ next_in s → Does memory_face s (did_read oid row) t
     Memory-read s t oid row d inside is rows claimed marks next = record {
       step = record {
+        answered = tt;
         fitted = λ begun fits. fits;
         told = λ begun fits. get_or_default (rows_in s) oid [] d inside ∙ sym is;
         seen = λ begun fits. ap rows_of rows;
@@ -246,6 +248,7 @@ module _ {S : Type 0} (rows_in : S → List (List ℕ)) (claimed_in seen_in : S 
     pub Memory-claim : (s t : S) (oid : ℕ) → oid < length (claimed_in s) → rows_in t ≡ rows_in s → claimed_in t ≡ set (claimed_in s) oid true → seen_in t ≡ seen_in s → next_in t ≡ next_in s → Does memory_face s (did_claim oid) t
     Memory-claim s t oid inside rows claimed read next = record {
       step = record {
+        answered = tt;
         fitted = λ begun fits. fits;
         told = λ begun fits. tt;
         seen = λ begun fits. ap rows_of rows;
@@ -263,6 +266,7 @@ module _ {S : Type 0} (rows_in : S → List (List ℕ)) (claimed_in seen_in : S 
     pub Memory-write : (s t : S) (oid : ℕ) (row : List ℕ) → oid < length (rows_in s) → oid < length (claimed_in s) → rows_in t ≡ set (rows_in s) oid row → claimed_in t ≡ set (claimed_in s) oid true → seen_in t ≡ seen_in s → next_in t ≡ next_in s → Does memory_face s (did_write oid row) t
     Memory-write s t oid row inside inside_too rows claimed read next = record {
       step = record {
+        answered = tt;
         fitted = λ begun fits. fits;
         told = λ begun fits. tt;
         seen = λ begun fits. ap rows_of rows ∙ rows_of-set (rows_in s) oid row inside;
@@ -280,6 +284,7 @@ module _ {S : Type 0} (rows_in : S → List (List ℕ)) (claimed_in seen_in : S 
     pub Memory-make : (s t : S) → 16 ≤ next_in s → rows_in t ≡ rows_in s → claimed_in t ≡ claimed_in s → seen_in t ≡ seen_in s → next_in t ≡ next_in s + 1 → Does memory_face s (did_make (next_in s)) t
     Memory-make s t above rows claimed read next = record {
       step = record {
+        answered = tt;
         fitted = λ begun fits. fits;
         told = λ begun fits. ap (λ (array : Rows). reached array (next_in s)) fits ∙ reached-start found given (next_in s) above;
         seen = λ begun fits. ap rows_of rows;

@@ -1,5 +1,5 @@
 -- Operations of one transaction, one after another.
-use Rattle.std.proofs.Common.{◌≡◌, ℕ, List, [], ◌∷◌, ◌++◌, sym, ap, ◌∙◌, subst}
+use Rattle.std.proofs.Common.{◌≡◌, ℕ, List, [], ◌∷◌, sym, ap, ◌∙◌, subst}
 use Rattle.erm_model.specs.declared.operation.Op.{Op}
 use Rattle.erm_model.specs.declared.operation.Op.TheVariants.{Get, Put, Del, Next}
 use Rattle.erm_model.specs.declared.operation.Reply.{Reply}
@@ -7,9 +7,9 @@ use Rattle.erm_model.specs.declared.operation.Reply.TheVariants as reply
 use Rattle.erm_model.specs.declared.row_stop.RowStop.{RowStop}
 use Rattle.erm_model.specs.Database.{Database}
 use Rattle.erm_model.specs.Rows.{Rows}
-use Rattle.erm_model.specs.RowTransaction.{Event, Asked, Face, WritesNothing, IsLawful, SameLaw, GoesOn, Saw, Did}
+use Rattle.erm_model.specs.RowTransaction.{Event, Asked, Face, WritesNothing, IsLawful, SameLaw, GoesOn, Stays, Saw, Did}
 use Rattle.erm_model.specs.Run.{RunsOne, IsReply, after, after_all, ops_of}
-use Rattle.erm_model.proofs.RowCalls.{WritesNothing-append, WritesNothing-OnlyReads, after_all-WritesNothing, Runs-append, Runs-fitted, Runs-lawful, Runs-one, Runs-seen, Saw-on, Saw-lawful, Did-on, Did-lawful}
+use Rattle.erm_model.proofs.RowCalls.{WritesNothing-OnlyReads, after_all-WritesNothing, SameView-itself, SameView-lawful, Runs-fitted, Runs-lawful, Runs-one, Runs-seen, Saw-on, Saw-lawful, Did-on, Did-lawful}
 use Rattle.erm_node.specs.Sound.{IsSound, sound_law}
 use Rattle.erm_node.specs.TreeMap.{map_of_rows}
 use Rattle.erm_tree.specs.Calls.{IsReady, Reads}
@@ -18,26 +18,28 @@ use Rattle.erm_tree.specs.Operations.{IsAnswered, Stutters, CutOffsStutter, Answ
 module _ {S : Type 0} (face : Face S) where
   -- where no row was set, the rows seen are the same
   pub Stutters-seen : (s t : S) → Stutters face s t → (begun : Rows) → face.fits t begun → face.rows t begun ≡ face.rows s begun
-  Stutters-seen s t same begun fits = Runs-seen face same.events s t same.goes_on.runs begun fits ∙ after_all-WritesNothing same.events same.none (face.rows s begun)
+  Stutters-seen s t same begun fits =
+      same.stays.same.seen begun fits ∙ Runs-seen face same.events s same.at same.runs begun (same.stays.same.fitted begun fits)
+      ∙ after_all-WritesNothing same.events same.none (face.rows s begun)
+
+  -- no array fits that didn't before
+  pub Stutters-fitted : (s t : S) → Stutters face s t → (begun : Rows) → face.fits t begun → face.fits s begun
+  Stutters-fitted s t same begun fits = Runs-fitted face same.events s same.at same.runs begun (same.stays.same.fitted begun fits)
 
   -- and the transaction is lawful still
   pub Stutters-lawful : (s t : S) → IsLawful face s → Stutters face s t → IsLawful face t
-  Stutters-lawful s t lawful same = Runs-lawful face same.events s t lawful same.goes_on.runs same.none
+  Stutters-lawful s t lawful same = SameView-lawful face same.at t (Runs-lawful face same.events s same.at lawful same.runs same.none) same.stays.same
 
   -- after which it may be called on
   pub Stutters-ready : (s t : S) → IsReady face s → Stutters face s t → IsReady face t
-  Stutters-ready s t ready same = record { active = same.goes_on.active; possible = same.goes_on.possible; lawful = Stutters-lawful s t ready.lawful same }
+  Stutters-ready s t ready same = record { active = same.stays.active; possible = same.stays.possible; lawful = Stutters-lawful s t ready.lawful same }
 
   Did-ready : (s t : S) (change : Rows → Rows → Type 0) → IsReady face s → Did face s t change → IsReady face t
   Did-ready s t change ready did = record { active = did.goes_on.active; possible = did.goes_on.possible; lawful = Did-lawful face s t change ready.lawful did }
 
   -- events that set no row, and then a call that left all as it was
-  pub Stutters-cut_off : (s at t : S) (events : List Event) → WritesNothing events → GoesOn face s events at → GoesOn face at [] t → Stutters face s t
-  Stutters-cut_off s at t events none before refused = record {
-    events = events ++ [];
-    none = WritesNothing-append events [] none tt;
-    goes_on = record { runs = Runs-append face events [] s at t before.runs refused.runs; active = refused.active; possible = refused.possible };
-  }
+  pub Stutters-cut_off : (s at t : S) (events : List Event) → WritesNothing events → GoesOn face s events at → Stays face at t → Stutters face s t
+  Stutters-cut_off s at t events none before refused = record { events = events; none = none; at = at; runs = before.runs; stays = refused }
 
   -- calls that were cut off after events of a kind that sets no row
   pub Stutters-stopped : (may : RowStop → Type 0) (kind : List Event → Type 0) (asks : List Event → Rows → Asked → Type 0) → ((events : List Event) → kind events → WritesNothing events) → CutOffsStutter face may kind asks
@@ -53,12 +55,20 @@ module _ {S : Type 0} (face : Face S) where
   Stutters-does event none s t does = record {
     events = event ∷ [];
     none = none;
-    goes_on = record { runs = Runs-one face s t event does.step; active = does.active; possible = does.possible };
+    at = t;
+    runs = Runs-one face s t event does.step;
+    stays = record { same = SameView-itself face t; active = does.active; possible = does.possible };
   }
 
   -- calls that saw a fact
   pub Stutters-saw : (s t : S) (fact : Rows → Type 0) → Saw face s t fact → Stutters face s t
-  Stutters-saw s t fact saw = record { events = saw.events; none = WritesNothing-OnlyReads saw.events saw.reads; goes_on = saw.goes_on }
+  Stutters-saw s t fact saw = record {
+    events = saw.events;
+    none = WritesNothing-OnlyReads saw.events saw.reads;
+    at = t;
+    runs = saw.goes_on.runs;
+    stays = record { same = SameView-itself face t; active = saw.goes_on.active; possible = saw.goes_on.possible };
+  }
 
   Answered-ready : (s t : S) (op : Op) (r : Reply) → IsReady face s → IsAnswered face s op r t → IsReady face t
   Answered-ready s t (Get table key) r ready (value, is, saw) = Stutters-ready s t ready (Stutters-saw s t _ saw)
@@ -138,7 +148,7 @@ module _ {S : Type 0} (face : Face S) (law : SameLaw face.law sound_law) where
       let more = all_of calls u t (Stutters-lawful face s u lawful same) rest in
       let now = λ (begun : Rows) (fits : face.fits t begun). ap map_of_rows (Stutters-seen face s u same begun (more.fitted begun fits)) in
       record {
-        fitted = λ begun fits. Runs-fitted face same.events s u same.goes_on.runs begun (more.fitted begun fits);
+        fitted = λ begun fits. Stutters-fitted face s u same begun (more.fitted begun fits);
         all = record {
           run = λ begun sound fits. subst (λ (m : Database). RunsOne m steps) (now begun fits) (more.all.run begun sound fits);
           after = λ begun sound fits. more.all.after begun sound fits ∙ ap (after_all (ops_of steps)) (now begun fits);

@@ -5,7 +5,7 @@ use Rattle.std.proofs.lemmas.List.{append_assoc, length-replicate}
 use Rattle.erm_model.specs.declared.row_stop.RowStop.{RowStop}
 use Rattle.erm_model.specs.Rows.{Rows}
 use Rattle.erm_model.specs.RowTransaction.{Event, did_read, did_claim, did_write, did_make, Asked, asked_read, asked_claim, asked_make, Law, TellsAll, Face, OnlyReads, WritesNothing, IsLawful, IsRefused, IsStopped, ends}
-use Rattle.erm_model.proofs.RowCalls.{after_all-WritesNothing, Did-lawful, Runs-lawful, TellsAll-append, WritesNothing-OnlyReads, WritesNothing-append}
+use Rattle.erm_model.proofs.RowCalls.{after_all-WritesNothing, Did-lawful, Runs-lawful, SameView-lawful, TellsAll-append, WritesNothing-OnlyReads, WritesNothing-append}
 use Rattle.erm_node.specs.Sound.{levels_of}
 use Rattle.erm_node.specs.TreeMap.{record_in}
 use Rattle.erm_tree.specs.Calls.{AsksClaims, AsksMake, AsksReads, AreFirstMakes, IsPrefixOf, IsReady, ReadsAre, Reads, SawIn, DidBy, Ran}
@@ -216,5 +216,5 @@ module _ {S : Type 0} (face : Face S) where
         | false ↦ λ e.
             let on = stopped.refused.stays e in
             let before = Runs-lawful face stopped.events s stopped.at lawful stopped.goes_on.runs (quiet stopped.events stopped.of_kind) in
-            record { active = on.active; possible = on.possible; lawful = Runs-lawful face [] stopped.at t before on.runs tt }
+            record { active = on.active; possible = on.possible; lawful = SameView-lawful face stopped.at t before on.same }
       ] refl

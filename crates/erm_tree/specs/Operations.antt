@@ -8,7 +8,7 @@ use Rattle.erm_model.specs.declared.operation.Reply.TheVariants as reply
 use Rattle.erm_model.specs.declared.row_stop.RowStop.{RowStop}
 use Rattle.erm_model.specs.Database.{at, value_at, IsNextAt}
 use Rattle.erm_model.specs.Rows.{Rows}
-use Rattle.erm_model.specs.RowTransaction.{Event, Asked, Face, IsLawful, SameLaw, WritesNothing, GoesOn, Does, IsRefused, IsStopped, Saw, Did, ends}
+use Rattle.erm_model.specs.RowTransaction.{Event, Asked, Face, IsLawful, SameLaw, WritesNothing, Runs, Stays, Does, IsRefused, IsStopped, Saw, Did, ends}
 use Rattle.erm_model.specs.Run.{Step, RunsOne, after_all, ops_of}
 use Rattle.erm_node.specs.Sound.{IsSound, sound_law}
 use Rattle.erm_node.specs.TreeMap.{map_of_rows}
@@ -21,11 +21,14 @@ IsAnswered {S} face s (Put table key value) r t = (r ≡ reply.Done) × Did face
 IsAnswered {S} face s (Del table key) r t = (r ≡ reply.Done) × Did face s t (λ old new. map_of_rows new ≡ remove (map_of_rows old) (at table key))
 IsAnswered {S} face s (Next table from) r t = (found : Option (ℕ × List ℕ)) × (r ≡ reply.Pair found) × Saw face s t (λ rows. IsNextAt (map_of_rows rows) table from found)
 
--- The transaction goes on after events that set no row: for its map a stuttering step (Lamport).
+-- The transaction goes on after events that set no row, and then nothing or a call that was refused and left all as it was: for
+-- its map a stuttering step (Lamport).
 pub record Stutters {S : Type 0} (face : Face S) (s t : S) : Type 0 where
   pub events : List Event
   pub none : WritesNothing events
-  pub goes_on : GoesOn face s events t
+  pub at : S
+  pub runs : Runs face s events at
+  pub stays : Stays face at t
 
 -- a call that answered an operation, or one that set no row
 pub data Call : Type 0 where

@@ -1,6 +1,6 @@
 //! Laws of the calls. Each holds for every value, and its function does nothing.
 ghost use Rattle.std.specs.Prelude.{◌≡◌, ℕ, ◌-◌, ◌^◌, List, [], Option};
-ghost use Rattle.erm_model.specs.RowTransaction.{Event, did_read, did_claim, did_make, asked_read, asked_claim, asked_make, WritesNothing, GoesOn, StopsRead, StopsClaim, StopsMake};
+ghost use Rattle.erm_model.specs.RowTransaction.{Event, did_read, did_claim, did_make, asked_read, asked_claim, asked_make, WritesNothing, GoesOn, Stays, StopsRead, StopsClaim, StopsMake};
 ghost use Rattle.erm_record.specs.Record.{value_row};
 ghost use Rattle.erm_node.specs.TreeMap.{record_in};
 ghost use Rattle.erm_tree.specs.Calls.{AsksReads, IsReady, Reads};
@@ -28,7 +28,7 @@ pub fn refused_calls_set_no_row<T: RowTxn>()
     ensures find { (table key : ℕ) → CutOffsStutter T.face StopsRead (Reads T.face.law (IsOnWay table key)) (AsksReads (IsOnWay table key)) }
     ensures del { (table key : ℕ) → CutOffsStutter T.face StopsChange (Reads T.face.law (IsOnWay table key)) (AsksDel table key) }
     ensures put { (table key : ℕ) (value : List ℕ) → CutOffsStutter T.face StopsPut (IsPrefix T.face.law (IsOnWay table key) (λ rows events. IsPut rows table key (value_row value) events)) (AsksPut table key (value_row value)) }
-    ensures cut_off { (s at t : T) (events : List Event) → WritesNothing events → GoesOn T.face s events at → GoesOn T.face at [] t → Stutters T.face s t }
+    ensures cut_off { (s at t : T) (events : List Event) → WritesNothing events → GoesOn T.face s events at → Stays T.face at t → Stutters T.face s t }
     ensures read { (oid : ℕ) → RefusalsStutter T.face StopsRead (asked_read oid) }
     ensures claim { (oid : ℕ) → RefusalsStutter T.face StopsClaim (asked_claim oid) }
     ensures fresh { RefusalsStutter T.face StopsMake asked_make }

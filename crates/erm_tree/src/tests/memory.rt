@@ -87,6 +87,7 @@ impl RowTxn for MemoryTxn {
       claims = λ s x. slice_index_or s.claimed.items x false ≡ true;
       reads = λ s x. slice_index_or s.seen.items x false ≡ true;
       follows = λ s t. Unit {0};
+      answers = λ s event t. Unit {0};
       stops = λ s asked stop t. Unit {0};
     } };
 

@@ -1,0 +1,211 @@
+-- What each call of a world does to its view, and what each refusal says of the other sessions.
+use Rattle.std.specs.Prelude.{◌≡◌, ◌≢◌, ℕ, ◌+◌, ◌<◌, ◌≤◌, ◌⊎◌, Bool, true, false, List, [], ◌∷◌, ◌++◌, length, Some, None}
+use Rattle.erm_model.specs.declared.history.TransactionRecord.{TransactionRecord}
+use Rattle.erm_model.specs.declared.history.VersionRead.{VersionRead}
+use Rattle.erm_model.specs.declared.history.VersionWritten.{VersionWritten}
+use Rattle.erm_model.specs.declared.limits.TheConstants.{LAST_NUMBER, OID_LIMIT, READ_LIMIT, RING_WORDS, STOP, WRITE_LIMIT}
+use Rattle.erm_model.specs.declared.outcome.Outcome.{Outcome}
+use Rattle.erm_model.specs.declared.outcome.Outcome.TheVariants.{Committed, Excluded}
+use Rattle.erm_model.specs.declared.outcome.Receipt.{Receipt}
+use Rattle.erm_model.specs.declared.row_stop.RowStop.{RowStop}
+use Rattle.erm_model.specs.declared.row_stop.RowStop.TheVariants as stop
+use Rattle.erm_model.specs.History.{IsPredecessorStamp, IsSuccessorStamp, Makes, OverwritesFrom, OverwritesReadOf, ReadsFrom}
+use Rattle.erm_model.specs.Member.{◌∈◌}
+use Rattle.erm_world.specs.declared.stops.BeginStop.{BeginStop}
+use Rattle.erm_world.specs.declared.stops.BeginStop.TheVariants as begin
+use Rattle.erm_world.specs.declared.stops.Wait.{Wait}
+use Rattle.erm_world.specs.declared.stops.Wait.TheVariants as wait
+use Rattle.erm_world.specs.World.{Fate, Finished, Has, HasStamp, IsSession, Session, Stand, View, Work, begun, history_of, record_of, size_of, work_at}
+use Rattle.erm_world.specs.World as world
+use Rattle.erm_world.specs.Works.{claiming, is_claimed, making, own_row, reading, row_read, setting}
+
+-- one session becomes this one, and nothing else changes
+pub record Becomes (v : View) (seat : ℕ) (s : Session) (t : View) : Type 0 where
+  pub own : t.session seat ≡ s
+  pub others : (q : ℕ) → q ≢ seat → t.session q ≡ v.session q
+  pub opening : t.opening ≡ v.opening
+  pub tail : t.tail ≡ v.tail
+  pub flushed : t.flushed ≡ v.flushed
+
+-- the transaction in progress has become this one
+abbrev pub Works : View → ℕ → Work → View → Type 0
+Works v seat w t = Becomes v seat (record { over = (v.session seat).over; stand = world.active w }) t
+
+-- this transaction is over with this fate, and the session idle
+abbrev pub IsDone : View → ℕ → Work → Fate → View → Type 0
+IsDone v seat w fate t =
+    Becomes v seat (record { over = (v.session seat).over ++ record { work = w; fate = fate } ∷ []; stand = world.idle }) t
+
+-- BEGIN. It is the session's next transaction, and begins at the end of the log.
+abbrev pub DidBegin : View → ℕ → ℕ → View → Type 0
+DidBegin v seat begin t = (begin ≡ v.tail) × Works v seat (begun (length (v.session seat).over + 1) begin) t
+
+-- no number is left, or the log is at its end; a number is asked for first
+abbrev pub MayNotBegin : View → ℕ → BeginStop → View → Type 0
+MayNotBegin v seat begin.NumbersEnd t = (t ≡ v) × (length (v.session seat).over ≡ LAST_NUMBER)
+MayNotBegin v seat (begin.LogEnd tail) t = (t ≡ v) × (length (v.session seat).over < LAST_NUMBER) × (tail ≡ v.tail) × (STOP ≤ tail)
+MayNotBegin v seat begin.Memory t = t ≡ v
+
+-- READ. The own row, the row read before, or that of a version that is read now.
+pub data DidRead (v : View) (seat oid : ℕ) (row : List ℕ) (t : View) : Type 0 where
+  own : t ≡ v → is_claimed (work_at v seat).claims oid ≡ true → row ≡ own_row (work_at v seat).claims oid [] → DidRead v seat oid row t
+  again : t ≡ v → is_claimed (work_at v seat).claims oid ≡ false → row_read (work_at v seat).reads oid ≡ Some row → DidRead v seat oid row t
+  first : (stamp : ℕ) → is_claimed (work_at v seat).claims oid ≡ false → row_read (work_at v seat).reads oid ≡ None
+      → Works v seat (reading (record { oid = oid; stamp = stamp; row = row }) (work_at v seat)) t → DidRead v seat oid row t
+
+-- CLAIM. It was claimed before, or is now, and keeps the row that the claim found.
+pub data DidClaim (v : View) (seat oid : ℕ) (t : View) : Type 0 where
+  before : t ≡ v → is_claimed (work_at v seat).claims oid ≡ true → DidClaim v seat oid t
+  now : (stamp : ℕ) (base : List ℕ) → is_claimed (work_at v seat).claims oid ≡ false
+      → Works v seat (claiming (record { oid = oid; stamp = stamp; base = base; row = base; is_set = false }) (work_at v seat)) t → DidClaim v seat oid t
+
+-- WRITE. A claim, and then the row is set.
+pub record DidWrite (v : View) (seat oid : ℕ) (row : List ℕ) (t : View) : Type 0 where
+  pub between : View
+  pub claim : DidClaim v seat oid between
+  pub set : Works v seat (setting oid row (work_at between seat)) t
+
+-- FRESH. A new object is made.
+abbrev pub DidMake : View → ℕ → ℕ → View → Type 0
+DidMake v seat oid t = Works v seat (making oid (work_at v seat)) t
+
+-- the object is neither claimed nor read before
+pub record IsNew (w : Work) (oid : ℕ) : Type 0 where
+  pub unclaimed : is_claimed w.claims oid ≡ false
+  pub unread : row_read w.reads oid ≡ None
+
+-- another session's transaction is sealed with this stamp below the bound, and has claimed the object
+pub record IsAhead (v : View) (seat oid bound other seen : ℕ) : Type 0 where
+  pub session : IsSession v other
+  pub another : other ≢ seat
+  pub work : Work
+  pub stand : (v.session other).stand ≡ world.sealed work seen
+  pub below : seen < bound
+  pub claims : is_claimed work.claims oid ≡ true
+
+-- another session's transaction in progress, of this number, has claimed the object
+pub record IsOwned (v : View) (seat oid other number : ℕ) : Type 0 where
+  pub session : IsSession v other
+  pub another : other ≢ seat
+  pub work : Work
+  pub current : world.IsCurrent (v.session other).stand work
+  pub number_is : work.number ≡ number
+  pub claims : is_claimed work.claims oid ≡ true
+
+-- a commit of another session, with this stamp at or above the own begin stamp, made a version of the object
+pub record IsNewer (v : View) (seat oid stamp : ℕ) : Type 0 where
+  pub by : TransactionRecord
+  pub committed : by ∈ history_of v
+  pub another : by.seat ≢ seat
+  pub stamp_is : by.stamp ≡ stamp
+  pub makes : Makes by oid
+  pub above : (work_at v seat).begin ≤ stamp
+
+-- The exclusion window known so far is closed: a committed transaction that overwrote a version read has this successor stamp,
+-- and one that made a version read or overwritten, or read one overwritten, has this commit stamp, which isn't below it.
+pub record IsShut (v : View) (seat : ℕ) (w : Work) (succ pred : ℕ) : Type 0 where
+  pub over : TransactionRecord
+  pub over_committed : over ∈ history_of v
+  pub overwrites : OverwritesReadOf over (record_of seat w 0 0 0)
+  pub succ_is : over.succ ≡ succ
+  pub before : TransactionRecord
+  pub before_committed : before ∈ history_of v
+  pub counts : ReadsFrom (record_of seat w 0 0 0) before ⊎ OverwritesFrom (record_of seat w 0 0 0) before ⊎ OverwritesReadOf (record_of seat w 0 0 0) before
+  pub pred_is : before.stamp ≡ pred
+  pub closed : succ ≤ pred
+
+-- A read was refused. Where it was read and then excluded, it stays read in the transaction that has ended.
+abbrev pub DidNotRead : View → ℕ → ℕ → RowStop → View → Type 0
+DidNotRead v seat oid stop.ReadsFull t = (t ≡ v) × IsNew (work_at v seat) oid × (length (work_at v seat).reads ≡ READ_LIMIT)
+DidNotRead v seat oid (stop.NotYet other seen) t =
+    (t ≡ v) × IsNew (work_at v seat) oid × (length (work_at v seat).reads < READ_LIMIT) × IsAhead v seat oid (work_at v seat).begin other seen
+DidNotRead v seat oid (stop.Excluded succ pred) t = IsNew (work_at v seat) oid
+    × ((r : VersionRead) × (r.oid ≡ oid) × IsDone v seat (reading r (work_at v seat)) world.aborts t × IsShut v seat (reading r (work_at v seat)) succ pred)
+DidNotRead v seat oid stop.Memory t = t ≡ v
+DidNotRead v seat oid (stop.Owned other number) t = ⊥
+DidNotRead v seat oid (stop.Newer stamp) t = ⊥
+DidNotRead v seat oid stop.WritesFull t = ⊥
+DidNotRead v seat oid (stop.CellsFull drawn) t = ⊥
+DidNotRead v seat oid (stop.OidsFull drawn) t = ⊥
+
+-- a claim is refused only where the object isn't claimed, and but for memory only where one more claim may be made
+abbrev pub MayClaim : Work → ℕ → Type 0
+MayClaim w oid = (is_claimed w.claims oid ≡ false) × (length w.claims < WRITE_LIMIT)
+
+-- A claim, or a write of an object that isn't claimed, was refused.
+abbrev pub DidNotClaim : View → ℕ → ℕ → RowStop → View → Type 0
+DidNotClaim v seat oid stop.WritesFull t = (t ≡ v) × (is_claimed (work_at v seat).claims oid ≡ false) × (length (work_at v seat).claims ≡ WRITE_LIMIT)
+DidNotClaim v seat oid (stop.Owned other number) t =
+    MayClaim (work_at v seat) oid × IsDone v seat (work_at v seat) world.aborts t × IsOwned v seat oid other number
+DidNotClaim v seat oid (stop.Newer stamp) t =
+    MayClaim (work_at v seat) oid × IsDone v seat (work_at v seat) world.aborts t × IsNewer v seat oid stamp
+DidNotClaim v seat oid (stop.CellsFull drawn) t = MayClaim (work_at v seat) oid × (t ≡ v) × (v.opening.cells ≤ drawn)
+DidNotClaim v seat oid (stop.Excluded succ pred) t = MayClaim (work_at v seat) oid
+    × ((c : VersionWritten) × (c.oid ≡ oid) × IsDone v seat (claiming c (work_at v seat)) world.aborts t × IsShut v seat (claiming c (work_at v seat)) succ pred)
+DidNotClaim v seat oid stop.Memory t = (t ≡ v) × (is_claimed (work_at v seat).claims oid ≡ false)
+DidNotClaim v seat oid (stop.NotYet other seen) t = ⊥
+DidNotClaim v seat oid stop.ReadsFull t = ⊥
+DidNotClaim v seat oid (stop.OidsFull drawn) t = ⊥
+
+-- A new object was refused.
+abbrev pub DidNotMake : View → ℕ → RowStop → View → Type 0
+DidNotMake v seat (stop.OidsFull drawn) t = (t ≡ v) × (OID_LIMIT ≤ drawn)
+DidNotMake v seat stop.Memory t = t ≡ v
+DidNotMake v seat (stop.NotYet other seen) t = ⊥
+DidNotMake v seat stop.ReadsFull t = ⊥
+DidNotMake v seat (stop.Owned other number) t = ⊥
+DidNotMake v seat (stop.Newer stamp) t = ⊥
+DidNotMake v seat stop.WritesFull t = ⊥
+DidNotMake v seat (stop.CellsFull drawn) t = ⊥
+DidNotMake v seat (stop.Excluded succ pred) t = ⊥
+
+-- SEAL. The commit stamp is the end of the log, which the block moves on by its size.
+pub record DidSeal (v : View) (seat stamp : ℕ) (t : View) : Type 0 where
+  pub stamp_is : stamp ≡ v.tail
+  pub own : t.session seat ≡ record { over = (v.session seat).over; stand = world.sealed (work_at v seat) stamp }
+  pub others : (q : ℕ) → q ≢ seat → t.session q ≡ v.session q
+  pub opening : t.opening ≡ v.opening
+  pub tail : t.tail ≡ v.tail + size_of (work_at v seat)
+  pub flushed : t.flushed ≡ v.flushed
+
+-- SETTLE, of a transaction with this stamp. Committed with the definitions' numbers, the window open; or excluded with them, the
+-- window closed.
+abbrev pub Settled : View → ℕ → Work → ℕ → Outcome → View → Type 0
+Settled v seat w stamp (Committed r) t = IsDone v seat w (world.commits stamp r.succ r.pred) t
+    × (r.number ≡ w.number) × (r.stamp ≡ stamp) × (r.end ≡ stamp + size_of w)
+    × IsSuccessorStamp (history_of t) (λ u. u.succ) (record_of seat w stamp r.succ r.pred)
+    × IsPredecessorStamp (history_of t) r.pred (record_of seat w stamp r.succ r.pred) × (r.pred < r.succ)
+Settled v seat w stamp (Excluded at succ pred) t = IsDone v seat w (world.excluded stamp succ pred) t
+    × (at ≡ stamp)
+    × IsSuccessorStamp (history_of t) (λ u. u.succ) (record_of seat w stamp succ pred)
+    × IsPredecessorStamp (history_of t) pred (record_of seat w stamp succ pred) × (succ ≤ pred)
+
+abbrev pub DidSettle : View → ℕ → Outcome → View → Type 0
+DidSettle v seat outcome t = (w : Work) × (stamp : ℕ) × ((v.session seat).stand ≡ world.sealed w stamp) × Settled v seat w stamp outcome t
+
+-- another session's transaction is sealed with this stamp below the bound, and has claimed an object that this one has read, or
+-- read one that this one has claimed
+pub record IsInTheWay (v : View) (seat : ℕ) (w : Work) (bound other seen : ℕ) : Type 0 where
+  pub session : IsSession v other
+  pub another : other ≢ seat
+  pub work : Work
+  pub stand : (v.session other).stand ≡ world.sealed work seen
+  pub below : seen < bound
+  pub meets : ((r : VersionRead) × (r ∈ w.reads) × (is_claimed work.claims r.oid ≡ true))
+      ⊎ ((c : VersionWritten) × (c ∈ w.claims) × ((r : VersionRead) × (r ∈ work.reads) × (r.oid ≡ c.oid) × (r.stamp ≡ c.stamp)))
+
+-- the log's last words have no room for the block: it ends behind those that are kept from the place flushed on
+abbrev pub IsRingFull : View → Work → ℕ → Type 0
+IsRingFull v w stamp = v.flushed + RING_WORDS < stamp + size_of w
+
+-- a transaction that may not be decided yet stays sealed
+abbrev pub Waits : View → ℕ → Work → ℕ → Wait → Type 0
+Waits v seat w stamp (wait.Ring flushed) = (flushed ≡ v.flushed) × IsRingFull v w stamp
+Waits v seat w stamp (wait.Seat other seen) = (IsRingFull v w stamp → ⊥) × IsInTheWay v seat w stamp other seen
+
+abbrev pub DidNotSettle : View → ℕ → Wait → View → Type 0
+DidNotSettle v seat stop t = (t ≡ v) × ((w : Work) × (stamp : ℕ) × ((v.session seat).stand ≡ world.sealed w stamp) × Waits v seat w stamp stop)
+
+-- ABORT. Nothing stays of the transaction but that it was.
+abbrev pub DidAbort : View → ℕ → View → Type 0
+DidAbort v seat t = IsDone v seat (work_at v seat) world.aborts t

@@ -1,0 +1,28 @@
+//! Why a begin, a settle or a look at the log is refused.
+use erm_model::{Seat, Stamp};
+
+/// Why a transaction doesn't begin. The session stays idle.
+#[derive(Clone, Copy, Debug, PartialEq, Eq)]
+pub enum BeginStop {
+    /// The end of the log, in words, is at or above the place where no transaction begins any more.
+    LogEnd { tail: Stamp },
+    /// The session has no number left for one more transaction.
+    NumbersEnd,
+    /// Memory ran out.
+    Memory,
+}
+
+/// Why a sealed transaction isn't decided yet. It stays sealed, and may be asked again.
+#[derive(Clone, Copy, Debug, PartialEq, Eq)]
+pub enum Wait {
+    /// The ring has no room for its block: all below this place of the log is synced.
+    Ring { flushed: Stamp },
+    /// The transaction of this seat is sealed with the stamp `seen`, below the own one, and may count for it.
+    Seat { seat: Seat, seen: Stamp },
+}
+
+/// A commit isn't on the disk yet: all words of the log below `flushed` are.
+#[derive(Clone, Copy, Debug, PartialEq, Eq)]
+pub struct NotFlushed {
+    pub flushed: Stamp,
+}

@@ -1,0 +1,33 @@
+//! A session of a world as a transaction over rows.
+ghost use Rattle.std.specs.Prelude.{◌≡◌};
+ghost use Rattle.erm_world.specs.Face.{world_face};
+
+use crate::RowWorld;
+use erm_model::{Oid, Row, RowStop, RowTxn, Seat};
+
+/// A world and the seat of one of its sessions: the session's transaction over rows.
+#[derive(Drop)]
+pub struct WorldTxn<'a, W> {
+    pub world: &'a mut W,
+    pub seat: Seat,
+}
+
+impl<'a, W: RowWorld> RowTxn for WorldTxn<'a, W> {
+    ghost face = { world_face W.law (λ s. W.view s.world.now) (λ s. s.seat) (λ s. W.stands s.world.now) (λ s t. t.world.ghost_name ≡ s.world.ghost_name) };
+
+    fn read(&mut self, oid: Oid) -> Result<Row, RowStop> {
+        self.world.read(self.seat, oid)
+    }
+
+    fn claim(&mut self, oid: Oid) -> Result<(), RowStop> {
+        self.world.claim(self.seat, oid)
+    }
+
+    fn write(&mut self, oid: Oid, row: &Row) -> Result<(), RowStop> {
+        self.world.write(self.seat, oid, row)
+    }
+
+    fn fresh(&mut self) -> Result<Oid, RowStop> {
+        self.world.fresh(self.seat)
+    }
+}
