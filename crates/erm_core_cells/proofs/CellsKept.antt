@@ -35,7 +35,7 @@ use Rattle.erm_machine.proofs.QuietKinds.{MeetsOne, moves}
 use Rattle.erm_core_cells.proofs.CellsCounts.{count_cut, count_drop_set}
 use Rattle.erm_core_cells.proofs.CellsSteps.{LeavesAll, leaves}
 use Rattle.erm_core_cells.proofs.CellsGiven.{given, begun_below, has_claim}
-use Rattle.erm_core_cells.proofs.CellsLeaves.{KeepsCells}
+use Rattle.erm_core_cells.proofs.CellsLeaves.{BareAt, KeepsCells}
 use Rattle.erm_core_cells.proofs.CellsLife.{split_leaves, join_leaves}
 use Rattle.erm_core_cells.proofs.CellsMoved.{gained, Installs, install_moves, CutsOff, swap_moves, load_counter_cells, add_object_cells, DrawsCell, add_cell_moves}
 use Rattle.erm_core_cells.proofs.NumbersKept.{cells_raised, objects_raised, LeavesCounters, same_drawn}
@@ -86,8 +86,8 @@ drawn_once limit cell drawn = if ltb cell drawn && ltb cell limit then 1 else 0
 -- a state after a step that moves cells between chains and one seat
 kept_moved : (c : Core) (p : ℕ) (y : Part) (t : Shared) (d : Core) → Sound c → p < ANNOUNCERS → t.cells_drawn ≡ c.shared.cells_drawn → t.cell_limit ≡ c.shared.cell_limit
     → ((cell : ℕ) → in_chains cell t.objects + own_times cell y ≡ in_chains cell c.shared.objects + own_times cell (c.seats p))
-    → WantsCell y y.task → record { shared = t; seats = put c.seats p y } ≡ d → Kept d
-kept_moved c p y t d sound within drawn limit times wants is =
+    → OwnCells y → record { shared = t; seats = put c.seats p y } ≡ d → Kept d
+kept_moved c p y t d sound within drawn limit times fits is =
     subst Kept is (record {
       shared = record {
         once = λ cell.
@@ -95,7 +95,7 @@ kept_moved c p y t d sound within drawn limit times wants is =
             (own_times cell (c.seats p)) (own_times cell y) (total-put (own_times cell) ANNOUNCERS c.seats p y within) (times cell)
             ∙ sound.common.cells.once cell ∙ ap (λ n. drawn_once c.shared.cell_limit cell n) (sym drawn) ∙ ap (λ n. drawn_once n cell t.cells_drawn) (sym limit);
       };
-      own = each_seat (λ _ (z : Part). OwnCells z) c.seats p y (record { wants = wants }) (λ q _. (sound.own q).cells);
+      own = each_seat (λ _ (z : Part). OwnCells z) c.seats p y fits (λ q _. (sound.own q).cells);
     })
 
 -- a state after a step that leaves the cells
@@ -110,7 +110,7 @@ kept_same c p y t d sound drawn limit chains keeps is =
             (chains cell) (total_same (own_times cell) ANNOUNCERS c.seats p y (keeps.times cell))
             ∙ sound.common.cells.once cell ∙ ap (λ n. drawn_once c.shared.cell_limit cell n) (sym drawn) ∙ ap (λ n. drawn_once n cell t.cells_drawn) (sym limit);
       };
-      own = each_seat (λ _ (z : Part). OwnCells z) c.seats p y (record { wants = keeps.wants (sound.own p).cells.wants }) (λ q _. (sound.own q).cells);
+      own = each_seat (λ _ (z : Part). OwnCells z) c.seats p y (record { wants = keeps.wants (sound.own p).cells.wants; bare = keeps.bare (sound.own p).cells.bare }) (λ q _. (sound.own q).cells);
     })
 
 -- a sum where one value grows, or falls, by a number
@@ -154,13 +154,13 @@ install_kept c p oid head d sound e =
     let m = moves c p (kind.Install oid head) d tt e in
     let known = install_known c p oid head d e in
     let v : Option Version = added head (c.seats p) (end_of (c.seats p).task) in
-    let i : Installs (c.seats p) v m.part = install_moves oid head (c.seats p) (c.seats p).task m.part (sound.own p).cells.wants m.after in
+    let i : Installs (c.seats p) v m.part = install_moves oid head (c.seats p) (c.seats p).task m.part (sound.own p).cells.wants (sound.own p).cells.bare m.after in
     let attached = (sound.common.chains.linked oid known).attached in
     kept_moved c p m.part (shared_after p (kind.Install oid head) (word_at c (spot_of p (kind.Install oid head))) (c.seats p) c.shared) d sound (begun_below c p sound i.begun) refl refl
     (λ cell.
     gain_moves (in_chains cell c.shared.objects) (in_chains cell (put c.shared.objects oid (installed head v (c.shared.objects oid)))) (own_times cell (c.seats p)) (own_times cell m.part) (gained cell v)
     (put_gains (chain_times cell) OBJECT_LIMIT c.shared.objects oid (installed head v (c.shared.objects oid)) (gained cell v) known
-    (chain_installed cell head v (c.shared.objects oid) (omega (arith, attached)))) (i.times cell)) i.wants (sym m.is)
+    (chain_installed cell head v (c.shared.objects oid) (omega (arith, attached)))) (i.times cell)) (record { wants = i.wants; bare = i.bare }) (sym m.is)
 
 loss_moves : (chains chains_after own own_after loss : ℕ) → chains_after + loss ≡ chains → own_after ≡ own + loss → chains_after + own_after ≡ chains + own
 loss_moves chains chains_after own own_after loss e f = omega (arith, e, f)
@@ -187,7 +187,8 @@ swap_kept c p v (task.CutFound version horizon) y d sound known on e is =
     loss_moves (in_chains cell c.shared.objects) (in_chains cell (put c.shared.objects v.oid (record (with_version o v.place words) { cut = v.place }))) (own_times cell (c.seats p)) (own_times cell y) off
     (put_loses (chain_times cell) OBJECT_LIMIT c.shared.objects v.oid (record (with_version o v.place words) { cut = v.place }) off known
     (chain_cut cell o v.place words (omega (arith, attached, place_is))))
-    (i.times cell ∙ ap (λ n. own_times cell (c.seats p) + count_by (λ (u : Version). eqb u.cell cell) (drop o.cut (take n o.versions))) (sym place_is))) i.wants is
+    (i.times cell ∙ ap (λ n. own_times cell (c.seats p) + count_by (λ (u : Version). eqb u.cell cell) (drop o.cut (take n o.versions))) (sym place_is)))
+    (record { wants = i.wants; bare = i.bare (subst (λ u. BareAt (c.seats p).current.writes u) on (sound.own p).cells.bare) }) is
 swap_kept c p v _ y d sound known on e is = absurd (cc)
 
 -- one more cell is drawn
@@ -210,7 +211,7 @@ add_cell_kept c p y d sound i is =
             ∙ ap (λ n. n + cond (ltb c.shared.cells_drawn c.shared.cell_limit) (cond (eqb c.shared.cells_drawn cell) 1 0) 0) (sound.common.cells.once cell)
             ∙ sym (drawn_more c.shared.cell_limit cell c.shared.cells_drawn);
       };
-      own = each_seat (λ _ (z : Part). OwnCells z) c.seats p y (record { wants = i.wants }) (λ q _. (sound.own q).cells);
+      own = each_seat (λ _ (z : Part). OwnCells z) c.seats p y (record { wants = i.wants; bare = i.bare }) (λ q _. (sound.own q).cells);
     })
 
 add_kept : (c : Core) (p : ℕ) (counter : Counter) (d : Core) → Sound c → after_event c p (kind.AddCounter counter) ≡ Some d → Kept d
@@ -220,7 +221,7 @@ add_kept c p Objects d sound e =
     (add_object_cells c.shared.cell_limit p c.shared.objects_drawn (c.seats p) (c.seats p).task m.part m.after) (objects_raised c p m.part d sound (sym m.is))
 add_kept c p Cells d sound e =
     let m = moves c p (kind.AddCounter Cells) d tt e in
-    add_cell_kept c p m.part d sound (add_cell_moves c.shared.cell_limit p c.shared.cells_drawn (c.seats p) (c.seats p).task m.part (sound.own p).cells.wants m.after) (cells_raised c p m.part d sound (sym m.is))
+    add_cell_kept c p m.part d sound (add_cell_moves c.shared.cell_limit p c.shared.cells_drawn (c.seats p) (c.seats p).task m.part (sound.own p).cells.wants (sound.own p).cells.bare m.after) (cells_raised c p m.part d sound (sym m.is))
 
 -- a part of one seat changes, and nothing that is shared
 part_kept : (c : Core) (p : ℕ) (y : Part) (d : Core) → Sound c → KeepsCells (c.seats p) (c.seats p).task y → record c { seats = put c.seats p y } ≡ d → Kept d

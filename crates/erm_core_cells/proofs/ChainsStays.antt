@@ -1,5 +1,5 @@
 -- Which steps leave the version in hand, or let it go; and when a seat begins.
-use Rattle.std.proofs.Common.{◌≡◌, ℕ, ◌⊎◌, Bool, List, Option, Some, None, refl, sym, subst, inl, inr}
+use Rattle.std.proofs.Common.{◌≡◌, ℕ, ◌⊎◌, Bool, Option, Some, None, refl, sym, subst, inl, inr}
 use Rattle.std.specs.Prelude.{if◌then◌else◌}
 use Rattle.erm_machine.specs.declared.event.Counter.{Counter}
 use Rattle.erm_machine.specs.declared.event.Counter.TheVariants.{Objects, Cells}
@@ -9,7 +9,6 @@ use Rattle.erm_machine.specs.declared.event.TailUse.{TailUse}
 use Rattle.erm_machine.specs.declared.event.TailUse.TheVariants as purpose
 use Rattle.erm_machine.specs.declared.part.Flushing.{Flushing}
 use Rattle.erm_machine.specs.declared.part.Flushing.TheVariants as flushing
-use Rattle.erm_machine.specs.declared.part.GatheredBlock.{GatheredBlock}
 use Rattle.erm_machine.specs.declared.part.Part.{Part}
 use Rattle.erm_machine.specs.declared.place.Place.{Place}
 use Rattle.erm_machine.specs.declared.place.Place.TheVariants.{Idle, Begun, Announced, Active, Sealing, Drawn, Sealed, Decided, Leaving}
@@ -24,10 +23,11 @@ use Rattle.erm_machine.specs.Facts.{HasBegun}
 use Rattle.erm_machine.specs.Flushing.{load_flushed, gathered_word, load_ring, write_log, after_sync, sync_log, clear_ring, store_flushed, write_slot, sync_slot, remove_log, sync_removal}
 use Rattle.erm_machine.specs.Life.{load_tail_to_begin, load_tail_for_horizon, load_tail_to_gather, load_tail, add_tail, store_begin, store_state, load_begin, load_state, decide}
 use Rattle.erm_machine.specs.Reading.{load_counter, add_counter, start_row, store_row_word}
-use Rattle.erm_machine.specs.Seat.{end_of}
+use Rattle.erm_machine.specs.Seat.{end_of, with_task}
 use Rattle.erm_machine.specs.Settling.{load_flushed_to_settle, load_read_entry, load_readers, load_settled_stamp, store_ring, raise_reader, store_head_word, store_active_word, store_cell, mark_overwritten, install_claim, adds_version, install_new, release_old, unclaim, install, clear_reader, filled}
 use Rattle.erm_machine.specs.Step.{part_after}
 use Rattle.erm_machine.specs.Tasks.{TaskFits, OwnTask}
+use Rattle.erm_machine.specs.Words.{is_flusher}
 use Rattle.erm_machine.proofs.Guards.{when_then, some_then, unless_then, if_then, either_way}
 use Rattle.erm_machine.proofs.Quiet.{Quiet}
 use Rattle.erm_machine.proofs.QuietKinds.{IsQuiet, quiet_kind}
@@ -186,28 +186,26 @@ s_clear_reader : (v : VersionAt) (x : Part) (o : Option (ℕ × ℕ × ℕ × �
 s_clear_reader v x None y e = absurd (cc)
 s_clear_reader v x (Some n) y e = when_then (Stays x) _ _ y e (λ _. lets_go_from x _ tt)
 
-s_to_settle : (found : ℕ) (x : Part) (t : Task) → Stays x (load_flushed_to_settle found x t)
-s_to_settle found x task.Rest = lets_go x _ (search (bare_if, bare_from))
-s_to_settle found x _ = stays_same x _ refl refl
+s_to_settle : (found : ℕ) (x : Part) → Stays x (load_flushed_to_settle found x)
+s_to_settle found x = either_way (Stays x) _ (with_task (task.Settles 0 0) x) x (λ _. lets_go_from x (with_task (task.Settles 0 0) x) tt) (λ _. stays_same x x refl refl)
 
 s_load_flushed : (found : ℕ) (x : Part) (f : Flushing) (y : Part) → load_flushed found x f ≡ Some y → Stays x y
 s_load_flushed found x (flushing.Tail tail) y e = some_then (Stays x) _ y e (stays_same x _ refl refl)
-s_load_flushed found x _ y e = when_then (Stays x) _ _ y e (λ _. s_to_settle found x x.task)
+s_load_flushed found x _ y e = when_then (Stays x) _ _ y e (λ _. s_to_settle found x)
 
 s_if : (x : Part) (b : Bool) (l r : Part) → Stays x l → Stays x r → Stays x (if b then l else r)
 s_if x b l r f g = either_way (Stays x) b l r (λ _. f) (λ _. g)
 
 -- the flush seat's own fields change
-s_flushing : (x : Part) (f : Flushing) (ws : List ℕ) (bs : List GatheredBlock) (to synced : ℕ) →
-    Stays x (record x { flushing = f; words = ws; gathered = bs; gathered_to = to; synced = synced })
-s_flushing x f ws bs to synced = stays_same x _ refl refl
+s_flushing : (x : Part) (f : Flushing) (to synced : ℕ) → Stays x (record x { flushing = f; gathered_to = to; synced = synced })
+s_flushing x f to synced = stays_same x _ refl refl
 
-s_gathered : (tail from block next end w : ℕ) (x : Part) → Stays x (gathered_word tail from block next end w x)
-s_gathered tail from block next end w x = either_way (Stays x) _ _ _ (λ _. s_flushing x _ _ _ _ _) (λ _. s_flushing x _ _ _ _ _)
+s_gathered : (tail from block next end : ℕ) (x : Part) → Stays x (gathered_word tail from block next end x)
+s_gathered tail from block next end x = either_way (Stays x) _ _ _ (λ _. s_flushing x _ _ _) (λ _. s_flushing x _ _ _)
 
 s_load_ring : (at found : ℕ) (x : Part) (f : Flushing) (y : Part) → load_ring at found x f ≡ Some y → Stays x y
 s_load_ring at found x (flushing.Gathers tail from block next end) y e =
-    when_then (Stays x) _ _ y e (λ _. s_if x _ _ _ (s_gathered tail from block next end found x) (s_if x _ _ _ (stays_same x x refl refl) (s_gathered tail from next next _ found x)))
+    when_then (Stays x) _ _ y e (λ _. s_if x _ _ _ (s_gathered tail from block next end x) (s_if x _ _ _ (stays_same x x refl refl) (s_gathered tail from next next _ x)))
 s_load_ring at found x _ y e = absurd (cc)
 
 s_write_log : (segment : ℕ) (x : Part) (f : Flushing) (y : Part) → write_log segment x f ≡ Some y → Stays x y
@@ -216,7 +214,7 @@ s_write_log segment x (flushing.Puts from to written) y e = when_then (Stays x) 
 s_write_log segment x _ y e = absurd (cc)
 
 s_after_sync : (from to synced : ℕ) (x : Part) → Stays x (after_sync from to synced x)
-s_after_sync from to synced x = either_way (Stays x) _ _ _ (λ _. s_flushing x _ _ _ _ _) (λ _. s_flushing x _ _ _ _ _)
+s_after_sync from to synced x = either_way (Stays x) _ _ _ (λ _. s_flushing x _ _ _) (λ _. s_flushing x _ _ _)
 
 s_sync_log : (segment : ℕ) (x : Part) (f : Flushing) (y : Part) → sync_log segment x f ≡ Some y → Stays x y
 s_sync_log segment x (flushing.Puts from to written) y e = when_then (Stays x) _ _ y e (λ _. s_after_sync from to 1 x)
@@ -259,11 +257,12 @@ s_add_tail : (seat size found : ℕ) (x : Part) (pl : Place) (y : Part) → add_
 s_add_tail seat size found x (Sealing tail) y e = when_then (Stays x) _ _ y e (λ _. stays_same x _ refl refl)
 s_add_tail seat size found x _ y e = absurd (cc)
 
-s_store_begin : (value : ℕ) (x : Part) (pl : Place) (y : Part) → store_begin value x pl ≡ Some y → Stays x y
-s_store_begin value x (Begun tail) y e = when_then (Stays x) _ _ y e (λ _. stays_same x _ refl refl)
-s_store_begin value x (Active tail) y e = when_then (Stays x) _ _ y e (λ _. lets_go_from x _ tt)
-s_store_begin value x (Decided tail stamp) y e = when_then (Stays x) _ _ y e (λ _. lets_go_from x _ tt)
-s_store_begin value x _ y e = absurd (cc)
+s_store_begin : (seat value : ℕ) (x : Part) (pl : Place) (y : Part) → store_begin seat value x pl ≡ Some y → Stays x y
+s_store_begin seat value x (Begun tail) y e = when_then (Stays x) _ _ y e (λ _. stays_same x _ refl refl)
+s_store_begin seat value x (Active tail) y e =
+    when_then (Stays x) _ _ y e (λ _. either_way (Stays x) (is_flusher seat) _ _ (λ _. lets_go_from x _ tt) (λ _. lets_go_from x _ tt))
+s_store_begin seat value x (Decided tail stamp) y e = when_then (Stays x) _ _ y e (λ _. lets_go_from x _ tt)
+s_store_begin seat value x _ y e = absurd (cc)
 
 s_store_state : (seat value : ℕ) (x : Part) (pl : Place) (y : Part) → TaskFits pl x.current x.task → store_state seat value x pl ≡ Some y → Stays x y
 s_store_state seat value x (Active tail) y rests e = when_then (Stays x) _ _ y e (λ _. lets_go_from x _ tt)
@@ -297,7 +296,7 @@ stays_kind p (kind.LoadTail purpose.Begin) found s x y n own e = s_begin p found
 stays_kind p (kind.LoadTail purpose.Horizon) found s x y n own e = absurd n
 stays_kind p (kind.LoadTail purpose.Gather) found s x y n own e = s_gather p found x y e
 stays_kind p (kind.AddTail size) found s x y n own e = s_add_tail p size found x x.place y e
-stays_kind p (kind.StoreBegin value) found s x y n own e = s_store_begin value x x.place y e
+stays_kind p (kind.StoreBegin value) found s x y n own e = s_store_begin p value x x.place y e
 stays_kind p (kind.StoreState value) found s x y n own e = s_store_state p value x x.place y own.fits e
 stays_kind p (kind.LoadBegin other) found s x y n own e = absurd n
 stays_kind p (kind.LoadState other bound) found s x y n own e = absurd n
@@ -363,11 +362,13 @@ b_add_tail : (seat size now found : ℕ) (x : Part) (pl : Place) (y : Part) → 
 b_add_tail seat size now found x (Sealing tail) y is e = when_then (Starts now x) _ _ y e (λ _. record { starts = λ _. inl (subst HasBegun (sym is) tt, refl) })
 b_add_tail seat size now found x _ y is e = absurd (cc)
 
-b_store_begin : (value now : ℕ) (x : Part) (pl : Place) (y : Part) → store_begin value x pl ≡ Some y → Starts now x y
-b_store_begin value now x (Begun tail) y e = when_then (Starts now x) _ _ y e (λ _. record { starts = λ h. absurd h })
-b_store_begin value now x (Active tail) y e = when_then (Starts now x) _ _ y e (λ _. record { starts = λ h. absurd h })
-b_store_begin value now x (Decided tail stamp) y e = when_then (Starts now x) _ _ y e (λ _. record { starts = λ h. absurd h })
-b_store_begin value now x _ y e = absurd (cc)
+b_store_begin : (seat value now : ℕ) (x : Part) (pl : Place) (y : Part) → store_begin seat value x pl ≡ Some y → Starts now x y
+b_store_begin seat value now x (Begun tail) y e = when_then (Starts now x) _ _ y e (λ _. record { starts = λ h. absurd h })
+b_store_begin seat value now x (Active tail) y e =
+    when_then (Starts now x) _ _ y e (λ _.
+    either_way (Starts now x) (is_flusher seat) _ _ (λ _. record { starts = λ h. absurd h }) (λ _. record { starts = λ h. absurd h }))
+b_store_begin seat value now x (Decided tail stamp) y e = when_then (Starts now x) _ _ y e (λ _. record { starts = λ h. absurd h })
+b_store_begin seat value now x _ y e = absurd (cc)
 
 b_store_state : (seat value now : ℕ) (x : Part) (pl : Place) (y : Part) → x.place ≡ pl → store_state seat value x pl ≡ Some y → Starts now x y
 b_store_state seat value now x (Active tail) y is e = when_then (Starts now x) _ _ y e (λ _. record { starts = λ _. inl (subst HasBegun (sym is) tt, refl) })
@@ -392,7 +393,7 @@ b_quiet p k now found s x y q e = starts_quiet now x y (quiet_kind p k found s x
 pub starts_kind : (p : ℕ) (k : Kind) (c : Core) (y : Part) → part_after p k (word_at c (spot_of p k)) c.shared (c.seats p) ≡ Some y → Starts c.shared.tail (c.seats p) y
 starts_kind p (kind.LoadTail reason) c y e = b_load_tail p reason c.shared.tail (c.seats p) y e
 starts_kind p (kind.AddTail size) c y e = b_add_tail p size c.shared.tail c.shared.tail (c.seats p) (c.seats p).place y refl e
-starts_kind p (kind.StoreBegin value) c y e = b_store_begin value c.shared.tail (c.seats p) (c.seats p).place y e
+starts_kind p (kind.StoreBegin value) c y e = b_store_begin p value c.shared.tail (c.seats p) (c.seats p).place y e
 starts_kind p (kind.StoreState value) c y e = b_store_state p value c.shared.tail (c.seats p) (c.seats p).place y refl e
 starts_kind p (kind.LoadBegin other) c y e = b_load_begin other (word_at c (spot_of p (kind.LoadBegin other))) c.shared.tail (c.seats p) (c.seats p).task y e
 starts_kind p (kind.LoadState other bound) c y e = b_load_state p other bound (word_at c (spot_of p (kind.LoadState other bound))) c.shared.tail (c.seats p) y e

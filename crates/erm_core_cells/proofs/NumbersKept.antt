@@ -1,5 +1,5 @@
 -- Each event keeps the counters below their limits, and what was made apart.
-use Rattle.std.proofs.Common.{◌≡◌, ◌≢◌, ℕ, ◌+◌, ◌%◌, ◌^◌, ◌<◌, ◌≤◌, ◌⊎◌, ⊎_elim, inl, inr, Bool, true, false, ltb, List, [], ◌∷◌, ◌++◌, length, Option, Some, None, refl, sym, ap, ◌∙◌, subst, arith, append_assoc}
+use Rattle.std.proofs.Common.{◌≡◌, ◌≢◌, ℕ, ◌+◌, ◌%◌, ◌^◌, ◌<◌, ◌≤◌, ◌⊎◌, ⊎_elim, inl, inr, Bool, true, false, ltb, List, [], ◌∷◌, ◌++◌, length, Option, Some, None, refl, sym, ap, ◌∙◌, subst, arith, append_assoc, length-append}
 use Rattle.std.specs.Prelude.{if◌then◌else◌, slice_index, flat_map}
 use Rattle.std.proofs.Math.Nat.{mod-eq_of_lt}
 use Rattle.std.proofs.lemmas.Bool.{and_parts, cases_lt, ltb-true}
@@ -25,7 +25,7 @@ use Rattle.erm_machine.proofs.Frames.{each_seat, each_two, total-put}
 use Rattle.erm_machine.proofs.Guards.{when_then, either_way}
 use Rattle.erm_machine.proofs.QuietKinds.{MeetsOne, moves, begun_active}
 use Rattle.erm_core_cells.proofs.CellsGiven.{given, begun_below, total_falls, total_ones}
-use Rattle.erm_core_cells.proofs.CellsLeaves.{KeepsMade}
+use Rattle.erm_core_cells.proofs.CellsLeaves.{IsFront, KeepsMade, front_same}
 use Rattle.erm_core_cells.proofs.CellsLife.{split_leaves, join_leaves}
 use Rattle.erm_core_cells.proofs.NumbersMade.{LeavesMade, leaves_made}
 
@@ -35,43 +35,74 @@ pub record Kept (d : Core) : Type 0 where
   pub made : (p : ℕ) → OwnMade d.shared (d.seats p)
   pub apart : (p q : ℕ) → p ≢ q → MadeApart (d.seats p) (d.seats q)
 
--- the numbers made by a seat are below the counter, each once
-pub record Drawn (ms : List ℕ) (n : ℕ) : Type 0 where
+-- the numbers made by a seat are from the first one on and below the counter, each once
+pub record Drawn (first : ℕ) (ms : List ℕ) (n : ℕ) : Type 0 where
+  pub from : (k : ℕ) → k < length ms → first ≤ slice_index ms k
   pub drawn : (k : ℕ) → k < length ms → slice_index ms k < n
   pub once : (j k : ℕ) → j < k → k < length ms → slice_index ms j ≢ slice_index ms k
 
-made_from : (s : Shared) (x : Part) (ms : List ℕ) → made_of x ≡ ms → Drawn ms s.objects_drawn → OwnMade s x
+made_from : (s : Shared) (x : Part) (ms : List ℕ) → made_of x ≡ ms → Drawn s.first ms s.objects_drawn → OwnMade s x
 made_from s x ms is d =
-    let e : Drawn (made_of x) s.objects_drawn = subst (λ ls. Drawn ls s.objects_drawn) (sym is) d in
-    record { drawn = e.drawn; once = e.once }
+    let e : Drawn s.first (made_of x) s.objects_drawn = subst (λ ls. Drawn s.first ls s.objects_drawn) (sym is) d in
+    record { from = e.from; drawn = e.drawn; once = e.once }
 
-drawn_of_made : (s : Shared) (x : Part) → OwnMade s x → Drawn (made_of x) s.objects_drawn
-drawn_of_made s x own = record { drawn = own.drawn; once = own.once }
+drawn_of_made : (s : Shared) (x : Part) → OwnMade s x → Drawn s.first (made_of x) s.objects_drawn
+drawn_of_made s x own = record { from = own.from; drawn = own.drawn; once = own.once }
 
-drawn_later : (ms : List ℕ) (n m : ℕ) → n ≤ m → Drawn ms n → Drawn ms m
-drawn_later ms n m grows d = record { drawn = λ k within. let h = d.drawn k within in omega (arith, h, grows); once = d.once }
+drawn_later : (first : ℕ) (ms : List ℕ) (n m : ℕ) → n ≤ m → Drawn first ms n → Drawn first ms m
+drawn_later first ms n m grows d = record { from = d.from; drawn = λ k within. let h = d.drawn k within in omega (arith, h, grows); once = d.once }
+
+-- the front of a list
+at_front : (ms ns : List ℕ) (f : IsFront ms ns) (k : ℕ) → k < length ms → (k < length ns) × (slice_index ms k ≡ slice_index ns k)
+at_front ms ns f k within =
+    let e : slice_index (ms ++ f.rest) k ≡ slice_index ms k = get_or_append_left ms f.rest 0 k within in
+    let size : length (ms ++ f.rest) ≡ length ms + length f.rest = length-append ms f.rest in
+    (subst (λ (ls : List ℕ). k < length ls) f.is (omega (arith, size, within)), sym e ∙ ap (λ (ls : List ℕ). slice_index ls k) f.is)
+
+drawn_front : (first : ℕ) (ms ns : List ℕ) (n : ℕ) → IsFront ms ns → Drawn first ns n → Drawn first ms n
+drawn_front first ms ns n f d = record {
+  from = λ k within. let at = at_front ms ns f k within in subst (λ m. first ≤ m) (sym at.1) (d.from k at.0);
+  drawn = λ k within. let at = at_front ms ns f k within in subst (λ m. m < n) (sym at.1) (d.drawn k at.0);
+  once = λ j k before within e.
+      let at = at_front ms ns f k within in
+      let at_first = at_front ms ns f j (omega (arith, before, within)) in
+      d.once j k before at.0 (sym at_first.1 ∙ e ∙ at.1);
+}
 
 -- no number stands in both lists
 abbrev Apart : List ℕ → List ℕ → Type 0
 Apart ms ns = (j k : ℕ) → j < length ms → k < length ns → slice_index ms j ≢ slice_index ns k
 
+apart_front : (ms ls ns : List ℕ) → IsFront ms ls → Apart ls ns → Apart ms ns
+apart_front ms ls ns f apart = λ j k first second e. let at = at_front ms ls f j first in apart j k at.0 second (sym at.1 ∙ e)
+
 -- what the changed seat made, below a counter, and apart from what the others made
 record NewMade (c : Core) (p n : ℕ) (y : Part) : Type 0 where
-  pub own : Drawn (made_of y) n
+  pub own : Drawn c.shared.first (made_of y) n
   pub left : (q : ℕ) → q ≢ p → Apart (made_of y) (made_of (c.seats q))
   pub right : (q : ℕ) → q ≢ p → Apart (made_of (c.seats q)) (made_of y)
 
 -- a seat that made no more
-same_made : (c : Core) (p n : ℕ) (y : Part) → Sound c → c.shared.objects_drawn ≤ n → made_of y ≡ made_of (c.seats p) → NewMade c p n y
+same_made : (c : Core) (p n : ℕ) (y : Part) → Sound c → c.shared.objects_drawn ≤ n → IsFront (made_of y) (made_of (c.seats p)) → NewMade c p n y
 same_made c p n y sound grows is = record {
-  own = subst (λ ms. Drawn ms n) (sym is) (drawn_later (made_of (c.seats p)) c.shared.objects_drawn n grows (drawn_of_made c.shared (c.seats p) (sound.own p).made));
-  left = λ q ne. subst (λ ms. Apart ms (made_of (c.seats q))) (sym is) ((sound.both p q (λ e. ne (sym e))).made.apart);
-  right = λ q ne. subst (λ ms. Apart (made_of (c.seats q)) ms) (sym is) ((sound.both q p ne).made.apart);
+  own = drawn_front c.shared.first (made_of y) (made_of (c.seats p)) n is
+      (drawn_later c.shared.first (made_of (c.seats p)) c.shared.objects_drawn n grows (drawn_of_made c.shared (c.seats p) (sound.own p).made));
+  left = left;
+  right = λ q ne j k first second e. left q ne k j second first (sym e);
 }
+  where
+    left : (q : ℕ) → q ≢ p → Apart (made_of y) (made_of (c.seats q))
+    left q ne = apart_front (made_of y) (made_of (c.seats p)) (made_of (c.seats q)) is ((sound.both p q (λ e. ne (sym e))).made.apart)
 
 -- a number that is above all others
-drawn_push : (ms : List ℕ) (n : ℕ) → Drawn ms n → Drawn (ms ++ n ∷ []) (n + 1)
-drawn_push ms n d = record {
+drawn_push : (first : ℕ) (ms : List ℕ) (n : ℕ) → first ≤ n → Drawn first ms n → Drawn first (ms ++ n ∷ []) (n + 1)
+drawn_push first ms n low d = record {
+  from = λ k within.
+      let size = length_push ms n in
+      ⊎_elim
+      (λ (old : k < length ms). let e : slice_index (ms ++ n ∷ []) k ≡ slice_index ms k = get_or_append_left ms (n ∷ []) 0 k old in let h = d.from k old in omega (arith, e, h))
+      (λ (past : length ms ≤ k). let e : slice_index (ms ++ n ∷ []) k ≡ n = get_or_push ms n 0 k (omega (arith, size, within, past)) in omega (arith, e, low))
+      (cases_lt k (length ms));
   drawn = λ k within.
       let size = length_push ms n in
       ⊎_elim
@@ -80,15 +111,15 @@ drawn_push ms n d = record {
       (cases_lt k (length ms));
   once = λ j k before within.
       let size = length_push ms n in
-      let first : j < length ms = omega (arith, size, within, before) in
-      let at_first : slice_index (ms ++ n ∷ []) j ≡ slice_index ms j = get_or_append_left ms (n ∷ []) 0 j first in
+      let earlier : j < length ms = omega (arith, size, within, before) in
+      let at_first : slice_index (ms ++ n ∷ []) j ≡ slice_index ms j = get_or_append_left ms (n ∷ []) 0 j earlier in
       ⊎_elim
       (λ (old : k < length ms).
       let e : slice_index (ms ++ n ∷ []) k ≡ slice_index ms k = get_or_append_left ms (n ∷ []) 0 k old in
       λ (same : slice_index (ms ++ n ∷ []) j ≡ slice_index (ms ++ n ∷ []) k). d.once j k before old (sym at_first ∙ same ∙ e))
       (λ (past : length ms ≤ k).
       let e : slice_index (ms ++ n ∷ []) k ≡ n = get_or_push ms n 0 k (omega (arith, size, within, past)) in
-      let h = d.drawn j first in
+      let h = d.drawn j earlier in
       λ (same : slice_index (ms ++ n ∷ []) j ≡ slice_index (ms ++ n ∷ []) k). omega (arith, e, h, at_first, same))
       (cases_lt k (length ms));
 }
@@ -108,7 +139,8 @@ apart_push ms ns n below apart = λ j k first second.
 
 more_made : (c : Core) (p : ℕ) (y : Part) → Sound c → made_of y ≡ made_of (c.seats p) ++ c.shared.objects_drawn ∷ [] → NewMade c p (c.shared.objects_drawn + 1) y
 more_made c p y sound is = record {
-  own = subst (λ ms. Drawn ms (c.shared.objects_drawn + 1)) (sym is) (drawn_push (made_of (c.seats p)) c.shared.objects_drawn (drawn_of_made c.shared (c.seats p) (sound.own p).made));
+  own = subst (λ ms. Drawn c.shared.first ms (c.shared.objects_drawn + 1)) (sym is)
+      (drawn_push c.shared.first (made_of (c.seats p)) c.shared.objects_drawn sound.common.counters.first (drawn_of_made c.shared (c.seats p) (sound.own p).made));
   left = left;
   right = λ q ne j k first second e. left q ne k j second first (sym e);
 }
@@ -118,14 +150,15 @@ more_made c p y sound is = record {
         subst (λ ms. Apart ms (made_of (c.seats q))) (sym is)
         (apart_push (made_of (c.seats p)) (made_of (c.seats q)) c.shared.objects_drawn (sound.own q).made.drawn (sound.both p q (λ e. ne (sym e))).made.apart)
 
-kept_from : (c : Core) (p : ℕ) (y : Part) (t : Shared) (d : Core) → Sound c → Counters t (put c.seats p y) → c.shared.objects_drawn ≤ t.objects_drawn
+kept_from : (c : Core) (p : ℕ) (y : Part) (t : Shared) (d : Core) → Sound c → t.first ≡ c.shared.first → Counters t (put c.seats p y) → c.shared.objects_drawn ≤ t.objects_drawn
     → NewMade c p t.objects_drawn y → record { shared = t; seats = put c.seats p y } ≡ d → Kept d
-kept_from c p y t d sound counters grows new is =
+kept_from c p y t d sound first counters grows new is =
     subst Kept is (record {
       counters = counters;
-      made = each_seat (λ _ (z : Part). OwnMade t z) c.seats p y (made_from t y (made_of y) refl new.own)
+      made = each_seat (λ _ (z : Part). OwnMade t z) c.seats p y (made_from t y (made_of y) refl (subst (λ n. Drawn n (made_of y) t.objects_drawn) (sym first) new.own))
           (λ q _. made_from t (c.seats q) (made_of (c.seats q)) refl
-          (drawn_later (made_of (c.seats q)) c.shared.objects_drawn t.objects_drawn grows (drawn_of_made c.shared (c.seats q) (sound.own q).made)));
+          (subst (λ n. Drawn n (made_of (c.seats q)) t.objects_drawn) (sym first)
+          (drawn_later c.shared.first (made_of (c.seats q)) c.shared.objects_drawn t.objects_drawn grows (drawn_of_made c.shared (c.seats q) (sound.own q).made))));
       apart = each_two (λ (x : Part) _ (z : Part). MadeApart x z) c.seats p y
           (λ q ne. record { apart = new.left q ne })
           (λ q ne. record { apart = new.right q ne })
@@ -133,12 +166,13 @@ kept_from c p y t d sound counters grows new is =
     })
 
 -- the counters, where no seat is to raise one but where it stands below its limit
-counters_from : (s t : Shared) (seats : ℕ → Part) (p : ℕ) (y : Part) → t.cell_limit ≡ s.cell_limit → t.objects_drawn ≡ s.objects_drawn → t.cells_drawn ≡ s.cells_drawn
+counters_from : (s t : Shared) (seats : ℕ → Part) (p : ℕ) (y : Part) → t.first ≡ s.first → t.cell_limit ≡ s.cell_limit → t.objects_drawn ≡ s.objects_drawn → t.cells_drawn ≡ s.cells_drawn
     → (numbers y.task ≤ numbers (seats p).task) ⊎ (s.objects_drawn < OBJECT_LIMIT)
     → (pools y.task ≤ pools (seats p).task) ⊎ (s.cells_drawn < s.cell_limit)
     → Counters s seats → Counters t (put seats p y)
-counters_from s t seats p y limit objects cells less_numbers less_pools old = record {
+counters_from s t seats p y first limit objects cells less_numbers less_pools old = record {
   limit = subst (λ n. n ≤ MOST_CELLS) (sym limit) old.limit;
+  first = let h = old.first in omega (arith, h, first, objects);
   objects =
       let h = old.objects in
       ⊎_elim
@@ -162,11 +196,11 @@ counters_from s t seats p y limit objects cells less_numbers less_pools old = re
     pools-le _ = omega arith
 
 -- a step that leaves the counters and what was made
-plain_kept : (c : Core) (p : ℕ) (y : Part) (t : Shared) (d : Core) → Sound c → t.cell_limit ≡ c.shared.cell_limit → t.objects_drawn ≡ c.shared.objects_drawn → t.cells_drawn ≡ c.shared.cells_drawn
+plain_kept : (c : Core) (p : ℕ) (y : Part) (t : Shared) (d : Core) → Sound c → t.first ≡ c.shared.first → t.cell_limit ≡ c.shared.cell_limit → t.objects_drawn ≡ c.shared.objects_drawn → t.cells_drawn ≡ c.shared.cells_drawn
     → KeepsMade (c.seats p) (c.seats p).task y → record { shared = t; seats = put c.seats p y } ≡ d → Kept d
-plain_kept c p y t d sound limit objects cells keeps is =
-    kept_from c p y t d sound
-    (counters_from c.shared t c.seats p y limit objects cells (inl keeps.numbers) (inl keeps.pools) sound.common.counters) (omega (arith, objects))
+plain_kept c p y t d sound first limit objects cells keeps is =
+    kept_from c p y t d sound first
+    (counters_from c.shared t c.seats p y first limit objects cells (inl keeps.numbers) (inl keeps.pools) sound.common.counters) (omega (arith, objects))
     (same_made c p t.objects_drawn y sound (omega (arith, objects)) keeps.made) is
 
 -- kinds that raise no counter
@@ -177,8 +211,9 @@ LeavesCounters _ = Unit {0}
 pub same_drawn : (p : ℕ) (k : Kind) (found : ℕ) (x : Part) (s : Shared) → LeavesCounters k
     → ((shared_after p k found x s).objects_drawn ≡ s.objects_drawn) × ((shared_after p k found x s).cells_drawn ≡ s.cells_drawn)
     × ((shared_after p k found x s).cell_limit ≡ s.cell_limit)
+    × ((shared_after p k found x s).first ≡ s.first)
 same_drawn p (kind.AddCounter counter) found x s q = absurd q
-same_drawn p _ found x s q = (refl, refl, refl)
+same_drawn p _ found x s q = (refl, refl, refl, refl)
 
 -- a counter is loaded: where it lies below its limit it is to be raised
 load_kept : (c : Core) (p : ℕ) (counter : Counter) (t : Task) (y : Part) (d : Core) → Sound c → (c.seats p).task ≡ t
@@ -189,27 +224,27 @@ load_kept c p Objects t y d sound on e =
     (λ _ is.
     let u : Task = if ltb c.shared.objects_drawn OBJECT_LIMIT then task.Numbers else task.Rest in
     let z : Part = record (c.seats p) { task = u } in
-    kept_from c p z c.shared d sound
-    (counters_from c.shared c.shared c.seats p z refl refl refl
+    kept_from c p z c.shared d sound refl
+    (counters_from c.shared c.shared c.seats p z refl refl refl refl
     (either_way (λ (v : Task). (numbers v ≤ numbers (c.seats p).task) ⊎ (c.shared.objects_drawn < OBJECT_LIMIT)) (ltb c.shared.objects_drawn OBJECT_LIMIT) task.Numbers task.Rest
     (λ low. inr (ltb-true c.shared.objects_drawn OBJECT_LIMIT low)) (λ _. inl (omega arith)))
     (either_way (λ (v : Task). (pools v ≤ pools (c.seats p).task) ⊎ (c.shared.cells_drawn < c.shared.cell_limit)) (ltb c.shared.objects_drawn OBJECT_LIMIT) task.Numbers task.Rest
     (λ _. inl (omega arith)) (λ _. inl (omega arith)))
     sound.common.counters)
-    (omega arith) (same_made c p c.shared.objects_drawn z sound (omega arith) refl) is)
+    (omega arith) (same_made c p c.shared.objects_drawn z sound (omega arith) (front_same _ _ refl)) is)
 load_kept c p Cells task.Draws y d sound on e =
     when_then (λ z. record { shared = c.shared; seats = put c.seats p z } ≡ d → Kept d) _ _ y e
     (λ _ is.
     let u : Task = if ltb c.shared.cells_drawn c.shared.cell_limit then task.Pool else task.Refused in
     let z : Part = record (c.seats p) { task = u } in
-    kept_from c p z c.shared d sound
-    (counters_from c.shared c.shared c.seats p z refl refl refl
+    kept_from c p z c.shared d sound refl
+    (counters_from c.shared c.shared c.seats p z refl refl refl refl
     (either_way (λ (v : Task). (numbers v ≤ numbers (c.seats p).task) ⊎ (c.shared.objects_drawn < OBJECT_LIMIT)) (ltb c.shared.cells_drawn c.shared.cell_limit) task.Pool task.Refused
     (λ _. inl (omega arith)) (λ _. inl (omega arith)))
     (either_way (λ (v : Task). (pools v ≤ pools (c.seats p).task) ⊎ (c.shared.cells_drawn < c.shared.cell_limit)) (ltb c.shared.cells_drawn c.shared.cell_limit) task.Pool task.Refused
     (λ low. inr (ltb-true c.shared.cells_drawn c.shared.cell_limit low)) (λ _. inl (omega arith)))
     sound.common.counters)
-    (omega arith) (same_made c p c.shared.objects_drawn z sound (omega arith) refl) is)
+    (omega arith) (same_made c p c.shared.objects_drawn z sound (omega arith) (front_same _ _ refl)) is)
 load_kept c p Cells _ y d sound on e = absurd (cc)
 
 -- a counter goes up by one, and doesn't wrap
@@ -220,6 +255,7 @@ raised_objects : (s : Shared) (seats : ℕ → Part) (p : ℕ) (y : Part) → p 
     → Counters s seats → Counters (record s { objects_drawn = s.objects_drawn + 1 }) (put seats p y)
 raised_objects s seats p y within was now other old = record {
   limit = old.limit;
+  first = let h = old.first in omega (arith, h);
   objects = let h = old.objects in let sum = total-put (λ (x : Part). numbers x.task) ANNOUNCERS seats p y within in omega (arith, h, sum, was, now);
   cells = let h = old.cells in let sum = total_falls (λ (x : Part). pools x.task) ANNOUNCERS seats p y (omega (arith, other)) in omega (arith, h, sum);
 }
@@ -228,6 +264,7 @@ raised_cells : (s : Shared) (seats : ℕ → Part) (p : ℕ) (y : Part) → p < 
     → Counters s seats → Counters (record s { cells_drawn = s.cells_drawn + 1 }) (put seats p y)
 raised_cells s seats p y within was now other old = record {
   limit = old.limit;
+  first = old.first;
   objects = let h = old.objects in let sum = total_falls (λ (x : Part). numbers x.task) ANNOUNCERS seats p y (omega (arith, other)) in omega (arith, h, sum);
   cells = let h = old.cells in let sum = total-put (λ (x : Part). pools x.task) ANNOUNCERS seats p y within in omega (arith, h, sum, was, now);
 }
@@ -237,7 +274,7 @@ add_object_kept : (c : Core) (p : ℕ) (y : Part) (d : Core) → Sound c → (c.
     → y ≡ record (c.seats p) { task = task.Rest; current = record (c.seats p).current { made = if ltb c.shared.objects_drawn OBJECT_LIMIT then (c.seats p).current.made ++ c.shared.objects_drawn ∷ [] else (c.seats p).current.made } }
     → record { shared = record c.shared { objects_drawn = c.shared.objects_drawn + 1 }; seats = put c.seats p y } ≡ d → Kept d
 add_object_kept c p y d sound on within is same =
-    kept_from c p y t d sound
+    kept_from c p y t d sound refl
     (raised_objects c.shared c.seats p y within (ap numbers on) (ap (λ (z : Part). numbers z.task) is) (ap (λ (z : Part). pools z.task) is) sound.common.counters)
     (omega arith) new same
   where
@@ -252,16 +289,16 @@ add_object_kept c p y d sound on within is same =
         either_way (λ (ms : List ℕ). made_of y ≡ before ++ ms → NewMade c p (c.shared.objects_drawn + 1) y) (ltb c.shared.objects_drawn OBJECT_LIMIT)
         ((c.seats p).current.made ++ c.shared.objects_drawn ∷ []) (c.seats p).current.made
         (λ _ e. more_made c p y sound (e ∙ sym (append_assoc before (c.seats p).current.made (c.shared.objects_drawn ∷ []))))
-        (λ _ e. same_made c p (c.shared.objects_drawn + 1) y sound (omega arith) e) (ap made_of is)
+        (λ _ e. same_made c p (c.shared.objects_drawn + 1) y sound (omega arith) (front_same _ _ e)) (ap made_of is)
 
 -- the counter of cells is raised
 add_cell_kept : (c : Core) (p : ℕ) (y : Part) (d : Core) → Sound c → (c.seats p).task ≡ task.Pool → p < ANNOUNCERS → numbers y.task ≡ 0 → pools y.task ≡ 0
     → made_of y ≡ made_of (c.seats p)
     → record { shared = record c.shared { cells_drawn = c.shared.cells_drawn + 1 }; seats = put c.seats p y } ≡ d → Kept d
 add_cell_kept c p y d sound on within numbers_none pools_none made same =
-    kept_from c p y (record c.shared { cells_drawn = c.shared.cells_drawn + 1 }) d sound
+    kept_from c p y (record c.shared { cells_drawn = c.shared.cells_drawn + 1 }) d sound refl
     (raised_cells c.shared c.seats p y within (ap pools on) pools_none numbers_none sound.common.counters)
-    (omega arith) (same_made c p c.shared.objects_drawn y sound (omega arith) made) same
+    (omega arith) (same_made c p c.shared.objects_drawn y sound (omega arith) (front_same _ _ made)) same
 
 -- both counters stand far below the greatest word
 pub low_objects : (c : Core) → Sound c → c.shared.objects_drawn < 2 ^ 63
@@ -317,7 +354,7 @@ add_kept c p Cells _ y d sound on e = absurd (cc)
 
 -- a part of one seat changes, and nothing that is shared
 part_kept : (c : Core) (p : ℕ) (y : Part) (d : Core) → Sound c → KeepsMade (c.seats p) (c.seats p).task y → record c { seats = put c.seats p y } ≡ d → Kept d
-part_kept c p y d sound keeps is = plain_kept c p y c.shared d sound refl refl refl keeps is
+part_kept c p y d sound keeps is = plain_kept c p y c.shared d sound refl refl refl refl keeps is
 
 split_kept : (c : Core) (p other : ℕ) (d : Core) → Sound c → after_event c p (kind.Split other) ≡ Some d → Kept d
 split_kept c p other d sound e = by_test _ e
@@ -346,7 +383,7 @@ step_kept : (c : Core) (p : ℕ) (k : Kind) (d : Core) → LeavesMade k → Leav
 step_kept c p k d leaves counters one sound e =
     let m = moves c p k d one e in
     let same = same_drawn p k (word_at c (spot_of p k)) (c.seats p) c.shared counters in
-    plain_kept c p m.part (shared_after p k (word_at c (spot_of p k)) (c.seats p) c.shared) d sound same.2 same.0 same.1
+    plain_kept c p m.part (shared_after p k (word_at c (spot_of p k)) (c.seats p) c.shared) d sound same.3 same.2 same.0 same.1
     (leaves_made p k (word_at c (spot_of p k)) c.shared (c.seats p) m.part leaves (given c p sound) m.after) (sym m.is)
 
 -- Each event keeps the counters, and what was made.

@@ -32,4 +32,6 @@ pub fn openings_are_lawful<L: RowLaw>()
     ensures { (sessions : ℕ) (rows : Rows) (tail run first cells : ℕ) → L.law.meets rows
         → ((oid : ℕ) → first ≤ oid → L.law.reach rows oid ≡ 0)
         → Lawful L.law (opening_state sessions rows tail run first cells).shared (opening_state sessions rows tail run first cells).seats }
-{}
+{
+    L::respects_rows();
+}

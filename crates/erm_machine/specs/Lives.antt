@@ -4,7 +4,7 @@ use Rattle.erm_model.specs.Member.{◌∈◌}
 use Rattle.erm_machine.specs.declared.attempt.Attempt.{Attempt}
 use Rattle.erm_machine.specs.declared.part.Part.{Part}
 use Rattle.erm_machine.specs.declared.place.Place.{Place}
-use Rattle.erm_machine.specs.declared.place.Place.TheVariants.{Vacant, Idle, Begun, Announced}
+use Rattle.erm_machine.specs.declared.place.Place.TheVariants.{Vacant, Idle, Begun, Announced, Sealing, Drawn, Sealed, Decided, Leaving}
 use Rattle.erm_machine.specs.Core.{Shared, blank}
 use Rattle.erm_machine.specs.Facts.{all_of}
 use Rattle.erm_machine.specs.Seat.{has_number}
@@ -24,13 +24,22 @@ IsBeginning (Begun tail) = Unit {0}
 IsBeginning (Announced tail) = Unit {0}
 IsBeginning _ = ⊥
 
+-- a place of the flush seat, whose pins seal nothing
+abbrev pub IsPin : Place → Type 0
+IsPin (Sealing tail) = ⊥
+IsPin (Drawn tail stamp) = ⊥
+IsPin (Sealed tail stamp) = ⊥
+IsPin (Decided tail stamp) = ⊥
+IsPin (Leaving stamp) = ⊥
+IsPin _ = Unit {0}
+
 -- the transaction that was over as the one of that place
 abbrev pub over_at : Part → ℕ → Attempt
 over_at x place = slice_index_or x.over place blank
 
 -- A seat writes its opening's run. Its transactions begin at the opening's place of the log or above, and at most at their
 -- commit stamps; each begins above the stamps of those before. A session's have the numbers from 1 on, in order, and one that
--- begins has a number left; pins of the flush seat leave nothing.
+-- begins has a number left; pins of the flush seat seal and leave nothing.
 pub record OwnLives (s : Shared) (seat : ℕ) (x : Part) : Type 0 where
   pub run : x.run ≡ s.run
   pub opened : (t : Attempt) → t ∈ x.over → s.opening ≤ t.begin
@@ -42,3 +51,4 @@ pub record OwnLives (s : Shared) (seat : ℕ) (x : Part) : Type 0 where
   pub current : in_progress x.place ≡ 1 → x.current.number ≡ x.number
   pub left : IsBeginning x.place → has_number seat x ≡ true
   pub pins : is_flusher seat ≡ true → length x.over ≡ 0
+  pub pinned : is_flusher seat ≡ true → IsPin x.place

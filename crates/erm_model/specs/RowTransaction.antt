@@ -1,8 +1,9 @@
 -- What a transaction over rows means to its caller: which arrays of rows it may have begun on, what it sees, and what
 -- each call does to that. Nothing here knows how rows and versions are kept. The definitions are this project's own.
-use Rattle.std.specs.Prelude.{◌≡◌, ℕ, ◌+◌, ◌≤◌, ◌⊎◌, ◌↔◌, ◌==◌, if◌then◌else◌, Bool, true, false, List, [], ◌∷◌}
+use Rattle.std.specs.Prelude.{◌≡◌, ℕ, ◌+◌, ◌<◌, ◌≤◌, ◌⊎◌, ◌↔◌, ◌==◌, if◌then◌else◌, Bool, true, false, List, [], ◌∷◌}
 use Rattle.erm_model.specs.declared.row_stop.RowStop.{RowStop}
 use Rattle.erm_model.specs.declared.row_stop.RowStop.TheVariants.{NotYet, ReadsFull, Owned, Newer, WritesFull, CellsFull, OidsFull, Excluded, Memory}
+use Rattle.erm_model.specs.declared.limits.TheConstants.{OID_LIMIT}
 use Rattle.erm_model.specs.Rows.{Rows, set_row}
 
 -- what a call did: it read an object's row, claimed an object, set its row, or made a new one
@@ -56,6 +57,16 @@ any_law = record { meets = λ _. Unit {0}; reach = λ _ _. 0 }
 pub record SameLaw (a b : Law) : Type 0 where
   pub meets : (rows : Rows) → a.meets rows ↔ b.meets rows
   pub reach : (rows : Rows) (x : ℕ) → a.reach rows x ≡ b.reach rows x
+
+-- two arrays have the same row of each object that there may be
+abbrev pub SameRows : Rows → Rows → Type 0
+SameRows a b = (oid : ℕ) → oid < OID_LIMIT → a oid ≡ b oid
+
+-- A law looks at the rows of the objects that there may be alone: of two arrays that have the same ones both meet it or neither
+-- does, and where they do, both reach each object equally often.
+pub record RespectsRows (law : Law) : Type 0 where
+  pub meets : (a b : Rows) → SameRows a b → law.meets a ↔ law.meets b
+  pub reach : (a b : Rows) (x : ℕ) → SameRows a b → law.meets a → law.reach a x ≡ law.reach b x
 
 -- what an event tells: a read, that this is the row seen; a new object, that the array begun on doesn't reach it
 abbrev pub Tells : Law → Event → Rows → Rows → Type 0

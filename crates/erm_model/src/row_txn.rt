@@ -1,6 +1,6 @@
 //! A transaction over rows, and the law that its rows keep.
 ghost use Rattle.std.specs.Prelude.{◌<◌, IsOk, OnOk, IfOk, IfErr};
-ghost use Rattle.erm_model.specs.RowTransaction.{any_law, Event, did_read, did_claim, did_write, did_make, asked_read, asked_claim, asked_make, Law, Face, Does, IsRefused, StopsRead, StopsClaim, StopsMake};
+ghost use Rattle.erm_model.specs.RowTransaction.{any_law, RespectsRows, Event, did_read, did_claim, did_write, did_make, asked_read, asked_claim, asked_make, Law, Face, Does, IsRefused, StopsRead, StopsClaim, StopsMake};
 
 use crate::{OID_LIMIT, Oid, Row, RowStop};
 
@@ -8,6 +8,11 @@ use crate::{OID_LIMIT, Oid, Row, RowStop};
 pub trait RowLaw {
     /// Which arrays of rows meet it, and how often such an array reaches an object.
     ghost law: { Law };
+
+    /// It looks at the rows of the objects below `OID_LIMIT` alone: this holds for every two arrays, and the function does
+    /// nothing. How often an array that doesn't meet the law reaches an object may hang on other rows.
+    fn respects_rows()
+        ensures { RespectsRows law };
 }
 
 /// The law that every array of rows meets, and by which it reaches no object.
@@ -15,6 +20,8 @@ pub struct AnyRows;
 
 impl RowLaw for AnyRows {
     ghost law = { any_law };
+
+    fn respects_rows() {}
 }
 
 /// A transaction that reads and writes rows. What it means to its caller is its face: the arrays of rows that it may

@@ -1,9 +1,11 @@
-pub mod Places
-pub mod Shapes
-pub mod Levels
-pub mod Walks
-pub mod Reached
-pub mod Values
-pub mod TableValues
+mod Alike
 pub mod Depth
+pub mod Frames
+pub mod Levels
+pub mod Places
+pub mod Reached
+pub mod Shapes
+pub mod TableValues
+pub mod Values
+pub mod Walks
 pub mod Zeros

@@ -17,6 +17,8 @@ pub struct SoundRows;
 
 impl RowLaw for SoundRows {
     ghost law = { sound_law };
+
+    fn respects_rows() {}
 }
 
 /// A row is a node's exactly where it is spelled so, and no record's row is a node's.

@@ -18,7 +18,7 @@ use Rattle.erm_machine.specs.declared.place.Place.{Place}
 use Rattle.erm_machine.specs.declared.place.Place.TheVariants.{Vacant, Idle}
 use Rattle.erm_machine.specs.Begins.{BeginsAt}
 use Rattle.erm_machine.specs.Bounds.{words_stored}
-use Rattle.erm_machine.specs.Lives.{IsBeginning, OwnLives, in_progress}
+use Rattle.erm_machine.specs.Lives.{IsBeginning, IsPin, OwnLives, in_progress}
 use Rattle.erm_machine.specs.Cells.{chain_times, own_times}
 use Rattle.erm_machine.specs.Chains.{Linked}
 use Rattle.erm_machine.specs.Claims.{ObjectFits, OwnClaims}
@@ -168,6 +168,7 @@ module _ (sessions : ℕ) (rows : Rows) (tail run first cells : ℕ) (few : sess
     current = λ busy. absurd (not_busy busy);
     left = λ beginning. absurd (idle_or (λ pl. IsBeginning pl → ⊥) (is_taken sessions p) (λ n. n) (λ n. n) beginning);
     pins = λ flusher. refl;
+    pinned = λ flusher. idle_or IsPin (is_taken sessions p) tt tt;
   }
     where
       not_busy : in_progress (if is_taken sessions p then Idle else Vacant) ≡ 1 → ⊥

@@ -10,7 +10,7 @@ use Rattle.erm_node.specs.Sound.{IsSound, levels_of, reached, reached_below}
 use Rattle.erm_node.specs.Tree.{IsTree, entries, times}
 use Rattle.erm_node.specs.TreeMap.{table_entries, record_in, value_in}
 use Rattle.erm_tree.proofs.Depths.{levels_of-tree}
-use Rattle.erm_tree.proofs.Frames.{IsKept, IsKept-frame}
+use Rattle.erm_node.proofs.Frames.{IsKept, IsKept-frame}
 use Rattle.erm_tree.proofs.Records.{occurs-entries, occurs-found}
 use Rattle.erm_tree.proofs.Settings.{reached-two}
 use Rattle.erm_tree.proofs.Standing.{reached-table, levels_of-bounds}

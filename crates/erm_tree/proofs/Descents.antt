@@ -11,7 +11,7 @@ use Rattle.erm_tree.specs.Insert.{child_for, with_pair}
 use Rattle.erm_tree.proofs.Fans.{total-append, flat_map-append, Fan-append, Fan-front, Fan-back}
 use Rattle.erm_tree.proofs.Trees.{lookup-Fan_inside, lookup-entries_outside}
 use Rattle.erm_tree.proofs.Nodes.{AreNarrow, AreNarrow-append, AreNarrow-front, AreNarrow-back}
-use Rattle.erm_tree.proofs.Frames.{IsKeptFan, IsKeptFan-frame}
+use Rattle.erm_node.proofs.Frames.{IsKeptFan, IsKeptFan-frame}
 use Rattle.erm_tree.proofs.Insertion.{Inserted, Inserted-between, with_pair-split}
 use Rattle.erm_tree.proofs.Growth.{on_path, on_path-times, HasPairFor, has_pair_for, hands, pairs_with, Content, Grown, Cut, After, Before, AreWritten, narrow_pairs, Content-leaf, After-content}
 

@@ -16,7 +16,7 @@ use Rattle.erm_tree.proofs.Fans.{first_key-append, total-append, total-part, fla
 use Rattle.erm_tree.proofs.Trees.{low_enough}
 use Rattle.erm_tree.proofs.Standing.{flat_map-single}
 use Rattle.erm_tree.proofs.Nodes.{AreNarrow, AreNarrow-append, AreNarrow-front, AreNarrow-back, is_node-parts, IsMade-row}
-use Rattle.erm_tree.proofs.Frames.{IsKeptFan-frame}
+use Rattle.erm_node.proofs.Frames.{IsKeptFan-frame}
 use Rattle.erm_tree.proofs.Insertion.{Each, Inserted, with_pair-split, cut_at}
 
 -- how often an object is among the first ones made, as many as levels and one

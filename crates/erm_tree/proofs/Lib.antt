@@ -10,7 +10,6 @@ pub mod Records
 pub mod Settings
 pub mod Changing
 pub mod Nodes
-pub mod Frames
 pub mod Insertion
 pub mod Growth
 pub mod Descents
