@@ -8,7 +8,7 @@ use Rattle.erm_model.specs.Lawful.{Fits, IsLawfulRecord}
 use Rattle.erm_model.specs.Member.{◌∈◌}
 use Rattle.erm_model.specs.RowTransaction.{Law}
 use Rattle.erm_model.specs.Rows.{Rows}
-use Rattle.erm_world.specs.World.{Finished, Has, HasStamp, IsSession, Session, View, Work, bare, history_of, made_by_all, record_of, size_of, stamp_of, work_at}
+use Rattle.erm_world.specs.World.{Finished, Has, HasStamp, IsSession, Session, View, Work, bare, history_of, made_by_all, record_of, work_at}
 use Rattle.erm_world.specs.World as world
 
 -- an array of rows on which a transaction may have begun
@@ -40,10 +40,10 @@ pub record IsSerializable (law : Law) (v : View) : Type 0 where
   -- the log begins behind 0, and is synced up to a place within it
   pub opened : 0 < v.opening.tail
   pub flushed : (v.opening.tail ≤ v.flushed) × (v.flushed ≤ v.tail)
-  -- transactions begin within the log, and at most where they commit; their blocks end within it, and are of different places
+  -- transactions begin within the log, and at most where they commit, which is within it; no two commit at one place
   pub begins : (seat : ℕ) (w : Work) → IsSession v seat → Has v seat w → (v.opening.tail ≤ w.begin) × (w.begin ≤ v.tail)
   pub stamps : (seat : ℕ) (w : Work) (stamp : ℕ) → IsSession v seat → HasStamp v seat w stamp
-      → (w.begin ≤ stamp) × (stamp + size_of w ≤ v.tail)
+      → (w.begin ≤ stamp) × (stamp < v.tail)
   pub differ : (p q : ℕ) (w u : Work) (stamp : ℕ) → IsSession v p → IsSession v q → HasStamp v p w stamp → HasStamp v q u stamp
       → (p ≡ q) × (w.number ≡ u.number)
   pub numbered : (seat : ℕ) → IsSession v seat → IsNumbered (v.session seat)

@@ -1,0 +1,90 @@
+-- The machine's state as a world of sessions, between two calls.
+use Rattle.std.specs.Prelude.{◌≡◌, ℕ, ◌<◌, ◌≤◌, true, false, [], map}
+use Rattle.erm_model.specs.Member.{◌∈◌}
+use Rattle.erm_machine.specs.declared.attempt.Attempt.{Attempt}
+use Rattle.erm_machine.specs.declared.attempt.Decision.{Decision}
+use Rattle.erm_machine.specs.declared.attempt.Decision.TheVariants.{Undecided, Commit, Skip, Abort}
+use Rattle.erm_machine.specs.declared.part.Part.{Part}
+use Rattle.erm_machine.specs.declared.place.Place.{Place}
+use Rattle.erm_machine.specs.declared.place.Place.TheVariants.{Vacant, Idle, Active, Sealed}
+use Rattle.erm_machine.specs.declared.task.Task.{Task}
+use Rattle.erm_machine.specs.declared.task.Task.TheVariants as task
+use Rattle.erm_machine.specs.Core.{Core}
+use Rattle.erm_machine.specs.Decided.{read_of, written_of}
+use Rattle.erm_machine.specs.Lawful.{opening_rows}
+use Rattle.erm_machine.specs.Seat.{may_start}
+use Rattle.erm_machine.specs.Settling.{may_settle}
+use Rattle.erm_machine.specs.Words.{is_flusher}
+use Rattle.erm_world.specs.World.{Fate, Finished, Session, Stand, View, Work}
+use Rattle.erm_world.specs.World as world
+
+-- what a transaction has done
+abbrev pub work_of : Attempt → Work
+work_of t = record {
+  number = t.number;
+  begin = t.begin;
+  reads = map read_of t.reads;
+  claims = map written_of t.writes;
+  made = t.made;
+}
+
+-- how it ended
+abbrev pub fate_of : Decision → Attempt → Fate
+fate_of Commit t = world.commits t.stamp t.succ t.pred
+fate_of Skip t = world.excluded t.stamp t.succ t.pred
+fate_of Abort t = world.aborts
+fate_of Undecided t = world.aborts
+
+abbrev pub finished_of : Attempt → Finished
+finished_of t = record { work = work_of t; fate = fate_of t.decision t }
+
+-- where a session stands: what it does in a call in progress doesn't show
+abbrev pub stand_of : Place → Attempt → Stand
+stand_of (Active tail) t = world.active (work_of t)
+stand_of (Sealed tail stamp) t = world.sealed (work_of t) stamp
+stand_of p t = world.idle
+
+abbrev pub session_of : Part → Session
+session_of x = record { over = map finished_of x.over; stand = stand_of x.place x.current }
+
+-- the state as a world of so many sessions
+abbrev pub view_of : ℕ → Core → View
+view_of sessions c = record {
+  opening = record {
+    rows = opening_rows c.shared;
+    tail = c.shared.opening;
+    first = c.shared.first;
+    cells = c.shared.cell_limit;
+    sessions = sessions;
+  };
+  session = λ q. session_of (c.seats q);
+  tail = c.shared.tail;
+  flushed = c.shared.flushed;
+}
+
+-- A session between two calls: without a transaction, active where a call may start, or sealed where settle may start anew.
+abbrev pub IsBetween : Place → Task → Type 0
+IsBetween Idle u = u ≡ task.Rest
+IsBetween (Active tail) u = may_start u ≡ true
+IsBetween (Sealed tail stamp) u = may_settle u ≡ true
+IsBetween p u = ⊥
+
+-- the flush seat between two calls: it has a pin or none, and no transaction has read, claimed or made anything there
+pub record IsStill (x : Part) : Type 0 where
+  pub over : x.over ≡ []
+  pub reads : x.current.reads ≡ []
+  pub writes : x.current.writes ≡ []
+  pub made : x.current.made ≡ []
+
+-- So many sessions, each between two calls and, where sealed, with a range of its block's size; the flush seat, and no other
+-- seat, so that none is over elsewhere. What was excluded in a session has drawn its stamp. The place flushed lies within the
+-- log.
+pub record IsQuiet (sessions : ℕ) (c : Core) : Type 0 where
+  pub between : (q : ℕ) → 0 < q → q ≤ sessions → IsBetween (c.seats q).place (c.seats q).task
+  pub others : (q : ℕ) → (0 < q → q ≤ sessions → ⊥) → is_flusher q ≡ false → (c.seats q).place ≡ Vacant
+  pub unused : (q : ℕ) → (0 < q → q ≤ sessions → ⊥) → is_flusher q ≡ false → (c.seats q).over ≡ []
+  pub flusher : (q : ℕ) → is_flusher q ≡ true → IsStill (c.seats q)
+  pub sized : (q : ℕ) → 0 < q → q ≤ sessions → 0 < (c.seats q).current.stamp → (c.seats q).current.size ≡ world.size_of (work_of (c.seats q).current)
+  pub excluded : (q : ℕ) → 0 < q → q ≤ sessions → (t : Attempt) → t ∈ (c.seats q).over → t.decision ≡ Skip → 0 < t.stamp
+  pub few : (q : ℕ) → q ≤ sessions → is_flusher q ≡ false
+  pub flushed : (c.shared.opening ≤ c.shared.flushed) × (c.shared.flushed ≤ c.shared.tail)
