@@ -17,7 +17,7 @@ abbrev pub work_in : TransactionRecord → Work
 work_in t = record { number = t.number; begin = t.begin; reads = t.reads; claims = t.writes; made = t.made }
 
 -- The session's transaction of this record is over with the record's stamp.
-pub record IsCommitOf (seat : ℕ) (over : List Finished) (t : TransactionRecord) : Type 0 where
+pub record IsOverWithStamp (seat : ℕ) (over : List Finished) (t : TransactionRecord) : Type 0 where
   pub seat_is : t.seat ≡ seat
   pub finished : Finished
   pub stands : finished ∈ over
@@ -36,7 +36,7 @@ of_commit seat w (world.excluded stamp succ pred) t m = absurd (none_in_nil t m)
 of_commit seat w world.aborts t m = absurd (none_in_nil t m)
 
 -- the commits of a session are transactions of it that are over
-of_session : (seat : ℕ) (over : List Finished) (t : TransactionRecord) → t ∈ committed_in seat over → IsCommitOf seat over t
+of_session : (seat : ℕ) (over : List Finished) (t : TransactionRecord) → t ∈ committed_in seat over → IsOverWithStamp seat over t
 of_session seat [] t m = absurd (none_in_nil t m)
 of_session seat (f ∷ over) t m =
     ⊎_elim
@@ -49,7 +49,7 @@ of_session seat (f ∷ over) t m =
     (∈-either (commit_of seat f.work f.fate) (committed_in seat over) t m)
 
 -- those of all sessions are
-of_sessions : (n : ℕ) (session : ℕ → Session) (t : TransactionRecord) → t ∈ history_upto n session → (0 < t.seat) × (t.seat ≤ n) × IsCommitOf t.seat (session t.seat).over t
+of_sessions : (n : ℕ) (session : ℕ → Session) (t : TransactionRecord) → t ∈ history_upto n session → (0 < t.seat) × (t.seat ≤ n) × IsOverWithStamp t.seat (session t.seat).over t
 unfolding history_upto
 of_sessions zero session t m = absurd (none_in_nil t m)
 of_sessions (suc n) session t m =
@@ -60,7 +60,7 @@ of_sessions (suc n) session t m =
     (λ (here : t ∈ committed_in (suc n) (session (suc n)).over).
     let r = of_session (suc n) (session (suc n)).over t here in
     let e : t.seat ≡ suc n = r.seat_is in
-    (omega (arith, e), omega (arith, e), subst (λ q. IsCommitOf q (session q).over t) (sym e) r))
+    (omega (arith, e), omega (arith, e), subst (λ q. IsOverWithStamp q (session q).over t) (sym e) r))
     (∈-either (history_upto n session) (committed_in (suc n) (session (suc n)).over) t m)
 
 -- A commit of the history is a transaction of its session, with its stamp.

@@ -2,6 +2,9 @@
 //! database map. Each law is the contract of a function that does nothing.
 #![tactic(auto)]
 
+#[cfg(test)]
+mod tests;
+
 ghost use Rattle.std.specs.Prelude.{ℕ};
 ghost use Rattle.erm_model.specs.History.{History, below, rank_of, rows_after};
 ghost use Rattle.erm_model.specs.SerialOrder.{IsSerialOrder};
