@@ -1,0 +1,6 @@
+pub mod Commits
+pub mod Histories
+pub mod Lawful
+pub mod Made
+pub mod Standing
+pub mod Turns

@@ -1,0 +1,65 @@
+-- What the transactions of a world are as operations on the database map.
+use Rattle.std.specs.Prelude.{◌≡◌, ℕ, List, map}
+use Rattle.erm_model.specs.declared.history.TransactionRecord.{TransactionRecord}
+use Rattle.erm_model.specs.Committed.{Committed, HasSnapshotReplies, IsStateBelow, RunsInOrder}
+use Rattle.erm_model.specs.Committed as committed
+use Rattle.erm_model.specs.History.{History, rows_after}
+use Rattle.erm_model.specs.Rows.{Rows}
+use Rattle.erm_model.specs.Run.{RunsOne, Step, after_all, ops_of}
+use Rattle.erm_model.specs.SerialOrder.{IsSerialOrder}
+use Rattle.erm_node.specs.Sound.{IsSound, sound_law}
+use Rattle.erm_node.specs.TreeMap.{map_of_rows}
+use Rattle.erm_world.specs.Laws.{FitsWork, IsLawfulWork}
+use Rattle.erm_world.specs.Works.{seen_by}
+use Rattle.erm_world.specs.World.{Has, HasStamp, IsSession, View, Work, history_of}
+
+-- the operations with their replies that a session's transaction of a number was answered
+abbrev pub Told : Type 0
+Told = (seat number : ℕ) → List Step
+
+-- whatever sound rows a transaction may have begun on, its replies are those of its operations on their map
+abbrev pub IsAnswered : Work → List Step → Type 0
+IsAnswered w steps = (rows : Rows) → IsSound rows → FitsWork sound_law w rows → RunsOne (map_of_rows rows) steps
+
+-- A transaction is the run of its operations: it is answered so, and leaves rows of the map after them, as its law asks.
+pub record IsRunOf (w : Work) (steps : List Step) : Type 0 where
+  pub run : IsAnswered w steps
+  pub after : (rows : Rows) → IsSound rows → FitsWork sound_law w rows → map_of_rows (seen_by w rows) ≡ after_all (ops_of steps) (map_of_rows rows)
+  pub lawful : IsLawfulWork sound_law w
+
+-- Each transaction is answered as its operations, also one in progress, aborted or excluded; each sealed one is their run.
+pub record AreRuns (v : View) (told : Told) : Type 0 where
+  pub answered : (seat : ℕ) (w : Work) → IsSession v seat → Has v seat w → IsAnswered w (told seat w.number)
+  pub run : (seat : ℕ) (w : Work) (stamp : ℕ) → IsSession v seat → HasStamp v seat w stamp → IsRunOf w (told seat w.number)
+
+-- a commit as its session sees it: by its operations
+abbrev pub told_commit : Told → TransactionRecord → Committed
+told_commit told t = record {
+  session = t.seat;
+  number = t.number;
+  begin = t.begin;
+  stamp = t.stamp;
+  succ = t.succ;
+  pred = t.pred;
+  steps = told t.seat t.number;
+}
+
+abbrev pub told_commits : Told → History → List Committed
+told_commits told h = map (told_commit told) h
+
+-- The equivalent serial run: in this order the commits' operations, one transaction after another from the opening's map, are
+-- answered as they were told, and end in the map of the rows that the commits leave, which are sound.
+pub record RunsAsOperations (v : View) (told : Told) (order : History) : Type 0 where
+  pub serial : IsSerialOrder committed.rank_of (told_commits told (history_of v)) (told_commits told order)
+  pub run : RunsInOrder (told_commits told order) (map_of_rows v.opening.rows) (map_of_rows (rows_after order v.opening.rows))
+  pub sound : IsSound (rows_after order v.opening.rows)
+
+-- The rows that the commits below a stamp leave are sound, and stand for the state below it.
+pub record StandsBelow (v : View) (told : Told) (bound : ℕ) (order : History) : Type 0 where
+  pub sound : IsSound (rows_after order v.opening.rows)
+  pub state : IsStateBelow (told_commits told (history_of v)) (map_of_rows v.opening.rows) bound (map_of_rows (rows_after order v.opening.rows))
+
+-- each transaction's replies, whether it commits or not, are snapshot replies
+abbrev pub RepliesAreSnapshots : View → Told → Type 0
+RepliesAreSnapshots v told = (seat : ℕ) (w : Work) → IsSession v seat → Has v seat w
+    → HasSnapshotReplies (told_commits told (history_of v)) (map_of_rows v.opening.rows) w.begin (told seat w.number)

@@ -1,0 +1,53 @@
+//! From rows to maps: the laws that carry serializability from the rows of a world to the operations of its sessions on the
+//! database map. Each law is the contract of a function that does nothing.
+#![tactic(auto)]
+
+#[cfg(test)]
+mod tests;
+
+ghost use Rattle.std.specs.Prelude.{ℕ};
+ghost use Rattle.erm_model.specs.History.{History, below, rank_of, rows_after};
+ghost use Rattle.erm_model.specs.SerialOrder.{IsSerialOrder};
+ghost use Rattle.erm_node.specs.Sound.{sound_law};
+ghost use Rattle.erm_world.specs.Laws.{IsPossibleIn, IsSerializable};
+ghost use Rattle.erm_world.specs.World.{View, history_of};
+ghost use Rattle.erm_maps.specs.Runs.{AreRuns, RepliesAreSnapshots, RunsAsOperations, StandsBelow, Told};
+
+use erm_model::RowLaw;
+
+/// The rows that the commits below any stamp leave, run one after another in the serial order, meet the law of rows.
+pub fn rows_stay_lawful<L: RowLaw>()
+    ensures { (v : View) (bound : ℕ) (order : History) → IsSerializable L.law v
+        → IsSerialOrder rank_of (below bound (history_of v)) order → L.law.meets (rows_after order v.opening.rows) }
+{
+    erm_core_ssn::rows_run_serially();
+    erm_core_ssn::versions_are_unique();
+    erm_core_ssn::prefixes_stand_alone();
+}
+
+/// Each transaction, also one in progress, aborted or excluded, may have begun on the rows that the commits below its begin stamp
+/// leave.
+pub fn works_are_possible<L: RowLaw>()
+    ensures { (v : View) → IsSerializable L.law v → IsPossibleIn L.law v }
+{
+    erm_core_ssn::rows_run_serially();
+    erm_core_ssn::serial_order_is_unique();
+    erm_core_ssn::versions_are_unique();
+    erm_core_ssn::prefixes_stand_alone();
+}
+
+/// Where each transaction's rows are the run of its operations, the commits' operations run in the serial order on the database
+/// map, with the replies that were told; so do those below any stamp; and each transaction's replies, whether it commits or not,
+/// are those on the state below its begin stamp, after its own earlier operations.
+pub fn histories_run_as_operations()
+    ensures serial { (v : View) (told : Told) (order : History) → IsSerializable sound_law v → AreRuns v told
+        → IsSerialOrder rank_of (history_of v) order → RunsAsOperations v told order }
+    ensures states { (v : View) (told : Told) (bound : ℕ) (order : History) → IsSerializable sound_law v → AreRuns v told
+        → IsSerialOrder rank_of (below bound (history_of v)) order → StandsBelow v told bound order }
+    ensures snapshots { (v : View) (told : Told) → IsSerializable sound_law v → AreRuns v told → RepliesAreSnapshots v told }
+{
+    erm_core_ssn::rows_run_serially();
+    erm_core_ssn::serial_order_is_unique();
+    erm_core_ssn::versions_are_unique();
+    erm_core_ssn::prefixes_stand_alone();
+}
