@@ -109,7 +109,7 @@ kept c p (kind.StoreBegin value) d sound e =
     kept_moved c p (kind.StoreBegin value) d sound m (announces_lives c.shared p (c.seats p) (sound.own p).lives value (c.seats p).place m.part refl m.after)
 kept c p (kind.StoreState value) d sound e =
     let m = moves c p (kind.StoreState value) d tt e in
-    kept_moved c p (kind.StoreState value) d sound m (seals_lives c.shared p (c.seats p) (sound.own p).lives value (c.seats p).place m.part refl m.after)
+    kept_moved c p (kind.StoreState value) d sound m (seals_lives c.shared p (c.seats p) (sound.own p).lives value (c.seats p).place m.part refl (sound.own p).ranges.current m.after)
 kept c p (kind.LoadBegin other) d sound e =
     let m = moves c p (kind.LoadBegin other) d tt e in
     kept_moved c p (kind.LoadBegin other) d sound m

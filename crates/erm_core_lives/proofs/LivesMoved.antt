@@ -1,5 +1,5 @@
 -- What a seat's transactions have in order, after each kind of step.
-use Rattle.std.proofs.Common.{◌≡◌, ℕ, ◌+◌, ◌<◌, ◌≤◌, ⊎_elim, Bool, true, false, ltb, ◌||◌, List, [], ◌∷◌, ◌++◌, get_or, length, Some, refl, sym, ap, ◌∙◌, subst, arith}
+use Rattle.std.proofs.Common.{◌≡◌, ◌≢◌, ℕ, ◌+◌, ◌<◌, ◌≤◌, ⊎_elim, Bool, true, false, ltb, ◌||◌, List, [], ◌∷◌, ◌++◌, get_or, length, Some, refl, sym, ap, ◌∙◌, subst, arith}
 use Rattle.std.specs.Prelude.{if◌then◌else◌}
 use Rattle.std.proofs.lemmas.Bool.{and_parts, cases_lt}
 use Rattle.std.proofs.lemmas.List.{length_push, get_or_push, get_or_append_left}
@@ -16,7 +16,7 @@ use Rattle.erm_machine.specs.declared.task.Task.{Task}
 use Rattle.erm_machine.specs.declared.task.Task.TheVariants as task
 use Rattle.erm_machine.specs.Begins.{BeginsAt}
 use Rattle.erm_machine.specs.Core.{Shared, begun, blank}
-use Rattle.erm_machine.specs.Facts.{all_of}
+use Rattle.erm_machine.specs.Facts.{all_of, IsCurrent}
 use Rattle.erm_machine.specs.Life.{next_number, load_tail_to_begin, load_tail_for_horizon, add_tail, store_begin, store_state, load_begin, load_state, split, join, decide}
 use Rattle.erm_machine.specs.Lives.{in_progress, IsBeginning, IsPin, OwnLives}
 use Rattle.erm_machine.specs.Seat.{has_number, is_vacant, over, with_current, with_range}
@@ -51,6 +51,7 @@ stays_lives s t p x y run opening k own = record {
       let below = h.1 in
       (omega (arith, begin, positive), omega (arith, begin, stamp, below)))
       (∈-push y.over y.current u m);
+  drawn = λ u m kept. own.drawn u (subst (λ (ts : List Attempt). u ∈ ts) k.over m) kept;
   earlier = λ u m e. let h = own.earlier u (subst (λ (ts : List Attempt). u ∈ ts) k.over m) (sym k.progress ∙ e) in let b = k.begin in omega (arith, h, b);
   numbers = λ f. subst (λ (ts : List Attempt). (n : ℕ) → n < length ts → (get_or ts n blank).number ≡ n + 1) (sym k.over) (own.numbers f);
   number = λ f.
@@ -100,6 +101,7 @@ module _ (s : Shared) (p : ℕ) (x : Part) (own : OwnLives s p x) where
             ⊎_elim (λ (before : u ∈ x.over). own.sealed u (∈-front x.over x.current u before) positive)
             (λ (same : u ≡ begun (next_number p x.number) s.tail). let none : u.stamp ≡ 0 = ap (λ (a : Attempt). a.stamp) same in absurd (omega (arith, none, positive)))
             (∈-push x.over (begun (next_number p x.number) s.tail) u m);
+        drawn = own.drawn;
         earlier = λ u m _. drawn u (∈-front x.over x.current u m);
         numbers = own.numbers;
         number = λ f.
@@ -131,6 +133,7 @@ module _ (s : Shared) (p : ℕ) (x : Part) (own : OwnLives s p x) where
             let past = begins.past in
             (omega (arith, begin, first, announced), omega (arith, begin, stamp, past)))
             (∈-push x.over (with_range s.tail size x.current) u m);
+        drawn = own.drawn;
         earlier = λ u m _. own.earlier u m (ap in_progress at);
         numbers = own.numbers;
         number = λ f. let h = own.number f in let now : in_progress x.place ≡ 1 = ap in_progress at in omega (arith, h, now);
@@ -142,8 +145,9 @@ module _ (s : Shared) (p : ℕ) (x : Part) (own : OwnLives s p x) where
   draws_lives size _ y at begins e = absurd (cc)
 
   -- one more transaction is over
-  over_lives : (d : Decision) (t : Task) → is_flusher p ≡ false → in_progress x.place ≡ 1 → OwnLives s p (over d (record x { place = Idle; task = t }))
-  over_lives d t session now =
+  over_lives : (d : Decision) (t : Task) → is_flusher p ≡ false → in_progress x.place ≡ 1 → (d ≢ Abort → 0 < x.current.stamp)
+      → OwnLives s p (over d (record x { place = Idle; task = t }))
+  over_lives d t session now stamped =
       let ended : Attempt = record x.current { decision = d } in
       record {
         run = own.run;
@@ -166,6 +170,13 @@ module _ (s : Shared) (p : ℕ) (x : Part) (own : OwnLives s p x) where
             (∈-push x.over ended u before))
             (λ (same : u ≡ blank). let none : u.stamp ≡ 0 = ap (λ (a : Attempt). a.stamp) same in absurd (omega (arith, none, positive)))
             (∈-push (x.over ++ ended ∷ []) blank u m);
+        drawn = λ u m kept.
+            ⊎_elim (λ (before : u ∈ x.over). own.drawn u before kept)
+            (λ (same : u ≡ ended).
+            let stamp : u.stamp ≡ x.current.stamp = ap (λ (a : Attempt). a.stamp) same in
+            let positive = stamped (λ (aborts : d ≡ Abort). kept (ap (λ (a : Attempt). a.decision) same ∙ aborts)) in
+            omega (arith, stamp, positive))
+            (∈-push x.over ended u m);
         earlier = λ u m e. absurd (cc);
         numbers = λ f k within.
             let size = length_push x.over ended in
@@ -197,6 +208,7 @@ module _ (s : Shared) (p : ℕ) (x : Part) (own : OwnLives s p x) where
         ⊎_elim (λ (before : u ∈ x.over). own.sealed u (∈-front x.over x.current u before) positive)
         (λ (same : u ≡ blank). let none : u.stamp ≡ 0 = ap (λ (a : Attempt). a.stamp) same in absurd (omega (arith, none, positive)))
         (∈-push x.over blank u m);
+    drawn = own.drawn;
     earlier = λ u m e. absurd (cc);
     numbers = own.numbers;
     number = λ f. absurd (cc);
@@ -225,15 +237,15 @@ module _ (s : Shared) (p : ℕ) (x : Part) (own : OwnLives s p x) where
   announces_lives value (Active tail) y at e =
       when_then (OwnLives s p) _ _ y e (λ _.
       either_way (OwnLives s p) (is_flusher p) (with_current blank (record x { place = Idle; task = task.Rest })) (over Abort (record x { place = Idle; task = task.Rest }))
-      (λ flusher. dropped_lives task.Rest flusher) (λ session. over_lives Abort task.Rest session (ap in_progress at)))
+      (λ flusher. dropped_lives task.Rest flusher) (λ session. over_lives Abort task.Rest session (ap in_progress at) (λ ne. absurd (ne refl))))
   announces_lives value (Decided tail stamp) y at e =
       when_then (OwnLives s p) _ _ y e (λ _.
       stays_at _ refl refl refl (sym (ap in_progress at)) refl refl refl (λ h. h) (λ f. absurd (pinned_at (Decided tail stamp) at f)))
   announces_lives value _ y at e = absurd (cc)
 
   -- SEAL stores its state; the last step of a sealed transaction clears it
-  pub seals_lives : (value : ℕ) (pl : Place) (y : Part) → x.place ≡ pl → store_state p value x pl ≡ Some y → OwnLives s p y
-  seals_lives value (Active tail) y at e =
+  pub seals_lives : (value : ℕ) (pl : Place) (y : Part) → x.place ≡ pl → IsCurrent pl x.current → store_state p value x pl ≡ Some y → OwnLives s p y
+  seals_lives value (Active tail) y at is e =
       when_then (OwnLives s p) _ _ y e (λ g.
       stays_at _ refl refl refl (sym (ap in_progress at)) refl refl refl (λ h. h) (λ f. absurd (apart (is_flusher p) (no_flusher p (and_parts _ _ (and_parts _ _ g).0).1) f)))
     where
@@ -242,12 +254,13 @@ module _ (s : Shared) (p : ℕ) (x : Part) (own : OwnLives s p x) where
 
       apart : (b : Bool) → b ≡ false → b ≡ true → ⊥
       apart b e f = cc
-  seals_lives value (Drawn tail stamp) y at e =
+  seals_lives value (Drawn tail stamp) y at is e =
       when_then (OwnLives s p) _ _ y e (λ _.
       stays_at _ refl refl refl (sym (ap in_progress at)) refl refl refl (λ h. h) (λ f. absurd (pinned_at (Drawn tail stamp) at f)))
-  seals_lives value (Leaving stamp) y at e =
-      when_then (OwnLives s p) _ _ y e (λ _. over_lives x.current.decision x.task (session_at (Leaving stamp) at (λ h. h)) (ap in_progress at))
-  seals_lives value _ y at e = absurd (cc)
+  seals_lives value (Leaving stamp) y at is e =
+      when_then (OwnLives s p) _ _ y e (λ _. over_lives x.current.decision x.task (session_at (Leaving stamp) at (λ h. h)) (ap in_progress at)
+      (λ _. let stamped = is.stamp_is in let positive = is.positive in omega (arith, stamped, positive)))
+  seals_lives value _ y at is e = absurd (cc)
 
   pub decides_lives : (place header : ℕ) (pl : Place) (t : Task) (y : Part) → x.place ≡ pl → decide place header x pl t ≡ Some y → OwnLives s p y
   decides_lives place header (Sealed tail stamp) (task.Fills words) y at e =

@@ -79,6 +79,9 @@ sealed_stamp (Sealed tail drawn) t w stamp e current =
     (work, current.stamp_is ∙ same, subst (λ n. 0 < n) (sym current.stamp_is) current.positive)
 sealed_stamp _ t w stamp e current = absurd (cc)
 
+not_aborted : (d : Decision) → d ≡ Skip → d ≢ Abort
+not_aborted d skip abort = absurd (cc)
+
 pub has_stamped : (sessions : ℕ) (c : Core) (seat : ℕ) (w : Work) (stamp : ℕ) → Sound c → IsQuiet sessions c → world.IsSession (view_of sessions c) seat
     → HasStamp (view_of sessions c) seat w stamp → IsStamped (c.seats seat) w stamp
 has_stamped sessions c seat w stamp sound quiet is_session has =
@@ -96,7 +99,7 @@ has_stamped sessions c seat w stamp sound quiet is_session has =
       stamp_is = stamped.0;
       drawn =
           ⊎_elim (λ (commit : t.decision ≡ Commit). (sound.own seat).decided.positive t stands commit)
-          (λ (skip : t.decision ≡ Skip). quiet.excluded seat is_session.0 is_session.1 t from.1 skip) stamped.1;
+          (λ (skip : t.decision ≡ Skip). (sound.own seat).lives.drawn t from.1 (not_aborted t.decision skip)) stamped.1;
     })
     (λ (now : stand_of x.place x.current ≡ world.sealed w stamp).
     let current = sealed_stamp x.place x.current w stamp now (sound.own seat).ranges.current in

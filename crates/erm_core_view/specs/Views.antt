@@ -77,14 +77,12 @@ pub record IsStill (x : Part) : Type 0 where
   pub made : x.current.made ≡ []
 
 -- So many sessions, each between two calls and, where sealed, with a range of its block's size; the flush seat, and no other
--- seat, so that none is over elsewhere. What was excluded in a session has drawn its stamp. The place flushed lies within the
--- log.
+-- seat, so that none is over elsewhere. The place flushed lies within the log.
 pub record IsQuiet (sessions : ℕ) (c : Core) : Type 0 where
   pub between : (q : ℕ) → 0 < q → q ≤ sessions → IsBetween (c.seats q).place (c.seats q).task
   pub others : (q : ℕ) → (0 < q → q ≤ sessions → ⊥) → is_flusher q ≡ false → (c.seats q).place ≡ Vacant
   pub unused : (q : ℕ) → (0 < q → q ≤ sessions → ⊥) → is_flusher q ≡ false → (c.seats q).over ≡ []
   pub flusher : (q : ℕ) → is_flusher q ≡ true → IsStill (c.seats q)
   pub sized : (q : ℕ) → 0 < q → q ≤ sessions → 0 < (c.seats q).current.stamp → (c.seats q).current.size ≡ world.size_of (work_of (c.seats q).current)
-  pub excluded : (q : ℕ) → 0 < q → q ≤ sessions → (t : Attempt) → t ∈ (c.seats q).over → t.decision ≡ Skip → 0 < t.stamp
   pub few : (q : ℕ) → q ≤ sessions → is_flusher q ≡ false
   pub flushed : (c.shared.opening ≤ c.shared.flushed) × (c.shared.flushed ≤ c.shared.tail)

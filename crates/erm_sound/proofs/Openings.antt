@@ -162,6 +162,7 @@ module _ (sessions : ℕ) (rows : Rows) (tail run first cells : ℕ) (few : sess
     opened = λ t m. absurd (none_in_nil t m);
     opened_now = λ busy. absurd (not_busy busy);
     sealed = λ t m drawn. absurd (let none : t.stamp ≡ 0 = ap (λ (u : Attempt). u.stamp) (only_blank t m) in omega (arith, none, drawn));
+    drawn = λ t m. absurd (none_in_nil t m);
     earlier = λ t m. absurd (none_in_nil t m);
     numbers = λ session k none. absurd (omega (arith, none));
     number = λ session. let none = idle_or (λ pl. in_progress pl ≡ 0) (is_taken sessions p) refl refl in omega (arith, none);
