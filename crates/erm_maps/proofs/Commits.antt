@@ -12,7 +12,7 @@ use Rattle.erm_model.specs.Rows.{Rows}
 use Rattle.erm_model.specs.Run.{RunsAll, after_all, ops_of}
 use Rattle.erm_model.specs.SerialOrder.{ComesBefore, IsSerialOrder}
 use Rattle.erm_model.proofs.Members.{∈-behind}
-use Rattle.erm_core_ssn.proofs.Members.{∈-head}
+use Rattle.erm_machine.proofs.Listed.{∈-head}
 use Rattle.erm_node.specs.Sound.{sound_law}
 use Rattle.erm_node.specs.TreeMap.{map_of_rows}
 use Rattle.erm_world.specs.World.{bare, begun}

@@ -6,8 +6,7 @@ use Rattle.erm_model.specs.History.{History, below}
 use Rattle.erm_model.specs.Member.{◌∈◌}
 use Rattle.erm_model.specs.RowTransaction.{Law}
 use Rattle.erm_model.proofs.Members.{none_in_nil, ∈-behind}
-use Rattle.erm_core_ssn.proofs.DecidedHistory.{∈-either}
-use Rattle.erm_core_ssn.proofs.Members.{∈-head, ∈-cons}
+use Rattle.erm_machine.proofs.Listed.{∈-cons, ∈-either, ∈-head}
 use Rattle.erm_world.specs.Laws.{IsSerializable}
 use Rattle.erm_world.specs.World.{Fate, Finished, HasStamp, IsSession, Session, View, Work, commit_of, committed_in, history_of, history_upto, record_of, stamp_of}
 use Rattle.erm_world.specs.World as world

@@ -7,7 +7,7 @@ use Rattle.erm_model.specs.History.{History, below}
 use Rattle.erm_model.specs.Lawful.{times_made}
 use Rattle.erm_model.specs.Member.{◌∈◌}
 use Rattle.erm_model.proofs.Members.{none_in_nil}
-use Rattle.erm_core_ssn.proofs.Members.{∈-cons}
+use Rattle.erm_machine.proofs.Listed.{∈-cons}
 use Rattle.erm_world.specs.World.{Fate, Finished, Has, IsCurrent, IsOver, Session, Stand, View, Work, commit_of, committed_in, history_of, history_upto, made_by_all, made_in, made_upto, record_of, stamp_of, work_of}
 use Rattle.erm_world.specs.World as world
 

@@ -9,7 +9,7 @@ use Rattle.erm_model.specs.Member.{◌∈◌}
 use Rattle.erm_model.specs.RowTransaction.{Law}
 use Rattle.erm_model.specs.Rows.{Rows}
 use Rattle.erm_model.proofs.Members.{∈-behind}
-use Rattle.erm_core_ssn.proofs.Members.{∈-head}
+use Rattle.erm_machine.proofs.Listed.{∈-head}
 use Rattle.erm_world.specs.Laws.{FitsWork, IsLawfulWork}
 use Rattle.erm_maps.proofs.Histories.{work_in}
 use Rattle.erm_maps.proofs.Made.{made_in_history}
