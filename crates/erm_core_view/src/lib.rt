@@ -2,13 +2,23 @@
 //! contract of a function that does nothing.
 #![tactic(auto)]
 
-ghost use Rattle.std.specs.Prelude.{◌≡◌, ℕ};
-ghost use Rattle.erm_machine.specs.Core.{Core};
+ghost use Rattle.std.specs.Prelude.{◌≡◌, ◌<◌, ℕ, true, false, Option, Some};
+ghost use Rattle.erm_machine.specs.declared.event.Counter.TheVariants.{Objects};
+ghost use Rattle.erm_machine.specs.declared.event.Kind.{Kind};
+ghost use Rattle.erm_machine.specs.declared.event.Kind.TheVariants as kind;
+ghost use Rattle.erm_machine.specs.declared.limits.TheConstants.{OBJECT_LIMIT};
+ghost use Rattle.erm_machine.specs.declared.task.Task.TheVariants as task;
+ghost use Rattle.erm_machine.specs.declared.version.VersionAt.{VersionAt};
+ghost use Rattle.erm_machine.specs.Core.{Core, version_at};
 ghost use Rattle.erm_machine.specs.Decided as machine;
+ghost use Rattle.erm_machine.specs.Seat.{is_active};
 ghost use Rattle.erm_machine.specs.Sound.{Sound, SoundUnder};
-ghost use Rattle.erm_world.specs.Laws.{IsPossibleIn, IsSerializable};
+ghost use Rattle.erm_machine.specs.Step.{after_event};
+ghost use Rattle.erm_world.specs.Laws.{IsSerializable};
+ghost use Rattle.erm_world.specs.Works.{claiming, making, reading};
 ghost use Rattle.erm_world.specs.World as world;
-ghost use Rattle.erm_core_view.specs.Views.{IsQuiet, view_of};
+ghost use Rattle.erm_core_view.specs.Steps.{ChangesOne, IsCalm, IsEnding, MeetsOne};
+ghost use Rattle.erm_core_view.specs.Views.{IsQuiet, session_of, view_of, work_of};
 
 use erm_model::RowLaw;
 
@@ -28,3 +38,38 @@ pub fn views_are_serializable<L: RowLaw>()
     erm_core_ssn::commits_are_a_snapshot_history();
     erm_core_ssn::reads_and_claims_are_snapshots();
 }
+
+/// A step of a seat changes no session but its own, and the log only where it draws a range or stores the place flushed. Of most
+/// kinds its own session shows nothing.
+pub fn steps_change_one_session()
+    ensures others { (sessions seat : ℕ) (c d : Core) (k : Kind) → MeetsOne k → after_event c seat k ≡ Some d
+        → ChangesOne seat k (view_of sessions c) (view_of sessions d) }
+    ensures calm { (seat : ℕ) (c d : Core) (k : Kind) → IsCalm k → after_event c seat k ≡ Some d
+        → session_of (d.seats seat) ≡ session_of (c.seats seat) }
+    ensures ends { (seat oid head : ℕ) (c d : Core) → IsEnding (c.seats seat).task → after_event c seat (kind.Install oid head) ≡ Some d
+        → session_of (d.seats seat) ≡ session_of (c.seats seat) }
+{}
+
+/// What a registration, a claim and a new object show: the transaction has read the version in hand, has claimed its object with
+/// the row found, has made the number found.
+pub fn steps_show_what_they_do()
+    ensures registers { (seat : ℕ) (c d : Core) (version at : VersionAt) (stamp : ℕ) (head : Option ℕ) → Sound c
+        → is_active (c.seats seat).place ≡ true → (c.seats seat).task ≡ task.Found at stamp head
+        → after_event c seat (kind.SetReader version) ≡ Some d
+        → session_of (d.seats seat) ≡ record { over = (session_of (c.seats seat)).over;
+            stand = world.active (reading (record { oid = version.oid; stamp = stamp;
+                row = (version_at (c.shared.objects version.oid) version.place).words.row }) (work_of (c.seats seat).current)) } }
+    ensures claims { (seat oid number : ℕ) (c d : Core) (at : VersionAt) (stamp entry : ℕ) → Sound c
+        → is_active (c.seats seat).place ≡ true → (c.seats seat).task ≡ task.Found at stamp (Some entry)
+        → (c.shared.objects oid).entry ≡ entry
+        → after_event c seat (kind.Claim oid entry number) ≡ Some d
+        → session_of (d.seats seat) ≡ record { over = (session_of (c.seats seat)).over;
+            stand = world.active (claiming (record { oid = at.oid; stamp = stamp;
+                base = (version_at (c.shared.objects at.oid) at.place).words.row;
+                row = (version_at (c.shared.objects at.oid) at.place).words.row; is_set = false }) (work_of (c.seats seat).current)) } }
+    ensures makes { (seat : ℕ) (c d : Core) → Sound c → is_active (c.seats seat).place ≡ true
+        → c.shared.objects_drawn < OBJECT_LIMIT
+        → after_event c seat (kind.AddCounter Objects) ≡ Some d
+        → session_of (d.seats seat) ≡ record { over = (session_of (c.seats seat)).over;
+            stand = world.active (making c.shared.objects_drawn (work_of (c.seats seat).current)) } }
+{}

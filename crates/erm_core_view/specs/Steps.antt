@@ -1,0 +1,57 @@
+-- What a step of a seat shows in the view.
+use Rattle.std.specs.Prelude.{◌≡◌, ◌≢◌, ℕ, ◌+◌, true}
+use Rattle.erm_model.specs.declared.history.VersionRead.{VersionRead}
+use Rattle.erm_model.specs.declared.history.VersionWritten.{VersionWritten}
+use Rattle.erm_machine.specs.declared.event.Counter.TheVariants.{Objects, Cells}
+use Rattle.erm_machine.specs.declared.event.Kind.{Kind}
+use Rattle.erm_machine.specs.declared.event.Kind.TheVariants as kind
+use Rattle.erm_machine.specs.declared.event.TailUse.TheVariants as purpose
+use Rattle.erm_machine.specs.declared.place.Place.{Place}
+use Rattle.erm_machine.specs.declared.task.Task.{Task}
+use Rattle.erm_machine.specs.declared.task.Task.TheVariants as task
+use Rattle.erm_machine.specs.declared.version.VersionAt.{VersionAt}
+use Rattle.erm_world.specs.World.{View}
+
+-- how far a step of this kind moves the end of the log on
+abbrev pub drawn_by : Kind → ℕ
+drawn_by (kind.AddTail size) = size
+drawn_by k = 0
+
+-- the place flushed after a step of this kind
+abbrev pub flushed_by : Kind → ℕ → ℕ
+flushed_by (kind.StoreFlushed value) flushed = value
+flushed_by k flushed = flushed
+
+-- no session but the seat's changes; the opening stays, and the log as the step's kind says
+pub record ChangesOne (seat : ℕ) (k : Kind) (v t : View) : Type 0 where
+  pub others : (q : ℕ) → q ≢ seat → t.session q ≡ v.session q
+  pub opening : t.opening ≡ v.opening
+  pub tail : t.tail ≡ v.tail + drawn_by k
+  pub flushed : t.flushed ≡ flushed_by k v.flushed
+
+-- kinds that meet one word, or a device: all but splits and joins
+abbrev pub MeetsOne : Kind → Type 0
+MeetsOne (kind.Split other) = ⊥
+MeetsOne (kind.Join other) = ⊥
+MeetsOne k = Unit {0}
+
+-- kinds of steps whose seat's session shows nothing of them, wherever it stands
+abbrev pub IsCalm : Kind → Type 0
+IsCalm (kind.LoadTail purpose.Begin) = ⊥
+IsCalm (kind.AddTail size) = ⊥
+IsCalm (kind.StoreBegin value) = ⊥
+IsCalm (kind.StoreState value) = ⊥
+IsCalm (kind.Decide at header) = ⊥
+IsCalm (kind.SetReader version) = ⊥
+IsCalm (kind.Claim oid entry number) = ⊥
+IsCalm (kind.Install oid head) = ⊥
+IsCalm (kind.StoreCell claim cell word value) = ⊥
+IsCalm (kind.AddCounter Objects) = ⊥
+IsCalm (kind.Split other) = ⊥
+IsCalm (kind.Join other) = ⊥
+IsCalm k = Unit {0}
+
+-- a claim is released, and not dropped for want of a cell
+abbrev pub IsEnding : Task → Type 0
+IsEnding task.Refused = ⊥
+IsEnding t = Unit {0}
