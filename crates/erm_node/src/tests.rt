@@ -1,7 +1,9 @@
 //! Nodes and their rows; sound rows, and one array for each rule that they break.
 use super::*;
 use arrayvec::ArrayVec;
-use erm_model::{Map, OID_LIMIT, Oid, ROW_WORDS, Row, TABLES};
+use erm_model::{
+    Map, OID_LIMIT, Oid, ROW_WORDS, Row, RowLaw, TABLES, arrays_fit_what_they_agree_with,
+};
 use std::test::Fail;
 
 const ZEROS: Row = [0; ROW_WORDS];
@@ -35,6 +37,8 @@ fn seven_keys(rt: HostRuntime) {
     trees_are_low();
     keys_ascend();
     zero_rows_are_not_reached();
+    SoundRows::respects_rows();
+    arrays_fit_what_they_agree_with::<SoundRows>();
 }
 
 // Rows of nodes, each with whether it is a leaf's and how many pairs it has.

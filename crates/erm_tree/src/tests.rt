@@ -7,9 +7,12 @@ mod memory;
 use crate::{
     MOST_OBJECTS, MOST_ROWS, calls_change_one_table, del, find, get, looks_and_claims_set_no_row,
     next, operations_are_run_one, put, puts_are_bounded, refused_calls_set_no_row,
-    tables_stand_apart,
+    tables_stand_apart, ways_are_of_own_nodes,
 };
-use erm_model::{Map, OID_LIMIT, Oid, Op, Reply, Row, RowRead, RowStop, TABLES, Value, run_one};
+use erm_model::{
+    Map, OID_LIMIT, Oid, Op, Reply, Row, RowRead, RowStop, TABLES, Value,
+    lawful_transactions_have_lawful_records, run_one,
+};
 use memory::MemoryTxn;
 use std::alloc::Global;
 use std::process::Abort;
@@ -185,6 +188,8 @@ fn the_eighth_key_cuts_the_root(rt: HostRuntime) -> Result<(), Fail> {
     }
     operations_are_run_one::<MemoryTxn>();
     tables_stand_apart();
+    ways_are_of_own_nodes();
+    lawful_transactions_have_lawful_records::<MemoryTxn>();
     calls_change_one_table::<MemoryTxn>();
     Ok(())
 }
