@@ -28,16 +28,16 @@ grows_more g x y h =
 
 -- a step that adds nothing adds no more than a step of this kind
 goes_on_more : (g : Growth) (x y : SeatState) → GoesOn no_growth x y → GoesOn g x y
-goes_on_more g x y h = record { seat = h.seat; promised = h.promised; lists = h.lists; grows = grows_more g x y h.grows }
+goes_on_more g x y h = record { seat = h.seat; over = h.over; promised = h.promised; lists = h.lists; grows = grows_more g x y h.grows }
 
 pub may_end : (x y : SeatState) → GoesOn no_growth x y → MayEnd x y
-may_end x y h = record { seat = h.seat; promised = h.promised; lists = λ _. h.lists; grows = h.grows }
+may_end x y h = let over = h.over in record { seat = h.seat; over = omega (arith, over); promised = h.promised; lists = λ _. h.lists; grows = h.grows }
 
 -- a step that isn't done
 pub may_draw : (x y : SeatState) → GoesOn no_growth x y → MayDraw false x y
 may_draw x y h =
     let same : one y.promised ≡ one x.promised = ap one h.promised in
-    record { seat = h.seat; promised = omega (arith, same); lists = h.lists; grows = h.grows }
+    record { seat = h.seat; over = h.over; promised = omega (arith, same); lists = h.lists; grows = h.grows }
 
 pub leaves_all : (k : Kind) (cells : ℕ) (x y : SeatState) → GoesOn no_growth x y → Leaves k cells false x y
 leaves_all (kind.AddTail size) cells x y h = may_draw x y h
@@ -49,6 +49,7 @@ leaves_all k cells x y h = goes_on_more (growth_in k cells) x y h
 pub stays : (x : SeatState) → GoesOn no_growth x x
 stays x = record {
   seat = record { flushes = refl; over = refl; spare = refl };
+  over = refl;
   promised = refl;
   lists = record { reads = refl; writes = refl; made = refl; block = refl };
   grows = record { reads = omega arith; claims = omega arith; made = omega arith; words = omega arith; spare = omega arith };

@@ -35,7 +35,7 @@ HasSpareRoom x cells = vec_len x.spare + (vec_len x.current.writes + cells) ≤ 
 
 -- A call that claims may be made: it may claim, and its cut may make so many cells spare.
 pub record HasCutRoom (x : SeatState) (cells : ℕ) : Type 0 where
-  pub claim : vec_len x.current.writes < WRITE_LIMIT → HasClaimRoom x
+  pub claim : HasClaimRoom x
   pub cut : HasSpareRoom x (cells + 1)
 
 -- room for what a load of the tail begins: its second load has the room that was made for the first
@@ -88,6 +88,7 @@ pub record KeepsSeat (x y : SeatState) : Type 0 where
 -- A step that goes on: all lists have the same room, and get no more than that.
 pub record GoesOn (g : Growth) (x y : SeatState) : Type 0 where
   pub seat : KeepsSeat x y
+  pub over : vec_len y.over ≡ vec_len x.over
   pub promised : y.promised ≡ x.promised
   pub lists : KeepsLists x.current y.current
   pub grows : GrowsBy g x y
@@ -95,6 +96,7 @@ pub record GoesOn (g : Growth) (x y : SeatState) : Type 0 where
 -- A step after which the transaction may be over: then its lists are gone with it.
 pub record MayEnd (x y : SeatState) : Type 0 where
   pub seat : KeepsSeat x y
+  pub over : vec_len y.over ≤ vec_len x.over + 1
   pub promised : y.promised ≡ x.promised
   pub lists : y.place ≢ Idle → KeepsLists x.current y.current
   pub grows : GrowsBy no_growth x y
@@ -102,6 +104,7 @@ pub record MayEnd (x y : SeatState) : Type 0 where
 -- A step that draws a range, where it is done, in the room that the log kept for it.
 pub record MayDraw (done : Bool) (x y : SeatState) : Type 0 where
   pub seat : KeepsSeat x y
+  pub over : vec_len y.over ≡ vec_len x.over
   pub promised : one y.promised + one done ≤ one x.promised
   pub lists : KeepsLists x.current y.current
   pub grows : GrowsBy no_growth x y

@@ -1,12 +1,14 @@
 //! Room for what a call's steps add to a seat's lists, and for what its transaction adds later on account of it.
 ghost use Rattle.std.specs.Prelude.{◌≡◌, ◌+◌, ◌<◌, OnOk, vec_len, vec_capacity};
-ghost use Rattle.erm_machine.specs.declared.limits.TheConstants.{WRITE_LIMIT};
 ghost use Rattle.erm_seat.specs.Parts.{part_of};
 ghost use Rattle.erm_seat.specs.Rooms.{HasBeginRoom, HasClaimRoom, HasCutRoom, HasDrawRoom, HasSpareRoom, Reserves};
 
 use crate::SeatState;
-use erm_machine::{GREATEST_BLOCK, WRITE_LIMIT};
+use erm_machine::GREATEST_BLOCK;
 use std::alloc::AllocError;
+
+// No transaction has so many claims.
+const MOST_CLAIMS: usize = 1 << 32;
 
 impl SeatState {
     /// Room for a transaction, where the log has room for its range. What the seat is stays.
@@ -70,16 +72,16 @@ impl SeatState {
         self.reserve_spare(cells)
     }
 
-    // Room for one more claim, where there may be one.
+    // Room for one more claim.
     fn reserve_row(&mut self) -> Result<(), AllocError>
-        ensures ok { OnOk result (vec_len self.new.current.writes < WRITE_LIMIT → HasClaimRoom self.new) }
+        ensures ok { OnOk result (HasClaimRoom self.new) }
         ensures same { part_of self.new ≡ part_of self.old }
         ensures room { Reserves self.old self.new }
         ensures promised { self.new.promised ≡ self.old.promised }
     {
         let claims = self.current.writes.len();
-        if claims >= WRITE_LIMIT {
-            return Ok(());
+        if claims >= MOST_CLAIMS {
+            return Err(AllocError);
         }
         self.current.writes.reserve(1)?;
         self.current.block.reserve(4 + 17 * (claims + 1))?;
