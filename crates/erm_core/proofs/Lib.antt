@@ -1,6 +1,9 @@
 pub mod Installs
+pub mod Lasting
+pub mod Objects
 pub mod Openings
 pub mod Rooms
+pub mod Seats
 pub mod Steps
 pub mod Tables
 pub mod Vacant

@@ -46,6 +46,8 @@ pub opened_core : (os : List ObjectState) (ring : List ℕ) (xs : List SeatState
     record {
       shared = record {
         opening = tail;
+        run = run;
+        first = first;
         cell_limit = cells;
         tail = tail;
         log = log;
@@ -65,6 +67,8 @@ opened_core os ring xs log rows sessions tail run first cells few len_os opened 
     λ i. record {
       shared = record {
         opening = tail;
+        run = run;
+        first = first;
         cell_limit = cells;
         tail = tail;
         log = none i;

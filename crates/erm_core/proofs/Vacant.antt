@@ -16,7 +16,7 @@ use Rattle.erm_machine.specs.Step.{part_after, moved, is_known, after_event, wit
 use Rattle.erm_machine.specs.Words.{is_flusher, is_seat}
 use Rattle.erm_seat.specs.Parts.{part_of}
 use Rattle.erm_core.specs.declared.state.State.{State}
-use Rattle.erm_core.specs.Cores.{core_of, IsShaped}
+use Rattle.erm_core.specs.Cores.{core_of}
 use Rattle.erm_core.specs.Kinds.{MeetsOne}
 use Rattle.erm_core.proofs.Steps.{one_word}
 
@@ -67,9 +67,9 @@ module _ (c : Core) (p run opening : ℕ) (is : c.seats p ≡ fresh_part Vacant 
   vacant_none k = vacant_word k tt
 
 -- a seat above those that have words
-pub seat_above : (s : State) (p : ℕ) → IsShaped s → ANNOUNCERS ≤ p → (core_of s).seats p ≡ fresh_part Vacant s.run s.opening
-seat_above s p shape above =
+pub seat_above : (s : State) (p : ℕ) → ANNOUNCERS ≤ p → (core_of s).seats p ≡ fresh_part Vacant s.run s.opening
+seat_above s p above =
     let len : length (map part_of s.seats.items) ≡ length s.seats.items = length-map s.seats.items part_of in
     let items = s.seats.ok.0 in
-    let seats = shape.seats in
+    let seats = s.all_seats in
     get_or_past (map part_of s.seats.items) p (fresh_part Vacant s.run s.opening) (omega (arith, len, items, seats, above))

@@ -1,8 +1,7 @@
 -- What the running machine's state is, as the definitions have it.
-use Rattle.std.specs.Prelude.{◌≡◌, ℕ, ◌+◌, ◌^◌, ◌<◌, List, map, slice_index, slice_index_or, length, Option, None, if◌then◌else◌, [], vec_len}
+use Rattle.std.specs.Prelude.{◌≡◌, ℕ, ◌+◌, ◌^◌, ◌<◌, List, map, slice_index, slice_index_or, length, Option, None, if◌then◌else◌, []}
 use Rattle.erm_machine.specs.declared.event.Kind.{Kind}
 use Rattle.erm_machine.specs.declared.event.Kind.TheVariants as kind
-use Rattle.erm_machine.specs.declared.limits.TheConstants.{ANNOUNCERS, OBJECT_LIMIT, RING_WORDS}
 use Rattle.erm_machine.specs.declared.part.Part.{Part}
 use Rattle.erm_machine.specs.declared.place.Place.TheVariants.{Vacant, Idle}
 use Rattle.erm_machine.specs.declared.version.Version.{Version}
@@ -14,6 +13,7 @@ use Rattle.erm_seat.specs.declared.seat.SeatState.{SeatState}
 use Rattle.erm_core.specs.declared.state.State.{State}
 use Rattle.erm_kept.specs.Objects.{object_of}
 use Rattle.erm_seat.specs.Parts.{part_of}
+use Rattle.erm_core.specs.Seats.{promised_in, AreNumbered}
 
 -- the objects by their numbers
 abbrev pub objects_of : List ObjectState → ℕ → Object
@@ -27,6 +27,8 @@ parts_of run opening xs = λ p. slice_index_or (map part_of xs) p (fresh_part Va
 abbrev pub shared_of : State → Shared
 shared_of s = record {
   opening = s.opening;
+  run = s.run;
+  first = s.first;
   cell_limit = s.cell_limit;
   tail = s.tail;
   log = s.log.items;
@@ -40,12 +42,6 @@ shared_of s = record {
 -- the whole state
 abbrev pub core_of : State → Core
 core_of s = record { shared = shared_of s; seats = parts_of s.run s.opening s.seats.items }
-
--- the state has all objects, all words of the ring and all seats that have words
-pub record IsShaped (s : State) : Type 0 where
-  pub objects : vec_len s.objects ≡ OBJECT_LIMIT
-  pub ring : vec_len s.ring ≡ RING_WORDS
-  pub seats : vec_len s.seats ≡ ANNOUNCERS
 
 -- What the seats share after a step of this kind, where an install adds this version.
 abbrev pub shared_with : ℕ → Kind → ℕ → Option Version → Shared → Shared
@@ -74,3 +70,8 @@ AreOpened os rows = (oid : ℕ) → oid < length os → slice_index_or (map obje
 abbrev pub AreFresh : List SeatState → ℕ → ℕ → ℕ → Type 0
 AreFresh xs sessions run tail =
     (p : ℕ) → p < length xs → slice_index_or (map part_of xs) p (fresh_part Vacant run tail) ≡ fresh_part (if is_taken sessions p then Idle else Vacant) run tail
+
+-- none of the seats was promised a range, and each knows whether it is the flush seat
+pub record AreNew (xs : List SeatState) : Type 0 where
+  pub promised : promised_in xs ≡ 0
+  pub numbered : AreNumbered xs

@@ -5,11 +5,10 @@ mod room;
 mod run;
 mod step;
 
-ghost use Rattle.std.specs.Prelude.{◌≡◌, ◌%◌, ◌≤◌, Some, None, MatchOption, vec_len};
+ghost use Rattle.std.specs.Prelude.{◌≡◌, ◌+◌, ◌%◌, ◌≤◌, Some, None, MatchOption, vec_len, vec_capacity};
+ghost use Rattle.erm_machine.specs.declared.limits.TheConstants.{ANNOUNCERS, OBJECT_LIMIT, RING_WORDS};
 ghost use Rattle.erm_machine.specs.Core as core_specs;
-ghost use Rattle.erm_core.specs.Cores.{core_of};
-ghost use Rattle.erm_seat.specs.Kinds.{IsPlain};
-ghost use Rattle.erm_seat.specs.Parts.{part_of};
+ghost use Rattle.erm_core.specs.Seats.{promised_in, AreNumbered};
 
 use erm_kept::ObjectState;
 use erm_kept::words::{begin_of, blank_cell, cell_word, state_of};
@@ -22,6 +21,8 @@ use erm_seat::SeatState;
 pub struct State {
     pub(crate) run: u64,
     pub(crate) opening: Stamp,
+    /// The number of the first object that is made.
+    pub(crate) first: u64,
     /// How many cells there are.
     pub(crate) cell_limit: u32,
     pub(crate) tail: Stamp,
@@ -32,12 +33,87 @@ pub struct State {
     pub(crate) objects: Vec<ObjectState>,
     pub(crate) ring: Vec<u64>,
     pub(crate) seats: Vec<SeatState>,
+    // All objects, all words of the ring, and all seats.
+    ghost all_objects: { vec_len objects ≡ OBJECT_LIMIT },
+    ghost all_words: { vec_len ring ≡ RING_WORDS },
+    ghost all_seats: { vec_len seats ≡ ANNOUNCERS },
+    ghost numbered: { AreNumbered seats.items },
+    // Room for a range of each seat that was promised one: each transaction in progress can be carried to its end.
+    ghost log_room: { vec_len log + promised_in seats.items ≤ vec_capacity log },
 }
 
 impl State {
+    ghost use Rattle.erm_core.specs.Cores.{core_of, shared_of};
+    ghost use Rattle.erm_kept.specs.Objects.{object_of};
+    ghost use Rattle.erm_seat.specs.Kinds.{IsPlain};
+    ghost use Rattle.erm_seat.specs.Parts.{part_of};
+
+    /// The tail.
+    pub fn tail(&self) -> Stamp
+        ensures { result ≡ (shared_of self.now).tail }
+    {
+        self.tail
+    }
+
+    /// The place below which all is synced.
+    pub fn flushed(&self) -> Stamp
+        ensures { result ≡ (shared_of self.now).flushed }
+    {
+        self.flushed
+    }
+
+    /// The run of the log that this opening writes.
+    pub fn run_number(&self) -> u64
+        ensures { result ≡ (shared_of self.now).run }
+    {
+        self.run
+    }
+
+    /// The place where the opening's log begins.
+    pub fn opening(&self) -> Stamp
+        ensures { result ≡ (shared_of self.now).opening }
+    {
+        self.opening
+    }
+
+    /// The number of the first object that is made.
+    pub fn first(&self) -> u64
+        ensures { result ≡ (shared_of self.now).first }
+    {
+        self.first
+    }
+
+    /// How many cells there are.
+    pub fn cell_limit(&self) -> u32
+        ensures { result ≡ (shared_of self.now).cell_limit }
+    {
+        self.cell_limit
+    }
+
+    /// The counter of objects.
+    pub fn objects_drawn(&self) -> u64
+        ensures { result ≡ (shared_of self.now).objects_drawn }
+    {
+        self.objects_drawn
+    }
+
+    /// The counter of cells.
+    pub fn cells_drawn(&self) -> u64
+        ensures { result ≡ (shared_of self.now).cells_drawn }
+    {
+        self.cells_drawn
+    }
+
+    /// An object below the limit, as it is kept.
+    pub fn object(&self, oid: Oid) -> Option<&ObjectState>
+        ensures { MatchOption result (OBJECT_LIMIT ≤ oid) (λ o. object_of o.now ≡ (core_of self.now).shared.objects oid) }
+    {
+        self.objects.get(oid as usize)
+    }
+
     /// A seat that has words, as it is kept.
     pub fn seat(&self, seat: Seat) -> Option<&SeatState>
-        ensures { MatchOption result (vec_len self.now.seats ≤ seat) (λ x. part_of x.now ≡ (core_of self.now).seats seat) }
+        ensures { MatchOption result (ANNOUNCERS ≤ seat) (λ x. part_of x.now ≡ (core_of self.now).seats seat) }
     {
         self.seats.get(seat as usize)
     }
@@ -95,8 +171,8 @@ impl State {
         }
     }
 
-    // A word of the ring.
-    fn ring_word(&self, at: Stamp) -> u64
+    /// A word of the ring.
+    pub fn ring_word(&self, at: Stamp) -> u64
         ensures { result ≡ core_specs.word_at (core_of self.now) (core_specs.ring_word (at % RING_WORDS)) }
     {
         match self.ring.get((at % RING_WORDS) as usize) {

@@ -1,5 +1,5 @@
 -- What a kept object is, as the definitions have it.
-use Rattle.std.specs.Prelude.{ℕ, ◌^◌, ◌<◌, max, Option, vec_len, vec_capacity}
+use Rattle.std.specs.Prelude.{ℕ, ◌-◌, ◌^◌, ◌<◌, max, length, Option, vec_len, vec_capacity}
 use Rattle.erm_machine.specs.declared.version.CellWord.{CellWord}
 use Rattle.erm_machine.specs.Core.{Object, version_at, with_version}
 use Rattle.erm_machine.specs.declared.event.Kind.{Kind}
@@ -13,6 +13,10 @@ use Rattle.erm_kept.specs.declared.object.ObjectState.{ObjectState}
 -- an object
 abbrev pub object_of : ObjectState → Object
 object_of o = record { entry = o.entry; versions = o.versions.items; cut = o.cut }
+
+-- how many versions an object's chain has
+abbrev pub chain_len : Object → ℕ
+chain_len o = length o.versions - o.cut
 
 -- an object with a word of the version at a place changed
 abbrev pub object_with_word : Object → ℕ → CellWord → ℕ → Object

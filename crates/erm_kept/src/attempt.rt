@@ -1,11 +1,11 @@
 //! A transaction as its seat keeps it.
-ghost use Rattle.std.specs.Prelude.{◌≡◌, IfSome, vec_len, vec_capacity};
+ghost use Rattle.std.specs.Prelude.{◌≡◌, IfSome};
 ghost use Rattle.erm_machine.specs.Core as core_specs;
 ghost use Rattle.erm_machine.specs.Life as life_specs;
 ghost use Rattle.erm_machine.specs.Reading as reading_specs;
 ghost use Rattle.erm_machine.specs.Seat as seat_specs;
 ghost use Rattle.erm_machine.specs.Settling as settling_specs;
-ghost use Rattle.erm_kept.specs.Attempts.{attempt_of, KeepsSize};
+ghost use Rattle.erm_kept.specs.Attempts.{attempt_of, IsEmpty, KeepsLists, KeepsSize};
 ghost use Rattle.erm_kept.specs.Tasks.{stored};
 
 use crate::words::is_commit;
@@ -50,8 +50,7 @@ impl AttemptState {
     /// A transaction that has just begun. It takes no memory.
     pub fn begun(alloc: Global, number: u32, begin: Stamp) -> AttemptState
         ensures begun { attempt_of result ≡ core_specs.begun number begin }
-        ensures block { vec_len result.block ≡ 0 }
-        ensures claims { vec_len result.writes ≡ 0 }
+        ensures empty { IsEmpty result }
     {
         AttemptState {
             number,
@@ -73,9 +72,8 @@ impl AttemptState {
     /// The transaction begins anew, in lists that keep their room.
     pub fn restart(&mut self, number: u32, begin: Stamp)
         ensures begun { attempt_of self.new ≡ core_specs.begun number begin }
-        ensures room { vec_capacity self.new.block ≡ vec_capacity self.old.block }
-        ensures block { vec_len self.new.block ≡ 0 }
-        ensures claims { vec_len self.new.writes ≡ 0 }
+        ensures lists { KeepsLists self.old self.new }
+        ensures empty { IsEmpty self.new }
     {
         self.number = number;
         self.begin = begin;

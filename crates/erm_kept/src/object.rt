@@ -1,8 +1,7 @@
 //! An object as it is kept, with all versions that it ever had.
-ghost use Rattle.std.specs.Prelude.{◌≡◌, ◌+◌, ◌^◌, ◌<◌, ◌≤◌, min, None, IfOk, OnOk, length, vec_len, vec_capacity};
+ghost use Rattle.std.specs.Prelude.{◌≡◌, ◌+◌, ◌^◌, ◌<◌, ◌≤◌, min, None, IfOk, OnOk, vec_len, vec_capacity};
 ghost use Rattle.erm_machine.specs.Core as core_specs;
 ghost use Rattle.erm_machine.specs.declared.limits.TheConstants.{ANNOUNCERS};
-ghost use Rattle.erm_machine.specs.Reading as reading_specs;
 ghost use Rattle.erm_machine.specs.Step as step_specs;
 ghost use Rattle.erm_machine.specs.Words.{owner_of};
 ghost use Rattle.erm_machine.specs.declared.version.CellWord.TheVariants.{Link};
@@ -23,7 +22,7 @@ pub struct ObjectState {
 }
 
 impl ObjectState {
-    ghost use Rattle.erm_kept.specs.Objects.{ChangesWord, HasObjectRoom, object_after, object_of, object_with_word};
+    ghost use Rattle.erm_kept.specs.Objects.{ChangesWord, HasObjectRoom, chain_len, object_after, object_of, object_with_word};
 
     /// An object as it is opened, with this row in the cell of the same number, which an entry can name.
     pub fn opened(alloc: Global, cell: u32, row: Row) -> Result<ObjectState, AllocError>
@@ -41,11 +40,11 @@ impl ObjectState {
         })
     }
 
-    /// How many versions a cut at a place takes off the chain.
-    pub fn cut_len(&self, place: usize) -> usize
-        ensures { result ≡ length (reading_specs.cut_off place (object_of self.now)) }
+    /// How many versions its chain has.
+    pub fn chain_len(&self) -> usize
+        ensures { result ≡ chain_len (object_of self.now) }
     {
-        place.min(self.versions.len()).saturating_sub(self.cut)
+        self.versions.len().saturating_sub(self.cut)
     }
 
     /// The newest place of its versions.
@@ -70,7 +69,8 @@ impl ObjectState {
 
     // Changes a word of the version at a place.
     fn set_version_word(&mut self, place: usize, word: CellWord, value: u64)
-        ensures { object_of self.new ≡ object_with_word (object_of self.old) place word value }
+        ensures after { object_of self.new ≡ object_with_word (object_of self.old) place word value }
+        ensures room { vec_capacity self.new.versions ≡ vec_capacity self.old.versions }
     {
         if place < self.versions.len() {
             let words = self.versions[place].words;
@@ -80,7 +80,8 @@ impl ObjectState {
 
     // Cuts off the versions behind a place.
     fn cut_behind(&mut self, place: usize)
-        ensures { object_of self.new ≡ record (object_with_word (object_of self.old) place Link 0) { cut = place } }
+        ensures after { object_of self.new ≡ record (object_with_word (object_of self.old) place Link 0) { cut = place } }
+        ensures room { vec_capacity self.new.versions ≡ vec_capacity self.old.versions }
     {
         self.set_version_word(place, CellWord::Link, 0);
         self.cut = place;
@@ -90,7 +91,8 @@ impl ObjectState {
     fn install(&mut self, head: u32, added: Option<Version>)
         requires head { head < 2 ^ 24 }
         requires room { vec_len self.old.versions < vec_capacity self.old.versions }
-        ensures { object_of self.new ≡ step_specs.installed head added (object_of self.old) }
+        ensures after { object_of self.new ≡ step_specs.installed head added (object_of self.old) }
+        ensures room { vec_capacity self.new.versions ≡ vec_capacity self.old.versions }
     {
         self.entry = head as u64;
         if let Some(version) = added {
@@ -102,7 +104,8 @@ impl ObjectState {
     pub fn change(&mut self, seat: Seat, kind: Kind, found: u64, added: Option<Version>)
         requires seat { seat < ANNOUNCERS }
         requires room { HasObjectRoom self.old kind }
-        ensures { object_of self.new ≡ object_after seat kind found added (object_of self.old) }
+        ensures after { object_of self.new ≡ object_after seat kind found added (object_of self.old) }
+        ensures room { vec_capacity self.new.versions ≡ vec_capacity self.old.versions }
     {
         match kind {
             Kind::Claim { seen, number, .. } => {
@@ -121,7 +124,8 @@ impl ObjectState {
     // What a step leaves that changes one word of a version.
     fn change_word(&mut self, seat: Seat, kind: Kind, found: u64)
         requires seat { seat < ANNOUNCERS }
-        ensures { ChangesWord kind → object_of self.new ≡ object_after seat kind found None (object_of self.old) }
+        ensures after { ChangesWord kind → object_of self.new ≡ object_after seat kind found None (object_of self.old) }
+        ensures room { vec_capacity self.new.versions ≡ vec_capacity self.old.versions }
     {
         match kind {
             Kind::SetReader { version } => {
@@ -146,6 +150,7 @@ impl ObjectState {
     /// Room for one more version. What the object is stays.
     pub fn reserve(&mut self) -> Result<(), AllocError>
         ensures ok { OnOk result (vec_len self.new.versions < vec_capacity self.new.versions) }
+        ensures room { vec_capacity self.old.versions ≤ vec_capacity self.new.versions }
         ensures same { object_of self.new ≡ object_of self.old }
     {
         self.versions.reserve(1)

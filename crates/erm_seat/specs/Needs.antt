@@ -1,19 +1,40 @@
 -- What a transaction still needs of its seat's lists, by the place of its seat.
-use Rattle.std.specs.Prelude.{ℕ}
+use Rattle.std.specs.Prelude.{ℕ, ◌+◌, ◌*◌, Bool, if◌then◌else◌}
 use Rattle.erm_machine.specs.declared.place.Place.{Place}
-use Rattle.erm_machine.specs.declared.place.Place.TheVariants.{Vacant, Idle, Active, Sealing, Drawn, Sealed, Decided}
+use Rattle.erm_machine.specs.declared.place.Place.TheVariants.{Vacant, Idle, Begun, Announced, Active, Sealing, Drawn, Sealed, Decided}
+
+-- a number at a session's seat, and 0 at the flush seat, whose pins leave nothing
+abbrev pub lasting : Bool → ℕ → ℕ
+lasting flushes n = if flushes then 0 else n
+
+-- 1 for true, 0 for false
+abbrev pub one : Bool → ℕ
+one b = if b then 1 else 0
+
+-- 1 where a transaction has begun and may still draw a range, else 0
+abbrev pub awaiting : Bool → Place → ℕ
+awaiting flushes (Begun tail) = lasting flushes 1
+awaiting flushes (Announced tail) = lasting flushes 1
+awaiting flushes (Active tail) = lasting flushes 1
+awaiting flushes (Sealing tail) = 1
+awaiting flushes _ = 0
 
 -- 1 where a transaction is in progress, which will be over, else 0
-abbrev pub busy : Place → ℕ
-busy Vacant = 0
-busy Idle = 0
-busy _ = 1
+abbrev pub busy : Bool → Place → ℕ
+busy flushes Vacant = 0
+busy flushes Idle = 0
+busy flushes (Begun tail) = lasting flushes 1
+busy flushes (Announced tail) = lasting flushes 1
+busy flushes (Active tail) = lasting flushes 1
+busy flushes _ = 1
 
--- a number while the transaction has no range yet, else 0
-abbrev pub unsealed : Place → ℕ → ℕ
-unsealed (Active tail) n = n
-unsealed (Sealing tail) n = n
-unsealed _ n = 0
+-- How many words its block still needs where the transaction has no range yet, else 0: 4, and 17 for each of its claims.
+abbrev pub unsealed : Bool → Place → ℕ → ℕ
+unsealed flushes (Begun tail) claims = lasting flushes 4
+unsealed flushes (Announced tail) claims = lasting flushes 4
+unsealed flushes (Active tail) claims = lasting flushes (4 + 17 * claims)
+unsealed flushes (Sealing tail) claims = 4 + 17 * claims
+unsealed flushes _ claims = 0
 
 -- a number while the transaction has a range and isn't decided, else 0
 abbrev pub undecided : Place → ℕ → ℕ
@@ -29,3 +50,9 @@ holding (Drawn tail stamp) n = n
 holding (Sealed tail stamp) n = n
 holding (Decided tail stamp) n = n
 holding _ n = 0
+
+-- no transaction is in progress
+abbrev pub IsUnused : Place → Type 0
+IsUnused Vacant = Unit {0}
+IsUnused Idle = Unit {0}
+IsUnused _ = ⊥

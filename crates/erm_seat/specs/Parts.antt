@@ -1,14 +1,8 @@
 -- What a kept seat is, as the definitions have it.
 use Rattle.std.specs.Prelude.{map}
 use Rattle.erm_machine.specs.declared.part.Part.{Part}
-use Rattle.erm_machine.specs.declared.part.GatheredBlock.{GatheredBlock}
 use Rattle.erm_kept.specs.Attempts.{attempt_of}
-use Rattle.erm_seat.specs.declared.seat.BlockState.{BlockState}
 use Rattle.erm_seat.specs.declared.seat.SeatState.{SeatState}
-
--- a block that was gathered
-abbrev pub block_of : BlockState → GatheredBlock
-block_of b = record { start = b.start; words = b.words.items }
 
 -- what one seat alone changes
 abbrev pub part_of : SeatState → Part
@@ -23,8 +17,6 @@ part_of x = record {
   spare = x.spare.items;
   run = x.run;
   flushing = x.flushing;
-  words = x.words.items;
-  gathered = map block_of x.gathered.items;
   gathered_to = x.gathered_to;
   synced = x.synced;
 }

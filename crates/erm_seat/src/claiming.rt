@@ -5,7 +5,7 @@ ghost use Rattle.erm_kept.specs.Objects.{object_of};
 ghost use Rattle.erm_kept.specs.Tasks.{IsFresh};
 ghost use Rattle.erm_machine.specs.declared.limits.TheConstants.{WRITE_LIMIT};
 ghost use Rattle.erm_seat.specs.Parts.{part_of};
-ghost use Rattle.erm_seat.specs.Rooms.{HasClaimRoom, HasSpareRoom};
+ghost use Rattle.erm_seat.specs.Rooms.{no_growth, GoesOn, HasClaimRoom, HasNumberRoom, HasSpareRoom};
 ghost use Rattle.erm_machine.specs.declared.task.Task.TheVariants.{Copies, Numbers, Pool, Registered, Writes};
 ghost use Rattle.erm_machine.specs.declared.event.Counter.TheVariants.{Objects, Cells};
 ghost use Rattle.erm_machine.specs.declared.version.CellWord.TheVariants.{Overwriter};
@@ -83,6 +83,7 @@ impl SeatState {
         requires room { vec_len self.old.current.writes < WRITE_LIMIT → HasClaimRoom self.old }
         ensures turn { reading_specs.claim seat oid seen number found (object_of object.now) (part_of self.old) self.old.task ≡ (if result then Some (part_of self.new) else None) }
         ensures kept { result ≡ false → part_of self.new ≡ part_of self.old }
+        ensures room { GoesOn (record no_growth { claims = 1 }) self.old self.new }
     {
         let Task::Found {
             version,
@@ -120,6 +121,7 @@ impl SeatState {
         requires room { HasSpareRoom self.old (length (reading_specs.cut_off version.place (object_of object.now))) }
         ensures turn { reading_specs.swap_link found version (object_of object.now) (part_of self.old) self.old.task ≡ (if result then Some (part_of self.new) else None) }
         ensures kept { result ≡ false → part_of self.new ≡ part_of self.old }
+        ensures room { GoesOn (record no_growth { spare = length (reading_specs.cut_off version.place (object_of object.now)) }) self.old self.new }
     {
         let Task::CutFound {
             version: in_hand,
@@ -139,6 +141,7 @@ impl SeatState {
     pub(crate) fn load_detached(&mut self, found: u64, version: VersionAt) -> bool
         ensures turn { reading_specs.load_detached found version (part_of self.old) self.old.task ≡ (if result then Some (part_of self.new) else None) }
         ensures kept { result ≡ false → part_of self.new ≡ part_of self.old }
+        ensures room { GoesOn no_growth self.old self.new }
     {
         let Task::Detaches { version: in_hand } = self.task else {
             return false;
@@ -154,6 +157,7 @@ impl SeatState {
     pub(crate) fn load_counter(&mut self, cells: u32, counter: Counter, found: u64) -> bool
         ensures turn { reading_specs.load_counter cells counter found (part_of self.old) self.old.task ≡ (if result then Some (part_of self.new) else None) }
         ensures kept { result ≡ false → part_of self.new ≡ part_of self.old }
+        ensures room { GoesOn no_growth self.old self.new }
     {
         if !is_active(self.place) {
             return false;
@@ -195,9 +199,10 @@ impl SeatState {
         counter: Counter,
         found: u64,
     ) -> bool
-        requires room { vec_len self.old.current.made < vec_capacity self.old.current.made }
+        requires room { HasNumberRoom self.old counter }
         ensures turn { reading_specs.add_counter cells seat counter found (part_of self.old) self.old.task ≡ (if result then Some (part_of self.new) else None) }
         ensures kept { result ≡ false → part_of self.new ≡ part_of self.old }
+        ensures room { GoesOn (record no_growth { made = 1 }) self.old self.new }
     {
         match (counter, self.task) {
             (Counter::Objects, Task::Numbers) => self.add_object(seat, found),
@@ -212,6 +217,7 @@ impl SeatState {
         requires room { vec_len self.old.current.made < vec_capacity self.old.current.made }
         ensures turn { (cells : ℕ) → reading_specs.add_counter cells seat Objects found (part_of self.old) Numbers ≡ (if result then Some (part_of self.new) else None) }
         ensures kept { result ≡ false → part_of self.new ≡ part_of self.old }
+        ensures room { GoesOn (record no_growth { made = 1 }) self.old self.new }
     {
         if !is_active(self.place) || !is_session(seat) {
             return false;
@@ -229,6 +235,7 @@ impl SeatState {
         requires fresh { IsFresh self.old.task }
         ensures turn { (seat : ℕ) → reading_specs.add_counter cells seat Cells found (part_of self.old) Pool ≡ (if result then Some (part_of self.new) else None) }
         ensures kept { result ≡ false → part_of self.new ≡ part_of self.old }
+        ensures room { GoesOn no_growth self.old self.new }
     {
         if !is_active(self.place) {
             return false;
@@ -249,6 +256,7 @@ impl SeatState {
     fn take_spare(&mut self)
         requires some { 0 < vec_len self.old.spare }
         ensures part { part_of self.new ≡ reading_specs.with_spare (part_of self.old) }
+        ensures room { GoesOn no_growth self.old self.new }
         ensures task { self.new.task ≡ self.old.task }
     {
         if let Some(own) = self.spare.pop() {
@@ -265,6 +273,7 @@ impl SeatState {
     ) -> bool
         ensures turn { reading_specs.load_active_stamp found version word (part_of self.old) self.old.task ≡ (if result then Some (part_of self.new) else None) }
         ensures kept { result ≡ false → part_of self.new ≡ part_of self.old }
+        ensures room { GoesOn no_growth self.old self.new }
     {
         match (word, self.task) {
             (CellWord::Overwriter, Task::Registered { version: in_hand }) => {
@@ -310,6 +319,7 @@ impl SeatState {
         requires fresh { IsFresh self.old.task }
         ensures turn { reading_specs.load_active_stamp found version Overwriter (part_of self.old) (Registered in_hand) ≡ (if result then Some (part_of self.new) else None) }
         ensures kept { result ≡ false → part_of self.new ≡ part_of self.old }
+        ensures room { GoesOn no_growth self.old self.new }
     {
         if !same_version(version, in_hand) {
             return false;
@@ -327,7 +337,8 @@ impl SeatState {
 
     fn rate_claim(&mut self, found: Stamp)
         requires fresh { IsFresh self.old.task }
-        ensures { part_of self.new ≡ reading_specs.rated_claim found (part_of self.old) }
+        ensures part { part_of self.new ≡ reading_specs.rated_claim found (part_of self.old) }
+        ensures room { GoesOn no_growth self.old self.new }
     {
         self.task = Task::Copies { word: 0 };
         self.current.find_pred(found);
@@ -337,6 +348,7 @@ impl SeatState {
     fn start_row(&mut self, place: usize, cell: u32, k: u8, value: u64) -> bool
         ensures turn { reading_specs.start_row place cell k value (part_of self.old) self.old.task ≡ (if result then Some (part_of self.new) else None) }
         ensures kept { result ≡ false → part_of self.new ≡ part_of self.old }
+        ensures room { GoesOn no_growth self.old self.new }
     {
         if !may_start(self.task) || place >= self.current.writes.len() {
             return false;
@@ -356,6 +368,7 @@ impl SeatState {
     pub(crate) fn store_row_word(&mut self, place: usize, cell: u32, k: u8, value: u64) -> bool
         ensures turn { reading_specs.store_row_word place cell k value (part_of self.old) self.old.task ≡ (if result then Some (part_of self.new) else None) }
         ensures kept { result ≡ false → part_of self.new ≡ part_of self.old }
+        ensures room { GoesOn no_growth self.old self.new }
     {
         match self.task {
             Task::Copies { word } => self.copy_word(word, place, cell, k, value),
@@ -368,6 +381,7 @@ impl SeatState {
         requires fresh { IsFresh self.old.task }
         ensures turn { reading_specs.store_row_word place cell k value (part_of self.old) (Copies word) ≡ (if result then Some (part_of self.new) else None) }
         ensures kept { result ≡ false → part_of self.new ≡ part_of self.old }
+        ensures room { GoesOn no_growth self.old self.new }
     {
         let claim = self.current.claim_at(place);
         if place != self.current.last_claim() || !is_own(cell, claim.own) || k != word {
@@ -397,6 +411,7 @@ impl SeatState {
         requires fresh { IsFresh self.old.task }
         ensures turn { reading_specs.store_row_word place cell k value (part_of self.old) (Writes claim word) ≡ (if result then Some (part_of self.new) else None) }
         ensures kept { result ≡ false → part_of self.new ≡ part_of self.old }
+        ensures room { GoesOn no_growth self.old self.new }
     {
         if place != claim || !is_own(cell, self.current.claim_at(place).own) || k != word {
             return false;

@@ -5,6 +5,7 @@ ghost use Rattle.erm_machine.specs.Settling as settling_specs;
 ghost use Rattle.erm_machine.specs.Step as step_specs;
 ghost use Rattle.erm_kept.specs.Tasks.{IsEndOf, IsFresh};
 ghost use Rattle.erm_seat.specs.Parts.{part_of};
+ghost use Rattle.erm_seat.specs.Rooms.{no_growth, GoesOn};
 
 use crate::SeatState;
 use erm_kept::is_own;
@@ -51,6 +52,7 @@ impl SeatState {
     pub(crate) fn raise_reader(&mut self, version: VersionAt, value: Stamp) -> bool
         ensures turn { settling_specs.raise_reader version value (part_of self.old) self.old.task ≡ (if result then Some (part_of self.new) else None) }
         ensures kept { result ≡ false → part_of self.new ≡ part_of self.old }
+        ensures room { GoesOn no_growth self.old self.new }
     {
         let Task::Ends {
             raised,
@@ -81,6 +83,7 @@ impl SeatState {
     fn store_head_word(&mut self, place: usize, cell: u32, word: CellWord, value: u64) -> bool
         ensures turn { settling_specs.store_head_word place cell word value (part_of self.old) self.old.task ≡ (if result then Some (part_of self.new) else None) }
         ensures kept { result ≡ false → part_of self.new ≡ part_of self.old }
+        ensures room { GoesOn no_growth self.old self.new }
     {
         let Task::Ends {
             raised,
@@ -114,6 +117,7 @@ impl SeatState {
     fn store_active_word(&mut self, place: usize, cell: u32, word: CellWord, value: u64) -> bool
         ensures turn { settling_specs.store_active_word place cell word value (part_of self.old) ≡ (if result then Some (part_of self.new) else None) }
         ensures kept { result ≡ false → part_of self.new ≡ part_of self.old }
+        ensures room { GoesOn no_growth self.old self.new }
     {
         match word {
             CellWord::Row(k) => self.store_row_word(place, cell, k, value),
@@ -124,6 +128,7 @@ impl SeatState {
     pub(crate) fn store_cell(&mut self, place: usize, cell: u32, word: CellWord, value: u64) -> bool
         ensures turn { settling_specs.store_cell place cell word value (part_of self.old) ≡ (if result then Some (part_of self.new) else None) }
         ensures kept { result ≡ false → part_of self.new ≡ part_of self.old }
+        ensures room { GoesOn no_growth self.old self.new }
     {
         if is_active(self.place) {
             self.store_active_word(place, cell, word, value)
@@ -136,6 +141,7 @@ impl SeatState {
         requires step { nth < 255 }
         ensures turn { settling_specs.mark_overwritten nth version value wanted (part_of self.old) self.old.task ≡ (if result then Some (part_of self.new) else None) }
         ensures kept { result ≡ false → part_of self.new ≡ part_of self.old }
+        ensures room { GoesOn no_growth self.old self.new }
     {
         let Task::Ends {
             raised,
@@ -164,6 +170,7 @@ impl SeatState {
     pub(crate) fn store_succ(&mut self, version: VersionAt, value: Stamp) -> bool
         ensures turn { settling_specs.store_succ version value (part_of self.old) ≡ (if result then Some (part_of self.new) else None) }
         ensures kept { result ≡ false → part_of self.new ≡ part_of self.old }
+        ensures room { GoesOn no_growth self.old self.new }
     {
         self.mark(6, version, value, self.current.succ)
     }
@@ -171,6 +178,7 @@ impl SeatState {
     pub(crate) fn store_overwriter(&mut self, version: VersionAt, value: Stamp) -> bool
         ensures turn { settling_specs.store_overwriter version value (part_of self.old) ≡ (if result then Some (part_of self.new) else None) }
         ensures kept { result ≡ false → part_of self.new ≡ part_of self.old }
+        ensures room { GoesOn no_growth self.old self.new }
     {
         self.mark(7, version, value, self.current.stamp)
     }
@@ -179,6 +187,7 @@ impl SeatState {
         requires end { IsEndOf self.old.task end.1 }
         ensures turn { settling_specs.install_new oid head (part_of self.old) end ≡ (if result then Some (part_of self.new) else None) }
         ensures kept { result ≡ false → part_of self.new ≡ part_of self.old }
+        ensures room { GoesOn (record no_growth { spare = 1 }) self.old self.new }
     {
         let (raised, ended, step, cleared) = end;
         if !self.installs(raised, ended, step) || step != 8 {
@@ -203,6 +212,7 @@ impl SeatState {
         requires end { IsEndOf self.old.task end.1 }
         ensures turn { settling_specs.release_old oid head (part_of self.old) end ≡ (if result then Some (part_of self.new) else None) }
         ensures kept { result ≡ false → part_of self.new ≡ part_of self.old }
+        ensures room { GoesOn (record no_growth { spare = 1 }) self.old self.new }
     {
         let (raised, ended, _, cleared) = end;
         if !is_decided(self.place) && !is_active(self.place) {
@@ -232,6 +242,7 @@ impl SeatState {
         requires fresh { IsFresh self.old.task }
         ensures turn { settling_specs.unclaim oid head (part_of self.old) ≡ (if result then Some (part_of self.new) else None) }
         ensures kept { result ≡ false → part_of self.new ≡ part_of self.old }
+        ensures room { GoesOn (record no_growth { spare = 1 }) self.old self.new }
     {
         if !is_active(self.place) || self.current.writes.is_empty() {
             return false;
@@ -249,6 +260,7 @@ impl SeatState {
     fn install_claim(&mut self, oid: Oid, head: u32) -> bool
         ensures turn { settling_specs.install_claim oid head (part_of self.old) (seat_specs.end_of self.old.task) ≡ (if result then Some (part_of self.new) else None) }
         ensures kept { result ≡ false → part_of self.new ≡ part_of self.old }
+        ensures room { GoesOn (record no_growth { spare = 1 }) self.old self.new }
     {
         let Some(end) = end_of(self.task) else {
             return false;
@@ -263,6 +275,7 @@ impl SeatState {
     pub(crate) fn install(&mut self, oid: Oid, head: u32) -> bool
         ensures turn { settling_specs.install oid head (part_of self.old) self.old.task ≡ (if result then Some (part_of self.new) else None) }
         ensures kept { result ≡ false → part_of self.new ≡ part_of self.old }
+        ensures room { GoesOn (record no_growth { spare = 1 }) self.old self.new }
     {
         match self.task {
             Task::Refused => self.unclaim(oid, head),
@@ -273,6 +286,7 @@ impl SeatState {
     pub(crate) fn clear_reader(&mut self, version: VersionAt) -> bool
         ensures turn { settling_specs.clear_reader version (part_of self.old) (seat_specs.end_of self.old.task) ≡ (if result then Some (part_of self.new) else None) }
         ensures kept { result ≡ false → part_of self.new ≡ part_of self.old }
+        ensures room { GoesOn no_growth self.old self.new }
     {
         let Some((raised, ended, step, cleared)) = end_of(self.task) else {
             return false;

@@ -2,12 +2,12 @@
 ghost use Rattle.std.specs.Prelude.{◌≡◌, ◌/◌, ◌<◌, if◌then◌else◌, false, true, Some, None, nat_le, [], vec_len, vec_capacity};
 ghost use Rattle.erm_machine.specs.Flushing as flushing_specs;
 ghost use Rattle.erm_seat.specs.Parts.{part_of};
+ghost use Rattle.erm_seat.specs.Rooms.{no_growth, GoesOn};
 
-use crate::{BlockState, SeatState};
+use crate::SeatState;
 use erm_kept::words::{is_active, is_between, is_flusher, is_vacant};
 use erm_machine::{Flushing, LOG_END, RING_WORDS, SEGMENT_WORDS};
 use erm_model::{RUN_UNIT, SIZE_UNIT, Seat, Stamp};
-use std::mem;
 
 // How many segments the words from one place up to another touch.
 fn segments(from: Stamp, to: Stamp) -> u64
@@ -28,6 +28,7 @@ impl SeatState {
     pub(crate) fn load_flushed(&mut self, found: Stamp) -> bool
         ensures turn { flushing_specs.load_flushed found (part_of self.old) self.old.flushing ≡ (if result then Some (part_of self.new) else None) }
         ensures kept { result ≡ false → part_of self.new ≡ part_of self.old }
+        ensures room { GoesOn no_growth self.old self.new }
     {
         if let Flushing::Tail { tail } = self.flushing {
             self.flushing = Flushing::Gathers {
@@ -37,7 +38,6 @@ impl SeatState {
                 next: found,
                 end: found,
             };
-            self.words.clear();
             return true;
         }
         if is_vacant(self.place) {
@@ -47,37 +47,12 @@ impl SeatState {
         true
     }
 
-    // A whole block is gathered, once.
-    fn gather(&mut self, block: Stamp, end: Stamp)
-        requires room { vec_len self.old.gathered < vec_capacity self.old.gathered }
-        ensures { part_of self.new ≡ record (part_of self.old) { words = []; gathered = flushing_specs.with_block block self.old.words.items self.old.gathered_to (part_of self.old).gathered; gathered_to = (if nat_le self.old.gathered_to block then end else self.old.gathered_to) } }
-    {
-        let words = mem::replace(&mut self.words, Vec::new(self.alloc));
-        if self.gathered_to <= block {
-            self.gathered.push_reserved(BlockState {
-                start: block,
-                words,
-            });
-            self.gathered_to = end;
-        }
-    }
-
     // A word of the block in hand, which may be its last.
-    fn gather_word(
-        &mut self,
-        tail: Stamp,
-        from: Stamp,
-        block: Stamp,
-        next: Stamp,
-        end: Stamp,
-        word: u64,
-    )
-        requires words { vec_len self.old.words < vec_capacity self.old.words }
-        requires blocks { vec_len self.old.gathered < vec_capacity self.old.gathered }
+    fn gather_word(&mut self, tail: Stamp, from: Stamp, block: Stamp, next: Stamp, end: Stamp)
         requires next { next < LOG_END }
-        ensures { part_of self.new ≡ flushing_specs.gathered_word tail from block next end word (part_of self.old) }
+        ensures part { part_of self.new ≡ flushing_specs.gathered_word tail from block next end (part_of self.old) }
+        ensures room { GoesOn no_growth self.old self.new }
     {
-        self.words.push_reserved(word);
         if next + 1 == end {
             self.flushing = Flushing::Gathers {
                 tail,
@@ -86,7 +61,7 @@ impl SeatState {
                 next: end,
                 end,
             };
-            self.gather(block, end);
+            self.gathered_to = self.gathered_to.max(end);
         } else {
             self.flushing = Flushing::Gathers {
                 tail,
@@ -99,10 +74,9 @@ impl SeatState {
     }
 
     pub(crate) fn load_ring(&mut self, at: Stamp, found: u64) -> bool
-        requires words { vec_len self.old.words < vec_capacity self.old.words }
-        requires blocks { vec_len self.old.gathered < vec_capacity self.old.gathered }
         ensures turn { flushing_specs.load_ring at found (part_of self.old) self.old.flushing ≡ (if result then Some (part_of self.new) else None) }
         ensures kept { result ≡ false → part_of self.new ≡ part_of self.old }
+        ensures room { GoesOn no_growth self.old self.new }
     {
         let Flushing::Gathers {
             tail,
@@ -118,14 +92,14 @@ impl SeatState {
             return false;
         }
         if next < end {
-            self.gather_word(tail, from, block, next, end, found);
+            self.gather_word(tail, from, block, next, end);
             return true;
         }
         if next >= tail || next.saturating_sub(from) >= RING_WORDS {
             return false;
         }
         if found != 0 {
-            self.gather_word(tail, from, next, next, next + size_of(found), found);
+            self.gather_word(tail, from, next, next, next + size_of(found));
         }
         true
     }
@@ -133,6 +107,7 @@ impl SeatState {
     pub(crate) fn write_log(&mut self, segment: u64) -> bool
         ensures turn { flushing_specs.write_log segment (part_of self.old) self.old.flushing ≡ (if result then Some (part_of self.new) else None) }
         ensures kept { result ≡ false → part_of self.new ≡ part_of self.old }
+        ensures room { GoesOn no_growth self.old self.new }
     {
         match self.flushing {
             Flushing::Gathers {
@@ -173,7 +148,8 @@ impl SeatState {
 
     // A segment is synced.
     fn after_sync(&mut self, from: Stamp, to: Stamp, synced: u64)
-        ensures { part_of self.new ≡ flushing_specs.after_sync from to synced (part_of self.old) }
+        ensures part { part_of self.new ≡ flushing_specs.after_sync from to synced (part_of self.old) }
+        ensures room { GoesOn no_growth self.old self.new }
     {
         if synced == segments(from, to) {
             self.flushing = Flushing::Clears { next: from, to };
@@ -190,6 +166,7 @@ impl SeatState {
     pub(crate) fn sync_log(&mut self, segment: u64) -> bool
         ensures turn { flushing_specs.sync_log segment (part_of self.old) self.old.flushing ≡ (if result then Some (part_of self.new) else None) }
         ensures kept { result ≡ false → part_of self.new ≡ part_of self.old }
+        ensures room { GoesOn no_growth self.old self.new }
     {
         match self.flushing {
             Flushing::Puts {
@@ -222,6 +199,7 @@ impl SeatState {
     pub(crate) fn clear_ring(&mut self, at: Stamp) -> bool
         ensures turn { flushing_specs.clear_ring at (part_of self.old) self.old.flushing ≡ (if result then Some (part_of self.new) else None) }
         ensures kept { result ≡ false → part_of self.new ≡ part_of self.old }
+        ensures room { GoesOn no_growth self.old self.new }
     {
         let Flushing::Clears { next, to } = self.flushing else {
             return false;
@@ -236,6 +214,7 @@ impl SeatState {
     pub(crate) fn store_flushed(&mut self, value: Stamp) -> bool
         ensures turn { flushing_specs.store_flushed value (part_of self.old) self.old.flushing ≡ (if result then Some (part_of self.new) else None) }
         ensures kept { result ≡ false → part_of self.new ≡ part_of self.old }
+        ensures room { GoesOn no_growth self.old self.new }
     {
         let Flushing::Clears { next, to } = self.flushing else {
             return false;
@@ -250,6 +229,7 @@ impl SeatState {
     pub(crate) fn write_slot(&mut self, seat: Seat) -> bool
         ensures turn { flushing_specs.write_slot seat (part_of self.old) ≡ (if result then Some (part_of self.new) else None) }
         ensures kept { result ≡ false → part_of self.new ≡ part_of self.old }
+        ensures room { GoesOn no_growth self.old self.new }
     {
         if !is_flusher(seat) || !is_active(self.place) || !is_between(self.flushing) {
             return false;
@@ -261,6 +241,7 @@ impl SeatState {
     pub(crate) fn sync_slot(&mut self) -> bool
         ensures turn { flushing_specs.sync_slot (part_of self.old) self.old.flushing ≡ (if result then Some (part_of self.new) else None) }
         ensures kept { result ≡ false → part_of self.new ≡ part_of self.old }
+        ensures room { GoesOn no_growth self.old self.new }
     {
         let Flushing::SlotPut = self.flushing else {
             return false;
@@ -272,6 +253,7 @@ impl SeatState {
     pub(crate) fn remove_log(&mut self, segment: u64) -> bool
         ensures turn { flushing_specs.remove_log segment (part_of self.old) self.old.flushing ≡ (if result then Some (part_of self.new) else None) }
         ensures kept { result ≡ false → part_of self.new ≡ part_of self.old }
+        ensures room { GoesOn no_growth self.old self.new }
     {
         let Flushing::SlotSynced = self.flushing else {
             return false;
@@ -283,6 +265,7 @@ impl SeatState {
     pub(crate) fn sync_removal(&mut self, segment: u64) -> bool
         ensures turn { flushing_specs.sync_removal segment (part_of self.old) self.old.flushing ≡ (if result then Some (part_of self.new) else None) }
         ensures kept { result ≡ false → part_of self.new ≡ part_of self.old }
+        ensures room { GoesOn no_growth self.old self.new }
     {
         let Flushing::Removed { segment: removed } = self.flushing else {
             return false;

@@ -12,4 +12,4 @@ mod seat;
 mod settling;
 mod turn;
 
-pub use seat::{BlockState, SeatState};
+pub use seat::SeatState;

@@ -1,12 +1,16 @@
 //! Steps that move a seat on in the life of a transaction, and what it sees of other seats.
-ghost use Rattle.std.specs.Prelude.{max, ◌^◌, ◌≡◌, ◌<◌, if◌then◌else◌, false, true, Some, None, vec_len, vec_capacity};
+ghost use Rattle.std.specs.Prelude.{max, ◌^◌, ◌≡◌, ◌+◌, ◌<◌, ◌≤◌, if◌then◌else◌, false, true, Some, None, vec_len, vec_capacity};
 ghost use Rattle.erm_machine.specs.Life as life_specs;
 ghost use Rattle.erm_machine.specs.Seat as seat_specs;
 ghost use Rattle.erm_kept.specs.Tasks.{IsFresh, passed, stored};
 ghost use Rattle.erm_seat.specs.Parts.{part_of};
-ghost use Rattle.erm_seat.specs.Rooms.{HasBeginRoom, HasDrawRoom, HasTailRoom};
+ghost use Rattle.erm_machine.specs.Words as words_specs;
+ghost use Rattle.erm_seat.specs.Needs.{lasting};
+ghost use Rattle.erm_seat.specs.Rooms.{no_growth, GoesOn, HasBeginRoom, HasDrawRoom, HasTailRoom, MayDraw, MayEnd};
 ghost use Rattle.erm_machine.specs.declared.place.Place.TheVariants.{Idle};
-ghost use Rattle.erm_machine.specs.declared.task.Task.TheVariants.{ReadersLeft};
+ghost use Rattle.erm_machine.specs.declared.attempt.Decision.TheVariants.{Abort};
+ghost use Rattle.erm_machine.specs.declared.task.Task.TheVariants.{ReadersLeft, Rest};
+ghost use Rattle.erm_machine.specs.Core.{blank};
 
 use crate::SeatState;
 use erm_kept::AttemptState;
@@ -55,9 +59,10 @@ fn next_number(seat: Seat, number: u32) -> u32
 
 impl SeatState {
     fn load_tail_to_begin(&mut self, seat: Seat, found: Stamp) -> bool
-        requires room { HasBeginRoom self.old }
+        requires room { self.old.place ≡ Idle → HasBeginRoom self.old }
         ensures turn { life_specs.load_tail_to_begin seat found (part_of self.old) self.old.place ≡ (if result then Some (part_of self.new) else None) }
         ensures kept { result ≡ false → part_of self.new ≡ part_of self.old }
+        ensures room { GoesOn no_growth self.old self.new }
     {
         if !has_number(seat, self.number) {
             return false;
@@ -85,6 +90,7 @@ impl SeatState {
     fn load_tail_for_horizon(&mut self, found: Stamp) -> bool
         ensures turn { life_specs.load_tail_for_horizon found (part_of self.old) self.old.task ≡ (if result then Some (part_of self.new) else None) }
         ensures kept { result ≡ false → part_of self.new ≡ part_of self.old }
+        ensures room { GoesOn no_growth self.old self.new }
     {
         let Task::Claimed { version } = self.task else {
             return false;
@@ -104,6 +110,7 @@ impl SeatState {
     fn load_tail_to_gather(&mut self, seat: Seat, found: Stamp) -> bool
         ensures turn { life_specs.load_tail_to_gather seat found (part_of self.old) ≡ (if result then Some (part_of self.new) else None) }
         ensures kept { result ≡ false → part_of self.new ≡ part_of self.old }
+        ensures room { GoesOn no_growth self.old self.new }
     {
         if !is_flusher(seat) || is_vacant(self.place) || !is_between(self.flushing) {
             return false;
@@ -117,6 +124,7 @@ impl SeatState {
         requires room { HasTailRoom self.old purpose }
         ensures turn { life_specs.load_tail seat purpose found (part_of self.old) ≡ (if result then Some (part_of self.new) else None) }
         ensures kept { result ≡ false → part_of self.new ≡ part_of self.old }
+        ensures room { GoesOn no_growth self.old self.new }
     {
         match purpose {
             TailUse::Begin => self.load_tail_to_begin(seat, found),
@@ -129,6 +137,7 @@ impl SeatState {
         requires room { HasDrawRoom self.old size }
         ensures turn { life_specs.add_tail seat size found (part_of self.old) self.old.place ≡ (if result then Some (part_of self.new) else None) }
         ensures kept { result ≡ false → part_of self.new ≡ part_of self.old }
+        ensures room { MayDraw result self.old self.new }
     {
         let Place::Sealing { tail } = self.place else {
             return false;
@@ -136,6 +145,7 @@ impl SeatState {
         if !is_session(seat) || size < LEAST_BLOCK || size > GREATEST_BLOCK {
             return false;
         }
+        self.promised = false;
         self.place = Place::Drawn { tail, stamp: found };
         self.seen = found;
         self.current.stamp = found;
@@ -147,7 +157,8 @@ impl SeatState {
     // The current transaction is over, and the seat idle.
     fn end(&mut self, task: Task, decision: Decision)
         requires room { vec_len self.old.over < vec_capacity self.old.over }
-        ensures { part_of self.new ≡ seat_specs.over decision (record (part_of self.old) { place = Idle; task = task }) }
+        ensures room { MayEnd self.old self.new }
+        ensures part { part_of self.new ≡ seat_specs.over decision (record (part_of self.old) { place = Idle; task = task }) }
     {
         let blank = AttemptState::begun(self.alloc, 0, 0);
         let mut over = mem::replace(&mut self.current, blank);
@@ -157,9 +168,26 @@ impl SeatState {
         self.task = task;
     }
 
-    pub(crate) fn store_begin(&mut self, value: Stamp) -> bool
-        ensures turn { life_specs.store_begin value (part_of self.old) self.old.place ≡ (if result then Some (part_of self.new) else None) }
+    // A transaction without a range is over; a pin of the flush seat leaves nothing.
+    fn abort(&mut self)
+        requires room { vec_len self.old.over + lasting self.old.flushes 1 ≤ vec_capacity self.old.over }
+        ensures part { part_of self.new ≡ (if self.old.flushes then seat_specs.with_current blank (record (part_of self.old) { place = Idle; task = Rest }) else seat_specs.over Abort (record (part_of self.old) { place = Idle; task = Rest })) }
+        ensures room { MayEnd self.old self.new }
+    {
+        if self.flushes {
+            self.place = Place::Idle;
+            self.task = Task::Rest;
+            self.current.restart(0, 0);
+        } else {
+            self.end(Task::Rest, Decision::Abort);
+        }
+    }
+
+    pub(crate) fn store_begin(&mut self, seat: Seat, value: Stamp) -> bool
+        requires own { self.old.flushes ≡ words_specs.is_flusher seat }
+        ensures turn { life_specs.store_begin seat value (part_of self.old) self.old.place ≡ (if result then Some (part_of self.new) else None) }
         ensures kept { result ≡ false → part_of self.new ≡ part_of self.old }
+        ensures room { MayEnd self.old self.new }
     {
         match self.place {
             Place::Begun { tail } => {
@@ -173,7 +201,7 @@ impl SeatState {
                 if value != 0 || !self.current.has_ended(end_of(self.task)) {
                     return false;
                 }
-                self.end(Task::Rest, Decision::Abort);
+                self.abort();
                 true
             }
             Place::Decided { stamp, .. } => {
@@ -189,8 +217,10 @@ impl SeatState {
     }
 
     pub(crate) fn store_state(&mut self, seat: Seat, value: Stamp) -> bool
+        requires own { self.old.flushes ≡ words_specs.is_flusher seat }
         ensures turn { life_specs.store_state seat value (part_of self.old) self.old.place ≡ (if result then Some (part_of self.new) else None) }
         ensures kept { result ≡ false → part_of self.new ≡ part_of self.old }
+        ensures room { MayEnd self.old self.new }
     {
         match self.place {
             Place::Active { tail } => {
@@ -222,6 +252,7 @@ impl SeatState {
     pub(crate) fn load_begin(&mut self, other: Seat, found: Stamp) -> bool
         ensures turn { life_specs.load_begin other found (part_of self.old) self.old.task ≡ (if result then Some (part_of self.new) else None) }
         ensures kept { result ≡ false → part_of self.new ≡ part_of self.old }
+        ensures room { GoesOn no_growth self.old self.new }
     {
         let Task::Horizon {
             version,
@@ -282,7 +313,8 @@ impl SeatState {
 
     // A seat was found clear for a bound.
     fn note(&mut self, other: Seat, bound: Stamp)
-        ensures { part_of self.new ≡ record (part_of self.old) { clear = life_specs.noted other bound self.old.clear } }
+        ensures room { GoesOn no_growth self.old self.new }
+        ensures part { part_of self.new ≡ record (part_of self.old) { clear = life_specs.noted other bound self.old.clear } }
     {
         if (other as usize) < self.clear.len() {
             let noted = self.clear[other as usize];
@@ -293,6 +325,7 @@ impl SeatState {
     pub(crate) fn load_state(&mut self, seat: Seat, other: Seat, bound: Stamp, found: u64) -> bool
         ensures turn { life_specs.load_state seat other bound found (part_of self.old) ≡ (if result then Some (part_of self.new) else None) }
         ensures kept { result ≡ false → part_of self.new ≡ part_of self.old }
+        ensures room { GoesOn no_growth self.old self.new }
     {
         if is_vacant(self.place) || other == seat || bound > self.seen {
             return false;
@@ -308,6 +341,7 @@ impl SeatState {
     pub fn split(&mut self, by: Place, seen: Stamp) -> bool
         ensures turn { (if seat_specs.is_vacant by then None else (if seat_specs.is_vacant self.old.place then Some (record (part_of self.old) { place = Idle; seen = seen }) else None)) ≡ (if result then Some (part_of self.new) else None) }
         ensures kept { result ≡ false → part_of self.new ≡ part_of self.old }
+        ensures room { GoesOn no_growth self.old self.new }
     {
         if is_vacant(by) || !is_vacant(self.place) {
             return false;
@@ -321,6 +355,7 @@ impl SeatState {
     pub fn join(&mut self, other: Place, seen: Stamp) -> bool
         ensures turn { (if seat_specs.is_vacant self.old.place then None else (if seat_specs.is_vacant other then None else Some (record (part_of self.old) { seen = max self.old.seen seen }))) ≡ (if result then Some (part_of self.new) else None) }
         ensures kept { result ≡ false → part_of self.new ≡ part_of self.old }
+        ensures room { GoesOn no_growth self.old self.new }
     {
         if is_vacant(self.place) || is_vacant(other) {
             return false;
@@ -332,6 +367,7 @@ impl SeatState {
     pub(crate) fn decide(&mut self, at: Stamp, header: u64) -> bool
         ensures turn { life_specs.decide at header (part_of self.old) self.old.place self.old.task ≡ (if result then Some (part_of self.new) else None) }
         ensures kept { result ≡ false → part_of self.new ≡ part_of self.old }
+        ensures room { GoesOn no_growth self.old self.new }
     {
         let Place::Sealed { tail, stamp } = self.place else {
             return false;

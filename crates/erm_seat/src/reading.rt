@@ -4,6 +4,7 @@ ghost use Rattle.erm_machine.specs.Reading as reading_specs;
 ghost use Rattle.erm_kept.specs.Objects.{object_of};
 ghost use Rattle.erm_kept.specs.Tasks.{IsFresh};
 ghost use Rattle.erm_seat.specs.Parts.{part_of};
+ghost use Rattle.erm_seat.specs.Rooms.{no_growth, GoesOn};
 ghost use Rattle.erm_machine.specs.declared.task.Task.TheVariants.{Walks, CutWalks};
 
 use crate::SeatState;
@@ -99,6 +100,7 @@ impl SeatState {
     ) -> bool
         ensures turn { reading_specs.load_entry seat oid found (object_of object.now) (part_of self.old) self.old.task ≡ (if result then Some (part_of self.new) else None) }
         ensures kept { result ≡ false → part_of self.new ≡ part_of self.old }
+        ensures room { GoesOn no_growth self.old self.new }
     {
         if !is_active(self.place) {
             return false;
@@ -123,6 +125,7 @@ impl SeatState {
         requires room { vec_len self.old.current.reads < vec_capacity self.old.current.reads }
         ensures turn { reading_specs.set_reader seat version (object_of object.now) (part_of self.old) self.old.task ≡ (if result then Some (part_of self.new) else None) }
         ensures kept { result ≡ false → part_of self.new ≡ part_of self.old }
+        ensures room { GoesOn (record no_growth { reads = 1 }) self.old self.new }
     {
         let Task::Found {
             version: found,
@@ -152,6 +155,7 @@ impl SeatState {
     fn load_walked_stamp(&mut self, found: Stamp, version: VersionAt) -> bool
         ensures turn { reading_specs.load_walked_stamp found version (part_of self.old) self.old.task ≡ (if result then Some (part_of self.new) else None) }
         ensures kept { result ≡ false → part_of self.new ≡ part_of self.old }
+        ensures room { GoesOn no_growth self.old self.new }
     {
         match self.task {
             Task::Walks {
@@ -190,6 +194,7 @@ impl SeatState {
         requires fresh { IsFresh self.old.task }
         ensures turn { reading_specs.load_walked_stamp found version (part_of self.old) (CutWalks in_hand horizon) ≡ (if result then Some (part_of self.new) else None) }
         ensures kept { result ≡ false → part_of self.new ≡ part_of self.old }
+        ensures room { GoesOn no_growth self.old self.new }
     {
         if !same_version(version, in_hand) {
             return false;
@@ -211,6 +216,7 @@ impl SeatState {
     fn load_walked_link(&mut self, found: u64, version: VersionAt) -> bool
         ensures turn { reading_specs.load_walked_link found version (part_of self.old) self.old.task ≡ (if result then Some (part_of self.new) else None) }
         ensures kept { result ≡ false → part_of self.new ≡ part_of self.old }
+        ensures room { GoesOn no_growth self.old self.new }
     {
         match self.task {
             Task::Passed { version: in_hand } => {
@@ -247,6 +253,7 @@ impl SeatState {
     pub(crate) fn load_cell(&mut self, found: u64, version: VersionAt, word: CellWord) -> bool
         ensures turn { reading_specs.load_cell found version word (part_of self.old) ≡ (if result then Some (part_of self.new) else None) }
         ensures kept { result ≡ false → part_of self.new ≡ part_of self.old }
+        ensures room { GoesOn no_growth self.old self.new }
     {
         if !is_active(self.place) {
             return false;

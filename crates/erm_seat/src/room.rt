@@ -1,50 +1,57 @@
-//! Room for what a step adds to a seat's lists, and for what its transaction adds later on account of it.
-ghost use Rattle.std.specs.Prelude.{ℕ, ◌≡◌, ◌<◌, OnOk, vec_len};
-ghost use Rattle.erm_machine.specs.declared.limits.TheConstants.{WRITE_LIMIT};
+//! Room for what a call's steps add to a seat's lists, and for what its transaction adds later on account of it.
+ghost use Rattle.std.specs.Prelude.{◌≡◌, ◌+◌, ◌<◌, OnOk, vec_len, vec_capacity};
 ghost use Rattle.erm_seat.specs.Parts.{part_of};
-ghost use Rattle.erm_seat.specs.Rooms.{HasBeginRoom, HasClaimRoom, HasDrawRoom, HasGatherRoom, HasSeatRoom, HasSpareRoom, HasTailRoom};
+ghost use Rattle.erm_seat.specs.Rooms.{HasBeginRoom, HasClaimRoom, HasCutRoom, HasDrawRoom, HasSpareRoom, Reserves};
 
 use crate::SeatState;
-use erm_machine::{GREATEST_BLOCK, Kind, TailUse, WRITE_LIMIT};
+use erm_machine::GREATEST_BLOCK;
 use std::alloc::AllocError;
 
+// No transaction has so many claims.
+const MOST_CLAIMS: usize = 1 << 32;
+
 impl SeatState {
-    /// Room for what a step of this kind adds, and for what it makes the transaction add later, where it makes so many cells spare.
-    /// What the seat is stays.
-    pub fn reserve(&mut self, kind: Kind, cells: usize) -> Result<(), AllocError>
-        ensures ok { OnOk result (HasSeatRoom self.new kind cells) }
+    /// Room for a transaction, where the log has room for its range. What the seat is stays.
+    pub fn reserve_begin(&mut self) -> Result<(), AllocError>
+        ensures ok { OnOk result (HasBeginRoom self.new) }
         ensures same { part_of self.new ≡ part_of self.old }
+        ensures room { Reserves self.old self.new }
     {
-        match kind {
-            Kind::LoadTail { purpose } => self.reserve_tail(purpose),
-            Kind::AddTail { size } => self.reserve_draw(size),
-            Kind::SetReader { .. } => self.current.reads.reserve(1),
-            Kind::Claim { .. } => self.reserve_claim(),
-            Kind::AddCounter { .. } => self.current.made.reserve(1),
-            Kind::SwapLink { .. } => self.reserve_spare(cells),
-            Kind::LoadRing { .. } => self.reserve_gather(),
-            _ => Ok(()),
+        if self.flushes {
+            return Ok(());
         }
+        self.over.reserve(1)?;
+        self.current.block.reserve(4)?;
+        self.promised = true;
+        Ok(())
     }
 
-    // Room for a transaction that begins.
-    fn reserve_tail(&mut self, purpose: TailUse) -> Result<(), AllocError>
-        ensures ok { OnOk result (HasTailRoom self.new purpose) }
+    /// Room for one more read.
+    pub fn reserve_read(&mut self) -> Result<(), AllocError>
+        ensures ok { OnOk result (vec_len self.new.current.reads < vec_capacity self.new.current.reads) }
         ensures same { part_of self.new ≡ part_of self.old }
+        ensures room { Reserves self.old self.new }
+        ensures promised { self.new.promised ≡ self.old.promised }
     {
-        match purpose {
-            TailUse::Begin => {
-                self.over.reserve(1)?;
-                self.current.block.reserve(4)
-            }
-            _ => Ok(()),
-        }
+        self.current.reads.reserve(1)
     }
 
-    // Room for the words behind the header of a block of this size.
-    fn reserve_draw(&mut self, size: u64) -> Result<(), AllocError>
+    /// Room for one more object that is made.
+    pub fn reserve_made(&mut self) -> Result<(), AllocError>
+        ensures ok { OnOk result (vec_len self.new.current.made < vec_capacity self.new.current.made) }
+        ensures same { part_of self.new ≡ part_of self.old }
+        ensures room { Reserves self.old self.new }
+        ensures promised { self.new.promised ≡ self.old.promised }
+    {
+        self.current.made.reserve(1)
+    }
+
+    /// Room for the words behind the header of a block of this size.
+    pub fn reserve_draw(&mut self, size: u64) -> Result<(), AllocError>
         ensures ok { OnOk result (HasDrawRoom self.new size) }
         ensures same { part_of self.new ≡ part_of self.old }
+        ensures room { Reserves self.old self.new }
+        ensures promised { self.new.promised ≡ self.old.promised }
     {
         if size > GREATEST_BLOCK {
             return Ok(());
@@ -54,37 +61,48 @@ impl SeatState {
             .reserve((size as usize).saturating_sub(1))
     }
 
-    // Room for one more claim, where there may be one.
-    fn reserve_claim(&mut self) -> Result<(), AllocError>
-        ensures ok { OnOk result (vec_len self.new.current.writes < WRITE_LIMIT → HasClaimRoom self.new) }
+    /// Room for a call that claims, whose cut makes so many cells spare at most.
+    pub fn reserve_claim(&mut self, cells: usize) -> Result<(), AllocError>
+        ensures ok { OnOk result (HasCutRoom self.new cells) }
         ensures same { part_of self.new ≡ part_of self.old }
+        ensures room { Reserves self.old self.new }
+        ensures promised { self.new.promised ≡ self.old.promised }
+    {
+        self.reserve_row()?;
+        self.reserve_spare(cells)
+    }
+
+    // Room for one more claim.
+    fn reserve_row(&mut self) -> Result<(), AllocError>
+        ensures ok { OnOk result (HasClaimRoom self.new) }
+        ensures same { part_of self.new ≡ part_of self.old }
+        ensures room { Reserves self.old self.new }
+        ensures promised { self.new.promised ≡ self.old.promised }
     {
         let claims = self.current.writes.len();
-        if claims >= WRITE_LIMIT {
-            return Ok(());
+        if claims >= MOST_CLAIMS {
+            return Err(AllocError);
         }
         self.current.writes.reserve(1)?;
         self.current.block.reserve(4 + 17 * (claims + 1))?;
         self.spare.reserve(claims + 1)
     }
 
-    // Room for so many spare cells, beside those of all claims.
+    // Room for so many spare cells and one more, beside those of all claims.
     fn reserve_spare(&mut self, cells: usize) -> Result<(), AllocError>
-        ensures ok { OnOk result (HasSpareRoom self.new cells) }
+        ensures ok { OnOk result (HasSpareRoom self.new (cells + 1)) }
         ensures same { part_of self.new ≡ part_of self.old }
+        ensures room { Reserves self.old self.new }
+        ensures promised { self.new.promised ≡ self.old.promised }
+        ensures current { self.new.current ≡ self.old.current }
+        ensures spare { vec_len self.new.spare ≡ vec_len self.old.spare }
     {
+        let Some(cells) = cells.checked_add(1) else {
+            return Err(AllocError);
+        };
         match self.current.writes.len().checked_add(cells) {
             Some(more) => self.spare.reserve(more),
             None => Err(AllocError),
         }
-    }
-
-    // Room for a word that is gathered, and for a block.
-    fn reserve_gather(&mut self) -> Result<(), AllocError>
-        ensures ok { OnOk result (HasGatherRoom self.new) }
-        ensures same { part_of self.new ≡ part_of self.old }
-    {
-        self.words.reserve(1)?;
-        self.gathered.reserve(1)
     }
 }

@@ -1,26 +1,23 @@
 //! What one seat alone changes, as it is kept.
-ghost use Rattle.std.specs.Prelude.{◌≡◌, ◌+◌, ◌-◌, ◌*◌, ◌≤◌, vec_len, vec_capacity};
+ghost use Rattle.std.specs.Prelude.{◌≡◌, ◌+◌, ◌-◌, ◌≤◌, false, vec_len, vec_capacity};
 ghost use Rattle.erm_machine.specs.Core as core_specs;
 ghost use Rattle.erm_kept.specs.Tasks.{passed, stored};
-ghost use Rattle.erm_seat.specs.Needs.{busy, holding, undecided, unsealed};
+ghost use Rattle.erm_seat.specs.Needs.{awaiting, busy, holding, one, undecided, unsealed, IsUnused};
 
 use erm_kept::AttemptState;
 use erm_machine::{ANNOUNCERS, Flushing, OwnCell, Place, Task};
 use erm_model::Stamp;
 use std::alloc::Global;
 
-/// A block of the log that the flusher has gathered.
-#[derive(Drop)]
-pub struct BlockState {
-    pub start: Stamp,
-    pub words: Vec<u64>,
-}
-
 /// What one seat alone changes. Its lists always have room for all that its transaction adds up to its end by steps of writes of
 /// claimed rows, of a seal, of a settle and of an end.
 #[derive(Drop)]
 pub struct SeatState {
     pub alloc: Global,
+    /// Whether it is the flush seat, whose transactions are pins, and leave nothing.
+    pub flushes: bool,
+    /// Whether the log keeps room for a range of the seat's next draw.
+    pub promised: bool,
     pub place: Place,
     pub task: Task,
     pub number: u32,
@@ -31,14 +28,14 @@ pub struct SeatState {
     pub spare: Vec<OwnCell>,
     pub run: u64,
     pub flushing: Flushing,
-    pub words: Vec<u64>,
-    pub gathered: Vec<BlockState>,
     pub gathered_to: Stamp,
     pub synced: Stamp,
+    // A transaction that has begun has room for its range.
+    ghost log_room: { awaiting flushes place ≤ one promised },
     // Room for the transaction once it is over.
-    ghost over_room: { vec_len over + busy place ≤ vec_capacity over },
-    // Until the draw, room for the block behind its header: 4 words, and 17 for each claim.
-    ghost block_room: { vec_len current.block + unsealed place (4 + 17 * vec_len current.writes) ≤ vec_capacity current.block },
+    ghost over_room: { vec_len over + busy flushes place ≤ vec_capacity over },
+    // From the first load of the tail on and until the draw, room for the block behind its header: 4 words, and 17 for each claim.
+    ghost block_room: { vec_len current.block + unsealed flushes place (vec_len current.writes) ≤ vec_capacity current.block },
     // From the draw on, room for the words of the block that are not stored yet.
     ghost words_room: { vec_len current.block + undecided place (current.size - 1 - stored task) ≤ vec_capacity current.block },
     // Room for the cell of each claim that isn't over.
@@ -49,12 +46,16 @@ impl SeatState {
     ghost use Rattle.erm_seat.specs.Parts.{part_of};
 
     /// A seat that has done nothing yet, and has no transaction. It takes no memory.
-    pub fn fresh(alloc: Global, place: Place, run: u64, tail: Stamp) -> SeatState
-        requires { busy place ≡ 0 }
-        ensures { part_of result ≡ core_specs.fresh_part place run tail }
+    pub fn fresh(alloc: Global, flushes: bool, place: Place, run: u64, tail: Stamp) -> SeatState
+        requires { IsUnused place }
+        ensures fresh { part_of result ≡ core_specs.fresh_part place run tail }
+        ensures flushes { result.flushes ≡ flushes }
+        ensures promised { result.promised ≡ false }
     {
         SeatState {
             alloc,
+            flushes,
+            promised: false,
             place,
             task: Task::Rest,
             number: 0,
@@ -65,8 +66,6 @@ impl SeatState {
             spare: Vec::new(alloc),
             run,
             flushing: Flushing::Still,
-            words: Vec::new(alloc),
-            gathered: Vec::new(alloc),
             gathered_to: tail,
             synced: tail,
         }

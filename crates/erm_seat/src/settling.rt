@@ -4,6 +4,7 @@ ghost use Rattle.erm_machine.specs.Settling as settling_specs;
 ghost use Rattle.erm_kept.specs.Attempts.{attempt_of};
 ghost use Rattle.erm_kept.specs.Tasks.{IsFresh};
 ghost use Rattle.erm_seat.specs.Parts.{part_of};
+ghost use Rattle.erm_seat.specs.Rooms.{no_growth, GoesOn};
 ghost use Rattle.erm_machine.specs.declared.task.Task.TheVariants.{WriteClear, ReadersLeft, ReadClear, ReadOvertaken};
 ghost use Rattle.erm_machine.specs.declared.version.CellWord.TheVariants.{Overwriter, OverwriterSucc};
 
@@ -11,6 +12,24 @@ use crate::SeatState;
 use erm_kept::words::{head_of, is_active, is_sealed, owner_of, same_version, without_bit};
 use erm_machine::{CellWord, Task, VersionAt};
 use erm_model::{Oid, Seat, Stamp};
+
+// Whether settle may begin, or begin anew: it stores no words of the block yet.
+fn may_settle(task: Task) -> bool
+    ensures may { result ≡ settling_specs.may_settle task }
+    ensures fresh { result ≡ true → IsFresh task }
+{
+    match task {
+        Task::Rest
+        | Task::Settles { .. }
+        | Task::ReadOwned { .. }
+        | Task::ReadClear { .. }
+        | Task::ReadOvertaken { .. }
+        | Task::ReadersLeft { .. }
+        | Task::WriteClear { .. }
+        | Task::WriteMade { .. } => true,
+        _ => false,
+    }
+}
 
 // What a load of the reader bits leads to.
 fn after_readers(write: usize, bits: u64) -> Task
@@ -25,23 +44,23 @@ fn after_readers(write: usize, bits: u64) -> Task
 }
 
 impl SeatState {
-    /// What a load of the place flushed leads to, while no gather waits for it.
+    /// Settle begins, or begins anew where it waited, once the ring has room for the block.
     pub(crate) fn load_flushed_to_settle(&mut self, found: Stamp)
-        ensures { part_of self.new ≡ settling_specs.load_flushed_to_settle found (part_of self.old) self.old.task }
+        ensures part { part_of self.new ≡ settling_specs.load_flushed_to_settle found (part_of self.old) }
+        ensures room { GoesOn no_growth self.old self.new }
     {
-        if let Task::Rest = self.task {
-            if is_sealed(self.place) && self.current.has_room(found) {
-                self.task = Task::Settles {
-                    reads: 0,
-                    writes: 0,
-                };
-            }
+        if is_sealed(self.place) && may_settle(self.task) && self.current.has_room(found) {
+            self.task = Task::Settles {
+                reads: 0,
+                writes: 0,
+            };
         }
     }
 
     pub(crate) fn load_read_entry(&mut self, seat: Seat, oid: Oid, found: u64) -> bool
         ensures turn { settling_specs.load_read_entry seat oid found (part_of self.old) self.old.task ≡ (if result then Some (part_of self.new) else None) }
         ensures kept { result ≡ false → part_of self.new ≡ part_of self.old }
+        ensures room { GoesOn no_growth self.old self.new }
     {
         let Task::Settles { reads, .. } = self.task else {
             return false;
@@ -66,6 +85,7 @@ impl SeatState {
         requires seat { seat < 64 }
         ensures turn { settling_specs.load_readers seat version found (part_of self.old) self.old.task ≡ (if result then Some (part_of self.new) else None) }
         ensures kept { result ≡ false → part_of self.new ≡ part_of self.old }
+        ensures room { GoesOn no_growth self.old self.new }
     {
         let Task::Settles { reads, writes } = self.task else {
             return false;
@@ -86,6 +106,7 @@ impl SeatState {
     fn load_settled_stamp(&mut self, found: Stamp, version: VersionAt, word: CellWord) -> bool
         ensures turn { settling_specs.load_settled_stamp found version word (part_of self.old) self.old.task ≡ (if result then Some (part_of self.new) else None) }
         ensures kept { result ≡ false → part_of self.new ≡ part_of self.old }
+        ensures room { GoesOn no_growth self.old self.new }
     {
         match (word, self.task) {
             (CellWord::Overwriter, Task::ReadClear { read }) => {
@@ -123,6 +144,7 @@ impl SeatState {
         requires fresh { IsFresh self.old.task }
         ensures turn { settling_specs.load_settled_stamp found version Overwriter (part_of self.old) (ReadClear read) ≡ (if result then Some (part_of self.new) else None) }
         ensures kept { result ≡ false → part_of self.new ≡ part_of self.old }
+        ensures room { GoesOn no_growth self.old self.new }
     {
         if read >= self.current.reads.len()
             || !same_version(version, self.current.read_at(read).version)
@@ -153,6 +175,7 @@ impl SeatState {
         requires fresh { IsFresh self.old.task }
         ensures turn { settling_specs.load_settled_stamp found version OverwriterSucc (part_of self.old) (ReadOvertaken read overwriter) ≡ (if result then Some (part_of self.new) else None) }
         ensures kept { result ≡ false → part_of self.new ≡ part_of self.old }
+        ensures room { GoesOn no_growth self.old self.new }
     {
         if read >= self.current.reads.len()
             || !same_version(version, self.current.read_at(read).version)
@@ -170,6 +193,7 @@ impl SeatState {
     pub(crate) fn load_stamp(&mut self, found: Stamp, version: VersionAt, word: CellWord) -> bool
         ensures turn { settling_specs.load_stamp found version word (part_of self.old) ≡ (if result then Some (part_of self.new) else None) }
         ensures kept { result ≡ false → part_of self.new ≡ part_of self.old }
+        ensures room { GoesOn no_growth self.old self.new }
     {
         if is_active(self.place) {
             self.load_active_stamp(found, version, word)
@@ -183,6 +207,7 @@ impl SeatState {
     pub(crate) fn store_ring(&mut self, at: Stamp, value: u64) -> bool
         ensures turn { settling_specs.store_ring at value (part_of self.old) (settling_specs.filled (attempt_of self.old.current) self.old.task) ≡ (if result then Some (part_of self.new) else None) }
         ensures kept { result ≡ false → part_of self.new ≡ part_of self.old }
+        ensures room { GoesOn (record no_growth { words = 1 }) self.old self.new }
     {
         let Some(words) = self.current.filled(self.task) else {
             return false;

@@ -6,7 +6,8 @@ ghost use Rattle.erm_machine.specs.Step as step_specs;
 ghost use Rattle.erm_seat.specs.Kinds.{IsDisk, IsEntry, IsPlain, cells_in, object_in};
 ghost use Rattle.erm_kept.specs.Objects.{object_of};
 ghost use Rattle.erm_seat.specs.Parts.{part_of};
-ghost use Rattle.erm_seat.specs.Rooms.{HasSeatRoom};
+ghost use Rattle.erm_machine.specs.Words as words_specs;
+ghost use Rattle.erm_seat.specs.Rooms.{no_growth, GoesOn, HasSeatRoom, Leaves};
 
 use crate::SeatState;
 use erm_kept::ObjectState;
@@ -19,6 +20,7 @@ impl SeatState {
     fn turn_disk(&mut self, seat: Seat, kind: Kind) -> bool
         ensures turn { IsDisk kind → (s : Shared) (found : ℕ) → step_specs.part_after seat kind found s (part_of self.old) ≡ (if result then Some (part_of self.new) else None) }
         ensures kept { result ≡ false → part_of self.new ≡ part_of self.old }
+        ensures room { GoesOn no_growth self.old self.new }
     {
         match kind {
             Kind::WriteLog { segment, fails } => !fails && self.write_log(segment),
@@ -34,13 +36,15 @@ impl SeatState {
     // A step that meets no object, where there are so many cells.
     fn turn_plain(&mut self, seat: Seat, kind: Kind, found: u64, cells: u32) -> bool
         requires room { (spare : ℕ) × HasSeatRoom self.old kind spare }
+        requires own { self.old.flushes ≡ words_specs.is_flusher seat }
         ensures turn { IsPlain kind → (s : Shared) → s.cell_limit ≡ cells → step_specs.part_after seat kind found s (part_of self.old) ≡ (if result then Some (part_of self.new) else None) }
         ensures kept { result ≡ false → part_of self.new ≡ part_of self.old }
+        ensures room { (spare : ℕ) → Leaves kind spare result self.old self.new }
     {
         match kind {
             Kind::LoadTail { purpose } => self.load_tail(seat, purpose, found),
             Kind::AddTail { size } => self.add_tail(seat, size, found),
-            Kind::StoreBegin { value } => self.store_begin(value),
+            Kind::StoreBegin { value } => self.store_begin(seat, value),
             Kind::StoreState { value } => self.store_state(seat, value),
             Kind::LoadBegin { seat: other } => self.load_begin(other, found),
             Kind::LoadState { seat: other, bound } => self.load_state(seat, other, bound, found),
@@ -60,6 +64,7 @@ impl SeatState {
         requires room { HasSeatRoom self.old kind (cells_in kind (object_of object.now)) }
         ensures turn { IsEntry kind → (s : Shared) → s.objects (object_in kind) ≡ object_of object.now → step_specs.part_after seat kind found s (part_of self.old) ≡ (if result then Some (part_of self.new) else None) }
         ensures kept { result ≡ false → part_of self.new ≡ part_of self.old }
+        ensures room { Leaves kind (cells_in kind (object_of object.now)) result self.old self.new }
     {
         match kind {
             Kind::LoadEntry { oid } => {
@@ -87,8 +92,10 @@ impl SeatState {
     ) -> bool
         requires seat { seat < ANNOUNCERS }
         requires room { HasSeatRoom self.old kind (cells_in kind (object_of object.now)) }
+        requires own { self.old.flushes ≡ words_specs.is_flusher seat }
         ensures turn { (s : Shared) → s.cell_limit ≡ cells → s.objects (object_in kind) ≡ object_of object.now → step_specs.part_after seat kind found s (part_of self.old) ≡ (if result then Some (part_of self.new) else None) }
         ensures kept { result ≡ false → part_of self.new ≡ part_of self.old }
+        ensures room { Leaves kind (cells_in kind (object_of object.now)) result self.old self.new }
     {
         match kind {
             Kind::LoadEntry { .. }

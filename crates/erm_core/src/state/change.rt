@@ -2,10 +2,11 @@
 ghost use Rattle.std.specs.Prelude.{◌≡◌, ◌+◌, ◌%◌, ◌^◌, ◌<◌, None, vec_len, vec_capacity, ◌++◌, ◌∷◌, []};
 ghost use Rattle.erm_machine.specs.declared.limits.TheConstants.{ANNOUNCERS, OBJECT_LIMIT, RING_WORDS};
 ghost use Rattle.erm_machine.specs.Step as step_specs;
-ghost use Rattle.erm_core.specs.Cores.{core_of, shared_of, shared_with, DrawFits, IsShaped};
+ghost use Rattle.erm_core.specs.Cores.{core_of, shared_of, shared_with, DrawFits};
 ghost use Rattle.erm_core.specs.Kinds.{ChangesObject, ChangesPlain};
 ghost use Rattle.erm_seat.specs.Kinds.{object_in};
 ghost use Rattle.erm_core.specs.Rooms.{DrawsIn, HasChangeRoom};
+ghost use Rattle.erm_core.specs.Seats.{promised_in, ObjectsLeave};
 
 use super::State;
 use erm_machine::{Counter, Kind, RING_WORDS, Span, Version};
@@ -34,10 +35,10 @@ pub fn object_of_kind(kind: Kind) -> Oid
 impl State {
     // Stores a word of the ring.
     fn set_ring(&mut self, at: Stamp, value: u64)
-        requires shape { IsShaped self.old }
         ensures core { core_of self.new ≡ record (core_of self.old) { shared = step_specs.with_ring at value (shared_of self.old) } }
         ensures log { self.new.log ≡ self.old.log }
-        ensures shape { IsShaped self.new }
+        ensures seats { self.new.seats ≡ self.old.seats }
+        ensures objects { self.new.objects ≡ self.old.objects }
     {
         self.ring[(at % RING_WORDS) as usize] = value;
     }
@@ -51,23 +52,23 @@ impl State {
         found: u64,
         added: Option<Version>,
     )
-        requires shape { IsShaped self.old }
         requires known { oid < OBJECT_LIMIT }
         requires named { oid ≡ object_in kind }
         requires seat { seat < ANNOUNCERS }
         requires room { HasChangeRoom self.old kind }
         ensures core { ChangesObject kind → core_of self.new ≡ record (core_of self.old) { shared = shared_with seat kind found added (shared_of self.old) } }
         ensures log { self.new.log ≡ self.old.log }
-        ensures shape { IsShaped self.new }
+        ensures seats { self.new.seats ≡ self.old.seats }
+        ensures objects { ChangesObject kind → ObjectsLeave kind self.old.objects.items self.new.objects.items }
     {
         self.objects[oid as usize].change(seat, kind, found, added);
     }
 
     fn add_counter(&mut self, counter: Counter, found: u64)
-        requires shape { IsShaped self.old }
         ensures core { core_of self.new ≡ record (core_of self.old) { shared = step_specs.with_counter counter ((found + 1) % 2 ^ 64) (shared_of self.old) } }
         ensures log { self.new.log ≡ self.old.log }
-        ensures shape { IsShaped self.new }
+        ensures seats { self.new.seats ≡ self.old.seats }
+        ensures objects { self.new.objects ≡ self.old.objects }
     {
         let drawn = found.wrapping_add(1);
         match counter {
@@ -78,13 +79,13 @@ impl State {
 
     // Draws a range at the tail.
     fn draw(&mut self, seat: Seat, size: u64)
-        requires shape { IsShaped self.old }
-        requires room { vec_len self.old.log < vec_capacity self.old.log }
+        requires room { vec_len self.old.log + promised_in self.old.seats.items < vec_capacity self.old.log }
         requires fits { self.old.tail + size < 2 ^ 64 }
         ensures core { core_of self.new ≡ record (core_of self.old) { shared = record (shared_of self.old) { tail = self.old.tail + size; log = self.old.log.items ++ record { seat = seat; start = self.old.tail; size = size } ∷ [] } } }
         ensures len { vec_len self.new.log ≡ vec_len self.old.log + 1 }
         ensures room { vec_capacity self.new.log ≡ vec_capacity self.old.log }
-        ensures shape { IsShaped self.new }
+        ensures seats { self.new.seats ≡ self.old.seats }
+        ensures objects { self.new.objects ≡ self.old.objects }
     {
         self.log.push_reserved(Span {
             seat,
@@ -96,12 +97,12 @@ impl State {
 
     // Changes a word that is shared and of no object.
     fn change_plain(&mut self, seat: Seat, kind: Kind, found: u64)
-        requires shape { IsShaped self.old }
         requires room { HasChangeRoom self.old kind }
         requires fits { DrawFits self.old kind found }
         ensures core { ChangesPlain kind → core_of self.new ≡ record (core_of self.old) { shared = shared_with seat kind found None (shared_of self.old) } }
         ensures log { DrawsIn self.old self.new kind }
-        ensures shape { IsShaped self.new }
+        ensures seats { self.new.seats ≡ self.old.seats }
+        ensures objects { self.new.objects ≡ self.old.objects }
     {
         match kind {
             Kind::AddTail { size } => self.draw(seat, size),
@@ -116,14 +117,14 @@ impl State {
 
     /// Changes what is shared, where an install adds this version.
     pub fn change(&mut self, seat: Seat, kind: Kind, found: u64, added: Option<Version>)
-        requires shape { IsShaped self.old }
         requires seat { seat < ANNOUNCERS }
         requires known { object_in kind < OBJECT_LIMIT }
         requires room { HasChangeRoom self.old kind }
         requires fits { DrawFits self.old kind found }
         ensures core { core_of self.new ≡ record (core_of self.old) { shared = shared_with seat kind found added (shared_of self.old) } }
         ensures log { DrawsIn self.old self.new kind }
-        ensures shape { IsShaped self.new }
+        ensures seats { self.new.seats ≡ self.old.seats }
+        ensures objects { ObjectsLeave kind self.old.objects.items self.new.objects.items }
     {
         match kind {
             Kind::Claim { .. }

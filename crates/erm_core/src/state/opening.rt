@@ -1,10 +1,12 @@
 //! The opening's state.
-ghost use Rattle.std.specs.Prelude.{ℕ, ◌≡◌, ◌+◌, ◌<◌, ◌≤◌, IfOk, length, vec_len, slice_index};
+ghost use Rattle.std.specs.Prelude.{ℕ, ◌≡◌, ◌+◌, ◌<◌, ◌≤◌, IfOk, if◌then◌else◌, false, length, vec_len, slice_index};
 ghost use Rattle.erm_machine.specs.declared.limits.TheConstants.{ANNOUNCERS, MOST_CELLS, OBJECT_LIMIT, SESSIONS, STOP};
+ghost use Rattle.erm_machine.specs.declared.place.Place.TheVariants.{Idle, Vacant};
 ghost use Rattle.erm_machine.specs.Core as core_specs;
+ghost use Rattle.erm_machine.specs.Words as words_specs;
+ghost use Rattle.erm_seat.specs.Parts.{part_of};
 ghost use Rattle.erm_machine.specs.Sound.{Sound};
-ghost use Rattle.erm_core.specs.Rooms.{Carries};
-ghost use Rattle.erm_core.specs.Cores.{core_of, rows_of, AreFresh, AreOpened, IsShaped};
+ghost use Rattle.erm_core.specs.Cores.{core_of, rows_of, AreFresh, AreNew, AreOpened};
 
 use super::State;
 use erm_kept::ObjectState;
@@ -42,6 +44,20 @@ fn zeros(alloc: Global, count: usize) -> Result<Vec<u64>, AllocError>
     vec![in alloc; 0; count]
 }
 
+// A seat as it is opened.
+fn open_seat(alloc: Global, sessions: Seat, seat: Seat, run: u64, tail: Stamp) -> SeatState
+    ensures fresh { part_of result ≡ core_specs.fresh_part (if core_specs.is_taken sessions seat then Idle else Vacant) run tail }
+    ensures flushes { result.flushes ≡ words_specs.is_flusher seat }
+    ensures promised { result.promised ≡ false }
+{
+    let place = if is_taken(sessions, seat) {
+        Place::Idle
+    } else {
+        Place::Vacant
+    };
+    SeatState::fresh(alloc, is_flusher(seat), place, run, tail)
+}
+
 // The seats as they are opened.
 fn open_seats(
     alloc: Global,
@@ -51,15 +67,11 @@ fn open_seats(
 ) -> Result<Vec<SeatState>, AllocError>
     ensures len { IfOk result (λ xs. vec_len xs ≡ ANNOUNCERS) }
     ensures items { IfOk result (λ xs. AreFresh xs.items sessions run tail) }
+    ensures new { IfOk result (λ xs. AreNew xs.items) }
 {
     let mut seats = Vec::with_capacity(alloc, ANNOUNCERS as usize)?;
     for seat in 0..ANNOUNCERS {
-        let place = if is_taken(sessions, seat) {
-            Place::Idle
-        } else {
-            Place::Vacant
-        };
-        seats.push(SeatState::fresh(alloc, place, run, tail))?;
+        seats.push(open_seat(alloc, sessions, seat, run, tail))?;
     }
     Ok(seats)
 }
@@ -86,8 +98,6 @@ impl State {
         requires few { cells ≤ MOST_CELLS }
         ensures core { IfOk result (λ s. core_of s ≡ core_specs.opening_state sessions (rows_of rows.now) tail run first cells) }
         ensures sound { IfOk result (λ s. Sound (core_of s)) }
-        ensures carries { IfOk result Carries }
-        ensures shape { IfOk result IsShaped }
     {
         erm_sound::openings_are_sound();
         let objects = open_objects(alloc, rows)?;
@@ -96,6 +106,7 @@ impl State {
         Ok(State {
             run,
             opening: tail,
+            first,
             cell_limit: cells,
             tail,
             log: Vec::new(alloc),

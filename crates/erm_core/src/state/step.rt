@@ -1,5 +1,5 @@
 //! The step of the machine.
-ghost use Rattle.std.specs.Prelude.{◌≡◌, ◌<◌, if◌then◌else◌, Some, None, false, true};
+ghost use Rattle.std.specs.Prelude.{◌≡◌, ◌+◌, ◌<◌, ◌≤◌, if◌then◌else◌, Some, None, false, true};
 ghost use Rattle.erm_machine.specs.declared.limits.TheConstants.{ANNOUNCERS, OBJECT_LIMIT};
 ghost use Rattle.erm_machine.specs.declared.event.Event.{Event};
 ghost use Rattle.erm_machine.specs.declared.event.Kind.TheVariants.{Split, Join};
@@ -8,10 +8,11 @@ ghost use Rattle.erm_machine.specs.Core.{Core};
 ghost use Rattle.erm_machine.specs.Sound.{Sound};
 ghost use Rattle.erm_machine.specs.Step as step_specs;
 ghost use Rattle.erm_machine.specs.Words.{put};
-ghost use Rattle.erm_core.specs.Cores.{core_of, shared_of, added_in, IsShaped};
+ghost use Rattle.erm_core.specs.Cores.{core_of, shared_of, added_in};
 ghost use Rattle.erm_core.specs.Kinds.{MeetsOne, event_at};
-ghost use Rattle.erm_seat.specs.Kinds.{object_in};
-ghost use Rattle.erm_core.specs.Rooms.{Carries, HasRoom, SeatHasRoom};
+ghost use Rattle.erm_core.specs.Seats.{promised_in, SeatsLeave};
+ghost use Rattle.erm_seat.specs.Kinds.{cells_in, object_in};
+ghost use Rattle.erm_core.specs.Rooms.{ranges_in, HasRoom, LeavesRoom, SeatHasRoom};
 
 use super::State;
 use super::change::object_of_kind;
@@ -68,7 +69,6 @@ fn told(kind: Kind, found: u64) -> Answer
 impl State {
     // The version that a step adds.
     fn added(&self, seat: Seat, kind: Kind) -> Option<Version>
-        requires shape { IsShaped self.now }
         requires seat { seat < ANNOUNCERS }
         ensures { result ≡ added_in kind ((core_of self.now).seats seat) }
     {
@@ -80,15 +80,17 @@ impl State {
 
     // The seat takes its step, where its guard is met.
     fn turn(&mut self, seat: Seat, kind: Kind, found: u64) -> bool
-        requires shape { IsShaped self.old }
         requires seat { seat < ANNOUNCERS }
         requires known { object_in kind < OBJECT_LIMIT }
         requires room { SeatHasRoom self.old seat kind }
         ensures after { step_specs.part_after seat kind found (shared_of self.old) ((core_of self.old).seats seat) ≡ (if result then Some ((core_of self.new).seats seat) else None) }
         ensures seats { result ≡ true → (core_of self.new).seats ≡ put (core_of self.old).seats seat ((core_of self.new).seats seat) }
         ensures kept { result ≡ false → (core_of self.new).seats ≡ (core_of self.old).seats }
-        ensures rest { self.new ≡ record self.old { seats = self.new.seats } }
-        ensures shape { IsShaped self.new }
+        ensures shared { shared_of self.new ≡ shared_of self.old }
+        ensures log { self.new.log ≡ self.old.log }
+        ensures objects { self.new.objects ≡ self.old.objects }
+        ensures promised { promised_in self.new.seats.items + (if result then ranges_in kind else 0) ≤ promised_in self.old.seats.items }
+        ensures left { SeatsLeave kind (cells_in kind ((shared_of self.old).objects (object_in kind))) result seat self.old.seats.items self.new.seats.items }
     {
         let oid = object_of_kind(kind) as usize;
         self.seats[seat as usize].turn(seat, kind, found, &self.objects[oid], self.cell_limit)
@@ -99,14 +101,11 @@ impl State {
     // A step that meets one word, or a device.
     fn step_word(&mut self, seat: Seat, kind: Kind) -> Answer
         requires one { MeetsOne kind }
-        requires carries { Carries self.old }
-        requires shape { IsShaped self.old }
         requires seat { seat < ANNOUNCERS }
         requires room { HasRoom self.old seat kind }
         requires sound { Sound (core_of self.old) }
         ensures step { ◌≡◌ {A = Answer × Core} (result, core_of self.new) (step_specs.core_step (core_of self.old) (event_at seat kind)) }
-        ensures carries { Carries self.new }
-        ensures shape { IsShaped self.new }
+        ensures left { LeavesRoom self.old self.new seat kind }
     {
         if !is_known(kind) {
             return Answer::Failed;
@@ -122,12 +121,9 @@ impl State {
 
     // A vacant seat is taken.
     fn split(&mut self, seat: Seat, other: Seat) -> Answer
-        requires carries { Carries self.old }
-        requires shape { IsShaped self.old }
         requires seat { seat < ANNOUNCERS }
         ensures step { ◌≡◌ {A = Answer × Core} (result, core_of self.new) (step_specs.core_step (core_of self.old) (event_at seat (Split other))) }
-        ensures carries { Carries self.new }
-        ensures shape { IsShaped self.new }
+        ensures left { LeavesRoom self.old self.new seat (Split other) }
     {
         if other == seat || !is_seat(other) {
             return Answer::Failed;
@@ -141,12 +137,9 @@ impl State {
 
     // A seat takes in another.
     fn join(&mut self, seat: Seat, other: Seat) -> Answer
-        requires carries { Carries self.old }
-        requires shape { IsShaped self.old }
         requires seat { seat < ANNOUNCERS }
         ensures step { ◌≡◌ {A = Answer × Core} (result, core_of self.new) (step_specs.core_step (core_of self.old) (event_at seat (Join other))) }
-        ensures carries { Carries self.new }
-        ensures shape { IsShaped self.new }
+        ensures left { LeavesRoom self.old self.new seat (Join other) }
     {
         if other == seat {
             return Answer::Failed;
@@ -171,14 +164,11 @@ impl State {
 
     /// Takes a step: exactly the core step. It takes no memory.
     pub fn step(&mut self, event: Event) -> Answer
-        requires carries { Carries self.old }
-        requires shape { IsShaped self.old }
         requires room { HasRoom self.old event.seat event.kind }
         requires sound { Sound (core_of self.old) }
         ensures step { ◌≡◌ {A = Answer × Core} (result, core_of self.new) (step_specs.core_step (core_of self.old) event) }
         ensures sound { Sound (core_of self.new) }
-        ensures carries { Carries self.new }
-        ensures shape { IsShaped self.new }
+        ensures left { LeavesRoom self.old self.new event.seat event.kind }
     {
         erm_sound::steps_keep_sound();
         if event.seat >= ANNOUNCERS {

@@ -11,6 +11,7 @@ use Rattle.erm_kept.specs.declared.object.ObjectState.{ObjectState}
 use Rattle.erm_machine.specs.Core.{Core, Object, Shared}
 use Rattle.erm_core.specs.Cores.{shared_of, parts_of}
 use Rattle.erm_kept.specs.Objects.{object_after}
+use Rattle.erm_core.proofs.Objects.{objects_leave}
 use Rattle.erm_core.proofs.Tables.{objects_set, shared_object}
 use Rattle.erm_core.proofs.state.State.change_object.Goals as goal
 
@@ -26,7 +27,7 @@ within len oid os a b h = omega arith
 pub change-requires-clause-room : goal.change-requires-clause-room
 change-requires-clause-room c =
     let os = c.args.self.now.objects.items in
-    let inside = within c.args.self.now.objects.len c.args.oid os c.args.self.now.objects.ok.0 c.requires.shape.objects c.requires.known in
+    let inside = within c.args.self.now.objects.len c.args.oid os c.args.self.now.objects.ok.0 c.args.self.now.all_objects c.requires.known in
     object_room c.args.self.now c.args.kind c.args.oid c.index_mut.result.now c.requires.named
     (slice_get-get_or os c.args.oid c.index_mut.result.now inside ∙ ap (λ o. Some o) (sym c.index_mut.ensures.value)) c.requires.room
 
@@ -34,6 +35,12 @@ pub returns-clause-core : goal.returns-clause-core
 returns-clause-core c = λ changes.
     ap (λ (f : ℕ → Object). let d : Core = record { shared = record (shared_of c.args.self.now) { objects = f }; seats = parts_of c.args.self.now.run c.args.self.now.opening c.args.self.now.seats.items } in d)
     (objects_set c.args.self.now.objects.items c.args.oid c.index_mut.result.now c.change.new.self (object_after c.args.seat c.args.kind c.args.found c.args.added)
-    (within c.args.self.now.objects.len c.args.oid c.args.self.now.objects.items c.args.self.now.objects.ok.0 c.requires.shape.objects c.requires.known) c.index_mut.ensures.value c.change.ensures)
+    (within c.args.self.now.objects.len c.args.oid c.args.self.now.objects.items c.args.self.now.objects.ok.0 c.args.self.now.all_objects c.requires.known) c.index_mut.ensures.value c.change.ensures.after)
     ∙ ap (λ (s : Shared). let d : Core = record { shared = s; seats = parts_of c.args.self.now.run c.args.self.now.opening c.args.self.now.seats.items } in d)
     (shared_object c.args.seat c.args.kind c.args.found c.args.added (shared_of c.args.self.now) c.args.oid changes c.requires.named)
+
+pub returns-clause-objects : goal.returns-clause-objects
+returns-clause-objects c = λ _.
+    objects_leave c.args.seat c.args.kind c.args.found c.args.added c.args.self.now.objects.items c.args.oid c.index_mut.result.now c.change.new.self
+    (within c.args.self.now.objects.len c.args.oid c.args.self.now.objects.items c.args.self.now.objects.ok.0 c.args.self.now.all_objects c.requires.known) c.index_mut.ensures.value c.requires.named
+    c.change.ensures.after c.change.ensures.room

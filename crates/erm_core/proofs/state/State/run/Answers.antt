@@ -18,4 +18,4 @@ next c0 c1 d es i e a within inv step =
 
 pub loop-event-preserved : goal.loop-event-preserved
 loop-event-preserved c =
-    (next _ _ _ c.args.events.now c.loop-event.event-index _ _ c.loop-event-test.true c.loop-event.invariant.0 c.in_ok-take.ensures.step, c.take.ensures.sound, c.take.ensures.shape, c.take.ensures.carries)
+    (next _ _ _ c.args.events.now c.loop-event.event-index _ _ c.loop-event-test.true c.loop-event.invariant.0 c.in_ok-take.ensures.step, c.take.ensures.sound)

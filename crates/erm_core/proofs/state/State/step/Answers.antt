@@ -32,15 +32,14 @@ returns-in_default c = record {
   sound =
       after (core_of c.args.self.now) (core_of c.step_word.new.self) c.step_word.result c.args.event c.step_word.ensures.step
       (c.steps_keep_sound.ensures (core_of c.args.self.now) c.args.event c.requires.sound);
-  carries = c.step_word.ensures.carries;
-  shape = c.step_word.ensures.shape;
+  left = c.step_word.ensures.left;
 }
 
 pub returns-then-event-ge-ANNOUNCERS-clause-step : goal.returns-then-event-ge-ANNOUNCERS-clause-step
 returns-then-event-ge-ANNOUNCERS-clause-step c =
     let s = c.args.self.now in
     let e = c.args.event in
-    failed_step (core_of s) e.seat e.kind (core_of s) (vacant_none (core_of s) e.seat s.run s.opening (seat_above s e.seat c.requires.shape c.if-event-ge-ANNOUNCERS.true) e.kind) refl
+    failed_step (core_of s) e.seat e.kind (core_of s) (vacant_none (core_of s) e.seat s.run s.opening (seat_above s e.seat c.if-event-ge-ANNOUNCERS.true) e.kind) refl
 
 -- the core step of an event of this kind
 step_of_kind : (c : Core) (e : Event) (k : Kind) → e.kind ≡ k → core_step c (event_at e.seat k) ≡ core_step c e

@@ -44,4 +44,4 @@ returns-in_default c =
     let d = c.in_default in
     let is = plain c.args.kind d.not-LoadEntry d.not-Claim d.not-Install d.not-LoadCell d.not-StoreCell d.not-SetReader d.not-ClearReader d.not-LoadReaders d.not-LoadStamp d.not-RaiseReader
     d.not-StoreSucc d.not-StoreOverwriter d.not-SwapLink d.not-LoadDetached in
-    record { turn = λ s cells same. c.turn_plain.ensures.turn is s cells; kept = c.turn_plain.ensures.kept }
+    record { turn = λ s cells same. c.turn_plain.ensures.turn is s cells; kept = c.turn_plain.ensures.kept; room = c.turn_plain.ensures.room _ }
