@@ -4,19 +4,20 @@ ghost use Rattle.erm_model.specs.declared.limits.TheConstants.{OID_LIMIT};
 
 mod map_world;
 
-use crate::{BeginStop, RowWorld, Wait, WorldTxn};
+use crate::{RowWorld, WorldTxn};
 use erm_model::{
-    AnyRows, OID_LIMIT, Oid, Outcome, Phase, ROW_WORDS, Row, RowStop, RowTxn, STOP, Stamp,
+    AnyRows, OID_LIMIT, Oid, Outcome, Phase, ROW_WORDS, Receipt, Row, RowStop, RowTxn, STOP, Stamp,
 };
 use map_world::MapWorld;
 use std::alloc::{AllocError, Global};
 use std::test::Fail;
 
-// A world on rows of zeros, without a law.
+// A world without a law on rows of zeros, but for one.
 fn world(alloc: Global) -> Result<MapWorld<AnyRows>, AllocError>
     ensures { IfOk result (λ world. ⟦<MapWorld<AnyRows> as RowWorld>⟧.stands world) }
 {
-    let rows = Vec::from_elem(alloc, [0; ROW_WORDS], OID_LIMIT as usize)?;
+    let mut rows = Vec::from_elem(alloc, [0; ROW_WORDS], OID_LIMIT as usize)?;
+    rows[1] = [7; ROW_WORDS];
     Ok(MapWorld::new(alloc, rows, 16))
 }
 
@@ -60,6 +61,29 @@ fn abort(world: &mut MapWorld<AnyRows>) -> bool
     true
 }
 
+// The row of an object, where the session is active.
+fn row(world: &mut MapWorld<AnyRows>, oid: Oid) -> Option<Row>
+    requires stands { ⟦<MapWorld<AnyRows> as RowWorld>⟧.stands world.old }
+    requires oid { oid < OID_LIMIT }
+    ensures { ⟦<MapWorld<AnyRows> as RowWorld>⟧.stands world.new }
+{
+    match world.phase(1) {
+        Phase::Active => world.read(1, oid).ok(),
+        _ => None,
+    }
+}
+
+// A new object, where the session is active.
+fn fresh(world: &mut MapWorld<AnyRows>) -> Option<Oid>
+    requires { ⟦<MapWorld<AnyRows> as RowWorld>⟧.stands world.old }
+    ensures { ⟦<MapWorld<AnyRows> as RowWorld>⟧.stands world.new }
+{
+    match world.phase(1) {
+        Phase::Active => world.fresh(1).ok(),
+        _ => None,
+    }
+}
+
 // Copies a row from one object to another, in the session's transaction.
 fn copy_by(txn: &mut WorldTxn<'_, MapWorld<AnyRows>>, from: Oid, to: Oid) -> Result<(), RowStop>
     requires active { ⟦<WorldTxn<'static, MapWorld<AnyRows>> as RowTxn>⟧.face.active txn.old }
@@ -93,15 +117,54 @@ fn one_transaction_commits(rt: HostRuntime) -> Result<(), Fail> {
     assert!(rt; !copy(&mut world, 1, 2), "no transaction has begun");
     assert!(rt; begin(&mut world) == Some(STOP - 1), "the log is empty");
     assert!(rt; begin(&mut world).is_none(), "one is in progress");
+    assert!(rt; commit(&mut world).is_some(), "it commits");
+    assert!(rt; begin(&mut world).is_none(), "the log is at its end");
+    Ok(())
+}
+
+#[test]
+fn aborted_rows_are_gone(rt: HostRuntime) -> Result<(), Fail> {
+    let mut world = world(rt.alloc())?;
+    assert!(rt; begin(&mut world).is_some());
+    assert!(rt;
+        row(&mut world, 2) == Some([0; ROW_WORDS]),
+        "the opening's row"
+    );
     assert!(rt; copy(&mut world, 1, 2), "rows are copied");
+    assert!(rt; row(&mut world, 2) == Some([7; ROW_WORDS]), "the own row");
     assert!(rt; abort(&mut world), "it is aborted");
     assert!(rt; !abort(&mut world), "once");
     assert!(rt;
         begin(&mut world) == Some(STOP - 1),
         "the log is empty still"
     );
-    assert!(rt; copy(&mut world, 3, 3), "an object that is read is claimed");
-    assert!(rt; commit(&mut world).is_some(), "it commits");
-    assert!(rt; begin(&mut world).is_none(), "the log is at its end");
+    assert!(rt;
+        row(&mut world, 2) == Some([0; ROW_WORDS]),
+        "the opening's row again"
+    );
+    Ok(())
+}
+
+#[test]
+fn numbers_and_objects_go_on(rt: HostRuntime) -> Result<(), Fail> {
+    let mut world = world(rt.alloc())?;
+    assert!(rt; begin(&mut world).is_some());
+    assert!(rt; fresh(&mut world) == Some(16), "the first object");
+    assert!(rt; abort(&mut world));
+    assert!(rt; begin(&mut world).is_some());
+    assert!(rt; fresh(&mut world) == Some(17), "no object is made twice");
+    assert!(rt; copy(&mut world, 1, 17));
+    let receipt = Receipt {
+        number: 2,
+        stamp: STOP - 1,
+        end: STOP + 21,
+        succ: STOP - 1,
+        pred: 0,
+    };
+    assert!(rt;
+        commit(&mut world) == Some(Outcome::Committed(receipt)),
+        "a block of one row"
+    );
+    assert!(rt; world.durable(1, &receipt).is_err(), "it isn't synced");
     Ok(())
 }
