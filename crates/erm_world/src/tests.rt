@@ -6,7 +6,8 @@ mod map_world;
 
 use crate::{RowWorld, WorldTxn};
 use erm_model::{
-    AnyRows, OID_LIMIT, Oid, Outcome, Phase, ROW_WORDS, Receipt, Row, RowStop, RowTxn, STOP, Stamp,
+    AnyRows, OID_LIMIT, Oid, Outcome, Phase, ROW_WORDS, Receipt, Row, RowRead, RowStop, RowTxn,
+    STOP, Stamp,
 };
 use map_world::MapWorld;
 use std::alloc::{AllocError, Global};
@@ -86,7 +87,7 @@ fn fresh(world: &mut MapWorld<AnyRows>) -> Option<Oid>
 
 // Copies a row from one object to another, in the session's transaction.
 fn copy_by(txn: &mut WorldTxn<'_, MapWorld<AnyRows>>, from: Oid, to: Oid) -> Result<(), RowStop>
-    requires active { ⟦<WorldTxn<'static, MapWorld<AnyRows>> as RowTxn>⟧.face.active txn.old }
+    requires active { ⟦<WorldTxn<'static, MapWorld<AnyRows>> as RowRead>⟧.face.active txn.old }
     requires from { from < OID_LIMIT }
     requires to { to < OID_LIMIT }
     ensures same { txn.new.world.ghost_name ≡ txn.old.world.ghost_name }
