@@ -1,6 +1,9 @@
+pub mod Calm
 pub mod Claimed
 pub mod Commits
 pub mod Lives
 pub mod Made
+pub mod Moved
 pub mod Parts
 pub mod Serial
+pub mod Shown

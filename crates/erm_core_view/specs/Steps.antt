@@ -1,15 +1,11 @@
 -- What a step of a seat shows in the view.
-use Rattle.std.specs.Prelude.{◌≡◌, ◌≢◌, ℕ, ◌+◌, true}
-use Rattle.erm_model.specs.declared.history.VersionRead.{VersionRead}
-use Rattle.erm_model.specs.declared.history.VersionWritten.{VersionWritten}
-use Rattle.erm_machine.specs.declared.event.Counter.TheVariants.{Objects, Cells}
+use Rattle.std.specs.Prelude.{◌≡◌, ◌≢◌, ℕ, ◌+◌}
+use Rattle.erm_machine.specs.declared.event.Counter.TheVariants.{Objects}
 use Rattle.erm_machine.specs.declared.event.Kind.{Kind}
 use Rattle.erm_machine.specs.declared.event.Kind.TheVariants as kind
 use Rattle.erm_machine.specs.declared.event.TailUse.TheVariants as purpose
-use Rattle.erm_machine.specs.declared.place.Place.{Place}
 use Rattle.erm_machine.specs.declared.task.Task.{Task}
 use Rattle.erm_machine.specs.declared.task.Task.TheVariants as task
-use Rattle.erm_machine.specs.declared.version.VersionAt.{VersionAt}
 use Rattle.erm_world.specs.World.{View}
 
 -- how far a step of this kind moves the end of the log on

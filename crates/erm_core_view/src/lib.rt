@@ -39,10 +39,10 @@ pub fn views_are_serializable<L: RowLaw>()
     erm_core_ssn::reads_and_claims_are_snapshots();
 }
 
-/// A step of a seat changes no session but its own, and the log only where it draws a range or stores the place flushed. Of most
-/// kinds its own session shows nothing.
+/// From a sound state, where each object has a version, a step of a seat changes no session but its own, and the log only where it
+/// draws a range or stores the place flushed. Of most kinds its own session shows nothing.
 pub fn steps_change_one_session()
-    ensures others { (sessions seat : ℕ) (c d : Core) (k : Kind) → MeetsOne k → after_event c seat k ≡ Some d
+    ensures others { (sessions seat : ℕ) (c d : Core) (k : Kind) → Sound c → MeetsOne k → after_event c seat k ≡ Some d
         → ChangesOne seat k (view_of sessions c) (view_of sessions d) }
     ensures calm { (seat : ℕ) (c d : Core) (k : Kind) → IsCalm k → after_event c seat k ≡ Some d
         → session_of (d.seats seat) ≡ session_of (c.seats seat) }
@@ -56,20 +56,33 @@ pub fn steps_show_what_they_do()
     ensures registers { (seat : ℕ) (c d : Core) (version at : VersionAt) (stamp : ℕ) (head : Option ℕ) → Sound c
         → is_active (c.seats seat).place ≡ true → (c.seats seat).task ≡ task.Found at stamp head
         → after_event c seat (kind.SetReader version) ≡ Some d
-        → session_of (d.seats seat) ≡ record { over = (session_of (c.seats seat)).over;
-            stand = world.active (reading (record { oid = version.oid; stamp = stamp;
-                row = (version_at (c.shared.objects version.oid) version.place).words.row }) (work_of (c.seats seat).current)) } }
+        → session_of (d.seats seat) ≡ record {
+          over = (session_of (c.seats seat)).over;
+          stand = world.active (reading (record {
+            oid = version.oid;
+            stamp = stamp;
+            row = (version_at (c.shared.objects version.oid) version.place).words.row;
+          }) (work_of (c.seats seat).current));
+        } }
     ensures claims { (seat oid number : ℕ) (c d : Core) (at : VersionAt) (stamp entry : ℕ) → Sound c
         → is_active (c.seats seat).place ≡ true → (c.seats seat).task ≡ task.Found at stamp (Some entry)
         → (c.shared.objects oid).entry ≡ entry
         → after_event c seat (kind.Claim oid entry number) ≡ Some d
-        → session_of (d.seats seat) ≡ record { over = (session_of (c.seats seat)).over;
-            stand = world.active (claiming (record { oid = at.oid; stamp = stamp;
-                base = (version_at (c.shared.objects at.oid) at.place).words.row;
-                row = (version_at (c.shared.objects at.oid) at.place).words.row; is_set = false }) (work_of (c.seats seat).current)) } }
+        → session_of (d.seats seat) ≡ record {
+          over = (session_of (c.seats seat)).over;
+          stand = world.active (claiming (record {
+            oid = at.oid;
+            stamp = stamp;
+            base = (version_at (c.shared.objects at.oid) at.place).words.row;
+            row = (version_at (c.shared.objects at.oid) at.place).words.row;
+            is_set = false;
+          }) (work_of (c.seats seat).current));
+        } }
     ensures makes { (seat : ℕ) (c d : Core) → Sound c → is_active (c.seats seat).place ≡ true
         → c.shared.objects_drawn < OBJECT_LIMIT
         → after_event c seat (kind.AddCounter Objects) ≡ Some d
-        → session_of (d.seats seat) ≡ record { over = (session_of (c.seats seat)).over;
-            stand = world.active (making c.shared.objects_drawn (work_of (c.seats seat).current)) } }
+        → session_of (d.seats seat) ≡ record {
+          over = (session_of (c.seats seat)).over;
+          stand = world.active (making c.shared.objects_drawn (work_of (c.seats seat).current));
+        } }
 {}
