@@ -39,6 +39,9 @@ pub stands_active : (pl : Place) (t : Attempt) → is_active pl ≡ true → sta
 stands_active (Active tail) t e = refl
 stands_active _ t e = absurd (cc)
 
+pub work_active : (pl : Place) (t : Attempt) → is_active pl ≡ true → world.work_of (stand_of pl t) ≡ work_of t
+work_active pl t e = ap world.work_of (stands_active pl t e)
+
 pub shows_work : (x : Part) (w : Work) (y : Part) → y.over ≡ x.over → is_active y.place ≡ true → work_of y.current ≡ w → Shows x w y
 shows_work x w y over active work =
     let stand : stand_of y.place y.current ≡ world.active w = stands_active y.place y.current active ∙ ap (λ (u : Work). world.active u) work in
