@@ -1,0 +1,16 @@
+-- The world in lists: the machine's state between two calls.
+use Rattle.erm_model.specs.RowTransaction.{Law}
+use Rattle.erm_machine.specs.Sound.{SoundUnder}
+use Rattle.erm_world.specs.World.{View}
+use Rattle.erm_core.specs.Cores.{core_of}
+use Rattle.erm_core_view.specs.Views.{IsQuiet, view_of}
+use Rattle.erm_plain.specs.declared.plain.Plain.{Plain}
+
+-- what it means: the machine's view
+abbrev pub plain_view : {L : Type 0} → Plain L → View
+plain_view p = view_of p.sessions (core_of p.state)
+
+-- it may be called: the machine's state is sound under the law of rows, and each session is between two calls
+pub record Stands {L : Type 0} (law : Law) (p : Plain L) : Type 0 where
+  pub sound : SoundUnder law (core_of p.state)
+  pub quiet : IsQuiet p.sessions (core_of p.state)

@@ -1,0 +1,6 @@
+//! The world in lists: sessions over the core machine, which takes one atomic step at a time.
+#![tactic(auto)]
+
+mod plain;
+
+pub use plain::Plain;
