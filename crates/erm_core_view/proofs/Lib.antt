@@ -1,3 +1,4 @@
+pub mod Begun
 pub mod Calm
 pub mod Chained
 pub mod Claimed
@@ -7,6 +8,7 @@ pub mod Made
 pub mod Moved
 pub mod Parts
 pub mod Rows
+pub mod Seals
 pub mod Serial
 pub mod Shown
 pub mod Words

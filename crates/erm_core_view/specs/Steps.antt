@@ -85,3 +85,15 @@ abbrev pub stores_from : (seat place cell k : ℕ) → List ℕ → List Event
 stores_from seat place cell k [] = []
 stores_from seat place cell k (value ∷ values) =
     record { seat = seat; kind = kind.StoreCell place cell (word.Row k) value } ∷ stores_from seat place cell (k + 1) values
+
+-- the steps of a session's begin at this tail
+abbrev pub begin_steps : (seat tail : ℕ) → List Event
+begin_steps seat tail =
+    record { seat = seat; kind = kind.LoadTail purpose.Begin } ∷ record { seat = seat; kind = kind.StoreBegin tail }
+    ∷ record { seat = seat; kind = kind.LoadTail purpose.Begin } ∷ []
+
+-- the steps of a seal that draws a range of this size at this tail
+abbrev pub seal_steps : (seat size tail : ℕ) → List Event
+seal_steps seat size tail =
+    record { seat = seat; kind = kind.StoreState 1 } ∷ record { seat = seat; kind = kind.AddTail size }
+    ∷ record { seat = seat; kind = kind.StoreState tail } ∷ []
