@@ -49,15 +49,13 @@ word_from_bits n low =
 
 -- the least bit that is set is one of a seat, where all are
 pub record Least (bits : ℕ) : Type 0 where
-  pub bit : ℕ
-  pub least : is_least_bit bits bit ≡ true
-  pub set : bit_at bits bit ≡ 1
+  pub least : is_least_bit bits (trailing_zeros w64 bits) ≡ true
+  pub set : bit_at bits (trailing_zeros w64 bits) ≡ 1
 
 pub least_bit : (bits : ℕ) → 0 < bits → ((q : ℕ) → bit_at bits q ≡ 1 → q < ANNOUNCERS) → Least bits
 least_bit bits some low =
     let at = bit_at-trailing_zeros w64 bits some (word_from_bits bits (λ q one. let h = low q one in omega (arith, h))) in
     record {
-      bit = trailing_zeros w64 bits;
       least = and_from (eqb (trailing_zeros w64 bits) (trailing_zeros w64 bits)) (ltb (trailing_zeros w64 bits) ANNOUNCERS)
           (eq-eqb (trailing_zeros w64 bits) (trailing_zeros w64 bits) refl) (lt-ltb (trailing_zeros w64 bits) ANNOUNCERS (low (trailing_zeros w64 bits) at.1));
       set = at.1;

@@ -41,7 +41,7 @@ module _ (c : Core) (p : ℕ) (sound : Sound c) where
 
   -- a look that finds another seat clear
   pub looks_on : (other bound : ℕ) (t u : Task) → (c.seats p).task ≡ t → is_vacant (c.seats p).place ≡ false → is_seat other ≡ true → other ≢ p → bound ≤ (c.seats p).seen →
-      is_clear (state_of (c.seats other).place) bound ≡ true → after_clear other bound (c.seats p) t ≡ u → Apart t u → MovesOn c p
+      is_clear (state_of (c.seats other).place) bound ≡ true → after_clear other bound (c.seats p) t ≡ u → Apart t u → MovesOn c p (kind.LoadState other bound)
   looks_on other bound t u at there words another low clear leads ne =
       to_task c p (kind.LoadState other bound) t _ _ at tt words refl
       (and_from _ _ (and_from _ _ (not_from_false _ there) (not_from_false _ (ne_eqb other p another))) (le-leb bound (c.seats p).seen low))
@@ -54,7 +54,7 @@ module _ (c : Core) (p : ℕ) (sound : Sound c) where
     not_sealed : is_sealed (c.seats p).place ≡ false
     not_sealed = ap is_sealed pl
 
-    pub g_owned : (oid owner : ℕ) → (c.seats p).task ≡ task.Owned oid owner → MovesOn c p ⊎ Waits c p
+    pub g_owned : (oid owner : ℕ) → (c.seats p).task ≡ task.Owned oid owner → MovesOn c p (kind.LoadState owner (c.seats p).current.begin) ⊎ Waits c p
     g_owned oid owner at =
         let b = bound_at (task.Owned oid owner) at in
         let begin = (c.seats p).current.begin in
@@ -65,7 +65,7 @@ module _ (c : Core) (p : ℕ) (sound : Sound c) where
         (λ (waits : is_clear (state_of (c.seats owner).place) begin ≡ false). inr (for_owner oid owner at waits))
         (cases_Bool _)
 
-    pub g_cleared : (oid : ℕ) → (c.seats p).task ≡ task.Cleared oid → MovesOn c p
+    pub g_cleared : (oid : ℕ) → (c.seats p).task ≡ task.Cleared oid → MovesOn c p (kind.LoadEntry oid)
     g_cleared oid at =
         let known : oid < OBJECT_LIMIT = named_at (task.Cleared oid) at in
         to_task c p (kind.LoadEntry oid) (task.Cleared oid) _ _ at tt (lt-ltb oid OBJECT_LIMIT known)
@@ -73,14 +73,14 @@ module _ (c : Core) (p : ℕ) (sound : Sound c) where
         (unlike_if (task.Cleared oid) (eqb oid oid) (task.Walks (head_version oid (c.shared.objects oid).entry (c.shared.objects oid)) None) (entered p oid (c.shared.objects oid).entry (c.shared.objects oid)) (unlike _ _ refl)
         (entered_other p oid (c.shared.objects oid).entry (c.shared.objects oid) (task.Cleared oid) refl refl refl))
 
-    pub g_walks : (v : VersionAt) (head : Option ℕ) → (c.seats p).task ≡ task.Walks v head → MovesOn c p
+    pub g_walks : (v : VersionAt) (head : Option ℕ) → (c.seats p).task ≡ task.Walks v head → MovesOn c p (kind.LoadCell v word.Stamp)
     g_walks v head at =
         let known = (named_at (task.Walks v head) at).object in
         to_task c p (kind.LoadCell v word.Stamp) (task.Walks v head) _ _ at tt (and_from _ _ (lt-ltb v.oid OBJECT_LIMIT known) refl)
         (branch _ _ _ _ active (ap (load_walked_stamp _ v (c.seats p)) at)) (same_self v)
         (search (unlike_if, unlike))
 
-    pub g_passed : (v : VersionAt) → (c.seats p).task ≡ task.Passed v → MovesOn c p
+    pub g_passed : (v : VersionAt) → (c.seats p).task ≡ task.Passed v → MovesOn c p (kind.LoadCell v word.Link)
     g_passed v at =
         let named = named_at (task.Passed v) at in
         let in_hand : InHand c.shared (c.seats p).current.begin (task.Passed v) = subst (InHand c.shared (c.seats p).current.begin) at (sound.own p).snapshot.in_hand in
@@ -100,35 +100,35 @@ module _ (c : Core) (p : ℕ) (sound : Sound c) where
         above_cut : (m n : ℕ) → m ≤ n → (m ≡ n → ⊥) → m < n
         above_cut m n le ne = grind arith
 
-    pub g_registered : (v : VersionAt) → (c.seats p).task ≡ task.Registered v → MovesOn c p
+    pub g_registered : (v : VersionAt) → (c.seats p).task ≡ task.Registered v → MovesOn c p (kind.LoadStamp v word.Overwriter)
     g_registered v at =
         let known = (named_at (task.Registered v) at).object in
         to_task c p (kind.LoadStamp v word.Overwriter) (task.Registered v) _ _ at tt (lt-ltb v.oid OBJECT_LIMIT known)
         (branch _ _ _ _ active (ap (load_active_stamp _ v word.Overwriter (c.seats p)) at)) (same_self v)
         (search (unlike_if, unlike))
 
-    pub g_overtaken : (v : VersionAt) (overwriter : ℕ) → (c.seats p).task ≡ task.Overtaken v overwriter → MovesOn c p
+    pub g_overtaken : (v : VersionAt) (overwriter : ℕ) → (c.seats p).task ≡ task.Overtaken v overwriter → MovesOn c p (kind.LoadStamp v word.OverwriterSucc)
     g_overtaken v overwriter at =
         let known = (named_at (task.Overtaken v overwriter) at).object in
         to_task c p (kind.LoadStamp v word.OverwriterSucc) (task.Overtaken v overwriter) _ _ at tt (lt-ltb v.oid OBJECT_LIMIT known)
         (branch _ _ _ _ active (ap (load_active_stamp _ v word.OverwriterSucc (c.seats p)) at)) (same_self v) (search unlike)
 
-    -- A session draws a number. The flush seat, which may see the counter too, goes on with its next call.
-    pub g_numbers : (c.seats p).task ≡ task.Numbers → MovesOn c p
-    g_numbers at =
-        ⊎_elim
-        (λ (session : is_session p ≡ true).
-        to_task c p (kind.AddCounter Objects) task.Numbers _ _ at tt refl (ap (add_counter c.shared.cell_limit p Objects c.shared.objects_drawn (c.seats p)) at) (and_from _ _ active session) (search unlike))
-        (λ (_ : is_session p ≡ false).
-        to_task c p (kind.LoadEntry 0) task.Numbers _ _ at tt refl
-        (other_branch _ _ _ _ not_sealed (ap (load_entry p 0 (c.shared.objects 0).entry (c.shared.objects 0) (c.seats p)) at)) (and_from _ _ active refl)
-        (entered_other p 0 (c.shared.objects 0).entry (c.shared.objects 0) task.Numbers refl refl refl))
-        (cases_Bool (is_session p))
+    -- A session draws a number.
+    pub g_numbers : is_session p ≡ true → (c.seats p).task ≡ task.Numbers → MovesOn c p (kind.AddCounter Objects)
+    g_numbers session at =
+        to_task c p (kind.AddCounter Objects) task.Numbers _ _ at tt refl (ap (add_counter c.shared.cell_limit p Objects c.shared.objects_drawn (c.seats p)) at) (and_from _ _ active session) (search unlike)
 
-    pub g_claimed : (v : VersionAt) → (c.seats p).task ≡ task.Claimed v → MovesOn c p
+    -- The flush seat, which may see the counter too, goes on with a read of some object.
+    pub g_leaves_numbers : (oid : ℕ) → oid < OBJECT_LIMIT → (c.seats p).task ≡ task.Numbers → MovesOn c p (kind.LoadEntry oid)
+    g_leaves_numbers oid known at =
+        to_task c p (kind.LoadEntry oid) task.Numbers _ _ at tt (lt-ltb oid OBJECT_LIMIT known)
+        (other_branch _ _ _ _ not_sealed (ap (load_entry p oid (c.shared.objects oid).entry (c.shared.objects oid) (c.seats p)) at)) (and_from _ _ active refl)
+        (entered_other p oid (c.shared.objects oid).entry (c.shared.objects oid) task.Numbers refl refl refl)
+
+    pub g_claimed : (v : VersionAt) → (c.seats p).task ≡ task.Claimed v → MovesOn c p (kind.LoadTail purpose.Horizon)
     g_claimed v at = to_task c p (kind.LoadTail purpose.Horizon) (task.Claimed v) _ _ at tt refl (ap (load_tail_for_horizon _ (c.seats p)) at) active (search unlike)
 
-    pub g_horizon : (v : VersionAt) (least next : ℕ) → (c.seats p).task ≡ task.Horizon v least next → MovesOn c p
+    pub g_horizon : (v : VersionAt) (least next : ℕ) → (c.seats p).task ≡ task.Horizon v least next → MovesOn c p (kind.LoadBegin next)
     g_horizon v least next at =
         let low : next < ANNOUNCERS = bound_at (task.Horizon v least next) at in
         to_task c p (kind.LoadBegin next) (task.Horizon v least next) _ _ at tt refl (ap (load_begin next _ (c.seats p)) at)
@@ -136,7 +136,7 @@ module _ (c : Core) (p : ℕ) (sound : Sound c) where
         (unlike_if (task.Horizon v least next) (eqb (next + 1) ANNOUNCERS) (task.CutWalks v (lower least (begin_of (c.seats next).place))) (task.Horizon v (lower least (begin_of (c.seats next).place)) (next + 1))
         (search unlike) (record { apart = λ e. more next (ap next_at e) }))
 
-    pub g_cut_walks : (v : VersionAt) (horizon : ℕ) → (c.seats p).task ≡ task.CutWalks v horizon → MovesOn c p
+    pub g_cut_walks : (v : VersionAt) (horizon : ℕ) → (c.seats p).task ≡ task.CutWalks v horizon → MovesOn c p (kind.LoadCell v word.Stamp)
     g_cut_walks v horizon at =
         let known = (named_at (task.CutWalks v horizon) at).object in
         to_task c p (kind.LoadCell v word.Stamp) (task.CutWalks v horizon) _ _ at tt (and_from _ _ (lt-ltb v.oid OBJECT_LIMIT known) refl)
@@ -147,14 +147,14 @@ module _ (c : Core) (p : ℕ) (sound : Sound c) where
     after_cut_other : (t : Task) → eqb 16 (rank t) ≡ false → eqb 0 (rank t) ≡ false → Apart t (after_cut (c.seats p))
     after_cut_other t draws rest = unlike_if t _ task.Draws task.Rest (unlike t _ draws) (unlike t _ rest)
 
-    pub g_cut_passed : (v : VersionAt) (horizon : ℕ) → (c.seats p).task ≡ task.CutPassed v horizon → MovesOn c p
+    pub g_cut_passed : (v : VersionAt) (horizon : ℕ) → (c.seats p).task ≡ task.CutPassed v horizon → MovesOn c p (kind.LoadCell v word.Link)
     g_cut_passed v horizon at =
         let known = (named_at (task.CutPassed v horizon) at).object in
         to_task c p (kind.LoadCell v word.Link) (task.CutPassed v horizon) _ _ at tt (and_from _ _ (lt-ltb v.oid OBJECT_LIMIT known) refl)
         (branch _ _ _ _ active (ap (load_walked_link _ v (c.seats p)) at)) (same_self v)
         (search (unlike_if, unlike, after_cut_other))
 
-    pub g_cut_found : (v : VersionAt) (horizon : ℕ) → (c.seats p).task ≡ task.CutFound v horizon → MovesOn c p
+    pub g_cut_found : (v : VersionAt) (horizon : ℕ) → (c.seats p).task ≡ task.CutFound v horizon → MovesOn c p (kind.SwapLink v)
     g_cut_found v horizon at =
         let known = (named_at (task.CutFound v horizon) at).object in
         to_task c p (kind.SwapLink v) (task.CutFound v horizon) _ _ at tt (lt-ltb v.oid OBJECT_LIMIT known)
@@ -162,7 +162,7 @@ module _ (c : Core) (p : ℕ) (sound : Sound c) where
         (search (unlike_if, unlike, after_cut_other))
 
     -- A link that isn't 0 isn't that of the last version cut off: an older one is behind.
-    pub g_detaches : (v : VersionAt) → (c.seats p).task ≡ task.Detaches v → MovesOn c p
+    pub g_detaches : (v : VersionAt) → (c.seats p).task ≡ task.Detaches v → MovesOn c p (kind.LoadDetached v)
     g_detaches v at =
         let known = (named_at (task.Detaches v) at).object in
         let cut : IsDetached c.shared (c.seats p) v = subst (CutInHand c.shared (c.seats p)) at (sound.own p).chains.cut in

@@ -1,7 +1,7 @@
 -- A step that is taken, and that it moves its seat on.
-use Rattle.std.proofs.Common.{◌≡◌, ◌≢◌, ℕ, ◌+◌, Bool, true, false, eqb, Option, Some, None, refl, sym, ap, ◌∙◌, subst, inl, inr, arith}
-use Rattle.std.specs.Prelude.{if◌then◌else◌}
-use Rattle.std.proofs.lemmas.Bool.{and_from, eq-eqb, eqb-false}
+use Rattle.std.proofs.Common.{◌≡◌, ◌≢◌, ℕ, ◌+◌, Bool, true, false, eqb, ltb, Option, Some, None, refl, sym, ap, ◌∙◌, subst, inl, inr, arith}
+use Rattle.std.specs.Prelude.{if◌then◌else◌, nat_lt, ◌==◌, ◌<◌, ◌≤◌}
+use Rattle.std.proofs.lemmas.Bool.{and_from, eq-eqb, eqb-false, eqb-true, ltb-false, ltb-true}
 use Rattle.erm_machine.specs.declared.event.Kind.{Kind}
 use Rattle.erm_machine.specs.declared.event.Kind.TheVariants as kind
 use Rattle.erm_machine.specs.declared.part.Part.{Part}
@@ -126,9 +126,8 @@ met o false z e g = absurd (cc)
 
 -- a step whose guard is met moves its seat to another task
 pub to_task : (c : Core) (p : ℕ) (k : Kind) (t : Task) (b : Bool) (z : Part) → (c.seats p).task ≡ t → MeetsOne k → is_known k ≡ true →
-    part_after p k (word_at c (spot_of p k)) c.shared (c.seats p) ≡ when b z → b ≡ true → Apart t z.task → MovesOn c p
+    part_after p k (word_at c (spot_of p k)) c.shared (c.seats p) ≡ when b z → b ≡ true → Apart t z.task → MovesOn c p k
 to_task c p k t b z at one known e guard other = record {
-  step = k;
   after = stepped c p k z;
   taken = taken c p k z one known (met _ b z e guard);
   moved = inr (subst (λ (y : Part). y.task ≢ (c.seats p).task) (sym (put_same c.seats p z)) (λ same. other.apart (same ∙ at)));
@@ -136,13 +135,20 @@ to_task c p k t b z at one known e guard other = record {
 
 -- or to another place
 pub to_place : (c : Core) (p : ℕ) (k : Kind) (pl : Place) (b : Bool) (z : Part) → (c.seats p).place ≡ pl → MeetsOne k → is_known k ≡ true →
-    part_after p k (word_at c (spot_of p k)) c.shared (c.seats p) ≡ when b z → b ≡ true → eqb (placed z.place) (placed pl) ≡ false → MovesOn c p
+    part_after p k (word_at c (spot_of p k)) c.shared (c.seats p) ≡ when b z → b ≡ true → eqb (placed z.place) (placed pl) ≡ false → MovesOn c p k
 to_place c p k pl b z at one known e guard other = record {
-  step = k;
   after = stepped c p k z;
   taken = taken c p k z one known (met _ b z e guard);
   moved = inl (subst (λ (y : Part). y.place ≢ (c.seats p).place) (sym (put_same c.seats p z)) (λ same. eqb-false (placed z.place) (placed pl) other (ap placed (same ∙ at))));
 }
+
+-- one of two by a test whether a number is below another
+pub below_way : {X : Type 0} (P : X → Type 0) (m n : ℕ) (l r : X) → (m < n → P l) → (n ≤ m → P r) → P (if nat_lt m n then l else r)
+below_way P m n l r f g = either_way P (ltb m n) l r (λ e. f (ltb-true m n e)) (λ e. g (ltb-false m n e))
+
+-- or whether it is that number
+pub same_way : {X : Type 0} (P : X → Type 0) (m n : ℕ) (l r : X) → (m ≡ n → P l) → ((m ≡ n → ⊥) → P r) → P (if m == n then l else r)
+same_way P m n l r f g = either_way P (eqb m n) l r (λ e. f (eqb-true m n e)) (λ e. g (eqb-false m n e))
 
 -- a version is named as itself
 pub same_self : (v : VersionAt) → same_version v v ≡ true

@@ -1,6 +1,12 @@
+pub mod Calm
+pub mod Chained
 pub mod Claimed
 pub mod Commits
 pub mod Lives
 pub mod Made
+pub mod Moved
 pub mod Parts
+pub mod Rows
 pub mod Serial
+pub mod Shown
+pub mod Words

@@ -1,15 +1,18 @@
 -- What a step of a seat shows in the view.
-use Rattle.std.specs.Prelude.{◌≡◌, ◌≢◌, ℕ, ◌+◌, true}
-use Rattle.erm_model.specs.declared.history.VersionRead.{VersionRead}
+use Rattle.std.specs.Prelude.{◌≡◌, ◌≢◌, ℕ, ◌+◌, ◌<◌, true, List, [], ◌∷◌, length, slice_set}
 use Rattle.erm_model.specs.declared.history.VersionWritten.{VersionWritten}
-use Rattle.erm_machine.specs.declared.event.Counter.TheVariants.{Objects, Cells}
+use Rattle.erm_machine.specs.declared.event.Counter.TheVariants.{Objects}
+use Rattle.erm_machine.specs.declared.event.Event.{Event}
 use Rattle.erm_machine.specs.declared.event.Kind.{Kind}
 use Rattle.erm_machine.specs.declared.event.Kind.TheVariants as kind
 use Rattle.erm_machine.specs.declared.event.TailUse.TheVariants as purpose
+use Rattle.erm_machine.specs.declared.part.Part.{Part}
 use Rattle.erm_machine.specs.declared.place.Place.{Place}
 use Rattle.erm_machine.specs.declared.task.Task.{Task}
 use Rattle.erm_machine.specs.declared.task.Task.TheVariants as task
-use Rattle.erm_machine.specs.declared.version.VersionAt.{VersionAt}
+use Rattle.erm_machine.specs.declared.version.CellWord.TheVariants as word
+use Rattle.erm_machine.specs.Core.{Core, claim_at}
+use Rattle.erm_machine.specs.Seat.{is_active, is_own, may_start}
 use Rattle.erm_world.specs.World.{View}
 
 -- how far a step of this kind moves the end of the log on
@@ -55,3 +58,30 @@ IsCalm k = Unit {0}
 abbrev pub IsEnding : Task → Type 0
 IsEnding task.Refused = ⊥
 IsEnding t = Unit {0}
+
+-- the seat stands there, between two calls
+pub record RestsAt (seat : ℕ) (there : Place) (c : Core) : Type 0 where
+  pub place : (c.seats seat).place ≡ there
+  pub rests : (c.seats seat).task ≡ task.Rest
+
+-- a row of which a write has set one word
+abbrev pub with_word : ℕ → ℕ → VersionWritten → VersionWritten
+with_word k value w = record w { row = slice_set w.row k value; is_set = true }
+
+-- no row of a version overwritten is copied
+abbrev pub IsWriting : Task → Type 0
+IsWriting (task.Copies word) = ⊥
+IsWriting t = Unit {0}
+
+-- a write of the claim at this place, whose own cell is this one, may start
+pub record MayWrite (x : Part) (place cell : ℕ) : Type 0 where
+  pub active : is_active x.place ≡ true
+  pub starts : may_start x.task ≡ true
+  pub claimed : place < length x.current.writes
+  pub own : is_own cell (claim_at x.current place).own ≡ true
+
+-- the steps of a write: the row's words from the k-th on are stored, in order
+abbrev pub stores_from : (seat place cell k : ℕ) → List ℕ → List Event
+stores_from seat place cell k [] = []
+stores_from seat place cell k (value ∷ values) =
+    record { seat = seat; kind = kind.StoreCell place cell (word.Row k) value } ∷ stores_from seat place cell (k + 1) values

@@ -2,22 +2,28 @@
 //! contract of a function that does nothing.
 #![tactic(auto)]
 
-ghost use Rattle.std.specs.Prelude.{◌≡◌, ◌<◌, ℕ, true, false, Option, Some};
+ghost use Rattle.std.specs.Prelude.{◌≡◌, ◌<◌, ℕ, true, false, List, length, map, slice_set, Option, Some};
+ghost use Rattle.erm_model.specs.declared.TheConstants.{ROW_WORDS};
 ghost use Rattle.erm_machine.specs.declared.event.Counter.TheVariants.{Objects};
 ghost use Rattle.erm_machine.specs.declared.event.Kind.{Kind};
 ghost use Rattle.erm_machine.specs.declared.event.Kind.TheVariants as kind;
 ghost use Rattle.erm_machine.specs.declared.limits.TheConstants.{OBJECT_LIMIT};
 ghost use Rattle.erm_machine.specs.declared.task.Task.TheVariants as task;
+ghost use Rattle.erm_machine.specs.declared.version.CellWord.{CellWord};
+ghost use Rattle.erm_machine.specs.declared.version.CellWord.TheVariants as word;
 ghost use Rattle.erm_machine.specs.declared.version.VersionAt.{VersionAt};
-ghost use Rattle.erm_machine.specs.Core.{Core, version_at};
+ghost use Rattle.erm_machine.specs.Core.{Core, claim_at, version_at};
+ghost use Rattle.erm_machine.specs.Decided.{written_of};
 ghost use Rattle.erm_machine.specs.Decided as machine;
 ghost use Rattle.erm_machine.specs.Seat.{is_active};
 ghost use Rattle.erm_machine.specs.Sound.{Sound, SoundUnder};
-ghost use Rattle.erm_machine.specs.Step.{after_event};
+ghost use Rattle.erm_machine.specs.Step.{after_event, run_from};
+ghost use Rattle.erm_world.specs.Calls.{Works};
 ghost use Rattle.erm_world.specs.Laws.{IsSerializable};
-ghost use Rattle.erm_world.specs.Works.{claiming, making, reading};
+ghost use Rattle.erm_world.specs.Works.{claiming, making, reading, setting};
+ghost use Rattle.erm_world.specs.World.{work_at};
 ghost use Rattle.erm_world.specs.World as world;
-ghost use Rattle.erm_core_view.specs.Steps.{ChangesOne, IsCalm, IsEnding, MeetsOne};
+ghost use Rattle.erm_core_view.specs.Steps.{ChangesOne, IsCalm, IsEnding, IsWriting, MayWrite, MeetsOne, RestsAt, stores_from, with_word};
 ghost use Rattle.erm_core_view.specs.Views.{IsQuiet, session_of, view_of, work_of};
 
 use erm_model::RowLaw;
@@ -39,10 +45,10 @@ pub fn views_are_serializable<L: RowLaw>()
     erm_core_ssn::reads_and_claims_are_snapshots();
 }
 
-/// A step of a seat changes no session but its own, and the log only where it draws a range or stores the place flushed. Of most
-/// kinds its own session shows nothing.
+/// From a sound state, where each object has a version, a step of a seat changes no session but its own, and the log only where it
+/// draws a range or stores the place flushed. Of most kinds its own session shows nothing.
 pub fn steps_change_one_session()
-    ensures others { (sessions seat : ℕ) (c d : Core) (k : Kind) → MeetsOne k → after_event c seat k ≡ Some d
+    ensures others { (sessions seat : ℕ) (c d : Core) (k : Kind) → Sound c → MeetsOne k → after_event c seat k ≡ Some d
         → ChangesOne seat k (view_of sessions c) (view_of sessions d) }
     ensures calm { (seat : ℕ) (c d : Core) (k : Kind) → IsCalm k → after_event c seat k ≡ Some d
         → session_of (d.seats seat) ≡ session_of (c.seats seat) }
@@ -85,4 +91,32 @@ pub fn steps_show_what_they_do()
           over = (session_of (c.seats seat)).over;
           stand = world.active (making c.shared.objects_drawn (work_of (c.seats seat).current));
         } }
+{}
+
+/// A word of a row that a write stores is set in its claim's row, and shows. One that a claim copies from the version overwritten
+/// shows nothing, nor does one that an end stores. After all words of a row, stored in order, its claim has that row.
+pub fn writes_show_the_row()
+    ensures words { (seat place cell k value : ℕ) (c d : Core) → is_active (c.seats seat).place ≡ true → IsWriting (c.seats seat).task
+        → after_event c seat (kind.StoreCell place cell (word.Row k) value) ≡ Some d
+        → session_of (d.seats seat) ≡ record {
+          over = (session_of (c.seats seat)).over;
+          stand = world.active (record (work_of (c.seats seat).current) {
+            claims = slice_set (map written_of (c.seats seat).current.writes) place
+                (with_word k value (written_of (claim_at (c.seats seat).current place)));
+          });
+        } }
+    ensures copies { (seat place cell k value next : ℕ) (c d : Core) → Sound c → is_active (c.seats seat).place ≡ true
+        → (c.seats seat).task ≡ task.Copies next
+        → after_event c seat (kind.StoreCell place cell (word.Row k) value) ≡ Some d
+        → session_of (d.seats seat) ≡ session_of (c.seats seat) }
+    ensures ends { (seat place cell value : ℕ) (w : CellWord) (c d : Core) → is_active (c.seats seat).place ≡ false
+        → after_event c seat (kind.StoreCell place cell w value) ≡ Some d
+        → session_of (d.seats seat) ≡ session_of (c.seats seat) }
+    ensures writes { (sessions seat place cell : ℕ) (row : List ℕ) (c : Core) → Sound c → MayWrite (c.seats seat) place cell
+        → length row ≡ ROW_WORDS
+        → Works (view_of sessions c) seat
+        (setting (claim_at (c.seats seat).current place).version.oid row (work_at (view_of sessions c) seat))
+        (view_of sessions (run_from c (stores_from seat place cell 0 row))) }
+    ensures rests { (seat place cell : ℕ) (row : List ℕ) (c : Core) → MayWrite (c.seats seat) place cell → length row ≡ ROW_WORDS
+        → RestsAt seat (c.seats seat).place (run_from c (stores_from seat place cell 0 row)) }
 {}

@@ -5,5 +5,6 @@ pub mod Holders
 pub mod Listed
 pub mod Local
 pub mod Objects
+pub mod OpeningRows
 pub mod Quiet
 pub mod QuietKinds

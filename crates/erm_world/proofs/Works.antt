@@ -119,7 +119,7 @@ is_at : (before after : Bool) (y x : ℕ) → after ≡ (before || (y == x)) →
 is_at before after y x e = let is = or_is before y x in (λ at. is.0 (sym e ∙ at), λ at. e ∙ is.1 at)
 
 -- with one claim more just its object is claimed besides
-claimed_push : (cs : List VersionWritten) (c : VersionWritten) (x : ℕ) → is_claimed (cs ++ c ∷ []) x ≡ (is_claimed cs x || (c.oid == x))
+pub claimed_push : (cs : List VersionWritten) (c : VersionWritten) (x : ℕ) → is_claimed (cs ++ c ∷ []) x ≡ (is_claimed cs x || (c.oid == x))
 claimed_push [] c x = or_nothing (c.oid == x)
 claimed_push (d ∷ cs) c x =
     ap (λ (rest : Bool). (d.oid == x) || rest) (claimed_push cs c x) ∙ or_more (d.oid == x) (is_claimed cs x) (c.oid == x)

@@ -3,6 +3,8 @@
 
 mod laws;
 mod stops;
+#[cfg(test)]
+mod tests;
 mod txn;
 mod world;
 
