@@ -1,5 +1,5 @@
 -- Steps one after another, and what the view shows of them together.
-use Rattle.std.proofs.Common.{◌≡◌, ◌≢◌, ℕ, ⊎_elim, true, List, [], ◌∷◌, Option, Some, None, refl, sym, ap, ◌∙◌, subst}
+use Rattle.std.proofs.Common.{◌≡◌, ◌≢◌, ℕ, ⊎_elim, true, List, [], ◌∷◌, ◌++◌, Option, Some, None, refl, sym, ap, ◌∙◌, subst}
 use Rattle.std.proofs.lemmas.Bool.{cases_eq, cond-true}
 use Rattle.std.proofs.Math.Path.{fun_ext}
 use Rattle.erm_machine.specs.declared.event.Event.{Event}
@@ -8,7 +8,7 @@ use Rattle.erm_machine.specs.declared.event.Kind.TheVariants as kind
 use Rattle.erm_machine.specs.declared.part.Part.{Part}
 use Rattle.erm_machine.specs.Core.{Core, Shared, spot_of, word_at}
 use Rattle.erm_machine.specs.Lawful.{opening_rows}
-use Rattle.erm_machine.specs.Step.{after_event, is_known, moved, part_after, run_from, shared_after, step_to, told}
+use Rattle.erm_machine.specs.Step.{after_event, core_step, is_known, moved, part_after, run_from, shared_after, step_to, told}
 use Rattle.erm_machine.specs.Words.{put}
 use Rattle.erm_machine.proofs.Frames.{put_other, put_same}
 use Rattle.erm_world.specs.Calls.{Becomes}
@@ -64,6 +64,23 @@ alone_shows sessions seat c y d s alone is = record {
     opening_from : ℕ → Shared → Opening
     opening_from sessions shared = record { rows = opening_rows shared; tail = shared.opening; first = shared.first; cells = shared.cell_limit; sessions = sessions }
 
+-- a session that becomes one twice
+pub becomes_then : (v : View) (seat : ℕ) (s : Session) (t : View) (r : Session) (u : View) → Becomes v seat s t → Becomes t seat r u → Becomes v seat r u
+becomes_then v seat s t r u first second = record {
+  own = second.own;
+  others = λ q other. second.others q other ∙ first.others q other;
+  opening = second.opening ∙ first.opening;
+  tail = second.tail ∙ first.tail;
+  flushed = second.flushed ∙ first.flushed;
+}
+
+-- it still is what it was
+pub becomes_same : (sessions seat : ℕ) (c d e : Core) → Becomes (view_of sessions c) seat (session_of (c.seats seat)) (view_of sessions d)
+    → Becomes (view_of sessions d) seat (session_of (d.seats seat)) (view_of sessions e) → Becomes (view_of sessions c) seat (session_of (c.seats seat)) (view_of sessions e)
+becomes_same sessions seat c d e first second =
+    subst (λ (s : Session). Becomes (view_of sessions c) seat s (view_of sessions e)) first.own
+    (becomes_then (view_of sessions c) seat (session_of (c.seats seat)) (view_of sessions d) (session_of (d.seats seat)) (view_of sessions e) first second)
+
 -- a world whose session becomes what it was is the same
 same_fields : (o p : Opening) (s r : ℕ → Session) (tail end flushed synced : ℕ) → o ≡ p → s ≡ r → tail ≡ end → flushed ≡ synced
     → ◌≡◌ {A = View} (record { opening = o; session = s; tail = tail; flushed = flushed }) (record { opening = p; session = r; tail = end; flushed = synced })
@@ -75,3 +92,8 @@ same_view v seat t becomes =
     ⊎_elim (λ (same : q ≡ seat). subst (λ (n : ℕ). t.session n ≡ v.session n) (sym same) becomes.own)
     (λ (other : q ≡ seat → ⊥). becomes.others q other) (cases_eq q seat)) in
     same_fields t.opening v.opening t.session v.session t.tail v.tail t.flushed v.flushed becomes.opening sessions becomes.tail becomes.flushed
+
+-- events behind others
+pub run_append : (es fs : List Event) (c : Core) → run_from c (es ++ fs) ≡ run_from (run_from c es) fs
+run_append [] fs c = refl
+run_append (e ∷ es) fs c = run_append es fs (core_step c e).1

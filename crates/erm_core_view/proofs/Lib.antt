@@ -1,8 +1,10 @@
+pub mod Aborts
 pub mod Begun
 pub mod Calm
 pub mod Chained
 pub mod Claimed
 pub mod Commits
+pub mod Ends
 pub mod Lives
 pub mod Made
 pub mod Moved

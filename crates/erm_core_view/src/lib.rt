@@ -17,17 +17,17 @@ ghost use Rattle.erm_machine.specs.declared.version.VersionAt.{VersionAt};
 ghost use Rattle.erm_machine.specs.Core.{Core, claim_at, version_at};
 ghost use Rattle.erm_machine.specs.Decided.{written_of};
 ghost use Rattle.erm_machine.specs.Decided as machine;
-ghost use Rattle.erm_machine.specs.Seat.{is_active, may_start};
+ghost use Rattle.erm_machine.specs.Seat.{end_of, is_active, may_start};
 ghost use Rattle.erm_machine.specs.Sound.{Sound, SoundUnder};
 ghost use Rattle.erm_machine.specs.Step.{after_event, run_from};
 ghost use Rattle.erm_machine.specs.Words.{begin_of, is_flusher};
 ghost use Rattle.erm_world.specs.declared.stops.BeginStop.TheVariants as stop;
-ghost use Rattle.erm_world.specs.Calls.{DidBegin, DidSeal, MayNotBegin, Works};
+ghost use Rattle.erm_world.specs.Calls.{DidBegin, DidSeal, IsDone, MayNotBegin, Works};
 ghost use Rattle.erm_world.specs.Laws.{IsSerializable};
 ghost use Rattle.erm_world.specs.Works.{claiming, making, reading, setting};
 ghost use Rattle.erm_world.specs.World.{work_at};
 ghost use Rattle.erm_world.specs.World as world;
-ghost use Rattle.erm_core_view.specs.Steps.{ChangesOne, IsCalm, IsEnding, IsWriting, MayWrite, MeetsOne, RestsAt, begin_steps, seal_steps, stores_from, with_word};
+ghost use Rattle.erm_core_view.specs.Steps.{ChangesOne, IsCalm, IsEnding, IsWriting, MayWrite, MeetsOne, RestsAt, begin_steps, end_steps, seal_steps, stores_from, with_word};
 ghost use Rattle.erm_core_view.specs.Views.{IsQuiet, session_of, view_of, work_of};
 
 use erm_model::RowLaw;
@@ -160,3 +160,15 @@ pub fn seals_show()
 {
     erm_record::stored_words_tell_the_row();
 }
+
+/// An abort of an active session: after it has released its claims with their old heads, cleared its reader bits and its begin word,
+/// in this order, the transaction is over and left nothing.
+pub fn ends_show()
+    ensures aborts { (sessions seat : ℕ) (c : Core) → Sound c → is_flusher seat ≡ false → is_active (c.seats seat).place ≡ true
+        → end_of (c.seats seat).task ≡ Some (0, 0, 0, 0)
+        → IsDone (view_of sessions c) seat (work_at (view_of sessions c) seat) world.aborts
+        (view_of sessions (run_from c (end_steps seat (c.seats seat).current))) }
+    ensures rests { (seat : ℕ) (c : Core) → Sound c → is_flusher seat ≡ false → is_active (c.seats seat).place ≡ true
+        → end_of (c.seats seat).task ≡ Some (0, 0, 0, 0)
+        → RestsAt seat Idle (run_from c (end_steps seat (c.seats seat).current)) }
+{}
