@@ -23,7 +23,7 @@ pub const BLOCK_WORDS: usize = GREATEST_BLOCK as usize;
 pub const RUN_END: u64 = LAST_RUN + 1;
 
 /// What a block is about.
-#[derive(Clone, Copy, Debug, PartialEq, Eq)]
+#[derive(Clone, Copy, PartialEq, Eq)]
 pub enum Kind {
     /// A transaction that committed, with the rows that it wrote, each whole. It is read, and no longer written.
     OldCommit = 1,
@@ -39,7 +39,7 @@ pub enum Kind {
 }
 
 /// How the rows of a commit stand in its block.
-#[derive(Clone, Copy, Debug, PartialEq, Eq)]
+#[derive(Clone, Copy)]
 pub enum Form {
     /// Each with all its words.
     Whole,
@@ -48,7 +48,7 @@ pub enum Form {
 }
 
 /// A block of the log.
-#[derive(Debug, Drop, PartialEq, Eq)]
+#[derive(Drop, PartialEq, Eq)]
 pub struct Block {
     /// What it is about.
     pub kind: Kind,

@@ -16,6 +16,3 @@ pub use check::is_block;
 pub use encode::encode_into;
 pub use laws::{chain_ends, chain_grows, one_log_list, one_spelling, spelling_size};
 pub use read::read_block;
-
-#[cfg(test)]
-mod tests;

@@ -1,5 +1,5 @@
 -- Room that was made lasts: steps that add nothing leave it, and so do those of other seats.
-use Rattle.std.proofs.Common.{◌≡◌, ◌≢◌, ℕ, ◌+◌, ◌-◌, ◌*◌, ◌<◌, ◌≤◌, ⊎_elim, false, List, map, length, get_or, Some, None, refl, ap, ◌∙◌, subst, arith, slice_get, vec_len, vec_capacity}
+use Rattle.std.proofs.Common.{◌≡◌, ◌≢◌, ℕ, ◌+◌, ◌*◌, ◌<◌, ◌≤◌, ⊎_elim, true, false, List, map, length, get_or, Some, None, refl, ap, ◌∙◌, subst, arith, slice_get, vec_len}
 use Rattle.std.proofs.lemmas.List.{get_or-map, get_or_past, length-map}
 use Rattle.std.proofs.lemmas.Option.{slice_get_cases, slice_get_within, slice_get-get_or, get_or_from_slice_get}
 use Rattle.erm_machine.specs.declared.event.Kind.{Kind}
@@ -9,12 +9,13 @@ use Rattle.erm_machine.specs.declared.part.Part.{Part}
 use Rattle.erm_machine.specs.declared.place.Place.TheVariants.{Vacant, Idle}
 use Rattle.erm_machine.specs.declared.version.VersionAt.{VersionAt}
 use Rattle.erm_machine.specs.Core.{fresh_part, no_object}
+use Rattle.erm_machine.specs.Words.{is_flusher}
 use Rattle.erm_kept.specs.declared.object.ObjectState.{ObjectState}
 use Rattle.erm_kept.specs.Objects.{object_of, chain_len}
 use Rattle.erm_seat.specs.declared.seat.SeatState.{SeatState}
 use Rattle.erm_seat.specs.Parts.{part_of}
 use Rattle.erm_seat.specs.Needs.{lasting, one}
-use Rattle.erm_seat.specs.Rooms.{no_growth, growth_in, Growth, GoesOn, HasBeginRoom, HasClaimRoom, HasCutRoom, HasSpareRoom, Leaves}
+use Rattle.erm_seat.specs.Rooms.{no_growth, growth_in, Growth, GoesOn, HasBeginRoom, HasClaimRoom, HasSpareRoom, Leaves}
 use Rattle.erm_core.specs.declared.need.Need.{Need}
 use Rattle.erm_core.specs.declared.need.Need.TheVariants as need
 use Rattle.erm_core.specs.declared.state.State.{State}
@@ -288,6 +289,18 @@ second_load s p begun = record {
   shared = tt;
   own = λ x there idle. absurd (begun (ap (λ (z : Part). z.place) (seat_kept s p x there) ∙ idle));
 }
+
+-- a pin of the flush seat needs no room
+pin_room : (x : SeatState) → x.flushes ≡ true → HasBeginRoom x
+pin_room x is =
+    let four : lasting x.flushes 4 ≡ lasting true 4 = ap (λ b. lasting b 4) is in
+    let single : lasting x.flushes 1 ≡ lasting true 1 = ap (λ b. lasting b 1) is in
+    let over = x.over_room in
+    let block = x.block_room in
+    record { over = omega (arith, single, over); block = omega (arith, four, block); log = omega (arith, single) }
+
+pub pin_serves : (s : State) (p : ℕ) → is_flusher p ≡ true → HasRoom s p (kind.LoadTail purpose.Begin)
+pin_serves s p is = record { shared = tt; own = λ x there _. pin_room x (s.numbered p x there ∙ is) }
 
 -- a range of a block with a row for each claim at most needs no room
 pub small_draw : (s : State) (p size : ℕ) → ((x : SeatState) → slice_get s.seats.items p ≡ Some x → size ≤ 5 + 17 * vec_len x.current.writes) → HasRoom s p (kind.AddTail size)

@@ -1,5 +1,5 @@
 -- What a step leaves of the room of objects.
-use Rattle.std.proofs.Common.{◌≡◌, ◌≢◌, ℕ, ◌+◌, ◌-◌, ◌<◌, ◌≤◌, min, ⊎_elim, Bool, true, false, cond, eqb, List, [], ◌∷◌, ◌++◌, set, map, drop, take, length, get_or, slice_get, Option, Some, None, refl, sym, ap, ◌∙◌, subst, arith, vec_len, vec_capacity, length-append}
+use Rattle.std.proofs.Common.{◌≡◌, ℕ, ◌+◌, ◌<◌, ◌≤◌, ⊎_elim, Bool, cond, List, [], ◌∷◌, set, length, get_or, slice_get, Option, Some, None, refl, sym, ap, ◌∙◌, subst, arith, vec_capacity, length-append}
 use Rattle.std.proofs.lemmas.List.{length-set}
 use Rattle.std.proofs.lemmas.Bool.{cases_eq, eq-eqb}
 use Rattle.std.proofs.lemmas.Option.{same_Some}
@@ -12,7 +12,6 @@ use Rattle.erm_machine.specs.Step.{installed}
 use Rattle.erm_kept.specs.declared.object.ObjectState.{ObjectState}
 use Rattle.erm_kept.specs.Objects.{object_of, object_after}
 use Rattle.erm_seat.specs.Kinds.{object_in}
-use Rattle.erm_core.specs.Kinds.{ChangesObject}
 use Rattle.erm_core.specs.Seats.{versions_in, CutsNot, ObjectLeaves, ObjectsLeave}
 use Rattle.erm_core.proofs.Seats.{get_set_same, get_set_other, found_there}
 

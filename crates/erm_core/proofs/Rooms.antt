@@ -1,5 +1,5 @@
 -- Room: what a change needs, what a step leaves, and which steps the room of a call serves.
-use Rattle.std.proofs.Common.{◌≡◌, ◌≢◌, ℕ, ◌+◌, ◌-◌, ◌*◌, ◌<◌, ◌≤◌, min, Bool, true, false, List, map, set, get_or, drop, take, length, Some, refl, sym, ap, ◌∙◌, subst, arith, slice_get}
+use Rattle.std.proofs.Common.{◌≡◌, ℕ, ◌+◌, ◌<◌, ◌≤◌, Bool, false, List, set, get_or, drop, take, length, Some, refl, sym, ap, ◌∙◌, subst, arith, slice_get}
 use Rattle.std.specs.Prelude.{vec_len, vec_capacity, Result, Ok, Err, OnOk}
 use Rattle.std.proofs.lemmas.List.{get_or-map, length-drop, length-map, length-set, length-take}
 use Rattle.std.proofs.lemmas.Option.{slice_get_within, get_or_from_slice_get, same_Some}
@@ -27,7 +27,7 @@ use Rattle.erm_core.specs.declared.need.Need.{Need}
 use Rattle.erm_core.specs.declared.need.Need.TheVariants as need
 use Rattle.erm_core.specs.declared.state.State.{State}
 use Rattle.erm_core.specs.Cores.{core_of, shared_of, objects_of}
-use Rattle.erm_core.specs.Rooms.{ranges_in, cells_of_need, HasSharedRoom, HasChangeRoom, HasVersionRoom, HasRoom, HasCallRoom, HasNeedRoom, HasPromiseRoom, PromisesFor, SharedHasNeedRoom, IsOfBegin, IsOfMake, IsOfCall, IsOfNone, LeavesRoom, DrawsIn, SeatHasRoom}
+use Rattle.erm_core.specs.Rooms.{ranges_in, cells_of_need, HasSharedRoom, HasChangeRoom, HasVersionRoom, HasRoom, HasCallRoom, HasNeedRoom, HasPromiseRoom, PromisesFor, SharedHasNeedRoom, IsOfBegin, IsOfMake, IsOfCall, IsOfNone, LeavesRoom}
 use Rattle.erm_core.specs.Seats.{promise, promised_in, SeatsLeave, ObjectsLeave}
 use Rattle.erm_seat.specs.Needs.{one}
 use Rattle.erm_core.proofs.Installs.{Owned, installs_owned}

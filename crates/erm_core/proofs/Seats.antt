@@ -1,6 +1,6 @@
 -- The lists of seats and of objects with one changed, and what a step leaves of their room.
-use Rattle.std.proofs.Common.{◌≡◌, ◌≢◌, ℕ, zero, suc, ◌+◌, ◌-◌, ◌*◌, ◌<◌, ◌≤◌, ⊎_elim, Bool, true, false, cond, eqb, List, [], ◌∷◌, ◌++◌, set, map, drop, take, length, get_or, slice_get, Option, Some, None, refl, sym, ap, ◌∙◌, subst, arith}
-use Rattle.std.specs.Prelude.{if◌then◌else◌, sum_by}
+use Rattle.std.proofs.Common.{◌≡◌, ◌≢◌, ℕ, suc, ◌+◌, ◌<◌, ◌≤◌, ⊎_elim, Bool, true, false, List, [], ◌∷◌, set, map, length, get_or, slice_get, Some, refl, sym, ap, ◌∙◌, subst, arith}
+use Rattle.std.specs.Prelude.{if◌then◌else◌}
 use Rattle.std.proofs.lemmas.Bool.{cases_lt, cases_eq}
 use Rattle.std.proofs.lemmas.List.{get_or-set_same, get_or-set_other, get_or-map, length-set}
 use Rattle.std.proofs.lemmas.List.Sums.{sum_by-set, sum_by-cons}
@@ -11,7 +11,7 @@ use Rattle.erm_machine.specs.declared.limits.TheConstants.{ANNOUNCERS}
 use Rattle.erm_machine.specs.Words.{is_flusher}
 use Rattle.erm_seat.specs.declared.seat.SeatState.{SeatState}
 use Rattle.erm_seat.specs.Needs.{one}
-use Rattle.erm_seat.specs.Rooms.{no_growth, growth_in, GoesOn, MayDraw, Leaves}
+use Rattle.erm_seat.specs.Rooms.{no_growth, GoesOn, MayDraw, Leaves}
 use Rattle.erm_seat.proofs.Rooms.{stays}
 use Rattle.erm_core.specs.Cores.{AreNew}
 use Rattle.erm_core.specs.Rooms.{ranges_in}

@@ -1,5 +1,5 @@
 -- Room that steps need, so that they take no memory, and room that is made once for a call of several steps.
-use Rattle.std.specs.Prelude.{◌≡◌, ◌≢◌, ℕ, ◌+◌, ◌*◌, ◌^◌, ◌<◌, ◌≤◌, false, Some, length, slice_get, vec_len, vec_capacity}
+use Rattle.std.specs.Prelude.{◌≡◌, ◌≢◌, ℕ, ◌+◌, ◌^◌, ◌<◌, ◌≤◌, false, Some, length, slice_get, vec_len, vec_capacity}
 use Rattle.erm_machine.specs.declared.event.Counter.{Counter}
 use Rattle.erm_machine.specs.declared.event.Counter.TheVariants as counter
 use Rattle.erm_machine.specs.declared.event.Kind.{Kind}

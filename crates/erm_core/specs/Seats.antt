@@ -7,7 +7,7 @@ use Rattle.erm_machine.specs.Words.{is_flusher}
 use Rattle.erm_kept.specs.declared.object.ObjectState.{ObjectState}
 use Rattle.erm_seat.specs.declared.seat.SeatState.{SeatState}
 use Rattle.erm_seat.specs.Needs.{one}
-use Rattle.erm_seat.specs.Rooms.{no_growth, GoesOn, Leaves}
+use Rattle.erm_seat.specs.Rooms.{Leaves}
 
 -- 1 where the log keeps room for a range of the seat, else 0
 abbrev pub promise : SeatState → ℕ

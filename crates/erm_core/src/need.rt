@@ -2,7 +2,7 @@
 use erm_model::Oid;
 
 /// What a call of several steps needs room for.
-#[derive(Clone, Copy, Debug, PartialEq, Eq)]
+#[derive(Clone, Copy)]
 pub enum Need {
     /// A transaction: its begin, its seal with a block of a row for each claim, its settle and its end.
     Begin,

@@ -3,8 +3,9 @@ ghost use Rattle.erm_core.specs.Ready.{IsReady};
 
 use crate::driver::{Driver, Fault};
 use crate::flusher::flush;
+use crate::large::large;
 use crate::settling::settle;
-use crate::writer::{Writer, begin, seal, write};
+use crate::writer::{BLOCK, Writer, begin, seal, write};
 use erm_machine::OBJECT_LIMIT;
 use erm_model::{Oid, Seat};
 use std::alloc::Global;
@@ -23,6 +24,20 @@ pub fn run(alloc: Global, count: u64) -> Result<(u64, u64), Fault> {
             break;
         }
         round(alloc, &mut driver, number)?;
+    }
+    Ok((driver.events, driver.commits))
+}
+
+/// Runs rounds with one large transaction each until there are so many events: how many events there were, and how many versions
+/// were made.
+pub fn run_large(alloc: Global, count: u64) -> Result<(u64, u64), Fault> {
+    let mut driver = Driver::open(alloc, SESSIONS_AT_ONCE)?;
+    for number in 0..u32::MAX {
+        if driver.events >= count {
+            break;
+        }
+        large(alloc, &mut driver, number.saturating_add(1))?;
+        flush(&mut driver)?;
     }
     Ok((driver.events, driver.commits))
 }
@@ -77,7 +92,7 @@ fn seal_all(driver: &mut Driver, writers: &mut Vec<Writer>) -> Result<(), Fault>
     ensures { IsReady driver.new.state }
 {
     for writer in writers.iter_mut() {
-        *writer = seal(driver, *writer)?;
+        *writer = seal(driver, *writer, BLOCK)?;
     }
     Ok(())
 }

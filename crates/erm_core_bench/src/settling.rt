@@ -4,7 +4,7 @@ ghost use Rattle.erm_core.specs.Ready.{IsReady};
 
 use crate::driver::{Driver, Fault, RUN};
 use crate::writer::{BLOCK, Writer, owner_of, store};
-use erm_machine::{ANNOUNCERS, CellWord, Kind, VersionAt};
+use erm_machine::{ANNOUNCERS, CellWord, GREATEST_BLOCK, Kind, VersionAt};
 use erm_model::{COMMIT_KIND, RUN_UNIT, SIZE_UNIT, Seat};
 
 /// Settles the transaction, which commits, and ends it.
@@ -16,20 +16,30 @@ pub fn settle(driver: &mut Driver, writer: Writer) -> Result<(), Fault>
     settle_read(driver, writer, writer.second)?;
     settle_read(driver, writer, writer.first)?;
     settle_write(driver, writer)?;
-    for k in 1..BLOCK {
+    decide(driver, writer, BLOCK)?;
+    let reads = [writer.second, writer.first];
+    raise(driver, writer, &reads)?;
+    install(driver, writer)?;
+    leave(driver, writer, &reads)
+}
+
+/// Stores the block of so many words, and decides that the transaction commits.
+pub fn decide(driver: &mut Driver, writer: Writer, size: u64) -> Result<(), Fault>
+    requires { IsReady driver.old.state }
+    ensures { IsReady driver.new.state }
+{
+    for k in 1..size {
         let at = writer.stamp.saturating_add(k);
         driver.done(writer.seat, Kind::StoreRing { at, value: at })?;
     }
-    let header = COMMIT_KIND + BLOCK * SIZE_UNIT + RUN * RUN_UNIT;
+    let size = size.min(GREATEST_BLOCK);
+    let header = COMMIT_KIND + size * SIZE_UNIT + RUN * RUN_UNIT;
     let at = writer.stamp;
-    driver.done(writer.seat, Kind::Decide { at, header })?;
-    raise(driver, writer)?;
-    install(driver, writer)?;
-    leave(driver, writer)
+    driver.done(writer.seat, Kind::Decide { at, header })
 }
 
-// Settles a read: nobody with an earlier stamp overwrites it.
-fn settle_read(driver: &mut Driver, writer: Writer, version: VersionAt) -> Result<(), Fault>
+/// Settles a read: nobody with an earlier stamp overwrites it.
+pub fn settle_read(driver: &mut Driver, writer: Writer, version: VersionAt) -> Result<(), Fault>
     requires { IsReady driver.old.state }
     ensures { IsReady driver.new.state }
 {
@@ -55,8 +65,8 @@ fn look(driver: &mut Driver, writer: Writer, other: Seat, wanted: bool) -> Resul
     Ok(())
 }
 
-// Settles the write: looks at each reader of the version overwritten, and finds its stamps.
-fn settle_write(driver: &mut Driver, writer: Writer) -> Result<(), Fault>
+/// Settles the write: looks at each reader of the version overwritten, and finds its stamps.
+pub fn settle_write(driver: &mut Driver, writer: Writer) -> Result<(), Fault>
     requires { IsReady driver.old.state }
     ensures { IsReady driver.new.state }
 {
@@ -72,20 +82,21 @@ fn settle_write(driver: &mut Driver, writer: Writer) -> Result<(), Fault>
     Ok(())
 }
 
-// Raises the reader stamps of the versions read.
-fn raise(driver: &mut Driver, writer: Writer) -> Result<(), Fault>
+/// Raises the reader stamps of the versions read.
+pub fn raise(driver: &mut Driver, writer: Writer, reads: &[VersionAt]) -> Result<(), Fault>
     requires { IsReady driver.old.state }
     ensures { IsReady driver.new.state }
 {
     let value = writer.stamp;
-    for version in [writer.second, writer.first] {
+    for version in reads {
+        let version = *version;
         driver.done(writer.seat, Kind::RaiseReader { version, value })?;
     }
     Ok(())
 }
 
-// Installs the new version.
-fn install(driver: &mut Driver, writer: Writer) -> Result<(), Fault>
+/// Installs the new version.
+pub fn install(driver: &mut Driver, writer: Writer) -> Result<(), Fault>
     requires { IsReady driver.old.state }
     ensures { IsReady driver.new.state }
 {
@@ -110,12 +121,13 @@ fn install(driver: &mut Driver, writer: Writer) -> Result<(), Fault>
     Ok(())
 }
 
-// Clears the reader bits, the begin word and the state word.
-fn leave(driver: &mut Driver, writer: Writer) -> Result<(), Fault>
+/// Clears the reader bits, the begin word and the state word.
+pub fn leave(driver: &mut Driver, writer: Writer, reads: &[VersionAt]) -> Result<(), Fault>
     requires { IsReady driver.old.state }
     ensures { IsReady driver.new.state }
 {
-    for version in [writer.second, writer.first] {
+    for version in reads {
+        let version = *version;
         driver.done(writer.seat, Kind::ClearReader { version })?;
     }
     driver.done(writer.seat, Kind::StoreBegin { value: 0 })?;

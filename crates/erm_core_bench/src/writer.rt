@@ -17,6 +17,8 @@ pub struct Writer {
     /// The versions read, once they are.
     pub first: VersionAt,
     pub second: VersionAt,
+    /// Which of the transaction's claims is in hand.
+    pub claim: usize,
     /// The cell of the new version, once there is one.
     pub cell: u32,
     /// The commit stamp, once it is drawn.
@@ -42,6 +44,7 @@ pub fn begin(driver: &mut Driver, seat: Seat, first: Oid, second: Oid) -> Result
         begin,
         first: driver.version(first, 0),
         second: driver.version(second, 0),
+        claim: 0,
         cell: 0,
         stamp: 0,
     })
@@ -68,7 +71,7 @@ pub fn store(driver: &mut Driver, writer: Writer, word: CellWord, value: u64) ->
     ensures { IsReady driver.new.state }
 {
     let kind = Kind::StoreCell {
-        claim: 0,
+        claim: writer.claim,
         cell: writer.cell,
         word,
         value,
@@ -111,8 +114,8 @@ fn take_head(
     Ok((entry, version))
 }
 
-// Reads the newest version of an object, row and all.
-fn read(driver: &mut Driver, writer: Writer, oid: Oid) -> Result<VersionAt, Fault>
+/// Reads the newest version of an object, row and all.
+pub fn read(driver: &mut Driver, writer: Writer, oid: Oid) -> Result<VersionAt, Fault>
     requires { IsReady driver.old.state }
     ensures { IsReady driver.new.state }
 {
@@ -127,8 +130,8 @@ fn read(driver: &mut Driver, writer: Writer, oid: Oid) -> Result<VersionAt, Faul
     Ok(version)
 }
 
-// Claims the first object, and copies its row into a cell.
-fn claim(driver: &mut Driver, writer: Writer, number: u32) -> Result<u32, Fault>
+/// Claims the first object, and copies its row into a cell. The number is that of the transaction in its session.
+pub fn claim(driver: &mut Driver, writer: Writer, number: u32) -> Result<u32, Fault>
     requires { IsReady driver.old.state }
     ensures { IsReady driver.new.state }
 {
@@ -190,14 +193,14 @@ fn draw(driver: &mut Driver, seat: Seat) -> Result<u32, Fault>
     Ok((drawn % (1 << 32)) as u32)
 }
 
-/// Seals the transaction.
-pub fn seal(driver: &mut Driver, writer: Writer) -> Result<Writer, Fault>
+/// Seals the transaction with a block of so many words.
+pub fn seal(driver: &mut Driver, writer: Writer, size: u64) -> Result<Writer, Fault>
     requires { IsReady driver.old.state }
     ensures { IsReady driver.new.state }
 {
     let mut writer = writer;
     driver.done(writer.seat, Kind::StoreState { value: 1 })?;
-    writer.stamp = driver.word(writer.seat, Kind::AddTail { size: BLOCK })?;
+    writer.stamp = driver.word(writer.seat, Kind::AddTail { size })?;
     let value = writer.stamp;
     driver.done(writer.seat, Kind::StoreState { value })?;
     Ok(writer)

@@ -36,7 +36,7 @@ module _ (c : Core) (p : ℕ) (sound : Sound c) where
   pub bound_at : (t : Task) → (c.seats p).task ≡ t → IsBounded p (c.seats p).current t
   bound_at t at = subst (IsBounded p (c.seats p).current) at (sound.own p).bounds.bounded
 
-  named_at : (t : Task) → (c.seats p).task ≡ t → NamedInHand c.shared t
+  pub named_at : (t : Task) → (c.seats p).task ≡ t → NamedInHand c.shared t
   named_at t at = subst (NamedInHand c.shared) at (sound.own p).chains.named
 
   -- a look that finds another seat clear

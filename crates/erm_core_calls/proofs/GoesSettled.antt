@@ -41,7 +41,7 @@ header_fits t run few =
     and_from _ _ (and_from _ _ (eq-eqb _ _ parts.0) (eq-eqb _ _ parts.1)) (eq-eqb _ _ parts.2)
 
 -- a bit that is cleared was set
-fewer : (bits q : ℕ) → q < ANNOUNCERS → bit_at bits q ≡ 1 → without_bit bits q ≢ bits
+pub fewer : (bits q : ℕ) → q < ANNOUNCERS → bit_at bits q ≡ 1 → without_bit bits q ≢ bits
 fewer bits q low one = λ e. let zero = bit_cleared bits q (omega (arith, low)) in let same = ap (λ n. bit_at n q) e in absurd (omega (arith, zero, same, one))
 
 module _ (c : Core) (p : ℕ) (sound : Sound c) where

@@ -1,8 +1,8 @@
-//! The laws of calls of several steps: how far they may have come, and that they go on. Each law is the contract of a function
-//! that does nothing.
+//! The laws of calls of several steps: how far they may have come, that they go on, and that they end. Each law is the contract
+//! of a function that does nothing.
 #![tactic(auto)]
 
-ghost use Rattle.std.specs.Prelude.{◌≡◌, ◌⊎◌, ◌<◌, ℕ, Some, true};
+ghost use Rattle.std.specs.Prelude.{◌≡◌, ◌≢◌, ◌⊎◌, ◌<◌, ℕ, Some, true};
 ghost use Rattle.erm_machine.specs.declared.event.Kind.{Kind};
 ghost use Rattle.erm_machine.specs.declared.event.Kind.TheVariants as kind;
 ghost use Rattle.erm_machine.specs.declared.limits.TheConstants.{OBJECT_LIMIT};
@@ -12,6 +12,7 @@ ghost use Rattle.erm_machine.specs.Core.{Core};
 ghost use Rattle.erm_machine.specs.Sound.{Sound};
 ghost use Rattle.erm_machine.specs.Step.{after_event};
 ghost use Rattle.erm_machine.specs.Words.{is_session};
+ghost use Rattle.erm_core_calls.specs.Ending.{ComesNearer, GoesOnForEver};
 ghost use Rattle.erm_core_calls.specs.Going.{IsInCall, MayClaim, MayRegister, MayWrite, MovesOn, Registers, Claims, Waits, Written, next_kind};
 
 /// From a sound state each event of each seat leads to one in which each call has come to a version, a claim or a word that is
@@ -35,4 +36,16 @@ pub fn calls_go_on()
         → MovesOn c seat (kind.LoadEntry oid) }
     ensures registers { (c : Core) (seat : ℕ) → Sound c → MayRegister seat (c.seats seat) → Registers c seat }
     ensures claims { (c : Core) (seat : ℕ) → Sound c → (m : MayClaim seat (c.seats seat)) → Claims c seat m.version.oid m.entry }
+{}
+
+/// A call in progress comes to its end: its seat's next step, where it moves it on, leaves less ahead; an event of another seat
+/// leaves the seat's part as it was; so no seat takes next steps of its calls for ever without coming to a place between calls.
+/// A begin, a seal and each call of an active transaction end by themselves, and a settle goes on to the end of its
+/// transaction.
+pub fn calls_end()
+    ensures nearer { (b : Written) (c : Core) (seat : ℕ) → Sound c → IsInCall (c.seats seat).place (c.seats seat).task
+        → (m : MovesOn c seat (next_kind b (c.seats seat))) → ComesNearer c seat (next_kind b (c.seats seat)) m }
+    ensures kept { (c d : Core) (seat other : ℕ) (kind : Kind) → other ≢ seat → IsInCall (c.seats seat).place (c.seats seat).task
+        → after_event c other kind ≡ Some d → d.seats seat ≡ c.seats seat }
+    ensures ends { (seat : ℕ) (run : ℕ → Core) → GoesOnForEver seat run → ⊥ }
 {}

@@ -1,20 +1,40 @@
 -- Steps one after another, and what the view shows of them together.
-use Rattle.std.proofs.Common.{◌≡◌, ◌≢◌, ℕ, List, ◌∷◌, Option, Some, refl, ap, ◌∙◌}
+use Rattle.std.proofs.Common.{◌≡◌, ◌≢◌, ℕ, ⊎_elim, true, List, [], ◌∷◌, ◌++◌, Option, Some, None, refl, sym, ap, ◌∙◌, subst}
+use Rattle.std.proofs.lemmas.Bool.{cases_eq, cond-true}
+use Rattle.std.proofs.Math.Path.{fun_ext}
 use Rattle.erm_machine.specs.declared.event.Event.{Event}
 use Rattle.erm_machine.specs.declared.event.Kind.{Kind}
+use Rattle.erm_machine.specs.declared.event.Kind.TheVariants as kind
 use Rattle.erm_machine.specs.declared.part.Part.{Part}
 use Rattle.erm_machine.specs.Core.{Core, Shared, spot_of, word_at}
 use Rattle.erm_machine.specs.Lawful.{opening_rows}
-use Rattle.erm_machine.specs.Step.{after_event, run_from, step_to, told}
+use Rattle.erm_machine.specs.Step.{after_event, core_step, is_known, moved, part_after, run_from, shared_after, step_to, told}
 use Rattle.erm_machine.specs.Words.{put}
 use Rattle.erm_machine.proofs.Frames.{put_other, put_same}
 use Rattle.erm_world.specs.Calls.{Becomes}
-use Rattle.erm_world.specs.World.{Opening, Session}
+use Rattle.erm_world.specs.World.{Opening, Session, View}
+use Rattle.erm_core_view.specs.Steps.{MeetsOne}
 use Rattle.erm_core_view.specs.Views.{session_of, view_of}
 
 -- the first event is taken, and the others follow
 pub taken : (c d : Core) (seat : ℕ) (k : Kind) (es : List Event) → after_event c seat k ≡ Some d → run_from c (record { seat = seat; kind = k } ∷ es) ≡ run_from d es
 taken c d seat k es e = ap (λ (o : Option Core). run_from (step_to c (told k (word_at c (spot_of seat k))) o).1 es) e
+
+-- three events of a seat are taken
+pub three_taken : (c d e f : Core) (seat : ℕ) (j k l : Kind) → after_event c seat j ≡ Some d → after_event d seat k ≡ Some e → after_event e seat l ≡ Some f
+    → run_from c (record { seat = seat; kind = j } ∷ record { seat = seat; kind = k } ∷ record { seat = seat; kind = l } ∷ []) ≡ f
+three_taken c d e f seat j k l first second third =
+    let last : List Event = record { seat = seat; kind = l } ∷ [] in
+    taken c d seat j (record { seat = seat; kind = k } ∷ last) first ∙ taken d e seat k last second ∙ taken e f seat l [] third
+
+-- a step whose guard is met
+pub goes : (c : Core) (seat : ℕ) (k : Kind) (y : Part) → MeetsOne k → is_known k ≡ true → part_after seat k (word_at c (spot_of seat k)) c.shared (c.seats seat) ≡ Some y
+    → after_event c seat k ≡ Some (record { shared = shared_after seat k (word_at c (spot_of seat k)) (c.seats seat) c.shared; seats = put c.seats seat y })
+goes c seat (kind.Split other) y one known e = absurd one
+goes c seat (kind.Join other) y one known e = absurd one
+goes c seat k y one known e =
+    cond-true (is_known k) (moved seat k (word_at c (spot_of seat k)) c (part_after seat k (word_at c (spot_of seat k)) c.shared (c.seats seat))) None known
+    ∙ ap (λ (o : Option Part). moved seat k (word_at c (spot_of seat k)) c o) e
 
 -- a seat's own steps, which change its part alone
 pub record Alone (seat : ℕ) (c : Core) (y : Part) (d : Core) : Type 0 where
@@ -43,3 +63,37 @@ alone_shows sessions seat c y d s alone is = record {
   where
     opening_from : ℕ → Shared → Opening
     opening_from sessions shared = record { rows = opening_rows shared; tail = shared.opening; first = shared.first; cells = shared.cell_limit; sessions = sessions }
+
+-- a session that becomes one twice
+pub becomes_then : (v : View) (seat : ℕ) (s : Session) (t : View) (r : Session) (u : View) → Becomes v seat s t → Becomes t seat r u → Becomes v seat r u
+becomes_then v seat s t r u first second = record {
+  own = second.own;
+  others = λ q other. second.others q other ∙ first.others q other;
+  opening = second.opening ∙ first.opening;
+  tail = second.tail ∙ first.tail;
+  flushed = second.flushed ∙ first.flushed;
+}
+
+-- it still is what it was
+pub becomes_same : (sessions seat : ℕ) (c d e : Core) → Becomes (view_of sessions c) seat (session_of (c.seats seat)) (view_of sessions d)
+    → Becomes (view_of sessions d) seat (session_of (d.seats seat)) (view_of sessions e) → Becomes (view_of sessions c) seat (session_of (c.seats seat)) (view_of sessions e)
+becomes_same sessions seat c d e first second =
+    subst (λ (s : Session). Becomes (view_of sessions c) seat s (view_of sessions e)) first.own
+    (becomes_then (view_of sessions c) seat (session_of (c.seats seat)) (view_of sessions d) (session_of (d.seats seat)) (view_of sessions e) first second)
+
+-- a world whose session becomes what it was is the same
+same_fields : (o p : Opening) (s r : ℕ → Session) (tail end flushed synced : ℕ) → o ≡ p → s ≡ r → tail ≡ end → flushed ≡ synced
+    → ◌≡◌ {A = View} (record { opening = o; session = s; tail = tail; flushed = flushed }) (record { opening = p; session = r; tail = end; flushed = synced })
+same_fields o p s r tail end flushed synced a b c d = cc
+
+pub same_view : (v : View) (seat : ℕ) (t : View) → Becomes v seat (v.session seat) t → t ≡ v
+same_view v seat t becomes =
+    let sessions : t.session ≡ v.session = fun_ext (λ q.
+    ⊎_elim (λ (same : q ≡ seat). subst (λ (n : ℕ). t.session n ≡ v.session n) (sym same) becomes.own)
+    (λ (other : q ≡ seat → ⊥). becomes.others q other) (cases_eq q seat)) in
+    same_fields t.opening v.opening t.session v.session t.tail v.tail t.flushed v.flushed becomes.opening sessions becomes.tail becomes.flushed
+
+-- events behind others
+pub run_append : (es fs : List Event) (c : Core) → run_from c (es ++ fs) ≡ run_from (run_from c es) fs
+run_append [] fs c = refl
+run_append (e ∷ es) fs c = run_append es fs (core_step c e).1

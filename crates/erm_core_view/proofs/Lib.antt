@@ -1,12 +1,16 @@
+pub mod Aborts
+pub mod Begun
 pub mod Calm
 pub mod Chained
 pub mod Claimed
 pub mod Commits
+pub mod Ends
 pub mod Lives
 pub mod Made
 pub mod Moved
 pub mod Parts
 pub mod Rows
+pub mod Seals
 pub mod Serial
 pub mod Shown
 pub mod Words

@@ -15,6 +15,8 @@ use Rattle.erm_machine.proofs.Frames.{put_other, put_same}
 use Rattle.erm_machine.proofs.OpeningRows.{HasVersion, first_stays, installs_version, rows_stay}
 use Rattle.erm_machine.proofs.QuietKinds.{Moves, moves}
 use Rattle.erm_machine.proofs.QuietKinds as quiet
+use Rattle.erm_world.specs.Calls.{Becomes}
+use Rattle.erm_world.specs.World.{Session}
 use Rattle.erm_core_view.specs.Steps.{ChangesOne, IsCalm, IsEnding, MeetsOne, drawn_by, flushed_by}
 use Rattle.erm_core_view.specs.Views.{session_of, view_of}
 use Rattle.erm_core_view.proofs.Calm.{calm_kind, install_same}
@@ -104,3 +106,17 @@ pub end_shows : (p oid head : ℕ) (c d : Core) → IsEnding (c.seats p).task �
 end_shows p oid head c d ending e =
     let m = moves c p (kind.Install oid head) d tt e in
     ap session_of (own_after c p (kind.Install oid head) d m) ∙ (install_same oid head (c.seats p) (c.seats p).task m.part ending m.after).same
+
+-- a step that moves neither the end of the log nor the place flushed changes one session
+pub one_becomes : (sessions p : ℕ) (c d : Core) (k : Kind) (s : Session) → HasVersion k c.shared → MeetsOne k → drawn_by k ≡ 0 → flushed_by k c.shared.flushed ≡ c.shared.flushed
+    → after_event c p k ≡ Some d → session_of (d.seats p) ≡ s → Becomes (view_of sessions c) p s (view_of sessions d)
+one_becomes sessions p c d k s has one none still e shows =
+    let changes = moved_one sessions p c d k has (moves c p k d (meets_one k one) e) in
+    let tail = changes.tail in
+    record {
+      own = shows;
+      others = changes.others;
+      opening = changes.opening;
+      tail = omega (arith, tail, none);
+      flushed = changes.flushed ∙ still;
+    }

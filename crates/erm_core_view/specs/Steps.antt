@@ -1,6 +1,9 @@
 -- What a step of a seat shows in the view.
-use Rattle.std.specs.Prelude.{◌≡◌, ◌≢◌, ℕ, ◌+◌, ◌<◌, true, List, [], ◌∷◌, length, slice_set}
+use Rattle.std.specs.Prelude.{◌≡◌, ◌≢◌, ℕ, ◌+◌, ◌<◌, true, List, [], ◌∷◌, ◌++◌, length, slice_set}
 use Rattle.erm_model.specs.declared.history.VersionWritten.{VersionWritten}
+use Rattle.erm_machine.specs.declared.attempt.Attempt.{Attempt}
+use Rattle.erm_machine.specs.declared.attempt.Claim.{Claim}
+use Rattle.erm_machine.specs.declared.attempt.Read.{Read}
 use Rattle.erm_machine.specs.declared.event.Counter.TheVariants.{Objects}
 use Rattle.erm_machine.specs.declared.event.Event.{Event}
 use Rattle.erm_machine.specs.declared.event.Kind.{Kind}
@@ -85,3 +88,29 @@ abbrev pub stores_from : (seat place cell k : ℕ) → List ℕ → List Event
 stores_from seat place cell k [] = []
 stores_from seat place cell k (value ∷ values) =
     record { seat = seat; kind = kind.StoreCell place cell (word.Row k) value } ∷ stores_from seat place cell (k + 1) values
+
+-- the steps of a session's begin at this tail
+abbrev pub begin_steps : (seat tail : ℕ) → List Event
+begin_steps seat tail =
+    record { seat = seat; kind = kind.LoadTail purpose.Begin } ∷ record { seat = seat; kind = kind.StoreBegin tail }
+    ∷ record { seat = seat; kind = kind.LoadTail purpose.Begin } ∷ []
+
+-- the steps of a seal that draws a range of this size at this tail
+abbrev pub seal_steps : (seat size tail : ℕ) → List Event
+seal_steps seat size tail =
+    record { seat = seat; kind = kind.StoreState 1 } ∷ record { seat = seat; kind = kind.AddTail size }
+    ∷ record { seat = seat; kind = kind.StoreState tail } ∷ []
+
+-- the steps that release claims: each entry is stored with its old head
+abbrev pub release_steps : ℕ → List Claim → List Event
+release_steps seat [] = []
+release_steps seat (w ∷ ws) = record { seat = seat; kind = kind.Install w.version.oid w.version.cell } ∷ release_steps seat ws
+
+-- the steps that clear the own bits of the versions read
+abbrev pub clear_steps : ℕ → List Read → List Event
+clear_steps seat [] = []
+clear_steps seat (r ∷ rs) = record { seat = seat; kind = kind.ClearReader r.version } ∷ clear_steps seat rs
+
+-- the steps of an abort, of which none is taken yet
+abbrev pub end_steps : ℕ → Attempt → List Event
+end_steps seat t = release_steps seat t.writes ++ (clear_steps seat t.reads ++ record { seat = seat; kind = kind.StoreBegin 0 } ∷ [])

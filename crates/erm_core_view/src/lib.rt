@@ -2,12 +2,14 @@
 //! contract of a function that does nothing.
 #![tactic(auto)]
 
-ghost use Rattle.std.specs.Prelude.{◌≡◌, ◌<◌, ℕ, true, false, List, length, map, slice_set, Option, Some};
+ghost use Rattle.std.specs.Prelude.{◌≡◌, ◌<◌, ◌≤◌, ℕ, true, false, List, length, map, slice_set, take, Option, Some};
 ghost use Rattle.erm_model.specs.declared.TheConstants.{ROW_WORDS};
+ghost use Rattle.erm_model.specs.declared.limits.TheConstants.{LAST_NUMBER, STOP};
 ghost use Rattle.erm_machine.specs.declared.event.Counter.TheVariants.{Objects};
 ghost use Rattle.erm_machine.specs.declared.event.Kind.{Kind};
 ghost use Rattle.erm_machine.specs.declared.event.Kind.TheVariants as kind;
 ghost use Rattle.erm_machine.specs.declared.limits.TheConstants.{OBJECT_LIMIT};
+ghost use Rattle.erm_machine.specs.declared.place.Place.TheVariants.{Active, Idle, Sealed};
 ghost use Rattle.erm_machine.specs.declared.task.Task.TheVariants as task;
 ghost use Rattle.erm_machine.specs.declared.version.CellWord.{CellWord};
 ghost use Rattle.erm_machine.specs.declared.version.CellWord.TheVariants as word;
@@ -15,15 +17,17 @@ ghost use Rattle.erm_machine.specs.declared.version.VersionAt.{VersionAt};
 ghost use Rattle.erm_machine.specs.Core.{Core, claim_at, version_at};
 ghost use Rattle.erm_machine.specs.Decided.{written_of};
 ghost use Rattle.erm_machine.specs.Decided as machine;
-ghost use Rattle.erm_machine.specs.Seat.{is_active};
+ghost use Rattle.erm_machine.specs.Seat.{end_of, is_active, may_start};
 ghost use Rattle.erm_machine.specs.Sound.{Sound, SoundUnder};
 ghost use Rattle.erm_machine.specs.Step.{after_event, run_from};
-ghost use Rattle.erm_world.specs.Calls.{Works};
+ghost use Rattle.erm_machine.specs.Words.{begin_of, is_flusher};
+ghost use Rattle.erm_world.specs.declared.stops.BeginStop.TheVariants as stop;
+ghost use Rattle.erm_world.specs.Calls.{DidBegin, DidSeal, IsDone, MayNotBegin, Works};
 ghost use Rattle.erm_world.specs.Laws.{IsSerializable};
 ghost use Rattle.erm_world.specs.Works.{claiming, making, reading, setting};
 ghost use Rattle.erm_world.specs.World.{work_at};
 ghost use Rattle.erm_world.specs.World as world;
-ghost use Rattle.erm_core_view.specs.Steps.{ChangesOne, IsCalm, IsEnding, IsWriting, MayWrite, MeetsOne, RestsAt, stores_from, with_word};
+ghost use Rattle.erm_core_view.specs.Steps.{ChangesOne, IsCalm, IsEnding, IsWriting, MayWrite, MeetsOne, RestsAt, begin_steps, end_steps, seal_steps, stores_from, with_word};
 ghost use Rattle.erm_core_view.specs.Views.{IsQuiet, session_of, view_of, work_of};
 
 use erm_model::RowLaw;
@@ -119,4 +123,52 @@ pub fn writes_show_the_row()
         (view_of sessions (run_from c (stores_from seat place cell 0 row))) }
     ensures rests { (seat place cell : ℕ) (row : List ℕ) (c : Core) → MayWrite (c.seats seat) place cell → length row ≡ ROW_WORDS
         → RestsAt seat (c.seats seat).place (run_from c (stores_from seat place cell 0 row)) }
+{}
+
+/// A begin of an idle session that has a number left. Where the log's end is below the last place at which transactions begin, its
+/// three steps begin the session's next transaction there; else the first step is refused, and the world is as it was.
+pub fn begins_show()
+    ensures begins { (sessions seat : ℕ) (c : Core) → Sound c → is_flusher seat ≡ false → (c.seats seat).place ≡ Idle
+        → length (c.seats seat).over < LAST_NUMBER → c.shared.tail < STOP
+        → DidBegin (view_of sessions c) seat c.shared.tail (view_of sessions (run_from c (begin_steps seat c.shared.tail))) }
+    ensures rests { (seat : ℕ) (c : Core) → Sound c → is_flusher seat ≡ false → (c.seats seat).place ≡ Idle
+        → length (c.seats seat).over < LAST_NUMBER → c.shared.tail < STOP
+        → RestsAt seat (Active c.shared.tail) (run_from c (begin_steps seat c.shared.tail)) }
+    ensures refused { (sessions seat : ℕ) (c : Core) → Sound c → is_flusher seat ≡ false → (c.seats seat).place ≡ Idle
+        → length (c.seats seat).over < LAST_NUMBER → STOP ≤ c.shared.tail
+        → MayNotBegin (view_of sessions c) seat (stop.LogEnd c.shared.tail) (view_of sessions (run_from c (take 1 (begin_steps seat c.shared.tail)))) }
+    ensures idle { (seat : ℕ) (c : Core) → Sound c → is_flusher seat ≡ false → (c.seats seat).place ≡ Idle
+        → length (c.seats seat).over < LAST_NUMBER → STOP ≤ c.shared.tail
+        → RestsAt seat Idle (run_from c (take 1 (begin_steps seat c.shared.tail))) }
+{}
+
+/// A seal of an active session where a call may start: its three steps draw a range of its block's size at the log's end, which is
+/// its commit stamp.
+pub fn seals_show()
+    ensures seals { (sessions seat : ℕ) (c : Core) → Sound c → is_flusher seat ≡ false → is_active (c.seats seat).place ≡ true
+        → may_start (c.seats seat).task ≡ true
+        → DidSeal (view_of sessions c) seat c.shared.tail
+        (view_of sessions (run_from c (seal_steps seat (world.size_of (work_at (view_of sessions c) seat)) c.shared.tail))) }
+    ensures rests { (seat : ℕ) (c : Core) → Sound c → is_flusher seat ≡ false → is_active (c.seats seat).place ≡ true
+        → may_start (c.seats seat).task ≡ true
+        → RestsAt seat (Sealed (begin_of (c.seats seat).place) c.shared.tail)
+        (run_from c (seal_steps seat (world.size_of (work_of (c.seats seat).current)) c.shared.tail)) }
+    ensures sized { (seat : ℕ) (c : Core) → Sound c → is_flusher seat ≡ false → is_active (c.seats seat).place ≡ true
+        → may_start (c.seats seat).task ≡ true
+        → let d = run_from c (seal_steps seat (world.size_of (work_of (c.seats seat).current)) c.shared.tail) in
+        (d.seats seat).current.size ≡ world.size_of (work_of (d.seats seat).current) }
+{
+    erm_record::stored_words_tell_the_row();
+}
+
+/// An abort of an active session: after it has released its claims with their old heads, cleared its reader bits and its begin word,
+/// in this order, the transaction is over and left nothing.
+pub fn ends_show()
+    ensures aborts { (sessions seat : ℕ) (c : Core) → Sound c → is_flusher seat ≡ false → is_active (c.seats seat).place ≡ true
+        → end_of (c.seats seat).task ≡ Some (0, 0, 0, 0)
+        → IsDone (view_of sessions c) seat (work_at (view_of sessions c) seat) world.aborts
+        (view_of sessions (run_from c (end_steps seat (c.seats seat).current))) }
+    ensures rests { (seat : ℕ) (c : Core) → Sound c → is_flusher seat ≡ false → is_active (c.seats seat).place ≡ true
+        → end_of (c.seats seat).task ≡ Some (0, 0, 0, 0)
+        → RestsAt seat Idle (run_from c (end_steps seat (c.seats seat).current)) }
 {}

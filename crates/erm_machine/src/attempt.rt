@@ -4,7 +4,7 @@ use erm_model::{Oid, Row, Stamp};
 use std::collections::LinkedList;
 
 /// How a transaction was decided.
-#[derive(Clone, Copy, Debug, PartialEq, Eq)]
+#[derive(Clone, Copy, Debug)]
 pub enum Decision {
     Undecided,
     Commit,
@@ -15,7 +15,7 @@ pub enum Decision {
 }
 
 /// A version that a transaction has read.
-#[derive(Clone, Copy, Debug, PartialEq, Eq)]
+#[derive(Clone, Copy)]
 pub struct Read {
     pub version: VersionAt,
     /// The stamp of the version.
@@ -24,14 +24,14 @@ pub struct Read {
 }
 
 /// A cell that is its seat's own, with its words.
-#[derive(Clone, Copy, Debug, PartialEq, Eq)]
+#[derive(Clone, Copy)]
 pub struct OwnCell {
     pub cell: u32,
     pub words: Cell,
 }
 
 /// An object that a transaction has claimed, by the version that it overwrites.
-#[derive(Clone, Copy, Debug, PartialEq, Eq)]
+#[derive(Clone, Copy)]
 pub struct Claim {
     pub version: VersionAt,
     /// The stamp of the version overwritten.
@@ -49,7 +49,7 @@ pub struct Claim {
 }
 
 /// A transaction as its seat keeps it, whether it commits, is excluded or aborts.
-#[derive(Debug, Drop)]
+#[derive(Drop)]
 pub struct Attempt {
     /// The transaction's number in its session, from 1.
     pub number: u32,

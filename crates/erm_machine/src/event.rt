@@ -3,7 +3,7 @@ use crate::version::{CellWord, VersionAt};
 use erm_model::{Oid, Seat, Stamp};
 
 /// What the tail is loaded for.
-#[derive(Clone, Copy, Debug, PartialEq, Eq)]
+#[derive(Clone, Copy)]
 pub enum TailUse {
     /// A begin, for its first or second load.
     Begin,
@@ -14,7 +14,7 @@ pub enum TailUse {
 }
 
 /// A counter.
-#[derive(Clone, Copy, Debug, PartialEq, Eq)]
+#[derive(Clone, Copy, PartialEq, Eq)]
 pub enum Counter {
     /// How many object numbers were drawn.
     Objects,
@@ -179,7 +179,7 @@ pub struct Event {
 }
 
 /// What a step answers.
-#[derive(Clone, Copy, Debug, PartialEq, Eq)]
+#[derive(Clone, Copy, Debug)]
 pub enum Answer {
     Done,
     /// The word that was found.

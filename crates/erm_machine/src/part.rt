@@ -4,7 +4,7 @@ use erm_model::Stamp;
 use std::collections::LinkedList;
 
 /// How far the flush seat has come in a flush turn or a checkpoint.
-#[derive(Clone, Copy, Debug, PartialEq, Eq)]
+#[derive(Clone, Copy)]
 pub enum Flushing {
     /// Between turns.
     Still,
@@ -49,7 +49,7 @@ pub enum Flushing {
 }
 
 /// What one seat alone changes. No value of it is made: programs keep the same in types of their own.
-#[derive(Debug, Drop)]
+#[derive(Drop)]
 pub struct Part {
     pub place: Place,
     pub task: Task,

@@ -2,7 +2,7 @@
 use erm_model::Stamp;
 
 /// Where a seat stands in the life of a transaction. The seat's begin word and state word follow from it.
-#[derive(Clone, Copy, Debug, PartialEq, Eq)]
+#[derive(Clone, Copy)]
 pub enum Place {
     /// Nobody has the seat.
     Vacant,

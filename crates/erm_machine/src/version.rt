@@ -2,7 +2,7 @@
 use erm_model::{Oid, Row, Seat, Stamp};
 
 /// A word of a cell.
-#[derive(Clone, Copy, Debug, PartialEq, Eq)]
+#[derive(Clone, Copy, PartialEq, Eq)]
 pub enum CellWord {
     /// The commit stamp of the version's creator, 0 for the opening's.
     Stamp,
@@ -21,7 +21,7 @@ pub enum CellWord {
 }
 
 /// The words of a cell.
-#[derive(Clone, Copy, Debug, PartialEq, Eq)]
+#[derive(Clone, Copy)]
 pub struct Cell {
     pub stamp: Stamp,
     pub link: u64,
@@ -33,14 +33,14 @@ pub struct Cell {
 }
 
 /// An installed version: the cell that holds it, or held it before it was cut off, and its words.
-#[derive(Clone, Copy, Debug, PartialEq, Eq)]
+#[derive(Clone, Copy)]
 pub struct Version {
     pub cell: u32,
     pub words: Cell,
 }
 
 /// The name of an installed version: its object, its place among all versions that the object ever had, and its cell.
-#[derive(Clone, Copy, Debug, PartialEq, Eq)]
+#[derive(Clone, Copy, Debug)]
 pub struct VersionAt {
     pub oid: Oid,
     pub place: usize,
@@ -48,7 +48,7 @@ pub struct VersionAt {
 }
 
 /// A range of the log, drawn by a seat.
-#[derive(Clone, Copy, Debug, PartialEq, Eq)]
+#[derive(Clone, Copy)]
 pub struct Span {
     pub seat: Seat,
     pub start: Stamp,

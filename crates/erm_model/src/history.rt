@@ -3,7 +3,7 @@ use crate::{Oid, Row, Seat, Stamp};
 use std::collections::LinkedList;
 
 /// A version that a transaction read.
-#[derive(Debug, Drop)]
+#[derive(Drop)]
 pub struct VersionRead {
     pub oid: Oid,
     /// The commit stamp of the transaction that made the version, or 0 for the opening's.
@@ -12,7 +12,7 @@ pub struct VersionRead {
 }
 
 /// A version that a transaction made by overwriting another. A claimed object is written, also where its row stayed.
-#[derive(Debug, Drop)]
+#[derive(Drop)]
 pub struct VersionWritten {
     pub oid: Oid,
     /// The stamp of the version overwritten, or 0 for the opening's.
@@ -26,7 +26,7 @@ pub struct VersionWritten {
 }
 
 /// A committed transaction as the history has it.
-#[derive(Debug, Drop)]
+#[derive(Drop)]
 pub struct TransactionRecord {
     pub seat: Seat,
     /// The transaction's number in its session, from 1.
@@ -48,7 +48,7 @@ pub struct TransactionRecord {
 }
 
 /// A commit by its name and the stamps that place it in the serial order.
-#[derive(Clone, Copy, Debug, PartialEq, Eq)]
+#[derive(Clone, Copy)]
 pub struct Commit {
     pub seat: Seat,
     pub number: u32,

@@ -1,7 +1,7 @@
 //! Keys of the database map.
 
 /// A key of the database map: a table, from 0 to 15, and a key in it. Ordered by table, then by key.
-#[derive(Clone, Copy, Debug, PartialEq, Eq, Hash, PartialOrd, Ord)]
+#[derive(Clone, Copy, PartialEq, Eq, Hash, PartialOrd, Ord)]
 pub struct Key {
     pub table: u8,
     pub key: u64,

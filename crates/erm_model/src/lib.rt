@@ -13,8 +13,6 @@ mod outcome;
 mod row_stop;
 mod row_txn;
 mod run;
-#[cfg(test)]
-mod tests;
 mod value;
 
 pub use header::{COMMIT_KIND, RUN_UNIT, SIZE_UNIT, SKIP_KIND};

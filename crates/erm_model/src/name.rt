@@ -8,7 +8,7 @@ use std::marker::Model;
 pub const NAME_BYTES: usize = 8;
 
 /// The name of a session: at most eight bytes. Contracts see the list of its bytes.
-#[derive(Debug, Drop, PartialEq, Eq)]
+#[derive(Drop, PartialEq, Eq)]
 pub struct Name(ArrayVec<u8, NAME_BYTES>);
 
 impl Model for Name {

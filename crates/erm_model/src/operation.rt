@@ -2,7 +2,7 @@
 use crate::Value;
 
 /// An operation on the database map.
-#[derive(Debug, Drop, PartialEq, Eq)]
+#[derive(Drop)]
 pub enum Op {
     /// Reads the value of a key.
     Get { table: u8, key: u64 },
@@ -15,7 +15,7 @@ pub enum Op {
 }
 
 /// The answer to an operation.
-#[derive(Debug, Drop, PartialEq, Eq)]
+#[derive(Drop, PartialEq, Eq)]
 pub enum Reply {
     /// To a `Get`: the value, or none.
     Value(Option<Value>),

@@ -2,7 +2,7 @@
 use crate::Stamp;
 
 /// What a commit hands out.
-#[derive(Clone, Copy, Debug, PartialEq, Eq)]
+#[derive(Clone, Copy, PartialEq, Eq)]
 pub struct Receipt {
     /// The transaction's number in its session, from 1.
     pub number: u32,
@@ -17,7 +17,7 @@ pub struct Receipt {
 }
 
 /// How a sealed transaction was decided.
-#[derive(Clone, Copy, Debug, PartialEq, Eq)]
+#[derive(Clone, Copy, PartialEq, Eq)]
 pub enum Outcome {
     /// It committed.
     Committed(Receipt),
@@ -30,7 +30,7 @@ pub enum Outcome {
 }
 
 /// Where a session stands between two calls.
-#[derive(Clone, Copy, Debug, PartialEq, Eq)]
+#[derive(Clone, Copy)]
 pub enum Phase {
     /// It has no transaction.
     Idle,

@@ -3,7 +3,7 @@ use crate::{Seat, Stamp};
 
 /// A refusal. After `Owned`, `Newer` and `Excluded` the transaction has ended: it is aborted. After the others it goes
 /// on, what it reads and what it has written being as before.
-#[derive(Clone, Copy, Debug, PartialEq, Eq)]
+#[derive(Clone, Copy, PartialEq, Eq)]
 pub enum RowStop {
     /// To a read: the transaction of this seat owns the object and is sealing, which `seen` 1 says, or is sealed with
     /// the stamp `seen`, below the own begin. It may be asked again when that one is decided.

@@ -4,8 +4,6 @@
 mod laws;
 mod node;
 mod soundness;
-#[cfg(test)]
-mod tests;
 mod tree_map;
 
 pub use laws::{

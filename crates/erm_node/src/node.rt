@@ -28,7 +28,7 @@ const OIDS: usize = KEYS + NODE_PAIRS;
 
 /// A node of a tree. Its pairs ascend by key: in a leaf a key with its record, in an inner node the lower bound of the
 /// keys of a child with the child.
-#[derive(Debug, Drop, PartialEq, Eq)]
+#[derive(Drop, PartialEq, Eq)]
 pub struct Node {
     pub leaf: bool,
     pub pairs: ArrayVec<(u64, Oid), NODE_PAIRS>,

@@ -15,7 +15,7 @@ pub struct View {
 }
 
 /// What the table is told when it is made: where the log of this opening begins, and which run of the log it is.
-#[derive(Clone, Copy, Debug, PartialEq, Eq)]
+#[derive(Clone, Copy)]
 pub struct Opening {
     pub tail: Stamp,
     pub run: u64,

@@ -27,4 +27,3 @@ pub mod Bounds
 pub mod Operations
 pub mod Tables
 mod Ways
-pub mod Memory

@@ -6,4 +6,3 @@ pub mod Change
 pub mod Step
 pub mod Operations
 pub mod Tables
-pub mod Memory

@@ -6,8 +6,6 @@ mod insert;
 mod laws;
 mod plan;
 mod read;
-#[cfg(test)]
-mod tests;
 mod walk;
 
 pub use change::{del, put};

@@ -1,0 +1,14 @@
+//! Cases of the database map, rows of records, log blocks, nodes and trees, whose expected values come from outside: what no
+//! clause says. They stand apart, so that no crate is proved a second time with its tests.
+#![tactic(auto)]
+
+#[cfg(test)]
+mod block;
+#[cfg(test)]
+mod model;
+#[cfg(test)]
+mod node;
+#[cfg(test)]
+mod record;
+#[cfg(test)]
+mod tree;

@@ -1,0 +1,141 @@
+//! One small transaction, values at the edges of their length, and the limits as numbers.
+use erm_model::{
+    COMMIT_KIND, GREATEST_BLOCK, Key, LAST_NUMBER, LAST_RUN, LEAST_BLOCK, LOG_END, MOST_CELLS, Map,
+    OID_LIMIT, Op, READ_LIMIT, RING_WORDS, RUN_UNIT, Reply, SEGMENT_WORDS, SESSIONS, SIZE_UNIT,
+    SKIP_KIND, STOP, TABLE_CELLS, TABLES, VALUE_BYTES, Value, WRITE_LIMIT, run_one,
+};
+use std::test::Fail;
+
+const TABLE: u8 = 2;
+
+// What is asked of a key. What is put is a value of one byte.
+#[derive(Clone, Copy)]
+enum Ask {
+    Get,
+    Put(u8),
+    Del,
+    Next,
+}
+
+// What is asked, of which key, and the key and the byte that are found.
+type Line = (Ask, u64, Option<(u64, u8)>);
+
+const TRANSACTION: [Line; 11] = [
+    (Ask::Get, 7, Some((7, b's'))),
+    (Ask::Get, 8, None),
+    (Ask::Put(b'9'), 9, None),
+    (Ask::Put(b'7'), 7, None),
+    (Ask::Next, 7, Some((7, b'7'))),
+    (Ask::Next, 8, Some((9, b'9'))),
+    (Ask::Del, 7, None),
+    (Ask::Del, 7, None),
+    (Ask::Get, 7, None),
+    (Ask::Next, 0, Some((9, b'9'))),
+    (Ask::Next, 10, None),
+];
+
+// The keys that have a value at the end.
+const KEYS: [Key; 2] = [
+    Key {
+        table: TABLE,
+        key: 9,
+    },
+    Key {
+        table: TABLE + 1,
+        key: 0,
+    },
+];
+
+fn value(byte: u8) -> Value {
+    Value::new(&[byte]).unwrap()
+}
+
+fn op(ask: Ask, key: u64) -> Op {
+    match ask {
+        Ask::Get => Op::Get { table: TABLE, key },
+        Ask::Put(byte) => Op::Put {
+            table: TABLE,
+            key,
+            value: value(byte),
+        },
+        Ask::Del => Op::Del { table: TABLE, key },
+        Ask::Next => Op::Next {
+            table: TABLE,
+            from: key,
+        },
+    }
+}
+
+fn reply(ask: Ask, found: Option<(u64, u8)>) -> Reply {
+    match (ask, found) {
+        (Ask::Get, Some((_, byte))) => Reply::Value(Some(value(byte))),
+        (Ask::Get, None) => Reply::Value(None),
+        (Ask::Next, Some((key, byte))) => Reply::Pair(Some((key, value(byte)))),
+        (Ask::Next, None) => Reply::Pair(None),
+        _ => Reply::Done,
+    }
+}
+
+#[test]
+fn one_transaction(rt: HostRuntime) -> Result<(), Fail> {
+    let mut map = Map::new(rt.alloc());
+    assert!(rt; map.is_empty());
+    map.insert(TABLE, 7, value(b's'))?;
+    map.insert(TABLE + 1, 0, value(b'o'))?;
+    let mut ops = Vec::new(rt.alloc());
+    let mut wanted = Vec::new(rt.alloc());
+    for (ask, key, found) in TRANSACTION {
+        ops.push(op(ask, key))?;
+        wanted.push(reply(ask, found))?;
+    }
+    let replies = run_one(rt.alloc(), &mut map, ops.as_slice())?;
+    assert!(rt; replies == wanted);
+    assert!(rt; map.len() == KEYS.len());
+    for (pair, key) in map.pairs(rt.alloc())?.iter().zip(KEYS) {
+        assert!(rt; pair.key == key);
+    }
+    Ok(())
+}
+
+#[test]
+fn lengths_of_values(rt: HostRuntime) {
+    let bytes = [7; VALUE_BYTES + 1];
+    for (length, fits) in [(0, true), (112, true), (113, false)] {
+        let value = Value::new(&bytes[..length]);
+        assert!(rt; value.is_some() == fits);
+        if let Some(value) = value {
+            assert!(rt; value.as_slice() == &bytes[..length]);
+            assert!(rt; value.copied() == value);
+        }
+    }
+}
+
+// Each limit, and the numbers of a header, spelled out.
+const LIMITS: [(u64, u64); 19] = [
+    (OID_LIMIT as u64, 16_384),
+    (TABLES as u64, 16),
+    (SESSIONS as u64, 48),
+    (READ_LIMIT as u64, 512),
+    (WRITE_LIMIT as u64, 128),
+    (TABLE_CELLS as u64, 65_536),
+    (MOST_CELLS as u64, 1 << 24),
+    (RING_WORDS, 32_768),
+    (SEGMENT_WORDS, 65_536),
+    (LEAST_BLOCK, 5),
+    (GREATEST_BLOCK, 2_181),
+    (STOP, 1 << 60),
+    (LOG_END, 1 << 61),
+    (LAST_RUN, (1 << 44) - 1),
+    (LAST_NUMBER as u64, (1 << 32) - 1),
+    (SIZE_UNIT, 1 << 4),
+    (RUN_UNIT, 1 << 20),
+    (COMMIT_KIND, 4),
+    (SKIP_KIND, 5),
+];
+
+#[test]
+fn limits(rt: HostRuntime) {
+    for (limit, number) in LIMITS {
+        assert!(rt; limit == number);
+    }
+}
