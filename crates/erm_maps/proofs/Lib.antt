@@ -1,3 +1,4 @@
+pub mod Called
 pub mod Commits
 pub mod Histories
 pub mod Lawful

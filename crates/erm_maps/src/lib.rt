@@ -5,15 +5,19 @@
 #[cfg(test)]
 mod tests;
 
-ghost use Rattle.std.specs.Prelude.{ℕ};
+ghost use Rattle.std.specs.Prelude.{ℕ, List, [], ◌++◌};
 ghost use Rattle.erm_model.specs.History.{History, below, rank_of, rows_after};
+ghost use Rattle.erm_model.specs.RowTransaction.{SameLaw};
+ghost use Rattle.erm_model.specs.Run.{Step};
 ghost use Rattle.erm_model.specs.SerialOrder.{IsSerialOrder};
 ghost use Rattle.erm_node.specs.Sound.{sound_law};
 ghost use Rattle.erm_world.specs.Laws.{IsPossibleIn, IsSerializable};
-ghost use Rattle.erm_world.specs.World.{View, history_of};
-ghost use Rattle.erm_maps.specs.Runs.{AreRuns, RepliesAreSnapshots, RunsAsOperations, StandsBelow, Told};
+ghost use Rattle.erm_tree.specs.Operations.{AreCalled, Call, answered_steps};
+ghost use Rattle.erm_world.specs.World.{View, begun, history_of, work_at};
+ghost use Rattle.erm_maps.specs.Runs.{AreRuns, IsRunOf, RepliesAreSnapshots, RunsAsOperations, StandsBelow, Told};
 
-use erm_model::RowLaw;
+use erm_model::{RowLaw, RowRead};
+use erm_world::{RowWorld, WorldTxn};
 
 /// The rows that the commits below any stamp leave, run one after another in the serial order, meet the law of rows.
 pub fn rows_stay_lawful<L: RowLaw>()
@@ -51,3 +55,18 @@ pub fn histories_run_as_operations()
     erm_core_ssn::versions_are_unique();
     erm_core_ssn::prefixes_stand_alone();
 }
+
+/// The operations that tree calls of a session answer in turn, refused calls and calls that set no row among them, are the run of
+/// its transaction: so it keeps the law of sound rows, as a seal asks, and an answered operation is one of its run's.
+pub fn calls_are_runs<'a, W: RowWorld + 'a>()
+    ensures { SameLaw W.law sound_law → (s t : WorldTxn W) (calls : List Call) (before : List Step)
+        → IsRunOf (work_at (W.view s.world.now) s.seat) before → AreCalled ⟦<WorldTxn<'a, W> as RowRead>⟧.face s calls t
+        → IsRunOf (work_at (W.view t.world.now) t.seat) (before ++ answered_steps calls) }
+{
+    erm_tree::operations_are_run_one::<WorldTxn<'a, W>>();
+}
+
+/// A transaction that has done nothing is the run of no operations.
+pub fn begun_transactions_are_runs()
+    ensures { (number begin : ℕ) → IsRunOf (begun number begin) [] }
+{}
