@@ -1,1 +1,4 @@
+pub mod Aborts
 pub mod Quiet
+pub mod Taken
+pub mod Unseen

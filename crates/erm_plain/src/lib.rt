@@ -1,6 +1,8 @@
 //! The world in lists: sessions over the core machine, which takes one atomic step at a time.
 #![tactic(auto)]
 
+mod ends;
 mod plain;
+mod steps;
 
 pub use plain::Plain;

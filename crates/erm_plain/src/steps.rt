@@ -1,0 +1,46 @@
+//! Steps of a session that the machine takes.
+ghost use Rattle.std.specs.Prelude.{◌≡◌, Some};
+ghost use Rattle.erm_machine.specs.Core.{spot_of, word_at};
+ghost use Rattle.erm_machine.specs.Lawful.{DrawsLawfully};
+ghost use Rattle.erm_machine.specs.Sound.{SoundUnder};
+ghost use Rattle.erm_machine.specs.Step as step_specs;
+ghost use Rattle.erm_core.specs.Cores.{core_of};
+ghost use Rattle.erm_core.specs.Rooms.{HasRoom, LeavesRoom};
+ghost use Rattle.erm_plain.specs.Steps.{IsFree, IsTaken};
+
+use crate::Plain;
+use erm_machine::{Answer, Event, Kind};
+use erm_model::{RowLaw, Seat};
+
+impl<L: RowLaw> Plain<L> {
+    // Takes a step that has its room.
+    pub(crate) fn take(&mut self, seat: Seat, kind: Kind) -> Answer
+        requires sound { SoundUnder L.law (core_of self.old.state) }
+        requires room { HasRoom self.old.state seat kind }
+        requires lawful { DrawsLawfully L.law (core_of self.old.state) seat kind }
+        requires taken { IsTaken (core_of self.old.state) seat kind }
+        ensures sound { SoundUnder L.law (core_of self.new.state) }
+        ensures after { step_specs.after_event (core_of self.old.state) seat kind ≡ Some (core_of self.new.state) }
+        ensures answer { result ≡ step_specs.told kind (word_at (core_of self.old.state) (spot_of seat kind)) }
+        ensures sessions { self.new.sessions ≡ self.old.sessions }
+        ensures left { LeavesRoom self.old.state self.new.state seat kind }
+    {
+        erm_sound::events_keep_law::<L>();
+        self.state.step(Event { seat, kind })
+    }
+
+    // Takes a step that needs no room.
+    pub(crate) fn go(&mut self, seat: Seat, kind: Kind) -> Answer
+        requires sound { SoundUnder L.law (core_of self.old.state) }
+        requires free { IsFree kind }
+        requires taken { IsTaken (core_of self.old.state) seat kind }
+        ensures sound { SoundUnder L.law (core_of self.new.state) }
+        ensures after { step_specs.after_event (core_of self.old.state) seat kind ≡ Some (core_of self.new.state) }
+        ensures answer { result ≡ step_specs.told kind (word_at (core_of self.old.state) (spot_of seat kind)) }
+        ensures sessions { self.new.sessions ≡ self.old.sessions }
+        ensures left { LeavesRoom self.old.state self.new.state seat kind }
+    {
+        erm_core::rooms_serve();
+        self.take(seat, kind)
+    }
+}
