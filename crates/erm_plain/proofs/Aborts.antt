@@ -39,7 +39,7 @@ use Rattle.erm_plain.proofs.Unseen.{others_stay, unseen_both, unseen_step}
 use Rattle.erm_plain.proofs.Quiet.{active_seat, quiet_after}
 
 -- an active transaction isn't sealed
-unsealed : (pl : Place) (t : Attempt) → is_active pl ≡ true → IsCurrent pl t → IsUnsealed t
+pub unsealed : (pl : Place) (t : Attempt) → is_active pl ≡ true → IsCurrent pl t → IsUnsealed t
 unsealed (Active tail) t e cur = cur
 unsealed _ t e cur = absurd (cc)
 

@@ -1,4 +1,5 @@
 pub mod Aborts
+pub mod Numbers
 pub mod Quiet
 pub mod Taken
 pub mod Unseen

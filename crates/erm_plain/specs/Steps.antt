@@ -1,5 +1,7 @@
 -- Steps of a session, one after another: which are taken, and what they leave.
 use Rattle.std.specs.Prelude.{◌≡◌, ◌≢◌, ℕ, true, length, Some}
+use Rattle.erm_machine.specs.declared.event.Answer.{Answer}
+use Rattle.erm_machine.specs.declared.event.Answer.TheVariants as answer
 use Rattle.erm_machine.specs.declared.event.Kind.{Kind}
 use Rattle.erm_machine.specs.Core.{Core}
 use Rattle.erm_machine.specs.Seat.{end_of, is_active}
@@ -12,6 +14,12 @@ use Rattle.erm_core_view.specs.Views.{view_of}
 -- the seat's step of this kind is taken
 abbrev pub IsTaken : Core → ℕ → Kind → Type 0
 IsTaken c seat k = (d : Core) × (after_event c seat k ≡ Some d)
+
+-- the word that a step found, or 0 where its answer tells none
+abbrev pub found_in : Answer → ℕ
+found_in (answer.Word word) = word
+found_in answer.Done = 0
+found_in answer.Failed = 0
 
 -- a kind of step that needs no room, and meets one word
 pub record IsFree (k : Kind) : Type 0 where

@@ -2,6 +2,7 @@
 #![tactic(auto)]
 
 mod ends;
+mod makes;
 mod plain;
 mod steps;
 
