@@ -1,4 +1,5 @@
 pub mod Aborts
+pub mod Beginnings
 pub mod Numbers
 pub mod Quiet
 pub mod Taken
