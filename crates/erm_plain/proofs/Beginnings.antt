@@ -1,5 +1,5 @@
 -- A begin: the tail is loaded, announced, and loaded once more.
-use Rattle.std.proofs.Common.{◌≡◌, ◌≢◌, ℕ, ◌+◌, ◌<◌, ◌≤◌, Bool, true, false, ◌&&◌, not, cond, eqb, leb, List, length, map, Some, refl, sym, ap, ◌∙◌, subst, arith}
+use Rattle.std.proofs.Common.{◌≡◌, ◌≢◌, ℕ, ◌+◌, ◌<◌, ◌≤◌, Bool, true, false, ◌&&◌, not, leb, List, length, map, Some, refl, sym, ap, ◌∙◌, subst, arith}
 use Rattle.std.specs.Prelude.{if◌then◌else◌}
 use Rattle.std.proofs.lemmas.Bool.{and_from, cond-true, cond-false, eq-eqb, le-leb, lt-ltb, or_right}
 use Rattle.std.proofs.lemmas.List.{length-map}
@@ -24,10 +24,10 @@ use Rattle.erm_machine.specs.Words.{is_flusher, is_session, refuses}
 use Rattle.erm_core_calls.proofs.Moving.{met, stepped, taken}
 use Rattle.erm_core_view.specs.Views.{IsBetween, IsQuiet, finished_of, session_of, stand_of, view_of, work_of}
 use Rattle.erm_core_view.proofs.Moved.{changes_one}
-use Rattle.erm_world.specs.Calls.{DidBegin, MayNotBegin}
+use Rattle.erm_world.specs.Calls.{DidBegin}
 use Rattle.erm_world.specs.World.{Finished, IsSession, Opening, Session, Stand, View, Work, phase_at, phase_of}
 use Rattle.erm_world.specs.World as world
-use Rattle.erm_plain.specs.Steps.{IsTaken, IsUnseen}
+use Rattle.erm_plain.specs.Steps.{IsTaken}
 use Rattle.erm_plain.proofs.Aborts.{part_stepped, session_plain}
 use Rattle.erm_plain.proofs.Quiet.{quiet_after, session_of_few}
 use Rattle.erm_plain.proofs.Unseen.{others_stay, unseen_step}

@@ -5,6 +5,7 @@ mod begins;
 mod ends;
 mod makes;
 mod plain;
+mod seals;
 mod steps;
 
 pub use plain::Plain;

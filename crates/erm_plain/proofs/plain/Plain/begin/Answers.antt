@@ -1,21 +1,18 @@
-use Rattle.std.proofs.Common.{◌≡◌, ◌<◌, ◌≤◌, ℕ, length, Some, ap, refl, sym, subst, ◌∙◌, arith}
+use Rattle.std.proofs.Common.{◌≡◌, ◌<◌, ℕ, length, Some, ap, refl, sym, subst, ◌∙◌, arith}
 use Rattle.erm_machine.specs.declared.event.Kind.TheVariants as kind
 use Rattle.erm_machine.specs.declared.event.TailUse.TheVariants as purpose
 use Rattle.erm_machine.specs.declared.limits.TheConstants.{LAST_NUMBER, STOP}
 use Rattle.erm_machine.specs.declared.part.Part.{Part}
-use Rattle.erm_machine.specs.Core.{Core}
 use Rattle.erm_machine.specs.Step.{after_event}
 use Rattle.erm_model.specs.declared.outcome.Phase.TheVariants as phase
 use Rattle.erm_core.specs.declared.need.Need.TheVariants as need
 use Rattle.erm_core.specs.Cores.{core_of}
 use Rattle.erm_core_view.specs.Views.{IsQuiet, session_of, view_of}
-use Rattle.erm_world.specs.Calls.{DidBegin, MayNotBegin}
-use Rattle.erm_world.specs.declared.stops.BeginStop.TheVariants as begin
+use Rattle.erm_world.specs.Calls.{DidBegin}
 use Rattle.erm_world.specs.World.{IsSession, View, phase_at}
 use Rattle.erm_plain.specs.Stands.{plain_view}
 use Rattle.erm_plain.specs.Steps.{IsTaken, found_in}
-use Rattle.erm_plain.proofs.Beginnings.{announce_taken, announced_at, begin_done, begun_at, first_taken, idle_seat, is_announced, log_ends, not_idle, numbers_over, second_taken}
-use Rattle.erm_plain.proofs.Quiet.{session_of_few}
+use Rattle.erm_plain.proofs.Beginnings.{announce_taken, begin_done, begun_at, first_taken, idle_seat, is_announced, log_ends, not_idle, numbers_over, second_taken}
 use Rattle.erm_plain.proofs.plain.Plain.begin.Goals as goal
 
 pub number-requires : goal.number-requires

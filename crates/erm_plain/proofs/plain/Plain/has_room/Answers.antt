@@ -1,7 +1,6 @@
 use Rattle.std.proofs.Common.{sym, subst, ap}
 use Rattle.erm_machine.specs.Core.{Core}
 use Rattle.erm_machine.specs.Sound.{SoundUnder}
-use Rattle.erm_core.specs.Cores.{core_of}
 use Rattle.erm_core_view.specs.Views.{IsQuiet, view_of}
 use Rattle.erm_plain.proofs.plain.Plain.has_room.Goals as goal
 
