@@ -32,8 +32,8 @@ pub record IsUnseen (sessions seat : ℕ) (c d : Core) : Type 0 where
   pub others : (q : ℕ) → q ≢ seat → d.seats q ≡ c.seats q
   pub view : view_of sessions d ≡ view_of sessions c
 
--- A session's transaction that is active with so many claims and reads, of which so many claims are over and so many reader bits
--- cleared, for it is to end.
+-- A session's transaction is active, with so many claims and reads. It ends without a range, or may begin to: so many of its
+-- claims are over, and so many of its reader bits cleared.
 pub record IsEnding (seat claims reads ended cleared : ℕ) (c : Core) : Type 0 where
   pub session : is_session seat ≡ true
   pub active : is_active (c.seats seat).place ≡ true
@@ -41,13 +41,14 @@ pub record IsEnding (seat claims reads ended cleared : ℕ) (c : Core) : Type 0 
   pub all_claims : length (c.seats seat).current.writes ≡ claims
   pub all_reads : length (c.seats seat).current.reads ≡ reads
 
--- all claims are over; and all reader bits are cleared
+-- how many objects the seat's transaction has claimed, and how many versions it has read
 abbrev pub claims_in : Core → ℕ → ℕ
 claims_in c seat = length (c.seats seat).current.writes
 
 abbrev pub reads_in : Core → ℕ → ℕ
 reads_in c seat = length (c.seats seat).current.reads
 
+-- it may begin to end; all its claims are over; all its reader bits are cleared as well
 abbrev pub MayEnd : ℕ → Core → Type 0
 MayEnd seat c = IsEnding seat (claims_in c seat) (reads_in c seat) 0 0 c
 

@@ -26,7 +26,8 @@ impl<L: RowLaw> Plain<L> {
         }
     }
 
-    /// Begins a transaction: the begin stamp, which is the end of the log, in words.
+    /// Begins a transaction: the begin stamp, which is the end of the log, in words. It is refused where the session has had its
+    /// last number, 2^32 - 1, where the log's end is at or above 2^60, and where memory runs out; the view stays then.
     pub fn begin(&mut self, seat: Seat) -> Result<Stamp, BeginStop>
         requires stands { Stands L.law self.old }
         requires session { IsSession (plain_view self.old) seat }

@@ -13,7 +13,8 @@ use erm_machine::{Counter, Kind, OBJECT_LIMIT};
 use erm_model::{Oid, RowLaw, RowStop, Seat};
 
 impl<L: RowLaw> Plain<L> {
-    /// A new object, which nobody else gets.
+    /// A new object, which nobody else gets. It is refused where as many were drawn as there may be, and where memory runs out;
+    /// the view stays then.
     pub fn fresh(&mut self, seat: Seat) -> Result<Oid, RowStop>
         requires stands { Stands L.law self.old }
         requires session { IsSession (plain_view self.old) seat }
