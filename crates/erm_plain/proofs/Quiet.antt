@@ -3,6 +3,7 @@ use Rattle.std.proofs.Common.{◌≡◌, ◌≢◌, ℕ, ◌<◌, ◌≤◌, ⊎
 use Rattle.std.specs.Prelude.{if◌then◌else◌}
 use Rattle.std.proofs.lemmas.Bool.{and_from, and_parts, cases_eq, cases_lt, eqb-false, le-leb, leb-true, lt-ltb, ltb-true, ne_eqb, or_cases, or_left}
 use Rattle.erm_model.specs.declared.outcome.Phase.TheVariants as phase
+use Rattle.erm_model.specs.RowTransaction.{Law}
 use Rattle.erm_model.specs.Rows.{Rows}
 use Rattle.erm_machine.specs.declared.attempt.Attempt.{Attempt}
 use Rattle.erm_machine.specs.declared.limits.TheConstants.{FLUSH_SEAT, SESSIONS}
@@ -13,6 +14,7 @@ use Rattle.erm_machine.specs.declared.task.Task.{Task}
 use Rattle.erm_machine.specs.declared.task.Task.TheVariants as task
 use Rattle.erm_machine.specs.Core.{Core, is_taken, opening_state}
 use Rattle.erm_machine.specs.Seat.{is_active, may_start}
+use Rattle.erm_machine.specs.Sound.{Sound, SoundUnder}
 use Rattle.erm_machine.specs.Words.{is_flusher, is_session}
 use Rattle.erm_world.specs.World.{IsSession, phase_at, phase_of, size_of}
 use Rattle.erm_core_view.specs.Views.{IsBetween, IsQuiet, IsStill, stand_of, view_of, work_of}
@@ -51,6 +53,12 @@ opening_quiet sessions rows tail run first cells few = record {
   few = λ q low. few_flush sessions q few low;
   flushed = (omega arith, omega arith);
 }
+
+-- an opening's state may be called
+pub opened_stands : (law : Law) (sessions : ℕ) (c opened : Core) → c ≡ opened → (Sound opened → SoundUnder law opened) → IsQuiet sessions opened → Sound c
+    → SoundUnder law c × IsQuiet sessions c
+opened_stands law sessions c opened is lawful quiet sound =
+    (subst (SoundUnder law) (sym is) (lawful (subst Sound is sound)), subst (IsQuiet sessions) (sym is) quiet)
 
 -- each of the world's sessions is one of the machine's
 pub session_of_few : (sessions seat : ℕ) (c : Core) → IsQuiet sessions c → 0 < seat → seat ≤ sessions → is_session seat ≡ true
