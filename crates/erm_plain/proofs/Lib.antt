@@ -1,0 +1,7 @@
+pub mod Aborts
+pub mod Beginnings
+pub mod Numbers
+pub mod Quiet
+pub mod Stamps
+pub mod Taken
+pub mod Unseen

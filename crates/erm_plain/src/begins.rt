@@ -1,0 +1,54 @@
+//! The begin of a transaction.
+ghost use Rattle.std.specs.Prelude.{◌≡◌, IfErr, IfOk, true};
+ghost use Rattle.erm_model.specs.declared.outcome.Phase.TheVariants.{Idle};
+ghost use Rattle.erm_machine.specs.Words.{is_session};
+ghost use Rattle.erm_core.specs.Cores.{core_of};
+ghost use Rattle.erm_plain.specs.Stands.{Stands, plain_view};
+ghost use Rattle.erm_world.specs.Calls.{DidBegin, MayNotBegin};
+ghost use Rattle.erm_world.specs.World.{IsSession, phase_at};
+
+use crate::Plain;
+use crate::steps::found;
+use erm_core::Need;
+use erm_machine::{Kind, LAST_NUMBER, STOP, TailUse};
+use erm_model::{RowLaw, Seat, Stamp};
+use erm_world::BeginStop;
+
+impl<L: RowLaw> Plain<L> {
+    // The number of the seat's last transaction.
+    fn number(&self, seat: Seat) -> u32
+        requires session { is_session seat ≡ true }
+        ensures { result ≡ ((core_of self.now.state).seats seat).number }
+    {
+        match self.state.seat(seat) {
+            Some(x) => x.number,
+            None => 0,
+        }
+    }
+
+    /// Begins a transaction: the begin stamp, which is the end of the log, in words. It is refused where the session has had its
+    /// last number, 2^32 - 1, where the log's end is at or above 2^60, and where memory runs out; the view stays then.
+    pub fn begin(&mut self, seat: Seat) -> Result<Stamp, BeginStop>
+        requires stands { Stands L.law self.old }
+        requires session { IsSession (plain_view self.old) seat }
+        requires idle { phase_at (plain_view self.old) seat ≡ Idle }
+        ensures stands { Stands L.law self.new }
+        ensures ok { IfOk result (λ begin. DidBegin (plain_view self.old) seat begin (plain_view self.new)) }
+        ensures err { IfErr result (λ stop. MayNotBegin (plain_view self.old) seat stop (plain_view self.new)) }
+    {
+        erm_core::rooms_serve();
+        let purpose = TailUse::Begin;
+        if self.number(seat) >= LAST_NUMBER {
+            return Err(BeginStop::NumbersEnd);
+        }
+        if !self.has_room(seat, Need::Begin) {
+            return Err(BeginStop::Memory);
+        }
+        let tail = found(self.take(seat, Kind::LoadTail { purpose }));
+        if tail >= STOP {
+            return Err(BeginStop::LogEnd { tail });
+        }
+        self.go(seat, Kind::StoreBegin { value: tail });
+        Ok(found(self.take(seat, Kind::LoadTail { purpose })))
+    }
+}

@@ -1,0 +1,122 @@
+//! The end of a transaction that aborts.
+ghost use Rattle.std.specs.Prelude.{◌≡◌, ◌<◌, true, length};
+ghost use Rattle.erm_machine.specs.Core.{claim_at};
+ghost use Rattle.erm_machine.specs.Seat.{read_at};
+ghost use Rattle.erm_machine.specs.Sound.{SoundUnder};
+ghost use Rattle.erm_machine.specs.Words.{is_session};
+ghost use Rattle.erm_model.specs.declared.outcome.Phase.TheVariants.{Active};
+ghost use Rattle.erm_core.specs.Cores.{core_of};
+ghost use Rattle.erm_plain.specs.Stands.{Stands, plain_view};
+ghost use Rattle.erm_plain.specs.Steps.{HasCleared, HasReleased, IsUnseen, MayEnd};
+ghost use Rattle.erm_world.specs.Calls.{DidAbort};
+ghost use Rattle.erm_world.specs.World.{IsSession, phase_at};
+
+use crate::Plain;
+use erm_machine::{Kind, VersionAt};
+use erm_model::{RowLaw, Seat};
+
+impl<L: RowLaw> Plain<L> {
+    // How many objects the seat's transaction has claimed.
+    fn claims(&self, seat: Seat) -> usize
+        requires session { is_session seat ≡ true }
+        ensures { result ≡ length ((core_of self.now.state).seats seat).current.writes }
+    {
+        match self.state.seat(seat) {
+            Some(x) => x.current.writes.len(),
+            None => 0,
+        }
+    }
+
+    // How many versions the seat's transaction has read.
+    fn reads(&self, seat: Seat) -> usize
+        requires session { is_session seat ≡ true }
+        ensures { result ≡ length ((core_of self.now.state).seats seat).current.reads }
+    {
+        match self.state.seat(seat) {
+            Some(x) => x.current.reads.len(),
+            None => 0,
+        }
+    }
+
+    // The version that a claim of the seat's transaction overwrites.
+    fn overwrites(&self, seat: Seat, place: usize) -> VersionAt
+        requires session { is_session seat ≡ true }
+        ensures { result ≡ (claim_at ((core_of self.now.state).seats seat).current place).version }
+    {
+        match self.state.seat(seat) {
+            Some(x) => x.current.claim_at(place).version,
+            None => no_version(),
+        }
+    }
+
+    // The version that the seat's transaction has read at a place.
+    fn version_read(&self, seat: Seat, place: usize) -> VersionAt
+        requires session { is_session seat ≡ true }
+        ensures { result ≡ (read_at ((core_of self.now.state).seats seat).current place).version }
+    {
+        match self.state.seat(seat) {
+            Some(x) => x.current.read_at(place).version,
+            None => no_version(),
+        }
+    }
+}
+
+// The name of no version.
+fn no_version() -> VersionAt {
+    VersionAt {
+        oid: 0,
+        place: 0,
+        cell: 0,
+    }
+}
+
+impl<L: RowLaw> Plain<L> {
+    // Stores the entry of each claim with its old head.
+    fn release_claims(&mut self, seat: Seat)
+        requires sound { SoundUnder L.law (core_of self.old.state) }
+        requires ends { MayEnd seat (core_of self.old.state) }
+        ensures sound { SoundUnder L.law (core_of self.new.state) }
+        ensures ends { HasReleased seat (core_of self.new.state) }
+        ensures unseen { IsUnseen self.old.sessions seat (core_of self.old.state) (core_of self.new.state) }
+        ensures sessions { self.new.sessions ≡ self.old.sessions }
+    {
+        for place in 0..self.claims(seat) {
+            let version = self.overwrites(seat, place);
+            self.go(
+                seat,
+                Kind::Install {
+                    oid: version.oid,
+                    head: version.cell,
+                },
+            );
+        }
+    }
+
+    // Clears the own reader bit of each version read.
+    fn clear_readers(&mut self, seat: Seat)
+        requires sound { SoundUnder L.law (core_of self.old.state) }
+        requires ends { HasReleased seat (core_of self.old.state) }
+        ensures sound { SoundUnder L.law (core_of self.new.state) }
+        ensures ends { HasCleared seat (core_of self.new.state) }
+        ensures unseen { IsUnseen self.old.sessions seat (core_of self.old.state) (core_of self.new.state) }
+        ensures sessions { self.new.sessions ≡ self.old.sessions }
+    {
+        for place in 0..self.reads(seat) {
+            let version = self.version_read(seat, place);
+            self.go(seat, Kind::ClearReader { version });
+        }
+    }
+
+    /// Ends the transaction: nothing that it wrote stays.
+    pub fn abort(&mut self, seat: Seat)
+        requires stands { Stands L.law self.old }
+        requires session { IsSession (plain_view self.old) seat }
+        requires active { phase_at (plain_view self.old) seat ≡ Active }
+        ensures stands { Stands L.law self.new }
+        ensures aborted { DidAbort (plain_view self.old) seat (plain_view self.new) }
+    {
+        self.release_claims(seat);
+        self.clear_readers(seat);
+        self.go(seat, Kind::StoreBegin { value: 0 });
+    }
+}

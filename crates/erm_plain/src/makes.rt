@@ -1,0 +1,41 @@
+//! New objects.
+ghost use Rattle.std.specs.Prelude.{◌≡◌, ◌<◌, IfErr, IfOk};
+ghost use Rattle.erm_model.specs.declared.limits.TheConstants.{OID_LIMIT};
+ghost use Rattle.erm_model.specs.declared.outcome.Phase.TheVariants.{Active};
+ghost use Rattle.erm_plain.specs.Stands.{Stands, plain_view};
+ghost use Rattle.erm_world.specs.Calls.{DidMake, DidNotMake};
+ghost use Rattle.erm_world.specs.World.{IsSession, phase_at};
+
+use crate::Plain;
+use crate::steps::found;
+use erm_core::Need;
+use erm_machine::{Counter, Kind, OBJECT_LIMIT};
+use erm_model::{Oid, RowLaw, RowStop, Seat};
+
+impl<L: RowLaw> Plain<L> {
+    /// A new object, which nobody else gets. It is refused where as many were drawn as there may be, and where memory runs out;
+    /// the view stays then.
+    pub fn fresh(&mut self, seat: Seat) -> Result<Oid, RowStop>
+        requires stands { Stands L.law self.old }
+        requires session { IsSession (plain_view self.old) seat }
+        requires active { phase_at (plain_view self.old) seat ≡ Active }
+        ensures stands { Stands L.law self.new }
+        ensures object { IfOk result (λ oid. oid < OID_LIMIT) }
+        ensures ok { IfOk result (λ oid. DidMake (plain_view self.old) seat oid (plain_view self.new)) }
+        ensures err { IfErr result (λ stop. DidNotMake (plain_view self.old) seat stop (plain_view self.new)) }
+    {
+        erm_core::rooms_serve();
+        erm_core::rooms_last();
+        erm_core_view::steps_show_what_they_do();
+        let counter = Counter::Objects;
+        if !self.has_room(seat, Need::Make) {
+            return Err(RowStop::Memory);
+        }
+        let drawn = found(self.go(seat, Kind::LoadCounter { counter }));
+        if drawn >= OBJECT_LIMIT as u64 {
+            return Err(RowStop::OidsFull { drawn });
+        }
+        self.take(seat, Kind::AddCounter { counter });
+        Ok(drawn as Oid)
+    }
+}
