@@ -1,5 +1,6 @@
 pub mod Aborts
 pub mod Beginnings
+pub mod Kept
 pub mod Numbers
 pub mod Quiet
 pub mod Stamps

@@ -7,5 +7,7 @@ mod makes;
 mod plain;
 mod seals;
 mod steps;
+#[cfg(test)]
+mod tests;
 
 pub use plain::Plain;

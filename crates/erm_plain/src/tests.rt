@@ -1,0 +1,111 @@
+//! Tests of the world in lists.
+ghost use Rattle.std.specs.Prelude.{◌≡◌, IfOk};
+ghost use Rattle.erm_model.specs.RowTransaction.{any_law};
+ghost use Rattle.erm_plain.specs.Stands.{Stands, plain_view};
+
+use crate::Plain;
+use erm_model::{AnyRows, OID_LIMIT, Oid, Phase, ROW_WORDS, Seat, Stamp};
+use std::alloc::{AllocError, Global};
+use std::test::Fail;
+
+// Three sessions on rows of zeros, without a law of rows, on a log that goes on at 13.
+fn world(alloc: Global) -> Result<Plain<AnyRows>, AllocError>
+    ensures stands { IfOk result (Stands any_law) }
+    ensures sessions { IfOk result (λ p. (plain_view p).opening.sessions ≡ 3) }
+{
+    let rows = Vec::from_elem(alloc, [0; ROW_WORDS], OID_LIMIT as usize)?;
+    Plain::open(alloc, &rows, 13, 1, 16, 3)
+}
+
+// Whether there is a session of that seat, which is sealed.
+fn is_sealed(world: &Plain<AnyRows>, seat: Seat) -> bool
+    requires stands { Stands any_law world.now }
+    requires sessions { (plain_view world.now).opening.sessions ≡ 3 }
+{
+    if seat == 0 || seat > 3 {
+        return false;
+    }
+    matches!(world.phase(seat), Phase::Sealed)
+}
+
+// Begins, where the session is idle.
+fn begin(world: &mut Plain<AnyRows>, seat: Seat) -> Option<Stamp>
+    requires stands { Stands any_law world.old }
+    requires sessions { (plain_view world.old).opening.sessions ≡ 3 }
+    ensures stands { Stands any_law world.new }
+    ensures sessions { (plain_view world.new).opening.sessions ≡ 3 }
+{
+    if seat == 0 || seat > 3 {
+        return None;
+    }
+    match world.phase(seat) {
+        Phase::Idle => world.begin(seat).ok(),
+        _ => None,
+    }
+}
+
+// A new object, where the session is active.
+fn fresh(world: &mut Plain<AnyRows>, seat: Seat) -> Option<Oid>
+    requires stands { Stands any_law world.old }
+    requires sessions { (plain_view world.old).opening.sessions ≡ 3 }
+    ensures stands { Stands any_law world.new }
+    ensures sessions { (plain_view world.new).opening.sessions ≡ 3 }
+{
+    if seat == 0 || seat > 3 {
+        return None;
+    }
+    match world.phase(seat) {
+        Phase::Active => world.fresh(seat).ok(),
+        _ => None,
+    }
+}
+
+// Seals, where the session is active.
+fn seal(world: &mut Plain<AnyRows>, seat: Seat) -> Option<Stamp>
+    requires stands { Stands any_law world.old }
+    requires sessions { (plain_view world.old).opening.sessions ≡ 3 }
+    ensures stands { Stands any_law world.new }
+    ensures sessions { (plain_view world.new).opening.sessions ≡ 3 }
+{
+    if seat == 0 || seat > 3 {
+        return None;
+    }
+    match world.phase(seat) {
+        Phase::Active => Some(world.seal(seat)),
+        _ => None,
+    }
+}
+
+// Aborts, where the session is active.
+fn abort(world: &mut Plain<AnyRows>, seat: Seat) -> bool
+    requires stands { Stands any_law world.old }
+    requires sessions { (plain_view world.old).opening.sessions ≡ 3 }
+    ensures stands { Stands any_law world.new }
+    ensures sessions { (plain_view world.new).opening.sessions ≡ 3 }
+{
+    if seat == 0 || seat > 3 {
+        return false;
+    }
+    match world.phase(seat) {
+        Phase::Active => {}
+        _ => return false,
+    }
+    world.abort(seat);
+    true
+}
+
+// A seal moves the log's end on by five words; an abort leaves it.
+#[test]
+fn sessions_begin_seal_and_abort(rt: HostRuntime) -> Result<(), Fail> {
+    let mut world = world(rt.alloc())?;
+    assert!(rt; begin(&mut world, 1) == Some(13));
+    assert!(rt; begin(&mut world, 2) == Some(13));
+    assert!(rt; fresh(&mut world, 1) == Some(16), "the first object");
+    assert!(rt; seal(&mut world, 1) == Some(13), "the log's end");
+    assert!(rt; is_sealed(&world, 1));
+    assert!(rt; begin(&mut world, 3) == Some(18), "behind the block");
+    assert!(rt; abort(&mut world, 2));
+    assert!(rt; begin(&mut world, 2) == Some(18), "an abort draws nothing");
+    assert!(rt; fresh(&mut world, 2) == Some(17), "no object is made twice");
+    Ok(())
+}
