@@ -1,5 +1,6 @@
 pub mod Called
 pub mod Commits
+pub mod Extended
 pub mod Histories
 pub mod Lawful
 pub mod Made

@@ -13,8 +13,9 @@ ghost use Rattle.erm_model.specs.SerialOrder.{IsSerialOrder};
 ghost use Rattle.erm_node.specs.Sound.{sound_law};
 ghost use Rattle.erm_world.specs.Laws.{IsPossibleIn, IsSerializable};
 ghost use Rattle.erm_tree.specs.Operations.{AreCalled, Call, answered_steps};
-ghost use Rattle.erm_world.specs.World.{View, begun, history_of, work_at};
-ghost use Rattle.erm_maps.specs.Runs.{AreRuns, IsRunOf, RepliesAreSnapshots, RunsAsOperations, StandsBelow, Told};
+ghost use Rattle.erm_world.specs.Going.{Extends};
+ghost use Rattle.erm_world.specs.World.{View, Work, begun, history_of, work_at};
+ghost use Rattle.erm_maps.specs.Runs.{AreRuns, IsAnswered, IsRunOf, RepliesAreSnapshots, RunsAsOperations, StandsBelow, Told};
 
 use erm_model::{RowLaw, RowRead};
 use erm_world::{RowWorld, WorldTxn};
@@ -69,4 +70,10 @@ pub fn calls_are_runs<'a, W: RowWorld + 'a>()
 /// A transaction that has done nothing is the run of no operations.
 pub fn begun_transactions_are_runs()
     ensures { (number begin : ℕ) → IsRunOf (begun number begin) [] }
+{}
+
+/// A transaction that has gone on, and was ended by a refusal in the middle of a call, still owes the replies given before: they are
+/// those of its operations on whatever rows fit all that it did.
+pub fn answers_stay()
+    ensures { (w u : Work) (steps : List Step) → Extends w u → IsAnswered w steps → IsAnswered u steps }
 {}
