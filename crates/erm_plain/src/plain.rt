@@ -23,9 +23,9 @@ pub struct Plain<L> {
 }
 
 impl<L: RowLaw> Plain<L> {
-    /// A world of so many sessions, from 1 to 48, on a row for each object. Its log begins at `tail`, in words, from 1 to
-    /// 2^60 + 4, and is written as this run; the objects that it makes have numbers from `first` on. The rows meet the law, and
-    /// reach no object from `first` on.
+    /// A world of so many sessions, from 1 to 48, on a row for each object. Its log goes on at `tail`, in words, from 13, which
+    /// is behind the first block of a log, to 2^60 + 4, and is written as this run; the objects that it makes have numbers
+    /// from `first` on. The rows meet the law, and reach no object from `first` on.
     pub fn open(
         alloc: Global,
         rows: &[Row],
@@ -37,7 +37,7 @@ impl<L: RowLaw> Plain<L> {
         requires some { 0 < sessions }
         requires few { sessions ≤ SESSIONS }
         requires rows { length rows.now ≡ OID_LIMIT }
-        requires positive { 0 < tail }
+        requires positive { 13 ≤ tail }
         requires low { tail ≤ STOP + 4 }
         requires first { first ≤ OID_LIMIT }
         requires meets { L.law.meets (rows_of rows.now) }
