@@ -76,7 +76,8 @@ pub record IsStill (x : Part) : Type 0 where
   pub made : x.current.made ≡ []
 
 -- So many sessions, each between two calls and, where sealed, with a range of its block's size; the flush seat, and no other
--- seat, so that none is over elsewhere. The place flushed lies within the log.
+-- seat, so that none is over elsewhere. The opening's place lies behind 1, so that a state word 1 is that of a seat that seals
+-- and no stamp; the place flushed lies within the log.
 pub record IsQuiet (sessions : ℕ) (c : Core) : Type 0 where
   pub between : (q : ℕ) → 0 < q → q ≤ sessions → IsBetween (c.seats q).place (c.seats q).task
   pub others : (q : ℕ) → (0 < q → q ≤ sessions → ⊥) → is_flusher q ≡ false → (c.seats q).place ≡ Vacant
@@ -84,4 +85,5 @@ pub record IsQuiet (sessions : ℕ) (c : Core) : Type 0 where
   pub flusher : (q : ℕ) → is_flusher q ≡ true → IsStill (c.seats q)
   pub sized : (q : ℕ) → 0 < q → q ≤ sessions → 0 < (c.seats q).current.stamp → (c.seats q).current.size ≡ world.size_of (work_of (c.seats q).current)
   pub few : (q : ℕ) → q ≤ sessions → is_flusher q ≡ false
+  pub opened : 1 < c.shared.opening
   pub flushed : (c.shared.opening ≤ c.shared.flushed) × (c.shared.flushed ≤ c.shared.tail)

@@ -273,7 +273,7 @@ abort_done sessions seat b c d quiet session sound unseen at e =
     let tail : d.shared.tail ≡ b.shared.tail + 0 = change.tail ∙ ap (λ (v : View). v.tail + 0) unseen.view in
     let within = quiet.flushed in
     let stamp : (d.seats seat).current.stamp ≡ 0 = ap (λ (y : Part). y.current.stamp) is in (
-      quiet_after sessions seat b d quiet session others
+      quiet_after sessions seat b d quiet session others opening
           (subst (λ (y : Part). IsBetween y.place y.task) (sym is) refl)
           (λ drawn. absurd (omega (arith, drawn, stamp)))
           (let low = within.0 in omega (arith, opening, flushed, low), let high = within.1 in omega (arith, tail, flushed, high)),

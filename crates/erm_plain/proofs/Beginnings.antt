@@ -125,7 +125,7 @@ log_ends sessions seat c d sound quiet session at less high e =
     let tail : d.shared.tail ≡ c.shared.tail = ap (λ (v : View). v.tail) unseen.view in
     let low_ = quiet.flushed.0 in
     let high_ = quiet.flushed.1 in (
-      quiet_after sessions seat c d quiet session unseen.others (between_idle (d.seats seat).place (d.seats seat).task place rests)
+      quiet_after sessions seat c d quiet session unseen.others opening (between_idle (d.seats seat).place (d.seats seat).task place rests)
           (subst (λ (y : Part). 0 < y.current.stamp → y.current.size ≡ world.size_of (work_of y.current)) (sym is) (quiet.sized seat session.0 session.1))
           (omega (arith, opening, flushed, low_), omega (arith, tail, flushed, high_)),
       unseen.view,
@@ -219,7 +219,7 @@ begin_done sessions seat b c d e sound_b sound_c sound_d quiet session at less l
     let stamp : (e.seats seat).current.stamp ≡ 0 = ap (λ (y : Part). y.current.stamp) is in
     let within = quiet.flushed.0 in
     let below = quiet.flushed.1 in (
-      quiet_after sessions seat b e quiet session others (subst (λ (y : Part). IsBetween y.place y.task) (sym is) refl) (λ some. absurd (omega (arith, some, stamp)))
+      quiet_after sessions seat b e quiet session others (ap (λ (o : Opening). o.tail) opening) (subst (λ (y : Part). IsBetween y.place y.task) (sym is) refl) (λ some. absurd (omega (arith, some, stamp)))
           (omega (arith, opened, flushed, within), omega (arith, tail, flushed, below)),
       (
         omega (arith, tail_one, tail_two),

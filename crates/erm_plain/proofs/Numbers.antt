@@ -83,7 +83,7 @@ counter_looked sessions seat c d sound quiet session at e =
     record {
       unseen = unseen;
       quiet =
-          quiet_after sessions seat c d quiet session unseen.others (between_active (d.seats seat).place (d.seats seat).task here.active here.starts)
+          quiet_after sessions seat c d quiet session unseen.others opening (between_active (d.seats seat).place (d.seats seat).task here.active here.starts)
           (λ some. absurd (omega (arith, some, stamp))) (omega (arith, opening, flushed, low), omega (arith, tail, flushed, high));
       active = here;
       drawn = ap (λ (to : Core). to.shared.objects_drawn) (one_after c d (stepped c seat k (looked found (c.seats seat))) seat k steps e);
@@ -130,7 +130,7 @@ number_made sessions seat b c d sound session at less e shows =
       tail = omega (arith, tail);
       flushed = change.flushed;
     } in (
-      quiet_after sessions seat c d at.quiet session (others_stay c d seat k tt e) (between_active (d.seats seat).place (d.seats seat).task active starts)
+      quiet_after sessions seat c d at.quiet session (others_stay c d seat k tt e) opening (between_active (d.seats seat).place (d.seats seat).task active starts)
           (λ some. absurd (omega (arith, some, stamp))) (omega (arith, opening, flushed, low), omega (arith, tail, flushed, high)),
       subst (λ (v : View). DidMake v seat b.shared.objects_drawn (view_of sessions d)) at.unseen.view here,
     )

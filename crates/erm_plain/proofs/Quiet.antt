@@ -43,14 +43,15 @@ place_vacant true e = absurd (e refl)
 place_vacant false e = refl
 
 -- an opening's state is one between two calls
-pub opening_quiet : (sessions : ℕ) (rows : Rows) (tail run first cells : ℕ) → sessions ≤ SESSIONS → IsQuiet sessions (opening_state sessions rows tail run first cells)
-opening_quiet sessions rows tail run first cells few = record {
+pub opening_quiet : (sessions : ℕ) (rows : Rows) (tail run first cells : ℕ) → sessions ≤ SESSIONS → 1 < tail → IsQuiet sessions (opening_state sessions rows tail run first cells)
+opening_quiet sessions rows tail run first cells few behind = record {
   between = λ q some low. place_taken (is_taken sessions q) (session_taken sessions q some low);
   others = λ q other plain. place_vacant (is_taken sessions q) (other_taken sessions q other plain);
   unused = λ q other plain. refl;
   flusher = λ q flusher. record { over = refl; reads = refl; writes = refl; made = refl };
   sized = λ q some low drawn. absurd (omega (arith, drawn));
   few = λ q low. few_flush sessions q few low;
+  opened = behind;
   flushed = (omega arith, omega arith);
 }
 
@@ -93,7 +94,7 @@ active_seat sessions seat c quiet session active =
     }
 
 -- A state after steps of one session is one between two calls, where that session is.
-module _ (sessions seat : ℕ) (c d : Core) (quiet : IsQuiet sessions c) (session : IsSession (view_of sessions c) seat) (others : (q : ℕ) → q ≢ seat → d.seats q ≡ c.seats q) where
+module _ (sessions seat : ℕ) (c d : Core) (quiet : IsQuiet sessions c) (session : IsSession (view_of sessions c) seat) (others : (q : ℕ) → q ≢ seat → d.seats q ≡ c.seats q) (opening : d.shared.opening ≡ c.shared.opening) where
   at_session : (P : ℕ → Part → Type 0) → P seat (d.seats seat) → ((q : ℕ) → q ≢ seat → P q (c.seats q)) → (q : ℕ) → P q (d.seats q)
   at_session P own rest q =
       ⊎_elim
@@ -112,5 +113,6 @@ module _ (sessions seat : ℕ) (c d : Core) (quiet : IsQuiet sessions c) (sessio
         flusher = at_session (λ q x. is_flusher q ≡ true → IsStill x) (λ flusher. absurd (cc)) (λ q _. quiet.flusher q);
         sized = at_session (λ q x. 0 < q → q ≤ sessions → 0 < x.current.stamp → x.current.size ≡ size_of (work_of x.current)) (λ _ _. sized) (λ q _. quiet.sized q);
         few = quiet.few;
+        opened = let behind = quiet.opened in omega (arith, behind, opening);
         flushed = flushed;
       }

@@ -172,7 +172,7 @@ seal_done sessions seat size b c d e sound_b sound_c sound_d quiet session activ
     in
     let low = quiet.flushed.0 in
     let high = quiet.flushed.1 in (
-      quiet_after sessions seat b e quiet session others (between (e.seats seat).place (e.seats seat).task has.tail stamp place rests)
+      quiet_after sessions seat b e quiet session others (ap (λ (o : Opening). o.tail) opening) (between (e.seats seat).place (e.seats seat).task has.tail stamp place rests)
           (λ _. drawn_size ∙ sized ∙ ap size_of (sym work)) (omega (arith, opened, flushed, low), omega (arith, tail, flushed, high)),
       record {
         stamp_is = omega (arith, tail_one);

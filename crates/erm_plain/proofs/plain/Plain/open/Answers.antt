@@ -1,3 +1,4 @@
+use Rattle.std.proofs.Common.{arith}
 use Rattle.erm_model.specs.declared.limits.TheConstants.{MOST_CELLS}
 use Rattle.erm_core.specs.Cores.{core_of, rows_of}
 use Rattle.erm_machine.specs.Core.{opening_state}
@@ -14,6 +15,6 @@ returns-clause-stands g c =
     let both =
     opened_stands g.L.RowLaw.law sessions (core_of c.in_ok-state.state) (opening_state sessions rows tail run first MOST_CELLS) c.in_ok-state.ensures.core
     (λ sound. c.openings_are_lawful.ensures sessions rows tail run first MOST_CELLS sound c.requires.meets c.requires.unreached)
-    (opening_quiet sessions rows tail run first MOST_CELLS c.requires.few) c.in_ok-state.ensures.sound
+    (opening_quiet sessions rows tail run first MOST_CELLS c.requires.few (let low = c.requires.positive in omega (arith, low))) c.in_ok-state.ensures.sound
     in
     record { sound = both.0; quiet = both.1 }
