@@ -42,12 +42,6 @@ vacant_part p (kind.LoadCounter Objects) found s run opening = refl
 vacant_part p (kind.LoadCounter Cells) found s run opening = refl
 vacant_part p (kind.AddCounter Objects) found s run opening = refl
 vacant_part p (kind.AddCounter Cells) found s run opening = refl
-vacant_part p (kind.WriteLog segment fails) found s run opening = both_none fails
-vacant_part p (kind.SyncLog segment fails) found s run opening = both_none fails
-vacant_part p (kind.WriteSlot fails) found s run opening = ap (λ (o : Option Part). if fails then None else o) (unmet (is_flusher p) _ _) ∙ both_none fails
-vacant_part p (kind.SyncSlot fails) found s run opening = both_none fails
-vacant_part p (kind.RemoveLog segment fails) found s run opening = both_none fails
-vacant_part p (kind.SyncRemoval segment fails) found s run opening = both_none fails
 vacant_part p _ found s run opening = refl
 
 -- no event of a seat that nobody has

@@ -27,7 +27,7 @@ use Rattle.erm_machine.specs.Cells.{WantsCell}
 use Rattle.erm_machine.specs.Decided.{MarkInHand}
 use Rattle.erm_machine.specs.Core.{Core, Shared, spot_of, word_at, version_at, claim_at, blank}
 use Rattle.erm_machine.specs.Facts.{IsCurrent}
-use Rattle.erm_machine.specs.Flushing.{load_flushed, gathered_word, load_ring, write_log, after_sync, sync_log, clear_ring, store_flushed, write_slot, sync_slot, remove_log, sync_removal}
+use Rattle.erm_machine.specs.Flushing.{load_flushed, gathered_word, load_ring, clear_ring, store_flushed}
 use Rattle.erm_machine.specs.Life.{load_tail_to_begin, load_tail_for_horizon, load_tail, add_tail, store_begin, store_state, load_begin, after_clear, load_state, split, join, decide}
 use Rattle.erm_machine.specs.Reading.{load_entry}
 use Rattle.erm_machine.specs.Seat.{end_of, no_read, over, with_range, is_active, is_sealed, is_vacant, read_at, same_version}
@@ -37,7 +37,7 @@ use Rattle.erm_machine.specs.Step.{part_after, after_event, is_known, with_part}
 use Rattle.erm_machine.specs.Tasks.{TaskFits}
 use Rattle.erm_machine.specs.Words.{put, is_clear, is_flusher, is_seat, refuses, state_of, without_bit}
 use Rattle.erm_machine.proofs.Frames.{each_seat}
-use Rattle.erm_machine.proofs.Guards.{when_then, some_then, unless_then, if_then, either_way, unless_some}
+use Rattle.erm_machine.proofs.Guards.{when_then, some_then, if_then, either_way, unless_some}
 use Rattle.erm_machine.proofs.Holders.{stands_in}
 use Rattle.erm_machine.proofs.QuietKinds.{MeetsOne, moves}
 use Rattle.erm_core_calls.proofs.Bits.{bit_left, left_other}
@@ -242,59 +242,32 @@ module _ (c : Core) (p : ℕ) (sound : Sound c) where
       record { bounded = l.bounded; stored = own.stored ∙ sym l.stored; blocks = own.blocks; begin_seen = own.begin_seen; stamp_seen = own.stamp_seen })
 
   -- a step of the flush seat leaves the place, the transaction and the call
-  flushes : (f : Flushing) (to synced : ℕ) → OwnBounds p (record (c.seats p) { flushing = f; gathered_to = to; synced = synced })
-  flushes f to synced = record { bounded = own.bounded; stored = own.stored; blocks = own.blocks; begin_seen = own.begin_seen; stamp_seen = own.stamp_seen }
+  flushes : (f : Flushing) (to : ℕ) → OwnBounds p (record (c.seats p) { flushing = f; gathered_to = to })
+  flushes f to = record { bounded = own.bounded; stored = own.stored; blocks = own.blocks; begin_seen = own.begin_seen; stamp_seen = own.stamp_seen }
 
   own_if : (b : Bool) (l r : Part) → OwnBounds p l → OwnBounds p r → OwnBounds p (if b then l else r)
   own_if b l r f g = either_way (OwnBounds p) b l r (λ _. f) (λ _. g)
 
   k_load_flushed : (found : ℕ) (f : Flushing) (y : Part) → load_flushed found (c.seats p) f ≡ Some y → OwnBounds p y
-  k_load_flushed found (flushing.Tail tail) y e = some_then (OwnBounds p) _ y e (flushes _ _ _)
+  k_load_flushed found (flushing.Tail tail) y e = some_then (OwnBounds p) _ y e (flushes _ _)
   k_load_flushed found _ y e = when_then (OwnBounds p) _ _ y e (λ _. b_to_settle p (c.seats p) own (sound.own p).task found)
 
   k_gathered : (tail from block next end : ℕ) → OwnBounds p (gathered_word tail from block next end (c.seats p))
-  k_gathered tail from block next end = either_way (OwnBounds p) _ _ _ (λ _. flushes _ _ _) (λ _. flushes _ _ _)
+  k_gathered tail from block next end = either_way (OwnBounds p) _ _ _ (λ _. flushes _ _) (λ _. flushes _ _)
 
   k_load_ring : (at found : ℕ) (f : Flushing) (y : Part) → load_ring at found (c.seats p) f ≡ Some y → OwnBounds p y
   k_load_ring at found (flushing.Gathers tail from block next end) y e =
       when_then (OwnBounds p) _ _ y e (λ _. own_if _ _ _ (k_gathered tail from block next end) (own_if _ _ _ own (k_gathered tail from next next _)))
   k_load_ring at found _ y e = absurd (cc)
 
-  k_write_log : (segment : ℕ) (f : Flushing) (y : Part) → write_log segment (c.seats p) f ≡ Some y → OwnBounds p y
-  k_write_log segment (flushing.Gathers tail from block next end) y e = when_then (OwnBounds p) _ _ y e (λ _. flushes _ _ _)
-  k_write_log segment (flushing.Puts from to written) y e = when_then (OwnBounds p) _ _ y e (λ _. flushes _ _ _)
-  k_write_log segment _ y e = absurd (cc)
-
-  k_after_sync : (from to synced : ℕ) → OwnBounds p (after_sync from to synced (c.seats p))
-  k_after_sync from to synced = either_way (OwnBounds p) _ _ _ (λ _. flushes _ _ _) (λ _. flushes _ _ _)
-
-  k_sync_log : (segment : ℕ) (f : Flushing) (y : Part) → sync_log segment (c.seats p) f ≡ Some y → OwnBounds p y
-  k_sync_log segment (flushing.Puts from to written) y e = when_then (OwnBounds p) _ _ y e (λ _. k_after_sync from to 1)
-  k_sync_log segment (flushing.Syncs from to synced) y e = when_then (OwnBounds p) _ _ y e (λ _. k_after_sync from to _)
-  k_sync_log segment _ y e = absurd (cc)
-
   k_clear_ring : (at : ℕ) (f : Flushing) (y : Part) → clear_ring at (c.seats p) f ≡ Some y → OwnBounds p y
-  k_clear_ring at (flushing.Clears next to) y e = when_then (OwnBounds p) _ _ y e (λ _. flushes _ _ _)
+  k_clear_ring at (flushing.Gathers tail from block next end) y e = when_then (OwnBounds p) _ _ y e (λ _. flushes _ _)
+  k_clear_ring at (flushing.Clears next to) y e = when_then (OwnBounds p) _ _ y e (λ _. flushes _ _)
   k_clear_ring at _ y e = absurd (cc)
 
   k_store_flushed : (value : ℕ) (f : Flushing) (y : Part) → store_flushed value (c.seats p) f ≡ Some y → OwnBounds p y
-  k_store_flushed value (flushing.Clears next to) y e = when_then (OwnBounds p) _ _ y e (λ _. flushes _ _ _)
+  k_store_flushed value (flushing.Clears next to) y e = when_then (OwnBounds p) _ _ y e (λ _. flushes _ _)
   k_store_flushed value _ y e = absurd (cc)
-
-  k_write_slot : (y : Part) → write_slot p (c.seats p) ≡ Some y → OwnBounds p y
-  k_write_slot y e = when_then (OwnBounds p) _ _ y e (λ _. flushes _ _ _)
-
-  k_sync_slot : (f : Flushing) (y : Part) → sync_slot (c.seats p) f ≡ Some y → OwnBounds p y
-  k_sync_slot flushing.SlotPut y e = some_then (OwnBounds p) _ y e (flushes _ _ _)
-  k_sync_slot _ y e = absurd (cc)
-
-  k_remove_log : (segment : ℕ) (f : Flushing) (y : Part) → remove_log segment (c.seats p) f ≡ Some y → OwnBounds p y
-  k_remove_log segment flushing.SlotSynced y e = some_then (OwnBounds p) _ y e (flushes _ _ _)
-  k_remove_log segment _ y e = absurd (cc)
-
-  k_sync_removal : (segment : ℕ) (f : Flushing) (y : Part) → sync_removal segment (c.seats p) f ≡ Some y → OwnBounds p y
-  k_sync_removal segment (flushing.Removed removed) y e = when_then (OwnBounds p) _ _ y e (λ _. flushes _ _ _)
-  k_sync_removal segment _ y e = absurd (cc)
 
   -- settle looks up an object of a version read
   read_known : (oid : ℕ) (read : ℕ) → read < length (c.seats p).current.reads → oid ≡ (read_at (c.seats p).current read).version.oid → oid < OBJECT_LIMIT
@@ -385,12 +358,6 @@ module _ (c : Core) (p : ℕ) (sound : Sound c) where
   bounds_after kind.LoadFlushed y known e = k_load_flushed _ (c.seats p).flushing y e
   bounds_after (kind.SwapLink v) y known e = b_swap_link p (c.seats p) own (sound.own p).task _ v (c.shared.objects v.oid) (c.seats p).task y e
   bounds_after (kind.LoadDetached v) y known e = b_load_detached p (c.seats p) own (sound.own p).task _ v (c.seats p).task y e
-  bounds_after (kind.WriteLog segment fails) y known e = unless_then (OwnBounds p) fails _ y e (k_write_log segment (c.seats p).flushing y)
-  bounds_after (kind.SyncLog segment fails) y known e = unless_then (OwnBounds p) fails _ y e (k_sync_log segment (c.seats p).flushing y)
-  bounds_after (kind.WriteSlot fails) y known e = unless_then (OwnBounds p) fails _ y e (k_write_slot y)
-  bounds_after (kind.SyncSlot fails) y known e = unless_then (OwnBounds p) fails _ y e (k_sync_slot (c.seats p).flushing y)
-  bounds_after (kind.RemoveLog segment fails) y known e = unless_then (OwnBounds p) fails _ y e (k_remove_log segment (c.seats p).flushing y)
-  bounds_after (kind.SyncRemoval segment fails) y known e = unless_then (OwnBounds p) fails _ y e (k_sync_removal segment (c.seats p).flushing y)
 
   -- a seat that takes in another
   join_bounds : (other y : Part) → join (c.seats p) other ≡ Some y → OwnBounds p y

@@ -23,7 +23,7 @@ use Rattle.erm_machine.specs.Words.{blank_cell}
 use Rattle.erm_machine.specs.Settling.{filled, may_settle, load_flushed_to_settle, load_read_entry, load_readers, load_settled_stamp, load_stamp, store_ring, raise_reader, store_head_word, store_active_word, store_cell, mark_overwritten, store_succ, store_overwriter, clear_reader}
 use Rattle.erm_machine.proofs.Guards.{when_then, some_then, if_then, either_way}
 use Rattle.erm_core_cells.proofs.CellsCounts.{count_set, count_last}
-use Rattle.erm_core_cells.proofs.CellsLeaves.{times_in, times_set, times_more, Leaves, Plain, plain_from, plain_if, KeepsTask, keeps_plain, keeps_want, keeps_if, front_same, BareAt, bare_given, bare_quits, bare_wants, no_more_same, no_more_set, leaves_task, leaves_plain, leaves_want, leaves_aside, leaves_current}
+use Rattle.erm_core_cells.proofs.CellsLeaves.{times_in, times_set, times_more, Leaves, Plain, plain_from, plain_if, KeepsTask, keeps_plain, keeps_want, keeps_if, BareAt, bare_given, bare_quits, bare_wants, no_more_same, no_more_set, leaves_task, leaves_plain, leaves_want, leaves_aside, leaves_current}
 
 -- tasks of a cut that may end in a claim's wish for a cell: the seat has a claim
 abbrev pub Cutting : Part → Task → Type 0
@@ -163,7 +163,7 @@ none_own cell (Some own) e = absurd (cc)
 -- the last spare cell goes to the newest claim, which has none
 spare_leaves : (found : ℕ) (x : Part) → WantsCell x task.Draws → 0 < length x.spare → Leaves x task.Draws (rated_claim found (with_spare x))
 spare_leaves found x wants some = record {
-  made = record { made = front_same _ _ refl; numbers = omega arith; pools = omega arith };
+  made = record { made = refl; numbers = omega arith; pools = omega arith };
   cells = record {
     times = λ cell.
         let last : OwnCell = get_or x.spare (length x.spare - 1) (record { cell = 0; words = blank_cell }) in

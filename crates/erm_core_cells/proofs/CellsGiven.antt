@@ -1,5 +1,5 @@
 -- What a sound state gives a seat's step, and sums over seats where one part changes.
-use Rattle.std.proofs.Common.{◌≡◌, ℕ, zero, suc, ◌<◌, ◌≤◌, ⊎_elim, Bool, true, false, ltb, leb, length, refl, sym, subst, arith}
+use Rattle.std.proofs.Common.{◌≡◌, ℕ, zero, suc, ◌<◌, ◌≤◌, ⊎_elim, Bool, true, false, ltb, leb, List, [], ◌∷◌, ◌++◌, length, refl, sym, subst, arith}
 use Rattle.std.proofs.lemmas.Bool.{and_parts, or_cases, leb-true, eqb-true}
 use Rattle.erm_machine.specs.declared.limits.TheConstants.{ANNOUNCERS, SESSIONS, FLUSH_SEAT}
 use Rattle.erm_machine.specs.declared.part.Part.{Part}
@@ -25,13 +25,22 @@ cutting_from s x (task.CutFound version horizon) h = has_claim x _ h.0.claimed
 cutting_from s x (task.Detaches version) h = has_claim x _ h.claimed
 cutting_from s x _ h = tt
 
-pub given : (c : Core) (p : ℕ) → Sound c → Given (c.seats p)
+-- the flush seat is no session
+flusher_apart : (p : ℕ) → is_flusher p ≡ true → is_session p ≡ false
+flusher_apart p e = grind arith
+
+none_behind : (ms ns : List ℕ) → ms ++ ns ≡ [] → ns ≡ []
+none_behind [] ns e = e
+none_behind (m ∷ ms) ns e = absurd (cc)
+
+pub given : (c : Core) (p : ℕ) → Sound c → Given p (c.seats p)
 given c p sound = record {
   current = (sound.own p).ranges.current;
   fits = (sound.own p).task.fits;
   wants = (sound.own p).cells.wants;
   cutting = cutting_from c.shared (c.seats p) (c.seats p).task (sound.own p).chains.cut;
   none = (sound.own p).claims.none;
+  unmade = λ flusher. none_behind _ (c.seats p).current.made ((sound.own p).made.maker (flusher_apart p flusher));
 }
 
 -- a seat that has begun is one of those that are counted

@@ -24,21 +24,13 @@ use Rattle.erm_core_cells.proofs.CellsCounts.{count_set-same, count_none}
 abbrev pub times_in : ℕ → List Claim → ℕ
 times_in cell ws = count_by (λ w. is_own cell w.own) ws
 
--- a list is the front of another one
-pub record IsFront (ms ns : List ℕ) : Type 0 where
-  pub rest : List ℕ
-  pub is : ms ++ rest ≡ ns
-
-pub front_same : (ms ns : List ℕ) → ms ≡ ns → IsFront ms ns
-front_same ms ns e = record { rest = []; is = append-nil ms ∙ e }
-
 -- each of these claims that is held has its own cell, but the last one where the task may still want one
 abbrev pub BareAt : List Claim → Task → Type 0
 BareAt ws t = (k : ℕ) → k < length ws → (get_or ws k no_claim).held ≡ true → (get_or ws k no_claim).own ≡ None → (k ≡ length ws - 1) × MayWant t
 
 -- what a seat keeps of the objects made, and of what it is to draw; its task was t
 pub record KeepsMade (x : Part) (t : Task) (y : Part) : Type 0 where
-  pub made : IsFront (made_of y) (made_of x)
+  pub made : made_of y ≡ made_of x
   pub numbers : numbers y.task ≤ numbers t
   pub pools : pools y.task ≤ pools t
 
@@ -171,7 +163,7 @@ wants_as x y _ f w = tt
 -- the task changes, and no claim
 pub leaves_task : (x : Part) (t : Task) (y : Part) → made_of y ≡ made_of x → y.current.writes ≡ x.current.writes → y.spare ≡ x.spare → KeepsTask x t y.task → Leaves x t y
 leaves_task x t y made writes spare k = record {
-  made = record { made = front_same _ _ made; numbers = k.numbers; pools = k.pools };
+  made = record { made = made; numbers = k.numbers; pools = k.pools };
   cells = record {
     times = λ cell. ap (λ (cs : List OwnCell). count_by (λ (own : OwnCell). eqb own.cell cell) cs + times_in cell y.current.writes) spare
         ∙ ap (λ (ws : List Claim). count_by (λ (own : OwnCell). eqb own.cell cell) x.spare + times_in cell ws) writes;
@@ -196,7 +188,7 @@ pub leaves_current : (x : Part) (t u : Task) (c : Attempt) → Plain u → c.mad
     → (BareAt x.current.writes t → BareAt c.writes u) → Leaves x t (record x { task = u; current = c })
 leaves_current x t u c p made times bare = record {
   made = record {
-    made = front_same _ _ (ap (λ (ks : List ℕ). flat_map (λ (a : Attempt). a.made) x.over ++ ks) made);
+    made = ap (λ (ks : List ℕ). flat_map (λ (a : Attempt). a.made) x.over ++ ks) made;
     numbers = let h = p.numbers in omega (arith, h);
     pools = let h = p.pools in omega (arith, h);
   };
@@ -223,9 +215,9 @@ pub leaves_over : (d : Decision) (x : Part) (t u : Task) → Plain u → ((k : �
     Leaves x t (over d (record x { place = Idle; task = u }))
 leaves_over d x t u p none = record {
   made = record {
-    made = front_same _ _ (append-nil (flat_map (λ (a : Attempt). a.made) (x.over ++ record x.current { decision = d } ∷ []))
+    made = append-nil (flat_map (λ (a : Attempt). a.made) (x.over ++ record x.current { decision = d } ∷ []))
         ∙ flat_map-append (λ (a : Attempt). a.made) x.over (record x.current { decision = d } ∷ [])
-        ∙ ap (λ (ks : List ℕ). flat_map (λ (a : Attempt). a.made) x.over ++ ks) (append-nil x.current.made));
+        ∙ ap (λ (ks : List ℕ). flat_map (λ (a : Attempt). a.made) x.over ++ ks) (append-nil x.current.made);
     numbers = let h = p.numbers in omega (arith, h);
     pools = let h = p.pools in omega (arith, h);
   };
@@ -238,15 +230,12 @@ leaves_over d x t u p none = record {
   };
 }
 
--- the same where it leaves nothing
-pub leaves_dropped : (x : Part) (t u : Task) → Plain u → ((k : ℕ) → k < length x.current.writes → (claim_at x.current k).own ≡ None) →
+-- the same where it leaves nothing, and has made nothing
+pub leaves_dropped : (x : Part) (t u : Task) → Plain u → x.current.made ≡ [] → ((k : ℕ) → k < length x.current.writes → (claim_at x.current k).own ≡ None) →
     Leaves x t (with_current blank (record x { place = Idle; task = u }))
-leaves_dropped x t u p none = record {
+leaves_dropped x t u p unmade none = record {
   made = record {
-    made = record {
-      rest = x.current.made;
-      is = ap (λ (ks : List ℕ). ks ++ x.current.made) (append-nil (flat_map (λ (a : Attempt). a.made) x.over));
-    };
+    made = ap (λ (ks : List ℕ). flat_map (λ (a : Attempt). a.made) x.over ++ ks) (sym unmade);
     numbers = let h = p.numbers in omega (arith, h);
     pools = let h = p.pools in omega (arith, h);
   };

@@ -1,5 +1,5 @@
 -- Steps that move a seat on in its life leave the objects made, and its cells.
-use Rattle.std.proofs.Common.{◌≡◌, ℕ, ◌+◌, ◌<◌, true, eqb, ◌++◌, count_by, length, Option, Some, None, refl, sym, ap, ◌∙◌, subst, arith}
+use Rattle.std.proofs.Common.{◌≡◌, ℕ, ◌+◌, ◌<◌, true, eqb, [], ◌++◌, count_by, length, Option, Some, None, refl, sym, ap, ◌∙◌, subst, arith}
 use Rattle.std.specs.Prelude.{flat_map}
 use Rattle.std.proofs.lemmas.Bool.{and_parts, eqb-true}
 use Rattle.erm_machine.specs.declared.limits.TheConstants.{ANNOUNCERS}
@@ -22,7 +22,7 @@ use Rattle.erm_machine.specs.Tasks.{TaskFits}
 use Rattle.erm_machine.specs.Words.{is_flusher}
 use Rattle.erm_machine.proofs.Guards.{when_then, either_way}
 use Rattle.erm_core_cells.proofs.CellsCalls.{EndIs, ends_bare, starts_bare}
-use Rattle.erm_core_cells.proofs.CellsLeaves.{times_in, Leaves, Plain, plain_from, plain_if, KeepsTask, front_same, keeps_plain, keeps_want, keeps_same, keeps_if, leaves_task, leaves_want, leaves_aside, leaves_over, leaves_dropped}
+use Rattle.erm_core_cells.proofs.CellsLeaves.{times_in, Leaves, Plain, plain_from, plain_if, KeepsTask, keeps_plain, keeps_want, keeps_same, keeps_if, leaves_task, leaves_want, leaves_aside, leaves_over, leaves_dropped}
 
 -- a begin: there was no transaction
 begun_leaves : (seat found : ℕ) (x : Part) (pl : Place) (y : Part) → IsCurrent pl x.current → load_tail_to_begin seat found x pl ≡ Some y → Leaves x x.task y
@@ -30,7 +30,7 @@ begun_leaves seat found x Idle y cur e = when_then (Leaves x x.task) _ _ y e (λ
 begun_leaves seat found x (Announced tail) y cur e =
     when_then (Leaves x x.task) _ _ y e (λ _. record {
       made = record {
-        made = front_same _ _ (ap (λ (t : Attempt). flat_map (λ (a : Attempt). a.made) x.over ++ t.made) (sym cur));
+        made = ap (λ (t : Attempt). flat_map (λ (a : Attempt). a.made) x.over ++ t.made) (sym cur);
         numbers = omega arith;
         pools = omega arith;
       };
@@ -75,21 +75,21 @@ ended_bare a None t is e = absurd (cc)
 ended_bare a (Some c) t is e = ends_bare t (subst EndIs (sym is) tt)
 
 -- BEGIN announces; an end clears the begin word: where the transaction is over then, all its claims are
-pub store_begin_leaves : (seat value : ℕ) (x : Part) (pl : Place) (t : Task) (y : Part) → x.place ≡ pl → x.task ≡ t
+pub store_begin_leaves : (seat value : ℕ) (x : Part) (pl : Place) (t : Task) (y : Part) → x.place ≡ pl → x.task ≡ t → (is_flusher seat ≡ true → x.current.made ≡ [])
     → ((k : ℕ) → k < length x.current.writes → k < over_of pl t (length x.current.writes) → (claim_at x.current k).own ≡ None)
     → store_begin seat value x pl ≡ Some y → Leaves x x.task y
-store_begin_leaves seat value x (Begun tail) t y at on none e = when_then (Leaves x x.task) _ _ y e (λ _. leaves_aside x _ refl refl refl refl)
-store_begin_leaves seat value x (Active tail) t y at on none e =
+store_begin_leaves seat value x (Begun tail) t y at on unmade none e = when_then (Leaves x x.task) _ _ y e (λ _. leaves_aside x _ refl refl refl refl)
+store_begin_leaves seat value x (Active tail) t y at on unmade none e =
     when_then (Leaves x x.task) _ _ y e (λ g.
     let done : has_ended x.current (end_of t) ≡ true = subst (λ u. has_ended x.current (end_of u) ≡ true) on (and_parts _ _ g).1 in
     let all = all_over x.current (end_of t) _ done (over_is t tail (length x.current.writes)) in
     let bare : (k : ℕ) → k < length x.current.writes → (claim_at x.current k).own ≡ None = λ k within. none k within (subst (λ n. k < n) (sym all) within) in
-    either_way (Leaves x x.task) (is_flusher seat) _ _ (λ _. leaves_dropped x x.task task.Rest (plain_from task.Rest tt) bare)
+    either_way (Leaves x x.task) (is_flusher seat) _ _ (λ flusher. leaves_dropped x x.task task.Rest (plain_from task.Rest tt) (unmade flusher) bare)
     (λ _. leaves_over Abort x x.task task.Rest (plain_from task.Rest tt) bare))
-store_begin_leaves seat value x (Decided tail stamp) t y at on none e =
+store_begin_leaves seat value x (Decided tail stamp) t y at on unmade none e =
     when_then (Leaves x x.task) _ _ y e (λ g.
     leaves_task x x.task _ refl refl refl (keeps_plain x x.task task.Rest (plain_from task.Rest tt) (ended_bare x.current (end_of x.task) x.task refl (and_parts _ _ g).1)))
-store_begin_leaves seat value x _ t y at on none e = absurd (cc)
+store_begin_leaves seat value x _ t y at on unmade none e = absurd (cc)
 
 -- SEAL stores its state; the last step of a sealed transaction clears it
 pub store_state_leaves : (seat value : ℕ) (x : Part) (pl : Place) (y : Part) → x.place ≡ pl → TaskFits pl x.current x.task

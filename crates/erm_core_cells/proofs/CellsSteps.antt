@@ -1,5 +1,5 @@
 -- All kinds of steps leave the objects made, and the seat's cells, but those on counters, releases of entries, and swaps of links.
-use Rattle.std.proofs.Common.{◌≡◌, ℕ, ◌<◌, length, Some, None, refl}
+use Rattle.std.proofs.Common.{◌≡◌, ℕ, ◌<◌, true, [], length, Some, None, refl}
 use Rattle.erm_machine.specs.declared.event.Kind.{Kind}
 use Rattle.erm_machine.specs.declared.event.Kind.TheVariants as kind
 use Rattle.erm_machine.specs.declared.part.Part.{Part}
@@ -11,19 +11,21 @@ use Rattle.erm_machine.specs.Seat.{end_of, is_sealed}
 use Rattle.erm_machine.specs.Settling.{load_read_entry, filled}
 use Rattle.erm_machine.specs.Step.{part_after}
 use Rattle.erm_machine.specs.Tasks.{TaskFits}
-use Rattle.erm_machine.proofs.Guards.{unless_then, if_then, unless_some}
+use Rattle.erm_machine.specs.Words.{is_flusher}
+use Rattle.erm_machine.proofs.Guards.{if_then, unless_some}
 use Rattle.erm_core_cells.proofs.CellsCalls.{Cutting, load_entry_leaves, claim_leaves, set_reader_leaves, load_cell_leaves, load_detached_leaves, load_stamp_leaves, load_read_entry_leaves, load_readers_leaves, store_ring_leaves, raise_reader_leaves, store_succ_leaves, store_overwriter_leaves, store_cell_leaves, clear_reader_leaves, load_flushed_leaves}
 use Rattle.erm_core_cells.proofs.CellsLeaves.{Leaves}
 use Rattle.erm_core_cells.proofs.CellsLife.{load_tail_leaves, add_tail_leaves, store_begin_leaves, store_state_leaves, load_begin_leaves, load_state_leaves, decide_leaves}
-use Rattle.erm_core_cells.proofs.CellsDisk.{load_ring_leaves, write_log_leaves, sync_log_leaves, clear_ring_leaves, store_flushed_leaves, write_slot_leaves, sync_slot_leaves, remove_log_leaves, sync_removal_leaves}
+use Rattle.erm_core_cells.proofs.CellsDisk.{load_ring_leaves, clear_ring_leaves, store_flushed_leaves}
 
 -- what a seat's step is given: what the seat's place and task say
-pub record Given (x : Part) : Type 0 where
+pub record Given (p : ℕ) (x : Part) : Type 0 where
   pub current : IsCurrent x.place x.current
   pub fits : TaskFits x.place x.current x.task
   pub wants : WantsCell x x.task
   pub cutting : Cutting x x.task
   pub none : (k : ℕ) → k < length x.current.writes → k < over_of x.place x.task (length x.current.writes) → (claim_at x.current k).own ≡ None
+  pub unmade : is_flusher p ≡ true → x.current.made ≡ []
 
 -- kinds that change neither a counter, nor an object's list of versions, nor a seat's cells
 abbrev pub LeavesAll : Kind → Type 0
@@ -35,10 +37,10 @@ LeavesAll (kind.Install oid head) = ⊥
 LeavesAll (kind.SwapLink v) = ⊥
 LeavesAll _ = Unit {0}
 
-pub leaves : (p : ℕ) (k : Kind) (found : ℕ) (s : Shared) (x y : Part) → LeavesAll k → Given x → part_after p k found s x ≡ Some y → Leaves x x.task y
+pub leaves : (p : ℕ) (k : Kind) (found : ℕ) (s : Shared) (x y : Part) → LeavesAll k → Given p x → part_after p k found s x ≡ Some y → Leaves x x.task y
 leaves p (kind.LoadTail reason) found s x y q g e = load_tail_leaves p reason found x y g.current e
 leaves p (kind.AddTail size) found s x y q g e = add_tail_leaves p size found x x.place y e
-leaves p (kind.StoreBegin value) found s x y q g e = store_begin_leaves p value x x.place x.task y refl refl g.none e
+leaves p (kind.StoreBegin value) found s x y q g e = store_begin_leaves p value x x.place x.task y refl refl g.unmade g.none e
 leaves p (kind.StoreState value) found s x y q g e = store_state_leaves p value x x.place y refl g.fits g.none e
 leaves p (kind.LoadBegin other) found s x y q g e = load_begin_leaves other found x x.task y e
 leaves p (kind.LoadState other bound) found s x y q g e = load_state_leaves p other bound found x y e
@@ -68,9 +70,3 @@ leaves p (kind.StoreFlushed value) found s x y q g e = store_flushed_leaves valu
 leaves p kind.LoadFlushed found s x y q g e = load_flushed_leaves found x x.flushing y e
 leaves p (kind.SwapLink v) found s x y q g e = absurd q
 leaves p (kind.LoadDetached v) found s x y q g e = load_detached_leaves found v x x.task y g.cutting e
-leaves p (kind.WriteLog segment fails) found s x y q g e = unless_then (Leaves x x.task) fails _ y e (write_log_leaves segment x x.flushing y)
-leaves p (kind.SyncLog segment fails) found s x y q g e = unless_then (Leaves x x.task) fails _ y e (sync_log_leaves segment x x.flushing y)
-leaves p (kind.WriteSlot fails) found s x y q g e = unless_then (Leaves x x.task) fails _ y e (write_slot_leaves p x y)
-leaves p (kind.SyncSlot fails) found s x y q g e = unless_then (Leaves x x.task) fails _ y e (sync_slot_leaves x x.flushing y)
-leaves p (kind.RemoveLog segment fails) found s x y q g e = unless_then (Leaves x x.task) fails _ y e (remove_log_leaves segment x x.flushing y)
-leaves p (kind.SyncRemoval segment fails) found s x y q g e = unless_then (Leaves x x.task) fails _ y e (sync_removal_leaves segment x x.flushing y)

@@ -20,7 +20,7 @@ use Rattle.erm_machine.specs.declared.version.VersionAt.{VersionAt}
 use Rattle.erm_machine.specs.Chains.{NamedInHand, CutInHand, HeadInHand, OwnChains}
 use Rattle.erm_machine.specs.Core.{Core, Shared, spot_of, word_at}
 use Rattle.erm_machine.specs.Facts.{HasBegun}
-use Rattle.erm_machine.specs.Flushing.{load_flushed, gathered_word, load_ring, write_log, after_sync, sync_log, clear_ring, store_flushed, write_slot, sync_slot, remove_log, sync_removal}
+use Rattle.erm_machine.specs.Flushing.{load_flushed, gathered_word, load_ring, clear_ring, store_flushed}
 use Rattle.erm_machine.specs.Life.{load_tail_to_begin, load_tail_for_horizon, load_tail_to_gather, load_tail, add_tail, store_begin, store_state, load_begin, load_state, decide}
 use Rattle.erm_machine.specs.Reading.{load_counter, add_counter, start_row, store_row_word}
 use Rattle.erm_machine.specs.Seat.{end_of, with_task}
@@ -28,7 +28,7 @@ use Rattle.erm_machine.specs.Settling.{load_flushed_to_settle, load_read_entry, 
 use Rattle.erm_machine.specs.Step.{part_after}
 use Rattle.erm_machine.specs.Tasks.{TaskFits, OwnTask}
 use Rattle.erm_machine.specs.Words.{is_flusher}
-use Rattle.erm_machine.proofs.Guards.{when_then, some_then, unless_then, if_then, either_way}
+use Rattle.erm_machine.proofs.Guards.{when_then, some_then, if_then, either_way}
 use Rattle.erm_machine.proofs.Quiet.{Quiet}
 use Rattle.erm_machine.proofs.QuietKinds.{IsQuiet, quiet_kind}
 
@@ -197,52 +197,25 @@ s_if : (x : Part) (b : Bool) (l r : Part) → Stays x l → Stays x r → Stays 
 s_if x b l r f g = either_way (Stays x) b l r (λ _. f) (λ _. g)
 
 -- the flush seat's own fields change
-s_flushing : (x : Part) (f : Flushing) (to synced : ℕ) → Stays x (record x { flushing = f; gathered_to = to; synced = synced })
-s_flushing x f to synced = stays_same x _ refl refl
+s_flushing : (x : Part) (f : Flushing) (to : ℕ) → Stays x (record x { flushing = f; gathered_to = to })
+s_flushing x f to = stays_same x _ refl refl
 
 s_gathered : (tail from block next end : ℕ) (x : Part) → Stays x (gathered_word tail from block next end x)
-s_gathered tail from block next end x = either_way (Stays x) _ _ _ (λ _. s_flushing x _ _ _) (λ _. s_flushing x _ _ _)
+s_gathered tail from block next end x = either_way (Stays x) _ _ _ (λ _. s_flushing x _ _) (λ _. s_flushing x _ _)
 
 s_load_ring : (at found : ℕ) (x : Part) (f : Flushing) (y : Part) → load_ring at found x f ≡ Some y → Stays x y
 s_load_ring at found x (flushing.Gathers tail from block next end) y e =
     when_then (Stays x) _ _ y e (λ _. s_if x _ _ _ (s_gathered tail from block next end x) (s_if x _ _ _ (stays_same x x refl refl) (s_gathered tail from next next _ x)))
 s_load_ring at found x _ y e = absurd (cc)
 
-s_write_log : (segment : ℕ) (x : Part) (f : Flushing) (y : Part) → write_log segment x f ≡ Some y → Stays x y
-s_write_log segment x (flushing.Gathers tail from block next end) y e = when_then (Stays x) _ _ y e (λ _. stays_same x _ refl refl)
-s_write_log segment x (flushing.Puts from to written) y e = when_then (Stays x) _ _ y e (λ _. stays_same x _ refl refl)
-s_write_log segment x _ y e = absurd (cc)
-
-s_after_sync : (from to synced : ℕ) (x : Part) → Stays x (after_sync from to synced x)
-s_after_sync from to synced x = either_way (Stays x) _ _ _ (λ _. s_flushing x _ _ _) (λ _. s_flushing x _ _ _)
-
-s_sync_log : (segment : ℕ) (x : Part) (f : Flushing) (y : Part) → sync_log segment x f ≡ Some y → Stays x y
-s_sync_log segment x (flushing.Puts from to written) y e = when_then (Stays x) _ _ y e (λ _. s_after_sync from to 1 x)
-s_sync_log segment x (flushing.Syncs from to synced) y e = when_then (Stays x) _ _ y e (λ _. s_after_sync from to _ x)
-s_sync_log segment x _ y e = absurd (cc)
-
 s_clear_ring : (at : ℕ) (x : Part) (f : Flushing) (y : Part) → clear_ring at x f ≡ Some y → Stays x y
+s_clear_ring at x (flushing.Gathers tail from block next end) y e = when_then (Stays x) _ _ y e (λ _. stays_same x _ refl refl)
 s_clear_ring at x (flushing.Clears next to) y e = when_then (Stays x) _ _ y e (λ _. stays_same x _ refl refl)
 s_clear_ring at x _ y e = absurd (cc)
 
 s_store_flushed : (value : ℕ) (x : Part) (f : Flushing) (y : Part) → store_flushed value x f ≡ Some y → Stays x y
 s_store_flushed value x (flushing.Clears next to) y e = when_then (Stays x) _ _ y e (λ _. stays_same x _ refl refl)
 s_store_flushed value x _ y e = absurd (cc)
-
-s_write_slot : (seat : ℕ) (x : Part) (y : Part) → write_slot seat x ≡ Some y → Stays x y
-s_write_slot seat x y e = when_then (Stays x) _ _ y e (λ _. stays_same x _ refl refl)
-
-s_sync_slot : (x : Part) (f : Flushing) (y : Part) → sync_slot x f ≡ Some y → Stays x y
-s_sync_slot x flushing.SlotPut y e = some_then (Stays x) _ y e (stays_same x _ refl refl)
-s_sync_slot x _ y e = absurd (cc)
-
-s_remove_log : (segment : ℕ) (x : Part) (f : Flushing) (y : Part) → remove_log segment x f ≡ Some y → Stays x y
-s_remove_log segment x flushing.SlotSynced y e = some_then (Stays x) _ y e (stays_same x _ refl refl)
-s_remove_log segment x _ y e = absurd (cc)
-
-s_sync_removal : (segment : ℕ) (x : Part) (f : Flushing) (y : Part) → sync_removal segment x f ≡ Some y → Stays x y
-s_sync_removal segment x (flushing.Removed removed) y e = when_then (Stays x) _ _ y e (λ _. stays_same x _ refl refl)
-s_sync_removal segment x _ y e = absurd (cc)
 
 -- steps that move the seat on in its life
 s_begin : (seat found : ℕ) (x : Part) (pl : Place) (y : Part) → load_tail_to_begin seat found x pl ≡ Some y → Stays x y
@@ -324,12 +297,6 @@ stays_kind p (kind.StoreFlushed value) found s x y n own e = s_store_flushed val
 stays_kind p kind.LoadFlushed found s x y n own e = s_load_flushed found x x.flushing y e
 stays_kind p (kind.SwapLink v) found s x y n own e = absurd n
 stays_kind p (kind.LoadDetached v) found s x y n own e = absurd n
-stays_kind p (kind.WriteLog segment fails) found s x y n own e = unless_then (Stays x) fails _ y e (s_write_log segment x x.flushing y)
-stays_kind p (kind.SyncLog segment fails) found s x y n own e = unless_then (Stays x) fails _ y e (s_sync_log segment x x.flushing y)
-stays_kind p (kind.WriteSlot fails) found s x y n own e = unless_then (Stays x) fails _ y e (s_write_slot p x y)
-stays_kind p (kind.SyncSlot fails) found s x y n own e = unless_then (Stays x) fails _ y e (s_sync_slot x x.flushing y)
-stays_kind p (kind.RemoveLog segment fails) found s x y n own e = unless_then (Stays x) fails _ y e (s_remove_log segment x x.flushing y)
-stays_kind p (kind.SyncRemoval segment fails) found s x y n own e = unless_then (Stays x) fails _ y e (s_sync_removal segment x x.flushing y)
 
 -- a seat begins with a begin stamp that is the tail
 pub record Starts (now : ℕ) (x y : Part) : Type 0 where

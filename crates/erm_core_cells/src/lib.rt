@@ -13,12 +13,12 @@ ghost use Rattle.erm_machine.specs.Sound.{Sound};
 ghost use Rattle.erm_machine.specs.Step.{after_event};
 
 /// From a sound state each event of each seat leads to one whose counters don't wrap, in which each object made was drawn and
-/// made once.
+/// made once, and each number of an object that was drawn was made.
 pub fn numbers_are_kept()
     ensures counters { (c d : Core) (seat : ℕ) (kind : Kind) → Sound c → after_event c seat kind ≡ Some d
         → Counters d.shared d.seats }
     ensures seats { (c d : Core) (seat : ℕ) (kind : Kind) → Sound c → after_event c seat kind ≡ Some d
-        → (p : ℕ) → OwnMade d.shared (d.seats p) }
+        → (p : ℕ) → OwnMade d.shared p (d.seats p) }
     ensures pairs { (c d : Core) (seat : ℕ) (kind : Kind) → Sound c → after_event c seat kind ≡ Some d
         → (p q : ℕ) → p ≢ q → MadeApart (d.seats p) (d.seats q) }
 {}

@@ -13,6 +13,7 @@ use Rattle.erm_machine.specs.declared.event.Kind.TheVariants as kind
 use Rattle.erm_machine.specs.declared.part.Flushing.{Flushing}
 use Rattle.erm_machine.specs.declared.part.Flushing.TheVariants as flushing
 use Rattle.erm_machine.specs.declared.part.Part.{Part}
+use Rattle.erm_machine.specs.declared.place.Place.{Place}
 use Rattle.erm_machine.specs.declared.task.Task.{Task}
 use Rattle.erm_machine.specs.declared.task.Task.TheVariants as task
 use Rattle.erm_machine.specs.declared.version.CellWord.{CellWord}
@@ -20,12 +21,12 @@ use Rattle.erm_machine.specs.declared.version.CellWord.TheVariants as word
 use Rattle.erm_machine.specs.declared.version.VersionAt.{VersionAt}
 use Rattle.erm_machine.specs.Core.{Object, Shared, claim_at, no_claim}
 use Rattle.erm_machine.specs.Decided.{written_of}
-use Rattle.erm_machine.specs.Flushing.{load_flushed, gathered_word, load_ring, write_log, after_sync, sync_log, clear_ring, store_flushed, write_slot, sync_slot, remove_log, sync_removal}
+use Rattle.erm_machine.specs.Flushing.{load_flushed, gathered_word, load_ring, clear_ring, store_flushed}
 use Rattle.erm_machine.specs.Reading.{load_entry, claim, set_reader, load_walked_stamp, load_walked_link, load_cell, swap_link, load_detached, load_counter, add_counter, load_active_stamp, start_row, store_row_word}
 use Rattle.erm_machine.specs.Seat.{end_of, is_active, is_sealed, with_claim}
 use Rattle.erm_machine.specs.Settling.{load_flushed_to_settle, load_read_entry, load_readers, load_settled_stamp, load_stamp, store_ring, raise_reader, store_head_word, store_active_word, store_cell, mark_overwritten, install_claim, adds_version, install_new, release_old, unclaim, install, clear_reader, filled}
 use Rattle.erm_machine.specs.Step.{part_after}
-use Rattle.erm_machine.proofs.Guards.{when_then, some_then, unless_then, if_then, either_way, unless_some}
+use Rattle.erm_machine.proofs.Guards.{when_then, some_then, if_then, either_way, unless_some}
 use Rattle.erm_machine.proofs.QuietKinds.{IsQuiet}
 
 -- two transactions have the same reads, objects made, and claims but for their own cells
@@ -34,23 +35,45 @@ pub record SameRecord (t u : Attempt) : Type 0 where
   pub writes : map written_of u.writes ≡ map written_of t.writes
   pub made : u.made ≡ t.made
 
+-- two transactions have the same successor stamp, and the same words of a block
+pub record SameWords (t u : Attempt) : Type 0 where
+  pub succ : u.succ ≡ t.succ
+  pub header : u.header ≡ t.header
+  pub block : u.block ≡ t.block
+
+-- at this place a transaction isn't decided yet, or these are the same
+abbrev pub KeepsWords : Place → Attempt → Attempt → Type 0
+KeepsWords p t u = (is_active p ≡ true) ⊎ (is_sealed p ≡ true) ⊎ SameWords t u
+
 pub record Lasting (x y : Part) : Type 0 where
   pub run : y.run ≡ x.run
   pub number : y.number ≡ x.number
   pub current : (is_active x.place ≡ true) ⊎ SameRecord x.current y.current
+  pub words : KeepsWords x.place x.current y.current
 
 pub same_record : (t u : Attempt) → u ≡ t → SameRecord t u
 same_record t u e = record { reads = ap (λ (a : Attempt). a.reads) e; writes = ap (λ (a : Attempt). map written_of a.writes) e; made = ap (λ (a : Attempt). a.made) e }
 
--- the transaction stays; it is active; it changes elsewhere
+same_words : (t u : Attempt) → u ≡ t → SameWords t u
+same_words t u e = record { succ = ap (λ (a : Attempt). a.succ) e; header = ap (λ (a : Attempt). a.header) e; block = ap (λ (a : Attempt). a.block) e }
+
+-- the transaction stays; it is active; it settles; it changes elsewhere
 pub lasts : (x y : Part) → y.run ≡ x.run → y.number ≡ x.number → y.current ≡ x.current → Lasting x y
-lasts x y run number current = record { run = run; number = number; current = inr (same_record x.current y.current current) }
+lasts x y run number current =
+    record { run = run; number = number; current = inr (same_record x.current y.current current); words = inr (inr (same_words x.current y.current current)) }
 
 works : (x y : Part) → y.run ≡ x.run → y.number ≡ x.number → is_active x.place ≡ true → Lasting x y
-works x y run number active = record { run = run; number = number; current = inl active }
+works x y run number active = record { run = run; number = number; current = inl active; words = inl active }
 
-touches : (x y : Part) → y.run ≡ x.run → y.number ≡ x.number → SameRecord x.current y.current → Lasting x y
-touches x y run number same = record { run = run; number = number; current = inr same }
+settles : (x y : Part) → y.run ≡ x.run → y.number ≡ x.number → is_sealed x.place ≡ true → SameRecord x.current y.current → Lasting x y
+settles x y run number sealed same = record { run = run; number = number; current = inr same; words = inr (inl sealed) }
+
+touches : (x y : Part) → y.run ≡ x.run → y.number ≡ x.number → SameRecord x.current y.current → SameWords x.current y.current → Lasting x y
+touches x y run number same words = record { run = run; number = number; current = inr same; words = inr (inr words) }
+
+-- a change of its claims alone
+no_words : (t u : Attempt) → u.succ ≡ t.succ → u.header ≡ t.header → u.block ≡ t.block → SameWords t u
+no_words t u succ header block = record { succ = succ; header = header; block = block }
 
 -- a claim changes in its own cell, or is over
 with_claim_same : (t : Attempt) (place : ℕ) (w : Claim) → written_of w ≡ written_of (claim_at t place) → SameRecord t (with_claim place w t)
@@ -122,17 +145,17 @@ l_active_stamp found v _ x _ y b e = absurd (cc)
 plainly : (t : Attempt) (u : Attempt) → u.reads ≡ t.reads → u.writes ≡ t.writes → u.made ≡ t.made → SameRecord t u
 plainly t u reads writes made = record { reads = reads; writes = ap (λ ws. map written_of ws) writes; made = made }
 
-l_settled_stamp : (found : ℕ) (v : VersionAt) (w : CellWord) (x : Part) (t : Task) (y : Part) → load_settled_stamp found v w x t ≡ Some y → Lasting x y
-l_settled_stamp found v word.Overwriter x (task.ReadClear read) y e = when_then (Lasting x) _ _ y e (λ _. lasts x _ refl refl refl)
-l_settled_stamp found v word.OverwriterSucc x (task.ReadOvertaken read overwriter) y e = when_then (Lasting x) _ _ y e (λ _. touches x _ refl refl (plainly x.current _ refl refl refl))
-l_settled_stamp found v word.Stamp x (task.WriteClear write) y e = when_then (Lasting x) _ _ y e (λ _. touches x _ refl refl (plainly x.current _ refl refl refl))
-l_settled_stamp found v word.ReaderStamp x (task.WriteMade write) y e = when_then (Lasting x) _ _ y e (λ _. touches x _ refl refl (plainly x.current _ refl refl refl))
-l_settled_stamp found v _ x _ y e = absurd (cc)
+l_settled_stamp : (found : ℕ) (v : VersionAt) (w : CellWord) (x : Part) (t : Task) (y : Part) → is_sealed x.place ≡ true → load_settled_stamp found v w x t ≡ Some y → Lasting x y
+l_settled_stamp found v word.Overwriter x (task.ReadClear read) y b e = when_then (Lasting x) _ _ y e (λ _. lasts x _ refl refl refl)
+l_settled_stamp found v word.OverwriterSucc x (task.ReadOvertaken read overwriter) y b e = when_then (Lasting x) _ _ y e (λ _. settles x _ refl refl b (plainly x.current _ refl refl refl))
+l_settled_stamp found v word.Stamp x (task.WriteClear write) y b e = when_then (Lasting x) _ _ y e (λ _. settles x _ refl refl b (plainly x.current _ refl refl refl))
+l_settled_stamp found v word.ReaderStamp x (task.WriteMade write) y b e = when_then (Lasting x) _ _ y e (λ _. settles x _ refl refl b (plainly x.current _ refl refl refl))
+l_settled_stamp found v _ x _ y b e = absurd (cc)
 
 l_load_stamp : (found : ℕ) (v : VersionAt) (w : CellWord) (x : Part) (y : Part) → load_stamp found v w x ≡ Some y → Lasting x y
 l_load_stamp found v w x y e =
     if_then (Lasting x) _ _ _ y e (λ active h. l_active_stamp found v w x x.task y active h)
-    (λ _ rest. if_then (Lasting x) (is_sealed x.place) (load_settled_stamp found v w x x.task) None y rest (λ _ h. l_settled_stamp found v w x x.task y h) (λ _ h. absurd (cc)))
+    (λ _ rest. if_then (Lasting x) (is_sealed x.place) (load_settled_stamp found v w x x.task) None y rest (λ sealed h. l_settled_stamp found v w x x.task y sealed h) (λ _ h. absurd (cc)))
 
 l_load_read_entry : (seat oid found : ℕ) (x : Part) (t : Task) (y : Part) → load_read_entry seat oid found x t ≡ Some y → Lasting x y
 l_load_read_entry seat oid found x (task.Settles reads writes) y e = when_then (Lasting x) _ _ y e (λ _. lasts x _ refl refl refl)
@@ -144,7 +167,8 @@ l_load_readers seat v found x _ y e = absurd (cc)
 
 l_store_ring : (at value : ℕ) (x : Part) (o : Option ℕ) (y : Part) → store_ring at value x o ≡ Some y → Lasting x y
 l_store_ring at value x None y e = absurd (cc)
-l_store_ring at value x (Some words) y e = when_then (Lasting x) _ _ y e (λ _. touches x _ refl refl (plainly x.current _ refl refl refl))
+l_store_ring at value x (Some words) y e =
+    when_then (Lasting x) _ _ y e (λ g. settles x _ refl refl (first _ _ (first _ _ (first _ _ (first _ _ g)))) (plainly x.current _ refl refl refl))
 
 l_raise_reader : (v : VersionAt) (value : ℕ) (x : Part) (t : Task) (y : Part) → raise_reader v value x t ≡ Some y → Lasting x y
 l_raise_reader v value x (task.Ends raised ended step cleared) y e = when_then (Lasting x) _ _ y e (λ _. lasts x _ refl refl refl)
@@ -155,7 +179,7 @@ l_mark nth v value wanted x (task.Ends raised ended step cleared) y e = when_the
 l_mark nth v value wanted x _ y e = absurd (cc)
 
 l_head_word : (place cell : ℕ) (w : CellWord) (value : ℕ) (x : Part) (t : Task) (y : Part) → store_head_word place cell w value x t ≡ Some y → Lasting x y
-l_head_word place cell w value x (task.Ends raised ended step cleared) y e = when_then (Lasting x) _ _ y e (λ _. touches x _ refl refl (with_claim_same x.current place _ refl))
+l_head_word place cell w value x (task.Ends raised ended step cleared) y e = when_then (Lasting x) _ _ y e (λ _. touches x _ refl refl (with_claim_same x.current place _ refl) (no_words x.current _ refl refl refl))
 l_head_word place cell w value x _ y e = absurd (cc)
 
 l_start_row : (place cell k value : ℕ) (x : Part) (t : Task) (y : Part) → is_active x.place ≡ true → start_row place cell k value x t ≡ Some y → Lasting x y
@@ -181,8 +205,8 @@ l_install_claim : (oid head : ℕ) (x : Part) (e : Option (ℕ × ℕ × ℕ × 
 l_install_claim oid head x None y e = absurd (cc)
 l_install_claim oid head x (Some c) y e =
     if_then (Lasting x) (adds_version x) (install_new oid head x c) (release_old oid head x c) y e
-    (λ _ h. when_then (Lasting x) _ _ y h (λ _. touches x _ refl refl (with_claim_same x.current c.1 _ refl)))
-    (λ _ h. when_then (Lasting x) _ _ y h (λ _. touches x _ refl refl (with_claim_same x.current c.1 _ refl)))
+    (λ _ h. when_then (Lasting x) _ _ y h (λ _. touches x _ refl refl (with_claim_same x.current c.1 _ refl) (no_words x.current _ refl refl refl)))
+    (λ _ h. when_then (Lasting x) _ _ y h (λ _. touches x _ refl refl (with_claim_same x.current c.1 _ refl) (no_words x.current _ refl refl refl)))
 
 l_install_other : (oid head : ℕ) (x : Part) (t : Task) (y : Part) → install_claim oid head x (end_of t) ≡ Some y → Lasting x y
 l_install_other oid head x t y e = l_install_claim oid head x (end_of t) y e
@@ -206,52 +230,25 @@ l_if : (x : Part) (b : Bool) (l r : Part) → Lasting x l → Lasting x r → La
 l_if x b l r f g = either_way (Lasting x) b l r (λ _. f) (λ _. g)
 
 -- the flush seat's own fields change
-l_flushing : (x : Part) (f : Flushing) (to synced : ℕ) → Lasting x (record x { flushing = f; gathered_to = to; synced = synced })
-l_flushing x f to synced = lasts x _ refl refl refl
+l_flushing : (x : Part) (f : Flushing) (to : ℕ) → Lasting x (record x { flushing = f; gathered_to = to })
+l_flushing x f to = lasts x _ refl refl refl
 
 l_gathered : (tail from block next end : ℕ) (x : Part) → Lasting x (gathered_word tail from block next end x)
-l_gathered tail from block next end x = either_way (Lasting x) _ _ _ (λ _. l_flushing x _ _ _) (λ _. l_flushing x _ _ _)
+l_gathered tail from block next end x = either_way (Lasting x) _ _ _ (λ _. l_flushing x _ _) (λ _. l_flushing x _ _)
 
 l_load_ring : (at found : ℕ) (x : Part) (f : Flushing) (y : Part) → load_ring at found x f ≡ Some y → Lasting x y
 l_load_ring at found x (flushing.Gathers tail from block next end) y e =
     when_then (Lasting x) _ _ y e (λ _. l_if x _ _ _ (l_gathered tail from block next end x) (l_if x _ _ _ (lasts x x refl refl refl) (l_gathered tail from next next _ x)))
 l_load_ring at found x _ y e = absurd (cc)
 
-l_write_log : (segment : ℕ) (x : Part) (f : Flushing) (y : Part) → write_log segment x f ≡ Some y → Lasting x y
-l_write_log segment x (flushing.Gathers tail from block next end) y e = when_then (Lasting x) _ _ y e (λ _. lasts x _ refl refl refl)
-l_write_log segment x (flushing.Puts from to written) y e = when_then (Lasting x) _ _ y e (λ _. lasts x _ refl refl refl)
-l_write_log segment x _ y e = absurd (cc)
-
-l_after_sync : (from to synced : ℕ) (x : Part) → Lasting x (after_sync from to synced x)
-l_after_sync from to synced x = either_way (Lasting x) _ _ _ (λ _. l_flushing x _ _ _) (λ _. l_flushing x _ _ _)
-
-l_sync_log : (segment : ℕ) (x : Part) (f : Flushing) (y : Part) → sync_log segment x f ≡ Some y → Lasting x y
-l_sync_log segment x (flushing.Puts from to written) y e = when_then (Lasting x) _ _ y e (λ _. l_after_sync from to 1 x)
-l_sync_log segment x (flushing.Syncs from to synced) y e = when_then (Lasting x) _ _ y e (λ _. l_after_sync from to _ x)
-l_sync_log segment x _ y e = absurd (cc)
-
 l_clear_ring : (at : ℕ) (x : Part) (f : Flushing) (y : Part) → clear_ring at x f ≡ Some y → Lasting x y
+l_clear_ring at x (flushing.Gathers tail from block next end) y e = when_then (Lasting x) _ _ y e (λ _. lasts x _ refl refl refl)
 l_clear_ring at x (flushing.Clears next to) y e = when_then (Lasting x) _ _ y e (λ _. lasts x _ refl refl refl)
 l_clear_ring at x _ y e = absurd (cc)
 
 l_store_flushed : (value : ℕ) (x : Part) (f : Flushing) (y : Part) → store_flushed value x f ≡ Some y → Lasting x y
 l_store_flushed value x (flushing.Clears next to) y e = when_then (Lasting x) _ _ y e (λ _. lasts x _ refl refl refl)
 l_store_flushed value x _ y e = absurd (cc)
-
-l_write_slot : (seat : ℕ) (x : Part) (y : Part) → write_slot seat x ≡ Some y → Lasting x y
-l_write_slot seat x y e = when_then (Lasting x) _ _ y e (λ _. lasts x _ refl refl refl)
-
-l_sync_slot : (x : Part) (f : Flushing) (y : Part) → sync_slot x f ≡ Some y → Lasting x y
-l_sync_slot x flushing.SlotPut y e = some_then (Lasting x) _ y e (lasts x _ refl refl refl)
-l_sync_slot x _ y e = absurd (cc)
-
-l_remove_log : (segment : ℕ) (x : Part) (f : Flushing) (y : Part) → remove_log segment x f ≡ Some y → Lasting x y
-l_remove_log segment x flushing.SlotSynced y e = some_then (Lasting x) _ y e (lasts x _ refl refl refl)
-l_remove_log segment x _ y e = absurd (cc)
-
-l_sync_removal : (segment : ℕ) (x : Part) (f : Flushing) (y : Part) → sync_removal segment x f ≡ Some y → Lasting x y
-l_sync_removal segment x (flushing.Removed removed) y e = when_then (Lasting x) _ _ y e (λ _. lasts x _ refl refl refl)
-l_sync_removal segment x _ y e = absurd (cc)
 
 pub lasting_kind : (p : ℕ) (k : Kind) (found : ℕ) (s : Shared) (x y : Part) → IsQuiet k → part_after p k found s x ≡ Some y → Lasting x y
 lasting_kind p (kind.LoadTail reason) found s x y q e = absurd q
@@ -286,9 +283,3 @@ lasting_kind p (kind.StoreFlushed value) found s x y q e = l_store_flushed value
 lasting_kind p kind.LoadFlushed found s x y q e = l_load_flushed found x x.flushing y e
 lasting_kind p (kind.SwapLink v) found s x y q e = l_swap_link found v (s.objects v.oid) x x.task y e
 lasting_kind p (kind.LoadDetached v) found s x y q e = l_load_detached found v x x.task y e
-lasting_kind p (kind.WriteLog segment fails) found s x y q e = unless_then (Lasting x) fails _ y e (l_write_log segment x x.flushing y)
-lasting_kind p (kind.SyncLog segment fails) found s x y q e = unless_then (Lasting x) fails _ y e (l_sync_log segment x x.flushing y)
-lasting_kind p (kind.WriteSlot fails) found s x y q e = unless_then (Lasting x) fails _ y e (l_write_slot p x y)
-lasting_kind p (kind.SyncSlot fails) found s x y q e = unless_then (Lasting x) fails _ y e (l_sync_slot x x.flushing y)
-lasting_kind p (kind.RemoveLog segment fails) found s x y q e = unless_then (Lasting x) fails _ y e (l_remove_log segment x x.flushing y)
-lasting_kind p (kind.SyncRemoval segment fails) found s x y q e = unless_then (Lasting x) fails _ y e (l_sync_removal segment x x.flushing y)

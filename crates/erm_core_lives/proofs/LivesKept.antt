@@ -23,7 +23,7 @@ use Rattle.erm_core_lives.proofs.LivesLists.{end_to_end_ascends}
 use Rattle.erm_core_lives.proofs.LivesMoved.{stays_lives, begins_lives, draws_lives, announces_lives, seals_lives, decides_lives, split_lives, calm_lives, join_lives, horizon_lives, load_begin_lives, load_state_lives}
 
 -- the run that is written, and the place where its log begins, stay
-record SameOpening (s t : Shared) : Type 0 where
+pub record SameOpening (s t : Shared) : Type 0 where
   pub run : t.run ≡ s.run
   pub opening : t.opening ≡ s.opening
 
@@ -31,7 +31,7 @@ counter_opening : (c : Counter) (n : ℕ) (s : Shared) → SameOpening s (with_c
 counter_opening Objects n s = record { run = refl; opening = refl }
 counter_opening Cells n s = record { run = refl; opening = refl }
 
-same_opening : (p : ℕ) (k : Kind) (found : ℕ) (x : Part) (s : Shared) → SameOpening s (shared_after p k found x s)
+pub same_opening : (p : ℕ) (k : Kind) (found : ℕ) (x : Part) (s : Shared) → SameOpening s (shared_after p k found x s)
 same_opening p (kind.AddCounter counter) found x s = counter_opening counter _ s
 same_opening p _ found x s = record { run = refl; opening = refl }
 

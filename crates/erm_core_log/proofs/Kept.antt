@@ -61,6 +61,7 @@ steady_own s p x y q own = record {
       let c = ap (λ pl. may_draw p pl) q.place in
       omega (arith, old, a, b, c);
   few = q.few own.few;
+  few_reads = q.few_reads own.few_reads;
 }
 
 -- what is shared may change elsewhere
@@ -73,6 +74,7 @@ same_log_own s t p x same own = record {
   ranges = ap (λ (rs : List Span). filter (λ (r : Span). eqb r.seat p) rs) same.log ∙ own.ranges;
   one_high = own.one_high;
   few = own.few;
+  few_reads = own.few_reads;
 }
 
 -- the shared ranges, where no range is drawn: no seat has drawn another high one
@@ -137,6 +139,7 @@ drawn_other s p q size x ne own = record {
   ranges = filter_other p q s.tail size s.log (λ e. ne (sym e)) ∙ own.ranges;
   one_high = own.one_high;
   few = own.few;
+  few_reads = own.few_reads;
 }
 
 -- what the law says of a state

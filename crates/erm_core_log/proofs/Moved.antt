@@ -73,6 +73,7 @@ module _ (s : Shared) (seats : ℕ → Part) (common : Ranges s seats) (p : ℕ)
     ranges = own.ranges;
     one_high = high_at Idle at;
     few = own.few;
+    few_reads = own.few_reads;
   }
   begun_own false e at = record {
     seat_of = λ f. let v = own.seat_of f in absurd (cc);
@@ -82,6 +83,7 @@ module _ (s : Shared) (seats : ℕ → Part) (common : Ranges s seats) (p : ℕ)
     ranges = own.ranges;
     one_high = may_draw-le p (Begun s.tail) (high_of x) (λ session. let z = none_high (not_refused e session) in omega (arith, z)) few_high;
     few = own.few;
+    few_reads = own.few_reads;
   }
 
   pub begins_own : (pl : Place) (y : Part) → x.place ≡ pl → load_tail_to_begin p s.tail x pl ≡ Some y → OwnRanges s p y
@@ -96,6 +98,7 @@ module _ (s : Shared) (seats : ℕ → Part) (common : Ranges s seats) (p : ℕ)
         ranges = subst (λ (t : Attempt). filter (λ (r : Span). eqb r.seat p) s.log ≡ ranges_of p x.over ++ range_at p t.stamp t.size) was own.ranges;
         one_high = subst (λ (t : Attempt). (count_by (λ (u : Attempt). leb STOP u.stamp) x.over + high t.stamp) + may_draw p (Announced tail) ≤ 1) was (high_at (Announced tail) at);
         few = omega arith;
+        few_reads = omega arith;
       })
   begins_own _ y at e = absurd (cc)
 
@@ -116,6 +119,7 @@ module _ (s : Shared) (seats : ℕ → Part) (common : Ranges s seats) (p : ℕ)
             ∙ plus x.current.stamp x.current.size (ranges_of p x.over) s.tail size cur.stamp positive;
         one_high = let h = high_at (Sealing tail) at in let z = ap high cur.stamp in high_after (is_flusher p) (is_session_not_flusher p (and_parts _ _ (and_parts _ _ g).0).0) h z (high-le s.tail);
         few = own.few;
+        few_reads = own.few_reads;
       })
     where
       plus : (old size : ℕ) (rs : List Span) (at n : ℕ) → old ≡ 0 → 0 < at →
@@ -159,6 +163,7 @@ module _ (s : Shared) (seats : ℕ → Part) (common : Ranges s seats) (p : ℕ)
         (λ _. let z : high 0 ≡ 0 = refl in let n : drawing Idle ≡ 0 = refl in omega (arith, all, few, z, n))
         (let z : high 0 ≡ 0 = refl in omega (arith, all, few, z));
     few = omega arith;
+    few_reads = omega arith;
   }
 
   -- a pin that leaves nothing
@@ -176,6 +181,7 @@ module _ (s : Shared) (seats : ℕ → Part) (common : Ranges s seats) (p : ℕ)
         (λ _. let n : drawing Idle ≡ 0 = refl in omega (arith, few, z, n))
         (omega (arith, few, z));
     few = omega arith;
+    few_reads = omega arith;
   }
 
   -- BEGIN announces; an end clears the begin word
@@ -188,6 +194,7 @@ module _ (s : Shared) (seats : ℕ → Part) (common : Ranges s seats) (p : ℕ)
     ranges = own.ranges;
     one_high = high_at (Begun tail) at;
     few = own.few;
+    few_reads = own.few_reads;
   })
   announces_own value (Active tail) y at e =
       let cur : IsUnsealed x.current = current_at (Active tail) at in
@@ -202,6 +209,7 @@ module _ (s : Shared) (seats : ℕ → Part) (common : Ranges s seats) (p : ℕ)
     ranges = own.ranges;
     one_high = high_at (Decided tail stamp) at;
     few = own.few;
+    few_reads = own.few_reads;
   })
   announces_own value _ y at e = absurd (cc)
 
@@ -215,6 +223,7 @@ module _ (s : Shared) (seats : ℕ → Part) (common : Ranges s seats) (p : ℕ)
     ranges = own.ranges;
     one_high = high_at (Active tail) at;
     few = own.few;
+    few_reads = own.few_reads;
   })
   seals_own value (Drawn tail stamp) y at e = when_then (OwnRanges s p) _ _ y e (λ _. record {
     seat_of = λ f. let v = own.seat_of f in absurd (cc);
@@ -224,6 +233,7 @@ module _ (s : Shared) (seats : ℕ → Part) (common : Ranges s seats) (p : ℕ)
     ranges = own.ranges;
     one_high = high_at (Drawn tail stamp) at;
     few = own.few;
+    few_reads = own.few_reads;
   })
   seals_own value (Leaving stamp) y at e =
       let cur : IsDecided stamp x.current = current_at (Leaving stamp) at in
@@ -247,6 +257,7 @@ module _ (s : Shared) (seats : ℕ → Part) (common : Ranges s seats) (p : ℕ)
         ranges = own.ranges;
         one_high = high_at (Sealed tail stamp) at;
         few = own.few;
+        few_reads = own.few_reads;
       })
   decides_own at_stamp header _ _ y at e = absurd (cc)
 
@@ -260,6 +271,7 @@ module _ (s : Shared) (seats : ℕ → Part) (common : Ranges s seats) (p : ℕ)
     ranges = own.ranges;
     one_high = may_draw_less p x.place Idle (high_of x) (vacant_draws x.place (and_parts _ _ g).1) own.one_high;
     few = own.few;
+    few_reads = own.few_reads;
   })
     where
       vacant_blank : (pl : Place) → is_vacant pl ≡ true → IsCurrent pl x.current → x.current ≡ blank

@@ -20,7 +20,7 @@ use Rattle.erm_machine.specs.declared.version.VersionAt.{VersionAt}
 use Rattle.erm_machine.specs.Claims.{step_of}
 use Rattle.erm_machine.specs.Core.{Object}
 use Rattle.erm_machine.specs.Facts.{over_of}
-use Rattle.erm_machine.specs.Flushing.{load_flushed, gathered_word, load_ring, write_log, after_sync, sync_log, clear_ring, store_flushed, write_slot, sync_slot, remove_log, sync_removal}
+use Rattle.erm_machine.specs.Flushing.{load_flushed, gathered_word, load_ring, clear_ring, store_flushed}
 use Rattle.erm_machine.specs.Life.{load_tail_for_horizon, load_tail_to_gather, load_begin, after_clear, load_state}
 use Rattle.erm_machine.specs.Reading.{entered, after_cut, detached, load_entry, set_reader, load_walked_stamp, load_walked_link, load_cell, swap_link, load_detached, load_counter}
 use Rattle.erm_machine.specs.Seat.{end_of, is_active, may_start}
@@ -144,8 +144,8 @@ gentle_seen : (x : Part) (t u : Task) (seen : ℕ) (clear : List ℕ) → SameEn
 gentle_seen x t u seen clear e = record { place = refl; number = refl; begin = refl; stamp = refl; writes = refl; end = e; succ = inl refl }
 
 -- the flush seat's own fields change
-gentle_flushing : (x : Part) (f : Flushing) (to synced seen : ℕ) → Gentle x x.task (record x { flushing = f; gathered_to = to; synced = synced; seen = seen })
-gentle_flushing x f to synced seen = record { place = refl; number = refl; begin = refl; stamp = refl; writes = refl; end = same_end x.task; succ = inl refl }
+gentle_flushing : (x : Part) (f : Flushing) (to seen : ℕ) → Gentle x x.task (record x { flushing = f; gathered_to = to; seen = seen })
+gentle_flushing x f to seen = record { place = refl; number = refl; begin = refl; stamp = refl; writes = refl; end = same_end x.task; succ = inl refl }
 
 pub entered_no_end : (seat oid entry : ℕ) (o : Object) → NoEnd (entered seat oid entry o)
 entered_no_end seat oid entry o = search (no_end_if, no_end)
@@ -161,7 +161,7 @@ g_horizon found x (task.Claimed version) y e = when_then (Gentle x _) _ _ y e (�
 g_horizon found x _ y e = absurd (cc)
 
 pub g_gather : (seat found : ℕ) (x y : Part) → load_tail_to_gather seat found x ≡ Some y → Gentle x x.task y
-g_gather seat found x y e = when_then (Gentle x x.task) _ _ y e (λ _. gentle_flushing x _ _ _ _)
+g_gather seat found x y e = when_then (Gentle x x.task) _ _ y e (λ _. gentle_flushing x _ _ _)
 
 pub g_load_begin : (other found : ℕ) (x : Part) (t : Task) (y : Part) → load_begin other found x t ≡ Some y → Gentle x t y
 g_load_begin other found x (task.Horizon version least next) y e =
@@ -302,51 +302,24 @@ g_to_settle found x =
     (λ g. plain_task x _ _ (settle_no_end x.task (and_parts _ _ (and_parts _ _ g).0).1) (no_end _ tt)) (λ _. gentle_refl x)
 
 pub g_load_flushed : (found : ℕ) (x : Part) (f : Flushing) (y : Part) → load_flushed found x f ≡ Some y → Gentle x x.task y
-g_load_flushed found x (flushing.Tail tail) y e = some_then (Gentle x x.task) _ y e (gentle_flushing x _ _ _ _)
+g_load_flushed found x (flushing.Tail tail) y e = some_then (Gentle x x.task) _ y e (gentle_flushing x _ _ _)
 g_load_flushed found x _ y e = when_then (Gentle x x.task) _ _ y e (λ _. g_to_settle found x)
 
 gentle_if : (x : Part) (t : Task) (b : Bool) (l r : Part) → Gentle x t l → Gentle x t r → Gentle x t (if b then l else r)
 gentle_if x t b l r f g = either_way (Gentle x t) b l r (λ _. f) (λ _. g)
 
 g_gathered : (tail from block next end : ℕ) (x : Part) → Gentle x x.task (gathered_word tail from block next end x)
-g_gathered tail from block next end x = either_way (Gentle x x.task) _ _ _ (λ _. gentle_flushing x _ _ _ _) (λ _. gentle_flushing x _ _ _ _)
+g_gathered tail from block next end x = either_way (Gentle x x.task) _ _ _ (λ _. gentle_flushing x _ _ _) (λ _. gentle_flushing x _ _ _)
 
 pub g_load_ring : (at found : ℕ) (x : Part) (f : Flushing) (y : Part) → load_ring at found x f ≡ Some y → Gentle x x.task y
 g_load_ring at found x (flushing.Gathers tail from block next end) y e = when_then (Gentle x x.task) _ _ y e (λ _. search (gentle_if, g_gathered, gentle_refl))
 g_load_ring at found x _ y e = absurd (cc)
 
-pub g_write_log : (segment : ℕ) (x : Part) (f : Flushing) (y : Part) → write_log segment x f ≡ Some y → Gentle x x.task y
-g_write_log segment x (flushing.Gathers tail from block next end) y e = when_then (Gentle x x.task) _ _ y e (λ _. gentle_flushing x _ _ _ _)
-g_write_log segment x (flushing.Puts from to written) y e = when_then (Gentle x x.task) _ _ y e (λ _. gentle_flushing x _ _ _ _)
-g_write_log segment x _ y e = absurd (cc)
-
-g_after_sync : (from to synced : ℕ) (x : Part) → Gentle x x.task (after_sync from to synced x)
-g_after_sync from to synced x = either_way (Gentle x x.task) _ _ _ (λ _. gentle_flushing x _ _ _ _) (λ _. gentle_flushing x _ _ _ _)
-
-pub g_sync_log : (segment : ℕ) (x : Part) (f : Flushing) (y : Part) → sync_log segment x f ≡ Some y → Gentle x x.task y
-g_sync_log segment x (flushing.Puts from to written) y e = when_then (Gentle x x.task) _ _ y e (λ _. g_after_sync from to 1 x)
-g_sync_log segment x (flushing.Syncs from to synced) y e = when_then (Gentle x x.task) _ _ y e (λ _. g_after_sync from to _ x)
-g_sync_log segment x _ y e = absurd (cc)
-
 pub g_clear_ring : (at : ℕ) (x : Part) (f : Flushing) (y : Part) → clear_ring at x f ≡ Some y → Gentle x x.task y
-g_clear_ring at x (flushing.Clears next to) y e = when_then (Gentle x x.task) _ _ y e (λ _. gentle_flushing x _ _ _ _)
+g_clear_ring at x (flushing.Gathers tail from block next end) y e = when_then (Gentle x x.task) _ _ y e (λ _. gentle_flushing x _ _ _)
+g_clear_ring at x (flushing.Clears next to) y e = when_then (Gentle x x.task) _ _ y e (λ _. gentle_flushing x _ _ _)
 g_clear_ring at x _ y e = absurd (cc)
 
 pub g_store_flushed : (value : ℕ) (x : Part) (f : Flushing) (y : Part) → store_flushed value x f ≡ Some y → Gentle x x.task y
-g_store_flushed value x (flushing.Clears next to) y e = when_then (Gentle x x.task) _ _ y e (λ _. gentle_flushing x _ _ _ _)
+g_store_flushed value x (flushing.Clears next to) y e = when_then (Gentle x x.task) _ _ y e (λ _. gentle_flushing x _ _ _)
 g_store_flushed value x _ y e = absurd (cc)
-
-pub g_write_slot : (seat : ℕ) (x : Part) (y : Part) → write_slot seat x ≡ Some y → Gentle x x.task y
-g_write_slot seat x y e = when_then (Gentle x x.task) _ _ y e (λ _. gentle_flushing x _ _ _ _)
-
-pub g_sync_slot : (x : Part) (f : Flushing) (y : Part) → sync_slot x f ≡ Some y → Gentle x x.task y
-g_sync_slot x flushing.SlotPut y e = some_then (Gentle x x.task) _ y e (gentle_flushing x _ _ _ _)
-g_sync_slot x _ y e = absurd (cc)
-
-pub g_remove_log : (segment : ℕ) (x : Part) (f : Flushing) (y : Part) → remove_log segment x f ≡ Some y → Gentle x x.task y
-g_remove_log segment x flushing.SlotSynced y e = some_then (Gentle x x.task) _ y e (gentle_flushing x _ _ _ _)
-g_remove_log segment x _ y e = absurd (cc)
-
-pub g_sync_removal : (segment : ℕ) (x : Part) (f : Flushing) (y : Part) → sync_removal segment x f ≡ Some y → Gentle x x.task y
-g_sync_removal segment x (flushing.Removed removed) y e = when_then (Gentle x x.task) _ _ y e (λ _. gentle_flushing x _ _ _ _)
-g_sync_removal segment x _ y e = absurd (cc)

@@ -18,10 +18,10 @@ use Rattle.erm_machine.specs.Settling.{load_read_entry}
 use Rattle.erm_machine.specs.Sound.{Sound}
 use Rattle.erm_machine.specs.Step.{part_after, shared_after, after_event, with_part}
 use Rattle.erm_machine.specs.Words.{with_bit, without_bit}
-use Rattle.erm_machine.proofs.Guards.{unless_then, if_then, unless_some}
+use Rattle.erm_machine.proofs.Guards.{if_then, unless_some}
 use Rattle.erm_machine.proofs.Objects.{same_objects}
 use Rattle.erm_machine.proofs.QuietKinds.{DrawsNone, MeetsOne, Moves, keeps_log, moves}
-use Rattle.erm_core_si.proofs.ClaimsGentle.{g_horizon, g_gather, g_load_begin, g_load_state, g_load_entry, g_load_read_entry, g_set_reader, g_load_cell, g_swap_link, g_load_detached, g_load_counter, g_load_readers, g_store_ring, g_raise_reader, g_clear_reader, g_load_flushed, g_load_ring, g_write_log, g_sync_log, g_clear_ring, g_store_flushed, g_write_slot, g_sync_slot, g_remove_log, g_sync_removal}
+use Rattle.erm_core_si.proofs.ClaimsGentle.{g_horizon, g_gather, g_load_begin, g_load_state, g_load_entry, g_load_read_entry, g_set_reader, g_load_cell, g_swap_link, g_load_detached, g_load_counter, g_load_readers, g_store_ring, g_raise_reader, g_clear_reader, g_load_flushed, g_load_ring, g_clear_ring, g_store_flushed}
 use Rattle.erm_core_si.proofs.ClaimsInstalled.{install_kept}
 use Rattle.erm_core_si.proofs.ClaimsMarked.{succ_kept, mark_kept}
 use Rattle.erm_core_si.proofs.ClaimsObjects.{Alike, alike_refl, alike_same, alike_put, alike_word}
@@ -102,12 +102,6 @@ soft_kind p (kind.StoreFlushed value) found s x y q wants e = inl (g_store_flush
 soft_kind p kind.LoadFlushed found s x y q wants e = inl (g_load_flushed found x x.flushing y e)
 soft_kind p (kind.SwapLink v) found s x y q wants e = inl (g_swap_link found v (s.objects v.oid) x x.task y e)
 soft_kind p (kind.LoadDetached v) found s x y q wants e = inl (g_load_detached found v x x.task y e)
-soft_kind p (kind.WriteLog segment fails) found s x y q wants e = unless_then (Soft x x.task) fails _ y e (λ h. inl (g_write_log segment x x.flushing y h))
-soft_kind p (kind.SyncLog segment fails) found s x y q wants e = unless_then (Soft x x.task) fails _ y e (λ h. inl (g_sync_log segment x x.flushing y h))
-soft_kind p (kind.WriteSlot fails) found s x y q wants e = unless_then (Soft x x.task) fails _ y e (λ h. inl (g_write_slot p x y h))
-soft_kind p (kind.SyncSlot fails) found s x y q wants e = unless_then (Soft x x.task) fails _ y e (λ h. inl (g_sync_slot x x.flushing y h))
-soft_kind p (kind.RemoveLog segment fails) found s x y q wants e = unless_then (Soft x x.task) fails _ y e (λ h. inl (g_remove_log segment x x.flushing y h))
-soft_kind p (kind.SyncRemoval segment fails) found s x y q wants e = unless_then (Soft x x.task) fails _ y e (λ h. inl (g_sync_removal segment x x.flushing y h))
 
 -- a step that draws no range and leaves the objects alike
 mild_kept : (c : Core) (p : ℕ) (k : Kind) (d : Core) → IsMild k → DrawsNone k → Sound c → (m : Moves c p k d)

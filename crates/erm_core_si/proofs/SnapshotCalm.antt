@@ -24,7 +24,7 @@ use Rattle.erm_machine.specs.Seat.{end_of, last_claim}
 use Rattle.erm_machine.specs.Life.{load_tail_to_gather, load_tail_for_horizon, load_begin, decide, split, join}
 use Rattle.erm_machine.specs.Reading.{with_cell, after_cut, detached, swap_link, load_detached, load_counter, add_counter, load_active_stamp, start_row, store_row_word}
 use Rattle.erm_machine.specs.Settling.{load_flushed_to_settle, raise_reader, store_head_word, store_active_word, store_cell, mark_overwritten, store_succ, store_overwriter, install_claim, adds_version, install_new, release_old, unclaim, install, clear_reader}
-use Rattle.erm_machine.specs.Flushing.{load_flushed, gathered_word, load_ring, write_log, after_sync, sync_log, clear_ring, store_flushed, write_slot, sync_slot, remove_log, sync_removal}
+use Rattle.erm_machine.specs.Flushing.{load_flushed, gathered_word, load_ring, clear_ring, store_flushed}
 use Rattle.erm_machine.proofs.Guards.{when_then, some_then, if_then, either_way}
 use Rattle.erm_core_si.proofs.SnapshotClaims.{ClaimedIn, claimed_in, claimed_set}
 use Rattle.erm_core_si.proofs.SnapshotLists.{∈-take}
@@ -198,14 +198,14 @@ pub calm_load_flushed : (found : ℕ) (x : Part) (f : Flushing) (y : Part) → l
 calm_load_flushed found x (flushing.Tail tail) y e = some_then (Calm x x.task) _ y e (calm_stay x x.task _ refl refl refl)
 calm_load_flushed found x _ y e = when_then (Calm x x.task) _ _ y e (λ _. calm_to_settle found x)
 
-calm_flushing : (x : Part) (f : Flushing) (to synced : ℕ) → Calm x x.task (record x { flushing = f; gathered_to = to; synced = synced })
-calm_flushing x f to synced = calm_stay x x.task _ refl refl refl
+calm_flushing : (x : Part) (f : Flushing) (to : ℕ) → Calm x x.task (record x { flushing = f; gathered_to = to })
+calm_flushing x f to = calm_stay x x.task _ refl refl refl
 
 calm_if : (x : Part) (t : Task) (b : Bool) (l r : Part) → Calm x t l → Calm x t r → Calm x t (if b then l else r)
 calm_if x t b l r f g = either_way (Calm x t) b l r (λ _. f) (λ _. g)
 
 calm_gathered : (tail from block next end : ℕ) (x : Part) → Calm x x.task (gathered_word tail from block next end x)
-calm_gathered tail from block next end x = either_way (Calm x x.task) _ _ _ (λ _. calm_flushing x _ _ _) (λ _. calm_flushing x _ _ _)
+calm_gathered tail from block next end x = either_way (Calm x x.task) _ _ _ (λ _. calm_flushing x _ _) (λ _. calm_flushing x _ _)
 
 calm_refl : (x : Part) → Calm x x.task x
 calm_refl x = calm_stay x x.task x refl refl refl
@@ -215,38 +215,11 @@ calm_load_ring at found x (flushing.Gathers tail from block next end) y e =
     when_then (Calm x x.task) _ _ y e (λ _. search (calm_if, calm_gathered, calm_refl))
 calm_load_ring at found x _ y e = absurd (cc)
 
-pub calm_write_log : (segment : ℕ) (x : Part) (f : Flushing) (y : Part) → write_log segment x f ≡ Some y → Calm x x.task y
-calm_write_log segment x (flushing.Gathers tail from block next end) y e = when_then (Calm x x.task) _ _ y e (λ _. calm_stay x x.task _ refl refl refl)
-calm_write_log segment x (flushing.Puts from to written) y e = when_then (Calm x x.task) _ _ y e (λ _. calm_stay x x.task _ refl refl refl)
-calm_write_log segment x _ y e = absurd (cc)
-
-calm_after_sync : (from to synced : ℕ) (x : Part) → Calm x x.task (after_sync from to synced x)
-calm_after_sync from to synced x = either_way (Calm x x.task) _ _ _ (λ _. calm_flushing x _ _ _) (λ _. calm_flushing x _ _ _)
-
-pub calm_sync_log : (segment : ℕ) (x : Part) (f : Flushing) (y : Part) → sync_log segment x f ≡ Some y → Calm x x.task y
-calm_sync_log segment x (flushing.Puts from to written) y e = when_then (Calm x x.task) _ _ y e (λ _. calm_after_sync from to 1 x)
-calm_sync_log segment x (flushing.Syncs from to synced) y e = when_then (Calm x x.task) _ _ y e (λ _. calm_after_sync from to _ x)
-calm_sync_log segment x _ y e = absurd (cc)
-
 pub calm_clear_ring : (at : ℕ) (x : Part) (f : Flushing) (y : Part) → clear_ring at x f ≡ Some y → Calm x x.task y
+calm_clear_ring at x (flushing.Gathers tail from block next end) y e = when_then (Calm x x.task) _ _ y e (λ _. calm_stay x x.task _ refl refl refl)
 calm_clear_ring at x (flushing.Clears next to) y e = when_then (Calm x x.task) _ _ y e (λ _. calm_stay x x.task _ refl refl refl)
 calm_clear_ring at x _ y e = absurd (cc)
 
 pub calm_store_flushed : (value : ℕ) (x : Part) (f : Flushing) (y : Part) → store_flushed value x f ≡ Some y → Calm x x.task y
 calm_store_flushed value x (flushing.Clears next to) y e = when_then (Calm x x.task) _ _ y e (λ _. calm_stay x x.task _ refl refl refl)
 calm_store_flushed value x _ y e = absurd (cc)
-
-pub calm_write_slot : (p : ℕ) (x : Part) (y : Part) → write_slot p x ≡ Some y → Calm x x.task y
-calm_write_slot p x y e = when_then (Calm x x.task) _ _ y e (λ _. calm_stay x x.task _ refl refl refl)
-
-pub calm_sync_slot : (x : Part) (f : Flushing) (y : Part) → sync_slot x f ≡ Some y → Calm x x.task y
-calm_sync_slot x flushing.SlotPut y e = some_then (Calm x x.task) _ y e (calm_stay x x.task _ refl refl refl)
-calm_sync_slot x _ y e = absurd (cc)
-
-pub calm_remove_log : (segment : ℕ) (x : Part) (f : Flushing) (y : Part) → remove_log segment x f ≡ Some y → Calm x x.task y
-calm_remove_log segment x flushing.SlotSynced y e = some_then (Calm x x.task) _ y e (calm_stay x x.task _ refl refl refl)
-calm_remove_log segment x _ y e = absurd (cc)
-
-pub calm_sync_removal : (segment : ℕ) (x : Part) (f : Flushing) (y : Part) → sync_removal segment x f ≡ Some y → Calm x x.task y
-calm_sync_removal segment x (flushing.Removed removed) y e = when_then (Calm x x.task) _ _ y e (λ _. calm_stay x x.task _ refl refl refl)
-calm_sync_removal segment x _ y e = absurd (cc)

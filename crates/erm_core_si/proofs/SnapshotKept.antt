@@ -15,11 +15,11 @@ use Rattle.erm_machine.specs.Settling.{load_read_entry, load_settled_stamp, load
 use Rattle.erm_machine.specs.Sound.{Sound}
 use Rattle.erm_machine.specs.Step.{after_event, with_part}
 use Rattle.erm_machine.specs.Words.{put, begin_of}
-use Rattle.erm_machine.proofs.Guards.{if_then, unless_then, unless_some}
+use Rattle.erm_machine.proofs.Guards.{if_then, unless_some}
 use Rattle.erm_machine.proofs.Objects.{extends_refl}
 use Rattle.erm_machine.proofs.QuietKinds.{MeetsOne, Moves, moves}
 use Rattle.erm_core_si.proofs.SnapshotSteps.{Kept, Grown, kept_from}
-use Rattle.erm_core_si.proofs.SnapshotCalm.{Calm, calm_load_begin, calm_decide, calm_split, calm_join, calm_swap_link, calm_load_detached, calm_load_counter, calm_add_counter, calm_active_stamp, calm_raise_reader, calm_store_succ, calm_store_overwriter, calm_store_cell, calm_install, calm_clear_reader, calm_load_flushed, calm_load_ring, calm_write_log, calm_sync_log, calm_clear_ring, calm_store_flushed, calm_write_slot, calm_sync_slot, calm_remove_log, calm_sync_removal}
+use Rattle.erm_core_si.proofs.SnapshotCalm.{calm_load_begin, calm_decide, calm_split, calm_join, calm_swap_link, calm_load_detached, calm_load_counter, calm_add_counter, calm_active_stamp, calm_raise_reader, calm_store_succ, calm_store_overwriter, calm_store_cell, calm_install, calm_clear_reader, calm_load_flushed, calm_load_ring, calm_clear_ring, calm_store_flushed}
 use Rattle.erm_core_si.proofs.SnapshotLeft.{Left, left_calm, kept_moves}
 use Rattle.erm_core_si.proofs.SnapshotLooks.{look_left}
 use Rattle.erm_core_si.proofs.SnapshotMoved.{load_tail_left, add_tail_left, store_begin_left, store_state_left}
@@ -71,12 +71,6 @@ left_of c p (kind.StoreFlushed value) d sound m = left_calm c p m.part sound (ca
 left_of c p kind.LoadFlushed d sound m = left_calm c p m.part sound (calm_load_flushed c.shared.flushed (c.seats p) (c.seats p).flushing m.part m.after)
 left_of c p (kind.SwapLink v) d sound m = left_calm c p m.part sound (calm_swap_link _ v (c.shared.objects v.oid) (c.seats p) (c.seats p).task m.part m.after)
 left_of c p (kind.LoadDetached v) d sound m = left_calm c p m.part sound (calm_load_detached _ v (c.seats p) (c.seats p).task m.part m.after)
-left_of c p (kind.WriteLog segment fails) d sound m = left_calm c p m.part sound (unless_then (Calm (c.seats p) (c.seats p).task) fails _ m.part m.after (calm_write_log segment (c.seats p) (c.seats p).flushing m.part))
-left_of c p (kind.SyncLog segment fails) d sound m = left_calm c p m.part sound (unless_then (Calm (c.seats p) (c.seats p).task) fails _ m.part m.after (calm_sync_log segment (c.seats p) (c.seats p).flushing m.part))
-left_of c p (kind.WriteSlot fails) d sound m = left_calm c p m.part sound (unless_then (Calm (c.seats p) (c.seats p).task) fails _ m.part m.after (calm_write_slot p (c.seats p) m.part))
-left_of c p (kind.SyncSlot fails) d sound m = left_calm c p m.part sound (unless_then (Calm (c.seats p) (c.seats p).task) fails _ m.part m.after (calm_sync_slot (c.seats p) (c.seats p).flushing m.part))
-left_of c p (kind.RemoveLog segment fails) d sound m = left_calm c p m.part sound (unless_then (Calm (c.seats p) (c.seats p).task) fails _ m.part m.after (calm_remove_log segment (c.seats p) (c.seats p).flushing m.part))
-left_of c p (kind.SyncRemoval segment fails) d sound m = left_calm c p m.part sound (unless_then (Calm (c.seats p) (c.seats p).task) fails _ m.part m.after (calm_sync_removal segment (c.seats p) (c.seats p).flushing m.part))
 
 -- a split, a join: nothing that is shared changes
 same_grown : (s : Shared) (x : Part) → Grown s s x

@@ -24,7 +24,7 @@ use Rattle.erm_machine.specs.declared.version.CellWord.{CellWord}
 use Rattle.erm_machine.specs.declared.version.CellWord.TheVariants as word
 use Rattle.erm_machine.specs.declared.version.VersionAt.{VersionAt}
 use Rattle.erm_machine.specs.Core.{Core, Object, Shared, spot_of, word_at}
-use Rattle.erm_machine.specs.Flushing.{load_flushed, gathered_word, load_ring, write_log, after_sync, sync_log, clear_ring, store_flushed, write_slot, sync_slot, remove_log, sync_removal}
+use Rattle.erm_machine.specs.Flushing.{load_flushed, gathered_word, load_ring, clear_ring, store_flushed}
 use Rattle.erm_machine.specs.Life.{load_tail_to_begin, load_tail_for_horizon, load_tail, add_tail, store_begin, store_state, load_begin, after_clear, load_state, split, join, decide}
 use Rattle.erm_machine.specs.Reading.{entered, after_cut, detached, load_entry, claim, set_reader, load_walked_stamp, load_walked_link, load_cell, swap_link, load_detached, load_counter, add_counter, load_active_stamp, start_row, store_row_word}
 use Rattle.erm_machine.specs.Seat.{end_of, may_start, is_active, is_sealed, is_decided, is_vacant, is_commit}
@@ -34,7 +34,7 @@ use Rattle.erm_machine.specs.Step.{part_after, after_event, with_part}
 use Rattle.erm_machine.specs.Tasks.{InActive, InSettle, InEnd, TaskFits, OwnTask}
 use Rattle.erm_machine.specs.Words.{put, is_clear, is_flusher}
 use Rattle.erm_machine.proofs.Frames.{each_seat}
-use Rattle.erm_machine.proofs.Guards.{when_then, some_then, unless_then, if_then, either_way, unless_some}
+use Rattle.erm_machine.proofs.Guards.{when_then, some_then, if_then, either_way, unless_some}
 use Rattle.erm_machine.proofs.QuietKinds.{MeetsOne, moves}
 
 -- the first part of a test
@@ -316,41 +316,14 @@ t_load_ring : (at found : ℕ) (x : Part) (f : Flushing) (y : Part) → OwnTask 
 t_load_ring at found x (flushing.Gathers tail from block next end) y own e = when_then OwnTask _ _ y e (λ _. own_if _ _ _ (t_gathered tail from block next end x own) (own_if _ _ _ own (t_gathered tail from next next _ x own)))
 t_load_ring at found x _ y own e = absurd (cc)
 
-t_write_log : (segment : ℕ) (x : Part) (f : Flushing) (y : Part) → OwnTask x → write_log segment x f ≡ Some y → OwnTask y
-t_write_log segment x (flushing.Gathers tail from block next end) y own e = when_then OwnTask _ _ y e (λ _. record { fits = own.fits })
-t_write_log segment x (flushing.Puts from to written) y own e = when_then OwnTask _ _ y e (λ _. record { fits = own.fits })
-t_write_log segment x _ y own e = absurd (cc)
-
-t_after_sync : (from to synced : ℕ) (x : Part) → OwnTask x → OwnTask (after_sync from to synced x)
-t_after_sync from to synced x own = either_way OwnTask _ _ _ (λ _. record { fits = own.fits }) (λ _. record { fits = own.fits })
-
-t_sync_log : (segment : ℕ) (x : Part) (f : Flushing) (y : Part) → OwnTask x → sync_log segment x f ≡ Some y → OwnTask y
-t_sync_log segment x (flushing.Puts from to written) y own e = when_then OwnTask _ _ y e (λ _. t_after_sync from to 1 x own)
-t_sync_log segment x (flushing.Syncs from to synced) y own e = when_then OwnTask _ _ y e (λ _. t_after_sync from to _ x own)
-t_sync_log segment x _ y own e = absurd (cc)
-
 t_clear_ring : (at : ℕ) (x : Part) (f : Flushing) (y : Part) → OwnTask x → clear_ring at x f ≡ Some y → OwnTask y
+t_clear_ring at x (flushing.Gathers tail from block next end) y own e = when_then OwnTask _ _ y e (λ _. record { fits = own.fits })
 t_clear_ring at x (flushing.Clears next to) y own e = when_then OwnTask _ _ y e (λ _. record { fits = own.fits })
 t_clear_ring at x _ y own e = absurd (cc)
 
 t_store_flushed : (value : ℕ) (x : Part) (f : Flushing) (y : Part) → OwnTask x → store_flushed value x f ≡ Some y → OwnTask y
 t_store_flushed value x (flushing.Clears next to) y own e = when_then OwnTask _ _ y e (λ _. record { fits = own.fits })
 t_store_flushed value x _ y own e = absurd (cc)
-
-t_write_slot : (seat : ℕ) (x : Part) (y : Part) → OwnTask x → write_slot seat x ≡ Some y → OwnTask y
-t_write_slot seat x y own e = when_then OwnTask _ _ y e (λ _. record { fits = own.fits })
-
-t_sync_slot : (x : Part) (f : Flushing) (y : Part) → OwnTask x → sync_slot x f ≡ Some y → OwnTask y
-t_sync_slot x flushing.SlotPut y own e = some_then OwnTask _ y e (record { fits = own.fits })
-t_sync_slot x _ y own e = absurd (cc)
-
-t_remove_log : (segment : ℕ) (x : Part) (f : Flushing) (y : Part) → OwnTask x → remove_log segment x f ≡ Some y → OwnTask y
-t_remove_log segment x flushing.SlotSynced y own e = some_then OwnTask _ y e (record { fits = own.fits })
-t_remove_log segment x _ y own e = absurd (cc)
-
-t_sync_removal : (segment : ℕ) (x : Part) (f : Flushing) (y : Part) → OwnTask x → sync_removal segment x f ≡ Some y → OwnTask y
-t_sync_removal segment x (flushing.Removed removed) y own e = when_then OwnTask _ _ y e (λ _. record { fits = own.fits })
-t_sync_removal segment x _ y own e = absurd (cc)
 
 -- steps that move the seat on in its life: no call is in progress at most places
 t_begin : (seat found : ℕ) (x : Part) (pl : Place) (y : Part) → x.place ≡ pl → OwnTask x → load_tail_to_begin seat found x pl ≡ Some y → OwnTask y
@@ -471,12 +444,6 @@ task_after p (kind.StoreFlushed value) found s x y own e = t_store_flushed value
 task_after p kind.LoadFlushed found s x y own e = t_load_flushed found x x.flushing y own e
 task_after p (kind.SwapLink v) found s x y own e = t_swap_link found v (s.objects v.oid) x x.task y e
 task_after p (kind.LoadDetached v) found s x y own e = t_load_detached found v x x.task y e
-task_after p (kind.WriteLog segment fails) found s x y own e = unless_then OwnTask fails _ y e (t_write_log segment x x.flushing y own)
-task_after p (kind.SyncLog segment fails) found s x y own e = unless_then OwnTask fails _ y e (t_sync_log segment x x.flushing y own)
-task_after p (kind.WriteSlot fails) found s x y own e = unless_then OwnTask fails _ y e (t_write_slot p x y own)
-task_after p (kind.SyncSlot fails) found s x y own e = unless_then OwnTask fails _ y e (t_sync_slot x x.flushing y own)
-task_after p (kind.RemoveLog segment fails) found s x y own e = unless_then OwnTask fails _ y e (t_remove_log segment x x.flushing y own)
-task_after p (kind.SyncRemoval segment fails) found s x y own e = unless_then OwnTask fails _ y e (t_sync_removal segment x x.flushing y own)
 
 -- one seat's part after the event
 part_kept : (c : Core) (s : Shared) (p : ℕ) (y : Part) (d : Core) → Sound c → OwnTask y → record { shared = s; seats = put c.seats p y } ≡ d → (q : ℕ) → OwnTask (d.seats q)

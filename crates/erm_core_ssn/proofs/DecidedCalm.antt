@@ -21,9 +21,9 @@ use Rattle.erm_machine.specs.Life.{load_tail_to_gather, load_tail_for_horizon, l
 use Rattle.erm_machine.specs.Reading.{load_entry, entered, load_walked_stamp, load_walked_link, load_cell, after_cut, detached, swap_link, load_detached, load_counter}
 use Rattle.erm_machine.specs.Seat.{may_start, is_active, is_decided}
 use Rattle.erm_machine.specs.Settling.{raise_reader, store_head_word, mark_overwritten, store_succ, store_overwriter}
-use Rattle.erm_machine.specs.Flushing.{gathered_word, load_ring, write_log, after_sync, sync_log, clear_ring, store_flushed, write_slot, sync_slot, remove_log, sync_removal}
+use Rattle.erm_machine.specs.Flushing.{gathered_word, load_ring, clear_ring, store_flushed}
 use Rattle.erm_machine.specs.Sound.{Sound}
-use Rattle.erm_machine.proofs.Guards.{when_then, some_then, if_then, either_way}
+use Rattle.erm_machine.proofs.Guards.{when_then, if_then, either_way}
 use Rattle.erm_core_ssn.proofs.DecidedSteady.{Leaves}
 use Rattle.erm_core_ssn.proofs.DecidedBuild.{NotEnds, starts_not_ends, Plain, map_set, stays, to_plain, ends}
 
@@ -184,41 +184,15 @@ module _ (c : Core) (p : ℕ) (sound : Sound c) where
   head_word_leaves place cell w value _ y at e = absurd (cc)
 
   -- the flush seat's steps
-  pub write_log_leaves : (segment : ℕ) (f : Flushing) (y : Part) → write_log segment (c.seats p) f ≡ Some y → Leaves c p y
-  write_log_leaves segment (flushing.Gathers tail from block next end) y e = when_then (Leaves c p) _ _ y e (λ _. stays c p sound _ refl refl refl refl)
-  write_log_leaves segment (flushing.Puts from to written) y e = when_then (Leaves c p) _ _ y e (λ _. stays c p sound _ refl refl refl refl)
-  write_log_leaves segment _ y e = absurd (cc)
-
-  after_sync_leaves : (from to synced : ℕ) → Leaves c p (after_sync from to synced (c.seats p))
-  after_sync_leaves from to synced = either_way (Leaves c p) _ _ _ (λ _. stays c p sound _ refl refl refl refl) (λ _. stays c p sound _ refl refl refl refl)
-
-  pub sync_log_leaves : (segment : ℕ) (f : Flushing) (y : Part) → sync_log segment (c.seats p) f ≡ Some y → Leaves c p y
-  sync_log_leaves segment (flushing.Puts from to written) y e = when_then (Leaves c p) _ _ y e (λ _. after_sync_leaves from to 1)
-  sync_log_leaves segment (flushing.Syncs from to synced) y e = when_then (Leaves c p) _ _ y e (λ _. after_sync_leaves from to _)
-  sync_log_leaves segment _ y e = absurd (cc)
 
   pub clear_ring_leaves : (at : ℕ) (f : Flushing) (y : Part) → clear_ring at (c.seats p) f ≡ Some y → Leaves c p y
+  clear_ring_leaves at (flushing.Gathers tail from block next end) y e = when_then (Leaves c p) _ _ y e (λ _. stays c p sound _ refl refl refl refl)
   clear_ring_leaves at (flushing.Clears next to) y e = when_then (Leaves c p) _ _ y e (λ _. stays c p sound _ refl refl refl refl)
   clear_ring_leaves at _ y e = absurd (cc)
 
   pub store_flushed_leaves : (value : ℕ) (f : Flushing) (y : Part) → store_flushed value (c.seats p) f ≡ Some y → Leaves c p y
   store_flushed_leaves value (flushing.Clears next to) y e = when_then (Leaves c p) _ _ y e (λ _. stays c p sound _ refl refl refl refl)
   store_flushed_leaves value _ y e = absurd (cc)
-
-  pub write_slot_leaves : (y : Part) → write_slot p (c.seats p) ≡ Some y → Leaves c p y
-  write_slot_leaves y e = when_then (Leaves c p) _ _ y e (λ _. stays c p sound _ refl refl refl refl)
-
-  pub sync_slot_leaves : (f : Flushing) (y : Part) → sync_slot (c.seats p) f ≡ Some y → Leaves c p y
-  sync_slot_leaves flushing.SlotPut y e = some_then (Leaves c p) _ y e (stays c p sound _ refl refl refl refl)
-  sync_slot_leaves _ y e = absurd (cc)
-
-  pub remove_log_leaves : (segment : ℕ) (f : Flushing) (y : Part) → remove_log segment (c.seats p) f ≡ Some y → Leaves c p y
-  remove_log_leaves segment flushing.SlotSynced y e = some_then (Leaves c p) _ y e (stays c p sound _ refl refl refl refl)
-  remove_log_leaves segment _ y e = absurd (cc)
-
-  pub sync_removal_leaves : (segment : ℕ) (f : Flushing) (y : Part) → sync_removal segment (c.seats p) f ≡ Some y → Leaves c p y
-  sync_removal_leaves segment (flushing.Removed removed) y e = when_then (Leaves c p) _ _ y e (λ _. stays c p sound _ refl refl refl refl)
-  sync_removal_leaves segment _ y e = absurd (cc)
 
   gathered_leaves : (tail from block next end : ℕ) → Leaves c p (gathered_word tail from block next end (c.seats p))
   gathered_leaves tail from block next end = either_way (Leaves c p) _ _ _ (λ _. stays c p sound _ refl refl refl refl) (λ _. stays c p sound _ refl refl refl refl)

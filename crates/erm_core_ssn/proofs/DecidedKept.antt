@@ -19,9 +19,9 @@ use Rattle.erm_machine.specs.Settling.{load_read_entry, load_settled_stamp, load
 use Rattle.erm_machine.specs.Sound.{Sound}
 use Rattle.erm_machine.specs.Step.{after_event, with_part, with_ring, shared_after}
 use Rattle.erm_machine.specs.Words.{put, begin_of}
-use Rattle.erm_machine.proofs.Guards.{when_then, if_then, unless_then, unless_some}
+use Rattle.erm_machine.proofs.Guards.{when_then, if_then, unless_some}
 use Rattle.erm_machine.proofs.QuietKinds.{MeetsOne, Moves, moves, keeps_log}
-use Rattle.erm_core_ssn.proofs.DecidedCalm.{begin_word_leaves, load_entry_leaves, load_cell_leaves, swap_link_leaves, detached_leaves, load_counter_leaves, raise_leaves, store_succ_leaves, store_overwriter_leaves, write_log_leaves, sync_log_leaves, clear_ring_leaves, store_flushed_leaves, write_slot_leaves, sync_slot_leaves, remove_log_leaves, sync_removal_leaves, load_ring_leaves}
+use Rattle.erm_core_ssn.proofs.DecidedCalm.{begin_word_leaves, load_entry_leaves, load_cell_leaves, swap_link_leaves, detached_leaves, load_counter_leaves, raise_leaves, store_succ_leaves, store_overwriter_leaves, clear_ring_leaves, store_flushed_leaves, load_ring_leaves}
 use Rattle.erm_core_ssn.proofs.DecidedCommits.{decide_kept}
 use Rattle.erm_core_ssn.proofs.DecidedDrawn.{add_tail_left}
 use Rattle.erm_core_ssn.proofs.DecidedEnds.{clear_leaves, install_leaves, store_cell_leaves, claim_leaves}
@@ -88,12 +88,6 @@ leaves_of c p (kind.StoreFlushed value) d plain sound m = store_flushed_leaves c
 leaves_of c p kind.LoadFlushed d plain sound m = load_flushed_leaves c p sound c.shared.flushed (c.seats p).flushing m.part m.after
 leaves_of c p (kind.SwapLink v) d plain sound m = swap_link_leaves c p sound _ v (c.shared.objects v.oid) (c.seats p).task m.part refl m.after
 leaves_of c p (kind.LoadDetached v) d plain sound m = detached_leaves c p sound _ v (c.seats p).task m.part refl m.after
-leaves_of c p (kind.WriteLog segment fails) d plain sound m = unless_then (Leaves c p) fails _ m.part m.after (write_log_leaves c p sound segment (c.seats p).flushing m.part)
-leaves_of c p (kind.SyncLog segment fails) d plain sound m = unless_then (Leaves c p) fails _ m.part m.after (sync_log_leaves c p sound segment (c.seats p).flushing m.part)
-leaves_of c p (kind.WriteSlot fails) d plain sound m = unless_then (Leaves c p) fails _ m.part m.after (write_slot_leaves c p sound m.part)
-leaves_of c p (kind.SyncSlot fails) d plain sound m = unless_then (Leaves c p) fails _ m.part m.after (sync_slot_leaves c p sound (c.seats p).flushing m.part)
-leaves_of c p (kind.RemoveLog segment fails) d plain sound m = unless_then (Leaves c p) fails _ m.part m.after (remove_log_leaves c p sound segment (c.seats p).flushing m.part)
-leaves_of c p (kind.SyncRemoval segment fails) d plain sound m = unless_then (Leaves c p) fails _ m.part m.after (sync_removal_leaves c p sound segment (c.seats p).flushing m.part)
 
 -- the tail is no smaller later
 tail_later : (c : Core) (p : ℕ) (k : Kind) → c.shared.tail ≤ (shared_after p k (word_at c (spot_of p k)) (c.seats p) c.shared).tail

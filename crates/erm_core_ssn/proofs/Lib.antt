@@ -57,3 +57,4 @@ pub mod RowsSteps
 pub mod RowsStored
 pub mod SomeNumbers
 pub mod Successors
+pub mod Turns

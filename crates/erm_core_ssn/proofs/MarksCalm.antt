@@ -19,7 +19,7 @@ use Rattle.erm_machine.specs.Seat.{end_of, is_active, is_sealed, last_claim}
 use Rattle.erm_machine.specs.Life.{load_tail_to_gather, load_tail_for_horizon, load_begin, load_state, split, join}
 use Rattle.erm_machine.specs.Reading.{load_entry, set_reader, load_walked_stamp, load_walked_link, load_cell, swap_link, load_detached, load_counter, add_counter, load_active_stamp, start_row, store_row_word}
 use Rattle.erm_machine.specs.Settling.{has_room, may_settle, load_flushed_to_settle, load_read_entry, load_readers, load_settled_stamp, load_stamp, filled, store_ring, raise_reader, store_head_word, store_active_word, store_cell, mark_overwritten, store_succ, store_overwriter, clear_reader}
-use Rattle.erm_machine.specs.Flushing.{load_flushed, gathered_word, load_ring, write_log, after_sync, sync_log, clear_ring, store_flushed, write_slot, sync_slot, remove_log, sync_removal}
+use Rattle.erm_machine.specs.Flushing.{load_flushed, gathered_word, load_ring, clear_ring, store_flushed}
 use Rattle.erm_machine.proofs.Guards.{when_then, some_then, if_then, either_way}
 use Rattle.erm_core_ssn.proofs.MarksSame.{Same, same_current, same_claims, same_set, same_open, before_same, before_set, active_open, sealed_open}
 
@@ -198,14 +198,14 @@ pub s_load_flushed : (found : ℕ) (x : Part) (f : Flushing) (y : Part) → load
 s_load_flushed found x (flushing.Tail tail) y e = some_then (Same x) _ y e (still x _ refl refl)
 s_load_flushed found x _ y e = when_then (Same x) _ _ y e (λ _. s_to_settle found x)
 
-s_flushing : (x : Part) (f : Flushing) (to synced : ℕ) → Same x (record x { flushing = f; gathered_to = to; synced = synced })
-s_flushing x f to synced = still x _ refl refl
+s_flushing : (x : Part) (f : Flushing) (to : ℕ) → Same x (record x { flushing = f; gathered_to = to })
+s_flushing x f to = still x _ refl refl
 
 s_if : (x : Part) (b : Bool) (l r : Part) → Same x l → Same x r → Same x (if b then l else r)
 s_if x b l r f g = either_way (Same x) b l r (λ _. f) (λ _. g)
 
 s_gathered : (tail from block next end : ℕ) (x : Part) → Same x (gathered_word tail from block next end x)
-s_gathered tail from block next end x = either_way (Same x) _ _ _ (λ _. s_flushing x _ _ _) (λ _. s_flushing x _ _ _)
+s_gathered tail from block next end x = either_way (Same x) _ _ _ (λ _. s_flushing x _ _) (λ _. s_flushing x _ _)
 
 s_refl : (x : Part) → Same x x
 s_refl x = still x x refl refl
@@ -214,38 +214,11 @@ pub s_load_ring : (at found : ℕ) (x : Part) (f : Flushing) (y : Part) → load
 s_load_ring at found x (flushing.Gathers tail from block next end) y e = when_then (Same x) _ _ y e (λ _. search (s_if, s_gathered, s_refl))
 s_load_ring at found x _ y e = absurd (cc)
 
-pub s_write_log : (segment : ℕ) (x : Part) (f : Flushing) (y : Part) → write_log segment x f ≡ Some y → Same x y
-s_write_log segment x (flushing.Gathers tail from block next end) y e = when_then (Same x) _ _ y e (λ _. still x _ refl refl)
-s_write_log segment x (flushing.Puts from to written) y e = when_then (Same x) _ _ y e (λ _. still x _ refl refl)
-s_write_log segment x _ y e = absurd (cc)
-
-s_after_sync : (from to synced : ℕ) (x : Part) → Same x (after_sync from to synced x)
-s_after_sync from to synced x = either_way (Same x) _ _ _ (λ _. s_flushing x _ _ _) (λ _. s_flushing x _ _ _)
-
-pub s_sync_log : (segment : ℕ) (x : Part) (f : Flushing) (y : Part) → sync_log segment x f ≡ Some y → Same x y
-s_sync_log segment x (flushing.Puts from to written) y e = when_then (Same x) _ _ y e (λ _. s_after_sync from to 1 x)
-s_sync_log segment x (flushing.Syncs from to synced) y e = when_then (Same x) _ _ y e (λ _. s_after_sync from to _ x)
-s_sync_log segment x _ y e = absurd (cc)
-
 pub s_clear_ring : (at : ℕ) (x : Part) (f : Flushing) (y : Part) → clear_ring at x f ≡ Some y → Same x y
+s_clear_ring at x (flushing.Gathers tail from block next end) y e = when_then (Same x) _ _ y e (λ _. still x _ refl refl)
 s_clear_ring at x (flushing.Clears next to) y e = when_then (Same x) _ _ y e (λ _. still x _ refl refl)
 s_clear_ring at x _ y e = absurd (cc)
 
 pub s_store_flushed : (value : ℕ) (x : Part) (f : Flushing) (y : Part) → store_flushed value x f ≡ Some y → Same x y
 s_store_flushed value x (flushing.Clears next to) y e = when_then (Same x) _ _ y e (λ _. still x _ refl refl)
 s_store_flushed value x _ y e = absurd (cc)
-
-pub s_write_slot : (p : ℕ) (x y : Part) → write_slot p x ≡ Some y → Same x y
-s_write_slot p x y e = when_then (Same x) _ _ y e (λ _. still x _ refl refl)
-
-pub s_sync_slot : (x : Part) (f : Flushing) (y : Part) → sync_slot x f ≡ Some y → Same x y
-s_sync_slot x flushing.SlotPut y e = some_then (Same x) _ y e (still x _ refl refl)
-s_sync_slot x _ y e = absurd (cc)
-
-pub s_remove_log : (segment : ℕ) (x : Part) (f : Flushing) (y : Part) → remove_log segment x f ≡ Some y → Same x y
-s_remove_log segment x flushing.SlotSynced y e = some_then (Same x) _ y e (still x _ refl refl)
-s_remove_log segment x _ y e = absurd (cc)
-
-pub s_sync_removal : (segment : ℕ) (x : Part) (f : Flushing) (y : Part) → sync_removal segment x f ≡ Some y → Same x y
-s_sync_removal segment x (flushing.Removed removed) y e = when_then (Same x) _ _ y e (λ _. still x _ refl refl)
-s_sync_removal segment x _ y e = absurd (cc)

@@ -20,10 +20,10 @@ use Rattle.erm_machine.specs.Settling.{load_read_entry, mark_overwritten}
 use Rattle.erm_machine.specs.Sound.{Sound}
 use Rattle.erm_machine.specs.Step.{shared_after, after_event, with_part}
 use Rattle.erm_machine.specs.Words.{put, set_word}
-use Rattle.erm_machine.proofs.Guards.{when_then, if_then, unless_then, unless_some}
+use Rattle.erm_machine.proofs.Guards.{when_then, if_then, unless_some}
 use Rattle.erm_machine.proofs.Objects.{extends}
 use Rattle.erm_machine.proofs.QuietKinds.{Moves, MeetsOne, moves}
-use Rattle.erm_core_ssn.proofs.MarksCalm.{s_load_begin, s_load_state, s_split, s_join, s_load_entry, s_load_read_entry, s_set_reader, s_load_cell, s_swap_link, s_load_detached, s_load_counter, s_add_counter, s_raise_reader, s_store_succ, s_store_overwriter, s_store_cell, s_clear_reader, s_load_readers, s_load_stamp, s_store_ring, s_load_flushed, s_load_ring, s_write_log, s_sync_log, s_clear_ring, s_store_flushed, s_write_slot, s_sync_slot, s_remove_log, s_sync_removal}
+use Rattle.erm_core_ssn.proofs.MarksCalm.{s_load_begin, s_load_state, s_split, s_join, s_load_entry, s_load_read_entry, s_set_reader, s_load_cell, s_swap_link, s_load_detached, s_load_counter, s_add_counter, s_raise_reader, s_store_succ, s_store_overwriter, s_store_cell, s_clear_reader, s_load_readers, s_load_stamp, s_store_ring, s_load_flushed, s_load_ring, s_clear_ring, s_store_flushed}
 use Rattle.erm_core_ssn.proofs.MarksGrown.{AddsNone, grown_kind, grown_refl, made_none, made_refl, succ_put, succ_newest}
 use Rattle.erm_core_ssn.proofs.MarksInstalled.{left_kept, install_kept, ends_over}
 use Rattle.erm_core_ssn.proofs.MarksMoved.{left_calm, load_tail_left, add_tail_left, store_begin_left, store_state_left, decide_left, claim_left}
@@ -74,17 +74,6 @@ left_of c p (kind.SwapLink v) d sound none m =
     left_calm c p sound m.part (s_swap_link (word_at c (spot_of p (kind.SwapLink v))) v (c.shared.objects v.oid) (c.seats p) (c.seats p).task m.part m.after)
 left_of c p (kind.LoadDetached v) d sound none m =
     left_calm c p sound m.part (s_load_detached (word_at c (spot_of p (kind.LoadDetached v))) v (c.seats p) (c.seats p).task m.part m.after)
-left_of c p (kind.WriteLog segment fails) d sound none m =
-    left_calm c p sound m.part (unless_then (Same (c.seats p)) fails _ m.part m.after (s_write_log segment (c.seats p) (c.seats p).flushing m.part))
-left_of c p (kind.SyncLog segment fails) d sound none m =
-    left_calm c p sound m.part (unless_then (Same (c.seats p)) fails _ m.part m.after (s_sync_log segment (c.seats p) (c.seats p).flushing m.part))
-left_of c p (kind.WriteSlot fails) d sound none m = left_calm c p sound m.part (unless_then (Same (c.seats p)) fails _ m.part m.after (s_write_slot p (c.seats p) m.part))
-left_of c p (kind.SyncSlot fails) d sound none m =
-    left_calm c p sound m.part (unless_then (Same (c.seats p)) fails _ m.part m.after (s_sync_slot (c.seats p) (c.seats p).flushing m.part))
-left_of c p (kind.RemoveLog segment fails) d sound none m =
-    left_calm c p sound m.part (unless_then (Same (c.seats p)) fails _ m.part m.after (s_remove_log segment (c.seats p) (c.seats p).flushing m.part))
-left_of c p (kind.SyncRemoval segment fails) d sound none m =
-    left_calm c p sound m.part (unless_then (Same (c.seats p)) fails _ m.part m.after (s_sync_removal segment (c.seats p) (c.seats p).flushing m.part))
 
 -- the version whose successor stamp is stored is the newest: an install in progress overwrites it
 marked_newest : (c : Core) (p : ℕ) (v : VersionAt) (nth value wanted : ℕ) (u : Task) (y : Part) → Sound c → (c.seats p).task ≡ u

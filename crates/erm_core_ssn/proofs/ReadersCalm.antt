@@ -20,9 +20,9 @@ use Rattle.erm_machine.specs.Seat.{is_active, is_sealed, end_of, may_start}
 use Rattle.erm_machine.specs.Life.{after_clear}
 use Rattle.erm_machine.specs.Reading.{entered, after_cut, detached, load_entry, claim, load_walked_stamp, load_walked_link, load_cell, swap_link, load_detached, load_counter, add_counter, load_active_stamp, start_row, store_row_word}
 use Rattle.erm_machine.specs.Settling.{has_room, may_settle, load_flushed_to_settle, load_read_entry, load_readers, load_settled_stamp, load_stamp, filled, store_ring, store_head_word, store_active_word, store_cell, mark_overwritten, install_claim, adds_version, install_new, release_old, install}
-use Rattle.erm_machine.specs.Flushing.{load_flushed, gathered_word, load_ring, write_log, after_sync, sync_log, clear_ring, store_flushed, sync_slot, remove_log, sync_removal}
+use Rattle.erm_machine.specs.Flushing.{load_flushed, gathered_word, load_ring, clear_ring, store_flushed}
 use Rattle.erm_machine.specs.Step.{part_after}
-use Rattle.erm_machine.proofs.Guards.{when_then, some_then, unless_then, if_then, either_way, unless_some}
+use Rattle.erm_machine.proofs.Guards.{when_then, some_then, if_then, either_way, unless_some}
 
 -- how many reader bits a task says to be cleared, how many reader stamps to be raised
 abbrev pub bits_cleared : Task → ℕ
@@ -262,8 +262,8 @@ settle_still _ e = record { cleared = refl; raised = refl }
 pub calm_same : (x y : Part) → y.current.reads ≡ x.current.reads → y.task ≡ x.task → Calm x x.task y
 calm_same x y reads same = calm_even x x.task y reads (record { cleared = ap bits_cleared same; raised = ap stamps_raised same })
 
-calm_flushing : (x : Part) (f : Flushing) (to synced : ℕ) → Calm x x.task (record x { flushing = f; gathered_to = to; synced = synced })
-calm_flushing x f to synced = calm_same x _ refl refl
+calm_flushing : (x : Part) (f : Flushing) (to : ℕ) → Calm x x.task (record x { flushing = f; gathered_to = to })
+calm_flushing x f to = calm_same x _ refl refl
 
 calm_stays : (x : Part) → Calm x x.task x
 calm_stays x = calm_same x x refl refl
@@ -281,7 +281,7 @@ calm_if : (x : Part) (b : Bool) (l r : Part) → Calm x x.task l → Calm x x.ta
 calm_if x b l r f g = either_way (Calm x x.task) b l r (λ _. f) (λ _. g)
 
 calm_gathered : (tail from block next end : ℕ) (x : Part) → Calm x x.task (gathered_word tail from block next end x)
-calm_gathered tail from block next end x = either_way (Calm x x.task) _ _ _ (λ _. calm_flushing x _ _ _) (λ _. calm_flushing x _ _ _)
+calm_gathered tail from block next end x = either_way (Calm x x.task) _ _ _ (λ _. calm_flushing x _ _) (λ _. calm_flushing x _ _)
 
 calm_load_ring : (at found : ℕ) (x : Part) (f : Flushing) (y : Part) → load_ring at found x f ≡ Some y → Calm x x.task y
 calm_load_ring at found x (flushing.Gathers tail from block next end) y e =
@@ -289,38 +289,14 @@ calm_load_ring at found x (flushing.Gathers tail from block next end) y e =
     search (calm_if, calm_gathered, calm_stays))
 calm_load_ring at found x _ y e = absurd (cc)
 
-calm_write_log : (segment : ℕ) (x : Part) (f : Flushing) (y : Part) → write_log segment x f ≡ Some y → Calm x x.task y
-calm_write_log segment x (flushing.Gathers tail from block next end) y e = when_then (Calm x x.task) _ _ y e (λ _. calm_same x _ refl refl)
-calm_write_log segment x (flushing.Puts from to written) y e = when_then (Calm x x.task) _ _ y e (λ _. calm_same x _ refl refl)
-calm_write_log segment x _ y e = absurd (cc)
-
-calm_after_sync : (from to synced : ℕ) (x : Part) → Calm x x.task (after_sync from to synced x)
-calm_after_sync from to synced x = either_way (Calm x x.task) _ _ _ (λ _. calm_flushing x _ _ _) (λ _. calm_flushing x _ _ _)
-
-calm_sync_log : (segment : ℕ) (x : Part) (f : Flushing) (y : Part) → sync_log segment x f ≡ Some y → Calm x x.task y
-calm_sync_log segment x (flushing.Puts from to written) y e = when_then (Calm x x.task) _ _ y e (λ _. calm_after_sync from to 1 x)
-calm_sync_log segment x (flushing.Syncs from to synced) y e = when_then (Calm x x.task) _ _ y e (λ _. calm_after_sync from to _ x)
-calm_sync_log segment x _ y e = absurd (cc)
-
 calm_clear_ring : (at : ℕ) (x : Part) (f : Flushing) (y : Part) → clear_ring at x f ≡ Some y → Calm x x.task y
+calm_clear_ring at x (flushing.Gathers tail from block next end) y e = when_then (Calm x x.task) _ _ y e (λ _. calm_same x _ refl refl)
 calm_clear_ring at x (flushing.Clears next to) y e = when_then (Calm x x.task) _ _ y e (λ _. calm_same x _ refl refl)
 calm_clear_ring at x _ y e = absurd (cc)
 
 calm_store_flushed : (value : ℕ) (x : Part) (f : Flushing) (y : Part) → store_flushed value x f ≡ Some y → Calm x x.task y
 calm_store_flushed value x (flushing.Clears next to) y e = when_then (Calm x x.task) _ _ y e (λ _. calm_same x _ refl refl)
 calm_store_flushed value x _ y e = absurd (cc)
-
-calm_sync_slot : (x : Part) (f : Flushing) (y : Part) → sync_slot x f ≡ Some y → Calm x x.task y
-calm_sync_slot x flushing.SlotPut y e = some_then (Calm x x.task) _ y e (calm_same x _ refl refl)
-calm_sync_slot x _ y e = absurd (cc)
-
-calm_remove_log : (segment : ℕ) (x : Part) (f : Flushing) (y : Part) → remove_log segment x f ≡ Some y → Calm x x.task y
-calm_remove_log segment x flushing.SlotSynced y e = some_then (Calm x x.task) _ y e (calm_same x _ refl refl)
-calm_remove_log segment x _ y e = absurd (cc)
-
-calm_sync_removal : (segment : ℕ) (x : Part) (f : Flushing) (y : Part) → sync_removal segment x f ≡ Some y → Calm x x.task y
-calm_sync_removal segment x (flushing.Removed removed) y e = when_then (Calm x x.task) _ _ y e (λ _. calm_same x _ refl refl)
-calm_sync_removal segment x _ y e = absurd (cc)
 
 -- kinds of calm steps of a seat that stays at its place
 abbrev pub IsCalm : Kind → Type 0
@@ -371,10 +347,3 @@ calm_kind p (kind.StoreFlushed value) found s x y q e = calm_store_flushed value
 calm_kind p kind.LoadFlushed found s x y q e = calm_load_flushed found x x.flushing y e
 calm_kind p (kind.SwapLink v) found s x y q e = calm_swap_link found v (s.objects v.oid) x x.task y e
 calm_kind p (kind.LoadDetached v) found s x y q e = calm_load_detached found v x x.task y e
-calm_kind p (kind.WriteLog segment fails) found s x y q e = unless_then (Calm x x.task) fails _ y e (calm_write_log segment x x.flushing y)
-calm_kind p (kind.SyncLog segment fails) found s x y q e = unless_then (Calm x x.task) fails _ y e (calm_sync_log segment x x.flushing y)
-calm_kind p (kind.WriteSlot fails) found s x y q e =
-    unless_then (Calm x x.task) fails _ y e (λ h. when_then (Calm x x.task) _ _ y h (λ _. calm_same x _ refl refl))
-calm_kind p (kind.SyncSlot fails) found s x y q e = unless_then (Calm x x.task) fails _ y e (calm_sync_slot x x.flushing y)
-calm_kind p (kind.RemoveLog segment fails) found s x y q e = unless_then (Calm x x.task) fails _ y e (calm_remove_log segment x x.flushing y)
-calm_kind p (kind.SyncRemoval segment fails) found s x y q e = unless_then (Calm x x.task) fails _ y e (calm_sync_removal segment x x.flushing y)

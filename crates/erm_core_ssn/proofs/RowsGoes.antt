@@ -18,7 +18,7 @@ use Rattle.erm_machine.specs.declared.version.CellWord.{CellWord}
 use Rattle.erm_machine.specs.declared.version.CellWord.TheVariants as word
 use Rattle.erm_machine.specs.declared.version.VersionAt.{VersionAt}
 use Rattle.erm_machine.specs.Core.{Object}
-use Rattle.erm_machine.specs.Flushing.{load_flushed, gathered_word, load_ring, write_log, after_sync, sync_log, clear_ring, store_flushed, write_slot, sync_slot, remove_log, sync_removal}
+use Rattle.erm_machine.specs.Flushing.{load_flushed, gathered_word, load_ring, clear_ring, store_flushed}
 use Rattle.erm_machine.specs.Life.{load_tail_to_gather, load_tail_for_horizon, load_begin, after_clear, load_state, join}
 use Rattle.erm_machine.specs.Reading.{entered, load_entry, set_reader, after_cut, load_walked_stamp, load_walked_link, load_cell, detached, load_detached, load_counter}
 use Rattle.erm_machine.specs.Seat.{is_active, is_decided, may_start}
@@ -274,56 +274,29 @@ goes_to_settle found x =
     either_way (Goes x x.task) _ _ _
     (λ g. goes_task x x.task _ (step_full x.place _ _ (settle_full x.task (and_parts _ _ (and_parts _ _ g).0).1) (full_from _ tt))) (λ _. goes_refl x)
 
-goes_flushing : (x : Part) (f : Flushing) (to synced : ℕ) → Goes x x.task (record x { flushing = f; gathered_to = to; synced = synced })
-goes_flushing x f to synced = goes_stay x x.task _ refl refl refl refl refl
+goes_flushing : (x : Part) (f : Flushing) (to : ℕ) → Goes x x.task (record x { flushing = f; gathered_to = to })
+goes_flushing x f to = goes_stay x x.task _ refl refl refl refl refl
 
 pub goes_load_flushed : (found : ℕ) (x : Part) (f : Flushing) (y : Part) → load_flushed found x f ≡ Some y → Goes x x.task y
-goes_load_flushed found x (flushing.Tail tail) y e = some_then (Goes x x.task) _ y e (goes_flushing x _ _ _)
+goes_load_flushed found x (flushing.Tail tail) y e = some_then (Goes x x.task) _ y e (goes_flushing x _ _)
 goes_load_flushed found x _ y e = when_then (Goes x x.task) _ _ y e (λ _. goes_to_settle found x)
 
 goes_if : (x : Part) (t : Task) (b : Bool) (l r : Part) → Goes x t l → Goes x t r → Goes x t (if b then l else r)
 goes_if x t b l r f g = either_way (Goes x t) b l r (λ _. f) (λ _. g)
 
 goes_gathered : (tail from block next end : ℕ) (x : Part) → Goes x x.task (gathered_word tail from block next end x)
-goes_gathered tail from block next end x = either_way (Goes x x.task) _ _ _ (λ _. goes_flushing x _ _ _) (λ _. goes_flushing x _ _ _)
+goes_gathered tail from block next end x = either_way (Goes x x.task) _ _ _ (λ _. goes_flushing x _ _) (λ _. goes_flushing x _ _)
 
 pub goes_load_ring : (at found : ℕ) (x : Part) (f : Flushing) (y : Part) → load_ring at found x f ≡ Some y → Goes x x.task y
 goes_load_ring at found x (flushing.Gathers tail from block next end) y e =
     when_then (Goes x x.task) _ _ y e (λ _. search (goes_if, goes_gathered, goes_refl))
 goes_load_ring at found x _ y e = absurd (cc)
 
-pub goes_write_log : (segment : ℕ) (x : Part) (f : Flushing) (y : Part) → write_log segment x f ≡ Some y → Goes x x.task y
-goes_write_log segment x (flushing.Gathers tail from block next end) y e = when_then (Goes x x.task) _ _ y e (λ _. goes_flushing x _ _ _)
-goes_write_log segment x (flushing.Puts from to written) y e = when_then (Goes x x.task) _ _ y e (λ _. goes_flushing x _ _ _)
-goes_write_log segment x _ y e = absurd (cc)
-
-goes_after_sync : (from to synced : ℕ) (x : Part) → Goes x x.task (after_sync from to synced x)
-goes_after_sync from to synced x = either_way (Goes x x.task) _ _ _ (λ _. goes_flushing x _ _ _) (λ _. goes_flushing x _ _ _)
-
-pub goes_sync_log : (segment : ℕ) (x : Part) (f : Flushing) (y : Part) → sync_log segment x f ≡ Some y → Goes x x.task y
-goes_sync_log segment x (flushing.Puts from to written) y e = when_then (Goes x x.task) _ _ y e (λ _. goes_after_sync from to 1 x)
-goes_sync_log segment x (flushing.Syncs from to synced) y e = when_then (Goes x x.task) _ _ y e (λ _. goes_after_sync from to _ x)
-goes_sync_log segment x _ y e = absurd (cc)
-
 pub goes_clear_ring : (at : ℕ) (x : Part) (f : Flushing) (y : Part) → clear_ring at x f ≡ Some y → Goes x x.task y
-goes_clear_ring at x (flushing.Clears next to) y e = when_then (Goes x x.task) _ _ y e (λ _. goes_flushing x _ _ _)
+goes_clear_ring at x (flushing.Gathers tail from block next end) y e = when_then (Goes x x.task) _ _ y e (λ _. goes_flushing x _ _)
+goes_clear_ring at x (flushing.Clears next to) y e = when_then (Goes x x.task) _ _ y e (λ _. goes_flushing x _ _)
 goes_clear_ring at x _ y e = absurd (cc)
 
 pub goes_store_flushed : (value : ℕ) (x : Part) (f : Flushing) (y : Part) → store_flushed value x f ≡ Some y → Goes x x.task y
-goes_store_flushed value x (flushing.Clears next to) y e = when_then (Goes x x.task) _ _ y e (λ _. goes_flushing x _ _ _)
+goes_store_flushed value x (flushing.Clears next to) y e = when_then (Goes x x.task) _ _ y e (λ _. goes_flushing x _ _)
 goes_store_flushed value x _ y e = absurd (cc)
-
-pub goes_write_slot : (p : ℕ) (x : Part) (y : Part) → write_slot p x ≡ Some y → Goes x x.task y
-goes_write_slot p x y e = when_then (Goes x x.task) _ _ y e (λ _. goes_flushing x _ _ _)
-
-pub goes_sync_slot : (x : Part) (f : Flushing) (y : Part) → sync_slot x f ≡ Some y → Goes x x.task y
-goes_sync_slot x flushing.SlotPut y e = some_then (Goes x x.task) _ y e (goes_flushing x _ _ _)
-goes_sync_slot x _ y e = absurd (cc)
-
-pub goes_remove_log : (segment : ℕ) (x : Part) (f : Flushing) (y : Part) → remove_log segment x f ≡ Some y → Goes x x.task y
-goes_remove_log segment x flushing.SlotSynced y e = some_then (Goes x x.task) _ y e (goes_flushing x _ _ _)
-goes_remove_log segment x _ y e = absurd (cc)
-
-pub goes_sync_removal : (segment : ℕ) (x : Part) (f : Flushing) (y : Part) → sync_removal segment x f ≡ Some y → Goes x x.task y
-goes_sync_removal segment x (flushing.Removed removed) y e = when_then (Goes x x.task) _ _ y e (λ _. goes_flushing x _ _ _)
-goes_sync_removal segment x _ y e = absurd (cc)

@@ -19,11 +19,11 @@ use Rattle.erm_machine.specs.Step.{installed, added, shared_after, after_event, 
 use Rattle.erm_machine.specs.Words.{put, begin_of, state_of}
 use Rattle.erm_machine.specs.Written.{OwnWritten}
 use Rattle.erm_machine.proofs.Frames.{at_cases}
-use Rattle.erm_machine.proofs.Guards.{if_then, unless_some, unless_then}
+use Rattle.erm_machine.proofs.Guards.{if_then, unless_some}
 use Rattle.erm_machine.proofs.Objects.{Extends, extends, extends_refl, at_push-new, length_installed, same_objects}
 use Rattle.erm_machine.proofs.QuietKinds.{MeetsOne, Moves, moves}
-use Rattle.erm_core_ssn.proofs.RowsSteps.{Kept, Goes, goes_own, kept_from}
-use Rattle.erm_core_ssn.proofs.RowsGoes.{goes_load_begin, goes_load_state, goes_join, goes_load_entry, goes_set_reader, goes_load_cell, goes_load_detached, goes_load_counter, goes_load_read_entry, goes_load_readers, goes_store_ring, goes_raise_reader, goes_store_succ, goes_store_overwriter, goes_clear_reader, goes_load_flushed, goes_load_ring, goes_write_log, goes_sync_log, goes_clear_ring, goes_store_flushed, goes_write_slot, goes_sync_slot, goes_remove_log, goes_sync_removal}
+use Rattle.erm_core_ssn.proofs.RowsSteps.{Kept, goes_own, kept_from}
+use Rattle.erm_core_ssn.proofs.RowsGoes.{goes_load_begin, goes_load_state, goes_join, goes_load_entry, goes_set_reader, goes_load_cell, goes_load_detached, goes_load_counter, goes_load_read_entry, goes_load_readers, goes_store_ring, goes_raise_reader, goes_store_succ, goes_store_overwriter, goes_clear_reader, goes_load_flushed, goes_load_ring, goes_clear_ring, goes_store_flushed}
 use Rattle.erm_core_ssn.proofs.RowsStored.{Given, add_counter_own, load_stamp_own, store_cell_own}
 use Rattle.erm_core_ssn.proofs.RowsMoved.{load_tail_own, add_tail_own, store_begin_own, store_state_own, decide_own, split_own}
 use Rattle.erm_core_ssn.proofs.RowsInstalled.{install_own, added_left, added_size, claim_own, swap_own}
@@ -127,18 +127,6 @@ plain_own c p (kind.SwapLink v) d r none sound m e is old =
     (λ at. subst (λ (t : Shared). Extends (c.shared.objects at) (t.objects at)) (sym is) (extends p (kind.SwapLink v) (word_at c (spot_of p (kind.SwapLink v))) (c.seats p) c.shared at))
     _ v (c.seats p).task m.part (swap_known c p v d e) refl m.after old
 plain_own c p (kind.LoadDetached v) d r none sound m e is old = goes_own r (c.seats p) m.part (goes_load_detached _ v (c.seats p) (c.seats p).task m.part m.after) old
-plain_own c p (kind.WriteLog segment fails) d r none sound m e is old =
-    goes_own r (c.seats p) m.part (unless_then (Goes (c.seats p) (c.seats p).task) fails _ m.part m.after (goes_write_log segment (c.seats p) (c.seats p).flushing m.part)) old
-plain_own c p (kind.SyncLog segment fails) d r none sound m e is old =
-    goes_own r (c.seats p) m.part (unless_then (Goes (c.seats p) (c.seats p).task) fails _ m.part m.after (goes_sync_log segment (c.seats p) (c.seats p).flushing m.part)) old
-plain_own c p (kind.WriteSlot fails) d r none sound m e is old =
-    goes_own r (c.seats p) m.part (unless_then (Goes (c.seats p) (c.seats p).task) fails _ m.part m.after (goes_write_slot p (c.seats p) m.part)) old
-plain_own c p (kind.SyncSlot fails) d r none sound m e is old =
-    goes_own r (c.seats p) m.part (unless_then (Goes (c.seats p) (c.seats p).task) fails _ m.part m.after (goes_sync_slot (c.seats p) (c.seats p).flushing m.part)) old
-plain_own c p (kind.RemoveLog segment fails) d r none sound m e is old =
-    goes_own r (c.seats p) m.part (unless_then (Goes (c.seats p) (c.seats p).task) fails _ m.part m.after (goes_remove_log segment (c.seats p) (c.seats p).flushing m.part)) old
-plain_own c p (kind.SyncRemoval segment fails) d r none sound m e is old =
-    goes_own r (c.seats p) m.part (unless_then (Goes (c.seats p) (c.seats p).task) fails _ m.part m.after (goes_sync_removal segment (c.seats p) (c.seats p).flushing m.part)) old
 
 step_kept : (c : Core) (p : ℕ) (k : Kind) (d : Core) → Sound c → (m : Moves c p k d)
     → (OwnWritten (shared_after p k (word_at c (spot_of p k)) (c.seats p) c.shared) (c.seats p) → OwnWritten (shared_after p k (word_at c (spot_of p k)) (c.seats p) c.shared) m.part) → Kept d

@@ -15,13 +15,13 @@ use Rattle.erm_core_ssn.proofs.Forward.{Reads, goes_forward, read_below}
 use Rattle.erm_core_ssn.proofs.Chains.{HasMaker, maker_of, one_transaction, writers_in_order, reader_in_order, read_maker, no_newer, overwritten_maker, overwritten_before}
 
 -- a write sets the row of its object and no other
-after_writes-other : (ws : List VersionWritten) (rows : Rows) (oid : ℕ) → ((w : VersionWritten) → w ∈ ws → w.oid ≡ oid → ⊥) → after_writes ws rows oid ≡ rows oid
+pub after_writes-other : (ws : List VersionWritten) (rows : Rows) (oid : ℕ) → ((w : VersionWritten) → w ∈ ws → w.oid ≡ oid → ⊥) → after_writes ws rows oid ≡ rows oid
 after_writes-other [] rows oid none = refl
 after_writes-other (w ∷ ws) rows oid none =
     after_writes-other ws (set_row rows w.oid w.row) oid (λ v there. none v (∈-behind w ws v there))
     ∙ cond-false (eqb oid w.oid) w.row (rows oid) (ne_eqb oid w.oid (λ e. none w (∈-head w ws) (sym e)))
 
-after_writes-written : (ws : List VersionWritten) (rows : Rows) → TellsApart (λ w. w.oid) ws → (w : VersionWritten) → w ∈ ws → after_writes ws rows w.oid ≡ w.row
+pub after_writes-written : (ws : List VersionWritten) (rows : Rows) → TellsApart (λ w. w.oid) ws → (w : VersionWritten) → w ∈ ws → after_writes ws rows w.oid ≡ w.row
 after_writes-written [] rows apart w there = absurd (none_in_nil w there)
 after_writes-written (v ∷ ws) rows apart w there =
     ⊎_elim
@@ -33,7 +33,7 @@ after_writes-written (v ∷ ws) rows apart w there =
     (∈-cons w v ws there)
 
 -- an object is written or it is not
-written_or_not : (ws : List VersionWritten) (oid : ℕ) → ((w : VersionWritten) × (w ∈ ws) × (w.oid ≡ oid)) ⊎ ((w : VersionWritten) → w ∈ ws → w.oid ≡ oid → ⊥)
+pub written_or_not : (ws : List VersionWritten) (oid : ℕ) → ((w : VersionWritten) × (w ∈ ws) × (w.oid ≡ oid)) ⊎ ((w : VersionWritten) → w ∈ ws → w.oid ≡ oid → ⊥)
 written_or_not [] oid = inr (λ w there _. none_in_nil w there)
 written_or_not (v ∷ ws) oid =
     ⊎_elim

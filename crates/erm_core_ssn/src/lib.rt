@@ -12,8 +12,9 @@ ghost use Rattle.erm_model.specs.History.{History, IsSnapshot, IsCertified, rank
 ghost use Rattle.erm_model.specs.Rows.{Rows};
 ghost use Rattle.erm_model.specs.Committed.{Committed};
 ghost use Rattle.erm_model.specs.Committed as committed;
-ghost use Rattle.erm_core_ssn.specs.Laws.{DependenciesGoForward, StandsAfterItsDependencies, AreSuccessorStamps, AllBelow};
+ghost use Rattle.erm_core_ssn.specs.Laws.{DependenciesGoForward, StandsAfterItsDependencies, AreSuccessorStamps, AllBelow, KeepsLaw};
 
+use erm_model::RowLaw;
 pub use machine::{
     commits_are_a_snapshot_history, commits_are_certified, decisions_are_kept, marks_are_kept,
     readers_are_kept, reads_and_claims_are_snapshots, rows_are_kept,
@@ -86,3 +87,14 @@ pub fn versions_are_unique()
         → IsNewestBelow h opening oid bound stamp row → IsNewestBelow h opening oid bound other_stamp other_row
         → (stamp ≡ other_stamp) × (row ≡ other_row) }
 {}
+
+/// Rows stay lawful: of a certified snapshot history that keeps a law of rows, the newest rows below any stamp meet it.
+pub fn newest_rows_stay_lawful<L: RowLaw>()
+    ensures { (h : History) (opening : Rows) → IsSnapshot h opening → IsCertified h → KeepsLaw L.law h opening
+        → (bound : ℕ) (rows : Rows) → 0 < bound → HasNewestRows h opening bound rows → L.law.meets rows }
+{
+    prefixes_stand_alone();
+    serial_order_is_unique();
+    rows_run_serially();
+    versions_are_unique();
+}

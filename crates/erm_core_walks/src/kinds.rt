@@ -9,7 +9,6 @@ pub fn kind(name: &str, numbers: &Numbers) -> Option<Kind> {
         .or(reading(name, numbers))
         .or(own(name, numbers))
         .or(flushing(name, numbers))
-        .or(disk(name, numbers))
 }
 
 // Steps of the life of a transaction, and of seats.
@@ -142,23 +141,6 @@ fn flushing(name: &str, numbers: &Numbers) -> Option<Kind> {
         "clear" => Kind::ClearRing { at },
         "store_flushed" => Kind::StoreFlushed { value: at },
         "flushed" => Kind::LoadFlushed,
-        _ => return None,
-    };
-    Some(kind)
-}
-
-// Calls of the disk.
-fn disk(name: &str, numbers: &Numbers) -> Option<Kind> {
-    let segment = numbers[0];
-    let fails = numbers[1] == 1;
-    let slot_fails = segment == 1;
-    let kind = match name {
-        "write_log" => Kind::WriteLog { segment, fails },
-        "sync_log" => Kind::SyncLog { segment, fails },
-        "write_slot" => Kind::WriteSlot { fails: slot_fails },
-        "sync_slot" => Kind::SyncSlot { fails: slot_fails },
-        "remove_log" => Kind::RemoveLog { segment, fails },
-        "sync_removal" => Kind::SyncRemoval { segment, fails },
         _ => return None,
     };
     Some(kind)

@@ -7,7 +7,7 @@
 //!     task SEAT                          how far a seat has come in a call
 //!     over SEAT                          the numbers of its last transaction that is over
 //!     spare SEAT                         its spare cells
-//!     gathered SEAT                      the end of the last block that it has gathered, and what is synced
+//!     gathered SEAT                      the end of the last block that it has gathered
 ghost use Rattle.erm_core.specs.Ready.{IsReady};
 
 use crate::kinds::kind;
@@ -84,7 +84,7 @@ fn kept(x: &SeatState, name: &str) -> Told {
     match name {
         "task" => Told::Task(x.task),
         "spare" => Told::Spare(x.spare.len()),
-        "gathered" => Told::Gathered(x.gathered_to, x.synced),
+        "gathered" => Told::Gathered(x.gathered_to),
         _ => match x.over.last() {
             Some(t) => Told::Over(t.stamp, t.succ, t.pred, t.decision),
             None => Told::Unknown,

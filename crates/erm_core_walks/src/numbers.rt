@@ -21,7 +21,6 @@ fn factor(word: &str) -> Option<u64> {
         "skip" => Some(SKIP_KIND),
         "size" => Some(SIZE_UNIT),
         "run" => Some(RUN_UNIT),
-        "fails" => Some(1),
         _ => word.parse().ok(),
     }
 }

@@ -41,8 +41,8 @@ pub enum Told {
     Over(Stamp, Stamp, Stamp, Decision),
     /// How many spare cells there are.
     Spare(usize),
-    /// The end of the last block gathered, and the place up to which all is on the disk.
-    Gathered(Stamp, Stamp),
+    /// The end of the last block gathered.
+    Gathered(Stamp),
 }
 
 impl fmt::Display for Told {
@@ -63,7 +63,7 @@ impl fmt::Display for Told {
                 " -> stamp {stamp}, successor {succ}, predecessor {pred}, {decision:?}"
             ),
             Told::Spare(cells) => write!(f, " -> {cells} cells"),
-            Told::Gathered(to, synced) => write!(f, " -> up to {to}, synced up to {synced}"),
+            Told::Gathered(to) => write!(f, " -> up to {to}"),
         }
     }
 }

@@ -92,14 +92,15 @@ pub fn end_of(task: Task) -> Option<(usize, usize, u8, usize)>
     }
 }
 
-/// Whether a flush turn or a checkpoint may start there.
+/// Whether a gather may begin there, or begin anew.
 pub fn is_between(flushing: Flushing) -> bool
     ensures { result ≡ life_specs.is_between flushing }
 {
-    matches!(
-        flushing,
-        Flushing::Still | Flushing::Tail { .. } | Flushing::Gathers { .. } | Flushing::SlotSynced
-    )
+    match flushing {
+        Flushing::Still | Flushing::Tail { .. } => true,
+        Flushing::Gathers { next, end, .. } => next == end,
+        Flushing::Clears { .. } => false,
+    }
 }
 
 /// Whether the seat is a session's.

@@ -12,11 +12,7 @@ when_then P false z y e f = absurd (cc)
 pub some_then : (P : Part → Type 0) (z y : Part) → ◌≡◌ {A = Option Part} (Some z) (Some y) → P z → P y
 some_then P z y e f = let same : z ≡ y = cc in subst P same f
 
--- a call of the disk that succeeds
-pub unless_then : (P : Part → Type 0) (b : Bool) (o : Option Part) (y : Part) → cond b None o ≡ Some y → (o ≡ Some y → P y) → P y
-unless_then P true o y e f = absurd (cc)
-unless_then P false o y e f = f e
-
+-- what isn't ruled out
 pub unless_some : (b : Bool) (o : Option Part) (y : Part) → cond b None o ≡ Some y → o ≡ Some y
 unless_some true o y e = absurd (cc)
 unless_some false o y e = e

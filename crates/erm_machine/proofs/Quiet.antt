@@ -1,6 +1,6 @@
 -- Quiet steps: those that leave a seat at its place. They change neither its begin and commit stamps nor what it has seen.
 use Rattle.std.proofs.Common.{◌≡◌, ℕ, ◌≤◌, ◌⊎◌, List, length, None, refl, sym, ap, subst, inl, inr}
-use Rattle.erm_machine.specs.declared.limits.TheConstants.{WRITE_LIMIT}
+use Rattle.erm_machine.specs.declared.limits.TheConstants.{READ_LIMIT, WRITE_LIMIT}
 use Rattle.erm_machine.specs.declared.attempt.Attempt.{Attempt}
 use Rattle.erm_machine.specs.declared.attempt.OwnCell.{OwnCell}
 use Rattle.erm_machine.specs.declared.part.Flushing.{Flushing}
@@ -34,6 +34,7 @@ pub record Steady (x y : Part) : Type 0 where
   pub decision : y.current.decision ≡ x.current.decision
   pub same : (y.current ≡ x.current) ⊎ HasBegun x.place
   pub few : length x.current.writes ≤ WRITE_LIMIT → length y.current.writes ≤ WRITE_LIMIT
+  pub few_reads : length x.current.reads ≤ READ_LIMIT → length y.current.reads ≤ READ_LIMIT
 
 -- what a seat keeps in a quiet step, whose task was t
 pub record Quiet (x : Part) (t : Task) (y : Part) : Type 0 where
@@ -54,6 +55,7 @@ steady_same x y place over current = record {
   decision = ap (λ t. t.decision) current;
   same = inl current;
   few = λ f. subst (λ (t : Attempt). length t.writes ≤ WRITE_LIMIT) (sym current) f;
+  few_reads = λ f. subst (λ (t : Attempt). length t.reads ≤ READ_LIMIT) (sym current) f;
 }
 
 -- the task alone changes
@@ -61,8 +63,8 @@ pub quiet_task : (x : Part) (t u : Task) → KeepsHorizon t u → Quiet x t (rec
 quiet_task x t u h = record { steady = steady_same x _ refl refl refl; seen = refl; clear = refl; horizon = h }
 
 -- the flush seat's own fields change
-pub quiet_flushing : (x : Part) (f : Flushing) (to synced : ℕ) → Quiet x x.task (record x { flushing = f; gathered_to = to; synced = synced })
-quiet_flushing x f to synced = record { steady = steady_same x _ refl refl refl; seen = refl; clear = refl; horizon = same_horizon x.task }
+pub quiet_flushing : (x : Part) (f : Flushing) (to : ℕ) → Quiet x x.task (record x { flushing = f; gathered_to = to })
+quiet_flushing x f to = record { steady = steady_same x _ refl refl refl; seen = refl; clear = refl; horizon = same_horizon x.task }
 
 -- the current transaction changes in what it reads, writes or makes
 pub record Working (t u : Attempt) : Type 0 where
@@ -72,6 +74,7 @@ pub record Working (t u : Attempt) : Type 0 where
   pub size : u.size ≡ t.size
   pub decision : u.decision ≡ t.decision
   pub few : length t.writes ≤ WRITE_LIMIT → length u.writes ≤ WRITE_LIMIT
+  pub few_reads : length t.reads ≤ READ_LIMIT → length u.reads ≤ READ_LIMIT
 
 pub quiet_current : (x : Part) (t u : Task) (c : Attempt) (spare : List OwnCell) → HasBegun x.place → KeepsHorizon t u → Working x.current c →
     Quiet x t (record x { task = u; current = c; spare = spare })
@@ -86,6 +89,7 @@ quiet_current x t u c spare begun h w = record {
     decision = w.decision;
     same = inr begun;
     few = w.few;
+    few_reads = w.few_reads;
   };
   seen = refl;
   clear = refl;

@@ -2,9 +2,10 @@
 use Rattle.std.proofs.Common.{◌≡◌, ℕ, ◌<◌, ◌≤◌, Bool, true, false, ◌&&◌, ◌||◌, [], ◌∷◌, ◌++◌, length, set, Option, Some, None, refl, sym, inl, inr, arith, length-append, length-set, length-take}
 use Rattle.std.specs.Prelude.{if◌then◌else◌}
 use Rattle.std.proofs.lemmas.Bool.{and_parts, ltb-true}
-use Rattle.erm_machine.specs.declared.limits.TheConstants.{WRITE_LIMIT}
+use Rattle.erm_machine.specs.declared.limits.TheConstants.{READ_LIMIT, WRITE_LIMIT}
 use Rattle.erm_machine.specs.declared.attempt.Attempt.{Attempt}
 use Rattle.erm_machine.specs.declared.attempt.Claim.{Claim}
+use Rattle.erm_machine.specs.declared.attempt.Read.{Read}
 use Rattle.erm_machine.specs.declared.event.Counter.{Counter}
 use Rattle.erm_machine.specs.declared.event.Counter.TheVariants.{Objects, Cells}
 use Rattle.erm_machine.specs.declared.event.Kind.{Kind}
@@ -28,8 +29,8 @@ use Rattle.erm_machine.specs.Facts.{HasBegun}
 use Rattle.erm_machine.specs.Seat.{end_of, is_active, is_sealed, is_decided, with_claim, last_claim}
 use Rattle.erm_machine.specs.Reading.{entered, after_cut, detached, load_entry, claim, set_reader, load_walked_stamp, load_walked_link, load_cell, swap_link, load_detached, load_counter, add_counter, load_active_stamp, start_row, store_row_word}
 use Rattle.erm_machine.specs.Settling.{load_flushed_to_settle, load_read_entry, load_readers, load_settled_stamp, load_stamp, store_ring, raise_reader, store_head_word, store_active_word, store_cell, mark_overwritten, store_succ, store_overwriter, install_claim, adds_version, install_new, release_old, unclaim, install, clear_reader, filled}
-use Rattle.erm_machine.specs.Flushing.{load_flushed, gathered_word, load_ring, write_log, after_sync, sync_log, clear_ring, store_flushed, write_slot, sync_slot, remove_log, sync_removal}
-use Rattle.erm_machine.proofs.Guards.{when_then, some_then, unless_then, if_then, either_way, unless_some}
+use Rattle.erm_machine.specs.Flushing.{load_flushed, gathered_word, load_ring, clear_ring, store_flushed}
+use Rattle.erm_machine.proofs.Guards.{when_then, some_then, if_then, either_way, unless_some}
 use Rattle.erm_machine.proofs.Quiet.{KeepsHorizon, Plain, Quiet, Working, no_horizon, quiet_task, quiet_flushing, quiet_current, quiet_refl}
 
 -- a seat at these places has begun
@@ -101,6 +102,18 @@ working_claim b t pred w room = record {
   size = refl;
   decision = refl;
   few = λ f. either_way (λ ws. length ws ≤ WRITE_LIMIT) b (t.writes ++ w ∷ []) t.writes (λ _. omega (arith, length-append t.writes (w ∷ []))) (λ _. f);
+  few_reads = λ f. f;
+}
+
+working_read : (t : Attempt) (pred : ℕ) (r : Read) → length t.reads < READ_LIMIT → Working t (record t { pred = pred; reads = t.reads ++ r ∷ [] })
+working_read t pred r room = record {
+  number = refl;
+  begin = refl;
+  stamp = refl;
+  size = refl;
+  decision = refl;
+  few = λ f. f;
+  few_reads = λ _. omega (arith, length-append t.reads (r ∷ []));
 }
 
 -- its claims stay as many
@@ -112,6 +125,7 @@ working_set t place w = record {
   size = refl;
   decision = refl;
   few = λ f. omega (arith, length-set t.writes place w);
+  few_reads = λ f. f;
 }
 
 pub q_claim : (seat oid seen number found : ℕ) (o : Object) (x : Part) (t : Task) (y : Part) → claim seat oid seen number found o x t ≡ Some y → Quiet x t y
@@ -126,7 +140,7 @@ pub q_set_reader : (seat : ℕ) (v : VersionAt) (o : Object) (x : Part) (t : Tas
 q_set_reader seat v o x (task.Found version stamp head) y e =
     when_then (Quiet x _) _ _ y e (λ g.
     working x _ _ _ (begun_active x.place (first _ _ (first _ _ (first _ _ (first _ _ g))))) (record { plain = refl })
-    (record { number = refl; begin = refl; stamp = refl; size = refl; decision = refl; few = λ f. f }))
+    (working_read x.current _ _ (ltb-true _ _ (and_parts _ _ (and_parts _ _ g).0).1)))
 q_set_reader seat v o x _ y e = absurd (cc)
 
 q_walked_stamp : (found : ℕ) (v : VersionAt) (x : Part) (t : Task) (y : Part) → load_walked_stamp found v x t ≡ Some y → Quiet x t y
@@ -152,7 +166,7 @@ pub q_swap_link : (found : ℕ) (v : VersionAt) (o : Object) (x : Part) (t : Tas
 q_swap_link found v o x (task.CutFound version horizon) y e =
     when_then (Quiet x _) _ _ y e (λ g.
     quiet_current x _ _ x.current _ (begun_active x.place (first _ _ g)) (no_horizon _ _ (detached_plain found version x))
-    (record { number = refl; begin = refl; stamp = refl; size = refl; decision = refl; few = λ f. f }))
+    (record { number = refl; begin = refl; stamp = refl; size = refl; decision = refl; few = λ f. f; few_reads = λ f. f }))
 q_swap_link found v o x _ y e = absurd (cc)
 
 pub q_load_detached : (found : ℕ) (v : VersionAt) (x : Part) (t : Task) (y : Part) → load_detached found v x t ≡ Some y → Quiet x t y
@@ -173,12 +187,13 @@ working_writes b t place w = record {
   size = refl;
   decision = refl;
   few = λ f. either_way (λ ws. length ws ≤ WRITE_LIMIT) b (set t.writes place w) t.writes (λ _. omega (arith, length-set t.writes place w)) (λ _. f);
+  few_reads = λ f. f;
 }
 
 pub q_add_counter : (cells : ℕ) (seat : ℕ) (c : Counter) (found : ℕ) (x : Part) (t : Task) (y : Part) → add_counter cells seat c found x t ≡ Some y → Quiet x t y
 q_add_counter cells seat Objects found x task.Numbers y e =
     when_then (Quiet x _) _ _ y e (λ g. working x _ _ _ (begun_active x.place (first _ _ g)) (record { plain = refl })
-    (record { number = refl; begin = refl; stamp = refl; size = refl; decision = refl; few = λ f. f }))
+    (record { number = refl; begin = refl; stamp = refl; size = refl; decision = refl; few = λ f. f; few_reads = λ f. f }))
 q_add_counter cells seat Cells found x task.Pool y e =
     when_then (Quiet x _) _ _ y e (λ g. working x _ _ _ (begun_active x.place g) (search (plain_if, plain_from))
     (working_writes _ x.current _ _))
@@ -190,13 +205,13 @@ q_active_stamp found v word.Overwriter x (task.Registered version) y b e =
     when_then (Quiet x _) _ _ y e (λ _. to_plain x _ _ (search (plain_if, plain_from)))
 q_active_stamp found v word.OverwriterSucc x (task.Overtaken version overwriter) y b e =
     when_then (Quiet x _) _ _ y e (λ _. working x _ _ _ b (record { plain = refl })
-    (record { number = refl; begin = refl; stamp = refl; size = refl; decision = refl; few = λ f. f }))
+    (record { number = refl; begin = refl; stamp = refl; size = refl; decision = refl; few = λ f. f; few_reads = λ f. f }))
 q_active_stamp found v word.ReaderStamp x task.Draws y b e =
     when_then (Quiet x _) _ _ y e (λ _. quiet_current x _ _ _ _ b (no_horizon _ _ (record { plain = refl }))
-    (record { number = refl; begin = refl; stamp = refl; size = refl; decision = refl; few = (working_set x.current _ _).few }))
+    (record { number = refl; begin = refl; stamp = refl; size = refl; decision = refl; few = (working_set x.current _ _).few; few_reads = λ f. f }))
 q_active_stamp found v word.ReaderStamp x task.Fetched y b e =
     when_then (Quiet x _) _ _ y e (λ _. working x _ _ _ b (record { plain = refl })
-    (record { number = refl; begin = refl; stamp = refl; size = refl; decision = refl; few = λ f. f }))
+    (record { number = refl; begin = refl; stamp = refl; size = refl; decision = refl; few = λ f. f; few_reads = λ f. f }))
 q_active_stamp found v _ x _ y b e = absurd (cc)
 
 q_settled_stamp : (found : ℕ) (v : VersionAt) (w : CellWord) (x : Part) (t : Task) (y : Part) → HasBegun x.place → load_settled_stamp found v w x t ≡ Some y → Quiet x t y
@@ -204,13 +219,13 @@ q_settled_stamp found v word.Overwriter x (task.ReadClear read) y b e =
     when_then (Quiet x _) _ _ y e (λ _. to_plain x _ _ (search (plain_if, plain_from)))
 q_settled_stamp found v word.OverwriterSucc x (task.ReadOvertaken read overwriter) y b e =
     when_then (Quiet x _) _ _ y e (λ _. working x _ _ _ b (record { plain = refl })
-    (record { number = refl; begin = refl; stamp = refl; size = refl; decision = refl; few = λ f. f }))
+    (record { number = refl; begin = refl; stamp = refl; size = refl; decision = refl; few = λ f. f; few_reads = λ f. f }))
 q_settled_stamp found v word.Stamp x (task.WriteClear write) y b e =
     when_then (Quiet x _) _ _ y e (λ _. working x _ _ _ b (record { plain = refl })
-    (record { number = refl; begin = refl; stamp = refl; size = refl; decision = refl; few = λ f. f }))
+    (record { number = refl; begin = refl; stamp = refl; size = refl; decision = refl; few = λ f. f; few_reads = λ f. f }))
 q_settled_stamp found v word.ReaderStamp x (task.WriteMade write) y b e =
     when_then (Quiet x _) _ _ y e (λ _. working x _ _ _ b (record { plain = refl })
-    (record { number = refl; begin = refl; stamp = refl; size = refl; decision = refl; few = λ f. f }))
+    (record { number = refl; begin = refl; stamp = refl; size = refl; decision = refl; few = λ f. f; few_reads = λ f. f }))
 q_settled_stamp found v _ x _ y b e = absurd (cc)
 
 pub q_load_stamp : (found : ℕ) (v : VersionAt) (w : CellWord) (x : Part) (y : Part) → load_stamp found v w x ≡ Some y → Quiet x x.task y
@@ -232,7 +247,7 @@ pub q_store_ring : (at value : ℕ) (x : Part) (t : Task) (o : Option ℕ) (y : 
 q_store_ring at value x t None y e = absurd (cc)
 q_store_ring at value x t (Some words) y e =
     when_then (Quiet x _) _ _ y e (λ g. working x _ _ _ (begun_sealed x.place (first _ _ (first _ _ (first _ _ (first _ _ g))))) (record { plain = refl })
-    (record { number = refl; begin = refl; stamp = refl; size = refl; decision = refl; few = λ f. f }))
+    (record { number = refl; begin = refl; stamp = refl; size = refl; decision = refl; few = λ f. f; few_reads = λ f. f }))
 
 pub q_raise_reader : (v : VersionAt) (value : ℕ) (x : Part) (t : Task) (y : Part) → raise_reader v value x t ≡ Some y → Quiet x t y
 q_raise_reader v value x (task.Ends raised ended step cleared) y e = when_then (Quiet x _) _ _ y e (λ _. plain_task x _ _ refl)
@@ -276,7 +291,7 @@ q_store_cell place cell w value x y e =
 q_unclaim : (oid head : ℕ) (x : Part) (t : Task) (y : Part) → unclaim oid head x ≡ Some y → Quiet x t y
 q_unclaim oid head x t y e =
     when_then (Quiet x _) _ _ y e (λ g. working x _ _ _ (begun_active x.place (first _ _ (first _ _ (first _ _ g)))) (record { plain = refl })
-    (record { number = refl; begin = refl; stamp = refl; size = refl; decision = refl; few = λ f. omega (arith, length-take (last_claim x.current) x.current.writes) }))
+    (record { number = refl; begin = refl; stamp = refl; size = refl; decision = refl; few = λ f. omega (arith, length-take (last_claim x.current) x.current.writes); few_reads = λ f. f }))
 
 q_install_claim : (oid head : ℕ) (x : Part) (t : Task) (e : Option (ℕ × ℕ × ℕ × ℕ)) (y : Part) → install_claim oid head x e ≡ Some y → Quiet x t y
 q_install_claim oid head x t None y e = absurd (cc)
@@ -301,14 +316,14 @@ q_to_settle : (found : ℕ) (x : Part) → Quiet x x.task (load_flushed_to_settl
 q_to_settle found x = either_way (Quiet x x.task) _ _ _ (λ _. plain_task x _ _ refl) (λ _. quiet_refl x)
 
 pub q_load_flushed : (found : ℕ) (x : Part) (f : Flushing) (y : Part) → load_flushed found x f ≡ Some y → Quiet x x.task y
-q_load_flushed found x (flushing.Tail tail) y e = some_then (Quiet x x.task) _ y e (quiet_flushing x _ _ _)
+q_load_flushed found x (flushing.Tail tail) y e = some_then (Quiet x x.task) _ y e (quiet_flushing x _ _)
 q_load_flushed found x _ y e = when_then (Quiet x x.task) _ _ y e (λ _. q_to_settle found x)
 
 quiet_if : (x : Part) (t : Task) (b : Bool) (l r : Part) → Quiet x t l → Quiet x t r → Quiet x t (if b then l else r)
 quiet_if x t b l r f g = either_way (Quiet x t) b l r (λ _. f) (λ _. g)
 
 q_gathered : (tail from block next end : ℕ) (x : Part) → Quiet x x.task (gathered_word tail from block next end x)
-q_gathered tail from block next end x = either_way (Quiet x x.task) _ _ _ (λ _. quiet_flushing x _ _ _) (λ _. quiet_flushing x _ _ _)
+q_gathered tail from block next end x = either_way (Quiet x x.task) _ _ _ (λ _. quiet_flushing x _ _) (λ _. quiet_flushing x _ _)
 
 pub q_load_ring : (at found : ℕ) (x : Part) (f : Flushing) (y : Part) → load_ring at found x f ≡ Some y → Quiet x x.task y
 q_load_ring at found x (flushing.Gathers tail from block next end) y e =
@@ -316,41 +331,14 @@ q_load_ring at found x (flushing.Gathers tail from block next end) y e =
     search (quiet_if, q_gathered, quiet_refl))
 q_load_ring at found x _ y e = absurd (cc)
 
-pub q_write_log : (segment : ℕ) (x : Part) (f : Flushing) (y : Part) → write_log segment x f ≡ Some y → Quiet x x.task y
-q_write_log segment x (flushing.Gathers tail from block next end) y e = when_then (Quiet x x.task) _ _ y e (λ _. quiet_flushing x _ _ _)
-q_write_log segment x (flushing.Puts from to written) y e = when_then (Quiet x x.task) _ _ y e (λ _. quiet_flushing x _ _ _)
-q_write_log segment x _ y e = absurd (cc)
-
-q_after_sync : (from to synced : ℕ) (x : Part) → Quiet x x.task (after_sync from to synced x)
-q_after_sync from to synced x = either_way (Quiet x x.task) _ _ _ (λ _. quiet_flushing x _ _ _) (λ _. quiet_flushing x _ _ _)
-
-pub q_sync_log : (segment : ℕ) (x : Part) (f : Flushing) (y : Part) → sync_log segment x f ≡ Some y → Quiet x x.task y
-q_sync_log segment x (flushing.Puts from to written) y e = when_then (Quiet x x.task) _ _ y e (λ _. q_after_sync from to 1 x)
-q_sync_log segment x (flushing.Syncs from to synced) y e = when_then (Quiet x x.task) _ _ y e (λ _. q_after_sync from to _ x)
-q_sync_log segment x _ y e = absurd (cc)
-
 pub q_clear_ring : (at : ℕ) (x : Part) (f : Flushing) (y : Part) → clear_ring at x f ≡ Some y → Quiet x x.task y
-q_clear_ring at x (flushing.Clears next to) y e = when_then (Quiet x x.task) _ _ y e (λ _. quiet_flushing x _ _ _)
+q_clear_ring at x (flushing.Gathers tail from block next end) y e = when_then (Quiet x x.task) _ _ y e (λ _. quiet_flushing x _ _)
+q_clear_ring at x (flushing.Clears next to) y e = when_then (Quiet x x.task) _ _ y e (λ _. quiet_flushing x _ _)
 q_clear_ring at x _ y e = absurd (cc)
 
 pub q_store_flushed : (value : ℕ) (x : Part) (f : Flushing) (y : Part) → store_flushed value x f ≡ Some y → Quiet x x.task y
-q_store_flushed value x (flushing.Clears next to) y e = when_then (Quiet x x.task) _ _ y e (λ _. quiet_flushing x _ _ _)
+q_store_flushed value x (flushing.Clears next to) y e = when_then (Quiet x x.task) _ _ y e (λ _. quiet_flushing x _ _)
 q_store_flushed value x _ y e = absurd (cc)
-
-pub q_write_slot : (seat : ℕ) (x : Part) (y : Part) → write_slot seat x ≡ Some y → Quiet x x.task y
-q_write_slot seat x y e = when_then (Quiet x x.task) _ _ y e (λ _. quiet_flushing x _ _ _)
-
-pub q_sync_slot : (x : Part) (f : Flushing) (y : Part) → sync_slot x f ≡ Some y → Quiet x x.task y
-q_sync_slot x flushing.SlotPut y e = some_then (Quiet x x.task) _ y e (quiet_flushing x _ _ _)
-q_sync_slot x _ y e = absurd (cc)
-
-pub q_remove_log : (segment : ℕ) (x : Part) (f : Flushing) (y : Part) → remove_log segment x f ≡ Some y → Quiet x x.task y
-q_remove_log segment x flushing.SlotSynced y e = some_then (Quiet x x.task) _ y e (quiet_flushing x _ _ _)
-q_remove_log segment x _ y e = absurd (cc)
-
-pub q_sync_removal : (segment : ℕ) (x : Part) (f : Flushing) (y : Part) → sync_removal segment x f ≡ Some y → Quiet x x.task y
-q_sync_removal segment x (flushing.Removed removed) y e = when_then (Quiet x x.task) _ _ y e (λ _. quiet_flushing x _ _ _)
-q_sync_removal segment x _ y e = absurd (cc)
 
 -- kinds that leave the seat at its place, and see no other seat's words
 abbrev pub IsQuiet : Kind → Type 0
@@ -398,12 +386,6 @@ quiet_kind p (kind.StoreFlushed value) found s x y q e = q_store_flushed value x
 quiet_kind p kind.LoadFlushed found s x y q e = q_load_flushed found x x.flushing y e
 quiet_kind p (kind.SwapLink v) found s x y q e = q_swap_link found v (s.objects v.oid) x x.task y e
 quiet_kind p (kind.LoadDetached v) found s x y q e = q_load_detached found v x x.task y e
-quiet_kind p (kind.WriteLog segment fails) found s x y q e = unless_then (Quiet x x.task) fails _ y e (q_write_log segment x x.flushing y)
-quiet_kind p (kind.SyncLog segment fails) found s x y q e = unless_then (Quiet x x.task) fails _ y e (q_sync_log segment x x.flushing y)
-quiet_kind p (kind.WriteSlot fails) found s x y q e = unless_then (Quiet x x.task) fails _ y e (q_write_slot p x y)
-quiet_kind p (kind.SyncSlot fails) found s x y q e = unless_then (Quiet x x.task) fails _ y e (q_sync_slot x x.flushing y)
-quiet_kind p (kind.RemoveLog segment fails) found s x y q e = unless_then (Quiet x x.task) fails _ y e (q_remove_log segment x x.flushing y)
-quiet_kind p (kind.SyncRemoval segment fails) found s x y q e = unless_then (Quiet x x.task) fails _ y e (q_sync_removal segment x x.flushing y)
 
 -- what is shared keeps the tail and its ranges
 pub record SameLog (s t : Shared) : Type 0 where

@@ -80,7 +80,7 @@ pub data Spot : Type 0 where
   ring_word : ℕ → Spot
   no_word : Spot
 
--- the word that a seat's step of this kind meets: the disk's calls, splits and joins meet none
+-- the word that a seat's step of this kind meets: splits and joins meet none
 abbrev pub spot_of : ℕ → Kind → Spot
 spot_of seat (kind.LoadTail purpose) = tail_word
 spot_of seat (kind.AddTail size) = tail_word
@@ -112,12 +112,6 @@ spot_of seat (kind.StoreFlushed value) = flushed_word
 spot_of seat kind.LoadFlushed = flushed_word
 spot_of seat (kind.SwapLink version) = version_word version word.Link
 spot_of seat (kind.LoadDetached version) = version_word version word.Link
-spot_of seat (kind.WriteLog segment fails) = no_word
-spot_of seat (kind.SyncLog segment fails) = no_word
-spot_of seat (kind.WriteSlot fails) = no_word
-spot_of seat (kind.SyncSlot fails) = no_word
-spot_of seat (kind.RemoveLog segment fails) = no_word
-spot_of seat (kind.SyncRemoval segment fails) = no_word
 
 -- a claim that nobody made
 abbrev pub no_claim : Claim
@@ -208,7 +202,6 @@ fresh_part place run tail = record {
   run = run;
   flushing = Still;
   gathered_to = tail;
-  synced = tail;
 }
 
 -- an object as it is opened: one version of stamp 0, in the cell of the same number

@@ -42,13 +42,12 @@ abbrev pub load_tail_for_horizon : ℕ → Part → Task → Option Part
 load_tail_for_horizon found x (task.Claimed version) = when (is_active x.place) (saw found (with_task (task.Horizon version found 1) x))
 load_tail_for_horizon found x _ = None
 
--- a flush turn or a checkpoint may start: nothing is written that isn't synced, and nothing synced that isn't told
+-- A gather may begin, or begin anew: the flush seat is between two blocks, and has cleared no word since flushed was stored.
 abbrev pub is_between : Flushing → Bool
 is_between flushing.Still = true
 is_between (flushing.Tail tail) = true
-is_between (flushing.Gathers tail from block next end) = true
-is_between flushing.SlotSynced = true
-is_between _ = false
+is_between (flushing.Gathers tail from block next end) = next == end
+is_between (flushing.Clears next to) = false
 
 -- GATHER. The flush seat remembers the tail.
 abbrev pub load_tail_to_gather : ℕ → ℕ → Part → Option Part

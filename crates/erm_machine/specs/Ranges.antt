@@ -1,7 +1,7 @@
 -- Ranges: what the seats have drawn of the log.
 use Rattle.std.specs.Prelude.{◌≡◌, ◌≢◌, ℕ, ◌+◌, ◌*◌, ◌^◌, ◌<◌, ◌≤◌, false, ◌==◌, nat_lt, nat_le, if◌then◌else◌, List, [], ◌∷◌, ◌++◌, length, count_by, filter}
 use Rattle.erm_model.specs.Member.{◌∈◌}
-use Rattle.erm_machine.specs.declared.limits.TheConstants.{STOP, ANNOUNCERS, GREATEST_BLOCK, LEAST_BLOCK, WRITE_LIMIT}
+use Rattle.erm_machine.specs.declared.limits.TheConstants.{STOP, ANNOUNCERS, GREATEST_BLOCK, LEAST_BLOCK, READ_LIMIT, WRITE_LIMIT}
 use Rattle.erm_machine.specs.declared.attempt.Attempt.{Attempt}
 use Rattle.erm_machine.specs.declared.attempt.Decision.TheVariants.{Undecided, Abort}
 use Rattle.erm_machine.specs.declared.part.Part.{Part}
@@ -56,8 +56,7 @@ pub record Ranges (s : Shared) (seats : ℕ → Part) : Type 0 where
 
 -- A seat's ranges are those of its transactions, in order; of them one at most starts at or above 2 ^ 60, and none while
 -- the seat may still draw. The seat of an unfinished range has state 1 or that stamp, and a finished one is a commit or
--- is skipped. A seat
--- that has no words is vacant.
+-- is skipped. A seat that has no words is vacant. A transaction claims, and reads, no more than its limits.
 pub record OwnRanges (s : Shared) (seat : ℕ) (x : Part) : Type 0 where
   pub seat_of : is_seat seat ≡ false → x.place ≡ Vacant
   pub current : IsCurrent x.place x.current
@@ -66,3 +65,4 @@ pub record OwnRanges (s : Shared) (seat : ℕ) (x : Part) : Type 0 where
   pub ranges : filter (λ r. r.seat == seat) s.log ≡ ranges_of seat x.over ++ range_at seat x.current.stamp x.current.size
   pub one_high : high_of x + may_draw seat x.place ≤ 1
   pub few : length x.current.writes ≤ WRITE_LIMIT
+  pub few_reads : length x.current.reads ≤ READ_LIMIT

@@ -1,7 +1,6 @@
 -- The sound state, by what a fact speaks of: what is shared, one seat, or two.
 use Rattle.std.specs.Prelude.{ℕ, ◌≢◌}
 use Rattle.erm_machine.specs.declared.part.Part.{Part}
-use Rattle.erm_model.specs.RowTransaction.{Law}
 use Rattle.erm_machine.specs.Attached.{OwnAttached}
 use Rattle.erm_machine.specs.Begins.{OwnBegins, Begins}
 use Rattle.erm_machine.specs.Bounds.{OwnBounds}
@@ -11,8 +10,8 @@ use Rattle.erm_machine.specs.Claims.{Claims, OwnClaims}
 use Rattle.erm_machine.specs.Clear.{OwnClear, Clear}
 use Rattle.erm_machine.specs.Core.{Core, Shared}
 use Rattle.erm_machine.specs.Decided.{Decided, OwnDecided, DecidedApart}
-use Rattle.erm_machine.specs.Lawful.{Lawful}
 use Rattle.erm_machine.specs.Lives.{OwnLives}
+use Rattle.erm_machine.specs.Log.{Log, OwnLog}
 use Rattle.erm_machine.specs.Marks.{Marks, OwnMarks}
 use Rattle.erm_machine.specs.Numbers.{Counters, OwnMade, MadeApart}
 use Rattle.erm_machine.specs.Ranges.{Ranges, OwnRanges}
@@ -32,6 +31,7 @@ pub record Common (s : Shared) (seats : ℕ → Part) : Type 0 where
   pub readers : Readers s seats
   pub decided : Decided s seats
   pub rowed : Rowed s
+  pub log : Log s seats
 
 -- facts of one seat
 pub record Own (s : Shared) (seat : ℕ) (x : Part) : Type 0 where
@@ -41,7 +41,7 @@ pub record Own (s : Shared) (seat : ℕ) (x : Part) : Type 0 where
   pub task : OwnTask x
   pub bounds : OwnBounds seat x
   pub lives : OwnLives s seat x
-  pub made : OwnMade s x
+  pub made : OwnMade s seat x
   pub cells : OwnCells x
   pub chains : OwnChains s x
   pub attached : OwnAttached s x
@@ -51,6 +51,7 @@ pub record Own (s : Shared) (seat : ℕ) (x : Part) : Type 0 where
   pub readers : OwnReaders s seat x
   pub decided : OwnDecided s x
   pub written : OwnWritten s x
+  pub log : OwnLog s seat x
 
 -- facts of a seat and of another one, of that number
 pub record Both (x : Part) (q : ℕ) (y : Part) : Type 0 where
@@ -60,13 +61,8 @@ pub record Both (x : Part) (q : ℕ) (y : Part) : Type 0 where
   pub snapshot : Snapshot x q y
   pub decided : DecidedApart x q y
 
--- The sound state, whatever law its rows keep. Of the parts stated in this folder the log's words aren't among its facts yet.
+-- The sound state, whatever law its rows keep.
 pub record Sound (c : Core) : Type 0 where
   pub common : Common c.shared c.seats
   pub own : (p : ℕ) → Own c.shared p (c.seats p)
   pub both : (p q : ℕ) → p ≢ q → Both (c.seats p) q (c.seats q)
-
--- The sound state whose rows keep a law.
-pub record SoundUnder (law : Law) (c : Core) : Type 0 where
-  pub sound : Sound c
-  pub lawful : Lawful law c.shared c.seats

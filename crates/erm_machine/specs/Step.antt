@@ -1,4 +1,4 @@
--- The core step: one atomic step of one seat, or one call of the disk. Its guard reads the seat's own part and the one word
+-- The core step: one atomic step of one seat. Its guard reads the seat's own part and the one word
 -- that it meets.
 use Rattle.std.specs.Prelude.{true, false, ℕ, ◌+◌, ◌%◌, ◌^◌, Bool, not, ◌&&◌, ◌==◌, nat_lt, if◌then◌else◌, max, List, [], ◌∷◌, ◌++◌, Option, Some, None}
 use Rattle.erm_machine.specs.declared.limits.TheConstants.{OBJECT_LIMIT, RING_WORDS}
@@ -21,13 +21,13 @@ use Rattle.erm_machine.specs.Seat.{end_of}
 use Rattle.erm_machine.specs.Life.{load_tail, add_tail, store_begin, store_state, load_begin, load_state, split, join, decide}
 use Rattle.erm_machine.specs.Reading.{load_entry, claim, set_reader, load_cell, swap_link, load_detached, load_counter, add_counter}
 use Rattle.erm_machine.specs.Settling.{load_read_entry, load_readers, load_stamp, filled, store_ring, raise_reader, store_cell, store_succ, store_overwriter, install, adds_version, clear_reader}
-use Rattle.erm_machine.specs.Flushing.{load_flushed, load_ring, write_log, sync_log, clear_ring, store_flushed, write_slot, sync_slot, remove_log, sync_removal}
+use Rattle.erm_machine.specs.Flushing.{load_flushed, load_ring, clear_ring, store_flushed}
 use Rattle.erm_machine.specs.Seat.{is_sealed}
 use Rattle.erm_machine.specs.Words.{put, claimed, with_bit, without_bit, set_word, is_seat, is_session}
 
--- a call of the disk that doesn't fail
+-- the part after, unless the step is ruled out
 abbrev pub unless : Bool → Option Part → Option Part
-unless fails after = if fails then None else after
+unless out after = if out then None else after
 
 -- a session loads no word of a row before its own bit is set; the flush seat sets none
 abbrev pub reads_early : ℕ → CellWord → Task → Bool
@@ -69,12 +69,6 @@ part_after seat (kind.StoreFlushed value) found s x = store_flushed value x x.fl
 part_after seat kind.LoadFlushed found s x = load_flushed found x x.flushing
 part_after seat (kind.SwapLink v) found s x = swap_link found v (s.objects v.oid) x x.task
 part_after seat (kind.LoadDetached v) found s x = load_detached found v x x.task
-part_after seat (kind.WriteLog segment fails) found s x = unless fails (write_log segment x x.flushing)
-part_after seat (kind.SyncLog segment fails) found s x = unless fails (sync_log segment x x.flushing)
-part_after seat (kind.WriteSlot fails) found s x = unless fails (write_slot seat x)
-part_after seat (kind.SyncSlot fails) found s x = unless fails (sync_slot x x.flushing)
-part_after seat (kind.RemoveLog segment fails) found s x = unless fails (remove_log segment x x.flushing)
-part_after seat (kind.SyncRemoval segment fails) found s x = unless fails (sync_removal segment x x.flushing)
 
 -- the word met as a step of this kind leaves it
 abbrev pub stored : ℕ → Kind → ℕ → ℕ
@@ -208,7 +202,7 @@ told (kind.SwapLink v) found = answer.Word found
 told (kind.LoadDetached v) found = answer.Word found
 told _ found = answer.Done
 
--- The core step. Where the guard isn't met, or a call of the disk fails, the answer is Failed and the state is the old one.
+-- The core step. Where the guard isn't met, the answer is Failed and the state is the old one.
 abbrev pub step_to : Core → Answer → Option Core → Answer × Core
 step_to c a None = (answer.Failed, c)
 step_to c a (Some d) = (a, d)

@@ -22,7 +22,7 @@ pub enum Counter {
     Cells,
 }
 
-/// A kind of atomic step, with the word that it meets and the number that it stores, or a call of the disk.
+/// A kind of atomic step, with the word that it meets and the number that it stores.
 #[derive(Clone, Copy)]
 pub enum Kind {
     LoadTail {
@@ -145,30 +145,6 @@ pub enum Kind {
     LoadDetached {
         version: VersionAt,
     },
-
-    /// Writes what was gathered of a segment of the log.
-    WriteLog {
-        segment: u64,
-        fails: bool,
-    },
-    SyncLog {
-        segment: u64,
-        fails: bool,
-    },
-    WriteSlot {
-        fails: bool,
-    },
-    SyncSlot {
-        fails: bool,
-    },
-    RemoveLog {
-        segment: u64,
-        fails: bool,
-    },
-    SyncRemoval {
-        segment: u64,
-        fails: bool,
-    },
 }
 
 /// A step of a seat.
@@ -184,6 +160,6 @@ pub enum Answer {
     Done,
     /// The word that was found.
     Word(u64),
-    /// The step isn't to be taken there, or the disk's call failed: nothing changed.
+    /// The step isn't to be taken there, and nothing changed.
     Failed,
 }

@@ -16,7 +16,7 @@ pub use event::{Answer, Counter, Event, Kind, TailUse};
 pub use laws::guards_read_no_object;
 pub use limits::{
     ANNOUNCERS, FLUSH_SEAT, GREATEST_BLOCK, LAST_NUMBER, LEAST_BLOCK, LOG_END, MOST_CELLS,
-    OBJECT_LIMIT, READ_LIMIT, RING_WORDS, SEGMENT_WORDS, SESSIONS, STOP, WRITE_LIMIT,
+    OBJECT_LIMIT, READ_LIMIT, RING_WORDS, SESSIONS, STOP, WRITE_LIMIT,
 };
 pub use part::{Flushing, Part};
 pub use place::Place;

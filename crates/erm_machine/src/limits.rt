@@ -25,9 +25,6 @@ pub const WRITE_LIMIT: usize = erm_model::WRITE_LIMIT;
 /// How many words of the log the ring holds.
 pub const RING_WORDS: u64 = erm_model::RING_WORDS;
 
-/// How many words of the log a segment has.
-pub const SEGMENT_WORDS: u64 = erm_model::SEGMENT_WORDS;
-
 /// The least size of a block of the log, in words.
 pub const LEAST_BLOCK: u64 = erm_model::LEAST_BLOCK;
 

@@ -3,7 +3,7 @@ use crate::{Attempt, OwnCell, Place, Task};
 use erm_model::Stamp;
 use std::collections::LinkedList;
 
-/// How far the flush seat has come in a flush turn or a checkpoint.
+/// How far the flush seat has come in a flush turn.
 #[derive(Clone, Copy)]
 pub enum Flushing {
     /// Between turns.
@@ -21,30 +21,10 @@ pub enum Flushing {
         next: Stamp,
         end: Stamp,
     },
-    /// So many of the segments from `from` to `to` are written.
-    Puts {
-        from: Stamp,
-        to: Stamp,
-        segments: u64,
-    },
-    /// So many of them are synced.
-    Syncs {
-        from: Stamp,
-        to: Stamp,
-        segments: u64,
-    },
-    /// All are synced: the ring's words are cleared from `next` up to `to`.
+    /// What was gathered, up to `to`, is on the disk: the ring's words are cleared up to `next`.
     Clears {
         next: Stamp,
         to: Stamp,
-    },
-    /// The checkpoint's slot is written.
-    SlotPut,
-    /// The slot is synced: segments may be removed.
-    SlotSynced,
-    /// A segment is removed, and the removal to be synced.
-    Removed {
-        segment: u64,
     },
 }
 
@@ -70,6 +50,4 @@ pub struct Part {
     pub flushing: Flushing,
     /// The end of the last block of the log that the flusher has gathered.
     pub gathered_to: Stamp,
-    /// All words of the log below are known to be on the disk.
-    pub synced: Stamp,
 }

@@ -40,18 +40,6 @@ object_in (kind.SwapLink v) = v.oid
 object_in (kind.LoadDetached v) = v.oid
 object_in _ = 0
 
--- calls of the disk, and splits and joins
-abbrev pub IsDisk : Kind → Type 0
-IsDisk (kind.Split other) = Unit {0}
-IsDisk (kind.Join other) = Unit {0}
-IsDisk (kind.WriteLog segment fails) = Unit {0}
-IsDisk (kind.SyncLog segment fails) = Unit {0}
-IsDisk (kind.WriteSlot fails) = Unit {0}
-IsDisk (kind.SyncSlot fails) = Unit {0}
-IsDisk (kind.RemoveLog segment fails) = Unit {0}
-IsDisk (kind.SyncRemoval segment fails) = Unit {0}
-IsDisk _ = ⊥
-
 -- kinds whose part after takes something of the object
 abbrev pub IsEntry : Kind → Type 0
 IsEntry (kind.LoadEntry oid) = Unit {0}

@@ -18,5 +18,4 @@ part_of x = record {
   run = x.run;
   flushing = x.flushing;
   gathered_to = x.gathered_to;
-  synced = x.synced;
 }

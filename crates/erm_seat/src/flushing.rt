@@ -1,20 +1,13 @@
 //! Steps of the flush seat.
-ghost use Rattle.std.specs.Prelude.{◌≡◌, ◌/◌, ◌<◌, if◌then◌else◌, false, true, Some, None, nat_le, [], vec_len, vec_capacity};
+ghost use Rattle.std.specs.Prelude.{◌≡◌, ◌/◌, ◌<◌, if◌then◌else◌, false, Some, None};
 ghost use Rattle.erm_machine.specs.Flushing as flushing_specs;
 ghost use Rattle.erm_seat.specs.Parts.{part_of};
 ghost use Rattle.erm_seat.specs.Rooms.{no_growth, GoesOn};
 
 use crate::SeatState;
-use erm_kept::words::{is_active, is_between, is_flusher, is_vacant};
-use erm_machine::{Flushing, LOG_END, RING_WORDS, SEGMENT_WORDS};
-use erm_model::{RUN_UNIT, SIZE_UNIT, Seat, Stamp};
-
-// How many segments the words from one place up to another touch.
-fn segments(from: Stamp, to: Stamp) -> u64
-    ensures { result ≡ flushing_specs.segments from to }
-{
-    (to.saturating_sub(1) / SEGMENT_WORDS + 1).saturating_sub(from / SEGMENT_WORDS)
-}
+use erm_kept::words::is_vacant;
+use erm_machine::{Flushing, LOG_END, RING_WORDS};
+use erm_model::{RUN_UNIT, SIZE_UNIT, Stamp};
 
 // The size that a header spells.
 fn size_of(header: u64) -> u64
@@ -104,105 +97,20 @@ impl SeatState {
         true
     }
 
-    pub(crate) fn write_log(&mut self, segment: u64) -> bool
-        ensures turn { flushing_specs.write_log segment (part_of self.old) self.old.flushing ≡ (if result then Some (part_of self.new) else None) }
-        ensures kept { result ≡ false → part_of self.new ≡ part_of self.old }
-        ensures room { GoesOn no_growth self.old self.new }
-    {
-        match self.flushing {
-            Flushing::Gathers {
-                from,
-                next,
-                end,
-                ..
-            } => {
-                if next != end || from >= next || segment != from / SEGMENT_WORDS {
-                    return false;
-                }
-                self.flushing = Flushing::Puts {
-                    from,
-                    to: next,
-                    segments: 1,
-                };
-                true
-            }
-            Flushing::Puts {
-                from,
-                to,
-                segments: written,
-            } => {
-                let first = from / SEGMENT_WORDS;
-                if written >= segments(from, to) || segment < first || segment - first != written {
-                    return false;
-                }
-                self.flushing = Flushing::Puts {
-                    from,
-                    to,
-                    segments: written + 1,
-                };
-                true
-            }
-            _ => false,
-        }
-    }
-
-    // A segment is synced.
-    fn after_sync(&mut self, from: Stamp, to: Stamp, synced: u64)
-        ensures part { part_of self.new ≡ flushing_specs.after_sync from to synced (part_of self.old) }
-        ensures room { GoesOn no_growth self.old self.new }
-    {
-        if synced == segments(from, to) {
-            self.flushing = Flushing::Clears { next: from, to };
-            self.synced = to;
-        } else {
-            self.flushing = Flushing::Syncs {
-                from,
-                to,
-                segments: synced,
-            };
-        }
-    }
-
-    pub(crate) fn sync_log(&mut self, segment: u64) -> bool
-        ensures turn { flushing_specs.sync_log segment (part_of self.old) self.old.flushing ≡ (if result then Some (part_of self.new) else None) }
-        ensures kept { result ≡ false → part_of self.new ≡ part_of self.old }
-        ensures room { GoesOn no_growth self.old self.new }
-    {
-        match self.flushing {
-            Flushing::Puts {
-                from,
-                to,
-                segments: written,
-            } => {
-                if written != segments(from, to) || segment != from / SEGMENT_WORDS {
-                    return false;
-                }
-                self.after_sync(from, to, 1);
-                true
-            }
-            Flushing::Syncs {
-                from,
-                to,
-                segments: synced,
-            } => {
-                let first = from / SEGMENT_WORDS;
-                if synced >= segments(from, to) || segment < first || segment - first != synced {
-                    return false;
-                }
-                self.after_sync(from, to, synced + 1);
-                true
-            }
-            _ => false,
-        }
-    }
-
     pub(crate) fn clear_ring(&mut self, at: Stamp) -> bool
         ensures turn { flushing_specs.clear_ring at (part_of self.old) self.old.flushing ≡ (if result then Some (part_of self.new) else None) }
         ensures kept { result ≡ false → part_of self.new ≡ part_of self.old }
         ensures room { GoesOn no_growth self.old self.new }
     {
-        let Flushing::Clears { next, to } = self.flushing else {
-            return false;
+        let (next, to) = match self.flushing {
+            Flushing::Gathers {
+                from,
+                next,
+                end,
+                ..
+            } if next == end => (from, next),
+            Flushing::Clears { next, to } => (next, to),
+            _ => return false,
         };
         if at != next || next >= LOG_END || next >= to {
             return false;
@@ -223,57 +131,6 @@ impl SeatState {
             return false;
         }
         self.flushing = Flushing::Still;
-        true
-    }
-
-    pub(crate) fn write_slot(&mut self, seat: Seat) -> bool
-        ensures turn { flushing_specs.write_slot seat (part_of self.old) ≡ (if result then Some (part_of self.new) else None) }
-        ensures kept { result ≡ false → part_of self.new ≡ part_of self.old }
-        ensures room { GoesOn no_growth self.old self.new }
-    {
-        if !is_flusher(seat) || !is_active(self.place) || !is_between(self.flushing) {
-            return false;
-        }
-        self.flushing = Flushing::SlotPut;
-        true
-    }
-
-    pub(crate) fn sync_slot(&mut self) -> bool
-        ensures turn { flushing_specs.sync_slot (part_of self.old) self.old.flushing ≡ (if result then Some (part_of self.new) else None) }
-        ensures kept { result ≡ false → part_of self.new ≡ part_of self.old }
-        ensures room { GoesOn no_growth self.old self.new }
-    {
-        let Flushing::SlotPut = self.flushing else {
-            return false;
-        };
-        self.flushing = Flushing::SlotSynced;
-        true
-    }
-
-    pub(crate) fn remove_log(&mut self, segment: u64) -> bool
-        ensures turn { flushing_specs.remove_log segment (part_of self.old) self.old.flushing ≡ (if result then Some (part_of self.new) else None) }
-        ensures kept { result ≡ false → part_of self.new ≡ part_of self.old }
-        ensures room { GoesOn no_growth self.old self.new }
-    {
-        let Flushing::SlotSynced = self.flushing else {
-            return false;
-        };
-        self.flushing = Flushing::Removed { segment };
-        true
-    }
-
-    pub(crate) fn sync_removal(&mut self, segment: u64) -> bool
-        ensures turn { flushing_specs.sync_removal segment (part_of self.old) self.old.flushing ≡ (if result then Some (part_of self.new) else None) }
-        ensures kept { result ≡ false → part_of self.new ≡ part_of self.old }
-        ensures room { GoesOn no_growth self.old self.new }
-    {
-        let Flushing::Removed { segment: removed } = self.flushing else {
-            return false;
-        };
-        if segment != removed {
-            return false;
-        }
-        self.flushing = Flushing::SlotSynced;
         true
     }
 }

@@ -29,7 +29,6 @@ pub struct SeatState {
     pub run: u64,
     pub flushing: Flushing,
     pub gathered_to: Stamp,
-    pub synced: Stamp,
     // A transaction that has begun has room for its range.
     ghost log_room: { awaiting flushes place ≤ one promised },
     // Room for the transaction once it is over.
@@ -67,7 +66,6 @@ impl SeatState {
             run,
             flushing: Flushing::Still,
             gathered_to: tail,
-            synced: tail,
         }
     }
 }

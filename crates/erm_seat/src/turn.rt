@@ -3,7 +3,7 @@ ghost use Rattle.std.specs.Prelude.{ℕ, ◌≡◌, ◌<◌, if◌then◌else◌
 ghost use Rattle.erm_machine.specs.declared.limits.TheConstants.{ANNOUNCERS};
 ghost use Rattle.erm_machine.specs.Core.{Shared};
 ghost use Rattle.erm_machine.specs.Step as step_specs;
-ghost use Rattle.erm_seat.specs.Kinds.{IsDisk, IsEntry, IsPlain, cells_in, object_in};
+ghost use Rattle.erm_seat.specs.Kinds.{IsEntry, IsPlain, cells_in, object_in};
 ghost use Rattle.erm_kept.specs.Objects.{object_of};
 ghost use Rattle.erm_seat.specs.Parts.{part_of};
 ghost use Rattle.erm_machine.specs.Words as words_specs;
@@ -16,23 +16,6 @@ use erm_machine::Kind;
 use erm_model::Seat;
 
 impl SeatState {
-    // A step of the disk.
-    fn turn_disk(&mut self, seat: Seat, kind: Kind) -> bool
-        ensures turn { IsDisk kind → (s : Shared) (found : ℕ) → step_specs.part_after seat kind found s (part_of self.old) ≡ (if result then Some (part_of self.new) else None) }
-        ensures kept { result ≡ false → part_of self.new ≡ part_of self.old }
-        ensures room { GoesOn no_growth self.old self.new }
-    {
-        match kind {
-            Kind::WriteLog { segment, fails } => !fails && self.write_log(segment),
-            Kind::SyncLog { segment, fails } => !fails && self.sync_log(segment),
-            Kind::WriteSlot { fails } => !fails && self.write_slot(seat),
-            Kind::SyncSlot { fails } => !fails && self.sync_slot(),
-            Kind::RemoveLog { segment, fails } => !fails && self.remove_log(segment),
-            Kind::SyncRemoval { segment, fails } => !fails && self.sync_removal(segment),
-            _ => false,
-        }
-    }
-
     // A step that meets no object, where there are so many cells.
     fn turn_plain(&mut self, seat: Seat, kind: Kind, found: u64, cells: u32) -> bool
         requires room { (spare : ℕ) × HasSeatRoom self.old kind spare }
@@ -56,7 +39,7 @@ impl SeatState {
             Kind::ClearRing { at } => self.clear_ring(at),
             Kind::StoreFlushed { value } => self.store_flushed(value),
             Kind::LoadFlushed => self.load_flushed(found),
-            _ => self.turn_disk(seat, kind),
+            _ => false,
         }
     }
 

@@ -10,7 +10,7 @@ use Rattle.erm_machine.specs.Words.{put}
 use Rattle.erm_core.specs.declared.state.State.{State}
 use Rattle.erm_core.specs.Cores.{core_of, shared_of, shared_with, added_in}
 use Rattle.erm_core.proofs.Rooms.{change_room, leaves_room, room_stays}
-use Rattle.erm_core.proofs.Steps.{taken_step, failed_step, refused_none, core_path, fits_after}
+use Rattle.erm_core.proofs.Steps.{taken_step, failed_step, refused_none, unknown_none, core_path, fits_after}
 use Rattle.erm_core.proofs.Tables.{shared_by_version}
 use Rattle.erm_core.proofs.state.State.step_word.Goals as goal
 
@@ -25,6 +25,12 @@ state_after s t u p k found v y shared seats added changed =
     (ap (λ (w : Shared). shared_with p k found v w) shared ∙ ap (λ w. shared_with p k found w (shared_of s)) added
     ∙ sym (shared_by_version p k found ((core_of s).seats p) (shared_of s)))
     seats
+
+pub returns-then-not-is_known-clause-step : goal.returns-then-not-is_known-clause-step
+returns-then-not-is_known-clause-step c =
+    let s = c.args.self.now in
+    failed_step (core_of s) c.args.seat c.args.kind (core_of s)
+    (unknown_none (core_of s) c.args.seat c.args.kind c.requires.one (sym c.is_known.ensures.known ∙ c.if-not-is_known.true)) refl
 
 pub returns-then-not-turn-clause-step : goal.returns-then-not-turn-clause-step
 returns-then-not-turn-clause-step c =

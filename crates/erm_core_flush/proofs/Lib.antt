@@ -1,0 +1,4 @@
+pub mod Turns
+pub mod Forth
+pub mod Stays
+pub mod Whole

@@ -1,0 +1,13 @@
+pub mod Spans
+pub mod Stays
+pub mod Onward
+pub mod Own
+pub mod Aside
+pub mod Ring
+pub mod Moved
+pub mod Writes
+pub mod Fits
+pub mod Headers
+pub mod Flush
+pub mod Clears
+pub mod Kept
