@@ -11,7 +11,7 @@ use Rattle.erm_machine.specs.declared.attempt.Attempt.{Attempt}
 use Rattle.erm_machine.specs.declared.attempt.Claim.{Claim}
 use Rattle.erm_machine.specs.declared.attempt.Decision.TheVariants.{Commit, Undecided}
 use Rattle.erm_machine.specs.declared.attempt.Read.{Read}
-use Rattle.erm_machine.specs.declared.limits.TheConstants.{ANNOUNCERS, MOST_CELLS, OBJECT_LIMIT, STOP, SESSIONS}
+use Rattle.erm_machine.specs.declared.limits.TheConstants.{ANNOUNCERS, FLUSH_SEAT, MOST_CELLS, OBJECT_LIMIT, STOP, SESSIONS}
 use Rattle.erm_machine.specs.declared.part.Part.{Part}
 use Rattle.erm_machine.specs.declared.task.Task.TheVariants.{Rest}
 use Rattle.erm_machine.specs.declared.place.Place.{Place}
@@ -27,12 +27,13 @@ use Rattle.erm_machine.specs.Core.{Object, blank, no_object, opened_object, open
 use Rattle.erm_machine.specs.Decided.{OwnDecided}
 use Rattle.erm_machine.specs.Readers.{OwnReaders}
 use Rattle.erm_machine.specs.Facts.{HasBegun, IsCurrent, total}
+use Rattle.erm_machine.specs.Log.{HasRoom, LogFits, OwnLog}
 use Rattle.erm_machine.specs.Numbers.{numbers, pools}
 use Rattle.erm_machine.specs.Ranges.{may_draw}
 use Rattle.erm_machine.specs.Snapshot.{IsPast, OwnSnapshot}
 use Rattle.erm_machine.specs.Sound.{Sound, Common, Own}
 use Rattle.erm_machine.specs.Tasks.{TaskFits}
-use Rattle.erm_machine.specs.Words.{is_seat, owner_of}
+use Rattle.erm_machine.specs.Words.{is_flusher, is_seat, owner_of}
 use Rattle.erm_sound.proofs.OpenedObjects.{opened_at, opened_fits, opened_linked, opened_once, opened_ownerless, total_zeros}
 
 -- an idle seat, or a vacant one
@@ -73,6 +74,9 @@ none_written t w m n = none_in_nil w (subst (λ (u : Attempt). w ∈ u.writes) (
 
 not_commit : (t : Attempt) → t ∈ blank ∷ [] → t.decision ≡ Commit → ⊥
 not_commit t m commit = let undecided : t.decision ≡ Undecided = ap (λ (u : Attempt). u.decision) (only_blank t m) in cc
+
+undrawn : (t : Attempt) → t ∈ blank ∷ [] → 0 < t.stamp → ⊥
+undrawn t m drawn = let none : t.stamp ≡ 0 = ap (λ (u : Attempt). u.stamp) (only_blank t m) in omega (arith, none, drawn)
 
 none_next : (rows : Rows) (oid place : ℕ) → place + 1 < 1 → ⊥
 none_next rows oid place within = omega (arith, within)
@@ -175,6 +179,40 @@ module _ (sessions : ℕ) (rows : Rows) (tail run first cells : ℕ) (few : sess
       not_busy : in_progress (if is_taken sessions p then Idle else Vacant) ≡ 1 → ⊥
       not_busy busy = let none = idle_or (λ pl. in_progress pl ≡ 0) (is_taken sessions p) refl refl in omega (arith, none, busy)
 
+  own_log : (p : ℕ) → OwnLog (opening_state sessions rows tail run first cells).shared p ((opening_state sessions rows tail run first cells).seats p)
+  own_log p = record {
+    undecided = λ _. refl;
+    headers = λ t m drawn. absurd (undrawn t m drawn);
+    fits = λ t m. absurd (none_in_nil t m);
+    fits_now = λ room. absurd (idle_or (λ pl. HasRoom pl Rest → ⊥) (is_taken sessions p) (λ n. n) (λ n. n) room);
+    still = λ _. refl;
+    taken = λ flusher vacant. flusher_taken p flusher (is_taken sessions p) refl vacant;
+  }
+    where
+      flusher_taken : (q : ℕ) → is_flusher q ≡ true → (b : Bool) → is_taken sessions q ≡ b → (if b then Idle else Vacant) ≡ Vacant → ⊥
+      flusher_taken q flusher true e v = let w : Idle ≡ Vacant = v in absurd (cc)
+      flusher_taken q flusher false e v = absurd (never q flusher e)
+        where
+          never : (q : ℕ) → is_flusher q ≡ true → is_taken sessions q ≡ false → ⊥
+          never q flusher e = grind arith
+
+  log : LogFits (opening_state sessions rows tail run first cells).shared (opening_state sessions rows tail run first cells).seats
+      ((opening_state sessions rows tail run first cells).seats FLUSH_SEAT)
+  log = record {
+    gathered = record {
+      onward = (omega arith, omega arith, omega arith);
+      flushed = inl refl;
+      whole = inl refl;
+      decided = λ seat t m drawn. absurd (undrawn t m drawn);
+    };
+    turn = tt;
+    ring = record {
+      beyond = λ _ _ _. refl;
+      gone = λ _ _ _. refl;
+      blocks = λ seat t m drawn. absurd (undrawn t m drawn);
+    };
+  }
+
   own : (p : ℕ) → Own (opening_state sessions rows tail run first cells).shared p ((opening_state sessions rows tail run first cells).seats p)
   own p = record {
     ranges = record {
@@ -185,6 +223,7 @@ module _ (sessions : ℕ) (rows : Rows) (tail run first cells : ℕ) (few : sess
       ranges = refl;
       one_high = let h = few_draw p (is_taken sessions p) in omega (arith, h);
       few = omega arith;
+      few_reads = omega arith;
     };
     clear = record { seen = omega arith; bounds = λ q. let z = zero_there ANNOUNCERS q in omega (arith, z); notes = length-replicate {A = ℕ} ANNOUNCERS 0 };
     begins = record {
@@ -201,7 +240,7 @@ module _ (sessions : ℕ) (rows : Rows) (tail run first cells : ℕ) (few : sess
       stamp_seen = omega arith;
     };
     lives = own_lives p;
-    made = record { from = λ k none. absurd (omega (arith, none)); drawn = λ k none. absurd (omega (arith, none)); once = λ j k less none. absurd (omega (arith, none)) };
+    made = record { from = λ k none. absurd (omega (arith, none)); drawn = λ k none. absurd (omega (arith, none)); once = λ j k less none. absurd (omega (arith, none)); maker = λ _. refl };
     cells = record { wants = tt; bare = λ k none. absurd (omega (arith, none)) };
     chains = record { named = tt; cut = tt; head = tt };
     attached = record { below = λ oid known begun. absurd (none_begun (is_taken sessions p) begun) };
@@ -225,6 +264,7 @@ module _ (sessions : ℕ) (rows : Rows) (tail run first cells : ℕ) (few : sess
       once = λ t m. absurd (none_in_nil t m);
       installed = λ t w m commit n held. absurd (none_written t w m n);
     };
+    log = own_log p;
   }
 
   common : Common (opening_state sessions rows tail run first cells).shared (opening_state sessions rows tail run first cells).seats
@@ -241,6 +281,7 @@ module _ (sessions : ℕ) (rows : Rows) (tail run first cells : ℕ) (few : sess
       first = omega arith;
       objects = let z = total_zeros (λ (x : Part). numbers x.task) ANNOUNCERS (opening_state sessions rows tail run first cells).seats (λ _. refl) in omega (arith, z, room);
       cells = let z = total_zeros (λ (x : Part). pools x.task) ANNOUNCERS (opening_state sessions rows tail run first cells).seats (λ _. refl) in omega (arith, z, enough);
+      all_made = λ oid from below _. absurd (omega (arith, from, below));
     };
     cells = record {
       once = λ cell.
@@ -272,6 +313,7 @@ module _ (sessions : ℕ) (rows : Rows) (tail run first cells : ℕ) (few : sess
     };
     rowed = record { rows = λ oid place known within. opened_rowed rows oid known (sizes oid known) place within };
     claims = record { objects = λ oid known. subst (ObjectFits tail) (sym (opened_at rows oid known)) (opened_fits rows tail oid positive known) };
+    log = log;
   }
 
   -- nothing is drawn, noted or announced at an opening

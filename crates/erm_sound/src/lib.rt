@@ -8,10 +8,11 @@ ghost use Rattle.erm_machine.specs.declared.event.Kind.{Kind};
 ghost use Rattle.erm_machine.specs.declared.limits.TheConstants.{MOST_CELLS, OBJECT_LIMIT, SESSIONS, STOP};
 ghost use Rattle.erm_machine.specs.Core.{Core, opening_state};
 ghost use Rattle.erm_machine.specs.Decided.{history_of};
-ghost use Rattle.erm_machine.specs.Lawful.{DrawsLawfully, opening_rows};
-ghost use Rattle.erm_machine.specs.Sound.{Sound, SoundUnder};
+ghost use Rattle.erm_machine.specs.Lawful.{opening_rows};
+ghost use Rattle.erm_machine.specs.Sound.{Sound};
 ghost use Rattle.erm_machine.specs.Step.{after_event, core_step};
 ghost use Rattle.erm_core_ssn.specs.Laws.{AllBelow};
+ghost use Rattle.erm_sound.specs.Kept.{Keeps, SoundUnder};
 ghost use Rattle.erm_model.specs.History.{History, HasNewestRows, RunsSerially, rank_of, rows_after};
 ghost use Rattle.erm_model.specs.Rows.{Rows};
 ghost use Rattle.erm_model.specs.SerialOrder.{IsSerialOrder};
@@ -23,6 +24,7 @@ pub fn events_keep_sound()
     ensures { (c d : Core) (seat : ℕ) (kind : Kind) → Sound c → after_event c seat kind ≡ Some d → Sound d }
 {
     erm_core_log::ranges_are_kept();
+    erm_core_ring::log_is_kept();
     erm_core_si::looks_stay_true();
     erm_core_si::begins_are_kept();
     erm_core_si::tasks_are_kept();
@@ -46,13 +48,15 @@ pub fn steps_keep_sound()
     events_keep_sound();
 }
 
-/// A sound state whose rows keep a law leads to such a one, where an event draws a range for a lawful transaction alone.
+/// A sound state whose rows keep a law and whose blocks are spelled leads to such a one, where an event draws a range for a lawful
+/// transaction alone, and decides a spelled one alone.
 pub fn events_keep_law<L: RowLaw>()
-    ensures { (c d : Core) (seat : ℕ) (kind : Kind) → SoundUnder L.law c → DrawsLawfully L.law c seat kind
+    ensures { (c d : Core) (seat : ℕ) (kind : Kind) → SoundUnder L.law c → Keeps L.law c seat kind
         → after_event c seat kind ≡ Some d → SoundUnder L.law d }
 {
     events_keep_sound();
     erm_core_lives::law_is_kept::<L>();
+    erm_core_blocks::blocks_stay_spelled();
 }
 
 /// An opening's state is sound, where its log begins at 1 or above, and at 2^60 + 4 at most, and the first
@@ -64,13 +68,15 @@ pub fn openings_are_sound()
         → Sound (opening_state sessions rows tail run first cells) }
 {}
 
-/// An opening's state keeps a law of rows that its rows meet, where they reach no object from its first number on.
+/// An opening's state keeps a law of rows that its rows meet, where they reach no object from its first number on. No block is
+/// there yet.
 pub fn openings_are_lawful<L: RowLaw>()
     ensures { (sessions : ℕ) (rows : Rows) (tail run first cells : ℕ) → Sound (opening_state sessions rows tail run first cells)
         → L.law.meets rows → ((oid : ℕ) → first ≤ oid → L.law.reach rows oid ≡ 0)
         → SoundUnder L.law (opening_state sessions rows tail run first cells) }
 {
     erm_core_lives::openings_are_lawful::<L>();
+    erm_core_blocks::openings_are_spelled();
 }
 
 /// What a sound state has committed, run one after another in the serial order over the opening's rows: each transaction finds

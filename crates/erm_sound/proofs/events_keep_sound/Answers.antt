@@ -14,6 +14,7 @@ returns g core d seat kind sound e =
         readers = g.readers_are_kept.ensures.shared core d seat kind sound e;
         decided = g.decisions_are_kept.ensures.shared core d seat kind sound e;
         rowed = g.rows_are_kept.ensures.shared core d seat kind sound e;
+        log = g.log_is_kept.ensures.shared core d seat kind sound e;
       };
       own = λ p. record {
         ranges = g.ranges_are_kept.ensures.seats core d seat kind sound e p;
@@ -32,6 +33,7 @@ returns g core d seat kind sound e =
         readers = g.readers_are_kept.ensures.seats core d seat kind sound e p;
         decided = g.decisions_are_kept.ensures.seats core d seat kind sound e p;
         written = g.rows_are_kept.ensures.seats core d seat kind sound e p;
+        log = g.log_is_kept.ensures.seats core d seat kind sound e p;
       };
       both = λ p q ne. record {
         clear = g.looks_stay_true.ensures.pairs core d seat kind sound e p q ne;

@@ -1,5 +1,8 @@
 use Rattle.erm_sound.proofs.openings_are_lawful.Goals as goal
 
 pub returns : goal.returns
-returns g c sessions rows tail run first cells sound meets below =
-    record { sound = sound; lawful = c.openings_are_lawful.ensures sessions rows tail run first cells meets below }
+returns g c sessions rows tail run first cells sound meets below = record {
+  sound = sound;
+  lawful = c.openings_are_lawful.ensures sessions rows tail run first cells meets below;
+  spelled = c.openings_are_spelled.ensures sessions rows tail run first cells;
+}
