@@ -1,6 +1,8 @@
-//! Streams whose calls are short and fail, and the bytes of a disk, of which no contract tells.
+//! Streams whose calls are short and fail, and disks with the images that a crash leaves.
 use erm_outside::{Disk, Failed, File, Gate, Place, Sink, Source};
-use erm_outside_mem::{MemDisk, MemSink, MemSource, OpenGate, SteadySource};
+use erm_outside_mem::{MemDisk, MemSink, MemSource, OpenGate, Pick, Silent, SteadySource};
+use std::alloc::{AllocError, Global};
+use std::collections::BTreeMap;
 use std::test::Fail;
 
 // A call of a disk. Writing answers nothing, which stands for 0 here.
@@ -11,12 +13,14 @@ enum Call {
     Write { at: u64, bytes: &'static [u8] },
     Sync,
     Remove,
+    // None is `u64::MAX`.
+    Next(u64),
 }
 
 const SEGMENT: File = File::Segment(7);
 
 // Calls by their files, what each answers, and the buffer after it. The tenth is to fail.
-const CALLS: [(File, Call, Result<u64, Failed>, &[u8; 8]); 17] = [
+const CALLS: [(File, Call, Result<u64, Failed>, &[u8; 8]); 20] = [
     (SEGMENT, Call::Read { at: 0, most: 8 }, Ok(0), b"........"),
     (
         SEGMENT,
@@ -87,7 +91,10 @@ const CALLS: [(File, Call, Result<u64, Failed>, &[u8; 8]); 17] = [
         Err(Failed),
         b"\0\0abde..",
     ),
+    (SEGMENT, Call::Next(0), Ok(7), b"\0\0abde.."),
+    (SEGMENT, Call::Next(8), Ok(u64::MAX), b"\0\0abde.."),
     (SEGMENT, Call::Remove, Ok(0), b"\0\0abde.."),
+    (SEGMENT, Call::Next(0), Ok(u64::MAX), b"\0\0abde.."),
     (SEGMENT, Call::Len, Ok(0), b"\0\0abde.."),
     (File::Slot0, Call::Len, Ok(5), b"\0\0abde.."),
 ];
@@ -100,13 +107,14 @@ fn zero(done: Result<(), Failed>) -> Result<u64, Failed> {
     }
 }
 
-fn ask(disk: &mut MemDisk, file: File, call: Call, buf: &mut [u8; 8]) -> Result<u64, Failed> {
+fn ask<D: Disk>(disk: &mut D, file: File, call: Call, buf: &mut [u8; 8]) -> Result<u64, Failed> {
     match call {
         Call::Len => disk.len(file),
         Call::Read { at, most } => Ok(disk.read(file, at, &mut buf[..most.min(8)])? as u64),
         Call::Write { at, bytes } => zero(disk.write(file, at, bytes)),
         Call::Sync => zero(disk.sync(file)),
         Call::Remove => zero(disk.remove(file)),
+        Call::Next(from) => Ok(disk.next_segment(from)?.unwrap_or(u64::MAX)),
     }
 }
 
@@ -114,11 +122,107 @@ fn ask(disk: &mut MemDisk, file: File, call: Call, buf: &mut [u8; 8]) -> Result<
 fn a_disk_keeps_its_files(rt: HostRuntime) -> Result<(), Fail> {
     let alloc = rt.alloc();
     let mut disk = MemDisk::new(alloc).failing([10].to_vec(alloc)?);
+    let mut silent = Silent {
+        disk: MemDisk::new(alloc).failing([10].to_vec(alloc)?),
+    };
     let mut buf = [b'.'; 8];
+    let mut other = [b'.'; 8];
     for (file, call, want, bytes) in CALLS {
         assert!(rt; ask(&mut disk, file, call, &mut buf) == want && buf == *bytes);
+        assert!(rt; ask(&mut silent, file, call, &mut other) == want && other == *bytes);
     }
     OpenGate.pass(&rt, 1, Place::Begin);
+    Ok(())
+}
+
+// What is done to a disk before it crashes. The first five calls last; the ninth leaves one byte.
+const DONE: [(File, Call); 9] = [
+    (
+        File::Slot0,
+        Call::Write {
+            at: 0,
+            bytes: b"hello",
+        },
+    ),
+    (File::Slot0, Call::Sync),
+    (
+        File::Slot1,
+        Call::Write {
+            at: 0,
+            bytes: b"base",
+        },
+    ),
+    (SEGMENT, Call::Sync),
+    (File::Slot1, Call::Sync),
+    (
+        File::Slot0,
+        Call::Write {
+            at: 3,
+            bytes: b"p!!",
+        },
+    ),
+    (File::Slot1, Call::Remove),
+    (
+        SEGMENT,
+        Call::Write {
+            at: 2,
+            bytes: b"ab",
+        },
+    ),
+    (
+        SEGMENT,
+        Call::Write {
+            at: 4,
+            bytes: b"cde",
+        },
+    ),
+];
+
+// The slots, the segment and the next segment of each image.
+const IMAGES: [(Pick, &[u8], &[u8], &[u8], u64); 3] = [
+    (Pick::Nothing, b"hello", b"base", b"", u64::MAX),
+    (Pick::All, b"help!!", b"", b"\0\0abc", 7),
+    (
+        Pick::Marks,
+        b"hel\xa5\xa5\xa5",
+        b"base",
+        b"\0\0\xa5\xa5\xa5\xa5\xa5",
+        7,
+    ),
+];
+
+// A disk to which that was done, and whose calls fail from then on.
+fn crashed(alloc: Global) -> Result<MemDisk, AllocError> {
+    let mut fronts = BTreeMap::new(alloc);
+    fronts.insert(9, 1)?;
+    let mut disk = MemDisk::new(alloc).stop_at(8).leaving(fronts);
+    for (file, call) in DONE {
+        let _ = ask(&mut disk, file, call, &mut [b'.'; 8]);
+    }
+    Ok(disk)
+}
+
+// Whether a file has these bytes, read from its front.
+fn has(disk: &mut MemDisk, file: File, bytes: &[u8]) -> bool {
+    let mut buf = [b'.'; 8];
+    let count = disk.read(file, 0, &mut buf).unwrap_or(8).min(8);
+    &buf[..count] == bytes
+}
+
+#[test]
+fn a_crash_leaves_images(rt: HostRuntime) -> Result<(), Fail> {
+    let mut disk = crashed(rt.alloc())?;
+    assert!(rt; disk.len(File::Slot0) == Err(Failed));
+    for (pick, slot0, slot1, segment, next) in IMAGES {
+        let mut image = disk.image(pick)?;
+        assert!(rt; has(&mut image, File::Slot0, slot0), "{pick:?}");
+        assert!(rt; has(&mut image, File::Slot1, slot1), "{pick:?}");
+        assert!(rt; has(&mut image, SEGMENT, segment), "{pick:?}");
+        assert!(rt;
+            image.next_segment(0).map(|found| found.unwrap_or(u64::MAX)) == Ok(next),
+            "{pick:?}"
+        );
+    }
     Ok(())
 }
 

@@ -1,51 +1,234 @@
-//! One script, and lines that are only sometimes in their place.
-use erm_script::{Command, FaultKind, ParseError, parse};
+//! One script, lines by their kinds of fault, and one session too many.
+use erm_model::{SESSIONS, Seat};
+use erm_script::{Command, FaultKind, Grammar, NO_SESSION, ParseError, Script, ScriptFault, parse};
 use std::alloc::Global;
 use std::test::Fail;
 
-const SCRIPT: &[u8] = b"# two lines\na begin\n\na put 15 18446744073709551615 00ff";
+// All sessions and commands.
+const ALL: Grammar = Grammar {
+    sessions: SESSIONS,
+    index: true,
+    log: true,
+    checkpoints: true,
+    threads: false,
+};
 
-// Lines, whether they are for threads, and the kind of fault of each.
-const LINES: [(&[u8], bool, Option<FaultKind>); 8] = [
-    (b"flush", true, Some(FaultKind::Threads)),
-    (b"flush", false, Some(FaultKind::Command)),
-    (b"checkpoint", true, Some(FaultKind::Threads)),
-    (b"checkpoint", false, Some(FaultKind::Command)),
-    (b"a flush", true, Some(FaultKind::Command)),
-    (b"a flush", false, Some(FaultKind::Command)),
-    (b"a get 0 1", true, None),
-    (b"a get 0 1", false, None),
+// The same for sessions on threads of their own.
+const THREADS: Grammar = Grammar {
+    threads: true,
+    ..ALL
+};
+
+// One session, and the commands of transactions on single keys.
+const FEW: Grammar = Grammar {
+    sessions: 1,
+    index: false,
+    log: false,
+    checkpoints: false,
+    threads: false,
+};
+
+// A line for each command, and skipped ones.
+const SCRIPT: &[u8] = b"# each command
+b begin
+a begin
+
+a get 0 1
+a put 15 18446744073709551615 00ff
+a del 0 1
+a next 0 18446744073709551615
+a scan 3 1 2
+b tidy 0 1
+flush
+a seal
+a settle
+b commit
+b abort
+a durable
+checkpoint";
+
+// The number of each line that is not skipped, and its session.
+const PLACES: [(u32, Seat); 15] = [
+    (2, 1),
+    (3, 2),
+    (5, 2),
+    (6, 2),
+    (7, 2),
+    (8, 2),
+    (9, 2),
+    (10, 1),
+    (11, NO_SESSION),
+    (12, 2),
+    (13, 2),
+    (14, 1),
+    (15, 1),
+    (16, 2),
+    (17, NO_SESSION),
 ];
 
-// The kind of fault that a line of at most 20 bytes has, as the only one of a script.
-fn fault(alloc: Global, line: &[u8], threads: bool) -> Option<FaultKind> {
-    match parse(alloc, &line[..line.len().min(20)], threads) {
-        Err(ParseError::Fault(fault)) => Some(fault.kind),
+// Lines, and the kind of fault of each.
+const LINES: [(&[u8], Grammar, Option<FaultKind>); 46] = [
+    (b"flush", ALL, None),
+    (b"checkpoint", ALL, None),
+    (b"flush begin", ALL, None),
+    (b"a begin", ALL, None),
+    (b"a get 0 1", ALL, None),
+    (b"a next 0 1", ALL, None),
+    (b"a scan 0 2 1", ALL, None),
+    (b"a tidy 0 1", ALL, None),
+    (b"a durable", ALL, None),
+    (b"a get 0 1", THREADS, None),
+    (b"a durable", THREADS, None),
+    (b"a get 0 1", FEW, None),
+    (b"flush", THREADS, Some(FaultKind::Threads)),
+    (b"checkpoint", THREADS, Some(FaultKind::Threads)),
+    (b"A begin", ALL, Some(FaultKind::Name)),
+    (b"checkpoint 1", ALL, Some(FaultKind::Name)),
+    (b"123456789 begin", ALL, Some(FaultKind::Name)),
+    (b"A frob", ALL, Some(FaultKind::Name)),
+    (b"A frob", THREADS, Some(FaultKind::Name)),
+    (b"a frob", ALL, Some(FaultKind::Command)),
+    (b"a", ALL, Some(FaultKind::Command)),
+    (b"a flush", ALL, Some(FaultKind::Command)),
+    (b"a checkpoint", ALL, Some(FaultKind::Command)),
+    (b"flush 1", ALL, Some(FaultKind::Command)),
+    (b"a frob 16", ALL, Some(FaultKind::Command)),
+    (b"flush", FEW, Some(FaultKind::Command)),
+    (b"checkpoint", FEW, Some(FaultKind::Command)),
+    (b"a next 0 1", FEW, Some(FaultKind::Command)),
+    (b"a scan 0 1 2", FEW, Some(FaultKind::Command)),
+    (b"a tidy 0 1", FEW, Some(FaultKind::Command)),
+    (b"a durable", FEW, Some(FaultKind::Command)),
+    (b"a get 0", ALL, Some(FaultKind::Args)),
+    (b"a next 0", ALL, Some(FaultKind::Args)),
+    (b"a scan 0 1", ALL, Some(FaultKind::Args)),
+    (b"a scan 0 1 2 3", ALL, Some(FaultKind::Args)),
+    (b"a tidy 0 1 2", ALL, Some(FaultKind::Args)),
+    (b"a durable 0", ALL, Some(FaultKind::Args)),
+    (b"a put 16 abc", ALL, Some(FaultKind::Args)),
+    (b"a get 16 1", ALL, Some(FaultKind::Number)),
+    (b"a next 0 01", ALL, Some(FaultKind::Number)),
+    (b"a scan 0 1 x", ALL, Some(FaultKind::Number)),
+    (b"a scan 16 1 2", ALL, Some(FaultKind::Number)),
+    (b"a put 16 1 abc", ALL, Some(FaultKind::Number)),
+    (b"a put 0 1 abc", ALL, Some(FaultKind::Value)),
+    (b"a put 0 1 AB", ALL, Some(FaultKind::Value)),
+    (b"a put 0 1 -", ALL, None),
+];
+
+// One session more than there may be, and behind it a line with a fault of an earlier kind.
+const NAMES: &[u8] = b"s1 begin
+s2 begin
+s3 begin
+s4 begin
+s5 begin
+s6 begin
+s7 begin
+s8 begin
+s9 begin
+s10 begin
+s11 begin
+s12 begin
+s13 begin
+s14 begin
+s15 begin
+s16 begin
+s17 begin
+s18 begin
+s19 begin
+s20 begin
+s21 begin
+s22 begin
+s23 begin
+s24 begin
+s25 begin
+s26 begin
+s27 begin
+s28 begin
+s29 begin
+s30 begin
+s31 begin
+s32 begin
+s33 begin
+s34 begin
+s35 begin
+s36 begin
+s37 begin
+s38 begin
+s39 begin
+s40 begin
+s41 begin
+s42 begin
+s43 begin
+s44 begin
+s45 begin
+s46 begin
+s47 begin
+s48 begin
+s49 begin\nA begin";
+
+// What is wrong with a script of at most 1,000 bytes, if something is.
+fn fault(alloc: Global, script: &[u8], grammar: Grammar) -> Option<ScriptFault> {
+    match parse(alloc, &script[..script.len().min(1_000)], grammar) {
+        Err(ParseError::Fault(fault)) => Some(fault),
         _ => None,
+    }
+}
+
+// Whether a command is the one that the script has at this place.
+fn is_at(command: &Command, place: usize) -> bool {
+    match command {
+        Command::Begin => place < 2,
+        Command::Get { table: 0, key: 1 } => place == 2,
+        Command::Put {
+            table: 15,
+            key: u64::MAX,
+            value,
+        } => place == 3 && value.as_slice() == b"\x00\xff".as_slice(),
+        Command::Del { table: 0, key: 1 } => place == 4,
+        Command::Next {
+            table: 0,
+            from: u64::MAX,
+        } => place == 5,
+        Command::Scan {
+            table: 3,
+            low: 1,
+            high: 2,
+        } => place == 6,
+        Command::Tidy { table: 0, key: 1 } => place == 7,
+        Command::Flush => place == 8,
+        Command::Seal => place == 9,
+        Command::Settle => place == 10,
+        Command::Commit => place == 11,
+        Command::Abort => place == 12,
+        Command::Durable => place == 13,
+        Command::Checkpoint => place == 14,
+        _ => false,
     }
 }
 
 #[test]
 fn one_script(rt: HostRuntime) -> Result<(), Fail> {
-    let Ok(script) = parse(rt.alloc(), SCRIPT, false) else {
+    let Ok(Script { names, lines }) = parse(rt.alloc(), SCRIPT, ALL) else {
         return Err(Fail::new("no script"));
     };
-    assert!(rt; script.names.len() == 1);
-    let [begin, put] = script.lines.as_slice() else {
-        return Err(Fail::new("not two lines"));
-    };
-    assert!(rt; begin.line == 2 && begin.session == 1 && matches!(begin.command, Command::Begin));
-    assert!(rt; put.line == 4 && put.session == 1);
-    let Command::Put { table, key, value } = &put.command else {
-        return Err(Fail::new("no put"));
-    };
-    assert!(rt; *table == 15 && *key == u64::MAX && value.as_slice() == b"\x00\xff".as_slice());
+    assert!(rt; names.len() == 2 && lines.len() == PLACES.len());
+    for ((place, line), (number, session)) in lines.iter().enumerate().zip(PLACES) {
+        assert!(rt; line.line == number && line.session == session);
+        assert!(rt; is_at(&line.command, place));
+    }
     Ok(())
 }
 
 #[test]
-fn lines_with_and_without_a_fault(rt: HostRuntime) {
-    for (line, threads, want) in LINES {
-        assert!(rt; fault(rt.alloc(), line, threads) == want);
+fn lines_by_their_kinds_of_fault(rt: HostRuntime) {
+    for (line, grammar, want) in LINES {
+        assert!(rt; fault(rt.alloc(), line, grammar).map(|fault| fault.kind) == want);
     }
+}
+
+#[test]
+fn one_session_too_many(rt: HostRuntime) {
+    let found = fault(rt.alloc(), NAMES, ALL);
+    assert!(rt; found.map(|fault| (fault.line, fault.kind)) == Some((49, FaultKind::Sessions)));
 }

@@ -5,3 +5,4 @@ mod Ranges
 pub mod Records
 pub mod RowCalls
 pub mod Runs
+pub mod Scans

@@ -1,6 +1,7 @@
 -- The database map: a finite map from a table and a key to the bytes of a value.
 use Rattle.std.specs.Prelude.{◌≡◌, ℕ, ◌<◌, ◌≤◌, ◌^◌, List, map, Option, Some, None, refl}
-use Rattle.std.specs.List.{AllPairs}
+use Rattle.std.specs.List.{All, AllPairs}
+use Rattle.erm_model.specs.Member.{◌∈◌}
 use Rattle.std.specs.declared.cmp.Ordering.{Ordering}
 use Rattle.std.specs.declared.cmp.Ordering.TheVariants.{Less}
 use Rattle.std.specs.Ordering.{nat_cmp, ordering_then}
@@ -34,6 +35,12 @@ value_at m table key = get m (at table key)
 abbrev pub IsNextAt : Database → ℕ → ℕ → Option (ℕ × List ℕ) → Type 0
 IsNextAt m table from None = (k : ℕ) → from ≤ k → k < 2 ^ 64 → value_at m table k ≡ None
 IsNextAt m table from (Some found) = (from ≤ found.0) × (found.0 < 2 ^ 64) × (value_at m table found.0 ≡ Some found.1) × ((k : ℕ) → from ≤ k → k < found.0 → value_at m table k ≡ None)
+
+-- These are the keys of the table from low to high, both too, that have a value, each once and ascending, with their values.
+pub record AreFound (m : Database) (table low high : ℕ) (found : List (ℕ × List ℕ)) : Type 0 where
+  pub ascend : AllPairs (λ a b. a.0 < b.0) found
+  pub within : All (λ pair. (low ≤ pair.0) × (pair.0 ≤ high) × (pair.0 < 2 ^ 64) × (value_at m table pair.0 ≡ Some pair.1)) found
+  pub all : (key : ℕ) (value : List ℕ) → low ≤ key → key ≤ high → key < 2 ^ 64 → value_at m table key ≡ Some value → (key, value) ∈ found
 
 -- pairs as keys with the bytes of their values
 abbrev pub entries_of : List Pair → List (Key × List ℕ)

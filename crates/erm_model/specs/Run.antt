@@ -2,10 +2,10 @@
 use Rattle.std.specs.Prelude.{◌≡◌, ℕ, List, [], ◌∷◌, map, Option}
 use Rattle.std.specs.FinMap.{insert, remove}
 use Rattle.erm_model.specs.declared.operation.Op.{Op}
-use Rattle.erm_model.specs.declared.operation.Op.TheVariants.{Get, Put, Del, Next}
+use Rattle.erm_model.specs.declared.operation.Op.TheVariants.{Get, Put, Del, Next, Scan}
 use Rattle.erm_model.specs.declared.operation.Reply.{Reply}
 use Rattle.erm_model.specs.declared.operation.Reply.TheVariants as reply
-use Rattle.erm_model.specs.Database.{Database, at, value_at, IsNextAt}
+use Rattle.erm_model.specs.Database.{Database, at, value_at, AreFound, IsNextAt}
 
 -- an operation and the reply to it
 pub record Step : Type 0 where
@@ -18,6 +18,7 @@ after (Get table key) m = m
 after (Put table key value) m = insert m (at table key) value
 after (Del table key) m = remove m (at table key)
 after (Next table from) m = m
+after (Scan table low high) m = m
 
 -- the database map after operations, one after the other
 abbrev pub after_all : List Op → Database → Database
@@ -30,6 +31,7 @@ IsReply m (Get table key) r = r ≡ reply.Value (value_at m table key)
 IsReply m (Put table key value) r = r ≡ reply.Done
 IsReply m (Del table key) r = r ≡ reply.Done
 IsReply m (Next table from) r = (found : Option (ℕ × List ℕ)) × (r ≡ reply.Pair found) × IsNextAt m table from found
+IsReply m (Scan table low high) r = (found : List (ℕ × List ℕ)) × (r ≡ reply.Found found) × AreFound m table low high found
 
 -- one transaction: each operation's reply is that on the map after the operations before it
 abbrev pub RunsOne : Database → List Step → Type 0

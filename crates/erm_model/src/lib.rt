@@ -10,6 +10,7 @@ mod map;
 mod name;
 mod operation;
 mod outcome;
+mod pairs;
 mod row_stop;
 mod row_txn;
 mod run;
@@ -23,13 +24,15 @@ pub use laws::{
     replies_are_determined,
 };
 pub use limits::{
-    GREATEST_BLOCK, LAST_NUMBER, LAST_RUN, LEAST_BLOCK, LOG_END, MOST_CELLS, OID_LIMIT, READ_LIMIT,
-    RING_WORDS, SEGMENT_WORDS, SESSIONS, STOP, TABLE_CELLS, TABLES, WRITE_LIMIT,
+    GREATEST_BLOCK, LAST_NUMBER, LAST_RUN, LEAST_BLOCK, LOG_END, MOST_CELLS, OID_LIMIT,
+    PUT_OBJECTS, PUT_ROWS, READ_LIMIT, RING_WORDS, SEGMENT_WORDS, SESSIONS, STOP, TABLE_CELLS,
+    TABLES, WRITE_LIMIT,
 };
 pub use map::{Map, Pair};
 pub use name::{NAME_BYTES, Name};
 pub use operation::{Op, Reply};
 pub use outcome::{Outcome, Phase, Receipt};
+pub use pairs::Pairs;
 pub use row_stop::RowStop;
 pub use row_txn::{AnyRows, RowLaw, RowRead, RowTxn};
 pub use run::run_one;

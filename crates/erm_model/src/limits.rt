@@ -16,6 +16,12 @@ pub const READ_LIMIT: usize = 512;
 /// The most objects that a transaction claims.
 pub const WRITE_LIMIT: usize = 128;
 
+/// The most objects that a put makes.
+pub const PUT_OBJECTS: usize = 14;
+
+/// The most rows that a put claims and sets.
+pub const PUT_ROWS: usize = 26;
+
 /// How many cells the table of words has.
 pub const TABLE_CELLS: u32 = 65_536;
 

@@ -2,9 +2,9 @@
 ghost use Rattle.std.specs.Prelude.{◌≡◌, ◌<◌, ◌+◌, ◌^◌, ◌↔◌, IsTrue, IfOk, OnOk, OnErr, IfSome, length, vec_len};
 ghost use Rattle.std.specs.Option.{option_copied};
 ghost use Rattle.std.specs.FinMap as map;
-ghost use Rattle.erm_model.specs.Database.{value_at, at, IsNextAt, entries_of, AscendByKey};
+ghost use Rattle.erm_model.specs.Database.{value_at, at, AreFound, IsNextAt, entries_of, AscendByKey};
 
-use crate::{Key, Value};
+use crate::{Key, Pairs, Value};
 use std::alloc::{AllocError, Global};
 use std::collections::BTreeMap;
 use std::marker::Model;
@@ -107,5 +107,21 @@ impl Map {
         };
         let (key, value) = self.entries.range(first..=last).next()?;
         Some((key.key, value.copied()))
+    }
+
+    /// The keys of a table from `low` to `high`, these two too, that have a value, ascending, with their values.
+    pub fn found(&self, alloc: Global, table: u8, low: u64, high: u64) -> Result<Pairs, AllocError>
+        ensures { IfOk result (λ found. AreFound self.now table low high found) }
+    {
+        let mut found = Vec::new(alloc);
+        if low > high {
+            return Ok(Pairs::new(found));
+        }
+        let first = Key { table, key: low };
+        let last = Key { table, key: high };
+        for (key, value) in self.entries.range(first..=last) {
+            found.push((key.key, value.copied()))?;
+        }
+        Ok(Pairs::new(found))
     }
 }

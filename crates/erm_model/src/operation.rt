@@ -1,5 +1,5 @@
 //! What a transaction asks of the database map, and what it is answered.
-use crate::Value;
+use crate::{Pairs, Value};
 
 /// An operation on the database map.
 #[derive(Drop)]
@@ -12,6 +12,8 @@ pub enum Op {
     Del { table: u8, key: u64 },
     /// Finds the least key at or above `from` that has a value.
     Next { table: u8, from: u64 },
+    /// Finds all keys from `low` to `high`, these two too, that have a value.
+    Scan { table: u8, low: u64, high: u64 },
 }
 
 /// The answer to an operation.
@@ -23,4 +25,6 @@ pub enum Reply {
     Done,
     /// To a `Next`: the key found, with its value, or none.
     Pair(Option<(u64, Value)>),
+    /// To a `Scan`: the keys found, ascending, with their values.
+    Found(Pairs),
 }

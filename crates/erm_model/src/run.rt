@@ -15,13 +15,13 @@ pub fn run_one(alloc: Global, map: &mut Map, ops: &[Op]) -> Result<Vec<Reply>, A
 {
     let mut replies = Vec::with_capacity(alloc, ops.len())?;
     for op in ops {
-        replies.push(answer(map, op)?)?;
+        replies.push(answer(alloc, map, op)?)?;
     }
     Ok(replies)
 }
 
 // The reply to one operation, which changes the map as it says.
-fn answer(map: &mut Map, op: &Op) -> Result<Reply, AllocError>
+fn answer(alloc: Global, map: &mut Map, op: &Op) -> Result<Reply, AllocError>
     ensures reply { IfOk result (λ reply. IsReply map.old op.now reply) }
     ensures done { OnOk result (map.new ≡ after op.now map.old) }
     ensures err { OnErr result (map.new ≡ map.old) }
@@ -37,5 +37,8 @@ fn answer(map: &mut Map, op: &Op) -> Result<Reply, AllocError>
             Ok(Reply::Done)
         }
         Op::Next { table, from } => Ok(Reply::Pair(map.next(*table, *from))),
+        Op::Scan { table, low, high } => {
+            Ok(Reply::Found(map.found(alloc, *table, *low, *high)?))
+        }
     }
 }

@@ -14,6 +14,7 @@ use Rattle.erm_report.specs.declared.line.Line.TheVariants as line
 use Rattle.erm_report.specs.Printable.{IsWord, HasWordName, IsPrintable, answer_told, told, TextsDetermineLines}
 use Rattle.erm_script.specs.declared.script.Command.{Command}
 use Rattle.erm_script.specs.declared.script.Command.TheVariants as command
+use Rattle.erm_script.specs.declared.grammar.Grammar.{Grammar}
 use Rattle.erm_script.specs.declared.script.ScriptLine.{ScriptLine}
 use Rattle.erm_script.specs.Script.{name_of, IsScript}
 use Rattle.erm_promise.specs.Determined.{IsFittingReport, ReportsAreDetermined}
@@ -27,10 +28,16 @@ no_pair command.Begin is = is
 no_pair (command.Get table key) is = is
 no_pair (command.Put table key value) is = is
 no_pair (command.Del table key) is = is
+no_pair (command.Next table from) is = is
+no_pair (command.Scan table low high) is = is
+no_pair (command.Tidy table key) is = is
 no_pair command.Seal is = is
 no_pair command.Settle is = is
 no_pair command.Commit is = is
 no_pair command.Abort is = is
+no_pair command.Durable is = is
+no_pair command.Flush is = is
+no_pair command.Checkpoint is = is
 
 -- the text of an answer to a command tells it
 answer_told-answer : (c : Command) (a : Answer) → IsAnswerTo c a → answer_told a ≡ a
@@ -135,19 +142,19 @@ by_parts : (names : List (List ℕ)) (script : List ScriptLine) (lines : List Li
     lines ≡ line.Open p.stamp p.run ∷ (answer_lines script p.good.report.answers ++ after_answers names p.good.report)
 by_parts names script lines p = p.good.lines_ok ∙ report_lines_by_parts p.stamp p.run names script p.good.report
 
-printable : (bytes : List ℕ) (names : List (List ℕ)) (script : List ScriptLine) (lines : List Line) → IsScript bytes names script → IsFittingReport names script lines → All IsPrintable lines
-printable bytes names script lines is p =
+printable : (g : Grammar) (bytes : List ℕ) (names : List (List ℕ)) (script : List ScriptLine) (lines : List Line) → IsScript g bytes names script → IsFittingReport names script lines → All IsPrintable lines
+printable g bytes names script lines is p =
     let named : All HasWordName lines =
-    subst (λ ls. All HasWordName ls) (sym (by_parts names script lines p)) (word_names p.stamp p.run names script p.good.report (names_are_words bytes names script is)) in
+    subst (λ ls. All HasWordName ls) (sym (by_parts names script lines p)) (word_names p.stamp p.run names script p.good.report (names_are_words g bytes names script is)) in
     λ k d within. record { fits = p.fits k d within; name = named k d within }
 
 pub reports_determined : TextsDetermineLines → ReportsAreDetermined
-reports_determined law bytes names script lines others is p q same =
+reports_determined law g bytes names script lines others is p q same =
     let r = p.good.report in
     let s = q.good.report in
     let first = by_parts names script lines p in
     let second = by_parts names script others q in
-    let one = (law lines others (printable bytes names script lines is p) (printable bytes names script others is q)).0 same in
+    let one = (law lines others (printable g bytes names script lines is p) (printable g bytes names script others is q)).0 same in
     let whole : map told (line.Open p.stamp p.run ∷ (answer_lines script r.answers ++ after_answers names r))
     ≡ map told (line.Open q.stamp q.run ∷ (answer_lines script s.answers ++ after_answers names s)) =
     ap (map told) (sym first) ∙ one ∙ ap (map told) second in

@@ -4,7 +4,7 @@ use Rattle.std.specs.Prelude.{◌==◌, ◌&&◌, Bool, if◌then◌else◌, Lis
 use Rattle.std.specs.List.{fold, list_any}
 use Rattle.erm_model.specs.declared.key.Key.{Key}
 use Rattle.erm_model.specs.declared.operation.Op.{Op}
-use Rattle.erm_model.specs.declared.operation.Op.TheVariants.{Get, Put, Del, Next}
+use Rattle.erm_model.specs.declared.operation.Op.TheVariants.{Get, Put, Del, Next, Scan}
 use Rattle.erm_model.specs.Database.{at}
 use Rattle.erm_model.specs.Run.{Step}
 
@@ -43,6 +43,7 @@ touched (Get table key) f = reading (at table key) f
 touched (Put table key value) f = writing (at table key) f
 touched (Del table key) f = writing (at table key) f
 touched (Next table from) f = f
+touched (Scan table low high) f = f
 
 -- what these operations touched, one after the other
 abbrev pub footprint : List Step → Footprint

@@ -129,33 +129,14 @@ pub record ClosesAgree (sessions : ℕ) (said : List Said) (closed : List Closed
 
 -- the commit stamp that an answer tells
 abbrev pub commit_stamp : Answer → Option ℕ
-commit_stamp (answer.Began begin) = None
-commit_stamp (answer.Replied r) = None
 commit_stamp (answer.Sealed stamp) = Some stamp
 commit_stamp (answer.Committed stamp succ pred) = Some stamp
-commit_stamp answer.Aborted = None
-commit_stamp answer.NotIdle = None
-commit_stamp answer.NoTransaction = None
-commit_stamp answer.IsSealed = None
-commit_stamp answer.NotSealed = None
-commit_stamp answer.ReadsFull = None
-commit_stamp answer.WritesFull = None
-commit_stamp (answer.OidsFull drawn) = None
+commit_stamp answer = None
 
 -- the begin stamp that an answer tells
 abbrev pub begin_stamp : Answer → Option ℕ
 begin_stamp (answer.Began begin) = Some begin
-begin_stamp (answer.Replied r) = None
-begin_stamp (answer.Sealed stamp) = None
-begin_stamp (answer.Committed stamp succ pred) = None
-begin_stamp answer.Aborted = None
-begin_stamp answer.NotIdle = None
-begin_stamp answer.NoTransaction = None
-begin_stamp answer.IsSealed = None
-begin_stamp answer.NotSealed = None
-begin_stamp answer.ReadsFull = None
-begin_stamp answer.WritesFull = None
-begin_stamp (answer.OidsFull drawn) = None
+begin_stamp answer = None
 
 -- the commit stamp that an ending tells
 abbrev pub stamp_of_ending : Ending → Option ℕ

@@ -19,10 +19,16 @@ refusal_in_idle command.Begin = None
 refusal_in_idle (command.Get table key) = Some answer.NoTransaction
 refusal_in_idle (command.Put table key value) = Some answer.NoTransaction
 refusal_in_idle (command.Del table key) = Some answer.NoTransaction
+refusal_in_idle (command.Next table from) = Some answer.NoTransaction
+refusal_in_idle (command.Scan table low high) = Some answer.NoTransaction
+refusal_in_idle (command.Tidy table key) = Some answer.NoTransaction
 refusal_in_idle command.Seal = Some answer.NoTransaction
 refusal_in_idle command.Settle = Some answer.NotSealed
 refusal_in_idle command.Commit = Some answer.NoTransaction
 refusal_in_idle command.Abort = Some answer.NoTransaction
+refusal_in_idle command.Durable = None
+refusal_in_idle command.Flush = None
+refusal_in_idle command.Checkpoint = None
 
 -- the refusal that a session with an active transaction gives to a command, if it gives one
 abbrev pub refusal_in_active : Command → Option Answer
@@ -30,10 +36,16 @@ refusal_in_active command.Begin = Some answer.NotIdle
 refusal_in_active (command.Get table key) = None
 refusal_in_active (command.Put table key value) = None
 refusal_in_active (command.Del table key) = None
+refusal_in_active (command.Next table from) = None
+refusal_in_active (command.Scan table low high) = None
+refusal_in_active (command.Tidy table key) = None
 refusal_in_active command.Seal = None
 refusal_in_active command.Settle = Some answer.NotSealed
 refusal_in_active command.Commit = None
 refusal_in_active command.Abort = None
+refusal_in_active command.Durable = None
+refusal_in_active command.Flush = None
+refusal_in_active command.Checkpoint = None
 
 -- the refusal that a session with a sealed transaction gives to a command, if it gives one
 abbrev pub refusal_in_sealed : Command → Option Answer
@@ -41,10 +53,16 @@ refusal_in_sealed command.Begin = Some answer.NotIdle
 refusal_in_sealed (command.Get table key) = Some answer.IsSealed
 refusal_in_sealed (command.Put table key value) = Some answer.IsSealed
 refusal_in_sealed (command.Del table key) = Some answer.IsSealed
+refusal_in_sealed (command.Next table from) = Some answer.IsSealed
+refusal_in_sealed (command.Scan table low high) = Some answer.IsSealed
+refusal_in_sealed (command.Tidy table key) = Some answer.IsSealed
 refusal_in_sealed command.Seal = Some answer.IsSealed
 refusal_in_sealed command.Settle = None
 refusal_in_sealed command.Commit = Some answer.IsSealed
 refusal_in_sealed command.Abort = Some answer.IsSealed
+refusal_in_sealed command.Durable = None
+refusal_in_sealed command.Flush = None
+refusal_in_sealed command.Checkpoint = None
 
 -- the refusal that a session's phase gives to a command, if it gives one
 abbrev pub refusal_of : Phase → Command → Option Answer
@@ -54,33 +72,18 @@ refusal_of Sealed command = refusal_in_sealed command
 
 -- an answer, where it is a refusal by a phase
 abbrev pub refusal_in : Answer → Option Answer
-refusal_in (answer.Began begin) = None
-refusal_in (answer.Replied r) = None
-refusal_in (answer.Sealed stamp) = None
-refusal_in (answer.Committed stamp succ pred) = None
-refusal_in answer.Aborted = None
 refusal_in answer.NotIdle = Some answer.NotIdle
 refusal_in answer.NoTransaction = Some answer.NoTransaction
 refusal_in answer.IsSealed = Some answer.IsSealed
 refusal_in answer.NotSealed = Some answer.NotSealed
-refusal_in answer.ReadsFull = None
-refusal_in answer.WritesFull = None
-refusal_in (answer.OidsFull drawn) = None
+refusal_in answer = None
 
 -- an answer, where it is a refusal by a limit
 abbrev pub limit_in : Answer → Option Answer
-limit_in (answer.Began begin) = None
-limit_in (answer.Replied r) = None
-limit_in (answer.Sealed stamp) = None
-limit_in (answer.Committed stamp succ pred) = None
-limit_in answer.Aborted = None
-limit_in answer.NotIdle = None
-limit_in answer.NoTransaction = None
-limit_in answer.IsSealed = None
-limit_in answer.NotSealed = None
 limit_in answer.ReadsFull = Some answer.ReadsFull
 limit_in answer.WritesFull = Some answer.WritesFull
 limit_in (answer.OidsFull drawn) = Some (answer.OidsFull drawn)
+limit_in answer = None
 
 -- the key that a command names
 abbrev pub key_of : Command → Option Key
@@ -88,10 +91,16 @@ key_of command.Begin = None
 key_of (command.Get table key) = Some (at table key)
 key_of (command.Put table key value) = Some (at table key)
 key_of (command.Del table key) = Some (at table key)
+key_of (command.Next table from) = None
+key_of (command.Scan table low high) = None
+key_of (command.Tidy table key) = Some (at table key)
 key_of command.Seal = None
 key_of command.Settle = None
 key_of command.Commit = None
 key_of command.Abort = None
+key_of command.Durable = None
+key_of command.Flush = None
+key_of command.Checkpoint = None
 
 -- the keys that these commands name, each once, by the order of those that name them first
 abbrev pub named_after : List Key → Command → List Key
@@ -130,10 +139,16 @@ limit_of named f (command.Get table key) = read_limit_of f (at table key)
 limit_of named f (command.Put table key value) =
     if nat_le OID_LIMIT (TABLES + number_of named (at table key)) then Some (answer.OidsFull OID_LIMIT) else write_limit_of f (at table key)
 limit_of named f (command.Del table key) = write_limit_of f (at table key)
+limit_of named f (command.Next table from) = None
+limit_of named f (command.Scan table low high) = None
+limit_of named f (command.Tidy table key) = write_limit_of f (at table key)
 limit_of named f command.Seal = None
 limit_of named f command.Settle = None
 limit_of named f command.Commit = None
 limit_of named f command.Abort = None
+limit_of named f command.Durable = None
+limit_of named f command.Flush = None
+limit_of named f command.Checkpoint = None
 
 -- the same in any phase: a limit refuses nothing but to an active transaction
 abbrev pub limit_at : Phase → List Key → Footprint → Command → Option Answer

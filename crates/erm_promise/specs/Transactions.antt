@@ -27,10 +27,16 @@ op_of command.Begin = None
 op_of (command.Get table key) = Some (op.Get table key)
 op_of (command.Put table key value) = Some (op.Put table key value)
 op_of (command.Del table key) = Some (op.Del table key)
+op_of (command.Next table from) = Some (op.Next table from)
+op_of (command.Scan table low high) = None
+op_of (command.Tidy table key) = None
 op_of command.Seal = None
 op_of command.Settle = None
 op_of command.Commit = None
 op_of command.Abort = None
+op_of command.Durable = None
+op_of command.Flush = None
+op_of command.Checkpoint = None
 
 -- a line of a transaction that names a table: which one, and whether it writes there
 pub record TableLine : Type 0 where
@@ -43,10 +49,16 @@ table_of command.Begin = None
 table_of (command.Get table key) = Some (record { table = table; writes = false })
 table_of (command.Put table key value) = Some (record { table = table; writes = true })
 table_of (command.Del table key) = Some (record { table = table; writes = true })
+table_of (command.Next table from) = Some (record { table = table; writes = false })
+table_of (command.Scan table low high) = Some (record { table = table; writes = false })
+table_of (command.Tidy table key) = Some (record { table = table; writes = true })
 table_of command.Seal = None
 table_of command.Settle = None
 table_of command.Commit = None
 table_of command.Abort = None
+table_of command.Durable = None
+table_of command.Flush = None
+table_of command.Checkpoint = None
 
 -- the lines of a script beside their answers
 abbrev pub said_of : List ScriptLine → List Answer → List Said
@@ -113,6 +125,7 @@ ended ending p = record { over = p.over ++ option_to_list (option_map (with_endi
 
 -- A session's transactions after one more answer: a begin opens the next, a reply belongs to the current one, and an end
 -- ends it. A line that a limit refused is a line of the current one all the same; a line that the phase refused is none.
+-- Answers that no command of one session's transactions on single keys may have tell nothing.
 abbrev pub heard : ℕ → Option Command → Answer → Progress → Progress
 heard session asked (answer.Began begin) p = record p { current = Some (begun session begin p) }
 heard session asked (answer.Replied reply) p = record p { current = option_map (replied asked reply) p.current }
@@ -126,6 +139,7 @@ heard session asked answer.NotSealed p = p
 heard session asked answer.ReadsFull p = record p { current = option_map (with_line asked) p.current }
 heard session asked answer.WritesFull p = record p { current = option_map (with_line asked) p.current }
 heard session asked (answer.OidsFull drawn) p = record p { current = option_map (with_line asked) p.current }
+heard session asked answer p = p
 
 -- a session's transactions, as its own places of the report have them
 abbrev pub progress_of : ℕ → List Said → Progress
@@ -162,6 +176,7 @@ phase_after phase answer.NotSealed = phase
 phase_after phase answer.ReadsFull = phase
 phase_after phase answer.WritesFull = phase
 phase_after phase (answer.OidsFull drawn) = phase
+phase_after phase answer = phase
 
 -- the phase that the answers to a session leave
 abbrev pub phase_of : ℕ → List Said → Phase

@@ -1,47 +1,75 @@
 -- What of its lines a text tells, and which lines it tells so.
-use Rattle.std.specs.Prelude.{◌≡◌, ◌≢◌, ◌↔◌, ℕ, ◌^◌, ◌<◌, List, map, Some, None}
+use Rattle.std.specs.Prelude.{◌≡◌, ◌≢◌, ◌↔◌, ℕ, ◌^◌, ◌<◌, List, map, length, Some, None}
 use Rattle.std.specs.List.{All}
 use Rattle.erm_model.specs.declared.operation.Reply.{Reply}
 use Rattle.erm_model.specs.declared.operation.Reply.TheVariants as reply
 use Rattle.erm_report.specs.declared.answer.Answer.{Answer}
-use Rattle.erm_report.specs.declared.answer.Answer.TheVariants.{Began, Replied, Sealed, Committed, OidsFull}
+use Rattle.erm_report.specs.declared.answer.Answer.TheVariants.{Began, Replied, Cut, Sealed, Committed, Excluded, Durable, Flushed, Empty, Checkpointed, LogEnd, WaitSeat, WaitRing, Owned, Newer, ExcludedEarly, CellsFull, OidsFull, NotFlushed, Unfilled}
 use Rattle.erm_report.specs.declared.line.Line.{Line}
 use Rattle.erm_report.specs.declared.line.Line.TheVariants as line
+use Rattle.erm_script.specs.Script.{IsValue}
 use Rattle.erm_report.specs.Texts.{text_of}
 
 -- a word: it has no space and no line end
 abbrev pub IsWord : List ℕ → Type 0
 IsWord word = All (λ b. (b ≢ 32) × (b ≢ 10)) word
 
--- the elements of a value are bytes
-abbrev pub AreBytes : List ℕ → Type 0
-AreBytes value = All (λ b. b < 256) value
+-- a key that a scan found, with its value, fits its types
+abbrev pub FitsFound : ℕ × List ℕ → Type 0
+FitsFound found = (found.0 < 2 ^ 64) × IsValue found.1
 
--- the numbers of a reply have at most 64 bits, and its value has bytes
+-- the numbers of a reply fit their types, and its value is one
 abbrev pub FitsReply : Reply → Type 0
-FitsReply (reply.Value (Some value)) = AreBytes value
-FitsReply (reply.Pair (Some found)) = (found.0 < 2 ^ 64) × AreBytes found.1
+FitsReply (reply.Value (Some value)) = IsValue value
+FitsReply (reply.Pair (Some found)) = FitsFound found
+FitsReply (reply.Found pairs) = (length pairs < 2 ^ 64) × All FitsFound pairs
 FitsReply r = Unit {0}
 
--- the numbers of an answer have at most 64 bits, and its value has bytes
+-- the numbers of an answer fit their types, and its values are values
 abbrev pub FitsAnswer : Answer → Type 0
 FitsAnswer (Began stamp) = stamp < 2 ^ 64
 FitsAnswer (Replied r) = FitsReply r
+FitsAnswer (Cut count) = count < 2 ^ 32
 FitsAnswer (Sealed stamp) = stamp < 2 ^ 64
 FitsAnswer (Committed stamp succ pred) = (stamp < 2 ^ 64) × (succ < 2 ^ 64) × (pred < 2 ^ 64)
+FitsAnswer (Excluded stamp succ pred) = (stamp < 2 ^ 64) × (succ < 2 ^ 64) × (pred < 2 ^ 64)
+FitsAnswer (Durable stamp) = stamp < 2 ^ 64
+FitsAnswer (Flushed stamp) = stamp < 2 ^ 64
+FitsAnswer (Empty stamp) = stamp < 2 ^ 64
+FitsAnswer (Checkpointed stamp) = stamp < 2 ^ 64
+FitsAnswer (LogEnd tail) = tail < 2 ^ 64
+FitsAnswer (WaitSeat seat seen) = (seat < 2 ^ 8) × (seen < 2 ^ 64)
+FitsAnswer (WaitRing flushed) = flushed < 2 ^ 64
+FitsAnswer (Owned seat number) = (seat < 2 ^ 8) × (number < 2 ^ 32)
+FitsAnswer (Newer stamp) = stamp < 2 ^ 64
+FitsAnswer (ExcludedEarly succ pred) = (succ < 2 ^ 64) × (pred < 2 ^ 64)
+FitsAnswer (CellsFull drawn) = drawn < 2 ^ 64
 FitsAnswer (OidsFull drawn) = drawn < 2 ^ 64
+FitsAnswer (NotFlushed flushed) = flushed < 2 ^ 64
+FitsAnswer (Unfilled stamp) = stamp < 2 ^ 64
 FitsAnswer answer = Unit {0}
 
--- the numbers of a line have at most 64 bits, and its value has bytes
+-- the numbers of a line fit their types, and its values are values
 abbrev pub FitsTypes : Line → Type 0
 FitsTypes (line.Open stamp run) = (stamp < 2 ^ 64) × (run < 2 ^ 64)
-FitsTypes (line.Answer number answer) = (number < 2 ^ 64) × FitsAnswer answer
+FitsTypes (line.Answer number answer) = (number < 2 ^ 32) × FitsAnswer answer
 FitsTypes (line.Close session answer) = FitsAnswer answer
 FitsTypes (line.Order commits) = commits < 2 ^ 64
-FitsTypes (line.Commit session number stamp succ pred) = (number < 2 ^ 64) × (stamp < 2 ^ 64) × (succ < 2 ^ 64) × (pred < 2 ^ 64)
+FitsTypes (line.Commit session number stamp succ pred) = (number < 2 ^ 32) × (stamp < 2 ^ 64) × (succ < 2 ^ 64) × (pred < 2 ^ 64)
 FitsTypes (line.Map pairs) = pairs < 2 ^ 64
-FitsTypes (line.Pair pair) = (pair.key.table < 2 ^ 64) × (pair.key.key < 2 ^ 64) × AreBytes pair.value
-FitsTypes (line.BadLine number kind) = number < 2 ^ 64
+FitsTypes (line.Pair pair) = (pair.key.table < 2 ^ 8) × (pair.key.key < 2 ^ 64) × IsValue pair.value
+FitsTypes (line.Recovered stamp run) = (stamp < 2 ^ 64) × (run < 2 ^ 64)
+FitsTypes (line.Audited base stamp run) = (base < 2 ^ 64) × (stamp < 2 ^ 64) × (run < 2 ^ 64)
+FitsTypes (line.LoggedCommit seat number stamp succ) = (seat < 2 ^ 8) × (number < 2 ^ 32) × (stamp < 2 ^ 64) × (succ < 2 ^ 64)
+FitsTypes (line.Checkpointed stamp) = stamp < 2 ^ 64
+FitsTypes (line.Made count sessions) = (count < 2 ^ 32) × (sessions < 2 ^ 8)
+FitsTypes (line.Committed count) = count < 2 ^ 64
+FitsTypes (line.Excluded count) = count < 2 ^ 64
+FitsTypes (line.Owned count) = count < 2 ^ 64
+FitsTypes (line.Pairs count) = count < 2 ^ 64
+FitsTypes (line.BadLine number kind) = number < 2 ^ 32
+FitsTypes (line.RunsEnd run) = run < 2 ^ 64
+FitsTypes (line.LogEnd tail) = tail < 2 ^ 64
 FitsTypes l = Unit {0}
 
 -- the session that a line names, if it names one, has a word for its name

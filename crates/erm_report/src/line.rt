@@ -1,6 +1,6 @@
 //! The lines of a report, and the lines that stand in a report's place.
 use crate::Answer;
-use erm_model::{Name, Pair, Stamp};
+use erm_model::{Name, Pair, Seat, Stamp};
 use erm_script::FaultKind;
 
 /// A line that the program prints.
@@ -41,6 +41,51 @@ pub enum Line {
     Pair(Pair),
     /// The end of the report.
     End,
+    /// The disk failed outside the lines of the script: there is no more.
+    DiskFault,
+    /// The stamp and the run that the disk was recovered to.
+    Recovered {
+        stamp: Stamp,
+        run: u64,
+    },
+    /// The commits between these stamps are told of, as the disk was recovered to them in this run.
+    Audited {
+        base: Stamp,
+        stamp: Stamp,
+        run: u64,
+    },
+    /// A commit found in the log, in the serial order.
+    LoggedCommit {
+        seat: Seat,
+        number: u32,
+        stamp: Stamp,
+        succ: Stamp,
+    },
+    /// A checkpoint was written, as of this stamp.
+    Checkpointed {
+        stamp: Stamp,
+    },
+    /// A script of so many transactions and sessions was made and run.
+    Made {
+        count: u32,
+        sessions: Seat,
+    },
+    /// How many of its transactions committed.
+    Committed {
+        count: usize,
+    },
+    /// How many of them were excluded.
+    Excluded {
+        count: usize,
+    },
+    /// How many of them met an owner.
+    Owned {
+        count: usize,
+    },
+    /// How many keys have a value after them.
+    Pairs {
+        count: usize,
+    },
     /// In place of a report: the first line of the script that is not in the grammar, and the first kind of fault that
     /// applies to it.
     BadLine {
@@ -55,4 +100,14 @@ pub enum Line {
     TooLong,
     /// In place of a report: memory ran out.
     NoMemory,
+    /// In place of a report: there are bytes on the disk, but no place to start from.
+    NoBase,
+    /// In place of a report: no run comes after this one.
+    RunsEnd {
+        run: u64,
+    },
+    /// In place of a report: the log has come as far as this, behind which nothing is opened.
+    LogEnd {
+        tail: Stamp,
+    },
 }

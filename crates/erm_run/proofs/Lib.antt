@@ -4,3 +4,4 @@ pub mod Overlay
 pub mod Reporting
 pub mod Stepping
 pub mod Telling
+pub mod Scripts

@@ -24,6 +24,7 @@ use Rattle.erm_run.specs.declared.runner.Runner.{Runner}
 use Rattle.erm_run.specs.declared.whole.TheConstants.{FIRST_RUN, OPENING}
 use Rattle.erm_run.specs.declared.runner.Session.TheVariants as session
 use Rattle.erm_run.specs.Runner.{numbers_of, AreCurrent, Stands, StandsAt, phase_in, place_in, seal_in, work_in}
+use Rattle.erm_run.specs.Scripts.{AreRun, IsRun}
 use Rattle.erm_run.specs.Whole.{IsTold, numbers_line}
 use Rattle.erm_run.proofs.Answering.{idle_session}
 use Rattle.erm_run.proofs.Stepping.{in_order}
@@ -41,28 +42,29 @@ place_of c = record { session = c.session; asked = None; answer = c.answer }
 -- sessions are numbered from those seen on
 numbered_up : (seen : ℕ) (script : List ScriptLine) (sessions : ℕ) → AreNumbered seen script sessions → seen ≤ sessions
 numbered_up seen [] sessions n = omega (arith, n)
-numbered_up seen (l ∷ script) sessions n = omega (arith, numbered_up (max seen l.session) script sessions n.2)
+numbered_up seen (l ∷ script) sessions n = omega (arith, numbered_up (max seen l.session) script sessions n.1)
 
 -- each session lies among those numbered
 numbered_in : (seen : ℕ) (script : List ScriptLine) (sessions : ℕ) → AreNumbered seen script sessions →
-    (l : ScriptLine) → l ∈ script → (1 ≤ l.session) × (l.session ≤ sessions)
+    (l : ScriptLine) → l ∈ script → l.session ≤ sessions
 numbered_in seen script sessions n l m = at script seen m.0 n m.1
   where
-    at : (script : List ScriptLine) (seen k : ℕ) → AreNumbered seen script sessions → slice_get script k ≡ Some l → (1 ≤ l.session) × (l.session ≤ sessions)
+    at : (script : List ScriptLine) (seen k : ℕ) → AreNumbered seen script sessions → slice_get script k ≡ Some l → l.session ≤ sessions
     at [] seen k n e = absurd (cc)
     at (x ∷ xs) seen zero n e =
         let same : x ≡ l = cc in
-        subst (λ (y : ScriptLine). (1 ≤ y.session) × (y.session ≤ sessions)) same (n.0, omega (arith, numbered_up (max seen x.session) xs sessions n.2))
-    at (x ∷ xs) seen (suc k) n e = at xs (max seen x.session) k n.2 e
+        subst (λ (y : ScriptLine). y.session ≤ sessions) same (omega (arith, numbered_up (max seen x.session) xs sessions n.1))
+    at (x ∷ xs) seen (suc k) n e = at xs (max seen x.session) k n.1 e
 
 -- where there is at most one session, it is the first
-pub all_first : (script : List ScriptLine) (sessions : ℕ) → AreNumbered 0 script sessions → sessions ≤ 1 → (l : ScriptLine) → l ∈ script → l.session ≡ 1
-all_first script sessions n few l m = let h = numbered_in 0 script sessions n l m in omega (arith, h.0, h.1)
+pub all_first : (script : List ScriptLine) (sessions : ℕ) → AreNumbered 0 script sessions → sessions ≤ 1 → AreRun script →
+    (l : ScriptLine) → l ∈ script → (l.session ≡ 1) × IsRun l.command
+all_first script sessions n few run l m = let most = numbered_in 0 script sessions n l m in let h = run l m in (omega (arith, most, h.0), h.1)
 
 -- where there is no session, there is no line
-no_lines : (script : List ScriptLine) → AreNumbered 0 script 0 → script ≡ []
-no_lines [] n = refl
-no_lines (l ∷ script) n = absurd (omega (arith, n.0, numbered_up (max 0 l.session) script 0 n.2))
+no_lines : (script : List ScriptLine) → AreNumbered 0 script 0 → AreRun script → script ≡ []
+no_lines [] n run = refl
+no_lines (l ∷ script) n run = absurd (omega (arith, (run l (zero, refl)).0, numbered_up (max 0 l.session) script 0 n.1))
 
 -- the one session's transactions are all there are
 one_session : (sessions : ℕ) (places : List Said) → sessions ≤ 1 → (sessions ≡ 0 → places ≡ []) → (progress_of 1 places).current ≡ None →
@@ -136,16 +138,16 @@ report_of script answers closed pairs = record {
 }
 
 pub good_report : (names : List (List ℕ)) (script : List ScriptLine) (answers : List Answer) (closed : Option Answer) (pairs : List Pair) (old new : Runner) →
-    AreNumbered 0 script (length names) → length names ≤ 1 → IsTold script answers old →
+    AreNumbered 0 script (length names) → length names ≤ 1 → AreRun script → IsTold script answers old →
     WasClosed closed old new → new.session ≡ session.Idle → AscendByKey pairs → from_entries (entries_of pairs) ≡ new.values →
     IsGoodReport empty OPENING FIRST_RUN names script (report_lines OPENING FIRST_RUN names script (report_of script answers closed pairs))
-good_report names script answers closed pairs old new numbered few told h idle ascends all =
+good_report names script answers closed pairs old new numbered few run told h idle ascends all =
     let said = said_of script answers in
     let report = report_of script answers closed pairs in
     let places = said ++ map place_of (closings closed) in
     let p = progress_of 1 places in
     let s = subst (λ x. Stands p new.values (place_in x new.tail) new.over new.commits.items (seal_in x) (work_in x) new.marks) idle (stands_closed said closed old new told.stands h).stands in
-    let nothing_said : length names ≡ 0 → said ≡ [] = λ e. ap (λ (x : List ScriptLine). said_of x answers) (no_lines script (subst (λ n. AreNumbered 0 script n) e numbered)) in
+    let nothing_said : length names ≡ 0 → said ≡ [] = λ e. ap (λ (x : List ScriptLine). said_of x answers) (no_lines script (subst (λ n. AreNumbered 0 script n) e numbered) run) in
     let idle_first : length names ≡ 0 → old.session ≡ session.Idle = λ e. idle_session old.session (ap is_idle (sym told.phase ∙ ap (λ x. phase_of 1 x) (nothing_said e))) in
     let nothing_closed : length names ≡ 0 → closed ≡ None = λ e. no_closing closed old new (idle_first e) h in
     let no_places : length names ≡ 0 → places ≡ [] = λ e. ap (λ x. x ++ map place_of (closings closed)) (nothing_said e) ∙ ap (λ o. map place_of (closings o)) (nothing_closed e) in

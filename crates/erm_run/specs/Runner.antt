@@ -146,18 +146,8 @@ pub record StandsAt (p : Progress) (r : Runner) : Type 0 where
 
 -- the predecessor stamp that an answer tells
 abbrev pub pred_stamp : Answer → Option ℕ
-pred_stamp (answer.Began begin) = None
-pred_stamp (answer.Replied r) = None
-pred_stamp (answer.Sealed stamp) = None
 pred_stamp (answer.Committed stamp succ pred) = Some pred
-pred_stamp answer.Aborted = None
-pred_stamp answer.NotIdle = None
-pred_stamp answer.NoTransaction = None
-pred_stamp answer.IsSealed = None
-pred_stamp answer.NotSealed = None
-pred_stamp answer.ReadsFull = None
-pred_stamp answer.WritesFull = None
-pred_stamp (answer.OidsFull drawn) = None
+pred_stamp answer = None
 
 -- the predecessor stamp of a transaction that has done this, if there is one
 abbrev pub predecessor_of : Marked → Option Work → Option ℕ

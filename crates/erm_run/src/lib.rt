@@ -7,4 +7,4 @@ mod marks;
 mod runner;
 mod whole;
 
-pub use whole::{FIRST_RUN, OPENING, run};
+pub use whole::{FIRST_RUN, OPENING, one_session, run};

@@ -7,6 +7,7 @@ ghost use Rattle.erm_promise.specs.Refusals.{is_full};
 ghost use Rattle.erm_promise.specs.Transactions.{Progress, nothing, heard};
 ghost use Rattle.erm_script.specs.declared.script.Command.TheVariants as command;
 ghost use Rattle.erm_run.specs.Changes.{seen};
+ghost use Rattle.erm_run.specs.Scripts.{IsRun};
 ghost use Rattle.erm_run.specs.Runner.{StandsAt, Steps, Takes, Decides, phase_in, pending, touched_by};
 ghost use Rattle.erm_run.specs.declared.runner.Session.TheVariants as session;
 
@@ -28,6 +29,9 @@ pub const FIRST_STAMP: Stamp = OPENING + LEAST_BLOCK;
 
 /// The words of a row in a block, with its object's number.
 pub const ENTRY_WORDS: u64 = 1 + ROW_WORDS as u64;
+
+/// How many objects are given out where none is left.
+const ALL_DRAWN: u64 = OID_LIMIT as u64;
 
 /// How many keys get an object: the others are the roots of the tables.
 const KEY_LIMIT: usize = OID_LIMIT as usize - TABLES as usize;
@@ -157,6 +161,7 @@ impl Runner {
     pub fn answer(&mut self, alloc: Global, command: &Command) -> Result<Answer, AllocError>
         requires room { self.old.tail + ENTRY_WORDS * pending self.old.session + (LEAST_BLOCK + ENTRY_WORDS) < 2 ^ 64 }
         requires number { self.old.over + 1 < 2 ^ 32 }
+        requires run { IsRun command.now }
         ensures { IfOk result (λ a. (p : Progress) → StandsAt p self.old → Steps p command.now a self.old self.new) }
     {
         match command {
@@ -168,6 +173,12 @@ impl Runner {
             Command::Settle => self.settle(),
             Command::Commit => self.commit(),
             Command::Abort => Ok(self.abort()),
+            Command::Next { .. }
+            | Command::Scan { .. }
+            | Command::Tidy { .. }
+            | Command::Durable
+            | Command::Flush
+            | Command::Checkpoint => unreachable!(),
         }
     }
 
@@ -233,7 +244,7 @@ impl Runner {
             Err(refusal) => return Ok(refusal),
         };
         let answer = if is_out_of_objects(number) {
-            Answer::OidsFull { drawn: OID_LIMIT }
+            Answer::OidsFull { drawn: ALL_DRAWN }
         } else if work.is_write_full(&key) {
             Answer::WritesFull
         } else {

@@ -10,13 +10,14 @@ ghost use Rattle.erm_promise.specs.GoodReport.{IsGoodReport};
 ghost use Rattle.erm_script.specs.declared.script.ScriptLine.{ScriptLine as LineOfScript};
 ghost use Rattle.erm_report.specs.declared.line.Line.TheVariants as line;
 ghost use Rattle.erm_run.specs.Runner.{StandsAt};
+ghost use Rattle.erm_run.specs.Scripts.{AreRun, IsRun, one_session};
 ghost use Rattle.erm_run.specs.declared.runner.Session.TheVariants as session;
 ghost use Rattle.erm_run.specs.Whole.{Answered, numbers_line, PushesMap};
 
 use crate::runner::{FIRST_STAMP, Numbers, Runner};
 use erm_model::{Map, Name, Seat, Stamp};
 use erm_report::{Answer, Line};
-use erm_script::ScriptLine;
+use erm_script::{Grammar, ScriptLine};
 use std::alloc::{AllocError, Global};
 
 /// Where the block of the opening lies in the log.
@@ -25,9 +26,23 @@ pub const OPENING: Stamp = 8;
 /// The run of an opening over an empty log.
 pub const FIRST_RUN: u64 = 1;
 
+/// The scripts that are run: those of one session, with the commands of transactions on single keys.
+pub fn one_session() -> Grammar
+    ensures { result ≡ one_session }
+{
+    Grammar {
+        sessions: 1,
+        index: false,
+        log: false,
+        checkpoints: false,
+        threads: false,
+    }
+}
+
 /// Runs a script of one session from an empty database map, and answers the lines of its report.
 pub fn run(alloc: Global, names: &[Name], script: &[ScriptLine]) -> Result<Vec<Line>, AllocError>
     requires numbered { AreNumbered 0 script.now (length names.now) }
+    requires run { AreRun script.now }
     requires few { length names.now ≤ 1 }
     requires short { length script.now < 2 ^ 32 - 1 }
     ensures { IfOk result (λ lines. IsGoodReport finite.empty OPENING FIRST_RUN names.now script.now lines.items) }
@@ -44,6 +59,7 @@ fn report(
     script: &[ScriptLine],
 ) -> Result<Vec<Line>, AllocError>
     requires numbered { AreNumbered 0 script.now (length names.now) }
+    requires run { AreRun script.now }
     requires few { length names.now ≤ 1 }
     requires short { length script.now < 2 ^ 32 - 1 }
     requires stands { StandsAt nothing runner.old }
@@ -73,7 +89,7 @@ fn answer_all(
     script: &[ScriptLine],
     lines: &mut Vec<Line>,
 ) -> Result<(), AllocError>
-    requires one { (l : LineOfScript) → l ∈ script.now → l.session ≡ 1 }
+    requires one { (l : LineOfScript) → l ∈ script.now → (l.session ≡ 1) × IsRun l.command }
     requires short { length script.now < 2 ^ 32 - 1 }
     requires stands { StandsAt nothing runner.old }
     requires tail { runner.old.tail ≡ FIRST_STAMP }

@@ -9,13 +9,12 @@ use Rattle.std.proofs.lemmas.List.Sums.{fails_before_first}
 use Rattle.std.proofs.lemmas.Option.{slice_get-get_or, get_or_from_slice_get, slice_get_within}
 use Rattle.std.proofs.lemmas.Slice.Eq.{slice_eq-Decides}
 use Rattle.erm_model.specs.Member.{◌∈◌}
-use Rattle.erm_script.specs.declared.script.TheConstants.{SESSIONS}
 use Rattle.erm_script.specs.Seats.{IsSeatOf}
 use Rattle.erm_script.proofs.Words.{alike}
 
 -- a name at a place has the next seat
-pub seat_at : (names : List (List ℕ)) (name : List ℕ) (i : ℕ) → position (λ known. pointwise nat_eq known name) names ≡ Some i → IsSeatOf name names (i + 1)
-seat_at names name i found =
+pub seat_at : (most : ℕ) (names : List (List ℕ)) (name : List ℕ) (i : ℕ) → position (λ known. pointwise nat_eq known name) names ≡ Some i → IsSeatOf most name names (i + 1)
+seat_at most names name i found =
     let at = position-Some (λ known. pointwise nat_eq known name) names i [] found in
     let place : i + 1 - 1 ≡ i = omega arith in
     let same : get_or names i [] ≡ name = alike (get_or names i []) name (pointwise nat_eq (get_or names i []) name) refl at.1 in
@@ -32,6 +31,6 @@ none_at names name none m =
     false≢true (sym fails ∙ passes)
 
 -- a session with a seat is not one too many
-pub seat_fits : (name : List ℕ) (names : List (List ℕ)) (seat : ℕ) → IsSeatOf name names seat → (name ∈ names → ⊥) → SESSIONS ≤ length names → ⊥
-seat_fits name names seat (inl known) new full = new (seat - 1, known.1)
-seat_fits name names seat (inr next) new full = let few = next.1 in absurd (omega arith)
+pub seat_fits : (most : ℕ) (name : List ℕ) (names : List (List ℕ)) (seat : ℕ) → IsSeatOf most name names seat → (name ∈ names → ⊥) → most ≤ length names → ⊥
+seat_fits most name names seat (inl known) new full = new (seat - 1, known.1)
+seat_fits most name names seat (inr next) new full = let few = next.1 in absurd (omega arith)

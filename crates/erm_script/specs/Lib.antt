@@ -1,4 +1,6 @@
+pub mod Asked
 pub mod Faults
+pub mod Keywords
 pub mod Script
 pub mod Seats
 pub mod Words

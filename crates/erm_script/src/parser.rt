@@ -2,13 +2,15 @@
 ghost use Rattle.std.specs.Prelude.{◌≡◌, ◌≢◌, ℕ, ◌+◌, ◌-◌, ◌<◌, ◌≤◌, ◌^◌, List, [], ◌∷◌, ◌++◌, ◌⊎◌, length, vec_len, IfOk, OnOk};
 ghost use Rattle.erm_script.specs.declared.fault.FaultKind.{FaultKind};
 ghost use Rattle.erm_script.specs.Script.{IsScript, is_skipped};
+ghost use Rattle.erm_script.specs.Asked.{Adds, AddsName};
 ghost use Rattle.erm_script.specs.Faults.{IsFirstBadLine};
 
 mod line;
 mod word;
 
-use crate::{SESSIONS, ScriptFault, ScriptLine};
+use crate::{Grammar, NO_SESSION, ScriptFault, ScriptLine};
 use erm_model::{Name, Seat};
+use line::Asked;
 use std::alloc::{AllocError, Global};
 
 /// A script: its sessions' names by the order of their first lines, and its lines but for those that are skipped.
@@ -38,13 +40,13 @@ impl From<AllocError> for ParseError {
 }
 
 /// Reads a script. Each line is in the grammar, or the first one that is not is the answer, with the first kind of
-/// fault that applies to it. Under `threads` the lines that name no session have a kind of their own.
-pub fn parse(alloc: Global, bytes: &[u8], threads: bool) -> Result<Script, ParseError>
+/// fault that applies to it.
+pub fn parse(alloc: Global, bytes: &[u8], grammar: Grammar) -> Result<Script, ParseError>
     requires { length bytes.now < 2 ^ 32 - 1 }
-    ensures script { IfOk result (λ script. IsScript bytes.now script.names.items script.lines.items) }
+    ensures script { IfOk result (λ script. IsScript grammar bytes.now script.names.items script.lines.items) }
     ensures short { IfOk result (λ script. length script.lines.items ≤ length bytes.now + 1) }
     ensures fault { (line : ℕ) (kind : FaultKind) → result ≡ Err (ParseError.Fault (record { line = line; kind = kind }))
-        → IsFirstBadLine threads bytes.now line kind }
+        → IsFirstBadLine grammar bytes.now line kind }
 {
     let mut script = Script {
         names: Vec::new(alloc),
@@ -54,7 +56,7 @@ pub fn parse(alloc: Global, bytes: &[u8], threads: bool) -> Result<Script, Parse
         if is_skipped(line) {
             continue;
         }
-        script.add(index as u32 + 1, line, threads)?;
+        script.add(index as u32 + 1, line, grammar)?;
     }
     Ok(script)
 }
@@ -72,33 +74,48 @@ impl Script {
     ghost use Rattle.erm_script.specs.Words.{words_of};
 
     // adds a line with its number after those that are there
-    fn add(&mut self, number: u32, line: &[u8], threads: bool) -> Result<(), ParseError>
-        requires { vec_len self.old.names ≤ SESSIONS }
-        ensures added { OnOk result ((kept : List (ℕ × List ℕ)) → AreScript kept self.old.names.items self.old.lines.items
-            → AreScript (kept ++ (number, line.now) ∷ []) self.new.names.items self.new.lines.items) }
+    fn add(&mut self, number: u32, line: &[u8], grammar: Grammar) -> Result<(), ParseError>
+        requires { vec_len self.old.names ≤ grammar.sessions }
+        ensures added { OnOk result ((kept : List (ℕ × List ℕ)) → AreScript grammar kept self.old.names.items self.old.lines.items
+            → AreScript grammar (kept ++ (number, line.now) ∷ []) self.new.names.items self.new.lines.items) }
         ensures fault { (line_number : ℕ) (kind : FaultKind)
             → result ≡ Err (ParseError.Fault (record { line = line_number; kind = kind }))
-            → (line_number ≡ number) × IsFirstFault threads self.old.names.items (words_of line.now) kind }
+            → (line_number ≡ number) × IsFirstFault grammar self.old.names.items (words_of line.now) kind }
     {
-        let asked = match line::line(line, &self.names, threads) {
-            Ok(asked) => asked,
+        match line::line(line, &self.names, grammar) {
+            Ok(asked) => self.add_asked(number, asked)?,
             Err(kind) => return Err(ParseError::Fault(ScriptFault { line: number, kind })),
+        }
+        Ok(())
+    }
+
+    // adds what a line asks for
+    fn add_asked(&mut self, number: u32, asked: Asked) -> Result<(), AllocError>
+        ensures { OnOk result (Adds number asked self.old.names.items self.old.lines.items self.new.names.items self.new.lines.items) }
+    {
+        let (session, command) = match asked {
+            Asked::OfSession {
+                name,
+                seat,
+                command,
+            } => {
+                add_session(&mut self.names, name, seat)?;
+                (seat, command)
+            }
+            Asked::Alone(command) => (NO_SESSION, command),
         };
-        add_session(&mut self.names, asked.name, asked.session)?;
-        let line = ScriptLine {
+        self.lines.push(ScriptLine {
             line: number,
-            session: asked.session,
-            command: asked.command,
-        };
-        self.lines.push(line).map_err(AllocError::from)?;
+            session,
+            command,
+        })?;
         Ok(())
     }
 }
 
 // adds the name of a session whose seat is the next one
 fn add_session(names: &mut Vec<Name>, name: Name, session: Seat) -> Result<(), AllocError>
-    ensures added { OnOk result (length names.old.items < session → names.new.items ≡ names.old.items ++ name ∷ []) }
-    ensures known { OnOk result (session ≤ length names.old.items → names.new.items ≡ names.old.items) }
+    ensures { OnOk result (AddsName name session names.old.items names.new.items) }
 {
     if usize::from(session) <= names.len() {
         return Ok(());

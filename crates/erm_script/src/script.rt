@@ -4,10 +4,10 @@ use erm_model::{Seat, TABLES, Value};
 /// The last table. The first is 0.
 pub const LAST_TABLE: u8 = TABLES - 1;
 
-/// How many sessions a script has at most.
-pub const SESSIONS: usize = 1;
+/// The seat of a line that names no session. Sessions have seats from 1.
+pub const NO_SESSION: Seat = 0;
 
-/// What a line of a script asks of its session.
+/// What a line of a script asks for: of its session, but for `Flush` and `Checkpoint`, whose lines name none.
 #[derive(Drop)]
 pub enum Command {
     /// Begins a transaction.
@@ -18,6 +18,12 @@ pub enum Command {
     Put { table: u8, key: u64, value: Value },
     /// Takes the value of a key away.
     Del { table: u8, key: u64 },
+    /// Finds the least key at or above `from` that has a value.
+    Next { table: u8, from: u64 },
+    /// Finds all keys from `low` to `high`, these two too, that have a value.
+    Scan { table: u8, low: u64, high: u64 },
+    /// Cuts off the versions of a key that nobody can read any more.
+    Tidy { table: u8, key: u64 },
     /// Draws the commit stamp: after this the transaction reads and writes no more.
     Seal,
     /// Decides a sealed transaction.
@@ -26,6 +32,12 @@ pub enum Command {
     Commit,
     /// Gives the transaction up: nothing of it stays.
     Abort,
+    /// Asks whether the session's last commit would outlive a crash.
+    Durable,
+    /// Writes the log, as far as it is decided, to the disk.
+    Flush,
+    /// Writes the database map as of one stamp to the disk, and removes the log before it.
+    Checkpoint,
 }
 
 /// A line of a script.
@@ -33,7 +45,7 @@ pub enum Command {
 pub struct ScriptLine {
     /// Its number, from 1. Skipped lines count.
     pub line: u32,
-    /// The session, by the order of first lines, from 1.
+    /// The session, by the order of first lines, from 1; `NO_SESSION` where the line names none.
     pub session: Seat,
     pub command: Command,
 }

@@ -1,3 +1,4 @@
 pub mod CommandLine
 pub mod Streams
 pub mod Ending
+mod Texts

@@ -1,5 +1,5 @@
 -- How a run of the command `run` ends.
-use Rattle.std.specs.Prelude.{◌≡◌, ℕ, ◌⊎◌, ◌+◌, ◌≤◌, List, [], false, length, Option, Some, IfSome}
+use Rattle.std.specs.Prelude.{◌≡◌, ℕ, ◌⊎◌, ◌+◌, ◌≤◌, List, [], length, Option, Some, IfSome}
 use Rattle.std.specs.Prelude.{String}
 use Rattle.std.specs.declared.alloc.Global.{Global}
 use Rattle.erm_outside.specs.Faults.{Rose}
@@ -9,6 +9,7 @@ use Rattle.erm_script.specs.declared.fault.FaultKind.{FaultKind}
 use Rattle.erm_script.specs.Faults.{IsFirstBadLine}
 use Rattle.erm_report.specs.Texts.{line_text, text_of}
 use Rattle.erm_outside.specs.Sink.{Puts, PutsFront}
+use Rattle.erm_run.specs.Scripts.{one_session}
 use Rattle.erm_top.specs.declared.reading.TheConstants.{SCRIPT_BYTES}
 use Rattle.erm_top.specs.CommandLine.{IsRefused, IsTaken}
 use Rattle.erm_top.specs.Statuses.{AreRunWords, Reports, Prints, TakesAtMost, TakesMore}
@@ -58,7 +59,7 @@ PrintsLine l a = Prints (line_text l) a.written_before a.written_after a.sink_be
 pub record Refused (a : Around) : Type 0 where
   pub number : ℕ
   pub kind : FaultKind
-  pub read : WasReadWith (λ bytes. IsFirstBadLine false bytes number kind) a.left_before a.left_after
+  pub read : WasReadWith (λ bytes. IsFirstBadLine one_session bytes number kind) a.left_before a.left_after
   pub printed : PrintsLine (line.BadLine number kind) a
 
 -- what each status means

@@ -1,17 +1,20 @@
 //! The command `run`.
-ghost use Rattle.std.specs.Prelude.{◌≡◌, ◌≢◌, ℕ, ◌+◌, ◌≤◌, ◌⊎◌, [], false, length, Some, IfOk, IfSome, OnOk, Err};
+ghost use Rattle.std.specs.Prelude.{◌≡◌, ◌≢◌, ℕ, ◌+◌, ◌≤◌, ◌⊎◌, [], length, Some, IfOk, IfSome, OnOk, Err};
 ghost use Rattle.erm_outside.specs.Faults.{Rose};
 ghost use Rattle.erm_script.specs.declared.fault.ScriptFault.{ScriptFault};
 ghost use Rattle.erm_script.specs.Faults.{IsFirstBadLine};
+ghost use Rattle.std.specs.List.{All};
+ghost use Rattle.erm_report.specs.Printable.{FitsTypes};
 ghost use Rattle.erm_report.specs.Texts.{line_text, text_of};
 ghost use Rattle.erm_report.specs.declared.line.Line.TheVariants as line;
+ghost use Rattle.erm_run.specs.Scripts.{one_session};
 ghost use Rattle.erm_top.specs.Outcomes.{HasReport, RunEnds, WasReadWith};
 ghost use Rattle.erm_top.specs.Statuses.{Prints, TakesAtMost, TakesMore};
 
 use crate::reading::{ReadError, SCRIPT_BYTES, read_all};
 use erm_outside::{Sink, Source, put_all};
 use erm_report::{Line, NO_MEMORY, READ_FAULT, TOO_LONG, Text};
-use erm_run::run;
+use erm_run::{one_session, run};
 use erm_script::{ParseError, ScriptFault, parse};
 use std::alloc::{AllocError, Global};
 
@@ -73,7 +76,7 @@ pub fn run_command<S: Source, K: Sink>(alloc: Global, source: &mut S, sink: &mut
 fn report<S: Source>(alloc: Global, source: &mut S) -> Result<Text, Stop>
     ensures report { IfOk result (λ text. WasReadWith (λ bytes. HasReport bytes text) (S.left source.old) (S.left source.new)) }
     ensures bad_line { (fault : ScriptFault) → result ≡ Err (Stop.BadLine fault)
-        → WasReadWith (λ bytes. IsFirstBadLine false bytes fault.line fault.kind) (S.left source.old) (S.left source.new) }
+        → WasReadWith (λ bytes. IsFirstBadLine one_session bytes fault.line fault.kind) (S.left source.old) (S.left source.new) }
     ensures sound { OnOk result (S.faults source.new ≡ S.faults source.old) }
     ensures bad_line_sound { (fault : ScriptFault) → result ≡ Err (Stop.BadLine fault)
         → S.faults source.new ≡ S.faults source.old }
@@ -95,11 +98,11 @@ fn answer(alloc: Global, bytes: &[u8]) -> Result<Text, Stop>
     requires { length bytes.now ≤ SCRIPT_BYTES }
     ensures report { IfOk result (λ text. HasReport bytes.now text) }
     ensures bad_line { (fault : ScriptFault) → result ≡ Err (Stop.BadLine fault)
-        → IsFirstBadLine false bytes.now fault.line fault.kind }
+        → IsFirstBadLine one_session bytes.now fault.line fault.kind }
     ensures no_fault { result ≢ Err Stop.ReadFault }
     ensures not_long { result ≢ Err Stop.TooLong }
 {
-    let script = match parse(alloc, bytes, false) {
+    let script = match parse(alloc, bytes, one_session()) {
         Ok(script) => script,
         Err(ParseError::Memory) => return Err(Stop::Memory),
         Err(ParseError::Fault(fault)) => return Err(Stop::BadLine(fault)),
@@ -110,7 +113,8 @@ fn answer(alloc: Global, bytes: &[u8]) -> Result<Text, Stop>
 
 // The text of lines, one after the other.
 fn report_text(alloc: Global, lines: &[Line]) -> Result<Text, AllocError>
-    ensures { IfOk result (λ text. text ≡ text_of lines.now) }
+    ensures text { IfOk result (λ text. text ≡ text_of lines.now) }
+    ensures fits { OnOk result (All FitsTypes lines.now) }
 {
     let mut text = Text::new(alloc);
     for line in lines {

@@ -1,5 +1,5 @@
 //! The top call.
-ghost use Rattle.std.specs.Prelude.{◌≡◌, ℕ, ◌+◌, ◌≤◌, ◌⊎◌, List, false, length, Some};
+ghost use Rattle.std.specs.Prelude.{◌≡◌, ℕ, ◌+◌, ◌≤◌, ◌⊎◌, List, length, Some};
 ghost use Rattle.erm_outside.specs.Faults.{Rose};
 ghost use Rattle.erm_outside.specs.Sink.{Puts, PutsFront};
 ghost use Rattle.erm_report.specs.Texts.{line_text, text_of};
@@ -9,6 +9,7 @@ ghost use Rattle.erm_script.specs.declared.fault.FaultKind.{FaultKind};
 ghost use Rattle.erm_report.specs.declared.line.Line.TheVariants as line;
 ghost use Rattle.erm_report.specs.declared.line.Line.{Line as PrintedLine};
 ghost use Rattle.erm_script.specs.declared.script.ScriptLine.{ScriptLine as LineOfScript};
+ghost use Rattle.erm_run.specs.Scripts.{one_session};
 ghost use Rattle.erm_top.specs.Statuses.{AreRunWords, Reports, Prints, TakesAtMost, TakesMore, IsStatus};
 ghost use Rattle.erm_top.specs.CommandLine.{IsRefused};
 ghost use Rattle.erm_top.specs.Outcomes.{Ends, WasReadWith};
@@ -76,7 +77,7 @@ pub fn ermia<R: Threads + Wait + Sync, S: Source, K: Sink, D: Disk + Send, G: Ga
     // 3: the source was read to its end, and this is the first line that is not in the grammar, with the first kind of
     // fault that applies to it.
     ensures bad_line { result.status ≡ 3 → (number : ℕ) × (kind : FaultKind)
-        × WasReadWith (λ bytes. IsFirstBadLine false bytes number kind) (S.left source.old) (S.left source.new)
+        × WasReadWith (λ bytes. IsFirstBadLine one_session bytes number kind) (S.left source.old) (S.left source.new)
         × Prints (line_text (line.BadLine number kind))
         (K.written sink.old) (K.written sink.new) (K.faults sink.old) (K.faults sink.new) }
 
@@ -109,7 +110,7 @@ pub fn ermia<R: Threads + Wait + Sync, S: Source, K: Sink, D: Disk + Send, G: Ga
 
     // A script that is not too long is run, unless memory runs out, where nothing fails.
     ensures complete { (bytes : List ℕ) (names : List (List ℕ)) (script : List LineOfScript) → AreRunWords words.now
-        → S.left source.old ≡ Some bytes → length bytes ≤ SCRIPT_BYTES → IsScript bytes names script
+        → S.left source.old ≡ Some bytes → length bytes ≤ SCRIPT_BYTES → IsScript one_session bytes names script
         → (Rose (S.faults source.old) (S.faults source.new) → ⊥) → (Rose (K.faults sink.old) (K.faults sink.new) → ⊥)
         → (result.status ≡ 0) ⊎ (result.status ≡ 8) }
 {

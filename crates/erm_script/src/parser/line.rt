@@ -1,126 +1,191 @@
 //! One line of a script.
-ghost use Rattle.std.specs.Prelude.{◌≡◌, ◌≢◌, ◌∷◌, [], ℕ, ◌≤◌, ◌↔◌, List, length, IsTrue, IfNone, IfSome, IfOk, IfErr, decimal};
-ghost use Rattle.erm_script.specs.Script.{Spells, IsCommand, IsKey, IsValue, command_words};
-ghost use Rattle.erm_script.specs.Faults.{NamesNoSession, IsFirstFault, IsFaultOfCommand, IsFaultOfArguments, arguments_of};
-ghost use Rattle.erm_script.specs.Faults.Argument.{TableArgument, KeyArgument, ValueArgument};
+ghost use Rattle.std.specs.Prelude.{◌≡◌, ◌≢◌, ◌∷◌, [], ℕ, ◌^◌, ◌<◌, ◌≤◌, ◌⊎◌, List, true, false, length, IfNone, IfSome, IfOk, IfErr, decimal};
+ghost use Rattle.erm_script.specs.Keywords.{word_of, names_session, has_command, arguments_of};
+ghost use Rattle.erm_script.specs.Keywords.Argument.{TableArgument, KeyArgument, ValueArgument};
+ghost use Rattle.erm_script.specs.Script.{Spells, SpellsAlone, IsCommand, IsInRange, IsKey, IsValue, keyword_of, given_words};
+ghost use Rattle.erm_script.specs.Faults.{NamesNoSession, IsFirstFault, IsFaultOfCommand, IsFaultOfArguments};
 ghost use Rattle.erm_script.specs.Seats.{IsSeatOf};
 ghost use Rattle.erm_script.specs.Words.{words_of, words_after};
+ghost use Rattle.erm_script.specs.Asked.{Asks};
+ghost use Rattle.erm_script.specs.declared.keyword.Keyword.{Keyword as AnyKeyword};
 ghost use Rattle.erm_model.specs.Spelling.{value_word};
 ghost use Rattle.erm_model.specs.Member.{◌∈◌};
 
 use super::word;
-use crate::{Command, FaultKind, SESSIONS};
+use crate::{Command, FaultKind, Grammar, Keyword};
 use erm_model::{Name, Seat, Value};
 
 /// What a line asks for.
 #[derive(Drop)]
-pub struct Asked {
-    /// The name of its session.
-    pub name: Name,
-    /// The session: its place in the order of first lines, from 1.
-    pub session: Seat,
-    pub command: Command,
+pub enum Asked {
+    /// A command of the session with this name, whose seat is the place of its first line among those of sessions.
+    OfSession {
+        name: Name,
+        seat: Seat,
+        command: Command,
+    },
+    /// A command whose line names no session.
+    Alone(Command),
 }
 
 /// What a line asks for, after lines that named some sessions, or the first kind of fault that applies to it.
-pub fn line(bytes: &[u8], names: &[Name], threads: bool) -> Result<Asked, FaultKind>
-    requires { length names.now ≤ SESSIONS }
-    ensures asked { IfOk result (λ asked.
-        Spells bytes.now asked.name asked.command × IsSeatOf asked.name names.now asked.session) }
-    ensures fault { IfErr result (λ kind. IsFirstFault threads names.now (words_of bytes.now) kind) }
+pub fn line(bytes: &[u8], names: &[Name], grammar: Grammar) -> Result<Asked, FaultKind>
+    requires { length names.now ≤ grammar.sessions }
+    ensures asked { IfOk result (λ a. Asks grammar bytes.now names.now a) }
+    ensures fault { IfErr result (λ kind. IsFirstFault grammar names.now (words_of bytes.now) kind) }
 {
-    if names_no_session(bytes) {
-        return Err(if threads {
-            FaultKind::Threads
-        } else {
-            FaultKind::Command
-        });
+    if let Some(keyword) = lone_keyword(bytes) {
+        let command = alone(keyword, grammar)?;
+        return Ok(Asked::Alone(command));
     }
     let (word, words) = word::first(bytes);
     let Some(name) = word::name(word) else {
         return Err(FaultKind::Name);
     };
-    let Some(session) = seat(&name, names) else {
+    let Some(seat) = seat(&name, names, grammar.sessions) else {
         return Err(FaultKind::Sessions);
     };
-    match command(words) {
-        Ok(command) => Ok(Asked {
+    match command(words, grammar) {
+        Ok(command) => Ok(Asked::OfSession {
             name,
-            session,
+            seat,
             command,
         }),
         Err(kind) => Err(kind),
     }
 }
 
-// whether a line is one of the two that name no session
-fn names_no_session(line: &[u8]) -> bool
-    ensures { IsTrue result ↔ NamesNoSession (words_of line.now) }
+// the command of a line that names no session, if it is one
+fn lone_keyword(line: &[u8]) -> Option<Keyword>
+    ensures other { IfNone result (NamesNoSession (words_of line.now) → ⊥) }
+    ensures alone { IfSome result (λ k. (words_of line.now ≡ word_of k ∷ []) × (names_session k ≡ false)) }
 {
-    line == b"flush".as_slice() || line == b"checkpoint".as_slice()
+    if line == b"flush".as_slice() {
+        Some(Keyword::Flush)
+    } else if line == b"checkpoint".as_slice() {
+        Some(Keyword::Checkpoint)
+    } else {
+        None
+    }
+}
+
+// what a line asks for that is a command's word alone
+fn alone(keyword: Keyword, grammar: Grammar) -> Result<Command, FaultKind>
+    requires unnamed { names_session keyword ≡ false }
+    ensures asked { IfOk result (λ c. (keyword_of c ≡ keyword) × IsCommand grammar c × (grammar.threads ≡ false)) }
+    ensures fault { IfErr result (λ kind. (names words : List (List ℕ)) → words ≡ word_of keyword ∷ [] → IsFirstFault grammar names words kind) }
+{
+    if grammar.threads {
+        return Err(FaultKind::Threads);
+    }
+    if !grammar.has(keyword) {
+        return Err(FaultKind::Command);
+    }
+    match keyword {
+        Keyword::Flush => Ok(Command::Flush),
+        _ => Ok(Command::Checkpoint),
+    }
 }
 
 // the seat of a session, or `None` where it would be one too many
-fn seat(name: &Name, names: &[Name]) -> Option<Seat>
-    requires { length names.now ≤ SESSIONS }
-    ensures seat { IfSome result (λ seat. IsSeatOf name.now names.now seat) }
-    ensures full { IfNone result ((name.now ∈ names.now → ⊥) × (SESSIONS ≤ length names.now)) }
+fn seat(name: &Name, names: &[Name], most: Seat) -> Option<Seat>
+    requires { length names.now ≤ most }
+    ensures seat { IfSome result (λ seat. IsSeatOf most name.now names.now seat) }
+    ensures full { IfNone result ((name.now ∈ names.now → ⊥) × (most ≤ length names.now)) }
 {
     match names.iter().position(|known| *known == *name) {
         Some(index) => Some(index as Seat + 1),
-        None if names.len() < SESSIONS => Some(names.len() as Seat + 1),
+        None if names.len() < usize::from(most) => Some(names.len() as Seat + 1),
         None => None,
     }
 }
 
 // the command that the words behind a session's name spell
-fn command(words: Option<&[u8]>) -> Result<Command, FaultKind>
-    ensures spelled { IfOk result (λ command. IsCommand command × (words_after words.entry ≡ command_words command)) }
-    ensures fault { IfErr result (λ kind. IsFaultOfCommand (words_after words.entry) kind) }
+fn command(words: Option<&[u8]>, grammar: Grammar) -> Result<Command, FaultKind>
+    ensures named { IfOk result (λ c. names_session (keyword_of c) ≡ true) }
+    ensures spelled { IfOk result (λ c. IsCommand grammar c × (words_after words.entry ≡ word_of (keyword_of c) ∷ given_words c)) }
+    ensures fault { IfErr result (λ kind. IsFaultOfCommand grammar (words_after words.entry) kind) }
 {
     let Some(words) = words else {
         return Err(FaultKind::Command);
     };
     let (word, arguments) = word::first(words);
-    if word == b"get".as_slice() {
-        let (table, key) = key(arguments)?;
-        return Ok(Command::Get { table, key });
-    }
-    if word == b"put".as_slice() {
-        let (table, key, value) = pair(arguments)?;
-        return Ok(Command::Put { table, key, value });
-    }
-    if word == b"del".as_slice() {
-        let (table, key) = key(arguments)?;
-        return Ok(Command::Del { table, key });
-    }
-    let Some(command) = bare_command(word) else {
+    let Some(keyword) = session_keyword(word, grammar) else {
         return Err(FaultKind::Command);
     };
-    if arguments.is_some() {
-        return Err(FaultKind::Args);
+    match with_arguments(keyword, arguments) {
+        Ok(command) => Ok(command),
+        Err(kind) => Err(kind),
     }
-    Ok(command)
 }
 
-// the command that is one word, with this word
-fn bare_command(word: &[u8]) -> Option<Command>
-    ensures refused { IfNone result (arguments_of word.now ≢ Some []) }
-    ensures spelled { IfSome result (λ command. IsCommand command × (word.now ∷ [] ≡ command_words command)) }
-    ensures known { IfSome result (λ _. arguments_of word.now ≡ Some []) }
+// the command of sessions that has this word, if there is one
+fn session_keyword(word: &[u8], grammar: Grammar) -> Option<Keyword>
+    ensures other { IfNone result ((k : AnyKeyword) → names_session k ≡ true → has_command grammar k ≡ true → word.now ≢ word_of k) }
+    ensures word { IfSome result (λ k. (word.now ≡ word_of k) × (names_session k ≡ true) × (has_command grammar k ≡ true)) }
 {
-    if word == b"begin".as_slice() {
-        Some(Command::Begin)
-    } else if word == b"seal".as_slice() {
-        Some(Command::Seal)
-    } else if word == b"settle".as_slice() {
-        Some(Command::Settle)
-    } else if word == b"commit".as_slice() {
-        Some(Command::Commit)
-    } else if word == b"abort".as_slice() {
-        Some(Command::Abort)
+    let keyword = Keyword::read(word)?;
+    if keyword.names_session() && grammar.has(keyword) {
+        Some(keyword)
     } else {
         None
+    }
+}
+
+// a command of sessions with its arguments
+fn with_arguments(keyword: Keyword, words: Option<&[u8]>) -> Result<Command, FaultKind>
+    requires named { names_session keyword ≡ true }
+    ensures spelled { IfOk result (λ c. (keyword_of c ≡ keyword) × IsInRange c × (words_after words.entry ≡ given_words c)) }
+    ensures fault { IfErr result (λ kind. IsFaultOfArguments (arguments_of keyword) (words_after words.entry) kind) }
+{
+    match keyword {
+        Keyword::Get => {
+            let (table, key) = key(words)?;
+            Ok(Command::Get { table, key })
+        }
+        Keyword::Put => {
+            let (table, key, value) = pair(words)?;
+            Ok(Command::Put { table, key, value })
+        }
+        Keyword::Del => {
+            let (table, key) = key(words)?;
+            Ok(Command::Del { table, key })
+        }
+        Keyword::Next => {
+            let (table, from) = key(words)?;
+            Ok(Command::Next { table, from })
+        }
+        Keyword::Scan => {
+            let (table, low, high) = range(words)?;
+            Ok(Command::Scan { table, low, high })
+        }
+        Keyword::Tidy => {
+            let (table, key) = key(words)?;
+            Ok(Command::Tidy { table, key })
+        }
+        bare => without_arguments(bare, words),
+    }
+}
+
+// a command that takes no arguments
+fn without_arguments(keyword: Keyword, words: Option<&[u8]>) -> Result<Command, FaultKind>
+    requires bare { arguments_of keyword ≡ [] }
+    ensures spelled { IfOk result (λ c. (keyword_of c ≡ keyword) × IsInRange c × (words_after words.entry ≡ given_words c)) }
+    ensures fault { IfErr result (λ kind. IsFaultOfArguments [] (words_after words.entry) kind) }
+{
+    if words.is_some() {
+        return Err(FaultKind::Args);
+    }
+    match keyword {
+        Keyword::Begin => Ok(Command::Begin),
+        Keyword::Seal => Ok(Command::Seal),
+        Keyword::Settle => Ok(Command::Settle),
+        Keyword::Commit => Ok(Command::Commit),
+        Keyword::Abort => Ok(Command::Abort),
+        Keyword::Durable => Ok(Command::Durable),
+        Keyword::Flush => Ok(Command::Flush),
+        Keyword::Checkpoint => Ok(Command::Checkpoint),
+        _ => unreachable!(),
     }
 }
 
@@ -136,6 +201,25 @@ fn key(words: Option<&[u8]>) -> Result<(u8, u64), FaultKind>
         return Err(FaultKind::Number);
     };
     Ok((table, key))
+}
+
+// a table and two keys
+fn range(words: Option<&[u8]>) -> Result<(u8, u64, u64), FaultKind>
+    ensures spelled { IfOk result (λ r. IsKey r.0 r.1 × (r.2 < 2 ^ 64)
+        × (words_after words.entry ≡ decimal r.0 ∷ decimal r.1 ∷ decimal r.2 ∷ [])) }
+    ensures fault { IfErr result (λ kind.
+        IsFaultOfArguments (TableArgument ∷ KeyArgument ∷ KeyArgument ∷ []) (words_after words.entry) kind) }
+{
+    let Some((table, low, high)) = word::three(words) else {
+        return Err(FaultKind::Args);
+    };
+    let Some((table, low)) = numbers(table, low) else {
+        return Err(FaultKind::Number);
+    };
+    let Some(high) = word::number(high) else {
+        return Err(FaultKind::Number);
+    };
+    Ok((table, low, high))
 }
 
 // a table, a key and a value

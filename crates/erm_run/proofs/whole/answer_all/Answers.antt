@@ -16,7 +16,7 @@ loop-line-preserved c =
     let l = c.line-item.result in
     let a = c.in_ok-answer.answer in
     let longer = take_more script c.loop-line.line-index l c.loop-line-test.true ∙ ap (λ x. front ++ x ∷ []) (sym c.line-item.is) in
-    let one = c.requires.one l (c.loop-line.line-index, slice_get-get_or script c.loop-line.line-index l c.loop-line-test.true ∙ ap (λ x. Some x) (sym c.line-item.is)) in
+    let one = (c.requires.one l (c.loop-line.line-index, slice_get-get_or script c.loop-line.line-index l c.loop-line-test.true ∙ ap (λ x. Some x) (sym c.line-item.is))).0 in
     subst (λ s. Answered s c.args.lines.now.items c.push.new.self.items c.answer.new.self) (sym longer)
     (record {
       answers = told.answers ++ a ∷ [];

@@ -1,0 +1,5 @@
+pub mod Determining
+pub mod Names
+pub mod OneWindow
+pub mod Parts
+pub mod WriteSkew

@@ -1,0 +1,10 @@
+pub mod Causes
+pub mod Determined
+pub mod GoodReport
+pub mod Opening
+pub mod Phases
+pub mod Refusals
+pub mod Stamps
+pub mod Transactions
+pub mod Windows
+pub mod WriteSkew

@@ -1,0 +1,160 @@
+-- Where a session stands after each answer, which answers its phase gives, and which a command may have.
+use Rattle.std.specs.Prelude.{◌≡◌, ℕ, ◌==◌, if◌then◌else◌, Bool, true, false, not, List, map, take, Option, Some, None}
+use Rattle.std.specs.List.{filter, fold, range_with_len, slice_get}
+use Rattle.erm_model.specs.declared.outcome.Phase.{Phase}
+use Rattle.erm_model.specs.declared.outcome.Phase.TheVariants.{Idle, Active, Sealed}
+use Rattle.erm_model.specs.declared.operation.Reply.TheVariants as reply
+use Rattle.erm_model.specs.Member.{◌∈◌}
+use Rattle.erm_report.specs.declared.answer.Answer.{Answer}
+use Rattle.erm_report.specs.declared.answer.Answer.TheVariants as answer
+use Rattle.erm_script.specs.declared.script.Command.{Command}
+use Rattle.erm_script.specs.declared.script.Command.TheVariants as command
+use Rattle.erm_script.specs.declared.script.ScriptLine.{ScriptLine}
+use Rattle.erm_good_report.specs.Transactions.{Said, said_of}
+
+-- whether a line asks for a commit: where it waits, its transaction is sealed
+abbrev pub asks_commit : Option Command → Bool
+asks_commit (Some command.Commit) = true
+asks_commit asked = false
+
+abbrev pub phase_after_wait : Option Command → Phase → Phase
+phase_after_wait asked phase = if asks_commit asked then Sealed else phase
+
+-- a session's phase after one more answer to what was asked
+abbrev pub phase_after : Option Command → Answer → Phase → Phase
+phase_after asked (answer.Began begin) phase = Active
+phase_after asked (answer.Sealed stamp) phase = Sealed
+phase_after asked (answer.WaitSeat seat seen) phase = phase_after_wait asked phase
+phase_after asked (answer.WaitRing flushed) phase = phase_after_wait asked phase
+phase_after asked (answer.Committed stamp succ pred) phase = Idle
+phase_after asked (answer.Excluded stamp succ pred) phase = Idle
+phase_after asked (answer.ExcludedEarly succ pred) phase = Idle
+phase_after asked (answer.Owned seat number) phase = Idle
+phase_after asked (answer.Newer stamp) phase = Idle
+phase_after asked answer.Aborted phase = Idle
+phase_after asked a phase = phase
+
+-- the phase that the answers to a session leave
+abbrev pub phase_of : ℕ → List Said → Phase
+phase_of session said = fold (λ phase s. if s.session == session then phase_after s.asked s.answer phase else phase) Idle said
+
+-- the phase that a command asks for, where it asks for one
+abbrev pub phase_asked : Command → Option Phase
+phase_asked command.Begin = Some Idle
+phase_asked command.Settle = Some Sealed
+phase_asked command.Durable = None
+phase_asked command.Flush = None
+phase_asked command.Checkpoint = None
+phase_asked c = Some Active
+
+-- the refusal that a phase gives to a command that asks for another
+abbrev pub refusal_for : Option Phase → Phase → Option Answer
+refusal_for (Some Idle) Active = Some answer.NotIdle
+refusal_for (Some Idle) Sealed = Some answer.NotIdle
+refusal_for (Some Active) Idle = Some answer.NoTransaction
+refusal_for (Some Active) Sealed = Some answer.IsSealed
+refusal_for (Some Sealed) Idle = Some answer.NotSealed
+refusal_for (Some Sealed) Active = Some answer.NotSealed
+refusal_for asked phase = None
+
+abbrev pub refusal_of : Phase → Command → Option Answer
+refusal_of phase c = refusal_for (phase_asked c) phase
+
+-- an answer, where it is a refusal by a phase
+abbrev pub refusal_in : Answer → Option Answer
+refusal_in answer.NotIdle = Some answer.NotIdle
+refusal_in answer.NoTransaction = Some answer.NoTransaction
+refusal_in answer.IsSealed = Some answer.IsSealed
+refusal_in answer.NotSealed = Some answer.NotSealed
+refusal_in a = None
+
+-- the refusals that a read of the tree may have; that a claim may have besides
+abbrev pub IsReadStop : Answer → Type 0
+IsReadStop (answer.WaitSeat seat seen) = Unit {0}
+IsReadStop answer.ReadsFull = Unit {0}
+IsReadStop (answer.ExcludedEarly succ pred) = Unit {0}
+IsReadStop a = ⊥
+
+abbrev pub IsClaimStop : Answer → Type 0
+IsClaimStop (answer.Owned seat number) = Unit {0}
+IsClaimStop (answer.Newer stamp) = Unit {0}
+IsClaimStop answer.WritesFull = Unit {0}
+IsClaimStop (answer.CellsFull drawn) = Unit {0}
+IsClaimStop a = IsReadStop a
+
+-- the answers to a sealed transaction that is to be decided
+abbrev pub IsOutcome : Answer → Type 0
+IsOutcome (answer.Committed stamp succ pred) = Unit {0}
+IsOutcome (answer.Excluded stamp succ pred) = Unit {0}
+IsOutcome (answer.WaitSeat seat seen) = Unit {0}
+IsOutcome (answer.WaitRing flushed) = Unit {0}
+IsOutcome a = ⊥
+
+-- the answers that a command may have besides the refusals by a phase
+abbrev pub IsAnswerTo : Command → Answer → Type 0
+IsAnswerTo command.Begin (answer.Began begin) = Unit {0}
+IsAnswerTo command.Begin (answer.LogEnd tail) = Unit {0}
+IsAnswerTo command.Begin answer.NumbersEnd = Unit {0}
+IsAnswerTo (command.Get table key) (answer.Replied (reply.Value value)) = Unit {0}
+IsAnswerTo (command.Get table key) a = IsReadStop a
+IsAnswerTo (command.Put table key value) (answer.Replied reply.Done) = Unit {0}
+IsAnswerTo (command.Put table key value) (answer.OidsFull drawn) = Unit {0}
+IsAnswerTo (command.Put table key value) a = IsClaimStop a
+IsAnswerTo (command.Del table key) (answer.Replied reply.Done) = Unit {0}
+IsAnswerTo (command.Del table key) a = IsClaimStop a
+IsAnswerTo (command.Next table from) (answer.Replied (reply.Pair found)) = Unit {0}
+IsAnswerTo (command.Next table from) a = IsReadStop a
+IsAnswerTo (command.Scan table low high) (answer.Replied (reply.Found found)) = Unit {0}
+IsAnswerTo (command.Scan table low high) a = IsReadStop a
+IsAnswerTo (command.Tidy table key) (answer.Cut cells) = Unit {0}
+IsAnswerTo (command.Tidy table key) a = IsClaimStop a
+IsAnswerTo command.Seal (answer.Sealed stamp) = Unit {0}
+IsAnswerTo command.Settle a = IsOutcome a
+IsAnswerTo command.Commit a = IsOutcome a
+IsAnswerTo command.Abort answer.Aborted = Unit {0}
+IsAnswerTo command.Durable (answer.Durable stamp) = Unit {0}
+IsAnswerTo command.Durable (answer.NotFlushed flushed) = Unit {0}
+IsAnswerTo command.Durable answer.NoReceipt = Unit {0}
+IsAnswerTo command.Flush (answer.Flushed flushed) = Unit {0}
+IsAnswerTo command.Flush (answer.Empty flushed) = Unit {0}
+IsAnswerTo command.Flush (answer.Unfilled flushed) = Unit {0}
+IsAnswerTo command.Checkpoint (answer.Checkpointed stamp) = Unit {0}
+IsAnswerTo command.Checkpoint (answer.Unfilled flushed) = Unit {0}
+IsAnswerTo c a = ⊥
+
+-- An answer fits the phase: it is the phase's refusal exactly where the phase refuses the command, and else one that the command may
+-- have.
+abbrev pub FitsRefusal : Option Answer → Command → Answer → Type 0
+FitsRefusal (Some refusal) c a = a ≡ refusal
+FitsRefusal None c a = IsAnswerTo c a
+
+abbrev pub FitsPhase : Phase → Command → Answer → Type 0
+FitsPhase phase c a = FitsRefusal (refusal_of phase c) c a
+
+-- the answer that closes a session in this phase
+abbrev pub Closes : Phase → Answer → Type 0
+Closes Active answer.Aborted = Unit {0}
+Closes Sealed (answer.Committed stamp succ pred) = Unit {0}
+Closes Sealed (answer.Excluded stamp succ pred) = Unit {0}
+Closes phase a = ⊥
+
+-- whether a phase is Idle
+abbrev pub is_idle : Phase → Bool
+is_idle Idle = true
+is_idle Active = false
+is_idle Sealed = false
+
+-- a session that was closed at the end
+pub record Closed : Type 0 where
+  pub session : ℕ
+  pub answer : Answer
+
+-- each of the first lines of the script has an answer, which fits the phase that its session's earlier answers leave
+pub record PhasesAgree (script : List ScriptLine) (answers : List Answer) : Type 0 where
+  pub fits : (i : ℕ) (l : ScriptLine) (a : Answer) → slice_get script i ≡ Some l → slice_get answers i ≡ Some a
+      → FitsPhase (phase_of l.session (take i (said_of script answers))) l.command a
+
+-- just the sessions that are not idle after the last line are closed, by seat
+pub record ClosesAgree (sessions : ℕ) (said : List Said) (closed : List Closed) : Type 0 where
+  pub each : map (λ c. c.session) closed ≡ filter (λ s. not (is_idle (phase_of s said))) (range_with_len 1 sessions)
+  pub fits : (c : Closed) → c ∈ closed → Closes (phase_of c.session said) c.answer

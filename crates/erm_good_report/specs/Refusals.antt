@@ -1,0 +1,236 @@
+-- The causes that a report shows of the answers that refuse, or that tell of the log.
+use Rattle.std.specs.Prelude.{◌≡◌, ◌≢◌, ℕ, ◌+◌, ◌*◌, ◌<◌, ◌≤◌, ◌⊎◌, min, List, sum_by, take, Option, Some, None, IfSome}
+use Rattle.std.specs.List.{fold, slice_get}
+use Rattle.std.specs.Option.{option_map_or}
+use Rattle.erm_model.specs.declared.limits.TheConstants.{GREATEST_BLOCK, LEAST_BLOCK, OID_LIMIT, PUT_OBJECTS, PUT_ROWS, READ_LIMIT, RING_WORDS, STOP, TABLES, TABLE_CELLS, WRITE_LIMIT}
+use Rattle.erm_model.specs.declared.outcome.Phase.TheVariants.{Sealed}
+use Rattle.erm_model.specs.Member.{◌∈◌}
+use Rattle.erm_report.specs.declared.answer.Answer.{Answer}
+use Rattle.erm_report.specs.declared.answer.Answer.TheVariants as answer
+use Rattle.erm_script.specs.declared.script.Command.{Command}
+use Rattle.erm_script.specs.declared.script.Command.TheVariants as command
+use Rattle.erm_script.specs.declared.script.ScriptLine.{ScriptLine}
+use Rattle.erm_good_report.specs.Causes.{HasNoWindow, NamesTable, WritesTable}
+use Rattle.erm_good_report.specs.Opening.{Mode, InTurn, AtOnce, Opening}
+use Rattle.erm_good_report.specs.Phases.{phase_of}
+use Rattle.erm_good_report.specs.Transactions.{Said, said_of, Ending, Commits, Transaction, progress_of, stamp_of, stamp_of_ending, table_of, with_line}
+
+-- how many objects a command makes at most, and how many it claims at most
+abbrev pub makes_of : Command → ℕ
+makes_of (command.Put table key value) = PUT_OBJECTS
+makes_of c = 0
+
+abbrev pub claims_of : Command → ℕ
+claims_of (command.Put table key value) = PUT_ROWS
+claims_of (command.Del table key) = 1
+claims_of (command.Tidy table key) = 1
+claims_of c = 0
+
+-- how many ranges of the log a command draws at most
+abbrev pub draws_of : Command → ℕ
+draws_of command.Seal = 1
+draws_of command.Commit = 1
+draws_of c = 0
+
+-- what the lines of a script add up to
+abbrev pub total_of : (Command → ℕ) → List ScriptLine → ℕ
+total_of count lines = sum_by (λ l. count l.command) lines
+
+-- A moment of a report: how the lines were run and from what, the lines of the script that may have been run by then, with this one; all
+-- sessions' places before this line, the transactions of the whole report, and the line's session.
+pub record Moment : Type 0 where
+  pub mode : Mode
+  pub opening : Opening
+  pub lines : List ScriptLine
+  pub before : List Said
+  pub all : List Transaction
+  pub session : ℕ
+
+-- the transaction of this session that isn't over, as the lines before have it
+abbrev pub current_of : Moment → ℕ → Option Transaction
+current_of m session = (progress_of session m.before).current
+
+-- the own one, with this line
+abbrev pub IsOwn : Moment → Command → Answer → Transaction → Type 0
+IsOwn m c a t = (u : Transaction) × (current_of m m.session ≡ Some u) × (t ≡ with_line (Some c) a u)
+
+-- The stamp of a transaction may be this one: it is the one that the whole report tells of it, if it tells one.
+abbrev pub MayHaveStamp : Moment → Transaction → ℕ → Type 0
+MayHaveStamp m t stamp = (u : Transaction) → u ∈ m.all → u.session ≡ t.session → u.number ≡ t.number → IfSome (stamp_of u) (λ told. told ≡ stamp)
+
+-- that session's transaction is sealed and not decided, with this stamp
+pub record IsSealedWith (m : Moment) (session stamp : ℕ) (t : Transaction) : Type 0 where
+  pub current : current_of m session ≡ Some t
+  pub sealed : phase_of session m.before ≡ Sealed
+  pub stamp_is : MayHaveStamp m t stamp
+
+-- a stamp was drawn by then: it is that of a transaction that is over, or of one that isn't decided
+abbrev pub WasDrawn : Moment → ℕ → Type 0
+WasDrawn m stamp = (session : ℕ) × (t : Transaction)
+    × (((t ∈ (progress_of session m.before).over) × (stamp_of_ending t.ending ≡ Some stamp))
+    ⊎ ((current_of m session ≡ Some t) × (phase_of session m.before ≡ Sealed) × ((u : Transaction) × (u ∈ m.all) × (u.session ≡ t.session) × (u.number ≡ t.number) × (stamp_of u ≡ Some stamp))))
+
+-- all stamps drawn by then are below this
+abbrev pub IsAboveAll : Moment → ℕ → Type 0
+IsAboveAll m bound = (stamp : ℕ) → WasDrawn m stamp → stamp < bound
+
+-- a transaction that isn't decided has a stamp that the report tells
+pub record IsUndecidedAt (m : Moment) (stamp : ℕ) : Type 0 where
+  pub session : ℕ
+  pub transaction : Transaction
+  pub sealed : IsSealedWith m session stamp transaction
+  pub whole : Transaction
+  pub of : whole ∈ m.all
+  pub same : (whole.session ≡ transaction.session) × (whole.number ≡ transaction.number)
+  pub told : stamp_of whole ≡ Some stamp
+
+-- this is the least stamp of those that are sealed and not decided
+pub record IsLeastUndecided (m : Moment) (stamp : ℕ) : Type 0 where
+  pub session : ℕ
+  pub transaction : Transaction
+  pub sealed : IsSealedWith m session stamp transaction
+  pub least : (other : ℕ) → IsUndecidedAt m other → stamp ≤ other
+
+abbrev pub NoneIsSealed : Moment → Type 0
+NoneIsSealed m = (session : ℕ) → phase_of session m.before ≢ Sealed
+
+-- the place below which all is synced, as the last answer to a flush or a checkpoint told
+abbrev pub flushed_told : ℕ → Answer → ℕ
+flushed_told flushed (answer.Flushed place) = place
+flushed_told flushed (answer.Empty place) = place
+flushed_told flushed (answer.Unfilled place) = place
+flushed_told flushed (answer.Checkpointed place) = place
+flushed_told flushed a = flushed
+
+abbrev pub flushed_at : Moment → ℕ
+flushed_at m = fold (λ flushed s. flushed_told flushed s.answer) (m.opening.stamp + LEAST_BLOCK) m.before
+
+-- the most words of a transaction's block
+abbrev pub most_words : Transaction → ℕ
+most_words t = LEAST_BLOCK + 17 * min WRITE_LIMIT (sum_by (λ e. claims_of e.asked) t.lines)
+
+-- A get, put, del, next, scan or tidy waits for a session that is sealed below the begin and has a line that writes in its table.
+pub record WaitsToRead (m : Moment) (c : Command) (t : Transaction) (seat seen : ℕ) : Type 0 where
+  pub another : seat ≢ m.session
+  pub other : Transaction
+  pub sealed : IsSealedWith m seat seen other
+  pub below : seen < t.begin
+  pub table : ℕ
+  pub named : table_of c ≡ Some table
+  pub writes : WritesTable other table
+
+-- A settle or a commit waits for a session that is sealed below the own stamp, and has a line of a table in which this one has a line.
+pub record WaitsToSettle (m : Moment) (t : Transaction) (seat seen : ℕ) : Type 0 where
+  pub another : seat ≢ m.session
+  pub other : Transaction
+  pub sealed : IsSealedWith m seat seen other
+  pub own : ℕ
+  pub own_is : MayHaveStamp m t own
+  pub below : seen < own
+  pub table : ℕ
+  pub line : NamesTable other table
+  pub mine : NamesTable t table
+
+abbrev pub HasWaitCause : Moment → Command → Transaction → ℕ → ℕ → Type 0
+HasWaitCause m command.Settle t seat seen = WaitsToSettle m t seat seen
+HasWaitCause m command.Commit t seat seen = WaitsToSettle m t seat seen
+HasWaitCause m c t seat seen = WaitsToRead m c t seat seen
+
+-- the ring has no room for the block
+pub record WaitsForRing (m : Moment) (t : Transaction) (flushed : ℕ) : Type 0 where
+  pub flushed_is : flushed ≡ flushed_at m
+  pub own : ℕ
+  pub own_is : MayHaveStamp m t own
+  pub full : flushed + RING_WORDS < own + most_words t
+
+-- another session's transaction of this number, which has a line that writes in this table; where lines are run in turn it isn't over
+abbrev pub IsInProgress : Mode → Moment → ℕ → Transaction → Type 0
+IsInProgress InTurn m seat t = current_of m seat ≡ Some t
+IsInProgress AtOnce m seat t = t ∈ m.all
+
+pub record IsOwnedBy (m : Moment) (c : Command) (seat number : ℕ) : Type 0 where
+  pub another : seat ≢ m.session
+  pub other : Transaction
+  pub in_progress : IsInProgress m.mode m seat other
+  pub name : (other.session ≡ seat) × (other.number ≡ number)
+  pub table : ℕ
+  pub named : table_of c ≡ Some table
+  pub writes : WritesTable other table
+
+-- another session's commit with this stamp, at or above the begin, has a line that writes in this table
+pub record IsNewerBy (m : Moment) (c : Command) (t : Transaction) (stamp : ℕ) : Type 0 where
+  pub by : Transaction
+  pub of : by ∈ m.all
+  pub another : by.session ≢ m.session
+  pub succ : ℕ
+  pub pred : ℕ
+  pub commits : by.ending ≡ Commits stamp succ pred
+  pub above : t.begin ≤ stamp
+  pub table : ℕ
+  pub named : table_of c ≡ Some table
+  pub writes : WritesTable by table
+
+-- the stamp of a session's last commit, as the lines before have it
+abbrev pub stamp_committed : Ending → Option ℕ
+stamp_committed (Commits stamp succ pred) = Some stamp
+stamp_committed ending = None
+
+abbrev pub last_commit : Moment → Option ℕ
+last_commit m = fold (λ last t. option_map_or (λ stamp. Some stamp) (stamp_committed t.ending) last) None (progress_of m.session m.before).over
+
+-- The cause of an answer to a line of a transaction, which is this one with the line.
+abbrev pub HasRefusalCause : Moment → Command → Transaction → Answer → Type 0
+HasRefusalCause m c t (answer.WaitSeat seat seen) = (m.mode ≡ InTurn) × HasWaitCause m c t seat seen
+HasRefusalCause m c t (answer.WaitRing flushed) = (m.mode ≡ InTurn) × WaitsForRing m t flushed
+HasRefusalCause m c t (answer.Owned seat number) = IsOwnedBy m c seat number
+HasRefusalCause m c t (answer.Newer stamp) = IsNewerBy m c t stamp
+HasRefusalCause m c t (answer.ExcludedEarly succ pred) = HasNoWindow m.all t None succ pred
+HasRefusalCause m c t answer.ReadsFull = READ_LIMIT < TABLES + m.opening.rows + total_of makes_of m.lines
+HasRefusalCause m c t answer.WritesFull = WRITE_LIMIT < sum_by (λ e. claims_of e.asked) t.lines
+HasRefusalCause m c t (answer.CellsFull drawn) = (TABLE_CELLS ≤ drawn) × (TABLE_CELLS < OID_LIMIT + total_of claims_of m.lines)
+HasRefusalCause m c t (answer.OidsFull drawn) = (OID_LIMIT ≤ drawn) × (OID_LIMIT < m.opening.first + total_of makes_of m.lines)
+HasRefusalCause m c t a = Unit {0}
+
+-- The cause of an answer to a line that needs no transaction.
+abbrev pub HasLogCause : Moment → Answer → Type 0
+HasLogCause m (answer.LogEnd tail) = (STOP ≤ tail) × (tail ≤ m.opening.stamp + LEAST_BLOCK + GREATEST_BLOCK * total_of draws_of m.lines)
+HasLogCause m answer.NumbersEnd = ⊥
+HasLogCause m (answer.Durable stamp) = (last_commit m ≡ Some stamp) × (m.mode ≡ InTurn → stamp < flushed_at m)
+HasLogCause m (answer.NotFlushed flushed) = (m.mode ≡ InTurn) × (flushed ≡ flushed_at m) × ((stamp : ℕ) × (last_commit m ≡ Some stamp) × (flushed ≤ stamp))
+HasLogCause m answer.NoReceipt = last_commit m ≡ None
+HasLogCause m (answer.Flushed place) = (flushed_at m < place) × (IsLeastUndecided m place ⊎ (NoneIsSealed m × IsAboveAll m place))
+HasLogCause m (answer.Empty place) = (place ≡ flushed_at m) × IsAboveAll m place
+HasLogCause m (answer.Checkpointed place) = IsAboveAll m place
+HasLogCause m a = Unit {0}
+
+-- a flush or a checkpoint that comes to a block that isn't decided
+abbrev pub HasUnfilledCause : Moment → Command → Answer → Type 0
+HasUnfilledCause m command.Flush (answer.Unfilled place) = (place ≡ flushed_at m) × IsLeastUndecided m place
+HasUnfilledCause m command.Checkpoint (answer.Unfilled place) = IsLeastUndecided m place
+HasUnfilledCause m c a = Unit {0}
+
+-- the cause of an answer
+pub record HasCause (m : Moment) (c : Command) (a : Answer) : Type 0 where
+  pub own : (t : Transaction) → IsOwn m c a t → HasRefusalCause m c t a
+  pub log : HasLogCause m a
+  pub unfilled : HasUnfilledCause m c a
+
+-- the lines that may have been run before an answer: where lines are run in turn those up to its own, else all
+abbrev pub lines_by : Mode → ℕ → List ScriptLine → List ScriptLine
+lines_by InTurn i script = take (i + 1) script
+lines_by AtOnce i script = script
+
+abbrev pub moment_at : Mode → Opening → List ScriptLine → List Answer → List Transaction → ℕ → ScriptLine → Moment
+moment_at mode opening script answers all i l = record {
+  mode = mode;
+  opening = opening;
+  lines = lines_by mode i script;
+  before = take i (said_of script answers);
+  all = all;
+  session = l.session;
+}
+
+-- Refusal causes: each answer has its cause.
+pub record HasCauses (mode : Mode) (opening : Opening) (script : List ScriptLine) (answers : List Answer) (all : List Transaction) : Type 0 where
+  pub each : (i : ℕ) (l : ScriptLine) (a : Answer) → slice_get script i ≡ Some l → slice_get answers i ≡ Some a
+      → HasCause (moment_at mode opening script answers all i l) l.command a

@@ -1,0 +1,170 @@
+-- The transactions that a report speaks of, read off the script's lines and their answers alone.
+use Rattle.std.specs.Prelude.{ℕ, ◌+◌, ◌==◌, Bool, true, false, if◌then◌else◌, List, [], ◌∷◌, ◌++◌, length, Option, Some, None}
+use Rattle.std.specs.List.{filter_map, flat_map, fold, range_with_len}
+use Rattle.std.specs.Option.{option_and_then, option_map, option_to_list}
+use Rattle.erm_model.specs.declared.operation.Op.{Op}
+use Rattle.erm_model.specs.declared.operation.Op.TheVariants as op
+use Rattle.erm_model.specs.declared.operation.Reply.{Reply}
+use Rattle.erm_model.specs.Run.{Step}
+use Rattle.erm_model.specs.Committed.{Committed}
+use Rattle.erm_report.specs.declared.answer.Answer.{Answer}
+use Rattle.erm_report.specs.declared.answer.Answer.TheVariants as answer
+use Rattle.erm_script.specs.declared.script.Command.{Command}
+use Rattle.erm_script.specs.declared.script.Command.TheVariants as command
+use Rattle.erm_script.specs.declared.script.ScriptLine.{ScriptLine}
+
+-- one place of a report: the session, or 0 for a line that names none; what its line asked for, or none where a session was closed
+-- at the end; and what was answered
+pub record Said : Type 0 where
+  pub session : ℕ
+  pub asked : Option Command
+  pub answer : Answer
+
+-- the lines of a script beside their answers
+abbrev pub said_of : List ScriptLine → List Answer → List Said
+said_of [] answers = []
+said_of (l ∷ ls) [] = []
+said_of (l ∷ ls) (a ∷ answers) = record { session = l.session; asked = Some l.command; answer = a } ∷ said_of ls answers
+
+-- the operation that a command asks for
+abbrev pub op_of : Command → Option Op
+op_of (command.Get table key) = Some (op.Get table key)
+op_of (command.Put table key value) = Some (op.Put table key value)
+op_of (command.Del table key) = Some (op.Del table key)
+op_of (command.Next table from) = Some (op.Next table from)
+op_of (command.Scan table low high) = Some (op.Scan table low high)
+op_of c = None
+
+-- the reply that an answer is, where it is one to an operation
+abbrev pub reply_in : Answer → Option Reply
+reply_in (answer.Replied r) = Some r
+reply_in a = None
+
+-- the table that a command names
+abbrev pub table_of : Command → Option ℕ
+table_of (command.Get table key) = Some table
+table_of (command.Put table key value) = Some table
+table_of (command.Del table key) = Some table
+table_of (command.Next table from) = Some table
+table_of (command.Scan table low high) = Some table
+table_of (command.Tidy table key) = Some table
+table_of c = None
+
+-- whether it writes there: a tidy claims what it tidies, and so counts as one that does
+abbrev pub is_writer : Command → Bool
+is_writer (command.Put table key value) = true
+is_writer (command.Del table key) = true
+is_writer (command.Tidy table key) = true
+is_writer c = false
+
+-- a line of a transaction that names a table, with its answer
+pub record Exchange : Type 0 where
+  pub asked : Command
+  pub answer : Answer
+
+-- how a transaction ended; one that was excluded before its seal has no commit stamp
+pub data Ending : Type 0 where
+  Unfinished : Ending
+  Commits : (stamp succ pred : ℕ) → Ending
+  Excludes : (stamp : Option ℕ) (succ pred : ℕ) → Ending
+  Aborts : Ending
+
+-- a transaction: its session and number, its begin stamp, its lines that name a table, its commit stamp where a line told that it was
+-- sealed, and how it ended
+pub record Transaction : Type 0 where
+  pub session : ℕ
+  pub number : ℕ
+  pub begin : ℕ
+  pub lines : List Exchange
+  pub sealed : Option ℕ
+  pub ending : Ending
+
+-- an operation that was answered, with its reply
+abbrev pub step_of : Exchange → Option Step
+step_of e = option_and_then (λ op. option_map (λ reply. record { op = op; reply = reply }) (reply_in e.answer)) (op_of e.asked)
+
+-- a transaction's operations that were answered, with their replies
+abbrev pub steps_of : Transaction → List Step
+steps_of t = filter_map step_of t.lines
+
+-- a session's transactions: those that are over, in turn, and the one that is not
+pub record Progress : Type 0 where
+  pub over : List Transaction
+  pub current : Option Transaction
+
+-- no transaction yet
+abbrev pub nothing : Progress
+nothing = record { over = []; current = None }
+
+-- the session's next transaction, with this begin stamp
+abbrev pub begun : ℕ → ℕ → Progress → Transaction
+begun session begin p = record { session = session; number = length p.over + 1; begin = begin; lines = []; sealed = None; ending = Unfinished }
+
+-- a transaction after one more of its lines that name a table
+abbrev pub with_line : Option Command → Answer → Transaction → Transaction
+with_line asked a t = record t { lines = t.lines ++ option_to_list (option_and_then (λ c. option_map (λ table. record { asked = c; answer = a }) (table_of c)) asked) }
+
+-- a transaction that was sealed, and one that has ended
+abbrev pub with_seal : ℕ → Transaction → Transaction
+with_seal stamp t = record t { sealed = Some stamp }
+
+abbrev pub with_ending : Ending → Transaction → Transaction
+with_ending ending t = record t { ending = ending }
+
+-- the current transaction gets this line; it is over
+abbrev pub goes_on : Option Command → Answer → Progress → Progress
+goes_on asked a p = record p { current = option_map (with_line asked a) p.current }
+
+abbrev pub ended : Ending → Progress → Progress
+ended ending p = record { over = p.over ++ option_to_list (option_map (with_ending ending) p.current); current = None }
+
+-- A session's transactions after one more answer. A begin opens the next. A line that was answered, or refused otherwise than by
+-- the session's phase, is a line of the current one, also where the refusal ends it. One that the phase refused is none.
+abbrev pub heard : ℕ → Option Command → Answer → Progress → Progress
+heard session asked (answer.Began begin) p = record p { current = Some (begun session begin p) }
+heard session asked (answer.Sealed stamp) p = record p { current = option_map (with_seal stamp) p.current }
+heard session asked (answer.Committed stamp succ pred) p = ended (Commits stamp succ pred) p
+heard session asked (answer.Excluded stamp succ pred) p = ended (Excludes (Some stamp) succ pred) p
+heard session asked (answer.ExcludedEarly succ pred) p = ended (Excludes None succ pred) (goes_on asked (answer.ExcludedEarly succ pred) p)
+heard session asked (answer.Owned seat number) p = ended Aborts (goes_on asked (answer.Owned seat number) p)
+heard session asked (answer.Newer stamp) p = ended Aborts (goes_on asked (answer.Newer stamp) p)
+heard session asked answer.Aborted p = ended Aborts p
+heard session asked answer.NotIdle p = p
+heard session asked answer.NoTransaction p = p
+heard session asked answer.IsSealed p = p
+heard session asked answer.NotSealed p = p
+heard session asked a p = goes_on asked a p
+
+-- a session's transactions, as its own places of the report have them
+abbrev pub progress_of : ℕ → List Said → Progress
+progress_of session said = fold (λ p s. if s.session == session then heard session s.asked s.answer p else p) nothing said
+
+-- all transactions of some sessions
+abbrev pub transactions_of : ℕ → List Said → List Transaction
+transactions_of sessions said = flat_map (λ session. (progress_of session said).over ++ option_to_list (progress_of session said).current) (range_with_len 1 sessions)
+
+-- a transaction that committed
+abbrev pub committed_as : Ending → Transaction → Option Committed
+committed_as (Commits stamp succ pred) t = Some (record { session = t.session; number = t.number; begin = t.begin; stamp = stamp; succ = succ; pred = pred; steps = steps_of t })
+committed_as ending t = None
+
+abbrev pub committed_of : Transaction → Option Committed
+committed_of t = committed_as t.ending t
+
+-- the history: the transactions printed committed
+abbrev pub history_of : List Transaction → List Committed
+history_of transactions = filter_map committed_of transactions
+
+-- the commit stamp that an ending tells
+abbrev pub stamp_of_ending : Ending → Option ℕ
+stamp_of_ending (Commits stamp succ pred) = Some stamp
+stamp_of_ending (Excludes stamp succ pred) = stamp
+stamp_of_ending ending = None
+
+-- the commit stamp of a transaction, from its outcome or else its seal, where the report tells it
+abbrev pub stamp_of : Transaction → Option ℕ
+stamp_of t = stamp_or t.sealed (stamp_of_ending t.ending)
+  where
+    stamp_or : Option ℕ → Option ℕ → Option ℕ
+    stamp_or sealed None = sealed
+    stamp_or sealed (Some stamp) = Some stamp

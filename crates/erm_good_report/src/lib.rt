@@ -1,0 +1,7 @@
+//! What a report owes to its script, for any number of sessions: definitions, apart from every program that reads the one or
+//! writes the other, and their laws.
+#![tactic(auto)]
+
+mod laws;
+
+pub use laws::{reports_are_determined, write_skew_is_excluded};

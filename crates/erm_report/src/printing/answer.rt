@@ -1,0 +1,151 @@
+//! The words of answers.
+#![tactic(auto, using(crate::proofs::Fronts::take_front))]
+
+ghost use Rattle.std.specs.Prelude.{◌≡◌, ◌++◌, ◌∷◌, ◌^◌, ◌<◌, OnOk, OnErr, codes, decimal, length, take};
+ghost use Rattle.std.specs.List.{All, flat_map};
+ghost use Rattle.erm_model.specs.Spelling.{value_word};
+ghost use Rattle.erm_report.specs.Leads.{lead};
+ghost use Rattle.erm_report.specs.Printable.{FitsAnswer, FitsFound};
+ghost use Rattle.erm_report.specs.Texts.{answer_text, found_text};
+
+use super::part::{push_count, push_stamps, push_value};
+use crate::Answer;
+use erm_model::{Pairs, Reply, Value};
+use std::alloc::AllocError;
+
+/// Adds an answer, after a space.
+pub fn push_answer(out: &mut Vec<u8>, answer: &Answer) -> Result<(), AllocError>
+    ensures ok { OnOk result (out.new.items ≡ out.old.items ++ 32 ∷ answer_text answer.now) }
+    ensures fits { OnOk result (FitsAnswer answer.now) }
+    ensures front { OnErr result (take (length out.old.items) out.new.items ≡ out.old.items) }
+{
+    out.extend_from_slice(b" ")?;
+    push_told(out, lead(answer), answer)
+}
+
+// the words of an answer up to its first number or value
+fn lead(answer: &Answer) -> &'static [u8]
+    ensures { result.now ≡ lead answer.now }
+{
+    match answer {
+        Answer::Began(_) => b"begin ",
+        Answer::Replied(Reply::Value(Some(_))) => b"value ",
+        Answer::Replied(Reply::Value(None) | Reply::Pair(None)) => b"none",
+        Answer::Replied(Reply::Done) => b"ok",
+        Answer::Replied(Reply::Pair(Some(_))) => b"pair ",
+        Answer::Replied(Reply::Found(_)) => b"pairs ",
+        Answer::Cut(_) => b"cut ",
+        Answer::Sealed(_) => b"sealed ",
+        Answer::Committed { .. } => b"committed ",
+        Answer::Excluded { .. } => b"excluded at ",
+        Answer::Aborted => b"aborted",
+        Answer::Durable(_) => b"durable ",
+        Answer::Flushed(_) => b"flushed ",
+        Answer::Empty(_) => b"empty ",
+        Answer::Checkpointed(_) => b"checkpoint ",
+        Answer::NotIdle => b"not idle",
+        Answer::NoTransaction => b"no transaction",
+        Answer::IsSealed => b"is sealed",
+        Answer::NotSealed => b"not sealed",
+        Answer::LogEnd { .. } => b"log end ",
+        Answer::NumbersEnd => b"numbers end",
+        Answer::WaitSeat { .. } => b"wait ",
+        Answer::WaitRing { .. } => b"wait ring ",
+        Answer::Owned { .. } => b"owned ",
+        Answer::Newer { .. } => b"newer ",
+        Answer::ExcludedEarly { .. } => b"excluded succ ",
+        Answer::ReadsFull => b"reads full",
+        Answer::WritesFull => b"writes full",
+        Answer::CellsFull { .. } => b"cells full ",
+        Answer::OidsFull { .. } => b"oids full ",
+        Answer::NotFlushed { .. } => b"not flushed ",
+        Answer::NoReceipt => b"no receipt",
+        Answer::Unfilled(_) => b"unfilled ",
+        Answer::DiskFault => b"disk fault",
+    }
+}
+
+// an answer, of which the words up to its first number or value are known
+fn push_told(out: &mut Vec<u8>, words: &[u8], answer: &Answer) -> Result<(), AllocError>
+    requires { words.now ≡ lead answer.now }
+    ensures ok { OnOk result (out.new.items ≡ out.old.items ++ answer_text answer.now) }
+    ensures fits { OnOk result (FitsAnswer answer.now) }
+    ensures front { OnErr result (take (length out.old.items) out.new.items ≡ out.old.items) }
+{
+    match answer {
+        Answer::Began(stamp)
+        | Answer::Sealed(stamp)
+        | Answer::Durable(stamp)
+        | Answer::Flushed(stamp)
+        | Answer::Empty(stamp)
+        | Answer::Checkpointed(stamp)
+        | Answer::LogEnd { tail: stamp }
+        | Answer::WaitRing { flushed: stamp }
+        | Answer::Newer { stamp }
+        | Answer::NotFlushed { flushed: stamp }
+        | Answer::Unfilled(stamp) => push_count(out, words, *stamp),
+        Answer::CellsFull { drawn } | Answer::OidsFull { drawn } => push_count(out, words, *drawn),
+        Answer::Cut(count) => push_count(out, words, u64::from(*count)),
+        Answer::Replied(Reply::Value(Some(value))) => push_value(out, words, value),
+        Answer::Replied(Reply::Pair(Some((key, value)))) => push_found(out, words, *key, value),
+        Answer::Replied(Reply::Found(pairs)) => push_pairs(out, words, pairs),
+        Answer::Committed { stamp, succ, pred } | Answer::Excluded { stamp, succ, pred } => {
+            push_stamps(out, words, *stamp, *succ, *pred)
+        }
+        Answer::ExcludedEarly { succ, pred } => push_two(out, words, *succ, b" pred ", *pred),
+        Answer::WaitSeat { seat, seen } => push_two(out, words, u64::from(*seat), b" ", *seen),
+        Answer::Owned { seat, number } => {
+            push_two(out, words, u64::from(*seat), b" ", u64::from(*number))
+        }
+        Answer::Replied(Reply::Value(None) | Reply::Pair(None) | Reply::Done)
+        | Answer::Aborted
+        | Answer::NotIdle
+        | Answer::NoTransaction
+        | Answer::IsSealed
+        | Answer::NotSealed
+        | Answer::NumbersEnd
+        | Answer::ReadsFull
+        | Answer::WritesFull
+        | Answer::NoReceipt
+        | Answer::DiskFault => out.extend_from_slice(words),
+    }
+}
+
+// words, a number, more words and a number
+fn push_two(
+    out: &mut Vec<u8>,
+    words: &[u8],
+    first: u64,
+    between: &[u8],
+    second: u64,
+) -> Result<(), AllocError>
+    ensures ok { OnOk result (out.new.items ≡ out.old.items ++ (words.now ++ decimal first ++ between.now ++ decimal second)) }
+    ensures front { OnErr result (take (length out.old.items) out.new.items ≡ out.old.items) }
+{
+    push_count(out, words, first)?;
+    push_count(out, between, second)
+}
+
+// words, a key and its value
+fn push_found(out: &mut Vec<u8>, words: &[u8], key: u64, value: &Value) -> Result<(), AllocError>
+    ensures ok { OnOk result (out.new.items ≡ out.old.items ++ (words.now ++ decimal key ++ codes " " ++ value_word value.now)) }
+    ensures fits { OnOk result (FitsFound (key, value.now)) }
+    ensures front { OnErr result (take (length out.old.items) out.new.items ≡ out.old.items) }
+{
+    push_count(out, words, key)?;
+    push_value(out, b" ", value)
+}
+
+// a word, the number of some pairs, and the pairs
+fn push_pairs(out: &mut Vec<u8>, words: &[u8], pairs: &Pairs) -> Result<(), AllocError>
+    ensures ok { OnOk result (out.new.items ≡ out.old.items ++ (words.now ++ decimal (length pairs.now) ++ flat_map found_text pairs.now)) }
+    ensures fits { OnOk result ((length pairs.now < 2 ^ 64) × All FitsFound pairs.now) }
+    ensures front { OnErr result (take (length out.old.items) out.new.items ≡ out.old.items) }
+{
+    let found = pairs.as_slice();
+    push_count(out, words, found.len() as u64)?;
+    for (key, value) in found {
+        push_found(out, b" ", *key, value)?;
+    }
+    Ok(())
+}
