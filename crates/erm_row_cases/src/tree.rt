@@ -5,13 +5,13 @@ ghost use Rattle.erm_tree.specs.Calls.{IsReady};
 mod memory;
 
 use erm_model::{
-    Map, OID_LIMIT, Oid, Op, Reply, Row, RowRead, RowStop, TABLES, Value,
+    Map, OID_LIMIT, Oid, Op, PUT_OBJECTS, PUT_ROWS, Reply, Row, RowRead, RowStop, TABLES, Value,
     lawful_transactions_have_lawful_records, run_one,
 };
 use erm_tree::{
-    MOST_OBJECTS, MOST_ROWS, calls_change_one_table, del, find, get, looks_and_claims_set_no_row,
-    next, operations_are_run_one, put, puts_are_bounded, refused_calls_set_no_row,
-    tables_stand_apart, ways_are_of_own_nodes,
+    calls_change_one_table, del, find, get, looks_and_claims_set_no_row, next,
+    operations_are_run_one, put, puts_are_bounded, refused_calls_set_no_row, tables_stand_apart,
+    ways_are_of_own_nodes,
 };
 use memory::MemoryTxn;
 use std::alloc::Global;
@@ -211,7 +211,7 @@ fn a_refusal_leaves_the_rows(rt: HostRuntime) -> Result<(), Fail> {
     puts_are_bounded::<MemoryTxn>();
     refused_calls_set_no_row::<MemoryTxn>();
     looks_and_claims_set_no_row::<MemoryTxn>();
-    assert!(rt; MOST_OBJECTS == 14);
-    assert!(rt; MOST_ROWS == 26);
+    assert!(rt; PUT_OBJECTS == 14);
+    assert!(rt; PUT_ROWS == 26);
     Ok(())
 }

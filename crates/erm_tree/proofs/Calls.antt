@@ -239,7 +239,7 @@ module _ {S : Type 0} (face : Face S) (goes_on : (a b c : S) → face.follows a 
 
   -- what is cut off by some refusals is cut off by others that they are among
   pub IsStopped-among : (may then_may : RowStop → Type 0) (kind then_kind : List Event → Type 0) (asks then_asks : List Event → Rows → Asked → Type 0) (s t : S) (stop : RowStop) → ((x : RowStop) → may x → then_may x) → ((es : List Event) → kind es → then_kind es)
-      → ((es : List Event) (array : Rows) (asked : Asked) → asks es array asked → then_asks es array asked) → IsStopped face may kind asks s stop t → IsStopped face then_may then_kind then_asks s stop t
+      → ((es : List Event) (array : Rows) (asked : Asked) → kind es → asks es array asked → then_asks es array asked) → IsStopped face may kind asks s stop t → IsStopped face then_may then_kind then_asks s stop t
   IsStopped-among may then_may kind then_kind asks then_asks s t stop among of so stopped = record {
     events = stopped.events;
     of_kind = of stopped.events stopped.of_kind;
@@ -247,7 +247,7 @@ module _ {S : Type 0} (face : Face S) (goes_on : (a b c : S) → face.follows a 
     goes_on = stopped.goes_on;
     follows = stopped.follows;
     asked = stopped.asked;
-    asks_so = λ array meets agrees. so stopped.events array stopped.asked (stopped.asks_so array meets agrees);
+    asks_so = λ array meets agrees. so stopped.events array stopped.asked stopped.of_kind (stopped.asks_so array meets agrees);
     refused = IsRefused-among may then_may stopped.at t stopped.asked stop among stopped.refused;
   }
 
@@ -262,7 +262,7 @@ module _ {S : Type 0} (face : Face S) (goes_on : (a b c : S) → face.follows a 
       → IsStopped face may (Reads face.law Q) (AsksReads Q) s stop t
   IsStopped-wider P Q may s t stop among stopped =
       IsStopped-among may may (Reads face.law P) (Reads face.law Q) (AsksReads P) (AsksReads Q) s t stop (λ x named. named)
-      (λ es is. Reads-weaker face.law P Q es (λ array meets agrees. among array) is) (λ es array asked asks. AsksReads-weaker P Q es es array asked (among array) asks) stopped
+      (λ es is. Reads-weaker face.law P Q es (λ array meets agrees. among array) is) (λ es array asked is asks. AsksReads-weaker P Q es es array asked (among array) asks) stopped
 
   -- reads of one kind of objects, and then reads of another that were cut off, both of a third
   pub IsStopped-both : (P Q R : Rows → ℕ → Type 0) (may : RowStop → Type 0) (s t u : S) (stop : RowStop) (fact : Rows → Type 0) → SawIn face P s t fact → IsStopped face may (Reads face.law Q) (AsksReads Q) t stop u

@@ -5,6 +5,7 @@ pub mod Meetings
 pub mod Calls
 pub mod Walking
 pub mod Lookups
+pub mod Firsts
 pub mod Nexts
 pub mod Records
 pub mod Settings
@@ -27,3 +28,4 @@ pub mod Bounds
 pub mod Operations
 pub mod Tables
 mod Ways
+mod Own

@@ -15,8 +15,9 @@ use Rattle.erm_node.specs.Tree.{Fan, first_key}
 use Rattle.erm_node.specs.TreeMap.{map_of_rows, record_in, value_in}
 use Rattle.erm_tree.specs.Calls.{AsksReads, IsReady, IsTold, Reads, SawIn}
 use Rattle.erm_tree.specs.Reads.{IsMetIn, IsOnWay}
-use Rattle.erm_tree.specs.Walk.{IsEntry, IsLeafFor, IsOfLeaf, IsFirstIn, HasNoValueIn, bound_of, last_sought}
+use Rattle.erm_tree.specs.Walk.{IsEntry, IsLeafFor, IsOfLeaf, IsFirstIn, IsMetByFirst, IsMetByNext, HasNoValueIn, bound_of, last_sought}
 use Rattle.erm_tree.proofs.Fans.{first_key-Fan}
+use Rattle.erm_tree.proofs.Firsts.{IsFirstIn-some, IsFirstIn-beyond, IsFirstIn-before, IsFirstIn-part}
 use Rattle.erm_tree.proofs.Calls.{SawIn-start, SawIn-both, SawIn-weaker, SawIn-then_read, SawIn-possible, SawIn-ready, IsStopped-both}
 use Rattle.erm_tree.proofs.Meetings.{IsMetIn-wider, IsMetIn-few, IsMetIn-node}
 
@@ -63,11 +64,18 @@ module _ (rows : Rows) (table low : ℕ) (pairs : List (ℕ × ℕ)) (to : ℕ) 
 abbrev pub HasNoneUpTo : ℕ → List (ℕ × ℕ) → ℕ → ℕ → Rows → Type 0
 HasNoneUpTo low pairs to i rows = (table : ℕ) → IsLeafFor rows table low pairs to → HasNoValueIn rows table low (first_key (drop i pairs) to)
 
--- the record of a pair in its place is one of the leaf's
-pub Along-read_at : (low : ℕ) (pairs : List (ℕ × ℕ)) (to i : ℕ) → i < length pairs → low ≤ (get_or pairs i (0, 0)).0 → (rows : Rows) → IsOfLeaf rows low pairs to (to - 1) (get_or pairs i (0, 0)).1
-Along-read_at low pairs to i inside above rows table leaf =
+-- the first key of the leaf that has a value isn't below such a pair's
+Along-beyond : (low : ℕ) (pairs : List (ℕ × ℕ)) (to i : ℕ) → i < length pairs → (rows : Rows) → HasNoneUpTo low pairs to i rows → (table : ℕ) (found : Option (ℕ × List ℕ)) → IsLeafFor rows table low pairs to → IsFirstIn rows table low to found
+    → (get_or pairs i (0, 0)).0 ≤ last_sought to found
+Along-beyond low pairs to i inside rows none table found leaf first =
     let at = Fan-at (λ oid from up. IsEntry rows table oid from up) pairs to i inside leaf.entries in
-    at.is.met low (to - 1) above (omega (arith, at.wide, at.top))
+    IsFirstIn-beyond rows table low (get_or pairs i (0, 0)).0 to found (subst (HasNoValueIn rows table low) at.here (none table leaf)) (omega (arith, at.wide, at.top)) first
+
+-- the record of a pair in its place is one of the leaf's, where no key before it has a value
+pub Along-read_at : (low : ℕ) (pairs : List (ℕ × ℕ)) (to i : ℕ) → i < length pairs → low ≤ (get_or pairs i (0, 0)).0 → (rows : Rows) → HasNoneUpTo low pairs to i rows → IsMetByFirst low pairs to rows (get_or pairs i (0, 0)).1
+Along-read_at low pairs to i inside above rows none table found leaf first =
+    let at = Fan-at (λ oid from up. IsEntry rows table oid from up) pairs to i inside leaf.entries in
+    at.is.met low (last_sought to found) above (Along-beyond low pairs to i inside rows none table found leaf first)
 
 module _ {S : Type 0} (face : Face S) (goes_on : (a b c : S) → face.follows a b → face.follows b c → face.follows a c) (low : ℕ) (pairs : List (ℕ × ℕ)) (to : ℕ) where
   -- the objects that may be read before so many pairs
@@ -86,13 +94,13 @@ module _ {S : Type 0} (face : Face S) (goes_on : (a b c : S) → face.follows a 
         let (table, leaf) = told begun meets (Runs-fitted face seen.saw.events s t seen.saw.goes_on.runs begun fits) in
         (Fan-at (λ oid from up. IsEntry (face.rows s begun) table oid from up) pairs to i inside leaf.entries).is.bounded
 
-    -- the objects read so far are among those of the whole leaf
-    pub Along-wide : SawIn face (read_below (to - 1)) s t (HasNoneUpTo low pairs to i)
+    -- the objects read so far are among those up to the first key that has a value
+    pub Along-wide : SawIn face (IsMetByFirst low pairs to) s t (HasNoneUpTo low pairs to i)
     Along-wide =
-        SawIn-weaker face goes_on (read_below (first_key (drop i pairs) to - 1)) (read_below (to - 1)) s t (HasNoneUpTo low pairs to i) (HasNoneUpTo low pairs to i) (λ array meets none. none)
-        (λ array meets none x on table leaf.
+        SawIn-weaker face goes_on (read_below (first_key (drop i pairs) to - 1)) (IsMetByFirst low pairs to) s t (HasNoneUpTo low pairs to i) (HasNoneUpTo low pairs to i) (λ array meets none. none)
+        (λ array meets none x on table found leaf first.
         let at = Fan-at (λ oid from up. IsEntry array table oid from up) pairs to i inside leaf.entries in
-        IsMetIn-wider array table low (first_key (drop i pairs) to - 1) low (to - 1) x (omega arith) (omega (arith, at.here, at.wide, at.top)) (on table leaf))
+        IsMetIn-wider array table low (first_key (drop i pairs) to - 1) low (last_sought to found) x (omega arith) (omega (arith, at.here, Along-beyond low pairs to i inside array none table found leaf first)) (on table leaf))
         seen
 
     -- it passes over a pair below
@@ -264,22 +272,56 @@ module _ {S : Type 0} (face : Face S) (goes_on : (a b c : S) → face.follows a 
         let first_none = subst (λ (r : Option (ℕ × List ℕ)). SawIn face (λ rows x. IsOfLeaf rows low pairs to (last_sought to r) x) u v (λ rows. (t : ℕ) → IsLeafFor rows t low pairs to → IsFirstIn rows t low to r)) no_one first in
         subst (λ (n : ℕ). Seeks face s v table from n × (low < n)) to_is (Seeks-behind v lawful first_none)
 
+  -- the first key that has a value, in the whole table from this one on, is the next one
+  next_first : (rows : Rows) → IsSound rows → (found : Option (ℕ × List ℕ)) → IsFirstIn rows table from (2 ^ 64) found → IsNextAt (map_of_rows rows) table from found
+  next_first rows sound None first = λ k above under. values rows table k sound below ∙ first k above under
+  next_first rows sound (Some found) first = (first.0, first.1, values rows table found.0 sound below ∙ first.2, λ k above under. values rows table k sound below ∙ first.3 k above under)
+
+  module _ (rows : Rows) (low : ℕ) (sound : IsSound rows) (above : from ≤ low) (none : HasNoValueIn rows table from low) where
+    -- what is met below a key is met by next, where no key below that one has a value
+    met_below : (x : ℕ) → low ≤ 2 ^ 64 → IsMetIn rows table from (low - 1) x → IsMetByNext table from rows x
+    met_below x top on =
+        let (found, first) = IsFirstIn-some rows table from (2 ^ 64) (omega arith) in (
+          found,
+          next_first rows sound found first,
+          IsMetIn-wider rows table from (low - 1) from (last_sought (2 ^ 64) found) x (omega arith) (IsFirstIn-before rows table from low (2 ^ 64) found none top first) on,
+        )
+
+    -- so is what the key meets
+    met_here : (x : ℕ) → low < 2 ^ 64 → IsMetIn rows table from low x → IsMetByNext table from rows x
+    met_here x few on =
+        let (found, first) = IsFirstIn-some rows table from (2 ^ 64) (omega arith) in (
+          found,
+          next_first rows sound found first,
+          IsMetIn-wider rows table from low from (last_sought (2 ^ 64) found) x (omega arith) (IsFirstIn-beyond rows table from low (2 ^ 64) found none few first) on,
+        )
+
+    -- and what a look along its leaf meets
+    met_along : (pairs : List (ℕ × ℕ)) (to x : ℕ) → IsLeafFor rows table low pairs to → IsMetByFirst low pairs to rows x → IsMetByNext table from rows x
+    met_along pairs to x leaf on =
+        let high = leaf.high in
+        let (found, first) = IsFirstIn-some rows table from (2 ^ 64) (omega (arith, leaf.top)) in
+        let part = IsFirstIn-part rows table from low to (2 ^ 64) found above high leaf.top none first in
+        (found, next_first rows sound found first, IsMetIn-wider rows table low (last_sought to part.found) from (last_sought (2 ^ 64) found) x above part.no_further (on table part.found leaf part.first))
+
   module _ (may : RowStop → Type 0) (s t u : S) (low : ℕ) (stop : RowStop) (seeks : Seeks face s t table from low) where
     -- a walk was cut off
-    pub Seeks-leaf_stopped : IsStopped face may (Reads face.law (IsOnWay table low)) (AsksReads (IsOnWay table low)) t stop u → IsStopped face may (Reads face.law (λ rows x. IsMetIn rows table from (2 ^ 64 - 1) x)) (AsksReads (λ rows x. IsMetIn rows table from (2 ^ 64 - 1) x)) s stop u
+    pub Seeks-leaf_stopped : IsStopped face may (Reads face.law (IsOnWay table low)) (AsksReads (IsOnWay table low)) t stop u → IsStopped face may (Reads face.law (IsMetByNext table from)) (AsksReads (IsMetByNext table from)) s stop u
     Seeks-leaf_stopped stopped =
-        let above = seeks.above in
-        let top = seeks.top in
-        IsStopped-both face goes_on (λ rows x. IsMetIn rows table from (low - 1) x) (IsOnWay table low) (λ rows x. IsMetIn rows table from (2 ^ 64 - 1) x) may s t u stop (λ rows. HasNoValueIn rows table from low) seeks.seen stopped
-        (λ array meets none x on. IsMetIn-wider array table from (low - 1) from (2 ^ 64 - 1) x (omega arith) (omega arith) on)
-        (λ array meets none x on. let node = IsMetIn-node array table low low x on in let few = IsMetIn-few array table low low x node in IsMetIn-wider array table low low from (2 ^ 64 - 1) x above (omega arith) node)
+        IsStopped-both face goes_on (λ rows x. IsMetIn rows table from (low - 1) x) (IsOnWay table low) (IsMetByNext table from) may s t u stop (λ rows. HasNoValueIn rows table from low) seeks.seen stopped
+        (λ array meets none x on. met_below array low ((law.meets array).0 meets) seeks.above none x seeks.top on)
+        (λ array meets none x on.
+        let node = IsMetIn-node array table low low x on in
+        met_here array low ((law.meets array).0 meets) seeks.above none x (IsMetIn-few array table low low x node) (IsMetIn-wider array table low low from low x seeks.above (omega arith) node))
 
     -- a look along a leaf was cut off
-    pub Seeks-along_stopped : (v : S) (pairs : List (ℕ × ℕ)) (to : ℕ) → SawIn face (IsOnWay table low) t u (λ rows. IsLeafFor rows table low pairs to) → IsStopped face may (Reads face.law (λ rows x. IsOfLeaf rows low pairs to (to - 1) x)) (AsksReads (λ rows x. IsOfLeaf rows low pairs to (to - 1) x)) u stop v
-        → IsStopped face may (Reads face.law (λ rows x. IsMetIn rows table from (2 ^ 64 - 1) x)) (AsksReads (λ rows x. IsMetIn rows table from (2 ^ 64 - 1) x)) s stop v
+    pub Seeks-along_stopped : (v : S) (pairs : List (ℕ × ℕ)) (to : ℕ) → SawIn face (IsOnWay table low) t u (λ rows. IsLeafFor rows table low pairs to) → IsStopped face may (Reads face.law (IsMetByFirst low pairs to)) (AsksReads (IsMetByFirst low pairs to)) u stop v
+        → IsStopped face may (Reads face.law (IsMetByNext table from)) (AsksReads (IsMetByNext table from)) s stop v
     Seeks-along_stopped v pairs to leaf stopped =
-        let above = seeks.above in
-        IsStopped-both face goes_on (λ rows x. IsMetIn rows table from low x) (λ rows x. IsOfLeaf rows low pairs to (to - 1) x) (λ rows x. IsMetIn rows table from (2 ^ 64 - 1) x) may s u v stop
+        IsStopped-both face goes_on (λ rows x. IsMetIn rows table from low x) (IsMetByFirst low pairs to) (IsMetByNext table from) may s u v stop
         (λ rows. HasNoValueIn rows table from low × IsLeafFor rows table low pairs to) (Seeks-leaf s t u low pairs to seeks leaf) stopped
-        (λ array meets is x on. let top = is.1.top in let high = is.1.high in IsMetIn-wider array table from low from (2 ^ 64 - 1) x (omega arith) (omega arith) on)
-        (λ array meets is x on. let top = is.1.top in IsMetIn-wider array table low (to - 1) from (2 ^ 64 - 1) x above (omega arith) (on table is.1))
+        (λ array meets is x on.
+        let high = is.1.high in
+        let top = is.1.top in
+        met_here array low ((law.meets array).0 meets) seeks.above is.0 x (omega arith) on)
+        (λ array meets is x on. met_along array low ((law.meets array).0 meets) seeks.above is.0 pairs to x is.1 on)

@@ -1,7 +1,7 @@
 -- Operations of one transaction, one after another.
 use Rattle.std.proofs.Common.{◌≡◌, ℕ, List, [], ◌∷◌, sym, ap, ◌∙◌, subst}
 use Rattle.erm_model.specs.declared.operation.Op.{Op}
-use Rattle.erm_model.specs.declared.operation.Op.TheVariants.{Get, Put, Del, Next}
+use Rattle.erm_model.specs.declared.operation.Op.TheVariants.{Get, Put, Del, Next, Scan}
 use Rattle.erm_model.specs.declared.operation.Reply.{Reply}
 use Rattle.erm_model.specs.declared.operation.Reply.TheVariants as reply
 use Rattle.erm_model.specs.declared.row_stop.RowStop.{RowStop}
@@ -75,6 +75,7 @@ module _ {S : Type 0} (face : Face S) where
   Answered-ready s t (Put table key value) r ready (is, did) = Did-ready s t _ ready did
   Answered-ready s t (Del table key) r ready (is, did) = Did-ready s t _ ready did
   Answered-ready s t (Next table from) r ready (found, is, saw) = Stutters-ready s t ready (Stutters-saw s t _ saw)
+  Answered-ready s t (Scan table low high) r ready none = absurd none
 
   -- after calls in turn the transaction may be called on
   pub Called-ready : (calls : List Call) (s t : S) → IsReady face s → AreCalled face s calls t → IsReady face t
@@ -115,6 +116,7 @@ module _ {S : Type 0} (face : Face S) (law : SameLaw face.law sound_law) where
     now = λ begun sound fits. ap map_of_rows (Saw-on face s t _ lawful saw begun ((law.meets begun).1 sound) fits).1;
     lawful = Saw-lawful face s t _ lawful saw;
   }
+  step_of s (Scan table low high) r t lawful none = absurd none
 
   record IsAll (s : S) (calls : List Call) (t : S) : Type 0 where
     fitted : (begun : Rows) → face.fits t begun → face.fits s begun

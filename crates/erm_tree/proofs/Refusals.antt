@@ -41,10 +41,10 @@ Prefix-reads law P whole begins es reads = record {
 module _ {S : Type 0} (face : Face S) (goes_on : (a b c : S) → face.follows a b → face.follows b c → face.follows a c) (P : Rows → ℕ → Type 0) (may then_may : RowStop → Type 0) (among : (x : RowStop) → may x → then_may x)
     (whole : Rows → List Event → Type 0) (begins : (array : Rows) (es : List Event) → OnlyReads es → ReadsAre (P array) es → (others : List Event) × whole array (es ++ others)) (asks : List Event → Rows → Asked → Type 0) where
   -- reads that were cut off
-  pub Refused-reads : ((es : List Event) (array : Rows) (asked : Asked) → AsksReads P es array asked → asks es array asked) → (s t : S) (stop : RowStop) → IsStopped face may (Reads face.law P) (AsksReads P) s stop t
+  pub Refused-reads : ((es : List Event) (array : Rows) (asked : Asked) → OnlyReads es → AsksReads P es array asked → asks es array asked) → (s t : S) (stop : RowStop) → IsStopped face may (Reads face.law P) (AsksReads P) s stop t
       → IsStopped face then_may (IsPrefix face.law P whole) asks s stop t
   Refused-reads reads_ask s t stop stopped =
-      IsStopped-among face goes_on may then_may (Reads face.law P) (IsPrefix face.law P whole) (AsksReads P) asks s t stop among (Prefix-reads face.law P whole begins) reads_ask stopped
+      IsStopped-among face goes_on may then_may (Reads face.law P) (IsPrefix face.law P whole) (AsksReads P) asks s t stop among (Prefix-reads face.law P whole begins) (λ es array asked is. reads_ask es array asked is.only) stopped
 
   -- a write after reads
   pub Refused-write : (s t u : S) (oid : ℕ) (stop : RowStop) (fact : Rows → Type 0) → ((es : List Event) (array : Rows) → face.law.meets array → fact array → asks es array (asked_claim oid))
@@ -61,7 +61,7 @@ module _ {S : Type 0} (face : Face S) (goes_on : (a b c : S) → face.follows a 
       → SawIn face P s t fact → IsStopped face may then_kind quiet_asks t stop u → IsStopped face then_may (IsPrefix face.law P whole) asks s stop u
   Refused-quiet then_kind quiet_asks s t u stop fact quiet begins_then lift seen stopped =
       let es = seen.saw.events in
-      IsStopped-among face goes_on may then_may (IsPrefix face.law P whole) (IsPrefix face.law P whole) asks asks s u stop among (λ fs is. is) (λ fs array asked so. so)
+      IsStopped-among face goes_on may then_may (IsPrefix face.law P whole) (IsPrefix face.law P whole) asks asks s u stop among (λ fs is. is) (λ fs array asked is so. so)
       (IsStopped-then face goes_on may then_kind (IsPrefix face.law P whole) quiet_asks asks s t u stop es seen.saw.goes_on.runs seen.saw.follows
       (λ fs is. record {
         none = WritesNothing-append es fs (WritesNothing-OnlyReads es seen.saw.reads) (WritesNothing-quiet fs (quiet fs is));
@@ -159,10 +159,10 @@ AsksDel-reads table key es array (asked_claim oid) asks = absurd asks
 AsksDel-reads table key es array asked_make asks = absurd asks
 
 -- what a put asks for to find the record or its place
-pub AsksPut-reads : (table key : ℕ) (row : List ℕ) (es : List Event) (array : Rows) (asked : Asked) → AsksReads (IsOnWay table key) es array asked → AsksPut table key row es array asked
-AsksPut-reads table key row es array (asked_read oid) asks = asks
-AsksPut-reads table key row es array (asked_claim oid) asks = absurd asks
-AsksPut-reads table key row es array asked_make asks = absurd asks
+pub AsksPut-reads : (table key : ℕ) (row : List ℕ) (es : List Event) (array : Rows) (asked : Asked) → OnlyReads es → AsksReads (IsOnWay table key) es array asked → AsksPut table key row es array asked
+AsksPut-reads table key row es array (asked_read oid) only asks = (only, asks)
+AsksPut-reads table key row es array (asked_claim oid) only asks = absurd asks
+AsksPut-reads table key row es array asked_make only asks = absurd asks
 
 module _ (table key : ℕ) (row : List ℕ) (es fs : List Event) (array : Rows) (only : OnlyReads es) (of : ReadsAre (IsOnWay table key array) es) (none : record_in array table key ≡ None) where
   abbrev here : List Place

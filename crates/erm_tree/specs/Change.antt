@@ -5,7 +5,7 @@ use Rattle.erm_model.specs.Rows.{Rows}
 use Rattle.erm_model.specs.RowTransaction.{Event, did_read, did_claim, did_write, did_make, Asked, asked_read, asked_claim, asked_make, Law, Agrees, Face, IsLawful, IsStopped, OnlyReads, WritesNothing, StopsRead, StopsClaim, StopsMake}
 use Rattle.erm_node.specs.Sound.{levels_of}
 use Rattle.erm_node.specs.TreeMap.{record_in}
-use Rattle.erm_tree.specs.declared.plan.TheConstants.{MOST_OBJECTS, MOST_ROWS}
+use Rattle.erm_model.specs.declared.limits.TheConstants.{PUT_OBJECTS, PUT_ROWS}
 use Rattle.erm_tree.specs.Calls.{ReadsAre}
 use Rattle.erm_tree.specs.Insert.{path_to, new_rows, objects_for}
 use Rattle.erm_tree.specs.Reads.{IsOnWay}
@@ -50,10 +50,10 @@ AsksDel table key events rows (asked_read oid) = IsOnWay table key rows oid
 AsksDel table key events rows (asked_claim oid) = record_in rows table key ≡ Some oid
 AsksDel table key events rows asked_make = ⊥
 
--- What a put of this row asks for: to read a node on the way to the key, to write the key's record, or else what a whole put does
--- next, which is to make an object or to claim one.
+-- What a put of this row asks for: after reads alone, to read a node on the way to the key; to write the key's record; or else what
+-- a whole put does next, which is to make an object or to claim one.
 abbrev pub AsksPut : ℕ → ℕ → List ℕ → List Event → Rows → Asked → Type 0
-AsksPut table key row events rows (asked_read oid) = IsOnWay table key rows oid
+AsksPut table key row events rows (asked_read oid) = OnlyReads events × IsOnWay table key rows oid
 AsksPut table key row events rows (asked_claim oid) =
     (record_in rows table key ≡ Some oid) ⊎ ((others : List Event) × IsPut rows table key row (events ++ did_claim oid ∷ others))
 AsksPut table key row events rows asked_make = (oid : ℕ) × (others : List Event) × IsPut rows table key row (events ++ did_make oid ∷ others)
@@ -92,9 +92,9 @@ count_writes (did_make oid ∷ events) = count_writes events
 
 -- events make at most so many objects, claim at most so many times and set at most so many rows
 pub record AreFew (events : List Event) : Type 0 where
-  pub makes : count_makes events ≤ MOST_OBJECTS
-  pub claims : count_claims events ≤ MOST_ROWS
-  pub writes : count_writes events ≤ MOST_ROWS
+  pub makes : count_makes events ≤ PUT_OBJECTS
+  pub claims : count_claims events ≤ PUT_ROWS
+  pub writes : count_writes events ≤ PUT_ROWS
 
 -- the events of a put are few, and so are the first ones of them
 abbrev pub PutsAreBounded : Type 0

@@ -2,7 +2,7 @@
 use Rattle.std.specs.Prelude.{◌≡◌, false, ℕ, List, [], ◌∷◌, Option}
 use Rattle.std.specs.FinMap.{insert, remove}
 use Rattle.erm_model.specs.declared.operation.Op.{Op}
-use Rattle.erm_model.specs.declared.operation.Op.TheVariants.{Get, Put, Del, Next}
+use Rattle.erm_model.specs.declared.operation.Op.TheVariants.{Get, Put, Del, Next, Scan}
 use Rattle.erm_model.specs.declared.operation.Reply.{Reply}
 use Rattle.erm_model.specs.declared.operation.Reply.TheVariants as reply
 use Rattle.erm_model.specs.declared.row_stop.RowStop.{RowStop}
@@ -14,12 +14,14 @@ use Rattle.erm_node.specs.Sound.{IsSound, sound_law}
 use Rattle.erm_node.specs.TreeMap.{map_of_rows}
 use Rattle.erm_tree.specs.Calls.{IsReady, SawIn}
 
--- a call answered an operation: the value by `get`, the pair by `next`, and `put` and `del` by what they changed
+-- a call answered an operation: the value by `get`, the pair by `next`, and `put` and `del` by what they changed; no one call
+-- answers a scan
 abbrev pub IsAnswered : {S : Type 0} → Face S → S → Op → Reply → S → Type 0
 IsAnswered {S} face s (Get table key) r t = (value : Option (List ℕ)) × (r ≡ reply.Value value) × Saw face s t (λ rows. value ≡ value_at (map_of_rows rows) table key)
 IsAnswered {S} face s (Put table key value) r t = (r ≡ reply.Done) × Did face s t (λ old new. map_of_rows new ≡ insert (map_of_rows old) (at table key) value)
 IsAnswered {S} face s (Del table key) r t = (r ≡ reply.Done) × Did face s t (λ old new. map_of_rows new ≡ remove (map_of_rows old) (at table key))
 IsAnswered {S} face s (Next table from) r t = (found : Option (ℕ × List ℕ)) × (r ≡ reply.Pair found) × Saw face s t (λ rows. IsNextAt (map_of_rows rows) table from found)
+IsAnswered {S} face s (Scan table low high) r t = ⊥
 
 -- The transaction goes on after events that set no row, and then nothing or a call that was refused and left all as it was: for
 -- its map a stuttering step (Lamport).

@@ -3,10 +3,11 @@ use Rattle.std.specs.Prelude.{◌≡◌, ℕ, ◌-◌, ◌^◌, ◌<◌, ◌≤�
 use Rattle.std.specs.List.{prefix_len}
 use Rattle.std.specs.Map.{lookup}
 use Rattle.erm_model.specs.declared.limits.TheConstants.{OID_LIMIT}
+use Rattle.erm_model.specs.Database.{IsNextAt}
 use Rattle.erm_model.specs.Rows.{Rows}
 use Rattle.erm_record.specs.Record.{IsRecord}
 use Rattle.erm_node.specs.Tree.{Fan, first_key}
-use Rattle.erm_node.specs.TreeMap.{record_in, value_in}
+use Rattle.erm_node.specs.TreeMap.{map_of_rows, record_in, value_in}
 use Rattle.erm_tree.specs.Reads.{IsMetIn}
 
 -- how many pairs have keys up to this one, from the first on
@@ -58,3 +59,13 @@ last_sought to (Some found) = found.0
 -- if the pairs are a leaf of some table, x is met in that table from `low` to `high`
 abbrev pub IsOfLeaf : Rows → ℕ → List (ℕ × ℕ) → ℕ → ℕ → ℕ → Type 0
 IsOfLeaf rows low pairs to high x = (table : ℕ) → IsLeafFor rows table low pairs to → IsMetIn rows table low high x
+
+-- if the pairs are a leaf of some table, x is met in that table from `low` up to the first key of the leaf that has a value, or to
+-- the leaf's end
+abbrev pub IsMetByFirst : ℕ → List (ℕ × ℕ) → ℕ → Rows → ℕ → Type 0
+IsMetByFirst low pairs to rows x =
+    (table : ℕ) (found : Option (ℕ × List ℕ)) → IsLeafFor rows table low pairs to → IsFirstIn rows table low to found → IsMetIn rows table low (last_sought to found) x
+
+-- x is met in a table from `from` up to the next key that has a value, or to the greatest key where there is none
+abbrev pub IsMetByNext : ℕ → ℕ → Rows → ℕ → Type 0
+IsMetByNext table from rows x = (found : Option (ℕ × List ℕ)) × IsNextAt (map_of_rows rows) table from found × IsMetIn rows table from (last_sought (2 ^ 64) found) x

@@ -9,10 +9,10 @@ ghost use Rattle.erm_tree.specs.Insert.{IsPathFor};
 ghost use Rattle.erm_tree.specs.Reads.{IsOnWay};
 ghost use Rattle.erm_tree.specs.Step.{places_of};
 
-use crate::plan::{MOST_OBJECTS, Step};
+use crate::plan::Step;
 use crate::walk::{child_for, record_in};
 use arrayvec::ArrayVec;
-use erm_model::{OID_LIMIT, Oid, Row, RowRead, RowStop, RowTxn, TABLES};
+use erm_model::{OID_LIMIT, Oid, PUT_OBJECTS, Row, RowRead, RowStop, RowTxn, TABLES};
 use erm_node::{LEVELS, nodes_are_read_back, read_node};
 
 /// The nodes on the way to a key, the root first, and the key's record, or none where the key has no entry.
@@ -64,10 +64,10 @@ pub(crate) fn path_for<T: RowRead>(txn: &mut T, table: u8, key: u64) -> Result<P
 pub(crate) fn make_all<T: RowTxn>(
     txn: &mut T,
     count: usize,
-) -> Result<ArrayVec<Oid, MOST_OBJECTS>, RowStop>
+) -> Result<ArrayVec<Oid, PUT_OBJECTS>, RowStop>
     requires active { T.face.active txn.old }
     requires possible { IsPossible T.face txn.old }
-    requires room { count ≤ MOST_OBJECTS }
+    requires room { count ≤ PUT_OBJECTS }
     ensures ok { IfOk result (λ made. Ran T.face txn.old (map did_make made.items) txn.new) }
     ensures count { IfOk result (λ made. length made.items ≡ count) }
     ensures objects { IfOk result (λ made. All (λ oid. oid < OID_LIMIT) made.items) }

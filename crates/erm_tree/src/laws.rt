@@ -1,5 +1,5 @@
 //! Laws of the calls. Each holds for every value, and its function does nothing.
-ghost use Rattle.std.specs.Prelude.{◌≡◌, ℕ, ◌-◌, ◌^◌, List, [], Option};
+ghost use Rattle.std.specs.Prelude.{◌≡◌, ℕ, List, [], Option};
 ghost use Rattle.erm_model.specs.RowTransaction.{Event, did_read, did_claim, did_make, asked_read, asked_claim, asked_make, WritesNothing, GoesOn, Stays, StopsRead, StopsClaim, StopsMake};
 ghost use Rattle.erm_record.specs.Record.{value_row};
 ghost use Rattle.erm_node.specs.TreeMap.{record_in};
@@ -7,7 +7,8 @@ ghost use Rattle.erm_tree.specs.Calls.{AsksReads, IsReady, Reads};
 ghost use Rattle.erm_tree.specs.Change.{AsksDel, AsksPut, IsPrefix, IsPut, PutsAreBounded, RefusedPutsAreBounded, StopsChange, StopsPut};
 ghost use Rattle.erm_tree.specs.Operations.{AnswersStutter, CutOffsStutter, LooksStutter, OperationsAreRunOne, RefusalsStutter, StaysReady, Stutters};
 ghost use Rattle.erm_tree.specs.Reads.{IsMetIn, IsOnWay, IsSought};
-ghost use Rattle.erm_tree.specs.Tables.{DelsChangeOne, ObjectsHaveOneTable, OtherRootsAreOffWay, PutsChangeOne, RecordsAreOffWay, TablesStandApart};
+ghost use Rattle.erm_tree.specs.Tables.{AreReached, DelsAskOwn, DelsChangeOne, DelsClaimOwn, ObjectsHaveOneTable, OtherRootsAreOffWay, PutsAskOwn, PutsChangeOne, PutsClaimOwn, RecordsAreOffWay, RefusedPutsStayIn, RefusedStaysIn, TablesStandApart};
+ghost use Rattle.erm_tree.specs.Walk.{IsMetByNext};
 
 use erm_model::RowRead;
 use erm_node::nodes_are_read_back;
@@ -24,7 +25,7 @@ pub fn operations_are_run_one<T: RowRead>()
 /// what they did sets no row, and the last one left all as it was.
 pub fn refused_calls_set_no_row<T: RowRead>()
     ensures get { (table key : ℕ) → CutOffsStutter T.face StopsRead (Reads T.face.law (IsSought table key)) (AsksReads (IsSought table key)) }
-    ensures next { (table from : ℕ) → CutOffsStutter T.face StopsRead (Reads T.face.law (λ rows x. IsMetIn rows table from (2 ^ 64 - 1) x)) (AsksReads (λ rows x. IsMetIn rows table from (2 ^ 64 - 1) x)) }
+    ensures next { (table from : ℕ) → CutOffsStutter T.face StopsRead (Reads T.face.law (IsMetByNext table from)) (AsksReads (IsMetByNext table from)) }
     ensures find { (table key : ℕ) → CutOffsStutter T.face StopsRead (Reads T.face.law (IsOnWay table key)) (AsksReads (IsOnWay table key)) }
     ensures del { (table key : ℕ) → CutOffsStutter T.face StopsChange (Reads T.face.law (IsOnWay table key)) (AsksDel table key) }
     ensures put { (table key : ℕ) (value : List ℕ) → CutOffsStutter T.face StopsPut (IsPrefix T.face.law (IsOnWay table key) (λ rows events. IsPut rows table key (value_row value) events)) (AsksPut table key (value_row value)) }
@@ -44,7 +45,7 @@ pub fn looks_and_claims_set_no_row<T: RowRead>()
     ensures ready { (s t : T) → IsReady T.face s → Stutters T.face s t → IsReady T.face t }
 {}
 
-/// The events of a put make at most `MOST_OBJECTS` objects, claim at most `MOST_ROWS` times, and set at most `MOST_ROWS`
+/// The events of a put make at most `PUT_OBJECTS` objects, claim at most `PUT_ROWS` times, and set at most `PUT_ROWS`
 /// rows. Those of a put that was refused do too.
 pub fn puts_are_bounded<T: RowRead>()
     ensures whole { PutsAreBounded }
@@ -76,4 +77,32 @@ pub fn calls_change_one_table<T: RowRead>()
     ensures del { DelsChangeOne T.face }
 {
     tables_stand_apart();
+}
+
+/// A call stays in its own table's tree. That tree reaches each object on the way to a key, each that a look for keys meets, and
+/// each that a del claims; each that a put claims, whole or cut off, it reaches or the put made. So what a refused call asked for
+/// is of its table too.
+pub fn calls_stay_in_their_table()
+    ensures way { (table key : ℕ) → AreReached (IsOnWay table key) table }
+    ensures sought { (table key : ℕ) → AreReached (IsSought table key) table }
+    ensures met { (table low high : ℕ) → AreReached (λ rows x. IsMetIn rows table low high x) table }
+    ensures next { (table from : ℕ) → AreReached (IsMetByNext table from) table }
+    ensures put { PutsClaimOwn }
+    ensures put_asks { PutsAskOwn }
+    ensures del { DelsClaimOwn }
+    ensures del_asks { DelsAskOwn }
+{
+    nodes_are_read_back();
+}
+
+/// A call that was refused claimed only objects of its own table, and what it asked for is of that table too: its tree reaches the
+/// object, or the call made it.
+pub fn refused_calls_stay_in_their_table<T: RowRead>()
+    ensures get { (table key : ℕ) → RefusedStaysIn T.face StopsRead (Reads T.face.law (IsSought table key)) (AsksReads (IsSought table key)) table }
+    ensures next { (table from : ℕ) → RefusedStaysIn T.face StopsRead (Reads T.face.law (IsMetByNext table from)) (AsksReads (IsMetByNext table from)) table }
+    ensures find { (table key : ℕ) → RefusedStaysIn T.face StopsRead (Reads T.face.law (IsOnWay table key)) (AsksReads (IsOnWay table key)) table }
+    ensures del { (table key : ℕ) → RefusedStaysIn T.face StopsChange (Reads T.face.law (IsOnWay table key)) (AsksDel table key) table }
+    ensures put { RefusedPutsStayIn T.face }
+{
+    calls_stay_in_their_table();
 }

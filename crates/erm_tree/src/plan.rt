@@ -7,7 +7,7 @@ ghost use Rattle.erm_tree.specs.Step.{place_of, places_of};
 
 use crate::walk::rank_of;
 use arrayvec::ArrayVec;
-use erm_model::{Oid, Row};
+use erm_model::{Oid, PUT_OBJECTS, PUT_ROWS, Row};
 use erm_node::{LEAST_PAIRS, LEVELS, NODE_PAIRS, Node, row_of_node};
 
 /// A node on the way to a key.
@@ -18,14 +18,14 @@ pub(crate) struct Step {
     pub pairs: ArrayVec<(u64, Oid), NODE_PAIRS>,
 }
 
-/// The most objects that a put makes: one for the record, one for each node that is cut, and one more for the root.
-pub const MOST_OBJECTS: usize = LEVELS + 2;
+// A put makes one object for the record, one for each node that is cut, and one more for the root.
+const _: () = prove!(PUT_OBJECTS == LEVELS + 2);
 
-/// The most rows that a put claims and sets: the record's, for each node its own and its right half's, and the root's left half's.
-pub const MOST_ROWS: usize = 2 * LEVELS + 2;
+// It claims and sets the record's row, for each node its own and its right half's, and the root's left half's.
+const _: () = prove!(PUT_ROWS == 2 * LEVELS + 2);
 
 /// Rows to set, each with its object.
-pub(crate) type NewRows = ArrayVec<(Oid, Row), MOST_ROWS>;
+pub(crate) type NewRows = ArrayVec<(Oid, Row), PUT_ROWS>;
 
 // As many pairs as a full node has, and one more.
 const PAIRS_TO_CUT: usize = NODE_PAIRS + 1;
@@ -62,7 +62,7 @@ pub(crate) fn plan(path: &[Step], made: &[Oid], key: u64, row: &Row) -> NewRows
 
 // Plans the rows of the root, which a pair is handed to. A full one is cut: its halves go to the objects made from `next` on.
 fn plan_root(root: &Step, pair: (u64, Oid), made: &[Oid], next: usize, rows: &mut NewRows)
-    requires room { length rows.old.items + 3 ≤ MOST_ROWS }
+    requires room { length rows.old.items + 3 ≤ PUT_ROWS }
     requires enough { is_full (place_of root.now) ≡ true → next + 1 < length made.now }
     ensures { rows.new.items ≡ rows.old.items ++ root_rows (place_of root.now) (slice_index made.now next) (slice_index made.now (next + 1)) pair }
 {
@@ -121,7 +121,7 @@ fn plan_below(
     row: &Row,
     rows: &mut NewRows,
 ) -> Option<(u64, Oid)>
-    requires room { length rows.old.items + 2 * length path.now + 1 ≤ MOST_ROWS }
+    requires room { length rows.old.items + 2 * length path.now + 1 ≤ PUT_ROWS }
     requires enough { full_run (places_of path.now) < length made.now }
     ensures pair { result ≡ handed_up made.now key (places_of path.now) }
     ensures rows { rows.new.items ≡ rows.old.items ++ rows_below made.now key row.now (places_of path.now) }

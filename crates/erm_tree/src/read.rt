@@ -1,12 +1,12 @@
 //! Calls that read: the value and the record of a key, and the next key with a value.
-ghost use Rattle.std.specs.Prelude.{◌≡◌, ◌<◌, ◌-◌, ◌^◌, ℕ, IfOk, IfErr, IfSome};
+ghost use Rattle.std.specs.Prelude.{◌≡◌, ◌<◌, ◌^◌, ℕ, IfOk, IfErr, IfSome};
 ghost use Rattle.erm_model.specs.Database.{IsNextAt, value_at};
 ghost use Rattle.erm_model.specs.RowTransaction.{SameLaw, StopsRead, IsStopped};
 ghost use Rattle.erm_node.specs.Sound.{sound_law};
 ghost use Rattle.erm_node.specs.TreeMap.{map_of_rows, record_in};
 ghost use Rattle.erm_tree.specs.Calls.{AsksReads, IsReady, IsTold, Reads, SawIn};
 ghost use Rattle.erm_tree.specs.Reads.{IsMetIn, IsOnWay, IsSought};
-ghost use Rattle.erm_tree.specs.Walk.{IsFirstIn, IsLeafFor, IsOfLeaf, bound_of, last_sought};
+ghost use Rattle.erm_tree.specs.Walk.{IsFirstIn, IsLeafFor, IsMetByFirst, IsMetByNext, IsOfLeaf, bound_of, last_sought};
 
 use crate::walk::{Leaf, leaf_for, record_for};
 use erm_model::{OID_LIMIT, Oid, RowRead, RowStop, TABLES, Value};
@@ -49,7 +49,7 @@ pub fn next<T: RowRead>(txn: &mut T, table: u8, from: u64) -> Result<Option<(u64
     requires law { SameLaw T.face.law sound_law }
     requires table { table < TABLES }
     ensures ok { IfOk result (λ found. SawIn T.face (λ rows x. IsMetIn rows table from (last_sought (2 ^ 64) found) x) txn.old txn.new (λ rows. IsNextAt (map_of_rows rows) table from found)) }
-    ensures err { IfErr result (λ stop. IsStopped T.face StopsRead (Reads T.face.law (λ rows x. IsMetIn rows table from (2 ^ 64 - 1) x)) (AsksReads (λ rows x. IsMetIn rows table from (2 ^ 64 - 1) x)) txn.old stop txn.new) }
+    ensures err { IfErr result (λ stop. IsStopped T.face StopsRead (Reads T.face.law (IsMetByNext table from)) (AsksReads (IsMetByNext table from)) txn.old stop txn.new) }
 {
     map_has_values_of_records();
     let mut low = from;
@@ -75,7 +75,7 @@ fn first_value<T: RowRead>(
     requires leaf { IsTold T.face txn.old (λ rows. (table : ℕ) × IsLeafFor rows table low leaf.now.pairs.items (bound_of leaf.now.end)) }
     ensures ok { IfOk result (λ found. SawIn T.face (λ rows x. IsOfLeaf rows low leaf.now.pairs.items (bound_of leaf.now.end) (last_sought (bound_of leaf.now.end) found) x) txn.old txn.new
         (λ rows. (table : ℕ) → IsLeafFor rows table low leaf.now.pairs.items (bound_of leaf.now.end) → IsFirstIn rows table low (bound_of leaf.now.end) found)) }
-    ensures err { IfErr result (λ stop. IsStopped T.face StopsRead (Reads T.face.law (λ rows x. IsOfLeaf rows low leaf.now.pairs.items (bound_of leaf.now.end) (bound_of leaf.now.end - 1) x)) (AsksReads (λ rows x. IsOfLeaf rows low leaf.now.pairs.items (bound_of leaf.now.end) (bound_of leaf.now.end - 1) x)) txn.old stop txn.new) }
+    ensures err { IfErr result (λ stop. IsStopped T.face StopsRead (Reads T.face.law (IsMetByFirst low leaf.now.pairs.items (bound_of leaf.now.end))) (AsksReads (IsMetByFirst low leaf.now.pairs.items (bound_of leaf.now.end))) txn.old stop txn.new) }
 {
     let pairs = leaf.pairs.as_slice();
     for pair in pairs {

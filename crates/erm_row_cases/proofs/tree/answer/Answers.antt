@@ -1,4 +1,4 @@
-use Rattle.std.proofs.Common.{◌≡◌, ◌^◌, ◌-◌, ℕ, List}
+use Rattle.std.proofs.Common.{◌≡◌, ◌^◌, ℕ, List}
 use Rattle.std.specs.FinMap.{insert, remove}
 use Rattle.erm_model.specs.Database.{IsNextAt, at, value_at}
 use Rattle.erm_model.specs.Rows.{Rows}
@@ -11,7 +11,7 @@ use Rattle.erm_row_cases.specs.declared.tree.memory.MemoryTxn.{MemoryTxn}
 use Rattle.erm_tree.specs.Calls.{AsksReads, Reads}
 use Rattle.erm_tree.specs.Change.{AsksDel, AsksPut, IsDel, IsPrefix, IsPut, StopsChange, StopsPut}
 use Rattle.erm_tree.specs.Reads.{IsMetIn, IsOnWay, IsSought}
-use Rattle.erm_tree.specs.Walk.{last_sought}
+use Rattle.erm_tree.specs.Walk.{IsMetByNext, last_sought}
 use Rattle.erm_tree.proofs.Calls.{SawIn-ready}
 use Rattle.erm_row_cases.proofs.Memory.{memory_face}
 use Rattle.erm_tree.proofs.Refusals.{Ready-did, Ready-stopped}
@@ -27,7 +27,7 @@ pub returns-in_err-del-in-Del : goal.returns-in_err-del-in-Del
 returns-in_err-del-in-Del c = Ready-stopped (memory_face (λ (s : MemoryTxn). s.rows.items) (λ (s : MemoryTxn). s.claimed.items) (λ (s : MemoryTxn). s.seen.items) (λ (s : MemoryTxn). s.next)) StopsChange (Reads sound_law (IsOnWay c.in-Del.table c.in-Del.key)) (AsksDel c.in-Del.table c.in-Del.key) c.args.txn.now c.del.new.txn c.in_err-del-in-Del.field-0.0 (λ es is. WritesNothing-OnlyReads es is.only) c.requires.lawful tt c.in_err-del-in-Del.ensures.err
 
 pub returns-in_err-next-in-Next : goal.returns-in_err-next-in-Next
-returns-in_err-next-in-Next c = Ready-stopped (memory_face (λ (s : MemoryTxn). s.rows.items) (λ (s : MemoryTxn). s.claimed.items) (λ (s : MemoryTxn). s.seen.items) (λ (s : MemoryTxn). s.next)) StopsRead (Reads sound_law (λ (rows : Rows) (x : ℕ). IsMetIn rows c.in-Next.table c.in-Next.from (2 ^ 64 - 1) x)) (AsksReads (λ (rows : Rows) (x : ℕ). IsMetIn rows c.in-Next.table c.in-Next.from (2 ^ 64 - 1) x)) c.args.txn.now c.next.new.txn c.in_err-next-in-Next.field-0.0 (λ es is. WritesNothing-OnlyReads es is.only) c.requires.lawful tt c.in_err-next-in-Next.ensures.err
+returns-in_err-next-in-Next c = Ready-stopped (memory_face (λ (s : MemoryTxn). s.rows.items) (λ (s : MemoryTxn). s.claimed.items) (λ (s : MemoryTxn). s.seen.items) (λ (s : MemoryTxn). s.next)) StopsRead (Reads sound_law (IsMetByNext c.in-Next.table c.in-Next.from)) (AsksReads (IsMetByNext c.in-Next.table c.in-Next.from)) c.args.txn.now c.next.new.txn c.in_err-next-in-Next.field-0.0 (λ es is. WritesNothing-OnlyReads es is.only) c.requires.lawful tt c.in_err-next-in-Next.ensures.err
 
 pub returns-in_ok-get-in-Get : goal.returns-in_ok-get-in-Get
 returns-in_ok-get-in-Get c = SawIn-ready (memory_face (λ (s : MemoryTxn). s.rows.items) (λ (s : MemoryTxn). s.claimed.items) (λ (s : MemoryTxn). s.seen.items) (λ (s : MemoryTxn). s.next)) (λ s t u a b. tt) (IsSought c.in-Get.table c.in-Get.key) c.args.txn.now c.get.new.txn (λ (rows : Rows). c.in_ok-get-in-Get.field-0 ≡ value_at (map_of_rows rows) c.in-Get.table c.in-Get.key) c.requires.lawful c.in_ok-get-in-Get.ensures.ok

@@ -24,7 +24,7 @@ returns-in_err-oid-clause-err g c =
     let kind : List Event → Type 0 = Reads g.T.RowRead.face.law (IsOnWay c.args.table c.args.key) in
     let p = err_from_is_err_and c.from_residual.result c.from_residual.ensures.1 in
     rw (p.1, p.2) (IsStopped-among g.T.RowRead.face t.goes_on StopsRead StopsChange kind kind (AsksReads (IsOnWay c.args.table c.args.key)) (AsksDel c.args.table c.args.key) c.args.txn.now c.record_for.new.txn c.in_err-oid.field-0.0 (λ stop named. inl named) (λ es is. is)
-    (λ es array asked asks. AsksDel-reads c.args.table c.args.key es array asked asks) c.in_err-oid.ensures.err)
+    (λ es array asked is asks. AsksDel-reads c.args.table c.args.key es array asked asks) c.in_err-oid.ensures.err)
 
 pub returns-in-Some-clause-ok : goal.returns-in-Some-clause-ok
 returns-in-Some-clause-ok g c =

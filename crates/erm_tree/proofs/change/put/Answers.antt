@@ -40,8 +40,8 @@ whole_put table key value rows events = IsPut rows table key (value_row value) e
 reads_begin : (table key : ℕ) (value : List ℕ) (array : Rows) (es : List Event) → OnlyReads es → ReadsAre (IsOnWay table key array) es → (others : List Event) × whole_put table key value array (es ++ others)
 reads_begin table key value array es only of = IsPut-reads table key (value_row value) array es only of
 
-put_reads : (table key : ℕ) (value : List ℕ) (es : List Event) (array : Rows) (asked : Asked) → AsksReads (IsOnWay table key) es array asked → asks_put table key value es array asked
-put_reads table key value es array asked asks = AsksPut-reads table key (value_row value) es array asked asks
+put_reads : (table key : ℕ) (value : List ℕ) (es : List Event) (array : Rows) (asked : Asked) → OnlyReads es → AsksReads (IsOnWay table key) es array asked → asks_put table key value es array asked
+put_reads table key value es array asked only asks = AsksPut-reads table key (value_row value) es array asked only asks
 
 pub returns-in_err-path-clause-err : goal.returns-in_err-path-clause-err
 returns-in_err-path-clause-err g c =

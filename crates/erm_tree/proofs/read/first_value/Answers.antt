@@ -4,7 +4,7 @@ use Rattle.erm_model.specs.Rows.{Rows}
 use Rattle.erm_model.specs.RowTransaction.{StopsRead, IsStopped}
 use Rattle.erm_node.specs.Tree.{first_key}
 use Rattle.erm_tree.specs.Calls.{AsksReads, Reads, SawIn, IsTold}
-use Rattle.erm_tree.specs.Walk.{IsFirstIn, IsLeafFor, IsOfLeaf, bound_of}
+use Rattle.erm_tree.specs.Walk.{IsFirstIn, IsLeafFor, IsMetByFirst, IsOfLeaf, bound_of}
 use Rattle.erm_tree.proofs.Calls.{IsStopped-read}
 use Rattle.erm_tree.proofs.Nexts.{HasNoneUpTo, Along-start, Along-bounded, Along-read_at, Along-wide, Along-below, Along-none, Along-some, Along-end}
 use Rattle.erm_tree.proofs.read.first_value.Goals as goal
@@ -30,8 +30,8 @@ returns-in_err-row-clause-err g c =
     let p = err_from_is_err_and c.from_residual.result c.from_residual.ensures.1 in
     let seen = Along-wide face t.goes_on c.args.low pairs to c.args.txn.now c.loop-pair.txn c.loop-pair.pair-index c.loop-pair-test.true c.loop-pair.invariant in
     let read = Along-read_at c.args.low pairs to c.loop-pair.pair-index c.loop-pair-test.true c.if-pair-low.true in
-    let stopped = IsStopped-read face t.goes_on (λ (rows : Rows) (x : ℕ). IsOfLeaf rows c.args.low pairs to (to - 1) x) StopsRead c.args.txn.now c.loop-pair.txn c.read.new.self (get_or pairs c.loop-pair.pair-index (0, 0)).1 c.in_err-row.field-0.0 (HasNoneUpTo c.args.low pairs to c.loop-pair.pair-index) (λ array meets none. read array) seen c.in_err-row.ensures.err in
-    rw (p.1, p.2) (subst (λ (ps : List (ℕ × ℕ)). IsStopped face StopsRead (Reads face.law (λ (rows : Rows) (x : ℕ). IsOfLeaf rows c.args.low ps to (to - 1) x)) (AsksReads (λ (rows : Rows) (x : ℕ). IsOfLeaf rows c.args.low ps to (to - 1) x)) c.args.txn.now c.in_err-row.field-0.0 c.read.new.self) c.as_slice-pairs.ensures.value stopped)
+    let stopped = IsStopped-read face t.goes_on (IsMetByFirst c.args.low pairs to) StopsRead c.args.txn.now c.loop-pair.txn c.read.new.self (get_or pairs c.loop-pair.pair-index (0, 0)).1 c.in_err-row.field-0.0 (HasNoneUpTo c.args.low pairs to c.loop-pair.pair-index) (λ array meets none. read array none) seen c.in_err-row.ensures.err in
+    rw (p.1, p.2) (subst (λ (ps : List (ℕ × ℕ)). IsStopped face StopsRead (Reads face.law (IsMetByFirst c.args.low ps to)) (AsksReads (IsMetByFirst c.args.low ps to)) c.args.txn.now c.in_err-row.field-0.0 c.read.new.self) c.as_slice-pairs.ensures.value stopped)
 
 pub returns-in-Some-clause-ok : goal.returns-in-Some-clause-ok
 returns-in-Some-clause-ok g c =
