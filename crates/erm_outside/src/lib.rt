@@ -4,11 +4,13 @@
 
 mod disk;
 mod gate;
+mod laws;
 mod sink;
 mod source;
 
 pub use disk::{Disk, File};
 pub use gate::{Gate, Place};
+pub use laws::{files_stand_alone, reads_are_an_image, syncs_settle};
 pub use sink::{Sink, put_all};
 pub use source::Source;
 

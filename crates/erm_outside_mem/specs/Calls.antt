@@ -1,20 +1,22 @@
 -- Calls that are counted, and which of them fail.
-use Rattle.std.specs.Prelude.{◌≡◌, ℕ, List, [], Contains, Result, MatchResult}
+use Rattle.std.specs.Prelude.{◌≡◌, ◌<◌, ◌⊎◌, ℕ, List, [], Contains, Option, None, IsSomeAnd, Result, MatchResult}
 use Rattle.erm_outside.specs.Faults.{next}
 
--- how many calls there were, which of them are to fail, by their numbers from 1, and how many failed
+-- how many calls there were, which of them are to fail, by their numbers from 1, behind which number all are, and how
+-- many failed
 pub record CallState : Type 0 where
   pub count : ℕ
   pub failing : List ℕ
+  pub last : Option ℕ
   pub faults : ℕ
 
 -- no call yet, and none that is to fail
 abbrev pub no_calls : CallState
-no_calls = record { count = 0; failing = []; faults = 0 }
+no_calls = record { count = 0; failing = []; last = None; faults = 0 }
 
 -- the next call is to fail
 abbrev pub IsToFail : CallState → Type 0
-IsToFail calls = Contains calls.failing (next calls.count)
+IsToFail calls = Contains calls.failing (next calls.count) ⊎ IsSomeAnd calls.last (λ last. last < next calls.count)
 
 -- after a call that went well
 abbrev pub with_success : CallState → CallState

@@ -1,5 +1,5 @@
 //! The calls of an object: how many there were, which are to fail, and how many failed.
-ghost use Rattle.std.specs.Prelude.{◌≡◌, ◌↔◌, IsTrue, IsErr, Contains};
+ghost use Rattle.std.specs.Prelude.{◌≡◌, ◌<◌, ◌↔◌, IsTrue, IsErr, IsSomeAnd, Some, Contains};
 ghost use Rattle.std.specs.List.Sorted.{IsPermutation, IsSorted};
 ghost use Rattle.std.specs.Ordering.{nat_cmp};
 ghost use Rattle.erm_outside.specs.Faults.{next};
@@ -14,6 +14,7 @@ use std::marker::Model;
 pub struct Calls {
     count: u64,
     failing: Vec<u64>,
+    last: Option<u64>,
     faults: u64,
 }
 
@@ -24,7 +25,7 @@ impl Model for Calls {
 
     ghost Value = { CallState };
 
-    ghost view = { λ c. record { count = c.count; failing = c.failing.items; faults = c.faults } };
+    ghost view = { λ c. record { count = c.count; failing = c.failing.items; last = c.last; faults = c.faults } };
 
     ghost invariant = { λ c. IsSorted nat_cmp c.failing.items };
 }
@@ -37,6 +38,7 @@ impl Calls {
         Calls {
             count: 0,
             failing: Vec::new(alloc),
+            last: None,
             faults: 0,
         }
     }
@@ -50,13 +52,27 @@ impl Calls {
         self.failing = failing;
     }
 
+    /// Each call behind this many is to fail too.
+    pub fn set_last(&mut self, last: u64)
+        ensures { self.new ≡ record self.old { last = Some last } }
+    {
+        self.last = Some(last);
+    }
+
+    /// How many calls there were.
+    pub fn count(&self) -> u64
+        ensures { result ≡ self.now.count }
+    {
+        self.count
+    }
+
     /// Counts a call, and fails it if it is to fail.
     pub fn begin(&mut self) -> Result<(), Failed>
         ensures fails { IsErr result ↔ IsToFail self.old }
         ensures counted { CountsCall self.old self.new result }
     {
         self.count = one_more(self.count);
-        if is_among(&self.failing, self.count) {
+        if is_among(&self.failing, self.count) || is_behind(self.last, self.count) {
             return Err(self.fail());
         }
         Ok(())
@@ -76,6 +92,16 @@ fn one_more(count: u64) -> u64
     ensures { result ≡ next count }
 {
     count.saturating_add(1)
+}
+
+/// Whether a number lies behind the last that passes, if there is a last.
+fn is_behind(last: Option<u64>, number: u64) -> bool
+    ensures { IsTrue result ↔ IsSomeAnd last (λ last. last < number) }
+{
+    match last {
+        Some(last) => last < number,
+        None => false,
+    }
 }
 
 /// Whether a number is among these, which ascend.

@@ -3,14 +3,22 @@
 #![tactic(auto)]
 
 mod calls;
+mod crash;
+mod files;
 mod mem_disk;
 mod mem_sink;
 mod mem_source;
+mod notes;
 mod open_gate;
+mod picks;
+mod silent;
 mod steady_source;
+mod syncs;
 
 pub use mem_disk::MemDisk;
 pub use mem_sink::MemSink;
 pub use mem_source::MemSource;
 pub use open_gate::OpenGate;
+pub use picks::Pick;
+pub use silent::Silent;
 pub use steady_source::SteadySource;

@@ -1,139 +1,333 @@
 //! A disk in memory.
-ghost use Rattle.std.specs.Prelude.{◌≡◌, ◌≤◌, ◌↔◌, length, IsErr, IfOk};
+ghost use Rattle.std.specs.Prelude.{◌≡◌, ◌≤◌, ◌↔◌, ◌∷◌, [], if◌then◌else◌, List, length, take, IsErr, IfOk, IfSome, OnOk, OnErr, Some};
 ghost use Rattle.std.specs.List.Sorted.{IsPermutation};
-ghost use Rattle.erm_outside_mem.specs.Calls.{no_calls, IsToFail, CountsCall};
+ghost use Rattle.erm_outside.specs.Faults.{next};
+ghost use Rattle.erm_outside.specs.declared.disk.File.{File as DiskFile};
+ghost use Rattle.erm_outside.specs.Disk.{Change, same_file, changes_of, bytes_after, contents as contents_after, patched, IsImage, IsSettled, IsNextSegment, MayTry, Reads, Same};
+ghost use Rattle.erm_outside.specs.Disk.Change.{Wrote, Tried, Synced, Removed};
+ghost use Rattle.erm_outside_mem.specs.Calls.{no_calls, IsToFail, CountsCall, with_fault};
+ghost use Rattle.erm_outside_mem.specs.declared.picks.Pick.TheVariants.{All};
+ghost use Rattle.erm_outside_mem.specs.Picks.{landed as landed_of, removed_by, played, picked};
+ghost use Rattle.erm_outside_mem.specs.DiskNotes.{change_of, empty_disk, front_of, Leaves};
 
 use crate::calls::Calls;
+use crate::crash::play;
+use crate::files::{Files, contents, next_segment, read_from, write_file};
+use crate::notes::{Done, Work, forget, note};
+use crate::picks::{Pick, landed};
 use erm_outside::{Disk, Failed, File};
 use std::alloc::{AllocError, Global};
 use std::collections::BTreeMap;
 use std::marker::Model;
 
-type Files = BTreeMap<File, Vec<u8>>;
-
-/// A disk that keeps its files in memory. What was written lasts at once. Where memory is refused, or a write would
-/// end behind 2^64 - 1, the call fails.
+/// A disk that keeps its files in memory, and tells all that was done to it. Where memory is refused, or a write would
+/// end behind 2^64 - 1, the call fails and does nothing.
 #[derive(Drop)]
 pub struct MemDisk {
     alloc: Global,
     files: Files,
+    done: Vec<Done>,
+    fronts: BTreeMap<u64, usize>,
     calls: Calls,
 }
 
 impl Model for MemDisk {
-    ghost use Rattle.erm_outside_mem.specs.Calls.{CallState};
+    ghost use Rattle.erm_outside_mem.specs.DiskNotes.{DiskState, steps_of, IsKept};
 
-    ghost Value = { CallState };
+    ghost Value = { DiskState };
 
-    ghost view = { λ d. d.calls };
+    ghost view = { λ d. record { steps = steps_of d.done.items; fronts = d.fronts.entries; calls = d.calls } };
+
+    ghost invariant = { λ d. IsKept d.files (steps_of d.done.items) };
 }
 
 impl MemDisk {
     /// A disk whose files are all empty.
     pub fn new(alloc: Global) -> Self
-        ensures { result ≡ no_calls }
+        ensures { result ≡ empty_disk }
     {
         MemDisk {
             alloc,
             files: BTreeMap::new(alloc),
+            done: Vec::new(alloc),
+            fronts: BTreeMap::new(alloc),
             calls: Calls::new(alloc),
         }
     }
 
     /// The same disk, of which these calls fail: by their numbers from 1, in place of those named before.
     pub fn failing(mut self, calls: Vec<u64>) -> Self
-        ensures failing { IsPermutation calls.items result.failing }
-        ensures others { result ≡ record self { failing = result.failing } }
+        ensures failing { IsPermutation calls.items result.calls.failing }
+        ensures others { result
+            ≡ record self { calls = record self.calls { failing = result.calls.failing } } }
     {
         self.calls.set_failing(calls);
         self
     }
 
-    /// The bytes of a file.
-    fn contents(&self, file: File) -> &[u8] {
-        match self.files.get(&file) {
-            Some(contents) => contents,
-            None => &[],
+    /// The same disk, of which a write that is to fail leaves so many of its bytes from the front, by the number of the
+    /// call, in place of what was said before. Of a write that isn't named nothing is done.
+    pub fn leaving(mut self, fronts: BTreeMap<u64, usize>) -> Self
+        ensures { result ≡ record self { fronts = fronts.entries } }
+    {
+        self.fronts = fronts;
+        self
+    }
+
+    /// The same disk, of which each call behind the first `calls` fails.
+    pub fn stop_at(mut self, calls: u64) -> Self
+        ensures { result ≡ record self { calls = record self.calls { last = Some calls } } }
+    {
+        self.calls.set_last(calls);
+        self
+    }
+
+    // Notes what is done to a file, and writes these bytes to it.
+    fn put(&mut self, file: File, at: u64, bytes: &[u8], work: Work) -> Result<(), AllocError>
+        requires writes { (before : List Change) → bytes_after (change_of work ∷ before) ≡ patched (bytes_after before) at bytes.now }
+        ensures told { OnOk result (self.new ≡ record self.old { steps = record { file = file; change = change_of work } ∷ self.old.steps }) }
+        ensures none { OnErr result (self.new ≡ self.old) }
+    {
+        note(&mut self.done, file, work)?;
+        match write_file(self.alloc, &mut self.files, file, at, bytes) {
+            Ok(()) => Ok(()),
+            Err(error) => {
+                forget(&mut self.done);
+                Err(error)
+            }
+        }
+    }
+
+    // Notes what is done to a file, where that changes no bytes.
+    fn note(&mut self, file: File, work: Work) -> Result<(), AllocError>
+        requires keeps { (before : List Change) → bytes_after (change_of work ∷ before) ≡ bytes_after before }
+        ensures told { OnOk result (self.new ≡ record self.old { steps = record { file = file; change = change_of work } ∷ self.old.steps }) }
+        ensures none { OnErr result (self.new ≡ self.old) }
+    {
+        note(&mut self.done, file, work)
+    }
+
+    // Removes a file, and notes it.
+    fn clear(&mut self, file: File) -> Result<(), AllocError>
+        ensures told { OnOk result (self.new ≡ record self.old { steps = record { file = file; change = Removed } ∷ self.old.steps }) }
+        ensures none { OnErr result (self.new ≡ self.old) }
+    {
+        note(&mut self.done, file, Work::Removed)?;
+        let _ = self.files.remove(&file);
+        Ok(())
+    }
+
+    // Writes bytes, and notes it.
+    fn put_whole(&mut self, file: File, at: u64, bytes: &[u8]) -> Result<(), AllocError>
+        ensures told { OnOk result (self.new ≡ record self.old { steps = record { file = file; change = Wrote at bytes.now } ∷ self.old.steps }) }
+        ensures none { OnErr result (self.new ≡ self.old) }
+    {
+        let copy = Vec::from_slice(self.alloc, bytes)?;
+        self.put(file, at, bytes, Work::Wrote { at, bytes: copy })
+    }
+
+    // Writes a front of bytes, and notes that no more was done of a write of all of them.
+    fn put_front(
+        &mut self,
+        file: File,
+        at: u64,
+        bytes: &[u8],
+        front: usize,
+    ) -> Result<(), AllocError>
+        ensures told { OnOk result (self.new ≡ record self.old { steps = record { file = file; change = Tried at bytes.now (take front bytes.now) } ∷ self.old.steps }) }
+        ensures none { OnErr result (self.new ≡ self.old) }
+    {
+        let copy = Vec::from_slice(self.alloc, bytes)?;
+        let written = &bytes[..front.min(bytes.len())];
+        let work = Work::Tried {
+            at,
+            bytes: copy,
+            left: front,
+        };
+        self.put(file, at, written, work)
+    }
+
+    // Writes bytes, and waits until they last.
+    fn put_lasting(&mut self, file: File, at: u64, bytes: &[u8]) -> Result<(), AllocError>
+        ensures lands { OnOk result ((other : DiskFile) → contents_after self.new.steps other
+            ≡ (if same_file file other then patched (contents_after self.old.steps other) at bytes.now else contents_after self.old.steps other)) }
+        ensures settled { OnOk result (IsSettled self.old.steps → IsSettled self.new.steps) }
+        ensures others { self.new ≡ record self.old { steps = self.new.steps } }
+    {
+        self.put_whole(file, at, bytes)?;
+        self.note(file, Work::Synced)
+    }
+
+    // Removes a file, and waits until that lasts.
+    fn clear_lasting(&mut self, file: File) -> Result<(), AllocError>
+        ensures lands { OnOk result ((other : DiskFile) → contents_after self.new.steps other
+            ≡ (if same_file file other then [] else contents_after self.old.steps other)) }
+        ensures settled { OnOk result (IsSettled self.old.steps → IsSettled self.new.steps) }
+        ensures others { self.new ≡ record self.old { steps = self.new.steps } }
+    {
+        self.clear(file)?;
+        self.note(file, Work::Synced)
+    }
+
+    // Does a removal of which so much landed.
+    fn land_removal(&mut self, file: File, pick: Pick) -> Result<(), AllocError>
+        ensures lands { OnOk result ((other : DiskFile) → contents_after self.new.steps other
+            ≡ (if same_file file other then removed_by pick (contents_after self.old.steps other) else contents_after self.old.steps other)) }
+        ensures settled { OnOk result (IsSettled self.old.steps → IsSettled self.new.steps) }
+        ensures others { self.new ≡ record self.old { steps = self.new.steps } }
+    {
+        match pick {
+            Pick::All => self.clear_lasting(file),
+            Pick::Nothing | Pick::Marks => Ok(()),
+        }
+    }
+
+    // Does a write of `count` bytes that left some, of which so much landed.
+    fn land_write(
+        &mut self,
+        file: File,
+        at: u64,
+        left: &[u8],
+        count: usize,
+        pick: Pick,
+    ) -> Result<(), AllocError>
+        ensures lands { OnOk result ((other : DiskFile) → contents_after self.new.steps other
+            ≡ (if same_file file other then patched (contents_after self.old.steps other) at (landed_of pick left.now count) else contents_after self.old.steps other)) }
+        ensures settled { OnOk result (IsSettled self.old.steps → IsSettled self.new.steps) }
+        ensures others { self.new ≡ record self.old { steps = self.new.steps } }
+    {
+        let bytes = landed(self.alloc, pick, left, count)?;
+        self.put_lasting(file, at, &bytes)
+    }
+
+    /// Does what a note says, of which so much landed, and waits until that lasts.
+    pub(crate) fn land(&mut self, done: &Done, pick: Pick) -> Result<(), AllocError>
+        ensures lands { OnOk result ((other : DiskFile) → contents_after self.new.steps other
+            ≡ (if same_file done.now.file other then played pick (change_of done.now.work) (contents_after self.old.steps other) else contents_after self.old.steps other)) }
+        ensures settled { OnOk result (IsSettled self.old.steps → IsSettled self.new.steps) }
+        ensures others { self.new ≡ record self.old { steps = self.new.steps } }
+    {
+        match &done.work {
+            Work::Wrote { at, bytes } => self.land_write(done.file, *at, bytes, bytes.len(), pick),
+            Work::Tried { at, bytes, left } => {
+                let front = &bytes[..(*left).min(bytes.len())];
+                self.land_write(done.file, *at, front, bytes.len(), pick)
+            }
+            Work::Removed => self.land_removal(done.file, pick),
+            Work::Synced => Ok(()),
+        }
+    }
+
+    /// A disk that holds an image that a crash now may leave: what was waited for, and of the rest what the pick says.
+    /// Nothing is pending on it, and no call of it is to fail.
+    pub fn image(&self, pick: Pick) -> Result<MemDisk, AllocError>
+        ensures image { IfOk result (λ disk. IsImage self.now.steps (contents_after disk.steps)) }
+        ensures picked { IfOk result (λ disk. (file : DiskFile) → contents_after disk.steps file ≡ picked pick (changes_of file self.now.steps)) }
+        ensures all { IfOk result (λ disk. pick ≡ All → Same (contents_after disk.steps) (contents_after self.now.steps)) }
+        ensures settled { IfOk result (λ disk. IsSettled disk.steps) }
+        ensures fresh { IfOk result (λ disk. disk ≡ record empty_disk { steps = disk.steps }) }
+    {
+        play(self.alloc, &self.done, pick)
+    }
+
+    // Does what is left of a write that fails.
+    fn tear(&mut self, file: File, at: u64, bytes: &[u8])
+        ensures leaves { Leaves (front_of self.old.fronts self.old.calls.count) file at bytes.now self.old.steps self.new.steps }
+        ensures tries { MayTry file at bytes.now (Some self.old.steps) (Some self.new.steps) }
+        ensures others { self.new ≡ record self.old { steps = self.new.steps } }
+    {
+        let call = self.calls.count();
+        if let Some(front) = self.fronts.get(&call).copied() {
+            let _ = self.put_front(file, at, bytes, front);
         }
     }
 }
 
-/// Writes bytes over what is there, and zeros between the end and `at`.
-fn overwrite(contents: &mut Vec<u8>, at: usize, bytes: &[u8]) -> Result<(), AllocError> {
-    let Some(end) = at.checked_add(bytes.len()) else {
-        return Err(AllocError);
-    };
-    if contents.len() < end {
-        contents.resize(end, 0)?;
-    }
-    contents[at..end].copy_from_slice(bytes);
-    Ok(())
-}
-
-/// Writes bytes to a file, which may be new.
-fn write_file(
-    alloc: Global,
-    files: &mut Files,
-    file: File,
-    at: u64,
-    bytes: &[u8],
-) -> Result<(), AllocError> {
-    if bytes.is_empty() {
-        return Ok(());
-    }
-    let contents = files.entry(file)?.or_insert(Vec::new(alloc));
-    overwrite(contents, at as usize, bytes)
-}
-
 impl Disk for MemDisk {
-    ghost faults = { λ calls. calls.faults };
+    ghost faults = { λ disk. disk.calls.faults };
+
+    ghost told = { λ disk. Some disk.steps };
 
     fn len(&mut self, file: File) -> Result<u64, Failed>
-        ensures fails { IsErr result ↔ IsToFail self.old }
-        ensures counted { CountsCall self.old self.new result }
+        ensures fails { IsErr result ↔ IsToFail self.old.calls }
+        ensures counted { CountsCall self.old.calls self.new.calls result }
+        ensures others { self.new ≡ record self.old { calls = self.new.calls } }
+        ensures length { IfOk result (λ n. n ≡ length (contents_after self.old.steps file)) }
     {
         self.calls.begin()?;
-        Ok(self.contents(file).len() as u64)
+        Ok(contents(&self.files, file).len() as u64)
     }
 
     fn read(&mut self, file: File, at: u64, buf: &mut [u8]) -> Result<usize, Failed>
         ensures within { IfOk result (λ n. n ≤ length buf.old) }
-        ensures fails { IsErr result ↔ IsToFail self.old }
-        ensures counted { CountsCall self.old self.new result }
+        ensures fails { IsErr result ↔ IsToFail self.old.calls }
+        ensures counted { CountsCall self.old.calls self.new.calls result }
+        ensures others { self.new ≡ record self.old { calls = self.new.calls } }
+        ensures bytes { IfOk result (λ n. Reads (contents_after self.old.steps file) at n buf.old buf.new) }
+        ensures unread { OnErr result (buf.new ≡ buf.old) }
     {
         self.calls.begin()?;
-        let contents = self.contents(file);
-        let rest = contents.get(at as usize..).unwrap_or(&[]);
-        let count = rest.len().min(buf.len());
-        buf[..count].copy_from_slice(&rest[..count]);
-        Ok(count)
+        Ok(read_from(contents(&self.files, file), at, buf))
+    }
+
+    fn next_segment(&mut self, from: u64) -> Result<Option<u64>, Failed>
+        ensures fails { IsErr result ↔ IsToFail self.old.calls }
+        ensures counted { CountsCall self.old.calls self.new.calls result }
+        ensures others { self.new ≡ record self.old { calls = self.new.calls } }
+        ensures above { IfOk result (λ found. IfSome found (λ n. from ≤ n)) }
+        ensures next { IfOk result (λ found. IsNextSegment (contents_after self.old.steps) from found) }
+    {
+        self.calls.begin()?;
+        Ok(next_segment(&self.files, from))
     }
 
     fn write(&mut self, file: File, at: u64, bytes: &[u8]) -> Result<(), Failed>
-        // It also fails where memory is refused.
-        ensures fails { IsToFail self.old → IsErr result }
-        ensures counted { CountsCall self.old self.new result }
+        // It also fails where memory is refused, and then nothing was done.
+        ensures fails { IsToFail self.old.calls → IsErr result }
+        ensures counted { CountsCall self.old.calls self.new.calls result }
+        ensures others { self.new ≡ record self.old { steps = self.new.steps; calls = self.new.calls } }
+        ensures told { OnOk result (self.new.steps ≡ record { file = file; change = Wrote at bytes.now } ∷ self.old.steps) }
+        ensures left { IsToFail self.old.calls → Leaves (front_of self.old.fronts (next self.old.calls.count)) file at bytes.now self.old.steps self.new.steps }
+        ensures nothing { IsErr result → (IsToFail self.old.calls → ⊥) → self.new.steps ≡ self.old.steps }
+        ensures tried { OnErr result (MayTry file at bytes.now (Some self.old.steps) (Some self.new.steps)) }
     {
-        self.calls.begin()?;
-        match write_file(self.alloc, &mut self.files, file, at, bytes) {
+        if let Err(failed) = self.calls.begin() {
+            self.tear(file, at, bytes);
+            return Err(failed);
+        }
+        match self.put_whole(file, at, bytes) {
             Ok(()) => Ok(()),
             Err(_) => Err(self.calls.fail()),
         }
     }
 
-    fn sync(&mut self, _file: File) -> Result<(), Failed>
-        ensures fails { IsErr result ↔ IsToFail self.old }
-        ensures counted { CountsCall self.old self.new result }
+    fn sync(&mut self, file: File) -> Result<(), Failed>
+        // It also fails where memory is refused.
+        ensures fails { IsToFail self.old.calls → IsErr result }
+        ensures counted { CountsCall self.old.calls self.new.calls result }
+        ensures others { self.new ≡ record self.old { steps = self.new.steps; calls = self.new.calls } }
+        ensures told { OnOk result (self.new.steps ≡ record { file = file; change = Synced } ∷ self.old.steps) }
+        ensures tried { OnErr result (self.new.steps ≡ self.old.steps) }
     {
-        self.calls.begin()
+        self.calls.begin()?;
+        match self.note(file, Work::Synced) {
+            Ok(()) => Ok(()),
+            Err(_) => Err(self.calls.fail()),
+        }
     }
 
     fn remove(&mut self, file: File) -> Result<(), Failed>
-        ensures fails { IsErr result ↔ IsToFail self.old }
-        ensures counted { CountsCall self.old self.new result }
+        // It also fails where memory is refused.
+        ensures fails { IsToFail self.old.calls → IsErr result }
+        ensures counted { CountsCall self.old.calls self.new.calls result }
+        ensures others { self.new ≡ record self.old { steps = self.new.steps; calls = self.new.calls } }
+        ensures told { OnOk result (self.new.steps ≡ record { file = file; change = Removed } ∷ self.old.steps) }
+        ensures tried { OnErr result (self.new.steps ≡ self.old.steps) }
     {
         self.calls.begin()?;
-        let _ = self.files.remove(&file);
-        Ok(())
+        match self.clear(file) {
+            Ok(()) => Ok(()),
+            Err(_) => Err(self.calls.fail()),
+        }
     }
 }

@@ -1,8 +1,8 @@
 use super::*;
-use erm_outside::{Failed, Sink, Source};
-use std::io;
+use erm_outside::{Disk, Failed, File, Sink, Source};
 use std::io::{Read, Write};
 use std::test::Fail;
+use std::{fs, io};
 
 // Moves a byte at each second call, and fails at the others.
 #[derive(Drop)]
@@ -89,5 +89,71 @@ fn an_error_is_a_fault(rt: HostRuntime) -> Result<(), Fail> {
     ] {
         assert!(rt; sink.put(piece) == put && source.take(&mut buf) == taken && buf[0] == byte);
     }
+    Ok(())
+}
+
+// What files are left to hold, by their paths: the names are those of the disk.
+const LEFT: [(&str, &[u8]); 2] = [
+    ("erm-data/slot1", b"\0\0slot"),
+    ("erm-data/log00000000000000ab", b"segment"),
+];
+
+// Whether bytes are what a file has from a place on.
+fn reads<D: Disk>(disk: &mut D, file: File, at: u64, bytes: &[u8]) -> bool {
+    let mut buf = [b'.'; 16];
+    match disk.read(file, at, &mut buf) {
+        Ok(count) => &buf[..count.min(16)] == bytes,
+        Err(Failed) => false,
+    }
+}
+
+// A disk that may be handed to another thread.
+fn is_writable<D: Disk + Send>(disk: &mut D) -> bool {
+    let segment = File::Segment(0xab);
+    disk.write(File::Slot0, 0, b"gone") == Ok(())
+        && disk.write(File::Slot1, 2, b"slot") == Ok(())
+        && disk.write(segment, 0, b"seg.") == Ok(())
+        && disk.sync(segment) == Ok(())
+        && disk.write(segment, 3, b"ment") == Ok(())
+        && disk.sync(segment) == Ok(())
+        && disk.write(segment, 100, b"") == Ok(())
+        && disk.remove(File::Slot0) == Ok(())
+        && disk.remove(File::Slot0) == Ok(())
+        && disk.sync(File::Slot0) == Ok(())
+}
+
+fn is_readable<D: Disk>(disk: &mut D) -> bool {
+    let segment = File::Segment(0xab);
+    disk.len(File::Slot0) == Ok(0)
+        && disk.len(File::Slot1) == Ok(6)
+        && reads(disk, segment, 3, b"ment")
+        && reads(disk, segment, 7, b"")
+        && reads(disk, segment, u64::MAX, b"")
+        && reads(disk, File::Slot0, 0, b"")
+        && disk.next_segment(0xab) == Ok(Some(0xab))
+        && disk.next_segment(0xac) == Ok(None)
+}
+
+// The folder is made by the first write, and is one disk's at a time. What lies in its place and is no folder fails.
+#[test]
+fn a_folder_is_a_disk(rt: HostRuntime) -> Result<(), Fail> {
+    let _ = fs::remove_dir_all(&rt, FOLDER);
+    let mut late = FolderDisk::new(&rt);
+    let mut disk = FolderDisk::new(&rt);
+    assert!(rt; late.len(File::Slot1) == Ok(0) && disk.next_segment(0) == Ok(None));
+    assert!(rt; !fs::exists(&rt, FOLDER)?);
+    assert!(rt; is_writable(&mut disk) && is_readable(&mut disk));
+    assert!(rt; late.write(File::Slot1, 0, b"x") == Err(Failed));
+    assert!(rt; FolderDisk::new(&rt).len(File::Slot1) == Err(Failed));
+    for (path, bytes) in LEFT {
+        assert!(rt; fs::read(&rt, path)?.as_slice() == bytes, "{path}");
+    }
+    drop(disk);
+    assert!(rt; is_readable(&mut FolderDisk::new(&rt)));
+    fs::remove_dir_all(&rt, FOLDER)?;
+    fs::write(&rt, FOLDER, b"no folder".as_slice())?;
+    let mut none = FolderDisk::new(&rt);
+    assert!(rt; none.len(File::Slot1) == Err(Failed) && none.sync(File::Slot1) == Err(Failed));
+    fs::remove_file(&rt, FOLDER)?;
     Ok(())
 }

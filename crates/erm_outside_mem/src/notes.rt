@@ -1,0 +1,52 @@
+//! What was done to a disk in memory, as it notes it.
+ghost use Rattle.std.specs.Prelude.{◌≡◌, ◌++◌, [], ◌∷◌, List, OnOk, OnErr};
+ghost use Rattle.erm_outside_mem.specs.DiskNotes.{change_of, steps_of};
+ghost use Rattle.erm_outside_mem.specs.declared.notes.Done.{Done as DoneNote};
+
+use erm_outside::File;
+use std::alloc::AllocError;
+
+/// What was done to a file.
+#[derive(Drop)]
+pub enum Work {
+    /// These bytes were written from a place on.
+    Wrote {
+        at: u64,
+        bytes: Vec<u8>,
+    },
+    /// A write of these bytes from a place on failed, and left so many from the front.
+    Tried {
+        at: u64,
+        bytes: Vec<u8>,
+        left: usize,
+    },
+    /// It was waited for what was done before to last.
+    Synced,
+    /// It was removed.
+    Removed,
+}
+
+/// What was done to a disk.
+#[derive(Drop)]
+pub struct Done {
+    pub file: File,
+    pub work: Work,
+}
+
+/// Notes what is done to a file.
+pub fn note(done: &mut Vec<Done>, file: File, work: Work) -> Result<(), AllocError>
+    ensures steps { OnOk result (steps_of done.new.items ≡ record { file = file; change = change_of work } ∷ steps_of done.old.items) }
+    ensures items { OnOk result (done.new.items ≡ done.old.items ++ record { file = file; work = work } ∷ []) }
+    ensures none { OnErr result (done.new.items ≡ done.old.items) }
+{
+    done.push(Done { file, work })?;
+    Ok(())
+}
+
+/// Takes the last note back.
+pub fn forget(done: &mut Vec<Done>)
+    ensures { (before : List DoneNote) (last : DoneNote) → done.old.items ≡ before ++ last ∷ [] → done.new.items ≡ before }
+{
+    let count = done.len();
+    done.truncate(count.saturating_sub(1));
+}
