@@ -124,6 +124,8 @@ module _ (seat : ℕ) (c : Core) (sound : Sound c) (session : is_flusher seat �
   pub begins : (sessions : ℕ) → c.shared.tail < STOP
       → DidBegin (view_of sessions c) seat c.shared.tail (view_of sessions (run_from c (begin_steps seat c.shared.tail)))
   begins sessions below = (
+    (let count = length-map (c.seats seat).over finished_of in omega (arith, count, left)),
+    below,
     refl,
     alone_shows sessions seat c (active seat c.shared.tail (c.seats seat)) (run_from c (begin_steps seat c.shared.tail)) _ (begins_alone below)
         (ap (λ (n : ℕ). record { over = map finished_of (c.seats seat).over; stand = world.active (world.begun n c.shared.tail) }) numbered_next),

@@ -23,14 +23,14 @@ use Rattle.erm_machine.specs.declared.version.CellWord.TheVariants as word
 use Rattle.erm_machine.specs.declared.version.VersionAt.{VersionAt}
 use Rattle.erm_machine.specs.Core.{Object, Shared, claim_at, no_claim}
 use Rattle.erm_machine.specs.Decided.{written_of}
-use Rattle.erm_machine.specs.Flushing.{load_flushed, gathered_word, load_ring, write_log, after_sync, sync_log, clear_ring, store_flushed, write_slot, sync_slot, remove_log, sync_removal}
+use Rattle.erm_machine.specs.Flushing.{load_flushed, gathered_word, load_ring, clear_ring, store_flushed}
 use Rattle.erm_machine.specs.Life.{load_tail_for_horizon, load_begin, load_state}
 use Rattle.erm_machine.specs.Reading.{load_entry, load_walked_stamp, load_walked_link, load_cell, swap_link, load_detached, load_counter, add_counter, load_active_stamp, with_cell}
 use Rattle.erm_machine.specs.Seat.{end_of, is_active, is_sealed, last_claim, with_claim}
 use Rattle.erm_machine.specs.Settling.{load_read_entry, load_readers, load_settled_stamp, load_stamp, store_ring, raise_reader, mark_overwritten, install_claim, adds_version, install_new, release_old, install, clear_reader, filled}
 use Rattle.erm_machine.specs.Step.{part_after}
 use Rattle.erm_machine.specs.Words.{blank_cell}
-use Rattle.erm_machine.proofs.Guards.{when_then, some_then, unless_then, if_then, either_way, unless_some}
+use Rattle.erm_machine.proofs.Guards.{when_then, some_then, if_then, either_way, unless_some}
 use Rattle.erm_world.specs.World.{Finished, Stand, Work}
 use Rattle.erm_world.specs.World as world
 use Rattle.erm_core_view.specs.Steps.{IsCalm, IsEnding}
@@ -172,41 +172,14 @@ s_load_ring at found x (flushing.Gathers tail from block next end) y e =
     when_then (Same x) _ _ y e (λ _. s_if x _ _ _ (s_gathered tail from block next end x) (s_if x _ _ _ (record { same = refl }) (s_gathered tail from next next _ x)))
 s_load_ring at found x _ y e = absurd (cc)
 
-s_write_log : (segment : ℕ) (x : Part) (f : Flushing) (y : Part) → write_log segment x f ≡ Some y → Same x y
-s_write_log segment x (flushing.Gathers tail from block next end) y e = when_then (Same x) _ _ y e (λ _. record { same = refl })
-s_write_log segment x (flushing.Puts from to written) y e = when_then (Same x) _ _ y e (λ _. record { same = refl })
-s_write_log segment x _ y e = absurd (cc)
-
-s_after_sync : (from to synced : ℕ) (x : Part) → Same x (after_sync from to synced x)
-s_after_sync from to synced x = either_way (Same x) _ _ _ (λ _. record { same = refl }) (λ _. record { same = refl })
-
-s_sync_log : (segment : ℕ) (x : Part) (f : Flushing) (y : Part) → sync_log segment x f ≡ Some y → Same x y
-s_sync_log segment x (flushing.Puts from to written) y e = when_then (Same x) _ _ y e (λ _. s_after_sync from to 1 x)
-s_sync_log segment x (flushing.Syncs from to synced) y e = when_then (Same x) _ _ y e (λ _. s_after_sync from to _ x)
-s_sync_log segment x _ y e = absurd (cc)
-
 s_clear_ring : (at : ℕ) (x : Part) (f : Flushing) (y : Part) → clear_ring at x f ≡ Some y → Same x y
+s_clear_ring at x (flushing.Gathers tail from block next end) y e = when_then (Same x) _ _ y e (λ _. record { same = refl })
 s_clear_ring at x (flushing.Clears next to) y e = when_then (Same x) _ _ y e (λ _. record { same = refl })
 s_clear_ring at x _ y e = absurd (cc)
 
 s_store_flushed : (value : ℕ) (x : Part) (f : Flushing) (y : Part) → store_flushed value x f ≡ Some y → Same x y
 s_store_flushed value x (flushing.Clears next to) y e = when_then (Same x) _ _ y e (λ _. record { same = refl })
 s_store_flushed value x _ y e = absurd (cc)
-
-s_write_slot : (seat : ℕ) (x : Part) (y : Part) → write_slot seat x ≡ Some y → Same x y
-s_write_slot seat x y e = when_then (Same x) _ _ y e (λ _. record { same = refl })
-
-s_sync_slot : (x : Part) (f : Flushing) (y : Part) → sync_slot x f ≡ Some y → Same x y
-s_sync_slot x flushing.SlotPut y e = some_then (Same x) _ y e (record { same = refl })
-s_sync_slot x _ y e = absurd (cc)
-
-s_remove_log : (segment : ℕ) (x : Part) (f : Flushing) (y : Part) → remove_log segment x f ≡ Some y → Same x y
-s_remove_log segment x flushing.SlotSynced y e = some_then (Same x) _ y e (record { same = refl })
-s_remove_log segment x _ y e = absurd (cc)
-
-s_sync_removal : (segment : ℕ) (x : Part) (f : Flushing) (y : Part) → sync_removal segment x f ≡ Some y → Same x y
-s_sync_removal segment x (flushing.Removed removed) y e = when_then (Same x) _ _ y e (λ _. record { same = refl })
-s_sync_removal segment x _ y e = absurd (cc)
 
 -- a claim is installed, or released with its cell
 pub ends_same : (oid head : ℕ) (x : Part) (e : Option (ℕ × ℕ × ℕ × ℕ)) (y : Part) → install_claim oid head x e ≡ Some y → Same x y
@@ -259,9 +232,3 @@ calm_kind p (kind.StoreFlushed value) found s x y q e = s_store_flushed value x 
 calm_kind p kind.LoadFlushed found s x y q e = s_load_flushed found x x.flushing y e
 calm_kind p (kind.SwapLink v) found s x y q e = s_swap_link found v (s.objects v.oid) x x.task y e
 calm_kind p (kind.LoadDetached v) found s x y q e = s_load_detached found v x x.task y e
-calm_kind p (kind.WriteLog segment fails) found s x y q e = unless_then (Same x) fails _ y e (s_write_log segment x x.flushing y)
-calm_kind p (kind.SyncLog segment fails) found s x y q e = unless_then (Same x) fails _ y e (s_sync_log segment x x.flushing y)
-calm_kind p (kind.WriteSlot fails) found s x y q e = unless_then (Same x) fails _ y e (s_write_slot p x y)
-calm_kind p (kind.SyncSlot fails) found s x y q e = unless_then (Same x) fails _ y e (s_sync_slot x x.flushing y)
-calm_kind p (kind.RemoveLog segment fails) found s x y q e = unless_then (Same x) fails _ y e (s_remove_log segment x x.flushing y)
-calm_kind p (kind.SyncRemoval segment fails) found s x y q e = unless_then (Same x) fails _ y e (s_sync_removal segment x x.flushing y)

@@ -27,7 +27,7 @@ lawful_work law seat t lawful = record {
 }
 
 -- two transactions of one seat with one stamp are one
-one_attempt : (c : Core) (p : ℕ) (t u : Attempt) → Sound c → t ∈ all_of (c.seats p) → u ∈ all_of (c.seats p) → 0 < t.stamp → t.stamp ≡ u.stamp → t ≡ u
+pub one_attempt : (c : Core) (p : ℕ) (t u : Attempt) → Sound c → t ∈ all_of (c.seats p) → u ∈ all_of (c.seats p) → 0 < t.stamp → t.stamp ≡ u.stamp → t ≡ u
 one_attempt c p t u sound at also drawn same =
     let too : 0 < u.stamp = omega (arith, drawn, same) in
     ⊎_elim

@@ -1,19 +1,26 @@
 -- Objects that transactions made: how often, and by whom.
-use Rattle.std.proofs.Common.{◌≡◌, ◌≢◌, ℕ, zero, suc, ◌+◌, ◌<◌, ◌≤◌, ⊎_elim, List, [], ◌∷◌, ◌++◌, length, map, flat_map, eqb, cond, refl, sym, ap, ◌∙◌, subst, ◌⊎◌, inl, inr, arith}
+use Rattle.std.proofs.Common.{◌≡◌, ◌≢◌, ℕ, zero, suc, ◌+◌, ◌<◌, ◌≤◌, ⊎_elim, Bool, true, false, List, [], ◌∷◌, ◌++◌, length, map, flat_map, eqb, cond, refl, sym, ap, ◌∙◌, subst, ◌⊎◌, inl, inr, arith}
 use Rattle.std.specs.Prelude.{slice_index, sum_by}
-use Rattle.std.proofs.lemmas.Bool.{cases_eq, eq-eqb, ne_eqb}
+use Rattle.std.proofs.lemmas.Bool.{cases_eq, cases_lt, eq-eqb, ne_eqb}
 use Rattle.std.proofs.lemmas.List.Sums.{sum_by-append, sum_by-cons}
+use Rattle.erm_model.proofs.Members.{none_in_nil}
 use Rattle.erm_model.specs.Lawful.{times_made}
+use Rattle.erm_model.specs.Member.{◌∈◌}
 use Rattle.erm_machine.specs.declared.attempt.Attempt.{Attempt}
+use Rattle.erm_machine.specs.declared.limits.TheConstants.{OBJECT_LIMIT}
 use Rattle.erm_machine.specs.declared.part.Part.{Part}
 use Rattle.erm_machine.specs.declared.place.Place.{Place}
-use Rattle.erm_machine.specs.declared.place.Place.TheVariants.{Active, Sealed}
-use Rattle.erm_machine.specs.Core.{Core}
+use Rattle.erm_machine.specs.declared.place.Place.TheVariants.{Active, Idle, Sealed, Vacant}
+use Rattle.erm_machine.specs.declared.task.Task.{Task}
+use Rattle.erm_machine.specs.Core.{Core, blank}
+use Rattle.erm_machine.specs.Facts.{IsCurrent}
 use Rattle.erm_machine.specs.Numbers.{made_of}
 use Rattle.erm_machine.specs.Sound.{Sound}
-use Rattle.erm_world.specs.World.{Finished, made_in, made_upto}
+use Rattle.erm_machine.specs.Words.{is_flusher}
+use Rattle.erm_machine.proofs.Listed.{∈-cons, ∈-either}
+use Rattle.erm_world.specs.World.{Finished, Session, made_by_all, made_in, made_upto}
 use Rattle.erm_world.specs.World as world
-use Rattle.erm_core_view.specs.Views.{finished_of, session_of, stand_of}
+use Rattle.erm_core_view.specs.Views.{IsBetween, IsQuiet, finished_of, session_of, stand_of, view_of}
 
 -- how often an object stands in a list with one more in front, in two lists
 times_cons : (y : ℕ) (ys : List ℕ) (x : ℕ) → times_made (y ∷ ys) x ≡ (cond (eqb y x) 1 0) + times_made ys x
@@ -27,16 +34,16 @@ times_behind y ys x ne =
     let same : times_made (y ∷ ys) x ≡ 0 + times_made ys x = times_cons y ys x ∙ ap (λ b. (cond b 1 0) + times_made ys x) (ne_eqb y x ne) in
     omega (arith, same)
 
-times_both : (xs ys : List ℕ) (x : ℕ) → times_made (xs ++ ys) x ≡ times_made xs x + times_made ys x
+pub times_both : (xs ys : List ℕ) (x : ℕ) → times_made (xs ++ ys) x ≡ times_made xs x + times_made ys x
 times_both xs ys x = sum_by-append (λ oid. cond (eqb oid x) 1 0) xs ys
 
 -- an object that stands in a list stands at a place; in a list without repetition at one alone
-record StandsAt (xs : List ℕ) (x : ℕ) : Type 0 where
-  place : ℕ
-  within : place < length xs
-  is : slice_index xs place ≡ x
+pub record StandsAt (xs : List ℕ) (x : ℕ) : Type 0 where
+  pub place : ℕ
+  pub within : place < length xs
+  pub is : slice_index xs place ≡ x
 
-made_at : (xs : List ℕ) (x : ℕ) → 0 < times_made xs x → StandsAt xs x
+pub made_at : (xs : List ℕ) (x : ℕ) → 0 < times_made xs x → StandsAt xs x
 made_at [] x some = absurd (omega (arith, some))
 made_at (y ∷ ys) x some =
     ⊎_elim
@@ -47,11 +54,11 @@ made_at (y ∷ ys) x some =
     record { place = suc at.place; within = (let h = at.within in omega (arith, h)); is = at.is })
     (cases_eq y x)
 
-none_or_some : (n : ℕ) → (n ≡ 0) ⊎ (0 < n)
+pub none_or_some : (n : ℕ) → (n ≡ 0) ⊎ (0 < n)
 none_or_some zero = inl refl
 none_or_some (suc n) = inr (omega arith)
 
-at_most_once : (xs : List ℕ) (x : ℕ) → ((j k : ℕ) → j < k → k < length xs → slice_index xs j ≢ slice_index xs k) → times_made xs x ≤ 1
+pub at_most_once : (xs : List ℕ) (x : ℕ) → ((j k : ℕ) → j < k → k < length xs → slice_index xs j ≢ slice_index xs k) → times_made xs x ≤ 1
 at_most_once [] x apart = omega arith
 at_most_once (y ∷ ys) x apart =
     ⊎_elim
@@ -136,3 +143,64 @@ module _ (c : Core) (sound : Sound c) where
       absurd ((sound.both by.seat (suc n) other).made.apart one.place two.place one.within two.within (one.is ∙ sym two.is)))
       (none_or_some (times_made (made_of (c.seats (suc n))) x)))
       (none_or_some (made_upto n (λ q. session_of (c.seats q)) x))
+
+-- ALL MADE. An object that stands in a list stands there once at least.
+made_some : (xs : List ℕ) (x : ℕ) → x ∈ xs → 0 < times_made xs x
+made_some [] x m = absurd (none_in_nil x m)
+made_some (y ∷ ys) x m =
+    ⊎_elim (λ (here : y ≡ x). omega (arith, times_here y ys x here)) (λ (there : x ∈ ys). omega (arith, times_cons y ys x, made_some ys x there)) (∈-cons x y ys m)
+
+-- between two calls a session shows all that its seat made
+current_shown : (pl : Place) (u : Task) (t : Attempt) (x : ℕ) → IsBetween pl u → IsCurrent pl t → times_made t.made x ≡ times_made (world.work_of (stand_of pl t)).made x
+current_shown Idle u t x between none = ap (λ (a : Attempt). times_made a.made x) none
+current_shown (Active tail) u t x between current = refl
+current_shown (Sealed tail stamp) u t x between current = refl
+current_shown _ u t x between current = absurd between
+
+session_shown : (p : Part) (x : ℕ) → IsBetween p.place p.task → IsCurrent p.place p.current → made_in (session_of p) x ≡ times_made (made_of p) x
+session_shown p x between current =
+    omega (arith, over_made p.over x, current_shown p.place p.task p.current x between current, times_both (flat_map (λ (t : Attempt). t.made) p.over) p.current.made x)
+
+made_among : (n : ℕ) (session : ℕ → Session) (seat x : ℕ) → 0 < seat → seat ≤ n → made_in (session seat) x ≤ made_upto n session x
+unfolding made_upto
+made_among zero session seat x above within = absurd (omega (arith, above, within))
+made_among (suc n) session seat x above within =
+    ⊎_elim (λ (last : seat ≡ suc n). omega (arith, ap (λ q. made_in (session q) x) last))
+    (λ (before : seat ≡ suc n → ⊥). omega (arith, made_among n session seat x above (omega (arith, within, before)))) (cases_eq seat (suc n))
+
+-- a seat that has made something, where none is over and the current transaction made nothing
+none_made : (p : Part) (x : ℕ) → p.over ≡ [] → p.current.made ≡ [] → x ∈ made_of p → ⊥
+none_made p x none unmade m =
+    ⊎_elim (λ (past : x ∈ flat_map (λ (t : Attempt). t.made) p.over). none_in_nil x (subst (λ (ts : List Attempt). x ∈ flat_map (λ (t : Attempt). t.made) ts) none past))
+    (λ (now : x ∈ p.current.made). none_in_nil x (subst (λ (ms : List ℕ). x ∈ ms) unmade now)) (∈-either (flat_map (λ (t : Attempt). t.made) p.over) p.current.made x m)
+
+vacant_made : (pl : Place) (t : Attempt) → pl ≡ Vacant → IsCurrent pl t → t.made ≡ []
+vacant_made pl t at current = let none : t ≡ blank = subst (λ (q : Place). IsCurrent q t) at current in ap (λ (a : Attempt). a.made) none
+
+module _ (sessions : ℕ) (c : Core) (sound : Sound c) (quiet : IsQuiet sessions c) where
+  -- sessions alone have made anything
+  no_maker : (seat x : ℕ) → (0 < seat → seat ≤ sessions → ⊥) → x ∈ made_of (c.seats seat) → ⊥
+  no_maker seat x none m = by_test (is_flusher seat) refl
+    where
+      by_test : (b : Bool) → is_flusher seat ≡ b → ⊥
+      by_test true flusher = let still = quiet.flusher seat flusher in none_made (c.seats seat) x still.over still.made m
+      by_test false other =
+          none_made (c.seats seat) x (quiet.unused seat none other)
+          (vacant_made (c.seats seat).place (c.seats seat).current (quiet.others seat none other) (sound.own seat).ranges.current) m
+
+  made_shown : (seat x : ℕ) → x ∈ made_of (c.seats seat) → 0 < seat → seat ≤ sessions → 0 < made_by_all (view_of sessions c) x
+  made_shown seat x m above within =
+      let shown = session_shown (c.seats seat) x (quiet.between seat above within) (sound.own seat).ranges.current in
+      let among = made_among sessions (λ q. session_of (c.seats q)) seat x above within in
+      omega (arith, shown, among, made_some (made_of (c.seats seat)) x m)
+
+  -- each object whose number was drawn was made by a session
+  pub drawn_made : (x : ℕ) → c.shared.first ≤ x → x < c.shared.objects_drawn → x < OBJECT_LIMIT → 0 < made_by_all (view_of sessions c) x
+  drawn_made x from below known =
+      let (seat, m) = sound.common.counters.all_made x from below known in
+      ⊎_elim
+      (λ (above : 0 < seat).
+      ⊎_elim (λ (past : sessions < seat). absurd (no_maker seat x (λ _ within. omega (arith, past, within)) m)) (λ (within : seat ≤ sessions). made_shown seat x m above within)
+      (cases_lt sessions seat))
+      (λ (first : seat ≤ 0). absurd (no_maker seat x (λ above _. omega (arith, first, above)) m))
+      (cases_lt 0 seat)

@@ -33,16 +33,16 @@ use Rattle.erm_core_view.proofs.Parts.{current_stands}
 use Rattle.erm_core_view.proofs.Shown.{shows_work, work_active, working}
 
 -- a write has come to this word
-abbrev Ready : (place k : ℕ) → Task → Type 0
+abbrev pub Ready : (place k : ℕ) → Task → Type 0
 Ready place k (task.Writes claim w) = (place ≡ claim) × (k ≡ w)
 Ready place k t = (may_start t ≡ true) × (k ≡ 0)
 
 -- what it does next
-abbrev next_word : (place k : ℕ) → Task
+abbrev pub next_word : (place k : ℕ) → Task
 next_word place k = if (k + 1) == 16 then task.Rest else task.Writes place (k + 1)
 
 -- the part after one word
-abbrev after_word : (place k value : ℕ) → Part → Part
+abbrev pub after_word : (place k value : ℕ) → Part → Part
 after_word place k value x = record x { task = next_word place k; current = stored_row place k value true x.current }
 
 starts_word : (place cell k value : ℕ) (x : Part) (t : Task) → may_start t ≡ true → k ≡ 0 → place < length x.current.writes → is_own cell (claim_at x.current place).own ≡ true
@@ -69,7 +69,7 @@ takes_cell place cell k value x active ready below within own =
     ∙ takes_word place cell k value x x.task ready below within own
 
 -- the own cell stays
-still_own : (cell k value : ℕ) (own : Option OwnCell) → is_own cell own ≡ true → is_own cell (with_own_word (word.Row k) value own) ≡ true
+pub still_own : (cell k value : ℕ) (own : Option OwnCell) → is_own cell own ≡ true → is_own cell (with_own_word (word.Row k) value own) ≡ true
 still_own cell k value None is = absurd (cc)
 still_own cell k value (Some own) is = is
 
@@ -96,10 +96,10 @@ record RowStored (seat place : ℕ) (row : List ℕ) (c : Core) (x : Part) (d : 
   alone : Alone seat c (record x { task = task.Rest; current = with_claim place new x.current }) d
 
 -- the state after one word
-abbrev after_one : (seat place k value : ℕ) → Core → Part → Core
+abbrev pub after_one : (seat place k value : ℕ) → Core → Part → Core
 after_one seat place k value c x = record { shared = c.shared; seats = put c.seats seat (after_word place k value x) }
 
-goes_one : (seat place cell k value : ℕ) (c : Core) (x : Part) → c.seats seat ≡ x → is_active x.place ≡ true → Ready place k x.task → k < 16
+pub goes_one : (seat place cell k value : ℕ) (c : Core) (x : Part) → c.seats seat ≡ x → is_active x.place ≡ true → Ready place k x.task → k < 16
     → place < length x.current.writes → is_own cell (claim_at x.current place).own ≡ true
     → after_event c seat (kind.StoreCell place cell (word.Row k) value) ≡ Some (after_one seat place k value c x)
 goes_one seat place cell k value c x is active ready below within own =
@@ -108,7 +108,7 @@ goes_one seat place cell k value c x is active ready below within own =
     (ap (λ (y : Part). store_cell place cell (word.Row k) value y) is ∙ takes_cell place cell k value x active ready below within own)
 
 -- the claim after one word
-abbrev claim_then : (k value : ℕ) → Claim → Claim
+abbrev pub claim_then : (k value : ℕ) → Claim → Claim
 claim_then k value w = record w { row = set w.row k value; own = with_own_word (word.Row k) value w.own; is_set = true }
 
 -- after the last word the write is done
@@ -163,7 +163,7 @@ stores seat place cell value (v ∷ vs) k c x is active ready long within own =
     (stores seat place cell v vs (k + 1) d y (put_same c.seats seat y) active ready_next (omega (arith, long)) within_next own_next))
 
 -- where a call may start a write may, at its first word
-ready_first : (place : ℕ) (t : Task) → may_start t ≡ true → Ready place 0 t
+pub ready_first : (place : ℕ) (t : Task) → may_start t ≡ true → Ready place 0 t
 ready_first place (task.Writes claim w) starts = absurd (cc)
 ready_first place t starts = (starts, refl)
 

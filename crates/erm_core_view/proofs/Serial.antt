@@ -13,7 +13,8 @@ use Rattle.erm_machine.specs.Decided.{read_of, written_of}
 use Rattle.erm_machine.specs.Decided as machine
 use Rattle.erm_machine.specs.Facts.{all_of}
 use Rattle.erm_machine.specs.Lawful.{opening_rows}
-use Rattle.erm_machine.specs.Sound.{Sound, SoundUnder}
+use Rattle.erm_machine.specs.Sound.{Sound}
+use Rattle.erm_sound.specs.Kept.{SoundUnder}
 use Rattle.erm_machine.proofs.Listed.{∈-map}
 use Rattle.erm_world.specs.Laws.{IsSerializable, SeesSnapshot}
 use Rattle.erm_world.specs.World.{Has, Work}

@@ -1,5 +1,6 @@
 -- The machine's state as a world of sessions, between two calls.
 use Rattle.std.specs.Prelude.{◌≡◌, ℕ, ◌<◌, ◌≤◌, true, false, [], map}
+use Rattle.erm_model.specs.declared.limits.TheConstants.{LAST_RUN}
 use Rattle.erm_machine.specs.declared.attempt.Attempt.{Attempt}
 use Rattle.erm_machine.specs.declared.attempt.Decision.{Decision}
 use Rattle.erm_machine.specs.declared.attempt.Decision.TheVariants.{Undecided, Commit, Skip, Abort}
@@ -11,6 +12,7 @@ use Rattle.erm_machine.specs.declared.task.Task.TheVariants as task
 use Rattle.erm_machine.specs.Core.{Core}
 use Rattle.erm_machine.specs.Decided.{read_of, written_of}
 use Rattle.erm_machine.specs.Lawful.{opening_rows}
+use Rattle.erm_machine.specs.Life.{is_between}
 use Rattle.erm_machine.specs.Seat.{may_start}
 use Rattle.erm_machine.specs.Settling.{may_settle}
 use Rattle.erm_machine.specs.Words.{is_flusher}
@@ -68,12 +70,16 @@ IsBetween (Active tail) u = may_start u ≡ true
 IsBetween (Sealed tail stamp) u = may_settle u ≡ true
 IsBetween p u = ⊥
 
--- the flush seat between two calls: it has a pin or none, and no transaction has read, claimed or made anything there
+-- The flush seat between two calls: it has a pin or none, and no transaction has read, claimed or made anything there. It gathers
+-- nothing, or stands between two blocks. The run that it writes, which is each seat's, has 44 bits.
 pub record IsStill (x : Part) : Type 0 where
   pub over : x.over ≡ []
   pub reads : x.current.reads ≡ []
   pub writes : x.current.writes ≡ []
   pub made : x.current.made ≡ []
+  pub run : x.run ≤ LAST_RUN
+  pub rests : IsBetween x.place x.task
+  pub turn : is_between x.flushing ≡ true
 
 -- So many sessions, each between two calls and, where sealed, with a range of its block's size; the flush seat, and no other
 -- seat, so that none is over elsewhere. The opening's place lies behind 1, so that a state word 1 is that of a seat that seals

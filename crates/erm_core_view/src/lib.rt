@@ -18,7 +18,8 @@ ghost use Rattle.erm_machine.specs.Core.{Core, claim_at, version_at};
 ghost use Rattle.erm_machine.specs.Decided.{written_of};
 ghost use Rattle.erm_machine.specs.Decided as machine;
 ghost use Rattle.erm_machine.specs.Seat.{end_of, is_active, may_start};
-ghost use Rattle.erm_machine.specs.Sound.{Sound, SoundUnder};
+ghost use Rattle.erm_machine.specs.Sound.{Sound};
+ghost use Rattle.erm_sound.specs.Kept.{SoundUnder};
 ghost use Rattle.erm_machine.specs.Step.{after_event, run_from};
 ghost use Rattle.erm_machine.specs.Words.{begin_of, is_flusher};
 ghost use Rattle.erm_world.specs.declared.stops.BeginStop.TheVariants as stop;
@@ -48,6 +49,13 @@ pub fn views_are_serializable<L: RowLaw>()
     erm_core_ssn::commits_are_a_snapshot_history();
     erm_core_ssn::reads_and_claims_are_snapshots();
 }
+
+/// In a quiet sound state each object whose number was drawn, from the opening's first on and below the limit, was made by some
+/// session.
+pub fn drawn_objects_are_made()
+    ensures { (sessions oid : ℕ) (c : Core) → Sound c → IsQuiet sessions c → c.shared.first ≤ oid → oid < c.shared.objects_drawn → oid < OBJECT_LIMIT
+        → 0 < world.made_by_all (view_of sessions c) oid }
+{}
 
 /// From a sound state, where each object has a version, a step of a seat changes no session but its own, and the log only where it
 /// draws a range or stores the place flushed. Of most kinds its own session shows nothing.

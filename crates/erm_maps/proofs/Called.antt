@@ -1,7 +1,7 @@
 -- Tree calls of a session, one after another, as the run of its transaction.
 use Rattle.std.proofs.Common.{◌≡◌, refl, ℕ, List, [], ◌∷◌, ◌++◌, sym, ap, ◌∙◌, subst, arith}
 use Rattle.erm_model.specs.declared.operation.Op.{Op}
-use Rattle.erm_model.specs.declared.operation.Op.TheVariants.{Get, Put, Del, Next}
+use Rattle.erm_model.specs.declared.operation.Op.TheVariants.{Get, Put, Del, Next, Scan}
 use Rattle.erm_model.specs.declared.operation.Reply.{Reply}
 use Rattle.erm_model.specs.Database.{Database}
 use Rattle.erm_model.specs.Rows.{Rows}
@@ -25,6 +25,7 @@ module _ {S : Type 0} (face : Face S) where
   answer_fitted s t (Put table key value) r (is, did) rows fits = Runs-fitted face did.events s t did.goes_on.runs rows fits
   answer_fitted s t (Del table key) r (is, did) rows fits = Runs-fitted face did.events s t did.goes_on.runs rows fits
   answer_fitted s t (Next table from) r (found, is, saw) rows fits = Runs-fitted face saw.events s t saw.goes_on.runs rows fits
+  answer_fitted s t (Scan table low high) r none rows fits = absurd none
 
   called_fitted : (calls : List Call) (s t : S) → AreCalled face s calls t → (rows : Rows) → face.fits t rows → face.fits s rows
   called_fitted [] s t same rows fits = subst (λ (at : S). face.fits at rows) same fits
@@ -57,7 +58,7 @@ module _ {S : Type 0} (law : Law) (view : S → View) (seat : S → ℕ) (stands
   work s = work_at (view s) (seat s)
 
   -- the run of operations so far is lawful for the session as a transaction
-  lawful_before : (s : S) (before : List Step) → IsRunOf (work s) before → IsLawful face s
+  pub lawful_before : (s : S) (before : List Step) → IsRunOf (work s) before → IsLawful face s
   lawful_before s before run begun meets fits =
       let sound_fits = fits_as law sound_law same (work s) begun fits in (
         (same.meets (seen_by (work s) begun)).1 (run.lawful.meets begun sound_fits),

@@ -13,12 +13,13 @@ use Rattle.erm_model.specs.Run.{RunsAll, after_all, ops_of}
 use Rattle.erm_model.specs.SerialOrder.{ComesBefore, IsSerialOrder}
 use Rattle.erm_model.proofs.Members.{∈-behind}
 use Rattle.erm_machine.proofs.Listed.{∈-head}
+use Rattle.erm_core_ssn.proofs.Turns.{FitInTurn}
 use Rattle.erm_node.specs.Sound.{sound_law}
 use Rattle.erm_node.specs.TreeMap.{map_of_rows}
+use Rattle.erm_world.specs.Laws.{FitsWork}
 use Rattle.erm_world.specs.World.{bare, begun}
 use Rattle.erm_maps.specs.Runs.{IsRunOf, Told, told_commit, told_commits}
 use Rattle.erm_maps.proofs.Histories.{work_in}
-use Rattle.erm_maps.proofs.Turns.{FitInTurn}
 
 module _ (told : Told) where
   -- what lies below a stamp
@@ -48,9 +49,10 @@ module _ (told : Told) where
   told_run [] rows fit runs = refl
   told_run (t ∷ order) rows fit runs =
       let own = runs t (∈-head t order) in
-      let after : map_of_rows (after_writes t.writes rows) ≡ after_all (ops_of (told t.seat t.number)) (map_of_rows rows) = own.after rows fit.0.meets fit.0 in
+      let fits : FitsWork sound_law (work_in t) rows = record { meets = fit.0.meets; reads = fit.0.reads; claims = fit.0.claims; unreached = fit.0.unreached } in
+      let after : map_of_rows (after_writes t.writes rows) ≡ after_all (ops_of (told t.seat t.number)) (map_of_rows rows) = own.after rows fit.0.meets fits in
       let rest = told_run order (after_writes t.writes rows) fit.1 (λ u m. runs u (∈-behind t order u m)) in
-      (own.run rows fit.0.meets fit.0, subst (λ (m : Database). RunsAll m (map (λ (c : Committed). c.steps) (told_commits told order)) (map_of_rows (rows_after (t ∷ order) rows))) after rest)
+      (own.run rows fit.0.meets fits, subst (λ (m : Database). RunsAll m (map (λ (c : Committed). c.steps) (told_commits told order)) (map_of_rows (rows_after (t ∷ order) rows))) after rest)
 
 -- a run ends in the state after its commits
 pub run_ends : (commits : List Committed) (m n : Database) → RunsAll m (map (λ (c : Committed). c.steps) commits) n → n ≡ state_after commits m

@@ -3,17 +3,18 @@ use Rattle.std.proofs.Common.{◌≡◌, ℕ, ◌+◌, ◌<◌, ◌≤◌, List,
 use Rattle.std.proofs.lemmas.List.Sorted.{IsPermutation-sym, sum_by-IsPermutation}
 use Rattle.erm_model.specs.declared.history.TransactionRecord.{TransactionRecord}
 use Rattle.erm_model.specs.History.{HasNewestRows, History, IsNewestBelow, IsVersion, RunsSerially, below, rank_of, rows_after}
-use Rattle.erm_model.specs.Lawful.{times_made}
+use Rattle.erm_model.specs.Lawful.{IsLawfulRecord, times_made}
 use Rattle.erm_model.specs.Member.{◌∈◌}
 use Rattle.erm_model.specs.RowTransaction.{Law}
 use Rattle.erm_model.specs.SerialOrder.{IsSerialOrder}
 use Rattle.erm_core_ssn.proofs.Members.{∈-permutation}
+use Rattle.erm_core_ssn.specs.Laws.{made_in_history}
 use Rattle.erm_core_ssn.proofs.Prefixes.{in_below, version_below}
-use Rattle.erm_world.specs.Laws.{FitsWork, IsSerializable}
+use Rattle.erm_core_ssn.proofs.Turns.{AreNew, FitInTurn, IsKept, turns}
+use Rattle.erm_world.specs.Laws.{FitsWork, IsLawfulWork, IsSerializable}
 use Rattle.erm_world.specs.World.{Has, IsSession, View, Work, history_of, made_by_all}
 use Rattle.erm_maps.proofs.Histories.{IsCommitted, of_history, work_in}
-use Rattle.erm_maps.proofs.Made.{made_below, made_beside, made_in_history}
-use Rattle.erm_maps.proofs.Turns.{AreNew, FitInTurn, IsKept, turns}
+use Rattle.erm_maps.proofs.Made.{made_below, made_beside}
 
 -- What the laws of histories say of the commits below a stamp: in this order each finds its rows, and a version has one row.
 pub record RunsBelow (v : View) (bound : ℕ) (order : History) : Type 0 where
@@ -26,6 +27,13 @@ pub record LeavesNewest (v : View) (bound : ℕ) (order : History) : Type 0 wher
   pub newest : HasNewestRows (history_of v) v.opening.rows bound (rows_after order v.opening.rows)
   pub one : (oid stamp other_stamp : ℕ) (row other : List ℕ) → IsNewestBelow (history_of v) v.opening.rows oid bound stamp row → IsNewestBelow (history_of v) v.opening.rows oid bound other_stamp other → row ≡ other
 
+-- a transaction that keeps a law keeps it with its name and stamps
+lawful_record : (law : Law) (t : TransactionRecord) → IsLawfulWork law (work_in t) → IsLawfulRecord law t
+lawful_record law t lawful = record {
+  meets = λ rows fits. lawful.meets rows (record { meets = fits.meets; reads = fits.reads; claims = fits.claims; unreached = fits.unreached });
+  reach = λ rows x fits. lawful.reach rows x (record { meets = fits.meets; reads = fits.reads; claims = fits.claims; unreached = fits.unreached });
+}
+
 module _ (law : Law) (v : View) (holds : IsSerializable law v) where
   module _ (bound : ℕ) (order : History) (runs : RunsBelow v bound order) where
     -- each commit in the order keeps the law, and its claims found versions
@@ -35,7 +43,7 @@ module _ (law : Law) (v : View) (holds : IsSerializable law v) where
         let own : IsCommitted v t = of_history v t there.0 in
         let sealed = holds.stamps t.seat (work_in t) t.stamp own.session own.stamped in
         record {
-          lawful = holds.lawful t.seat (work_in t) t.stamp own.session own.stamped;
+          lawful = lawful_record law t (holds.lawful t.seat (work_in t) t.stamp own.session own.stamped);
           bases = λ c of_c.
               let seen : IsNewestBelow (history_of v) v.opening.rows c.oid t.begin c.stamp c.base = (holds.sees t.seat (work_in t) own.session own.over).claims c of_c in
               version_below (history_of v) bound v.opening.rows c.oid c.stamp c.base seen.version (omega (arith, seen.below, sealed.0, there.1));

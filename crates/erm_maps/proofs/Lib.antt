@@ -4,5 +4,5 @@ pub mod Extended
 pub mod Histories
 pub mod Lawful
 pub mod Made
+pub mod Ready
 pub mod Standing
-pub mod Turns

@@ -8,14 +8,11 @@ use Rattle.erm_model.specs.Lawful.{times_made}
 use Rattle.erm_model.specs.Member.{◌∈◌}
 use Rattle.erm_model.proofs.Members.{none_in_nil}
 use Rattle.erm_machine.proofs.Listed.{∈-cons}
+use Rattle.erm_core_ssn.specs.Laws.{made_in_history}
 use Rattle.erm_world.specs.World.{Fate, Finished, Has, IsCurrent, IsOver, Session, Stand, View, Work, commit_of, committed_in, history_of, history_upto, made_by_all, made_in, made_upto, record_of, stamp_of, work_of}
 use Rattle.erm_world.specs.World as world
 
--- how often some commits made an object
-abbrev pub made_in_history : History → ℕ → ℕ
-made_in_history h x = sum_by (λ t. times_made t.made x) h
-
--- how often some transactions that are over did
+-- how often some transactions that are over made an object
 abbrev made_over : List Finished → ℕ → ℕ
 made_over over x = sum_by (λ f. times_made f.work.made x) over
 

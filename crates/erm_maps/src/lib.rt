@@ -12,6 +12,7 @@ ghost use Rattle.erm_model.specs.Run.{Step};
 ghost use Rattle.erm_model.specs.SerialOrder.{IsSerialOrder};
 ghost use Rattle.erm_node.specs.Sound.{sound_law};
 ghost use Rattle.erm_world.specs.Laws.{IsPossibleIn, IsSerializable};
+ghost use Rattle.erm_tree.specs.Calls.{IsReady};
 ghost use Rattle.erm_tree.specs.Operations.{AreCalled, Call, answered_steps};
 ghost use Rattle.erm_world.specs.Going.{Extends};
 ghost use Rattle.erm_world.specs.World.{View, Work, begun, history_of, work_at};
@@ -66,6 +67,12 @@ pub fn calls_are_runs<'a, W: RowWorld + 'a>()
 {
     erm_tree::operations_are_run_one::<WorldTxn<'a, W>>();
 }
+
+/// A session in the middle of a transaction that is a run of operations so far is ready for the next tree call.
+pub fn runs_are_ready<'a, W: RowWorld + 'a>()
+    ensures { SameLaw W.law sound_law → (s : WorldTxn W) (before : List Step) → ⟦<WorldTxn<'a, W> as RowRead>⟧.face.active s
+        → IsRunOf (work_at (W.view s.world.now) s.seat) before → IsReady ⟦<WorldTxn<'a, W> as RowRead>⟧.face s }
+{}
 
 /// A transaction that has done nothing is the run of no operations.
 pub fn begun_transactions_are_runs()

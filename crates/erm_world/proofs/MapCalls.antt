@@ -154,6 +154,7 @@ module _ (law : Law) (start : ℕ) (rows : Rows) (first next tail number : ℕ) 
     now_is = (is.now_is.0, omega (arith, is.now_is.1), first_begun start rows first (number + 1));
     made_once = is.made_once;
     made_new = is.made_new;
+    made_all = is.made_all;
     next_above = is.next_above;
   }
 
@@ -169,6 +170,7 @@ module _ (law : Law) (start : ℕ) (rows : Rows) (first next tail number : ℕ) 
         now_is = (is.now_is.0, is.now_is.1, saw);
         made_once = λ x. omega (arith, made x, is.made_once x);
         made_new = λ x some. is.made_new x (omega (arith, made x, some));
+        made_all = λ x above below. omega (arith, made x, is.made_all x above below);
         next_above = is.next_above;
       }
 
@@ -201,6 +203,10 @@ module _ (law : Law) (start : ℕ) (rows : Rows) (first next tail number : ℕ) 
       | inl here ↦ (omega (arith, here.0, is.next_above), omega (arith, here.0))
       | inr there ↦ let before = is.made_new x (omega (arith, times_made-push w.made next x, there.1, some)) in (before.0, omega (arith, before.1))
     ];
+    made_all = λ x above below. elim (made_at next x) as (λ _. 0 < made_of over (running (making next w)) x) [
+      | inl here ↦ omega (arith, times_made-push w.made next x, here.1)
+      | inr there ↦ omega (arith, times_made-push w.made next x, there.1, is.made_all x above (omega (arith, below, there.0)))
+    ];
     next_above = omega (arith, is.next_above);
   }
 
@@ -213,6 +219,7 @@ module _ (law : Law) (start : ℕ) (rows : Rows) (first next tail number : ℕ) 
     now_is = (omega (arith, is.now_is.0), is.now_is.1, is.now_is.2, lawful);
     made_once = is.made_once;
     made_new = is.made_new;
+    made_all = is.made_all;
     next_above = is.next_above;
   }
 
@@ -225,6 +232,7 @@ module _ (law : Law) (start : ℕ) (rows : Rows) (first next tail number : ℕ) 
     now_is = is.now_is;
     made_once = is.made_once;
     made_new = is.made_new;
+    made_all = is.made_all;
     next_above = is.next_above;
   }
 
@@ -244,5 +252,6 @@ module _ (law : Law) (start : ℕ) (rows : Rows) (first next tail number : ℕ) 
         now_is = (is.now_is.0, omega (arith, is.now_is.1, count));
         made_once = λ x. omega (arith, made x, is.made_once x);
         made_new = λ x some. is.made_new x (omega (arith, made x, some));
+        made_all = λ x above below. omega (arith, made x, is.made_all x above below);
         next_above = is.next_above;
       }

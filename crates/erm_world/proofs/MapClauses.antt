@@ -4,6 +4,7 @@ use Rattle.std.proofs.lemmas.Bool.Decides.{eqb_tells}
 use Rattle.std.proofs.lemmas.List.{map-append}
 use Rattle.erm_model.specs.declared.history.VersionRead.{VersionRead}
 use Rattle.erm_model.specs.declared.history.VersionWritten.{VersionWritten}
+use Rattle.erm_model.specs.declared.limits.TheConstants.{READ_LIMIT, WRITE_LIMIT}
 use Rattle.erm_model.specs.declared.outcome.Phase.{Phase}
 use Rattle.erm_model.specs.declared.outcome.Phase.TheVariants.{Active, Idle, Sealed}
 use Rattle.erm_model.specs.declared.outcome.Outcome.TheVariants.{Committed}
@@ -165,13 +166,13 @@ module _ (law : Law) (start : ℕ) (rows : Rows) (first next tail number : ℕ) 
       (map_read law start rows first next tail number over w (record { oid = oid; stamp = 0; row = row }) refl row_is) standing)
 
   pub read_first : (u : Work) (oid : ℕ) (row : List ℕ) → phase_at (map_view start rows first tail over (now_of p is_committed w)) seat ≡ Active
-      → u ≡ reading (record { oid = oid; stamp = 0; row = row }) w → found_row w.claims oid ≡ None → row_read w.reads oid ≡ None
+      → u ≡ reading (record { oid = oid; stamp = 0; row = row }) w → found_row w.claims oid ≡ None → row_read w.reads oid ≡ None → length w.reads < READ_LIMIT
       → DidRead (map_view start rows first tail over (now_of p is_committed w)) seat oid row (map_view start rows first tail over (now_of p is_committed u))
-  read_first u oid row active is none unread =
+  read_first u oid row active is none unread few =
       subst (λ (x : Work). DidRead (map_view start rows first tail over (now_of p is_committed w)) seat oid row (map_view start rows first tail over (now_of p is_committed x))) (sym is)
       (while_active active (λ (q : ℕ) (at : Phase). DidRead (map_view start rows first tail over (now_of at is_committed w)) q oid row
       (map_view start rows first tail over (now_of at is_committed (reading (record { oid = oid; stamp = 0; row = row }) w))))
-      (calls.first 0 (found_none w.claims oid none) unread (works start rows first tail over w (reading (record { oid = oid; stamp = 0; row = row }) w))))
+      (calls.first 0 (found_none w.claims oid none) unread few (works start rows first tail over w (reading (record { oid = oid; stamp = 0; row = row }) w))))
 
   -- CLAIM
   pub claim_stands : (u : Work) (oid : ℕ) (row : List ℕ) → phase_at (map_view start rows first tail over (now_of p is_committed w)) seat ≡ Active
@@ -184,14 +185,14 @@ module _ (law : Law) (start : ℕ) (rows : Rows) (first next tail number : ℕ) 
       (found_none w.claims oid none) refl row_is refl) standing)
 
   pub claim_now : (u : Work) (oid : ℕ) (row : List ℕ) → phase_at (map_view start rows first tail over (now_of p is_committed w)) seat ≡ Active
-      → u ≡ claiming (record { oid = oid; stamp = 0; base = row; row = row; is_set = false }) w → found_row w.claims oid ≡ None
+      → u ≡ claiming (record { oid = oid; stamp = 0; base = row; row = row; is_set = false }) w → found_row w.claims oid ≡ None → length w.claims < WRITE_LIMIT
       → DidClaim (map_view start rows first tail over (now_of p is_committed w)) seat oid (map_view start rows first tail over (now_of p is_committed u))
-  claim_now u oid row active is none =
+  claim_now u oid row active is none few =
       let c : VersionWritten = record { oid = oid; stamp = 0; base = row; row = row; is_set = false } in
       subst (λ (x : Work). DidClaim (map_view start rows first tail over (now_of p is_committed w)) seat oid (map_view start rows first tail over (now_of p is_committed x))) (sym is)
       (while_active active (λ (q : ℕ) (at : Phase). DidClaim (map_view start rows first tail over (now_of at is_committed w)) q oid
       (map_view start rows first tail over (now_of at is_committed (claiming c w))))
-      (calls.now 0 row (found_none w.claims oid none) (works start rows first tail over w (claiming c w))))
+      (calls.now 0 row (found_none w.claims oid none) few (works start rows first tail over w (claiming c w))))
 
   -- SET
   pub set_stands : (u : Work) (oid : ℕ) (row : List ℕ) → phase_at (map_view start rows first tail over (now_of p is_committed w)) seat ≡ Active
@@ -304,7 +305,7 @@ claim_works v seat oid t active (calls.before is claimed) = (
     flushed = ap (λ (x : View). x.flushed) is;
   },
 )
-claim_works v seat oid t active (calls.now stamp base none now) =
+claim_works v seat oid t active (calls.now stamp base none few now) =
     (claiming (record { oid = oid; stamp = stamp; base = base; row = base; is_set = false }) (work_at v seat), now)
 
 pub claim_active : (v : View) (seat oid : ℕ) (t : View) → phase_at v seat ≡ Active → DidClaim v seat oid t → phase_at t seat ≡ Active
@@ -343,5 +344,6 @@ map_opened law start rows first over positive meets reach none =
       now_is = (refl, refl);
       made_once = λ x. omega arith;
       made_new = λ x some. absurd (omega (arith, some));
+      made_all = λ x above below. absurd (omega (arith, above, below));
       next_above = omega arith;
     }))

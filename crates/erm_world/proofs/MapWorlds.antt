@@ -6,6 +6,7 @@ use Rattle.std.proofs.lemmas.List.{length-map}
 use Rattle.std.proofs.lemmas.List.Sums.{sum_by-append, sum_by-cons}
 use Rattle.std.proofs.lemmas.Option.{slice_get-map}
 use Rattle.erm_model.specs.declared.history.TransactionRecord.{TransactionRecord}
+use Rattle.erm_model.specs.declared.limits.TheConstants.{OID_LIMIT}
 use Rattle.erm_model.specs.History.{History, IsCertified, IsNewestBelow, ReadsSnapshot, rank_of}
 use Rattle.erm_model.specs.Lawful.{times_made}
 use Rattle.erm_model.specs.Member.{◌∈◌}
@@ -13,6 +14,7 @@ use Rattle.erm_model.specs.RowTransaction.{Law}
 use Rattle.erm_model.specs.Rows.{Rows}
 use Rattle.erm_model.specs.SerialOrder.{StampsDiffer}
 use Rattle.erm_model.proofs.Members.{none_in_nil, slice_get-push}
+use Rattle.erm_world.specs.Calls.{AreAllMade}
 use Rattle.erm_world.specs.Laws.{IsLawfulWork, IsNumbered, IsPossibleIn, IsSerializable, SeesSnapshot}
 use Rattle.erm_world.specs.MapWorld.{IsFirst, IsMapWorld, IsNow, Now, aborted, committed, ended, made_of, map_view, nothing, running, sealing, session_in, stand_in, work_in}
 use Rattle.erm_world.specs.World.{Finished, Has, HasStamp, IsCurrent, IsOver, IsSession, Session, Stand, View, Work, committed_in, history_of, history_upto, made_by_all, made_in, made_upto, record_of, size_of, stamp_of, work_of}
@@ -312,6 +314,12 @@ map_serializable law start rows first next tail number over now is =
       made_once = λ x. omega (arith, all_made start rows first tail over now x, is.made_once x);
       made_new = λ x some. (is.made_new x (omega (arith, all_made start rows first tail over now x, some))).0;
     }
+
+-- where the limit is reached, each object that may be made was
+pub map_all_made : (law : Law) (start : ℕ) (rows : Rows) (first next tail number : ℕ) (over : List Work) (now : Now) → IsMapWorld law start rows first next tail number over now
+    → next ≡ OID_LIMIT → AreAllMade (map_view start rows first tail over now)
+map_all_made law start rows first next tail number over now is full = λ x above below.
+    omega (arith, all_made start rows first tail over now x, is.made_all x above (omega (arith, below, full)))
 
 pub map_possible : (law : Law) (start : ℕ) (rows : Rows) (first next tail number : ℕ) (over : List Work) (now : Now) → IsMapWorld law start rows first next tail number over now
     → IsPossibleIn law (map_view start rows first tail over now)

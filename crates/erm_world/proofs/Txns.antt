@@ -172,7 +172,7 @@ went_read law v seat oid row t active (calls.own is claimed row_is) =
     went_nowhere law v seat (did_read oid row) t active is (Moves-own law (work_at v seat) oid row claimed row_is)
 went_read law v seat oid row t active (calls.again is none found) =
     went_nowhere law v seat (did_read oid row) t active is (Moves-again law (work_at v seat) oid row none found)
-went_read law v seat oid row t active (calls.first stamp none unread now) =
+went_read law v seat oid row t active (calls.first stamp none unread few now) =
     went_on law v seat (did_read oid row) t (reading (record { oid = oid; stamp = stamp; row = row }) (work_at v seat)) active now
     (one_read_more (record { oid = oid; stamp = stamp; row = row }) (work_at v seat))
     (Moves-first law (work_at v seat) oid stamp row none)
@@ -180,7 +180,7 @@ went_read law v seat oid row t active (calls.first stamp none unread now) =
 went_claim : (law : Law) (v : View) (seat oid : ℕ) (t : View) → phase_at v seat ≡ Active → DidClaim v seat oid t → Went law v seat (did_claim oid) t
 went_claim law v seat oid t active (calls.before is claimed) =
     went_nowhere law v seat (did_claim oid) t active is (Moves-before law (work_at v seat) oid claimed)
-went_claim law v seat oid t active (calls.now stamp base none now) =
+went_claim law v seat oid t active (calls.now stamp base none few now) =
     let c : VersionWritten = record { oid = oid; stamp = stamp; base = base; row = base; is_set = false } in
     went_on law v seat (did_claim oid) t (claiming c (work_at v seat)) active now (one_claimed_more c (work_at v seat))
     (Moves-claim law (work_at v seat) oid stamp base none)
@@ -230,7 +230,7 @@ stopped_read v seat oid (stop.Newer stamp) t active did = absurd did
 stopped_read v seat oid stop.WritesFull t active did = absurd did
 stopped_read v seat oid (stop.CellsFull drawn) t active did = absurd did
 stopped_read v seat oid (stop.OidsFull drawn) t active did = absurd did
-stopped_read v seat oid (stop.Excluded succ pred) t active (new, (r, at, done, shut)) =
+stopped_read v seat oid (stop.Excluded succ pred) t active (new, few, clear, (r, at, done, shut)) =
     stopped_out v seat StopsRead (stop.Excluded succ pred) t (reading r (work_at v seat)) active tt refl (one_read_more r (work_at v seat)) done
 stopped_read v seat oid stop.Memory t active did = stopped_there v seat StopsRead stop.Memory t tt refl did.0
 
@@ -244,7 +244,7 @@ stopped_claim v seat oid (stop.Newer stamp) t active did =
 stopped_claim v seat oid stop.WritesFull t active did = stopped_there v seat StopsClaim stop.WritesFull t tt refl did.0
 stopped_claim v seat oid (stop.CellsFull drawn) t active did = stopped_there v seat StopsClaim (stop.CellsFull drawn) t tt refl did.1
 stopped_claim v seat oid (stop.OidsFull drawn) t active did = absurd did
-stopped_claim v seat oid (stop.Excluded succ pred) t active (may, (c, at, done, shut)) =
+stopped_claim v seat oid (stop.Excluded succ pred) t active (may, unowned, current, (c, at, done, shut)) =
     stopped_out v seat StopsClaim (stop.Excluded succ pred) t (claiming c (work_at v seat)) active tt refl (one_claimed_more c (work_at v seat)) done
 stopped_claim v seat oid stop.Memory t active did = stopped_there v seat StopsClaim stop.Memory t tt refl did.0
 

@@ -14,7 +14,7 @@ use Rattle.erm_world.specs.declared.stops.BeginStop.{BeginStop}
 use Rattle.erm_world.specs.declared.stops.BeginStop.TheVariants as begin
 use Rattle.erm_world.specs.declared.stops.Wait.{Wait}
 use Rattle.erm_world.specs.declared.stops.Wait.TheVariants as wait
-use Rattle.erm_world.specs.World.{Fate, Finished, Has, HasStamp, IsSession, Session, Stand, View, Work, begun, history_of, record_of, size_of, work_at}
+use Rattle.erm_world.specs.World.{Fate, Finished, Has, HasStamp, IsSession, Session, Stand, View, Work, begun, claims_by_all, history_of, made_by_all, record_of, size_of, work_at}
 use Rattle.erm_world.specs.World as world
 use Rattle.erm_world.specs.Works.{claiming, is_claimed, making, own_row, reading, row_read, setting}
 
@@ -35,9 +35,10 @@ abbrev pub IsDone : View → ℕ → Work → Fate → View → Type 0
 IsDone v seat w fate t =
     Becomes v seat (record { over = (v.session seat).over ++ record { work = w; fate = fate } ∷ []; stand = world.idle }) t
 
--- BEGIN. It is the session's next transaction, and begins at the end of the log.
+-- BEGIN. A number is left, and the log goes on: it is the session's next transaction, and begins at the end of the log.
 abbrev pub DidBegin : View → ℕ → ℕ → View → Type 0
-DidBegin v seat begin t = (begin ≡ v.tail) × Works v seat (begun (length (v.session seat).over + 1) begin) t
+DidBegin v seat begin t = (length (v.session seat).over < LAST_NUMBER) × (v.tail < STOP) × (begin ≡ v.tail)
+    × Works v seat (begun (length (v.session seat).over + 1) begin) t
 
 -- no number is left, or the log is at its end; a number is asked for first
 abbrev pub MayNotBegin : View → ℕ → BeginStop → View → Type 0
@@ -45,17 +46,18 @@ MayNotBegin v seat begin.NumbersEnd t = (t ≡ v) × (length (v.session seat).ov
 MayNotBegin v seat (begin.LogEnd tail) t = (t ≡ v) × (length (v.session seat).over < LAST_NUMBER) × (tail ≡ v.tail) × (STOP ≤ tail)
 MayNotBegin v seat begin.Memory t = t ≡ v
 
--- READ. The own row, the row read before, or that of a version that is read now.
+-- READ. The own row, the row read before, or that of a version that is read now, where one more may be read.
 pub data DidRead (v : View) (seat oid : ℕ) (row : List ℕ) (t : View) : Type 0 where
   own : t ≡ v → is_claimed (work_at v seat).claims oid ≡ true → row ≡ own_row (work_at v seat).claims oid [] → DidRead v seat oid row t
   again : t ≡ v → is_claimed (work_at v seat).claims oid ≡ false → row_read (work_at v seat).reads oid ≡ Some row → DidRead v seat oid row t
   first : (stamp : ℕ) → is_claimed (work_at v seat).claims oid ≡ false → row_read (work_at v seat).reads oid ≡ None
+      → length (work_at v seat).reads < READ_LIMIT
       → Works v seat (reading (record { oid = oid; stamp = stamp; row = row }) (work_at v seat)) t → DidRead v seat oid row t
 
--- CLAIM. It was claimed before, or is now, and keeps the row that the claim found.
+-- CLAIM. It was claimed before, or is now, where one more may be claimed, and keeps the row that the claim found.
 pub data DidClaim (v : View) (seat oid : ℕ) (t : View) : Type 0 where
   before : t ≡ v → is_claimed (work_at v seat).claims oid ≡ true → DidClaim v seat oid t
-  now : (stamp : ℕ) (base : List ℕ) → is_claimed (work_at v seat).claims oid ≡ false
+  now : (stamp : ℕ) (base : List ℕ) → is_claimed (work_at v seat).claims oid ≡ false → length (work_at v seat).claims < WRITE_LIMIT
       → Works v seat (claiming (record { oid = oid; stamp = stamp; base = base; row = base; is_set = false }) (work_at v seat)) t → DidClaim v seat oid t
 
 -- WRITE. A claim, and then the row is set.
@@ -91,7 +93,7 @@ pub record IsOwned (v : View) (seat oid other number : ℕ) : Type 0 where
   pub number_is : work.number ≡ number
   pub claims : is_claimed work.claims oid ≡ true
 
--- a commit of another session, with this stamp at or above the own begin stamp, made a version of the object
+-- a commit of another session, with this stamp at or above the own begin stamp, made the newest version of the object
 pub record IsNewer (v : View) (seat oid stamp : ℕ) : Type 0 where
   pub by : TransactionRecord
   pub committed : by ∈ history_of v
@@ -99,6 +101,7 @@ pub record IsNewer (v : View) (seat oid stamp : ℕ) : Type 0 where
   pub stamp_is : by.stamp ≡ stamp
   pub makes : Makes by oid
   pub above : (work_at v seat).begin ≤ stamp
+  pub newest : (u : TransactionRecord) → u ∈ history_of v → Makes u oid → u.stamp ≤ stamp
 
 -- The exclusion window known so far is closed: a committed transaction that overwrote a version read has this successor stamp,
 -- and one that made a version read or overwritten, or read one overwritten, has this commit stamp, which isn't below it.
@@ -113,13 +116,26 @@ pub record IsShut (v : View) (seat : ℕ) (w : Work) (succ pred : ℕ) : Type 0 
   pub pred_is : before.stamp ≡ pred
   pub closed : succ ≤ pred
 
+-- no other session's transaction is sealed below the bound and has claimed the object
+abbrev pub IsClearOf : View → ℕ → ℕ → ℕ → Type 0
+IsClearOf v seat oid bound = (other seen : ℕ) → IsAhead v seat oid bound other seen → ⊥
+
+-- no other session's transaction in progress has claimed the object
+abbrev pub IsUnowned : View → ℕ → ℕ → Type 0
+IsUnowned v seat oid = (other number : ℕ) → IsOwned v seat oid other number → ⊥
+
+-- no commit of another session at or above the own begin stamp made a version of the object
+abbrev pub HasNoNewer : View → ℕ → ℕ → Type 0
+HasNoNewer v seat oid = (stamp : ℕ) → IsNewer v seat oid stamp → ⊥
+
 -- A read was refused, and so the object isn't claimed. Where it was read and then excluded, it stays read in the transaction that
 -- has ended.
 abbrev pub DidNotRead : View → ℕ → ℕ → RowStop → View → Type 0
 DidNotRead v seat oid stop.ReadsFull t = (t ≡ v) × IsNew (work_at v seat) oid × (length (work_at v seat).reads ≡ READ_LIMIT)
 DidNotRead v seat oid (stop.NotYet other seen) t =
     (t ≡ v) × IsNew (work_at v seat) oid × (length (work_at v seat).reads < READ_LIMIT) × IsAhead v seat oid (work_at v seat).begin other seen
-DidNotRead v seat oid (stop.Excluded succ pred) t = IsNew (work_at v seat) oid
+DidNotRead v seat oid (stop.Excluded succ pred) t = IsNew (work_at v seat) oid × (length (work_at v seat).reads < READ_LIMIT)
+    × IsClearOf v seat oid (work_at v seat).begin
     × ((r : VersionRead) × (r.oid ≡ oid) × IsDone v seat (reading r (work_at v seat)) world.aborts t × IsShut v seat (reading r (work_at v seat)) succ pred)
 DidNotRead v seat oid stop.Memory t = (t ≡ v) × (is_claimed (work_at v seat).claims oid ≡ false)
 DidNotRead v seat oid (stop.Owned other number) t = ⊥
@@ -127,6 +143,10 @@ DidNotRead v seat oid (stop.Newer stamp) t = ⊥
 DidNotRead v seat oid stop.WritesFull t = ⊥
 DidNotRead v seat oid (stop.CellsFull drawn) t = ⊥
 DidNotRead v seat oid (stop.OidsFull drawn) t = ⊥
+
+-- All cells may be drawn: each object has one from the opening on, and each claim has drawn one at most.
+abbrev pub AreAllDrawn : View → Type 0
+AreAllDrawn v = v.opening.cells ≤ OID_LIMIT + claims_by_all v
 
 -- a claim is refused only where the object isn't claimed, and but for memory only where one more claim may be made
 abbrev pub MayClaim : Work → ℕ → Type 0
@@ -138,18 +158,23 @@ DidNotClaim v seat oid stop.WritesFull t = (t ≡ v) × (is_claimed (work_at v s
 DidNotClaim v seat oid (stop.Owned other number) t =
     MayClaim (work_at v seat) oid × IsDone v seat (work_at v seat) world.aborts t × IsOwned v seat oid other number
 DidNotClaim v seat oid (stop.Newer stamp) t =
-    MayClaim (work_at v seat) oid × IsDone v seat (work_at v seat) world.aborts t × IsNewer v seat oid stamp
-DidNotClaim v seat oid (stop.CellsFull drawn) t = MayClaim (work_at v seat) oid × (t ≡ v) × (v.opening.cells ≤ drawn)
-DidNotClaim v seat oid (stop.Excluded succ pred) t = MayClaim (work_at v seat) oid
+    MayClaim (work_at v seat) oid × IsDone v seat (work_at v seat) world.aborts t × IsUnowned v seat oid × IsNewer v seat oid stamp
+DidNotClaim v seat oid (stop.CellsFull drawn) t =
+    MayClaim (work_at v seat) oid × (t ≡ v) × IsUnowned v seat oid × HasNoNewer v seat oid × (v.opening.cells ≤ drawn) × AreAllDrawn v
+DidNotClaim v seat oid (stop.Excluded succ pred) t = MayClaim (work_at v seat) oid × IsUnowned v seat oid × HasNoNewer v seat oid
     × ((c : VersionWritten) × (c.oid ≡ oid) × IsDone v seat (claiming c (work_at v seat)) world.aborts t × IsShut v seat (claiming c (work_at v seat)) succ pred)
 DidNotClaim v seat oid stop.Memory t = (t ≡ v) × (is_claimed (work_at v seat).claims oid ≡ false)
 DidNotClaim v seat oid (stop.NotYet other seen) t = ⊥
 DidNotClaim v seat oid stop.ReadsFull t = ⊥
 DidNotClaim v seat oid (stop.OidsFull drawn) t = ⊥
 
+-- no object is left to make: each that may be made was
+abbrev pub AreAllMade : View → Type 0
+AreAllMade v = (x : ℕ) → v.opening.first ≤ x → x < OID_LIMIT → 0 < made_by_all v x
+
 -- A new object was refused.
 abbrev pub DidNotMake : View → ℕ → RowStop → View → Type 0
-DidNotMake v seat (stop.OidsFull drawn) t = (t ≡ v) × (OID_LIMIT ≤ drawn)
+DidNotMake v seat (stop.OidsFull drawn) t = (t ≡ v) × (OID_LIMIT ≤ drawn) × AreAllMade v
 DidNotMake v seat stop.Memory t = t ≡ v
 DidNotMake v seat (stop.NotYet other seen) t = ⊥
 DidNotMake v seat stop.ReadsFull t = ⊥
@@ -183,16 +208,49 @@ Settled v seat w stamp (Excluded at succ pred) t = IsDone v seat w (world.exclud
 abbrev pub DidSettle : View → ℕ → Outcome → View → Type 0
 DidSettle v seat outcome t = (w : Work) × (stamp : ℕ) × ((v.session seat).stand ≡ world.sealed w stamp) × Settled v seat w stamp outcome t
 
--- another session's transaction is sealed with this stamp below the bound, and has claimed an object that this one has read, or
--- read one that this one has claimed
-pub record IsInTheWay (v : View) (seat : ℕ) (w : Work) (bound other seen : ℕ) : Type 0 where
+-- another session's transaction, sealed with this stamp below the bound
+pub record IsSealedBelow (v : View) (seat bound other seen : ℕ) (work : Work) : Type 0 where
   pub session : IsSession v other
   pub another : other ≢ seat
-  pub work : Work
   pub stand : (v.session other).stand ≡ world.sealed work seen
   pub below : seen < bound
-  pub meets : ((r : VersionRead) × (r ∈ w.reads) × (is_claimed work.claims r.oid ≡ true))
-      ⊎ ((c : VersionWritten) × (c ∈ w.claims) × ((r : VersionRead) × (r ∈ work.reads) × (r.oid ≡ c.oid) × (r.stamp ≡ c.stamp)))
+
+-- one that overwrites the version read
+pub record MayOverwrite (v : View) (seat bound : ℕ) (r : VersionRead) (other seen : ℕ) : Type 0 where
+  pub work : Work
+  pub is : IsSealedBelow v seat bound other seen work
+  pub claim : VersionWritten
+  pub claimed : claim ∈ work.claims
+  pub oid : claim.oid ≡ r.oid
+  pub stamp : claim.stamp ≡ r.stamp
+
+-- one that has read the version overwritten
+pub record MayHaveRead (v : View) (seat bound : ℕ) (c : VersionWritten) (other seen : ℕ) : Type 0 where
+  pub work : Work
+  pub is : IsSealedBelow v seat bound other seen work
+  pub read : VersionRead
+  pub reads : read ∈ work.reads
+  pub oid : read.oid ≡ c.oid
+  pub stamp : read.stamp ≡ c.stamp
+
+-- nobody who is undecided below the bound overwrites this version read; nobody below this seat has read this version overwritten
+abbrev pub IsReadReady : View → ℕ → ℕ → VersionRead → Type 0
+IsReadReady v seat bound r = (other seen : ℕ) → MayOverwrite v seat bound r other seen → ⊥
+
+abbrev pub IsClaimReady : View → ℕ → ℕ → ℕ → VersionWritten → Type 0
+IsClaimReady v seat bound upto c = (other seen : ℕ) → other < upto → MayHaveRead v seat bound c other seen → ⊥
+
+-- The transaction waits for this session: the versions read are passed in order, then those overwritten, each with its readers by
+-- ascending seat, and this is the first that isn't ready.
+pub data IsInTheWay (v : View) (seat : ℕ) (w : Work) (bound other seen : ℕ) : Type 0 where
+  overwrites : (before after : List VersionRead) (r : VersionRead) → w.reads ≡ before ++ r ∷ after
+      → ((q : VersionRead) → q ∈ before → IsReadReady v seat bound q)
+      → MayOverwrite v seat bound r other seen → IsInTheWay v seat w bound other seen
+  has_read : (before after : List VersionWritten) (c : VersionWritten) → w.claims ≡ before ++ c ∷ after
+      → ((q : VersionRead) → q ∈ w.reads → IsReadReady v seat bound q)
+      → ((d : VersionWritten) → d ∈ before → IsClaimReady v seat bound (v.opening.sessions + 1) d)
+      → IsClaimReady v seat bound other c
+      → MayHaveRead v seat bound c other seen → IsInTheWay v seat w bound other seen
 
 -- the log's last words have no room for the block: it ends behind those that are kept from the place flushed on
 abbrev pub IsRingFull : View → Work → ℕ → Type 0

@@ -2,6 +2,7 @@ pub mod Calls
 pub mod Face
 pub mod Going
 pub mod Laws
+pub mod Log
 pub mod MapWorld
 pub mod Onward
 pub mod Works

@@ -98,6 +98,7 @@ pub record IsMapWorld (law : Law) (start : ℕ) (rows : Rows) (first next tail n
   pub now_is : IsNow law start rows first tail number (length over) now
   pub made_once : (x : ℕ) → made_of over now x ≤ 1
   pub made_new : (x : ℕ) → 0 < made_of over now x → (first ≤ x) × (x < next)
+  pub made_all : (x : ℕ) → first ≤ x → x < next → 0 < made_of over now x
   pub next_above : first ≤ next
 
 -- with what the laws of a world say of its view

@@ -1,5 +1,5 @@
 -- What a world of sessions means: the transactions of its sessions, over and in progress, and what they have committed.
-use Rattle.std.specs.Prelude.{◌≡◌, ℕ, zero, suc, ◌+◌, ◌<◌, ◌≤◌, ◌⊎◌, List, [], ◌∷◌, ◌++◌, map, flat_map, sum_by, Option, Some, None}
+use Rattle.std.specs.Prelude.{◌≡◌, ℕ, zero, suc, ◌+◌, ◌<◌, ◌≤◌, ◌⊎◌, List, [], ◌∷◌, ◌++◌, map, flat_map, length, sum_by, Option, Some, None}
 use Rattle.erm_model.specs.declared.history.TransactionRecord.{TransactionRecord}
 use Rattle.erm_model.specs.declared.history.VersionRead.{VersionRead}
 use Rattle.erm_model.specs.declared.history.VersionWritten.{VersionWritten}
@@ -157,6 +157,19 @@ made_upto (suc n) session x = made_upto n session x + made_in (session (suc n)) 
 -- how often those of all sessions did
 abbrev pub made_by_all : View → ℕ → ℕ
 made_by_all v x = made_upto v.opening.sessions v.session x
+
+-- how many objects a session's transactions have claimed, over and in progress, each as often as it was
+abbrev pub claims_in : Session → ℕ
+claims_in s = sum_by (λ f. length f.work.claims) s.over + length (work_of s.stand).claims
+
+-- how many those of the sessions up to a number have
+unfoldable pub claims_upto : ℕ → (ℕ → Session) → ℕ
+claims_upto zero session = 0
+claims_upto (suc n) session = claims_upto n session + claims_in (session (suc n))
+
+-- how many those of all sessions have
+abbrev pub claims_by_all : View → ℕ
+claims_by_all v = claims_upto v.opening.sessions v.session
 
 -- how many words of the log its block takes
 abbrev pub size_of : Work → ℕ

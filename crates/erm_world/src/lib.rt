@@ -1,14 +1,18 @@
 //! The contract of a world of sessions: what its calls mean, what their refusals say, and the laws that all of them keep.
 #![tactic(auto)]
 
+mod gathered;
 mod laws;
+mod log_world;
 mod stops;
 #[cfg(test)]
 mod tests;
 mod txn;
 mod world;
 
+pub use gathered::{Gathered, SeatWait};
 pub use laws::{histories_tell_commits, laws_that_say_the_same};
+pub use log_world::LogWorld;
 pub use stops::{BeginStop, NotFlushed, Wait};
 pub use txn::WorldTxn;
 pub use world::RowWorld;

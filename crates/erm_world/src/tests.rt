@@ -6,8 +6,8 @@ mod map_world;
 
 use crate::{RowWorld, WorldTxn};
 use erm_model::{
-    AnyRows, OID_LIMIT, Oid, Outcome, Phase, ROW_WORDS, Receipt, Row, RowRead, RowStop, RowTxn,
-    STOP, Stamp,
+    AnyRows, OID_LIMIT, Oid, Outcome, Phase, READ_LIMIT, ROW_WORDS, Receipt, Row, RowRead, RowStop,
+    RowTxn, STOP, Stamp,
 };
 use map_world::MapWorld;
 use std::alloc::{AllocError, Global};
@@ -112,6 +112,23 @@ fn copy(world: &mut MapWorld<AnyRows>, from: Oid, to: Oid) -> bool
     copy_by(&mut txn, from, to).is_ok()
 }
 
+// The first object that isn't read any more, and why, where the session is active.
+fn first_unread(world: &mut MapWorld<AnyRows>) -> Option<(Oid, RowStop)>
+    requires { ⟦<MapWorld<AnyRows> as RowWorld>⟧.stands world.old }
+    ensures { ⟦<MapWorld<AnyRows> as RowWorld>⟧.stands world.new }
+{
+    for oid in 0..READ_LIMIT as Oid + 1 {
+        match world.phase(1) {
+            Phase::Active => {}
+            _ => return None,
+        }
+        if let Err(why) = world.read(1, oid) {
+            return Some((oid, why));
+        }
+    }
+    None
+}
+
 #[test]
 fn one_transaction_commits(rt: HostRuntime) -> Result<(), Fail> {
     let mut world = world(rt.alloc())?;
@@ -167,5 +184,28 @@ fn numbers_and_objects_go_on(rt: HostRuntime) -> Result<(), Fail> {
         "a block of one row"
     );
     assert!(rt; world.durable(1, &receipt).is_err(), "it isn't synced");
+    Ok(())
+}
+
+#[test]
+fn reads_have_a_limit(rt: HostRuntime) -> Result<(), Fail> {
+    let mut world = world(rt.alloc())?;
+    assert!(rt;
+        first_unread(&mut world).is_none(),
+        "no transaction has begun"
+    );
+    assert!(rt; begin(&mut world).is_some());
+    assert!(rt;
+        first_unread(&mut world) == Some((READ_LIMIT as Oid, RowStop::ReadsFull)),
+        "one more than may be read"
+    );
+    assert!(rt;
+        row(&mut world, 1) == Some([7; ROW_WORDS]),
+        "one of those read"
+    );
+    assert!(rt;
+        copy(&mut world, 1, 600),
+        "an object that isn't read is claimed"
+    );
     Ok(())
 }

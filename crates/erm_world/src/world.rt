@@ -79,8 +79,8 @@ pub trait RowWorld {
         ensures ok { IfOk result (λ oid. DidMake (view self.old) seat oid (view self.new)) }
         ensures err { IfErr result (λ stop. DidNotMake (view self.old) seat stop (view self.new)) };
 
-    /// Claims an object where it isn't claimed yet, and cuts off versions of it that nobody may read any more: how many were cut
-    /// off in this call.
+    /// Claims an object where it isn't claimed yet, and cuts off versions of it that nobody may read any more. It answers a count
+    /// of these; how exact it is, each world says for itself.
     fn tidy(&mut self, seat: Seat, oid: Oid) -> Result<u32, RowStop>
         requires stands { stands self.old }
         requires session { IsSession (view self.old) seat }

@@ -1,6 +1,6 @@
 //! A world of one session over rows in memory.
 ghost use Rattle.std.specs.Prelude.{[], ◌≡◌, ◌+◌, ◌-◌, ◌<◌, ◌≤◌, ◌≢◌, ℕ, length, map, IfOk, vec_capacity, vec_len};
-ghost use Rattle.erm_model.specs.declared.limits.TheConstants.{OID_LIMIT, STOP, WRITE_LIMIT};
+ghost use Rattle.erm_model.specs.declared.limits.TheConstants.{OID_LIMIT, READ_LIMIT, STOP, WRITE_LIMIT};
 ghost use Rattle.erm_model.specs.declared.outcome.Phase.TheVariants.{Active};
 ghost use Rattle.erm_model.specs.Rows.{rows_of};
 ghost use Rattle.erm_record.specs.Stored.{block_words};
@@ -9,8 +9,8 @@ ghost use Rattle.erm_world.specs.Works.{row_read, with_row};
 
 use crate::{BeginStop, NotFlushed, RowWorld, Wait};
 use erm_model::{
-    LAST_NUMBER, LEAST_BLOCK, OID_LIMIT, Oid, Outcome, Phase, Receipt, Row, RowLaw, RowStop, STOP,
-    Seat, Stamp, VersionRead, VersionWritten, WRITE_LIMIT,
+    LAST_NUMBER, LEAST_BLOCK, OID_LIMIT, Oid, Outcome, Phase, READ_LIMIT, Receipt, Row, RowLaw,
+    RowStop, STOP, Seat, Stamp, VersionRead, VersionWritten, WRITE_LIMIT,
 };
 use erm_record::stored_length;
 use std::alloc::Global;
@@ -50,6 +50,7 @@ pub struct MapWorld<L> {
     pub law: PhantomData<L>,
     ghost rows_there: { vec_len rows ≡ OID_LIMIT },
     ghost next_below: { next ≤ OID_LIMIT },
+    ghost reads_few: { vec_len work.reads ≤ READ_LIMIT },
     ghost claims_few: { vec_len work.claims ≤ WRITE_LIMIT },
     ghost room: { phase ≡ Active → vec_len over < vec_capacity over },
 }
@@ -117,6 +118,7 @@ impl<L> MapWorld<L> {
     fn blank(&self) -> MapWork
         ensures number { result.number ≡ self.now.begun }
         ensures reads { result.reads.items ≡ [] }
+        ensures few_reads { vec_len result.reads ≡ 0 }
         ensures claims { result.claims.items ≡ [] }
         ensures few { vec_len result.claims ≡ 0 }
         ensures made { result.made.items ≡ [] }
@@ -169,6 +171,9 @@ impl<L: RowLaw> RowWorld for MapWorld<L> {
         }
         if let Some(row) = seen(self.work.reads.as_slice(), oid) {
             return Ok(row);
+        }
+        if self.work.reads.len() == READ_LIMIT {
+            return Err(RowStop::ReadsFull);
         }
         let row = self.rows[oid as usize];
         let read = VersionRead { oid, stamp: 0, row };

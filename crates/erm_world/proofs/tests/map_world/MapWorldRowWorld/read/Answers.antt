@@ -20,3 +20,4 @@ returns-clause-ok g c =
     read_first g.L.RowLaw.law 1152921504606846975 (rows_of c.args.self.now.rows.items) c.args.self.now.first c.args.self.now.next c.args.self.now.tail c.args.self.now.begun (map (λ (m : MapWork). work_with 1152921504606846975 m.number m.reads.items m.claims.items m.made.items) c.args.self.now.over.items) c.args.self.now.phase c.args.self.now.committed (work_with 1152921504606846975 c.args.self.now.work.number c.args.self.now.work.reads.items c.args.self.now.work.claims.items c.args.self.now.work.made.items) c.args._seat c.requires.session _ c.args.oid c.index-row.result.now c.requires.active is
     (found_in c.as_slice.result.now c.args.self.now.work.claims.items c.args.oid c.own.result c.as_slice.ensures.value c.own.ensures c.in_default.is)
     (read_in c.as_slice-2.result.now c.args.self.now.work.reads.items c.args.oid c.seen.result c.as_slice-2.ensures.value c.seen.ensures c.in_default-seen.is)
+    (let few = c.if-len-eq-READ_LIMIT.false in let most = c.args.self.now.reads_few in let all = c.len.ensures in omega (arith, few, most, all))
