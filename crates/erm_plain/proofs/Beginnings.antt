@@ -222,6 +222,8 @@ begin_done sessions seat b c d e sound_b sound_c sound_d quiet session at less l
       quiet_after sessions seat b e quiet session others (ap (λ (o : Opening). o.tail) opening) (subst (λ (y : Part). IsBetween y.place y.task) (sym is) refl) (λ some. absurd (omega (arith, some, stamp)))
           (omega (arith, opened, flushed, within), omega (arith, tail, flushed, below)),
       (
+        omega (arith, all, less),
+        low,
         omega (arith, tail_one, tail_two),
         record {
           own =

@@ -1,8 +1,9 @@
 -- States between two calls: an opening's, and those after steps of one session.
 use Rattle.std.proofs.Common.{◌≡◌, ◌≢◌, ℕ, ◌<◌, ◌≤◌, ⊎_elim, Bool, true, false, ◌&&◌, leb, ltb, [], refl, sym, subst, arith}
 use Rattle.std.specs.Prelude.{if◌then◌else◌}
-use Rattle.std.proofs.lemmas.Bool.{and_from, and_parts, cases_eq, cases_lt, eqb-false, le-leb, leb-true, lt-ltb, ltb-true, ne_eqb, or_cases, or_left}
+use Rattle.std.proofs.lemmas.Bool.{and_from, and_parts, cases_eq, cases_lt, eqb-false, le-leb, leb-true, lt-ltb, ltb-true, ne_eqb, or_cases, or_left, or_right}
 use Rattle.erm_model.specs.declared.outcome.Phase.TheVariants as phase
+use Rattle.erm_model.specs.declared.limits.TheConstants.{LAST_RUN}
 use Rattle.erm_model.specs.RowTransaction.{Law}
 use Rattle.erm_model.specs.Rows.{Rows}
 use Rattle.erm_machine.specs.declared.attempt.Attempt.{Attempt}
@@ -14,7 +15,8 @@ use Rattle.erm_machine.specs.declared.task.Task.{Task}
 use Rattle.erm_machine.specs.declared.task.Task.TheVariants as task
 use Rattle.erm_machine.specs.Core.{Core, is_taken, opening_state}
 use Rattle.erm_machine.specs.Seat.{is_active, may_start}
-use Rattle.erm_machine.specs.Sound.{Sound, SoundUnder}
+use Rattle.erm_machine.specs.Sound.{Sound}
+use Rattle.erm_sound.specs.Kept.{SoundUnder}
 use Rattle.erm_machine.specs.Words.{is_flusher, is_session}
 use Rattle.erm_world.specs.World.{IsSession, phase_at, phase_of, size_of}
 use Rattle.erm_core_view.specs.Views.{IsBetween, IsQuiet, IsStill, stand_of, view_of, work_of}
@@ -25,6 +27,9 @@ few_flush sessions q few low = ne_eqb q FLUSH_SEAT (λ e. absurd (omega (arith, 
 
 session_taken : (sessions q : ℕ) → 0 < q → q ≤ sessions → is_taken sessions q ≡ true
 session_taken sessions q some low = or_left _ (is_flusher q) (and_from _ _ (lt-ltb 0 q some) (le-leb q sessions low))
+
+flusher_taken : (sessions q : ℕ) → is_flusher q ≡ true → is_taken sessions q ≡ true
+flusher_taken sessions q flusher = or_right (ltb 0 q && leb q sessions) (is_flusher q) flusher
 
 other_taken : (sessions q : ℕ) → (0 < q → q ≤ sessions → ⊥) → is_flusher q ≡ false → is_taken sessions q ≡ true → ⊥
 other_taken sessions q other plain taken =
@@ -43,12 +48,20 @@ place_vacant true e = absurd (e refl)
 place_vacant false e = refl
 
 -- an opening's state is one between two calls
-pub opening_quiet : (sessions : ℕ) (rows : Rows) (tail run first cells : ℕ) → sessions ≤ SESSIONS → 1 < tail → IsQuiet sessions (opening_state sessions rows tail run first cells)
-opening_quiet sessions rows tail run first cells few behind = record {
+pub opening_quiet : (sessions : ℕ) (rows : Rows) (tail run first cells : ℕ) → sessions ≤ SESSIONS → 1 < tail → run ≤ LAST_RUN → IsQuiet sessions (opening_state sessions rows tail run first cells)
+opening_quiet sessions rows tail run first cells few behind short = record {
   between = λ q some low. place_taken (is_taken sessions q) (session_taken sessions q some low);
   others = λ q other plain. place_vacant (is_taken sessions q) (other_taken sessions q other plain);
   unused = λ q other plain. refl;
-  flusher = λ q flusher. record { over = refl; reads = refl; writes = refl; made = refl };
+  flusher = λ q flusher. record {
+    over = refl;
+    reads = refl;
+    writes = refl;
+    made = refl;
+    rests = place_taken (is_taken sessions q) (flusher_taken sessions q flusher);
+    turn = refl;
+    run = short;
+  };
   sized = λ q some low drawn. absurd (omega (arith, drawn));
   few = λ q low. few_flush sessions q few low;
   opened = behind;

@@ -1,15 +1,14 @@
 -- A step that is taken, from what the core step says of it.
-use Rattle.std.proofs.Common.{◌≡◌, ℕ, Some, sym, ap, ◌∙◌, arith}
+use Rattle.std.proofs.Common.{◌≡◌, ℕ, Some, sym, ap, ◌∙◌}
 use Rattle.erm_machine.specs.declared.event.Answer.{Answer}
 use Rattle.erm_machine.specs.declared.event.Kind.{Kind}
 use Rattle.erm_machine.specs.declared.event.Kind.TheVariants as kind
 use Rattle.erm_machine.specs.Core.{Core, spot_of, word_at}
-use Rattle.erm_machine.specs.Lawful.{DrawsLawfully}
 use Rattle.erm_machine.specs.Step.{after_event, core_step, step_to, told}
 use Rattle.erm_model.specs.RowTransaction.{Law}
 use Rattle.erm_core.specs.Kinds.{event_at}
-use Rattle.erm_core.specs.Rooms.{ranges_in}
-use Rattle.erm_plain.specs.Steps.{IsTaken}
+use Rattle.erm_sound.specs.Kept.{Keeps}
+use Rattle.erm_plain.specs.Steps.{IsTaken, IsUnpromised}
 
 -- what a step tells and leads to, where it is taken
 pub record Stepped (c d : Core) (seat : ℕ) (k : Kind) (a : Answer) : Type 0 where
@@ -25,7 +24,8 @@ stepped_to c d seat k a step taken =
       after = taken.1 ∙ sym (ap (λ (r : Answer × Core). Some r.1) both);
     }
 
--- a step that draws no range keeps every law
-pub draws_none : (law : Law) (c : Core) (seat : ℕ) (k : Kind) → ranges_in k ≡ 0 → DrawsLawfully law c seat k
-draws_none law c seat (kind.AddTail size) e = absurd (omega (arith, e))
-draws_none law c seat _ e = tt
+-- a step that neither draws a range nor decides keeps every law
+pub keeps_free : (law : Law) (c : Core) (seat : ℕ) (k : Kind) → IsUnpromised k → Keeps law c seat k
+keeps_free law c seat (kind.AddTail size) free = absurd free
+keeps_free law c seat (kind.Decide at header) free = absurd free
+keeps_free law c seat _ free = record { draws = tt; decides = tt }

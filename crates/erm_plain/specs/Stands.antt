@@ -1,6 +1,7 @@
 -- The world in lists: the machine's state between two calls.
 use Rattle.erm_model.specs.RowTransaction.{Law}
-use Rattle.erm_machine.specs.Sound.{SoundUnder}
+use Rattle.erm_sound.specs.Kept.{SoundUnder}
+use Rattle.erm_world.specs.Laws.{IsPossibleIn, IsSerializable}
 use Rattle.erm_world.specs.World.{View}
 use Rattle.erm_core.specs.Cores.{core_of}
 use Rattle.erm_core_view.specs.Views.{IsQuiet, view_of}
@@ -14,3 +15,9 @@ plain_view p = view_of p.sessions (core_of p.state)
 pub record Stands {L : Type 0} (law : Law) (p : Plain L) : Type 0 where
   pub sound : SoundUnder law (core_of p.state)
   pub quiet : IsQuiet p.sessions (core_of p.state)
+
+-- it stands, and has what the laws of a world say of its view
+pub record IsWorld {L : Type 0} (law : Law) (p : Plain L) : Type 0 where
+  pub stands : Stands law p
+  pub serializable : IsSerializable law (plain_view p)
+  pub possible : IsPossibleIn law (plain_view p)

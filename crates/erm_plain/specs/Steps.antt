@@ -3,12 +3,12 @@ use Rattle.std.specs.Prelude.{◌≡◌, ◌≢◌, ℕ, true, length, Some}
 use Rattle.erm_machine.specs.declared.event.Answer.{Answer}
 use Rattle.erm_machine.specs.declared.event.Answer.TheVariants as answer
 use Rattle.erm_machine.specs.declared.event.Kind.{Kind}
+use Rattle.erm_machine.specs.declared.event.Kind.TheVariants as kind
 use Rattle.erm_machine.specs.Core.{Core}
 use Rattle.erm_machine.specs.Seat.{end_of, is_active}
 use Rattle.erm_machine.specs.Step.{after_event}
 use Rattle.erm_machine.specs.Words.{is_session}
 use Rattle.erm_core.specs.Rooms.{ranges_in, IsOfNone}
-use Rattle.erm_core_view.specs.Steps.{MeetsOne}
 use Rattle.erm_core_view.specs.Views.{view_of}
 
 -- the seat's step of this kind is taken
@@ -21,9 +21,17 @@ found_in (answer.Word word) = word
 found_in answer.Done = 0
 found_in answer.Failed = 0
 
--- a kind of step that needs no room, and meets one word
+-- kinds that meet one word, and neither draw a range nor decide
+abbrev pub IsUnpromised : Kind → Type 0
+IsUnpromised (kind.Split other) = ⊥
+IsUnpromised (kind.Join other) = ⊥
+IsUnpromised (kind.AddTail size) = ⊥
+IsUnpromised (kind.Decide at header) = ⊥
+IsUnpromised k = Unit {0}
+
+-- a kind of step that needs no room and no promise of its caller, and meets one word
 pub record IsFree (k : Kind) : Type 0 where
-  pub one : MeetsOne k
+  pub one : IsUnpromised k
   pub ranges : ranges_in k ≡ 0
   pub none : IsOfNone k
 

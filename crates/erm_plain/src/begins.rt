@@ -26,9 +26,10 @@ impl<L: RowLaw> Plain<L> {
         }
     }
 
-    /// Begins a transaction: the begin stamp, which is the end of the log, in words. It is refused where the session has had its
-    /// last number, 2^32 - 1, where the log's end is at or above 2^60, and where memory runs out; the view stays then.
-    pub fn begin(&mut self, seat: Seat) -> Result<Stamp, BeginStop>
+    /// Begins a transaction: the begin stamp, which is the end of the log, in words. It is refused, in this order, where memory
+    /// runs out, where the session has had its last number, 2^32 - 1, and where the log's end is at or above 2^60; the view stays
+    /// then.
+    pub(crate) fn begin(&mut self, seat: Seat) -> Result<Stamp, BeginStop>
         requires stands { Stands L.law self.old }
         requires session { IsSession (plain_view self.old) seat }
         requires idle { phase_at (plain_view self.old) seat ≡ Idle }
@@ -38,11 +39,11 @@ impl<L: RowLaw> Plain<L> {
     {
         erm_core::rooms_serve();
         let purpose = TailUse::Begin;
-        if self.number(seat) >= LAST_NUMBER {
-            return Err(BeginStop::NumbersEnd);
-        }
         if !self.has_room(seat, Need::Begin) {
             return Err(BeginStop::Memory);
+        }
+        if self.number(seat) >= LAST_NUMBER {
+            return Err(BeginStop::NumbersEnd);
         }
         let tail = found(self.take(seat, Kind::LoadTail { purpose }));
         if tail >= STOP {

@@ -2,10 +2,11 @@
 ghost use Rattle.std.specs.Prelude.{◌≡◌, ◌<◌, true, length};
 ghost use Rattle.erm_machine.specs.Core.{claim_at};
 ghost use Rattle.erm_machine.specs.Seat.{read_at};
-ghost use Rattle.erm_machine.specs.Sound.{SoundUnder};
+ghost use Rattle.erm_sound.specs.Kept.{SoundUnder};
 ghost use Rattle.erm_machine.specs.Words.{is_session};
 ghost use Rattle.erm_model.specs.declared.outcome.Phase.TheVariants.{Active};
 ghost use Rattle.erm_core.specs.Cores.{core_of};
+ghost use Rattle.erm_plain.specs.Reads as reads_specs;
 ghost use Rattle.erm_plain.specs.Stands.{Stands, plain_view};
 ghost use Rattle.erm_plain.specs.Steps.{HasCleared, HasReleased, IsUnseen, MayEnd};
 ghost use Rattle.erm_world.specs.Calls.{DidAbort};
@@ -17,7 +18,7 @@ use erm_model::{RowLaw, Seat};
 
 impl<L: RowLaw> Plain<L> {
     // How many objects the seat's transaction has claimed.
-    fn claims(&self, seat: Seat) -> usize
+    pub(crate) fn claims(&self, seat: Seat) -> usize
         requires session { is_session seat ≡ true }
         ensures { result ≡ length ((core_of self.now.state).seats seat).current.writes }
     {
@@ -28,7 +29,7 @@ impl<L: RowLaw> Plain<L> {
     }
 
     // How many versions the seat's transaction has read.
-    fn reads(&self, seat: Seat) -> usize
+    pub(crate) fn reads(&self, seat: Seat) -> usize
         requires session { is_session seat ≡ true }
         ensures { result ≡ length ((core_of self.now.state).seats seat).current.reads }
     {
@@ -62,7 +63,9 @@ impl<L: RowLaw> Plain<L> {
 }
 
 // The name of no version.
-fn no_version() -> VersionAt {
+pub(crate) fn no_version() -> VersionAt
+    ensures { result ≡ reads_specs.no_version }
+{
     VersionAt {
         oid: 0,
         place: 0,
@@ -108,7 +111,7 @@ impl<L: RowLaw> Plain<L> {
     }
 
     /// Ends the transaction: nothing that it wrote stays.
-    pub fn abort(&mut self, seat: Seat)
+    pub(crate) fn abort(&mut self, seat: Seat)
         requires stands { Stands L.law self.old }
         requires session { IsSession (plain_view self.old) seat }
         requires active { phase_at (plain_view self.old) seat ≡ Active }

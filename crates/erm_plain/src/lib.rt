@@ -2,12 +2,25 @@
 #![tactic(auto)]
 
 mod begins;
+mod blocks;
+mod claims;
 mod ends;
+mod finishes;
+mod gathers;
+mod installs;
 mod makes;
+mod passes;
+mod pins;
 mod plain;
+mod reads;
 mod seals;
+mod settles;
 mod steps;
 #[cfg(test)]
 mod tests;
+mod walks;
+mod world;
+mod writes;
 
 pub use plain::Plain;
+pub use world::standing_worlds_have_laws;

@@ -13,9 +13,9 @@ use erm_machine::{Counter, Kind, OBJECT_LIMIT};
 use erm_model::{Oid, RowLaw, RowStop, Seat};
 
 impl<L: RowLaw> Plain<L> {
-    /// A new object, which nobody else gets. It is refused where as many were drawn as there may be, and where memory runs out;
-    /// the view stays then.
-    pub fn fresh(&mut self, seat: Seat) -> Result<Oid, RowStop>
+    /// A new object, which nobody else gets. It is refused where memory runs out, and where each object that may be made was; the
+    /// view stays then.
+    pub(crate) fn fresh(&mut self, seat: Seat) -> Result<Oid, RowStop>
         requires stands { Stands L.law self.old }
         requires session { IsSession (plain_view self.old) seat }
         requires active { phase_at (plain_view self.old) seat ≡ Active }
@@ -26,6 +26,7 @@ impl<L: RowLaw> Plain<L> {
     {
         erm_core::rooms_serve();
         erm_core::rooms_last();
+        erm_core_view::drawn_objects_are_made();
         erm_core_view::steps_show_what_they_do();
         let counter = Counter::Objects;
         if !self.has_room(seat, Need::Make) {

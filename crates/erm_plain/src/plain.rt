@@ -1,11 +1,12 @@
 //! The world in lists.
 ghost use Rattle.std.specs.Prelude.{◌≡◌, ◌+◌, ◌<◌, ◌≤◌, ℕ, IfErr, IfOk, IsOk, ◌↔◌, length};
-ghost use Rattle.erm_model.specs.declared.limits.TheConstants.{MOST_CELLS, OID_LIMIT, SESSIONS, STOP};
+ghost use Rattle.erm_model.specs.declared.limits.TheConstants.{LAST_RUN, MOST_CELLS, OID_LIMIT, SESSIONS, STOP};
 ghost use Rattle.erm_core.specs.Cores.{core_of, rows_of};
 ghost use Rattle.erm_machine.specs.Core.{opening_state};
-ghost use Rattle.erm_plain.specs.Stands.{Stands, plain_view};
+ghost use Rattle.erm_plain.specs.Stands.{IsWorld, Stands, plain_view};
 ghost use Rattle.erm_world.specs.World.{IsSession, phase_at};
 
+use crate::world::standing_worlds_have_laws;
 use erm_core::State;
 use erm_machine::Place;
 use erm_model::{MOST_CELLS, Phase, Receipt, Row, RowLaw, Seat, Stamp};
@@ -24,8 +25,8 @@ pub struct Plain<L> {
 
 impl<L: RowLaw> Plain<L> {
     /// A world of so many sessions, from 1 to 48, on a row for each object. Its log goes on at `tail`, in words, from 13, which
-    /// is behind the first block of a log, to 2^60 + 4, and is written as this run; the objects that it makes have numbers
-    /// from `first` on. The rows meet the law, and reach no object from `first` on.
+    /// is behind the first block of a log, to 2^60 + 4, and is written as this run, from 1 to 2^44 - 1; the objects that it
+    /// makes have numbers from `first` on. The rows meet the law, and reach no object from `first` on.
     pub fn open(
         alloc: Global,
         rows: &[Row],
@@ -39,14 +40,18 @@ impl<L: RowLaw> Plain<L> {
         requires rows { length rows.now ≡ OID_LIMIT }
         requires positive { 13 ≤ tail }
         requires low { tail ≤ STOP + 4 }
+        requires run_low { 1 ≤ run }
+        requires run_high { run ≤ LAST_RUN }
         requires first { first ≤ OID_LIMIT }
         requires meets { L.law.meets (rows_of rows.now) }
         requires unreached { (oid : ℕ) → first ≤ oid → L.law.reach (rows_of rows.now) oid ≡ 0 }
         ensures stands { IfOk result (Stands L.law) }
+        ensures world { IfOk result (IsWorld L.law) }
         ensures opened { IfOk result (λ p. core_of p.state ≡ opening_state sessions (rows_of rows.now) tail run first MOST_CELLS) }
         ensures sessions { IfOk result (λ p. p.sessions ≡ sessions) }
     {
         erm_sound::openings_are_lawful::<L>();
+        standing_worlds_have_laws::<L>();
         let state = State::open(alloc, sessions, rows, tail, run, first, MOST_CELLS)?;
         Ok(Plain {
             state,
@@ -56,7 +61,7 @@ impl<L: RowLaw> Plain<L> {
     }
 
     /// The phase of a session.
-    pub fn phase(&self, seat: Seat) -> Phase
+    pub(crate) fn phase(&self, seat: Seat) -> Phase
         requires stands { Stands L.law self.now }
         requires session { IsSession (plain_view self.now) seat }
         ensures { result ≡ phase_at (plain_view self.now) seat }
@@ -72,7 +77,7 @@ impl<L: RowLaw> Plain<L> {
     }
 
     /// Whether a commit is on the disk: all words of the log below the receipt's end are synced.
-    pub fn durable(&mut self, seat: Seat, receipt: &Receipt) -> Result<(), NotFlushed>
+    pub(crate) fn durable(&mut self, seat: Seat, receipt: &Receipt) -> Result<(), NotFlushed>
         requires stands { Stands L.law self.old }
         requires session { IsSession (plain_view self.old) seat }
         ensures stands { Stands L.law self.new }

@@ -47,7 +47,7 @@ impl<L: RowLaw> Plain<L> {
 
     /// Seals the transaction: its commit stamp, the place of the log, in words, where its block begins. The transaction keeps the
     /// law of rows.
-    pub fn seal(&mut self, seat: Seat) -> Stamp
+    pub(crate) fn seal(&mut self, seat: Seat) -> Stamp
         requires stands { Stands L.law self.old }
         requires session { IsSession (plain_view self.old) seat }
         requires active { phase_at (plain_view self.old) seat ≡ Active }

@@ -1,11 +1,10 @@
 //! Steps of a session that the machine takes.
 ghost use Rattle.std.specs.Prelude.{◌≡◌, Some, true};
 ghost use Rattle.erm_machine.specs.Core.{spot_of, word_at};
-ghost use Rattle.erm_machine.specs.Lawful.{DrawsLawfully};
-ghost use Rattle.erm_machine.specs.Sound.{SoundUnder};
 ghost use Rattle.erm_machine.specs.Step as step_specs;
 ghost use Rattle.erm_core.specs.Cores.{core_of};
 ghost use Rattle.erm_core.specs.Rooms.{HasCallRoom, HasRoom, LeavesRoom};
+ghost use Rattle.erm_sound.specs.Kept.{Keeps, SoundUnder};
 ghost use Rattle.erm_plain.specs.Stands.{Stands, plain_view};
 ghost use Rattle.erm_plain.specs.Steps.{IsFree, IsTaken, found_in};
 
@@ -39,7 +38,7 @@ impl<L: RowLaw> Plain<L> {
     pub(crate) fn take(&mut self, seat: Seat, kind: Kind) -> Answer
         requires sound { SoundUnder L.law (core_of self.old.state) }
         requires room { HasRoom self.old.state seat kind }
-        requires lawful { DrawsLawfully L.law (core_of self.old.state) seat kind }
+        requires keeps { Keeps L.law (core_of self.old.state) seat kind }
         requires taken { IsTaken (core_of self.old.state) seat kind }
         ensures sound { SoundUnder L.law (core_of self.new.state) }
         ensures after { step_specs.after_event (core_of self.old.state) seat kind ≡ Some (core_of self.new.state) }

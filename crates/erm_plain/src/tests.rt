@@ -3,8 +3,12 @@ ghost use Rattle.std.specs.Prelude.{◌≡◌, IfOk};
 ghost use Rattle.erm_model.specs.RowTransaction.{any_law};
 ghost use Rattle.erm_plain.specs.Stands.{Stands, plain_view};
 
+mod fills;
+mod flushes;
+mod rows;
+
 use crate::Plain;
-use erm_model::{AnyRows, OID_LIMIT, Oid, Phase, ROW_WORDS, Seat, Stamp};
+use erm_model::{AnyRows, OID_LIMIT, Oid, Outcome, Phase, ROW_WORDS, Receipt, Seat, Stamp};
 use std::alloc::{AllocError, Global};
 use std::test::Fail;
 
@@ -76,6 +80,33 @@ fn seal(world: &mut Plain<AnyRows>, seat: Seat) -> Option<Stamp>
     }
 }
 
+// Settles, where the session is sealed.
+fn settle(world: &mut Plain<AnyRows>, seat: Seat) -> Option<Outcome>
+    requires stands { Stands any_law world.old }
+    requires sessions { (plain_view world.old).opening.sessions ≡ 3 }
+    ensures stands { Stands any_law world.new }
+    ensures sessions { (plain_view world.new).opening.sessions ≡ 3 }
+{
+    if seat == 0 || seat > 3 {
+        return None;
+    }
+    match world.phase(seat) {
+        Phase::Sealed => world.settle(seat).ok(),
+        _ => None,
+    }
+}
+
+// What a commit of a session's first transaction at 13 hands out, which overwrote nothing, and from which nobody has read.
+fn first_receipt() -> Outcome {
+    Outcome::Committed(Receipt {
+        number: 1,
+        stamp: 13,
+        end: 18,
+        succ: 13,
+        pred: 0,
+    })
+}
+
 // Aborts, where the session is active.
 fn abort(world: &mut Plain<AnyRows>, seat: Seat) -> bool
     requires stands { Stands any_law world.old }
@@ -94,9 +125,9 @@ fn abort(world: &mut Plain<AnyRows>, seat: Seat) -> bool
     true
 }
 
-// A seal moves the log's end on by five words; an abort leaves it.
+// A seal moves the log's end on by five words; an abort leaves it. A settle commits what read nothing.
 #[test]
-fn sessions_begin_seal_and_abort(rt: HostRuntime) -> Result<(), Fail> {
+fn sessions_begin_seal_settle_and_abort(rt: HostRuntime) -> Result<(), Fail> {
     let mut world = world(rt.alloc())?;
     assert!(rt; begin(&mut world, 1) == Some(13));
     assert!(rt; begin(&mut world, 2) == Some(13));
@@ -107,5 +138,13 @@ fn sessions_begin_seal_and_abort(rt: HostRuntime) -> Result<(), Fail> {
     assert!(rt; abort(&mut world, 2));
     assert!(rt; begin(&mut world, 2) == Some(18), "an abort draws nothing");
     assert!(rt; fresh(&mut world, 2) == Some(17), "no object is made twice");
+    assert!(rt;
+        settle(&mut world, 1) == Some(first_receipt()),
+        "it commits"
+    );
+    assert!(rt;
+        begin(&mut world, 1) == Some(18),
+        "the session is idle again"
+    );
     Ok(())
 }

@@ -18,20 +18,29 @@ use Rattle.erm_plain.proofs.plain.Plain.begin.Goals as goal
 pub number-requires : goal.number-requires
 number-requires g c =
     let seat = c.args.seat in
-    let old = core_of c.args.self.now.state in
-    let was = idle_seat c.args.self.now.sessions seat old c.requires.stands.quiet c.requires.session c.requires.idle in
-    record { session = was.session }
+    let sessions = c.has_room.new.self.sessions in
+    let before = core_of c.has_room.new.self.state in
+    let stands = c.has_room.ensures.stands in
+    let session = subst (λ (v : View). IsSession v seat) (sym c.has_room.ensures.view) c.requires.session in
+    let idle = subst (λ (v : View). phase_at v seat ≡ phase.Idle) (sym c.has_room.ensures.view) c.requires.idle in
+    let at = idle_seat sessions seat before stands.quiet session idle in
+    record { session = at.session }
 
 pub returns-then-number-ge-LAST_NUMBER-clause-err : goal.returns-then-number-ge-LAST_NUMBER-clause-err
 returns-then-number-ge-LAST_NUMBER-clause-err g c =
     let seat = c.args.seat in
-    let old = core_of c.args.self.now.state in
-    let was = idle_seat c.args.self.now.sessions seat old c.requires.stands.quiet c.requires.session c.requires.idle in
-    let all = numbers_over seat old c.requires.stands.sound.sound was in
+    let sessions = c.has_room.new.self.sessions in
+    let before = core_of c.has_room.new.self.state in
+    let stands = c.has_room.ensures.stands in
+    let session = subst (λ (v : View). IsSession v seat) (sym c.has_room.ensures.view) c.requires.session in
+    let idle = subst (λ (v : View). phase_at v seat ≡ phase.Idle) (sym c.has_room.ensures.view) c.requires.idle in
+    let at = idle_seat sessions seat before stands.quiet session idle in
+    let all = numbers_over seat before stands.sound.sound at in
+    let same : length (session_of (before.seats seat)).over ≡ length ((plain_view c.args.self.now).session seat).over = ap (λ (v : View). length (v.session seat).over) c.has_room.ensures.view in
     let is = c.number.ensures in
     let many = c.if-number-ge-LAST_NUMBER.true in
     let small = c.number.type_inv in
-    (refl, omega (arith, all, is, many, small))
+    (c.has_room.ensures.view, omega (arith, all, same, is, many, small))
 
 pub take-requires-clause-room : goal.take-requires-clause-room
 take-requires-clause-room g c =
@@ -41,38 +50,28 @@ pub take-requires-clause-taken : goal.take-requires-clause-taken
 take-requires-clause-taken g c =
     let seat = c.args.seat in
     let sessions = c.has_room.new.self.sessions in
-    let old = core_of c.args.self.now.state in
     let before = core_of c.has_room.new.self.state in
     let stands = c.has_room.ensures.stands in
     let session = subst (λ (v : View). IsSession v seat) (sym c.has_room.ensures.view) c.requires.session in
     let idle = subst (λ (v : View). phase_at v seat ≡ phase.Idle) (sym c.has_room.ensures.view) c.requires.idle in
     let at = idle_seat sessions seat before stands.quiet session idle in
-    let was = idle_seat c.args.self.now.sessions seat old c.requires.stands.quiet c.requires.session c.requires.idle in
-    let all_old = numbers_over seat old c.requires.stands.sound.sound was in
-    let all = numbers_over seat before stands.sound.sound at in
-    let same : length (session_of (before.seats seat)).over ≡ length (session_of (old.seats seat)).over = ap (λ (v : View). length (v.session seat).over) c.has_room.ensures.view in
     let is = c.number.ensures in
     let few = c.if-number-ge-LAST_NUMBER.false in
-    let less : (before.seats seat).number < LAST_NUMBER = omega (arith, all_old, all, same, is, few) in
+    let less : (before.seats seat).number < LAST_NUMBER = omega (arith, is, few) in
     first_taken seat before at less
 
 pub returns-then-tail-ge-STOP-clause-stands : goal.returns-then-tail-ge-STOP-clause-stands
 returns-then-tail-ge-STOP-clause-stands g c =
     let seat = c.args.seat in
     let sessions = c.has_room.new.self.sessions in
-    let old = core_of c.args.self.now.state in
     let before = core_of c.has_room.new.self.state in
     let stands = c.has_room.ensures.stands in
     let session = subst (λ (v : View). IsSession v seat) (sym c.has_room.ensures.view) c.requires.session in
     let idle = subst (λ (v : View). phase_at v seat ≡ phase.Idle) (sym c.has_room.ensures.view) c.requires.idle in
     let at = idle_seat sessions seat before stands.quiet session idle in
-    let was = idle_seat c.args.self.now.sessions seat old c.requires.stands.quiet c.requires.session c.requires.idle in
-    let all_old = numbers_over seat old c.requires.stands.sound.sound was in
-    let all = numbers_over seat before stands.sound.sound at in
-    let same : length (session_of (before.seats seat)).over ≡ length (session_of (old.seats seat)).over = ap (λ (v : View). length (v.session seat).over) c.has_room.ensures.view in
     let is = c.number.ensures in
     let few = c.if-number-ge-LAST_NUMBER.false in
-    let less : (before.seats seat).number < LAST_NUMBER = omega (arith, all_old, all, same, is, few) in
+    let less : (before.seats seat).number < LAST_NUMBER = omega (arith, is, few) in
     let one = core_of c.take.new.self.state in
     let tail : c.found-tail.result ≡ before.shared.tail = c.found-tail.ensures ∙ ap found_in c.take.ensures.answer in
     let high = c.if-tail-ge-STOP.true in
@@ -83,25 +82,22 @@ pub returns-then-tail-ge-STOP-clause-err : goal.returns-then-tail-ge-STOP-clause
 returns-then-tail-ge-STOP-clause-err g c =
     let seat = c.args.seat in
     let sessions = c.has_room.new.self.sessions in
-    let old = core_of c.args.self.now.state in
     let before = core_of c.has_room.new.self.state in
     let stands = c.has_room.ensures.stands in
     let session = subst (λ (v : View). IsSession v seat) (sym c.has_room.ensures.view) c.requires.session in
     let idle = subst (λ (v : View). phase_at v seat ≡ phase.Idle) (sym c.has_room.ensures.view) c.requires.idle in
     let at = idle_seat sessions seat before stands.quiet session idle in
-    let was = idle_seat c.args.self.now.sessions seat old c.requires.stands.quiet c.requires.session c.requires.idle in
-    let all_old = numbers_over seat old c.requires.stands.sound.sound was in
-    let all = numbers_over seat before stands.sound.sound at in
-    let same : length (session_of (before.seats seat)).over ≡ length (session_of (old.seats seat)).over = ap (λ (v : View). length (v.session seat).over) c.has_room.ensures.view in
     let is = c.number.ensures in
     let few = c.if-number-ge-LAST_NUMBER.false in
-    let less : (before.seats seat).number < LAST_NUMBER = omega (arith, all_old, all, same, is, few) in
+    let less : (before.seats seat).number < LAST_NUMBER = omega (arith, is, few) in
+    let all = numbers_over seat before stands.sound.sound at in
+    let same : length (session_of (before.seats seat)).over ≡ length ((plain_view c.args.self.now).session seat).over = ap (λ (v : View). length (v.session seat).over) c.has_room.ensures.view in
     let one = core_of c.take.new.self.state in
     let tail : c.found-tail.result ≡ before.shared.tail = c.found-tail.ensures ∙ ap found_in c.take.ensures.answer in
     let high = c.if-tail-ge-STOP.true in
     let ended = log_ends sessions seat before one stands.sound.sound stands.quiet session at less (omega (arith, high, tail)) c.take.ensures.after in (
       subst (λ (n : ℕ). view_of n one ≡ plain_view c.args.self.now) (sym c.take.ensures.sessions) (ended.1 ∙ c.has_room.ensures.view),
-      omega (arith, all_old, is, few),
+      omega (arith, all, same, is, few),
       tail ∙ ap (λ (v : View). v.tail) c.has_room.ensures.view,
       high,
     )
@@ -110,19 +106,14 @@ pub go-requires-clause-taken : goal.go-requires-clause-taken
 go-requires-clause-taken g c =
     let seat = c.args.seat in
     let sessions = c.has_room.new.self.sessions in
-    let old = core_of c.args.self.now.state in
     let before = core_of c.has_room.new.self.state in
     let stands = c.has_room.ensures.stands in
     let session = subst (λ (v : View). IsSession v seat) (sym c.has_room.ensures.view) c.requires.session in
     let idle = subst (λ (v : View). phase_at v seat ≡ phase.Idle) (sym c.has_room.ensures.view) c.requires.idle in
     let at = idle_seat sessions seat before stands.quiet session idle in
-    let was = idle_seat c.args.self.now.sessions seat old c.requires.stands.quiet c.requires.session c.requires.idle in
-    let all_old = numbers_over seat old c.requires.stands.sound.sound was in
-    let all = numbers_over seat before stands.sound.sound at in
-    let same : length (session_of (before.seats seat)).over ≡ length (session_of (old.seats seat)).over = ap (λ (v : View). length (v.session seat).over) c.has_room.ensures.view in
     let is = c.number.ensures in
     let few = c.if-number-ge-LAST_NUMBER.false in
-    let less : (before.seats seat).number < LAST_NUMBER = omega (arith, all_old, all, same, is, few) in
+    let less : (before.seats seat).number < LAST_NUMBER = omega (arith, is, few) in
     let one = core_of c.take.new.self.state in
     let tail : c.found-tail.result ≡ before.shared.tail = c.found-tail.ensures ∙ ap found_in c.take.ensures.answer in
     let below = c.if-tail-ge-STOP.false in
@@ -134,19 +125,14 @@ pub take-requires-2-clause-room : goal.take-requires-2-clause-room
 take-requires-2-clause-room g c =
     let seat = c.args.seat in
     let sessions = c.has_room.new.self.sessions in
-    let old = core_of c.args.self.now.state in
     let before = core_of c.has_room.new.self.state in
     let stands = c.has_room.ensures.stands in
     let session = subst (λ (v : View). IsSession v seat) (sym c.has_room.ensures.view) c.requires.session in
     let idle = subst (λ (v : View). phase_at v seat ≡ phase.Idle) (sym c.has_room.ensures.view) c.requires.idle in
     let at = idle_seat sessions seat before stands.quiet session idle in
-    let was = idle_seat c.args.self.now.sessions seat old c.requires.stands.quiet c.requires.session c.requires.idle in
-    let all_old = numbers_over seat old c.requires.stands.sound.sound was in
-    let all = numbers_over seat before stands.sound.sound at in
-    let same : length (session_of (before.seats seat)).over ≡ length (session_of (old.seats seat)).over = ap (λ (v : View). length (v.session seat).over) c.has_room.ensures.view in
     let is = c.number.ensures in
     let few = c.if-number-ge-LAST_NUMBER.false in
-    let less : (before.seats seat).number < LAST_NUMBER = omega (arith, all_old, all, same, is, few) in
+    let less : (before.seats seat).number < LAST_NUMBER = omega (arith, is, few) in
     let one = core_of c.take.new.self.state in
     let tail : c.found-tail.result ≡ before.shared.tail = c.found-tail.ensures ∙ ap found_in c.take.ensures.answer in
     let below = c.if-tail-ge-STOP.false in
@@ -162,19 +148,14 @@ pub take-requires-2-clause-taken : goal.take-requires-2-clause-taken
 take-requires-2-clause-taken g c =
     let seat = c.args.seat in
     let sessions = c.has_room.new.self.sessions in
-    let old = core_of c.args.self.now.state in
     let before = core_of c.has_room.new.self.state in
     let stands = c.has_room.ensures.stands in
     let session = subst (λ (v : View). IsSession v seat) (sym c.has_room.ensures.view) c.requires.session in
     let idle = subst (λ (v : View). phase_at v seat ≡ phase.Idle) (sym c.has_room.ensures.view) c.requires.idle in
     let at = idle_seat sessions seat before stands.quiet session idle in
-    let was = idle_seat c.args.self.now.sessions seat old c.requires.stands.quiet c.requires.session c.requires.idle in
-    let all_old = numbers_over seat old c.requires.stands.sound.sound was in
-    let all = numbers_over seat before stands.sound.sound at in
-    let same : length (session_of (before.seats seat)).over ≡ length (session_of (old.seats seat)).over = ap (λ (v : View). length (v.session seat).over) c.has_room.ensures.view in
     let is = c.number.ensures in
     let few = c.if-number-ge-LAST_NUMBER.false in
-    let less : (before.seats seat).number < LAST_NUMBER = omega (arith, all_old, all, same, is, few) in
+    let less : (before.seats seat).number < LAST_NUMBER = omega (arith, is, few) in
     let one = core_of c.take.new.self.state in
     let tail : c.found-tail.result ≡ before.shared.tail = c.found-tail.ensures ∙ ap found_in c.take.ensures.answer in
     let below = c.if-tail-ge-STOP.false in
@@ -191,19 +172,14 @@ pub returns-clause-stands : goal.returns-clause-stands
 returns-clause-stands g c =
     let seat = c.args.seat in
     let sessions = c.has_room.new.self.sessions in
-    let old = core_of c.args.self.now.state in
     let before = core_of c.has_room.new.self.state in
     let stands = c.has_room.ensures.stands in
     let session = subst (λ (v : View). IsSession v seat) (sym c.has_room.ensures.view) c.requires.session in
     let idle = subst (λ (v : View). phase_at v seat ≡ phase.Idle) (sym c.has_room.ensures.view) c.requires.idle in
     let at = idle_seat sessions seat before stands.quiet session idle in
-    let was = idle_seat c.args.self.now.sessions seat old c.requires.stands.quiet c.requires.session c.requires.idle in
-    let all_old = numbers_over seat old c.requires.stands.sound.sound was in
-    let all = numbers_over seat before stands.sound.sound at in
-    let same : length (session_of (before.seats seat)).over ≡ length (session_of (old.seats seat)).over = ap (λ (v : View). length (v.session seat).over) c.has_room.ensures.view in
     let is = c.number.ensures in
     let few = c.if-number-ge-LAST_NUMBER.false in
-    let less : (before.seats seat).number < LAST_NUMBER = omega (arith, all_old, all, same, is, few) in
+    let less : (before.seats seat).number < LAST_NUMBER = omega (arith, is, few) in
     let one = core_of c.take.new.self.state in
     let tail : c.found-tail.result ≡ before.shared.tail = c.found-tail.ensures ∙ ap found_in c.take.ensures.answer in
     let below = c.if-tail-ge-STOP.false in
@@ -225,19 +201,14 @@ pub returns-clause-ok : goal.returns-clause-ok
 returns-clause-ok g c =
     let seat = c.args.seat in
     let sessions = c.has_room.new.self.sessions in
-    let old = core_of c.args.self.now.state in
     let before = core_of c.has_room.new.self.state in
     let stands = c.has_room.ensures.stands in
     let session = subst (λ (v : View). IsSession v seat) (sym c.has_room.ensures.view) c.requires.session in
     let idle = subst (λ (v : View). phase_at v seat ≡ phase.Idle) (sym c.has_room.ensures.view) c.requires.idle in
     let at = idle_seat sessions seat before stands.quiet session idle in
-    let was = idle_seat c.args.self.now.sessions seat old c.requires.stands.quiet c.requires.session c.requires.idle in
-    let all_old = numbers_over seat old c.requires.stands.sound.sound was in
-    let all = numbers_over seat before stands.sound.sound at in
-    let same : length (session_of (before.seats seat)).over ≡ length (session_of (old.seats seat)).over = ap (λ (v : View). length (v.session seat).over) c.has_room.ensures.view in
     let is = c.number.ensures in
     let few = c.if-number-ge-LAST_NUMBER.false in
-    let less : (before.seats seat).number < LAST_NUMBER = omega (arith, all_old, all, same, is, few) in
+    let less : (before.seats seat).number < LAST_NUMBER = omega (arith, is, few) in
     let one = core_of c.take.new.self.state in
     let tail : c.found-tail.result ≡ before.shared.tail = c.found-tail.ensures ∙ ap found_in c.take.ensures.answer in
     let below = c.if-tail-ge-STOP.false in

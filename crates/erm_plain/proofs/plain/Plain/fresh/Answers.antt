@@ -6,7 +6,7 @@ use Rattle.erm_model.specs.declared.outcome.Phase.TheVariants as phase
 use Rattle.erm_core.specs.declared.need.Need.TheVariants as need
 use Rattle.erm_core.specs.Cores.{core_of}
 use Rattle.erm_core_view.specs.Views.{IsQuiet, view_of}
-use Rattle.erm_world.specs.Calls.{DidMake}
+use Rattle.erm_world.specs.Calls.{AreAllMade, DidMake}
 use Rattle.erm_world.specs.World.{IsSession, View, phase_at}
 use Rattle.erm_plain.specs.Stands.{plain_view}
 use Rattle.erm_plain.specs.Steps.{found_in}
@@ -50,7 +50,13 @@ returns-then-drawn-clause-err g c =
     let between = core_of c.go.new.self.state in
     let looked = counter_looked sessions seat before between stands.sound.sound stands.quiet session at c.go.ensures.after in
     let many = c.if-drawn.true in
-    (subst (λ (n : ℕ). view_of n between ≡ plain_view c.args.self.now) (sym c.go.ensures.sessions) (looked.unseen.view ∙ c.has_room.ensures.view), omega (arith, many))
+    let drawn : c.found-drawn.result ≡ before.shared.objects_drawn = c.found-drawn.ensures ∙ ap found_in c.go.ensures.answer in
+    let made : AreAllMade (view_of sessions before) =
+    λ x from known. c.drawn_objects_are_made.ensures sessions x before stands.sound.sound stands.quiet from (omega (arith, known, many, drawn)) (omega (arith, known)) in (
+      subst (λ (n : ℕ). view_of n between ≡ plain_view c.args.self.now) (sym c.go.ensures.sessions) (looked.unseen.view ∙ c.has_room.ensures.view),
+      omega (arith, many),
+      subst AreAllMade c.has_room.ensures.view made,
+    )
 
 pub take-requires-clause-room : goal.take-requires-clause-room
 take-requires-clause-room g c =

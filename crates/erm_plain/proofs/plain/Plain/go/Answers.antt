@@ -1,11 +1,11 @@
 use Rattle.erm_core.specs.Cores.{core_of}
-use Rattle.erm_plain.proofs.Taken.{draws_none}
+use Rattle.erm_plain.proofs.Taken.{keeps_free}
 use Rattle.erm_plain.proofs.plain.Plain.go.Goals as goal
 
 pub take-requires : goal.take-requires
 take-requires g c = record {
   sound = c.requires.sound;
   room = c.rooms_serve.ensures.none c.args.self.now.state c.args.seat c.args.kind c.requires.free.ranges c.requires.free.none;
-  lawful = draws_none g.L.RowLaw.law (core_of c.args.self.now.state) c.args.seat c.args.kind c.requires.free.ranges;
+  keeps = keeps_free g.L.RowLaw.law (core_of c.args.self.now.state) c.args.seat c.args.kind c.requires.free.one;
   taken = c.requires.taken;
 }

@@ -1,8 +1,17 @@
-use Rattle.std.proofs.Common.{sym, subst, ap}
+use Rattle.std.proofs.Common.{◌≡◌, true, sym, subst, ap, ◌∙◌}
+use Rattle.std.specs.Prelude.{Result, Ok, Err, OnOk, is_ok}
 use Rattle.erm_machine.specs.Core.{Core}
-use Rattle.erm_machine.specs.Sound.{SoundUnder}
+use Rattle.erm_sound.specs.Kept.{SoundUnder}
 use Rattle.erm_core_view.specs.Views.{IsQuiet, view_of}
 use Rattle.erm_plain.proofs.plain.Plain.has_room.Goals as goal
+
+-- what holds of a value holds where there is one
+where_ok : {A E P : Type 0} (r : Result A E) → OnOk r P → is_ok r ≡ true → P
+where_ok (Ok value) holds e = holds
+where_ok (Err error) holds e = absurd (cc)
+
+pub returns-clause-room : goal.returns-clause-room
+returns-clause-room g c e = where_ok c.room.result c.room.ensures.ok (sym c.is_ok.ensures.value ∙ e)
 
 pub returns-clause-stands : goal.returns-clause-stands
 returns-clause-stands g c =

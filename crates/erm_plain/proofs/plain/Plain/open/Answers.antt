@@ -15,6 +15,9 @@ returns-clause-stands g c =
     let both =
     opened_stands g.L.RowLaw.law sessions (core_of c.in_ok-state.state) (opening_state sessions rows tail run first MOST_CELLS) c.in_ok-state.ensures.core
     (λ sound. c.openings_are_lawful.ensures sessions rows tail run first MOST_CELLS sound c.requires.meets c.requires.unreached)
-    (opening_quiet sessions rows tail run first MOST_CELLS c.requires.few (let low = c.requires.positive in omega (arith, low))) c.in_ok-state.ensures.sound
+    (opening_quiet sessions rows tail run first MOST_CELLS c.requires.few (let low = c.requires.positive in omega (arith, low)) c.requires.run_high) c.in_ok-state.ensures.sound
     in
     record { sound = both.0; quiet = both.1 }
+
+pub returns-clause-world : goal.returns-clause-world
+returns-clause-world g c = c.standing_worlds_have_laws.ensures _ (returns-clause-stands g c)

@@ -49,7 +49,7 @@ take-requires g c =
       room =
           c.rooms_serve.ensures.draw c.go.new.self.state seat size
           (draw_few seat size before one c.go.new.self.state.run c.go.new.self.state.opening c.go.new.self.state.seats.items sealing refl most);
-      lawful = draws_lawfully g.L.RowLaw.law sessions seat before one at sealing c.requires.lawful;
+      keeps = record { draws = draws_lawfully g.L.RowLaw.law sessions seat before one at sealing c.requires.lawful; decides = tt };
       taken = draw_taken seat size before one sealing least greatest;
     }
 

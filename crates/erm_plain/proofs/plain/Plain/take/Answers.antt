@@ -6,7 +6,7 @@ pub returns-clause-sound : goal.returns-clause-sound
 returns-clause-sound g c =
     let c0 = core_of c.args.self.now.state in
     let d = core_of c.step.new.self in
-    c.events_keep_law.ensures c0 d c.args.seat c.args.kind c.requires.sound c.requires.lawful
+    c.events_keep_law.ensures c0 d c.args.seat c.args.kind c.requires.sound c.requires.keeps
     (stepped_to c0 d c.args.seat c.args.kind c.step.result c.step.ensures.step c.requires.taken).after
 
 pub returns-clause-after : goal.returns-clause-after

@@ -1,0 +1,31 @@
+#!/usr/bin/env bash
+# Measures the world in lists on 10^4, 10^5 and 10^6 transactions, and prints a table of seconds, transactions a second and peak memory.
+#   bench/plain.sh [PROGRAM]     PROGRAM is that of crates/erm_plain_bench, built and proved at first use, unless another is given
+# The transactions are those of 48 sessions in turn: each begins, reads two objects, writes one of them, seals and settles; with a
+# flush turn, without a disk, for each thousand, and where the ring has no room.
+set -eu
+top=$(cd "$(dirname "$(readlink -f "${BASH_SOURCE[0]}")")/.." && pwd)
+program=${1:-}
+if [ -z "$program" ]; then
+    folder=$top/crates/erm_plain_bench
+    program=$folder/out/erm_plain_bench
+    (cd "$folder" && rt run -- 0 >/dev/null 2>&1)
+fi
+python3 - "$(readlink -f "$program")" <<'PYTHON'
+import os
+import subprocess
+import sys
+import time
+
+print(f"{'transactions':>12} {'commits':>9} {'seconds':>9} {'a second':>9} {'MiB':>9}")
+for count in (10_000, 100_000, 1_000_000):
+    start = time.monotonic()
+    run = subprocess.Popen([sys.argv[1], str(count)], stdout=subprocess.PIPE, text=True)
+    said = run.stdout.read().split()
+    _, ended, usage = os.wait4(run.pid, 0)
+    seconds = time.monotonic() - start
+    if os.waitstatus_to_exitcode(ended) != 0:
+        sys.exit(f"{count} transactions: the program failed")
+    rate = round(count / seconds)
+    print(f"{said[0]:>12} {said[2]:>9} {seconds:9.2f} {rate:>9} {usage.ru_maxrss / 1024:9.1f}", flush=True)
+PYTHON

@@ -1,0 +1,107 @@
+use Rattle.std.proofs.Common.{◌≡◌, ap, ◌∙◌, sym, subst}
+use Rattle.erm_model.specs.declared.outcome.Phase.TheVariants as phase
+use Rattle.erm_machine.specs.Seat.{may_start}
+use Rattle.erm_machine.specs.Words.{owner_of}
+use Rattle.erm_core.specs.Cores.{core_of}
+use Rattle.erm_core.specs.Rooms.{HasSwapRoom}
+use Rattle.erm_core_view.specs.Views.{IsQuiet, view_of}
+use Rattle.erm_world.specs.World.{IsSession, phase_at}
+use Rattle.erm_plain.specs.Finishes.{IsDropped}
+use Rattle.erm_plain.specs.Reads.{IsExcluded}
+use Rattle.erm_plain.specs.Stands.{plain_view}
+use Rattle.erm_plain.specs.Steps.{IsUnseen}
+use Rattle.erm_plain.proofs.Exchanges.{claim_done, claim_excluded, dropped_same, free_current, quiet_claimed, quiet_dropped}
+use Rattle.erm_plain.proofs.Quiet.{active_seat}
+use Rattle.erm_plain.proofs.Readings.{still_active, still_session}
+use Rattle.erm_plain.proofs.Unowned.{unowned}
+use Rattle.erm_plain.proofs.plain.Plain.claim_found.Goals as goal
+
+pub exchange-requires-clause-at : goal.exchange-requires-clause-at
+exchange-requires-clause-at g c =
+    let at = active_seat c.args.self.now.sessions c.args.seat (core_of c.args.self.now.state) c.requires.stands.quiet c.requires.session c.requires.active in
+    record { session = at.session; active = at.active }
+
+pub finish_claim-requires-clause-may : goal.finish_claim-requires-clause-may
+finish_claim-requires-clause-may g c =
+    let ex = c.exchange.ensures.exchanged in
+    record {
+      version = ex.version;
+      claimed = ex.claimed;
+      room = subst (λ n. HasSwapRoom c.exchange.new.self.state c.args.seat n) (sym ex.oid_is) c.exchange.ensures.room;
+    }
+
+pub returns-then-not-finish_claim-clause-stands : goal.returns-then-not-finish_claim-clause-stands
+returns-then-not-finish_claim-clause-stands g c =
+    let sessions = c.args.self.now.sessions in
+    let between = core_of c.exchange.new.self.state in
+    let after = core_of c.finish_claim.new.self.state in
+    let dropped = subst (λ n. IsDropped n c.args.seat between after) c.exchange.ensures.sessions (c.finish_claim.ensures.dropped c.if-not-finish_claim.true) in
+    record {
+      sound = c.finish_claim.ensures.sound;
+      quiet =
+          subst (λ n. IsQuiet n after) (sym (c.finish_claim.ensures.sessions ∙ c.exchange.ensures.sessions))
+          (quiet_dropped sessions c.args.seat c.args.oid (core_of c.args.self.now.state) between after c.requires.stands.quiet c.requires.session c.exchange.ensures.exchanged dropped
+          c.finish_claim.ensures.sound.sound c.finish_claim.ensures.active (ap may_start c.finish_claim.ensures.rests));
+    }
+
+pub returns-then-not-finish_claim-clause-err : goal.returns-then-not-finish_claim-clause-err
+returns-then-not-finish_claim-clause-err g c =
+    let sessions = c.args.self.now.sessions in
+    let between = core_of c.exchange.new.self.state in
+    let after = core_of c.finish_claim.new.self.state in
+    let dropped = subst (λ n. IsDropped n c.args.seat between after) c.exchange.ensures.sessions (c.finish_claim.ensures.dropped c.if-not-finish_claim.true) in
+    let same : view_of sessions after ≡ plain_view c.args.self.now =
+    dropped_same (plain_view c.args.self.now) (view_of sessions between) (view_of sessions after) c.args.seat _ c.requires.active c.exchange.ensures.exchanged.shows dropped.shows
+    in
+    (ap (λ n. view_of n after) (c.finish_claim.ensures.sessions ∙ c.exchange.ensures.sessions) ∙ same, c.requires.may.0)
+
+pub test_early-requires : goal.test_early-requires
+test_early-requires g c =
+    let sessions = c.args.self.now.sessions in
+    let seat = c.args.seat in
+    let between = core_of c.exchange.new.self.state in
+    let after = core_of c.finish_claim.new.self.state in
+    let unseen = subst (λ n. IsUnseen n seat between after) c.exchange.ensures.sessions (c.finish_claim.ensures.done c.if-not-finish_claim.false) in
+    let all : c.finish_claim.new.self.sessions ≡ sessions = c.finish_claim.ensures.sessions ∙ c.exchange.ensures.sessions in
+    let shown : plain_view c.finish_claim.new.self ≡ view_of sessions between = ap (λ n. view_of n after) all ∙ unseen.view in
+    let shows = c.exchange.ensures.exchanged.shows in
+    record {
+      stands = record {
+        sound = c.finish_claim.ensures.sound;
+        quiet =
+            subst (λ n. IsQuiet n after) (sym all)
+            (quiet_claimed sessions seat c.args.oid (core_of c.args.self.now.state) between after c.requires.stands.quiet c.requires.session c.exchange.ensures.exchanged unseen
+            c.finish_claim.ensures.sound.sound c.finish_claim.ensures.active (ap may_start c.finish_claim.ensures.rests));
+      };
+      session = subst (λ v. IsSession v seat) (sym shown) (still_session (plain_view c.args.self.now) (view_of sessions between) seat _ shows c.requires.session);
+      active = subst (λ v. phase_at v seat ≡ phase.Active) (sym shown) (still_active (plain_view c.args.self.now) (view_of sessions between) seat _ shows);
+    }
+
+pub returns-in-Ok-clause-ok : goal.returns-in-Ok-clause-ok
+returns-in-Ok-clause-ok g c =
+    let sessions = c.args.self.now.sessions in
+    let seat = c.args.seat in
+    let between = core_of c.exchange.new.self.state in
+    let after = core_of c.finish_claim.new.self.state in
+    let unseen = subst (λ n. IsUnseen n seat between after) c.exchange.ensures.sessions (c.finish_claim.ensures.done c.if-not-finish_claim.false) in
+    let all : c.finish_claim.new.self.sessions ≡ sessions = c.finish_claim.ensures.sessions ∙ c.exchange.ensures.sessions in
+    let shown : plain_view c.finish_claim.new.self ≡ view_of sessions between = ap (λ n. view_of n after) all ∙ unseen.view in
+    claim_done (plain_view c.args.self.now) (view_of sessions between) (plain_view c.test_early.new.self) seat c.args.oid c.exchange.ensures.exchanged.stamp c.exchange.ensures.exchanged.base
+    c.requires.may c.exchange.ensures.exchanged.shows (c.in-Ok.ensures.ok ∙ shown)
+
+pub returns-in-Err-clause-err : goal.returns-in-Err-clause-err
+returns-in-Err-clause-err g c =
+    let sessions = c.args.self.now.sessions in
+    let seat = c.args.seat in
+    let before = core_of c.args.self.now.state in
+    let between = core_of c.exchange.new.self.state in
+    let after = core_of c.finish_claim.new.self.state in
+    let unseen = subst (λ n. IsUnseen n seat between after) c.exchange.ensures.sessions (c.finish_claim.ensures.done c.if-not-finish_claim.false) in
+    let all : c.finish_claim.new.self.sessions ≡ sessions = c.finish_claim.ensures.sessions ∙ c.exchange.ensures.sessions in
+    let shown : plain_view c.finish_claim.new.self ≡ view_of sessions between = ap (λ n. view_of n after) all ∙ unseen.view in
+    let at = active_seat sessions seat before c.requires.stands.quiet c.requires.session c.requires.active in
+    let none : owner_of (before.shared.objects c.args.oid).entry ≡ 0 = ap owner_of c.requires.free.entry_is ∙ c.requires.free.unowned in
+    claim_excluded (plain_view c.args.self.now) (view_of sessions between) (plain_view c.test_early.new.self) seat c.args.oid c.exchange.ensures.exchanged.stamp
+    c.exchange.ensures.exchanged.base c.in-Err.why c.requires.may (unowned sessions seat c.args.oid before c.requires.stands.sound.sound c.requires.stands.quiet none)
+    (free_current sessions seat c.args.oid c.args.entry before c.requires.stands.sound.sound at.active c.requires.free)
+    c.exchange.ensures.exchanged.shows (subst (λ v. IsExcluded v seat (plain_view c.test_early.new.self) c.in-Err.why) shown c.in-Err.ensures.err)

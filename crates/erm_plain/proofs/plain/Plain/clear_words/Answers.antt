@@ -1,0 +1,22 @@
+use Rattle.std.proofs.Common.{◌≤◌, ◌∙◌, arith}
+use Rattle.erm_core.specs.Cores.{core_of}
+use Rattle.erm_core_turns.proofs.Clears.{all_cleared, clear_taken, clears_more, clears_none}
+use Rattle.erm_plain.proofs.plain.Plain.clear_words.Goals as goal
+
+pub go-requires-clause-taken : goal.go-requires-clause-taken
+go-requires-clause-taken g c =
+    let inv = c.loop-at.invariant in
+    clear_taken c.args.from c.args.end c.loop-at.at (core_of c.args.self.now.state) (core_of c.loop-at.self.state) inv.0.sound inv.1 inv.3 c.loop-at-test.true
+
+pub loop-at-preserved : goal.loop-at-preserved
+loop-at-preserved g c =
+    let inv = c.loop-at.invariant in
+    let low = inv.3 in
+    let less = c.loop-at-test.true in (
+      c.go.ensures.sound,
+      clears_more c.args.from c.args.end c.loop-at.at (core_of c.args.self.now.state) (core_of c.loop-at.self.state) inv.0.sound inv.1 inv.3 c.loop-at-test.true
+          (core_of c.go.new.self.state) c.go.ensures.after,
+      c.go.ensures.sessions ∙ inv.2,
+      omega (arith, low),
+      omega (arith, less),
+    )

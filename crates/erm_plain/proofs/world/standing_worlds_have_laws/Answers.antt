@@ -1,0 +1,12 @@
+use Rattle.erm_plain.proofs.world.standing_worlds_have_laws.Goals as goal
+use Rattle.erm_core.specs.Cores.{core_of}
+use Rattle.erm_plain.specs.Stands.{plain_view}
+
+pub returns : goal.returns
+returns g c = λ p standing.
+    let serializable = c.views_are_serializable.ensures p.sessions (core_of p.state) standing.sound standing.quiet in
+    record {
+      stands = standing;
+      serializable = serializable;
+      possible = c.works_are_possible.ensures (plain_view p) serializable;
+    }

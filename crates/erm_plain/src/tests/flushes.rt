@@ -1,0 +1,163 @@
+//! Flush turns and pins between commits, worked out by hand.
+ghost use Rattle.std.specs.Prelude.{◌≡◌, length};
+ghost use Rattle.erm_model.specs.RowTransaction.{any_law};
+ghost use Rattle.erm_model.specs.declared.limits.TheConstants.{RING_WORDS};
+ghost use Rattle.erm_plain.specs.Logs.{plain_log};
+ghost use Rattle.erm_plain.specs.Stands.{Stands};
+
+use crate::Plain;
+use crate::tests::rows::{Call, Reply, Turn, is_answered, world};
+use erm_machine::{FLUSH_SEAT, Place};
+use erm_model::{AnyRows, RING_WORDS, Stamp};
+use erm_world::{Gathered, NotFlushed, Wait};
+use std::test::Fail;
+
+// The block behind the last that the ring has room for.
+const FULL: [Turn; 4] = [
+    Turn(1, Call::Begin, Reply::At(32_778)),
+    Turn(1, Call::Seal, Reply::At(32_778)),
+    Turn(1, Call::Settle, Reply::Waits(Wait::Ring { flushed: 13 })),
+    Turn(
+        1,
+        Call::Durable(18),
+        Reply::NotFlushed(NotFlushed { flushed: 13 }),
+    ),
+];
+
+// The same after a flush turn.
+const FREE: [Turn; 4] = [
+    Turn(1, Call::Durable(32_778), Reply::Done),
+    Turn(
+        1,
+        Call::Durable(32_779),
+        Reply::NotFlushed(NotFlushed { flushed: 32_778 }),
+    ),
+    Turn(
+        1,
+        Call::Settle,
+        Reply::Commits([6_554, 32_778, 32_783, 32_778, 0]),
+    ),
+    Turn(1, Call::Begin, Reply::At(32_783)),
+];
+
+// One transaction is sealed, and a later one is decided.
+const SEALED: [Turn; 5] = [
+    Turn(1, Call::Begin, Reply::At(13)),
+    Turn(1, Call::Write(16, 7), Reply::Done),
+    Turn(1, Call::Seal, Reply::At(13)),
+    Turn(2, Call::Begin, Reply::At(20)),
+    Turn(2, Call::Seal, Reply::At(20)),
+];
+
+// Both are decided.
+const DECIDED: [Turn; 2] = [
+    Turn(1, Call::Settle, Reply::Commits([1, 13, 20, 13, 0])),
+    Turn(2, Call::Settle, Reply::Commits([1, 20, 25, 20, 0])),
+];
+
+// One flush turn: what was gathered, which is then said to be synced.
+fn flush(world: &mut Plain<AnyRows>, words: &mut [u64]) -> Gathered
+    requires stands { Stands any_law world.old }
+    requires room { length words.old ≡ RING_WORDS }
+    ensures stands { Stands any_law world.new }
+    ensures room { length words.new ≡ RING_WORDS }
+{
+    let gathered = world.gather(words);
+    if let Gathered::Words { at, count } = gathered {
+        if let Some(end) = at.checked_add(count) {
+            world.flushed_to(end);
+        }
+    }
+    gathered
+}
+
+// The place at which the log is pinned.
+fn pinned(world: &Plain<AnyRows>) -> Option<Stamp>
+    ensures { result ≡ (plain_log world.now).pinned }
+{
+    match world.state.seat(FLUSH_SEAT) {
+        Some(x) => match x.place {
+            Place::Active { .. } => Some(x.current.begin),
+            _ => None,
+        },
+        None => None,
+    }
+}
+
+// Pins the log's end, where it isn't pinned.
+fn pin(world: &mut Plain<AnyRows>) -> Option<Stamp>
+    requires { Stands any_law world.old }
+    ensures { Stands any_law world.new }
+{
+    match pinned(world) {
+        Some(_) => None,
+        None => Some(world.pin()),
+    }
+}
+
+// Ends the pin, where there is one: its place.
+fn unpin(world: &mut Plain<AnyRows>) -> Option<Stamp>
+    requires { Stands any_law world.old }
+    ensures { Stands any_law world.new }
+{
+    let place = pinned(world)?;
+    world.unpin();
+    Some(place)
+}
+
+// Whether so many transactions without a row commit, one after another, from 13 on.
+fn are_committed(world: &mut Plain<AnyRows>, count: u16) -> bool
+    requires { Stands any_law world.old }
+    ensures { Stands any_law world.new }
+{
+    for k in 0..count {
+        let number = k as u64 + 1;
+        let stamp = 13 + 5 * k as u64;
+        let turns = [
+            Turn(1, Call::Begin, Reply::At(stamp)),
+            Turn(1, Call::Seal, Reply::At(stamp)),
+            Turn(
+                1,
+                Call::Settle,
+                Reply::Commits([number, stamp, stamp + 5, stamp, 0]),
+            ),
+        ];
+        if !is_answered(world, &turns) {
+            return false;
+        }
+    }
+    true
+}
+
+#[test]
+fn a_full_ring_waits_for_a_flush(rt: HostRuntime) -> Result<(), Fail> {
+    let mut world = world(rt.alloc(), false)?;
+    let mut words = Vec::from_elem(rt.alloc(), 0, RING_WORDS as usize)?;
+    assert!(rt; are_committed(&mut world, 6_553), "they fill the ring");
+    assert!(rt; is_answered(&mut world, &FULL), "the next one waits");
+    let gathered = Gathered::Words {
+        at: 13,
+        count: 32_765,
+    };
+    assert!(rt; flush(&mut world, &mut words) == gathered, "all of them");
+    assert!(rt; is_answered(&mut world, &FREE), "it commits");
+    Ok(())
+}
+
+#[test]
+fn flush_turns_and_a_pin_stand_between_commits(rt: HostRuntime) -> Result<(), Fail> {
+    let mut world = world(rt.alloc(), false)?;
+    let mut words = Vec::from_elem(rt.alloc(), 0, RING_WORDS as usize)?;
+    assert!(rt; flush(&mut world, &mut words) == Gathered::Empty { at: 13 });
+    assert!(rt; unpin(&mut world).is_none(), "it isn't pinned");
+    assert!(rt; pin(&mut world) == Some(13), "the log's end");
+    assert!(rt; is_answered(&mut world, &SEALED), "sealed");
+    assert!(rt; flush(&mut world, &mut words) == Gathered::Unfilled { at: 13 });
+    assert!(rt; is_answered(&mut world, &DECIDED), "decided");
+    assert!(rt; pin(&mut world).is_none(), "it is pinned");
+    assert!(rt; flush(&mut world, &mut words) == Gathered::Words { at: 13, count: 12 });
+    assert!(rt; flush(&mut world, &mut words) == Gathered::Empty { at: 25 });
+    assert!(rt; unpin(&mut world) == Some(13), "the pin stays");
+    assert!(rt; pin(&mut world) == Some(25), "the log's end");
+    Ok(())
+}

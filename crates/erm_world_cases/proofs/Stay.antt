@@ -1,0 +1,116 @@
+-- The transactions in progress stay runs of operations, whatever a session does.
+use Rattle.std.proofs.Common.{◌≡◌, ◌≢◌, ◌≤◌, refl, sym, ap, ◌∙◌, subst, arith, inl, inr, ℕ, Bool, true, false, List, [], ◌∷◌, ◌++◌, Result, Ok, Err, IfOk, IfErr}
+use Rattle.std.proofs.lemmas.Bool.{cases_eq}
+use Rattle.erm_model.specs.declared.outcome.Outcome.{Outcome}
+use Rattle.erm_model.specs.declared.outcome.Outcome.TheVariants.{Committed, Excluded}
+use Rattle.erm_model.specs.declared.outcome.Phase.TheVariants.{Active}
+use Rattle.erm_model.specs.declared.row_stop.RowStop.{RowStop}
+use Rattle.erm_model.specs.RowTransaction.{Asked, Event, Face, IsStopped, Law, SameLaw, ends}
+use Rattle.erm_model.specs.Rows.{Rows}
+use Rattle.erm_model.specs.Run.{Step}
+use Rattle.erm_node.specs.Sound.{sound_law}
+use Rattle.erm_tree.specs.Operations.{AreCalled, Call, CutOffsStutter, IsAnswered, answered, answered_steps, stuttered}
+use Rattle.erm_world.specs.declared.stops.BeginStop.{BeginStop}
+use Rattle.erm_world.specs.declared.stops.BeginStop.TheVariants as begin
+use Rattle.erm_world.specs.declared.stops.Wait.{Wait}
+use Rattle.erm_world.specs.Calls.{DidBegin, DidNotSettle, DidSeal, DidSettle, IsDone, MayNotBegin, Settled}
+use Rattle.erm_world.specs.Face.{world_face}
+use Rattle.erm_world.specs.Laws.{FitsWork, IsLawfulWork}
+use Rattle.erm_world.specs.Works.{seen_by}
+use Rattle.erm_world.specs.World.{IsSession, Opening, Session, View, Work, begun, phase_at, phase_of, work_at, work_of}
+use Rattle.erm_world.specs.World as world
+use Rattle.erm_maps.specs.Runs.{IsRunOf}
+use Rattle.erm_world_cases.specs.Sessions.{AllRun, Leads}
+
+-- CALLS. One that is answered, and one that is cut off where the transaction goes on, lead on.
+module _ {S : Type 0} (face : Face S) where
+  pub answers_lead : (s t : S) (step : Step) → IsAnswered face s step.op step.reply t → Leads face s t
+  answers_lead s t step did = (answered step ∷ [], (t, did, refl))
+
+  module _ (may : RowStop → Type 0) (kind : List Event → Type 0) (asks : List Event → Rows → Asked → Type 0) (stutter : CutOffsStutter face may kind asks) where
+    leads_where : (s t : S) (stop : RowStop) → IsStopped face may kind asks s stop t → face.active t → (b : Bool) → ends stop ≡ b → Leads face s t
+    leads_where s t stop stopped active true is = absurd (stopped.refused.ended is active)
+    leads_where s t stop stopped active false is = (stuttered ∷ [], (t, stutter s t stop stopped is, refl))
+
+    pub cut_offs_lead : (s t : S) (stop : RowStop) → IsStopped face may kind asks s stop t → face.active t → Leads face s t
+    cut_offs_lead s t stop stopped active = leads_where s t stop stopped active (ends stop) refl
+
+-- SESSIONS. Where one changes, and its transaction is a run if it is in progress, all are.
+abbrev IsRun : Session → Type 0
+IsRun s = phase_of s.stand ≡ Active → (steps : List Step) × IsRunOf (work_of s.stand) steps
+
+abbrev pub Kept : View → View → Type 0
+Kept v t = AllRun t × (t.opening ≡ v.opening)
+
+module _ (v t : View) (seat : ℕ) (s : Session) (own : t.session seat ≡ s) (others : (q : ℕ) → q ≢ seat → t.session q ≡ v.session q) (opening : t.opening ≡ v.opening) where
+  changed : IsRun s → AllRun v → AllRun t
+  changed now runs q session = elim (cases_eq q seat) as (λ _. IsRun (t.session q)) [
+    | inl is ↦ subst IsRun (sym (ap t.session is ∙ own)) now
+    | inr another ↦ subst IsRun (sym (others q another)) (runs q (session.0, subst (λ (o : Opening). q ≤ o.sessions) opening session.1))
+  ]
+
+unchanged : (v t : View) → t ≡ v → AllRun v → Kept v t
+unchanged v t same runs = (subst AllRun (sym same) runs, ap (λ (x : View). x.opening) same)
+
+idle_runs : (over : List world.Finished) → IsRun (record { over = over; stand = world.idle })
+idle_runs over active = cc
+
+sealed_runs : (over : List world.Finished) (w : Work) (stamp : ℕ) → IsRun (record { over = over; stand = world.sealed w stamp })
+sealed_runs over w stamp active = cc
+
+pub begun_kept : (v t : View) (seat : ℕ) (r : Result ℕ BeginStop) → ((number begin : ℕ) → IsRunOf (begun number begin) []) → AllRun v
+    → IfOk r (λ begin. DidBegin v seat begin t) → IfErr r (λ stop. MayNotBegin v seat stop t) → Kept v t
+begun_kept v t seat (Ok stamp) none runs did not =
+    (changed v t seat _ did.3.own did.3.others did.3.opening (λ active. ([], none _ stamp)) runs, did.3.opening)
+begun_kept v t seat (Err begin.NumbersEnd) none runs did not = unchanged v t not.0 runs
+begun_kept v t seat (Err (begin.LogEnd tail)) none runs did not = unchanged v t not.0 runs
+begun_kept v t seat (Err begin.Memory) none runs did not = unchanged v t not runs
+
+pub sealed_kept : (v t : View) (seat stamp : ℕ) → AllRun v → DidSeal v seat stamp t → Kept v t
+sealed_kept v t seat stamp runs did =
+    (changed v t seat _ did.own did.others did.opening (sealed_runs (v.session seat).over (work_at v seat) stamp) runs, did.opening)
+
+done_kept : (v t : View) (seat : ℕ) (w : Work) (fate : world.Fate) → AllRun v → IsDone v seat w fate t → Kept v t
+done_kept v t seat w fate runs did = (changed v t seat _ did.own did.others did.opening (idle_runs ((v.session seat).over ++ record { work = w; fate = fate } ∷ [])) runs, did.opening)
+
+outcome_kept : (v t : View) (seat : ℕ) (w : Work) (stamp : ℕ) (outcome : Outcome) → AllRun v → Settled v seat w stamp outcome t → Kept v t
+outcome_kept v t seat w stamp (Committed r) runs did = done_kept v t seat w _ runs did.0
+outcome_kept v t seat w stamp (Excluded at succ pred) runs did = done_kept v t seat w _ runs did.0
+
+pub settled_kept : (v t : View) (seat : ℕ) (r : Result Outcome Wait) → AllRun v
+    → IfOk r (λ outcome. DidSettle v seat outcome t) → IfErr r (λ stop. DidNotSettle v seat stop t) → Kept v t
+settled_kept v t seat (Ok outcome) runs did not = outcome_kept v t seat did.0 did.1 outcome runs did.3
+settled_kept v t seat (Err wait) runs did not = unchanged v t not.0 runs
+
+-- THE LAW. A run is lawful by each law that says the same as that of sound rows.
+pub lawful_as : (law : Law) → SameLaw law sound_law → (w : Work) → IsLawfulWork sound_law w → IsLawfulWork law w
+lawful_as law same w lawful =
+    let fits : (rows : Rows) → FitsWork law w rows → FitsWork sound_law w rows = λ rows fit. record {
+      meets = (same.meets rows).0 fit.meets;
+      reads = fit.reads;
+      claims = fit.claims;
+      unreached = λ x made. sym (same.reach rows x) ∙ fit.unreached x made;
+    } in
+    record {
+      meets = λ rows fit. (same.meets (seen_by w rows)).1 (lawful.meets rows (fits rows fit));
+      reach = λ rows x fit.
+          let most = lawful.reach rows x (fits rows fit) in
+          let left = same.reach (seen_by w rows) x in
+          let right = same.reach rows x in
+          omega (arith, most, left, right);
+    }
+
+-- THE FACE. Tree calls of one session keep all transactions runs.
+module _ {S : Type 0} (law : Law) (view : S → View) (seat : S → ℕ) (stands : S → Type 0) (one : S → S → Type 0) where
+  pub called_kept : ((s t : S) (calls : List Call) (before : List Step) → IsRunOf (work_at (view s) (seat s)) before → AreCalled (world_face law view seat stands one) s calls t
+      → IsRunOf (work_at (view t) (seat t)) (before ++ answered_steps calls)) →
+      (s t : S) → (world_face law view seat stands one).active s → AllRun (view s) → (world_face law view seat stands one).follows s t
+      → ((world_face law view seat stands one).active t → Leads (world_face law view seat stands one) s t) → AllRun (view t)
+  called_kept are_runs s t active runs follows leads =
+      let before = runs (seat s) active.1 active.2 in
+      let session : IsSession (view t) (seat s) = (active.1.0, subst (λ (o : Opening). seat s ≤ o.sessions) (sym follows.3.opening) active.1.1) in
+      let now : IsRun ((view t).session (seat s)) = subst (λ (q : ℕ). IsRun ((view t).session q)) follows.1
+      (λ (is : phase_at (view t) (seat t) ≡ Active).
+      let called = leads (follows.2 active.0, subst (λ (q : ℕ). IsSession (view t) q) (sym follows.1) session, is) in
+      (before.0 ++ answered_steps called.0, are_runs s t called.0 before.0 before.1 called.1)) in
+      changed (view s) (view t) (seat s) ((view t).session (seat s)) refl follows.3.others follows.3.opening now runs
