@@ -1,9 +1,8 @@
 -- Committed transactions as sessions see them: their serial order, the state below a stamp, and snapshot replies.
-use Rattle.std.specs.Prelude.{◌≡◌, ℕ, nat_lt, List, [], ◌∷◌, map}
-use Rattle.std.specs.List.{filter}
+use Rattle.std.specs.Prelude.{◌≡◌, ℕ, List, [], ◌∷◌, map}
 use Rattle.erm_model.specs.Database.{Database}
 use Rattle.erm_model.specs.Run.{Step, ops_of, after_all, RunsOne, RunsAll}
-use Rattle.erm_model.specs.SerialOrder.{Rank, IsSerialOrder}
+use Rattle.erm_model.specs.SerialOrder.{Rank, IsSerialOrder, below_by}
 
 -- a committed transaction: its name, its stamps, and its operations with their replies
 pub record Committed : Type 0 where
@@ -21,7 +20,7 @@ rank_of c = record { succ = c.succ; stamp = c.stamp }
 
 -- those of them with a stamp below a bound
 abbrev pub below : ℕ → List Committed → List Committed
-below bound commits = filter (λ c. nat_lt c.stamp bound) commits
+below bound commits = below_by rank_of bound commits
 
 -- the database map after transactions, one after another
 abbrev pub state_after : List Committed → Database → Database

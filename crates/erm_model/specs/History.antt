@@ -1,13 +1,13 @@
 -- Histories of committed transactions over versions of objects: the dependency graph, the stamps of the Serial Safety
 -- Net, snapshots, and the rows that a list of transactions leaves.
-use Rattle.std.specs.Prelude.{◌≡◌, ◌≢◌, ℕ, ◌<◌, ◌≤◌, ◌⊎◌, nat_lt, false, List, [], ◌∷◌, Some}
-use Rattle.std.specs.List.{filter, slice_get}
+use Rattle.std.specs.Prelude.{◌≡◌, ◌≢◌, ℕ, ◌<◌, ◌≤◌, ◌⊎◌, false, List, [], ◌∷◌, Some}
+use Rattle.std.specs.List.{slice_get}
 use Rattle.erm_model.specs.declared.history.VersionRead.{VersionRead}
 use Rattle.erm_model.specs.declared.history.VersionWritten.{VersionWritten}
 use Rattle.erm_model.specs.declared.history.TransactionRecord.{TransactionRecord}
 use Rattle.erm_model.specs.Member.{◌∈◌}
 use Rattle.erm_model.specs.Rows.{Rows, set_row}
-use Rattle.erm_model.specs.SerialOrder.{Rank, StampsDiffer}
+use Rattle.erm_model.specs.SerialOrder.{Rank, StampsDiffer, below_by}
 
 -- the committed transactions of one opening; the rows found at opening are versions of stamp 0
 abbrev pub History : Type 0
@@ -108,7 +108,7 @@ IsSnapshot h opening = (t : TransactionRecord) → t ∈ h → ReadsSnapshot h o
 
 -- the history below a stamp
 abbrev pub below : ℕ → History → History
-below bound h = filter (λ t. nat_lt t.stamp bound) h
+below bound h = below_by rank_of bound h
 
 -- the rows after a transaction's writes
 abbrev pub after_writes : List VersionWritten → Rows → Rows

@@ -1,6 +1,7 @@
 pub mod Committed
 pub mod Database
 pub mod History
+pub mod InTurn
 pub mod Lawful
 pub mod Member
 pub mod RowTransaction

@@ -4,6 +4,7 @@ use Rattle.std.specs.Prelude.{◌≡◌, ℕ, ◌+◌, ◌<◌, ◌≤◌, ◌�
 use Rattle.erm_model.specs.declared.row_stop.RowStop.{RowStop}
 use Rattle.erm_model.specs.declared.row_stop.RowStop.TheVariants.{NotYet, ReadsFull, Owned, Newer, WritesFull, CellsFull, OidsFull, Excluded, Memory}
 use Rattle.erm_model.specs.declared.limits.TheConstants.{OID_LIMIT}
+use Rattle.erm_model.specs.InTurn.{in_turn}
 use Rattle.erm_model.specs.Rows.{Rows, set_row}
 
 -- what a call did: it read an object's row, claimed an object, set its row, or made a new one
@@ -22,8 +23,7 @@ after (did_make oid) rows = rows
 
 -- the rows that it sees after events
 abbrev pub after_all : List Event → Rows → Rows
-after_all [] rows = rows
-after_all (event ∷ events) rows = after_all events (after event rows)
+after_all events rows = in_turn after events rows
 
 -- how often an event makes an object
 abbrev pub made_by : Event → ℕ → ℕ

@@ -5,6 +5,7 @@ use Rattle.erm_model.specs.declared.operation.Op.{Op}
 use Rattle.erm_model.specs.declared.operation.Op.TheVariants.{Get, Put, Del, Next, Scan}
 use Rattle.erm_model.specs.declared.operation.Reply.{Reply}
 use Rattle.erm_model.specs.declared.operation.Reply.TheVariants as reply
+use Rattle.erm_model.specs.InTurn.{in_turn}
 use Rattle.erm_model.specs.Database.{Database, at, value_at, AreFound, IsNextAt}
 
 -- an operation and the reply to it
@@ -22,8 +23,7 @@ after (Scan table low high) m = m
 
 -- the database map after operations, one after the other
 abbrev pub after_all : List Op → Database → Database
-after_all [] m = m
-after_all (op ∷ ops) m = after_all ops (after op m)
+after_all ops m = in_turn after ops m
 
 -- the reply to an operation on a database map
 abbrev pub IsReply : Database → Op → Reply → Type 0

@@ -1,7 +1,7 @@
 -- The serial order of commits: by successor stamp ascending, then by commit stamp descending. It is the order in which
 -- the Serial Safety Net lets the committed transactions be run one after another (Wang, Johnson, Fekete, Pandis, 2017).
-use Rattle.std.specs.Prelude.{◌≡◌, ℕ, ◌<◌, ◌⊎◌, List, Some}
-use Rattle.std.specs.List.{AllPairs, slice_get}
+use Rattle.std.specs.Prelude.{◌≡◌, ℕ, ◌<◌, ◌⊎◌, nat_lt, List, Some}
+use Rattle.std.specs.List.{AllPairs, filter, slice_get}
 use Rattle.std.specs.List.Sorted.{IsPermutation}
 use Rattle.erm_model.specs.declared.history.Commit.{Commit}
 
@@ -26,3 +26,7 @@ StampsDiffer {X} rank xs = (i j : ℕ) (a b : X) → slice_get xs i ≡ Some a �
 pub record IsSerialOrder {X : Type 0} (rank : X → Rank) (xs order : List X) : Type 0 where
   pub same : IsPermutation xs order
   pub ascends : AllPairs (λ a b. ComesBefore (rank a) (rank b)) order
+
+-- those of some commits whose stamp is below a bound
+abbrev pub below_by : {X : Type 0} → (X → Rank) → ℕ → List X → List X
+below_by rank bound xs = filter (λ x. nat_lt (rank x).stamp bound) xs
