@@ -118,6 +118,7 @@ goes_on v t seat w u is now more = record {
   opening = now.opening;
   tail = now.tail;
   flushed = now.flushed;
+  pinned = now.pinned;
 }
 
 goes_out : (v t : View) (seat : ℕ) (w u : Work) → (v.session seat).stand ≡ world.active w → IsDone v seat u world.aborts t → Extends w u → Goes v seat t
@@ -127,6 +128,7 @@ goes_out v t seat w u is now more = record {
   opening = now.opening;
   tail = now.tail;
   flushed = now.flushed;
+  pinned = now.pinned;
 }
 
 goes_nowhere : (v t : View) (seat : ℕ) → t ≡ v → Goes v seat t
@@ -136,6 +138,7 @@ goes_nowhere v t seat is = record {
   opening = ap (λ (u : View). u.opening) is;
   tail = ap (λ (u : View). u.tail) is;
   flushed = ap (λ (u : View). u.flushed) is;
+  pinned = ap (λ (u : View). u.pinned) is;
 }
 
 -- ANSWERED. After a call that was answered the session is active, and its work is what the event makes of it.
@@ -293,7 +296,7 @@ module _ {S : Type 0} (law : Law) (view : S → View) (seat : S → ℕ) (stands
   steps s t event standing session same answered u is moves =
       let at : Moves law (work_at (view s) (seat s)) event (work_at (view t) (seat t)) =
       subst (λ (w : Work). Moves law (work_at (view s) (seat s)) event w) (sym is) moves in record {
-        answered = answered;
+        answered = (same, answered);
         fitted = at.fitted;
         told = at.told;
         seen = at.seen;

@@ -1,9 +1,9 @@
 -- What each call of a world does to its view, and what each refusal says of the other sessions.
-use Rattle.std.specs.Prelude.{◌≡◌, ◌≢◌, ℕ, ◌+◌, ◌<◌, ◌≤◌, ◌⊎◌, true, false, List, [], ◌∷◌, ◌++◌, length, Some, None}
+use Rattle.std.specs.Prelude.{◌≡◌, ◌≢◌, ℕ, ◌+◌, ◌*◌, ◌<◌, ◌≤◌, ◌⊎◌, true, false, List, [], ◌∷◌, ◌++◌, length, Some, None}
 use Rattle.erm_model.specs.declared.history.TransactionRecord.{TransactionRecord}
 use Rattle.erm_model.specs.declared.history.VersionRead.{VersionRead}
 use Rattle.erm_model.specs.declared.history.VersionWritten.{VersionWritten}
-use Rattle.erm_model.specs.declared.limits.TheConstants.{LAST_NUMBER, OID_LIMIT, READ_LIMIT, RING_WORDS, STOP, WRITE_LIMIT}
+use Rattle.erm_model.specs.declared.limits.TheConstants.{GREATEST_BLOCK, LAST_NUMBER, LEAST_BLOCK, OID_LIMIT, READ_LIMIT, RING_WORDS, STOP, WRITE_LIMIT}
 use Rattle.erm_model.specs.declared.outcome.Outcome.{Outcome}
 use Rattle.erm_model.specs.declared.outcome.Outcome.TheVariants.{Committed, Excluded}
 use Rattle.erm_model.specs.declared.row_stop.RowStop.{RowStop}
@@ -25,6 +25,7 @@ pub record Becomes (v : View) (seat : ℕ) (s : Session) (t : View) : Type 0 whe
   pub opening : t.opening ≡ v.opening
   pub tail : t.tail ≡ v.tail
   pub flushed : t.flushed ≡ v.flushed
+  pub pinned : t.pinned ≡ v.pinned
 
 -- the transaction in progress has become this one
 abbrev pub Works : View → ℕ → Work → View → Type 0
@@ -184,14 +185,16 @@ DidNotMake v seat stop.WritesFull t = ⊥
 DidNotMake v seat (stop.CellsFull drawn) t = ⊥
 DidNotMake v seat (stop.Excluded succ pred) t = ⊥
 
--- SEAL. The commit stamp is the end of the log, which the block moves on by its size.
+-- SEAL. The commit stamp is the end of the log, which the block moves on by its size, that of a block at most.
 pub record DidSeal (v : View) (seat stamp : ℕ) (t : View) : Type 0 where
   pub stamp_is : stamp ≡ v.tail
   pub own : t.session seat ≡ record { over = (v.session seat).over; stand = world.sealed (work_at v seat) stamp }
   pub others : (q : ℕ) → q ≢ seat → t.session q ≡ v.session q
   pub opening : t.opening ≡ v.opening
   pub tail : t.tail ≡ v.tail + size_of (work_at v seat)
+  pub fits : size_of (work_at v seat) ≤ GREATEST_BLOCK
   pub flushed : t.flushed ≡ v.flushed
+  pub pinned : t.pinned ≡ v.pinned
 
 -- SETTLE, of a transaction with this stamp. Committed with the definitions' numbers, the window open; or excluded with them, the
 -- window closed.
@@ -256,9 +259,10 @@ pub data IsInTheWay (v : View) (seat : ℕ) (w : Work) (bound other seen : ℕ) 
 abbrev pub IsRingFull : View → Work → ℕ → Type 0
 IsRingFull v w stamp = v.flushed + RING_WORDS < stamp + size_of w
 
--- a transaction that may not be decided yet stays sealed
+-- A transaction that may not be decided yet stays sealed. Its block isn't larger than its claims say, nor than a block may be, so that the
+-- ring has room for it once all below it is flushed.
 abbrev pub Waits : View → ℕ → Work → ℕ → Wait → Type 0
-Waits v seat w stamp (wait.Ring flushed) = (flushed ≡ v.flushed) × IsRingFull v w stamp
+Waits v seat w stamp (wait.Ring flushed) = (flushed ≡ v.flushed) × IsRingFull v w stamp × (size_of w ≤ GREATEST_BLOCK) × (size_of w ≤ LEAST_BLOCK + 17 * length w.claims)
 Waits v seat w stamp (wait.Seat other seen) = (IsRingFull v w stamp → ⊥) × IsInTheWay v seat w stamp other seen
 
 abbrev pub DidNotSettle : View → ℕ → Wait → View → Type 0

@@ -38,9 +38,10 @@ pub record Goes (v : View) (seat : ℕ) (t : View) : Type 0 where
   pub opening : t.opening ≡ v.opening
   pub tail : t.tail ≡ v.tail
   pub flushed : t.flushed ≡ v.flushed
+  pub pinned : t.pinned ≡ v.pinned
 
 -- A session of a world as a transaction: it may have begun on the arrays that fit its work, and sees what its claims leave laid
--- over them. `one` says that two states hold one world.
+-- over them. `one` says that two states hold one world. Its calls are all of one seat.
 abbrev pub world_face : {S : Type 0} → Law → (S → View) → (S → ℕ) → (S → Type 0) → (S → S → Type 0) → Face S
 world_face law view seat stands one = record {
   law = law;
@@ -51,6 +52,6 @@ world_face law view seat stands one = record {
   claims = λ s x. is_claimed (work_at (view s) (seat s)).claims x ≡ true;
   reads = λ s x. is_some (row_read (work_at (view s) (seat s)).reads x) ≡ true;
   follows = λ s t. one s t × (seat t ≡ seat s) × (stands s → stands t) × Goes (view s) (seat s) (view t);
-  answers = λ s event t. Answered (view s) (seat s) event (view t);
+  answers = λ s event t. (seat t ≡ seat s) × Answered (view s) (seat s) event (view t);
   stops = λ s asked stop t. WasRefused (view s) (seat s) asked stop (view t);
 }

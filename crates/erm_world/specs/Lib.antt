@@ -3,7 +3,7 @@ pub mod Face
 pub mod Going
 pub mod Laws
 pub mod Log
-pub mod MapWorld
 pub mod Onward
+pub mod Whole
 pub mod Works
 pub mod World

@@ -1,6 +1,7 @@
 -- What a world's log means to a flusher: where it goes on, how far it is synced, and the blocks that were gathered so far.
-use Rattle.std.specs.Prelude.{◌≡◌, ℕ, ◌+◌, ◌<◌, ◌≤◌, ◌⊎◌, Bool, true, false, List, [], ◌∷◌, ◌++◌, take, Option, Some, None, IfSome}
+use Rattle.std.specs.Prelude.{◌≡◌, ℕ, ◌+◌, ◌^◌, ◌<◌, ◌≤◌, ◌⊎◌, List, [], ◌∷◌, ◌++◌, take, Option, Some, None, IfSome, IsSome}
 use Rattle.std.specs.List.{flat_map}
+use Rattle.erm_model.specs.Member.{◌∈◌}
 use Rattle.erm_model.specs.Rows.{Rows}
 use Rattle.erm_block.specs.declared.block.Block.{Block}
 use Rattle.erm_block.specs.LogList.{IsChain, rows_after_block}
@@ -15,14 +16,19 @@ pub record Start : Type 0 where
   pub run : ℕ
   pub rows : Rows
 
--- A log: where it goes on, its end, the place below which all is synced, the blocks gathered, in order from its start on, whether a range that
--- begins at a place belongs to a transaction that isn't decided, and the place as of which rows are read, where it is pinned.
+-- a transaction that has its range of the log and isn't decided: its seat, and the objects that it has claimed
+pub record Undecided : Type 0 where
+  pub seat : ℕ
+  pub claims : List ℕ
+
+-- A log: where it goes on, its end, the place below which all is synced, the blocks gathered, in order from its start on, the
+-- transaction whose range begins at a place, where that isn't decided, and the place as of which rows are read, where it is pinned.
 pub record Log : Type 0 where
   pub opened : Start
   pub tail : ℕ
   pub flushed : ℕ
   pub gathered : List Block
-  pub undecided : ℕ → Bool
+  pub undecided : ℕ → Option Undecided
   pub pinned : Option ℕ
 
 -- the place behind blocks that stand from a place on, and the rows after them
@@ -51,7 +57,7 @@ gathered_to log = place_behind log.opened.at log.gathered
 
 -- Nothing is gathered beyond a place where nothing is to gather: the log's end, or a range that isn't decided.
 abbrev pub IsStop : Log → ℕ → Type 0
-IsStop log place = (place ≡ log.tail) ⊎ (log.undecided place ≡ true)
+IsStop log place = (place ≡ log.tail) ⊎ IsSome (log.undecided place)
 
 -- so many words from the place flushed on were gathered: they are those of the blocks from there on to the first stop
 pub record DidGather (l m : Log) (at count : ℕ) (words : List ℕ) : Type 0 where
@@ -69,7 +75,7 @@ pub record DidGather (l m : Log) (at count : ℕ) (words : List ℕ) : Type 0 wh
 -- What a gather answers: nothing exactly where the log's end is flushed, or a range that isn't decided begins there.
 abbrev pub Gathers : Gathered → Log → Log → List ℕ → Type 0
 Gathers (Empty at) l m words = (m ≡ l) × (at ≡ l.flushed) × (l.tail ≡ l.flushed)
-Gathers (Unfilled at) l m words = (m ≡ l) × (at ≡ l.flushed) × (l.flushed < l.tail) × (l.undecided l.flushed ≡ true)
+Gathers (Unfilled at) l m words = (m ≡ l) × (at ≡ l.flushed) × (l.flushed < l.tail) × IsSome (l.undecided l.flushed)
 Gathers (Words at count) l m words = DidGather l m at count words
 
 -- the row of an object as of the pin, where what was gathered comes up to it
@@ -77,18 +83,22 @@ abbrev pub IsRowAt : Log → ℕ → List ℕ → Type 0
 IsRowAt log oid row = (front rest : List Block) → log.gathered ≡ front ++ rest → log.pinned ≡ Some (place_behind log.opened.at front)
     → row ≡ rows_behind log.opened.rows front oid
 
--- a transaction that isn't decided is sealed with this stamp, below the pin
-pub record IsWait (log : Log) (wait : SeatWait) : Type 0 where
-  pub undecided : log.undecided wait.seen ≡ true
+-- a transaction of this seat that isn't decided is sealed with this stamp, below the pin, and has claimed the object
+pub record IsWait (log : Log) (oid : ℕ) (wait : SeatWait) : Type 0 where
+  pub by : Undecided
+  pub undecided : log.undecided wait.seen ≡ Some by
+  pub seat : by.seat ≡ wait.seat
+  pub claims : oid ∈ by.claims
   pub below : IfSome log.pinned (λ place. wait.seen < place)
 
 -- What is so of every log: the blocks gathered are a chain of the grammar from its start on, each written in its run, with rows that are sound
 -- after each; it is synced up to the end of one of them; below their end all is decided; it is pinned at a place of the log, and where that
--- was gathered at the end of a block.
+-- was gathered at the end of a block. Places have 64 bits.
 pub record IsLog (sound : Rows → Type 0) (log : Log) : Type 0 where
   pub opening : sound log.opened.rows
   pub chain : IsChain sound (record { words = words_of log.gathered; at = log.opened.at; run = log.opened.run; rows = log.opened.rows }) log.gathered
   pub flushed : IsEnd log log.flushed
   pub within : gathered_to log ≤ log.tail
-  pub decided : (place : ℕ) → place < gathered_to log → log.undecided place ≡ false
+  pub places : log.tail < 2 ^ 64
+  pub decided : (place : ℕ) → place < gathered_to log → log.undecided place ≡ None
   pub pinned : IfSome log.pinned (λ place. (log.opened.at ≤ place) × (place ≤ log.tail) × (place ≤ gathered_to log → IsEnd log place))

@@ -54,7 +54,7 @@ grows_then s t r (ends w u begins over stands went) (ends y x then_begins then_o
 
 -- a world in which nothing happened
 pub goes_itself : (v : View) (seat : ℕ) → Goes v seat v
-goes_itself v seat = record { own = same refl; others = λ q another. refl; opening = refl; tail = refl; flushed = refl }
+goes_itself v seat = record { own = same refl; others = λ q another. refl; opening = refl; tail = refl; flushed = refl; pinned = refl }
 
 -- a world in which one session goes on twice
 pub goes_then : (v t u : View) (seat then_seat : ℕ) → then_seat ≡ seat → Goes v seat t → Goes t then_seat u → Goes v seat u
@@ -65,4 +65,5 @@ goes_then v t u seat then_seat is first later =
       opening = second.opening ∙ first.opening;
       tail = second.tail ∙ first.tail;
       flushed = second.flushed ∙ first.flushed;
+      pinned = second.pinned ∙ first.pinned;
     }

@@ -55,12 +55,14 @@ pub record Opening : Type 0 where
   pub cells : ℕ
   pub sessions : ℕ
 
--- a world: how it was opened, its sessions, the end of its log, and the place of the log below which all is synced
+-- a world: how it was opened, its sessions, the end of its log, the place of the log below which all is synced, and the place as
+-- of which rows are pinned, where they are
 pub record View : Type 0 where
   pub opening : Opening
   pub session : ℕ → Session
   pub tail : ℕ
   pub flushed : ℕ
+  pub pinned : Option ℕ
 
 -- the seat is one of a session of the world
 abbrev pub IsSession : View → ℕ → Type 0

@@ -4,15 +4,15 @@
 mod gathered;
 mod laws;
 mod log_world;
+mod script_world;
 mod stops;
-#[cfg(test)]
-mod tests;
 mod txn;
 mod world;
 
 pub use gathered::{Gathered, SeatWait};
 pub use laws::{histories_tell_commits, laws_that_say_the_same};
 pub use log_world::LogWorld;
+pub use script_world::ScriptWorld;
 pub use stops::{BeginStop, NotFlushed, Wait};
 pub use txn::WorldTxn;
 pub use world::RowWorld;

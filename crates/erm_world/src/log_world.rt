@@ -50,7 +50,8 @@ pub trait LogWorld {
         ensures place { (log self.old).tail ≤ result }
         ensures pinned { log self.new ≡ record (log self.old) { tail = result; pinned = Some result } };
 
-    /// The row of an object as of the place pinned. It waits where a range below the pin isn't decided, which the answer names.
+    /// The row of an object as of the place pinned. It waits where a transaction that isn't decided is sealed below the pin and has
+    /// claimed the object, which the answer names.
     fn row_at(&mut self, oid: Oid) -> Result<Row, SeatWait>
         requires stands { log_stands self.old }
         requires object { oid < OID_LIMIT }
@@ -59,7 +60,7 @@ pub trait LogWorld {
         ensures keeps { keeps self.old self.new }
         ensures same { log self.new ≡ log self.old }
         ensures row { IfOk result (λ row. IsRowAt (log self.old) oid row) }
-        ensures wait { IfErr result (λ wait. IsWait (log self.old) wait) };
+        ensures wait { IfErr result (λ wait. IsWait (log self.old) oid wait) };
 
     /// Ends the pin.
     fn unpin(&mut self)

@@ -1,0 +1,4 @@
+mod MapCalls
+mod MapClauses
+mod MapRows
+mod MapWorlds

@@ -1,0 +1,12 @@
+use Rattle.std.proofs.Common.{map, refl}
+use Rattle.erm_model.specs.Rows.{rows_of}
+use Rattle.erm_map_world.specs.declared.map_world.MapWork.{MapWork}
+use Rattle.erm_map_world.specs.MapWorld.{work_with}
+use Rattle.erm_map_world.proofs.MapClauses.{settle_done, settle_stands}
+use Rattle.erm_map_world.proofs.map_world.MapWorldRowWorld.settle.Goals as goal
+
+pub returns-clause-stands : goal.returns-clause-stands
+returns-clause-stands g c = settle_stands g.L.RowLaw.law 1152921504606846975 (rows_of c.args.self.now.rows.items) c.args.self.now.first c.args.self.now.next c.args.self.now.tail c.args.self.now.begun (map (λ (m : MapWork). work_with 1152921504606846975 m.number m.reads.items m.claims.items m.made.items) c.args.self.now.over.items) c.args.self.now.phase c.args.self.now.committed (work_with 1152921504606846975 c.args.self.now.work.number c.args.self.now.work.reads.items c.args.self.now.work.claims.items c.args.self.now.work.made.items) c.args._seat c.requires.session c.requires.sealed c.requires.stands
+
+pub returns-clause-ok : goal.returns-clause-ok
+returns-clause-ok g c = settle_done g.L.RowLaw.law 1152921504606846975 (rows_of c.args.self.now.rows.items) c.args.self.now.first c.args.self.now.next c.args.self.now.tail c.args.self.now.begun (map (λ (m : MapWork). work_with 1152921504606846975 m.number m.reads.items m.claims.items m.made.items) c.args.self.now.over.items) c.args.self.now.phase c.args.self.now.committed (work_with 1152921504606846975 c.args.self.now.work.number c.args.self.now.work.reads.items c.args.self.now.work.claims.items c.args.self.now.work.made.items) c.args._seat c.requires.session c.args.self.now.work.number c.requires.sealed refl c.requires.stands

@@ -1,6 +1,0 @@
-use Rattle.std.proofs.Common.{◌≡◌, take}
-use Rattle.erm_world.specs.MapWorld.{found_row}
-use Rattle.erm_world.proofs.tests.map_world.own.Given as goal
-
-abbrev pub invariant-loop-c : goal.invariant-loop-c
-invariant-loop-c l = l.found ≡ found_row (take l.c-index l.claims) l.oid
