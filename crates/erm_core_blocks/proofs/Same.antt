@@ -7,7 +7,7 @@ use Rattle.erm_model.specs.Rows.{Rows}
 use Rattle.erm_model.proofs.Members.{none_in_nil, ∈-push}
 use Rattle.erm_machine.specs.declared.attempt.Attempt.{Attempt}
 use Rattle.erm_machine.specs.declared.attempt.Decision.{Decision}
-use Rattle.erm_machine.specs.declared.attempt.Decision.TheVariants.{Undecided}
+use Rattle.erm_machine.specs.declared.attempt.Decision.TheVariants.{Commit, Undecided}
 use Rattle.erm_machine.specs.declared.part.Part.{Part}
 use Rattle.erm_machine.specs.declared.place.Place.{Place}
 use Rattle.erm_machine.specs.declared.place.Place.TheVariants.{Idle, Active, Sealed}
@@ -20,7 +20,8 @@ use Rattle.erm_machine.proofs.Quiet.{Steady}
 use Rattle.erm_core_lives.proofs.Lasting.{Lasting, SameRecord, SameWords}
 use Rattle.erm_core_lives.proofs.LivesLists.{∈-last, ∈-front}
 use Rattle.erm_block.specs.declared.block.Block.{Block}
-use Rattle.erm_block.specs.Block.{IsBlock}
+use Rattle.erm_block.specs.declared.block.Form.TheVariants.{Stored}
+use Rattle.erm_block.specs.Block.{IsBlock, size_with}
 use Rattle.erm_block.specs.Spelling.{spelling}
 use Rattle.erm_core_blocks.specs.Spelled.{AreSpelled, HasBlock, IsBlockOf, IsSpelled, SameBlock, entries_of, kind_of}
 
@@ -53,6 +54,7 @@ spelled_same run seat t u same is = record {
   keeps = subst (λ (at : ℕ). IsBlock is.of at run) (sym same.stamp) is.keeps;
   is_of = block_same run seat t u is.of same is.is_of;
   spelled = words_same t u (spelling is.of) same is.spelled;
+  sized = same.size ∙ is.sized ∙ ap (λ (ws : List VersionWritten). size_with Stored (entries_of Commit ws)) (sym same.writes);
 }
 
 -- the transactions of a seat that have blocks are spelled

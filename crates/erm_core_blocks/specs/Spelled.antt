@@ -12,9 +12,10 @@ use Rattle.erm_machine.specs.Decided.{written_of}
 use Rattle.erm_machine.specs.Facts.{all_of}
 use Rattle.erm_machine.specs.Seat.{decision_of}
 use Rattle.erm_block.specs.declared.block.Block.{Block}
+use Rattle.erm_block.specs.declared.block.Form.TheVariants.{Stored}
 use Rattle.erm_block.specs.declared.block.Kind as block
 use Rattle.erm_block.specs.declared.block.Kind.TheVariants as block_kind
-use Rattle.erm_block.specs.Block.{Entry, IsBlock}
+use Rattle.erm_block.specs.Block.{Entry, IsBlock, size_with}
 use Rattle.erm_block.specs.Spelling.{spelling}
 
 -- a transaction that is decided this way has a block
@@ -47,12 +48,13 @@ pub record IsBlockOf (run seat : ℕ) (t : Attempt) (b : Block) : Type 0 where
   pub rows : b.rows.items ≡ entries_of t.decision (map written_of t.writes)
 
 -- A transaction's words of the log, the header first, are the spelling of its block, which keeps the grammar behind a block of
--- the same run.
+-- the same run. Also where it was excluded, its range has the size of a block with the rows that its claims leave.
 pub record IsSpelled (run seat : ℕ) (t : Attempt) : Type 0 where
   pub of : Block
   pub keeps : IsBlock of t.stamp run
   pub is_of : IsBlockOf run seat t of
   pub spelled : t.header ∷ t.block ≡ spelling of
+  pub sized : t.size ≡ size_with Stored (entries_of Commit (map written_of t.writes))
 
 -- each transaction that is decided and has a block is spelled
 abbrev pub AreSpelled : Core → Type 0

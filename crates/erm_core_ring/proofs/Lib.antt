@@ -1,4 +1,5 @@
 pub mod Spans
+pub mod Begins
 pub mod Stays
 pub mod Onward
 pub mod Own

@@ -135,12 +135,12 @@ module _ (c : Core) (sound : Sound c) where
 
   -- a version that a transaction read or claimed: all newer ones, and all that other seats are about to install, lie at or
   -- above its begin stamp
-  record StaysNewest (q : ℕ) (t : Attempt) (oid place stamp : ℕ) : Type 0 where
-    known : oid < OBJECT_LIMIT
-    within : place < length (c.shared.objects oid).versions
-    stamp_is : (version_at (c.shared.objects oid) place).words.stamp ≡ stamp
-    newer : NewerFrom (c.shared.objects oid) place t.begin
-    apart : (p : ℕ) → q ≢ p → HoldsBelow (c.seats p) oid t.begin → ⊥
+  pub record StaysNewest (q : ℕ) (t : Attempt) (oid place stamp : ℕ) : Type 0 where
+    pub known : oid < OBJECT_LIMIT
+    pub within : place < length (c.shared.objects oid).versions
+    pub stamp_is : (version_at (c.shared.objects oid) place).words.stamp ≡ stamp
+    pub newer : NewerFrom (c.shared.objects oid) place t.begin
+    pub apart : (p : ℕ) → q ≢ p → HoldsBelow (c.seats p) oid t.begin → ⊥
 
   read_stays : (q : ℕ) (t : Attempt) (r : Read) → t ∈ all_of (c.seats q) → r ∈ t.reads → StaysNewest q t r.version.oid r.version.place r.stamp
   read_stays q t r m n =
@@ -201,7 +201,7 @@ module _ (c : Core) (sound : Sound c) where
           (cases_lt place (w.version.place + 1))
 
   -- so it is the newest one below the begin stamp
-  newest_below : (q : ℕ) (t : Attempt) (oid place stamp : ℕ) (row : List ℕ) → t ∈ all_of (c.seats q) → StaysNewest q t oid place stamp → stamp < t.begin →
+  pub newest_below : (q : ℕ) (t : Attempt) (oid place stamp : ℕ) (row : List ℕ) → t ∈ all_of (c.seats q) → StaysNewest q t oid place stamp → stamp < t.begin →
       (version_at (c.shared.objects oid) place).words.row ≡ row → IsNewestBelow (history_of c.seats) (opening_rows c.shared) oid t.begin stamp row
   newest_below q t oid place stamp row m stays low is_row = record {
     version =

@@ -1,10 +1,7 @@
 -- The blocks of the ranges below a place, where these are decided, are the log up to it.
-use Rattle.std.proofs.Common.{◌≡◌, ◌≢◌, ℕ, zero, suc, ◌+◌, ◌<◌, ◌≤◌, ◌⊎◌, ⊎_elim, Bool, true, false, ◌||◌, eqb, cond, nat_lt, List, [], ◌∷◌, ◌++◌, map, refl, sym, ap, ◌∙◌, subst, arith}
-use Rattle.std.proofs.lemmas.Bool.{cases_eq, cases_lt, eq-eqb, eqb-false, eqb-true, ne_eqb}
-use Rattle.std.proofs.lemmas.List.{append-nil}
+use Rattle.std.proofs.Common.{◌≡◌, ℕ, ◌+◌, ◌<◌, ◌≤◌, ◌⊎◌, ⊎_elim, Bool, cond, nat_lt, List, [], ◌∷◌, refl, sym, ap, ◌∙◌, subst, arith}
+use Rattle.std.proofs.lemmas.Bool.{cases_eq, cases_lt, eq-eqb, ne_eqb}
 use Rattle.erm_model.specs.Member.{◌∈◌}
-use Rattle.erm_model.specs.RowTransaction.{Law}
-use Rattle.erm_model.specs.Rows.{Rows}
 use Rattle.erm_model.proofs.Members.{none_in_nil, ∈-behind, ∈-push}
 use Rattle.arrayvec.specs.ArrayVec.{ArrayVec}
 use Rattle.erm_machine.specs.declared.attempt.Attempt.{Attempt}
@@ -18,26 +15,21 @@ use Rattle.erm_machine.specs.declared.place.Place.{Place}
 use Rattle.erm_machine.specs.declared.place.Place.TheVariants.{Active, Idle, Sealed, Vacant}
 use Rattle.erm_machine.specs.declared.task.Task.{Task}
 use Rattle.erm_machine.specs.declared.version.Span.{Span}
-use Rattle.erm_machine.specs.Core.{Core, Shared, blank}
-use Rattle.erm_machine.specs.Decided.{written_of}
+use Rattle.erm_machine.specs.Core.{Core, Shared}
 use Rattle.erm_machine.specs.Facts.{IsCurrent, all_of}
 use Rattle.erm_machine.specs.Log.{IsEnd, IsFlushing}
 use Rattle.erm_machine.specs.Ranges.{EndToEnd}
 use Rattle.erm_machine.specs.Sound.{Sound}
-use Rattle.erm_machine.specs.Words.{is_flusher}
 use Rattle.erm_machine.proofs.Listed.{∈-cons, ∈-filter, ∈-first, ∈-head}
 use Rattle.erm_block.specs.declared.block.Block.{Block}
 use Rattle.erm_block.specs.Block.{Entry}
-use Rattle.erm_block.specs.LogList.{End, end_after, end_of}
 use Rattle.erm_block.proofs.Reading.{same_block}
-use Rattle.erm_core_blocks.specs.Spelled.{HasBlock, entries_of, kind_of}
-use Rattle.erm_core_view.specs.Views.{IsBetween, IsQuiet, IsStill}
+use Rattle.erm_core_blocks.specs.Spelled.{HasBlock, kind_of}
+use Rattle.erm_core_view.specs.Views.{IsBetween, IsQuiet}
 use Rattle.erm_core_view.proofs.Lives.{one_attempt}
-use Rattle.erm_log_list.specs.LogOf.{AreBlocksIn, IsBlockIn, IsDecidedUpTo, IsLogUpTo, log_start, ranges_below, words_of}
+use Rattle.erm_log_list.specs.LogOf.{AreBlocksIn, IsBlockIn, IsDecidedUpTo, ranges_below}
 use Rattle.erm_log_list.proofs.Ranges.{range_stands, span_of, starts_from}
-use Rattle.erm_sound.specs.Kept.{SoundUnder}
-use Rattle.erm_world.specs.Log.{place_behind, rows_behind}
-use Rattle.erm_core_turns.specs.Turns.{block_of, blocks_below, blocks_in, gathered_place, started_at}
+use Rattle.erm_core_turns.specs.Turns.{block_of, blocks_in, gathered_place, started_at}
 
 abbrev F : ℕ
 F = FLUSH_SEAT
@@ -120,7 +112,7 @@ no_block : (d : Decision) → d ≡ Undecided → HasBlock d → ⊥
 no_block Undecided e has = has
 no_block _ e has = absurd (cc)
 
-started_in : (place : ℕ) (ts : List Attempt) (t : Attempt) → t ∈ ts → t.stamp ≡ place → (started_at place ts ∈ ts) × ((started_at place ts).stamp ≡ place)
+pub started_in : (place : ℕ) (ts : List Attempt) (t : Attempt) → t ∈ ts → t.stamp ≡ place → (started_at place ts ∈ ts) × ((started_at place ts).stamp ≡ place)
 started_in place [] t m e = absurd (none_in_nil t m)
 started_in place (u ∷ ts) t m e =
     ⊎_elim

@@ -1,8 +1,7 @@
 -- What was gathered is cleared in the ring, and then flushed.
-use Rattle.std.proofs.Common.{◌≡◌, ◌≢◌, ℕ, ◌+◌, ◌<◌, ◌≤◌, ⊎_elim, Bool, true, false, List, [], ◌++◌, Option, Some, None, refl, sym, ap, ◌∙◌, subst, arith}
+use Rattle.std.proofs.Common.{◌≡◌, ℕ, ◌+◌, ◌<◌, ◌≤◌, ⊎_elim, true, Some, refl, sym, ap, ◌∙◌, subst, arith}
 use Rattle.std.proofs.lemmas.Bool.{cases_eq, eqb-true}
 use Rattle.std.proofs.lemmas.Option.{same_Some}
-use Rattle.erm_model.specs.RowTransaction.{Law}
 use Rattle.erm_model.specs.declared.limits.TheConstants.{LAST_RUN}
 use Rattle.erm_machine.specs.declared.attempt.Attempt.{Attempt}
 use Rattle.erm_machine.specs.declared.event.Kind.{Kind}
@@ -10,7 +9,6 @@ use Rattle.erm_machine.specs.declared.event.Kind.TheVariants as kind
 use Rattle.erm_machine.specs.declared.limits.TheConstants.{FLUSH_SEAT}
 use Rattle.erm_machine.specs.declared.part.Flushing.{Flushing}
 use Rattle.erm_machine.specs.declared.part.Flushing.TheVariants as flushing
-use Rattle.erm_machine.specs.declared.part.Part.{Part}
 use Rattle.erm_machine.specs.declared.place.Place.{Place}
 use Rattle.erm_machine.specs.declared.task.Task.{Task}
 use Rattle.erm_machine.specs.Core.{Core, Shared}
@@ -20,13 +18,10 @@ use Rattle.erm_machine.specs.Sound.{Sound}
 use Rattle.erm_machine.specs.Step.{after_event}
 use Rattle.erm_core_flush.specs.Turns.{Turns}
 use Rattle.erm_core_flush.proofs.Turns.{clear_turns, first_turns, store_turns}
-use Rattle.erm_core_view.specs.Views.{IsBetween, IsQuiet, IsStill}
-use Rattle.erm_sound.specs.Kept.{SoundUnder}
-use Rattle.erm_world.specs.Log.{gathered_to}
-use Rattle.erm_core_turns.specs.Turns.{Flushes, HasCleared, HasToClear, PinStays, blocks_below, gathered_place, log_of, pin_of}
+use Rattle.erm_core_view.specs.Views.{IsBetween, IsQuiet, IsStill, pin_of}
+use Rattle.erm_core_turns.specs.Turns.{Flushes, HasCleared, HasToClear, PinStays, blocks_below, gathered_place, log_of}
 use Rattle.erm_core_turns.proofs.Blocks.{place_of}
 use Rattle.erm_core_turns.proofs.Gathers.{TurnStep, turn_step}
-use Rattle.erm_core_turns.proofs.LogIs.{Lists, gathered_behind}
 use Rattle.erm_core_turns.proofs.Turns.{flushes_both, flushes_none, log_same, pin_both, pin_none, quiet_turn}
 
 abbrev F : ℕ

@@ -1,6 +1,6 @@
 -- What a gather answers: the blocks up to the log's end, or up to a range that isn't decided.
-use Rattle.std.proofs.Common.{◌≡◌, ◌≢◌, ℕ, zero, suc, ◌+◌, ◌<◌, ◌≤◌, ◌⊎◌, ⊎_elim, Bool, true, false, ◌||◌, List, [], ◌∷◌, ◌++◌, take, Option, Some, None, refl, sym, ap, ◌∙◌, subst, inl, inr, arith}
-use Rattle.std.proofs.lemmas.Bool.{cases_eq, cases_lt, eq-eqb, ne_eqb, or_left, or_right}
+use Rattle.std.proofs.Common.{IsSome, is_some, ◌≡◌, ◌≢◌, ℕ, ◌+◌, ◌<◌, ◌≤◌, ◌⊎◌, ⊎_elim, true, List, [], ◌++◌, take, refl, sym, ap, ◌∙◌, subst, inl, inr, arith}
+use Rattle.std.proofs.lemmas.Bool.{cases_eq, cases_lt, eq-eqb, ne_eqb}
 use Rattle.std.proofs.lemmas.List.{map-append}
 use Rattle.erm_model.specs.Member.{◌∈◌}
 use Rattle.erm_model.specs.RowTransaction.{Law}
@@ -12,47 +12,46 @@ use Rattle.erm_machine.specs.declared.attempt.Decision.TheVariants.{Undecided, C
 use Rattle.erm_machine.specs.declared.limits.TheConstants.{FLUSH_SEAT, RING_WORDS}
 use Rattle.erm_machine.specs.declared.part.Flushing.{Flushing}
 use Rattle.erm_machine.specs.declared.part.Flushing.TheVariants as flushing
-use Rattle.erm_machine.specs.declared.part.Part.{Part}
 use Rattle.erm_machine.specs.declared.place.Place.{Place}
 use Rattle.erm_machine.specs.declared.place.Place.TheVariants.{Active, Idle, Sealed, Vacant}
 use Rattle.erm_machine.specs.declared.task.Task.{Task}
 use Rattle.erm_machine.specs.declared.version.Span.{Span}
 use Rattle.erm_machine.specs.Core.{Core, Shared}
-use Rattle.erm_machine.specs.Facts.{IsCurrent, all_of}
+use Rattle.erm_machine.specs.Facts.{IsCurrent}
 use Rattle.erm_machine.specs.Life.{is_between}
 use Rattle.erm_machine.specs.Lives.{IsPin}
 use Rattle.erm_machine.specs.Log.{Gathering, IsEnd, IsFlushing, cleared_to}
 use Rattle.erm_machine.specs.Sound.{Sound}
-use Rattle.erm_machine.specs.Words.{is_flusher}
-use Rattle.erm_machine.proofs.Listed.{∈-head, ∈-second}
 use Rattle.erm_block.specs.declared.block.Block.{Block}
 use Rattle.erm_core_ring.proofs.Fits.{decided_fits}
 use Rattle.erm_core_ring.proofs.Spans.{span_from}
 use Rattle.erm_core_flush.specs.Turns.{IsOpenAt}
-use Rattle.erm_core_view.specs.Views.{IsBetween, IsQuiet, IsStill, session_of, stand_of, view_of}
+use Rattle.erm_core_view.specs.Views.{IsBetween, IsQuiet, IsStill, pin_of, stand_of, view_of, work_of}
 use Rattle.erm_log_list.specs.LogOf.{AreBlocksIn, IsDecidedUpTo, ranges_below, words_of}
-use Rattle.erm_log_list.proofs.Ranges.{IsRangeOf, attempt_of, has_block, range_stands, span_of}
+use Rattle.erm_log_list.proofs.Ranges.{attempt_of, has_block}
 use Rattle.erm_sound.specs.Kept.{SoundUnder}
-use Rattle.erm_world.specs.declared.gathered.Gathered.{Gathered}
 use Rattle.erm_world.specs.declared.gathered.Gathered.TheVariants as gathered
 use Rattle.erm_world.specs.Log.{DidGather, Gathers, IsStop, place_behind}
 use Rattle.erm_world.specs.World.{Session, Stand}
-use Rattle.erm_core_turns.specs.Turns.{Flushes, HasGathered, IsAtStop, IsGathering, PinStays, blocks_below, blocks_in, gathered_place, block_of, is_sealed_at, is_sealed_upto, log_of, pin_of, ring_words, started_at}
+use Rattle.erm_world.specs.World as world
+use Rattle.erm_core_turns.specs.Turns.{HasGathered, IsAtStop, blocks_below, blocks_in, gathered_place, block_of, log_of, ring_words, started_at, undecided_at, undecided_upto}
 use Rattle.erm_core_turns.proofs.Blocks.{flushed_upto, in_log, is_over, place_of, place_upto}
 use Rattle.erm_core_turns.proofs.Gathers.{all_same, between}
 use Rattle.erm_core_turns.proofs.LogIs.{Lists, More, behind_upto, gathered_behind, log_upto}
-use Rattle.erm_core_turns.proofs.Turns.{blocks_same, log_same, quiet_turn}
+use Rattle.erm_core_turns.proofs.Turns.{log_same, quiet_turn}
+use Rattle.erm_core_turns.proofs.Undecided.{one_undecided, sealed_is}
 use Rattle.erm_core_turns.proofs.Words.{Between, NoneAcross, are_later, ranges_between, ranges_words}
 
 abbrev F : ℕ
 F = FLUSH_SEAT
 
 -- A RANGE that isn't decided is that of a session that is sealed.
-undecided_sealed : (pl : Place) (u : Task) (t : Attempt) (at : ℕ) → IsBetween pl u → IsCurrent pl t → 0 < t.stamp → t.stamp ≡ at → is_sealed_at at (stand_of pl t) ≡ true
-undecided_sealed Idle u t at between cur drawn is = let none = ap (λ (a : Attempt). a.stamp) cur in absurd (omega (arith, none, drawn))
-undecided_sealed (Active tail) u t at between cur drawn is = let none = cur.stamp in absurd (omega (arith, none, drawn))
-undecided_sealed (Sealed tail stamp) u t at between cur drawn is = eq-eqb stamp at (sym cur.stamp_is ∙ is)
-undecided_sealed _ u t at between cur drawn is = absurd between
+undecided_sealed : (pl : Place) (u : Task) (t : Attempt) (at q : ℕ) → IsBetween pl u → IsCurrent pl t → 0 < t.stamp → t.stamp ≡ at → IsSome (undecided_at at q (stand_of pl t))
+undecided_sealed Idle u t at q between cur drawn is = let none = ap (λ (a : Attempt). a.stamp) cur in absurd (omega (arith, none, drawn))
+undecided_sealed (Active tail) u t at q between cur drawn is = let none = cur.stamp in absurd (omega (arith, none, drawn))
+undecided_sealed (Sealed tail stamp) u t at q between cur drawn is =
+    ap is_some (sealed_is at q (world.sealed (work_of t) stamp) (work_of t) (ap (world.sealed (work_of t)) (sym cur.stamp_is ∙ is)))
+undecided_sealed _ u t at q between cur drawn is = absurd between
 
 pin_unsealed : (pl : Place) (u : Task) (t : Attempt) → IsBetween pl u → IsPin pl → IsCurrent pl t → 0 < t.stamp → ⊥
 pin_unsealed Idle u t between pin cur drawn = let none = ap (λ (a : Attempt). a.stamp) cur in absurd (omega (arith, none, drawn))
@@ -63,14 +62,6 @@ pin_unsealed _ u t between pin cur drawn = absurd between
 vacant_unsealed : (pl : Place) (t : Attempt) → pl ≡ Vacant → IsCurrent pl t → 0 < t.stamp → ⊥
 vacant_unsealed Vacant t e cur drawn = let none = ap (λ (a : Attempt). a.stamp) cur in absurd (omega (arith, none, drawn))
 vacant_unsealed _ t e cur drawn = absurd (cc)
-
-one_sealed : (n : ℕ) (f : ℕ → Session) (at q : ℕ) → 0 < q → q ≤ n → is_sealed_at at (f q).stand ≡ true → is_sealed_upto n f at ≡ true
-unfolding is_sealed_upto
-one_sealed zero f at q some low sealed = absurd (omega (arith, some, low))
-one_sealed (suc n) f at q some low sealed =
-    ⊎_elim (λ (here : q ≡ suc n). or_left (is_sealed_at at (f (suc n)).stand) (is_sealed_upto n f at) (subst (λ (m : ℕ). is_sealed_at at (f m).stand ≡ true) here sealed))
-    (λ (there : q ≡ suc n → ⊥). or_right (is_sealed_at at (f (suc n)).stand) (is_sealed_upto n f at) (one_sealed n f at q some (omega (arith, low, there)) sealed))
-    (cases_eq q (suc n))
 
 is_undecided : (d : Decision) → (d ≢ Undecided → ⊥) → d ≡ Undecided
 is_undecided Undecided n = refl
@@ -85,7 +76,7 @@ either_decided Skip = inr (λ (e : Skip ≡ Undecided). cc)
 either_decided Abort = inr (λ (e : Abort ≡ Undecided). cc)
 
 module _ (sessions : ℕ) (c : Core) (sound : Sound c) (quiet : IsQuiet sessions c) where
-  pub open_sealed : (at : ℕ) → IsOpenAt c.seats at → is_sealed_upto sessions (view_of sessions c).session at ≡ true
+  pub open_sealed : (at : ℕ) → IsOpenAt c.seats at → IsSome (undecided_upto sessions (view_of sessions c).session at)
   open_sealed at is =
       let q : ℕ = is.seat in
       let now : is.holder ≡ (c.seats q).current =
@@ -106,8 +97,8 @@ module _ (sessions : ℕ) (c : Core) (sound : Sound c) (quiet : IsQuiet sessions
       ⊎_elim (λ (e : q ≡ 0). absurd (unused (λ some low. absurd (omega (arith, e, some)))))
       (λ (ne : q ≡ 0 → ⊥).
       let some : 0 < q = omega (arith, ne) in
-      one_sealed sessions (view_of sessions c).session at q some within
-      (undecided_sealed (c.seats q).place (c.seats q).task (c.seats q).current at (quiet.between q some within) cur drawn starts))
+      one_undecided sessions (view_of sessions c).session at q some within
+      (undecided_sealed (c.seats q).place (c.seats q).task (c.seats q).current at q (quiet.between q some within) cur drawn starts))
       (cases_eq q 0))
       (cases_lt sessions q))
       (cases_eq q F)
@@ -287,7 +278,7 @@ module _ (law : Law) (lists : Lists law) (sessions at : ℕ) (b e : Core) (under
 
   pub gathers_unfilled : at ≡ b.shared.flushed → at < b.shared.tail → Gathers (gathered.Unfilled b.shared.flushed) (log_of sessions b) (log_of sessions e) []
   gathers_unfilled none low =
-      (log_stays none, refl, omega (arith, none, low), ap (λ (n : ℕ). is_sealed_upto sessions (view_of sessions b).session n) (sym none) ∙ open_sealed sessions b under_b.sound quiet_b at (open_before low))
+      (log_stays none, refl, omega (arith, none, low), ap (λ (n : ℕ). is_some (undecided_upto sessions (view_of sessions b).session n)) (sym none) ∙ open_sealed sessions b under_b.sound quiet_b at (open_before low))
 
   -- WORDS of whole blocks
   none_across : (p : ℕ) → IsDecidedUpTo b p → NoneAcross b.shared.log p

@@ -1,12 +1,12 @@
 -- A gather: its steps, and what they leave.
-use Rattle.std.proofs.Common.{◌≡◌, ◌≢◌, ℕ, zero, suc, ◌+◌, ◌-◌, ◌<◌, ◌≤◌, ⊎_elim, Bool, true, false, not, ◌&&◌, ◌||◌, eqb, ltb, max, List, [], ◌∷◌, ◌++◌, Option, Some, None, refl, sym, ap, ◌∙◌, subst, inl, inr, arith}
+use Rattle.std.proofs.Common.{◌≡◌, ◌≢◌, ℕ, ◌+◌, ◌<◌, ◌≤◌, ⊎_elim, Bool, true, false, not, List, [], ◌∷◌, ◌++◌, Some, refl, sym, ap, ◌∙◌, subst, inl, inr, arith}
 use Rattle.std.specs.Prelude.{if◌then◌else◌, nat_lt, ◌==◌, ◌⊎◌}
 use Rattle.std.proofs.lemmas.Bool.{and_from, cases_eq, cases_lt, eq-eqb, ltb-false, ltb-true, ne_eqb}
 use Rattle.std.proofs.lemmas.Option.{same_Some}
 use Rattle.erm_machine.specs.declared.event.Kind.{Kind}
 use Rattle.erm_machine.specs.declared.event.Kind.TheVariants as kind
 use Rattle.erm_machine.specs.declared.event.TailUse.TheVariants as purpose
-use Rattle.erm_machine.specs.declared.limits.TheConstants.{FLUSH_SEAT, LOG_END, RING_WORDS}
+use Rattle.erm_machine.specs.declared.limits.TheConstants.{FLUSH_SEAT, RING_WORDS}
 use Rattle.erm_machine.specs.declared.part.Flushing.{Flushing}
 use Rattle.erm_machine.specs.declared.part.Flushing.TheVariants as flushing
 use Rattle.erm_machine.specs.declared.part.Part.{Part}
@@ -17,7 +17,6 @@ use Rattle.erm_machine.specs.Flushing.{clear_ring, gathered_word, load_flushed, 
 use Rattle.erm_machine.specs.Facts.{all_of}
 use Rattle.erm_machine.specs.declared.attempt.Attempt.{Attempt}
 use Rattle.erm_model.specs.Member.{◌∈◌}
-use Rattle.erm_machine.specs.Life.{is_between, load_tail_to_gather}
 use Rattle.erm_machine.specs.Log.{Gathering, IsFlushing, ring_at}
 use Rattle.erm_machine.specs.Seat.{is_vacant, saw}
 use Rattle.erm_machine.specs.Sound.{Sound}
@@ -28,7 +27,7 @@ use Rattle.erm_machine.proofs.QuietKinds.{MeetsOne, moves}
 use Rattle.erm_core_flush.specs.Turns.{GathersNoMore, GathersOn, IsOpenAt, MayGather, Turns, after_word, turn_of}
 use Rattle.erm_core_flush.proofs.Turns.{word_turns}
 use Rattle.erm_core_calls.proofs.Moving.{met, stepped, taken}
-use Rattle.erm_core_view.specs.Views.{IsQuiet, IsStill}
+use Rattle.erm_core_view.specs.Views.{IsStill}
 use Rattle.erm_core_turns.specs.Turns.{Flushes, HasGathered, IsAtStop, IsGathering, PinStays, in_block}
 use Rattle.erm_core_turns.proofs.Turns.{flushes_both, flushes_none, one_after, part_stepped, pin_both, pin_none, step_flushes, step_leaves, IsOfFlusher}
 

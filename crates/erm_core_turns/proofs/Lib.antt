@@ -4,5 +4,8 @@ pub mod GatherDone
 pub mod Gathers
 pub mod LogIs
 pub mod Pins
+pub mod RowsAt
 pub mod Turns
+pub mod Undecided
+pub mod Whole
 pub mod Words

@@ -1,10 +1,7 @@
 -- What is so of the log of each state.
-use Rattle.std.proofs.Common.{◌≡◌, ◌≢◌, ℕ, zero, suc, ◌+◌, ◌<◌, ◌≤◌, ◌⊎◌, ⊎_elim, Bool, true, false, ◌||◌, eqb, List, [], ◌∷◌, ◌++◌, Option, Some, None, IfSome, refl, sym, ap, ◌∙◌, subst, inl, inr, arith}
-use Rattle.std.proofs.lemmas.Bool.{eqb-true}
+use Rattle.std.proofs.Common.{◌≡◌, ℕ, ◌<◌, ◌≤◌, List, [], ◌∷◌, ◌++◌, Option, Some, None, IfSome, refl, sym, ap, ◌∙◌, subst, arith}
 use Rattle.std.proofs.lemmas.List.{append-nil}
-use Rattle.erm_model.specs.Member.{◌∈◌}
 use Rattle.erm_model.specs.RowTransaction.{Law}
-use Rattle.erm_model.specs.Rows.{Rows}
 use Rattle.erm_machine.specs.declared.attempt.Attempt.{Attempt}
 use Rattle.erm_machine.specs.declared.attempt.Decision.TheVariants.{Undecided}
 use Rattle.erm_machine.specs.declared.limits.TheConstants.{FLUSH_SEAT}
@@ -14,18 +11,19 @@ use Rattle.erm_machine.specs.Core.{Core}
 use Rattle.erm_machine.specs.Facts.{HasBegun, IsCurrent}
 use Rattle.erm_machine.specs.Lawful.{opening_rows}
 use Rattle.erm_machine.specs.Lives.{in_progress}
-use Rattle.erm_machine.specs.Log as machine
 use Rattle.erm_machine.specs.Sound.{Sound}
 use Rattle.erm_machine.proofs.Listed.{∈-head, ∈-second}
 use Rattle.erm_block.specs.declared.block.Block.{Block}
 use Rattle.erm_block.specs.LogList.{End, IsChain, end_after, end_of}
-use Rattle.erm_core_view.specs.Views.{IsQuiet, session_of, stand_of, view_of}
+use Rattle.erm_core_view.specs.Views.{IsQuiet, pin_of, session_of, stand_of, view_of, work_of}
 use Rattle.erm_log_list.specs.LogOf.{IsDecidedUpTo, IsLogUpTo, log_start, ranges_below, words_of}
-use Rattle.erm_log_list.proofs.Later.{goes_on}
 use Rattle.erm_sound.specs.Kept.{SoundUnder}
 use Rattle.erm_world.specs.Log.{IsEnd, IsLog, place_behind, rows_behind}
-use Rattle.erm_world.specs.World.{Session, Stand}
-use Rattle.erm_core_turns.specs.Turns.{blocks_below, is_sealed_at, is_sealed_upto, log_of, pin_of}
+use Rattle.erm_world.specs.Log as log
+use Rattle.erm_world.specs.World.{Session, Stand, Work}
+use Rattle.erm_world.specs.World as world
+use Rattle.erm_core_turns.specs.Turns.{blocks_below, log_of, undecided_at}
+use Rattle.erm_core_turns.proofs.Undecided.{none_undecided, undecided_is}
 use Rattle.erm_core_turns.proofs.Blocks.{blocks_are, in_log, place_of, place_upto, flushed_upto, decided_upto}
 
 abbrev F : ℕ
@@ -48,19 +46,17 @@ abbrev pub More : Law → Type 0
 More law = (c : Core) (from to : ℕ) (a b : List Block) → Sound c → from ≤ to → IsLogUpTo law c from a → IsLogUpTo law c to b → (more : List Block) × (b ≡ a ++ more)
 
 -- a session that is sealed with a stamp has its range there, which isn't decided
-sealed_stamp : (pl : Place) (t : Attempt) (place : ℕ) → IsCurrent pl t → is_sealed_at place (stand_of pl t) ≡ true → (t.stamp ≡ place) × (0 < t.stamp) × (t.decision ≡ Undecided)
-sealed_stamp (Sealed tail stamp) t place cur e =
-    let same = eqb-true stamp place e in let is = cur.stamp_is in let some = cur.positive in (omega (arith, is, same), omega (arith, is, some), cur.decision)
-sealed_stamp _ t place cur e = absurd (cc)
+same_stamp : (w u : Work) (m n : ℕ) → world.sealed w m ≡ world.sealed u n → m ≡ n
+same_stamp w u m n e = cc
 
-only_false : (b : Bool) → (b ≡ true → ⊥) → b ≡ false
-only_false true none = absurd (none refl)
-only_false false none = refl
+sealed_stamp : (pl : Place) (t : Attempt) (w : Work) (place : ℕ) → IsCurrent pl t → stand_of pl t ≡ world.sealed w place → (t.stamp ≡ place) × (0 < t.stamp) × (t.decision ≡ Undecided)
+sealed_stamp (Sealed tail stamp) t w place cur e =
+    let same = same_stamp (work_of t) w stamp place e in let is = cur.stamp_is in let some = cur.positive in (omega (arith, is, same), omega (arith, is, some), cur.decision)
+sealed_stamp _ t w place cur e = absurd (cc)
 
-none_sealed : (n : ℕ) (f : ℕ → Session) (place : ℕ) → ((q : ℕ) → is_sealed_at place (f q).stand ≡ false) → is_sealed_upto n f place ≡ false
-unfolding is_sealed_upto
-none_sealed zero f place none = refl
-none_sealed (suc n) f place none = ap (λ (b : Bool). b || is_sealed_upto n f place) (none (suc n)) ∙ none_sealed n f place none
+only_none : (o : Option log.Undecided) → ((u : log.Undecided) → o ≡ Some u → ⊥) → o ≡ None
+only_none (Some u) none = absurd (none u refl)
+only_none None none = refl
 
 module _ (law : Law) (lists : Lists law) (sessions : ℕ) (c : Core) (under : SoundUnder law c) (quiet : IsQuiet sessions c) where
   -- the blocks below a place that is decided up to
@@ -87,22 +83,23 @@ module _ (law : Law) (lists : Lists law) (sessions : ℕ) (c : Core) (under : So
       record { front = blocks_below c p; rest = rest.0; split = rest.1; behind = sym (behind_upto p (blocks_below c p) front) }
 
   -- no session is sealed with a stamp below it
-  not_sealed : (q place : ℕ) → place < place_of c → is_sealed_at place (session_of (c.seats q)).stand ≡ false
+  not_sealed : (q place : ℕ) → place < place_of c → undecided_at place q (session_of (c.seats q)).stand ≡ None
   not_sealed q place low =
-      only_false (is_sealed_at place (session_of (c.seats q)).stand)
-      (λ sealed.
-      let is = sealed_stamp (c.seats q).place (c.seats q).current place (under.sound.own q).ranges.current sealed in
+      only_none (undecided_at place q (session_of (c.seats q)).stand)
+      (λ u sealed.
+      let so = undecided_is place q (session_of (c.seats q)).stand u sealed in
+      let is = sealed_stamp (c.seats q).place (c.seats q).current so.work place (under.sound.own q).ranges.current so.stand in
       let stamp = is.0 in
       let most = (place_upto c under.sound).2 in
       let decided = (under.sound.common.log.gathered.decided q (c.seats q).current (∈-second (c.seats q).over ((c.seats q).current ∷ []) (c.seats q).current (∈-head (c.seats q).current [])) is.1
       (omega (arith, stamp, low, most))).0 in
       decided is.2)
 
-  pub none_undecided : (place : ℕ) → place < place_of c → (log_of sessions c).undecided place ≡ false
-  none_undecided place low = none_sealed sessions (view_of sessions c).session place (λ q. not_sealed q place low)
+  pub all_decided : (place : ℕ) → place < place_of c → (log_of sessions c).undecided place ≡ None
+  all_decided place low = none_undecided sessions (view_of sessions c).session place (λ q. not_sealed q place low)
 
-  pub log_is : More law → (HasBegun (c.seats F).place → machine.IsEnd c.shared (c.seats F).current.begin) → IsLog law.meets (log_of sessions c)
-  log_is more pin_ends =
+  pub log_is : More law → IsLog law.meets (log_of sessions c)
+  log_is more =
       let sound = under.sound in
       let upto = place_upto c sound in
       let whole = log_upto (place_of c) upto.0 in
@@ -114,7 +111,8 @@ module _ (law : Law) (lists : Lists law) (sessions : ℕ) (c : Core) (under : So
         chain = subst (λ (ws : List ℕ). IsChain law.meets (log_start c ws) blocks) (append-nil (words_of blocks)) (whole.chain []);
         flushed = end_within more c.shared.flushed (flushed_upto c sound) upto.1;
         within = omega (arith, behind, within);
-        decided = λ place low. none_undecided place (omega (arith, low, behind));
+        places = let low = sound.common.ranges.below in omega (arith, low);
+        decided = λ place low. all_decided place (omega (arith, low, behind));
         pinned = pin_at (c.seats F).place (c.seats F).current refl;
       }
     where
@@ -125,7 +123,7 @@ module _ (law : Law) (lists : Lists law) (sessions : ℕ) (c : Core) (under : So
           let b = (c.seats F).current.begin in
           let low = (sound.own F).lives.opened_now (ap in_progress (sym e)) in
           let past = ((sound.own F).snapshot.past (c.seats F).current (∈-second (c.seats F).over ((c.seats F).current ∷ []) (c.seats F).current (∈-head (c.seats F).current []))).past in
-          let ends = pin_ends (subst HasBegun e tt) in
+          let ends = (under.begins F).ends (subst HasBegun e tt) in
           let behind = gathered_behind in
           let most = (place_upto c sound).2 in
           (low, past, λ gathered. end_within more b (decided_upto c b sound ends (omega (arith, gathered, behind, most))) (omega (arith, gathered, behind)))

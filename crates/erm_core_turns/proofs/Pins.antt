@@ -1,16 +1,15 @@
 -- A pin: the steps of a begin, and its end.
-use Rattle.std.proofs.Common.{◌≡◌, ◌≢◌, ℕ, ◌+◌, ◌<◌, ◌≤◌, Bool, true, false, eqb, List, [], length, Option, Some, None, refl, sym, ap, ◌∙◌, subst, arith}
+use Rattle.std.proofs.Common.{◌≡◌, ℕ, ◌≤◌, true, eqb, List, [], length, Option, Some, None, refl, sym, ap, ◌∙◌, subst, arith}
 use Rattle.std.specs.Prelude.{IsSome}
 use Rattle.std.proofs.lemmas.Bool.{and_from, eq-eqb}
 use Rattle.erm_model.specs.declared.limits.TheConstants.{LAST_RUN}
 use Rattle.erm_machine.specs.declared.attempt.Attempt.{Attempt}
-use Rattle.erm_machine.specs.declared.event.Kind.{Kind}
 use Rattle.erm_machine.specs.declared.event.Kind.TheVariants as kind
 use Rattle.erm_machine.specs.declared.event.TailUse.TheVariants as purpose
 use Rattle.erm_machine.specs.declared.limits.TheConstants.{FLUSH_SEAT}
 use Rattle.erm_machine.specs.declared.part.Part.{Part}
 use Rattle.erm_machine.specs.declared.place.Place.{Place}
-use Rattle.erm_machine.specs.declared.place.Place.TheVariants.{Active, Announced, Begun, Idle, Sealed, Vacant}
+use Rattle.erm_machine.specs.declared.place.Place.TheVariants.{Active, Announced, Begun, Idle, Sealed}
 use Rattle.erm_machine.specs.declared.task.Task.{Task}
 use Rattle.erm_machine.specs.declared.task.Task.TheVariants as task
 use Rattle.erm_machine.specs.Core.{Core, begun, blank}
@@ -22,8 +21,8 @@ use Rattle.erm_machine.specs.Seat.{end_of, may_start, saw, with_current}
 use Rattle.erm_machine.specs.Sound.{Sound}
 use Rattle.erm_machine.specs.Step.{after_event}
 use Rattle.erm_core_calls.proofs.Moving.{met, stepped, taken}
-use Rattle.erm_core_view.specs.Views.{IsBetween, IsQuiet, IsStill}
-use Rattle.erm_core_turns.specs.Turns.{Flushes, blocks_below, gathered_place, log_of, pin_of}
+use Rattle.erm_core_view.specs.Views.{IsBetween, IsQuiet, IsStill, pin_of}
+use Rattle.erm_core_turns.specs.Turns.{Flushes, blocks_below, gathered_place, log_of}
 use Rattle.erm_core_turns.proofs.Turns.{flushes_both, log_same, one_after, part_stepped, quiet_turn, step_flushes}
 
 abbrev F : ℕ

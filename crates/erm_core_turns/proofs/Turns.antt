@@ -1,5 +1,5 @@
 -- What steps of the flush seat leave: the sessions, and the log but for what is gathered, flushed and pinned.
-use Rattle.std.proofs.Common.{◌≡◌, ◌≢◌, ℕ, zero, suc, ◌+◌, ◌<◌, ◌≤◌, ⊎_elim, Bool, true, false, ◌||◌, List, Option, Some, refl, sym, ap, ◌∙◌, subst, arith}
+use Rattle.std.proofs.Common.{◌≡◌, ◌≢◌, ℕ, zero, suc, ◌<◌, ◌≤◌, ⊎_elim, List, Option, Some, refl, sym, ap, ◌∙◌, subst, arith}
 use Rattle.std.proofs.Math.Path.{fun_ext}
 use Rattle.std.proofs.lemmas.Bool.{cases_eq, eqb-false, eqb-true}
 use Rattle.std.proofs.lemmas.Option.{same_Some}
@@ -13,16 +13,15 @@ use Rattle.erm_machine.specs.declared.version.Span.{Span}
 use Rattle.erm_machine.specs.Core.{Core, Object, Shared, spot_of, word_at}
 use Rattle.erm_machine.specs.Lawful.{opening_rows}
 use Rattle.erm_machine.specs.Step.{after_event, shared_after}
-use Rattle.erm_machine.specs.Words.{is_flusher}
 use Rattle.erm_machine.proofs.Frames.{put_other, put_same}
 use Rattle.erm_block.specs.declared.block.Block.{Block}
 use Rattle.erm_core_calls.proofs.Moving.{stepped}
-use Rattle.erm_core_view.specs.Views.{IsBetween, IsQuiet, IsStill, session_of, view_of, work_of}
+use Rattle.erm_core_view.specs.Views.{IsBetween, IsQuiet, IsStill, pin_of, session_of, view_of, work_of}
 use Rattle.erm_log_list.specs.LogOf.{ranges_below}
-use Rattle.erm_world.specs.Log.{Log, Start}
+use Rattle.erm_world.specs.Log.{Log, Start, Undecided}
 use Rattle.erm_world.specs.World.{Opening, Session}
 use Rattle.erm_world.specs.World as world
-use Rattle.erm_core_turns.specs.Turns.{Flushes, PinStays, SharedStays, blocks_below, blocks_in, gathered_place, is_sealed_at, is_sealed_upto, log_after, log_of, pin_of}
+use Rattle.erm_core_turns.specs.Turns.{Flushes, PinStays, SharedStays, blocks_below, blocks_in, first_of, gathered_place, log_after, log_of, undecided_at, undecided_upto}
 
 -- one step leads to one state
 pub one_after : (c d e : Core) (seat : ℕ) (k : Kind) → after_event c seat k ≡ Some e → after_event c seat k ≡ Some d → d ≡ e
@@ -114,18 +113,18 @@ blocks_same c d stays to =
     ∙ ap (λ (rs : List Span). blocks_in c.shared.run (λ q. (d.seats q).over) (ranges_below to rs)) stays.shared.log
     ∙ ap (λ (over : ℕ → List Attempt). blocks_in c.shared.run over (ranges_below to c.shared.log)) (over_same c d stays)
 
-sealed_same : (n : ℕ) (f g : ℕ → Session) (place : ℕ) → ((q : ℕ) → q ≤ n → f q ≡ g q) → is_sealed_upto n f place ≡ is_sealed_upto n g place
-unfolding is_sealed_upto
-sealed_same zero f g place same = refl
-sealed_same (suc n) f g place same =
-    ap (λ (s : Session). is_sealed_at place s.stand || is_sealed_upto n f place) (same (suc n) (omega arith))
-    ∙ ap (λ (b : Bool). is_sealed_at place (g (suc n)).stand || b) (sealed_same n f g place (λ q low. same q (omega (arith, low))))
+undecided_same : (n : ℕ) (f g : ℕ → Session) (place : ℕ) → ((q : ℕ) → q ≤ n → f q ≡ g q) → undecided_upto n f place ≡ undecided_upto n g place
+unfolding undecided_upto
+undecided_same zero f g place same = refl
+undecided_same (suc n) f g place same =
+    ap (λ (s : Session). first_of (undecided_at place (suc n) s.stand) (undecided_upto n f place)) (same (suc n) (omega arith))
+    ∙ ap (first_of (undecided_at place (suc n) (g (suc n)).stand)) (undecided_same n f g place (λ q low. same q (omega (arith, low))))
 
 -- a session's number isn't the flush seat's
 pub is_other : (sessions q : ℕ) (c : Core) → IsQuiet sessions c → q ≤ sessions → q ≢ FLUSH_SEAT
 is_other sessions q c quiet low = eqb-false q FLUSH_SEAT (quiet.few q low)
 
-abbrev made_log : Start → ℕ → ℕ → List Block → (ℕ → Bool) → Option ℕ → Log
+abbrev made_log : Start → ℕ → ℕ → List Block → (ℕ → Option Undecided) → Option ℕ → Log
 made_log opened tail flushed gathered undecided pinned =
     record { opened = opened; tail = tail; flushed = flushed; gathered = gathered; undecided = undecided; pinned = pinned }
 
@@ -134,10 +133,10 @@ log_same sessions c d quiet stays =
     let to : ℕ = gathered_place d.shared.flushed (d.seats FLUSH_SEAT).flushing in
     let pin : Option ℕ = pin_of (d.seats FLUSH_SEAT).place (d.seats FLUSH_SEAT).current in
     let f : ℕ = d.shared.flushed in
-    let un : Core → ℕ → Bool = λ b place. is_sealed_upto sessions (view_of sessions b).session place in
+    let un : Core → ℕ → Option Undecided = λ b place. undecided_upto sessions (view_of sessions b).session place in
     let start : ℕ → ℕ → (ℕ → Object) → Start = λ at run objects. record { at = at; run = run; rows = opening_rows (record c.shared { objects = objects }) } in
     let undecided : un d ≡ un c =
-    fun_ext (λ place. sealed_same sessions (view_of sessions d).session (view_of sessions c).session place
+    fun_ext (λ place. undecided_same sessions (view_of sessions d).session (view_of sessions c).session place
     (λ q low. ap session_of (stays.others q (is_other sessions q c quiet low))))
     in
     ap (λ (n : ℕ). made_log (start n d.shared.run d.shared.objects) d.shared.tail f (blocks_below d to) (un d) pin) stays.shared.opening
@@ -145,7 +144,7 @@ log_same sessions c d quiet stays =
     ∙ ap (λ (o : ℕ → Object). made_log (start c.shared.opening c.shared.run o) d.shared.tail f (blocks_below d to) (un d) pin) stays.shared.objects
     ∙ ap (λ (n : ℕ). made_log (start c.shared.opening c.shared.run c.shared.objects) n f (blocks_below d to) (un d) pin) stays.shared.tail
     ∙ ap (λ (bs : List Block). made_log (start c.shared.opening c.shared.run c.shared.objects) c.shared.tail f bs (un d) pin) (blocks_same c d stays to)
-    ∙ ap (λ (u : ℕ → Bool). made_log (start c.shared.opening c.shared.run c.shared.objects) c.shared.tail f (blocks_below c to) u pin) undecided
+    ∙ ap (λ (u : ℕ → Option Undecided). made_log (start c.shared.opening c.shared.run c.shared.objects) c.shared.tail f (blocks_below c to) u pin) undecided
 
 -- each session is between two calls as before
 pub quiet_turn : (sessions : ℕ) (c d : Core) → IsQuiet sessions c → Flushes c d → IsStill (d.seats FLUSH_SEAT)

@@ -1,12 +1,10 @@
 -- The log of a state of the machine as a flusher sees it: the blocks of the ranges that the flush seat has gathered, what isn't
 -- decided, and its pin; and what the flush seat's steps leave.
-use Rattle.std.specs.Prelude.{◌≡◌, ◌≢◌, ℕ, zero, suc, ◌+◌, ◌<◌, Bool, false, ◌||◌, ◌==◌, nat_lt, if◌then◌else◌, List, [], ◌∷◌, ◌++◌, length, map, take, Option, Some, None}
+use Rattle.std.specs.Prelude.{◌≡◌, ◌≢◌, ℕ, zero, suc, ◌+◌, ◌<◌, Bool, false, ◌==◌, nat_lt, if◌then◌else◌, List, [], ◌∷◌, length, map, Option, Some, None}
 use Rattle.erm_machine.specs.declared.attempt.Attempt.{Attempt}
 use Rattle.erm_machine.specs.declared.limits.TheConstants.{FLUSH_SEAT}
 use Rattle.erm_machine.specs.declared.part.Flushing.{Flushing}
 use Rattle.erm_machine.specs.declared.part.Flushing.TheVariants as flushing
-use Rattle.erm_machine.specs.declared.place.Place.{Place}
-use Rattle.erm_machine.specs.declared.place.Place.TheVariants.{Active}
 use Rattle.erm_machine.specs.declared.version.Span.{Span}
 use Rattle.erm_machine.specs.Core.{Core, Shared, blank}
 use Rattle.erm_machine.specs.Decided.{written_of}
@@ -15,9 +13,9 @@ use Rattle.erm_machine.specs.Log.{ring_at}
 use Rattle.erm_block.specs.declared.block.Block.{Block}
 use Rattle.erm_core_blocks.specs.Spelled.{entries_of, kind_of}
 use Rattle.erm_core_flush.specs.Turns.{IsOpenAt}
-use Rattle.erm_core_view.specs.Views.{view_of}
+use Rattle.erm_core_view.specs.Views.{pin_of, view_of}
 use Rattle.erm_log_list.specs.LogOf.{ranges_below}
-use Rattle.erm_world.specs.Log.{Log}
+use Rattle.erm_world.specs.Log.{Log, Undecided}
 use Rattle.erm_world.specs.World.{Session, Stand}
 use Rattle.erm_world.specs.World as world
 
@@ -53,20 +51,20 @@ blocks_in run over ranges = map (λ r. block_of run r.seat (started_at r.start (
 abbrev pub blocks_below : Core → ℕ → List Block
 blocks_below c to = blocks_in c.shared.run (λ q. (c.seats q).over) (ranges_below to c.shared.log)
 
--- a session is sealed with this stamp
-abbrev pub is_sealed_at : ℕ → Stand → Bool
-is_sealed_at place (world.sealed w stamp) = stamp == place
-is_sealed_at place s = false
+-- a session's transaction that is sealed with this stamp, and so isn't decided
+abbrev pub undecided_at : (place seat : ℕ) → Stand → Option Undecided
+undecided_at place seat (world.sealed w stamp) = if stamp == place then Some (record { seat = seat; claims = map (λ c. c.oid) w.claims }) else None
+undecided_at place seat s = None
 
--- one of the sessions up to a number is
-unfoldable pub is_sealed_upto : ℕ → (ℕ → Session) → ℕ → Bool
-is_sealed_upto zero session place = false
-is_sealed_upto (suc n) session place = is_sealed_at place (session (suc n)).stand || is_sealed_upto n session place
+-- the first of two, if it is there, else the second
+abbrev pub first_of : Option Undecided → Option Undecided → Option Undecided
+first_of (Some u) other = Some u
+first_of None other = other
 
--- the begin stamp of the flush seat, while it has one
-abbrev pub pin_of : Place → Attempt → Option ℕ
-pin_of (Active tail) t = Some t.begin
-pin_of p t = None
+-- that of one of the sessions up to a number
+unfoldable pub undecided_upto : ℕ → (ℕ → Session) → ℕ → Option Undecided
+undecided_upto zero session place = None
+undecided_upto (suc n) session place = first_of (undecided_at place (suc n) (session (suc n)).stand) (undecided_upto n session place)
 
 -- the log of a state of so many sessions
 abbrev pub log_of : ℕ → Core → Log
@@ -75,7 +73,7 @@ log_of sessions c = record {
   tail = c.shared.tail;
   flushed = c.shared.flushed;
   gathered = blocks_below c (gathered_place c.shared.flushed (c.seats FLUSH_SEAT).flushing);
-  undecided = λ place. is_sealed_upto sessions (view_of sessions c).session place;
+  undecided = λ place. undecided_upto sessions (view_of sessions c).session place;
   pinned = pin_of (c.seats FLUSH_SEAT).place (c.seats FLUSH_SEAT).current;
 }
 

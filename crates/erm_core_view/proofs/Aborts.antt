@@ -56,12 +56,12 @@ module _ (seat : ℕ) (c : Core) (sound : Sound c) (session : is_flusher seat �
   abbrev last : Core
   last = run_from (run_from c (release_steps seat (c.seats seat).current.writes)) (clear_steps seat (c.seats seat).current.reads)
 
-  all_ended : (sessions : ℕ) → Ending sessions seat c sound active (length (c.seats seat).current.writes) (length (c.seats seat).current.reads) last
+  all_ended : (sessions : ℕ) → Ending sessions seat c sound session active (length (c.seats seat).current.writes) (length (c.seats seat).current.reads) last
   all_ended sessions =
       let t : Attempt = (c.seats seat).current in
-      let first = all_released sessions seat c sound active t.writes 0 c (nothing_ended sessions seat c sound active may) (omega arith)
+      let first = all_released sessions seat c sound session active t.writes 0 c (nothing_ended sessions seat c sound session active may) (omega arith)
       (λ j inside. ap (λ (n : ℕ). claim_at t n) (omega arith)) in
-      all_cleared sessions seat c sound active t.reads 0 (run_from c (release_steps seat t.writes)) first (omega arith)
+      all_cleared sessions seat c sound session active t.reads 0 (run_from c (release_steps seat t.writes)) first (omega arith)
       (λ j inside. ap (λ (n : ℕ). read_at t n) (omega arith))
 
   abbrev done : Core
@@ -96,7 +96,7 @@ module _ (seat : ℕ) (c : Core) (sound : Sound c) (session : is_flusher seat �
       let shows : session_of (done.seats seat) ≡ after = ap session_of (put_same last.seats seat (gone y)) ∙ gone_shows y s at.shows.own still in
       subst (λ (d : Core). IsDone (view_of sessions c) seat (work_at (view_of sessions c) seat) world.aborts (view_of sessions d)) (sym runs)
       (becomes_then (view_of sessions c) seat s (view_of sessions last) after (view_of sessions done) at.shows
-      (one_becomes sessions seat last done (kind.StoreBegin 0) after tt tt refl refl last_goes shows))
+      (one_becomes sessions seat last done (kind.StoreBegin 0) after session tt tt refl refl last_goes shows))
 
   pub abort_rests : RestsAt seat Idle (run_from c (end_steps seat (c.seats seat).current))
   abort_rests =

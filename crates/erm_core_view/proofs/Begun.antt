@@ -1,6 +1,6 @@
 -- A session's begin: its three steps, and the first one where it is refused.
 use Rattle.std.proofs.Common.{◌≡◌, ℕ, ◌+◌, ◌<◌, ◌≤◌, not, eqb, leb, ltb, cond, Bool, true, false, [], ◌∷◌, length, map, Some, None, refl, sym, ap, ◌∙◌, subst, arith}
-use Rattle.std.proofs.lemmas.Bool.{and_from, and_right, cond-false, cond-true, eq-eqb, le-leb, lt-leb, lt-ltb, or_right}
+use Rattle.std.proofs.lemmas.Bool.{and_from, and_right, cond-false, cond-true, eq-eqb, eqb-false, le-leb, lt-leb, lt-ltb, or_right}
 use Rattle.std.proofs.lemmas.List.{length-map}
 use Rattle.erm_model.specs.declared.limits.TheConstants.{LAST_NUMBER, STOP}
 use Rattle.erm_machine.specs.declared.event.Kind.TheVariants as kind
@@ -16,6 +16,7 @@ use Rattle.erm_machine.specs.Seat.{has_number, saw}
 use Rattle.erm_machine.specs.Sound.{Sound}
 use Rattle.erm_machine.specs.Step.{after_event, run_from}
 use Rattle.erm_machine.specs.Tasks.{TaskFits}
+use Rattle.erm_machine.specs.declared.limits.TheConstants.{FLUSH_SEAT}
 use Rattle.erm_machine.specs.Words.{is_flusher, put, refuses}
 use Rattle.erm_machine.proofs.Frames.{put_same}
 use Rattle.erm_world.specs.declared.stops.BeginStop.TheVariants as begin
@@ -127,7 +128,7 @@ module _ (seat : ℕ) (c : Core) (sound : Sound c) (session : is_flusher seat �
     (let count = length-map (c.seats seat).over finished_of in omega (arith, count, left)),
     below,
     refl,
-    alone_shows sessions seat c (active seat c.shared.tail (c.seats seat)) (run_from c (begin_steps seat c.shared.tail)) _ (begins_alone below)
+    alone_shows sessions seat c (active seat c.shared.tail (c.seats seat)) (run_from c (begin_steps seat c.shared.tail)) _ (begins_alone below) (λ same. absurd (eqb-false seat FLUSH_SEAT session same))
         (ap (λ (n : ℕ). record { over = map finished_of (c.seats seat).over; stand = world.active (world.begun n c.shared.tail) }) numbered_next),
   )
 
@@ -145,7 +146,7 @@ module _ (seat : ℕ) (c : Core) (sound : Sound c) (session : is_flusher seat �
       ap (λ (place : Place). record { over = map finished_of x.over; stand = stand_of place x.current }) (sym idle) in
       let count = length-map x.over finished_of in (
         same_view (view_of sessions c) seat (view_of sessions d)
-            (alone_shows sessions seat c (loaded Idle c.shared.tail x) d (session_of x) (refused_alone above) same),
+            (alone_shows sessions seat c (loaded Idle c.shared.tail x) d (session_of x) (refused_alone above) (λ here. absurd (eqb-false seat FLUSH_SEAT session here)) same),
         omega (arith, count, left),
         refl,
         above,

@@ -2,10 +2,14 @@
 use Rattle.std.proofs.Common.{◌≡◌, ◌≢◌, ℕ, ⊎_elim, true, List, [], ◌∷◌, ◌++◌, Option, Some, None, refl, sym, ap, ◌∙◌, subst}
 use Rattle.std.proofs.lemmas.Bool.{cases_eq, cond-true}
 use Rattle.std.proofs.Math.Path.{fun_ext}
+use Rattle.erm_machine.specs.declared.attempt.Attempt.{Attempt}
 use Rattle.erm_machine.specs.declared.event.Event.{Event}
 use Rattle.erm_machine.specs.declared.event.Kind.{Kind}
 use Rattle.erm_machine.specs.declared.event.Kind.TheVariants as kind
+use Rattle.erm_machine.specs.declared.limits.TheConstants.{FLUSH_SEAT}
 use Rattle.erm_machine.specs.declared.part.Part.{Part}
+use Rattle.erm_machine.specs.declared.place.Place.{Place}
+use Rattle.erm_machine.specs.declared.place.Place.TheVariants.{Active}
 use Rattle.erm_machine.specs.Core.{Core, Shared, spot_of, word_at}
 use Rattle.erm_machine.specs.Lawful.{opening_rows}
 use Rattle.erm_machine.specs.Step.{after_event, core_step, is_known, moved, part_after, run_from, shared_after, step_to, told}
@@ -14,7 +18,7 @@ use Rattle.erm_machine.proofs.Frames.{put_other, put_same}
 use Rattle.erm_world.specs.Calls.{Becomes}
 use Rattle.erm_world.specs.World.{Opening, Session, View}
 use Rattle.erm_core_view.specs.Steps.{MeetsOne}
-use Rattle.erm_core_view.specs.Views.{session_of, view_of}
+use Rattle.erm_core_view.specs.Views.{pin_of, session_of, view_of}
 
 -- the first event is taken, and the others follow
 pub taken : (c d : Core) (seat : ℕ) (k : Kind) (es : List Event) → after_event c seat k ≡ Some d → run_from c (record { seat = seat; kind = k } ∷ es) ≡ run_from d es
@@ -52,13 +56,30 @@ alone_then seat c y d z e first second = record {
   own = second.own;
 }
 
-pub alone_shows : (sessions seat : ℕ) (c : Core) (y : Part) (d : Core) (s : Session) → Alone seat c y d → session_of y ≡ s → Becomes (view_of sessions c) seat s (view_of sessions d)
-alone_shows sessions seat c y d s alone is = record {
+-- two transactions of one place that begin at one place are one pin, if that place is one of a pin
+pub pin_same : (pl : Place) (t u : Attempt) → u.begin ≡ t.begin → pin_of pl u ≡ pin_of pl t
+pin_same (Active tail) t u begin = ap (λ (n : ℕ). Some n) begin
+pin_same _ t u begin = refl
+
+-- it pins as before where it isn't the flush seat, or its part has the same pin
+pub alone_pins : (sessions seat : ℕ) (c : Core) (y : Part) (d : Core) → Alone seat c y d → (seat ≡ FLUSH_SEAT → pin_of y.place y.current ≡ pin_of (c.seats seat).place (c.seats seat).current)
+    → (view_of sessions d).pinned ≡ (view_of sessions c).pinned
+alone_pins sessions seat c y d alone pin =
+    ⊎_elim
+    (λ (here : seat ≡ FLUSH_SEAT).
+    subst (λ n. pin_of (d.seats n).place (d.seats n).current ≡ pin_of (c.seats n).place (c.seats n).current) here (ap (λ (x : Part). pin_of x.place x.current) alone.own ∙ pin here))
+    (λ (other : seat ≡ FLUSH_SEAT → ⊥). ap (λ (x : Part). pin_of x.place x.current) (alone.others FLUSH_SEAT (λ same. other (sym same))))
+    (cases_eq seat FLUSH_SEAT)
+
+pub alone_shows : (sessions seat : ℕ) (c : Core) (y : Part) (d : Core) (s : Session) → Alone seat c y d
+    → (seat ≡ FLUSH_SEAT → pin_of y.place y.current ≡ pin_of (c.seats seat).place (c.seats seat).current) → session_of y ≡ s → Becomes (view_of sessions c) seat s (view_of sessions d)
+alone_shows sessions seat c y d s alone pin is = record {
   own = ap session_of alone.own ∙ is;
   others = λ q other. ap session_of (alone.others q other);
   opening = ap (λ (shared : Shared). opening_from sessions shared) alone.shared;
   tail = ap (λ (shared : Shared). shared.tail) alone.shared;
   flushed = ap (λ (shared : Shared). shared.flushed) alone.shared;
+  pinned = alone_pins sessions seat c y d alone pin;
 }
   where
     opening_from : ℕ → Shared → Opening
@@ -72,6 +93,7 @@ becomes_then v seat s t r u first second = record {
   opening = second.opening ∙ first.opening;
   tail = second.tail ∙ first.tail;
   flushed = second.flushed ∙ first.flushed;
+  pinned = second.pinned ∙ first.pinned;
 }
 
 -- it still is what it was
@@ -82,16 +104,16 @@ becomes_same sessions seat c d e first second =
     (becomes_then (view_of sessions c) seat (session_of (c.seats seat)) (view_of sessions d) (session_of (d.seats seat)) (view_of sessions e) first second)
 
 -- a world whose session becomes what it was is the same
-same_fields : (o p : Opening) (s r : ℕ → Session) (tail end flushed synced : ℕ) → o ≡ p → s ≡ r → tail ≡ end → flushed ≡ synced
-    → ◌≡◌ {A = View} (record { opening = o; session = s; tail = tail; flushed = flushed }) (record { opening = p; session = r; tail = end; flushed = synced })
-same_fields o p s r tail end flushed synced a b c d = cc
+same_fields : (o p : Opening) (s r : ℕ → Session) (tail end flushed synced : ℕ) (pin held : Option ℕ) → o ≡ p → s ≡ r → tail ≡ end → flushed ≡ synced → pin ≡ held
+    → ◌≡◌ {A = View} (record { opening = o; session = s; tail = tail; flushed = flushed; pinned = pin }) (record { opening = p; session = r; tail = end; flushed = synced; pinned = held })
+same_fields o p s r tail end flushed synced pin held a b c d e = cc
 
 pub same_view : (v : View) (seat : ℕ) (t : View) → Becomes v seat (v.session seat) t → t ≡ v
 same_view v seat t becomes =
     let sessions : t.session ≡ v.session = fun_ext (λ q.
     ⊎_elim (λ (same : q ≡ seat). subst (λ (n : ℕ). t.session n ≡ v.session n) (sym same) becomes.own)
     (λ (other : q ≡ seat → ⊥). becomes.others q other) (cases_eq q seat)) in
-    same_fields t.opening v.opening t.session v.session t.tail v.tail t.flushed v.flushed becomes.opening sessions becomes.tail becomes.flushed
+    same_fields t.opening v.opening t.session v.session t.tail v.tail t.flushed v.flushed t.pinned v.pinned becomes.opening sessions becomes.tail becomes.flushed becomes.pinned
 
 -- events behind others
 pub run_append : (es fs : List Event) (c : Core) → run_from c (es ++ fs) ≡ run_from (run_from c es) fs

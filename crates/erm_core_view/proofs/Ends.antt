@@ -24,7 +24,7 @@ use Rattle.erm_machine.specs.Seat.{end_of, is_active, is_commit, is_decided, no_
 use Rattle.erm_machine.specs.Settling.{adds_version, clear_reader, given_back, install, install_claim, release_old}
 use Rattle.erm_machine.specs.Sound.{Sound}
 use Rattle.erm_machine.specs.Step.{after_event, run_from, shared_after}
-use Rattle.erm_machine.specs.Words.{put}
+use Rattle.erm_machine.specs.Words.{is_flusher, put}
 use Rattle.erm_machine.proofs.Frames.{put_same}
 use Rattle.erm_machine.proofs.Objects.{extends}
 use Rattle.erm_world.specs.Calls.{Becomes}
@@ -92,7 +92,7 @@ clears v ended k x active ends all within none is =
     (lt-ltb k (length x.current.reads) within)) (or_left (not (is_commit x.current.decision)) (eqb 0 (length x.current.reads)) commits_not))
     (same_itself v (read_at x.current k).version is))
 
-module _ (sessions seat : ℕ) (c : Core) (sound : Sound c) (active : is_active (c.seats seat).place ≡ true) where
+module _ (sessions seat : ℕ) (c : Core) (sound : Sound c) (session : is_flusher seat ≡ false) (active : is_active (c.seats seat).place ≡ true) where
   abbrev x : Part
   x = c.seats seat
 
@@ -118,7 +118,7 @@ module _ (sessions seat : ℕ) (c : Core) (sound : Sound c) (active : is_active 
 
   pub nothing_ended : end_of (c.seats seat).task ≡ Some (0, 0, 0, 0) → Ending 0 0 c
   nothing_ended may = record {
-    shows = record { own = refl; others = λ q other. refl; opening = refl; tail = refl; flushed = refl };
+    shows = record { own = refl; others = λ q other. refl; opening = refl; tail = refl; flushed = refl; pinned = refl };
     place = refl;
     task = may;
     decision = undecided x.place x.current active (sound.own seat).ranges.current;
@@ -149,7 +149,7 @@ module _ (sessions seat : ℕ) (c : Core) (sound : Sound c) (active : is_active 
         next = e;
         goes = taken_is;
         ending = record {
-          shows = becomes_same sessions seat c d e at.shows (one_becomes sessions seat d e k_is (session_of y) (at.some v.oid below) tt refl refl taken_is same);
+          shows = becomes_same sessions seat c d e at.shows (one_becomes sessions seat d e k_is (session_of y) session (at.some v.oid below) tt refl refl taken_is same);
           place = ap (λ (u : Part). u.place) own ∙ at.place;
           task = ap (λ (u : Part). end_of u.task) own;
           decision = ap (λ (u : Part). u.current.decision) own ∙ at.decision;
@@ -183,7 +183,7 @@ module _ (sessions seat : ℕ) (c : Core) (sound : Sound c) (active : is_active 
         next = e;
         goes = taken_is;
         ending = record {
-          shows = becomes_same sessions seat c d e at.shows (one_becomes sessions seat d e k_is (session_of y) tt tt refl refl taken_is same);
+          shows = becomes_same sessions seat c d e at.shows (one_becomes sessions seat d e k_is (session_of y) session tt tt refl refl taken_is same);
           place = ap (λ (u : Part). u.place) own ∙ at.place;
           task = ap (λ (u : Part). end_of u.task) own;
           decision = ap (λ (u : Part). u.current.decision) own ∙ at.decision;

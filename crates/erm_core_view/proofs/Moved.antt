@@ -1,16 +1,18 @@
 -- What the view shows of a step that meets one word.
-use Rattle.std.proofs.Common.{◌≡◌, ℕ, ◌+◌, Some, refl, sym, ap, ◌∙◌, subst, arith}
+use Rattle.std.proofs.Common.{◌≡◌, ℕ, ◌+◌, false, Some, refl, sym, ap, ◌∙◌, subst, arith}
 use Rattle.std.proofs.Math.Path.{fun_ext}
+use Rattle.std.proofs.lemmas.Bool.{eqb-false}
 use Rattle.erm_machine.specs.declared.event.Counter.{Counter}
 use Rattle.erm_machine.specs.declared.event.Counter.TheVariants.{Objects, Cells}
 use Rattle.erm_machine.specs.declared.event.Kind.{Kind}
 use Rattle.erm_machine.specs.declared.event.Kind.TheVariants as kind
+use Rattle.erm_machine.specs.declared.limits.TheConstants.{FLUSH_SEAT}
 use Rattle.erm_machine.specs.declared.part.Part.{Part}
 use Rattle.erm_machine.specs.Core.{Core, Shared, spot_of, word_at}
 use Rattle.erm_machine.specs.Lawful.{opening_rows}
 use Rattle.erm_machine.specs.Sound.{Sound}
 use Rattle.erm_machine.specs.Step.{after_event, shared_after, with_counter}
-use Rattle.erm_machine.specs.Words.{put}
+use Rattle.erm_machine.specs.Words.{is_flusher, put}
 use Rattle.erm_machine.proofs.Frames.{put_other, put_same}
 use Rattle.erm_machine.proofs.OpeningRows.{HasVersion, first_stays, installs_version, rows_stay}
 use Rattle.erm_machine.proofs.QuietKinds.{Moves, moves}
@@ -18,7 +20,7 @@ use Rattle.erm_machine.proofs.QuietKinds as quiet
 use Rattle.erm_world.specs.Calls.{Becomes}
 use Rattle.erm_world.specs.World.{Session}
 use Rattle.erm_core_view.specs.Steps.{ChangesOne, IsCalm, IsEnding, MeetsOne, drawn_by, flushed_by}
-use Rattle.erm_core_view.specs.Views.{session_of, view_of}
+use Rattle.erm_core_view.specs.Views.{pin_of, session_of, view_of}
 use Rattle.erm_core_view.proofs.Calm.{calm_kind, install_same}
 
 -- kinds that meet one word
@@ -92,6 +94,7 @@ moved_one sessions p c d k has m =
       opening = opening;
       tail = tail_moves c p k (c.seats p);
       flushed = flushed_moves p k found (c.seats p) c.shared;
+      pinned = λ other. ap (λ (x : Part). pin_of x.place x.current) (put_other c.seats p m.part FLUSH_SEAT (λ same. other (sym same)));
     })
 
 pub changes_one : (sessions p : ℕ) (c d : Core) (k : Kind) → Sound c → MeetsOne k → after_event c p k ≡ Some d → ChangesOne p k (view_of sessions c) (view_of sessions d)
@@ -107,10 +110,10 @@ end_shows p oid head c d ending e =
     let m = moves c p (kind.Install oid head) d tt e in
     ap session_of (own_after c p (kind.Install oid head) d m) ∙ (install_same oid head (c.seats p) (c.seats p).task m.part ending m.after).same
 
--- a step that moves neither the end of the log nor the place flushed changes one session
-pub one_becomes : (sessions p : ℕ) (c d : Core) (k : Kind) (s : Session) → HasVersion k c.shared → MeetsOne k → drawn_by k ≡ 0 → flushed_by k c.shared.flushed ≡ c.shared.flushed
+-- a step of a session that moves neither the end of the log nor the place flushed changes one session
+pub one_becomes : (sessions p : ℕ) (c d : Core) (k : Kind) (s : Session) → is_flusher p ≡ false → HasVersion k c.shared → MeetsOne k → drawn_by k ≡ 0 → flushed_by k c.shared.flushed ≡ c.shared.flushed
     → after_event c p k ≡ Some d → session_of (d.seats p) ≡ s → Becomes (view_of sessions c) p s (view_of sessions d)
-one_becomes sessions p c d k s has one none still e shows =
+one_becomes sessions p c d k s plain has one none still e shows =
     let changes = moved_one sessions p c d k has (moves c p k d (meets_one k one) e) in
     let tail = changes.tail in
     record {
@@ -119,4 +122,5 @@ one_becomes sessions p c d k s has one none still e shows =
       opening = changes.opening;
       tail = omega (arith, tail, none);
       flushed = changes.flushed ∙ still;
+      pinned = changes.pinned (eqb-false p FLUSH_SEAT plain);
     }

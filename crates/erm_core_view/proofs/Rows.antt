@@ -28,7 +28,7 @@ use Rattle.erm_world.specs.Works.{setting, with_row}
 use Rattle.erm_world.specs.World.{Work, work_at}
 use Rattle.erm_core_view.specs.Steps.{MayWrite, RestsAt, stores_from}
 use Rattle.erm_core_view.specs.Views.{view_of, work_of}
-use Rattle.erm_core_view.proofs.Chained.{Alone, alone_put, alone_shows, alone_then, taken}
+use Rattle.erm_core_view.proofs.Chained.{Alone, alone_put, alone_shows, alone_then, pin_same, taken}
 use Rattle.erm_core_view.proofs.Parts.{current_stands}
 use Rattle.erm_core_view.proofs.Shown.{shows_work, work_active, working}
 
@@ -242,5 +242,5 @@ writes sessions seat place cell row c sound may words =
     ap (λ (ws : List VersionWritten). record (work_of x.current) { claims = ws }) (set_one x.current.writes place row stored.new may.claimed (claims_apart seat c sound) stored.has) in
     let now : work_at (view_of sessions c) seat ≡ work_of x.current = work_active x.place x.current may.active in
     subst (λ (u : Work). Works (view_of sessions c) seat (setting w.version.oid row u) (view_of sessions (run_from c (stores_from seat place cell 0 row)))) (sym now)
-    (alone_shows sessions seat c y (run_from c (stores_from seat place cell 0 row)) (working x (setting w.version.oid row (work_of x.current))) stored.alone
+    (alone_shows sessions seat c y (run_from c (stores_from seat place cell 0 row)) (working x (setting w.version.oid row (work_of x.current))) stored.alone (λ _. pin_same x.place x.current y.current refl)
     (shows_work x (setting w.version.oid row (work_of x.current)) y refl may.active work).shows)

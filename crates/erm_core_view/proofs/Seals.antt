@@ -1,12 +1,12 @@
 -- A session's seal: its three steps draw a range of its block's size.
 use Rattle.std.proofs.Common.{◌≡◌, ◌≢◌, ℕ, ◌+◌, ◌*◌, ◌≤◌, ◌&&◌, eqb, leb, true, false, All, List, [], ◌∷◌, ◌++◌, get_or, length, map, sum_by, Some, None, refl, sym, ap, ◌∙◌, subst, arith}
-use Rattle.std.proofs.lemmas.Bool.{and_from, cond-true, eq-eqb, false≢true, le-leb, or_from, true_from_ne_false}
+use Rattle.std.proofs.lemmas.Bool.{and_from, cond-true, eq-eqb, eqb-false, false≢true, le-leb, or_from, true_from_ne_false}
 use Rattle.std.proofs.lemmas.List.{length-map}
 use Rattle.std.proofs.lemmas.List.Sums.{sum_by-le}
 use Rattle.erm_model.specs.declared.history.VersionWritten.{VersionWritten}
 use Rattle.erm_model.specs.Member.{◌∈◌}
 use Rattle.erm_model.proofs.Members.{∈-at}
-use Rattle.erm_machine.specs.declared.limits.TheConstants.{GREATEST_BLOCK, LEAST_BLOCK}
+use Rattle.erm_machine.specs.declared.limits.TheConstants.{FLUSH_SEAT, GREATEST_BLOCK, LEAST_BLOCK}
 use Rattle.erm_machine.specs.declared.event.Kind.TheVariants as kind
 use Rattle.erm_machine.specs.declared.part.Part.{Part}
 use Rattle.erm_machine.specs.declared.place.Place.{Place}
@@ -26,7 +26,7 @@ use Rattle.erm_world.specs.Calls.{DidSeal}
 use Rattle.erm_world.specs.World.{Stand, Work, work_at}
 use Rattle.erm_world.specs.World as world
 use Rattle.erm_core_view.specs.Steps.{RestsAt, seal_steps}
-use Rattle.erm_core_view.specs.Views.{finished_of, session_of, view_of, work_of}
+use Rattle.erm_core_view.specs.Views.{finished_of, pin_of, session_of, view_of, work_of}
 use Rattle.erm_core_view.proofs.Chained.{goes, three_taken}
 use Rattle.erm_core_view.proofs.Parts.{current_stands}
 use Rattle.erm_core_view.proofs.Shown.{work_active}
@@ -72,26 +72,31 @@ is_sessions seat place vacant active other = true_from_ne_false (is_session seat
 
 -- a block of the rows claimed is no greater than blocks may be
 module _ (short : (row : List ℕ) → stored_length row ≤ length row) where
-  block_small : (seat : ℕ) (c : Core) → Sound c → world.size_of (work_of (c.seats seat).current) ≤ GREATEST_BLOCK
-  block_small seat c sound =
+  pub block_within : (seat : ℕ) (c : Core) → Sound c → world.size_of (work_of (c.seats seat).current) ≤ LEAST_BLOCK + 17 * length (work_of (c.seats seat).current).claims
+  block_within seat c sound =
       let x = c.seats seat in
       let rows : List (List ℕ) = map (λ (v : VersionWritten). v.row) (map written_of x.current.writes) in
-      let few = (sound.own seat).ranges.few in
       let count = length-map (map written_of x.current.writes) (λ (v : VersionWritten). v.row) in
-      let count_too = length-map x.current.writes written_of in
       let sum : sum_by stored_words rows ≤ length rows * 17 = sum_by-le stored_words 17 rows (each_short rows (λ row m.
       let written = ∈-map (λ (v : VersionWritten). v.row) (map written_of x.current.writes) row m in
       let claim = ∈-map written_of x.current.writes written.0 written.1 in
       let size = ((sound.own seat).written.rows x.current claim.0 (current_stands x) claim.1).size in
       let same : claim.0.row ≡ row = ap (λ (v : VersionWritten). v.row) claim.2 ∙ written.2 in
       subst (λ (r : List ℕ). length r ≡ 16) same size)) in
-      omega (arith, few, count, count_too, sum)
+      omega (arith, count, sum)
     where
       each_short : (rows : List (List ℕ)) → ((row : List ℕ) → row ∈ rows → length row ≡ 16) → All (λ (row : List ℕ). stored_words row ≤ 17) rows
       each_short rows long k d within =
           let size = long (get_or rows k d) (∈-at rows k d within) in
           let stored = short (get_or rows k d) in
           omega (arith, size, stored)
+
+  block_small : (seat : ℕ) (c : Core) → Sound c → world.size_of (work_of (c.seats seat).current) ≤ GREATEST_BLOCK
+  block_small seat c sound =
+      let within = block_within seat c sound in
+      let few = (sound.own seat).ranges.few in
+      let count = length-map (c.seats seat).current.writes written_of in
+      omega (arith, within, few, count)
 
   module _ (seat : ℕ) (c : Core) (sound : Sound c) (session : is_flusher seat ≡ false) (active : is_active (c.seats seat).place ≡ true)
       (starts : may_start (c.seats seat).task ≡ true) where
@@ -149,7 +154,9 @@ module _ (short : (row : List ℕ) → stored_length row ≤ length row) where
           others = λ q other. ap session_of (others_sealed q other);
           opening = refl;
           tail = ap (λ (w : Work). c.shared.tail + world.size_of w) (sym work);
+          fits = subst (λ (w : Work). world.size_of w ≤ GREATEST_BLOCK) (sym work) (block_small seat c sound);
           flushed = refl;
+          pinned = ap (λ (y : Part). pin_of y.place y.current) (others_sealed FLUSH_SEAT (λ same. eqb-false seat FLUSH_SEAT session (sym same)));
         } in
         subst (λ (w : Work). DidSeal v seat c.shared.tail (view_of sessions (run_from c (seal_steps seat (world.size_of w) c.shared.tail)))) (sym work)
         (subst (λ (d : Core). DidSeal v seat c.shared.tail (view_of sessions d)) (sym runs) shows)

@@ -9,6 +9,7 @@ use Rattle.erm_machine.specs.declared.event.Event.{Event}
 use Rattle.erm_machine.specs.declared.event.Kind.{Kind}
 use Rattle.erm_machine.specs.declared.event.Kind.TheVariants as kind
 use Rattle.erm_machine.specs.declared.event.TailUse.TheVariants as purpose
+use Rattle.erm_machine.specs.declared.limits.TheConstants.{FLUSH_SEAT}
 use Rattle.erm_machine.specs.declared.part.Part.{Part}
 use Rattle.erm_machine.specs.declared.place.Place.{Place}
 use Rattle.erm_machine.specs.declared.task.Task.{Task}
@@ -28,12 +29,13 @@ abbrev pub flushed_by : Kind → ℕ → ℕ
 flushed_by (kind.StoreFlushed value) flushed = value
 flushed_by k flushed = flushed
 
--- no session but the seat's changes; the opening stays, and the log as the step's kind says
+-- no session but the seat's changes; the opening stays, and the log as the step's kind says; the flush seat alone pins
 pub record ChangesOne (seat : ℕ) (k : Kind) (v t : View) : Type 0 where
   pub others : (q : ℕ) → q ≢ seat → t.session q ≡ v.session q
   pub opening : t.opening ≡ v.opening
   pub tail : t.tail ≡ v.tail + drawn_by k
   pub flushed : t.flushed ≡ flushed_by k v.flushed
+  pub pinned : seat ≢ FLUSH_SEAT → t.pinned ≡ v.pinned
 
 -- kinds that meet one word, or a device: all but splits and joins
 abbrev pub MeetsOne : Kind → Type 0

@@ -1,9 +1,10 @@
 -- The machine's state as a world of sessions, between two calls.
-use Rattle.std.specs.Prelude.{◌≡◌, ℕ, ◌<◌, ◌≤◌, true, false, [], map}
+use Rattle.std.specs.Prelude.{◌≡◌, ℕ, ◌<◌, ◌≤◌, true, false, [], map, Option, Some, None}
 use Rattle.erm_model.specs.declared.limits.TheConstants.{LAST_RUN}
 use Rattle.erm_machine.specs.declared.attempt.Attempt.{Attempt}
 use Rattle.erm_machine.specs.declared.attempt.Decision.{Decision}
 use Rattle.erm_machine.specs.declared.attempt.Decision.TheVariants.{Undecided, Commit, Skip, Abort}
+use Rattle.erm_machine.specs.declared.limits.TheConstants.{FLUSH_SEAT}
 use Rattle.erm_machine.specs.declared.part.Part.{Part}
 use Rattle.erm_machine.specs.declared.place.Place.{Place}
 use Rattle.erm_machine.specs.declared.place.Place.TheVariants.{Vacant, Idle, Active, Sealed}
@@ -48,6 +49,11 @@ stand_of p t = world.idle
 abbrev pub session_of : Part → Session
 session_of x = record { over = map finished_of x.over; stand = stand_of x.place x.current }
 
+-- the begin stamp of the flush seat's pin, while it has one
+abbrev pub pin_of : Place → Attempt → Option ℕ
+pin_of (Active tail) t = Some t.begin
+pin_of p t = None
+
 -- the state as a world of so many sessions
 abbrev pub view_of : ℕ → Core → View
 view_of sessions c = record {
@@ -61,6 +67,7 @@ view_of sessions c = record {
   session = λ q. session_of (c.seats q);
   tail = c.shared.tail;
   flushed = c.shared.flushed;
+  pinned = pin_of (c.seats FLUSH_SEAT).place (c.seats FLUSH_SEAT).current;
 }
 
 -- A session between two calls: without a transaction, active where a call may start, or sealed where settle may start anew.

@@ -34,6 +34,7 @@ use Rattle.erm_machine.specs.Snapshot.{IsPast, OwnSnapshot}
 use Rattle.erm_machine.specs.Sound.{Sound, Common, Own}
 use Rattle.erm_machine.specs.Tasks.{TaskFits}
 use Rattle.erm_machine.specs.Words.{is_flusher, is_seat, owner_of}
+use Rattle.erm_core_ring.specs.Begins.{BeginAtEnds}
 use Rattle.erm_sound.proofs.OpenedObjects.{opened_at, opened_fits, opened_linked, opened_once, opened_ownerless, total_zeros}
 
 -- an idle seat, or a vacant one
@@ -340,3 +341,8 @@ module _ (sessions : ℕ) (rows : Rows) (tail run first cells : ℕ) (few : sess
       };
     };
   }
+
+-- no transaction has begun at an opening
+pub opening_begins : (sessions : ℕ) (rows : Rows) (tail run first cells : ℕ) → BeginAtEnds (opening_state sessions rows tail run first cells)
+opening_begins sessions rows tail run first cells seat =
+    record { ends = λ begun. absurd (idle_or (λ pl. HasBegun pl → ⊥) (is_taken sessions seat) (λ h. h) (λ h. h) begun) }

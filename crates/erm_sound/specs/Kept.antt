@@ -6,12 +6,15 @@ use Rattle.erm_machine.specs.Core.{Core}
 use Rattle.erm_machine.specs.Lawful.{DrawsLawfully, Lawful}
 use Rattle.erm_machine.specs.Sound.{Sound}
 use Rattle.erm_core_blocks.specs.Spelled.{AreSpelled, DecidesSpelled}
+use Rattle.erm_core_ring.specs.Begins.{BeginAtEnds}
 
--- The sound state whose rows keep a law, and whose decided blocks are the spellings of their transactions.
+-- The sound state whose rows keep a law, whose decided blocks are the spellings of their transactions, and whose transactions in
+-- progress and pins begin where ranges of the log end.
 pub record SoundUnder (law : Law) (c : Core) : Type 0 where
   pub sound : Sound c
   pub lawful : Lawful law c.shared c.seats
   pub spelled : AreSpelled c
+  pub begins : BeginAtEnds c
 
 -- What a step's caller promises: it draws a range for a lawful transaction alone, and decides a spelled one alone. Other steps
 -- than these two keep it.

@@ -57,6 +57,7 @@ pub fn events_keep_law<L: RowLaw>()
     events_keep_sound();
     erm_core_lives::law_is_kept::<L>();
     erm_core_blocks::blocks_stay_spelled();
+    erm_core_ring::begins_stay_at_ends();
 }
 
 /// An opening's state is sound, where its log begins at 1 or above, and at 2^60 + 4 at most, and the first
