@@ -1,7 +1,7 @@
 -- The end of a transaction that aborts: its claims are released, its reader bits cleared, and then it is over.
 use Rattle.std.proofs.Common.{◌≡◌, ◌≢◌, ℕ, ◌+◌, ◌<◌, Bool, true, false, ◌&&◌, ◌||◌, not, eqb, leb, ltb, [], ◌∷◌, ◌++◌, length, List, map, Option, Some, None, refl, sym, ap, ◌∙◌, subst, arith, length-set}
 use Rattle.std.specs.Prelude.{if◌then◌else◌}
-use Rattle.std.proofs.lemmas.Bool.{and_from, and_parts, and_left, eq-eqb, leb-true, lt-ltb, ne_eqb, or_left, or_right}
+use Rattle.std.proofs.lemmas.Bool.{and_from, and_parts, and_left, eq-eqb, eqb-false, leb-true, lt-ltb, ne_eqb, or_left, or_right}
 use Rattle.std.proofs.lemmas.List.{map-append}
 use Rattle.std.proofs.lemmas.Option.{same_Some}
 use Rattle.erm_model.specs.declared.outcome.Phase.TheVariants as phase
@@ -52,6 +52,9 @@ pub session_plain : (seat : ℕ) → is_session seat ≡ true → is_flusher sea
 session_plain seat e =
     let low = leb-true seat SESSIONS (and_parts (ltb 0 seat) (leb seat SESSIONS) e).1 in
     ne_eqb seat FLUSH_SEAT (λ same. absurd (omega (arith, low, same)))
+
+pub no_flusher : (seat : ℕ) → is_session seat ≡ true → seat ≢ FLUSH_SEAT
+no_flusher seat e = eqb-false seat FLUSH_SEAT (session_plain seat e)
 
 -- an end has begun where it may
 ends_claim : (oid head : ℕ) (x : Part) (t : Task) (e : ℕ × ℕ × ℕ × ℕ) → end_of t ≡ Some e → install oid head x t ≡ install_claim oid head x (Some e)
@@ -201,6 +204,7 @@ abort_shows sessions seat claims reads c d sound at e =
       opening = change.opening;
       tail = (let h = change.tail in omega (arith, h));
       flushed = change.flushed;
+      pinned = change.pinned (no_flusher seat at.session);
     }
 
 -- the end of an active transaction that may start a call

@@ -28,7 +28,7 @@ use Rattle.erm_world.specs.Calls.{DidBegin}
 use Rattle.erm_world.specs.World.{Finished, IsSession, Opening, Session, Stand, View, Work, phase_at, phase_of}
 use Rattle.erm_world.specs.World as world
 use Rattle.erm_plain.specs.Steps.{IsTaken}
-use Rattle.erm_plain.proofs.Aborts.{part_stepped, session_plain}
+use Rattle.erm_plain.proofs.Aborts.{no_flusher, part_stepped, session_plain}
 use Rattle.erm_plain.proofs.Quiet.{quiet_after, session_of_few}
 use Rattle.erm_plain.proofs.Unseen.{others_stay, unseen_step}
 
@@ -232,6 +232,7 @@ begin_done sessions seat b c d e sound_b sound_c sound_d quiet session at less l
           opening = opening;
           tail = tail;
           flushed = flushed;
+          pinned = (let other = no_flusher seat at.session in three.pinned other ∙ two.pinned other ∙ one.pinned other);
         },
       ),
     )

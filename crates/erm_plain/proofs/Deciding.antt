@@ -407,6 +407,7 @@ module _ (sessions seat : ℕ) (behind : List ℕ) (b : Core) (may : MayDecide b
         rows = spelled.is_of.rows;
       };
       spelled = ap (λ (ws : List ℕ). header ∷ ws) whole_is ∙ spelled.spelled;
+      sized = sized b seat before session may;
     }
 
     pub decide_keeps : (law : Law) → Keeps law c seat last

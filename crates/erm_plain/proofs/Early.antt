@@ -273,6 +273,7 @@ done_before v t u seat w works done =
       opening = done.opening ∙ works.opening;
       tail = done.tail ∙ works.tail;
       flushed = done.flushed ∙ works.flushed;
+      pinned = done.pinned ∙ works.pinned;
     }
 
 pub works_phase : (v t : View) (seat : ℕ) (w : Work) → Works v seat w t → (t.session seat).stand ≡ world.active w

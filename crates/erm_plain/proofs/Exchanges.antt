@@ -39,7 +39,7 @@ use Rattle.erm_plain.specs.Claiming.{HasExchanged, HasFreeHead, HasHead, is_clea
 use Rattle.erm_plain.specs.Finishes.{IsDropped}
 use Rattle.erm_plain.specs.Reads.{IsAtWork, IsExcluded, IsLoad, finds, in_hand, stage_of}
 use Rattle.erm_plain.specs.Steps.{IsTaken, IsUnseen}
-use Rattle.erm_plain.proofs.Aborts.{part_stepped}
+use Rattle.erm_plain.proofs.Aborts.{part_stepped, session_plain}
 use Rattle.erm_plain.proofs.Early.{done_before, quiet_since, shut_before, works_work}
 use Rattle.erm_plain.proofs.Quiet.{IsActive}
 use Rattle.erm_plain.proofs.Registered.{finds_starts}
@@ -214,7 +214,7 @@ module _ (c : Core) (seat oid entry number : ℕ) (sound : Sound c) (at : IsAtWo
         stamp = f.stamp;
         base = row;
         shows =
-            one_becomes sessions seat c d (kind.Claim oid entry number) (made oid (work_at (view_of sessions c) seat)) tt tt refl refl e
+            one_becomes sessions seat c d (kind.Claim oid entry number) (made oid (work_at (view_of sessions c) seat)) (session_plain seat at.session) tt tt refl refl e
             (shown ∙ ap (λ n. made n (work_of x.current)) f.oid_is ∙ ap (λ (w : Work). made oid w) (sym work));
         at = record { session = at.session; active = ap (λ (y : Part). is_active y.place) is ∙ at.active };
         version = f.version;
@@ -269,7 +269,7 @@ dropped_same v between t seat c active works dropped =
     (λ (here : q ≡ seat). subst (λ n. t.session n ≡ v.session n) (sym here) own)
     (λ (there : q ≡ seat → ⊥). dropped.others q there ∙ works.others q there)
     (cases_eq q seat)))
-    (dropped.tail ∙ works.tail) (dropped.flushed ∙ works.flushed)
+    (dropped.tail ∙ works.tail) (dropped.flushed ∙ works.flushed) (dropped.pinned ∙ works.pinned)
 
 -- AFTER a claim the session is between calls.
 pub quiet_claimed : (sessions seat oid : ℕ) (b c d : Core) → IsQuiet sessions b → IsSession (view_of sessions b) seat → HasExchanged sessions seat oid b c

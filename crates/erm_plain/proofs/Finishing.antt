@@ -47,6 +47,7 @@ use Rattle.erm_core_view.proofs.Words.{copy_shows}
 use Rattle.erm_plain.specs.Finishes.{IsDropped, MayFinish, finish_step, is_finishing}
 use Rattle.erm_plain.specs.Reads.{GoesOn, IsAtWork}
 use Rattle.erm_plain.specs.Steps.{IsTaken, IsUnpromised}
+use Rattle.erm_plain.proofs.Aborts.{no_flusher}
 use Rattle.erm_plain.proofs.Unseen.{others_stay, unseen_step}
 use Rattle.erm_plain.proofs.Ways.{active_at, active_kept, part_is}
 
@@ -386,6 +387,7 @@ drop_shows sessions seat oid head b c d sound goes refused e =
       opening = change.opening;
       tail = omega (arith, tail);
       flushed = change.flushed;
+      pinned = change.pinned (no_flusher seat goes.at.session);
     }
     in
     record {

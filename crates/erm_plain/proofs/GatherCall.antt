@@ -1,5 +1,5 @@
 -- A gather as a call: what it leaves of the world, and what it answers.
-use Rattle.std.proofs.Common.{◌≡◌, ℕ, ◌+◌, ◌<◌, ◌≤◌, List, [], take, Some, refl, sym, ap, ◌∙◌, subst, arith}
+use Rattle.std.proofs.Common.{◌≡◌, ℕ, ◌+◌, ◌<◌, ◌≤◌, List, take, Some, refl, sym, ap, ◌∙◌, subst, arith}
 use Rattle.erm_model.specs.RowTransaction.{Law}
 use Rattle.erm_machine.specs.declared.event.Kind.TheVariants as kind
 use Rattle.erm_machine.specs.declared.event.TailUse.TheVariants as purpose
@@ -8,7 +8,7 @@ use Rattle.erm_machine.specs.Core.{Core, Shared}
 use Rattle.erm_machine.specs.Step.{after_event}
 use Rattle.erm_sound.specs.Kept.{SoundUnder}
 use Rattle.erm_core.specs.Cores.{core_of}
-use Rattle.erm_core_turns.specs.Turns.{HasGathered, IsAtStop, IsGathering, log_of, ring_words}
+use Rattle.erm_core_turns.specs.Turns.{HasGathered, IsAtStop, log_of, ring_words}
 use Rattle.erm_core_turns.proofs.GatherDone.{gathers_empty, gathers_unfilled, gathers_words, quiet_now}
 use Rattle.erm_core_turns.proofs.Gathers.{begins_gather, gathered_both}
 use Rattle.erm_core_turns.proofs.LogIs.{Lists, More}

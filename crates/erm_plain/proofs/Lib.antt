@@ -11,6 +11,7 @@ pub mod Newest
 pub mod Numbers
 pub mod Owners
 mod Passing
+pub mod Pinned
 pub mod Quiet
 pub mod Readings
 pub mod Registered

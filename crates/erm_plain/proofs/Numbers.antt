@@ -26,7 +26,7 @@ use Rattle.erm_world.specs.Works.{making}
 use Rattle.erm_world.specs.World.{IsSession, Opening, Session, View, Work}
 use Rattle.erm_world.specs.World as world
 use Rattle.erm_plain.specs.Steps.{IsTaken, IsUnseen}
-use Rattle.erm_plain.proofs.Aborts.{one_after, part_stepped, unsealed}
+use Rattle.erm_plain.proofs.Aborts.{no_flusher, one_after, part_stepped, unsealed}
 use Rattle.erm_plain.proofs.Quiet.{IsActive, quiet_after}
 use Rattle.erm_plain.proofs.Unseen.{others_stay, unseen_step}
 
@@ -129,6 +129,7 @@ number_made sessions seat b c d sound session at less e shows =
       opening = change.opening;
       tail = omega (arith, tail);
       flushed = change.flushed;
+      pinned = change.pinned (no_flusher seat at.active.session);
     } in (
       quiet_after sessions seat c d at.quiet session (others_stay c d seat k tt e) opening (between_active (d.seats seat).place (d.seats seat).task active starts)
           (λ some. absurd (omega (arith, some, stamp))) (omega (arith, opening, flushed, low), omega (arith, tail, flushed, high)),

@@ -30,7 +30,7 @@ use Rattle.erm_core_view.proofs.Moved.{one_becomes}
 use Rattle.erm_core_view.proofs.Shown.{registers, work_active}
 use Rattle.erm_plain.specs.Reads.{DidRegister, GoesOn, HasRegistered, IsAtWork, finds, in_hand, rates, read_step, stage_of}
 use Rattle.erm_plain.specs.Steps.{IsTaken}
-use Rattle.erm_plain.proofs.Aborts.{part_stepped}
+use Rattle.erm_plain.proofs.Aborts.{part_stepped, session_plain}
 use Rattle.erm_plain.proofs.Early.{found_clear, quiet_since}
 use Rattle.erm_plain.proofs.Unseen.{others_stay}
 
@@ -113,7 +113,7 @@ module _ (c : Core) (seat oid : ℕ) (sound : Sound c) (at : IsAtWork seat c) (f
         others = others_stay c d seat (kind.SetReader f.version) tt after;
         stamp = f.stamp;
         shows =
-            one_becomes sessions seat c d (kind.SetReader f.version) (made oid row (world.work_at (view_of sessions c) seat)) tt tt refl refl after
+            one_becomes sessions seat c d (kind.SetReader f.version) (made oid row (world.work_at (view_of sessions c) seat)) (session_plain seat at.session) tt tt refl refl after
             (shown ∙ ap (λ n. made n row_found (work_of x.current)) f.oid_is ∙ ap (λ r. made oid r (work_of x.current)) row_is
             ∙ ap (λ (w : Work). made oid row w) (sym work));
         at = record { session = at.session; active = ap (λ (y : Part). is_active y.place) is ∙ at.active };

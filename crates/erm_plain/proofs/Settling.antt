@@ -1,5 +1,5 @@
 -- A settle: where it may be called, what its refusals say, and what it leaves.
-use Rattle.std.proofs.Common.{◌≡◌, ◌≢◌, ◌↔◌, ℕ, ◌+◌, ◌<◌, Bool, true, false, ◌&&◌, ltb, List, [], ◌∷◌, ◌++◌, map, Some, refl, sym, ap, ◌∙◌, subst, arith}
+use Rattle.std.proofs.Common.{◌≡◌, ◌≢◌, ◌↔◌, ℕ, ◌+◌, ◌<◌, ◌≤◌, Bool, true, false, ◌&&◌, ltb, List, [], ◌∷◌, ◌++◌, length, map, Some, refl, sym, ap, ◌∙◌, subst, arith}
 use Rattle.std.specs.Prelude.{if◌then◌else◌}
 use Rattle.std.proofs.lemmas.Bool.{and_from, and_right, cond-false, cond-true, eq-eqb, ltb-false, ltb-true, not_from_false}
 use Rattle.std.proofs.lemmas.List.{map-append}
@@ -9,6 +9,7 @@ use Rattle.erm_model.specs.declared.outcome.Outcome.TheVariants.{Committed, Excl
 use Rattle.erm_model.specs.declared.outcome.Phase.TheVariants as phase
 use Rattle.erm_model.specs.History.{History, IsPredecessorStamp, IsSuccessorStamp}
 use Rattle.erm_model.specs.Member.{◌∈◌}
+use Rattle.erm_record.specs.Stored.{stored_length}
 use Rattle.erm_machine.specs.declared.attempt.Attempt.{Attempt}
 use Rattle.erm_machine.specs.declared.attempt.Decision.{Decision}
 use Rattle.erm_machine.specs.declared.attempt.Decision.TheVariants.{Undecided, Commit, Skip, Abort}
@@ -39,13 +40,14 @@ use Rattle.erm_world.specs.Calls.{DidNotSettle, DidSettle, IsDone, IsInTheWay, S
 use Rattle.erm_world.specs.World.{Fate, Finished, IsSession, Opening, Session, Stand, View, Work, history_of, phase_at, phase_of, size_of}
 use Rattle.erm_world.specs.World as world
 use Rattle.erm_core_view.specs.Steps.{RestsAt}
-use Rattle.erm_core_view.specs.Views.{IsBetween, IsQuiet, fate_of, finished_of, session_of, stand_of, view_of, work_of}
+use Rattle.erm_core_view.specs.Views.{IsBetween, IsQuiet, fate_of, finished_of, pin_of, session_of, stand_of, view_of, work_of}
 use Rattle.erm_core_view.proofs.Commits.{has_the_history}
 use Rattle.erm_core_view.proofs.Moved.{calm_shows}
+use Rattle.erm_core_view.proofs.Seals.{block_within}
 use Rattle.erm_plain.specs.Ends.{HasDecided, HasLeft, MayDecide, Remains, outcome_of}
 use Rattle.erm_plain.specs.Settles.{HasPassed, IsPassing, IsWaiting, is_passing}
 use Rattle.erm_plain.specs.Steps.{IsTaken, IsUnseen}
-use Rattle.erm_plain.proofs.Aborts.{part_stepped, session_plain}
+use Rattle.erm_plain.proofs.Aborts.{no_flusher, part_stepped, session_plain}
 use Rattle.erm_plain.proofs.Leaving.{remains_both}
 use Rattle.erm_plain.proofs.Quiet.{quiet_after, session_of_few}
 use Rattle.erm_plain.proofs.Unseen.{unseen_step}
@@ -206,11 +208,12 @@ module _ (sessions seat : ℕ) (a : Core) (m : MaySettle sessions seat a) where
         (omega (arith, start, flushed, low), omega (arith, tail, flushed, high))
 
     -- the ring is full
-    pub ring_full : (flushed : ℕ) → flushed ≡ a.shared.flushed → a.shared.flushed + RING_WORDS < x.current.stamp + x.current.size
+    pub ring_full : ((row : List ℕ) → stored_length row ≤ length row) → (flushed : ℕ) → flushed ≡ a.shared.flushed → a.shared.flushed + RING_WORDS < x.current.stamp + x.current.size
         → DidNotSettle (view_of sessions a) seat (wait.Ring flushed) (view_of sessions c)
-    ring_full flushed is full =
+    ring_full short flushed is full =
         let fits = sized in
-        (unseen.view, (work_of x.current, x.current.stamp, stands, (is, omega (arith, full, fits))))
+        let most = size_is a seat m.sound (sealed_drawn x.place x.current m.sealed (m.sound.own seat).ranges.current) in
+        (unseen.view, (work_of x.current, x.current.stamp, stands, (is, omega (arith, full, fits), omega (arith, most, fits), block_within short seat a m.sound)))
 
     -- another session is in the way
     pub in_way : (other seen : ℕ) → (a.shared.flushed + RING_WORDS < x.current.stamp + x.current.size → ⊥) → IsPassing c.shared y → IsWaiting c seat (wait.Seat other seen)
@@ -302,6 +305,7 @@ module _ (sessions seat : ℕ) (a : Core) (m : MaySettle sessions seat a) where
         opening = left.only.opening ∙ decided.only.opening;
         tail = left.only.tail ∙ decided.only.tail;
         flushed = left.only.flushed ∙ decided.only.flushed;
+        pinned = ap (λ (z : Part). pin_of z.place z.current) (others FLUSH_SEAT (λ same. no_flusher seat is_one (sym same)));
       }
 
       undecided_not : (opened : Bool) → ltb t.pred t.succ ≡ opened → u.decision ≢ Undecided

@@ -37,7 +37,7 @@ use Rattle.erm_world.specs.Laws.{IsLawfulWork}
 use Rattle.erm_world.specs.World.{Finished, IsSession, Opening, Session, View, Work, size_of, work_at}
 use Rattle.erm_world.specs.World as world
 use Rattle.erm_plain.specs.Steps.{IsTaken}
-use Rattle.erm_plain.proofs.Aborts.{part_stepped}
+use Rattle.erm_plain.proofs.Aborts.{no_flusher, part_stepped}
 use Rattle.erm_plain.proofs.Quiet.{IsActive, quiet_after}
 use Rattle.erm_plain.proofs.Unseen.{others_stay}
 
@@ -134,10 +134,10 @@ draws_lawfully law sessions seat b c active at lawful =
     (lawful_record law seat (b.seats seat).current (subst (IsLawfulWork law) (work_is sessions seat b active) lawful))
 
 pub seal_done : (sessions seat size : ℕ) (b c d e : Core) → Sound b → Sound c → Sound d → IsQuiet sessions b → IsSession (view_of sessions b) seat → IsActive seat b
-    → (at : IsSealing seat b c) → (has : IsDrawn seat size b c d) → size ≡ size_of (work_of (b.seats seat).current) → after_event b seat (kind.StoreState 1) ≡ Some c
+    → (at : IsSealing seat b c) → (has : IsDrawn seat size b c d) → size ≡ size_of (work_of (b.seats seat).current) → size ≤ GREATEST_BLOCK → after_event b seat (kind.StoreState 1) ≡ Some c
     → after_event c seat (kind.AddTail size) ≡ Some d → after_event d seat (kind.StoreState c.shared.tail) ≡ Some e
     → IsQuiet sessions e × DidSeal (view_of sessions b) seat c.shared.tail (view_of sessions e)
-seal_done sessions seat size b c d e sound_b sound_c sound_d quiet session active at has sized first second third =
+seal_done sessions seat size b c d e sound_b sound_c sound_d quiet session active at has sized greatest first second third =
     let stamp : ℕ = c.shared.tail in
     let k : Kind = kind.StoreState 1 in
     let n : Kind = kind.AddTail size in
@@ -183,7 +183,9 @@ seal_done sessions seat size b c d e sound_b sound_c sound_d quiet session activ
         others = λ q other. ap session_of (others q other);
         opening = opening;
         tail = fits;
+        fits = subst (λ (s : ℕ). s ≤ GREATEST_BLOCK) (sized ∙ ap size_of whole) greatest;
         flushed = flushed;
+        pinned = (let other = no_flusher seat active.session in three.pinned other ∙ two.pinned other ∙ one.pinned other);
       },
     )
   where

@@ -168,6 +168,7 @@ claim_then_set v between t seat oid w (now stamp base none few works) set_it =
       opening = set_it.opening ∙ works.opening;
       tail = set_it.tail ∙ works.tail;
       flushed = set_it.flushed ∙ works.flushed;
+      pinned = set_it.pinned ∙ works.pinned;
     }
 
 -- AFTER ALL WORDS the session is between calls.

@@ -1,5 +1,5 @@
 -- What a call of a flusher leaves of the world.
-use Rattle.std.proofs.Common.{◌≡◌, ℕ, ap, sym, ◌∙◌, subst}
+use Rattle.std.proofs.Common.{◌≡◌, ℕ, ap, ◌∙◌}
 use Rattle.erm_model.specs.RowTransaction.{Law}
 use Rattle.erm_core.specs.Cores.{core_of}
 use Rattle.erm_core_turns.specs.Turns.{Flushes, log_of}

@@ -2,6 +2,7 @@ pub mod Claiming
 pub mod Ends
 pub mod Finishes
 pub mod Logs
+pub mod Pinned
 pub mod Reads
 pub mod Settles
 pub mod Stands

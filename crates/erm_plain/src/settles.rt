@@ -77,6 +77,7 @@ impl<L: RowLaw> Plain<L> {
         ensures ok { IfOk result (λ outcome. DidSettle (plain_view self.old) seat outcome (plain_view self.new)) }
         ensures err { IfErr result (λ stop. DidNotSettle (plain_view self.old) seat stop (plain_view self.new)) }
     {
+        erm_record::stored_words_tell_the_row();
         let flushed = found(self.go(seat, Kind::LoadFlushed));
         if !self.fits_ring(seat, flushed) {
             return Err(Wait::Ring { flushed });

@@ -6,13 +6,14 @@ use crate::Plain;
 use erm_model::{Oid, Outcome, Phase, Receipt, Row, RowLaw, RowStop, Seat, Stamp};
 use erm_world::{BeginStop, NotFlushed, RowWorld, Wait};
 
-/// A world that stands between two calls has what each world of sessions has: its commits are serializable, and each of its
-/// transactions is possible.
+/// A world that stands between two calls has what each world of sessions has: its commits are serializable, each of its
+/// transactions is possible, and its log is a log, that of its view.
 pub fn standing_worlds_have_laws<L: RowLaw>()
     ensures { (p : Plain L) → Stands L.law p → IsWorld L.law p }
 {
     erm_core_view::views_are_serializable::<L>();
     erm_maps::works_are_possible::<L>();
+    erm_core_turns::states_have_logs::<L>();
 }
 
 impl<L: RowLaw> RowWorld for Plain<L> {

@@ -6,10 +6,10 @@ ghost use Rattle.erm_plain.specs.Logs.{plain_log};
 ghost use Rattle.erm_plain.specs.Stands.{Stands};
 
 use crate::Plain;
-use crate::tests::rows::{Call, Reply, Turn, is_answered, world};
+use crate::tests::rows::{Call, Reply, Turn, WRITE_SKEW, is_answered, world};
 use erm_machine::{FLUSH_SEAT, Place};
-use erm_model::{AnyRows, RING_WORDS, Stamp};
-use erm_world::{Gathered, NotFlushed, Wait};
+use erm_model::{AnyRows, OID_LIMIT, Oid, RING_WORDS, Row, Stamp};
+use erm_world::{Gathered, NotFlushed, SeatWait, Wait};
 use std::test::Fail;
 
 // The block behind the last that the ring has room for.
@@ -53,6 +53,30 @@ const SEALED: [Turn; 5] = [
 const DECIDED: [Turn; 2] = [
     Turn(1, Call::Settle, Reply::Commits([1, 13, 20, 13, 0])),
     Turn(2, Call::Settle, Reply::Commits([1, 20, 25, 20, 0])),
+];
+
+// A commit of one row.
+const FIRST: [Turn; 4] = [
+    Turn(1, Call::Begin, Reply::At(13)),
+    Turn(1, Call::Write(16, 7), Reply::Done),
+    Turn(1, Call::Seal, Reply::At(13)),
+    Turn(1, Call::Settle, Reply::Commits([1, 13, 20, 13, 0])),
+];
+
+// Three commits more of the same object's row.
+const MORE: [Turn; 12] = [
+    Turn(1, Call::Begin, Reply::At(20)),
+    Turn(1, Call::Write(16, 8), Reply::Done),
+    Turn(1, Call::Seal, Reply::At(20)),
+    Turn(1, Call::Settle, Reply::Commits([2, 20, 27, 20, 13])),
+    Turn(2, Call::Begin, Reply::At(27)),
+    Turn(2, Call::Write(16, 9), Reply::Done),
+    Turn(2, Call::Seal, Reply::At(27)),
+    Turn(2, Call::Settle, Reply::Commits([1, 27, 34, 27, 20])),
+    Turn(3, Call::Begin, Reply::At(34)),
+    Turn(3, Call::Write(16, 10), Reply::Done),
+    Turn(3, Call::Seal, Reply::At(34)),
+    Turn(3, Call::Settle, Reply::Commits([1, 34, 41, 34, 27])),
 ];
 
 // One flush turn: what was gathered, which is then said to be synced.
@@ -103,6 +127,39 @@ fn unpin(world: &mut Plain<AnyRows>) -> Option<Stamp>
     let place = pinned(world)?;
     world.unpin();
     Some(place)
+}
+
+// The row of an object as of the pin, where there is one.
+fn row(world: &mut Plain<AnyRows>, oid: Oid) -> Option<Result<Row, SeatWait>>
+    requires { Stands any_law world.old }
+    ensures { Stands any_law world.new }
+{
+    if oid >= OID_LIMIT || pinned(world).is_none() {
+        return None;
+    }
+    Some(world.row_at(oid))
+}
+
+// Its first word, where it is known.
+fn first(world: &mut Plain<AnyRows>, oid: Oid) -> Option<u64>
+    requires { Stands any_law world.old }
+    ensures { Stands any_law world.new }
+{
+    match row(world, oid) {
+        Some(Ok(row)) => Some(row[0]),
+        _ => None,
+    }
+}
+
+// Who is waited for.
+fn waits(world: &mut Plain<AnyRows>, oid: Oid) -> Option<SeatWait>
+    requires { Stands any_law world.old }
+    ensures { Stands any_law world.new }
+{
+    match row(world, oid) {
+        Some(Err(wait)) => Some(wait),
+        _ => None,
+    }
 }
 
 // Whether so many transactions without a row commit, one after another, from 13 on.
@@ -159,5 +216,51 @@ fn flush_turns_and_a_pin_stand_between_commits(rt: HostRuntime) -> Result<(), Fa
     assert!(rt; flush(&mut world, &mut words) == Gathered::Empty { at: 25 });
     assert!(rt; unpin(&mut world) == Some(13), "the pin stays");
     assert!(rt; pin(&mut world) == Some(25), "the log's end");
+    Ok(())
+}
+
+#[test]
+fn a_pin_keeps_the_rows_of_its_place(rt: HostRuntime) -> Result<(), Fail> {
+    let mut world = world(rt.alloc(), false)?;
+    assert!(rt; is_answered(&mut world, &FIRST), "one commit");
+    assert!(rt; first(&mut world, 16).is_none(), "it isn't pinned");
+    assert!(rt; pin(&mut world) == Some(20), "behind it");
+    assert!(rt; first(&mut world, 16) == Some(7), "its row");
+    assert!(rt; is_answered(&mut world, &MORE), "three commits more");
+    assert!(rt; first(&mut world, 16) == Some(7), "the row as of the pin");
+    assert!(rt; first(&mut world, 17) == Some(0), "the opening's row");
+    assert!(rt; unpin(&mut world) == Some(20));
+    assert!(rt; pin(&mut world) == Some(41), "the log's end");
+    assert!(rt; first(&mut world, 16) == Some(10), "the last row");
+    Ok(())
+}
+
+#[test]
+fn a_row_waits_for_who_is_sealed_below_the_pin(rt: HostRuntime) -> Result<(), Fail> {
+    let mut world = world(rt.alloc(), false)?;
+    assert!(rt; pin(&mut world) == Some(13), "the log's end");
+    assert!(rt; is_answered(&mut world, &SEALED), "sealed at the pin");
+    assert!(rt; first(&mut world, 16) == Some(0), "as of the pin");
+    assert!(rt; unpin(&mut world) == Some(13));
+    assert!(rt; pin(&mut world) == Some(25), "behind both");
+    let wait = SeatWait { seat: 1, seen: 13 };
+    assert!(rt; waits(&mut world, 16) == Some(wait), "it may commit");
+    assert!(rt; first(&mut world, 17) == Some(0), "nobody writes it");
+    assert!(rt; is_answered(&mut world, &DECIDED), "decided");
+    assert!(rt; first(&mut world, 16) == Some(7), "its row");
+    Ok(())
+}
+
+#[test]
+fn an_excluded_block_is_gathered_too(rt: HostRuntime) -> Result<(), Fail> {
+    let mut world = world(rt.alloc(), false)?;
+    let mut words = Vec::from_elem(rt.alloc(), 0, RING_WORDS as usize)?;
+    assert!(rt;
+        is_answered(&mut world, &WRITE_SKEW),
+        "the last is excluded"
+    );
+    assert!(rt; flush(&mut world, &mut words) == Gathered::Words { at: 13, count: 23 });
+    assert!(rt; pin(&mut world) == Some(36), "behind its block");
+    assert!(rt; first(&mut world, 17) == Some(2), "the row before it");
     Ok(())
 }

@@ -78,7 +78,7 @@ const ONE_OBJECT: [Turn; 16] = [
 ];
 
 // A write skew: each of two transactions reads both objects, and writes one.
-const WRITE_SKEW: [Turn; 17] = [
+pub(super) const WRITE_SKEW: [Turn; 17] = [
     Turn(1, Call::Begin, Reply::At(13)),
     Turn(1, Call::Write(16, 1), Reply::Done),
     Turn(1, Call::Write(17, 2), Reply::Done),

@@ -9,4 +9,6 @@ returns g c = λ p standing.
       stands = standing;
       serializable = serializable;
       possible = c.works_are_possible.ensures (plain_view p) serializable;
+      log = c.states_have_logs.ensures.is p.sessions (core_of p.state) standing.sound standing.quiet;
+      log_of_view = c.states_have_logs.ensures.of_view p.sessions (core_of p.state) standing.sound standing.quiet;
     }

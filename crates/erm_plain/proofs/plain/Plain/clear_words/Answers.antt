@@ -1,6 +1,6 @@
-use Rattle.std.proofs.Common.{◌≤◌, ◌∙◌, arith}
+use Rattle.std.proofs.Common.{◌∙◌, arith}
 use Rattle.erm_core.specs.Cores.{core_of}
-use Rattle.erm_core_turns.proofs.Clears.{all_cleared, clear_taken, clears_more, clears_none}
+use Rattle.erm_core_turns.proofs.Clears.{clear_taken, clears_more}
 use Rattle.erm_plain.proofs.plain.Plain.clear_words.Goals as goal
 
 pub go-requires-clause-taken : goal.go-requires-clause-taken

@@ -1,6 +1,6 @@
-use Rattle.std.proofs.Common.{◌≡◌, ◌<◌, ◌≤◌, ℕ, Some, ap, refl, sym, subst, ◌∙◌, arith}
+use Rattle.std.proofs.Common.{◌≡◌, ℕ, sym, subst, ◌∙◌, arith}
 use Rattle.erm_core.specs.Cores.{core_of}
-use Rattle.erm_core_turns.specs.Turns.{HasCleared, HasToClear}
+use Rattle.erm_core_turns.specs.Turns.{HasToClear}
 use Rattle.erm_core_turns.proofs.Blocks.{place_of, place_upto}
 use Rattle.erm_core_turns.proofs.Clears.{flush_done, has_to_clear, store_taken}
 use Rattle.erm_core_turns.proofs.LogIs.{gathered_behind}

@@ -1,7 +1,6 @@
-use Rattle.std.proofs.Common.{◌≡◌, ◌≤◌, ◌<◌, ◌+◌, ℕ, take, ap, refl, sym, subst, ◌∙◌, arith}
+use Rattle.std.proofs.Common.{◌≡◌, ap, refl, ◌∙◌, arith}
 use Rattle.erm_machine.specs.declared.limits.TheConstants.{FLUSH_SEAT}
 use Rattle.erm_core.specs.Cores.{core_of}
-use Rattle.erm_core_turns.specs.Turns.{IsGathering}
 use Rattle.erm_core_turns.proofs.Gathers.{from_steps, tail_at, tail_steps}
 use Rattle.erm_plain.specs.Steps.{found_in}
 use Rattle.erm_plain.proofs.GatherCall.{begun, called}

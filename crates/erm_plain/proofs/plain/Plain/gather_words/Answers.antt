@@ -1,9 +1,9 @@
-use Rattle.std.proofs.Common.{◌≡◌, ◌+◌, ◌++◌, ◌∷◌, [], ℕ, List, length, length-set, take, refl, sym, ap, ◌∙◌, subst, arith}
+use Rattle.std.proofs.Common.{◌≡◌, ◌+◌, ◌++◌, ◌∷◌, [], ℕ, List, length-set, refl, sym, ap, ◌∙◌, subst, arith}
 use Rattle.std.proofs.lemmas.List.{take_more_set}
 use Rattle.erm_core.specs.Cores.{core_of}
 use Rattle.erm_machine.specs.Core.{Shared}
 use Rattle.erm_machine.specs.Log.{ring_at}
-use Rattle.erm_core_turns.specs.Turns.{HasGathered, IsGathering, ring_words}
+use Rattle.erm_core_turns.specs.Turns.{HasGathered, ring_words}
 use Rattle.erm_core_turns.proofs.Gathers.{gathered_both, gathered_none}
 use Rattle.erm_core_turns.proofs.Words.{no_words, words_more}
 use Rattle.erm_plain.proofs.plain.Plain.gather_words.Goals as goal

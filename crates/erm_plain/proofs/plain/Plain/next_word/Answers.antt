@@ -1,4 +1,4 @@
-use Rattle.std.proofs.Common.{◌≡◌, ◌≢◌, ◌≤◌, ◌<◌, ℕ, Bool, true, false, ap, inl, inr, sym, ◌∙◌, arith}
+use Rattle.std.proofs.Common.{◌≡◌, ◌<◌, ℕ, true, false, ap, inl, inr, sym, ◌∙◌, arith}
 use Rattle.erm_core.specs.Cores.{core_of}
 use Rattle.erm_machine.specs.Core.{Core}
 use Rattle.erm_machine.specs.Log.{ring_at}

@@ -1,12 +1,10 @@
-use Rattle.std.proofs.Common.{◌≡◌, ◌≤◌, ℕ, Some, ap, refl, sym, subst, ◌∙◌, arith}
+use Rattle.std.proofs.Common.{◌≡◌, ℕ, Some, ap, refl, sym, subst, ◌∙◌, arith}
 use Rattle.erm_machine.specs.declared.event.Kind.TheVariants as kind
 use Rattle.erm_machine.specs.declared.limits.TheConstants.{FLUSH_SEAT}
 use Rattle.erm_machine.specs.Step.{after_event}
 use Rattle.erm_core.specs.Cores.{core_of}
-use Rattle.erm_core_turns.specs.Turns.{log_of}
 use Rattle.erm_core_turns.proofs.Pins.{announce_steps, announced_place, begun_place, first_steps, pin_done, second_steps, unpinned}
 use Rattle.erm_core_view.specs.Views.{IsQuiet}
-use Rattle.erm_world.specs.Log.{Log}
 use Rattle.erm_plain.specs.Logs.{plain_log}
 use Rattle.erm_plain.specs.Steps.{IsTaken, found_in}
 use Rattle.erm_plain.specs.Stands.{Stands}

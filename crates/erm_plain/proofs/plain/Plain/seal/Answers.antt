@@ -101,7 +101,7 @@ returns g c =
     let sized : size ≡ size_of (work_of (before.seats seat).current) = c.size-size.ensures.size ∙ sym (size_shown (before.seats seat).current) in
     let done =
     seal_done sessions seat size before one two after stands.sound.sound c.go.ensures.sound.sound c.take.ensures.sound.sound stands.quiet c.requires.session at
-    sealing drawn sized c.go.ensures.after c.take.ensures.after last
+    sealing drawn sized greatest c.go.ensures.after c.take.ensures.after last
     in
     record {
       stands = record { sound = c.go-2.ensures.sound; quiet = subst (λ (n : ℕ). IsQuiet n after) (sym same) done.0 };

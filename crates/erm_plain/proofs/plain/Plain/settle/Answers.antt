@@ -56,7 +56,7 @@ returns-then-not-fits_ring-clause-err g c =
     let full =
     ring_full sessions seat before m loaded c.go.ensures.sound.sound (flush_unseen sessions seat before m loaded c.go.ensures.after)
     (flush_size sessions seat before m loaded c.go.ensures.after) (ap (λ (y : Part). is_sealed y.place) same ∙ m.sealed) (ap (λ (y : Part). may_settle y.task) same ∙ m.may)
-    c.found-flushed.result flushed (is_full sessions seat before m none)
+    c.stored_words_tell_the_row.ensures.short c.found-flushed.result flushed (is_full sessions seat before m none)
     in
     subst (λ n. DidNotSettle (plain_view c.args.self.now) seat (wait.Ring c.found-flushed.result) (view_of n loaded)) (sym c.go.ensures.sessions) full
 

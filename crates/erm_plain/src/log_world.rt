@@ -1,0 +1,62 @@
+//! The world in lists as a log that a flusher sees, and as a world of sessions with such a log.
+use crate::Plain;
+use crate::world::standing_worlds_have_laws;
+use erm_model::{Oid, Row, RowLaw, Stamp};
+use erm_world::{Gathered, LogWorld, ScriptWorld, SeatWait};
+
+impl<L: RowLaw> LogWorld for Plain<L> {
+    ghost use Rattle.erm_plain.specs.Logs.{KeepsSessions, plain_log};
+    ghost use Rattle.erm_plain.specs.Logs as logs;
+    ghost use Rattle.erm_plain.specs.Stands.{IsWorld};
+
+    ghost rows_law = { L.law };
+
+    ghost log = { λ p. plain_log p };
+
+    ghost log_stands = { λ p. IsWorld L.law p };
+
+    ghost keeps = { λ p q. KeepsSessions L.law p q };
+
+    fn gather(&mut self, words: &mut [u64]) -> Gathered {
+        standing_worlds_have_laws::<L>();
+        self.gather(words)
+    }
+
+    fn flushed_to(&mut self, end: Stamp) {
+        standing_worlds_have_laws::<L>();
+        self.flushed_to(end)
+    }
+
+    fn pin(&mut self) -> Stamp {
+        standing_worlds_have_laws::<L>();
+        self.pin()
+    }
+
+    fn row_at(&mut self, oid: Oid) -> Result<Row, SeatWait> {
+        standing_worlds_have_laws::<L>();
+        self.row_at(oid)
+    }
+
+    fn unpin(&mut self) {
+        standing_worlds_have_laws::<L>();
+        self.unpin()
+    }
+
+    ghost is_log = { λ p world. world.log };
+
+    ghost keeps_itself = { λ p. logs.keeps_itself L.law p };
+
+    ghost keeps_on = { λ p q r first second. logs.keeps_on L.law p q r first second };
+}
+
+impl<L: RowLaw> ScriptWorld for Plain<L> {
+    ghost use Rattle.erm_plain.specs.Logs.{one_law, view_kept};
+
+    ghost one_law = { one_law L.law };
+
+    ghost may_flush = { λ p world. world };
+
+    ghost sessions_stay = { λ p q world keeps after. (after, view_kept L.law p q keeps) };
+
+    ghost one_log = { λ p world. world.log_of_view };
+}
