@@ -19,7 +19,7 @@ enum Call {
 
 const SEGMENT: File = File::Segment(7);
 
-// Calls by their files, what each answers, and the buffer after it. The tenth is to fail.
+// Calls by their files, what each answers, and the buffer after it. The tenth is to fail, and one write is too great for memory.
 const CALLS: [(File, Call, Result<u64, Failed>, &[u8; 8]); 20] = [
     (SEGMENT, Call::Read { at: 0, most: 8 }, Ok(0), b"........"),
     (
@@ -121,7 +121,7 @@ fn ask<D: Disk>(disk: &mut D, file: File, call: Call, buf: &mut [u8; 8]) -> Resu
 #[test]
 fn a_disk_keeps_its_files(rt: HostRuntime) -> Result<(), Fail> {
     let alloc = rt.alloc();
-    let mut disk = MemDisk::new(alloc).failing([10].to_vec(alloc)?);
+    let mut disk = MemDisk::with_room(alloc, 8)?.failing([10].to_vec(alloc)?);
     let mut silent = Silent {
         disk: MemDisk::new(alloc).failing([10].to_vec(alloc)?),
     };
@@ -131,6 +131,7 @@ fn a_disk_keeps_its_files(rt: HostRuntime) -> Result<(), Fail> {
         assert!(rt; ask(&mut disk, file, call, &mut buf) == want && buf == *bytes);
         assert!(rt; ask(&mut silent, file, call, &mut other) == want && other == *bytes);
     }
+    assert!(rt; disk.refused() == 1);
     OpenGate.pass(&rt, 1, Place::Begin);
     Ok(())
 }
@@ -223,6 +224,20 @@ fn a_crash_leaves_images(rt: HostRuntime) -> Result<(), Fail> {
             "{pick:?}"
         );
     }
+    Ok(())
+}
+
+// Many calls end in good time: each write of a file lies behind the one before, and each tenth is synced.
+#[test]
+fn a_disk_takes_thousands_of_calls(rt: HostRuntime) -> Result<(), Fail> {
+    let mut disk = MemDisk::new(rt.alloc());
+    for call in 0..10_000 {
+        let file = File::Segment(call % 4);
+        assert!(rt; disk.write(file, 16 * call, &[7; 64]) == Ok(()));
+        assert!(rt; call % 10 != 9 || disk.sync(file) == Ok(()));
+    }
+    let mut image = disk.image(Pick::All)?;
+    assert!(rt; image.len(File::Segment(3)) == Ok(16 * 9_999 + 64) && disk.refused() == 0);
     Ok(())
 }
 

@@ -1,12 +1,10 @@
 -- A disk to which nothing was done.
-use Rattle.std.proofs.Common.{◌≡◌, ℕ, zero, suc, ◌+◌, ◌-◌, ◌*◌, ◌%◌, ◌≤◌, take, drop, List, [], ◌∷◌, ◌++◌, Option, None, refl, sym, ap, ◌∙◌, subst}
-use Rattle.erm_block.specs.declared.block.Block.{Block}
-use Rattle.erm_block.specs.Spelling.{StandsAt, spelling}
+use Rattle.std.proofs.Common.{◌≡◌, ℕ, zero, suc, ◌+◌, ◌-◌, ◌*◌, ◌%◌, take, drop, List, [], Option, None, refl, sym, ap, ◌∙◌}
 use Rattle.erm_bytes.specs.declared.bytes.TheConstants.{WORD_BYTES}
 use Rattle.erm_model.specs.declared.limits.TheConstants.{LOG_END, SEGMENT_WORDS}
-use Rattle.erm_outside.specs.declared.disk.File.{File}
-use Rattle.erm_outside.specs.Disk.{contents}
-use Rattle.erm_log_words.specs.Tears.{IsFresh, IsKept}
+use Rattle.erm_outside.specs.Disk.{Image, contents}
+use Rattle.erm_log_words.specs.Kept.{IsKept}
+use Rattle.erm_log_words.specs.Tears.{IsFresh}
 use Rattle.erm_log_words.specs.Words.{and_then, log_words, spelled_word, word_at, words_from}
 
 no_bytes : (n : ℕ) → ◌≡◌ {A = List ℕ} (drop n []) []
@@ -31,5 +29,5 @@ nothing_reads run from at behind block run_before later stands =
     let none = sym spelled.1 ∙ no_words at in
     cc
 
-pub empty_kept : (end run : ℕ) → IsKept [] end run
-empty_kept end run = record { settled = λ file left is. is; fresh = nothing_reads (run + 1) end }
+pub empty_kept : (Recovers : Image → ℕ → ℕ → Type 0) → IsKept Recovers []
+empty_kept Recovers = record { settled = λ file left is. is; opens = λ at run recovers. nothing_reads (run + 1) at }

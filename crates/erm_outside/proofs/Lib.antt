@@ -1,2 +1,3 @@
 pub mod Images
+mod Moments
 mod Puts

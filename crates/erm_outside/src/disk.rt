@@ -21,6 +21,10 @@ pub enum File {
 ///
 /// Between two calls of `sync` for a file a crash may leave any bytes where it was written and past its old end; its
 /// other bytes stay. After a removal that isn't synced the file may still be whole.
+///
+/// Any call may answer `Failed`, for causes of the disk's own, of which the trait says nothing: want of memory may be one.
+/// The count of faults rises exactly then; and what the call leaves behind is said at each. A call that answers `Ok` had
+/// its whole effect. Whoever calls may ask again, but can't tell by a `Failed` how much of a write or a removal was done.
 pub trait Disk {
     /// How often it has failed. It stands still at 2^64 - 1.
     ghost faults: { Self → ℕ };

@@ -10,7 +10,9 @@ mod source;
 
 pub use disk::{Disk, File};
 pub use gate::{Gate, Place};
-pub use laws::{files_stand_alone, reads_are_an_image, syncs_settle};
+pub use laws::{
+    ImageLaw, files_stand_alone, moments_join, reads_are_an_image, syncs_settle, weaker_laws_hold,
+};
 pub use sink::{Sink, put_all};
 pub use source::Source;
 

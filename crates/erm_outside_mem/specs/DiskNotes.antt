@@ -6,6 +6,7 @@ use Rattle.std.specs.Ordering.{nat_cmp}
 use Rattle.std.specs.declared.alloc.Global.{Global}
 use Rattle.erm_outside.specs.declared.disk.File.{File}
 use Rattle.erm_outside.specs.contracts.disk.FileOrd.TheImpl as file_order
+use Rattle.erm_outside.specs.Faults.{next}
 use Rattle.erm_outside.specs.Disk.{Change, Step, Image, same_file, patched, contents, Same}
 use Rattle.erm_outside.specs.Disk.Change.{Wrote, Tried, Synced, Removed}
 use Rattle.erm_outside_mem.specs.declared.notes.Done.{Done}
@@ -13,11 +14,14 @@ use Rattle.erm_outside_mem.specs.declared.notes.Work.{Work}
 use Rattle.erm_outside_mem.specs.declared.notes.Work.TheVariants as work
 use Rattle.erm_outside_mem.specs.Calls.{CallState, no_calls}
 
--- what was done, the newest first; how much of a write that is to fail is left, by the number of the call; the calls
+-- what was done, the newest first, and how many steps may be noted in all without more memory; how much of a write that is
+-- to fail is left, by the number of the call; the calls; how often memory was refused
 pub record DiskState : Type 0 where
   pub steps : List Step
+  pub room : ℕ
   pub fronts : List (ℕ × ℕ)
   pub calls : CallState
+  pub refused : ℕ
 
 -- how much of a write that is to fail is left, if anything was done of it, by the number of the call
 abbrev pub front_of : List (ℕ × ℕ) → ℕ → Option ℕ
@@ -71,11 +75,20 @@ pub record IsKept (files : Files) (steps : List Step) : Type 0 where
 
 -- a disk to which nothing was done
 abbrev pub empty_disk : DiskState
-empty_disk = record { steps = []; fronts = []; calls = no_calls }
+empty_disk = record { steps = []; room = 0; fronts = []; calls = no_calls; refused = 0 }
 
--- What was done by a write that was to fail: nothing, or so many bytes of the front are left. If memory is refused for a
--- note of it, nothing was done.
-abbrev pub Leaves : Option ℕ → File → ℕ → List ℕ → List Step → List Step → Type 0
-Leaves None file at bytes old new = new ≡ old
+-- memory was refused, which was counted, and nothing was done
+pub record WantsMemory (old new : DiskState) : Type 0 where
+  pub nothing : new.steps ≡ old.steps
+  pub counted : new.refused ≡ next old.refused
+
+-- this was done, without a refusal of memory
+pub record DidAll (steps : List Step) (old new : DiskState) : Type 0 where
+  pub did : new.steps ≡ steps
+  pub fine : new.refused ≡ old.refused
+
+-- What is done by a write that is to fail: nothing, or so many bytes of the front are left; or memory is refused for that.
+abbrev pub Leaves : Option ℕ → File → ℕ → List ℕ → DiskState → DiskState → Type 0
+Leaves None file at bytes old new = DidAll old.steps old new
 Leaves (Some front) file at bytes old new =
-    (new ≡ old) ⊎ (new ≡ record { file = file; change = Tried at bytes (take front bytes) } ∷ old)
+    DidAll (record { file = file; change = Tried at bytes (take front bytes) } ∷ old.steps) old new ⊎ WantsMemory old new

@@ -88,7 +88,7 @@ impl Calls {
 }
 
 /// Counts on, up to `u64::MAX`.
-fn one_more(count: u64) -> u64
+pub fn one_more(count: u64) -> u64
     ensures { result ≡ next count }
 {
     count.saturating_add(1)

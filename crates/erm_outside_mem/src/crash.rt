@@ -53,7 +53,7 @@ fn play_note(
         then played (how_of (count_at (get file_order.ghosts.cmp left.old) note.now.file == 0) pick) (change_of note.now.work) (contents image.old.steps other)
         else contents image.old.steps other)) }
     ensures settled { OnOk result (IsSettled image.old.steps → IsSettled image.new.steps) }
-    ensures others { image.new ≡ record image.old { steps = image.new.steps } }
+    ensures others { image.new ≡ record image.old { steps = image.new.steps; room = image.new.room } }
 {
     let how = how(left, note, pick);
     image.land(note, how)?;
@@ -66,7 +66,7 @@ pub fn play(alloc: Global, done: &[Done], pick: Pick) -> Result<MemDisk, AllocEr
     ensures picked { IfOk result (λ disk. (file : DiskFile) → contents disk.steps file ≡ picked pick (changes_of file (steps_of done.now))) }
     ensures all { IfOk result (λ disk. pick ≡ All → Same (contents disk.steps) (contents (steps_of done.now))) }
     ensures settled { IfOk result (λ disk. IsSettled disk.steps) }
-    ensures fresh { IfOk result (λ disk. disk ≡ record empty_disk { steps = disk.steps }) }
+    ensures fresh { IfOk result (λ disk. disk ≡ record empty_disk { steps = disk.steps; room = disk.room }) }
 {
     let mut left = count_syncs(alloc, done)?;
     let mut image = MemDisk::new(alloc);

@@ -1,5 +1,5 @@
 //! A disk in memory.
-ghost use Rattle.std.specs.Prelude.{◌≡◌, ◌≤◌, ◌↔◌, ◌∷◌, [], if◌then◌else◌, List, length, take, IsErr, IfOk, IfSome, OnOk, OnErr, Some};
+ghost use Rattle.std.specs.Prelude.{◌≡◌, ◌≤◌, ◌↔◌, ◌⊎◌, ◌∷◌, [], if◌then◌else◌, List, length, take, IsErr, IfOk, IfSome, OnOk, OnErr, Some};
 ghost use Rattle.std.specs.List.Sorted.{IsPermutation};
 ghost use Rattle.erm_outside.specs.Faults.{next};
 ghost use Rattle.erm_outside.specs.declared.disk.File.{File as DiskFile};
@@ -8,9 +8,9 @@ ghost use Rattle.erm_outside.specs.Disk.Change.{Wrote, Tried, Synced, Removed};
 ghost use Rattle.erm_outside_mem.specs.Calls.{no_calls, IsToFail, CountsCall, with_fault};
 ghost use Rattle.erm_outside_mem.specs.declared.picks.Pick.TheVariants.{All};
 ghost use Rattle.erm_outside_mem.specs.Picks.{landed as landed_of, removed_by, played, picked};
-ghost use Rattle.erm_outside_mem.specs.DiskNotes.{change_of, empty_disk, front_of, Leaves};
+ghost use Rattle.erm_outside_mem.specs.DiskNotes.{change_of, empty_disk, front_of, DidAll, Leaves, WantsMemory};
 
-use crate::calls::Calls;
+use crate::calls::{Calls, one_more};
 use crate::crash::play;
 use crate::files::{Files, contents, next_segment, read_from, write_file};
 use crate::notes::{Done, Work, forget, note};
@@ -20,8 +20,11 @@ use std::alloc::{AllocError, Global};
 use std::collections::BTreeMap;
 use std::marker::Model;
 
-/// A disk that keeps its files in memory, and tells all that was done to it. Where memory is refused, or a write would
-/// end behind 2^64 - 1, the call fails and does nothing.
+/// A disk that keeps its files in memory, and tells all that was done to it.
+///
+/// A call fails where it is to fail, and else only where memory is refused, or a write would end behind 2^64 - 1: then it
+/// does nothing, and the refusal is counted beside the fault. `len`, `read` and `next_segment` take no memory; `sync` and
+/// `remove` take some for a note, and none while there is room for it.
 #[derive(Drop)]
 pub struct MemDisk {
     alloc: Global,
@@ -29,14 +32,16 @@ pub struct MemDisk {
     done: Vec<Done>,
     fronts: BTreeMap<u64, usize>,
     calls: Calls,
+    refused: u64,
 }
 
 impl Model for MemDisk {
+    ghost use Rattle.std.specs.Prelude.{vec_capacity};
     ghost use Rattle.erm_outside_mem.specs.DiskNotes.{DiskState, steps_of, IsKept};
 
     ghost Value = { DiskState };
 
-    ghost view = { λ d. record { steps = steps_of d.done.items; fronts = d.fronts.entries; calls = d.calls } };
+    ghost view = { λ d. record { steps = steps_of d.done.items; room = vec_capacity d.done; fronts = d.fronts.entries; calls = d.calls; refused = d.refused } };
 
     ghost invariant = { λ d. IsKept d.files (steps_of d.done.items) };
 }
@@ -52,7 +57,31 @@ impl MemDisk {
             done: Vec::new(alloc),
             fronts: BTreeMap::new(alloc),
             calls: Calls::new(alloc),
+            refused: 0,
         }
+    }
+
+    /// A disk like that of [`new`](Self::new) with room to note so many changes: up to them a sync or a removal takes no
+    /// memory.
+    pub fn with_room(alloc: Global, room: usize) -> Result<Self, AllocError>
+        ensures { IfOk result (λ disk. disk ≡ record empty_disk { room = room }) }
+    {
+        let done = Vec::with_capacity(alloc, room)?;
+        Ok(MemDisk {
+            alloc,
+            files: BTreeMap::new(alloc),
+            done,
+            fronts: BTreeMap::new(alloc),
+            calls: Calls::new(alloc),
+            refused: 0,
+        })
+    }
+
+    /// How often memory was refused to a call. Where this stays, each call did what it was to do.
+    pub fn refused(&self) -> u64
+        ensures { result ≡ self.now.refused }
+    {
+        self.refused
     }
 
     /// The same disk, of which these calls fail: by their numbers from 1, in place of those named before.
@@ -85,8 +114,9 @@ impl MemDisk {
     // Notes what is done to a file, and writes these bytes to it.
     fn put(&mut self, file: File, at: u64, bytes: &[u8], work: Work) -> Result<(), AllocError>
         requires writes { (before : List Change) → bytes_after (change_of work ∷ before) ≡ patched (bytes_after before) at bytes.now }
-        ensures told { OnOk result (self.new ≡ record self.old { steps = record { file = file; change = change_of work } ∷ self.old.steps }) }
-        ensures none { OnErr result (self.new ≡ self.old) }
+        ensures told { OnOk result (self.new ≡ record self.old { room = self.new.room; steps = record { file = file; change = change_of work } ∷ self.old.steps }) }
+        ensures none { OnErr result (self.new ≡ record self.old { room = self.new.room }) }
+        ensures room { self.old.room ≤ self.new.room }
     {
         note(&mut self.done, file, work)?;
         match write_file(self.alloc, &mut self.files, file, at, bytes) {
@@ -98,19 +128,38 @@ impl MemDisk {
         }
     }
 
+    // Counts a refusal of memory.
+    fn count_refusal(&mut self)
+        ensures { self.new ≡ record self.old { refused = next self.old.refused } }
+    {
+        self.refused = one_more(self.refused);
+    }
+
+    // Counts a refusal of memory, for which the call fails that has begun.
+    fn refuse(&mut self) -> Failed
+        ensures { self.new ≡ record self.old { calls = record self.old.calls { faults = next self.old.calls.faults }; refused = next self.old.refused } }
+    {
+        self.count_refusal();
+        self.calls.fail()
+    }
+
     // Notes what is done to a file, where that changes no bytes.
     fn note(&mut self, file: File, work: Work) -> Result<(), AllocError>
         requires keeps { (before : List Change) → bytes_after (change_of work ∷ before) ≡ bytes_after before }
-        ensures told { OnOk result (self.new ≡ record self.old { steps = record { file = file; change = change_of work } ∷ self.old.steps }) }
-        ensures none { OnErr result (self.new ≡ self.old) }
+        ensures told { OnOk result (self.new ≡ record self.old { room = self.new.room; steps = record { file = file; change = change_of work } ∷ self.old.steps }) }
+        ensures none { OnErr result (self.new ≡ record self.old { room = self.new.room }) }
+        ensures full { OnErr result (self.old.room ≤ length self.old.steps) }
+        ensures room { self.old.room ≤ self.new.room }
     {
         note(&mut self.done, file, work)
     }
 
     // Removes a file, and notes it.
     fn clear(&mut self, file: File) -> Result<(), AllocError>
-        ensures told { OnOk result (self.new ≡ record self.old { steps = record { file = file; change = Removed } ∷ self.old.steps }) }
-        ensures none { OnErr result (self.new ≡ self.old) }
+        ensures told { OnOk result (self.new ≡ record self.old { room = self.new.room; steps = record { file = file; change = Removed } ∷ self.old.steps }) }
+        ensures none { OnErr result (self.new ≡ record self.old { room = self.new.room }) }
+        ensures full { OnErr result (self.old.room ≤ length self.old.steps) }
+        ensures room { self.old.room ≤ self.new.room }
     {
         note(&mut self.done, file, Work::Removed)?;
         let _ = self.files.remove(&file);
@@ -119,8 +168,9 @@ impl MemDisk {
 
     // Writes bytes, and notes it.
     fn put_whole(&mut self, file: File, at: u64, bytes: &[u8]) -> Result<(), AllocError>
-        ensures told { OnOk result (self.new ≡ record self.old { steps = record { file = file; change = Wrote at bytes.now } ∷ self.old.steps }) }
-        ensures none { OnErr result (self.new ≡ self.old) }
+        ensures told { OnOk result (self.new ≡ record self.old { room = self.new.room; steps = record { file = file; change = Wrote at bytes.now } ∷ self.old.steps }) }
+        ensures none { OnErr result (self.new ≡ record self.old { room = self.new.room }) }
+        ensures room { self.old.room ≤ self.new.room }
     {
         let copy = Vec::from_slice(self.alloc, bytes)?;
         self.put(file, at, bytes, Work::Wrote { at, bytes: copy })
@@ -134,8 +184,9 @@ impl MemDisk {
         bytes: &[u8],
         front: usize,
     ) -> Result<(), AllocError>
-        ensures told { OnOk result (self.new ≡ record self.old { steps = record { file = file; change = Tried at bytes.now (take front bytes.now) } ∷ self.old.steps }) }
-        ensures none { OnErr result (self.new ≡ self.old) }
+        ensures told { OnOk result (self.new ≡ record self.old { room = self.new.room; steps = record { file = file; change = Tried at bytes.now (take front bytes.now) } ∷ self.old.steps }) }
+        ensures none { OnErr result (self.new ≡ record self.old { room = self.new.room }) }
+        ensures room { self.old.room ≤ self.new.room }
     {
         let copy = Vec::from_slice(self.alloc, bytes)?;
         let written = &bytes[..front.min(bytes.len())];
@@ -152,7 +203,7 @@ impl MemDisk {
         ensures lands { OnOk result ((other : DiskFile) → contents_after self.new.steps other
             ≡ (if same_file file other then patched (contents_after self.old.steps other) at bytes.now else contents_after self.old.steps other)) }
         ensures settled { OnOk result (IsSettled self.old.steps → IsSettled self.new.steps) }
-        ensures others { self.new ≡ record self.old { steps = self.new.steps } }
+        ensures others { self.new ≡ record self.old { steps = self.new.steps; room = self.new.room } }
     {
         self.put_whole(file, at, bytes)?;
         self.note(file, Work::Synced)
@@ -163,7 +214,7 @@ impl MemDisk {
         ensures lands { OnOk result ((other : DiskFile) → contents_after self.new.steps other
             ≡ (if same_file file other then [] else contents_after self.old.steps other)) }
         ensures settled { OnOk result (IsSettled self.old.steps → IsSettled self.new.steps) }
-        ensures others { self.new ≡ record self.old { steps = self.new.steps } }
+        ensures others { self.new ≡ record self.old { steps = self.new.steps; room = self.new.room } }
     {
         self.clear(file)?;
         self.note(file, Work::Synced)
@@ -174,7 +225,7 @@ impl MemDisk {
         ensures lands { OnOk result ((other : DiskFile) → contents_after self.new.steps other
             ≡ (if same_file file other then removed_by pick (contents_after self.old.steps other) else contents_after self.old.steps other)) }
         ensures settled { OnOk result (IsSettled self.old.steps → IsSettled self.new.steps) }
-        ensures others { self.new ≡ record self.old { steps = self.new.steps } }
+        ensures others { self.new ≡ record self.old { steps = self.new.steps; room = self.new.room } }
     {
         match pick {
             Pick::All => self.clear_lasting(file),
@@ -194,7 +245,7 @@ impl MemDisk {
         ensures lands { OnOk result ((other : DiskFile) → contents_after self.new.steps other
             ≡ (if same_file file other then patched (contents_after self.old.steps other) at (landed_of pick left.now count) else contents_after self.old.steps other)) }
         ensures settled { OnOk result (IsSettled self.old.steps → IsSettled self.new.steps) }
-        ensures others { self.new ≡ record self.old { steps = self.new.steps } }
+        ensures others { self.new ≡ record self.old { steps = self.new.steps; room = self.new.room } }
     {
         let bytes = landed(self.alloc, pick, left, count)?;
         self.put_lasting(file, at, &bytes)
@@ -205,7 +256,7 @@ impl MemDisk {
         ensures lands { OnOk result ((other : DiskFile) → contents_after self.new.steps other
             ≡ (if same_file done.now.file other then played pick (change_of done.now.work) (contents_after self.old.steps other) else contents_after self.old.steps other)) }
         ensures settled { OnOk result (IsSettled self.old.steps → IsSettled self.new.steps) }
-        ensures others { self.new ≡ record self.old { steps = self.new.steps } }
+        ensures others { self.new ≡ record self.old { steps = self.new.steps; room = self.new.room } }
     {
         match &done.work {
             Work::Wrote { at, bytes } => self.land_write(done.file, *at, bytes, bytes.len(), pick),
@@ -225,20 +276,23 @@ impl MemDisk {
         ensures picked { IfOk result (λ disk. (file : DiskFile) → contents_after disk.steps file ≡ picked pick (changes_of file self.now.steps)) }
         ensures all { IfOk result (λ disk. pick ≡ All → Same (contents_after disk.steps) (contents_after self.now.steps)) }
         ensures settled { IfOk result (λ disk. IsSettled disk.steps) }
-        ensures fresh { IfOk result (λ disk. disk ≡ record empty_disk { steps = disk.steps }) }
+        ensures fresh { IfOk result (λ disk. disk ≡ record empty_disk { steps = disk.steps; room = disk.room }) }
     {
         play(self.alloc, &self.done, pick)
     }
 
     // Does what is left of a write that fails.
     fn tear(&mut self, file: File, at: u64, bytes: &[u8])
-        ensures leaves { Leaves (front_of self.old.fronts self.old.calls.count) file at bytes.now self.old.steps self.new.steps }
+        ensures leaves { Leaves (front_of self.old.fronts self.old.calls.count) file at bytes.now self.old self.new }
         ensures tries { MayTry file at bytes.now (Some self.old.steps) (Some self.new.steps) }
-        ensures others { self.new ≡ record self.old { steps = self.new.steps } }
+        ensures others { self.new ≡ record self.old { steps = self.new.steps; room = self.new.room; refused = self.new.refused } }
+        ensures room { self.old.room ≤ self.new.room }
     {
         let call = self.calls.count();
-        if let Some(front) = self.fronts.get(&call).copied() {
-            let _ = self.put_front(file, at, bytes, front);
+        if let Some(front) = self.fronts.get(&call).copied()
+            && self.put_front(file, at, bytes, front).is_err()
+        {
+            self.count_refusal();
         }
     }
 }
@@ -282,13 +336,13 @@ impl Disk for MemDisk {
     }
 
     fn write(&mut self, file: File, at: u64, bytes: &[u8]) -> Result<(), Failed>
-        // It also fails where memory is refused, and then nothing was done.
         ensures fails { IsToFail self.old.calls → IsErr result }
+        ensures cause { IsErr result → IsToFail self.old.calls ⊎ WantsMemory self.old self.new }
         ensures counted { CountsCall self.old.calls self.new.calls result }
-        ensures others { self.new ≡ record self.old { steps = self.new.steps; calls = self.new.calls } }
-        ensures told { OnOk result (self.new.steps ≡ record { file = file; change = Wrote at bytes.now } ∷ self.old.steps) }
-        ensures left { IsToFail self.old.calls → Leaves (front_of self.old.fronts (next self.old.calls.count)) file at bytes.now self.old.steps self.new.steps }
-        ensures nothing { IsErr result → (IsToFail self.old.calls → ⊥) → self.new.steps ≡ self.old.steps }
+        ensures others { self.new ≡ record self.old { steps = self.new.steps; room = self.new.room; calls = self.new.calls; refused = self.new.refused } }
+        ensures room { self.old.room ≤ self.new.room }
+        ensures told { OnOk result (DidAll (record { file = file; change = Wrote at bytes.now } ∷ self.old.steps) self.old self.new) }
+        ensures left { IsToFail self.old.calls → Leaves (front_of self.old.fronts (next self.old.calls.count)) file at bytes.now self.old self.new }
         ensures tried { OnErr result (MayTry file at bytes.now (Some self.old.steps) (Some self.new.steps)) }
     {
         if let Err(failed) = self.calls.begin() {
@@ -297,37 +351,39 @@ impl Disk for MemDisk {
         }
         match self.put_whole(file, at, bytes) {
             Ok(()) => Ok(()),
-            Err(_) => Err(self.calls.fail()),
+            Err(_) => Err(self.refuse()),
         }
     }
 
     fn sync(&mut self, file: File) -> Result<(), Failed>
-        // It also fails where memory is refused.
-        ensures fails { IsToFail self.old.calls → IsErr result }
+        ensures fails { IsToFail self.old.calls → IsErr result × DidAll self.old.steps self.old self.new }
+        ensures cause { IsErr result → IsToFail self.old.calls ⊎ (WantsMemory self.old self.new × (self.old.room ≤ length self.old.steps)) }
         ensures counted { CountsCall self.old.calls self.new.calls result }
-        ensures others { self.new ≡ record self.old { steps = self.new.steps; calls = self.new.calls } }
-        ensures told { OnOk result (self.new.steps ≡ record { file = file; change = Synced } ∷ self.old.steps) }
+        ensures others { self.new ≡ record self.old { steps = self.new.steps; room = self.new.room; calls = self.new.calls; refused = self.new.refused } }
+        ensures room { self.old.room ≤ self.new.room }
+        ensures told { OnOk result (DidAll (record { file = file; change = Synced } ∷ self.old.steps) self.old self.new) }
         ensures tried { OnErr result (self.new.steps ≡ self.old.steps) }
     {
         self.calls.begin()?;
         match self.note(file, Work::Synced) {
             Ok(()) => Ok(()),
-            Err(_) => Err(self.calls.fail()),
+            Err(_) => Err(self.refuse()),
         }
     }
 
     fn remove(&mut self, file: File) -> Result<(), Failed>
-        // It also fails where memory is refused.
-        ensures fails { IsToFail self.old.calls → IsErr result }
+        ensures fails { IsToFail self.old.calls → IsErr result × DidAll self.old.steps self.old self.new }
+        ensures cause { IsErr result → IsToFail self.old.calls ⊎ (WantsMemory self.old self.new × (self.old.room ≤ length self.old.steps)) }
         ensures counted { CountsCall self.old.calls self.new.calls result }
-        ensures others { self.new ≡ record self.old { steps = self.new.steps; calls = self.new.calls } }
-        ensures told { OnOk result (self.new.steps ≡ record { file = file; change = Removed } ∷ self.old.steps) }
+        ensures others { self.new ≡ record self.old { steps = self.new.steps; room = self.new.room; calls = self.new.calls; refused = self.new.refused } }
+        ensures room { self.old.room ≤ self.new.room }
+        ensures told { OnOk result (DidAll (record { file = file; change = Removed } ∷ self.old.steps) self.old self.new) }
         ensures tried { OnErr result (self.new.steps ≡ self.old.steps) }
     {
         self.calls.begin()?;
         match self.clear(file) {
             Ok(()) => Ok(()),
-            Err(_) => Err(self.calls.fail()),
+            Err(_) => Err(self.refuse()),
         }
     }
 }

@@ -1,5 +1,5 @@
 //! What was done to a disk in memory, as it notes it.
-ghost use Rattle.std.specs.Prelude.{◌≡◌, ◌++◌, [], ◌∷◌, List, OnOk, OnErr};
+ghost use Rattle.std.specs.Prelude.{◌≡◌, ◌≤◌, ◌++◌, [], ◌∷◌, List, length, OnOk, OnErr, vec_capacity};
 ghost use Rattle.erm_outside_mem.specs.DiskNotes.{change_of, steps_of};
 ghost use Rattle.erm_outside_mem.specs.declared.notes.Done.{Done as DoneNote};
 
@@ -38,6 +38,8 @@ pub fn note(done: &mut Vec<Done>, file: File, work: Work) -> Result<(), AllocErr
     ensures steps { OnOk result (steps_of done.new.items ≡ record { file = file; change = change_of work } ∷ steps_of done.old.items) }
     ensures items { OnOk result (done.new.items ≡ done.old.items ++ record { file = file; work = work } ∷ []) }
     ensures none { OnErr result (done.new.items ≡ done.old.items) }
+    ensures full { OnErr result (vec_capacity done.old ≤ length (steps_of done.old.items)) }
+    ensures room { vec_capacity done.old ≤ vec_capacity done.new }
 {
     done.push(Done { file, work })?;
     Ok(())
@@ -45,7 +47,8 @@ pub fn note(done: &mut Vec<Done>, file: File, work: Work) -> Result<(), AllocErr
 
 /// Takes the last note back.
 pub fn forget(done: &mut Vec<Done>)
-    ensures { (before : List DoneNote) (last : DoneNote) → done.old.items ≡ before ++ last ∷ [] → done.new.items ≡ before }
+    ensures items { (before : List DoneNote) (last : DoneNote) → done.old.items ≡ before ++ last ∷ [] → done.new.items ≡ before }
+    ensures room { vec_capacity done.new ≡ vec_capacity done.old }
 {
     let count = done.len();
     done.truncate(count.saturating_sub(1));

@@ -22,6 +22,10 @@ use std::{fs, io};
 /// It tells nothing, and trusts the system: that reads give what was written; that a crash leaves what was synced, and of
 /// a write that wasn't leaves other files and the bytes before it alone; that nobody else writes in the folder, and that
 /// all who do so take the lock; that the working folder stays the same.
+///
+/// Tests write, read back, extend and remove files in an empty folder. No test shows what a crash leaves, that a sync waits
+/// for the device or that a sync fails; a folder that may not be read is shown to fail only where the system refuses it to
+/// the process of the test.
 #[derive(Drop)]
 pub struct FolderDisk<R: Files<File = fs::File>> {
     folder: Folder<R>,

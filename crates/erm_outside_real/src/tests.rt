@@ -1,6 +1,7 @@
 use super::*;
 use erm_outside::{Disk, Failed, File, Sink, Source};
 use std::io::{Read, Write};
+use std::os::unix::fs::PermissionsExt;
 use std::test::Fail;
 use std::{fs, io};
 
@@ -134,7 +135,39 @@ fn is_readable<D: Disk>(disk: &mut D) -> bool {
         && disk.next_segment(0xac) == Ok(None)
 }
 
-// The folder is made by the first write, and is one disk's at a time. What lies in its place and is no folder fails.
+// Whether a disk fails over a folder that may not be read. Where the system lets this process read each folder, it doesn't.
+fn is_refused_folder(rt: &HostRuntime) -> io::Result<bool> {
+    fs::create_dir(rt, FOLDER)?;
+    fs::set_permissions(rt, FOLDER, fs::Permissions::from_mode(0))?;
+    let is_read = fs::open(rt, FOLDER).is_ok();
+    let mut disk = FolderDisk::new(rt);
+    let is_same = disk.len(File::Slot0).is_ok() == is_read
+        && disk.next_segment(0).is_ok() == is_read
+        && disk.write(File::Slot0, 0, b"").is_ok();
+    drop(disk);
+    fs::remove_dir_all(rt, FOLDER)?;
+    Ok(is_same)
+}
+
+// Whether each call fails at a file in whose place a folder lies, and others don't.
+fn is_refused_file(rt: &HostRuntime) -> io::Result<bool> {
+    let segment = File::Segment(0xab);
+    fs::create_dir_all(rt, LEFT[1].0)?;
+    let mut disk = FolderDisk::new(rt);
+    let is_refused = disk.len(segment) == Err(Failed)
+        && disk.read(segment, 0, &mut [0]) == Err(Failed)
+        && disk.next_segment(0xab) == Err(Failed)
+        && disk.write(segment, 0, b"x") == Err(Failed)
+        && disk.remove(segment) == Err(Failed)
+        && disk.next_segment(0xac) == Ok(None)
+        && disk.len(File::Slot0) == Ok(0);
+    drop(disk);
+    fs::remove_dir_all(rt, FOLDER)?;
+    Ok(is_refused)
+}
+
+// The folder is made by the first write, and is one disk's at a time. What lies in its place and
+// is no folder fails, and so does what may not be read, and a folder in a file's place.
 #[test]
 fn a_folder_is_a_disk(rt: HostRuntime) -> Result<(), Fail> {
     let _ = fs::remove_dir_all(&rt, FOLDER);
@@ -155,5 +188,6 @@ fn a_folder_is_a_disk(rt: HostRuntime) -> Result<(), Fail> {
     let mut none = FolderDisk::new(&rt);
     assert!(rt; none.len(File::Slot1) == Err(Failed) && none.sync(File::Slot1) == Err(Failed));
     fs::remove_file(&rt, FOLDER)?;
+    assert!(rt; is_refused_folder(&rt)? && is_refused_file(&rt)?);
     Ok(())
 }

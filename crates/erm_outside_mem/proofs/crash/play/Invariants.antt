@@ -12,5 +12,5 @@ abbrev pub invariant-loop-note : goal.invariant-loop-note
 invariant-loop-note l = record {
   plays : Plays l.pick l.done l.note-index (λ file. count_at (get file_order.ghosts.cmp l.left) file) (contents l.image.steps);
   settled : IsSettled l.image.steps;
-  fresh : l.image ≡ record empty_disk { steps = l.image.steps };
+  fresh : l.image ≡ record empty_disk { steps = l.image.steps; room = l.image.room };
 }
