@@ -1,4 +1,4 @@
-//! Cases of the database map, rows of records, log blocks, nodes and trees, whose expected values come from outside: what no
+//! Cases of the database map, rows of records, log blocks and nodes, whose expected values come from outside: what no
 //! clause says. They stand apart, so that no crate is proved a second time with its tests.
 #![tactic(auto)]
 
@@ -10,5 +10,3 @@ mod model;
 mod node;
 #[cfg(test)]
 mod record;
-#[cfg(test)]
-mod tree;

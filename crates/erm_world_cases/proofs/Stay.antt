@@ -1,6 +1,9 @@
 -- The transactions in progress stay runs of operations, whatever a session does.
 use Rattle.std.proofs.Common.{◌≡◌, ◌≢◌, ◌≤◌, refl, sym, ap, ◌∙◌, subst, arith, inl, inr, ℕ, Bool, true, false, List, [], ◌∷◌, ◌++◌, Result, Ok, Err, IfOk, IfErr}
 use Rattle.std.proofs.lemmas.Bool.{cases_eq}
+use Rattle.erm_model.specs.declared.operation.Op.{Op}
+use Rattle.erm_model.specs.declared.operation.Op.TheVariants.{Get, Put, Del, Next, Scan}
+use Rattle.erm_model.specs.declared.operation.Reply.{Reply}
 use Rattle.erm_model.specs.declared.outcome.Outcome.{Outcome}
 use Rattle.erm_model.specs.declared.outcome.Outcome.TheVariants.{Committed, Excluded}
 use Rattle.erm_model.specs.declared.outcome.Phase.TheVariants.{Active}
@@ -20,20 +23,19 @@ use Rattle.erm_world.specs.Works.{seen_by}
 use Rattle.erm_world.specs.World.{IsSession, Opening, Session, View, Work, begun, phase_at, phase_of, work_at, work_of}
 use Rattle.erm_world.specs.World as world
 use Rattle.erm_maps.specs.Runs.{IsRunOf}
-use Rattle.erm_world_cases.specs.Sessions.{AllRun, Leads}
+use Rattle.erm_world_cases.specs.Sessions.{AllRun, IsReplyTo, KeepsRun, Leads, RunsOn}
 
--- CALLS. One that is answered, and one that is cut off where the transaction goes on, lead on.
-module _ {S : Type 0} (face : Face S) where
-  pub answers_lead : (s t : S) (step : Step) → IsAnswered face s step.op step.reply t → Leads face s t
-  answers_lead s t step did = (answered step ∷ [], (t, did, refl))
+-- CALLS. One that is cut off where the transaction goes on leads on, and answers nothing.
+pub nothing_leads : {S : Type 0} (face : Face S) (s : S) → Leads face s [] s
+nothing_leads face s = ([], refl, refl)
 
-  module _ (may : RowStop → Type 0) (kind : List Event → Type 0) (asks : List Event → Rows → Asked → Type 0) (stutter : CutOffsStutter face may kind asks) where
-    leads_where : (s t : S) (stop : RowStop) → IsStopped face may kind asks s stop t → face.active t → (b : Bool) → ends stop ≡ b → Leads face s t
-    leads_where s t stop stopped active true is = absurd (stopped.refused.ended is active)
-    leads_where s t stop stopped active false is = (stuttered ∷ [], (t, stutter s t stop stopped is, refl))
+module _ {S : Type 0} (face : Face S) (may : RowStop → Type 0) (kind : List Event → Type 0) (asks : List Event → Rows → Asked → Type 0) (stutter : CutOffsStutter face may kind asks) where
+  leads_where : (s t : S) (stop : RowStop) → IsStopped face may kind asks s stop t → face.active t → (b : Bool) → ends stop ≡ b → Leads face s [] t
+  leads_where s t stop stopped active true is = absurd (stopped.refused.ended is active)
+  leads_where s t stop stopped active false is = (stuttered ∷ [], (t, stutter s t stop stopped is, refl), refl)
 
-    pub cut_offs_lead : (s t : S) (stop : RowStop) → IsStopped face may kind asks s stop t → face.active t → Leads face s t
-    cut_offs_lead s t stop stopped active = leads_where s t stop stopped active (ends stop) refl
+  pub cut_offs_lead : (s t : S) (stop : RowStop) → IsStopped face may kind asks s stop t → face.active t → Leads face s [] t
+  cut_offs_lead s t stop stopped active = leads_where s t stop stopped active (ends stop) refl
 
 -- SESSIONS. Where one changes, and its transaction is a run if it is in progress, all are.
 abbrev IsRun : Session → Type 0
@@ -100,17 +102,52 @@ lawful_as law same w lawful =
           omega (arith, most, left, right);
     }
 
--- THE FACE. Tree calls of one session keep all transactions runs.
-module _ {S : Type 0} (law : Law) (view : S → View) (seat : S → ℕ) (stands : S → Type 0) (one : S → S → Type 0) where
-  pub called_kept : ((s t : S) (calls : List Call) (before : List Step) → IsRunOf (work_at (view s) (seat s)) before → AreCalled (world_face law view seat stands one) s calls t
-      → IsRunOf (work_at (view t) (seat t)) (before ++ answered_steps calls)) →
-      (s t : S) → (world_face law view seat stands one).active s → AllRun (view s) → (world_face law view seat stands one).follows s t
-      → ((world_face law view seat stands one).active t → Leads (world_face law view seat stands one) s t) → AllRun (view t)
-  called_kept are_runs s t active runs follows leads =
-      let before = runs (seat s) active.1 active.2 in
+-- a transaction that answered an operation goes on
+goes_on : {S : Type 0} (face : Face S) (s t : S) (op : Op) (reply : Reply) → IsAnswered face s op reply t → face.active t
+goes_on face s t (Get table key) reply did = did.2.goes_on.active
+goes_on face s t (Put table key value) reply did = did.1.goes_on.active
+goes_on face s t (Del table key) reply did = did.1.goes_on.active
+goes_on face s t (Next table from) reply did = did.2.goes_on.active
+goes_on face s t (Scan table low high) reply did = absurd did
+
+-- THE FACE. Tree calls of one session keep all transactions runs, its own of the operations answered.
+module _ {S : Type 0} (law : Law) (view : S → View) (seat : S → ℕ) (stands : S → Type 0) (one : S → S → Type 0)
+    (are_runs : (s t : S) (calls : List Call) (before : List Step) → IsRunOf (work_at (view s) (seat s)) before → AreCalled (world_face law view seat stands one) s calls t
+    → IsRunOf (work_at (view t) (seat t)) (before ++ answered_steps calls)) (s t : S) (active : (world_face law view seat stands one).active s) (follows : (world_face law view seat stands one).follows s t) where
+  leads_on : (more : List Step) → Leads (world_face law view seat stands one) s more t → RunsOn (view s) (seat s) more (view t)
+  leads_on more leads steps is =
+      subst (λ (q : ℕ). IsRunOf (work_at (view t) q) (steps ++ more)) follows.1
+      (subst (λ (found : List Step). IsRunOf (work_at (view t) (seat t)) (steps ++ found)) leads.2 (are_runs s t leads.0 steps is leads.1))
+
+  answer_on : (op : Op) (reply : Reply) → IsAnswered (world_face law view seat stands one) s op reply t → IsReplyTo (view s) (seat s) op reply (view t)
+  answer_on op reply did =
+      let on = goes_on (world_face law view seat stands one) s t op reply did in
+      (subst (λ (q : ℕ). phase_at (view t) q ≡ Active) follows.1 on.2, leads_on (record { op = op; reply = reply } ∷ []) (answered (record { op = op; reply = reply }) ∷ [], (t, did, refl), refl))
+
+  refusal_on : ((world_face law view seat stands one).active t → Leads (world_face law view seat stands one) s [] t) → phase_at (view t) (seat s) ≡ Active → RunsOn (view s) (seat s) [] (view t)
+  refusal_on leads is =
       let session : IsSession (view t) (seat s) = (active.1.0, subst (λ (o : Opening). seat s ≤ o.sessions) (sym follows.3.opening) active.1.1) in
-      let now : IsRun ((view t).session (seat s)) = subst (λ (q : ℕ). IsRun ((view t).session q)) follows.1
-      (λ (is : phase_at (view t) (seat t) ≡ Active).
-      let called = leads (follows.2 active.0, subst (λ (q : ℕ). IsSession (view t) q) (sym follows.1) session, is) in
-      (before.0 ++ answered_steps called.0, are_runs s t called.0 before.0 before.1 called.1)) in
-      changed (view s) (view t) (seat s) ((view t).session (seat s)) refl follows.3.others follows.3.opening now runs
+      leads_on [] (leads (follows.2 active.0, subst (λ (q : ℕ). IsSession (view t) q) (sym follows.1) session, subst (λ (q : ℕ). phase_at (view t) q ≡ Active) (sym follows.1) is))
+
+  module _ (op : Op) where
+    more_of : (r : Result Reply RowStop) → IfOk r (λ reply. IsAnswered (world_face law view seat stands one) s op reply t)
+        → IfErr r (λ stop. (world_face law view seat stands one).active t → Leads (world_face law view seat stands one) s [] t)
+        → phase_at (view t) (seat s) ≡ Active → (more : List Step) × RunsOn (view s) (seat s) more (view t)
+    more_of (Ok reply) did not is = (record { op = op; reply = reply } ∷ [], (answer_on op reply did).1)
+    more_of (Err stop) did not is = ([], refusal_on not is)
+
+    pub called_kept : AllRun (view s) → (r : Result Reply RowStop) → IfOk r (λ reply. IsAnswered (world_face law view seat stands one) s op reply t)
+        → IfErr r (λ stop. (world_face law view seat stands one).active t → Leads (world_face law view seat stands one) s [] t) → AllRun (view t)
+    called_kept runs r did not =
+        let before = runs (seat s) active.1 active.2 in
+        let now : IsRun ((view t).session (seat s)) = (λ (is : phase_at (view t) (seat s) ≡ Active). let on = more_of r did not is in (before.0 ++ on.0, on.1 before.0 before.1)) in
+        changed (view s) (view t) (seat s) ((view t).session (seat s)) refl follows.3.others follows.3.opening now runs
+
+    pub call_answers : (r : Result Reply RowStop) → IfOk r (λ reply. IsAnswered (world_face law view seat stands one) s op reply t) → IfOk r (λ reply. IsReplyTo (view s) (seat s) op reply (view t))
+    call_answers (Ok reply) did = answer_on op reply did
+    call_answers (Err stop) did = tt
+
+    pub call_refuses : (r : Result Reply RowStop) → IfErr r (λ stop. (world_face law view seat stands one).active t → Leads (world_face law view seat stands one) s [] t)
+        → IfErr r (λ stop. KeepsRun (view s) (seat s) (view t))
+    call_refuses (Ok reply) not = tt
+    call_refuses (Err stop) not = record { kept = refusal_on not }

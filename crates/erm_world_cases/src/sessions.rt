@@ -1,11 +1,12 @@
 //! Tree calls of a world's sessions, whose transactions stay runs of operations.
-ghost use Rattle.std.specs.Prelude.{◌≡◌};
+ghost use Rattle.std.specs.Prelude.{[], ◌≡◌, IfErr, IfOk};
 ghost use Rattle.erm_model.specs.declared.outcome.Phase.TheVariants.{Active, Idle, Sealed};
 ghost use Rattle.erm_model.specs.RowTransaction.{SameLaw};
 ghost use Rattle.erm_node.specs.Sound.{sound_law};
 ghost use Rattle.erm_tree.specs.Calls.{IsReady};
+ghost use Rattle.erm_tree.specs.Operations.{IsAnswered};
 ghost use Rattle.erm_world.specs.World.{IsSession, phase_at};
-ghost use Rattle.erm_world_cases.specs.Sessions.{AllRun, Leads};
+ghost use Rattle.erm_world_cases.specs.Sessions.{AllRun, IsReplyTo, KeepsRun, Leads};
 
 use erm_model::{Op, Outcome, Reply, RowRead, RowStop, RowTxn, Seat, Stamp, TABLES};
 use erm_tree::{del, get, next, put};
@@ -16,7 +17,8 @@ fn call<T: RowTxn>(txn: &mut T, op: &Op) -> Result<Reply, RowStop>
     requires ready { IsReady T.face txn.old }
     requires law { SameLaw T.face.law sound_law }
     ensures follows { T.face.follows txn.old txn.new }
-    ensures leads { T.face.active txn.new → Leads T.face txn.old txn.new }
+    ensures ok { IfOk result (λ reply. IsAnswered T.face txn.old op.now reply txn.new) }
+    ensures err { IfErr result (λ stop. T.face.active txn.new → Leads T.face txn.old [] txn.new) }
 {
     erm_tree::refused_calls_set_no_row::<T>();
     match op {
@@ -43,13 +45,16 @@ fn answer_by<'a, W: RowWorld>(txn: &mut WorldTxn<'a, W>, op: &Op) -> Result<Repl
     ensures stands { W.stands txn.new.world.now }
     ensures runs { AllRun (W.view txn.new.world.now) }
     ensures opening { (W.view txn.new.world.now).opening ≡ (W.view txn.old.world.now).opening }
+    ensures ok { IfOk result (λ reply. IsReplyTo (W.view txn.old.world.now) txn.old.seat op.now reply (W.view txn.new.world.now)) }
+    ensures err { IfErr result (λ stop. KeepsRun (W.view txn.old.world.now) txn.old.seat (W.view txn.new.world.now)) }
 {
     erm_maps::runs_are_ready::<W>();
     erm_maps::calls_are_runs::<W>();
     call(txn, op)
 }
 
-/// Answers an operation by a tree call of an active session.
+/// Answers an operation by a tree call of an active session. The reply is the operation's, and a refusal that doesn't end the
+/// transaction leaves it the run of the operations answered before.
 pub fn answer<W: RowWorld>(world: &mut W, seat: Seat, op: &Op) -> Result<Reply, RowStop>
     requires law { SameLaw W.law sound_law }
     requires stands { W.stands world.old }
@@ -59,6 +64,8 @@ pub fn answer<W: RowWorld>(world: &mut W, seat: Seat, op: &Op) -> Result<Reply, 
     ensures stands { W.stands world.new }
     ensures runs { AllRun (W.view world.new) }
     ensures opening { (W.view world.new).opening ≡ (W.view world.old).opening }
+    ensures ok { IfOk result (λ reply. IsReplyTo (W.view world.old) seat op.now reply (W.view world.new)) }
+    ensures err { IfErr result (λ stop. KeepsRun (W.view world.old) seat (W.view world.new)) }
 {
     let mut txn = WorldTxn { world, seat };
     answer_by(&mut txn, op)

@@ -1,15 +1,18 @@
 //! Two sessions over one table of the world in lists.
-ghost use Rattle.std.specs.Prelude.{◌≡◌, IfOk, replicate};
+ghost use Rattle.std.specs.Prelude.{◌≡◌, ◌≤◌, IfOk, replicate};
 ghost use Rattle.erm_model.specs.declared.TheConstants.{ROW_WORDS};
-ghost use Rattle.erm_model.specs.declared.limits.TheConstants.{OID_LIMIT};
+ghost use Rattle.erm_model.specs.declared.limits.TheConstants.{OID_LIMIT, TABLES};
 ghost use Rattle.erm_model.specs.RowTransaction.{SameLaw};
 ghost use Rattle.erm_node.specs.Sound.{sound_law};
 ghost use Rattle.erm_plain.specs.Stands.{IsWorld, plain_view};
 ghost use Rattle.erm_world_cases.specs.Sessions.{AllRun};
 
+mod lines;
+mod tree;
+
 use crate::sessions;
 use erm_model::{
-    OID_LIMIT, Op, Outcome, Phase, ROW_WORDS, Reply, Row, RowStop, Seat, Stamp, Value,
+    OID_LIMIT, Oid, Op, Outcome, Phase, ROW_WORDS, Reply, Row, RowStop, Seat, Stamp, Value,
 };
 use erm_node::{SoundRows, sound, zero_rows_are_not_reached};
 use erm_plain::Plain;
@@ -29,8 +32,10 @@ fn zero_rows(alloc: Global) -> Result<Vec<Row>, AllocError>
     Ok(rows)
 }
 
-// Two sessions on rows of zeros, by which every table is empty.
-fn world(rt: &impl Abort, alloc: Global) -> Result<Plain<SoundRows>, AllocError>
+// Two sessions on rows of zeros, by which every table is empty. Objects are made from `first` on.
+fn world(rt: &impl Abort, alloc: Global, first: Oid) -> Result<Plain<SoundRows>, AllocError>
+    requires low { TABLES ≤ first }
+    requires high { first ≤ OID_LIMIT }
     ensures world { IfOk result (λ p. IsWorld sound_law p) }
     ensures runs { IfOk result (λ p. AllRun (plain_view p)) }
     ensures sessions { IfOk result (λ p. (plain_view p).opening.sessions ≡ 2) }
@@ -38,7 +43,7 @@ fn world(rt: &impl Abort, alloc: Global) -> Result<Plain<SoundRows>, AllocError>
     let rows = zero_rows(alloc)?;
     assert!(rt; sound(&rows), "rows of zeros are sound");
     zero_rows_are_not_reached();
-    Plain::open(alloc, &rows, 13, 1, 16, 2)
+    Plain::open(alloc, &rows, 13, 1, u64::from(first), 2)
 }
 
 // Begins, where the session is idle.
@@ -135,7 +140,7 @@ fn put(byte: u8) -> Op {
 // The second session can't put the key that the first one has put, and is idle. It sees the value once it is committed.
 #[test]
 fn one_key_of_two_sessions(rt: HostRuntime) -> Result<(), Fail> {
-    let mut world = world(&rt, rt.alloc())?;
+    let mut world = world(&rt, rt.alloc(), 16)?;
     assert!(rt; begin(&mut world, 1) == Some(13));
     assert!(rt; begin(&mut world, 2) == Some(13));
     assert!(rt; ask(&mut world, 1, &put(7)) == Some(Ok(Reply::Done)));

@@ -1,4 +1,3 @@
-use Rattle.std.proofs.Common.{◌≡◌}
 use Rattle.erm_world_cases.proofs.Stay.{begun_kept}
 use Rattle.erm_world_cases.proofs.sessions.begin.Goals as goal
 

@@ -1,4 +1,3 @@
-use Rattle.std.proofs.Common.{◌≡◌}
 use Rattle.erm_world.specs.World.{work_at}
 use Rattle.erm_world_cases.proofs.Stay.{lawful_as, sealed_kept}
 use Rattle.erm_world_cases.proofs.sessions.seal.Goals as goal

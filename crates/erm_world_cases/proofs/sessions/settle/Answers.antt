@@ -1,4 +1,3 @@
-use Rattle.std.proofs.Common.{◌≡◌}
 use Rattle.erm_world_cases.proofs.Stay.{settled_kept}
 use Rattle.erm_world_cases.proofs.sessions.settle.Goals as goal
 
