@@ -19,14 +19,14 @@ use Rattle.erm_report.specs.Printable.{FitsTypes}
 use Rattle.erm_script.specs.Script.{IsValue}
 use Rattle.erm_script.specs.declared.script.ScriptLine.{ScriptLine}
 use Rattle.erm_good_report.specs.Causes.{HasCauseOf}
-use Rattle.erm_good_report.specs.GoodReport.{OrderAgrees, Report, places_of}
+use Rattle.erm_good_report.specs.GoodReport.{IsGoodReport, OrderAgrees, Report, places_of}
 use Rattle.erm_good_report.specs.Opening.{InTurn, is_before}
 use Rattle.erm_good_report.specs.Phases.{FitsPhase, phase_of}
 use Rattle.erm_good_report.specs.Refusals.{HasCause, moment_at}
 use Rattle.erm_good_report.specs.Stamps.{Told, StampsAgree, begin_told, stamp_told, stamp_drawn}
 use Rattle.erm_good_report.specs.Transactions.{Said, said_of, Transaction, transactions_of, history_of, stamp_of, stamp_of_ending, steps_of, Commits}
 use Rattle.erm_good_report.specs.Windows.{IsCommit, IsTightAt}
-use Rattle.erm_good_report.specs.WriteSkew.{first_opening, script, answers, report_with, WriteSkewIsExcluded}
+use Rattle.erm_good_report.specs.WriteSkew.{first_opening, names, script, answers, report_with, WriteSkewIsExcluded}
 use Rattle.erm_good_report.proofs.Parts.{each_in, each_place, all_pairs_from_test, all_pairs_of_two, all_pairs_of_none, told_pass, told_from_test}
 
 abbrev all_answers : List Answer
@@ -209,8 +209,8 @@ order = record {
   run = record { run = ((refl, (refl, tt)), ((ap reply.Value (sym first_key), (ap reply.Value (sym second_key), (refl, tt))), ends)) };
 }
 
-pub write_skew_is_excluded : WriteSkewIsExcluded
-write_skew_is_excluded = record {
+it_is_good : IsGoodReport InTurn first_opening names script (report_with (answer.Excluded 47 38 38))
+it_is_good = record {
   report = report;
   lines_ok = refl;
   fits = fits;
@@ -221,8 +221,11 @@ write_skew_is_excluded = record {
     stamps = stamps;
     snapshots = snapshots;
     causes = causes;
-    tight = tight;
     refusals = record { each = refusals };
   };
   order = order;
 }
+
+pub write_skew_is_excluded : WriteSkewIsExcluded
+unfolding it_is_good
+write_skew_is_excluded = record { good = it_is_good; tight = tight }

@@ -55,13 +55,12 @@ abbrev pub places_of : List ScriptLine → List Answer → List Closed → List 
 places_of script answers closed = said_of script answers ++ map (λ c. record { session = c.session; asked = None; answer = c.answer }) closed
 
 -- What the answers and the ends of a report owe, of the transactions that they tell, whoever closed these: phases, stamps, snapshot
--- replies, the causes of commits and exclusions, tight windows, and the causes of refusals.
+-- replies, the causes of commits and exclusions, and the causes of refusals.
 pub record OwesToAnswers (mode : Mode) (opening : Opening) (script : List ScriptLine) (answers : List Answer) (told : List Transaction) : Type 0 where
   pub phases : PhasesAgree script answers
   pub stamps : StampsAgree mode opening told (said_of script answers)
   pub snapshots : (t : Transaction) → t ∈ told → HasSnapshotReplies (history_of told) opening.map t.begin (steps_of t)
   pub causes : (t : Transaction) → t ∈ told → HasCauseOf t.ending told t
-  pub tight : (t : Transaction) → t ∈ told → IsTightAt t.ending told t
   pub refusals : HasCauses mode opening script answers told
 
 -- Serial order: the order lines are the serial order of the transactions printed committed; run one after another in
@@ -80,6 +79,15 @@ pub record IsGoodReport (mode : Mode) (opening : Opening) (names : List (List �
   pub closes : ClosesAgree (length names) (said_of script report.answers) report.closed
   pub owes : OwesToAnswers mode opening script report.answers (transactions_of (length names) (places_of script report.answers report.closed))
   pub order : OrderAgrees (history_of (transactions_of (length names) (places_of script report.answers report.closed))) opening.map report
+
+-- The windows of the transactions that are told are tight.
+abbrev pub HaveTightWindows : List Transaction → Type 0
+HaveTightWindows told = (t : Transaction) → t ∈ told → IsTightAt t.ending told t
+
+-- A good report whose windows are tight, where its lines show it.
+pub record IsTightReport (mode : Mode) (opening : Opening) (names : List (List ℕ)) (script : List ScriptLine) (lines : List Line) : Type 0 where
+  pub good : IsGoodReport mode opening names script lines
+  pub tight : HaveTightWindows (transactions_of (length names) (places_of script good.report.answers good.report.closed))
 
 -- the line at which the disk failed, one of the script or, behind its lines, none
 abbrev pub fault_line : Option ScriptLine → Line

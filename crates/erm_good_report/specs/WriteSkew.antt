@@ -11,7 +11,7 @@ use Rattle.erm_report.specs.declared.line.Line.TheVariants as line
 use Rattle.erm_script.specs.declared.script.Command.{Command}
 use Rattle.erm_script.specs.declared.script.Command.TheVariants as command
 use Rattle.erm_script.specs.declared.script.ScriptLine.{ScriptLine}
-use Rattle.erm_good_report.specs.GoodReport.{IsGoodReport}
+use Rattle.erm_good_report.specs.GoodReport.{IsGoodReport, IsTightReport}
 use Rattle.erm_good_report.specs.Opening.{InTurn, Opening}
 
 -- an empty map, with the opening's block at 8 in run 1; the roots of the sixteen tables are objects
@@ -77,9 +77,9 @@ report_with last =
     ∷ line.End
     ∷ []
 
--- with its second session excluded, the report is good
+-- with its second session excluded, the report is good, and its windows are tight
 abbrev pub WriteSkewIsExcluded : Type 0
-WriteSkewIsExcluded = IsGoodReport InTurn first_opening names script (report_with (answer.Excluded 47 38 38))
+WriteSkewIsExcluded = IsTightReport InTurn first_opening names script (report_with (answer.Excluded 47 38 38))
 
 -- Wherever the script is run from, in a good report that excludes the second session so the stamps of its window are these, and its own
 -- stamp is above.
