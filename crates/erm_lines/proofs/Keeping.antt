@@ -1,0 +1,198 @@
+-- Transactions in progress stay runs of operations, whatever line a session has.
+use Rattle.std.proofs.Common.{◌≡◌, ◌≢◌, ◌≤◌, refl, sym, ap, ◌∙◌, subst, inl, inr, ℕ, Bool, true, false, List, [], ◌∷◌, ◌++◌, Option, Some, None}
+use Rattle.std.proofs.lemmas.Bool.{cases_eq}
+use Rattle.erm_model.specs.declared.outcome.Phase.{Phase}
+use Rattle.erm_model.specs.declared.outcome.Phase.TheVariants.{Active, Idle, Sealed}
+use Rattle.erm_model.specs.declared.row_stop.RowStop.{RowStop}
+use Rattle.erm_model.specs.RowTransaction.{Event, ends}
+use Rattle.erm_model.specs.Rows.{Rows}
+use Rattle.erm_model.specs.Run.{Step}
+use Rattle.erm_node.specs.Sound.{sound_law}
+use Rattle.erm_report.specs.declared.answer.Answer.{Answer}
+use Rattle.erm_report.specs.declared.answer.Answer.TheVariants as answer
+use Rattle.erm_script.specs.declared.script.Command.{Command}
+use Rattle.erm_script.specs.declared.script.Command.TheVariants as command
+use Rattle.erm_script.specs.declared.script.ScriptLine.{ScriptLine}
+use Rattle.erm_world.specs.Calls.{DidSeal, IsDone}
+use Rattle.erm_world.specs.World.{Fate, IsSession, Opening, Session, Stand, View, Work, begun, phase_at, phase_of, work_at, work_of}
+use Rattle.erm_world.specs.World as world
+use Rattle.erm_world.proofs.Txns.{stopped, went}
+use Rattle.erm_maps.specs.Runs.{IsRunOf}
+use Rattle.erm_good_report.specs.Phases.{refusal_for, refusal_of}
+use Rattle.erm_lines.specs.Answers.{DidAsked, DidClose, DidCommand, DidCommit, DidDecide, DidLine, DidOperation, WasRefusedAs}
+use Rattle.erm_lines.specs.Executions.{DidEnd}
+use Rattle.erm_lines.specs.Operations.{DidCalls, Ran}
+use Rattle.erm_lines.specs.Whole.{AreRunsNow}
+
+-- where a session is active, its transaction is the run of some operations
+abbrev IsRunNow : Session → Type 0
+IsRunNow s = phase_of s.stand ≡ Active → (steps : List Step) × IsRunOf (work_of s.stand) steps
+
+-- a session went on, and no other
+record Turns (v : View) (seat : ℕ) (t : View) : Type 0 where
+  own : IsRunNow (t.session seat)
+  others : (q : ℕ) → q ≢ seat → t.session q ≡ v.session q
+  opening : t.opening ≡ v.opening
+
+abbrev pub Kept : View → View → Type 0
+Kept v t = AreRunsNow t × (t.opening ≡ v.opening)
+
+kept : (v t : View) (seat : ℕ) → AreRunsNow v → Turns v seat t → Kept v t
+kept v t seat runs turns = (
+  λ q session. elim (cases_eq q seat) as (λ _. IsRunNow (t.session q)) [
+    | inl is ↦ subst (λ (s : Session). IsRunNow s) (sym (ap t.session is)) turns.own
+    | inr another ↦ subst (λ (s : Session). IsRunNow s) (sym (turns.others q another)) (runs q (session.0, subst (λ (o : Opening). q ≤ o.sessions) turns.opening session.1))
+  ],
+  turns.opening,
+)
+
+unchanged : (v t : View) → t ≡ v → AreRunsNow v → Kept v t
+unchanged v t is runs = (subst (λ (u : View). AreRunsNow u) (sym is) runs, ap (λ (u : View). u.opening) is)
+
+idle_runs : (s : Session) → s.stand ≡ world.idle → IsRunNow s
+idle_runs s is active = let at = ap phase_of is in cc
+
+sealed_runs : (s : Session) (w : Work) (stamp : ℕ) → s.stand ≡ world.sealed w stamp → IsRunNow s
+sealed_runs s w stamp is active = let at = ap phase_of is in cc
+
+begun_runs : ((number begin : ℕ) → IsRunOf (begun number begin) []) → (s : Session) (number begin : ℕ) → s.stand ≡ world.active (begun number begin) → IsRunNow s
+begun_runs none s number begin is active = ([], subst (λ (w : Work). IsRunOf w []) (sym (ap work_of is)) (none number begin))
+
+done_turns : (v t : View) (seat : ℕ) (w : Work) (fate : Fate) → IsDone v seat w fate t → Turns v seat t
+done_turns v t seat w fate did = record { own = idle_runs (t.session seat) (ap (λ (s : Session). s.stand) did.own); others = did.others; opening = did.opening }
+
+sealed_turns : (v t : View) (seat stamp : ℕ) → DidSeal v seat stamp t → Turns v seat t
+sealed_turns v t seat stamp did = record { own = sealed_runs (t.session seat) (work_at v seat) stamp (ap (λ (s : Session). s.stand) did.own); others = did.others; opening = did.opening }
+
+waits_turns : (v t : View) (seat : ℕ) (w : Work) (stamp : ℕ) → t ≡ v → (v.session seat).stand ≡ world.sealed w stamp → Turns v seat t
+waits_turns v t seat w stamp is stand = record {
+  own = sealed_runs (t.session seat) w stamp (ap (λ (u : View). (u.session seat).stand) is ∙ stand);
+  others = λ q another. ap (λ (u : View). u.session q) is;
+  opening = ap (λ (u : View). u.opening) is;
+}
+
+decided_turns : (v t : View) (seat : ℕ) (a : Answer) → DidDecide v seat a t → Turns v seat t
+decided_turns v t seat (answer.Committed stamp succ pred) (r, stamp_is, succ_is, pred_is, (w, at, stand, did)) = done_turns v t seat w _ did.0
+decided_turns v t seat (answer.Excluded stamp succ pred) (w, at, stand, did) = done_turns v t seat w _ did.0
+decided_turns v t seat (answer.WaitSeat other seen) (is, (w, at, stand, waits)) = waits_turns v t seat w at is stand
+decided_turns v t seat (answer.WaitRing flushed) (is, (w, at, stand, waits)) = waits_turns v t seat w at is stand
+decided_turns v t seat a did = absurd did
+
+committed_turns : (v t : View) (seat : ℕ) (a : Answer) → DidCommit v seat a t → Turns v seat t
+committed_turns v t seat a did =
+    let first = sealed_turns v did.between seat did.stamp did.sealed in
+    let second = decided_turns did.between t seat a did.decided in record {
+      own = second.own;
+      others = λ q another. second.others q another ∙ first.others q another;
+      opening = second.opening ∙ first.opening;
+    }
+
+-- CALLS. They leave the other sessions, and this one active.
+record Along (v : View) (seat : ℕ) (t : View) : Type 0 where
+  active : phase_at t seat ≡ Active
+  others : (q : ℕ) → q ≢ seat → t.session q ≡ v.session q
+  opening : t.opening ≡ v.opening
+
+along : (es : List Event) (v t : View) (seat : ℕ) → phase_at v seat ≡ Active → Ran v seat es t → Along v seat t
+along [] v t seat active is = record {
+  active = ap (λ (u : View). phase_at u seat) is ∙ active;
+  others = λ q another. ap (λ (u : View). u.session q) is;
+  opening = ap (λ (u : View). u.opening) is;
+}
+along (e ∷ es) v t seat active (u, answered, rest) =
+    let first = went sound_law v seat e u active answered in
+    let second = along es u t seat (ap phase_of first.stand) rest in record {
+      active = second.active;
+      others = λ q another. second.others q another ∙ first.goes.others q another;
+      opening = second.opening ∙ first.goes.opening;
+    }
+
+abbrev IsRunAt : View → ℕ → Type 0
+IsRunAt v seat = (steps : List Step) × IsRunOf (work_at v seat) steps
+
+called_turns : (v t : View) (seat : ℕ) (steps : List Step) (kind : Rows → List Event → Type 0) → phase_at v seat ≡ Active → IsRunAt v seat → DidCalls v seat steps kind t → Turns v seat t
+called_turns v t seat steps kind active run did =
+    let on = along did.events v t seat active did.ran in
+    record { own = λ now. (run.0 ++ steps, did.run run.0 run.1); others = on.others; opening = on.opening }
+
+cut_off_own : (v t : View) (seat : ℕ) (stop : RowStop) (b : Bool) → ends stop ≡ b → IsRunAt v seat → (ends stop ≡ true → (t.session seat).stand ≡ world.idle)
+    → (ends stop ≡ false → (before : List Step) → IsRunOf (work_at v seat) before → IsRunOf (work_at t seat) before) → IsRunNow (t.session seat)
+cut_off_own v t seat stop true is run ended stays = idle_runs (t.session seat) (ended is)
+cut_off_own v t seat stop false is run ended stays = λ now. (run.0, stays is run.0 run.1)
+
+refused_turns : (v t : View) (seat : ℕ) (c : Command) (a : Answer) → phase_at v seat ≡ Active → IsRunAt v seat → WasRefusedAs v seat c a t → Turns v seat t
+refused_turns v t seat c a active run (stop, told, cut) =
+    let on = along cut.events v cut.at seat active cut.ran in
+    let last = stopped cut.at seat cut.asked stop t on.active cut.refused in record {
+      own = cut_off_own v t seat stop (ends stop) refl run last.ended cut.run;
+      others = λ q another. last.goes.others q another ∙ on.others q another;
+      opening = last.goes.opening ∙ on.opening;
+    }
+
+operation_turns : (v t : View) (seat : ℕ) (c : Command) (a : Answer) → phase_at v seat ≡ Active → IsRunAt v seat → DidOperation v seat c a t → Turns v seat t
+operation_turns v t seat c (answer.Replied r) active run (op, is, did) = called_turns v t seat _ _ active run did
+operation_turns v t seat c (answer.Cut cells) active run (is, did) = called_turns v t seat [] _ active run did
+operation_turns v t seat c a active run did = refused_turns v t seat c a active run did
+
+-- LINES.
+module _ (none : (number begin : ℕ) → IsRunOf (begun number begin) []) (v t : View) (seat : ℕ) (runs : AreRunsNow v) where
+  active_where : (phase : Phase) → refusal_for (Some Active) phase ≡ None → phase ≡ Active
+  active_where Idle is = cc
+  active_where Active is = refl
+  active_where Sealed is = cc
+
+  begun_kept : (a : Answer) → DidCommand v seat command.Begin a t → Kept v t
+  begun_kept (answer.Began stamp) did = kept v t seat runs (record {
+    own = begun_runs none (t.session seat) _ stamp (ap (λ (s : Session). s.stand) did.3.own);
+    others = did.3.others;
+    opening = did.3.opening;
+  })
+  begun_kept (answer.LogEnd tail) did = unchanged v t did.0 runs
+  begun_kept answer.NumbersEnd did = unchanged v t did.0 runs
+  begun_kept a did = absurd did
+
+  sealed_kept : (a : Answer) → DidCommand v seat command.Seal a t → Kept v t
+  sealed_kept (answer.Sealed stamp) did = kept v t seat runs (sealed_turns v t seat stamp did)
+  sealed_kept a did = absurd did
+
+  aborted_kept : (a : Answer) → DidCommand v seat command.Abort a t → Kept v t
+  aborted_kept answer.Aborted did = kept v t seat runs (done_turns v t seat (work_at v seat) world.aborts did)
+  aborted_kept a did = absurd did
+
+  module _ (session : IsSession v seat) where
+    operation_kept : (c : Command) (a : Answer) → refusal_for (Some Active) (phase_at v seat) ≡ None → DidOperation v seat c a t → Kept v t
+    operation_kept c a allowed did =
+        let active = active_where (phase_at v seat) allowed in
+        kept v t seat runs (operation_turns v t seat c a active (runs seat session active) did)
+
+    command_kept : (c : Command) (a : Answer) → refusal_of (phase_at v seat) c ≡ None → DidCommand v seat c a t → Kept v t
+    command_kept command.Begin a allowed did = begun_kept a did
+    command_kept command.Seal a allowed did = sealed_kept a did
+    command_kept command.Settle a allowed did = kept v t seat runs (decided_turns v t seat a did)
+    command_kept command.Commit a allowed did = kept v t seat runs (committed_turns v t seat a did)
+    command_kept command.Abort a allowed did = aborted_kept a did
+    command_kept (command.Get table key) a allowed did = operation_kept (command.Get table key) a allowed did
+    command_kept (command.Put table key value) a allowed did = operation_kept (command.Put table key value) a allowed did
+    command_kept (command.Del table key) a allowed did = operation_kept (command.Del table key) a allowed did
+    command_kept (command.Next table from) a allowed did = operation_kept (command.Next table from) a allowed did
+    command_kept (command.Scan table low high) a allowed did = operation_kept (command.Scan table low high) a allowed did
+    command_kept (command.Tidy table key) a allowed did = operation_kept (command.Tidy table key) a allowed did
+    command_kept command.Durable a allowed did = absurd did
+    command_kept command.Flush a allowed did = absurd did
+    command_kept command.Checkpoint a allowed did = absurd did
+
+    asked_kept : (c : Command) (a : Answer) (refusal : Option Answer) → refusal_of (phase_at v seat) c ≡ refusal → DidAsked refusal v seat c a t → Kept v t
+    asked_kept c a (Some other) is did = unchanged v t did runs
+    asked_kept c a None is did = command_kept c a is did
+
+  closed_kept : (phase : Phase) (a : Answer) → DidClose phase v seat a t → Kept v t
+  closed_kept Idle a did = absurd did
+  closed_kept Active a did = kept v t seat runs (done_turns v t seat (work_at v seat) world.aborts did)
+  closed_kept Sealed a did = kept v t seat runs (decided_turns v t seat a did)
+
+-- a line of a session keeps them, and a close
+pub line_keeps : ((number begin : ℕ) → IsRunOf (begun number begin) []) → (v t : View) (l : ScriptLine) (a : Answer) → AreRunsNow v → DidLine v l a t → Kept v t
+line_keeps none v t l a runs did = asked_kept none v t l.session runs did.session l.command a (refusal_of (phase_at v l.session) l.command) refl did.did
+
+pub end_keeps : ((number begin : ℕ) → IsRunOf (begun number begin) []) → (v t : View) (seat : ℕ) (a : Answer) → AreRunsNow v → DidEnd v seat a t → Kept v t
+end_keeps none v t seat a runs did = closed_kept none v t seat runs (phase_at v seat) a did.did

@@ -1,0 +1,92 @@
+-- A look at several keys, as its line is answered.
+use Rattle.std.proofs.Common.{◌≡◌, refl, sym, ◌∙◌, subst, ℕ, List, [], ◌∷◌, ◌++◌, append-nil, Some, Result, Ok, Err, IfOk, IfErr}
+use Rattle.std.proofs.lemmas.Result.{IfOk-at_ok}
+use Rattle.erm_model.specs.declared.operation.Op.TheVariants as op
+use Rattle.erm_model.specs.declared.operation.Reply.TheVariants as reply
+use Rattle.erm_model.specs.declared.row_stop.RowStop.{RowStop}
+use Rattle.erm_model.specs.Database.{AreFound, Database}
+use Rattle.erm_model.specs.Rows.{Rows}
+use Rattle.erm_model.specs.RowTransaction.{IsLawful, IsStopped, Law, SameLaw, Saw, StopsRead}
+use Rattle.erm_model.specs.Run.{IsReply, RunsOne, Step, ops_of}
+use Rattle.erm_model.specs.Run as run
+use Rattle.erm_model.proofs.RowCalls.{Saw-on, WritesNothing-OnlyReads}
+use Rattle.erm_model.proofs.Runs.{RunsOne-append}
+use Rattle.erm_node.specs.Sound.{IsSound, sound_law}
+use Rattle.erm_node.specs.TreeMap.{map_of_rows}
+use Rattle.erm_report.specs.declared.answer.Answer.{Answer}
+use Rattle.erm_report.specs.declared.answer.Answer.TheVariants as answer
+use Rattle.erm_script.specs.declared.script.Command.TheVariants as command
+use Rattle.erm_tree.specs.Calls.{AsksReads, Reads}
+use Rattle.erm_tree.specs.Operations.{stuttered}
+use Rattle.erm_tree.proofs.Operations.{Stutters-look, Stutters-saw}
+use Rattle.erm_world.specs.Laws.{FitsWork}
+use Rattle.erm_world.specs.Works.{seen_by}
+use Rattle.erm_world.specs.World.{View, work_at}
+use Rattle.erm_maps.specs.Runs.{IsRunOf}
+use Rattle.erm_lines.specs.Answers.{stop_told}
+use Rattle.erm_lines.specs.Operations.{IsMetByScan}
+use Rattle.erm_lines.specs.Whole.{WasAnswered}
+use Rattle.erm_lines.proofs.Bridge.{CallsAreRuns, RunsOn, cut_off, face, runs_on, seen}
+use Rattle.erm_lines.proofs.Refused.{refused, scan_fits}
+use Rattle.erm_lines.proofs.Scanning.{Scanned}
+
+after_last : (before : List Step) (step : Step) (m : Database) → run.after_all (ops_of (before ++ step ∷ [])) m ≡ run.after step.op (run.after_all (ops_of before) m)
+after_last [] step m = refl
+after_last (x ∷ before) step m = after_last before step (run.after x.op m)
+
+module _ {S : Type 0} (law : Law) (view : S → View) (seat : S → ℕ) (stands : S → Type 0) (one : S → S → Type 0) (same : SameLaw law sound_law)
+    (are_runs : CallsAreRuns law view seat stands one same) where
+  -- what fits by the law of sound rows
+  fits_now : (s t : S) (rows : Rows) → seat t ≡ seat s → FitsWork sound_law (work_at (view t) (seat s)) rows → (face law view seat stands one same).fits t rows
+  fits_now s t rows is fits = subst (λ (q : ℕ). FitsWork law (work_at (view t) q) rows) (sym is) (record {
+    meets = (same.meets rows).1 fits.meets;
+    reads = fits.reads;
+    claims = fits.claims;
+    unreached = λ x made. same.reach rows x ∙ fits.unreached x made;
+  })
+
+  -- an operation that leaves the map, whose reply was seen, is one more of the run
+  look_on : (s t : S) (step : Step) (fact : Rows → Type 0) → IsLawful (face law view seat stands one same) s → Saw (face law view seat stands one same) s t fact
+      → ((rows : Rows) → fact rows → IsReply (map_of_rows rows) step.op step.reply) → ((m : Database) → run.after step.op m ≡ m) → seat t ≡ seat s
+      → RunsOn law view seat stands one same s (step ∷ []) t
+  look_on s t step fact lawful saw replies leaves is before runs =
+      let stays : IsRunOf (work_at (view t) (seat s)) before =
+      subst (λ (steps : List Step). IsRunOf (work_at (view t) (seat s)) steps) (append-nil before)
+      (runs_on law view seat stands one same are_runs s t (stuttered ∷ []) (t, Stutters-saw (face law view seat stands one same) s t fact saw, refl) is before runs) in
+      let replied : (rows : Rows) → IsSound rows → FitsWork sound_law (work_at (view t) (seat s)) rows → IsReply (map_of_rows (seen_by (work_at (view t) (seat s)) rows)) step.op step.reply =
+      λ rows sound fits.
+      let on = Saw-on (face law view seat stands one same) s t fact lawful saw rows ((same.meets rows).1 sound) (fits_now s t rows is fits) in
+      subst (λ (q : ℕ). IsReply (map_of_rows (seen_by (work_at (view t) q) rows)) step.op step.reply) is
+      (subst (λ (array : Rows). IsReply (map_of_rows array) step.op step.reply) (sym on.1) (replies (seen_by (work_at (view s) (seat s)) rows) on.0)) in
+      record {
+        run = λ rows sound fits.
+            RunsOne-append (map_of_rows rows) before (step ∷ []) (stays.run rows sound fits)
+            (subst (λ (m : Database). RunsOne m (step ∷ [])) (stays.after rows sound fits) (replied rows sound fits, tt));
+        after = λ rows sound fits.
+            stays.after rows sound fits ∙ sym (leaves (run.after_all (ops_of before) (map_of_rows rows))) ∙ sym (after_last before step (map_of_rows rows));
+        lawful = stays.lawful;
+      }
+
+  pub scan_ok : (s t : S) (table low high : ℕ) (found : List (ℕ × List ℕ)) (told : Result (List (ℕ × List ℕ)) RowStop) → IsLawful (face law view seat stands one same) s
+      → told ≡ Ok found → IfOk told (Scanned (face law view seat stands one same) table low high s t) → WasAnswered (view s) (seat s) (command.Scan table low high) (answer.Replied (reply.Found found)) (view t)
+  scan_ok s t table low high found told lawful is scanned =
+      let did = IfOk-at_ok (Scanned (face law view seat stands one same) table low high s t) is scanned in record {
+        fits = tt;
+        did = (
+          op.Scan table low high,
+          refl,
+          seen law view seat stands one same (IsMetByScan table low high) s t (λ rows. AreFound (map_of_rows rows) table low high found) (record { op = op.Scan table low high; reply = reply.Found found }) did
+              (λ rows is. (found, refl, is)) (λ m. refl)
+              (look_on s t (record { op = op.Scan table low high; reply = reply.Found found }) (λ rows. AreFound (map_of_rows rows) table low high found) lawful did.saw (λ rows is. (found, refl, is)) (λ m. refl) did.saw.follows.1),
+        );
+      }
+
+  pub scan_err : {E : Type 0} (r : Result Answer E) (s t : S) (table low high : ℕ) (stop : RowStop) (found : Result (List (ℕ × List ℕ)) RowStop) → found ≡ Err stop
+      → IfErr found (λ why. IsStopped (face law view seat stands one same) StopsRead (Reads law (IsMetByScan table low high)) (AsksReads (IsMetByScan table low high)) s why t)
+      → IfOk r (λ a. stop_told stop ≡ Some a) → IfOk r (λ a. WasAnswered (view s) (seat s) (command.Scan table low high) a (view t))
+  scan_err r s t table low high stop found is cut told =
+      let stopped = subst (λ (result : Result (List (ℕ × List ℕ)) RowStop). IfErr result (λ why. IsStopped (face law view seat stands one same) StopsRead (Reads law (IsMetByScan table low high)) (AsksReads (IsMetByScan table low high)) s why t)) is cut in
+      refused (view s) (seat s) (command.Scan table low high) (view t) r stop told (scan_fits table low high stop stopped.refused.named)
+      (cut_off law view seat stands one same are_runs StopsRead (Reads law (IsMetByScan table low high)) (AsksReads (IsMetByScan table low high)) (AsksReads (IsMetByScan table low high)) _ s t stop stopped
+      (λ es kind. WritesNothing-OnlyReads es kind.only) (λ es kind rows meets agrees. (kind.only, kind.of rows meets agrees)) (λ es rows asked asks. asks)
+      (Stutters-look (face law view seat stands one same) StopsRead (IsMetByScan table low high) (AsksReads (IsMetByScan table low high)) s t stop stopped)) (λ a did. did)

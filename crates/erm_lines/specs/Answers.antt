@@ -1,0 +1,94 @@
+-- What the answer to a line of a script says of the world in which it was run.
+use Rattle.std.specs.Prelude.{◌≡◌, ℕ, [], ◌∷◌, Option, Some, None}
+use Rattle.erm_model.specs.declared.operation.Op.{Op}
+use Rattle.erm_model.specs.declared.outcome.Outcome.TheVariants as outcome
+use Rattle.erm_model.specs.declared.outcome.Phase.{Phase}
+use Rattle.erm_model.specs.declared.outcome.Phase.TheVariants.{Idle, Active, Sealed}
+use Rattle.erm_model.specs.declared.outcome.Receipt.{Receipt}
+use Rattle.erm_model.specs.declared.row_stop.RowStop.{RowStop}
+use Rattle.erm_model.specs.declared.row_stop.RowStop.TheVariants.{NotYet, ReadsFull, Owned, Newer, WritesFull, CellsFull, OidsFull, Excluded, Memory}
+use Rattle.erm_report.specs.declared.answer.Answer.{Answer}
+use Rattle.erm_report.specs.declared.answer.Answer.TheVariants as answer
+use Rattle.erm_script.specs.declared.script.Command.{Command}
+use Rattle.erm_script.specs.declared.script.Command.TheVariants as command
+use Rattle.erm_script.specs.declared.script.ScriptLine.{ScriptLine}
+use Rattle.erm_world.specs.declared.stops.BeginStop.TheVariants as begin
+use Rattle.erm_world.specs.declared.stops.Wait.TheVariants as wait
+use Rattle.erm_world.specs.Calls.{DidAbort, DidBegin, DidNotSettle, DidSeal, DidSettle, MayNotBegin}
+use Rattle.erm_world.specs.World.{IsSession, View, phase_at}
+use Rattle.erm_good_report.specs.Phases.{FitsPhase, refusal_of}
+use Rattle.erm_good_report.specs.Transactions.{op_of}
+use Rattle.erm_lines.specs.Operations.{AsksOf, DidCalls, FrontOf, WereCutOff, WholeOf}
+
+-- what a refusal is answered as; one for want of memory isn't answered
+abbrev pub stop_told : RowStop → Option Answer
+stop_told (NotYet seat seen) = Some (answer.WaitSeat seat seen)
+stop_told ReadsFull = Some answer.ReadsFull
+stop_told (Owned seat number) = Some (answer.Owned seat number)
+stop_told (Newer stamp) = Some (answer.Newer stamp)
+stop_told WritesFull = Some answer.WritesFull
+stop_told (CellsFull drawn) = Some (answer.CellsFull drawn)
+stop_told (OidsFull drawn) = Some (answer.OidsFull drawn)
+stop_told (Excluded succ pred) = Some (answer.ExcludedEarly succ pred)
+stop_told Memory = None
+
+-- the line's calls were cut off by a refusal, which is the answer
+abbrev pub WasRefusedAs : View → ℕ → Command → Answer → View → Type 0
+WasRefusedAs v seat c a t = (stop : RowStop) × (stop_told stop ≡ Some a) × WereCutOff v seat (FrontOf c) (AsksOf c) stop t
+
+-- A line that names a table was answered: by a reply, by how many versions were cut off, or by a refusal.
+abbrev pub DidOperation : View → ℕ → Command → Answer → View → Type 0
+DidOperation v seat c (answer.Replied r) t =
+    (op : Op) × (op_of c ≡ Some op) × DidCalls v seat (record { op = op; reply = r } ∷ []) (WholeOf c (answer.Replied r)) t
+DidOperation v seat c (answer.Cut cells) t = (op_of c ≡ None) × DidCalls v seat [] (WholeOf c (answer.Cut cells)) t
+DidOperation v seat c a t = WasRefusedAs v seat c a t
+
+-- a sealed transaction was decided, or waits
+abbrev pub DidDecide : View → ℕ → Answer → View → Type 0
+DidDecide v seat (answer.Committed stamp succ pred) t =
+    (r : Receipt) × (r.stamp ≡ stamp) × (r.succ ≡ succ) × (r.pred ≡ pred) × DidSettle v seat (outcome.Committed r) t
+DidDecide v seat (answer.Excluded stamp succ pred) t = DidSettle v seat (outcome.Excluded stamp succ pred) t
+DidDecide v seat (answer.WaitSeat other seen) t = DidNotSettle v seat (wait.Seat other seen) t
+DidDecide v seat (answer.WaitRing flushed) t = DidNotSettle v seat (wait.Ring flushed) t
+DidDecide v seat a t = ⊥
+
+-- it was sealed, and then decided
+pub record DidCommit (v : View) (seat : ℕ) (a : Answer) (t : View) : Type 0 where
+  pub stamp : ℕ
+  pub between : View
+  pub sealed : DidSeal v seat stamp between
+  pub decided : DidDecide between seat a t
+
+-- the session's phase allowed the command, and it was answered so
+abbrev pub DidCommand : View → ℕ → Command → Answer → View → Type 0
+DidCommand v seat command.Begin (answer.Began stamp) t = DidBegin v seat stamp t
+DidCommand v seat command.Begin (answer.LogEnd tail) t = MayNotBegin v seat (begin.LogEnd tail) t
+DidCommand v seat command.Begin answer.NumbersEnd t = MayNotBegin v seat begin.NumbersEnd t
+DidCommand v seat command.Seal (answer.Sealed stamp) t = DidSeal v seat stamp t
+DidCommand v seat command.Settle a t = DidDecide v seat a t
+DidCommand v seat command.Commit a t = DidCommit v seat a t
+DidCommand v seat command.Abort answer.Aborted t = DidAbort v seat t
+DidCommand v seat (command.Get table key) a t = DidOperation v seat (command.Get table key) a t
+DidCommand v seat (command.Put table key value) a t = DidOperation v seat (command.Put table key value) a t
+DidCommand v seat (command.Del table key) a t = DidOperation v seat (command.Del table key) a t
+DidCommand v seat (command.Next table from) a t = DidOperation v seat (command.Next table from) a t
+DidCommand v seat (command.Scan table low high) a t = DidOperation v seat (command.Scan table low high) a t
+DidCommand v seat (command.Tidy table key) a t = DidOperation v seat (command.Tidy table key) a t
+DidCommand v seat c a t = ⊥
+
+-- a line that the phase refuses changes nothing
+abbrev pub DidAsked : Option Answer → View → ℕ → Command → Answer → View → Type 0
+DidAsked (Some refusal) v seat c a t = t ≡ v
+DidAsked None v seat c a t = DidCommand v seat c a t
+
+-- a line of a session was run: its answer fits the session's phase, and says what it did
+pub record DidLine (v : View) (l : ScriptLine) (a : Answer) (t : View) : Type 0 where
+  pub session : IsSession v l.session
+  pub fits : FitsPhase (phase_at v l.session) l.command a
+  pub did : DidAsked (refusal_of (phase_at v l.session) l.command) v l.session l.command a t
+
+-- a session that isn't idle was closed: aborted where it was active, decided where it was sealed
+abbrev pub DidClose : Phase → View → ℕ → Answer → View → Type 0
+DidClose Idle v seat a t = ⊥
+DidClose Active v seat a t = DidAbort v seat t
+DidClose Sealed v seat a t = DidDecide v seat a t

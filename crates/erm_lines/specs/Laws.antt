@@ -1,0 +1,64 @@
+-- What executions owe: the laws, as statements.
+use Rattle.std.specs.Prelude.{◌≡◌, ℕ, ◌≤◌, List}
+use Rattle.erm_model.specs.Committed.{HasSnapshotReplies, RunsInOrder, Committed, rank_of, state_after}
+use Rattle.erm_model.specs.Member.{◌∈◌}
+use Rattle.erm_model.specs.SerialOrder.{IsSerialOrder}
+use Rattle.erm_report.specs.declared.answer.Answer.{Answer}
+use Rattle.erm_script.specs.declared.script.ScriptLine.{ScriptLine}
+use Rattle.erm_world.specs.World.{IsSession, View, phase_at}
+use Rattle.erm_good_report.specs.Causes.{HasCauseOf}
+use Rattle.erm_good_report.specs.GoodReport.{HaveTightWindows, places_of}
+use Rattle.erm_good_report.specs.Opening.{Opening, InTurn}
+use Rattle.erm_good_report.specs.Phases.{Closed, ClosesAgree, PhasesAgree, phase_of}
+use Rattle.erm_good_report.specs.Refusals.{HasCauses}
+use Rattle.erm_good_report.specs.Stamps.{StampsAgree}
+use Rattle.erm_good_report.specs.Transactions.{Transaction, history_of, progress_of, said_of, steps_of, transactions_of}
+use Rattle.erm_lines.specs.Executions.{AreClosed, IsExecution, IsOpened, IsOpeningOf, IsRun, Move, said_in}
+use Rattle.erm_lines.specs.Told.{Continues, Tells}
+
+-- after moves each session's transactions are those that the moves tell, and its phase is the one that the answers leave
+abbrev pub ExecutionsTell : Type 0
+ExecutionsTell = (v t : View) (moves : List Move) → IsOpened v → IsExecution v moves t → (seat : ℕ) → IsSession v seat
+    → Tells seat (progress_of seat (said_in moves)) (t.session seat) × (phase_of seat (said_in moves) ≡ phase_at t seat)
+
+-- sessions go on by moves, and the opening stays
+abbrev pub ExecutionsGoOn : Type 0
+ExecutionsGoOn = (v t : View) (moves : List Move) → IsExecution v moves t
+    → (t.opening ≡ v.opening) × (v.tail ≤ t.tail) × ((seat : ℕ) → IsSession v seat → Continues (v.session seat) (t.session seat))
+
+-- a fact of what a report tells of a run: of its opening, script, answers, and all transactions, with the sessions that were closed
+abbrev pub OfRuns : (Opening → List ScriptLine → List Answer → List Closed → List Transaction → Type 0) → Type 0
+OfRuns Fact = (v t : View) (script : List ScriptLine) (answers : List Answer) (run : IsRun v script answers t) (closed : List Closed) (opening : Opening)
+    → AreClosed run.closing closed → IsOpeningOf v opening → Fact opening script answers closed (transactions_of v.opening.sessions (places_of script answers closed))
+
+-- each session's transactions at the end are those that the report tells
+abbrev pub RunsTell : Type 0
+RunsTell = (v t : View) (script : List ScriptLine) (answers : List Answer) (run : IsRun v script answers t) (closed : List Closed) → AreClosed run.closing closed
+    → (seat : ℕ) → IsSession v seat → Tells seat (progress_of seat (places_of script answers closed)) (t.session seat)
+
+abbrev pub RunsHavePhases : Type 0
+RunsHavePhases = OfRuns (λ opening script answers closed told. PhasesAgree script answers)
+
+abbrev pub RunsCloseSessions : Type 0
+RunsCloseSessions = (v t : View) (script : List ScriptLine) (answers : List Answer) (run : IsRun v script answers t) (closed : List Closed)
+    → AreClosed run.closing closed → ClosesAgree v.opening.sessions (said_of script answers) closed
+
+abbrev pub RunsHaveStamps : Type 0
+RunsHaveStamps = OfRuns (λ opening script answers closed told. StampsAgree InTurn opening told (said_of script answers))
+
+abbrev pub RunsHaveSnapshots : Type 0
+RunsHaveSnapshots = OfRuns (λ opening script answers closed told. (t : Transaction) → t ∈ told → HasSnapshotReplies (history_of told) opening.map t.begin (steps_of t))
+
+-- run in the serial order, the commits told give their replies, from the opening's map on
+abbrev pub RunsAreSerial : Type 0
+RunsAreSerial = OfRuns (λ opening script answers closed told. (order : List Committed) → IsSerialOrder rank_of (history_of told) order
+    → RunsInOrder order opening.map (state_after order opening.map))
+
+abbrev pub RunsHaveCauses : Type 0
+RunsHaveCauses = OfRuns (λ opening script answers closed told. (t : Transaction) → t ∈ told → HasCauseOf t.ending told t)
+
+abbrev pub RunsHaveTightWindows : Type 0
+RunsHaveTightWindows = OfRuns (λ opening script answers closed told. HaveTightWindows told)
+
+abbrev pub RunsRefuseWithCause : Type 0
+RunsRefuseWithCause = OfRuns (λ opening script answers closed told. HasCauses InTurn opening script answers told)

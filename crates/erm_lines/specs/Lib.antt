@@ -1,0 +1,6 @@
+pub mod Answers
+pub mod Executions
+pub mod Laws
+pub mod Operations
+pub mod Told
+pub mod Whole

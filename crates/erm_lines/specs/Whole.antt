@@ -1,0 +1,19 @@
+-- A command that its session's phase allows, answered; and what lines keep.
+use Rattle.std.specs.Prelude.{◌≡◌, ℕ, List}
+use Rattle.erm_model.specs.declared.outcome.Phase.TheVariants.{Active}
+use Rattle.erm_model.specs.Run.{Step}
+use Rattle.erm_report.specs.declared.answer.Answer.{Answer}
+use Rattle.erm_script.specs.declared.script.Command.{Command}
+use Rattle.erm_world.specs.World.{IsSession, View, phase_at, work_at}
+use Rattle.erm_maps.specs.Runs.{IsRunOf}
+use Rattle.erm_good_report.specs.Phases.{IsAnswerTo}
+use Rattle.erm_lines.specs.Answers.{DidCommand}
+
+-- the command was answered, by an answer that it may have
+pub record WasAnswered (v : View) (seat : ℕ) (c : Command) (a : Answer) (t : View) : Type 0 where
+  pub fits : IsAnswerTo c a
+  pub did : DidCommand v seat c a t
+
+-- each transaction in progress is the run of some operations
+abbrev pub AreRunsNow : View → Type 0
+AreRunsNow v = (seat : ℕ) → IsSession v seat → phase_at v seat ≡ Active → (steps : List Step) × IsRunOf (work_at v seat) steps

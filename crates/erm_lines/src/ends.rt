@@ -1,0 +1,140 @@
+//! Begin and end of a session's transaction.
+ghost use Rattle.std.specs.Prelude.{◌≡◌, ℕ, List, IfOk, IfErr};
+ghost use Rattle.erm_model.specs.declared.outcome.Phase.TheVariants.{Active, Idle, Sealed};
+ghost use Rattle.erm_model.specs.RowTransaction.{SameLaw};
+ghost use Rattle.erm_model.specs.Run.{Step};
+ghost use Rattle.erm_node.specs.Sound.{sound_law};
+ghost use Rattle.erm_maps.specs.Runs.{IsRunOf};
+ghost use Rattle.erm_good_report.specs.Phases.{Closes, IsOutcome};
+ghost use Rattle.erm_world.specs.Calls.{DidNotSettle};
+ghost use Rattle.erm_world.specs.World.{IsSession, phase_at, work_at};
+ghost use Rattle.erm_lines.specs.Answers.{DidCommit, DidDecide};
+ghost use Rattle.erm_lines.specs.Executions.{DidEnd};
+ghost use Rattle.erm_lines.specs.Whole.{WasAnswered};
+
+use erm_model::{Outcome, Phase, Seat};
+use erm_report::Answer;
+use erm_script::Command;
+use erm_world::{BeginStop, RowWorld, Wait};
+use std::alloc::AllocError;
+
+/// Begins a transaction.
+pub fn begin<W: RowWorld>(world: &mut W, seat: Seat) -> Result<Answer, AllocError>
+    requires stands { W.stands world.old }
+    requires session { IsSession (W.view world.old) seat }
+    requires idle { phase_at (W.view world.old) seat ≡ Idle }
+    ensures stands { W.stands world.new }
+    ensures answered { IfOk result (λ a. WasAnswered (W.view world.old) seat Command.Begin a (W.view world.new)) }
+{
+    match world.begin(seat) {
+        Ok(stamp) => Ok(Answer::Began(stamp)),
+        Err(BeginStop::LogEnd { tail }) => Ok(Answer::LogEnd { tail }),
+        Err(BeginStop::NumbersEnd) => Ok(Answer::NumbersEnd),
+        Err(BeginStop::Memory) => Err(AllocError),
+    }
+}
+
+/// Seals a transaction, which is the run of some operations.
+pub fn seal<W: RowWorld>(world: &mut W, seat: Seat) -> Answer
+    requires law { SameLaw W.law sound_law }
+    requires stands { W.stands world.old }
+    requires session { IsSession (W.view world.old) seat }
+    requires active { phase_at (W.view world.old) seat ≡ Active }
+    requires ran { (steps : List Step) × IsRunOf (work_at (W.view world.old) seat) steps }
+    ensures stands { W.stands world.new }
+    ensures answered { WasAnswered (W.view world.old) seat Command.Seal result (W.view world.new) }
+{
+    Answer::Sealed(world.seal(seat))
+}
+
+/// Gives a transaction up.
+pub fn abort<W: RowWorld>(world: &mut W, seat: Seat) -> Answer
+    requires stands { W.stands world.old }
+    requires session { IsSession (W.view world.old) seat }
+    requires active { phase_at (W.view world.old) seat ≡ Active }
+    ensures stands { W.stands world.new }
+    ensures answered { WasAnswered (W.view world.old) seat Command.Abort result (W.view world.new) }
+{
+    world.abort(seat);
+    Answer::Aborted
+}
+
+// Decides a sealed transaction, or says for what it waits.
+fn decide<W: RowWorld>(world: &mut W, seat: Seat) -> Result<Answer, Wait>
+    requires stands { W.stands world.old }
+    requires session { IsSession (W.view world.old) seat }
+    requires sealed { phase_at (W.view world.old) seat ≡ Sealed }
+    ensures stands { W.stands world.new }
+    ensures closes { IfOk result (λ a. Closes Sealed a) }
+    ensures ok { IfOk result (λ a. DidDecide (W.view world.old) seat a (W.view world.new)) }
+    ensures err { IfErr result (λ wait. DidNotSettle (W.view world.old) seat wait (W.view world.new)) }
+{
+    match world.settle(seat)? {
+        Outcome::Committed(receipt) => Ok(Answer::Committed {
+            stamp: receipt.stamp,
+            succ: receipt.succ,
+            pred: receipt.pred,
+        }),
+        Outcome::Excluded { stamp, succ, pred } => Ok(Answer::Excluded { stamp, succ, pred }),
+    }
+}
+
+// The same, with the wait as an answer.
+fn outcome<W: RowWorld>(world: &mut W, seat: Seat) -> Answer
+    requires stands { W.stands world.old }
+    requires session { IsSession (W.view world.old) seat }
+    requires sealed { phase_at (W.view world.old) seat ≡ Sealed }
+    ensures stands { W.stands world.new }
+    ensures outcome { IsOutcome result }
+    ensures decided { DidDecide (W.view world.old) seat result (W.view world.new) }
+{
+    match decide(world, seat) {
+        Ok(answer) => answer,
+        Err(Wait::Ring { flushed }) => Answer::WaitRing { flushed },
+        Err(Wait::Seat { seat, seen }) => Answer::WaitSeat { seat, seen },
+    }
+}
+
+/// Decides a sealed transaction, or says for what it waits.
+pub fn settle<W: RowWorld>(world: &mut W, seat: Seat) -> Answer
+    requires stands { W.stands world.old }
+    requires session { IsSession (W.view world.old) seat }
+    requires sealed { phase_at (W.view world.old) seat ≡ Sealed }
+    ensures stands { W.stands world.new }
+    ensures answered { WasAnswered (W.view world.old) seat Command.Settle result (W.view world.new) }
+{
+    outcome(world, seat)
+}
+
+/// Seals a transaction, which is the run of some operations, and decides it.
+pub fn commit<W: RowWorld>(world: &mut W, seat: Seat) -> Answer
+    requires law { SameLaw W.law sound_law }
+    requires stands { W.stands world.old }
+    requires session { IsSession (W.view world.old) seat }
+    requires active { phase_at (W.view world.old) seat ≡ Active }
+    requires ran { (steps : List Step) × IsRunOf (work_at (W.view world.old) seat) steps }
+    ensures stands { W.stands world.new }
+    ensures answered { WasAnswered (W.view world.old) seat Command.Commit result (W.view world.new) }
+{
+    world.seal(seat);
+    outcome(world, seat)
+}
+
+/// Closes a session at the end: aborts its transaction where it is active, and decides it where it is sealed, or says for what it
+/// waits.
+pub fn close_session<W: RowWorld>(world: &mut W, seat: Seat) -> Result<Answer, Wait>
+    requires stands { W.stands world.old }
+    requires session { IsSession (W.view world.old) seat }
+    requires open { phase_at (W.view world.old) seat ≡ Idle → ⊥ }
+    ensures stands { W.stands world.new }
+    ensures closed { IfOk result (λ a. DidEnd (W.view world.old) seat a (W.view world.new)) }
+    ensures waits { IfErr result (λ wait. DidNotSettle (W.view world.old) seat wait (W.view world.new)) }
+{
+    match world.phase(seat) {
+        Phase::Sealed => decide(world, seat),
+        _ => {
+            world.abort(seat);
+            Ok(Answer::Aborted)
+        }
+    }
+}

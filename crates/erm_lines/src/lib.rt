@@ -1,0 +1,16 @@
+//! The lines of a script over any world of sessions: what an answer says of the world in which its line was run, and the running of
+//! one.
+#![tactic(auto)]
+
+mod ends;
+mod laws;
+mod line;
+mod operations;
+mod phases;
+mod scan;
+mod stops;
+mod tidy;
+
+pub use ends::close_session;
+pub use laws::lines_keep_runs;
+pub use line::answer_line;
