@@ -1,0 +1,75 @@
+-- The rows on which a transaction began: sound ones, that fit it, and of which each object is of its table.
+use Rattle.std.proofs.Common.{◌≡◌, ℕ, ◌<◌, List, Some, refl, ap, subst, sym}
+use Rattle.std.proofs.lemmas.List.Sorted.{IsPermutation-sym}
+use Rattle.erm_model.specs.declared.history.TransactionRecord.{TransactionRecord}
+use Rattle.erm_model.specs.History.{HasNewestRows, History, IsCertified, IsNewestBelow, IsSnapshot, IsVersion, RunsSerially, below, rank_of, rows_after}
+use Rattle.erm_model.specs.Member.{◌∈◌}
+use Rattle.erm_model.specs.Rows.{Rows}
+use Rattle.erm_model.specs.SerialOrder.{IsSerialOrder}
+use Rattle.erm_core_ssn.proofs.Members.{∈-permutation}
+use Rattle.erm_core_ssn.proofs.Prefixes.{in_below}
+use Rattle.erm_node.specs.Sound.{IsSound, sound_law}
+use Rattle.erm_world.specs.Laws.{FitsWork, IsCommitOf, IsSerializable}
+use Rattle.erm_world.specs.World.{Finished, Has, IsSession, View, Work, history_of, stamp_of}
+use Rattle.erm_world.specs.World as world
+use Rattle.erm_world.proofs.Commits.{tells_commits}
+use Rattle.erm_maps.proofs.Histories.{work_in}
+use Rattle.erm_maps.proofs.Lawful.{LeavesNewest, RunsBelow, begins_above, fits_below, lawful_below}
+use Rattle.erm_causes.specs.Touched.{AreOfTables}
+use Rattle.erm_causes.proofs.Coloured.{KeepsTables, after_commits}
+
+-- What the laws of histories say.
+pub record HistoryLaws : Type 0 where
+  pub certified : (h : History) → IsCertified h → (bound : ℕ) → IsCertified (below bound h)
+  pub snapshot : (h : History) (opening : Rows) → IsSnapshot h opening → (bound : ℕ) → IsSnapshot (below bound h) opening
+  pub exists : (h : History) → IsCertified h → (order : History) × IsSerialOrder rank_of h order
+  pub run_below : (h : History) (opening : Rows) → IsSnapshot h opening → IsCertified h → (bound : ℕ) (order : History) → IsSerialOrder rank_of (below bound h) order
+      → RunsSerially (below bound h) opening opening order
+  pub newest_below : (h : History) (opening : Rows) → IsSnapshot h opening → IsCertified h → (bound : ℕ) (order : History) → IsSerialOrder rank_of (below bound h) order
+      → 0 < bound → HasNewestRows h opening bound (rows_after order opening)
+  pub row : (h : History) (opening : Rows) → IsSnapshot h opening → IsCertified h → (oid stamp : ℕ) (one other : List ℕ)
+      → IsVersion h opening oid stamp one → IsVersion h opening oid stamp other → one ≡ other
+  pub newest : (h : History) (opening : Rows) → IsSnapshot h opening → IsCertified h → (oid bound stamp other_stamp : ℕ) (row other_row : List ℕ)
+      → IsNewestBelow h opening oid bound stamp row → IsNewestBelow h opening oid bound other_stamp other_row → (stamp ≡ other_stamp) × (row ≡ other_row)
+
+-- rows on which a transaction may have begun, of which each object is of its table
+pub record BeganOn (table : ℕ → ℕ) (w : Work) : Type 0 where
+  pub rows : Rows
+  pub sound : IsSound rows
+  pub fits : FitsWork sound_law w rows
+  pub are : AreOfTables table rows
+
+-- what the commits of a world leave stays with its tables
+abbrev pub CommitsKeep : (ℕ → ℕ) → View → Type 0
+CommitsKeep table v = (seat : ℕ) (f : Finished) (stamp : ℕ) → IsSession v seat → f ∈ (v.session seat).over → stamp_of f.fate ≡ Some stamp → KeepsTables table f.work
+
+module _ (laws : HistoryLaws) (table : ℕ → ℕ) (v : View) (holds : IsSerializable sound_law v) (opened : AreOfTables table v.opening.rows) (keep : CommitsKeep table v) where
+  keeps_of : (t : TransactionRecord) → t ∈ history_of v → KeepsTables table (work_in t)
+  keeps_of t within =
+      let own : IsCommitOf v t = (tells_commits v).only t within in
+      subst (λ (w : Work). KeepsTables table w) (ap work_in (sym own.is)) (keep own.seat (record { work = own.work; fate = world.commits own.stamp own.succ own.pred }) own.stamp own.session own.over refl)
+
+  pub began_on : (seat : ℕ) (w : Work) → IsSession v seat → Has v seat w → BeganOn table w
+  began_on seat w session has =
+      let certified = laws.certified (history_of v) holds.certified w.begin in
+      let found = laws.exists (below w.begin (history_of v)) certified in
+      let order = found.0 in
+      let runs : RunsBelow v w.begin order = record {
+        serial = found.1;
+        run = laws.run_below (history_of v) v.opening.rows holds.snapshots holds.certified w.begin order found.1;
+        one_row = laws.row (below w.begin (history_of v)) v.opening.rows (laws.snapshot (history_of v) v.opening.rows holds.snapshots w.begin) certified;
+      } in
+      let leaves : LeavesNewest v w.begin order = record {
+        newest = laws.newest_below (history_of v) v.opening.rows holds.snapshots holds.certified w.begin order found.1 (begins_above sound_law v holds seat w session has);
+        one = λ oid stamp other_stamp row other first second.
+            (laws.newest (history_of v) v.opening.rows holds.snapshots holds.certified oid w.begin stamp other_stamp row other first second).1;
+      } in
+      let fits : FitsWork sound_law w (rows_after order v.opening.rows) = fits_below sound_law v holds seat w session has order runs leaves in
+      record {
+        rows = rows_after order v.opening.rows;
+        sound = fits.meets;
+        fits = fits;
+        are = after_commits table order v.opening.rows (lawful_below sound_law v holds w.begin order runs).0
+            (λ t m. keeps_of t (in_below (history_of v) w.begin t (∈-permutation t order (below w.begin (history_of v)) (IsPermutation-sym (below w.begin (history_of v)) order found.1.same) m)).0)
+            opened;
+      }

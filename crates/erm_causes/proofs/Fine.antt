@@ -1,0 +1,163 @@
+-- A session's transactions touch objects of their lines' tables: what is kept of this by each move.
+use Rattle.std.proofs.Common.{◌≡◌, ◌≢◌, ℕ, zero, suc, ◌<◌, ◌≤◌, List, [], ◌∷◌, ◌++◌, Option, Some, None, slice_get, append_assoc, inl, inr, sym, ap, ◌∙◌, subst}
+use Rattle.std.proofs.lemmas.Bool.{cases_eq}
+use Rattle.erm_model.specs.declared.history.TransactionRecord.{TransactionRecord}
+use Rattle.erm_model.specs.History.{History}
+use Rattle.erm_model.specs.Member.{◌∈◌}
+use Rattle.erm_model.specs.Run.{Step}
+use Rattle.erm_machine.proofs.Listed.{∈-first}
+use Rattle.erm_world.specs.Laws.{IsCommitOf}
+use Rattle.erm_world.specs.World.{Fate, Finished, IsSession, Session, Stand, View, Work, history_of, stamp_of, work_of}
+use Rattle.erm_world.specs.World as world
+use Rattle.erm_world.proofs.Commits.{tells_commits}
+use Rattle.erm_maps.specs.Runs.{IsRunOf}
+use Rattle.erm_good_report.specs.Causes.{NamesTable, WritesTable}
+use Rattle.erm_good_report.specs.Transactions.{Ending, Excludes, Exchange, Progress, Transaction}
+use Rattle.erm_causes.specs.Touched.{Touches, TouchesAll, TouchesNow, TouchesOne, TouchesOver, WasClosed}
+use Rattle.erm_causes.proofs.Coloured.{KeepsTables}
+
+-- one that is over, and keeps to its tables where it was sealed
+pub record FineOne (table : ℕ → ℕ) (h : History) (t : Transaction) (f : Finished) : Type 0 where
+  pub one : TouchesOne table h t f
+  pub keeps : (stamp : ℕ) → stamp_of f.fate ≡ Some stamp → KeepsTables table f.work
+
+abbrev pub FineOver : (ℕ → ℕ) → History → List Transaction → List Finished → Type 0
+FineOver table h [] [] = Unit {0}
+FineOver table h [] (f ∷ fs) = ⊥
+FineOver table h (t ∷ ts) [] = ⊥
+FineOver table h (t ∷ ts) (f ∷ fs) = FineOne table h t f × FineOver table h ts fs
+
+-- one in progress touches so, keeps to its tables, and is the run of some operations where it isn't sealed
+abbrev pub FineNow : (ℕ → ℕ) → Option Transaction → Stand → Type 0
+FineNow table None world.idle = Unit {0}
+FineNow table (Some t) (world.active w) = Touches table t w × KeepsTables table w × ((steps : List Step) × IsRunOf w steps)
+FineNow table (Some t) (world.sealed w stamp) = Touches table t w × KeepsTables table w
+FineNow table current stand = ⊥
+
+pub record IsFine (table : ℕ → ℕ) (h : History) (p : Progress) (s : Session) : Type 0 where
+  pub over : FineOver table h p.over s.over
+  pub now : FineNow table p.current s.stand
+
+-- LINES. What touches so does with more lines.
+pub names_more : (t u : Transaction) (k : ℕ) → ((e : Exchange) → e ∈ t.lines → e ∈ u.lines) → NamesTable t k → NamesTable u k
+names_more t u k more names = record { line = names.line; of = more names.line names.of; names = names.names }
+
+pub writes_more : (t u : Transaction) (k : ℕ) → ((e : Exchange) → e ∈ t.lines → e ∈ u.lines) → WritesTable t k → WritesTable u k
+writes_more t u k more writes = record { line = writes.line; of = more writes.line writes.of; names = writes.names; writes = writes.writes }
+
+pub touches_more : (table : ℕ → ℕ) (t u : Transaction) (w : Work) → ((e : Exchange) → e ∈ t.lines → e ∈ u.lines) → Touches table t w → Touches table u w
+touches_more table t u w more touches = record {
+  reads = λ x is. names_more t u (table x) more (touches.reads x is);
+  claims = λ x is. writes_more t u (table x) more (touches.claims x is);
+}
+
+pub touches_same : (table : ℕ → ℕ) (t u : Transaction) (w : Work) → u.lines ≡ t.lines → Touches table t w → Touches table u w
+touches_same table t u w same = touches_more table t u w (λ e within. subst (λ (es : List Exchange). e ∈ es) (sym same) within)
+
+pub touches_nothing : (table : ℕ → ℕ) (t : Transaction) (number begin : ℕ) → Touches table t (world.begun number begin)
+touches_nothing table t number begin = record { reads = λ x is. cc; claims = λ x is. cc }
+
+-- OVER. Lists of those that are over.
+closed_later : (h g : History) → ((t : TransactionRecord) → t ∈ h → t ∈ g) → (ending : Ending) (w : Work) → WasClosed h ending w → WasClosed g ending w
+closed_later h g more (Excludes stamp succ pred) w closed = record {
+  after = closed.after;
+  after_in = more closed.after closed.after_in;
+  overwrites = closed.overwrites;
+  succ_is = closed.succ_is;
+  after_below = closed.after_below;
+  before = closed.before;
+  before_in = more closed.before closed.before_in;
+  counts = closed.counts;
+  pred_is = closed.pred_is;
+  before_below = closed.before_below;
+  closed = closed.closed;
+}
+closed_later h g more ending w closed = tt
+
+pub over_later : (table : ℕ → ℕ) (h g : History) → ((t : TransactionRecord) → t ∈ h → t ∈ g) → (ts : List Transaction) (fs : List Finished) → FineOver table h ts fs → FineOver table g ts fs
+over_later table h g more [] [] fine = tt
+over_later table h g more [] (f ∷ fs) fine = absurd fine
+over_later table h g more (t ∷ ts) [] fine = absurd fine
+over_later table h g more (t ∷ ts) (f ∷ fs) fine = (
+  record { one = record { touches = fine.0.one.touches; closed = closed_later h g more t.ending f.work fine.0.one.closed }; keeps = fine.0.keeps },
+  over_later table h g more ts fs fine.1,
+)
+
+pub over_one_more : (table : ℕ → ℕ) (h : History) (ts : List Transaction) (fs : List Finished) (t : Transaction) (f : Finished) → FineOver table h ts fs → FineOne table h t f
+    → FineOver table h (ts ++ t ∷ []) (fs ++ f ∷ [])
+over_one_more table h [] [] t f fine one = (one, tt)
+over_one_more table h [] (g ∷ fs) t f fine one = absurd fine
+over_one_more table h (u ∷ ts) [] t f fine one = absurd fine
+over_one_more table h (u ∷ ts) (g ∷ fs) t f fine one = (fine.0, over_one_more table h ts fs t f fine.1 one)
+
+keeps_at : (table : ℕ → ℕ) (h : History) (ts : List Transaction) (fs : List Finished) (k : ℕ) (f : Finished) (stamp : ℕ) → FineOver table h ts fs → slice_get fs k ≡ Some f
+    → stamp_of f.fate ≡ Some stamp → KeepsTables table f.work
+keeps_at table h [] [] k f stamp fine at is = cc
+keeps_at table h [] (g ∷ fs) k f stamp fine at is = absurd fine
+keeps_at table h (t ∷ ts) [] k f stamp fine at is = absurd fine
+keeps_at table h (t ∷ ts) (g ∷ fs) zero f stamp fine at is =
+    let same : g ≡ f = cc in
+    subst (λ (e : Finished). KeepsTables table e.work) same (fine.0.keeps stamp (ap (λ (e : Finished). stamp_of e.fate) same ∙ is))
+keeps_at table h (t ∷ ts) (g ∷ fs) (suc k) f stamp fine at is = keeps_at table h ts fs k f stamp fine.1 at is
+
+pub over_keeps : (table : ℕ → ℕ) (h : History) (p : Progress) (s : Session) → IsFine table h p s → (f : Finished) (stamp : ℕ) → f ∈ s.over → stamp_of f.fate ≡ Some stamp → KeepsTables table f.work
+over_keeps table h p s fine f stamp within is = keeps_at table h p.over s.over within.0 f stamp fine.over within.1 is
+
+-- what touches so, without what is kept besides
+over_touches : (table : ℕ → ℕ) (h : History) (ts : List Transaction) (fs : List Finished) → FineOver table h ts fs → TouchesOver table h ts fs
+over_touches table h [] [] fine = tt
+over_touches table h [] (f ∷ fs) fine = absurd fine
+over_touches table h (t ∷ ts) [] fine = absurd fine
+over_touches table h (t ∷ ts) (f ∷ fs) fine = (fine.0.one, over_touches table h ts fs fine.1)
+
+now_touches : (table : ℕ → ℕ) (current : Option Transaction) (stand : Stand) → FineNow table current stand → TouchesNow table current stand
+now_touches table None world.idle now = tt
+now_touches table None (world.active w) now = absurd now
+now_touches table None (world.sealed w stamp) now = absurd now
+now_touches table (Some t) world.idle now = absurd now
+now_touches table (Some t) (world.active w) now = now.0
+now_touches table (Some t) (world.sealed w stamp) now = now.0
+
+pub fine_touches : (table : ℕ → ℕ) (h : History) (p : Progress) (s : Session) → IsFine table h p s → TouchesAll table h p s
+fine_touches table h p s fine = record { over = over_touches table h p.over s.over fine.over; now = now_touches table p.current s.stand fine.now }
+
+-- HISTORIES. One session goes on: what was over stays, with more behind.
+pub record Turned (v : View) (seat : ℕ) (t : View) : Type 0 where
+  pub others : (q : ℕ) → q ≢ seat → t.session q ≡ v.session q
+  pub opening : t.opening ≡ v.opening
+  pub more : List Finished
+  pub over : (t.session seat).over ≡ (v.session seat).over ++ more
+
+still_over : (v t : View) (seat : ℕ) → Turned v seat t → (q : ℕ) (f : Finished) → f ∈ (v.session q).over → f ∈ (t.session q).over
+still_over v t seat turned q f within = elim (cases_eq q seat) [
+  | inl is ↦
+      let there : f ∈ (v.session seat).over = subst (λ (n : ℕ). f ∈ (v.session n).over) is within in
+      let here : f ∈ (t.session seat).over = subst (λ (fs : List Finished). f ∈ fs) (sym turned.over) (∈-first (v.session seat).over turned.more f there) in
+      subst (λ (n : ℕ). f ∈ (t.session n).over) (sym is) here
+  | inr another ↦ subst (λ (s : Session). f ∈ s.over) (sym (turned.others q another)) within
+]
+
+pub still_session : (v t : View) (q : ℕ) → t.opening ≡ v.opening → IsSession v q → IsSession t q
+still_session v t q opening session = subst (λ (o : world.Opening). (0 < q) × (q ≤ o.sessions)) (sym opening) session
+
+pub history_grows : (v t : View) (seat : ℕ) → Turned v seat t → (r : TransactionRecord) → r ∈ history_of v → r ∈ history_of t
+history_grows v t seat turned r within =
+    let of : IsCommitOf v r = (tells_commits v).only r within in
+    (tells_commits t).each r (record {
+      seat = of.seat;
+      session = still_session v t of.seat turned.opening of.session;
+      work = of.work;
+      stamp = of.stamp;
+      succ = of.succ;
+      pred = of.pred;
+      over = still_over v t seat turned of.seat (record { work = of.work; fate = world.commits of.stamp of.succ of.pred }) of.over;
+      is = of.is;
+    })
+
+pub turned_then : (v u t : View) (seat : ℕ) → Turned v seat u → Turned u seat t → Turned v seat t
+turned_then v u t seat first second = record {
+  others = λ q another. second.others q another ∙ first.others q another;
+  opening = second.opening ∙ first.opening;
+  more = first.more ++ second.more;
+  over = second.over ∙ ap (λ (fs : List Finished). fs ++ second.more) first.over ∙ append_assoc (v.session seat).over first.more second.more;
+}

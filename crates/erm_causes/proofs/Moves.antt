@@ -1,0 +1,284 @@
+-- Each move of an execution leaves all sessions so that their transactions touch objects of their lines' tables alone.
+use Rattle.std.proofs.Common.{◌≡◌, ◌≢◌, ℕ, zero, suc, ◌<◌, ◌≤◌, ◌==◌, cond, List, [], ◌∷◌, ◌++◌, Option, Some, None, append-nil, inl, inr, refl, sym, ap, ◌∙◌, subst, arith}
+use Rattle.std.specs.Option.{option_map, option_to_list}
+use Rattle.std.proofs.lemmas.Bool.Decides.{eqb_tells}
+use Rattle.erm_model.specs.declared.history.TransactionRecord.{TransactionRecord}
+use Rattle.erm_model.specs.declared.outcome.Phase.TheVariants.{Active}
+use Rattle.erm_model.specs.History.{History}
+use Rattle.erm_model.specs.Lawful.{times_made}
+use Rattle.erm_model.specs.Member.{◌∈◌}
+use Rattle.erm_node.specs.Sound.{sound_law}
+use Rattle.erm_world.specs.Calls.{DidSeal, IsDone, Works}
+use Rattle.erm_world.specs.Laws.{IsCommitOf, IsSerializable}
+use Rattle.erm_world.specs.World.{Fate, Finished, IsSession, Session, Stand, View, Work, history_of, made_by_all, made_in, made_upto, phase_at, phase_of, stamp_of, work_at, work_of}
+use Rattle.erm_world.specs.World as world
+use Rattle.erm_world.proofs.Commits.{tells_commits}
+use Rattle.erm_maps.specs.Runs.{IsRunOf}
+use Rattle.erm_report.specs.declared.answer.Answer.{Answer}
+use Rattle.erm_script.specs.declared.script.Command.{Command}
+use Rattle.erm_script.specs.Script.{IsInRange}
+use Rattle.erm_good_report.specs.Transactions.{Ending, Progress, Transaction, ended, heard, table_of, with_ending}
+use Rattle.erm_lines.specs.Executions.{DidFlush, DidMove, Move, close, flush, line}
+use Rattle.erm_causes.specs.Touched.{AreOfTables, Touches, WasClosed}
+use Rattle.erm_causes.proofs.Answered.{done_turned, now_active, operated_fine, operated_made, operated_turned}
+use Rattle.erm_causes.proofs.Begun.{CommitsKeep, HistoryLaws}
+use Rattle.erm_causes.proofs.Coloured.{KeepsTables}
+use Rattle.erm_causes.proofs.Fine.{FineNow, FineOne, FineOver, IsFine, Turned, history_grows, over_keeps, over_later, over_one_more, still_session, touches_nothing, touches_same, turned_then}
+use Rattle.erm_causes.proofs.Made.{made_by_one, made_done}
+use Rattle.erm_causes.proofs.Own.{TreeLaws}
+use Rattle.erm_causes.proofs.Quiet.{HasNow, Lined, Quiet, SameLines, SameNow, closed_quiet, lined}
+use Rattle.erm_causes.proofs.Quiet as quiet
+
+-- QUIET MOVES. The session goes on, and nothing is made.
+own_turned : (v t : View) (seat : ℕ) (stand : Stand) → t.session seat ≡ record { over = (v.session seat).over; stand = stand } → ((q : ℕ) → q ≢ seat → t.session q ≡ v.session q)
+    → t.opening ≡ v.opening → Turned v seat t
+own_turned v t seat stand own others opening = record {
+  others = others;
+  opening = opening;
+  more = [];
+  over = ap (λ (s : Session). s.over) own ∙ sym (append-nil (v.session seat).over);
+}
+
+itself_turned : (v t : View) (seat : ℕ) → t ≡ v → Turned v seat t
+itself_turned v t seat is = record {
+  others = λ q another. ap (λ (x : View). x.session q) is;
+  opening = ap (λ (x : View). x.opening) is;
+  more = [];
+  over = ap (λ (x : View). (x.session seat).over) is ∙ sym (append-nil (v.session seat).over);
+}
+
+seal_turned : (v t : View) (seat stamp : ℕ) → DidSeal v seat stamp t → Turned v seat t
+seal_turned v t seat stamp did = own_turned v t seat (world.sealed (work_at v seat) stamp) did.own did.others did.opening
+
+quiet_turned : (v : View) (seat : ℕ) (asked : Option Command) (a : Answer) (t : View) → Quiet v seat asked a t → Turned v seat t
+quiet_turned v seat asked a t (quiet.still is hears) = itself_turned v t seat is
+quiet_turned v seat asked a t (quiet.begins number begin idle works hears) = own_turned v t seat (world.active (world.begun number begin)) works.own works.others works.opening
+quiet_turned v seat asked a t (quiet.seals stamp active did hears) = seal_turned v t seat stamp did
+quiet_turned v seat asked a t (quiet.done w fate ending now did closed hears) = done_turned v t seat w fate did
+
+seal_made : (v t : View) (seat stamp : ℕ) → IsSession v seat → DidSeal v seat stamp t → (x : ℕ) → made_by_all t x ≡ made_by_all v x
+seal_made v t seat stamp session did x =
+    omega (arith, made_by_one v t seat x session did.others did.opening, ap (λ (s : Session). made_in s x) did.own)
+
+work_now : (stand : Stand) (w : Work) → HasNow stand w → work_of stand ≡ w
+work_now stand w (inl active) = ap work_of active
+work_now stand w (inr (stamp, sealed)) = ap work_of sealed
+
+quiet_made : (v : View) (seat : ℕ) (asked : Option Command) (a : Answer) (t : View) → IsSession v seat → Quiet v seat asked a t → (x : ℕ) → made_by_all t x ≡ made_by_all v x
+quiet_made v seat asked a t session (quiet.still is hears) x = ap (λ (y : View). made_by_all y x) is
+quiet_made v seat asked a t session (quiet.begins number begin idle works hears) x =
+    let none : times_made (work_of (v.session seat).stand).made x ≡ 0 = ap (λ (stand : Stand). times_made (work_of stand).made x) idle in
+    omega (arith, made_by_one v t seat x session works.others works.opening, ap (λ (s : Session). made_in s x) works.own, none)
+quiet_made v seat asked a t session (quiet.seals stamp active did hears) x = seal_made v t seat stamp session did x
+quiet_made v seat asked a t session (quiet.done w fate ending now did closed hears) x =
+    let same : times_made (work_at v seat).made x ≡ times_made w.made x = ap (λ (y : Work). times_made y.made x) (work_now (v.session seat).stand w now) in
+    omega (arith, made_by_one v t seat x session did.others did.opening, made_done v t seat w fate x did, same)
+
+-- FINE. And its transactions touch what they did.
+module _ (table : ℕ → ℕ) where
+  now_same : (current other : Option Transaction) (stand : Stand) → SameNow current other → FineNow table current stand → FineNow table other stand
+  now_same None None stand same now = now
+  now_same None (Some u) stand same now = absurd same
+  now_same (Some t) None stand same now = absurd same
+  now_same (Some t) (Some u) world.idle same now = absurd now
+  now_same (Some t) (Some u) (world.active w) same now = (touches_same table t u w same now.0, now.1, now.2)
+  now_same (Some t) (Some u) (world.sealed w stamp) same now = (touches_same table t u w same now.0, now.1)
+
+  pub same_fine : (h : History) (p q : Progress) (s : Session) → SameLines p q → IsFine table h p s → IsFine table h q s
+  same_fine h p q s same fine = record {
+    over = subst (λ (ts : List Transaction). FineOver table h ts s.over) (sym same.0) fine.over;
+    now = now_same p.current q.current s.stand same.1 fine.now;
+  }
+
+  -- the transaction in progress, sealed or not
+  pub record HasFine (current : Option Transaction) (w : Work) : Type 0 where
+    pub told : Transaction
+    pub is : current ≡ Some told
+    pub touches : Touches table told w
+    pub keeps : KeepsTables table w
+
+  now_has : (current : Option Transaction) (stand : Stand) (w : Work) → FineNow table current stand → HasNow stand w → HasFine current w
+  now_has None world.idle w now (inl active) = cc
+  now_has None world.idle w now (inr (stamp, sealed)) = cc
+  now_has None (world.active u) w now has = absurd now
+  now_has None (world.sealed u stamp) w now has = absurd now
+  now_has (Some t) world.idle w now has = absurd now
+  now_has (Some t) (world.active u) w now has =
+      let same : u ≡ w = work_now (world.active u) w has in
+      record { told = t; is = refl; touches = subst (λ (x : Work). Touches table t x) same now.0; keeps = subst (λ (x : Work). KeepsTables table x) same now.1 }
+  now_has (Some t) (world.sealed u stamp) w now has =
+      let same : u ≡ w = work_now (world.sealed u stamp) w has in
+      record { told = t; is = refl; touches = subst (λ (x : Work). Touches table t x) same now.0; keeps = subst (λ (x : Work). KeepsTables table x) same now.1 }
+
+  seal_now : (current : Option Transaction) (stand : Stand) (stamp : ℕ) → phase_of stand ≡ Active → FineNow table current stand → FineNow table current (world.sealed (work_of stand) stamp)
+  seal_now current stand stamp active now =
+      let at = now_active table current stand now active in
+      subst (λ (r : Option Transaction). FineNow table r (world.sealed (work_of stand) stamp)) (sym at.is) (at.touches, at.keeps)
+
+  seal_fine : (v t : View) (seat stamp : ℕ) (p : Progress) → phase_at v seat ≡ Active → DidSeal v seat stamp t → IsFine table (history_of v) p (v.session seat)
+      → IsFine table (history_of t) p (t.session seat)
+  seal_fine v t seat stamp p active did fine = subst (λ (s : Session). IsFine table (history_of t) p s) (sym did.own) (record {
+    over = over_later table (history_of v) (history_of t) (history_grows v t seat (seal_turned v t seat stamp did)) p.over (v.session seat).over fine.over;
+    now = seal_now p.current (v.session seat).stand stamp active fine.now;
+  })
+
+  begun_fine : (v t : View) (seat number begin : ℕ) (p : Progress) (told : Transaction) → IsRunOf (world.begun number begin) [] → Works v seat (world.begun number begin) t
+      → IsFine table (history_of v) p (v.session seat) → IsFine table (history_of t) (record { over = p.over; current = Some told }) (t.session seat)
+  begun_fine v t seat number begin p told run works fine = subst (λ (s : Session). IsFine table (history_of t) (record { over = p.over; current = Some told }) s) (sym works.own) (record {
+    over = over_later table (history_of v) (history_of t)
+        (history_grows v t seat (own_turned v t seat (world.active (world.begun number begin)) works.own works.others works.opening)) p.over (v.session seat).over fine.over;
+    now = (touches_nothing table told number begin, (λ rows sound fits are. are), ([], run));
+  })
+
+  done_fine : (v t : View) (seat : ℕ) (w : Work) (fate : Fate) (ending : Ending) (p : Progress) → HasNow (v.session seat).stand w → IsDone v seat w fate t → WasClosed (history_of t) ending w
+      → IsFine table (history_of v) p (v.session seat) → IsFine table (history_of t) (ended ending p) (t.session seat)
+  done_fine v t seat w fate ending p has did closed fine =
+      let now = now_has p.current (v.session seat).stand w fine.now has in
+      let over = over_later table (history_of v) (history_of t) (history_grows v t seat (done_turned v t seat w fate did)) p.over (v.session seat).over fine.over in
+      let one : FineOne table (history_of t) (with_ending ending now.told) (record { work = w; fate = fate }) = record {
+        one = record { touches = touches_same table now.told (with_ending ending now.told) w refl now.touches; closed = closed };
+        keeps = λ stamp at. now.keeps;
+      } in
+      subst (λ (s : Session). IsFine table (history_of t) (ended ending p) s) (sym did.own) (record {
+        over = subst (λ (r : Option Transaction). FineOver table (history_of t) (p.over ++ option_to_list (option_map (with_ending ending) r)) ((v.session seat).over ++ record { work = w; fate = fate } ∷ []))
+            (sym now.is) (over_one_more table (history_of t) p.over (v.session seat).over _ _ over one);
+        now = tt;
+      })
+
+  quiet_fine : ((number begin : ℕ) → IsRunOf (world.begun number begin) []) → (v : View) (seat : ℕ) (asked : Option Command) (a : Answer) (t : View) (p : Progress) → IsSerializable sound_law t
+      → Quiet v seat asked a t → IsFine table (history_of v) p (v.session seat) → IsFine table (history_of t) (heard seat asked a p) (t.session seat)
+  quiet_fine run v seat asked a t p holds (quiet.still is hears) fine =
+      subst (λ (x : View). IsFine table (history_of x) (heard seat asked a p) (x.session seat)) (sym is)
+      (same_fine (history_of v) p (heard seat asked a p) (v.session seat) (hears seat p) fine)
+  quiet_fine run v seat asked a t p holds (quiet.begins number begin idle works hears) fine =
+      let heard_is = hears seat p in
+      subst (λ (q : Progress). IsFine table (history_of t) q (t.session seat)) (sym heard_is.1)
+      (begun_fine v t seat number begin p heard_is.0 (run number begin) works fine)
+  quiet_fine run v seat asked a t p holds (quiet.seals stamp active did hears) fine =
+      same_fine (history_of t) p (heard seat asked a p) (t.session seat) (hears seat p) (seal_fine v t seat stamp p active did fine)
+  quiet_fine run v seat asked a t p holds (quiet.done w fate ending now did closed hears) fine =
+      subst (λ (q : Progress). IsFine table (history_of t) q (t.session seat)) (sym (hears seat p)) (done_fine v t seat w fate ending p now did (closed holds) fine)
+
+-- SESSIONS. What is said is heard of its session alone.
+abbrev pub heard_one : ℕ → Option Command → Answer → (ℕ → Progress) → ℕ → Progress
+heard_one seat asked a p q = cond (seat == q) (heard q asked a (p q)) (p q)
+
+abbrev pub heard_move : Move → (ℕ → Progress) → ℕ → Progress
+heard_move (line l a) p = heard_one l.session (Some l.command) a p
+heard_move (close seat a) p = heard_one seat None a p
+heard_move flush p = p
+
+-- all sessions of a world are so
+abbrev pub AllFine : (ℕ → ℕ) → (ℕ → Progress) → View → Type 0
+AllFine table p v = (q : ℕ) → IsSession v q → IsFine table (history_of v) (p q) (v.session q)
+
+pub session_before : (v t : View) (q : ℕ) → t.opening ≡ v.opening → IsSession t q → IsSession v q
+session_before v t q opening session = subst (λ (o : world.Opening). (0 < q) × (q ≤ o.sessions)) opening session
+
+pub all_keep : (table : ℕ → ℕ) (p : ℕ → Progress) (v : View) → AllFine table p v → CommitsKeep table v
+all_keep table p v fine seat f stamp session within is = over_keeps table (history_of v) (p seat) (v.session seat) (fine seat session) f stamp within is
+
+other_fine : (table : ℕ → ℕ) (h g : History) (p : Progress) (s : Session) → ((r : TransactionRecord) → r ∈ h → r ∈ g) → IsFine table h p s → IsFine table g p s
+other_fine table h g p s more fine = record { over = over_later table h g more p.over s.over fine.over; now = fine.now }
+
+all_turned : (table : ℕ → ℕ) (p : ℕ → Progress) (v t : View) (seat : ℕ) (asked : Option Command) (a : Answer) → Turned v seat t → AllFine table p v
+    → IsFine table (history_of t) (heard seat asked a (p seat)) (t.session seat) → AllFine table (heard_one seat asked a p) t
+all_turned table p v t seat asked a turned fine own q session = elim (eqb_tells seat q) as (λ _. IsFine table (history_of t) (heard_one seat asked a p q) (t.session q)) [
+  | inl here ↦
+      subst (λ (r : Progress). IsFine table (history_of t) r (t.session q)) (ap (λ b. cond b (heard q asked a (p q)) (p q)) (sym here.0))
+      (subst (λ (n : ℕ). IsFine table (history_of t) (heard n asked a (p n)) (t.session n)) here.1 own)
+  | inr there ↦
+      let same : t.session q ≡ v.session q = turned.others q (λ is. there.1 (sym is)) in
+      subst (λ (r : Progress). IsFine table (history_of t) r (t.session q)) (ap (λ b. cond b (heard q asked a (p q)) (p q)) (sym there.0))
+      (subst (λ (s : Session). IsFine table (history_of t) (p q) s) (sym same)
+      (other_fine table (history_of v) (history_of t) (p q) (v.session q) (history_grows v t seat turned) (fine q (session_before v t q turned.opening session))))
+]
+
+-- a flush leaves all sessions
+flushed_history : (v t : View) → DidFlush v t → (r : TransactionRecord) → r ∈ history_of v → r ∈ history_of t
+flushed_history v t did r within =
+    let of : IsCommitOf v r = (tells_commits v).only r within in
+    (tells_commits t).each r (record {
+      seat = of.seat;
+      session = still_session v t of.seat did.opening of.session;
+      work = of.work;
+      stamp = of.stamp;
+      succ = of.succ;
+      pred = of.pred;
+      over = subst (λ (s : Session). record { work = of.work; fate = world.commits of.stamp of.succ of.pred } ∈ s.over) (sym (did.session of.seat of.session)) of.over;
+      is = of.is;
+    })
+
+made_same : (n : ℕ) (f g : ℕ → Session) (x : ℕ) → ((q : ℕ) → 0 < q → q ≤ n → g q ≡ f q) → made_upto n g x ≡ made_upto n f x
+unfolding made_upto
+made_same zero f g x same = refl
+made_same (suc n) f g x same =
+    omega (arith, made_same n f g x (λ q above within. same q above (omega (arith, within))), ap (λ (s : Session). made_in s x) (same (suc n) (omega arith) (omega arith)))
+
+flushed_made : (v t : View) → DidFlush v t → (x : ℕ) → made_by_all t x ≡ made_by_all v x
+flushed_made v t did x =
+    ap (λ (o : world.Opening). made_upto o.sessions t.session x) did.opening
+    ∙ made_same v.opening.sessions v.session t.session x (λ q above within. did.session q (above, within))
+
+-- what a move makes is made by all
+lined_made : (v t : View) (seat : ℕ) (c : Command) (a : Answer) → IsSession v seat → Lined v seat c a t → (x : ℕ) → made_by_all v x ≤ made_by_all t x
+lined_made v t seat c a session (quiet.quiet did) x = omega (arith, quiet_made v seat (Some c) a t session did x)
+lined_made v t seat c a session (quiet.sealed_first stamp between active sealed did) x =
+    omega (arith, seal_made v between seat stamp session sealed x, quiet_made between seat (Some c) a t (still_session v between seat sealed.opening session) did x)
+lined_made v t seat c a session (quiet.named k names active did) x = operated_made v t seat c a session active did x
+
+pub move_made : (v : View) (m : Move) (t : View) → DidMove v m t → (x : ℕ) → made_by_all v x ≤ made_by_all t x
+move_made v (line l a) t did x = lined_made v t l.session l.command a did.session (lined v l a t did) x
+move_made v (close seat a) t did x = omega (arith, quiet_made v seat None a t did.session (closed_quiet v seat a t did) x)
+move_made v flush t did x = omega (arith, flushed_made v t did x)
+
+lined_turned : (v t : View) (seat : ℕ) (c : Command) (a : Answer) → Lined v seat c a t → Turned v seat t
+lined_turned v t seat c a (quiet.quiet did) = quiet_turned v seat (Some c) a t did
+lined_turned v t seat c a (quiet.sealed_first stamp between active sealed did) =
+    turned_then v between t seat (seal_turned v between seat stamp sealed) (quiet_turned between seat (Some c) a t did)
+lined_turned v t seat c a (quiet.named k names active did) = operated_turned v t seat c a active did
+
+pub move_opening : (v : View) (m : Move) (t : View) → DidMove v m t → t.opening ≡ v.opening
+move_opening v (line l a) t did = (lined_turned v t l.session l.command a (lined v l a t did)).opening
+move_opening v (close seat a) t did = (quiet_turned v seat None a t (closed_quiet v seat a t did)).opening
+move_opening v flush t did = did.opening
+
+-- the table that a move names
+abbrev pub table_in : Move → Option ℕ
+table_in (line l a) = table_of l.command
+table_in (close seat a) = None
+table_in flush = None
+
+abbrev pub IsMoveInRange : Move → Type 0
+IsMoveInRange (line l a) = IsInRange l.command
+IsMoveInRange (close seat a) = Unit {0}
+IsMoveInRange flush = Unit {0}
+
+module _ (tree : TreeLaws) (laws : HistoryLaws) (run : (number begin : ℕ) → IsRunOf (world.begun number begin) []) (table : ℕ → ℕ) (p : ℕ → Progress) (v t : View)
+    (holds : IsSerializable sound_law t) (opened : AreOfTables table t.opening.rows) (fine : AllFine table p v) where
+  lined_fine : (seat : ℕ) (c : Command) (a : Answer) → IsSession v seat → IsInRange c → ((k : ℕ) → table_of c ≡ Some k → (x : ℕ) → made_by_all v x < made_by_all t x → table x ≡ k)
+      → Lined v seat c a t → IsFine table (history_of t) (heard seat (Some c) a (p seat)) (t.session seat)
+  lined_fine seat c a session range made (quiet.quiet did) = quiet_fine table run v seat (Some c) a t (p seat) holds did (fine seat session)
+  lined_fine seat c a session range made (quiet.sealed_first stamp between active sealed did) =
+      quiet_fine table run between seat (Some c) a t (p seat) holds did (seal_fine table v between seat stamp (p seat) active sealed (fine seat session))
+  lined_fine seat c a session range made (quiet.named k names active did) =
+      operated_fine tree laws table v t seat c a k session active names range holds opened (all_keep table p v fine) (made k names) (p seat) (fine seat session) did
+
+  pub move_fine : (m : Move) → DidMove v m t → IsMoveInRange m → ((k : ℕ) → table_in m ≡ Some k → (x : ℕ) → made_by_all v x < made_by_all t x → table x ≡ k)
+      → AllFine table (heard_move m p) t
+  move_fine (line l a) did range made =
+      let it = lined v l a t did in
+      all_turned table p v t l.session (Some l.command) a (lined_turned v t l.session l.command a it) fine (lined_fine l.session l.command a did.session range made it)
+  move_fine (close seat a) did range made =
+      let it = closed_quiet v seat a t did in
+      all_turned table p v t seat None a (quiet_turned v seat None a t it) fine (quiet_fine table run v seat None a t (p seat) holds it (fine seat did.session))
+  move_fine flush did range made = λ q session.
+      let before = session_before v t q did.opening session in
+      subst (λ (s : Session). IsFine table (history_of t) (p q) s) (sym (did.session q before))
+      (other_fine table (history_of v) (history_of t) (p q) (v.session q) (flushed_history v t did) (fine q before))
+
+-- what was committed stays so
+pub move_history : (v : View) (m : Move) (t : View) → DidMove v m t → (r : TransactionRecord) → r ∈ history_of v → r ∈ history_of t
+move_history v (line l a) t did r within = history_grows v t l.session (lined_turned v t l.session l.command a (lined v l a t did)) r within
+move_history v (close seat a) t did r within = history_grows v t seat (quiet_turned v seat None a t (closed_quiet v seat a t did)) r within
+move_history v flush t did r within = flushed_history v t did r within

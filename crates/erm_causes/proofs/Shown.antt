@@ -1,0 +1,220 @@
+-- At each line of a run what is told shows the cause of its refusal.
+use Rattle.std.proofs.Common.{◌≡◌, ℕ, zero, suc, ◌+◌, ◌<◌, ◌≤◌, List, [], ◌∷◌, ◌++◌, Some, None, take, slice_get, length, sum_by, min, fold, refl, sym, ap, ◌∙◌, subst}
+use Rattle.erm_model.specs.declared.history.TransactionRecord.{TransactionRecord}
+use Rattle.erm_model.specs.declared.limits.TheConstants.{LEAST_BLOCK, WRITE_LIMIT}
+use Rattle.erm_model.specs.Member.{◌∈◌}
+use Rattle.erm_model.proofs.Members.{∈-behind}
+use Rattle.erm_machine.proofs.Listed.{∈-head}
+use Rattle.erm_node.specs.Sound.{sound_law}
+use Rattle.erm_report.specs.declared.answer.Answer.{Answer}
+use Rattle.erm_report.specs.declared.answer.Answer.TheVariants as answer
+use Rattle.erm_script.specs.declared.script.Command.{Command}
+use Rattle.erm_script.specs.declared.script.ScriptLine.{ScriptLine}
+use Rattle.erm_script.specs.Script.{IsInRange}
+use Rattle.erm_world.specs.Laws.{IsSerializable}
+use Rattle.erm_world.specs.World.{IsSession, Session, View, Work, history_of, made_by_all, phase_at, work_at}
+use Rattle.erm_world.specs.World as world
+use Rattle.erm_maps.specs.Runs.{IsRunOf}
+use Rattle.erm_good_report.specs.GoodReport.{places_of}
+use Rattle.erm_good_report.specs.Opening.{InTurn, Opening}
+use Rattle.erm_good_report.specs.Phases.{Closed, refusal_in, refusal_of}
+use Rattle.erm_good_report.specs.Phases as report
+use Rattle.erm_good_report.specs.Refusals.{HasRefusalCause, Moment, claims_of, current_of, flushed_at, flushed_told, moment_at}
+use Rattle.erm_good_report.specs.Transactions.{Progress, Said, Transaction, nothing, progress_of, said_of, table_of, transactions_of, with_line}
+use Rattle.erm_lines.specs.Executions.{AreClosed, IsExecution, IsOpeningOf, IsRun, Move, line, line_moves}
+use Rattle.erm_lines.specs.Laws.{ExecutionsGoOn, ExecutionsTell, RunsRefuseWithCause}
+use Rattle.erm_lines.specs.Told.{Tells}
+use Rattle.erm_told.proofs.Ended.{at_end, end_tells, opening_is, stamp_later}
+use Rattle.erm_told.proofs.Runs.{said_first, said_lines}
+use Rattle.erm_told_limits.specs.Limits.{ClaimsAreFew, FullHasCause, IsFull, LogHasCause}
+use Rattle.erm_causes.specs.Laws.{IsForOthers, RefusesForOthers, RunsRefuseForOthers}
+use Rattle.erm_causes.specs.Touched.{AreOfTables}
+use Rattle.erm_causes.proofs.Begun.{HistoryLaws}
+use Rattle.erm_causes.proofs.Beside.{ToldCommit}
+use Rattle.erm_causes.proofs.Causes.{commit_told}
+use Rattle.erm_causes.proofs.Fine.{IsFine, still_session}
+use Rattle.erm_causes.proofs.Flushed.{lines_flushed, lines_told}
+use Rattle.erm_causes.proofs.Moments.{AtMoment, at_moment}
+use Rattle.erm_causes.proofs.Moves.{AllFine, move_opening, session_before}
+use Rattle.erm_causes.proofs.Own.{TreeLaws}
+use Rattle.erm_causes.proofs.Refusals.{excluded_cause, newer_cause, owned_cause, wait_ring, wait_seat}
+use Rattle.erm_causes.proofs.Refused.{Known, KnowsStamps}
+use Rattle.erm_causes.proofs.Runs.{AreInRange, table_at, touched_by, whole_run}
+use Rattle.erm_causes.proofs.Tables.{AreMovesInRange, TableOf, heard_said, opened_fine, run_fine, run_history, run_opening}
+use Rattle.erm_causes.proofs.Waits.{Allowed, allowed}
+
+-- the first lines are in range
+first_range : (script : List ScriptLine) (answers : List Answer) (i : ℕ) → AreInRange script → AreMovesInRange (line_moves (take i script) (take i answers))
+first_range script answers zero range = tt
+first_range [] answers (suc i) range = tt
+first_range (l ∷ script) [] (suc i) range = tt
+first_range (l ∷ script) (a ∷ answers) (suc i) range = (range l (∈-head l script), first_range script answers i (λ k within. range k (∈-behind l script k within)))
+
+-- What is at hand at a line.
+pub record Ready (table : ℕ → ℕ) (m : Moment) (c : Command) (a : Answer) (before after : View) : Type 0 where
+  pub session : IsSession before m.session
+  pub range : IsInRange c
+  pub holds : IsSerializable sound_law after
+  pub opened : AreOfTables table after.opening.rows
+  pub fine : AllFine table (λ q. progress_of q m.before) before
+  pub made : (k : ℕ) → table_of c ≡ Some k → (x : ℕ) → made_by_all before x < made_by_all after x → table x ≡ k
+  pub known : Known table m before
+  pub stamps : KnowsStamps m before
+  pub stamps_after : KnowsStamps m after
+  pub commits : (u : TransactionRecord) → u ∈ history_of after → ToldCommit table m.all u
+  pub allows : Allowed before m.session c a after
+
+module _ (tree : TreeLaws) (laws : HistoryLaws) (begun : (number begin : ℕ) → IsRunOf (world.begun number begin) []) (tell : ExecutionsTell) (go : ExecutionsGoOn) (few : ClaimsAreFew)
+    (v t : View) (script : List ScriptLine) (answers : List Answer) (run : IsRun v script answers t) (closed : List Closed) (are : AreClosed run.closing closed) (opening : Opening) (starts : IsOpeningOf v opening) where
+  abbrev all : List Transaction
+  all = transactions_of v.opening.sessions (places_of script answers closed)
+
+  of : TableOf (line_moves script answers ++ run.closing) v t (whole_run v t script answers run closed are)
+  of = table_at v t script answers run closed are tree laws begun
+
+  commit_at : (u : TransactionRecord) → u ∈ history_of t → ToldCommit of.table all u
+  commit_at u within =
+      let same = opening_is tell go v t script answers run closed are in
+      commit_told t v.opening.sessions (places_of script answers closed) of.table (at_end tell go v t script answers run closed are) (ap (λ (o : world.Opening). o.sessions) (sym same))
+      (end_tells tell go v t script answers run closed are)
+      (λ seat session. touched_by v t script answers run closed are tree laws begun of seat (session_before v t seat same session)) u within
+
+  stamps_at : (m : Moment) (x : View) (rest : List Move) → m.all ≡ all → x.opening ≡ v.opening → IsExecution x rest t → KnowsStamps m x
+  stamps_at m x rest same opened goes q session w stamp stand told session_is number_is u within u_session u_number =
+      let onward = go x t rest goes in
+      stamp_later tell go v t script answers run closed are q (still_session x t q onward.0 session) (x.session q) (onward.2 q session) w stamp stand u
+      (subst (λ (ts : List Transaction). u ∈ ts) same within) (u_session ∙ session_is) (u_number ∙ number_is)
+
+  module _ (i : ℕ) (l : ScriptLine) (a : Answer) (at : slice_get script i ≡ Some l) (answered : slice_get answers i ≡ Some a) where
+    abbrev m : Moment
+    m = moment_at InTurn opening script answers all i l
+
+    abbrev first : List Move
+    first = line_moves (take i script) (take i answers)
+
+    here : AtMoment of.table v t script answers i l a
+    here = at_moment of.table script answers run.closing v t i l a (whole_run v t script answers run closed are) of.right at answered
+
+    opening_before : here.before.opening ≡ v.opening
+    opening_before = run_opening first v here.before here.start
+
+    opening_after : here.after.opening ≡ v.opening
+    opening_after = move_opening here.before (line l a) here.after here.did ∙ opening_before
+
+    told_there : (q : ℕ) → IsSession here.before q → Tells q (progress_of q m.before) (here.before.session q) × (report.phase_of q m.before ≡ phase_at here.before q)
+    told_there q session =
+        subst (λ (said : List Said). Tells q (progress_of q said) (here.before.session q) × (report.phase_of q said ≡ phase_at here.before q)) (said_first i script answers)
+        (tell v here.before first run.opened here.start q (session_before v here.before q opening_before session))
+
+    fine_there : AllFine of.table (λ q. progress_of q m.before) here.before
+    fine_there q session =
+        let fine = run_fine tree laws begun of.table first (λ p. nothing) v here.before here.start (first_range script answers i run.ranges) of.opened here.right_first
+        (opened_fine tree laws begun of.table v run.opened) q session in
+        subst (λ (p : Progress). IsFine of.table (history_of here.before) p (here.before.session q))
+        (heard_said first (λ p. nothing) q ∙ ap (λ (said : List Said). progress_of q said) (said_first i script answers)) fine
+
+    -- its own transaction has claimed no more objects than it may
+    few_there : (u : Transaction) → current_of m l.session ≡ Some u → length (work_at here.before l.session).claims ≤ min WRITE_LIMIT (sum_by (λ e. claims_of e.asked) u.lines)
+    few_there u current =
+        let said : said_of (take i script) (take i answers) ≡ m.before = sym (said_lines (take i script) (take i answers)) ∙ said_first i script answers in
+        few v here.before (take i script) (take i answers) run.opened here.start l.session u here.did.session
+        (ap (λ (list : List Said). (progress_of l.session list).current) said ∙ current)
+
+    -- and the log is flushed where the lines tell it
+    flushed_there : here.before.flushed ≡ flushed_at m
+    flushed_there =
+        lines_flushed (take i script) (take i answers) v here.before here.start
+        ∙ run.opened.flushed
+        ∙ starts.stamp
+        ∙ sym (ap (λ (said : List Said). fold (λ (place : ℕ) (s : Said). flushed_told place s.answer) (opening.stamp + LEAST_BLOCK) said) (sym (said_first i script answers))
+        ∙ lines_told (take i script) (take i answers) v here.before (opening.stamp + LEAST_BLOCK) here.start)
+
+    ready : refusal_in a ≡ None → Ready of.table m l.command a here.before here.after
+    ready none = record {
+      session = here.did.session;
+      range = run.ranges l (i, at);
+      holds = here.holds;
+      opened = subst (λ (o : world.Opening). AreOfTables of.table o.rows) (sym opening_after) of.opened;
+      fine = fine_there;
+      made = here.right_here;
+      known = record {
+        tells = λ q session. (told_there q session).0.now;
+        phase = λ q session. (told_there q session).1;
+        fine = λ q session. (fine_there q session).now;
+      };
+      stamps = stamps_at m here.before (line l a ∷ here.rest) refl opening_before (here.after, here.did, here.holds, here.goes);
+      stamps_after = stamps_at m here.after here.rest refl opening_after here.goes;
+      commits = λ u within. commit_at u (run_history here.rest here.after t here.goes u within);
+      allows = allowed here.before l a here.after none here.did;
+    }
+
+  -- one that was refused for what another session does
+  cause_of : (i : ℕ) (l : ScriptLine) (a : Answer) → slice_get script i ≡ Some l → slice_get answers i ≡ Some a → IsForOthers a → (u : Transaction)
+      → current_of (moment_at InTurn opening script answers all i l) l.session ≡ Some u
+      → HasRefusalCause (moment_at InTurn opening script answers all i l) l.command (with_line (Some l.command) a u) a
+  cause_of i l (answer.WaitSeat other seen) at answered for u current =
+      let it = ready i l (answer.WaitSeat other seen) at answered refl in
+      let there = here i l (answer.WaitSeat other seen) at answered in (
+        refl,
+        wait_seat tree laws of.table (moment_at InTurn opening script answers all i l) there.before there.after l.command it.session it.range it.holds it.opened it.fine it.made it.known
+            it.stamps it.stamps_after it.commits it.allows.free u current other seen it.allows.did,
+      )
+  cause_of i l (answer.WaitRing flushed) at answered for u current =
+      let it = ready i l (answer.WaitRing flushed) at answered refl in
+      let there = here i l (answer.WaitRing flushed) at answered in (
+        refl,
+        wait_ring tree laws of.table (moment_at InTurn opening script answers all i l) there.before there.after l.command it.session it.range it.holds it.opened it.fine it.made it.known
+            it.stamps it.stamps_after it.commits it.allows.free u current flushed (flushed_there i l (answer.WaitRing flushed) at answered)
+            (few_there i l (answer.WaitRing flushed) at answered u current) it.allows.did,
+      )
+  cause_of i l (answer.Owned other number) at answered for u current =
+      let it = ready i l (answer.Owned other number) at answered refl in
+      let there = here i l (answer.Owned other number) at answered in
+      owned_cause tree laws of.table (moment_at InTurn opening script answers all i l) there.before there.after l.command it.session it.range it.holds it.opened it.fine it.made it.known
+      it.stamps it.stamps_after it.commits it.allows.free u current refl other number it.allows.did
+  cause_of i l (answer.Newer stamp) at answered for u current =
+      let it = ready i l (answer.Newer stamp) at answered refl in
+      let there = here i l (answer.Newer stamp) at answered in
+      newer_cause tree laws of.table (moment_at InTurn opening script answers all i l) there.before there.after l.command it.session it.range it.holds it.opened it.fine it.made it.known
+      it.stamps it.stamps_after it.commits it.allows.free u current stamp it.allows.did
+  cause_of i l (answer.ExcludedEarly succ pred) at answered for u current =
+      let it = ready i l (answer.ExcludedEarly succ pred) at answered refl in
+      let there = here i l (answer.ExcludedEarly succ pred) at answered in
+      excluded_cause tree laws of.table (moment_at InTurn opening script answers all i l) there.before there.after l.command it.session it.range it.holds it.opened it.fine it.made it.known
+      it.stamps it.stamps_after it.commits it.allows.free u current succ pred it.allows.did
+  cause_of i l a at answered for u current = absurd for
+
+  pub refuses_for_others : RefusesForOthers opening script answers all
+  refuses_for_others i l a at answered for told own =
+      subst (λ (x : Transaction). HasRefusalCause (moment_at InTurn opening script answers all i l) l.command x a) (sym own.2) (cause_of i l a at answered for own.0 own.1)
+
+pub runs_refuse : TreeLaws → HistoryLaws → ((number begin : ℕ) → IsRunOf (world.begun number begin) []) → ExecutionsTell → ExecutionsGoOn → ClaimsAreFew → RunsRefuseForOthers
+runs_refuse tree laws begun tell go few v t script answers run closed opening are starts = refuses_for_others tree laws begun tell go few v t script answers run closed are opening starts
+
+-- each refusal is for others, for want of room, or needs no cause
+any_cause : (m : Moment) (l : ScriptLine) (a : Answer) (t : Transaction) → (IsForOthers a → HasRefusalCause m l.command t a) → (IsFull a → HasRefusalCause m l.command t a)
+    → HasRefusalCause m l.command t a
+any_cause m l (answer.WaitSeat seat seen) t others full = others tt
+any_cause m l (answer.WaitRing flushed) t others full = others tt
+any_cause m l (answer.Owned seat number) t others full = others tt
+any_cause m l (answer.Newer stamp) t others full = others tt
+any_cause m l (answer.ExcludedEarly succ pred) t others full = others tt
+any_cause m l answer.ReadsFull t others full = full tt
+any_cause m l answer.WritesFull t others full = full tt
+any_cause m l (answer.CellsFull drawn) t others full = full tt
+any_cause m l (answer.OidsFull drawn) t others full = full tt
+any_cause m l a t others full = tt
+
+pub with_cause : RunsRefuseForOthers → FullHasCause → LogHasCause → RunsRefuseWithCause
+with_cause others full log v t script answers run closed opening are starts = record {
+  each = λ i l a at answered.
+      let all = transactions_of v.opening.sessions (places_of script answers closed) in
+      let of_log = log v t script answers run opening starts all i l a at answered tt in
+      record {
+        own = λ told own.
+            any_cause (moment_at InTurn opening script answers all i l) l a told (λ for. others v t script answers run closed opening are starts i l a at answered for told own)
+            (λ is. full v t script answers run opening starts all i l a at answered is told own);
+        log = of_log.0;
+        unfilled = of_log.1;
+      };
+}

@@ -1,0 +1,133 @@
+-- Which lines may be refused for what other sessions do.
+use Rattle.std.proofs.Common.{◌≡◌, ℕ, Option, Some, None, refl, sym, ap, ◌∙◌, subst}
+use Rattle.erm_model.specs.declared.outcome.Phase.{Phase}
+use Rattle.erm_model.specs.declared.outcome.Phase.TheVariants.{Idle, Active, Sealed}
+use Rattle.erm_model.specs.declared.row_stop.RowStop.{RowStop}
+use Rattle.erm_model.specs.declared.row_stop.RowStop.TheVariants as stop
+use Rattle.erm_report.specs.declared.answer.Answer.{Answer}
+use Rattle.erm_report.specs.declared.answer.Answer.TheVariants as answer
+use Rattle.erm_script.specs.declared.script.Command.{Command}
+use Rattle.erm_script.specs.declared.script.Command.TheVariants as command
+use Rattle.erm_script.specs.declared.script.ScriptLine.{ScriptLine}
+use Rattle.erm_world.specs.declared.stops.Wait.{Wait}
+use Rattle.erm_world.specs.declared.stops.Wait.TheVariants as wait
+use Rattle.erm_world.specs.Calls.{DidNotSettle, DidSeal}
+use Rattle.erm_world.specs.World.{View, phase_at}
+use Rattle.erm_good_report.specs.Phases.{FitsRefusal, refusal_for, refusal_in, refusal_of, phase_asked}
+use Rattle.erm_good_report.specs.Transactions.{table_of}
+use Rattle.erm_lines.specs.Answers.{DidAsked, DidCommand, DidLine, WasRefusedAs, stop_told}
+use Rattle.erm_causes.proofs.Quiet.{wants_active}
+
+-- a line that names a table is allowed in an active session alone
+pub named_active : (phase : Phase) (c : Command) (k : ℕ) → table_of c ≡ Some k → refusal_of phase c ≡ None → phase ≡ Active
+named_active phase (command.Get n key) k named free = wants_active phase free
+named_active phase (command.Put n key value) k named free = wants_active phase free
+named_active phase (command.Del n key) k named free = wants_active phase free
+named_active phase (command.Next n from) k named free = wants_active phase free
+named_active phase (command.Scan n low high) k named free = wants_active phase free
+named_active phase (command.Tidy n key) k named free = wants_active phase free
+named_active phase c k named free = let no : None ≡ Some k = named in cc
+
+-- A line whose transaction waits: it names a table; or it decides the transaction, which it may have sealed first.
+pub data Waited (v : View) (seat : ℕ) (c : Command) (a : Answer) (w : Wait) (t : View) : Type 0 where
+  named : (k : ℕ) → table_of c ≡ Some k → WasRefusedAs v seat c a t → Waited v seat c a w t
+  settled : c ≡ command.Settle → DidNotSettle v seat w t → Waited v seat c a w t
+  committed : c ≡ command.Commit → (stamp : ℕ) (between : View) → DidSeal v seat stamp between → DidNotSettle between seat w t → Waited v seat c a w t
+
+pub waited_seat : (v t : View) (seat : ℕ) (c : Command) (other seen : ℕ) → DidCommand v seat c (answer.WaitSeat other seen) t → Waited v seat c (answer.WaitSeat other seen) (wait.Seat other seen) t
+waited_seat v t seat command.Settle other seen did = settled refl did
+waited_seat v t seat command.Commit other seen did = committed refl did.stamp did.between did.sealed did.decided
+waited_seat v t seat (command.Get n key) other seen did = named n refl did
+waited_seat v t seat (command.Put n key value) other seen did = named n refl did
+waited_seat v t seat (command.Del n key) other seen did = named n refl did
+waited_seat v t seat (command.Next n from) other seen did = named n refl did
+waited_seat v t seat (command.Scan n low high) other seen did = named n refl did
+waited_seat v t seat (command.Tidy n key) other seen did = named n refl did
+waited_seat v t seat c other seen did = absurd did
+
+pub waited_ring : (v t : View) (seat : ℕ) (c : Command) (flushed : ℕ) → DidCommand v seat c (answer.WaitRing flushed) t → Waited v seat c (answer.WaitRing flushed) (wait.Ring flushed) t
+waited_ring v t seat command.Settle flushed did = settled refl did
+waited_ring v t seat command.Commit flushed did = committed refl did.stamp did.between did.sealed did.decided
+waited_ring v t seat (command.Get n key) flushed did = named n refl did
+waited_ring v t seat (command.Put n key value) flushed did = named n refl did
+waited_ring v t seat (command.Del n key) flushed did = named n refl did
+waited_ring v t seat (command.Next n from) flushed did = named n refl did
+waited_ring v t seat (command.Scan n low high) flushed did = named n refl did
+waited_ring v t seat (command.Tidy n key) flushed did = named n refl did
+waited_ring v t seat c flushed did = absurd did
+
+-- no refusal of a call waits for the ring
+pub none_for_ring : (why : RowStop) (flushed : ℕ) → stop_told why ≡ Some (answer.WaitRing flushed) → ⊥
+none_for_ring (stop.NotYet q n) flushed told = cc
+none_for_ring stop.ReadsFull flushed told = cc
+none_for_ring (stop.Owned q n) flushed told = cc
+none_for_ring (stop.Newer s) flushed told = cc
+none_for_ring stop.WritesFull flushed told = cc
+none_for_ring (stop.CellsFull d) flushed told = cc
+none_for_ring (stop.OidsFull d) flushed told = cc
+none_for_ring (stop.Excluded s p) flushed told = cc
+none_for_ring stop.Memory flushed told = cc
+
+-- a line that was refused by a call's refusal names a table
+pub record NamedRefused (v : View) (seat : ℕ) (c : Command) (a : Answer) (t : View) : Type 0 where
+  pub table : ℕ
+  pub names : table_of c ≡ Some table
+  pub refused : WasRefusedAs v seat c a t
+
+pub owned_named : (v t : View) (seat : ℕ) (c : Command) (other number : ℕ) → DidCommand v seat c (answer.Owned other number) t → NamedRefused v seat c (answer.Owned other number) t
+owned_named v t seat command.Settle other number did = absurd did
+owned_named v t seat command.Commit other number did = absurd did.decided
+owned_named v t seat (command.Get n key) other number did = record { table = n; names = refl; refused = did }
+owned_named v t seat (command.Put n key value) other number did = record { table = n; names = refl; refused = did }
+owned_named v t seat (command.Del n key) other number did = record { table = n; names = refl; refused = did }
+owned_named v t seat (command.Next n from) other number did = record { table = n; names = refl; refused = did }
+owned_named v t seat (command.Scan n low high) other number did = record { table = n; names = refl; refused = did }
+owned_named v t seat (command.Tidy n key) other number did = record { table = n; names = refl; refused = did }
+owned_named v t seat c other number did = absurd did
+
+pub newer_named : (v t : View) (seat : ℕ) (c : Command) (stamp : ℕ) → DidCommand v seat c (answer.Newer stamp) t → NamedRefused v seat c (answer.Newer stamp) t
+newer_named v t seat command.Settle stamp did = absurd did
+newer_named v t seat command.Commit stamp did = absurd did.decided
+newer_named v t seat (command.Get n key) stamp did = record { table = n; names = refl; refused = did }
+newer_named v t seat (command.Put n key value) stamp did = record { table = n; names = refl; refused = did }
+newer_named v t seat (command.Del n key) stamp did = record { table = n; names = refl; refused = did }
+newer_named v t seat (command.Next n from) stamp did = record { table = n; names = refl; refused = did }
+newer_named v t seat (command.Scan n low high) stamp did = record { table = n; names = refl; refused = did }
+newer_named v t seat (command.Tidy n key) stamp did = record { table = n; names = refl; refused = did }
+newer_named v t seat c stamp did = absurd did
+
+pub excluded_named : (v t : View) (seat : ℕ) (c : Command) (succ pred : ℕ) → DidCommand v seat c (answer.ExcludedEarly succ pred) t → NamedRefused v seat c (answer.ExcludedEarly succ pred) t
+excluded_named v t seat command.Settle succ pred did = absurd did
+excluded_named v t seat command.Commit succ pred did = absurd did.decided
+excluded_named v t seat (command.Get n key) succ pred did = record { table = n; names = refl; refused = did }
+excluded_named v t seat (command.Put n key value) succ pred did = record { table = n; names = refl; refused = did }
+excluded_named v t seat (command.Del n key) succ pred did = record { table = n; names = refl; refused = did }
+excluded_named v t seat (command.Next n from) succ pred did = record { table = n; names = refl; refused = did }
+excluded_named v t seat (command.Scan n low high) succ pred did = record { table = n; names = refl; refused = did }
+excluded_named v t seat (command.Tidy n key) succ pred did = record { table = n; names = refl; refused = did }
+excluded_named v t seat c succ pred did = absurd did
+
+-- an answer that is no refusal by a phase is that of a command which the phase allowed
+refusal_is : (wanted : Option Phase) (phase : Phase) (refusal : Answer) → refusal_for wanted phase ≡ Some refusal → refusal_in refusal ≡ Some refusal
+refusal_is (Some Idle) Active refusal is = let same : answer.NotIdle ≡ refusal = cc in subst (λ (a : Answer). refusal_in a ≡ Some a) same refl
+refusal_is (Some Idle) Sealed refusal is = let same : answer.NotIdle ≡ refusal = cc in subst (λ (a : Answer). refusal_in a ≡ Some a) same refl
+refusal_is (Some Active) Idle refusal is = let same : answer.NoTransaction ≡ refusal = cc in subst (λ (a : Answer). refusal_in a ≡ Some a) same refl
+refusal_is (Some Active) Sealed refusal is = let same : answer.IsSealed ≡ refusal = cc in subst (λ (a : Answer). refusal_in a ≡ Some a) same refl
+refusal_is (Some Sealed) Idle refusal is = let same : answer.NotSealed ≡ refusal = cc in subst (λ (a : Answer). refusal_in a ≡ Some a) same refl
+refusal_is (Some Sealed) Active refusal is = let same : answer.NotSealed ≡ refusal = cc in subst (λ (a : Answer). refusal_in a ≡ Some a) same refl
+refusal_is (Some Idle) Idle refusal is = let no : None ≡ Some refusal = is in cc
+refusal_is (Some Active) Active refusal is = let no : None ≡ Some refusal = is in cc
+refusal_is (Some Sealed) Sealed refusal is = let no : None ≡ Some refusal = is in cc
+refusal_is None phase refusal is = let no : None ≡ Some refusal = is in cc
+
+pub record Allowed (v : View) (seat : ℕ) (c : Command) (a : Answer) (t : View) : Type 0 where
+  pub free : refusal_of (phase_at v seat) c ≡ None
+  pub did : DidCommand v seat c a t
+
+pub allowed : (v : View) (l : ScriptLine) (a : Answer) (t : View) → refusal_in a ≡ None → DidLine v l a t → Allowed v l.session l.command a t
+allowed v l a t none did = by (refusal_of (phase_at v l.session) l.command) refl did.fits did.did
+  where
+    by : (r : Option Answer) → refusal_of (phase_at v l.session) l.command ≡ r → FitsRefusal r l.command a → DidAsked r v l.session l.command a t → Allowed v l.session l.command a t
+    by None is fits did = record { free = is; did = did }
+    by (Some refusal) is fits did =
+        let no : None ≡ Some refusal = sym none ∙ ap refusal_in fits ∙ refusal_is (phase_asked l.command) (phase_at v l.session) refusal is in cc

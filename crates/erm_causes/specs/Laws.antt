@@ -1,0 +1,41 @@
+-- What runs owe by the tables of their objects: the laws, as statements.
+use Rattle.std.specs.Prelude.{◌≡◌, ℕ, List, Some}
+use Rattle.std.specs.List.{slice_get}
+use Rattle.erm_report.specs.declared.answer.Answer.{Answer}
+use Rattle.erm_report.specs.declared.answer.Answer.TheVariants as answer
+use Rattle.erm_script.specs.declared.script.ScriptLine.{ScriptLine}
+use Rattle.erm_world.specs.World.{IsSession, View, history_of}
+use Rattle.erm_good_report.specs.GoodReport.{places_of}
+use Rattle.erm_good_report.specs.Opening.{InTurn, Opening}
+use Rattle.erm_good_report.specs.Phases.{Closed}
+use Rattle.erm_good_report.specs.Refusals.{HasRefusalCause, IsOwn, moment_at}
+use Rattle.erm_good_report.specs.Transactions.{Transaction, progress_of}
+use Rattle.erm_lines.specs.Executions.{AreClosed, IsRun}
+use Rattle.erm_lines.specs.Laws.{OfRuns}
+use Rattle.erm_causes.specs.Touched.{AreOfTables, TouchesAll}
+
+-- Each object of a run is of one table, which is that whose tree reaches it at the opening, if one does. Each transaction told has a line
+-- of the table of each object that it read, and one that writes in the table of each that it claimed.
+abbrev pub RunsTouchTables : Type 0
+RunsTouchTables = (v t : View) (script : List ScriptLine) (answers : List Answer) (run : IsRun v script answers t) (closed : List Closed)
+    → AreClosed run.closing closed
+    → (table : ℕ → ℕ) × AreOfTables table v.opening.rows
+    × ((seat : ℕ) → IsSession v seat → TouchesAll table (history_of t) (progress_of seat (places_of script answers closed)) (t.session seat))
+
+-- an answer that what others did caused: a session's transaction, or the log's words that are not flushed
+abbrev pub IsForOthers : Answer → Type 0
+IsForOthers (answer.WaitSeat seat seen) = Unit {0}
+IsForOthers (answer.WaitRing flushed) = Unit {0}
+IsForOthers (answer.Owned seat number) = Unit {0}
+IsForOthers (answer.Newer stamp) = Unit {0}
+IsForOthers (answer.ExcludedEarly succ pred) = Unit {0}
+IsForOthers a = ⊥
+
+-- each such answer to a line of a transaction has its cause
+abbrev pub RefusesForOthers : Opening → List ScriptLine → List Answer → List Transaction → Type 0
+RefusesForOthers opening script answers told = (i : ℕ) (l : ScriptLine) (a : Answer) → slice_get script i ≡ Some l → slice_get answers i ≡ Some a → IsForOthers a
+    → (t : Transaction) → IsOwn (moment_at InTurn opening script answers told i l) l.command a t
+    → HasRefusalCause (moment_at InTurn opening script answers told i l) l.command t a
+
+abbrev pub RunsRefuseForOthers : Type 0
+RunsRefuseForOthers = OfRuns (λ opening script answers closed told. RefusesForOthers opening script answers told)

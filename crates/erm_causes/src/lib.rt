@@ -1,0 +1,55 @@
+//! The causes that a run shows: each object has one table, and two lines that touch one object name one table. Each law is the
+//! contract of a function that does nothing.
+#![tactic(auto)]
+
+ghost use Rattle.erm_causes.specs.Laws.{RunsRefuseForOthers, RunsTouchTables};
+ghost use Rattle.erm_lines.specs.Laws.{RunsHaveCauses, RunsRefuseWithCause};
+
+/// Each object of a run has one table: that of the line that made it, or that whose tree reached it at the opening. Each
+/// transaction that the report tells has a line of the table of each object that it read, and one that writes in the table of each
+/// that it claimed.
+pub fn runs_touch_tables()
+    ensures { RunsTouchTables }
+{
+    erm_core_ssn::rows_run_serially();
+    erm_core_ssn::serial_order_is_unique();
+    erm_core_ssn::versions_are_unique();
+    erm_core_ssn::prefixes_stand_alone();
+    erm_tree::tables_stand_apart();
+    erm_tree::calls_stay_in_their_table();
+    erm_maps::begun_transactions_are_runs();
+}
+
+/// Each commit that the report of a run tells has the causes of its window, and each exclusion those of its closed one.
+pub fn runs_have_causes()
+    ensures { RunsHaveCauses }
+{
+    runs_touch_tables();
+    erm_told::runs_tell_sessions();
+}
+
+/// Each answer of a run that waits for another session, or that refuses for what another one owns, committed or excluded, has its
+/// cause in the lines.
+pub fn runs_refuse_for_others()
+    ensures { RunsRefuseForOthers }
+{
+    erm_core_ssn::rows_run_serially();
+    erm_core_ssn::serial_order_is_unique();
+    erm_core_ssn::versions_are_unique();
+    erm_core_ssn::prefixes_stand_alone();
+    erm_tree::tables_stand_apart();
+    erm_tree::calls_stay_in_their_table();
+    erm_maps::begun_transactions_are_runs();
+    erm_told::executions_tell_sessions();
+    erm_told::executions_go_on();
+    erm_told_limits::claims_are_few();
+}
+
+/// Each answer of a run that refuses, or that tells of the log, has its cause in the lines.
+pub fn runs_refuse_with_cause()
+    ensures { RunsRefuseWithCause }
+{
+    runs_refuse_for_others();
+    erm_told_limits::full_has_cause();
+    erm_told_limits::log_has_cause();
+}

@@ -1,0 +1,287 @@
+-- The successor stamp of a commit is at most that of the next commit that overwrites a key's record which it read.
+use Rattle.std.proofs.Common.{◌≡◌, ℕ, ◌+◌, ◌<◌, ◌≤◌, true, List, ◌∷◌, Some, None, inl, inr, refl, sym, ap, ◌∙◌, subst, arith}
+use Rattle.std.proofs.lemmas.Bool.{cases_lt}
+use Rattle.erm_model.specs.declared.history.TransactionRecord.{TransactionRecord}
+use Rattle.erm_model.specs.declared.history.VersionRead.{VersionRead}
+use Rattle.erm_model.specs.declared.history.VersionWritten.{VersionWritten}
+use Rattle.erm_model.specs.History.{IsNewestBelow, Makes, Overwrites}
+use Rattle.erm_model.specs.Member.{◌∈◌}
+use Rattle.erm_machine.proofs.Listed.{∈-head, ∈-second}
+use Rattle.erm_node.specs.Sound.{sound_law}
+use Rattle.erm_node.specs.TreeMap.{record_in}
+use Rattle.erm_world.specs.Laws.{FitsWork, IsSerializable}
+use Rattle.erm_world.specs.Works.{is_claimed}
+use Rattle.erm_world.specs.World.{Fate, Has, IsSession, View, Work, history_of}
+use Rattle.erm_world.specs.World as world
+use Rattle.erm_maps.proofs.Histories.{of_history, work_in}
+use Rattle.erm_maps.proofs.Lawful.{begins_above}
+use Rattle.erm_good_report.specs.Transactions.{Aborts, Commits, Ending, Excludes, Exchange, Said, Transaction, Unfinished, progress_of, transactions_of}
+use Rattle.erm_good_report.specs.Windows.{GetsFirst, HasLine, IsCommit, IsHighEnd, IsNextWriter, OverwritesKey, PutsKey, WasPut}
+use Rattle.erm_lines.specs.Told.{EndsAs, Tells}
+use Rattle.erm_causes.proofs.Beside.{claimed_at}
+use Rattle.erm_causes.proofs.Begun.{HistoryLaws}
+use Rattle.erm_tight.specs.Ends.{ExcludedAreBounded, GetsUntidied, IsHighAt, IsUntidiedHighEnd, IsLowAt, IsTightCommit}
+use Rattle.erm_tight.proofs.Marks.{Overwriting, Changing, Marks, Puts}
+use Rattle.erm_tight.proofs.Moves.{IsMarked}
+use Rattle.erm_tight.proofs.Serial.{RowsBelow, rows_below}
+use Rattle.erm_tight.proofs.Told.{IsOne, IsCommitted, IsCommitTold, claimed_in, commit_known, commit_told, one_told, read_in, record_told}
+
+same_some : (a b : ℕ) → Some a ≡ Some b → a ≡ b
+same_some a b is = cc
+
+module _ (laws : HistoryLaws) (v : View) (sessions : ℕ) (said : List Said) (holds : IsSerializable sound_law v) (of : sessions ≡ v.opening.sessions)
+    (tells : (seat : ℕ) → IsSession v seat → Tells seat (progress_of seat said) (v.session seat))
+    (marked : (seat : ℕ) → IsSession v seat → IsMarked (progress_of seat said) (v.session seat)) where
+  abbrev all : List Transaction
+  all = transactions_of sessions said
+
+  known : (t : Transaction) (stamp succ : ℕ) → IsCommit all t stamp succ → IsCommitted v t stamp succ
+  known = commit_known v sessions said of tells marked
+
+  below_at : (bound : ℕ) → 0 < bound → RowsBelow v bound
+  below_at = rows_below laws v holds (record_told v sessions said of tells marked)
+
+  -- the rows on which a commit began
+  began : (r : TransactionRecord) → r ∈ history_of v → RowsBelow v r.begin
+  began r within = let own = of_history v r within in below_at r.begin (begins_above sound_law v holds r.seat (work_in r) own.session own.over)
+
+  fits_at : (r : TransactionRecord) (within : r ∈ history_of v) → FitsWork sound_law (work_in r) (began r within).rows
+  fits_at r within = let own = of_history v r within in (began r within).fits r.seat (work_in r) own.session own.over refl
+
+  module _ (table key : ℕ) (u : TransactionRecord) (u_in : u ∈ history_of v) (put : Puts (work_in u) table key) where
+    abbrev x : ℕ
+    x = put.1.0
+
+    u_claims : is_claimed u.writes put.1.0 ≡ true
+    u_claims = ((below_at (u.stamp + 1) (omega arith)).put u u_in (omega arith) table key put).1
+
+    u_makes : Makes u put.1.0
+    u_makes = claimed_in u.writes put.1.0 u_claims
+
+    -- each commit that puts the key sets the same record
+    same_object : (r : TransactionRecord) → r ∈ history_of v → (other : Puts (work_in r) table key) → other.1.0 ≡ put.1.0
+    same_object r within other =
+        let later = below_at (u.stamp + r.stamp + 1) (omega arith) in
+        let first = later.put u u_in (omega arith) table key put in
+        let second = later.put r within (omega arith) table key other in
+        same_some other.1.0 put.1.0 (sym second.0 ∙ first.0)
+
+    -- on rows with its commit the key has this record
+    record_at : (r : TransactionRecord) (within : r ∈ history_of v) → u.stamp < r.begin → record_in (began r within).rows table key ≡ Some put.1.0
+    record_at r within less = ((began r within).put u u_in less table key put).0
+
+    -- a commit that overwrites the key's record by its lines claims it
+    put_claims : (t : Transaction) (r : TransactionRecord) → r ∈ history_of v → Marks t.lines (work_in r) → HasLine (PutsKey table key) t → is_claimed r.writes put.1.0 ≡ true
+    put_claims t r within marks line =
+        let its = marks.puts table key line in
+        let claimed = ((below_at (r.stamp + 1) (omega arith)).put r within (omega arith) table key its).1 in
+        subst (λ (n : ℕ). is_claimed r.writes n ≡ true) (same_object r within its) claimed
+
+    change_claims : (t : Transaction) (r : TransactionRecord) → (within : r ∈ history_of v) → t.begin ≡ r.begin → Marks t.lines (work_in r) → HasLine (Changing table key) t → WasPut all table key t.begin
+        → is_claimed r.writes put.1.0 ≡ true
+    change_claims t r within begin marks line was =
+        let by = known was.by was.stamp was.succ was.commit in
+        let its = by.marks.puts table key was.puts in
+        let less : by.by.stamp < r.begin = omega (arith, was.below, by.stamp_is, begin) in
+        let found = ((began r within).put by.by by.within less table key its).0 in
+        let same = same_object by.by by.within its in
+        marks.changes (began r within).rows (began r within).sound (fits_at r within) table key put.1.0 line (found ∙ ap Some same)
+
+    writer_makes : (t : Transaction) (stamp succ : ℕ) (it : IsCommitted v t stamp succ) → OverwritesKey all table key t → Makes it.by put.1.0
+    writer_makes t stamp succ it (inl puts) = claimed_in it.by.writes put.1.0 (put_claims t it.by it.within it.marks puts)
+    writer_makes t stamp succ it (inr (line, was)) = claimed_in it.by.writes put.1.0 (change_claims t it.by it.within it.begin it.marks line was)
+
+    -- and a later commit that claims it overwrites it by its lines
+    module _ (m : TransactionRecord) (within : m ∈ history_of v) (c : VersionWritten) (c_in : c ∈ m.writes) (oid : c.oid ≡ put.1.0) (later : u.stamp < m.stamp)
+        (by : Transaction) (succ : ℕ) (commit : IsCommit all by u.stamp succ) (puts : HasLine (PutsKey table key) by) where
+      begins_later : u.stamp < m.begin
+      begins_later =
+          let over = (holds.snapshots m within).writes c c_in in
+          let made : Makes u c.oid = (u_makes.0, u_makes.1, u_makes.2 ∙ sym oid) in
+          let newest = over.newest.newest u u_in made later in
+          omega (arith, newest, over.first)
+
+      told_m : IsCommitTold all m
+      told_m = commit_told v sessions said of tells marked m within
+
+      was_put : WasPut all table key told_m.told.begin
+      was_put = record { by = by; stamp = u.stamp; succ = succ; commit = commit; below = omega (arith, begins_later, told_m.begin); puts = puts }
+
+      claimer_overwrites : OverwritesKey all table key told_m.told
+      claimer_overwrites =
+          let claimed : is_claimed m.writes put.1.0 ≡ true = subst (λ (n : ℕ). is_claimed m.writes n ≡ true) oid (claimed_at m.writes c_in.0 c c_in.1) in
+          let line = told_m.marks.only (began m within).rows (began m within).sound (fits_at m within) table key put.1.0 put.0 (record_at m within begins_later) claimed in
+          elim line.2 as (λ _. OverwritesKey all table key told_m.told) [
+            | inl put_line ↦ inl (line.0, line.1, put_line)
+            | inr change ↦ elim change as (λ _. OverwritesKey all table key told_m.told) [
+              | inl deletes ↦ inr ((line.0, line.1, inl deletes), was_put)
+              | inr tidies ↦ inr ((line.0, line.1, inr tidies), was_put)
+            ]
+          ]
+
+  -- a transaction, the commit that put the key, and the next that overwrites its record
+  module _ (t : Transaction) (w : Work) (begin : t.begin ≡ w.begin) (table key : ℕ) (was : WasPut all table key t.begin)
+      (next : Transaction) (stamp next_succ : ℕ) (writer : IsNextWriter all table key t.begin next stamp next_succ) where
+    u_known : IsCommitted v was.by was.stamp was.succ
+    u_known = known was.by was.stamp was.succ was.commit
+
+    u_put : Puts (work_in u_known.by) table key
+    u_put = u_known.marks.puts table key was.puts
+
+    u_commit : IsCommit all was.by u_known.by.stamp was.succ
+    u_commit = subst (λ (n : ℕ). IsCommit all was.by n was.succ) (sym u_known.stamp_is) was.commit
+
+    next_known : IsCommitted v next stamp next_succ
+    next_known = known next stamp next_succ writer.commit
+
+    made : Makes next_known.by u_put.1.0
+    made = writer_makes table key u_known.by u_known.within u_put next stamp next_succ next_known writer.overwrites
+
+    module _ (sees : (d : VersionRead) → d ∈ w.reads → IsNewestBelow (history_of v) v.opening.rows d.oid w.begin d.stamp d.row) (d : VersionRead) (d_in : d ∈ w.reads) (oid : d.oid ≡ u_put.1.0) where
+      c : VersionWritten
+      c = made.0
+
+      same_oid : made.0.oid ≡ d.oid
+      same_oid = made.2 ∙ sym oid
+
+      at_least : d.stamp ≤ made.0.stamp
+      at_least =
+          let seen = sees d d_in in
+          let over = (holds.snapshots next_known.by next_known.within).writes made.0 made.1 in
+          elim seen.version as (λ _. d.stamp ≤ made.0.stamp) [
+            | inl first ↦ omega (arith, first.0)
+            | inr (m, e, m_in, at, e_in, e_oid, row) ↦
+                let newest = over.newest.newest m m_in (e, e_in, e_oid ∙ sym same_oid) (omega (arith, at, seen.below, writer.above, next_known.stamp_is, begin)) in
+                omega (arith, newest, at)
+          ]
+
+      at_most : made.0.stamp ≤ d.stamp
+      at_most =
+          let seen = sees d d_in in
+          let over = (holds.snapshots next_known.by next_known.within).writes made.0 made.1 in
+          elim over.newest.version as (λ _. made.0.stamp ≤ d.stamp) [
+            | inl first ↦ omega (arith, first.0)
+            | inr (m, e, m_in, at, e_in, e_oid, row) ↦ elim (cases_lt m.stamp w.begin) as (λ _. made.0.stamp ≤ d.stamp) [
+              | inl less ↦ let newest = seen.newest m m_in (e, e_in, e_oid ∙ same_oid) less in omega (arith, newest, at)
+              | inr not_less ↦
+                  let after : u_known.by.stamp < m.stamp = omega (arith, not_less, was.below, u_known.stamp_is, begin) in
+                  let e_is : e.oid ≡ u_put.1.0 = e_oid ∙ made.2 in
+                  let told = told_m table key u_known.by u_known.within u_put m m_in e e_in e_is after was.by was.succ u_commit was.puts in
+                  let least = writer.least told.told m.stamp m.succ told.commit (omega (arith, not_less, begin))
+                  (claimer_overwrites table key u_known.by u_known.within u_put m m_in e e_in e_is after was.by was.succ u_commit was.puts) in
+                  absurd (omega (arith, least, at, over.newest.below, next_known.stamp_is))
+            ]
+          ]
+
+      -- it overwrote the version read
+      overwrites : Overwrites next_known.by d.oid d.stamp
+      overwrites = let same : made.0.stamp ≡ d.stamp = omega (arith, at_least, at_most) in (made.0, made.1, same_oid, same)
+
+  -- of a commit
+  module _ (t : Transaction) (own succ : ℕ) (it : IsCommitted v t own succ) (table key : ℕ) (gets : GetsFirst t table key) (was : WasPut all table key t.begin)
+      (next : Transaction) (stamp next_succ : ℕ) (writer : IsNextWriter all table key t.begin next stamp next_succ) (before : stamp < own) where
+    abbrev by_u : IsCommitted v was.by was.stamp was.succ
+    by_u = u_known t (work_in it.by) it.begin table key was next stamp next_succ writer
+
+    abbrev puts_u : Puts (work_in (u_known t (work_in it.by) it.begin table key was next stamp next_succ writer).by) table key
+    puts_u = u_put t (work_in it.by) it.begin table key was next stamp next_succ writer
+
+    abbrev by_next : IsCommitted v next stamp next_succ
+    by_next = next_known t (work_in it.by) it.begin table key was next stamp next_succ writer
+
+    made_next : Makes (next_known t (work_in it.by) it.begin table key was next stamp next_succ writer).by puts_u.1.0
+    made_next = made t (work_in it.by) it.begin table key was next stamp next_succ writer
+
+    got : HasLine (λ e. Rattle.erm_tight.proofs.Marks.Touching table key e) t
+    got = (gets.line, subst (λ (es : List Exchange). gets.line ∈ es) (sym gets.split) (∈-second gets.before (gets.line ∷ gets.after) gets.line (∈-head gets.line gets.after)), inl gets.gets)
+
+    -- it didn't overwrite the record itself
+    not_claimed : (c : VersionWritten) → c ∈ it.by.writes → c.oid ≡ puts_u.1.0 → ⊥
+    not_claimed c c_in oid =
+        let over = (holds.snapshots it.by it.within).writes c c_in in
+        let newest = over.newest.newest by_next.by by_next.within (made_next.0, made_next.1, made_next.2 ∙ sym oid) (omega (arith, before, by_next.stamp_is, it.stamp_is)) in
+        omega (arith, newest, over.first, writer.above, by_next.stamp_is, it.begin)
+
+    counts : (d : VersionRead) → d ∈ it.by.reads → d.oid ≡ puts_u.1.0 → it.by.succ ≤ by_next.by.succ
+    counts d d_in oid =
+        (holds.certified.succ it.by it.within).at_most_each by_next.by (
+          by_next.within,
+          omega (arith, before, by_next.stamp_is, it.stamp_is),
+          (d, d_in, overwrites t (work_in it.by) it.begin table key was next stamp next_succ writer (λ e m. (holds.snapshots it.by it.within).reads e m) d d_in oid),
+        )
+
+    pub high_of : succ ≤ next_succ
+    high_of =
+        let less : by_u.by.stamp < it.by.begin = omega (arith, was.below, by_u.stamp_is, it.begin) in
+        let found = record_at table key by_u.by by_u.within puts_u it.by it.within less in
+        elim (it.marks.touched (began it.by it.within).rows (began it.by it.within).sound (fits_at it.by it.within) table key puts_u.1.0 got found) as (λ _. succ ≤ next_succ) [
+          | inl read ↦
+              let d = read_in it.by.reads puts_u.1.0 read in
+              omega (arith, counts d.0 d.1 d.2, it.succ_is, by_next.succ_is)
+          | inr claimed ↦
+              let c = claimed_in it.by.writes puts_u.1.0 claimed in
+              absurd (not_claimed c.0 c.1 c.2)
+        ]
+
+  -- of one that was excluded, where no commit below its stamp that overwrote what it read has a lower successor stamp
+  module _ (bounded : ExcludedAreBounded v) (t : Transaction) (it : IsOne v t) (own succ pred : ℕ) (is : it.one.fate ≡ world.excluded own succ pred) (table key : ℕ) (gets : GetsUntidied t table key)
+      (was : WasPut all table key t.begin) (next : Transaction) (stamp next_succ : ℕ) (writer : IsNextWriter all table key t.begin next stamp next_succ) (before : stamp < own) where
+    abbrev w : Work
+    w = it.one.work
+
+    begin : t.begin ≡ it.one.work.begin
+    begin = it.both.tells.work.begin
+
+    has : Has v it.seat it.one.work
+    has = inl (it.one, it.over, refl)
+
+    rows_at : RowsBelow v it.one.work.begin
+    rows_at = below_at it.one.work.begin (begins_above sound_law v holds it.seat it.one.work it.session has)
+
+    none_before : (d : Exchange) → d ∈ gets.first.before → Overwriting table key d → ⊥
+    none_before d within (inl puts) = gets.first.none d within (inl puts)
+    none_before d within (inr (inl deletes)) = gets.first.none d within (inr deletes)
+    none_before d within (inr (inr tidies)) = gets.none d within tidies
+
+    pub excluded_of : succ ≤ next_succ
+    excluded_of =
+        let by = u_known t it.one.work begin table key was next stamp next_succ writer in
+        let puts = u_put t it.one.work begin table key was next stamp next_succ writer in
+        let after = next_known t it.one.work begin table key was next stamp next_succ writer in
+        let found = (rows_at.put by.by by.within (omega (arith, was.below, by.stamp_is, begin)) table key puts).0 in
+        let marks = it.both.marked.marks own (ap world.stamp_of is) in
+        let read = marks.first rows_at.rows rows_at.sound (rows_at.fits it.seat it.one.work it.session has refl) table key puts.1.0 gets.first.before gets.first.after gets.first.line gets.first.split gets.first.gets none_before found in
+        let d = read_in it.one.work.reads puts.1.0 read in
+        let over = overwrites t it.one.work begin table key was next stamp next_succ writer (λ e m. (holds.sees it.seat it.one.work it.session has).reads e m) d.0 d.1 d.2 in
+        omega (arith, bounded it.seat it.one own succ pred it.session it.over is after.by after.within (omega (arith, before, after.stamp_is)) (d.0, d.1, over), after.succ_is)
+
+  pub high_ends : (t : Transaction) (own succ : ℕ) → IsCommit all t own succ → IsHighEnd all t own succ
+  high_ends t own succ commit table key stamp next_succ next gets was writer before = high_of t own succ (known t own succ commit) table key gets was next stamp next_succ writer before
+
+  -- with the low end, each commit's window is tight
+  pub tight_at : (t : Transaction) → t ∈ all → (ending : Ending) → t.ending ≡ ending → IsLowAt ending all t → IsTightCommit ending all t
+  tight_at t m Unfinished is low = tt
+  tight_at t m (Commits stamp succ pred) is low = record { low = low; high = high_ends t stamp succ (record { of = m; pred = pred; ending = is }) }
+  tight_at t m (Excludes None succ pred) is low = tt
+  tight_at t m (Excludes (Some stamp) succ pred) is low = tt
+  tight_at t m Aborts is low = tt
+
+  module _ (bounded : ExcludedAreBounded v) (t : Transaction) (it : IsOne v t) where
+    excluded_with : (fate : Fate) → it.one.fate ≡ fate → (own succ pred : ℕ) → EndsAs (Excludes (Some own) succ pred) fate → IsUntidiedHighEnd all t own succ
+    excluded_with (world.excluded s u p) is own succ pred ends table key stamp next_succ next gets was writer before =
+        omega (arith, ends.1, excluded_of bounded t it s u p is table key gets was next stamp next_succ writer (omega (arith, before, ends.0)))
+    excluded_with (world.commits s u p) is own succ pred ends table key stamp next_succ next gets was writer before = absurd ends
+    excluded_with world.aborts is own succ pred ends table key stamp next_succ next gets was writer before = absurd ends
+
+    high_at : (ending : Ending) → t.ending ≡ ending → IsHighAt ending all t
+    high_at Unfinished is = tt
+    high_at (Commits stamp succ pred) is = tt
+    high_at (Excludes None succ pred) is = tt
+    high_at (Excludes (Some stamp) succ pred) is = excluded_with it.one.fate refl stamp succ pred (subst (λ (e : Ending). EndsAs e it.one.fate) is it.both.tells.ends)
+    high_at Aborts is = tt
+
+  pub excluded_ends : ExcludedAreBounded v → (t : Transaction) → t ∈ all → IsHighAt t.ending all t
+  excluded_ends bounded t m = elim (one_told v sessions said of tells marked t m) as (λ _. IsHighAt t.ending all t) [
+    | inl it ↦ high_at bounded t it t.ending refl
+    | inr none ↦ subst (λ (e : Ending). IsHighAt e all t) (sym none) tt
+  ]

@@ -1,0 +1,17 @@
+pub mod Alike
+pub mod Calls
+pub mod Claims
+pub mod High
+pub mod Kept
+pub mod Lines
+pub mod Low
+pub mod Marks
+pub mod Moves
+pub mod Objects
+pub mod Quiet
+pub mod Runs
+pub mod Serial
+pub mod Told
+pub mod Ways
+pub mod Went
+pub mod Whole

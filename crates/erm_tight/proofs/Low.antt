@@ -1,0 +1,79 @@
+-- The predecessor stamp of a transaction is at least that of each commit below its begin that put a key which it got, put or deleted.
+use Rattle.std.proofs.Common.{◌≡◌, ℕ, ◌<◌, ◌≤◌, List, Some, None, inl, inr, refl, sym, ap, ◌∙◌, subst, arith}
+use Rattle.erm_model.specs.Member.{◌∈◌}
+use Rattle.erm_node.specs.Sound.{sound_law}
+use Rattle.erm_world.specs.Laws.{IsSerializable}
+use Rattle.erm_world.specs.World.{Fate, Finished, IsSession, View, Work, history_of, stamp_of}
+use Rattle.erm_world.specs.World as world
+use Rattle.erm_maps.proofs.Lawful.{begins_above}
+use Rattle.erm_good_report.specs.Transactions.{Aborts, Commits, Ending, Excludes, Unfinished, Said, Transaction, progress_of, transactions_of}
+use Rattle.erm_good_report.specs.Windows.{IsLowEnd}
+use Rattle.erm_lines.specs.Told.{EndsAs, Tells}
+use Rattle.erm_causes.proofs.Begun.{HistoryLaws}
+use Rattle.erm_tight.specs.Ends.{IsLowAt}
+use Rattle.erm_tight.proofs.Moves.{IsMarked}
+use Rattle.erm_tight.proofs.Quiet.{AreBelow, IsBounded}
+use Rattle.erm_tight.proofs.Serial.{RowsBelow, rows_below}
+use Rattle.erm_tight.proofs.Told.{IsOne, claimed_in, commit_known, one_told, read_in, record_told}
+
+module _ (laws : HistoryLaws) (v : View) (sessions : ℕ) (said : List Said) (holds : IsSerializable sound_law v) (of : sessions ≡ v.opening.sessions)
+    (tells : (seat : ℕ) → IsSession v seat → Tells seat (progress_of seat said) (v.session seat))
+    (marked : (seat : ℕ) → IsSession v seat → IsMarked (progress_of seat said) (v.session seat)) where
+  abbrev all : List Transaction
+  all = transactions_of sessions said
+
+  module _ (t : Transaction) (it : IsOne v t) where
+    -- the rows on which it began
+    pub began : RowsBelow v it.one.work.begin
+    began = rows_below laws v holds (record_told v sessions said of tells marked) it.one.work.begin
+        (begins_above sound_law v holds it.seat it.one.work it.session (inl (it.one, it.over, refl)))
+
+    low_of : (stamp : ℕ) → stamp_of it.one.fate ≡ Some stamp → (pred : ℕ) → AreBelow it.one.work pred → IsLowEnd all t pred
+    low_of own is pred bounded table key stamp succ u line commit less puts =
+        let by = commit_known v sessions said of tells marked u stamp succ commit in
+        let w = it.one.work in
+        let begin : t.begin ≡ w.begin = it.both.tells.work.begin in
+        let below : by.by.stamp < w.begin = omega (arith, less, begin, by.stamp_is) in
+        let its = by.marks.puts table key puts in
+        let x : ℕ = its.1.0 in
+        let put = began.put by.by by.within below table key its in
+        let fits = began.fits it.seat w it.session (inl (it.one, it.over, refl)) refl in
+        let sees = holds.sees it.seat w it.session (inl (it.one, it.over, refl)) in
+        let made = claimed_in by.by.writes x put.1 in
+        elim ((it.both.marked.marks own is).touched began.rows began.sound fits table key x line put.0) as (λ _. stamp ≤ pred) [
+          | inl read ↦
+              let r = read_in w.reads x read in
+              let newest = (sees.reads r.0 r.1).newest by.by by.within (made.0, made.1, made.2 ∙ sym r.2) below in
+              omega (arith, newest, bounded.reads r.0 r.1, by.stamp_is)
+          | inr claimed ↦
+              let c = claimed_in w.claims x claimed in
+              let newest = (sees.claims c.0 c.1).newest by.by by.within (made.0, made.1, made.2 ∙ sym c.2) below in
+              omega (arith, newest, bounded.claims c.0 c.1, by.stamp_is)
+        ]
+
+    low_commit : (fate : Fate) → it.one.fate ≡ fate → (stamp succ pred : ℕ) → EndsAs (Commits stamp succ pred) fate → IsLowEnd all t pred
+    low_commit (world.commits s u p) is stamp succ pred ends =
+        let bounded : AreBelow it.one.work p = subst (λ (f : Fate). IsBounded it.one.work f) is it.both.marked.bounded in
+        low_of s (ap stamp_of is) pred (subst (λ (n : ℕ). AreBelow it.one.work n) (sym ends.2) bounded)
+    low_commit (world.excluded s u p) is stamp succ pred ends = absurd ends
+    low_commit world.aborts is stamp succ pred ends = absurd ends
+
+    low_excluded : (fate : Fate) → it.one.fate ≡ fate → (stamp succ pred : ℕ) → EndsAs (Excludes (Some stamp) succ pred) fate → IsLowEnd all t pred
+    low_excluded (world.excluded s u p) is stamp succ pred ends =
+        let bounded : AreBelow it.one.work p = subst (λ (f : Fate). IsBounded it.one.work f) is it.both.marked.bounded in
+        low_of s (ap stamp_of is) pred (subst (λ (n : ℕ). AreBelow it.one.work n) (sym ends.2) bounded)
+    low_excluded (world.commits s u p) is stamp succ pred ends = absurd ends
+    low_excluded world.aborts is stamp succ pred ends = absurd ends
+
+    low_at : (ending : Ending) → t.ending ≡ ending → IsLowAt ending all t
+    low_at Unfinished is = tt
+    low_at (Commits stamp succ pred) is = low_commit it.one.fate refl stamp succ pred (subst (λ (e : Ending). EndsAs e it.one.fate) is it.both.tells.ends)
+    low_at (Excludes None succ pred) is = tt
+    low_at (Excludes (Some stamp) succ pred) is = low_excluded it.one.fate refl stamp succ pred (subst (λ (e : Ending). EndsAs e it.one.fate) is it.both.tells.ends)
+    low_at Aborts is = tt
+
+  pub low_ends : (t : Transaction) → t ∈ all → IsLowAt t.ending all t
+  low_ends t m = elim (one_told v sessions said of tells marked t m) as (λ _. IsLowAt t.ending all t) [
+    | inl it ↦ low_at t it t.ending refl
+    | inr none ↦ subst (λ (e : Ending). IsLowAt e all t) (sym none) tt
+  ]

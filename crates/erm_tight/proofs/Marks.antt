@@ -1,0 +1,201 @@
+-- What a transaction's lines tell of the records of keys that its work has touched, on whatever sound rows it may have begun.
+use Rattle.std.proofs.Common.{◌≡◌, ℕ, ◌<◌, ◌≤◌, ◌⊎◌, true, is_some, List, [], ◌∷◌, ◌++◌, Some, inl, inr, refl, sym, ap, ◌∙◌, subst}
+use Rattle.erm_model.specs.Lawful.{times_made}
+use Rattle.erm_model.specs.Member.{◌∈◌}
+use Rattle.erm_model.proofs.Members.{none_in_nil}
+use Rattle.erm_model.specs.RowTransaction.{Event, after_all}
+use Rattle.erm_model.specs.Rows.{Rows}
+use Rattle.erm_machine.proofs.Listed.{∈-cons}
+use Rattle.erm_node.specs.Sound.{IsSound, sound_law}
+use Rattle.erm_node.specs.TreeMap.{record_in}
+use Rattle.erm_tree.specs.Tables.{AreClaiming}
+use Rattle.erm_world.specs.Laws.{FitsWork, IsLawfulWork}
+use Rattle.erm_world.specs.Works.{is_claimed, row_read, seen_by}
+use Rattle.erm_world.specs.World.{Work}
+use Rattle.erm_world.specs.World as world
+use Rattle.erm_world.proofs.Lists.{∈-before, ∈-last, ∈-parts}
+use Rattle.erm_script.specs.declared.script.Command.TheVariants as command
+use Rattle.erm_good_report.specs.Transactions.{Exchange}
+use Rattle.erm_good_report.specs.Windows.{DeletesKey, GetsKey, PutsKey, TidiesKey}
+use Rattle.erm_causes.proofs.Coloured.{agrees_with}
+use Rattle.erm_causes.proofs.Ran.{MovesAll}
+use Rattle.erm_tight.proofs.Calls.{KeepsRecords}
+use Rattle.erm_tight.proofs.Went.{IsTouched, Leaves}
+use Rattle.erm_tight.proofs.Whole.{ClaimsRecord, OnAll, PutsRecord, ReadsRecord}
+
+-- lines have such a one
+abbrev pub HasIn : (Exchange → Type 0) → List Exchange → Type 0
+HasIn P lines = (e : Exchange) × (e ∈ lines) × P e
+
+abbrev pub Overwriting : ℕ → ℕ → Exchange → Type 0
+Overwriting table key e = PutsKey table key e ⊎ DeletesKey table key e ⊎ TidiesKey table key e
+
+abbrev pub Touching : ℕ → ℕ → Exchange → Type 0
+Touching table key e = GetsKey table key e ⊎ PutsKey table key e ⊎ DeletesKey table key e
+
+abbrev pub Changing : ℕ → ℕ → Exchange → Type 0
+Changing table key e = DeletesKey table key e ⊎ TidiesKey table key e
+
+-- a fact of all sound rows on which the transaction may have begun
+abbrev pub OnFit : Work → (Rows → Type 0) → Type 0
+OnFit w P = (rows : Rows) → IsSound rows → FitsWork sound_law w rows → P rows
+
+-- a key's record is there, and claimed
+abbrev pub HasPut : Work → ℕ → ℕ → ℕ → Rows → Type 0
+HasPut w table key x rows = (record_in (seen_by w rows) table key ≡ Some x) × (is_claimed w.claims x ≡ true)
+
+-- and it is the same on all these rows
+abbrev pub Puts : Work → ℕ → ℕ → Type 0
+Puts w table key = (table < 16) × ((x : ℕ) × OnFit w (HasPut w table key x))
+
+pub record Marks (lines : List Exchange) (w : Work) : Type 0 where
+  pub kept : OnFit w (λ rows. KeepsRecords rows (seen_by w rows))
+  pub touched : OnFit w (λ rows. (table key x : ℕ) → HasIn (Touching table key) lines → record_in rows table key ≡ Some x → IsTouched w x)
+  pub puts : (table key : ℕ) → HasIn (PutsKey table key) lines → Puts w table key
+  pub changes : OnFit w (λ rows. (table key x : ℕ) → HasIn (Changing table key) lines → record_in rows table key ≡ Some x → is_claimed w.claims x ≡ true)
+  pub only : OnFit w (λ rows. (table key x : ℕ) → table < 16 → record_in rows table key ≡ Some x → is_claimed w.claims x ≡ true → HasIn (Overwriting table key) lines)
+  pub first : OnFit w (λ rows. (table key x : ℕ) (before after : List Exchange) (line : Exchange) → lines ≡ before ++ line ∷ after → GetsKey table key line
+      → ((e : Exchange) → e ∈ before → Overwriting table key e → ⊥) → record_in rows table key ≡ Some x → is_some (row_read w.reads x) ≡ true)
+
+-- what a line's events did
+pub record LineDid (e : Exchange) (events : List Event) : Type 0 where
+  pub kept : OnAll events (λ rows. KeepsRecords rows (after_all events rows))
+  pub gets : (table key : ℕ) → GetsKey table key e → ReadsRecord events table key
+  pub puts : (table key : ℕ) → PutsKey table key e → PutsRecord events table key
+  pub changes : (table key : ℕ) → Changing table key e → ClaimsRecord events table key
+  pub only : OnAll events (λ rows. (table key x : ℕ) → table < 16 → record_in rows table key ≡ Some x → AreClaiming events x → Overwriting table key e)
+
+no_split : (before after : List Exchange) (line : Exchange) → [] ≡ before ++ line ∷ after → ⊥
+no_split [] after line is = cc
+no_split (b ∷ before) after line is = cc
+
+-- a place in lines with one more is the last one, or one of theirs
+last_or_before : (lines before after : List Exchange) (e line : Exchange) → lines ++ e ∷ [] ≡ before ++ line ∷ after
+    → ((line ≡ e) × (lines ≡ before)) ⊎ ((rest : List Exchange) × (lines ≡ before ++ line ∷ rest))
+last_or_before [] [] after e line is = inl (cc, refl)
+last_or_before [] (b ∷ before) after e line is = absurd (no_split before after line (cc))
+last_or_before (l ∷ lines) [] after e line is = let same : l ≡ line = cc in inr (lines, ap (λ (x : Exchange). x ∷ lines) same)
+last_or_before (l ∷ lines) (b ∷ before) after e line is =
+    let same : l ≡ b = cc in
+    elim (last_or_before lines before after e line (cc)) as (λ _. ((line ≡ e) × ((l ∷ lines) ≡ (b ∷ before))) ⊎ ((rest : List Exchange) × ((l ∷ lines) ≡ (b ∷ before) ++ line ∷ rest))) [
+      | inl last ↦ let both : lines ≡ before = last.1 in inl (last.0, cc)
+      | inr here ↦ let both : lines ≡ before ++ line ∷ here.0 = here.1 in inr (here.0, cc)
+    ]
+
+-- a line that gets a key doesn't overwrite it
+gets_only : (table key : ℕ) (e : Exchange) → GetsKey table key e → Overwriting table key e → ⊥
+gets_only table key e gets (inl puts) = let never : command.Get table key ≡ command.Put table key puts.0.0 = sym gets.0 ∙ puts.0.1 in cc
+gets_only table key e gets (inr (inl deletes)) = let never : command.Get table key ≡ command.Del table key = sym gets.0 ∙ deletes.0 in cc
+gets_only table key e gets (inr (inr tidies)) = let never : command.Get table key ≡ command.Tidy table key = sym gets.0 ∙ tidies.0 in cc
+
+-- a transaction without lines
+pub marks_nothing : (number begin : ℕ) → Marks [] (world.begun number begin)
+marks_nothing number begin = record {
+  kept = λ rows sound fits table key x below is. is;
+  touched = λ rows sound fits table key x line is. absurd (none_in_nil line.0 line.1);
+  puts = λ table key line. absurd (none_in_nil line.0 line.1);
+  changes = λ rows sound fits table key x line is. absurd (none_in_nil line.0 line.1);
+  only = λ rows sound fits table key x below is claimed. cc;
+  first = λ rows sound fits table key x before after line split gets none is. absurd (no_split before after line split);
+}
+
+line_of : (P : Exchange → Type 0) (lines : List Exchange) (e : Exchange) → HasIn P (lines ++ e ∷ []) → HasIn P lines ⊎ P e
+line_of P lines e (d, within, is) = elim (∈-parts lines (e ∷ []) d within) as (λ _. HasIn P lines ⊎ P e) [
+  | inl before ↦ inl (d, before, is)
+  | inr last ↦ elim (∈-cons d e [] last) as (λ _. HasIn P lines ⊎ P e) [
+    | inl here ↦ inr (subst P (sym here) is)
+    | inr none ↦ absurd (none_in_nil d none)
+  ]
+]
+
+module _ (lines : List Exchange) (w u : Work) (e : Exchange) (events : List Event) (moves : MovesAll sound_law w events u) (left : Leaves w events u) (lawful : IsLawfulWork sound_law w)
+    (once : (x : ℕ) → times_made u.made x ≤ 1) (did : LineDid e events) (marks : Marks lines w) where
+  module _ (rows : Rows) (sound : IsSound rows) (fits : FitsWork sound_law u rows) where
+    fits_before : FitsWork sound_law w rows
+    fits_before = moves.fitted rows fits
+
+    abbrev at : Rows
+    at = seen_by w rows
+
+    on : IsSound (seen_by w rows) × Rattle.erm_model.specs.RowTransaction.Agrees sound_law events (seen_by w rows)
+    on = agrees_with w u events moves lawful once rows fits
+
+    here : (table key x : ℕ) → table < 16 → record_in rows table key ≡ Some x → record_in (seen_by w rows) table key ≡ Some x
+    here table key x below is = marks.kept rows sound fits_before table key x below is
+
+    now : (table key x : ℕ) → record_in (after_all events (seen_by w rows)) table key ≡ Some x → record_in (seen_by u rows) table key ≡ Some x
+    now table key x is = ap (λ (rs : Rows). record_in rs table key) (moves.seen rows fits) ∙ is
+
+    kept_then : KeepsRecords rows (seen_by u rows)
+    kept_then table key x below is = now table key x (did.kept (seen_by w rows) on.0 on.1 table key x below (here table key x below is))
+
+    touched_now : (table key x : ℕ) → Touching table key e → record_in rows table key ≡ Some x → IsTouched u x
+    touched_now table key x (inl gets) is =
+        let reads = did.gets table key gets in left.reads x (reads.1 (seen_by w rows) on.0 on.1 x (here table key x reads.0 is))
+    touched_now table key x (inr (inl puts)) is =
+        let put = did.puts table key puts in
+        let set = put.1.1 (seen_by w rows) on.0 on.1 in
+        let both : Some put.1.0 ≡ Some x = sym (now table key put.1.0 set.0) ∙ kept_then table key x put.0 is in
+        let same : put.1.0 ≡ x = cc in
+        inr (subst (λ (y : ℕ). is_claimed u.claims y ≡ true) same (left.claims put.1.0 set.1))
+    touched_now table key x (inr (inr deletes)) is =
+        let claims = did.changes table key (inl deletes) in inr (left.claims x (claims.1 (seen_by w rows) on.0 on.1 x (here table key x claims.0 is)))
+
+    touched_then : (table key x : ℕ) → HasIn (Touching table key) (lines ++ e ∷ []) → record_in rows table key ≡ Some x → IsTouched u x
+    touched_then table key x line is = elim (line_of (Touching table key) lines e line) as (λ _. IsTouched u x) [
+      | inl before ↦ left.touched x (marks.touched rows sound fits_before table key x before is)
+      | inr last ↦ touched_now table key x last is
+    ]
+
+    put_before : (table key x : ℕ) → table < 16 → HasPut w table key x rows → HasPut u table key x rows
+    put_before table key x below (is, claimed) = (now table key x (did.kept (seen_by w rows) on.0 on.1 table key x below is), left.claimed x claimed)
+
+    put_now : (table key : ℕ) (put : PutsRecord events table key) → HasPut u table key put.1.0 rows
+    put_now table key put = let set = put.1.1 (seen_by w rows) on.0 on.1 in (now table key put.1.0 set.0, left.claims put.1.0 set.1)
+
+    changes_then : (table key x : ℕ) → HasIn (Changing table key) (lines ++ e ∷ []) → record_in rows table key ≡ Some x → is_claimed u.claims x ≡ true
+    changes_then table key x line is = elim (line_of (Changing table key) lines e line) as (λ _. is_claimed u.claims x ≡ true) [
+      | inl before ↦ left.claimed x (marks.changes rows sound fits_before table key x before is)
+      | inr last ↦ let claims = did.changes table key last in left.claims x (claims.1 (seen_by w rows) on.0 on.1 x (here table key x claims.0 is))
+    ]
+
+    only_then : (table key x : ℕ) → table < 16 → record_in rows table key ≡ Some x → is_claimed u.claims x ≡ true → HasIn (Overwriting table key) (lines ++ e ∷ [])
+    only_then table key x below is claimed = elim (moves.claims x claimed) as (λ _. HasIn (Overwriting table key) (lines ++ e ∷ [])) [
+      | inl before ↦ let had = marks.only rows sound fits_before table key x below is before in (had.0, ∈-before lines (e ∷ []) had.0 had.1, had.2)
+      | inr by ↦ (e, ∈-last lines e, did.only (seen_by w rows) on.0 on.1 table key x below (here table key x below is) by)
+    ]
+
+    first_now : (table key x : ℕ) → GetsKey table key e → ((d : Exchange) → d ∈ lines → Overwriting table key d → ⊥) → record_in rows table key ≡ Some x → is_some (row_read u.reads x) ≡ true
+    first_now table key x gets none is =
+        let reads = did.gets table key gets in
+        let there = here table key x reads.0 is in
+        elim (left.reads x (reads.1 (seen_by w rows) on.0 on.1 x there)) as (λ _. is_some (row_read u.reads x) ≡ true) [
+          | inl read ↦ read
+          | inr claimed ↦ elim (moves.claims x claimed) as (λ _. is_some (row_read u.reads x) ≡ true) [
+            | inl before ↦ let had = marks.only rows sound fits_before table key x reads.0 is before in absurd (none had.0 had.1 had.2)
+            | inr by ↦ absurd (gets_only table key e gets (did.only (seen_by w rows) on.0 on.1 table key x reads.0 there by))
+          ]
+        ]
+
+    first_then : (table key x : ℕ) (before after : List Exchange) (line : Exchange) → lines ++ e ∷ [] ≡ before ++ line ∷ after → GetsKey table key line
+        → ((d : Exchange) → d ∈ before → Overwriting table key d → ⊥) → record_in rows table key ≡ Some x → is_some (row_read u.reads x) ≡ true
+    first_then table key x before after line split gets none is = elim (last_or_before lines before after e line split) as (λ _. is_some (row_read u.reads x) ≡ true) [
+      | inl last ↦
+          first_now table key x (subst (λ (d : Exchange). GetsKey table key d) last.0 gets) (λ d within. none d (subst (λ (ds : List Exchange). d ∈ ds) last.1 within)) is
+      | inr earlier ↦ left.read x (marks.first rows sound fits_before table key x before earlier.0 line earlier.1 gets none is)
+    ]
+
+  pub marks_then : Marks (lines ++ e ∷ []) u
+  marks_then = record {
+    kept = kept_then;
+    touched = touched_then;
+    puts = λ table key line. elim (line_of (PutsKey table key) lines e line) as (λ _. Puts u table key) [
+      | inl before ↦
+          let had = marks.puts table key before in
+          (had.0, (had.1.0, λ rows sound fits. put_before rows sound fits table key had.1.0 had.0 (had.1.1 rows sound (moves.fitted rows fits))))
+      | inr last ↦ let put = did.puts table key last in (put.0, (put.1.0, λ rows sound fits. put_now rows sound fits table key put))
+    ];
+    changes = changes_then;
+    only = only_then;
+    first = first_then;
+  }

@@ -1,0 +1,236 @@
+-- What a line or a session's closing did: it touched no object, and then what was decided is bounded; or it named a table.
+use Rattle.std.proofs.Common.{◌≡◌, ℕ, ◌+◌, ◌<◌, ◌≤◌, ◌⊎◌, [], ◌++◌, length, Option, Some, None, append-nil, inl, inr, refl, sym, subst, arith}
+use Rattle.std.specs.Option.{option_map, option_to_list}
+use Rattle.erm_model.specs.declared.history.TransactionRecord.{TransactionRecord}
+use Rattle.erm_model.specs.declared.history.VersionRead.{VersionRead}
+use Rattle.erm_model.specs.declared.history.VersionWritten.{VersionWritten}
+use Rattle.erm_model.specs.declared.outcome.Phase.{Phase}
+use Rattle.erm_model.specs.declared.outcome.Phase.TheVariants.{Idle, Active, Sealed}
+use Rattle.erm_model.specs.History.{IsPredecessorStamp, OverwritesFrom, OverwritesReadOf, ReadsFrom}
+use Rattle.erm_model.specs.Member.{◌∈◌}
+use Rattle.erm_node.specs.Sound.{sound_law}
+use Rattle.erm_world.specs.Calls.{DidSeal, IsDone, Works}
+use Rattle.erm_world.specs.Laws.{IsSerializable}
+use Rattle.erm_world.specs.World.{Fate, Finished, HasStamp, IsSession, Session, Stand, View, Work, bare, history_of, phase_at, phase_of, record_of, stamp_of, work_at, work_of}
+use Rattle.erm_world.specs.World as world
+use Rattle.erm_world.proofs.Lists.{∈-last}
+use Rattle.erm_report.specs.declared.answer.Answer.{Answer}
+use Rattle.erm_report.specs.declared.answer.Answer.TheVariants as answer
+use Rattle.erm_script.specs.declared.script.Command.{Command}
+use Rattle.erm_script.specs.declared.script.Command.TheVariants as command
+use Rattle.erm_script.specs.declared.script.ScriptLine.{ScriptLine}
+use Rattle.erm_good_report.specs.Phases.{Closes, FitsRefusal, phase_asked, refusal_for, refusal_of}
+use Rattle.erm_good_report.specs.Transactions.{Aborts, Commits, Ending, Excludes, Progress, Transaction, begun, ended, goes_on, heard, table_of, with_line, with_seal}
+use Rattle.erm_lines.specs.Answers.{DidAsked, DidClose, DidCommand, DidDecide, DidLine, DidOperation}
+use Rattle.erm_lines.specs.Executions.{DidEnd}
+use Rattle.erm_causes.proofs.Fine.{still_session}
+use Rattle.erm_causes.proofs.Ran.{active_with}
+
+-- a line that names no table, or no line
+abbrev pub NamesNone : Option Command → Type 0
+NamesNone None = Unit {0}
+NamesNone (Some c) = table_of c ≡ None
+
+-- the transaction in progress has the lines that it had
+abbrev pub SameNow : Option Transaction → Option Transaction → Type 0
+SameNow None None = Unit {0}
+SameNow (Some t) (Some u) = u.lines ≡ t.lines
+SameNow None (Some u) = ⊥
+SameNow (Some t) None = ⊥
+
+abbrev pub SameLines : Progress → Progress → Type 0
+SameLines p q = (q.over ≡ p.over) × SameNow p.current q.current
+
+-- An answer is heard as one that changes no line, that begins a transaction, or that ends one.
+abbrev pub StillBy : Option Command → Answer → Type 0
+StillBy asked a = (seat : ℕ) (p : Progress) → SameLines p (heard seat asked a p)
+
+abbrev pub BeginsBy : Option Command → Answer → Type 0
+BeginsBy asked a = (seat : ℕ) (p : Progress) → (t : Transaction) × (heard seat asked a p ≡ record { over = p.over; current = Some t }) × (t.lines ≡ [])
+
+abbrev pub DoneBy : Option Command → Answer → Ending → Type 0
+DoneBy asked a ending = (seat : ℕ) (p : Progress) → heard seat asked a p ≡ ended ending p
+
+-- a session has this transaction, sealed or not
+abbrev pub HasNow : Stand → Work → Type 0
+HasNow stand w = (stand ≡ world.active w) ⊎ ((stamp : ℕ) × (stand ≡ world.sealed w stamp))
+
+-- a line that names no table leaves the lines
+same_line : (asked : Option Command) (a : Answer) (t : Transaction) → NamesNone asked → (with_line asked a t).lines ≡ t.lines
+same_line None a t none = append-nil t.lines
+same_line (Some c) a t none =
+    subst (λ (r : Option ℕ). (t.lines ++ option_to_list (option_map (λ (table : ℕ). record { asked = c; answer = a }) r)) ≡ t.lines) (sym none) (append-nil t.lines)
+
+same_now : (asked : Option Command) (a : Answer) (current : Option Transaction) → NamesNone asked → SameNow current (option_map (with_line asked a) current)
+same_now asked a None none = tt
+same_now asked a (Some t) none = same_line asked a t none
+
+pub same_goes_on : (asked : Option Command) (a : Answer) (p : Progress) → NamesNone asked → SameLines p (goes_on asked a p)
+same_goes_on asked a p none = (refl, same_now asked a p.current none)
+
+same_itself : (current : Option Transaction) → SameNow current current
+same_itself None = tt
+same_itself (Some t) = refl
+
+-- BOUNDED. The versions that a transaction read or overwrote are no later than its predecessor stamp.
+pub record AreBelow (w : Work) (pred : ℕ) : Type 0 where
+  pub reads : (r : VersionRead) → r ∈ w.reads → r.stamp ≤ pred
+  pub claims : (c : VersionWritten) → c ∈ w.claims → c.stamp ≤ pred
+
+abbrev pub IsBounded : Work → Fate → Type 0
+IsBounded w (world.commits stamp succ pred) = AreBelow w pred
+IsBounded w (world.excluded stamp succ pred) = AreBelow w pred
+IsBounded w world.aborts = Unit {0}
+
+module _ (v t : View) (seat : ℕ) (w : Work) (fate : Fate) (stamp succ pred : ℕ) (session : IsSession v seat) (done : IsDone v seat w fate t) (is : stamp_of fate ≡ Some stamp)
+    (predecessor : IsPredecessorStamp (history_of t) pred (record_of seat w stamp succ pred)) (holds : IsSerializable sound_law t) where
+  in_over : record { work = w; fate = fate } ∈ (t.session seat).over
+  in_over = subst (λ (s : Session). record { work = w; fate = fate } ∈ s.over) (sym done.own) (∈-last (v.session seat).over (record { work = w; fate = fate }))
+
+  in_t : IsSession t seat
+  in_t = still_session v t seat done.opening session
+
+  begins_below : w.begin ≤ stamp
+  begins_below = (holds.stamps seat w stamp in_t (inl (record { work = w; fate = fate }, in_over, refl, is))).0
+
+  counted : (u : TransactionRecord) → u ∈ history_of t → u.stamp < w.begin
+      → ReadsFrom (record_of seat w stamp succ pred) u ⊎ OverwritesFrom (record_of seat w stamp succ pred) u ⊎ OverwritesReadOf (record_of seat w stamp succ pred) u → u.stamp ≤ pred
+  counted u within below counts = predecessor.at_least_each u (within, omega (arith, below, begins_below), counts)
+
+  pub are_below : AreBelow w pred
+  are_below =
+      let sees = holds.sees seat w in_t (inl (record { work = w; fate = fate }, in_over, refl)) in
+      record {
+        reads = λ r m.
+            let newest = sees.reads r m in
+            elim newest.version as (λ _. r.stamp ≤ pred) [
+              | inl first ↦ omega (arith, first.0)
+              | inr (u, d, within, at, d_in, oid, row) ↦
+                  omega (arith, at, counted u within (omega (arith, at, newest.below)) (inl (r, m, sym at, (d, d_in, oid))))
+            ];
+        claims = λ c m.
+            let newest = sees.claims c m in
+            elim newest.version as (λ _. c.stamp ≤ pred) [
+              | inl first ↦ omega (arith, first.0)
+              | inr (u, d, within, at, d_in, oid, row) ↦
+                  omega (arith, at, counted u within (omega (arith, at, newest.below)) (inr (inl (c, m, sym at, (d, d_in, oid)))))
+            ];
+      }
+
+-- DECIDED. Or nothing was touched.
+pub data Quiet (v : View) (seat : ℕ) (asked : Option Command) (a : Answer) (t : View) : Type 0 where
+  still : t ≡ v → StillBy asked a → Quiet v seat asked a t
+  begins : (number begin : ℕ) → (v.session seat).stand ≡ world.idle → Works v seat (world.begun number begin) t → BeginsBy asked a → Quiet v seat asked a t
+  seals : (stamp : ℕ) → phase_at v seat ≡ Active → DidSeal v seat stamp t → StillBy asked a → Quiet v seat asked a t
+  done : (w : Work) (fate : Fate) (ending : Ending) → HasNow (v.session seat).stand w → IsDone v seat w fate t
+      → (IsSerializable sound_law t → IsBounded w fate) → DoneBy asked a ending → Quiet v seat asked a t
+
+-- a sealed one was decided, or waits
+pub decided : (v t : View) (seat : ℕ) (asked : Option Command) (a : Answer) → IsSession v seat → NamesNone asked → DidDecide v seat a t → Quiet v seat asked a t
+decided v t seat asked (answer.Committed stamp succ pred) session none (r, at, is_succ, is_pred, (w, own, stand, settled)) =
+    done w (world.commits own r.succ r.pred) (Commits stamp succ pred) (inr (own, stand)) settled.0
+    (λ holds. are_below v t seat w (world.commits own r.succ r.pred) own r.succ r.pred session settled.0 refl settled.5 holds) (λ q p. refl)
+decided v t seat asked (answer.Excluded stamp succ pred) session none (w, own, stand, settled) =
+    done w (world.excluded own succ pred) (Excludes (Some stamp) succ pred) (inr (own, stand)) settled.0
+    (λ holds. are_below v t seat w (world.excluded own succ pred) own succ pred session settled.0 refl settled.3 holds)
+    (λ q p. refl)
+decided v t seat asked (answer.WaitSeat other seen) session none did = still did.0 (λ q p. same_goes_on asked (answer.WaitSeat other seen) p none)
+decided v t seat asked (answer.WaitRing flushed) session none did = still did.0 (λ q p. same_goes_on asked (answer.WaitRing flushed) p none)
+decided v t seat asked a session none did = absurd did
+
+-- LINES. A line's phase allowed it, or its refusal is heard as nothing.
+refusal_still : (wanted : Option Phase) (phase : Phase) (refusal : Answer) → refusal_for wanted phase ≡ Some refusal → (asked : Option Command) → StillBy asked refusal
+refusal_still (Some Idle) Active refusal is asked = let same : answer.NotIdle ≡ refusal = cc in subst (StillBy asked) same (λ q p. (refl, same_itself p.current))
+refusal_still (Some Idle) Sealed refusal is asked = let same : answer.NotIdle ≡ refusal = cc in subst (StillBy asked) same (λ q p. (refl, same_itself p.current))
+refusal_still (Some Active) Idle refusal is asked = let same : answer.NoTransaction ≡ refusal = cc in subst (StillBy asked) same (λ q p. (refl, same_itself p.current))
+refusal_still (Some Active) Sealed refusal is asked = let same : answer.IsSealed ≡ refusal = cc in subst (StillBy asked) same (λ q p. (refl, same_itself p.current))
+refusal_still (Some Sealed) Idle refusal is asked = let same : answer.NotSealed ≡ refusal = cc in subst (StillBy asked) same (λ q p. (refl, same_itself p.current))
+refusal_still (Some Sealed) Active refusal is asked = let same : answer.NotSealed ≡ refusal = cc in subst (StillBy asked) same (λ q p. (refl, same_itself p.current))
+refusal_still (Some Idle) Idle refusal is asked = let no : None ≡ Some refusal = is in cc
+refusal_still (Some Active) Active refusal is asked = let no : None ≡ Some refusal = is in cc
+refusal_still (Some Sealed) Sealed refusal is asked = let no : None ≡ Some refusal = is in cc
+refusal_still None phase refusal is asked = let no : None ≡ Some refusal = is in cc
+
+pub wants_active : (phase : Phase) → refusal_for (Some Active) phase ≡ None → phase ≡ Active
+wants_active Idle is = cc
+wants_active Active is = refl
+wants_active Sealed is = cc
+
+wants_idle : (phase : Phase) → refusal_for (Some Idle) phase ≡ None → phase ≡ Idle
+wants_idle Idle is = refl
+wants_idle Active is = cc
+wants_idle Sealed is = cc
+
+idle_with : (stand : Stand) → phase_of stand ≡ Idle → stand ≡ world.idle
+idle_with world.idle is = refl
+idle_with (world.active w) is = cc
+idle_with (world.sealed w stamp) is = cc
+
+-- What a line did: it is a quiet one; or it sealed its transaction, and then it is; or it is one that names a table.
+pub data Lined (v : View) (seat : ℕ) (c : Command) (a : Answer) (t : View) : Type 0 where
+  quiet : Quiet v seat (Some c) a t → Lined v seat c a t
+  sealed_first : (stamp : ℕ) (between : View) → phase_at v seat ≡ Active → DidSeal v seat stamp between → Quiet between seat (Some c) a t → Lined v seat c a t
+  named : (k : ℕ) → table_of c ≡ Some k → phase_at v seat ≡ Active → DidOperation v seat c a t → Lined v seat c a t
+
+module _ (v t : View) (seat : ℕ) (session : IsSession v seat) where
+  begun_line : (a : Answer) → refusal_of (phase_at v seat) command.Begin ≡ None → DidCommand v seat command.Begin a t → Lined v seat command.Begin a t
+  begun_line (answer.Began begin) free did =
+      quiet (begins (length (v.session seat).over + 1) begin (idle_with (v.session seat).stand (wants_idle (phase_at v seat) free)) did.3 (λ q p. (begun q begin p, refl, refl)))
+  begun_line (answer.LogEnd tail) free did = quiet (still did.0 (λ q p. same_goes_on (Some command.Begin) (answer.LogEnd tail) p refl))
+  begun_line answer.NumbersEnd free did = quiet (still did.0 (λ q p. same_goes_on (Some command.Begin) answer.NumbersEnd p refl))
+  begun_line a free did = absurd did
+
+  seal_heard : (current : Option Transaction) (stamp : ℕ) → SameNow current (option_map (with_seal stamp) current)
+  seal_heard None stamp = tt
+  seal_heard (Some u) stamp = refl
+
+  sealed_line : (a : Answer) → refusal_of (phase_at v seat) command.Seal ≡ None → DidCommand v seat command.Seal a t → Lined v seat command.Seal a t
+  sealed_line (answer.Sealed stamp) free did = quiet (seals stamp (wants_active (phase_at v seat) free) did (λ q p. (refl, seal_heard p.current stamp)))
+  sealed_line a free did = absurd did
+
+  aborted_line : (a : Answer) → refusal_of (phase_at v seat) command.Abort ≡ None → DidCommand v seat command.Abort a t → Lined v seat command.Abort a t
+  aborted_line answer.Aborted free did =
+      quiet (done (work_at v seat) world.aborts Aborts (inl (active_with (v.session seat).stand (wants_active (phase_at v seat) free))) did (λ holds. tt) (λ q p. refl))
+  aborted_line a free did = absurd did
+
+  committed_line : (a : Answer) → refusal_of (phase_at v seat) command.Commit ≡ None → DidCommand v seat command.Commit a t → Lined v seat command.Commit a t
+  committed_line a free did =
+      sealed_first did.stamp did.between (wants_active (phase_at v seat) free) did.sealed
+      (decided did.between t seat (Some command.Commit) a (still_session v did.between seat did.sealed.opening session) refl did.decided)
+
+  named_line : (c : Command) (a : Answer) (k : ℕ) → table_of c ≡ Some k → phase_at v seat ≡ Active → DidOperation v seat c a t → Lined v seat c a t
+  named_line c a k names active did = named k names active did
+
+  commanded : (c : Command) (a : Answer) → refusal_of (phase_at v seat) c ≡ None → DidCommand v seat c a t → Lined v seat c a t
+  commanded command.Begin a free did = begun_line a free did
+  commanded command.Seal a free did = sealed_line a free did
+  commanded command.Settle a free did = quiet (decided v t seat (Some command.Settle) a session refl did)
+  commanded command.Commit a free did = committed_line a free did
+  commanded command.Abort a free did = aborted_line a free did
+  commanded (command.Get k key) a free did = named_line (command.Get k key) a k refl (wants_active (phase_at v seat) free) did
+  commanded (command.Put k key value) a free did = named_line (command.Put k key value) a k refl (wants_active (phase_at v seat) free) did
+  commanded (command.Del k key) a free did = named_line (command.Del k key) a k refl (wants_active (phase_at v seat) free) did
+  commanded (command.Next k from) a free did = named_line (command.Next k from) a k refl (wants_active (phase_at v seat) free) did
+  commanded (command.Scan k low high) a free did = named_line (command.Scan k low high) a k refl (wants_active (phase_at v seat) free) did
+  commanded (command.Tidy k key) a free did = named_line (command.Tidy k key) a k refl (wants_active (phase_at v seat) free) did
+  commanded command.Durable a free did = absurd did
+  commanded command.Flush a free did = absurd did
+  commanded command.Checkpoint a free did = absurd did
+
+  asked_line : (c : Command) (a : Answer) (r : Option Answer) → refusal_of (phase_at v seat) c ≡ r → FitsRefusal r c a → DidAsked r v seat c a t → Lined v seat c a t
+  asked_line c a None is fits did = commanded c a is did
+  asked_line c a (Some refusal) is fits did =
+      quiet (still did (subst (StillBy (Some c)) (sym fits) (refusal_still (phase_asked c) (phase_at v seat) refusal is (Some c))))
+
+  closed_as : (a : Answer) (phase : Phase) → phase_at v seat ≡ phase → Closes phase a → DidClose phase v seat a t → Quiet v seat None a t
+  closed_as a Idle is closes did = absurd did
+  closed_as answer.Aborted Active is closes did =
+      done (work_at v seat) world.aborts Aborts (inl (active_with (v.session seat).stand is)) did (λ holds. tt) (λ q p. refl)
+  closed_as a Active is closes did = absurd closes
+  closed_as a Sealed is closes did = decided v t seat None a session tt did
+
+pub lined : (v : View) (l : ScriptLine) (a : Answer) (t : View) → DidLine v l a t → Lined v l.session l.command a t
+lined v l a t did = asked_line v t l.session did.session l.command a (refusal_of (phase_at v l.session) l.command) refl did.fits did.did
+
+pub closed_quiet : (v : View) (seat : ℕ) (a : Answer) (t : View) → DidEnd v seat a t → Quiet v seat None a t
+closed_quiet v seat a t did = closed_as v t seat did.session a (phase_at v seat) refl did.fits did.did

@@ -1,0 +1,187 @@
+-- The transactions that a report tells beside those of the world, with what their lines tell of the records that they touched.
+use Rattle.std.proofs.Common.{◌≡◌, ℕ, zero, suc, ◌⊎◌, ◌||◌, Bool, true, is_some, List, [], ◌∷◌, ◌++◌, Option, Some, None, slice_get, flat_map, option_to_list, inl, inr, refl, sym, ap, ◌∙◌, subst, arith}
+use Rattle.std.specs.List.{range_with_len}
+use Rattle.std.proofs.lemmas.Bool.Decides.{eqb_tells}
+use Rattle.erm_model.specs.declared.history.TransactionRecord.{TransactionRecord}
+use Rattle.erm_model.specs.declared.history.VersionRead.{VersionRead}
+use Rattle.erm_model.specs.declared.history.VersionWritten.{VersionWritten}
+use Rattle.erm_model.specs.Member.{◌∈◌}
+use Rattle.erm_model.proofs.Members.{none_in_nil}
+use Rattle.erm_machine.proofs.Listed.{∈-either, ∈-first, ∈-second}
+use Rattle.erm_world.specs.Laws.{IsCommitOf}
+use Rattle.erm_world.specs.Works.{is_claimed, row_read}
+use Rattle.erm_world.specs.World.{Fate, Finished, IsSession, Stand, View, Work, history_of, record_of}
+use Rattle.erm_world.specs.World as world
+use Rattle.erm_world.proofs.Commits.{tells_commits}
+use Rattle.erm_world.proofs.Works.{row_read-found}
+use Rattle.erm_maps.proofs.Histories.{work_in}
+use Rattle.erm_good_report.specs.Transactions.{Aborts, Commits, Ending, Excludes, Unfinished, Said, Transaction, progress_of, transactions_of}
+use Rattle.erm_good_report.specs.Windows.{IsCommit}
+use Rattle.erm_lines.specs.Told.{EndsAs, Tells, TellsNow, TellsOne, TellsOver}
+use Rattle.erm_told.proofs.Ranges.{in_range, in_range_from}
+use Rattle.erm_tight.proofs.Marks.{Marks}
+use Rattle.erm_tight.proofs.Moves.{IsMarked, MarkedOne, MarkedOver}
+use Rattle.erm_tight.proofs.Serial.{IsTold}
+
+-- what was claimed is one of the claims, and what was read one of the reads
+pub claimed_in : (cs : List VersionWritten) (x : ℕ) → is_claimed cs x ≡ true → (c : VersionWritten) × (c ∈ cs) × (c.oid ≡ x)
+claimed_in [] x is = cc
+claimed_in (c ∷ cs) x is = elim (eqb_tells c.oid x) as (λ _. (d : VersionWritten) × (d ∈ (c ∷ cs)) × (d.oid ≡ x)) [
+  | inl here ↦ (c, (zero, refl), here.1)
+  | inr there ↦ let later = claimed_in cs x (sym (ap (λ (b : Bool). b || is_claimed cs x) there.0) ∙ is) in (later.0, (suc later.1.0, later.1.1), later.2)
+]
+
+pub read_in : (rs : List VersionRead) (x : ℕ) → is_some (row_read rs x) ≡ true → (r : VersionRead) × (r ∈ rs) × (r.oid ≡ x)
+read_in rs x is = found (row_read rs x) refl is
+  where
+    found : (o : Option (List ℕ)) → row_read rs x ≡ o → is_some o ≡ true → (r : VersionRead) × (r ∈ rs) × (r.oid ≡ x)
+    found None at no_row = cc
+    found (Some row) at some = let it = row_read-found rs x row at in (it.0, it.1, it.2)
+
+in_flat : {X Y : Type 0} (f : X → List Y) (xs : List X) (y : Y) → y ∈ flat_map f xs → (x : X) × (x ∈ xs) × (y ∈ f x)
+in_flat f [] y m = absurd (none_in_nil y m)
+in_flat f (x ∷ xs) y m = elim (∈-either (f x) (flat_map f xs) y m) [
+  | inl here ↦ (x, (zero, refl), here)
+  | inr later ↦ let found = in_flat f xs y later in (found.0, (suc found.1.0, found.1.1), found.2)
+]
+
+from_flat : {X Y : Type 0} (f : X → List Y) (xs : List X) (x : X) (y : Y) (k : ℕ) → slice_get xs k ≡ Some x → y ∈ f x → y ∈ flat_map f xs
+from_flat f [] x y k at m = cc
+from_flat {X} {Y} f (z ∷ xs) x y zero at m =
+    let same : z ≡ x = cc in ∈-first (f z) (flat_map f xs) y (subst (λ (q : X). y ∈ f q) (sym same) m)
+from_flat f (z ∷ xs) x y (suc k) at m = ∈-second (f z) (flat_map f xs) y (from_flat f xs x y k at m)
+
+-- One told, beside the one of the world.
+pub record Both (seat : ℕ) (t : Transaction) (f : Finished) : Type 0 where
+  pub tells : TellsOne seat t f
+  pub marked : MarkedOne t f
+
+both_told : (seat : ℕ) (ts : List Transaction) (fs : List Finished) (k : ℕ) (t : Transaction) → TellsOver seat ts fs → MarkedOver ts fs
+    → slice_get ts k ≡ Some t → (f : Finished) × (slice_get fs k ≡ Some f) × Both seat t f
+both_told seat [] fs k t told marked at = cc
+both_told seat (u ∷ ts) [] k t told marked at = absurd told
+both_told seat (u ∷ ts) (f ∷ fs) zero t told marked at =
+    let same : u ≡ t = cc in (f, refl, subst (λ (x : Transaction). Both seat x f) same (record { tells = told.0; marked = marked.0 }))
+both_told seat (u ∷ ts) (f ∷ fs) (suc k) t told marked at = both_told seat ts fs k t told.1 marked.1 at
+
+both_over : (seat : ℕ) (ts : List Transaction) (fs : List Finished) (k : ℕ) (f : Finished) → TellsOver seat ts fs → MarkedOver ts fs
+    → slice_get fs k ≡ Some f → (t : Transaction) × (slice_get ts k ≡ Some t) × Both seat t f
+both_over seat ts [] k f told marked at = cc
+both_over seat [] (g ∷ fs) k f told marked at = absurd told
+both_over seat (t ∷ ts) (g ∷ fs) zero f told marked at =
+    let same : g ≡ f = cc in (t, refl, subst (λ (x : Finished). Both seat t x) same (record { tells = told.0; marked = marked.0 }))
+both_over seat (t ∷ ts) (g ∷ fs) (suc k) f told marked at = both_over seat ts fs k f told.1 marked.1 at
+
+-- one that committed is told to have, with its stamps
+commits_as : (ending : Ending) (stamp succ pred : ℕ) → EndsAs ending (world.commits stamp succ pred) → ending ≡ Commits stamp succ pred
+commits_as Unfinished stamp succ pred ends = absurd ends
+commits_as (Commits s u p) stamp succ pred ends = ap (λ n. Commits n u p) ends.0 ∙ ap (λ n. Commits stamp n p) ends.1 ∙ ap (λ n. Commits stamp succ n) ends.2
+commits_as (Excludes None u p) stamp succ pred ends = absurd ends
+commits_as (Excludes (Some s) u p) stamp succ pred ends = absurd ends
+commits_as Aborts stamp succ pred ends = absurd ends
+
+-- A transaction of the world that is over and told.
+pub record IsOne (v : View) (t : Transaction) : Type 0 where
+  pub seat : ℕ
+  pub session : IsSession v seat
+  pub one : Finished
+  pub over : one ∈ (v.session seat).over
+  pub both : Both seat t one
+
+-- a commit told is one of the history, whose lines tell what it touched
+pub record IsCommitted (v : View) (t : Transaction) (stamp succ : ℕ) : Type 0 where
+  pub by : TransactionRecord
+  pub within : by ∈ history_of v
+  pub stamp_is : by.stamp ≡ stamp
+  pub succ_is : by.succ ≡ succ
+  pub begin : t.begin ≡ by.begin
+  pub marks : Marks t.lines (work_in by)
+
+-- a commit of the history is told
+pub record IsCommitTold (transactions : List Transaction) (r : TransactionRecord) : Type 0 where
+  pub told : Transaction
+  pub commit : IsCommit transactions told r.stamp r.succ
+  pub begin : told.begin ≡ r.begin
+  pub marks : Marks told.lines (work_in r)
+
+module _ (v : View) (sessions : ℕ) (said : List Said) (of : sessions ≡ v.opening.sessions)
+    (tells : (seat : ℕ) → IsSession v seat → Tells seat (progress_of seat said) (v.session seat))
+    (marked : (seat : ℕ) → IsSession v seat → IsMarked (progress_of seat said) (v.session seat)) where
+  abbrev of_seat : ℕ → List Transaction
+  of_seat seat = (progress_of seat said).over ++ option_to_list (progress_of seat said).current
+
+  told_over : (seat : ℕ) → IsSession v seat → (t : Transaction) → t ∈ (progress_of seat said).over → t ∈ transactions_of sessions said
+  told_over seat session t m =
+      let place = in_range_from 1 sessions seat session.0 (omega (arith, session.1, of)) in
+      from_flat of_seat (range_with_len 1 sessions) seat t place.0 place.1 (∈-first (progress_of seat said).over (option_to_list (progress_of seat said).current) t m)
+
+  pub commit_told : (r : TransactionRecord) → r ∈ history_of v → IsCommitTold (transactions_of sessions said) r
+  commit_told r within =
+      let own : IsCommitOf v r = (tells_commits v).only r within in
+      let f : Finished = record { work = own.work; fate = world.commits own.stamp own.succ own.pred } in
+      let found = both_over own.seat (progress_of own.seat said).over (v.session own.seat).over own.over.0 f (tells own.seat own.session).over (marked own.seat own.session).over own.over.1 in
+      subst (λ (u : TransactionRecord). IsCommitTold (transactions_of sessions said) u) (sym own.is) (record {
+        told = found.0;
+        commit = record {
+          of = told_over own.seat own.session found.0 (own.over.0, found.1);
+          pred = own.pred;
+          ending = commits_as found.0.ending own.stamp own.succ own.pred found.2.tells.ends;
+        };
+        begin = found.2.tells.work.begin;
+        marks = found.2.marked.marks own.stamp refl;
+      })
+
+  pub record_told : (r : TransactionRecord) → r ∈ history_of v → IsTold r
+  record_told r within = let it = commit_told r within in (it.told.lines, it.marks)
+
+  unfinished : (seat : ℕ) (current : Option Transaction) (stand : Stand) → TellsNow seat current stand → (t : Transaction) → t ∈ option_to_list current → t.ending ≡ Unfinished
+  unfinished seat None stand now t m = absurd (none_in_nil t m)
+  unfinished seat (Some u) world.idle now t m = absurd now
+  unfinished seat (Some u) (world.active w) now t (zero, at) = let same : u ≡ t = cc in ap (λ (x : Transaction). x.ending) (sym same) ∙ now.0.unfinished
+  unfinished seat (Some u) (world.sealed w stamp) now t (zero, at) = let same : u ≡ t = cc in ap (λ (x : Transaction). x.ending) (sym same) ∙ now.0.unfinished
+  unfinished seat (Some u) (world.active w) now t (suc k, at) = cc
+  unfinished seat (Some u) (world.sealed w stamp) now t (suc k, at) = cc
+
+  -- one told is over in the world, or unfinished
+  pub one_told : (t : Transaction) → t ∈ transactions_of sessions said → IsOne v t ⊎ (t.ending ≡ Unfinished)
+  one_told t m =
+      let found = in_flat of_seat (range_with_len 1 sessions) t m in
+      let seat = found.0 in
+      let bounds = in_range 1 sessions seat found.1 in
+      let session : IsSession v seat = (omega (arith, bounds.0), omega (arith, bounds.1, of)) in
+      elim (∈-either (progress_of seat said).over (option_to_list (progress_of seat said).current) t found.2) as (λ _. IsOne v t ⊎ (t.ending ≡ Unfinished)) [
+        | inl over ↦
+            let both = both_told seat (progress_of seat said).over (v.session seat).over over.0 t (tells seat session).over (marked seat session).over over.1 in
+            inl (record { seat = seat; session = session; one = both.0; over = (over.0, both.1); both = both.2 })
+        | inr now ↦ inr (unfinished seat (progress_of seat said).current (v.session seat).stand (tells seat session).now t now)
+      ]
+
+  committed_as : (t : Transaction) (it : IsOne v t) (fate : Fate) → it.one.fate ≡ fate → (stamp succ pred : ℕ) → EndsAs (Commits stamp succ pred) fate → IsCommitted v t stamp succ
+  committed_as t it (world.commits s u p) is stamp succ pred ends =
+      let whole : it.one ≡ record { work = it.one.work; fate = world.commits s u p } = ap (λ (fate : Fate). record { work = it.one.work; fate = fate }) is in
+      record {
+        by = record_of it.seat it.one.work s u p;
+        within = (tells_commits v).each (record_of it.seat it.one.work s u p) (record {
+          seat = it.seat;
+          session = it.session;
+          work = it.one.work;
+          stamp = s;
+          succ = u;
+          pred = p;
+          over = subst (λ (g : Finished). g ∈ (v.session it.seat).over) whole it.over;
+          is = refl;
+        });
+        stamp_is = sym ends.0;
+        succ_is = sym ends.1;
+        begin = it.both.tells.work.begin;
+        marks = it.both.marked.marks s (ap world.stamp_of is);
+      }
+  committed_as t it (world.excluded s u p) is stamp succ pred ends = absurd ends
+  committed_as t it world.aborts is stamp succ pred ends = absurd ends
+
+  -- a commit told is one of the history
+  pub commit_known : (t : Transaction) (stamp succ : ℕ) → IsCommit (transactions_of sessions said) t stamp succ → IsCommitted v t stamp succ
+  commit_known t stamp succ commit = elim (one_told t commit.of) as (λ _. IsCommitted v t stamp succ) [
+    | inl it ↦ committed_as t it it.one.fate refl stamp succ commit.pred (subst (λ (e : Ending). EndsAs e it.one.fate) commit.ending it.both.tells.ends)
+    | inr none ↦ let never : Commits stamp succ commit.pred ≡ Unfinished = sym commit.ending ∙ none in cc
+  ]

@@ -1,0 +1,33 @@
+use Rattle.std.proofs.Common.{ap, sym}
+use Rattle.std.specs.Prelude.{◌++◌}
+use Rattle.erm_good_report.specs.GoodReport.{places_of}
+use Rattle.erm_world.specs.World as world
+use Rattle.erm_lines.specs.Executions.{line_moves}
+use Rattle.erm_causes.proofs.Begun.{HistoryLaws}
+use Rattle.erm_causes.proofs.Moves.{session_before}
+use Rattle.erm_causes.proofs.Runs.{whole_run}
+use Rattle.erm_causes.proofs.Tables.{run_holds, run_opening}
+use Rattle.erm_tight.proofs.High.{excluded_ends}
+use Rattle.erm_tight.proofs.Runs.{run_marks}
+use Rattle.erm_tight.proofs.Whole.{KeyLaws, key_laws}
+use Rattle.erm_tight.proofs.runs_exclude_tightly.Goals as goal
+
+pub returns : goal.returns
+returns c = λ v t script answers run closed are bounded.
+    let laws : HistoryLaws = record {
+      certified = c.prefixes_stand_alone.ensures.certified;
+      snapshot = c.prefixes_stand_alone.ensures.snapshot;
+      exists = c.serial_order_is_unique.ensures.exists;
+      run_below = c.rows_run_serially.ensures.run_below;
+      newest_below = c.rows_run_serially.ensures.newest_below;
+      row = c.versions_are_unique.ensures.row;
+      newest = c.versions_are_unique.ensures.newest;
+    } in
+    let keys : KeyLaws = key_laws c.nodes_are_read_back.ensures.record c.record_values.ensures.given c.record_values.ensures.found c.map_has_values_of_records.ensures.value c.nodes_are_read_back.ensures.found in
+    let moves = line_moves script answers ++ run.closing in
+    let same = run_opening moves v t (whole_run v t script answers run closed are) in
+    excluded_ends laws t v.opening.sessions (places_of script answers closed) (run_holds moves v t run.opened.serializable (whole_run v t script answers run closed are))
+    (ap (λ (o : world.Opening). o.sessions) (sym same))
+    (λ seat session. c.runs_tell_sessions.ensures v t script answers run closed are seat (session_before v t seat same session))
+    (λ seat session. run_marks v t script answers run closed are keys c.begun_transactions_are_runs.ensures seat (session_before v t seat same session))
+    bounded

@@ -1,0 +1,209 @@
+-- The stamps that a line tells lie between the ends of the log before and after it.
+use Rattle.std.proofs.Common.{◌≡◌, ℕ, ◌<◌, ◌≤◌, Bool, true, false, cond, [], ◌∷◌, Option, Some, None, refl, sym, ap, ◌∙◌, subst, inl, inr, arith}
+use Rattle.erm_model.specs.declared.row_stop.RowStop.{RowStop}
+use Rattle.erm_model.specs.declared.row_stop.RowStop.TheVariants as stop
+use Rattle.erm_model.specs.Member.{◌∈◌}
+use Rattle.erm_machine.proofs.Listed.{∈-head, ∈-second}
+use Rattle.erm_node.specs.Sound.{sound_law}
+use Rattle.erm_report.specs.declared.answer.Answer.{Answer}
+use Rattle.erm_report.specs.declared.answer.Answer.TheVariants as answer
+use Rattle.erm_script.specs.declared.script.Command.{Command}
+use Rattle.erm_script.specs.declared.script.Command.TheVariants as command
+use Rattle.erm_script.specs.declared.script.ScriptLine.{ScriptLine}
+use Rattle.erm_world.specs.Calls.{DidBegin, DidSeal, IsDone}
+use Rattle.erm_world.specs.Laws.{IsSerializable}
+use Rattle.erm_world.specs.World.{Fate, Finished, HasStamp, IsSession, Session, Stand, View, Work, phase_at, stamp_of, work_at}
+use Rattle.erm_world.specs.World as world
+use Rattle.erm_good_report.specs.Phases.{FitsRefusal, asks_commit, phase_asked, refusal_in, refusal_of}
+use Rattle.erm_good_report.specs.Stamps.{begin_told, stamp_drawn, stamp_told}
+use Rattle.erm_lines.specs.Answers.{DidAsked, DidCommand, DidCommit, DidDecide, DidLine, DidOperation, WasRefusedAs, stop_told}
+use Rattle.erm_told.proofs.Lines.{phase_refuses}
+
+-- the stamps that an answer tells, beside the ends of the log before and after it
+pub record Draws (m n : ℕ) (asked : Option Command) (a : Answer) : Type 0 where
+  pub begin : (stamp : ℕ) → begin_told a ≡ Some stamp → (m ≤ stamp) × (stamp ≤ n)
+  pub told : (stamp : ℕ) → stamp_told a ≡ Some stamp → stamp < n
+  pub drawn : (stamp : ℕ) → stamp_drawn asked a ≡ Some stamp → (m ≤ stamp) × (stamp < n)
+
+-- some number is one, and none is none
+pub the_number : (m n : ℕ) → Some m ≡ Some n → m ≡ n
+the_number m n is = cc
+
+pub no_number : (o : Option ℕ) (n : ℕ) (P : Type 0) → o ≡ None → o ≡ Some n → P
+no_number None n P none some = absurd (cc)
+no_number (Some m) n P none some = absurd (cc)
+
+-- what tells no stamp draws none
+decided_none : (b : Bool) (o : Option ℕ) → o ≡ None → cond b o None ≡ None
+decided_none true o is = is
+decided_none false o is = refl
+
+drawn_none : (asked : Option Command) (a : Answer) → stamp_told a ≡ None → stamp_drawn asked a ≡ None
+drawn_none asked (answer.Sealed stamp) is = absurd (cc)
+drawn_none asked a is = decided_none (asks_commit asked) (stamp_told a) is
+
+silent : (m n : ℕ) (asked : Option Command) (a : Answer) → begin_told a ≡ None → stamp_told a ≡ None → Draws m n asked a
+silent m n asked a no_begin no_stamp = record {
+  begin = λ stamp is. no_number (begin_told a) stamp ((m ≤ stamp) × (stamp ≤ n)) no_begin is;
+  told = λ stamp is. no_number (stamp_told a) stamp (stamp < n) no_stamp is;
+  drawn = λ stamp is. no_number (stamp_drawn asked a) stamp ((m ≤ stamp) × (stamp < n)) (drawn_none asked a no_stamp) is;
+}
+
+-- REFUSALS tell no stamps.
+phase_silent : (m n : ℕ) (asked : Option Command) (a : Answer) → refusal_in a ≡ Some a → Draws m n asked a
+phase_silent m n asked answer.NotIdle is = silent m n asked answer.NotIdle refl refl
+phase_silent m n asked answer.NoTransaction is = silent m n asked answer.NoTransaction refl refl
+phase_silent m n asked answer.IsSealed is = silent m n asked answer.IsSealed refl refl
+phase_silent m n asked answer.NotSealed is = silent m n asked answer.NotSealed refl refl
+phase_silent m n asked a is = absurd (cc)
+
+abbrev IsSilent : Option Answer → Type 0
+IsSilent None = Unit {0}
+IsSilent (Some a) = (begin_told a ≡ None) × (stamp_told a ≡ None)
+
+stop_silent : (why : RowStop) → IsSilent (stop_told why)
+stop_silent (stop.NotYet other seen) = (refl, refl)
+stop_silent stop.ReadsFull = (refl, refl)
+stop_silent (stop.Owned other number) = (refl, refl)
+stop_silent (stop.Newer stamp) = (refl, refl)
+stop_silent stop.WritesFull = (refl, refl)
+stop_silent (stop.CellsFull drawn) = (refl, refl)
+stop_silent (stop.OidsFull drawn) = (refl, refl)
+stop_silent (stop.Excluded succ pred) = (refl, refl)
+stop_silent stop.Memory = tt
+
+cut_silent : (m n : ℕ) (v : View) (seat : ℕ) (c : Command) (a : Answer) (t : View) → WasRefusedAs v seat c a t → Draws m n (Some c) a
+cut_silent m n v seat c a t (why, told, cut) =
+    let none : IsSilent (Some a) = subst IsSilent told (stop_silent why) in silent m n (Some c) a none.0 none.1
+
+operation_silent : (m n : ℕ) (v : View) (seat : ℕ) (c : Command) (a : Answer) (t : View) → DidOperation v seat c a t → Draws m n (Some c) a
+operation_silent m n v seat c (answer.Replied r) t did = silent m n (Some c) (answer.Replied r) refl refl
+operation_silent m n v seat c (answer.Cut cells) t did = silent m n (Some c) (answer.Cut cells) refl refl
+operation_silent m n v seat c a t did = cut_silent m n v seat c a t did
+
+-- A BEGIN draws the end of the log.
+begin_draws : (v : View) (seat begin : ℕ) (asked : Option Command) (t : View) → DidBegin v seat begin t → Draws v.tail t.tail asked (answer.Began begin)
+begin_draws v seat begin asked t (few, room, is, now) = record {
+  begin = λ stamp told.
+      let same = the_number begin stamp told in (omega (arith, is, same), omega (arith, is, same, now.tail));
+  told = λ stamp told. no_number None stamp (stamp < t.tail) refl told;
+  drawn = λ stamp told. no_number (stamp_drawn asked (answer.Began begin)) stamp ((v.tail ≤ stamp) × (stamp < t.tail)) (drawn_none asked (answer.Began begin) refl) told;
+}
+
+-- A SEAL draws it too, and the block goes behind it.
+seal_below : (v : View) (seat stamp : ℕ) (t : View) → IsSession t seat → IsSerializable sound_law t → DidSeal v seat stamp t → stamp < t.tail
+seal_below v seat stamp t session lawful did =
+    (lawful.stamps seat (work_at v seat) stamp session (inr (ap (λ (s : Session). s.stand) did.own))).1
+
+seal_draws : (v : View) (seat stamp : ℕ) (asked : Option Command) (t : View) → IsSession t seat → IsSerializable sound_law t → DidSeal v seat stamp t
+    → Draws v.tail t.tail asked (answer.Sealed stamp)
+seal_draws v seat stamp asked t session lawful did =
+    let below : stamp < t.tail = seal_below v seat stamp t session lawful did in record {
+      begin = λ other told. no_number None other ((v.tail ≤ other) × (other ≤ t.tail)) refl told;
+      told = λ other told. let same = the_number stamp other told in omega (arith, below, same);
+      drawn = λ other told. let same = the_number stamp other told in (omega (arith, same, did.stamp_is), omega (arith, below, same));
+    }
+
+-- A DECISION tells the stamp of the transaction decided.
+pub record Decides (v : View) (seat stamp : ℕ) (t : View) : Type 0 where
+  pub work : Work
+  pub fate : Fate
+  pub stand : (v.session seat).stand ≡ world.sealed work stamp
+  pub done : IsDone v seat work fate t
+  pub stamped : stamp_of fate ≡ Some stamp
+
+decides : (v : View) (seat : ℕ) (a : Answer) (t : View) (stamp : ℕ) → DidDecide v seat a t → stamp_told a ≡ Some stamp → Decides v seat stamp t
+decides v seat (answer.Committed at succ pred) t stamp (r, at_is, after, before, (w, own, stand, settled)) told =
+    let same : own ≡ stamp = sym settled.2 ∙ at_is ∙ the_number at stamp told in
+    record { work = w; fate = world.commits own r.succ r.pred; stand = stand ∙ ap (λ (n : ℕ). world.sealed w n) same; done = settled.0; stamped = ap (λ (n : ℕ). Some n) same }
+decides v seat (answer.Excluded at succ pred) t stamp (w, own, stand, settled) told =
+    let same : own ≡ stamp = sym settled.1 ∙ the_number at stamp told in
+    record { work = w; fate = world.excluded own succ pred; stand = stand ∙ ap (λ (n : ℕ). world.sealed w n) same; done = settled.0; stamped = ap (λ (n : ℕ). Some n) same }
+decides v seat (answer.WaitSeat other seen) t stamp did told = absurd (cc)
+decides v seat (answer.WaitRing flushed) t stamp did told = absurd (cc)
+decides v seat a t stamp did told = absurd did
+
+decided_below : (v : View) (seat stamp : ℕ) (t : View) → IsSession t seat → IsSerializable sound_law t → Decides v seat stamp t → stamp < t.tail
+decided_below v seat stamp t session lawful did =
+    let f : Finished = record { work = did.work; fate = did.fate } in
+    let over : f ∈ (t.session seat).over =
+    subst (λ (s : Session). f ∈ s.over) (sym did.done.own) (∈-second (v.session seat).over (f ∷ []) f (∈-head f [])) in
+    (lawful.stamps seat did.work stamp session (inl (f, over, refl, did.stamped))).1
+
+no_begin : (v : View) (seat : ℕ) (a : Answer) (t : View) → DidDecide v seat a t → begin_told a ≡ None
+no_begin v seat (answer.Committed at succ pred) t did = refl
+no_begin v seat (answer.Excluded at succ pred) t did = refl
+no_begin v seat (answer.WaitSeat other seen) t did = refl
+no_begin v seat (answer.WaitRing flushed) t did = refl
+no_begin v seat a t did = absurd did
+
+settles_none : (v : View) (seat : ℕ) (a : Answer) (t : View) → DidDecide v seat a t → stamp_drawn (Some command.Settle) a ≡ None
+settles_none v seat (answer.Committed at succ pred) t did = refl
+settles_none v seat (answer.Excluded at succ pred) t did = refl
+settles_none v seat (answer.WaitSeat other seen) t did = refl
+settles_none v seat (answer.WaitRing flushed) t did = refl
+settles_none v seat a t did = absurd did
+
+commits_told : (v : View) (seat : ℕ) (a : Answer) (t : View) → DidDecide v seat a t → stamp_drawn (Some command.Commit) a ≡ stamp_told a
+commits_told v seat (answer.Committed at succ pred) t did = refl
+commits_told v seat (answer.Excluded at succ pred) t did = refl
+commits_told v seat (answer.WaitSeat other seen) t did = refl
+commits_told v seat (answer.WaitRing flushed) t did = refl
+commits_told v seat a t did = absurd did
+
+settle_draws : (v : View) (seat : ℕ) (a : Answer) (t : View) → IsSession t seat → IsSerializable sound_law t → DidDecide v seat a t → Draws v.tail t.tail (Some command.Settle) a
+settle_draws v seat a t session lawful did = record {
+  begin = λ stamp told. no_number (begin_told a) stamp ((v.tail ≤ stamp) × (stamp ≤ t.tail)) (no_begin v seat a t did) told;
+  told = λ stamp told. decided_below v seat stamp t session lawful (decides v seat a t stamp did told);
+  drawn = λ stamp told. no_number (stamp_drawn (Some command.Settle) a) stamp ((v.tail ≤ stamp) × (stamp < t.tail)) (settles_none v seat a t did) told;
+}
+
+abbrev stamp_at : Stand → ℕ
+stamp_at world.idle = 0
+stamp_at (world.active w) = 0
+stamp_at (world.sealed w stamp) = stamp
+
+commit_draws : (v : View) (seat : ℕ) (a : Answer) (t : View) → IsSession t seat → IsSerializable sound_law t → DidCommit v seat a t → Draws v.tail t.tail (Some command.Commit) a
+commit_draws v seat a t session lawful did = record {
+  begin = λ stamp told. no_number (begin_told a) stamp ((v.tail ≤ stamp) × (stamp ≤ t.tail)) (no_begin did.between seat a t did.decided) told;
+  told = below;
+  drawn = λ stamp told.
+      let tells : stamp_told a ≡ Some stamp = sym (commits_told did.between seat a t did.decided) ∙ told in
+      (drawn_at stamp tells, below stamp tells);
+}
+  where
+    below : (stamp : ℕ) → stamp_told a ≡ Some stamp → stamp < t.tail
+    below stamp told = decided_below did.between seat stamp t session lawful (decides did.between seat a t stamp did.decided told)
+
+    drawn_at : (stamp : ℕ) → stamp_told a ≡ Some stamp → v.tail ≤ stamp
+    drawn_at stamp told =
+        let decided = decides did.between seat a t stamp did.decided told in
+        let same : did.stamp ≡ stamp = ap stamp_at (sym (ap (λ (s : Session). s.stand) did.sealed.own) ∙ decided.stand) in
+        omega (arith, same, did.sealed.stamp_is)
+
+-- THE LINES.
+command_draws : (v : View) (seat : ℕ) (c : Command) (a : Answer) (t : View) → IsSession t seat → IsSerializable sound_law t → DidCommand v seat c a t → Draws v.tail t.tail (Some c) a
+command_draws v seat command.Begin (answer.Began stamp) t session lawful did = begin_draws v seat stamp (Some command.Begin) t did
+command_draws v seat command.Begin (answer.LogEnd tail) t session lawful did = silent v.tail t.tail (Some command.Begin) (answer.LogEnd tail) refl refl
+command_draws v seat command.Begin answer.NumbersEnd t session lawful did = silent v.tail t.tail (Some command.Begin) answer.NumbersEnd refl refl
+command_draws v seat command.Seal (answer.Sealed stamp) t session lawful did = seal_draws v seat stamp (Some command.Seal) t session lawful did
+command_draws v seat command.Settle a t session lawful did = settle_draws v seat a t session lawful did
+command_draws v seat command.Commit a t session lawful did = commit_draws v seat a t session lawful did
+command_draws v seat command.Abort answer.Aborted t session lawful did = silent v.tail t.tail (Some command.Abort) answer.Aborted refl refl
+command_draws v seat (command.Get table key) a t session lawful did = operation_silent v.tail t.tail v seat (command.Get table key) a t did
+command_draws v seat (command.Put table key value) a t session lawful did = operation_silent v.tail t.tail v seat (command.Put table key value) a t did
+command_draws v seat (command.Del table key) a t session lawful did = operation_silent v.tail t.tail v seat (command.Del table key) a t did
+command_draws v seat (command.Next table from) a t session lawful did = operation_silent v.tail t.tail v seat (command.Next table from) a t did
+command_draws v seat (command.Scan table low high) a t session lawful did = operation_silent v.tail t.tail v seat (command.Scan table low high) a t did
+command_draws v seat (command.Tidy table key) a t session lawful did = operation_silent v.tail t.tail v seat (command.Tidy table key) a t did
+command_draws v seat c a t session lawful did = absurd did
+
+asked_draws : (v : View) (seat : ℕ) (c : Command) (a : Answer) (t : View) (refusal : Option Answer) → refusal_of (phase_at v seat) c ≡ refusal → FitsRefusal refusal c a
+    → IsSession t seat → IsSerializable sound_law t → DidAsked refusal v seat c a t → Draws v.tail t.tail (Some c) a
+asked_draws v seat c a t None is fits session lawful did = command_draws v seat c a t session lawful did
+asked_draws v seat c a t (Some r) is fits session lawful did =
+    phase_silent v.tail t.tail (Some c) a (subst (λ (x : Answer). refusal_in x ≡ Some x) (sym fits) (phase_refuses (phase_asked c) (phase_at v seat) r is))
+
+pub line_draws : (v : View) (l : ScriptLine) (a : Answer) (t : View) → IsSession t l.session → IsSerializable sound_law t → DidLine v l a t → Draws v.tail t.tail (Some l.command) a
+line_draws v l a t session lawful did =
+    asked_draws v l.session l.command a t (refusal_of (phase_at v l.session) l.command) refl did.fits session lawful did.did

@@ -1,0 +1,132 @@
+-- What moves in turn tell, and how sessions go on by them.
+use Rattle.std.proofs.Common.{◌≡◌, ℕ, ◌==◌, ◌≤◌, Bool, cond, List, [], ◌∷◌, Option, Some, None, refl, sym, ap, ◌∙◌, subst, inl, inr, fold, eq-eqb, ne_eqb, le_trans}
+use Rattle.std.proofs.lemmas.Bool.{cases_eq}
+use Rattle.erm_model.specs.declared.outcome.Phase.{Phase}
+use Rattle.erm_model.specs.declared.outcome.Phase.TheVariants.{Idle}
+use Rattle.erm_model.specs.Run.{Step}
+use Rattle.erm_report.specs.declared.answer.Answer.{Answer}
+use Rattle.erm_script.specs.declared.script.Command.{Command}
+use Rattle.erm_world.specs.Going.{Extends}
+use Rattle.erm_world.specs.World.{IsSession, Opening, Session, View, Work, phase_at, phase_of}
+use Rattle.erm_world.specs.World as world
+use Rattle.erm_maps.specs.Runs.{IsAnswered, IsRunOf}
+use Rattle.erm_good_report.specs.Phases.{phase_after}
+use Rattle.erm_good_report.specs.Transactions.{Progress, Said, heard, nothing}
+use Rattle.erm_lines.specs.Executions.{DidFlush, IsExecution, Move, close, flush, line, said_in}
+use Rattle.erm_lines.specs.Laws.{ExecutionsGoOn, ExecutionsTell}
+use Rattle.erm_lines.specs.Told.{Continues, Tells}
+use Rattle.erm_told.proofs.Going.{continues_itself, continues_then}
+use Rattle.erm_told.proofs.Lines.{turn_end, turn_line}
+use Rattle.erm_told.proofs.Turns.{Turn, same_tail}
+
+-- what a session has told after one more place
+abbrev pub hears : ℕ → Progress → Said → Progress
+hears seat p s = cond (s.session == seat) (heard seat s.asked s.answer p) p
+
+abbrev pub turns : ℕ → Phase → Said → Phase
+turns seat phase s = cond (s.session == seat) (phase_after s.asked s.answer phase) phase
+
+-- what was told of a session, and its phase
+pub record Knows (seat : ℕ) (p : Progress) (phase : Phase) (v : View) : Type 0 where
+  pub tells : Tells seat p (v.session seat)
+  pub phase_is : phase ≡ phase_at v seat
+
+-- a session that is the same
+knows_still : (seat : ℕ) (p : Progress) (phase : Phase) (v t : View) → t.session seat ≡ v.session seat → Knows seat p phase v → Knows seat p phase t
+knows_still seat p phase v t is knows = record {
+  tells = subst (λ (s : Session). Tells seat p s) (sym is) knows.tells;
+  phase_is = knows.phase_is ∙ sym (ap (λ (s : Session). phase_of s.stand) is);
+}
+
+-- a turn of some session
+knows_turn : (seat at : ℕ) (asked : Option Command) (a : Answer) (p : Progress) (phase : Phase) (v t : View) → Turn v at asked a t → Knows seat p phase v
+    → Knows seat (cond (at == seat) (heard seat asked a p) p) (cond (at == seat) (phase_after asked a phase) phase) t
+knows_turn seat at asked a p phase v t turn knows = elim (cases_eq at seat) as (λ _. Knows seat (cond (at == seat) (heard seat asked a p) p) (cond (at == seat) (phase_after asked a phase) phase) t) [
+  | inl is ↦
+      subst (λ (b : Bool). Knows seat (cond b (heard seat asked a p) p) (cond b (phase_after asked a phase) phase) t) (sym (eq-eqb at seat is))
+      (own (subst (λ (q : ℕ). Turn v q asked a t) is turn))
+  | inr another ↦
+      subst (λ (b : Bool). Knows seat (cond b (heard seat asked a p) p) (cond b (phase_after asked a phase) phase) t) (sym (ne_eqb at seat another))
+      (knows_still seat p phase v t (turn.others seat (λ e. another (sym e))) knows)
+]
+  where
+    own : Turn v seat asked a t → Knows seat (heard seat asked a p) (phase_after asked a phase) t
+    own its = record {
+      tells = its.tells p knows.tells;
+      phase_is = ap (λ (x : Phase). phase_after asked a x) knows.phase_is ∙ its.phase;
+    }
+
+-- a session of a world that was opened so is one of it still
+pub still_session : (v t : View) (seat : ℕ) → t.opening ≡ v.opening → IsSession v seat → IsSession t seat
+still_session v t seat is session = (session.0, subst (λ (o : Opening). seat ≤ o.sessions) (sym is) session.1)
+
+-- a session that has a turn goes on, and another one stays
+goes_turn : (seat at : ℕ) (asked : Option Command) (a : Answer) (v t : View) → Turn v at asked a t → Continues (v.session seat) (t.session seat)
+goes_turn seat at asked a v t turn = elim (cases_eq at seat) as (λ _. Continues (v.session seat) (t.session seat)) [
+  | inl is ↦ subst (λ (q : ℕ). Continues (v.session q) (t.session q)) is turn.goes
+  | inr another ↦ continues_itself (v.session seat) (t.session seat) (turn.others seat (λ e. another (sym e)))
+]
+
+-- what all moves do
+record AllGo (v t : View) : Type 0 where
+  opening : t.opening ≡ v.opening
+  tail : v.tail ≤ t.tail
+  session : (seat : ℕ) → IsSession v seat → Continues (v.session seat) (t.session seat)
+
+goes_turns : (at : ℕ) (asked : Option Command) (a : Answer) (v t : View) → Turn v at asked a t → AllGo v t
+goes_turns at asked a v t turn = record { opening = turn.opening; tail = turn.tail; session = λ seat session. goes_turn seat at asked a v t turn }
+
+goes_flush : (v t : View) → DidFlush v t → AllGo v t
+goes_flush v t did = record {
+  opening = did.opening;
+  tail = same_tail v.tail t.tail did.tail;
+  session = λ seat session. continues_itself (v.session seat) (t.session seat) (did.session seat session);
+}
+
+goes_then : (v u t : View) → AllGo v u → AllGo u t → AllGo v t
+goes_then v u t first second = record {
+  opening = second.opening ∙ first.opening;
+  tail = le_trans first.tail second.tail;
+  session = λ seat session. continues_then (v.session seat) (u.session seat) (t.session seat) (first.session seat session)
+      (second.session seat (still_session v u seat first.opening session));
+}
+
+goes_itself : (v t : View) → t ≡ v → AllGo v t
+goes_itself v t is = record {
+  opening = ap (λ (u : View). u.opening) is;
+  tail = same_tail v.tail t.tail (ap (λ (u : View). u.tail) is);
+  session = λ seat session. continues_itself (v.session seat) (t.session seat) (ap (λ (u : View). u.session seat) is);
+}
+
+module _ (runs : (number begin : ℕ) → IsRunOf (world.begun number begin) []) (stay : (w u : Work) (steps : List Step) → Extends w u → IsAnswered w steps → IsAnswered u steps) where
+  knows_all : (seat : ℕ) (moves : List Move) (p : Progress) (phase : Phase) (v t : View) → IsSession v seat → IsExecution v moves t → Knows seat p phase v
+      → Knows seat (fold (hears seat) p (said_in moves)) (fold (turns seat) phase (said_in moves)) t
+  knows_all seat [] p phase v t session is knows = subst (λ (u : View). Knows seat p phase u) (sym is) knows
+  knows_all seat (line l a ∷ moves) p phase v t session (u, did, lawful, rest) knows =
+      let s : Said = record { session = l.session; asked = Some l.command; answer = a } in
+      let turn = turn_line runs stay v l a u did in
+      knows_all seat moves (hears seat p s) (turns seat phase s) u t (still_session v u seat turn.opening session) rest
+      (knows_turn seat l.session (Some l.command) a p phase v u turn knows)
+  knows_all seat (close at a ∷ moves) p phase v t session (u, did, lawful, rest) knows =
+      let s : Said = record { session = at; asked = None; answer = a } in
+      let turn = turn_end v at a u did in
+      knows_all seat moves (hears seat p s) (turns seat phase s) u t (still_session v u seat turn.opening session) rest
+      (knows_turn seat at None a p phase v u turn knows)
+  knows_all seat (flush ∷ moves) p phase v t session (u, did, lawful, rest) knows =
+      knows_all seat moves p phase u t (still_session v u seat did.opening session) rest (knows_still seat p phase v u (did.session seat session) knows)
+
+  pub executions_tell : ExecutionsTell
+  executions_tell v t moves opened executed seat session =
+      let known = knows_all seat moves nothing Idle v t session executed (knows_still seat nothing Idle
+      (record v { session = λ q. record { over = []; stand = world.idle } }) v (opened.idle seat session) (record { tells = record { over = tt; now = tt }; phase_is = refl })) in
+      (known.tells, known.phase_is)
+
+  goes_all : (moves : List Move) (v t : View) → IsExecution v moves t → AllGo v t
+  goes_all [] v t is = goes_itself v t is
+  goes_all (line l a ∷ moves) v t (u, did, lawful, rest) =
+      goes_then v u t (goes_turns l.session (Some l.command) a v u (turn_line runs stay v l a u did)) (goes_all moves u t rest)
+  goes_all (close at a ∷ moves) v t (u, did, lawful, rest) = goes_then v u t (goes_turns at None a v u (turn_end v at a u did)) (goes_all moves u t rest)
+  goes_all (flush ∷ moves) v t (u, did, lawful, rest) = goes_then v u t (goes_flush v u did) (goes_all moves u t rest)
+
+  pub executions_go : ExecutionsGoOn
+  executions_go v t moves executed = let goes = goes_all moves v t executed in (goes.opening, goes.tail, goes.session)

@@ -1,0 +1,135 @@
+-- Turns: what an answer to a session tells, beside what its world did.
+use Rattle.std.proofs.Common.{◌≡◌, ◌≢◌, ℕ, ◌+◌, ◌≤◌, List, [], ◌∷◌, ◌++◌, append-nil, length, Option, Some, refl, sym, ap, ◌∙◌, subst, inl, inr, arith}
+use Rattle.erm_model.specs.declared.outcome.Phase.TheVariants.{Idle, Active}
+use Rattle.erm_model.specs.Run.{Step}
+use Rattle.erm_report.specs.declared.answer.Answer.{Answer}
+use Rattle.erm_report.specs.declared.answer.Answer.TheVariants as answer
+use Rattle.erm_script.specs.declared.script.Command.{Command}
+use Rattle.erm_world.specs.Calls.{Becomes, DidAbort, DidBegin, DidSeal, IsDone}
+use Rattle.erm_world.specs.World.{Fate, Finished, Opening, Session, Stand, View, Work, phase_at, phase_of, stamp_of, work_at, work_of}
+use Rattle.erm_world.specs.World as world
+use Rattle.erm_maps.specs.Runs.{IsRunOf}
+use Rattle.erm_good_report.specs.Phases.{phase_after}
+use Rattle.erm_good_report.specs.Transactions.{Ending, Aborts, Progress, ended, goes_on, heard}
+use Rattle.erm_lines.specs.Told.{Continues, EndsAs, RanAs, Tells, TellsNow}
+use Rattle.erm_told.proofs.Going.{continues_from, continues_itself, extends_itself}
+use Rattle.erm_told.proofs.Running.{active_in}
+use Rattle.erm_told.proofs.Sessions.{aborted_told, begun_told, decided_told, sealed_told, sealed_untold, unchanged_told}
+use Rattle.erm_told.proofs.Steps.{added}
+
+-- A session was answered: the others stay, and its transactions and its phase are those told.
+pub record Turn (v : View) (seat : ℕ) (asked : Option Command) (a : Answer) (t : View) : Type 0 where
+  pub others : (q : ℕ) → q ≢ seat → t.session q ≡ v.session q
+  pub opening : t.opening ≡ v.opening
+  pub tail : v.tail ≤ t.tail
+  pub goes : Continues (v.session seat) (t.session seat)
+  pub phase : phase_after asked a (phase_at v seat) ≡ phase_at t seat
+  pub tells : (p : Progress) → Tells seat p (v.session seat) → Tells seat (heard seat asked a p) (t.session seat)
+
+-- where an idle session stands, and a sealed one
+pub idle_in : (stand : Stand) → phase_of stand ≡ Idle → stand ≡ world.idle
+idle_in world.idle idle = refl
+idle_in (world.active w) idle = cc
+idle_in (world.sealed w stamp) idle = cc
+
+-- a tail that is the same, and one that went on
+pub same_tail : (m n : ℕ) → n ≡ m → m ≤ n
+same_tail m n is = omega (arith, is)
+
+-- Nothing happened.
+pub turn_still : (v : View) (seat : ℕ) (asked : Option Command) (a : Answer) (t : View) → t ≡ v → phase_after asked a (phase_at v seat) ≡ phase_at v seat
+    → ((p : Progress) → Tells seat p (v.session seat) → Tells seat (heard seat asked a p) (v.session seat)) → Turn v seat asked a t
+turn_still v seat asked a t is phase tells = record {
+  others = λ q another. ap (λ (u : View). u.session q) is;
+  opening = ap (λ (u : View). u.opening) is;
+  tail = same_tail v.tail t.tail (ap (λ (u : View). u.tail) is);
+  goes = continues_itself (v.session seat) (t.session seat) (ap (λ (u : View). u.session seat) is);
+  phase = phase ∙ sym (ap (λ (u : View). phase_at u seat) is);
+  tells = λ p told. subst (λ (u : View). Tells seat (heard seat asked a p) (u.session seat)) (sym is) (tells p told);
+}
+
+-- a line that tells no operation leaves what was told
+pub told_still : (seat : ℕ) (asked : Option Command) (a : Answer) (p : Progress) (s : Session) → added asked a ≡ [] → Tells seat p s → Tells seat (goes_on asked a p) s
+told_still seat asked a p s none told = record { over = told.over; now = unchanged_told seat asked a p.current s.stand none told.now }
+
+-- One session became another.
+becomes : (v : View) (seat : ℕ) (s : Session) (asked : Option Command) (a : Answer) (t : View) → Becomes v seat s t → Continues (v.session seat) s
+    → phase_after asked a (phase_at v seat) ≡ phase_of s.stand → ((p : Progress) → Tells seat p (v.session seat) → Tells seat (heard seat asked a p) s)
+    → Turn v seat asked a t
+becomes v seat s asked a t now goes phase tells = record {
+  others = now.others;
+  opening = now.opening;
+  tail = same_tail v.tail t.tail now.tail;
+  goes = subst (λ (r : Session). Continues (v.session seat) r) (sym now.own) goes;
+  phase = phase ∙ sym (ap (λ (r : Session). phase_of r.stand) now.own);
+  tells = λ p told. subst (λ (r : Session). Tells seat (heard seat asked a p) r) (sym now.own) (tells p told);
+}
+
+-- A transaction began.
+pub turn_begun : (v : View) (seat begin : ℕ) (asked : Option Command) (t : View) → ((number begin : ℕ) → IsRunOf (world.begun number begin) []) → phase_at v seat ≡ Idle
+    → DidBegin v seat begin t → Turn v seat asked (answer.Began begin) t
+turn_begun v seat begin asked t runs idle (few, room, is, now) =
+    let over = (v.session seat).over in
+    let s : Session = record { over = over; stand = world.active (world.begun (length over + 1) begin) } in
+    becomes v seat s asked (answer.Began begin) t now
+    (continues_from (v.session seat) s world.idle (idle_in (v.session seat).stand idle) [] (sym (append-nil over)) tt) refl
+    (λ p told. begun_told seat begin asked p over (runs (length over + 1) begin) told.over)
+
+-- One was sealed, and so it was told; or it is told later.
+pub seals : (v : View) (seat stamp : ℕ) (t : View) → phase_at v seat ≡ Active → DidSeal v seat stamp t → Continues (v.session seat) (t.session seat)
+seals v seat stamp t active did =
+    let w = work_at v seat in
+    continues_from (v.session seat) (t.session seat) (world.active w) (active_in (v.session seat).stand active) []
+    (ap (λ (s : Session). s.over) did.own ∙ sym (append-nil (v.session seat).over))
+    (w, extends_itself w, inr (inl (stamp, ap (λ (s : Session). s.stand) did.own)))
+
+-- the current transaction of an active session
+pub now_active : (seat : ℕ) (p : Progress) (s : Session) → phase_of s.stand ≡ Active → Tells seat p s → TellsNow seat p.current (world.active (work_of s.stand))
+now_active seat p s active told = subst (λ (stand : Stand). TellsNow seat p.current stand) (active_in s.stand active) told.now
+
+pub turn_sealed : (v : View) (seat stamp : ℕ) (asked : Option Command) (t : View) → phase_at v seat ≡ Active → DidSeal v seat stamp t
+    → Turn v seat asked (answer.Sealed stamp) t
+turn_sealed v seat stamp asked t active did = record {
+  others = did.others;
+  opening = did.opening;
+  tail = omega (arith, did.tail);
+  goes = seals v seat stamp t active did;
+  phase = sym (ap (λ (s : Session). phase_of s.stand) did.own);
+  tells = λ p told. subst (λ (s : Session). Tells seat (heard seat asked (answer.Sealed stamp) p) s) (sym did.own)
+      (record { over = told.over; now = sealed_told seat stamp p.current (work_at v seat) (now_active seat p (v.session seat) active told) });
+}
+
+-- what was told before the seal is told still
+pub told_sealed : (v : View) (seat stamp : ℕ) (t : View) (p : Progress) → phase_at v seat ≡ Active → DidSeal v seat stamp t → Tells seat p (v.session seat) → Tells seat p (t.session seat)
+told_sealed v seat stamp t p active did told = subst (λ (s : Session). Tells seat p s) (sym did.own)
+    (record { over = told.over; now = sealed_untold seat stamp p.current (work_at v seat) (now_active seat p (v.session seat) active told) })
+
+-- One was aborted.
+pub turn_aborted : (v : View) (seat : ℕ) (asked : Option Command) (t : View) → phase_at v seat ≡ Active → DidAbort v seat t → Turn v seat asked answer.Aborted t
+turn_aborted v seat asked t active now =
+    let w = work_at v seat in
+    let f : Finished = record { work = w; fate = world.aborts } in
+    let over = (v.session seat).over in
+    let s : Session = record { over = over ++ f ∷ []; stand = world.idle } in
+    becomes v seat s asked answer.Aborted t now
+    (continues_from (v.session seat) s (world.active w) (active_in (v.session seat).stand active) (f ∷ []) refl (w, extends_itself w, inr (inr (f, [], over, refl, refl)))) refl
+    (λ p told. record {
+      over = aborted_told seat Aborts p.over p.current over w w tt refl refl (λ steps answered. answered) told.over (now_active seat p (v.session seat) active told);
+      now = tt;
+    })
+
+-- One with its commit stamp was decided.
+pub turn_decided : (v : View) (seat : ℕ) (asked : Option Command) (a : Answer) (t : View) (w : Work) (stamp : ℕ) (ending : Ending) (fate : Fate)
+    → (v.session seat).stand ≡ world.sealed w stamp → IsDone v seat w fate t → phase_after asked a (phase_at v seat) ≡ Idle
+    → ((p : Progress) → heard seat asked a p ≡ ended ending p) → EndsAs ending fate → stamp_of fate ≡ Some stamp
+    → ((steps : List Step) → IsRunOf w steps → RanAs fate w steps) → Turn v seat asked a t
+turn_decided v seat asked a t w stamp ending fate stand now phase hears ends is ran =
+    let f : Finished = record { work = w; fate = fate } in
+    let over = (v.session seat).over in
+    let s : Session = record { over = over ++ f ∷ []; stand = world.idle } in
+    becomes v seat s asked a t now
+    (continues_from (v.session seat) s (world.sealed w stamp) stand (f ∷ []) refl (inr (f, [], over, refl, refl, is))) phase
+    (λ p told. subst (λ (q : Progress). Tells seat q s) (sym (hears p)) (record {
+      over = decided_told seat ending fate p.over p.current over w stamp ends is ran told.over (subst (λ (at : Stand). TellsNow seat p.current at) stand told.now);
+      now = tt;
+    }))

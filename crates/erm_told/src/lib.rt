@@ -1,0 +1,52 @@
+//! What an execution over a world tells: by the answers to its lines, each session's transactions are those that a report speaks of.
+//! Each law is the contract of a function that does nothing.
+#![tactic(auto)]
+
+ghost use Rattle.erm_lines.specs.Laws.{ExecutionsGoOn, ExecutionsTell, RunsCloseSessions, RunsHavePhases, RunsHaveStamps, RunsTell};
+
+/// After any moves each session's transactions are those that the moves tell, and its phase is the one that the answers leave.
+pub fn executions_tell_sessions()
+    ensures { ExecutionsTell }
+{
+    erm_maps::begun_transactions_are_runs();
+    erm_maps::answers_stay();
+}
+
+/// Sessions go on by moves, and the opening stays.
+pub fn executions_go_on()
+    ensures { ExecutionsGoOn }
+{
+    erm_maps::begun_transactions_are_runs();
+    erm_maps::answers_stay();
+}
+
+/// The transactions of a run's sessions at its end are those that its report tells, whatever the order in which the sessions were closed.
+pub fn runs_tell_sessions()
+    ensures { RunsTell }
+{
+    executions_tell_sessions();
+}
+
+/// Each answer of a run fits the phase that the answers before it leave.
+pub fn runs_have_phases()
+    ensures { RunsHavePhases }
+{
+    executions_tell_sessions();
+    executions_go_on();
+}
+
+/// Just the sessions that are not idle after the last line of a run are closed, each with an answer that closes it.
+pub fn runs_close_sessions()
+    ensures { RunsCloseSessions }
+{
+    executions_tell_sessions();
+    executions_go_on();
+}
+
+/// The stamps that the report of a run tells agree.
+pub fn runs_have_stamps()
+    ensures { RunsHaveStamps }
+{
+    executions_tell_sessions();
+    executions_go_on();
+}

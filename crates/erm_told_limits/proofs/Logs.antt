@@ -1,0 +1,117 @@
+-- The causes of answers that tell of the log, or of the end of numbers: of these a line of a run may have the log's end alone.
+use Rattle.std.proofs.Common.{◌≡◌, ℕ, ◌+◌, ◌<◌, List, Option, Some, None, take, length, slice_get, refl, sym, ap, ◌∙◌, arith}
+use Rattle.std.proofs.lemmas.List.{length-take}
+use Rattle.std.proofs.lemmas.List.Sums.{sum_by_push}
+use Rattle.std.proofs.lemmas.Option.{slice_get_within}
+use Rattle.erm_model.specs.declared.limits.TheConstants.{LAST_NUMBER}
+use Rattle.erm_world.specs.Calls.{MayNotBegin}
+use Rattle.erm_world.specs.declared.stops.BeginStop.TheVariants as begin
+use Rattle.erm_world.specs.World.{View, phase_at}
+use Rattle.erm_world.specs.World as world
+use Rattle.erm_report.specs.declared.answer.Answer.{Answer}
+use Rattle.erm_report.specs.declared.answer.Answer.TheVariants as answer
+use Rattle.erm_script.specs.declared.script.Command.{Command}
+use Rattle.erm_script.specs.declared.script.Command.TheVariants as command
+use Rattle.erm_script.specs.declared.script.ScriptLine.{ScriptLine}
+use Rattle.erm_good_report.specs.Opening.{Opening, InTurn}
+use Rattle.erm_good_report.specs.Phases.{FitsRefusal, IsAnswerTo, phase_asked, refusal_in, refusal_of}
+use Rattle.erm_good_report.specs.Refusals.{HasLogCause, HasUnfilledCause, draws_of, moment_at, total_of}
+use Rattle.erm_good_report.specs.Transactions.{Transaction, said_of}
+use Rattle.erm_lines.specs.Answers.{DidAsked, DidCommand, DidLine}
+use Rattle.erm_lines.specs.Executions.{IsOpeningOf, IsRun}
+use Rattle.erm_told_limits.proofs.At.{At, take_next}
+use Rattle.erm_told_limits.proofs.Causes.{there}
+use Rattle.erm_told_limits.proofs.Holds.{Laws}
+use Rattle.erm_told_limits.proofs.Refused.{kind_of}
+
+-- a line with another answer than a refusal by its phase did what its command does, which may have that answer
+asked : (v : View) (seat : ℕ) (c : Command) (a : Answer) (t : View) (refusal : Option Answer) → refusal_in a ≡ None → refusal_of (phase_at v seat) c ≡ refusal → FitsRefusal refusal c a → DidAsked refusal v seat c a t
+    → IsAnswerTo c a × DidCommand v seat c a t
+asked v seat c a t (Some r) other is fits did =
+    let kind = kind_of (phase_asked c) (phase_at v seat) r is in
+    let none : refusal_in r ≡ None = ap refusal_in (sym fits) ∙ other in
+    absurd (cc)
+asked v seat c a t None other is fits did = (fits, did)
+
+line_did : (v : View) (l : ScriptLine) (a : Answer) (t : View) → refusal_in a ≡ None → DidLine v l a t → IsAnswerTo l.command a × DidCommand v l.session l.command a t
+line_did v l a t other did = asked v l.session l.command a t (refusal_of (phase_at v l.session) l.command) other refl did.fits did.did
+
+module _ (v : View) (seat : ℕ) (t : View) where
+  -- the ends of the log and of numbers are answers to a begin alone
+  log_ended : (tail : ℕ) (c : Command) → IsAnswerTo c (answer.LogEnd tail) → DidCommand v seat c (answer.LogEnd tail) t → MayNotBegin v seat (begin.LogEnd tail) t
+  log_ended tail command.Begin fits did = did
+  log_ended tail c fits did = absurd fits
+
+  numbers_ended : (c : Command) → IsAnswerTo c answer.NumbersEnd → DidCommand v seat c answer.NumbersEnd t → MayNotBegin v seat begin.NumbersEnd t
+  numbers_ended command.Begin fits did = did
+  numbers_ended c fits did = absurd fits
+
+  -- no line of a session asks for the log
+  not_durable : (stamp : ℕ) (c : Command) → IsAnswerTo c (answer.Durable stamp) → DidCommand v seat c (answer.Durable stamp) t → ⊥
+  not_durable stamp command.Durable fits did = did
+  not_durable stamp c fits did = fits
+
+  not_flushed : (place : ℕ) (c : Command) → IsAnswerTo c (answer.NotFlushed place) → DidCommand v seat c (answer.NotFlushed place) t → ⊥
+  not_flushed place command.Durable fits did = did
+  not_flushed place c fits did = fits
+
+  no_receipt : (c : Command) → IsAnswerTo c answer.NoReceipt → DidCommand v seat c answer.NoReceipt t → ⊥
+  no_receipt command.Durable fits did = did
+  no_receipt c fits did = fits
+
+  no_flush : (place : ℕ) (c : Command) → IsAnswerTo c (answer.Flushed place) → DidCommand v seat c (answer.Flushed place) t → ⊥
+  no_flush place command.Flush fits did = did
+  no_flush place c fits did = fits
+
+  not_empty : (place : ℕ) (c : Command) → IsAnswerTo c (answer.Empty place) → DidCommand v seat c (answer.Empty place) t → ⊥
+  not_empty place command.Flush fits did = did
+  not_empty place c fits did = fits
+
+  no_checkpoint : (place : ℕ) (c : Command) → IsAnswerTo c (answer.Checkpointed place) → DidCommand v seat c (answer.Checkpointed place) t → ⊥
+  no_checkpoint place command.Checkpoint fits did = did
+  no_checkpoint place c fits did = fits
+
+  not_unfilled : (place : ℕ) (c : Command) → IsAnswerTo c (answer.Unfilled place) → DidCommand v seat c (answer.Unfilled place) t → ⊥
+  not_unfilled place command.Flush fits did = did
+  not_unfilled place command.Checkpoint fits did = did
+  not_unfilled place c fits did = fits
+
+module _ (laws : Laws) (v t : View) (script : List ScriptLine) (answers : List Answer) (run : IsRun v script answers t) (opening : Opening) (of : IsOpeningOf v opening)
+    (all : List Transaction) (i : ℕ) (l : ScriptLine) (at_script : slice_get script i ≡ Some l) where
+  -- the lines before it are fewer than a session may have transactions
+  few_before : length (take i script) < LAST_NUMBER
+  few_before =
+      let within = slice_get_within script i l at_script in
+      omega (arith, within, length-take i script, run.few)
+
+  log_cause : (a : Answer) → At v (take i script) (take i (said_of script answers)) l a → HasLogCause (moment_at InTurn opening script answers all i l) a
+  log_cause (answer.LogEnd tail) at =
+      let line = line_did at.v l (answer.LogEnd tail) at.t refl at.did in
+      let began = log_ended at.v l.session at.t tail l.command line.0 line.1 in
+      let same : at.v.opening.tail ≡ v.opening.tail = ap (λ (o : world.Opening). o.tail) at.opening in
+      let next : total_of draws_of (take (i + 1) script) ≡ total_of draws_of (take i script) + draws_of l.command =
+      ap (λ (ls : List ScriptLine). total_of draws_of ls) (take_next script i l at_script) ∙ sum_by_push (λ (k : ScriptLine). draws_of k.command) (take i script) l
+      in
+      (began.3, omega (arith, began.2, at.holds.tail, same, of.stamp, next))
+  log_cause answer.NumbersEnd at =
+      let line = line_did at.v l answer.NumbersEnd at.t refl at.did in
+      let began = numbers_ended at.v l.session at.t l.command line.0 line.1 in
+      let most = at.holds.over l.session at.did.session in
+      absurd (omega (arith, began.1, most, few_before))
+  log_cause (answer.Durable stamp) at = let line = line_did at.v l (answer.Durable stamp) at.t refl at.did in absurd (not_durable at.v l.session at.t stamp l.command line.0 line.1)
+  log_cause (answer.NotFlushed place) at = let line = line_did at.v l (answer.NotFlushed place) at.t refl at.did in absurd (not_flushed at.v l.session at.t place l.command line.0 line.1)
+  log_cause answer.NoReceipt at = let line = line_did at.v l answer.NoReceipt at.t refl at.did in absurd (no_receipt at.v l.session at.t l.command line.0 line.1)
+  log_cause (answer.Flushed place) at = let line = line_did at.v l (answer.Flushed place) at.t refl at.did in absurd (no_flush at.v l.session at.t place l.command line.0 line.1)
+  log_cause (answer.Empty place) at = let line = line_did at.v l (answer.Empty place) at.t refl at.did in absurd (not_empty at.v l.session at.t place l.command line.0 line.1)
+  log_cause (answer.Checkpointed place) at = let line = line_did at.v l (answer.Checkpointed place) at.t refl at.did in absurd (no_checkpoint at.v l.session at.t place l.command line.0 line.1)
+  log_cause a at = tt
+
+  unfilled_cause : (c : Command) (a : Answer) → At v (take i script) (take i (said_of script answers)) l a → HasUnfilledCause (moment_at InTurn opening script answers all i l) c a
+  unfilled_cause command.Flush (answer.Unfilled place) at = let line = line_did at.v l (answer.Unfilled place) at.t refl at.did in absurd (not_unfilled at.v l.session at.t place l.command line.0 line.1)
+  unfilled_cause command.Checkpoint (answer.Unfilled place) at = let line = line_did at.v l (answer.Unfilled place) at.t refl at.did in absurd (not_unfilled at.v l.session at.t place l.command line.0 line.1)
+  unfilled_cause c a at = tt
+
+  pub both_causes : (a : Answer) → slice_get answers i ≡ Some a → HasLogCause (moment_at InTurn opening script answers all i l) a × HasUnfilledCause (moment_at InTurn opening script answers all i l) l.command a
+  both_causes a e =
+      let at = there laws v t script answers run i l a at_script e in
+      (log_cause a at, unfilled_cause l.command a at)

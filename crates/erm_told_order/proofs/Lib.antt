@@ -1,0 +1,5 @@
+pub mod Places
+pub mod Sessions
+pub mod Histories
+pub mod Orders
+pub mod Ends

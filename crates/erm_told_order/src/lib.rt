@@ -1,0 +1,24 @@
+//! What a report owes of the order of its commits, and of the replies of its transactions. Each law is the contract of a function
+//! that does nothing.
+#![tactic(auto)]
+
+ghost use Rattle.erm_lines.specs.Laws.{RunsAreSerial, RunsHaveSnapshots};
+
+/// Each transaction that a report tells was answered as its operations are on the state below its begin stamp.
+pub fn runs_have_snapshots()
+    ensures { RunsHaveSnapshots }
+{
+    erm_told::executions_go_on();
+    erm_told::runs_tell_sessions();
+    erm_maps::histories_run_as_operations();
+}
+
+/// Run in the serial order, the commits that a report tells give their replies.
+pub fn runs_are_serial()
+    ensures { RunsAreSerial }
+{
+    erm_told::executions_go_on();
+    erm_told::runs_tell_sessions();
+    erm_core_ssn::serial_order_is_unique();
+    erm_maps::histories_run_as_operations();
+}
