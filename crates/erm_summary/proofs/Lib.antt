@@ -1,0 +1,5 @@
+pub mod Reports
+pub mod Seats
+pub mod Serial
+pub mod Sessions
+pub mod Writes
