@@ -1,11 +1,8 @@
 //! Runs worked examples through the top call over memory, and prints a line for each. An example is a script in
 //! `NAME.script` and, in `NAME.report`, a line with the status and then the bytes that are to be put; `rows.txt` lists
-//! the names. Those in `rows_behind_all_keys.txt` follow a line for each key that may have an object, and their reports
-//! the answers to these lines. Then come the longest script, faults of source and sink, and words that ask for no
-//! command.
+//! the names. Then come the longest script, faults of source and sink, and words that ask for no command.
 #![tactic(auto)]
 
-mod all_keys;
 mod edges;
 mod memory;
 
@@ -20,49 +17,26 @@ use std::thread::Threads;
 const PER_CALL: [usize; 3] = [1, 7, 65536];
 
 fn main(rt: HostRuntime) -> Result<()> {
-    check_rows(&rt, rt.alloc(), "rows.txt", b"", b"")?;
-    let script = all_keys::script(rt.alloc())?;
-    let report = all_keys::report(rt.alloc())?;
-    check_rows(
-        &rt,
-        rt.alloc(),
-        "rows_behind_all_keys.txt",
-        script.as_slice(),
-        report.as_slice(),
-    )?;
+    check_rows(&rt, rt.alloc(), "rows.txt")?;
     edges::check(&rt, rt.alloc())?;
     println!(rt; "edges: as expected")?;
     Ok(())
 }
 
-// Runs the examples whose names a file lists, each behind these fronts of its script and its report.
+// Runs the examples whose names a file lists.
 fn check_rows<R: Files + AllocGlobal + Print + Threads + Wait + Sync>(
     rt: &R,
     alloc: Global,
     list: &str,
-    script_front: &[u8],
-    report_front: &[u8],
 ) -> Result<()> {
     let names = fs::read_to_string(rt, list).context(format_args!("{list}"))?;
     for name in names.lines() {
-        let script = behind(rt, alloc, script_front, format!(in alloc; "{name}.script")?)?;
-        let report = behind(rt, alloc, report_front, format!(in alloc; "{name}.report")?)?;
+        let script = fs::read(rt, format!(in alloc; "{name}.script")?.as_str())?;
+        let report = fs::read(rt, format!(in alloc; "{name}.report")?.as_str())?;
         check_row(rt, alloc, script.as_slice(), report.as_slice()).context(format_args!("{name}"))?;
         println!(rt; "{name}: as expected")?;
     }
     Ok(())
-}
-
-// What a file holds, behind a front.
-fn behind<R: Files + AllocGlobal>(
-    rt: &R,
-    alloc: Global,
-    front: &[u8],
-    file: String,
-) -> Result<Vec<u8>> {
-    let mut all = Vec::from_slice(alloc, front)?;
-    all.extend_from_slice(fs::read(rt, file.as_str())?.as_slice())?;
-    Ok(all)
 }
 
 // Runs an example at each size of call, and compares status and bytes.

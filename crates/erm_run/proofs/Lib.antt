@@ -1,7 +1,10 @@
 pub mod Answering
-pub mod Marking
-pub mod Overlay
-pub mod Reporting
-pub mod Stepping
-pub mod Telling
-pub mod Scripts
+pub mod Closing
+pub mod Counting
+pub mod Differing
+pub mod Flushing
+pub mod Passing
+pub mod Progress
+pub mod Seats
+pub mod Serial
+pub mod Good

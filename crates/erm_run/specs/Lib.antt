@@ -1,5 +1,2 @@
-pub mod Changes
-pub mod Marks
-pub mod Runner
-pub mod Whole
-pub mod Scripts
+pub mod Closing
+pub mod Lines

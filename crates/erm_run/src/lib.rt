@@ -1,10 +1,10 @@
-//! The runner of one session's script over a private list of committed values.
+//! The runner of a script over any world of sessions.
 #![tactic(auto)]
 
-mod changes;
-mod keys;
-mod marks;
-mod runner;
+mod answers;
+mod closes;
 mod whole;
 
-pub use whole::{FIRST_RUN, OPENING, one_session, run};
+pub use answers::answer_all;
+pub use closes::{by_seat, close_all};
+pub use whole::run_script;

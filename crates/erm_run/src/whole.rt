@@ -1,169 +1,67 @@
-//! A whole run: from the lines of a script to the lines of its report.
-ghost use Rattle.std.specs.Prelude.{◌≡◌, ℕ, ◌+◌, ◌-◌, ◌^◌, ◌<◌, ◌≤◌, [], ◌∷◌, ◌++◌, map, length, IfOk, OnOk, None, MatchOption};
-ghost use Rattle.std.specs.FinMap as finite;
-ghost use Rattle.erm_model.specs.Database.{AscendByKey, entries_of};
+//! A whole script, from the opening of a world to the last line of the report.
+ghost use Rattle.std.specs.Prelude.{◌≡◌, ◌+◌, ◌≤◌, IfOk, length};
+ghost use Rattle.std.specs.List.{All};
 ghost use Rattle.erm_model.specs.Member.{◌∈◌};
-ghost use Rattle.erm_model.specs.declared.map.Pair.{Pair as KeyWithValue};
-ghost use Rattle.erm_script.specs.Script.{AreNumbered, name_of};
-ghost use Rattle.erm_promise.specs.Transactions.{nothing};
-ghost use Rattle.erm_promise.specs.GoodReport.{IsGoodReport};
+ghost use Rattle.erm_model.specs.RowTransaction.{SameLaw};
+ghost use Rattle.erm_model.specs.declared.limits.TheConstants.{LAST_NUMBER, LEAST_BLOCK, SESSIONS, TABLE_CELLS};
+ghost use Rattle.erm_node.specs.Sound.{sound_law};
+ghost use Rattle.erm_node.specs.TreeMap.{map_of_rows};
+ghost use Rattle.erm_report.specs.Printable.{FitsTypes};
+ghost use Rattle.erm_script.specs.Script.{IsInRange};
 ghost use Rattle.erm_script.specs.declared.script.ScriptLine.{ScriptLine as LineOfScript};
-ghost use Rattle.erm_report.specs.declared.line.Line.TheVariants as line;
-ghost use Rattle.erm_run.specs.Runner.{StandsAt};
-ghost use Rattle.erm_run.specs.Scripts.{AreRun, IsRun, one_session};
-ghost use Rattle.erm_run.specs.declared.runner.Session.TheVariants as session;
-ghost use Rattle.erm_run.specs.Whole.{Answered, numbers_line, PushesMap};
+ghost use Rattle.erm_good_report.specs.GoodReport.{IsGoodReport};
+ghost use Rattle.erm_good_report.specs.Opening.{InTurn};
+ghost use Rattle.erm_lines.specs.Executions.{IsOpened, count_rows};
+ghost use Rattle.erm_summary.specs.Summary.{opening_at};
+ghost use Rattle.erm_tight.specs.Reports.{HasTightEnds};
+ghost use Rattle.erm_run.specs.Lines.{AreLinesOf};
 
-use crate::runner::{FIRST_STAMP, Numbers, Runner};
-use erm_model::{Map, Name, Seat, Stamp};
-use erm_report::{Answer, Line};
-use erm_script::{Grammar, ScriptLine};
+use crate::{answer_all, by_seat, close_all};
+use erm_model::{Name, Seat};
+use erm_report::Line;
+use erm_script::ScriptLine;
+use erm_summary::{Start, report_of};
+use erm_world::ScriptWorld;
 use std::alloc::{AllocError, Global};
 
-/// Where the block of the opening lies in the log.
-pub const OPENING: Stamp = 8;
-
-/// The run of an opening over an empty log.
-pub const FIRST_RUN: u64 = 1;
-
-/// The scripts that are run: those of one session, with the commands of transactions on single keys.
-pub fn one_session() -> Grammar
-    ensures { result ≡ one_session }
-{
-    Grammar {
-        sessions: 1,
-        index: false,
-        log: false,
-        checkpoints: false,
-        threads: false,
-    }
-}
-
-/// Runs a script of one session from an empty database map, and answers the lines of its report.
-pub fn run(alloc: Global, names: &[Name], script: &[ScriptLine]) -> Result<Vec<Line>, AllocError>
-    requires numbered { AreNumbered 0 script.now (length names.now) }
-    requires run { AreRun script.now }
-    requires few { length names.now ≤ 1 }
-    requires short { length script.now < 2 ^ 32 - 1 }
-    ensures { IfOk result (λ lines. IsGoodReport finite.empty OPENING FIRST_RUN names.now script.now lines.items) }
-{
-    let mut runner = Runner::new(alloc);
-    report(alloc, &mut runner, names, script)
-}
-
-// The lines of the report of a script, by a runner that has done nothing yet.
-fn report(
+/// Runs a script over a world that was just opened, one line after another, and gives the lines of its report. The world has a
+/// session for each name, and what the report starts from is how the world was opened. `Err` where memory ran out.
+pub fn run_script<W: ScriptWorld>(
     alloc: Global,
-    runner: &mut Runner,
+    world: &mut W,
+    start: Start,
     names: &[Name],
     script: &[ScriptLine],
 ) -> Result<Vec<Line>, AllocError>
-    requires numbered { AreNumbered 0 script.now (length names.now) }
-    requires run { AreRun script.now }
-    requires few { length names.now ≤ 1 }
-    requires short { length script.now < 2 ^ 32 - 1 }
-    requires stands { StandsAt nothing runner.old }
-    requires tail { runner.old.tail ≡ FIRST_STAMP }
-    requires over { runner.old.over ≡ 0 }
-    requires session { runner.old.session ≡ session.Idle }
-    requires named { runner.old.named ≡ [] }
-    ensures { IfOk result (λ lines. IsGoodReport finite.empty OPENING FIRST_RUN names.now script.now lines.items) }
+    requires stands { W.stands world.old }
+    requires law { SameLaw W.law sound_law }
+    requires opened { IsOpened (W.view world.old) }
+    requires cells { TABLE_CELLS ≤ (W.view world.old).opening.cells }
+    requires map { start.map ≡ map_of_rows (W.view world.old).opening.rows }
+    requires stamp { (W.view world.old).opening.tail ≡ start.stamp + LEAST_BLOCK }
+    requires sessions { (W.view world.old).opening.sessions ≡ length names.now }
+    requires few { length names.now ≤ SESSIONS }
+    requires short { length script.now + SESSIONS ≤ LAST_NUMBER }
+    requires lines { AreLinesOf (W.view world.old) script.now }
+    requires ranges { (l : LineOfScript) → l ∈ script.now → IsInRange l.command }
+    ensures good { IfOk result (λ lines. All FitsTypes lines.items
+        → IsGoodReport InTurn (opening_at start (count_rows (W.view world.old).opening.rows) (W.view world.old).opening.first) names.now script.now lines.items) }
+    ensures tight { IfOk result (λ lines. HasTightEnds
+        (opening_at start (count_rows (W.view world.old).opening.rows) (W.view world.old).opening.first) names.now script.now lines.items) }
 {
-    let mut lines = Vec::new(alloc);
-    lines.push(Line::Open {
-        stamp: OPENING,
-        run: FIRST_RUN,
-    })?;
-    answer_all(alloc, runner, script, &mut lines)?;
-    push_close(names, runner.close()?, &mut lines)?;
-    push_order(names, &runner.commits, &mut lines)?;
-    push_map(alloc, &runner.values, &mut lines)?;
-    lines.push(Line::End)?;
-    Ok(lines)
-}
-
-// Answers each line of the script, and adds its line of the report.
-fn answer_all(
-    alloc: Global,
-    runner: &mut Runner,
-    script: &[ScriptLine],
-    lines: &mut Vec<Line>,
-) -> Result<(), AllocError>
-    requires one { (l : LineOfScript) → l ∈ script.now → (l.session ≡ 1) × IsRun l.command }
-    requires short { length script.now < 2 ^ 32 - 1 }
-    requires stands { StandsAt nothing runner.old }
-    requires tail { runner.old.tail ≡ FIRST_STAMP }
-    requires over { runner.old.over ≡ 0 }
-    requires session { runner.old.session ≡ session.Idle }
-    requires named { runner.old.named ≡ [] }
-    ensures { OnOk result (Answered script.now lines.old.items lines.new.items runner.new) }
-{
-    for line in script {
-        let answer = runner.answer(alloc, &line.command)?;
-        lines.push(Line::Answer {
-            line: line.line,
-            answer,
-        })?;
-    }
-    Ok(())
-}
-
-// Adds the line of the session that was closed, if it was.
-fn push_close(
-    names: &[Name],
-    closed: Option<Answer>,
-    lines: &mut Vec<Line>,
-) -> Result<(), AllocError>
-    ensures { OnOk result (MatchOption closed (lines.new.items ≡ lines.old.items)
-        (λ answer. lines.new.items ≡ lines.old.items ++ line.Close (name_of names.now 1) answer ∷ [])) }
-{
-    if let Some(answer) = closed {
-        lines.push(Line::Close {
-            session: name(names, 1),
-            answer,
-        })?;
-    }
-    Ok(())
-}
-
-// Adds the lines of the commits, in order.
-fn push_order(names: &[Name], commits: &[Numbers], lines: &mut Vec<Line>) -> Result<(), AllocError>
-    ensures { OnOk result (lines.new.items ≡ lines.old.items ++ line.Order (length commits.now) ∷ map (numbers_line names.now) commits.now) }
-{
-    lines.push(Line::Order {
-        commits: commits.len(),
-    })?;
-    for commit in commits {
-        lines.push(Line::Commit {
-            session: name(names, 1),
-            number: commit.number,
-            stamp: commit.stamp,
-            succ: commit.succ,
-            pred: commit.pred,
-        })?;
-    }
-    Ok(())
-}
-
-// Adds the lines of the map, by key ascending.
-fn push_map(alloc: Global, values: &Map, lines: &mut Vec<Line>) -> Result<(), AllocError>
-    ensures { OnOk result (PushesMap values.now lines.old.items lines.new.items) }
-{
-    let pairs = values.pairs(alloc)?;
-    lines.push(Line::Map { pairs: pairs.len() })?;
-    for pair in pairs {
-        lines.push(Line::Pair(pair))?;
-    }
-    Ok(())
-}
-
-// The name of a session, which counts from 1.
-fn name(names: &[Name], session: Seat) -> Name
-    requires { 1 ≤ session }
-    ensures { result ≡ name_of names.now session }
-{
-    match names.get(usize::from(session - 1)) {
-        Some(name) => name.copied(),
-        None => Name::empty(),
-    }
+    erm_told::runs_have_phases();
+    erm_told::runs_close_sessions();
+    erm_told::runs_have_stamps();
+    erm_told_order::runs_have_snapshots();
+    erm_told_order::runs_are_serial();
+    erm_causes::runs_have_causes();
+    erm_causes::runs_refuse_with_cause();
+    erm_tight::runs_have_low_ends();
+    erm_tight::runs_commit_tightly();
+    erm_summary::summaries_are_good();
+    let sessions = names.len() as Seat;
+    let answers = answer_all(alloc, world, script)?;
+    let ends = close_all(alloc, world, sessions)?;
+    let closed = by_seat(alloc, ends, sessions)?;
+    report_of(alloc, start, names, script, answers, closed)
 }

@@ -10,7 +10,7 @@ use Rattle.clap.specs.declared.error.Error.{Error}
 use Rattle.clap.specs.declared.error.kind.ErrorKind.TheVariants as kind
 use Rattle.clap.proofs.OnLiterals.{clap_on_literals}
 use Rattle.erm_top.specs.CommandLine.{command_line}
-use Rattle.erm_top.specs.Statuses.{AreRunWords}
+use Rattle.erm_top.specs.Statuses.{AreCommandWords}
 
 -- the command line is simple
 pub is_plain : is_simple_and_free command_line ≡ true
@@ -23,14 +23,14 @@ unfolding clap_on_literals
 run_taken name = refl
 
 -- the words of the command `run`
-two_words : (words : List (String Global)) → AreRunWords words → (name : Text) × (map string_bytes words ≡ name ∷ codes "run" ∷ [])
+two_words : (words : List (String Global)) → AreCommandWords words → (name : Text) × (map string_bytes words ≡ name ∷ codes "run" ∷ [])
 two_words [] run = absurd (let n = run.count in omega arith)
 two_words (a ∷ []) run = absurd (let n = run.count in omega arith)
 two_words (a ∷ b ∷ []) run = (string_bytes a, ap (λ w. string_bytes a ∷ w ∷ []) (run.command b refl))
 two_words (a ∷ b ∷ c ∷ words) run = absurd (let n = run.count in omega arith)
 
 -- the words of the command `run` are taken
-pub run_words_taken : (words : List (String Global)) → AreRunWords words → takes command_line (map string_bytes words) ≡ true
+pub run_words_taken : (words : List (String Global)) → AreCommandWords words → takes command_line (map string_bytes words) ≡ true
 run_words_taken words run = let two = two_words words run in ap (λ ws. takes command_line ws) two.1 ∙ run_taken two.0
 
 -- an error without a fault is want of memory

@@ -1,20 +1,27 @@
 -- How the command ends, told by status.
-use Rattle.std.proofs.Common.{◌≡◌, ◌≢◌, subst, ℕ, ◌⊎◌, List, inl, inr, arith}
+use Rattle.std.proofs.Common.{Result, Err, ◌≡◌, ◌≢◌, subst, ℕ, ◌⊎◌, List, inl, inr, arith}
 use Rattle.std.specs.Prelude.{String}
 use Rattle.std.specs.declared.alloc.Global.{Global}
 use Rattle.erm_report.specs.declared.line.Line.TheVariants as line
 use Rattle.erm_script.specs.declared.fault.FaultKind.{FaultKind}
+use Rattle.erm_script.specs.declared.fault.ScriptFault.{ScriptFault}
+use Rattle.erm_top.specs.declared.command.Stop.{Stop}
+use Rattle.erm_top.specs.declared.command.Stop.TheVariants as stop
 use Rattle.erm_script.specs.Faults.{IsFirstBadLine}
-use Rattle.erm_run.specs.Scripts.{one_session}
+use Rattle.erm_top.specs.Scripts.{run_grammar}
 use Rattle.erm_top.specs.Statuses.{Reports, TakesAtMost}
 use Rattle.erm_outside.specs.Sink.{Puts, PutsFront}
 use Rattle.erm_report.specs.declared.line.Line.{Line}
 use Rattle.erm_report.specs.Texts.{text_of}
 use Rattle.erm_top.specs.Outcomes.{WasReadWith, Around, RunEnds, PrintsLine, Whole, Cut, Ends}
 
+-- a bad line is no fault of the source
+pub no_fault : {T : Type 0} (r : Result T Stop) (fault : ScriptFault) → r ≡ Err (stop.BadLine fault) → r ≢ Err stop.ReadFault
+no_fault r fault is other = cc
+
 -- a script that is not in the grammar
 pub refused_ends : (status number : ℕ) (kind : FaultKind) (a : Around) → (status ≡ 3) ⊎ (status ≡ 8) →
-    WasReadWith (λ bytes. IsFirstBadLine one_session bytes number kind) a.left_before a.left_after → a.source_after ≡ a.source_before →
+    WasReadWith (λ bytes. IsFirstBadLine run_grammar bytes number kind) a.left_before a.left_after → a.source_after ≡ a.source_before →
     (status ≡ 3 → PrintsLine (line.BadLine number kind) a) → (status ≡ 8 → PrintsLine line.NoMemory a) → TakesAtMost 16777217 a.left_before a.left_after → RunEnds status a
 refused_ends status number kind a known read sound bad_line no_memory taken = record {
   known = elim known [ inl three ↦ inr (inl three) | inr eight ↦ inr (inr (inr (inr (inl eight)))) ];

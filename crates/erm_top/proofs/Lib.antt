@@ -1,4 +1,6 @@
 pub mod CommandLine
 pub mod Streams
 pub mod Ending
+pub mod Spelled
+pub mod Started
 mod Texts

@@ -1,3 +1,4 @@
 pub mod CommandLine
 pub mod Outcomes
+pub mod Scripts
 pub mod Statuses

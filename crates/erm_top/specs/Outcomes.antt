@@ -1,5 +1,5 @@
 -- How a run of the command `run` ends.
-use Rattle.std.specs.Prelude.{◌≡◌, ℕ, ◌⊎◌, ◌+◌, ◌≤◌, List, [], length, Option, Some, IfSome}
+use Rattle.std.specs.Prelude.{◌≡◌, ◌≢◌, ℕ, ◌⊎◌, ◌+◌, ◌≤◌, List, [], length, Option, Some, IfSome}
 use Rattle.std.specs.Prelude.{String}
 use Rattle.std.specs.declared.alloc.Global.{Global}
 use Rattle.erm_outside.specs.Faults.{Rose}
@@ -9,10 +9,10 @@ use Rattle.erm_script.specs.declared.fault.FaultKind.{FaultKind}
 use Rattle.erm_script.specs.Faults.{IsFirstBadLine}
 use Rattle.erm_report.specs.Texts.{line_text, text_of}
 use Rattle.erm_outside.specs.Sink.{Puts, PutsFront}
-use Rattle.erm_run.specs.Scripts.{one_session}
+use Rattle.erm_top.specs.Scripts.{run_grammar}
 use Rattle.erm_top.specs.declared.reading.TheConstants.{SCRIPT_BYTES}
 use Rattle.erm_top.specs.CommandLine.{IsRefused, IsTaken}
-use Rattle.erm_top.specs.Statuses.{AreRunWords, Reports, Prints, TakesAtMost, TakesMore}
+use Rattle.erm_top.specs.Statuses.{AreCommandWords, Reports, Prints, TakesAtMost, TakesMore}
 
 -- what source and sink tell before and after
 pub record Around : Type 0 where
@@ -59,7 +59,7 @@ PrintsLine l a = Prints (line_text l) a.written_before a.written_after a.sink_be
 pub record Refused (a : Around) : Type 0 where
   pub number : ℕ
   pub kind : FaultKind
-  pub read : WasReadWith (λ bytes. IsFirstBadLine one_session bytes number kind) a.left_before a.left_after
+  pub read : WasReadWith (λ bytes. IsFirstBadLine run_grammar bytes number kind) a.left_before a.left_after
   pub printed : PrintsLine (line.BadLine number kind) a
 
 -- what each status means
@@ -72,7 +72,7 @@ pub record RunEnds (status : ℕ) (a : Around) : Type 0 where
   pub no_memory : status ≡ 8 → PrintsLine line.NoMemory a
   pub too_long : status ≡ 9 → TakesMore SCRIPT_BYTES a.left_before a.left_after × PrintsLine line.TooLong a
   -- the source did not fail
-  pub sound : (status ≡ 0) ⊎ (status ≡ 3) ⊎ (status ≡ 5) ⊎ (status ≡ 9) → a.source_after ≡ a.source_before
+  pub sound : status ≢ 4 → a.source_after ≡ a.source_before
   pub taken : TakesAtMost (SCRIPT_BYTES + 1) a.left_before a.left_after
 
 -- the usage line was printed in place of a report, and the source was left alone
@@ -91,4 +91,4 @@ pub record Starved (status : ℕ) (a : Around) : Type 0 where
 
 -- the words are taken for the command, which ends so; or they are refused, and are not its; or memory ran out
 abbrev pub Ends : List (String Global) → ℕ → Around → Type 0
-Ends words status a = (IsTaken words × RunEnds status a) ⊎ (IsRefused words × (AreRunWords words → ⊥) × Misused status a) ⊎ Starved status a
+Ends words status a = (IsTaken words × RunEnds status a) ⊎ (IsRefused words × (AreCommandWords words → ⊥) × Misused status a) ⊎ Starved status a

@@ -2,35 +2,36 @@
 use Rattle.std.specs.Prelude.{◌≡◌, ℕ, ◌<◌, ◌≤◌, ◌⊎◌, List, length, drop, Option, Some, IfSome, codes}
 use Rattle.std.specs.Prelude.{String, string_bytes}
 use Rattle.std.specs.declared.alloc.Global.{Global}
-use Rattle.std.specs.List.{All, slice_get}
-use Rattle.std.specs.FinMap.{empty}
+use Rattle.std.specs.List.{slice_get}
 use Rattle.erm_outside.specs.Faults.{Rose}
 use Rattle.erm_outside.specs.Sink.{Puts, PutsFront}
 use Rattle.erm_report.specs.declared.line.Line.{Line}
-use Rattle.erm_report.specs.Printable.{FitsTypes}
 use Rattle.erm_script.specs.declared.script.ScriptLine.{ScriptLine}
 use Rattle.erm_script.specs.Script.{IsScript}
-use Rattle.erm_promise.specs.GoodReport.{IsGoodReport}
-use Rattle.erm_run.specs.Scripts.{one_session}
-use Rattle.erm_run.specs.declared.whole.TheConstants.{OPENING, FIRST_RUN}
+use Rattle.erm_good_report.specs.GoodReport.{IsGoodReport}
+use Rattle.erm_good_report.specs.Opening.{InTurn}
+use Rattle.erm_start.specs.Empty.{empty_opening}
+use Rattle.erm_tight.specs.Reports.{HasTightEnds}
+use Rattle.erm_top.specs.Scripts.{run_grammar}
 
--- the words are the program's name and `run`
-pub record AreRunWords (words : List (String Global)) : Type 0 where
+-- the words are those of a command: the program's name and `run`
+pub record AreCommandWords (words : List (String Global)) : Type 0 where
   pub count : length words ≡ 2
   pub command : (word : String Global) → slice_get words 1 ≡ Some word → string_bytes word ≡ codes "run"
 
--- these lines are a good report of the script that these bytes spell, from an empty map, with the opening's block at 8 in
--- run 1, and their numbers and values fit their types
+-- These lines are a good report of the script that these bytes spell, run from an empty map on. The windows that it tells have tight ends
+-- where its lines show them.
 pub record Reports (bytes : List ℕ) (lines : List Line) : Type 0 where
   pub names : List (List ℕ)
   pub script : List ScriptLine
-  pub spelled : IsScript one_session bytes names script
-  pub good : IsGoodReport empty OPENING FIRST_RUN names script lines
-  pub fits : All FitsTypes lines
+  pub spelled : IsScript run_grammar bytes names script
+  pub good : IsGoodReport InTurn empty_opening names script lines
+  pub tight : HasTightEnds empty_opening names script lines
 
--- The text of a status was put, or the sink failed on the way.
+-- The text of a status was put, where nothing failed, or the sink failed on the way.
 abbrev pub Prints : List ℕ → Option (List ℕ) → Option (List ℕ) → ℕ → ℕ → Type 0
-Prints text before after faults_before faults_after = Puts text before after ⊎ (PutsFront text before after × Rose faults_before faults_after)
+Prints text before after faults_before faults_after =
+    (Puts text before after × (faults_after ≡ faults_before)) ⊎ (PutsFront text before after × Rose faults_before faults_after)
 
 -- So many bytes were taken of those that were left, as far as the source tells.
 abbrev pub TakesAtMost : ℕ → Option (List ℕ) → Option (List ℕ) → Type 0

@@ -7,14 +7,14 @@ ghost use Rattle.std.specs.List.{All};
 ghost use Rattle.erm_report.specs.Printable.{FitsTypes};
 ghost use Rattle.erm_report.specs.Texts.{line_text, text_of};
 ghost use Rattle.erm_report.specs.declared.line.Line.TheVariants as line;
-ghost use Rattle.erm_run.specs.Scripts.{one_session};
 ghost use Rattle.erm_top.specs.Outcomes.{HasReport, RunEnds, WasReadWith};
+ghost use Rattle.erm_top.specs.Scripts.{run_grammar};
 ghost use Rattle.erm_top.specs.Statuses.{Prints, TakesAtMost, TakesMore};
 
 use crate::reading::{ReadError, SCRIPT_BYTES, read_all};
+use crate::scripts::{run_from_empty, run_grammar};
 use erm_outside::{Sink, Source, put_all};
 use erm_report::{Line, NO_MEMORY, READ_FAULT, TOO_LONG, Text};
-use erm_run::{one_session, run};
 use erm_script::{ParseError, ScriptFault, parse};
 use std::alloc::{AllocError, Global};
 
@@ -76,11 +76,8 @@ pub fn run_command<S: Source, K: Sink>(alloc: Global, source: &mut S, sink: &mut
 fn report<S: Source>(alloc: Global, source: &mut S) -> Result<Text, Stop>
     ensures report { IfOk result (λ text. WasReadWith (λ bytes. HasReport bytes text) (S.left source.old) (S.left source.new)) }
     ensures bad_line { (fault : ScriptFault) → result ≡ Err (Stop.BadLine fault)
-        → WasReadWith (λ bytes. IsFirstBadLine one_session bytes fault.line fault.kind) (S.left source.old) (S.left source.new) }
-    ensures sound { OnOk result (S.faults source.new ≡ S.faults source.old) }
-    ensures bad_line_sound { (fault : ScriptFault) → result ≡ Err (Stop.BadLine fault)
-        → S.faults source.new ≡ S.faults source.old }
-    ensures too_long_sound { result ≡ Err Stop.TooLong → S.faults source.new ≡ S.faults source.old }
+        → WasReadWith (λ bytes. IsFirstBadLine run_grammar bytes fault.line fault.kind) (S.left source.old) (S.left source.new) }
+    ensures sound { result ≢ Err Stop.ReadFault → S.faults source.new ≡ S.faults source.old }
     ensures fault { result ≡ Err Stop.ReadFault → Rose (S.faults source.old) (S.faults source.new) }
     ensures too_long { result ≡ Err Stop.TooLong → TakesMore SCRIPT_BYTES (S.left source.old) (S.left source.new) }
     ensures taken { TakesAtMost (SCRIPT_BYTES + 1) (S.left source.old) (S.left source.new) }
@@ -98,16 +95,16 @@ fn answer(alloc: Global, bytes: &[u8]) -> Result<Text, Stop>
     requires { length bytes.now ≤ SCRIPT_BYTES }
     ensures report { IfOk result (λ text. HasReport bytes.now text) }
     ensures bad_line { (fault : ScriptFault) → result ≡ Err (Stop.BadLine fault)
-        → IsFirstBadLine one_session bytes.now fault.line fault.kind }
+        → IsFirstBadLine run_grammar bytes.now fault.line fault.kind }
     ensures no_fault { result ≢ Err Stop.ReadFault }
     ensures not_long { result ≢ Err Stop.TooLong }
 {
-    let script = match parse(alloc, bytes, one_session()) {
+    let script = match parse(alloc, bytes, run_grammar()) {
         Ok(script) => script,
         Err(ParseError::Memory) => return Err(Stop::Memory),
         Err(ParseError::Fault(fault)) => return Err(Stop::BadLine(fault)),
     };
-    let lines = run(alloc, &script.names, &script.lines)?;
+    let lines = run_from_empty(alloc, &script.names, &script.lines)?;
     Ok(report_text(alloc, &lines)?)
 }
 

@@ -3,7 +3,8 @@
 
 mod command;
 mod reading;
+mod scripts;
 mod top;
 mod words;
 
-pub use top::{Ended, ermia};
+pub use top::{Ended, ermia, run_to_end};

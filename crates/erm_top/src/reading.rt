@@ -1,5 +1,5 @@
 //! Reading a script from a source to its end.
-ghost use Rattle.std.specs.Prelude.{◌≡◌, ℕ, ◌+◌, ◌<◌, ◌≤◌, [], length, Some, IfOk, IfSome, OnOk, Err};
+ghost use Rattle.std.specs.Prelude.{◌≡◌, ◌≢◌, ℕ, ◌+◌, ◌<◌, ◌≤◌, [], length, Some, IfOk, IfSome, Err};
 ghost use Rattle.erm_outside.specs.Faults.{Rose};
 ghost use Rattle.erm_top.specs.Statuses.{TakesAtMost, TakesMore};
 
@@ -50,8 +50,7 @@ pub fn read_all<S: Source>(alloc: Global, source: &mut S) -> Result<Vec<u8>, Rea
     ensures all { IfOk result (λ bytes. IfSome (S.left source.old)
         (λ left. (bytes.items ≡ left) × (S.left source.new ≡ Some []))) }
     ensures short { IfOk result (λ bytes. length bytes.items ≤ SCRIPT_BYTES) }
-    ensures sound { OnOk result (S.faults source.new ≡ S.faults source.old) }
-    ensures still_sound { result ≡ Err ReadError.TooLong → S.faults source.new ≡ S.faults source.old }
+    ensures sound { result ≢ Err ReadError.Fault → S.faults source.new ≡ S.faults source.old }
     ensures fault { result ≡ Err ReadError.Fault → Rose (S.faults source.old) (S.faults source.new) }
     ensures too_long { result ≡ Err ReadError.TooLong → TakesMore SCRIPT_BYTES (S.left source.old) (S.left source.new) }
     ensures taken { TakesAtMost (SCRIPT_BYTES + 1) (S.left source.old) (S.left source.new) }

@@ -1,5 +1,5 @@
 //! The top call.
-ghost use Rattle.std.specs.Prelude.{◌≡◌, ℕ, ◌+◌, ◌≤◌, ◌⊎◌, List, length, Some};
+ghost use Rattle.std.specs.Prelude.{◌≡◌, ◌≢◌, ℕ, ◌+◌, ◌≤◌, ◌⊎◌, List, length, Some};
 ghost use Rattle.erm_outside.specs.Faults.{Rose};
 ghost use Rattle.erm_outside.specs.Sink.{Puts, PutsFront};
 ghost use Rattle.erm_report.specs.Texts.{line_text, text_of};
@@ -9,8 +9,8 @@ ghost use Rattle.erm_script.specs.declared.fault.FaultKind.{FaultKind};
 ghost use Rattle.erm_report.specs.declared.line.Line.TheVariants as line;
 ghost use Rattle.erm_report.specs.declared.line.Line.{Line as PrintedLine};
 ghost use Rattle.erm_script.specs.declared.script.ScriptLine.{ScriptLine as LineOfScript};
-ghost use Rattle.erm_run.specs.Scripts.{one_session};
-ghost use Rattle.erm_top.specs.Statuses.{AreRunWords, Reports, Prints, TakesAtMost, TakesMore, IsStatus};
+ghost use Rattle.erm_top.specs.Scripts.{run_grammar};
+ghost use Rattle.erm_top.specs.Statuses.{AreCommandWords, Reports, Prints, TakesAtMost, TakesMore, IsStatus};
 ghost use Rattle.erm_top.specs.CommandLine.{IsRefused};
 ghost use Rattle.erm_top.specs.Outcomes.{Ends, WasReadWith};
 
@@ -67,7 +67,7 @@ pub fn ermia<R: Threads + Wait + Sync, S: Source, K: Sink, D: Disk + Send, G: Ga
 
     // 2: exactly where the words are refused, as those of no command are, unless memory runs out. They aren't the
     // program's name and `run`. The source is left alone.
-    ensures usage { result.status ≡ 2 → IsRefused words.now × (AreRunWords words.now → ⊥) }
+    ensures usage { result.status ≡ 2 → IsRefused words.now × (AreCommandWords words.now → ⊥) }
     ensures refused { IsRefused words.now → (result.status ≡ 2) ⊎ (result.status ≡ 8) }
     ensures usage_text { result.status ≡ 2 → Prints (line_text line.Usage)
         (K.written sink.old) (K.written sink.new) (K.faults sink.old) (K.faults sink.new) }
@@ -77,7 +77,7 @@ pub fn ermia<R: Threads + Wait + Sync, S: Source, K: Sink, D: Disk + Send, G: Ga
     // 3: the source was read to its end, and this is the first line that is not in the grammar, with the first kind of
     // fault that applies to it.
     ensures bad_line { result.status ≡ 3 → (number : ℕ) × (kind : FaultKind)
-        × WasReadWith (λ bytes. IsFirstBadLine one_session bytes number kind) (S.left source.old) (S.left source.new)
+        × WasReadWith (λ bytes. IsFirstBadLine run_grammar bytes number kind) (S.left source.old) (S.left source.new)
         × Prints (line_text (line.BadLine number kind))
         (K.written sink.old) (K.written sink.new) (K.faults sink.old) (K.faults sink.new) }
 
@@ -92,7 +92,7 @@ pub fn ermia<R: Threads + Wait + Sync, S: Source, K: Sink, D: Disk + Send, G: Ga
         × WasReadWith (λ bytes. Reports bytes lines) (S.left source.old) (S.left source.new)
         × PutsFront (text_of lines) (K.written sink.old) (K.written sink.new) }
 
-    // 8: memory ran out.
+    // 8: memory ran out. The sink failed at most while that was printed.
     ensures no_memory_text { result.status ≡ 8 → Prints (line_text line.NoMemory)
         (K.written sink.old) (K.written sink.new) (K.faults sink.old) (K.faults sink.new) }
 
@@ -101,21 +101,87 @@ pub fn ermia<R: Threads + Wait + Sync, S: Source, K: Sink, D: Disk + Send, G: Ga
     ensures too_long_text { result.status ≡ 9 → Prints (line_text line.TooLong)
         (K.written sink.old) (K.written sink.new) (K.faults sink.old) (K.faults sink.new) }
 
-    // 3, 5 and 9 come only where the source did not fail.
-    ensures source_sound { (result.status ≡ 3) ⊎ (result.status ≡ 5) ⊎ (result.status ≡ 9)
-        → S.faults source.new ≡ S.faults source.old }
+    // Where the source failed the status is 4.
+    ensures source_sound { result.status ≢ 4 → S.faults source.new ≡ S.faults source.old }
 
     // Reading ends: no more bytes are taken than these.
     ensures taken { TakesAtMost (SCRIPT_BYTES + 1) (S.left source.old) (S.left source.new) }
 
     // A script that is not too long is run, unless memory runs out, where nothing fails.
-    ensures complete { (bytes : List ℕ) (names : List (List ℕ)) (script : List LineOfScript) → AreRunWords words.now
-        → S.left source.old ≡ Some bytes → length bytes ≤ SCRIPT_BYTES → IsScript one_session bytes names script
+    ensures complete { (bytes : List ℕ) (names : List (List ℕ)) (script : List LineOfScript) → AreCommandWords words.now
+        → S.left source.old ≡ Some bytes → length bytes ≤ SCRIPT_BYTES → IsScript run_grammar bytes names script
         → (Rose (S.faults source.old) (S.faults source.new) → ⊥) → (Rose (K.faults sink.old) (K.faults sink.new) → ⊥)
         → (result.status ≡ 0) ⊎ (result.status ≡ 8) }
 {
-    let status = command(alloc, words, source, sink);
+    let status = run_to_end(alloc, words, source, sink);
     Ended { status, disk }
+}
+
+/// The same for a program of one thread, which needs no threads and no disk: it never waits for another thread, and so it ends.
+pub fn run_to_end<S: Source, K: Sink>(
+    alloc: Global,
+    words: &[String],
+    source: &mut S,
+    sink: &mut K,
+) -> u8
+    ensures known { IsStatus result }
+
+    // 0: the source was read to its end, and what was put is a good report of the script that its bytes spell. Nothing
+    // failed.
+    ensures report { result ≡ 0 → (lines : List PrintedLine)
+        × WasReadWith (λ bytes. Reports bytes lines) (S.left source.old) (S.left source.new)
+        × Puts (text_of lines) (K.written sink.old) (K.written sink.new) }
+    ensures sound { result ≡ 0 → (S.faults source.new ≡ S.faults source.old) × (K.faults sink.new ≡ K.faults sink.old) }
+
+    // 2: exactly where the words are refused, as those of no command are, unless memory runs out. They aren't the
+    // program's name and `run`. The source is left alone.
+    ensures usage { result ≡ 2 → IsRefused words.now × (AreCommandWords words.now → ⊥) }
+    ensures refused { IsRefused words.now → (result ≡ 2) ⊎ (result ≡ 8) }
+    ensures usage_text { result ≡ 2 → Prints (line_text line.Usage)
+        (K.written sink.old) (K.written sink.new) (K.faults sink.old) (K.faults sink.new) }
+    ensures usage_source { result ≡ 2
+        → (S.left source.new ≡ S.left source.old) × (S.faults source.new ≡ S.faults source.old) }
+
+    // 3: the source was read to its end, and this is the first line that is not in the grammar, with the first kind of
+    // fault that applies to it.
+    ensures bad_line { result ≡ 3 → (number : ℕ) × (kind : FaultKind)
+        × WasReadWith (λ bytes. IsFirstBadLine run_grammar bytes number kind) (S.left source.old) (S.left source.new)
+        × Prints (line_text (line.BadLine number kind))
+        (K.written sink.old) (K.written sink.new) (K.faults sink.old) (K.faults sink.new) }
+
+    // 4: the source failed.
+    ensures read_fault { result ≡ 4 → Rose (S.faults source.old) (S.faults source.new) }
+    ensures read_fault_text { result ≡ 4 → Prints (line_text line.ReadFault)
+        (K.written sink.old) (K.written sink.new) (K.faults sink.old) (K.faults sink.new) }
+
+    // 5: the sink failed, and what was put is the front of a good report.
+    ensures sink_fault { result ≡ 5 → Rose (K.faults sink.old) (K.faults sink.new) }
+    ensures front { result ≡ 5 → (lines : List PrintedLine)
+        × WasReadWith (λ bytes. Reports bytes lines) (S.left source.old) (S.left source.new)
+        × PutsFront (text_of lines) (K.written sink.old) (K.written sink.new) }
+
+    // 8: memory ran out. The sink failed at most while that was printed.
+    ensures no_memory_text { result ≡ 8 → Prints (line_text line.NoMemory)
+        (K.written sink.old) (K.written sink.new) (K.faults sink.old) (K.faults sink.new) }
+
+    // 9: more bytes were taken than a script has.
+    ensures too_long { result ≡ 9 → TakesMore SCRIPT_BYTES (S.left source.old) (S.left source.new) }
+    ensures too_long_text { result ≡ 9 → Prints (line_text line.TooLong)
+        (K.written sink.old) (K.written sink.new) (K.faults sink.old) (K.faults sink.new) }
+
+    // Where the source failed the status is 4.
+    ensures source_sound { result ≢ 4 → S.faults source.new ≡ S.faults source.old }
+
+    // Reading ends: no more bytes are taken than these.
+    ensures taken { TakesAtMost (SCRIPT_BYTES + 1) (S.left source.old) (S.left source.new) }
+
+    // A script that is not too long is run, unless memory runs out, where nothing fails.
+    ensures complete { (bytes : List ℕ) (names : List (List ℕ)) (script : List LineOfScript) → AreCommandWords words.now
+        → S.left source.old ≡ Some bytes → length bytes ≤ SCRIPT_BYTES → IsScript run_grammar bytes names script
+        → (Rose (S.faults source.old) (S.faults source.new) → ⊥) → (Rose (K.faults sink.old) (K.faults sink.new) → ⊥)
+        → (result ≡ 0) ⊎ (result ≡ 8) }
+{
+    command(alloc, words, source, sink)
 }
 
 // Runs the command that the words ask for, or prints the usage line.

@@ -1,7 +1,7 @@
 //! The words of the command line.
 ghost use Rattle.std.specs.Prelude.{◌≡◌, ◌≢◌, IfOk, Ok, true, false};
 ghost use Rattle.clap.specs.Simple.{app_of};
-ghost use Rattle.erm_top.specs.Statuses.{AreRunWords};
+ghost use Rattle.erm_top.specs.Statuses.{AreCommandWords};
 ghost use Rattle.erm_top.specs.CommandLine.{IsTaken, IsRefused, command_line};
 
 use clap::Command;
@@ -13,7 +13,7 @@ use std::alloc::{AllocError, Global};
 pub fn asks_for_run(alloc: Global, words: &[String]) -> Result<bool, AllocError>
     ensures taken { result ≡ Ok true → IsTaken words.now }
     ensures refused { result ≡ Ok false → IsRefused words.now }
-    ensures run { AreRunWords words.now → result ≢ Ok false }
+    ensures run { AreCommandWords words.now → result ≢ Ok false }
 {
     let command = command_line(alloc)?;
     match command.try_get_matches_from(words) {

@@ -1,7 +1,0 @@
-//! What a report owes to its script: definitions, apart from every program that reads the one or writes the other, and
-//! their laws.
-#![tactic(auto)]
-
-mod laws;
-
-pub use laws::reports_are_determined;

@@ -1,7 +1,0 @@
-use Rattle.std.proofs.Common.{◌≡◌, ◌++◌, map}
-use Rattle.erm_report.specs.declared.line.Line.TheVariants as line
-use Rattle.erm_run.proofs.whole.push_map.Given as goal
-
--- the pairs so far have their lines
-abbrev pub invariant-loop-pair : goal.invariant-loop-pair
-invariant-loop-pair l = l.lines.items ≡ l.initial.lines.items ++ map line.Pair l.yielded
