@@ -145,6 +145,7 @@ fn is_refused_folder(rt: &HostRuntime) -> io::Result<bool> {
         && disk.next_segment(0).is_ok() == is_read
         && disk.write(File::Slot0, 0, b"").is_ok();
     drop(disk);
+    fs::set_permissions(rt, FOLDER, fs::Permissions::from_mode(0o700))?;
     fs::remove_dir_all(rt, FOLDER)?;
     Ok(is_same)
 }
