@@ -10,7 +10,7 @@ use Rattle.erm_model.specs.declared.outcome.Phase.TheVariants.{Active, Idle, Sea
 use Rattle.erm_model.specs.declared.outcome.Outcome.TheVariants.{Committed}
 use Rattle.erm_model.specs.RowTransaction.{Law}
 use Rattle.erm_model.specs.Rows.{Rows}
-use Rattle.erm_world.specs.Calls.{Becomes, DidClaim, DidRead, DidSettle, DidWrite, IsDone, Works}
+use Rattle.erm_world.specs.Calls.{AreReady, Becomes, DidClaim, DidRead, DidSettle, DidWrite, HasNoNewer, IsDone, IsUnowned, Works}
 use Rattle.erm_world.specs.Calls as calls
 use Rattle.erm_world.specs.Laws.{IsLawfulWork}
 use Rattle.erm_map_world.specs.MapWorld.{IsMapWorld, IsNow, Now, Stands, aborted, committed, found_row, map_view, nothing, now_of, running, sealing, session_in, stand_in, work_with}
@@ -18,7 +18,7 @@ use Rattle.erm_world.specs.Works.{claiming, is_claimed, making, own_row, reading
 use Rattle.erm_world.specs.World.{Finished, IsSession, Session, Stand, View, Work, begun, phase_at, phase_of, size_of, work_at, work_of}
 use Rattle.erm_world.specs.World as world
 use Rattle.erm_map_world.proofs.MapCalls.{map_aborted, map_begun, map_claimed, map_committed, map_made, map_read, map_sealed, map_set}
-use Rattle.erm_map_world.proofs.MapWorlds.{history_at, map_possible, map_serializable, the_first}
+use Rattle.erm_map_world.proofs.MapWorlds.{history_at, history_seat, map_possible, map_serializable, the_first}
 
 pub stands_so : (law : Law) (start : ℕ) (rows : Rows) (first next tail number : ℕ) (over : List Work) (now : Now) → IsMapWorld law start rows first next tail number over now
     → Stands law start rows first next tail number over now
@@ -88,6 +88,19 @@ works : (start : ℕ) (rows : Rows) (first tail : ℕ) (over : List Work) (w u :
     → Works (map_view start rows first tail over (running w)) 1 u (map_view start rows first tail over (running u))
 works start rows first tail over w u = becomes start rows first tail over over (running w) (running u) (session_in start over (running u)) refl
 
+-- NOBODY ELSE. Another seat has no session, and has committed nothing.
+unowned : (start : ℕ) (rows : Rows) (first tail : ℕ) (over : List Work) (now : Now) (oid : ℕ) → IsUnowned (map_view start rows first tail over now) 1 oid
+unowned start rows first tail over now oid other number is = is.another (the_first start rows first tail over now other is.session)
+
+none_newer : (start : ℕ) (rows : Rows) (first tail : ℕ) (over : List Work) (now : Now) (oid : ℕ) → HasNoNewer (map_view start rows first tail over now) 1 oid
+none_newer start rows first tail over now oid stamp is = is.another (history_seat start rows first tail over now is.by is.committed)
+
+ready : (start : ℕ) (rows : Rows) (first tail : ℕ) (over : List Work) (w : Work) → AreReady (map_view start rows first tail over (sealing w)) 1 w start
+ready start rows first tail over w = (
+  λ r within other seen may. may.is.another (the_first start rows first tail over (sealing w) other may.is.session),
+  λ c within other seen below may. may.is.another (the_first start rows first tail over (sealing w) other may.is.session),
+)
+
 -- what the last calls of a transaction are, at the first seat
 done_aborted : (start : ℕ) (rows : Rows) (first tail : ℕ) (over : List Work) (w : Work)
     → IsDone (map_view start rows first tail over (running w)) 1 w world.aborts (map_view start rows first tail (over ++ w ∷ []) nothing)
@@ -112,6 +125,7 @@ settled start rows first tail over w number positive number_is tail_is =
       w,
       start,
       refl,
+      ready start rows first tail over w,
       (
         done_committed start rows first tail over w,
         number_is,
@@ -193,7 +207,8 @@ module _ (law : Law) (start : ℕ) (rows : Rows) (first next tail number : ℕ) 
       subst (λ (x : Work). DidClaim (map_view start rows first tail over (now_of p is_committed w)) seat oid (map_view start rows first tail over (now_of p is_committed x))) (sym is)
       (while_active active (λ (q : ℕ) (at : Phase). DidClaim (map_view start rows first tail over (now_of at is_committed w)) q oid
       (map_view start rows first tail over (now_of at is_committed (claiming c w))))
-      (calls.now 0 row (found_none w.claims oid none) few (works start rows first tail over w (claiming c w))))
+      (calls.now 0 row (found_none w.claims oid none) few (unowned start rows first tail over (running w) oid)
+      (none_newer start rows first tail over (running w) oid) (works start rows first tail over w (claiming c w))))
 
   -- SET
   pub set_stands : (u : Work) (oid : ℕ) (row : List ℕ) → phase_at (map_view start rows first tail over (now_of p is_committed w)) seat ≡ Active
@@ -307,7 +322,7 @@ claim_works v seat oid t active (calls.before is claimed) = (
     pinned = ap (λ (x : View). x.pinned) is;
   },
 )
-claim_works v seat oid t active (calls.now stamp base none few now) =
+claim_works v seat oid t active (calls.now stamp base none few free newest now) =
     (claiming (record { oid = oid; stamp = stamp; base = base; row = base; is_set = false }) (work_at v seat), now)
 
 pub claim_active : (v : View) (seat oid : ℕ) (t : View) → phase_at v seat ≡ Active → DidClaim v seat oid t → phase_at t seat ≡ Active

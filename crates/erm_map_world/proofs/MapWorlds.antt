@@ -175,6 +175,11 @@ commits_at start now u within =
 pub history_at : (start : ℕ) (rows : Rows) (first tail : ℕ) (over : List Work) (now : Now) → AreAt start (history_of (map_view start rows first tail over now))
 history_at start rows first tail over now = subst (AreAt start) (sym (history_is start rows first tail over now)) (commits_at start now)
 
+-- the first seat's
+pub history_seat : (start : ℕ) (rows : Rows) (first tail : ℕ) (over : List Work) (now : Now) (u : TransactionRecord) → u ∈ history_of (map_view start rows first tail over now) → u.seat ≡ 1
+history_seat start rows first tail over now u within =
+    let (w, same, e) = in_commits start now u (subst (λ (list : History). u ∈ list) (history_is start rows first tail over now) within) in ap (λ (t : TransactionRecord). t.seat) e
+
 -- so each version that was found at the opening is the newest
 newest_of : (start : ℕ) (h : History) (rows : Rows) (oid bound stamp : ℕ) (row : List ℕ) → 0 < start → AreAt start h → stamp ≡ 0 → row ≡ rows oid → bound ≡ start
     → IsNewestBelow h rows oid bound stamp row

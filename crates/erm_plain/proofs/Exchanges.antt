@@ -1,5 +1,5 @@
 -- A claim up to its exchange: which steps are taken, and what they leave.
-use Rattle.std.proofs.Common.{◌≡◌, ℕ, suc, ◌-◌, ◌<◌, ◌≤◌, ⊎_elim, true, false, eqb, ltb, List, [], ◌∷◌, ◌++◌, length, map, take, Option, Some, refl, sym, ap, ◌∙◌, subst, arith, length-append}
+use Rattle.std.proofs.Common.{◌≡◌, ◌≢◌, ℕ, suc, ◌-◌, ◌<◌, ◌≤◌, ⊎_elim, true, false, eqb, ltb, List, [], ◌∷◌, ◌++◌, length, map, take, Option, Some, refl, sym, ap, ◌∙◌, subst, arith, length-append}
 use Rattle.std.specs.Prelude.{if◌then◌else◌}
 use Rattle.std.proofs.Math.Path.{fun_ext}
 use Rattle.std.proofs.lemmas.Bool.{and_from, cases_eq, cond-true, eq-eqb, lt-ltb}
@@ -225,9 +225,9 @@ module _ (c : Core) (seat oid entry number : ℕ) (sound : Sound c) (at : IsAtWo
       }
 
 -- A CLAIM as the view tells it
-pub claim_done : (v between t : View) (seat oid stamp : ℕ) (base : List ℕ) → MayClaim (work_at v seat) oid
+pub claim_done : (v between t : View) (seat oid stamp : ℕ) (base : List ℕ) → MayClaim (work_at v seat) oid → IsUnowned v seat oid → HasNoNewer v seat oid
     → Works v seat (claiming (record { oid = oid; stamp = stamp; base = base; row = base; is_set = false }) (work_at v seat)) between → t ≡ between → DidClaim v seat oid t
-claim_done v between t seat oid stamp base may works same = subst (λ (u : View). DidClaim v seat oid u) (sym same) (now stamp base may.0 may.1 works)
+claim_done v between t seat oid stamp base may free current works same = subst (λ (u : View). DidClaim v seat oid u) (sym same) (now stamp base may.0 may.1 free current works)
 
 pub claim_excluded : (v between t : View) (seat oid stamp : ℕ) (base : List ℕ) (why : RowStop) → MayClaim (work_at v seat) oid → IsUnowned v seat oid
     → HasNoNewer v seat oid
@@ -236,6 +236,11 @@ pub claim_excluded : (v between t : View) (seat oid stamp : ℕ) (base : List �
 claim_excluded v between t seat oid stamp base (stop.Excluded succ pred) may free current works (aborted, shut) =
     (may, free, current, (record { oid = oid; stamp = stamp; base = base; row = base; is_set = false }, refl, done_before v between t seat _ works aborted, shut_before v between seat _ succ pred works shut))
 claim_excluded v between t seat oid stamp base why may free current works excluded = absurd excluded
+
+-- an exclusion isn't told as a want of cells
+pub excluded_cells : (v t : View) (seat : ℕ) (why : RowStop) → IsExcluded v seat t why → (drawn : ℕ) → why ≢ stop.CellsFull drawn
+excluded_cells v t seat (stop.Excluded succ pred) excluded drawn same = absurd (cc)
+excluded_cells v t seat why excluded drawn same = absurd excluded
 
 -- one that is dropped left nothing
 active_session : (over : List Finished) (stand : Stand) → phase_of stand ≡ phase.Active → ◌≡◌ {A = Session} (record { over = over; stand = stand }) (record { over = over; stand = world.active (world.work_of stand) })

@@ -33,5 +33,5 @@ settled_keeps (Committed r) v t seat stamp w did = did.0.opening
 settled_keeps (Excluded at succ pred) v t seat stamp w did = did.0.opening
 
 pub settle_keeps : (r : Result Outcome Wait) (v t : View) (seat : ℕ) → IfOk r (λ o. DidSettle v seat o t) → IfErr r (λ why. DidNotSettle v seat why t) → t.opening ≡ v.opening
-settle_keeps (Ok o) v t seat did not = settled_keeps o v t seat did.1 did.0 did.3
+settle_keeps (Ok o) v t seat did not = settled_keeps o v t seat did.1 did.0 did.4
 settle_keeps (Err why) v t seat did not = ap (λ (u : View). u.opening) not.0

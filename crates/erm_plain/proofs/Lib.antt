@@ -3,6 +3,7 @@ pub mod Beginnings
 mod Deciding
 pub mod Early
 pub mod Exchanges
+pub mod FinalRows
 pub mod Finishing
 pub mod GatherCall
 pub mod Kept

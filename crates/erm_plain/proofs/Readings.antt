@@ -1,5 +1,6 @@
 -- Reads as the view tells them.
 use Rattle.std.proofs.Common.{◌≡◌, ◌<◌, ℕ, List, length, ap, ◌∙◌, sym, subst, refl}
+use Rattle.std.specs.Prelude.{Result, Ok, Err, OnOk}
 use Rattle.std.proofs.lemmas.List.{length-map}
 use Rattle.erm_machine.specs.Core.{Core}
 use Rattle.erm_machine.specs.Decided.{read_of}
@@ -41,3 +42,8 @@ reads_shown sessions seat c v at same =
     let x = c.seats seat in
     ap (λ (u : View). length (work_at u seat).reads) (sym same) ∙ ap (λ (w : Work). length w.reads) (work_active x.place x.current at.active)
     ∙ length-map x.current.reads read_of
+
+-- what holds of an answer holds under a premise as well
+pub where_ok_too : {A E : Type 0} (P Q : Type 0) (r : Result A E) → OnOk r Q → OnOk r (P → Q)
+where_ok_too P Q (Ok value) holds = λ _. holds
+where_ok_too P Q (Err error) holds = tt

@@ -51,7 +51,7 @@ use Rattle.erm_plain.proofs.Aborts.{no_flusher, part_stepped, session_plain}
 use Rattle.erm_plain.proofs.Leaving.{remains_both}
 use Rattle.erm_plain.proofs.Quiet.{quiet_after, session_of_few}
 use Rattle.erm_plain.proofs.Unseen.{unseen_step}
-use Rattle.erm_plain.proofs.Waiting.{in_the_way, same_sealed}
+use Rattle.erm_plain.proofs.Waiting.{all_ready, in_the_way, same_sealed}
 
 phase_sealed : (pl : Place) (t : Attempt) → phase_of (stand_of pl t) ≡ phase.Sealed → is_sealed pl ≡ true
 phase_sealed (Sealed tail stamp) t e = refl
@@ -360,7 +360,7 @@ module _ (sessions seat : ℕ) (a : Core) (m : MaySettle sessions seat a) where
             ltb-false t.pred t.succ at,
           )
 
-      pub did_settle : DidSettle (view_of sessions a) seat (outcome_of t) (view_of sessions e)
-      did_settle =
+      pub did_settle : HasPassed y → DidSettle (view_of sessions a) seat (outcome_of t) (view_of sessions e)
+      did_settle passed =
           subst (λ (v : View). DidSettle v seat (outcome_of t) (view_of sessions e)) unseen.view
-          (work_of t, t.stamp, y_stands, settled (ltb t.pred t.succ) refl)
+          (work_of t, t.stamp, y_stands, all_ready sessions c sound still_quiet seat sealed passed, settled (ltb t.pred t.succ) refl)

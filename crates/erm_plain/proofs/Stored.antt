@@ -33,6 +33,7 @@ use Rattle.erm_core_view.proofs.Chained as chained
 use Rattle.erm_core_view.specs.Views.{IsQuiet, view_of}
 use Rattle.erm_core_view.proofs.Rows.{Ready, after_one, after_word, claim_then, goes_one, ready_first, still_own, writes, writes_rest}
 use Rattle.erm_plain.specs.Claiming.{IsStoring, StandsAt}
+use Rattle.erm_plain.specs.Reads.{closed_window}
 use Rattle.erm_plain.specs.Steps.{IsTaken}
 use Rattle.erm_plain.proofs.Aborts.{one_after}
 use Rattle.erm_plain.proofs.Early.{quiet_since, works_work}
@@ -90,6 +91,15 @@ module _ (seat place cell k value : ℕ) (c : Core) (s : IsStoring seat place ce
             ∙ cond-false (eqb (k + 1) 16) task.Rest (task.Writes place (k + 1)) (ne_eqb (k + 1) 16 (λ (last : k + 1 ≡ 16). omega (arith, last, more)));
       }
 
+  -- the window known so far stays
+  pub store_window : (d : Core) → after_event c seat (kind.StoreCell place cell (word.Row k) value) ≡ Some d
+      → closed_window (d.seats seat).current ≡ closed_window (c.seats seat).current
+  store_window d e =
+      let x = c.seats seat in
+      let y = after_word place k value x in
+      let is : d.seats seat ≡ y = ap (λ (to : Core). to.seats seat) (one_after c d (after_one seat place k value c x) seat (kind.StoreCell place cell (word.Row k) value) one e) ∙ put_same c.seats seat y in
+      ap (λ (z : Part). closed_window z.current) is
+
   pub store_run : (d : Core) (row : List ℕ) → after_event c seat (kind.StoreCell place cell (word.Row k) value) ≡ Some d → k < length row → get_or row k 0 ≡ value
       → run_from c (stores_from seat place cell k (drop k row)) ≡ run_from d (stores_from seat place cell (k + 1) (drop (k + 1) row))
   store_run d row e within is =
@@ -144,15 +154,15 @@ storing_first seat place cell c at may = record {
 -- AFTER A CLAIM the object is claimed, and the transaction goes on.
 pub claim_session : (v t : View) (seat oid : ℕ) → DidClaim v seat oid t → IsSession v seat → IsSession t seat
 claim_session v t seat oid (before same claimed) session = subst (λ (u : View). IsSession u seat) (sym same) session
-claim_session v t seat oid (now stamp base none few works) session = still_session v t seat _ works session
+claim_session v t seat oid (now stamp base none few free current works) session = still_session v t seat _ works session
 
 pub claim_active : (v t : View) (seat oid : ℕ) → DidClaim v seat oid t → phase_at v seat ≡ phase.Active → phase_at t seat ≡ phase.Active
 claim_active v t seat oid (before same claimed) active = subst (λ (u : View). phase_at u seat ≡ phase.Active) (sym same) active
-claim_active v t seat oid (now stamp base none few works) active = still_active v t seat _ works
+claim_active v t seat oid (now stamp base none few free current works) active = still_active v t seat _ works
 
 pub claim_claims : (v t : View) (seat oid : ℕ) → DidClaim v seat oid t → is_claimed (work_at t seat).claims oid ≡ true
 claim_claims v t seat oid (before same claimed) = subst (λ (u : View). is_claimed (work_at u seat).claims oid ≡ true) (sym same) claimed
-claim_claims v t seat oid (now stamp base none few works) =
+claim_claims v t seat oid (now stamp base none few free current works) =
     let c : VersionWritten = record { oid = oid; stamp = stamp; base = base; row = base; is_set = false } in
     ap (λ (w : Work). is_claimed w.claims oid) (works_work v t seat (claiming c (work_at v seat)) works)
     ∙ claimed-push (work_at v seat).claims c oid ∙ or_right (is_claimed (work_at v seat).claims oid) (eqb oid oid || false) (or_left (eqb oid oid) false (eq-eqb oid oid refl))
@@ -160,7 +170,7 @@ claim_claims v t seat oid (now stamp base none few works) =
 -- a row that is set after the claim
 pub claim_then_set : (v between t : View) (seat oid : ℕ) (w : Work) → DidClaim v seat oid between → Works between seat w t → Works v seat w t
 claim_then_set v between t seat oid w (before same claimed) set_it = subst (λ (u : View). Works u seat w t) same set_it
-claim_then_set v between t seat oid w (now stamp base none few works) set_it =
+claim_then_set v between t seat oid w (now stamp base none few free current works) set_it =
     let over : (between.session seat).over ≡ (v.session seat).over = ap (λ (s : Session). s.over) works.own in
     record {
       own = set_it.own ∙ ap (λ (fs : List Finished). let s : Session = record { over = fs; stand = world.active w } in s) over;

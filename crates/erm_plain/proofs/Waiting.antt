@@ -9,6 +9,7 @@ use Rattle.erm_model.specs.declared.history.VersionWritten.{VersionWritten}
 use Rattle.erm_model.specs.Member.{◌∈◌}
 use Rattle.erm_model.proofs.Members.{none_in_nil, ∈-at}
 use Rattle.erm_machine.specs.declared.attempt.Attempt.{Attempt}
+use Rattle.erm_machine.specs.declared.attempt.Claim.{Claim}
 use Rattle.erm_machine.specs.declared.attempt.Read.{Read}
 use Rattle.erm_machine.specs.declared.part.Part.{Part}
 use Rattle.erm_machine.specs.declared.place.Place.{Place}
@@ -35,11 +36,11 @@ use Rattle.erm_core_calls.proofs.GoesActive.{bound_at}
 use Rattle.erm_core_calls.proofs.Seats.{last_member, seat_low}
 use Rattle.erm_core_cells.proofs.ChainsCells.{same_place}
 use Rattle.erm_world.specs.declared.stops.Wait.TheVariants as wait
-use Rattle.erm_world.specs.Calls.{IsClaimReady, IsInTheWay, IsReadReady, IsSealedBelow, MayHaveRead, MayOverwrite, has_read, overwrites}
+use Rattle.erm_world.specs.Calls.{AreReady, IsClaimReady, IsInTheWay, IsReadReady, IsSealedBelow, MayHaveRead, MayOverwrite, has_read, overwrites}
 use Rattle.erm_world.specs.World.{IsSession, Work}
 use Rattle.erm_world.specs.World as world
 use Rattle.erm_core_view.specs.Views.{IsBetween, IsQuiet, stand_of, view_of, work_of}
-use Rattle.erm_plain.specs.Settles.{AreReaders, IsOwnedHead, IsPassing, IsWaiting, Stays, at_owner, at_reader}
+use Rattle.erm_plain.specs.Settles.{AreReaders, HasPassed, IsOwnedHead, IsPassing, IsWaiting, Stays, at_owner, at_reader}
 use Rattle.erm_plain.proofs.Weights.{word_from_bits}
 
 -- the lists before and behind a place
@@ -333,6 +334,19 @@ module _ (sessions : ℕ) (c : Core) (sound : Sound c) (quiet : IsQuiet sessions
             oid = oid;
             stamp = sym (read_fits other k low).newest.stamp_is ∙ same ∙ sym (fit seat write own within).stamp;
           }
+
+  -- of one that has passed all its versions nobody is in the way
+  pub all_ready : (seat : ℕ) → is_sealed (c.seats seat).place ≡ true → HasPassed (c.seats seat)
+      → AreReady (view_of sessions c) seat (work_of (c.seats seat).current) (c.seats seat).current.stamp
+  all_ready seat own passed =
+      let x = c.seats seat in
+      let reads = x.current.reads in
+      let writes = x.current.writes in
+      let read : passed_of x.task (length reads) ≡ length reads = ap (λ u. passed_of u (length reads)) passed in
+      let written : writes_passed x.task (length writes) ≡ length writes = ap (λ u. writes_passed u (length writes)) passed in (
+        λ r m. reads_ready seat own (length reads) (omega (arith, read)) r (subst (λ (rs : List Read). r ∈ map read_of rs) (sym (take-length reads)) m),
+        λ d m. claims_ready seat own (length writes) (sessions + 1) (omega (arith, written)) d (subst (λ (ws : List Claim). d ∈ map written_of ws) (sym (take-length writes)) m),
+      )
 
   -- whom a settle waits for is in the way
   pub in_the_way : (seat other seen : ℕ) → IsPassing c.shared (c.seats seat) → IsWaiting c seat (wait.Seat other seen)

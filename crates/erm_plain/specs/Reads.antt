@@ -15,6 +15,7 @@ use Rattle.erm_machine.specs.Seat.{is_active}
 use Rattle.erm_machine.specs.Words.{is_clear, is_session, state_of}
 use Rattle.erm_core.specs.declared.need.Need.{Need}
 use Rattle.erm_core.specs.declared.state.State.{State}
+use Rattle.erm_core.specs.Cores.{core_of}
 use Rattle.erm_core.specs.Rooms.{HasCallRoom}
 use Rattle.erm_core_view.specs.Views.{view_of}
 use Rattle.erm_world.specs.Calls.{DidAbort, IsClearOf, IsShut, Works}
@@ -98,6 +99,10 @@ IsWaiting c seat owner why = ⊥
 -- the running successor and predecessor stamp, where they exclude the transaction
 abbrev pub closed_window : Attempt → Option (ℕ × ℕ)
 closed_window t = if nat_lt 0 t.succ && nat_le t.succ t.pred then Some (t.succ, t.pred) else None
+
+-- the exclusion window of the seat's transaction, as far as it is known, is open
+abbrev pub HasOpenWindow : State → ℕ → Type 0
+HasOpenWindow s seat = closed_window ((core_of s).seats seat).current ≡ None
 
 -- the version found is registered, with this row
 pub record HasRegistered (sessions seat oid : ℕ) (row : List ℕ) (c d : Core) : Type 0 where

@@ -1,5 +1,5 @@
 //! Claims, up to the exchange of the entry.
-ghost use Rattle.std.specs.Prelude.{◌≡◌, ◌<◌, IfErr, OnOk, false, length, map, true};
+ghost use Rattle.std.specs.Prelude.{◌≡◌, ◌≢◌, ◌<◌, ℕ, IfErr, IfOk, OnOk, false, length, map, true};
 ghost use Rattle.erm_machine.specs.Decided.{written_of};
 ghost use Rattle.erm_machine.specs.Seat.{may_start};
 ghost use Rattle.erm_sound.specs.Kept.{SoundUnder};
@@ -8,11 +8,12 @@ ghost use Rattle.erm_machine.specs.Words.{is_session};
 ghost use Rattle.erm_machine.specs.declared.limits.TheConstants.{WRITE_LIMIT};
 ghost use Rattle.erm_model.specs.declared.limits.TheConstants.{OID_LIMIT};
 ghost use Rattle.erm_model.specs.declared.outcome.Phase.TheVariants as phase;
+ghost use Rattle.erm_model.specs.declared.row_stop.RowStop.TheVariants.{CellsFull};
 ghost use Rattle.erm_core.specs.Cores.{core_of};
 ghost use Rattle.erm_core.specs.Rooms.{HasCallRoom, HasSwapRoom};
 ghost use Rattle.erm_core.specs.declared.need.Need.TheVariants as need;
 ghost use Rattle.erm_plain.specs.Claiming.{HasExchanged, HasFreeHead, HasHead, is_cleared};
-ghost use Rattle.erm_plain.specs.Reads.{GoesOn, IsAtWork, KeepsRoom};
+ghost use Rattle.erm_plain.specs.Reads.{GoesOn, HasOpenWindow, IsAtWork, KeepsRoom};
 ghost use Rattle.erm_plain.specs.Stands.{Stands, plain_view};
 ghost use Rattle.erm_world.specs.Calls.{DidClaim, DidNotClaim, MayClaim};
 ghost use Rattle.erm_world.specs.World.{IsSession, phase_at, work_at};
@@ -121,7 +122,9 @@ impl<L: RowLaw> Plain<L> {
         requires room { HasCallRoom self.old.state seat (need.Claim oid) }
         ensures stands { Stands L.law self.new }
         ensures ok { OnOk result (DidClaim (plain_view self.old) seat oid (plain_view self.new)) }
+        ensures open_still { OnOk result (HasOpenWindow self.new.state seat) }
         ensures err { IfErr result (λ stop. DidNotClaim (plain_view self.old) seat oid stop (plain_view self.new)) }
+        ensures cells { IfErr result (λ stop. (drawn : ℕ) → stop ≢ CellsFull drawn) }
     {
         self.exchange(seat, oid, entry);
         if !self.finish_claim(seat) {
@@ -144,7 +147,9 @@ impl<L: RowLaw> Plain<L> {
         requires room { HasCallRoom self.old.state seat (need.Claim oid) }
         ensures stands { Stands L.law self.new }
         ensures ok { OnOk result (DidClaim (plain_view self.old) seat oid (plain_view self.new)) }
+        ensures open_still { OnOk result (HasOpenWindow self.new.state seat) }
         ensures err { IfErr result (λ stop. DidNotClaim (plain_view self.old) seat oid stop (plain_view self.new)) }
+        ensures cells { IfErr result (λ stop. (drawn : ℕ) → stop ≢ CellsFull drawn) }
     {
         let version = self.version(seat);
         let word = CellWord::Stamp;
@@ -166,7 +171,9 @@ impl<L: RowLaw> Plain<L> {
         requires room { HasCallRoom self.old.state seat (need.Claim oid) }
         ensures stands { Stands L.law self.new }
         ensures ok { OnOk result (DidClaim (plain_view self.old) seat oid (plain_view self.new)) }
+        ensures open_still { OnOk result (HasOpenWindow self.new.state seat) }
         ensures err { IfErr result (λ stop. DidNotClaim (plain_view self.old) seat oid stop (plain_view self.new)) }
+        ensures cells { IfErr result (λ stop. (drawn : ℕ) → stop ≢ CellsFull drawn) }
     {
         self.leave_cleared(seat, oid);
         let entry = found(self.load(seat, Kind::LoadEntry { oid }));
@@ -181,15 +188,20 @@ impl<L: RowLaw> Plain<L> {
         self.claim_head(seat, oid, entry)
     }
 
-    /// Claims an object for writing. Its row stays, and counts as written.
-    pub(crate) fn claim(&mut self, seat: Seat, oid: Oid) -> Result<(), RowStop>
+    /// Claims an object, below 2^14, for writing. Its row stays, and counts as written. One that is claimed stays so. It is
+    /// refused, and the transaction ends, where another one in progress has claimed the object, where a newer version was
+    /// committed, or where the exclusion window known so far is closed; it is refused, and the transaction goes on, where there
+    /// is no memory, or where 128 objects are claimed. Cells never run out.
+    pub fn claim(&mut self, seat: Seat, oid: Oid) -> Result<(), RowStop>
         requires stands { Stands L.law self.old }
         requires session { IsSession (plain_view self.old) seat }
         requires active { phase_at (plain_view self.old) seat ≡ phase.Active }
         requires object { oid < OID_LIMIT }
         ensures stands { Stands L.law self.new }
         ensures ok { OnOk result (DidClaim (plain_view self.old) seat oid (plain_view self.new)) }
+        ensures open_still { OnOk result (is_claimed (work_at (plain_view self.old) seat).claims oid ≡ false → HasOpenWindow self.new.state seat) }
         ensures err { IfErr result (λ stop. DidNotClaim (plain_view self.old) seat oid stop (plain_view self.new)) }
+        ensures cells { IfErr result (λ stop. (drawn : ℕ) → stop ≢ CellsFull drawn) }
     {
         if self.has_claimed(seat, oid) {
             return Ok(());
@@ -203,15 +215,19 @@ impl<L: RowLaw> Plain<L> {
         self.claim_entry(seat, oid)
     }
 
-    /// Claims an object where it isn't claimed yet. No version is cut off beyond those of the claim: none is told.
-    pub(crate) fn tidy(&mut self, seat: Seat, oid: Oid) -> Result<u32, RowStop>
+    /// Claims an object, below 2^14, where it isn't claimed yet, or is refused as a claim is. No version is cut off: the count is
+    /// 0.
+    pub fn tidy(&mut self, seat: Seat, oid: Oid) -> Result<u32, RowStop>
         requires stands { Stands L.law self.old }
         requires session { IsSession (plain_view self.old) seat }
         requires active { phase_at (plain_view self.old) seat ≡ phase.Active }
         requires object { oid < OID_LIMIT }
         ensures stands { Stands L.law self.new }
         ensures ok { OnOk result (DidClaim (plain_view self.old) seat oid (plain_view self.new)) }
+        ensures open_still { OnOk result (is_claimed (work_at (plain_view self.old) seat).claims oid ≡ false → HasOpenWindow self.new.state seat) }
         ensures err { IfErr result (λ stop. DidNotClaim (plain_view self.old) seat oid stop (plain_view self.new)) }
+        ensures cells { IfErr result (λ stop. (drawn : ℕ) → stop ≢ CellsFull drawn) }
+        ensures none { IfOk result (λ count. count ≡ 0) }
     {
         match self.claim(seat, oid) {
             Ok(()) => Ok(0),

@@ -5,6 +5,7 @@ mod begins;
 mod blocks;
 mod claims;
 mod ends;
+mod final_rows;
 mod finishes;
 mod gathers;
 mod installs;

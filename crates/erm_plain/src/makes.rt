@@ -1,7 +1,9 @@
 //! New objects.
-ghost use Rattle.std.specs.Prelude.{◌≡◌, ◌<◌, IfErr, IfOk};
+ghost use Rattle.std.specs.Prelude.{◌≡◌, ◌<◌, ℕ, IfErr, IfOk};
 ghost use Rattle.erm_model.specs.declared.limits.TheConstants.{OID_LIMIT};
 ghost use Rattle.erm_model.specs.declared.outcome.Phase.TheVariants.{Active};
+ghost use Rattle.erm_model.specs.declared.row_stop.RowStop.TheVariants.{OidsFull};
+ghost use Rattle.erm_core.specs.Cores.{core_of};
 ghost use Rattle.erm_plain.specs.Stands.{Stands, plain_view};
 ghost use Rattle.erm_world.specs.Calls.{DidMake, DidNotMake};
 ghost use Rattle.erm_world.specs.World.{IsSession, phase_at};
@@ -23,6 +25,7 @@ impl<L: RowLaw> Plain<L> {
         ensures object { IfOk result (λ oid. oid < OID_LIMIT) }
         ensures ok { IfOk result (λ oid. DidMake (plain_view self.old) seat oid (plain_view self.new)) }
         ensures err { IfErr result (λ stop. DidNotMake (plain_view self.old) seat stop (plain_view self.new)) }
+        ensures drawn { IfErr result (λ stop. (drawn : ℕ) → stop ≡ OidsFull drawn → drawn ≡ (core_of self.old.state).shared.objects_drawn) }
     {
         erm_core::rooms_serve();
         erm_core::rooms_last();

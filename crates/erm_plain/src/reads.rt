@@ -11,7 +11,7 @@ ghost use Rattle.erm_model.specs.declared.outcome.Phase.TheVariants as phase;
 ghost use Rattle.erm_core.specs.Cores.{core_of};
 ghost use Rattle.erm_core.specs.Rooms.{HasCallRoom};
 ghost use Rattle.erm_core.specs.declared.need.Need.TheVariants as need;
-ghost use Rattle.erm_plain.specs.Reads.{closed_window, finds, read_step, stage_of, DidRegister, HasOwnRow, HasRegistered, IsAtWork, IsExcluded};
+ghost use Rattle.erm_plain.specs.Reads.{closed_window, finds, read_step, stage_of, DidRegister, HasOpenWindow, HasOwnRow, HasRegistered, IsAtWork, IsExcluded};
 ghost use Rattle.erm_plain.specs.Stands.{Stands, plain_view};
 ghost use Rattle.erm_world.specs.Calls.{DidNotRead, DidRead, IsNew};
 ghost use Rattle.erm_world.specs.World.{IsSession, phase_at, work_at};
@@ -154,6 +154,7 @@ impl<L: RowLaw> Plain<L> {
         requires active { phase_at (plain_view self.old) seat ≡ phase.Active }
         ensures stands { Stands L.law self.new }
         ensures ok { OnOk result (plain_view self.new ≡ plain_view self.old) }
+        ensures open_still { OnOk result (HasOpenWindow self.new.state seat) }
         ensures err { IfErr result (IsExcluded (plain_view self.old) seat (plain_view self.new)) }
     {
         match self.closed_window(seat) {
@@ -176,6 +177,7 @@ impl<L: RowLaw> Plain<L> {
         requires room { HasCallRoom self.old.state seat need.Read }
         ensures stands { Stands L.law self.new }
         ensures ok { IfOk result (λ row. DidRead (plain_view self.old) seat oid row (plain_view self.new)) }
+        ensures open_still { IfOk result (λ row. HasOpenWindow self.new.state seat) }
         ensures err { IfErr result (λ stop. DidNotRead (plain_view self.old) seat oid stop (plain_view self.new)) }
     {
         let row = self.read_version(seat, oid)?;
@@ -194,6 +196,7 @@ impl<L: RowLaw> Plain<L> {
         requires new { IsNew (work_at (plain_view self.old) seat) oid }
         ensures stands { Stands L.law self.new }
         ensures ok { IfOk result (λ row. DidRead (plain_view self.old) seat oid row (plain_view self.new)) }
+        ensures open_still { IfOk result (λ row. HasOpenWindow self.new.state seat) }
         ensures err { IfErr result (λ stop. DidNotRead (plain_view self.old) seat oid stop (plain_view self.new)) }
     {
         if !self.has_room(seat, Need::Read) {
@@ -214,6 +217,7 @@ impl<L: RowLaw> Plain<L> {
         requires object { oid < OID_LIMIT }
         ensures stands { Stands L.law self.new }
         ensures ok { IfOk result (λ row. DidRead (plain_view self.old) seat oid row (plain_view self.new)) }
+        ensures open_still { IfOk result (λ row. IsNew (work_at (plain_view self.old) seat) oid → HasOpenWindow self.new.state seat) }
         ensures err { IfErr result (λ stop. DidNotRead (plain_view self.old) seat oid stop (plain_view self.new)) }
     {
         if let Some(row) = self.own_row(seat, oid) {

@@ -30,6 +30,7 @@ impl<L: RowLaw> Plain<L> {
         ensures room { result ≡ true → HasCallRoom self.new.state seat need }
         ensures stands { Stands L.law self.new }
         ensures view { plain_view self.new ≡ plain_view self.old }
+        ensures core { core_of self.new.state ≡ core_of self.old.state }
     {
         self.state.room(seat, need).is_ok()
     }

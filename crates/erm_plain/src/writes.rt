@@ -1,14 +1,16 @@
 //! Writes.
-ghost use Rattle.std.specs.Prelude.{◌≡◌, ◌<◌, IfErr, OnOk, length, map, true};
+ghost use Rattle.std.specs.Prelude.{◌≡◌, ◌≢◌, ◌<◌, ℕ, IfErr, OnOk, false, length, map, true};
 ghost use Rattle.erm_machine.specs.Core.{claim_at, no_claim};
 ghost use Rattle.erm_machine.specs.Decided.{written_of};
 ghost use Rattle.erm_machine.specs.Words.{is_session};
 ghost use Rattle.erm_model.specs.declared.TheConstants.{ROW_WORDS};
 ghost use Rattle.erm_model.specs.declared.limits.TheConstants.{OID_LIMIT};
 ghost use Rattle.erm_model.specs.declared.outcome.Phase.TheVariants as phase;
+ghost use Rattle.erm_model.specs.declared.row_stop.RowStop.TheVariants.{CellsFull};
 ghost use Rattle.erm_core.specs.Cores.{core_of};
 ghost use Rattle.erm_core_calls.specs.Going.{own_at};
 ghost use Rattle.erm_plain.specs.Claiming.{StandsAt};
+ghost use Rattle.erm_plain.specs.Reads.{closed_window, HasOpenWindow};
 ghost use Rattle.erm_plain.specs.Stands.{Stands, plain_view};
 ghost use Rattle.erm_world.specs.Calls.{DidNotClaim, DidWrite, Works};
 ghost use Rattle.erm_world.specs.World.{IsSession, phase_at, work_at};
@@ -75,6 +77,7 @@ impl<L: RowLaw> Plain<L> {
         requires all { length words.now ≡ ROW_WORDS }
         ensures stands { Stands L.law self.new }
         ensures set { Works (plain_view self.old) seat (setting oid words.now (work_at (plain_view self.old) seat)) (plain_view self.new) }
+        ensures window { closed_window ((core_of self.new.state).seats seat).current ≡ closed_window ((core_of self.old.state).seats seat).current }
     {
         erm_core_view::writes_show_the_row();
         let claim = self.place_claimed(seat, oid);
@@ -93,15 +96,18 @@ impl<L: RowLaw> Plain<L> {
         }
     }
 
-    /// Sets the row of an object, and claims it where it isn't claimed yet. For a claimed object the answer is `Ok`.
-    pub(crate) fn write(&mut self, seat: Seat, oid: Oid, row: &Row) -> Result<(), RowStop>
+    /// Sets the row of an object, below 2^14, and claims it where it isn't claimed yet. For a claimed object the answer is `Ok`;
+    /// another is refused as its claim is, and its row then stays.
+    pub fn write(&mut self, seat: Seat, oid: Oid, row: &Row) -> Result<(), RowStop>
         requires stands { Stands L.law self.old }
         requires session { IsSession (plain_view self.old) seat }
         requires active { phase_at (plain_view self.old) seat ≡ phase.Active }
         requires object { oid < OID_LIMIT }
         ensures stands { Stands L.law self.new }
         ensures ok { OnOk result (DidWrite (plain_view self.old) seat oid row.now (plain_view self.new)) }
+        ensures open_still { OnOk result (is_claimed (work_at (plain_view self.old) seat).claims oid ≡ false → HasOpenWindow self.new.state seat) }
         ensures err { IfErr result (λ stop. DidNotClaim (plain_view self.old) seat oid stop (plain_view self.new)) }
+        ensures cells { IfErr result (λ stop. (drawn : ℕ) → stop ≢ CellsFull drawn) }
     {
         self.claim(seat, oid)?;
         self.set_row(seat, oid, words_of(row));

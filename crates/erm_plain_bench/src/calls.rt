@@ -62,7 +62,7 @@ pub fn write(world: &mut Plain<AnyRows>, seat: Seat, oid: Oid, row: &Row) -> Res
     ensures { IsReady world.new }
 {
     match world.phase(seat) {
-        Phase::Active => match world.write(seat, oid, row) {
+        Phase::Active => match RowWorld::write(world, seat, oid, row) {
             Ok(()) => Ok(()),
             Err(_) => Err(Fault::Refused),
         },

@@ -183,7 +183,7 @@ went_read law v seat oid row t active (calls.first stamp none unread few now) =
 went_claim : (law : Law) (v : View) (seat oid : ℕ) (t : View) → phase_at v seat ≡ Active → DidClaim v seat oid t → Went law v seat (did_claim oid) t
 went_claim law v seat oid t active (calls.before is claimed) =
     went_nowhere law v seat (did_claim oid) t active is (Moves-before law (work_at v seat) oid claimed)
-went_claim law v seat oid t active (calls.now stamp base none few now) =
+went_claim law v seat oid t active (calls.now stamp base none few free newest now) =
     let c : VersionWritten = record { oid = oid; stamp = stamp; base = base; row = base; is_set = false } in
     went_on law v seat (did_claim oid) t (claiming c (work_at v seat)) active now (one_claimed_more c (work_at v seat))
     (Moves-claim law (work_at v seat) oid stamp base none)

@@ -55,18 +55,6 @@ pub data DidRead (v : View) (seat oid : ℕ) (row : List ℕ) (t : View) : Type 
       → length (work_at v seat).reads < READ_LIMIT
       → Works v seat (reading (record { oid = oid; stamp = stamp; row = row }) (work_at v seat)) t → DidRead v seat oid row t
 
--- CLAIM. It was claimed before, or is now, where one more may be claimed, and keeps the row that the claim found.
-pub data DidClaim (v : View) (seat oid : ℕ) (t : View) : Type 0 where
-  before : t ≡ v → is_claimed (work_at v seat).claims oid ≡ true → DidClaim v seat oid t
-  now : (stamp : ℕ) (base : List ℕ) → is_claimed (work_at v seat).claims oid ≡ false → length (work_at v seat).claims < WRITE_LIMIT
-      → Works v seat (claiming (record { oid = oid; stamp = stamp; base = base; row = base; is_set = false }) (work_at v seat)) t → DidClaim v seat oid t
-
--- WRITE. A claim, and then the row is set.
-pub record DidWrite (v : View) (seat oid : ℕ) (row : List ℕ) (t : View) : Type 0 where
-  pub between : View
-  pub claim : DidClaim v seat oid between
-  pub set : Works v seat (setting oid row (work_at between seat)) t
-
 -- FRESH. A new object is made.
 abbrev pub DidMake : View → ℕ → ℕ → View → Type 0
 DidMake v seat oid t = Works v seat (making oid (work_at v seat)) t
@@ -128,6 +116,20 @@ IsUnowned v seat oid = (other number : ℕ) → IsOwned v seat oid other number 
 -- no commit of another session at or above the own begin stamp made a version of the object
 abbrev pub HasNoNewer : View → ℕ → ℕ → Type 0
 HasNoNewer v seat oid = (stamp : ℕ) → IsNewer v seat oid stamp → ⊥
+
+-- CLAIM. It was claimed before, or is now: where one more may be claimed, nobody else in progress has claimed it, and nobody else has
+-- committed a newer version. It keeps the row that the claim found.
+pub data DidClaim (v : View) (seat oid : ℕ) (t : View) : Type 0 where
+  before : t ≡ v → is_claimed (work_at v seat).claims oid ≡ true → DidClaim v seat oid t
+  now : (stamp : ℕ) (base : List ℕ) → is_claimed (work_at v seat).claims oid ≡ false → length (work_at v seat).claims < WRITE_LIMIT
+      → IsUnowned v seat oid → HasNoNewer v seat oid
+      → Works v seat (claiming (record { oid = oid; stamp = stamp; base = base; row = base; is_set = false }) (work_at v seat)) t → DidClaim v seat oid t
+
+-- WRITE. A claim, and then the row is set.
+pub record DidWrite (v : View) (seat oid : ℕ) (row : List ℕ) (t : View) : Type 0 where
+  pub between : View
+  pub claim : DidClaim v seat oid between
+  pub set : Works v seat (setting oid row (work_at between seat)) t
 
 -- A read was refused, and so the object isn't claimed. Where it was read and then excluded, it stays read in the transaction that
 -- has ended.
@@ -196,21 +198,6 @@ pub record DidSeal (v : View) (seat stamp : ℕ) (t : View) : Type 0 where
   pub flushed : t.flushed ≡ v.flushed
   pub pinned : t.pinned ≡ v.pinned
 
--- SETTLE, of a transaction with this stamp. Committed with the definitions' numbers, the window open; or excluded with them, the
--- window closed.
-abbrev pub Settled : View → ℕ → Work → ℕ → Outcome → View → Type 0
-Settled v seat w stamp (Committed r) t = IsDone v seat w (world.commits stamp r.succ r.pred) t
-    × (r.number ≡ w.number) × (r.stamp ≡ stamp) × (r.end ≡ stamp + size_of w)
-    × IsSuccessorStamp (history_of t) (λ u. u.succ) (record_of seat w stamp r.succ r.pred)
-    × IsPredecessorStamp (history_of t) r.pred (record_of seat w stamp r.succ r.pred) × (r.pred < r.succ)
-Settled v seat w stamp (Excluded at succ pred) t = IsDone v seat w (world.excluded stamp succ pred) t
-    × (at ≡ stamp)
-    × IsSuccessorStamp (history_of t) (λ u. u.succ) (record_of seat w stamp succ pred)
-    × IsPredecessorStamp (history_of t) pred (record_of seat w stamp succ pred) × (succ ≤ pred)
-
-abbrev pub DidSettle : View → ℕ → Outcome → View → Type 0
-DidSettle v seat outcome t = (w : Work) × (stamp : ℕ) × ((v.session seat).stand ≡ world.sealed w stamp) × Settled v seat w stamp outcome t
-
 -- another session's transaction, sealed with this stamp below the bound
 pub record IsSealedBelow (v : View) (seat bound other seen : ℕ) (work : Work) : Type 0 where
   pub session : IsSession v other
@@ -242,6 +229,26 @@ IsReadReady v seat bound r = (other seen : ℕ) → MayOverwrite v seat bound r 
 
 abbrev pub IsClaimReady : View → ℕ → ℕ → ℕ → VersionWritten → Type 0
 IsClaimReady v seat bound upto c = (other seen : ℕ) → other < upto → MayHaveRead v seat bound c other seen → ⊥
+
+-- SETTLE, of a transaction with this stamp. Committed with the definitions' numbers, the window open; or excluded with them, the
+-- window closed.
+abbrev pub Settled : View → ℕ → Work → ℕ → Outcome → View → Type 0
+Settled v seat w stamp (Committed r) t = IsDone v seat w (world.commits stamp r.succ r.pred) t
+    × (r.number ≡ w.number) × (r.stamp ≡ stamp) × (r.end ≡ stamp + size_of w)
+    × IsSuccessorStamp (history_of t) (λ u. u.succ) (record_of seat w stamp r.succ r.pred)
+    × IsPredecessorStamp (history_of t) r.pred (record_of seat w stamp r.succ r.pred) × (r.pred < r.succ)
+Settled v seat w stamp (Excluded at succ pred) t = IsDone v seat w (world.excluded stamp succ pred) t
+    × (at ≡ stamp)
+    × IsSuccessorStamp (history_of t) (λ u. u.succ) (record_of seat w stamp succ pred)
+    × IsPredecessorStamp (history_of t) pred (record_of seat w stamp succ pred) × (succ ≤ pred)
+
+-- nobody is in the way: who overwrites a version read, or has read a version overwritten, and is sealed below the stamp, is decided
+abbrev pub AreReady : View → ℕ → Work → ℕ → Type 0
+AreReady v seat w stamp = ((r : VersionRead) → r ∈ w.reads → IsReadReady v seat stamp r)
+    × ((c : VersionWritten) → c ∈ w.claims → IsClaimReady v seat stamp (v.opening.sessions + 1) c)
+
+abbrev pub DidSettle : View → ℕ → Outcome → View → Type 0
+DidSettle v seat outcome t = (w : Work) × (stamp : ℕ) × ((v.session seat).stand ≡ world.sealed w stamp) × AreReady v seat w stamp × Settled v seat w stamp outcome t
 
 -- The transaction waits for this session: the versions read are passed in order, then those overwritten, each with its readers by
 -- ascending seat, and this is the first that isn't ready.

@@ -294,3 +294,14 @@ fn calls_in_turn_are_answered(rt: HostRuntime) -> Result<(), Fail> {
     );
     Ok(())
 }
+
+// The last commit's row of an object, one on which an excluded transaction left nothing, and one that nobody has written.
+#[test]
+fn commits_leave_the_final_rows(rt: HostRuntime) -> Result<(), Fail> {
+    let mut world = world(rt.alloc(), false)?;
+    assert!(rt; is_answered(&mut world, &WRITE_SKEW));
+    assert!(rt; world.row(16)[0] == 3, "the last commit's");
+    assert!(rt; world.row(17)[0] == 2, "not the excluded one's");
+    assert!(rt; world.row(18)[0] == 0, "the opening's");
+    Ok(())
+}

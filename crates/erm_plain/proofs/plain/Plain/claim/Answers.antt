@@ -9,6 +9,7 @@ use Rattle.erm_world.specs.Works.{is_claimed}
 use Rattle.erm_plain.specs.Stands.{plain_view}
 use Rattle.erm_plain.proofs.Exchanges.{claims_count, claims_shown}
 use Rattle.erm_plain.proofs.Quiet.{active_seat}
+use Rattle.erm_plain.proofs.Readings.{where_ok_too}
 use Rattle.erm_plain.proofs.plain.Plain.claim.Goals as goal
 
 pub has_claimed-requires : goal.has_claimed-requires
@@ -86,3 +87,6 @@ returns-clause-ok g c =
 pub returns-clause-err : goal.returns-clause-err
 returns-clause-err g c =
     subst (λ (v : View). IfErr c.claim_entry.result (λ why. DidNotClaim v c.args.seat c.args.oid why (plain_view c.claim_entry.new.self))) c.has_room.ensures.view c.claim_entry.ensures.err
+
+pub returns-clause-open_still : goal.returns-clause-open_still
+returns-clause-open_still g c = where_ok_too _ _ c.claim_entry.result c.claim_entry.ensures.open_still

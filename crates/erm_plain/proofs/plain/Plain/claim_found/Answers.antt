@@ -10,7 +10,7 @@ use Rattle.erm_plain.specs.Finishes.{IsDropped}
 use Rattle.erm_plain.specs.Reads.{IsExcluded}
 use Rattle.erm_plain.specs.Stands.{plain_view}
 use Rattle.erm_plain.specs.Steps.{IsUnseen}
-use Rattle.erm_plain.proofs.Exchanges.{claim_done, claim_excluded, dropped_same, free_current, quiet_claimed, quiet_dropped}
+use Rattle.erm_plain.proofs.Exchanges.{claim_done, claim_excluded, dropped_same, excluded_cells, free_current, quiet_claimed, quiet_dropped}
 use Rattle.erm_plain.proofs.Quiet.{active_seat}
 use Rattle.erm_plain.proofs.Readings.{still_active, still_session}
 use Rattle.erm_plain.proofs.Unowned.{unowned}
@@ -81,13 +81,17 @@ pub returns-in-Ok-clause-ok : goal.returns-in-Ok-clause-ok
 returns-in-Ok-clause-ok g c =
     let sessions = c.args.self.now.sessions in
     let seat = c.args.seat in
+    let before = core_of c.args.self.now.state in
     let between = core_of c.exchange.new.self.state in
     let after = core_of c.finish_claim.new.self.state in
     let unseen = subst (λ n. IsUnseen n seat between after) c.exchange.ensures.sessions (c.finish_claim.ensures.done c.if-not-finish_claim.false) in
     let all : c.finish_claim.new.self.sessions ≡ sessions = c.finish_claim.ensures.sessions ∙ c.exchange.ensures.sessions in
     let shown : plain_view c.finish_claim.new.self ≡ view_of sessions between = ap (λ n. view_of n after) all ∙ unseen.view in
+    let at = active_seat sessions seat before c.requires.stands.quiet c.requires.session c.requires.active in
+    let none : owner_of (before.shared.objects c.args.oid).entry ≡ 0 = ap owner_of c.requires.free.entry_is ∙ c.requires.free.unowned in
     claim_done (plain_view c.args.self.now) (view_of sessions between) (plain_view c.test_early.new.self) seat c.args.oid c.exchange.ensures.exchanged.stamp c.exchange.ensures.exchanged.base
-    c.requires.may c.exchange.ensures.exchanged.shows (c.in-Ok.ensures.ok ∙ shown)
+    c.requires.may (unowned sessions seat c.args.oid before c.requires.stands.sound.sound c.requires.stands.quiet none)
+    (free_current sessions seat c.args.oid c.args.entry before c.requires.stands.sound.sound at.active c.requires.free) c.exchange.ensures.exchanged.shows (c.in-Ok.ensures.ok ∙ shown)
 
 pub returns-in-Err-clause-err : goal.returns-in-Err-clause-err
 returns-in-Err-clause-err g c =
@@ -105,3 +109,6 @@ returns-in-Err-clause-err g c =
     c.exchange.ensures.exchanged.base c.in-Err.why c.requires.may (unowned sessions seat c.args.oid before c.requires.stands.sound.sound c.requires.stands.quiet none)
     (free_current sessions seat c.args.oid c.args.entry before c.requires.stands.sound.sound at.active c.requires.free)
     c.exchange.ensures.exchanged.shows (subst (λ v. IsExcluded v seat (plain_view c.test_early.new.self) c.in-Err.why) shown c.in-Err.ensures.err)
+
+pub returns-in-Err-clause-cells : goal.returns-in-Err-clause-cells
+returns-in-Err-clause-cells g c = excluded_cells (plain_view c.finish_claim.new.self) (plain_view c.test_early.new.self) c.args.seat c.in-Err.why c.in-Err.ensures.err

@@ -3,6 +3,8 @@ use Rattle.erm_machine.specs.declared.event.Counter.TheVariants.{Objects}
 use Rattle.erm_machine.specs.declared.event.Kind.TheVariants as kind
 use Rattle.erm_machine.specs.declared.limits.TheConstants.{OBJECT_LIMIT}
 use Rattle.erm_model.specs.declared.outcome.Phase.TheVariants as phase
+use Rattle.erm_model.specs.declared.row_stop.RowStop.TheVariants.{OidsFull}
+use Rattle.erm_machine.specs.Core.{Core}
 use Rattle.erm_core.specs.declared.need.Need.TheVariants as need
 use Rattle.erm_core.specs.Cores.{core_of}
 use Rattle.erm_core_view.specs.Views.{IsQuiet, view_of}
@@ -125,3 +127,9 @@ returns-clause-ok g c =
     subst (λ (n : ℕ). DidMake (plain_view c.args.self.now) seat c.found-drawn.result (view_of n after)) (sym same)
     (subst (λ (v : View). DidMake v seat c.found-drawn.result (view_of sessions after)) c.has_room.ensures.view
     (subst (λ (n : ℕ). DidMake (view_of sessions before) seat n (view_of sessions after)) (sym drawn) made.1))
+
+pub returns-then-drawn-clause-drawn : goal.returns-then-drawn-clause-drawn
+returns-then-drawn-clause-drawn g c = λ told is.
+    let full : OidsFull c.found-drawn.result ≡ OidsFull told = is in
+    let same : c.found-drawn.result ≡ told = cc in
+    sym same ∙ c.found-drawn.ensures ∙ ap found_in c.go.ensures.answer ∙ ap (λ (d : Core). d.shared.objects_drawn) c.has_room.ensures.core

@@ -23,3 +23,6 @@ returns-clause-stands g c =
 
 pub returns-clause-view : goal.returns-clause-view
 returns-clause-view g c = ap (λ (d : Core). view_of c.args.self.now.sessions d) c.room.ensures.core
+
+pub returns-clause-core : goal.returns-clause-core
+returns-clause-core g c = c.room.ensures.core

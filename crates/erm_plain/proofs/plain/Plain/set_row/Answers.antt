@@ -12,7 +12,7 @@ use Rattle.erm_world.specs.Works.{is_claimed, setting}
 use Rattle.erm_plain.specs.Stands.{plain_view}
 use Rattle.erm_plain.proofs.Exchanges.{claims_shown}
 use Rattle.erm_plain.proofs.Quiet.{active_seat}
-use Rattle.erm_plain.proofs.Stored.{may_write, quiet_stored, store_next, store_run, store_taken, stored_all, stored_shows, storing_first}
+use Rattle.erm_plain.proofs.Stored.{may_write, quiet_stored, store_next, store_run, store_taken, store_window, stored_all, stored_shows, storing_first}
 use Rattle.erm_plain.proofs.Unseen.{others_stay}
 use Rattle.erm_plain.proofs.plain.Plain.set_row.Goals as goal
 
@@ -34,6 +34,7 @@ loop-k-init g c =
       sessions = refl;
       others = λ q other. refl;
       storing = storing_first c.args.seat c.place_claimed-claim.result c.own_cell-cell.result before at here;
+      window = refl;
       runs = refl;
     }
 
@@ -56,6 +57,7 @@ loop-k-preserved g c =
       sessions = c.go.ensures.sessions ∙ inv.sessions;
       others = λ q other. others_stay now after c.args.seat (kind.StoreCell place cell (word.Row k) value) tt c.go.ensures.after q other ∙ inv.others q other;
       storing = store_next c.args.seat place cell k value now inv.storing c.loop-k-test.true after c.go.ensures.after;
+      window = store_window c.args.seat place cell k value now inv.storing c.loop-k-test.true after c.go.ensures.after ∙ inv.window;
       runs = inv.runs ∙ store_run c.args.seat place cell k value now inv.storing c.loop-k-test.true after row c.go.ensures.after (let words : length row ≡ ROW_WORDS = c.requires.all in let low = c.loop-k-test.true in omega (arith, words, low)) refl;
     }
 

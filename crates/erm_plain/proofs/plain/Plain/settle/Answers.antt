@@ -205,6 +205,7 @@ returns-clause-ok g c =
     let did =
     did_settle sessions seat before m now passed.sound.sound unseen (passed.size ∙ flush_size sessions seat before m loaded after) passed.passing.sealed
     (passing_may (now.seats seat).task passed.passing.passing) (core_of c.decide.new.self.state) ended decided left c.leave.ensures.rests c.leave.ensures.sound.sound
+    c.in_ok-pass_versions.ensures.passed
     in
     subst (λ n. DidSettle (plain_view c.args.self.now) seat c.outcome-outcome.result (view_of n ended)) (sym (c.leave.ensures.sessions ∙ two))
     (subst (λ o. DidSettle (view_of sessions before) seat o (view_of sessions ended)) (sym c.outcome-outcome.ensures) did)

@@ -1,4 +1,4 @@
-use Rattle.std.proofs.Common.{ℕ, List, subst}
+use Rattle.std.proofs.Common.{ℕ, List, ◌∙◌, subst}
 use Rattle.erm_world.specs.Calls.{Works}
 use Rattle.erm_world.specs.World.{work_at}
 use Rattle.erm_world.specs.Works.{setting}
@@ -32,3 +32,6 @@ returns-clause-ok g c =
           subst (λ (row : List ℕ). Works v c.args.seat (setting c.args.oid row (work_at between c.args.seat)) t) c.words_of.ensures.same
           (claim_then_set v between t c.args.seat c.args.oid _ c.in_ok-claim.ensures.ok c.set_row.ensures.set);
     }
+
+pub returns-clause-open_still : goal.returns-clause-open_still
+returns-clause-open_still g c = λ none. c.set_row.ensures.window ∙ c.in_ok-claim.ensures.open_still none
