@@ -35,7 +35,7 @@ use Rattle.erm_causes.proofs.Made.{made_by_one, made_done}
 use Rattle.erm_causes.proofs.Operated.{EndsBy, GoesOnBy, Last, Operated, ShutAs}
 use Rattle.erm_causes.proofs.Operated as operated
 use Rattle.erm_causes.proofs.Own.{TreeLaws}
-use Rattle.erm_causes.proofs.Ran.{ran}
+use Rattle.erm_told_limits.proofs.Ran.{ran}
 
 -- LAST. What the last call left besides.
 last_made : (asked : Asked) (w u : Work) → Last asked w u → u.made ≡ w.made

@@ -18,7 +18,7 @@ use Rattle.erm_world.specs.World.{Work}
 use Rattle.erm_maps.proofs.Histories.{work_in}
 use Rattle.erm_causes.specs.Touched.{AreOfTables}
 use Rattle.erm_causes.proofs.Own.{StaysIn}
-use Rattle.erm_causes.proofs.Ran.{AreReading, MovesAll}
+use Rattle.erm_told_limits.proofs.Ran.{AreReading, MovesAll}
 
 -- a transaction leaves each object to its table, on whatever rows it may have begun where each was of its table
 abbrev pub KeepsTables : (ℕ → ℕ) → Work → Type 0

@@ -1,5 +1,5 @@
--- Lines of sessions leave the log's flushed place, and tell none.
-use Rattle.std.proofs.Common.{◌≡◌, ℕ, List, [], ◌∷◌, Option, Some, None, fold, refl, ap, ◌∙◌, subst}
+-- Lines tell the place to which the log is flushed: those of sessions leave it, and tell none.
+use Rattle.std.proofs.Common.{◌≡◌, ℕ, List, [], ◌∷◌, Option, Some, None, fold, refl, sym, ap, ◌∙◌, subst, ⊎_elim}
 use Rattle.erm_model.specs.declared.outcome.Phase.TheVariants.{Active}
 use Rattle.erm_model.specs.RowTransaction.{Event}
 use Rattle.erm_node.specs.Sound.{sound_law}
@@ -14,8 +14,9 @@ use Rattle.erm_good_report.specs.Phases.{FitsRefusal, IsAnswerTo, refusal_of}
 use Rattle.erm_good_report.specs.Refusals.{flushed_told}
 use Rattle.erm_good_report.specs.Transactions.{Said}
 use Rattle.erm_lines.specs.Answers.{DidCommand, DidLine}
-use Rattle.erm_lines.specs.Executions.{IsExecution, line_moves, said_in}
+use Rattle.erm_lines.specs.Executions.{DidLog, DidLogLine, DidMove, IsExecution, line_moves, move_of, said_in}
 use Rattle.erm_lines.specs.Operations.{Ran}
+use Rattle.erm_lines.proofs.Moved.{moved, said_move}
 use Rattle.erm_causes.proofs.Operated.{Operated}
 use Rattle.erm_causes.proofs.Operated as operated
 use Rattle.erm_causes.proofs.Quiet.{Lined, Quiet, lined}
@@ -62,7 +63,7 @@ not_checkpointed : (v t : View) (seat : ℕ) (c : Command) (stamp : ℕ) → IsA
 not_checkpointed v t seat command.Checkpoint stamp fits did = did
 not_checkpointed v t seat c stamp fits did = fits
 
-answers_to : (v : View) (l : ScriptLine) (a : Answer) (t : View) → DidLine v l a t → refusal_of (phase_at v l.session) l.command ≡ None → IsAnswerTo l.command a
+pub answers_to : (v : View) (l : ScriptLine) (a : Answer) (t : View) → DidLine v l a t → refusal_of (phase_at v l.session) l.command ≡ None → IsAnswerTo l.command a
 answers_to v l a t did free = subst (λ (r : Option Answer). FitsRefusal r l.command a) free did.fits
 
 told_kept : (v : View) (l : ScriptLine) (a : Answer) (t : View) (place : ℕ) → DidLine v l a t → flushed_told place a ≡ place
@@ -76,16 +77,29 @@ told_kept v l (answer.Checkpointed p) t place did =
     let it = allowed v l (answer.Checkpointed p) t refl did in absurd (not_checkpointed v t l.session l.command p (answers_to v l (answer.Checkpointed p) t did it.free) it.did)
 told_kept v l a t place did = refl
 
--- lines in turn
-pub lines_flushed : (script : List ScriptLine) (answers : List Answer) (v t : View) → IsExecution v (line_moves script answers) t → t.flushed ≡ v.flushed
-lines_flushed [] answers v t is = ap (λ (x : View). x.flushed) is
-lines_flushed (l ∷ script) [] v t is = ap (λ (x : View). x.flushed) is
-lines_flushed (l ∷ script) (a ∷ answers) v t (u, did, holds, rest) = lines_flushed script answers u t rest ∙ lined_flushed v u l.session l.command a (lined v l a u did)
+-- a line of the log tells where it is flushed then
+logged_told : (v t : View) (c : Command) (a : Answer) (place : ℕ) → DidLog v c a t → flushed_told place a ≡ t.flushed
+logged_told v t command.Flush (answer.Flushed p) place did = sym did.0.up
+logged_told v t command.Flush (answer.Empty p) place did = did.1 ∙ sym (ap (λ (x : View). x.flushed) did.0)
+logged_told v t command.Flush (answer.Unfilled p) place did = did.1 ∙ sym (ap (λ (x : View). x.flushed) did.0)
+logged_told v t command.Checkpoint (answer.Checkpointed p) place did = sym did.0.up
+logged_told v t command.Checkpoint (answer.Unfilled p) place did = sym did.0.up
+logged_told v t c a place did = absurd did
 
-pub lines_told : (script : List ScriptLine) (answers : List Answer) (v t : View) (place : ℕ) → IsExecution v (line_moves script answers) t
-    → fold (λ (at : ℕ) (s : Said). flushed_told at s.answer) place (said_in (line_moves script answers)) ≡ place
-lines_told [] answers v t place is = refl
-lines_told (l ∷ script) [] v t place is = refl
-lines_told (l ∷ script) (a ∷ answers) v t place (u, did, holds, rest) =
-    ap (λ (n : ℕ). fold (λ (at : ℕ) (s : Said). flushed_told at s.answer) n (said_in (line_moves script answers))) (told_kept v l a u place did)
-    ∙ lines_told script answers u t place rest
+move_told : (v : View) (l : ScriptLine) (a : Answer) (t : View) → DidMove v (move_of l a) t → flushed_told v.flushed a ≡ t.flushed
+move_told v l a t did =
+    ⊎_elim (λ (of_session : DidLine v l a t). told_kept v l a t v.flushed of_session ∙ sym (lined_flushed v t l.session l.command a (lined v l a t of_session)))
+    (λ (of_log : DidLogLine v l a t). logged_told v t l.command a v.flushed of_log.did)
+    (moved v l a t did)
+
+-- lines in turn
+abbrev told_from : ℕ → List Said → ℕ
+told_from place said = fold (λ (at : ℕ) (s : Said). flushed_told at s.answer) place said
+
+pub lines_told : (script : List ScriptLine) (answers : List Answer) (v t : View) → IsExecution v (line_moves script answers) t → told_from v.flushed (said_in (line_moves script answers)) ≡ t.flushed
+lines_told [] answers v t is = sym (ap (λ (x : View). x.flushed) is)
+lines_told (l ∷ script) [] v t is = sym (ap (λ (x : View). x.flushed) is)
+lines_told (l ∷ script) (a ∷ answers) v t (u, did, holds, rest) =
+    ap (λ (said : List Said). told_from v.flushed said) (said_move l a (line_moves script answers))
+    ∙ ap (λ (n : ℕ). told_from n (said_in (line_moves script answers))) (move_told v l a u did)
+    ∙ lines_told script answers u t rest

@@ -6,13 +6,14 @@ pub mod Coloured
 pub mod Fine
 pub mod Flushed
 pub mod Lines
+pub mod Logged
 pub mod Made
 pub mod Moments
 pub mod Moves
 pub mod Operated
 pub mod Own
+pub mod Placed
 pub mod Quiet
-pub mod Ran
 pub mod Refused
 pub mod Refusals
 pub mod Runs

@@ -31,7 +31,7 @@ use Rattle.erm_causes.proofs.Coloured.{AskedOf, KeepsTables, after_events, agree
 use Rattle.erm_causes.proofs.Fine.{FineNow, Turned, names_more, still_session, writes_more}
 use Rattle.erm_causes.proofs.Made.{made_by_one, made_within}
 use Rattle.erm_causes.proofs.Own.{StaysIn, TreeLaws, asks_stay, asks_write, front_stays, front_writes, table_below, whole_stays, whole_writes}
-use Rattle.erm_causes.proofs.Ran.{MovesAll, Stays, ran}
+use Rattle.erm_told_limits.proofs.Ran.{MovesAll, Stays, ran}
 
 -- LINES. A line that names a table is one of its transaction's, behind the earlier ones.
 pub line_in : (c : Command) (a : Answer) (t : Transaction) (k : ℕ) → table_of c ≡ Some k → record { asked = c; answer = a } ∈ (with_line (Some c) a t).lines

@@ -7,11 +7,11 @@ use Rattle.erm_world.specs.Laws.{IsSerializable}
 use Rattle.erm_world.specs.World.{IsCurrent, IsSession, Session, Stand, View, Work, made_by_all, phase_at, work_of}
 use Rattle.erm_world.specs.World as world
 use Rattle.erm_good_report.specs.Transactions.{Transaction, table_of}
-use Rattle.erm_lines.specs.Answers.{DidLine}
-use Rattle.erm_lines.specs.Executions.{IsExecution, Move, line_moves}
+use Rattle.erm_lines.specs.Executions.{DidMove, IsExecution, Move, line_moves, move_of}
 use Rattle.erm_lines.specs.Told.{TellsCurrent, TellsNow}
 use Rattle.erm_causes.specs.Touched.{Touches}
 use Rattle.erm_causes.proofs.Fine.{FineNow}
+use Rattle.erm_causes.proofs.Moves.{move_table}
 use Rattle.erm_causes.proofs.Tables.{AreRight}
 
 -- A line of an execution: the worlds before and behind it, and the table of what it made.
@@ -19,7 +19,7 @@ pub record AtMoment (table : ℕ → ℕ) (v t : View) (script : List ScriptLine
   pub before : View
   pub after : View
   pub start : IsExecution v (line_moves (take i script) (take i answers)) before
-  pub did : DidLine before l a after
+  pub did : DidMove before (move_of l a) after
   pub holds : IsSerializable sound_law after
   pub rest : List Move
   pub goes : IsExecution after rest t
@@ -43,12 +43,12 @@ at_moment table (k ∷ script) (b ∷ answers) more v t zero l a (u, did, holds,
       before = v;
       after = u;
       start = refl;
-      did = subst (λ (x : ScriptLine). DidLine v x a u) line_is (subst (λ (x : Answer). DidLine v k x u) answer_is did);
+      did = subst (λ (x : ScriptLine). DidMove v (move_of x a) u) line_is (subst (λ (x : Answer). DidMove v (move_of k x) u) answer_is did);
       holds = holds;
       rest = line_moves script answers ++ more;
       goes = rest;
       right_first = tt;
-      right_here = λ n names. right.0 n (ap (λ (x : ScriptLine). table_of x.command) line_is ∙ names);
+      right_here = λ n names. right.0 n (move_table k b ∙ ap (λ (x : ScriptLine). table_of x.command) line_is ∙ names);
     }
 at_moment table (k ∷ script) (b ∷ answers) more v t (suc i) l a (u, did, holds, rest) right at answered =
     let there = at_moment table script answers more u t i l a rest right.1 at answered in record {

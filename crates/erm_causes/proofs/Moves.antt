@@ -1,5 +1,5 @@
 -- Each move of an execution leaves all sessions so that their transactions touch objects of their lines' tables alone.
-use Rattle.std.proofs.Common.{◌≡◌, ◌≢◌, ℕ, zero, suc, ◌<◌, ◌≤◌, ◌==◌, cond, List, [], ◌∷◌, ◌++◌, Option, Some, None, append-nil, inl, inr, refl, sym, ap, ◌∙◌, subst, arith}
+use Rattle.std.proofs.Common.{◌≡◌, ◌≢◌, ℕ, zero, suc, ◌<◌, ◌≤◌, ◌==◌, cond, List, [], ◌∷◌, ◌++◌, Option, Some, None, append-nil, inl, inr, refl, sym, ap, ◌∙◌, subst, ne_eqb, arith}
 use Rattle.std.specs.Option.{option_map, option_to_list}
 use Rattle.std.proofs.lemmas.Bool.Decides.{eqb_tells}
 use Rattle.erm_model.specs.declared.history.TransactionRecord.{TransactionRecord}
@@ -16,9 +16,12 @@ use Rattle.erm_world.proofs.Commits.{tells_commits}
 use Rattle.erm_maps.specs.Runs.{IsRunOf}
 use Rattle.erm_report.specs.declared.answer.Answer.{Answer}
 use Rattle.erm_script.specs.declared.script.Command.{Command}
+use Rattle.erm_script.specs.declared.script.Command.TheVariants as command
+use Rattle.erm_script.specs.declared.script.ScriptLine.{ScriptLine}
 use Rattle.erm_script.specs.Script.{IsInRange}
 use Rattle.erm_good_report.specs.Transactions.{Ending, Progress, Transaction, ended, heard, table_of, with_ending}
-use Rattle.erm_lines.specs.Executions.{DidFlush, DidMove, Move, close, flush, line}
+use Rattle.erm_lines.specs.Executions.{DidFlush, DidMove, Move, close, flush, line, log, move_as, move_of}
+use Rattle.erm_lines.proofs.Moved.{log_flushes, log_of_none}
 use Rattle.erm_causes.specs.Touched.{AreOfTables, Touches, WasClosed}
 use Rattle.erm_causes.proofs.Answered.{done_turned, now_active, operated_fine, operated_made, operated_turned}
 use Rattle.erm_causes.proofs.Begun.{CommitsKeep, HistoryLaws}
@@ -165,6 +168,7 @@ heard_one seat asked a p q = cond (seat == q) (heard q asked a (p q)) (p q)
 
 abbrev pub heard_move : Move → (ℕ → Progress) → ℕ → Progress
 heard_move (line l a) p = heard_one l.session (Some l.command) a p
+heard_move (log l a) p = heard_one l.session (Some l.command) a p
 heard_move (close seat a) p = heard_one seat None a p
 heard_move flush p = p
 
@@ -229,6 +233,7 @@ lined_made v t seat c a session (quiet.named k names active did) x = operated_ma
 
 pub move_made : (v : View) (m : Move) (t : View) → DidMove v m t → (x : ℕ) → made_by_all v x ≤ made_by_all t x
 move_made v (line l a) t did x = lined_made v t l.session l.command a did.session (lined v l a t did) x
+move_made v (log l a) t did x = omega (arith, flushed_made v t (log_flushes v t l a did) x)
 move_made v (close seat a) t did x = omega (arith, quiet_made v seat None a t did.session (closed_quiet v seat a t did) x)
 move_made v flush t did x = omega (arith, flushed_made v t did x)
 
@@ -240,19 +245,39 @@ lined_turned v t seat c a (quiet.named k names active did) = operated_turned v t
 
 pub move_opening : (v : View) (m : Move) (t : View) → DidMove v m t → t.opening ≡ v.opening
 move_opening v (line l a) t did = (lined_turned v t l.session l.command a (lined v l a t did)).opening
+move_opening v (log l a) t did = (log_flushes v t l a did).opening
 move_opening v (close seat a) t did = (quiet_turned v seat None a t (closed_quiet v seat a t did)).opening
 move_opening v flush t did = did.opening
 
 -- the table that a move names
 abbrev pub table_in : Move → Option ℕ
 table_in (line l a) = table_of l.command
+table_in (log l a) = table_of l.command
 table_in (close seat a) = None
 table_in flush = None
 
 abbrev pub IsMoveInRange : Move → Type 0
 IsMoveInRange (line l a) = IsInRange l.command
+IsMoveInRange (log l a) = IsInRange l.command
 IsMoveInRange (close seat a) = Unit {0}
 IsMoveInRange flush = Unit {0}
+
+-- a line's move is of its command's table, and in its range
+pub move_table : (l : ScriptLine) (a : Answer) → table_in (move_of l a) ≡ table_of l.command
+move_table l a = by l.command
+  where
+    by : (c : Command) → table_in (move_as c l a) ≡ table_of l.command
+    by command.Flush = refl
+    by command.Checkpoint = refl
+    by c = refl
+
+pub move_range : (l : ScriptLine) (a : Answer) → IsInRange l.command → IsMoveInRange (move_of l a)
+move_range l a range = by l.command
+  where
+    by : (c : Command) → IsMoveInRange (move_as c l a)
+    by command.Flush = range
+    by command.Checkpoint = range
+    by c = range
 
 module _ (tree : TreeLaws) (laws : HistoryLaws) (run : (number begin : ℕ) → IsRunOf (world.begun number begin) []) (table : ℕ → ℕ) (p : ℕ → Progress) (v t : View)
     (holds : IsSerializable sound_law t) (opened : AreOfTables table t.opening.rows) (fine : AllFine table p v) where
@@ -264,21 +289,29 @@ module _ (tree : TreeLaws) (laws : HistoryLaws) (run : (number begin : ℕ) → 
   lined_fine seat c a session range made (quiet.named k names active did) =
       operated_fine tree laws table v t seat c a k session active names range holds opened (all_keep table p v fine) (made k names) (p seat) (fine seat session) did
 
+  flushed_fine : DidFlush v t → AllFine table p t
+  flushed_fine did q session =
+      let before = session_before v t q did.opening session in
+      subst (λ (s : Session). IsFine table (history_of t) (p q) s) (sym (did.session q before))
+      (other_fine table (history_of v) (history_of t) (p q) (v.session q) (flushed_history v t did) (fine q before))
+
   pub move_fine : (m : Move) → DidMove v m t → IsMoveInRange m → ((k : ℕ) → table_in m ≡ Some k → (x : ℕ) → made_by_all v x < made_by_all t x → table x ≡ k)
       → AllFine table (heard_move m p) t
   move_fine (line l a) did range made =
       let it = lined v l a t did in
       all_turned table p v t l.session (Some l.command) a (lined_turned v t l.session l.command a it) fine (lined_fine l.session l.command a did.session range made it)
+  move_fine (log l a) did range made = λ q session.
+      let another : l.session ≢ q = log_of_none v t l a q did session.0 in
+      subst (λ (r : Progress). IsFine table (history_of t) r (t.session q)) (ap (λ b. cond b (heard q (Some l.command) a (p q)) (p q)) (sym (ne_eqb l.session q another)))
+      (flushed_fine (log_flushes v t l a did) q session)
   move_fine (close seat a) did range made =
       let it = closed_quiet v seat a t did in
       all_turned table p v t seat None a (quiet_turned v seat None a t it) fine (quiet_fine table run v seat None a t (p seat) holds it (fine seat did.session))
-  move_fine flush did range made = λ q session.
-      let before = session_before v t q did.opening session in
-      subst (λ (s : Session). IsFine table (history_of t) (p q) s) (sym (did.session q before))
-      (other_fine table (history_of v) (history_of t) (p q) (v.session q) (flushed_history v t did) (fine q before))
+  move_fine flush did range made = flushed_fine did
 
 -- what was committed stays so
 pub move_history : (v : View) (m : Move) (t : View) → DidMove v m t → (r : TransactionRecord) → r ∈ history_of v → r ∈ history_of t
 move_history v (line l a) t did r within = history_grows v t l.session (lined_turned v t l.session l.command a (lined v l a t did)) r within
+move_history v (log l a) t did r within = flushed_history v t (log_flushes v t l a did) r within
 move_history v (close seat a) t did r within = history_grows v t seat (quiet_turned v seat None a t (closed_quiet v seat a t did)) r within
 move_history v flush t did r within = flushed_history v t did r within

@@ -20,7 +20,7 @@ use Rattle.erm_script.specs.declared.script.Command.{Command}
 use Rattle.erm_good_report.specs.Transactions.{Aborts, Ending, Excludes, Progress, ended, goes_on, heard}
 use Rattle.erm_lines.specs.Answers.{DidOperation, WasRefusedAs, stop_told}
 use Rattle.erm_lines.specs.Operations.{AsksOf, DidCalls, FrontOf, WereCutOff, WholeOf}
-use Rattle.erm_causes.proofs.Ran.{ran}
+use Rattle.erm_told_limits.proofs.Ran.{ran}
 
 -- what the last call left of the work besides, where its refusal ended the transaction
 pub data Last (asked : Asked) (w u : Work) : Type 0 where

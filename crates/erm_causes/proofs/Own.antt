@@ -22,7 +22,7 @@ use Rattle.erm_script.specs.declared.script.Command.TheVariants as command
 use Rattle.erm_script.specs.Script.{IsInRange}
 use Rattle.erm_good_report.specs.Transactions.{is_writer, table_of}
 use Rattle.erm_lines.specs.Operations.{AsksOf, FrontOf, IsMetByScan, ReadsOnly, WholeOf}
-use Rattle.erm_causes.proofs.Ran.{AreReading}
+use Rattle.erm_told_limits.proofs.Ran.{AreReading}
 
 -- What the tree's laws say of its calls.
 pub record TreeLaws : Type 0 where

@@ -19,12 +19,13 @@ use Rattle.erm_script.specs.declared.script.Command.TheVariants as command
 use Rattle.erm_script.specs.declared.script.ScriptLine.{ScriptLine}
 use Rattle.erm_good_report.specs.Phases.{Closes, FitsRefusal, phase_asked, refusal_for, refusal_of}
 use Rattle.erm_good_report.specs.Transactions.{Aborts, Commits, Ending, Excludes, Progress, Transaction, begun, ended, goes_on, heard, table_of, with_line, with_seal}
-use Rattle.erm_lines.specs.Answers.{DidAsked, DidClose, DidCommand, DidDecide, DidLine, DidOperation}
+use Rattle.erm_lines.specs.Answers.{DidAskDurable, DidAsked, DidClose, DidCommand, DidDecide, DidLine, DidOperation}
 use Rattle.erm_lines.specs.Executions.{DidEnd}
+use Rattle.erm_lines.proofs.Moved.{asked_still}
 use Rattle.erm_causes.specs.Touched.{IsClosedBy, WasClosed}
 use Rattle.erm_causes.proofs.Fine.{still_session}
 use Rattle.erm_causes.proofs.Operated.{Operated, operated}
-use Rattle.erm_causes.proofs.Ran.{active_with}
+use Rattle.erm_told_limits.proofs.Ran.{active_with}
 
 -- a line that names no table, or no line
 abbrev pub NamesNone : Option Command → Type 0
@@ -129,9 +130,9 @@ module _ (v t : View) (seat : ℕ) (w : Work) (stamp succ pred : ℕ) (session :
 
 -- DECIDED.
 pub decided : (v t : View) (seat : ℕ) (asked : Option Command) (a : Answer) → IsSession v seat → NamesNone asked → DidDecide v seat a t → Quiet v seat asked a t
-decided v t seat asked (answer.Committed stamp succ pred) session none (r, at, is_succ, is_pred, (w, own, stand, settled)) =
+decided v t seat asked (answer.Committed stamp succ pred) session none (r, at, is_succ, is_pred, (w, own, stand, ready, settled)) =
     done w (world.commits own r.succ r.pred) (Commits stamp succ pred) (inr (own, stand)) settled.0 (λ holds. tt) (λ q p. refl)
-decided v t seat asked (answer.Excluded stamp succ pred) session none (w, own, stand, settled) =
+decided v t seat asked (answer.Excluded stamp succ pred) session none (w, own, stand, ready, settled) =
     done w (world.excluded own succ pred) (Excludes (Some stamp) succ pred) (inr (own, stand)) settled.0
     (λ holds. subst (λ (n : ℕ). IsClosedBy (history_of t) w (Some n) succ pred) (sym settled.1) (excluded_closed v t seat w own succ pred session settled.0 settled.2 settled.3 settled.4 holds))
     (λ q p. refl)
@@ -202,6 +203,12 @@ module _ (v t : View) (seat : ℕ) (session : IsSession v seat) where
   named_line : (c : Command) (a : Answer) (k : ℕ) → table_of c ≡ Some k → phase_at v seat ≡ Active → DidOperation v seat c a t → Lined v seat c a t
   named_line c a k names active did = named k names active (operated v t seat c active a did)
 
+  durable_heard : (a : Answer) → DidAskDurable v seat a t → StillBy (Some command.Durable) a
+  durable_heard (answer.Durable stamp) did = λ q p. same_goes_on (Some command.Durable) (answer.Durable stamp) p refl
+  durable_heard (answer.NotFlushed flushed) did = λ q p. same_goes_on (Some command.Durable) (answer.NotFlushed flushed) p refl
+  durable_heard answer.NoReceipt did = λ q p. same_goes_on (Some command.Durable) answer.NoReceipt p refl
+  durable_heard a did = absurd did
+
   commanded : (c : Command) (a : Answer) → refusal_of (phase_at v seat) c ≡ None → DidCommand v seat c a t → Lined v seat c a t
   commanded command.Begin a free did = begun_line a free did
   commanded command.Seal a free did = sealed_line a free did
@@ -214,7 +221,7 @@ module _ (v t : View) (seat : ℕ) (session : IsSession v seat) where
   commanded (command.Next k from) a free did = named_line (command.Next k from) a k refl (wants_active (phase_at v seat) free) did
   commanded (command.Scan k low high) a free did = named_line (command.Scan k low high) a k refl (wants_active (phase_at v seat) free) did
   commanded (command.Tidy k key) a free did = named_line (command.Tidy k key) a k refl (wants_active (phase_at v seat) free) did
-  commanded command.Durable a free did = absurd did
+  commanded command.Durable a free did = quiet (still (asked_still v t seat a did) (durable_heard a did))
   commanded command.Flush a free did = absurd did
   commanded command.Checkpoint a free did = absurd did
 

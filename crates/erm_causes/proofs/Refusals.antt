@@ -40,7 +40,7 @@ use Rattle.erm_causes.proofs.Operated.{Last, Shut, excluded_done, newer_done, ow
 use Rattle.erm_causes.proofs.Operated as operated
 use Rattle.erm_causes.proofs.Own.{TreeLaws}
 use Rattle.erm_causes.proofs.Quiet.{same_line, wants_active}
-use Rattle.erm_causes.proofs.Ran.{active_with, ran}
+use Rattle.erm_told_limits.proofs.Ran.{active_with, ran}
 use Rattle.erm_causes.proofs.Waits.{Waited, excluded_named, named_active, newer_named, none_for_ring, owned_named, waited_ring, waited_seat}
 use Rattle.erm_causes.proofs.Waits as waits
 use Rattle.erm_causes.proofs.Refused.{Known, KnowsStamps, newer_by, owned_by, waits_to_read, waits_to_settle}

@@ -23,7 +23,7 @@ use Rattle.erm_causes.proofs.Beside.{ToldCommit, claimed_at, read_at, writes_nam
 use Rattle.erm_causes.proofs.Fine.{FineNow, names_more}
 use Rattle.erm_causes.proofs.Lines.{lines_before}
 use Rattle.erm_causes.proofs.Moments.{NowTold, current_of_sealed, now_told}
-use Rattle.erm_causes.proofs.Ran.{Stays}
+use Rattle.erm_told_limits.proofs.Ran.{Stays}
 
 -- What is told at a moment of a world's sessions.
 pub record Known (table : ℕ → ℕ) (m : Moment) (v : View) : Type 0 where

@@ -12,7 +12,7 @@ use Rattle.erm_maps.specs.Runs.{IsRunOf}
 use Rattle.erm_good_report.specs.GoodReport.{places_of}
 use Rattle.erm_good_report.specs.Phases.{Closed}
 use Rattle.erm_good_report.specs.Transactions.{Progress, Said, nothing, progress_of, said_of}
-use Rattle.erm_lines.specs.Executions.{AreClosed, IsExecution, IsLast, IsRun, Move, close, closed_in, flush, line, line_moves, said_in}
+use Rattle.erm_lines.specs.Executions.{AreClosed, IsExecution, IsLast, IsRun, Move, close, closed_in, flush, line, line_moves, log, said_in}
 use Rattle.erm_told.proofs.Closing.{AreLast, are_last, close_said, closed_once, closes_said, heard_alike}
 use Rattle.erm_told.proofs.Executed.{hears}
 use Rattle.erm_told.proofs.Pairs.{Pairs, all_of, pairs_of}
@@ -22,6 +22,7 @@ use Rattle.erm_causes.specs.Laws.{RunsTouchTables}
 use Rattle.erm_causes.specs.Touched.{TouchesAll}
 use Rattle.erm_causes.proofs.Begun.{HistoryLaws}
 use Rattle.erm_causes.proofs.Fine.{fine_touches, still_session}
+use Rattle.erm_causes.proofs.Moves.{move_range}
 use Rattle.erm_causes.proofs.Own.{TreeLaws}
 use Rattle.erm_causes.proofs.Tables.{AreMovesInRange, TableOf, heard_moves, heard_said, opened_fine, run_fine, run_opening, table_of_run}
 
@@ -34,11 +35,12 @@ pub lines_range : (script : List ScriptLine) (answers : List Answer) (more : Lis
 lines_range [] answers more range then_range = then_range
 lines_range (l ∷ script) [] more range then_range = then_range
 lines_range (l ∷ script) (a ∷ answers) more range then_range =
-    (range l (∈-head l script), lines_range script answers more (λ k within. range k (∈-behind l script k within)) then_range)
+    (move_range l a (range l (∈-head l script)), lines_range script answers more (λ k within. range k (∈-behind l script k within)) then_range)
 
 last_range : (moves : List Move) → AreLast moves → AreMovesInRange moves
 last_range [] last = tt
 last_range (line l a ∷ moves) last = absurd last.0
+last_range (log l a ∷ moves) last = absurd last.0
 last_range (close seat a ∷ moves) last = (tt, last_range moves last.1)
 last_range (flush ∷ moves) last = (tt, last_range moves last.1)
 

@@ -1,5 +1,5 @@
 -- At each line of a run what is told shows the cause of its refusal.
-use Rattle.std.proofs.Common.{◌≡◌, ℕ, zero, suc, ◌+◌, ◌<◌, ◌≤◌, List, [], ◌∷◌, ◌++◌, Some, None, take, slice_get, length, sum_by, min, fold, refl, sym, ap, ◌∙◌, subst}
+use Rattle.std.proofs.Common.{◌≡◌, ℕ, zero, suc, ◌+◌, ◌<◌, ◌≤◌, List, [], ◌∷◌, ◌++◌, Some, None, take, slice_get, length, sum_by, min, fold, refl, sym, ap, ◌∙◌, subst, ⊎_elim}
 use Rattle.erm_model.specs.declared.history.TransactionRecord.{TransactionRecord}
 use Rattle.erm_model.specs.declared.limits.TheConstants.{LEAST_BLOCK, WRITE_LIMIT}
 use Rattle.erm_model.specs.Member.{◌∈◌}
@@ -9,6 +9,7 @@ use Rattle.erm_node.specs.Sound.{sound_law}
 use Rattle.erm_report.specs.declared.answer.Answer.{Answer}
 use Rattle.erm_report.specs.declared.answer.Answer.TheVariants as answer
 use Rattle.erm_script.specs.declared.script.Command.{Command}
+use Rattle.erm_script.specs.declared.script.Command.TheVariants as command
 use Rattle.erm_script.specs.declared.script.ScriptLine.{ScriptLine}
 use Rattle.erm_script.specs.Script.{IsInRange}
 use Rattle.erm_world.specs.Laws.{IsSerializable}
@@ -19,23 +20,25 @@ use Rattle.erm_good_report.specs.GoodReport.{places_of}
 use Rattle.erm_good_report.specs.Opening.{InTurn, Opening}
 use Rattle.erm_good_report.specs.Phases.{Closed, refusal_in, refusal_of}
 use Rattle.erm_good_report.specs.Phases as report
-use Rattle.erm_good_report.specs.Refusals.{HasRefusalCause, Moment, claims_of, current_of, flushed_at, flushed_told, moment_at}
+use Rattle.erm_good_report.specs.Refusals.{HasLogCause, HasRefusalCause, HasUnfilledCause, Moment, claims_of, current_of, flushed_at, flushed_told, moment_at}
 use Rattle.erm_good_report.specs.Transactions.{Progress, Said, Transaction, nothing, progress_of, said_of, table_of, transactions_of, with_line}
-use Rattle.erm_lines.specs.Executions.{AreClosed, IsExecution, IsOpeningOf, IsRun, Move, line, line_moves}
+use Rattle.erm_lines.specs.Answers.{DidLine}
+use Rattle.erm_lines.specs.Executions.{AreClosed, DidLog, DidLogLine, IsExecution, IsOpeningOf, IsRun, Move, line_moves, move_of, said_in}
+use Rattle.erm_lines.proofs.Moved.{moved}
 use Rattle.erm_lines.specs.Laws.{ExecutionsGoOn, ExecutionsTell, RunsRefuseWithCause}
 use Rattle.erm_lines.specs.Told.{Tells}
 use Rattle.erm_told.proofs.Ended.{at_end, end_tells, opening_is, stamp_later}
 use Rattle.erm_told.proofs.Runs.{said_first, said_lines}
-use Rattle.erm_told_limits.specs.Limits.{ClaimsAreFew, FullHasCause, IsFull, LogHasCause}
-use Rattle.erm_causes.specs.Laws.{IsForOthers, RefusesForOthers, RunsRefuseForOthers}
+use Rattle.erm_told_limits.specs.Limits.{ClaimsAreFew, EndHasCause, FullHasCause, IsEnd, IsFull}
+use Rattle.erm_causes.specs.Laws.{IsForOthers, IsOfLog, RefusesForOthers, RunsRefuseForOthers, RunsTellLog}
 use Rattle.erm_causes.specs.Touched.{AreOfTables}
 use Rattle.erm_causes.proofs.Begun.{HistoryLaws}
 use Rattle.erm_causes.proofs.Beside.{ToldCommit}
 use Rattle.erm_causes.proofs.Causes.{commit_told}
 use Rattle.erm_causes.proofs.Fine.{IsFine, still_session}
-use Rattle.erm_causes.proofs.Flushed.{lines_flushed, lines_told}
+use Rattle.erm_causes.proofs.Flushed.{lines_told}
 use Rattle.erm_causes.proofs.Moments.{AtMoment, at_moment}
-use Rattle.erm_causes.proofs.Moves.{AllFine, move_opening, session_before}
+use Rattle.erm_causes.proofs.Moves.{AllFine, move_opening, move_range, session_before}
 use Rattle.erm_causes.proofs.Own.{TreeLaws}
 use Rattle.erm_causes.proofs.Refusals.{excluded_cause, newer_cause, owned_cause, wait_ring, wait_seat}
 use Rattle.erm_causes.proofs.Refused.{Known, KnowsStamps}
@@ -48,7 +51,16 @@ first_range : (script : List ScriptLine) (answers : List Answer) (i : ℕ) → A
 first_range script answers zero range = tt
 first_range [] answers (suc i) range = tt
 first_range (l ∷ script) [] (suc i) range = tt
-first_range (l ∷ script) (a ∷ answers) (suc i) range = (range l (∈-head l script), first_range script answers i (λ k within. range k (∈-behind l script k within)))
+first_range (l ∷ script) (a ∷ answers) (suc i) range = (move_range l a (range l (∈-head l script)), first_range script answers i (λ k within. range k (∈-behind l script k within)))
+
+-- no line of the log is refused for others
+not_logged : (v t : View) (c : Command) (a : Answer) → IsForOthers a → DidLog v c a t → ⊥
+not_logged v t command.Flush (answer.Flushed place) for did = for
+not_logged v t command.Flush (answer.Empty place) for did = for
+not_logged v t command.Flush (answer.Unfilled place) for did = for
+not_logged v t command.Checkpoint (answer.Checkpointed place) for did = for
+not_logged v t command.Checkpoint (answer.Unfilled place) for did = for
+not_logged v t c a for did = did
 
 -- What is at hand at a line.
 pub record Ready (table : ℕ → ℕ) (m : Moment) (c : Command) (a : Answer) (before after : View) : Type 0 where
@@ -99,7 +111,7 @@ module _ (tree : TreeLaws) (laws : HistoryLaws) (begun : (number begin : ℕ) �
     opening_before = run_opening first v here.before here.start
 
     opening_after : here.after.opening ≡ v.opening
-    opening_after = move_opening here.before (line l a) here.after here.did ∙ opening_before
+    opening_after = move_opening here.before (move_of l a) here.after here.did ∙ opening_before
 
     told_there : (q : ℕ) → IsSession here.before q → Tells q (progress_of q m.before) (here.before.session q) × (report.phase_of q m.before ≡ phase_at here.before q)
     told_there q session =
@@ -114,24 +126,22 @@ module _ (tree : TreeLaws) (laws : HistoryLaws) (begun : (number begin : ℕ) �
         (heard_said first (λ p. nothing) q ∙ ap (λ (said : List Said). progress_of q said) (said_first i script answers)) fine
 
     -- its own transaction has claimed no more objects than it may
-    few_there : (u : Transaction) → current_of m l.session ≡ Some u → length (work_at here.before l.session).claims ≤ min WRITE_LIMIT (sum_by (λ e. claims_of e.asked) u.lines)
-    few_there u current =
+    few_there : DidLine here.before l a here.after → (u : Transaction) → current_of m l.session ≡ Some u → length (work_at here.before l.session).claims ≤ min WRITE_LIMIT (sum_by (λ e. claims_of e.asked) u.lines)
+    few_there did u current =
         let said : said_of (take i script) (take i answers) ≡ m.before = sym (said_lines (take i script) (take i answers)) ∙ said_first i script answers in
-        few v here.before (take i script) (take i answers) run.opened here.start l.session u here.did.session
+        few v here.before (take i script) (take i answers) run.opened here.start l.session u did.session
         (ap (λ (list : List Said). (progress_of l.session list).current) said ∙ current)
 
     -- and the log is flushed where the lines tell it
     flushed_there : here.before.flushed ≡ flushed_at m
     flushed_there =
-        lines_flushed (take i script) (take i answers) v here.before here.start
-        ∙ run.opened.flushed
-        ∙ starts.stamp
-        ∙ sym (ap (λ (said : List Said). fold (λ (place : ℕ) (s : Said). flushed_told place s.answer) (opening.stamp + LEAST_BLOCK) said) (sym (said_first i script answers))
-        ∙ lines_told (take i script) (take i answers) v here.before (opening.stamp + LEAST_BLOCK) here.start)
+        sym (ap (λ (said : List Said). fold (λ (place : ℕ) (s : Said). flushed_told place s.answer) (opening.stamp + LEAST_BLOCK) said) (sym (said_first i script answers))
+        ∙ ap (λ (place : ℕ). fold (λ (at : ℕ) (s : Said). flushed_told at s.answer) place (said_in first)) (sym (run.opened.flushed ∙ starts.stamp))
+        ∙ lines_told (take i script) (take i answers) v here.before here.start)
 
-    ready : refusal_in a ≡ None → Ready of.table m l.command a here.before here.after
-    ready none = record {
-      session = here.did.session;
+    ready : DidLine here.before l a here.after → refusal_in a ≡ None → Ready of.table m l.command a here.before here.after
+    ready did none = record {
+      session = did.session;
       range = run.ranges l (i, at);
       holds = here.holds;
       opened = subst (λ (o : world.Opening). AreOfTables of.table o.rows) (sym opening_after) of.opened;
@@ -142,43 +152,55 @@ module _ (tree : TreeLaws) (laws : HistoryLaws) (begun : (number begin : ℕ) �
         phase = λ q session. (told_there q session).1;
         fine = λ q session. (fine_there q session).now;
       };
-      stamps = stamps_at m here.before (line l a ∷ here.rest) refl opening_before (here.after, here.did, here.holds, here.goes);
+      stamps = stamps_at m here.before (move_of l a ∷ here.rest) refl opening_before (here.after, here.did, here.holds, here.goes);
       stamps_after = stamps_at m here.after here.rest refl opening_after here.goes;
       commits = λ u within. commit_at u (run_history here.rest here.after t here.goes u within);
-      allows = allowed here.before l a here.after none here.did;
+      allows = allowed here.before l a here.after none did;
     }
+
+    -- no line of the log is refused for others
+    of_session : IsForOthers a → DidLine here.before l a here.after
+    of_session for =
+        ⊎_elim (λ (did : DidLine here.before l a here.after). did)
+        (λ (did : DidLogLine here.before l a here.after). absurd (not_logged here.before here.after l.command a for did.did))
+        (moved here.before l a here.after here.did)
 
   -- one that was refused for what another session does
   cause_of : (i : ℕ) (l : ScriptLine) (a : Answer) → slice_get script i ≡ Some l → slice_get answers i ≡ Some a → IsForOthers a → (u : Transaction)
       → current_of (moment_at InTurn opening script answers all i l) l.session ≡ Some u
       → HasRefusalCause (moment_at InTurn opening script answers all i l) l.command (with_line (Some l.command) a u) a
   cause_of i l (answer.WaitSeat other seen) at answered for u current =
-      let it = ready i l (answer.WaitSeat other seen) at answered refl in
+      let did = of_session i l (answer.WaitSeat other seen) at answered for in
+      let it = ready i l (answer.WaitSeat other seen) at answered did refl in
       let there = here i l (answer.WaitSeat other seen) at answered in (
         refl,
         wait_seat tree laws of.table (moment_at InTurn opening script answers all i l) there.before there.after l.command it.session it.range it.holds it.opened it.fine it.made it.known
             it.stamps it.stamps_after it.commits it.allows.free u current other seen it.allows.did,
       )
   cause_of i l (answer.WaitRing flushed) at answered for u current =
-      let it = ready i l (answer.WaitRing flushed) at answered refl in
+      let did = of_session i l (answer.WaitRing flushed) at answered for in
+      let it = ready i l (answer.WaitRing flushed) at answered did refl in
       let there = here i l (answer.WaitRing flushed) at answered in (
         refl,
         wait_ring tree laws of.table (moment_at InTurn opening script answers all i l) there.before there.after l.command it.session it.range it.holds it.opened it.fine it.made it.known
             it.stamps it.stamps_after it.commits it.allows.free u current flushed (flushed_there i l (answer.WaitRing flushed) at answered)
-            (few_there i l (answer.WaitRing flushed) at answered u current) it.allows.did,
+            (few_there i l (answer.WaitRing flushed) at answered did u current) it.allows.did,
       )
   cause_of i l (answer.Owned other number) at answered for u current =
-      let it = ready i l (answer.Owned other number) at answered refl in
+      let did = of_session i l (answer.Owned other number) at answered for in
+      let it = ready i l (answer.Owned other number) at answered did refl in
       let there = here i l (answer.Owned other number) at answered in
       owned_cause tree laws of.table (moment_at InTurn opening script answers all i l) there.before there.after l.command it.session it.range it.holds it.opened it.fine it.made it.known
       it.stamps it.stamps_after it.commits it.allows.free u current refl other number it.allows.did
   cause_of i l (answer.Newer stamp) at answered for u current =
-      let it = ready i l (answer.Newer stamp) at answered refl in
+      let did = of_session i l (answer.Newer stamp) at answered for in
+      let it = ready i l (answer.Newer stamp) at answered did refl in
       let there = here i l (answer.Newer stamp) at answered in
       newer_cause tree laws of.table (moment_at InTurn opening script answers all i l) there.before there.after l.command it.session it.range it.holds it.opened it.fine it.made it.known
       it.stamps it.stamps_after it.commits it.allows.free u current stamp it.allows.did
   cause_of i l (answer.ExcludedEarly succ pred) at answered for u current =
-      let it = ready i l (answer.ExcludedEarly succ pred) at answered refl in
+      let did = of_session i l (answer.ExcludedEarly succ pred) at answered for in
+      let it = ready i l (answer.ExcludedEarly succ pred) at answered did refl in
       let there = here i l (answer.ExcludedEarly succ pred) at answered in
       excluded_cause tree laws of.table (moment_at InTurn opening script answers all i l) there.before there.after l.command it.session it.range it.holds it.opened it.fine it.made it.known
       it.stamps it.stamps_after it.commits it.allows.free u current succ pred it.allows.did
@@ -205,16 +227,33 @@ any_cause m l (answer.CellsFull drawn) t others full = full tt
 any_cause m l (answer.OidsFull drawn) t others full = full tt
 any_cause m l a t others full = tt
 
-pub with_cause : RunsRefuseForOthers → FullHasCause → LogHasCause → RunsRefuseWithCause
-with_cause others full log v t script answers run closed opening are starts = record {
+-- an answer that tells of the log has its cause
+any_log : (m : Moment) (a : Answer) → (IsEnd a → HasLogCause m a) → (IsOfLog a → HasLogCause m a) → HasLogCause m a
+any_log m (answer.LogEnd tail) end log = end tt
+any_log m answer.NumbersEnd end log = end tt
+any_log m (answer.Durable stamp) end log = log tt
+any_log m (answer.NotFlushed flushed) end log = log tt
+any_log m answer.NoReceipt end log = log tt
+any_log m (answer.Flushed place) end log = log tt
+any_log m (answer.Empty place) end log = log tt
+any_log m (answer.Checkpointed place) end log = log tt
+any_log m a end log = tt
+
+any_unfilled : (m : Moment) (c : Command) (a : Answer) → (IsOfLog a → HasUnfilledCause m c a) → HasUnfilledCause m c a
+any_unfilled m command.Flush (answer.Unfilled place) log = log tt
+any_unfilled m command.Checkpoint (answer.Unfilled place) log = log tt
+any_unfilled m c a log = tt
+
+pub with_cause : RunsRefuseForOthers → FullHasCause → EndHasCause → RunsTellLog → RunsRefuseWithCause
+with_cause others full end log v t script answers run closed opening are starts = record {
   each = λ i l a at answered.
       let all = transactions_of v.opening.sessions (places_of script answers closed) in
-      let of_log = log v t script answers run opening starts all i l a at answered tt in
+      let of_log = log v t script answers run closed opening are starts i l a at answered in
       record {
         own = λ told own.
             any_cause (moment_at InTurn opening script answers all i l) l a told (λ for. others v t script answers run closed opening are starts i l a at answered for told own)
             (λ is. full v t script answers run opening starts all i l a at answered is told own);
-        log = of_log.0;
-        unfilled = of_log.1;
+        log = any_log (moment_at InTurn opening script answers all i l) a (λ is. end v t script answers run opening starts all i l a at answered is) (λ is. (of_log is).0);
+        unfilled = any_unfilled (moment_at InTurn opening script answers all i l) l.command a (λ is. (of_log is).1);
       };
 }

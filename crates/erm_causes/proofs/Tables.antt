@@ -14,7 +14,7 @@ use Rattle.erm_world.specs.World.{IsSession, View, history_of, made_by_all}
 use Rattle.erm_world.specs.World as world
 use Rattle.erm_maps.specs.Runs.{IsRunOf}
 use Rattle.erm_good_report.specs.Transactions.{Progress, Said, heard, nothing}
-use Rattle.erm_lines.specs.Executions.{IsExecution, IsOpened, Move, close, flush, line, said_in}
+use Rattle.erm_lines.specs.Executions.{IsExecution, IsOpened, Move, close, flush, line, log, said_in}
 use Rattle.erm_causes.specs.Touched.{AreOfTables}
 use Rattle.erm_causes.proofs.Begun.{HistoryLaws}
 use Rattle.erm_causes.proofs.Fine.{IsFine}
@@ -159,5 +159,6 @@ pub heard_said : (moves : List Move) (p : ℕ → Progress) (q : ℕ)
     → heard_moves moves p q ≡ fold (λ (r : Progress) (s : Said). cond (s.session == q) (heard q s.asked s.answer r) r) (p q) (said_in moves)
 heard_said [] p q = refl
 heard_said (line l a ∷ moves) p q = heard_said moves (heard_move (line l a) p) q
+heard_said (log l a ∷ moves) p q = heard_said moves (heard_move (log l a) p) q
 heard_said (close seat a ∷ moves) p q = heard_said moves (heard_move (close seat a) p) q
 heard_said (flush ∷ moves) p q = heard_said moves p q

@@ -8,7 +8,7 @@ use Rattle.erm_world.specs.World.{IsSession, View, history_of}
 use Rattle.erm_good_report.specs.GoodReport.{places_of}
 use Rattle.erm_good_report.specs.Opening.{InTurn, Opening}
 use Rattle.erm_good_report.specs.Phases.{Closed}
-use Rattle.erm_good_report.specs.Refusals.{HasRefusalCause, IsOwn, moment_at}
+use Rattle.erm_good_report.specs.Refusals.{HasLogCause, HasRefusalCause, HasUnfilledCause, IsOwn, moment_at}
 use Rattle.erm_good_report.specs.Transactions.{Transaction, progress_of}
 use Rattle.erm_lines.specs.Executions.{AreClosed, IsRun}
 use Rattle.erm_lines.specs.Laws.{OfRuns}
@@ -36,6 +36,25 @@ abbrev pub RefusesForOthers : Opening → List ScriptLine → List Answer → Li
 RefusesForOthers opening script answers told = (i : ℕ) (l : ScriptLine) (a : Answer) → slice_get script i ≡ Some l → slice_get answers i ≡ Some a → IsForOthers a
     → (t : Transaction) → IsOwn (moment_at InTurn opening script answers told i l) l.command a t
     → HasRefusalCause (moment_at InTurn opening script answers told i l) l.command t a
+
+-- an answer that tells of the log: where it is flushed, or whether the last commit of a session is
+abbrev pub IsOfLog : Answer → Type 0
+IsOfLog (answer.Durable stamp) = Unit {0}
+IsOfLog (answer.NotFlushed flushed) = Unit {0}
+IsOfLog answer.NoReceipt = Unit {0}
+IsOfLog (answer.Flushed place) = Unit {0}
+IsOfLog (answer.Empty place) = Unit {0}
+IsOfLog (answer.Unfilled place) = Unit {0}
+IsOfLog (answer.Checkpointed place) = Unit {0}
+IsOfLog a = ⊥
+
+-- each such answer has its cause
+abbrev pub TellsLog : Opening → List ScriptLine → List Answer → List Transaction → Type 0
+TellsLog opening script answers told = (i : ℕ) (l : ScriptLine) (a : Answer) → slice_get script i ≡ Some l → slice_get answers i ≡ Some a → IsOfLog a
+    → HasLogCause (moment_at InTurn opening script answers told i l) a × HasUnfilledCause (moment_at InTurn opening script answers told i l) l.command a
+
+abbrev pub RunsTellLog : Type 0
+RunsTellLog = OfRuns (λ opening script answers closed told. TellsLog opening script answers told)
 
 abbrev pub RunsRefuseForOthers : Type 0
 RunsRefuseForOthers = OfRuns (λ opening script answers closed told. RefusesForOthers opening script answers told)

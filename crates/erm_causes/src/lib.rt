@@ -2,7 +2,7 @@
 //! contract of a function that does nothing.
 #![tactic(auto)]
 
-ghost use Rattle.erm_causes.specs.Laws.{RunsRefuseForOthers, RunsTouchTables};
+ghost use Rattle.erm_causes.specs.Laws.{RunsRefuseForOthers, RunsTellLog, RunsTouchTables};
 ghost use Rattle.erm_lines.specs.Laws.{RunsHaveCauses, RunsRefuseWithCause};
 
 /// Each object of a run has one table: that of the line that made it, or that whose tree reached it at the opening. Each
@@ -45,11 +45,20 @@ pub fn runs_refuse_for_others()
     erm_told_limits::claims_are_few();
 }
 
+/// Each answer of a run that tells where the log is flushed, or whether a session's last commit is, has its cause in the lines.
+pub fn runs_tell_log()
+    ensures { RunsTellLog }
+{
+    erm_told::executions_tell_sessions();
+    erm_told::executions_go_on();
+}
+
 /// Each answer of a run that refuses, or that tells of the log, has its cause in the lines.
 pub fn runs_refuse_with_cause()
     ensures { RunsRefuseWithCause }
 {
     runs_refuse_for_others();
     erm_told_limits::full_has_cause();
-    erm_told_limits::log_has_cause();
+    erm_told_limits::end_has_cause();
+    runs_tell_log();
 }

@@ -20,9 +20,10 @@ use Rattle.erm_world.proofs.Txns.{stopped, went}
 use Rattle.erm_maps.specs.Runs.{IsRunOf}
 use Rattle.erm_good_report.specs.Phases.{refusal_for, refusal_of}
 use Rattle.erm_lines.specs.Answers.{DidAsked, DidClose, DidCommand, DidCommit, DidDecide, DidLine, DidOperation, WasRefusedAs}
-use Rattle.erm_lines.specs.Executions.{DidEnd}
+use Rattle.erm_lines.specs.Executions.{DidEnd, DidFlush, DidLogLine}
 use Rattle.erm_lines.specs.Operations.{DidCalls, Ran}
 use Rattle.erm_lines.specs.Whole.{AreRunsNow}
+use Rattle.erm_lines.proofs.Moved.{asked_still, log_flushes}
 
 -- where a session is active, its transaction is the run of some operations
 abbrev IsRunNow : Session → Type 0
@@ -72,8 +73,8 @@ waits_turns v t seat w stamp is stand = record {
 }
 
 decided_turns : (v t : View) (seat : ℕ) (a : Answer) → DidDecide v seat a t → Turns v seat t
-decided_turns v t seat (answer.Committed stamp succ pred) (r, stamp_is, succ_is, pred_is, (w, at, stand, did)) = done_turns v t seat w _ did.0
-decided_turns v t seat (answer.Excluded stamp succ pred) (w, at, stand, did) = done_turns v t seat w _ did.0
+decided_turns v t seat (answer.Committed stamp succ pred) (r, stamp_is, succ_is, pred_is, (w, at, stand, ready, did)) = done_turns v t seat w _ did.0
+decided_turns v t seat (answer.Excluded stamp succ pred) (w, at, stand, ready, did) = done_turns v t seat w _ did.0
 decided_turns v t seat (answer.WaitSeat other seen) (is, (w, at, stand, waits)) = waits_turns v t seat w at is stand
 decided_turns v t seat (answer.WaitRing flushed) (is, (w, at, stand, waits)) = waits_turns v t seat w at is stand
 decided_turns v t seat a did = absurd did
@@ -177,7 +178,7 @@ module _ (none : (number begin : ℕ) → IsRunOf (begun number begin) []) (v t 
     command_kept (command.Next table from) a allowed did = operation_kept (command.Next table from) a allowed did
     command_kept (command.Scan table low high) a allowed did = operation_kept (command.Scan table low high) a allowed did
     command_kept (command.Tidy table key) a allowed did = operation_kept (command.Tidy table key) a allowed did
-    command_kept command.Durable a allowed did = absurd did
+    command_kept command.Durable a allowed did = unchanged v t (asked_still v t seat a did) runs
     command_kept command.Flush a allowed did = absurd did
     command_kept command.Checkpoint a allowed did = absurd did
 
@@ -189,6 +190,17 @@ module _ (none : (number begin : ℕ) → IsRunOf (begun number begin) []) (v t 
   closed_kept Idle a did = absurd did
   closed_kept Active a did = kept v t seat runs (done_turns v t seat (work_at v seat) world.aborts did)
   closed_kept Sealed a did = kept v t seat runs (decided_turns v t seat a did)
+
+-- LINES OF THE LOG. They leave the sessions.
+flush_keeps : (v t : View) → AreRunsNow v → DidFlush v t → Kept v t
+flush_keeps v t runs did = (
+  λ seat session. let was : IsSession v seat = (session.0, subst (λ (o : Opening). seat ≤ o.sessions) did.opening session.1) in
+      subst (λ (s : Session). IsRunNow s) (sym (did.session seat was)) (runs seat was),
+  did.opening,
+)
+
+pub log_keeps : (v t : View) (l : ScriptLine) (a : Answer) → AreRunsNow v → DidLogLine v l a t → Kept v t
+log_keeps v t l a runs did = flush_keeps v t runs (log_flushes v t l a did)
 
 -- a line of a session keeps them, and a close
 pub line_keeps : ((number begin : ℕ) → IsRunOf (begun number begin) []) → (v t : View) (l : ScriptLine) (a : Answer) → AreRunsNow v → DidLine v l a t → Kept v t

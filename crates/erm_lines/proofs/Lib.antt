@@ -3,6 +3,8 @@ pub mod Found
 pub mod Keeping
 pub mod Lines
 pub mod Looked
+pub mod Moved
+pub mod Receipts
 pub mod Refused
 pub mod Scanning
 pub mod Tidied

@@ -1,5 +1,5 @@
 -- What the answer to a line of a script says of the world in which it was run.
-use Rattle.std.specs.Prelude.{◌≡◌, ℕ, [], ◌∷◌, Option, Some, None}
+use Rattle.std.specs.Prelude.{◌≡◌, ℕ, ◌+◌, ◌<◌, ◌≤◌, List, [], ◌∷◌, ◌++◌, Option, Some, None}
 use Rattle.erm_model.specs.declared.operation.Op.{Op}
 use Rattle.erm_model.specs.declared.outcome.Outcome.TheVariants as outcome
 use Rattle.erm_model.specs.declared.outcome.Phase.{Phase}
@@ -7,6 +7,7 @@ use Rattle.erm_model.specs.declared.outcome.Phase.TheVariants.{Idle, Active, Sea
 use Rattle.erm_model.specs.declared.outcome.Receipt.{Receipt}
 use Rattle.erm_model.specs.declared.row_stop.RowStop.{RowStop}
 use Rattle.erm_model.specs.declared.row_stop.RowStop.TheVariants.{NotYet, ReadsFull, Owned, Newer, WritesFull, CellsFull, OidsFull, Excluded, Memory}
+use Rattle.erm_model.specs.Member.{◌∈◌}
 use Rattle.erm_report.specs.declared.answer.Answer.{Answer}
 use Rattle.erm_report.specs.declared.answer.Answer.TheVariants as answer
 use Rattle.erm_script.specs.declared.script.Command.{Command}
@@ -15,7 +16,8 @@ use Rattle.erm_script.specs.declared.script.ScriptLine.{ScriptLine}
 use Rattle.erm_world.specs.declared.stops.BeginStop.TheVariants as begin
 use Rattle.erm_world.specs.declared.stops.Wait.TheVariants as wait
 use Rattle.erm_world.specs.Calls.{DidAbort, DidBegin, DidNotSettle, DidSeal, DidSettle, MayNotBegin}
-use Rattle.erm_world.specs.World.{IsSession, View, phase_at}
+use Rattle.erm_world.specs.World.{Fate, Finished, IsSession, View, phase_at, size_of}
+use Rattle.erm_world.specs.World as world
 use Rattle.erm_good_report.specs.Phases.{FitsPhase, refusal_of}
 use Rattle.erm_good_report.specs.Transactions.{op_of}
 use Rattle.erm_lines.specs.Operations.{AsksOf, DidCalls, FrontOf, WereCutOff, WholeOf}
@@ -59,6 +61,39 @@ pub record DidCommit (v : View) (seat : ℕ) (a : Answer) (t : View) : Type 0 wh
   pub sealed : DidSeal v seat stamp between
   pub decided : DidDecide between seat a t
 
+-- it committed
+abbrev pub IsCommitted : Fate → Type 0
+IsCommitted (world.commits stamp succ pred) = Unit {0}
+IsCommitted fate = ⊥
+
+-- the last commit of a session has this stamp, and its block of the log ends at this place
+pub record IsLastCommit (over : List Finished) (stamp end : ℕ) : Type 0 where
+  pub front : List Finished
+  pub last : Finished
+  pub rest : List Finished
+  pub split : over ≡ front ++ last ∷ rest
+  pub commits : (succ : ℕ) × (pred : ℕ) × (last.fate ≡ world.commits stamp succ pred)
+  pub ends : end ≡ stamp + size_of last.work
+  pub none : (f : Finished) → f ∈ rest → IsCommitted f.fate → ⊥
+
+-- this is the receipt of a session's last commit, or none where it has committed nothing
+abbrev pub IsReceiptOf : List Finished → Option Receipt → Type 0
+IsReceiptOf over None = (f : Finished) → f ∈ over → IsCommitted f.fate → ⊥
+IsReceiptOf over (Some r) = IsLastCommit over r.stamp r.end
+
+-- the receipt of a session's last commit is kept up: where it was this before, it is that after
+abbrev pub KeepsReceipt : View → ℕ → Option Receipt → View → Option Receipt → Type 0
+KeepsReceipt v seat before t after = IsReceiptOf (v.session seat).over before → IsReceiptOf (t.session seat).over after
+
+-- it was asked whether the session's last commit, if there is one, is on the disk: the log's words below the end of its block are synced
+abbrev pub DidAskDurable : View → ℕ → Answer → View → Type 0
+DidAskDurable v seat (answer.Durable stamp) t =
+    (t ≡ v) × ((end : ℕ) × IsLastCommit (v.session seat).over stamp end × (end ≤ v.flushed))
+DidAskDurable v seat (answer.NotFlushed flushed) t =
+    (t ≡ v) × (flushed ≡ v.flushed) × ((stamp : ℕ) × (end : ℕ) × IsLastCommit (v.session seat).over stamp end × (v.flushed < end))
+DidAskDurable v seat answer.NoReceipt t = (t ≡ v) × ((f : Finished) → f ∈ (v.session seat).over → IsCommitted f.fate → ⊥)
+DidAskDurable v seat a t = ⊥
+
 -- the session's phase allowed the command, and it was answered so
 abbrev pub DidCommand : View → ℕ → Command → Answer → View → Type 0
 DidCommand v seat command.Begin (answer.Began stamp) t = DidBegin v seat stamp t
@@ -68,6 +103,7 @@ DidCommand v seat command.Seal (answer.Sealed stamp) t = DidSeal v seat stamp t
 DidCommand v seat command.Settle a t = DidDecide v seat a t
 DidCommand v seat command.Commit a t = DidCommit v seat a t
 DidCommand v seat command.Abort answer.Aborted t = DidAbort v seat t
+DidCommand v seat command.Durable a t = DidAskDurable v seat a t
 DidCommand v seat (command.Get table key) a t = DidOperation v seat (command.Get table key) a t
 DidCommand v seat (command.Put table key value) a t = DidOperation v seat (command.Put table key value) a t
 DidCommand v seat (command.Del table key) a t = DidOperation v seat (command.Del table key) a t

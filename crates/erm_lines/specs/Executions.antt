@@ -1,5 +1,5 @@
 -- Executions of a script over a world: its lines in turn, and then the end, at which each session is closed.
-use Rattle.std.specs.Prelude.{◌≡◌, ℕ, ◌+◌, ◌<◌, ◌≤◌, Bool, not, nat_eq, List, [], ◌∷◌, length, replicate, Some, None}
+use Rattle.std.specs.Prelude.{◌≡◌, ℕ, ◌+◌, ◌<◌, ◌≤◌, ◌⊎◌, Bool, not, nat_eq, List, [], ◌∷◌, length, replicate, Some, None}
 use Rattle.std.specs.Cmp.Lexicographic.{pointwise}
 use Rattle.std.specs.List.{All, AllPairs, filter, range_with_len}
 use Rattle.erm_model.specs.declared.limits.TheConstants.{LAST_NUMBER, LEAST_BLOCK, OID_LIMIT, TABLE_CELLS}
@@ -10,19 +10,24 @@ use Rattle.erm_model.specs.Rows.{Rows}
 use Rattle.erm_node.specs.Sound.{sound_law}
 use Rattle.erm_node.specs.TreeMap.{map_of_rows}
 use Rattle.erm_report.specs.declared.answer.Answer.{Answer}
+use Rattle.erm_report.specs.declared.answer.Answer.TheVariants as answer
+use Rattle.erm_script.specs.declared.script.Command.{Command}
+use Rattle.erm_script.specs.declared.script.Command.TheVariants as command
 use Rattle.erm_script.specs.declared.script.ScriptLine.{ScriptLine}
 use Rattle.erm_script.specs.Script.{IsInRange}
 use Rattle.erm_world.specs.Laws.{IsSerializable}
-use Rattle.erm_world.specs.World.{IsSession, View, phase_at}
+use Rattle.erm_world.specs.World.{IsSession, View, Work, phase_at}
 use Rattle.erm_world.specs.World as world
 use Rattle.erm_good_report.specs.Opening.{Opening}
 use Rattle.erm_good_report.specs.Phases.{Closed, Closes}
 use Rattle.erm_good_report.specs.Transactions.{Said}
 use Rattle.erm_lines.specs.Answers.{DidClose, DidLine}
 
--- One move of an execution: a line was answered; or, at the end, a session was closed with this answer, or the log was flushed.
+-- One move of an execution: a line of a session was answered, or one of the log; or, at the end, a session was closed with this answer,
+-- or the log was flushed.
 pub data Move : Type 0 where
   line : ScriptLine → Answer → Move
+  log : ScriptLine → Answer → Move
   close : (seat : ℕ) → Answer → Move
   flush : Move
 
@@ -33,6 +38,37 @@ pub record DidFlush (v t : View) : Type 0 where
   pub tail : t.tail ≡ v.tail
   pub above : v.flushed ≤ t.flushed
 
+-- a session's transaction is sealed with this stamp, and isn't decided
+pub record IsPendingAt (v : View) (stamp : ℕ) : Type 0 where
+  pub seat : ℕ
+  pub session : IsSession v seat
+  pub work : Work
+  pub sealed : (v.session seat).stand ≡ world.sealed work stamp
+
+-- All below this place of the log is decided, and nothing more: it is the log's end, or a transaction's stamp that isn't decided.
+pub record IsDecidedTo (v : View) (place : ℕ) : Type 0 where
+  pub stop : (place ≡ v.tail) ⊎ IsPendingAt v place
+  pub least : (stamp : ℕ) → IsPendingAt v stamp → place ≤ stamp
+
+-- the log's words that are synced went up to this place
+pub record FlushesTo (v : View) (place : ℕ) (t : View) : Type 0 where
+  pub flushes : DidFlush v t
+  pub up : t.flushed ≡ place
+
+-- A line of the log was run. A flush raises the place below which all is synced as far as all is decided; a checkpoint needs all decided.
+abbrev pub DidLog : View → Command → Answer → View → Type 0
+DidLog v command.Flush (answer.Flushed place) t = FlushesTo v place t × (v.flushed < place) × IsDecidedTo v place
+DidLog v command.Flush (answer.Empty place) t = (t ≡ v) × (place ≡ v.flushed) × (place ≡ v.tail)
+DidLog v command.Flush (answer.Unfilled place) t = (t ≡ v) × (place ≡ v.flushed) × IsPendingAt v place × IsDecidedTo v place
+DidLog v command.Checkpoint (answer.Checkpointed place) t = FlushesTo v place t × (place ≡ v.tail) × IsDecidedTo v place
+DidLog v command.Checkpoint (answer.Unfilled place) t = FlushesTo v place t × IsPendingAt v place × IsDecidedTo v place
+DidLog v c a t = ⊥
+
+-- it names no session, and was answered so
+pub record DidLogLine (v : View) (l : ScriptLine) (a : Answer) (t : View) : Type 0 where
+  pub session : l.session ≡ 0
+  pub did : DidLog v l.command a t
+
 -- a session that isn't idle was closed, with an answer that closes it
 pub record DidEnd (v : View) (seat : ℕ) (a : Answer) (t : View) : Type 0 where
   pub session : IsSession v seat
@@ -41,6 +77,7 @@ pub record DidEnd (v : View) (seat : ℕ) (a : Answer) (t : View) : Type 0 where
 
 abbrev pub DidMove : View → Move → View → Type 0
 DidMove v (line l a) t = DidLine v l a t
+DidMove v (log l a) t = DidLogLine v l a t
 DidMove v (close seat a) t = DidEnd v seat a t
 DidMove v flush t = DidFlush v t
 
@@ -49,22 +86,33 @@ abbrev pub IsExecution : View → List Move → View → Type 0
 IsExecution v [] t = t ≡ v
 IsExecution v (move ∷ moves) t = (u : View) × DidMove v move u × IsSerializable sound_law u × IsExecution u moves t
 
+-- the move of a line with its answer
+abbrev pub move_as : Command → ScriptLine → Answer → Move
+move_as command.Flush l a = log l a
+move_as command.Checkpoint l a = log l a
+move_as c l a = line l a
+
+abbrev pub move_of : ScriptLine → Answer → Move
+move_of l a = move_as l.command l a
+
 -- the moves of lines with their answers
 abbrev pub line_moves : List ScriptLine → List Answer → List Move
 line_moves [] answers = []
 line_moves (l ∷ ls) [] = []
-line_moves (l ∷ ls) (a ∷ answers) = line l a ∷ line_moves ls answers
+line_moves (l ∷ ls) (a ∷ answers) = move_of l a ∷ line_moves ls answers
 
 -- what moves say
 abbrev pub said_in : List Move → List Said
 said_in [] = []
 said_in (line l a ∷ moves) = record { session = l.session; asked = Some l.command; answer = a } ∷ said_in moves
+said_in (log l a ∷ moves) = record { session = l.session; asked = Some l.command; answer = a } ∷ said_in moves
 said_in (close seat a ∷ moves) = record { session = seat; asked = None; answer = a } ∷ said_in moves
 said_in (flush ∷ moves) = said_in moves
 
 -- a move closes a session, or flushes
 abbrev pub IsLast : Move → Type 0
 IsLast (line l a) = ⊥
+IsLast (log l a) = ⊥
 IsLast (close seat a) = Unit {0}
 IsLast flush = Unit {0}
 
@@ -72,6 +120,7 @@ IsLast flush = Unit {0}
 abbrev pub closed_in : List Move → List Closed
 closed_in [] = []
 closed_in (line l a ∷ moves) = closed_in moves
+closed_in (log l a ∷ moves) = closed_in moves
 closed_in (close seat a ∷ moves) = record { session = seat; answer = a } ∷ closed_in moves
 closed_in (flush ∷ moves) = closed_in moves
 

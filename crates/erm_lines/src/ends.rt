@@ -8,11 +8,11 @@ ghost use Rattle.erm_maps.specs.Runs.{IsRunOf};
 ghost use Rattle.erm_good_report.specs.Phases.{Closes, IsOutcome};
 ghost use Rattle.erm_world.specs.Calls.{DidNotSettle};
 ghost use Rattle.erm_world.specs.World.{IsSession, phase_at, work_at};
-ghost use Rattle.erm_lines.specs.Answers.{DidCommit, DidDecide};
+ghost use Rattle.erm_lines.specs.Answers.{DidCommit, DidDecide, KeepsReceipt};
 ghost use Rattle.erm_lines.specs.Executions.{DidEnd};
 ghost use Rattle.erm_lines.specs.Whole.{WasAnswered};
 
-use erm_model::{Outcome, Phase, Seat};
+use erm_model::{Outcome, Phase, Receipt, Seat};
 use erm_report::Answer;
 use erm_script::Command;
 use erm_world::{BeginStop, RowWorld, Wait};
@@ -59,8 +59,12 @@ pub fn abort<W: RowWorld>(world: &mut W, seat: Seat) -> Answer
     Answer::Aborted
 }
 
-// Decides a sealed transaction, or says for what it waits.
-fn decide<W: RowWorld>(world: &mut W, seat: Seat) -> Result<Answer, Wait>
+// Decides a sealed transaction, whose receipt becomes the session's last where it commits, or says for what it waits.
+fn decide<W: RowWorld>(
+    world: &mut W,
+    seat: Seat,
+    receipt: &mut Option<Receipt>,
+) -> Result<Answer, Wait>
     requires stands { W.stands world.old }
     requires session { IsSession (W.view world.old) seat }
     requires sealed { phase_at (W.view world.old) seat ≡ Sealed }
@@ -68,46 +72,52 @@ fn decide<W: RowWorld>(world: &mut W, seat: Seat) -> Result<Answer, Wait>
     ensures closes { IfOk result (λ a. Closes Sealed a) }
     ensures ok { IfOk result (λ a. DidDecide (W.view world.old) seat a (W.view world.new)) }
     ensures err { IfErr result (λ wait. DidNotSettle (W.view world.old) seat wait (W.view world.new)) }
+    ensures kept { KeepsReceipt (W.view world.old) seat receipt.old (W.view world.new) receipt.new }
 {
     match world.settle(seat)? {
-        Outcome::Committed(receipt) => Ok(Answer::Committed {
-            stamp: receipt.stamp,
-            succ: receipt.succ,
-            pred: receipt.pred,
-        }),
+        Outcome::Committed(commit) => {
+            *receipt = Some(commit);
+            Ok(Answer::Committed {
+                stamp: commit.stamp,
+                succ: commit.succ,
+                pred: commit.pred,
+            })
+        }
         Outcome::Excluded { stamp, succ, pred } => Ok(Answer::Excluded { stamp, succ, pred }),
     }
 }
 
 // The same, with the wait as an answer.
-fn outcome<W: RowWorld>(world: &mut W, seat: Seat) -> Answer
+fn outcome<W: RowWorld>(world: &mut W, seat: Seat, receipt: &mut Option<Receipt>) -> Answer
     requires stands { W.stands world.old }
     requires session { IsSession (W.view world.old) seat }
     requires sealed { phase_at (W.view world.old) seat ≡ Sealed }
     ensures stands { W.stands world.new }
     ensures outcome { IsOutcome result }
     ensures decided { DidDecide (W.view world.old) seat result (W.view world.new) }
+    ensures kept { KeepsReceipt (W.view world.old) seat receipt.old (W.view world.new) receipt.new }
 {
-    match decide(world, seat) {
+    match decide(world, seat, receipt) {
         Ok(answer) => answer,
         Err(Wait::Ring { flushed }) => Answer::WaitRing { flushed },
         Err(Wait::Seat { seat, seen }) => Answer::WaitSeat { seat, seen },
     }
 }
 
-/// Decides a sealed transaction, or says for what it waits.
-pub fn settle<W: RowWorld>(world: &mut W, seat: Seat) -> Answer
+/// Decides a sealed transaction, or says for what it waits. Where it commits, its receipt becomes the session's last.
+pub fn settle<W: RowWorld>(world: &mut W, seat: Seat, receipt: &mut Option<Receipt>) -> Answer
     requires stands { W.stands world.old }
     requires session { IsSession (W.view world.old) seat }
     requires sealed { phase_at (W.view world.old) seat ≡ Sealed }
     ensures stands { W.stands world.new }
     ensures answered { WasAnswered (W.view world.old) seat Command.Settle result (W.view world.new) }
+    ensures kept { KeepsReceipt (W.view world.old) seat receipt.old (W.view world.new) receipt.new }
 {
-    outcome(world, seat)
+    outcome(world, seat, receipt)
 }
 
-/// Seals a transaction, which is the run of some operations, and decides it.
-pub fn commit<W: RowWorld>(world: &mut W, seat: Seat) -> Answer
+/// Seals a transaction, which is the run of some operations, and decides it. Where it commits, its receipt becomes the session's last.
+pub fn commit<W: RowWorld>(world: &mut W, seat: Seat, receipt: &mut Option<Receipt>) -> Answer
     requires law { SameLaw W.law sound_law }
     requires stands { W.stands world.old }
     requires session { IsSession (W.view world.old) seat }
@@ -115,23 +125,29 @@ pub fn commit<W: RowWorld>(world: &mut W, seat: Seat) -> Answer
     requires ran { (steps : List Step) × IsRunOf (work_at (W.view world.old) seat) steps }
     ensures stands { W.stands world.new }
     ensures answered { WasAnswered (W.view world.old) seat Command.Commit result (W.view world.new) }
+    ensures kept { KeepsReceipt (W.view world.old) seat receipt.old (W.view world.new) receipt.new }
 {
     world.seal(seat);
-    outcome(world, seat)
+    outcome(world, seat, receipt)
 }
 
 /// Closes a session at the end: aborts its transaction where it is active, and decides it where it is sealed, or says for what it
-/// waits.
-pub fn close_session<W: RowWorld>(world: &mut W, seat: Seat) -> Result<Answer, Wait>
+/// waits. Where it commits, its receipt becomes the session's last.
+pub fn close_session<W: RowWorld>(
+    world: &mut W,
+    seat: Seat,
+    receipt: &mut Option<Receipt>,
+) -> Result<Answer, Wait>
     requires stands { W.stands world.old }
     requires session { IsSession (W.view world.old) seat }
     requires open { phase_at (W.view world.old) seat ≡ Idle → ⊥ }
     ensures stands { W.stands world.new }
     ensures closed { IfOk result (λ a. DidEnd (W.view world.old) seat a (W.view world.new)) }
     ensures waits { IfErr result (λ wait. DidNotSettle (W.view world.old) seat wait (W.view world.new)) }
+    ensures kept { KeepsReceipt (W.view world.old) seat receipt.old (W.view world.new) receipt.new }
 {
     match world.phase(seat) {
-        Phase::Sealed => decide(world, seat),
+        Phase::Sealed => decide(world, seat, receipt),
         _ => {
             world.abort(seat);
             Ok(Answer::Aborted)

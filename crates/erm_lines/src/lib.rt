@@ -2,6 +2,7 @@
 //! one.
 #![tactic(auto)]
 
+mod durable;
 mod ends;
 mod laws;
 mod line;
@@ -11,6 +12,7 @@ mod scan;
 mod stops;
 mod tidy;
 
+pub use durable::answer_durable;
 pub use ends::close_session;
 pub use laws::lines_keep_runs;
 pub use line::answer_line;

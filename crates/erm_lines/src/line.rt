@@ -1,5 +1,5 @@
 //! One line of a session.
-ghost use Rattle.std.specs.Prelude.{◌≡◌, ◌<◌, ℕ, List, IfOk, IfSome, IsSome, Some};
+ghost use Rattle.std.specs.Prelude.{◌≡◌, ◌<◌, ℕ, List, IfOk, IfSome, IsSome, OnOk, Some};
 ghost use Rattle.erm_model.specs.declared.limits.TheConstants.{TABLES};
 ghost use Rattle.erm_model.specs.declared.outcome.Phase.TheVariants.{Active};
 ghost use Rattle.erm_model.specs.RowTransaction.{SameLaw};
@@ -9,14 +9,14 @@ ghost use Rattle.erm_maps.specs.Runs.{IsRunOf};
 ghost use Rattle.erm_good_report.specs.Phases.{phase_asked};
 ghost use Rattle.erm_good_report.specs.Transactions.{table_of};
 ghost use Rattle.erm_world.specs.World.{IsSession, phase_at, work_at};
-ghost use Rattle.erm_lines.specs.Answers.{DidLine};
+ghost use Rattle.erm_lines.specs.Answers.{DidLine, KeepsReceipt};
 ghost use Rattle.erm_lines.specs.Whole.{WasAnswered};
 
 use crate::ends::{abort, begin, commit, seal, settle};
 use crate::operations::{del, get, next, put, scan};
 use crate::phases::refusal_of;
 use crate::tidy::tidy;
-use erm_model::{RowRead, Seat};
+use erm_model::{Receipt, RowRead, Seat};
 use erm_report::Answer;
 use erm_script::{Command, ScriptLine};
 use erm_world::{RowWorld, WorldTxn};
@@ -69,12 +69,13 @@ fn operate<W: RowWorld>(
     operate_by(alloc, &mut txn, command)
 }
 
-// Answers a command that asks for the session's phase.
+// Answers a command that asks for the session's phase, and keeps the receipt of the session's last commit.
 fn run<W: RowWorld>(
     alloc: Global,
     world: &mut W,
     seat: Seat,
     command: &Command,
+    receipt: &mut Option<Receipt>,
 ) -> Result<Answer, AllocError>
     requires law { SameLaw W.law sound_law }
     requires stands { W.stands world.old }
@@ -84,23 +85,26 @@ fn run<W: RowWorld>(
     requires table { IfSome (table_of command.now) (λ table. table < TABLES) }
     ensures stands { W.stands world.new }
     ensures answered { IfOk result (λ a. WasAnswered (W.view world.old) seat command.now a (W.view world.new)) }
+    ensures kept { OnOk result (KeepsReceipt (W.view world.old) seat receipt.old (W.view world.new) receipt.new) }
 {
     match command {
         Command::Begin => begin(world, seat),
         Command::Seal => Ok(seal(world, seat)),
-        Command::Settle => Ok(settle(world, seat)),
-        Command::Commit => Ok(commit(world, seat)),
+        Command::Settle => Ok(settle(world, seat, receipt)),
+        Command::Commit => Ok(commit(world, seat, receipt)),
         Command::Abort => Ok(abort(world, seat)),
         _ => operate(alloc, world, seat, command),
     }
 }
 
 /// Runs one line of a session, and gives its answer. Where its session has a transaction in progress, this is the run of some
-/// operations. The line asks for a phase: it isn't one of `durable`, `flush` and `checkpoint`. `Err` where memory ran out.
+/// operations. The line asks for a phase: it isn't one of `durable`, `flush` and `checkpoint`. It keeps the receipt of the session's
+/// last commit, which is `None` where the session has committed nothing. `Err` where memory ran out.
 pub fn answer_line<W: RowWorld>(
     alloc: Global,
     world: &mut W,
     line: &ScriptLine,
+    receipt: &mut Option<Receipt>,
 ) -> Result<Answer, AllocError>
     requires law { SameLaw W.law sound_law }
     requires stands { W.stands world.old }
@@ -110,10 +114,11 @@ pub fn answer_line<W: RowWorld>(
     requires ran { phase_at (W.view world.old) line.now.session ≡ Active → (steps : List Step) × IsRunOf (work_at (W.view world.old) line.now.session) steps }
     ensures stands { W.stands world.new }
     ensures answered { IfOk result (λ a. DidLine (W.view world.old) line.now a (W.view world.new)) }
+    ensures kept { OnOk result (KeepsReceipt (W.view world.old) line.now.session receipt.old (W.view world.new) receipt.new) }
 {
     let phase = world.phase(line.session);
     if let Some(refusal) = refusal_of(phase, &line.command) {
         return Ok(refusal);
     }
-    run(alloc, world, line.session, &line.command)
+    run(alloc, world, line.session, &line.command, receipt)
 }

@@ -6,7 +6,7 @@ use Rattle.erm_model.specs.RowTransaction.{Event, TellsAll, after_all, did_claim
 use Rattle.erm_model.specs.Rows.{Rows, set_row}
 use Rattle.erm_node.specs.Sound.{reached, sound_law}
 use Rattle.erm_tree.specs.Tables.{AreClaiming}
-use Rattle.erm_causes.proofs.Ran.{AreReading}
+use Rattle.erm_told_limits.proofs.Ran.{AreReading}
 
 -- some of these events sets the row of the object
 abbrev pub AreWriting : List Event → ℕ → Type 0

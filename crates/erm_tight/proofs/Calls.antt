@@ -18,7 +18,7 @@ use Rattle.erm_tree.specs.Reads.{IsOnWay}
 use Rattle.erm_tree.proofs.Puts.{after_all-put}
 use Rattle.erm_tree.proofs.Records.{record_in-same}
 use Rattle.erm_tree.proofs.Runs.{objects_for-some}
-use Rattle.erm_causes.proofs.Ran.{AreReading}
+use Rattle.erm_told_limits.proofs.Ran.{AreReading}
 use Rattle.erm_tight.proofs.Alike.{AreWriting, SameBut, after_alike, other_row, own_row, reads_or_not, unwritten, writes_claim, writes_or_not}
 use Rattle.erm_tight.proofs.Claims.{change_claims, split_claims}
 use Rattle.erm_tight.proofs.Kept.{RowLaws, after_differ, after_same, differ, other_agrees, other_sound, other_value, set_differs, set_record, told_record, two_values, with_value}

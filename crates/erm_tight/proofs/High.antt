@@ -1,4 +1,5 @@
--- The successor stamp of a commit is at most that of the next commit that overwrites a key's record which it read.
+-- The successor stamp of a transaction that has its commit stamp is at most that of the next commit that overwrites a key's record which it read; so
+-- its window is tight.
 use Rattle.std.proofs.Common.{◌≡◌, ℕ, ◌+◌, ◌<◌, ◌≤◌, true, List, ◌∷◌, Some, None, inl, inr, refl, sym, ap, ◌∙◌, subst, arith}
 use Rattle.std.proofs.lemmas.Bool.{cases_lt}
 use Rattle.erm_model.specs.declared.history.TransactionRecord.{TransactionRecord}
@@ -16,18 +17,27 @@ use Rattle.erm_world.specs.World as world
 use Rattle.erm_maps.proofs.Histories.{of_history, work_in}
 use Rattle.erm_maps.proofs.Lawful.{begins_above}
 use Rattle.erm_good_report.specs.Transactions.{Aborts, Commits, Ending, Excludes, Exchange, Said, Transaction, Unfinished, progress_of, transactions_of}
-use Rattle.erm_good_report.specs.Windows.{GetsFirst, HasLine, IsCommit, IsHighEnd, IsNextWriter, OverwritesKey, PutsKey, WasPut}
+use Rattle.erm_good_report.specs.Windows.{GetsFirst, HasLine, IsCommit, IsHighEnd, IsNextWriter, IsTightAt, OverwritesKey, PutsKey, WasPut}
+use Rattle.erm_good_report.specs.GoodReport.{HaveTightWindows}
 use Rattle.erm_lines.specs.Told.{EndsAs, Tells}
 use Rattle.erm_causes.proofs.Beside.{claimed_at}
 use Rattle.erm_causes.proofs.Begun.{HistoryLaws}
-use Rattle.erm_tight.specs.Ends.{ExcludedAreBounded, GetsUntidied, IsHighAt, IsUntidiedHighEnd, IsLowAt, IsTightCommit}
-use Rattle.erm_tight.proofs.Marks.{Overwriting, Changing, Marks, Puts}
+use Rattle.erm_tight.proofs.Found.{claimed_in, read_in}
+use Rattle.erm_tight.proofs.Low.{IsLowAt, low_ends}
+use Rattle.erm_tight.proofs.Marks.{Changing, Marks, Puts, Touching}
 use Rattle.erm_tight.proofs.Moves.{IsMarked}
 use Rattle.erm_tight.proofs.Serial.{RowsBelow, rows_below}
-use Rattle.erm_tight.proofs.Told.{IsOne, IsCommitted, IsCommitTold, claimed_in, commit_known, commit_told, one_told, read_in, record_told}
+use Rattle.erm_tight.proofs.Told.{IsOne, IsCommitted, IsCommitTold, commit_known, commit_told, one_told, record_told}
+use Rattle.erm_tight.proofs.Undecided.{IsBeside, IsOrderly}
 
 same_some : (a b : ℕ) → Some a ≡ Some b → a ≡ b
 same_some a b is = cc
+
+-- the window of a transaction that has its commit stamp is tight at its high end
+abbrev IsHighAt : Ending → List Transaction → Transaction → Type 0
+IsHighAt (Commits stamp succ pred) transactions t = IsHighEnd transactions t stamp succ
+IsHighAt (Excludes (Some stamp) succ pred) transactions t = IsHighEnd transactions t stamp succ
+IsHighAt ending transactions t = Unit {0}
 
 module _ (laws : HistoryLaws) (v : View) (sessions : ℕ) (said : List Said) (holds : IsSerializable sound_law v) (of : sessions ≡ v.opening.sessions)
     (tells : (seat : ℕ) → IsSession v seat → Tells seat (progress_of seat said) (v.session seat))
@@ -177,6 +187,14 @@ module _ (laws : HistoryLaws) (v : View) (sessions : ℕ) (said : List Said) (ho
       overwrites : Overwrites next_known.by d.oid d.stamp
       overwrites = let same : made.0.stamp ≡ d.stamp = omega (arith, at_least, at_most) in (made.0, made.1, same_oid, same)
 
+  -- it touched the record
+  got : (t : Transaction) (table key : ℕ) → GetsFirst t table key → HasLine (Touching table key) t
+  got t table key gets = (
+    gets.line,
+    subst (λ (es : List Exchange). gets.line ∈ es) (sym gets.split) (∈-second gets.before (gets.line ∷ gets.after) gets.line (∈-head gets.line gets.after)),
+    inl gets.gets,
+  )
+
   -- of a commit
   module _ (t : Transaction) (own succ : ℕ) (it : IsCommitted v t own succ) (table key : ℕ) (gets : GetsFirst t table key) (was : WasPut all table key t.begin)
       (next : Transaction) (stamp next_succ : ℕ) (writer : IsNextWriter all table key t.begin next stamp next_succ) (before : stamp < own) where
@@ -191,9 +209,6 @@ module _ (laws : HistoryLaws) (v : View) (sessions : ℕ) (said : List Said) (ho
 
     made_next : Makes (next_known t (work_in it.by) it.begin table key was next stamp next_succ writer).by puts_u.1.0
     made_next = made t (work_in it.by) it.begin table key was next stamp next_succ writer
-
-    got : HasLine (λ e. Rattle.erm_tight.proofs.Marks.Touching table key e) t
-    got = (gets.line, subst (λ (es : List Exchange). gets.line ∈ es) (sym gets.split) (∈-second gets.before (gets.line ∷ gets.after) gets.line (∈-head gets.line gets.after)), inl gets.gets)
 
     -- it didn't overwrite the record itself
     not_claimed : (c : VersionWritten) → c ∈ it.by.writes → c.oid ≡ puts_u.1.0 → ⊥
@@ -214,7 +229,7 @@ module _ (laws : HistoryLaws) (v : View) (sessions : ℕ) (said : List Said) (ho
     high_of =
         let less : by_u.by.stamp < it.by.begin = omega (arith, was.below, by_u.stamp_is, it.begin) in
         let found = record_at table key by_u.by by_u.within puts_u it.by it.within less in
-        elim (it.marks.touched (began it.by it.within).rows (began it.by it.within).sound (fits_at it.by it.within) table key puts_u.1.0 got found) as (λ _. succ ≤ next_succ) [
+        elim (it.marks.touched (began it.by it.within).rows (began it.by it.within).sound (fits_at it.by it.within) table key puts_u.1.0 (got t table key gets) found) as (λ _. succ ≤ next_succ) [
           | inl read ↦
               let d = read_in it.by.reads puts_u.1.0 read in
               omega (arith, counts d.0 d.1 d.2, it.succ_is, by_next.succ_is)
@@ -223,12 +238,9 @@ module _ (laws : HistoryLaws) (v : View) (sessions : ℕ) (said : List Said) (ho
               absurd (not_claimed c.0 c.1 c.2)
         ]
 
-  -- of one that was excluded, where no commit below its stamp that overwrote what it read has a lower successor stamp
-  module _ (bounded : ExcludedAreBounded v) (t : Transaction) (it : IsOne v t) (own succ pred : ℕ) (is : it.one.fate ≡ world.excluded own succ pred) (table key : ℕ) (gets : GetsUntidied t table key)
+  -- of one that was excluded
+  module _ (orderly : IsOrderly v) (t : Transaction) (it : IsOne v t) (own succ pred : ℕ) (is : it.one.fate ≡ world.excluded own succ pred) (table key : ℕ) (gets : GetsFirst t table key)
       (was : WasPut all table key t.begin) (next : Transaction) (stamp next_succ : ℕ) (writer : IsNextWriter all table key t.begin next stamp next_succ) (before : stamp < own) where
-    abbrev w : Work
-    w = it.one.work
-
     begin : t.begin ≡ it.one.work.begin
     begin = it.both.tells.work.begin
 
@@ -238,50 +250,55 @@ module _ (laws : HistoryLaws) (v : View) (sessions : ℕ) (said : List Said) (ho
     rows_at : RowsBelow v it.one.work.begin
     rows_at = below_at it.one.work.begin (begins_above sound_law v holds it.seat it.one.work it.session has)
 
-    none_before : (d : Exchange) → d ∈ gets.first.before → Overwriting table key d → ⊥
-    none_before d within (inl puts) = gets.first.none d within (inl puts)
-    none_before d within (inr (inl deletes)) = gets.first.none d within (inr deletes)
-    none_before d within (inr (inr tidies)) = gets.none d within tidies
+    -- beside it stands each commit below its stamp
+    beside : (r : TransactionRecord) → r ∈ history_of v → r.stamp < own → IsBeside it.one.work succ r
+    beside r within less =
+        let over : record { work = it.one.work; fate = world.excluded own succ pred } ∈ (v.session it.seat).over =
+        subst (λ (f : Fate). record { work = it.one.work; fate = f } ∈ (v.session it.seat).over) is it.over in
+        (orderly.excluded it.seat own succ pred it.one.work it.session over).decided r within less
 
     pub excluded_of : succ ≤ next_succ
     excluded_of =
         let by = u_known t it.one.work begin table key was next stamp next_succ writer in
         let puts = u_put t it.one.work begin table key was next stamp next_succ writer in
         let after = next_known t it.one.work begin table key was next stamp next_succ writer in
+        let makes = made t it.one.work begin table key was next stamp next_succ writer in
         let found = (rows_at.put by.by by.within (omega (arith, was.below, by.stamp_is, begin)) table key puts).0 in
         let marks = it.both.marked.marks own (ap world.stamp_of is) in
-        let read = marks.first rows_at.rows rows_at.sound (rows_at.fits it.seat it.one.work it.session has refl) table key puts.1.0 gets.first.before gets.first.after gets.first.line gets.first.split gets.first.gets none_before found in
-        let d = read_in it.one.work.reads puts.1.0 read in
-        let over = overwrites t it.one.work begin table key was next stamp next_succ writer (λ e m. (holds.sees it.seat it.one.work it.session has).reads e m) d.0 d.1 d.2 in
-        omega (arith, bounded it.seat it.one own succ pred it.session it.over is after.by after.within (omega (arith, before, after.stamp_is)) (d.0, d.1, over), after.succ_is)
+        let next_to = beside after.by after.within (omega (arith, before, after.stamp_is)) in
+        elim (marks.touched rows_at.rows rows_at.sound (rows_at.fits it.seat it.one.work it.session has refl) table key puts.1.0 (got t table key gets) found) as (λ _. succ ≤ next_succ) [
+          | inl read ↦
+              let d = read_in it.one.work.reads puts.1.0 read in
+              let over = overwrites t it.one.work begin table key was next stamp next_succ writer (λ e m. (holds.sees it.seat it.one.work it.session has).reads e m) d.0 d.1 d.2 in
+              omega (arith, next_to.reads (d.0, d.1, over), after.succ_is)
+          | inr claimed ↦ absurd (omega (arith, next_to.claims puts.1.0 claimed makes, writer.above, after.stamp_is, begin))
+        ]
 
-  pub high_ends : (t : Transaction) (own succ : ℕ) → IsCommit all t own succ → IsHighEnd all t own succ
-  high_ends t own succ commit table key stamp next_succ next gets was writer before = high_of t own succ (known t own succ commit) table key gets was next stamp next_succ writer before
-
-  -- with the low end, each commit's window is tight
-  pub tight_at : (t : Transaction) → t ∈ all → (ending : Ending) → t.ending ≡ ending → IsLowAt ending all t → IsTightCommit ending all t
-  tight_at t m Unfinished is low = tt
-  tight_at t m (Commits stamp succ pred) is low = record { low = low; high = high_ends t stamp succ (record { of = m; pred = pred; ending = is }) }
-  tight_at t m (Excludes None succ pred) is low = tt
-  tight_at t m (Excludes (Some stamp) succ pred) is low = tt
-  tight_at t m Aborts is low = tt
-
-  module _ (bounded : ExcludedAreBounded v) (t : Transaction) (it : IsOne v t) where
-    excluded_with : (fate : Fate) → it.one.fate ≡ fate → (own succ pred : ℕ) → EndsAs (Excludes (Some own) succ pred) fate → IsUntidiedHighEnd all t own succ
+  -- each transaction's window is tight
+  module _ (orderly : IsOrderly v) (t : Transaction) (it : IsOne v t) where
+    excluded_with : (fate : Fate) → it.one.fate ≡ fate → (own succ pred : ℕ) → EndsAs (Excludes (Some own) succ pred) fate → IsHighEnd all t own succ
     excluded_with (world.excluded s u p) is own succ pred ends table key stamp next_succ next gets was writer before =
-        omega (arith, ends.1, excluded_of bounded t it s u p is table key gets was next stamp next_succ writer (omega (arith, before, ends.0)))
+        omega (arith, ends.1, excluded_of orderly t it s u p is table key gets was next stamp next_succ writer (omega (arith, before, ends.0)))
     excluded_with (world.commits s u p) is own succ pred ends table key stamp next_succ next gets was writer before = absurd ends
     excluded_with world.aborts is own succ pred ends table key stamp next_succ next gets was writer before = absurd ends
 
-    high_at : (ending : Ending) → t.ending ≡ ending → IsHighAt ending all t
-    high_at Unfinished is = tt
-    high_at (Commits stamp succ pred) is = tt
-    high_at (Excludes None succ pred) is = tt
-    high_at (Excludes (Some stamp) succ pred) is = excluded_with it.one.fate refl stamp succ pred (subst (λ (e : Ending). EndsAs e it.one.fate) is it.both.tells.ends)
-    high_at Aborts is = tt
+    high_at : t ∈ all → (ending : Ending) → t.ending ≡ ending → IsHighAt ending all t
+    high_at m Unfinished is = tt
+    high_at m (Commits own succ pred) is = λ table key stamp next_succ next gets was writer before.
+        high_of t own succ (known t own succ (record { of = m; pred = pred; ending = is })) table key gets was next stamp next_succ writer before
+    high_at m (Excludes None succ pred) is = tt
+    high_at m (Excludes (Some stamp) succ pred) is = excluded_with it.one.fate refl stamp succ pred (subst (λ (e : Ending). EndsAs e it.one.fate) is it.both.tells.ends)
+    high_at m Aborts is = tt
 
-  pub excluded_ends : ExcludedAreBounded v → (t : Transaction) → t ∈ all → IsHighAt t.ending all t
-  excluded_ends bounded t m = elim (one_told v sessions said of tells marked t m) as (λ _. IsHighAt t.ending all t) [
-    | inl it ↦ high_at bounded t it t.ending refl
-    | inr none ↦ subst (λ (e : Ending). IsHighAt e all t) (sym none) tt
+  both_ends : (t : Transaction) (ending : Ending) → IsLowAt ending all t → IsHighAt ending all t → IsTightAt ending all t
+  both_ends t Unfinished low high = tt
+  both_ends t (Commits stamp succ pred) low high = record { low = low; high = high }
+  both_ends t (Excludes None succ pred) low high = tt
+  both_ends t (Excludes (Some stamp) succ pred) low high = record { low = low; high = high }
+  both_ends t Aborts low high = tt
+
+  pub tight_windows : IsOrderly v → HaveTightWindows all
+  tight_windows orderly t m = elim (one_told v sessions said of tells marked t m) as (λ _. IsTightAt t.ending all t) [
+    | inl it ↦ both_ends t t.ending (low_ends laws v sessions said holds of tells marked t m) (high_at orderly t it m t.ending refl)
+    | inr none ↦ subst (λ (e : Ending). IsTightAt e all t) (sym none) tt
   ]

@@ -10,7 +10,7 @@ use Rattle.erm_node.specs.Node.{node_of}
 use Rattle.erm_node.specs.Sound.{IsSound, sound_law}
 use Rattle.erm_node.specs.TreeMap.{record_in, value_in}
 use Rattle.erm_tree.proofs.Records.{DifferAtRecords, IsSound-same, reached-same, record_in-same}
-use Rattle.erm_causes.proofs.Ran.{AreReading}
+use Rattle.erm_told_limits.proofs.Ran.{AreReading}
 use Rattle.erm_tight.proofs.Alike.{AreWriting, SameBut, after_alike, other_row, own_row, tells_alike, unwritten, written_same}
 
 -- What records and nodes are.

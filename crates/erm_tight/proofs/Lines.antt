@@ -22,7 +22,7 @@ use Rattle.erm_good_report.specs.Windows.{IsReplied, IsTidied}
 use Rattle.erm_lines.specs.Answers.{DidOperation, WasRefusedAs, stop_told}
 use Rattle.erm_lines.specs.Operations.{AsksOf, FrontOf, Ran, WereCutOff}
 use Rattle.erm_causes.proofs.Operated.{EndsBy, GoesOnBy, excluded_done, newer_done, owned_done}
-use Rattle.erm_causes.proofs.Ran.{ran}
+use Rattle.erm_told_limits.proofs.Ran.{ran}
 use Rattle.erm_tight.proofs.Calls.{same_kept}
 use Rattle.erm_tight.proofs.Marks.{LineDid, Overwriting}
 use Rattle.erm_tight.proofs.Whole.{KeyLaws, Overwrites, WholeDid, front_only, tidy_did, whole_did}

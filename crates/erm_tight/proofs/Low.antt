@@ -10,11 +10,17 @@ use Rattle.erm_good_report.specs.Transactions.{Aborts, Commits, Ending, Excludes
 use Rattle.erm_good_report.specs.Windows.{IsLowEnd}
 use Rattle.erm_lines.specs.Told.{EndsAs, Tells}
 use Rattle.erm_causes.proofs.Begun.{HistoryLaws}
-use Rattle.erm_tight.specs.Ends.{IsLowAt}
+use Rattle.erm_tight.proofs.Found.{claimed_in, read_in}
 use Rattle.erm_tight.proofs.Moves.{IsMarked}
 use Rattle.erm_tight.proofs.Quiet.{AreBelow, IsBounded}
 use Rattle.erm_tight.proofs.Serial.{RowsBelow, rows_below}
-use Rattle.erm_tight.proofs.Told.{IsOne, claimed_in, commit_known, one_told, read_in, record_told}
+use Rattle.erm_tight.proofs.Told.{IsOne, commit_known, one_told, record_told}
+
+-- the window of a transaction that has its commit stamp is tight at its low end
+abbrev pub IsLowAt : Ending → List Transaction → Transaction → Type 0
+IsLowAt (Commits stamp succ pred) transactions t = IsLowEnd transactions t pred
+IsLowAt (Excludes (Some stamp) succ pred) transactions t = IsLowEnd transactions t pred
+IsLowAt ending transactions t = Unit {0}
 
 module _ (laws : HistoryLaws) (v : View) (sessions : ℕ) (said : List Said) (holds : IsSerializable sound_law v) (of : sessions ≡ v.opening.sessions)
     (tells : (seat : ℕ) → IsSession v seat → Tells seat (progress_of seat said) (v.session seat))

@@ -1,5 +1,5 @@
 -- What a transaction's lines tell of the records of keys that its work has touched, on whatever sound rows it may have begun.
-use Rattle.std.proofs.Common.{◌≡◌, ℕ, ◌<◌, ◌≤◌, ◌⊎◌, true, is_some, List, [], ◌∷◌, ◌++◌, Some, inl, inr, refl, sym, ap, ◌∙◌, subst}
+use Rattle.std.proofs.Common.{◌≡◌, ℕ, ◌<◌, ◌≤◌, ◌⊎◌, true, List, [], ◌∷◌, ◌++◌, Some, inl, inr, sym, ap, ◌∙◌, subst}
 use Rattle.erm_model.specs.Lawful.{times_made}
 use Rattle.erm_model.specs.Member.{◌∈◌}
 use Rattle.erm_model.proofs.Members.{none_in_nil}
@@ -10,15 +10,14 @@ use Rattle.erm_node.specs.Sound.{IsSound, sound_law}
 use Rattle.erm_node.specs.TreeMap.{record_in}
 use Rattle.erm_tree.specs.Tables.{AreClaiming}
 use Rattle.erm_world.specs.Laws.{FitsWork, IsLawfulWork}
-use Rattle.erm_world.specs.Works.{is_claimed, row_read, seen_by}
+use Rattle.erm_world.specs.Works.{is_claimed, seen_by}
 use Rattle.erm_world.specs.World.{Work}
 use Rattle.erm_world.specs.World as world
 use Rattle.erm_world.proofs.Lists.{∈-before, ∈-last, ∈-parts}
-use Rattle.erm_script.specs.declared.script.Command.TheVariants as command
 use Rattle.erm_good_report.specs.Transactions.{Exchange}
 use Rattle.erm_good_report.specs.Windows.{DeletesKey, GetsKey, PutsKey, TidiesKey}
 use Rattle.erm_causes.proofs.Coloured.{agrees_with}
-use Rattle.erm_causes.proofs.Ran.{MovesAll}
+use Rattle.erm_told_limits.proofs.Ran.{MovesAll}
 use Rattle.erm_tight.proofs.Calls.{KeepsRecords}
 use Rattle.erm_tight.proofs.Went.{IsTouched, Leaves}
 use Rattle.erm_tight.proofs.Whole.{ClaimsRecord, OnAll, PutsRecord, ReadsRecord}
@@ -54,8 +53,6 @@ pub record Marks (lines : List Exchange) (w : Work) : Type 0 where
   pub puts : (table key : ℕ) → HasIn (PutsKey table key) lines → Puts w table key
   pub changes : OnFit w (λ rows. (table key x : ℕ) → HasIn (Changing table key) lines → record_in rows table key ≡ Some x → is_claimed w.claims x ≡ true)
   pub only : OnFit w (λ rows. (table key x : ℕ) → table < 16 → record_in rows table key ≡ Some x → is_claimed w.claims x ≡ true → HasIn (Overwriting table key) lines)
-  pub first : OnFit w (λ rows. (table key x : ℕ) (before after : List Exchange) (line : Exchange) → lines ≡ before ++ line ∷ after → GetsKey table key line
-      → ((e : Exchange) → e ∈ before → Overwriting table key e → ⊥) → record_in rows table key ≡ Some x → is_some (row_read w.reads x) ≡ true)
 
 -- what a line's events did
 pub record LineDid (e : Exchange) (events : List Event) : Type 0 where
@@ -65,29 +62,6 @@ pub record LineDid (e : Exchange) (events : List Event) : Type 0 where
   pub changes : (table key : ℕ) → Changing table key e → ClaimsRecord events table key
   pub only : OnAll events (λ rows. (table key x : ℕ) → table < 16 → record_in rows table key ≡ Some x → AreClaiming events x → Overwriting table key e)
 
-no_split : (before after : List Exchange) (line : Exchange) → [] ≡ before ++ line ∷ after → ⊥
-no_split [] after line is = cc
-no_split (b ∷ before) after line is = cc
-
--- a place in lines with one more is the last one, or one of theirs
-last_or_before : (lines before after : List Exchange) (e line : Exchange) → lines ++ e ∷ [] ≡ before ++ line ∷ after
-    → ((line ≡ e) × (lines ≡ before)) ⊎ ((rest : List Exchange) × (lines ≡ before ++ line ∷ rest))
-last_or_before [] [] after e line is = inl (cc, refl)
-last_or_before [] (b ∷ before) after e line is = absurd (no_split before after line (cc))
-last_or_before (l ∷ lines) [] after e line is = let same : l ≡ line = cc in inr (lines, ap (λ (x : Exchange). x ∷ lines) same)
-last_or_before (l ∷ lines) (b ∷ before) after e line is =
-    let same : l ≡ b = cc in
-    elim (last_or_before lines before after e line (cc)) as (λ _. ((line ≡ e) × ((l ∷ lines) ≡ (b ∷ before))) ⊎ ((rest : List Exchange) × ((l ∷ lines) ≡ (b ∷ before) ++ line ∷ rest))) [
-      | inl last ↦ let both : lines ≡ before = last.1 in inl (last.0, cc)
-      | inr here ↦ let both : lines ≡ before ++ line ∷ here.0 = here.1 in inr (here.0, cc)
-    ]
-
--- a line that gets a key doesn't overwrite it
-gets_only : (table key : ℕ) (e : Exchange) → GetsKey table key e → Overwriting table key e → ⊥
-gets_only table key e gets (inl puts) = let never : command.Get table key ≡ command.Put table key puts.0.0 = sym gets.0 ∙ puts.0.1 in cc
-gets_only table key e gets (inr (inl deletes)) = let never : command.Get table key ≡ command.Del table key = sym gets.0 ∙ deletes.0 in cc
-gets_only table key e gets (inr (inr tidies)) = let never : command.Get table key ≡ command.Tidy table key = sym gets.0 ∙ tidies.0 in cc
-
 -- a transaction without lines
 pub marks_nothing : (number begin : ℕ) → Marks [] (world.begun number begin)
 marks_nothing number begin = record {
@@ -96,7 +70,6 @@ marks_nothing number begin = record {
   puts = λ table key line. absurd (none_in_nil line.0 line.1);
   changes = λ rows sound fits table key x line is. absurd (none_in_nil line.0 line.1);
   only = λ rows sound fits table key x below is claimed. cc;
-  first = λ rows sound fits table key x before after line split gets none is. absurd (no_split before after line split);
 }
 
 line_of : (P : Exchange → Type 0) (lines : List Exchange) (e : Exchange) → HasIn P (lines ++ e ∷ []) → HasIn P lines ⊎ P e
@@ -165,26 +138,6 @@ module _ (lines : List Exchange) (w u : Work) (e : Exchange) (events : List Even
       | inr by ↦ (e, ∈-last lines e, did.only (seen_by w rows) on.0 on.1 table key x below (here table key x below is) by)
     ]
 
-    first_now : (table key x : ℕ) → GetsKey table key e → ((d : Exchange) → d ∈ lines → Overwriting table key d → ⊥) → record_in rows table key ≡ Some x → is_some (row_read u.reads x) ≡ true
-    first_now table key x gets none is =
-        let reads = did.gets table key gets in
-        let there = here table key x reads.0 is in
-        elim (left.reads x (reads.1 (seen_by w rows) on.0 on.1 x there)) as (λ _. is_some (row_read u.reads x) ≡ true) [
-          | inl read ↦ read
-          | inr claimed ↦ elim (moves.claims x claimed) as (λ _. is_some (row_read u.reads x) ≡ true) [
-            | inl before ↦ let had = marks.only rows sound fits_before table key x reads.0 is before in absurd (none had.0 had.1 had.2)
-            | inr by ↦ absurd (gets_only table key e gets (did.only (seen_by w rows) on.0 on.1 table key x reads.0 there by))
-          ]
-        ]
-
-    first_then : (table key x : ℕ) (before after : List Exchange) (line : Exchange) → lines ++ e ∷ [] ≡ before ++ line ∷ after → GetsKey table key line
-        → ((d : Exchange) → d ∈ before → Overwriting table key d → ⊥) → record_in rows table key ≡ Some x → is_some (row_read u.reads x) ≡ true
-    first_then table key x before after line split gets none is = elim (last_or_before lines before after e line split) as (λ _. is_some (row_read u.reads x) ≡ true) [
-      | inl last ↦
-          first_now table key x (subst (λ (d : Exchange). GetsKey table key d) last.0 gets) (λ d within. none d (subst (λ (ds : List Exchange). d ∈ ds) last.1 within)) is
-      | inr earlier ↦ left.read x (marks.first rows sound fits_before table key x before earlier.0 line earlier.1 gets none is)
-    ]
-
   pub marks_then : Marks (lines ++ e ∷ []) u
   marks_then = record {
     kept = kept_then;
@@ -197,5 +150,4 @@ module _ (lines : List Exchange) (w u : Work) (e : Exchange) (events : List Even
     ];
     changes = changes_then;
     only = only_then;
-    first = first_then;
   }

@@ -1,5 +1,5 @@
 -- Each move of an execution leaves all sessions so that their transactions' lines tell what they touched.
-use Rattle.std.proofs.Common.{◌≡◌, ◌≢◌, ℕ, cond, List, [], ◌∷◌, ◌++◌, Option, Some, None, append-nil, inl, inr, refl, sym, ap, ◌∙◌, subst}
+use Rattle.std.proofs.Common.{◌≡◌, ◌≢◌, ℕ, cond, List, [], ◌∷◌, ◌++◌, Option, Some, None, append-nil, inl, inr, refl, sym, ap, ◌∙◌, subst, ne_eqb}
 use Rattle.std.specs.Option.{option_map, option_to_list}
 use Rattle.std.proofs.lemmas.Bool.Decides.{eqb_tells}
 use Rattle.erm_model.specs.declared.outcome.Phase.TheVariants.{Active}
@@ -14,13 +14,14 @@ use Rattle.erm_report.specs.declared.answer.Answer.{Answer}
 use Rattle.erm_script.specs.declared.script.Command.{Command}
 use Rattle.erm_script.specs.Script.{IsInRange}
 use Rattle.erm_good_report.specs.Transactions.{Ending, Exchange, Progress, Transaction, ended, goes_on, heard, nothing, table_of, with_ending, with_line}
-use Rattle.erm_lines.specs.Executions.{DidMove, IsExecution, IsOpened, Move, close, flush, line}
+use Rattle.erm_lines.specs.Executions.{DidFlush, DidMove, IsExecution, IsOpened, Move, close, flush, line, log}
+use Rattle.erm_lines.proofs.Moved.{log_flushes, log_of_none}
 use Rattle.erm_causes.proofs.Answered.{done_turned, operated_turned}
 use Rattle.erm_causes.proofs.Fine.{Turned, still_session, turned_then}
 use Rattle.erm_causes.proofs.Lines.{made_at_once}
 use Rattle.erm_causes.proofs.Moves.{IsMoveInRange, heard_move, heard_one, session_before}
 use Rattle.erm_causes.proofs.Operated.{operated}
-use Rattle.erm_causes.proofs.Ran.{ran}
+use Rattle.erm_told_limits.proofs.Ran.{ran}
 use Rattle.erm_causes.proofs.Tables.{AreMovesInRange, heard_moves}
 use Rattle.erm_tight.proofs.Lines.{Called, called}
 use Rattle.erm_tight.proofs.Lines as called
@@ -137,12 +138,12 @@ quiet_marked : ((number begin : ℕ) → IsRunOf (world.begun number begin) []) 
     → Quiet v seat asked a t → IsMarked p (v.session seat) → IsMarked (heard seat asked a p) (t.session seat)
 quiet_marked run v seat asked a t p holds (quiet.still is hears) marked =
     subst (λ (x : View). IsMarked (heard seat asked a p) (x.session seat)) (sym is) (same_marked p (heard seat asked a p) (v.session seat) (hears seat p) marked)
-quiet_marked run v seat asked a t p holds (quiet.begins number begin idle works hears) marked =
+quiet_marked run v seat asked a t p holds (quiet.begins number begin idle at works hears) marked =
     let heard_is = hears seat p in
     subst (λ (q : Progress). IsMarked q (t.session seat)) (sym heard_is.1) (begun_marked v t seat number begin p heard_is.0 heard_is.2 (run number begin) works marked)
 quiet_marked run v seat asked a t p holds (quiet.seals stamp active did hears) marked =
     same_marked p (heard seat asked a p) (t.session seat) (hears seat p) (seal_marked v t seat stamp p active did marked)
-quiet_marked run v seat asked a t p holds (quiet.done w fate ending now did bounded hears) marked =
+quiet_marked run v seat asked a t p holds (quiet.done w fate ending now did bounded decides hears) marked =
     subst (λ (q : Progress). IsMarked q (t.session seat)) (sym (hears seat p)) (done_marked v t seat w fate ending p now did (bounded holds) marked)
 
 own_turned : (v t : View) (seat : ℕ) (stand : Stand) → t.session seat ≡ record { over = (v.session seat).over; stand = stand } → ((q : ℕ) → q ≢ seat → t.session q ≡ v.session q)
@@ -164,9 +165,9 @@ itself_turned v t seat is = record {
 
 quiet_turned : (v : View) (seat : ℕ) (asked : Option Command) (a : Answer) (t : View) → Quiet v seat asked a t → Turned v seat t
 quiet_turned v seat asked a t (quiet.still is hears) = itself_turned v t seat is
-quiet_turned v seat asked a t (quiet.begins number begin idle works hears) = own_turned v t seat (world.active (world.begun number begin)) works.own works.others works.opening
+quiet_turned v seat asked a t (quiet.begins number begin idle at works hears) = own_turned v t seat (world.active (world.begun number begin)) works.own works.others works.opening
 quiet_turned v seat asked a t (quiet.seals stamp active did hears) = own_turned v t seat (world.sealed (work_at v seat) stamp) did.own did.others did.opening
-quiet_turned v seat asked a t (quiet.done w fate ending now did bounded hears) = done_turned v t seat w fate did
+quiet_turned v seat asked a t (quiet.done w fate ending now did bounded decides hears) = done_turned v t seat w fate did
 
 lined_turned : (v t : View) (seat : ℕ) (c : Command) (a : Answer) → Lined v seat c a t → Turned v seat t
 lined_turned v t seat c a (quiet.quiet did) = quiet_turned v seat (Some c) a t did
@@ -230,16 +231,22 @@ module _ (laws : KeyLaws) (run : (number begin : ℕ) → IsRunOf (world.begun n
     lined_marked seat c a session range (quiet.named k names active did) =
         called_marked v t seat c a k session active names holds (p seat) (marked seat session) (called laws v t seat c k names range active a did)
 
+    flushed_marked : DidFlush v t → AllMarked p t
+    flushed_marked did q session =
+        let before = session_before v t q did.opening session in
+        subst (λ (s : Session). IsMarked (p q) s) (sym (did.session q before)) (marked q before)
+
     move_marked : (m : Move) → DidMove v m t → IsMoveInRange m → AllMarked (heard_move m p) t
     move_marked (line l a) did range =
         let it = lined v l a t did in
         all_turned p v t l.session (Some l.command) a (lined_turned v t l.session l.command a it) marked (lined_marked l.session l.command a did.session range it)
+    move_marked (log l a) did range = λ q session.
+        subst (λ (r : Progress). IsMarked r (t.session q)) (ap (λ b. cond b (heard q (Some l.command) a (p q)) (p q)) (sym (ne_eqb l.session q (log_of_none v t l a q did session.0))))
+        (flushed_marked (log_flushes v t l a did) q session)
     move_marked (close seat a) did range =
         let it = closed_quiet v seat a t did in
         all_turned p v t seat None a (quiet_turned v seat None a t it) marked (quiet_marked run v seat None a t (p seat) holds it (marked seat did.session))
-    move_marked flush did range = λ q session.
-        let before = session_before v t q did.opening session in
-        subst (λ (s : Session). IsMarked (p q) s) (sym (did.session q before)) (marked q before)
+    move_marked flush did range = flushed_marked did
 
   pub run_marked : (moves : List Move) (p : ℕ → Progress) (v t : View) (execution : IsExecution v moves t) → AreMovesInRange moves → AllMarked p v → AllMarked (heard_moves moves p) t
   run_marked [] p v t execution range marked = subst (AllMarked p) (sym execution) marked

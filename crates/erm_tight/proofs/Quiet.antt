@@ -21,10 +21,12 @@ use Rattle.erm_script.specs.declared.script.Command.TheVariants as command
 use Rattle.erm_script.specs.declared.script.ScriptLine.{ScriptLine}
 use Rattle.erm_good_report.specs.Phases.{Closes, FitsRefusal, phase_asked, refusal_for, refusal_of}
 use Rattle.erm_good_report.specs.Transactions.{Aborts, Commits, Ending, Excludes, Progress, Transaction, begun, ended, goes_on, heard, table_of, with_line, with_seal}
-use Rattle.erm_lines.specs.Answers.{DidAsked, DidClose, DidCommand, DidDecide, DidLine, DidOperation}
+use Rattle.erm_lines.specs.Answers.{DidAskDurable, DidAsked, DidClose, DidCommand, DidDecide, DidLine, DidOperation}
 use Rattle.erm_lines.specs.Executions.{DidEnd}
+use Rattle.erm_lines.proofs.Moved.{asked_still}
 use Rattle.erm_causes.proofs.Fine.{still_session}
-use Rattle.erm_causes.proofs.Ran.{active_with}
+use Rattle.erm_told_limits.proofs.Ran.{active_with}
+use Rattle.erm_tight.proofs.Undecided.{Decides}
 
 -- a line that names no table, or no line
 abbrev pub NamesNone : Option Command → Type 0
@@ -120,20 +122,20 @@ module _ (v t : View) (seat : ℕ) (w : Work) (fate : Fate) (stamp succ pred : �
 -- DECIDED. Or nothing was touched.
 pub data Quiet (v : View) (seat : ℕ) (asked : Option Command) (a : Answer) (t : View) : Type 0 where
   still : t ≡ v → StillBy asked a → Quiet v seat asked a t
-  begins : (number begin : ℕ) → (v.session seat).stand ≡ world.idle → Works v seat (world.begun number begin) t → BeginsBy asked a → Quiet v seat asked a t
+  begins : (number begin : ℕ) → (v.session seat).stand ≡ world.idle → begin ≡ v.tail → Works v seat (world.begun number begin) t → BeginsBy asked a → Quiet v seat asked a t
   seals : (stamp : ℕ) → phase_at v seat ≡ Active → DidSeal v seat stamp t → StillBy asked a → Quiet v seat asked a t
   done : (w : Work) (fate : Fate) (ending : Ending) → HasNow (v.session seat).stand w → IsDone v seat w fate t
-      → (IsSerializable sound_law t → IsBounded w fate) → DoneBy asked a ending → Quiet v seat asked a t
+      → (IsSerializable sound_law t → IsBounded w fate) → Decides v seat w fate t → DoneBy asked a ending → Quiet v seat asked a t
 
 -- a sealed one was decided, or waits
 pub decided : (v t : View) (seat : ℕ) (asked : Option Command) (a : Answer) → IsSession v seat → NamesNone asked → DidDecide v seat a t → Quiet v seat asked a t
-decided v t seat asked (answer.Committed stamp succ pred) session none (r, at, is_succ, is_pred, (w, own, stand, settled)) =
+decided v t seat asked (answer.Committed stamp succ pred) session none (r, at, is_succ, is_pred, (w, own, stand, ready, settled)) =
     done w (world.commits own r.succ r.pred) (Commits stamp succ pred) (inr (own, stand)) settled.0
-    (λ holds. are_below v t seat w (world.commits own r.succ r.pred) own r.succ r.pred session settled.0 refl settled.5 holds) (λ q p. refl)
-decided v t seat asked (answer.Excluded stamp succ pred) session none (w, own, stand, settled) =
+    (λ holds. are_below v t seat w (world.commits own r.succ r.pred) own r.succ r.pred session settled.0 refl settled.5 holds) stand (λ q p. refl)
+decided v t seat asked (answer.Excluded stamp succ pred) session none (w, own, stand, ready, settled) =
     done w (world.excluded own succ pred) (Excludes (Some stamp) succ pred) (inr (own, stand)) settled.0
     (λ holds. are_below v t seat w (world.excluded own succ pred) own succ pred session settled.0 refl settled.3 holds)
-    (λ q p. refl)
+    (stand, ready, settled.2) (λ q p. refl)
 decided v t seat asked (answer.WaitSeat other seen) session none did = still did.0 (λ q p. same_goes_on asked (answer.WaitSeat other seen) p none)
 decided v t seat asked (answer.WaitRing flushed) session none did = still did.0 (λ q p. same_goes_on asked (answer.WaitRing flushed) p none)
 decided v t seat asked a session none did = absurd did
@@ -175,7 +177,7 @@ pub data Lined (v : View) (seat : ℕ) (c : Command) (a : Answer) (t : View) : T
 module _ (v t : View) (seat : ℕ) (session : IsSession v seat) where
   begun_line : (a : Answer) → refusal_of (phase_at v seat) command.Begin ≡ None → DidCommand v seat command.Begin a t → Lined v seat command.Begin a t
   begun_line (answer.Began begin) free did =
-      quiet (begins (length (v.session seat).over + 1) begin (idle_with (v.session seat).stand (wants_idle (phase_at v seat) free)) did.3 (λ q p. (begun q begin p, refl, refl)))
+      quiet (begins (length (v.session seat).over + 1) begin (idle_with (v.session seat).stand (wants_idle (phase_at v seat) free)) did.2 did.3 (λ q p. (begun q begin p, refl, refl)))
   begun_line (answer.LogEnd tail) free did = quiet (still did.0 (λ q p. same_goes_on (Some command.Begin) (answer.LogEnd tail) p refl))
   begun_line answer.NumbersEnd free did = quiet (still did.0 (λ q p. same_goes_on (Some command.Begin) answer.NumbersEnd p refl))
   begun_line a free did = absurd did
@@ -190,7 +192,7 @@ module _ (v t : View) (seat : ℕ) (session : IsSession v seat) where
 
   aborted_line : (a : Answer) → refusal_of (phase_at v seat) command.Abort ≡ None → DidCommand v seat command.Abort a t → Lined v seat command.Abort a t
   aborted_line answer.Aborted free did =
-      quiet (done (work_at v seat) world.aborts Aborts (inl (active_with (v.session seat).stand (wants_active (phase_at v seat) free))) did (λ holds. tt) (λ q p. refl))
+      quiet (done (work_at v seat) world.aborts Aborts (inl (active_with (v.session seat).stand (wants_active (phase_at v seat) free))) did (λ holds. tt) tt (λ q p. refl))
   aborted_line a free did = absurd did
 
   committed_line : (a : Answer) → refusal_of (phase_at v seat) command.Commit ≡ None → DidCommand v seat command.Commit a t → Lined v seat command.Commit a t
@@ -200,6 +202,12 @@ module _ (v t : View) (seat : ℕ) (session : IsSession v seat) where
 
   named_line : (c : Command) (a : Answer) (k : ℕ) → table_of c ≡ Some k → phase_at v seat ≡ Active → DidOperation v seat c a t → Lined v seat c a t
   named_line c a k names active did = named k names active did
+
+  durable_heard : (a : Answer) → DidAskDurable v seat a t → StillBy (Some command.Durable) a
+  durable_heard (answer.Durable stamp) did = λ q p. same_goes_on (Some command.Durable) (answer.Durable stamp) p refl
+  durable_heard (answer.NotFlushed flushed) did = λ q p. same_goes_on (Some command.Durable) (answer.NotFlushed flushed) p refl
+  durable_heard answer.NoReceipt did = λ q p. same_goes_on (Some command.Durable) answer.NoReceipt p refl
+  durable_heard a did = absurd did
 
   commanded : (c : Command) (a : Answer) → refusal_of (phase_at v seat) c ≡ None → DidCommand v seat c a t → Lined v seat c a t
   commanded command.Begin a free did = begun_line a free did
@@ -213,7 +221,7 @@ module _ (v t : View) (seat : ℕ) (session : IsSession v seat) where
   commanded (command.Next k from) a free did = named_line (command.Next k from) a k refl (wants_active (phase_at v seat) free) did
   commanded (command.Scan k low high) a free did = named_line (command.Scan k low high) a k refl (wants_active (phase_at v seat) free) did
   commanded (command.Tidy k key) a free did = named_line (command.Tidy k key) a k refl (wants_active (phase_at v seat) free) did
-  commanded command.Durable a free did = absurd did
+  commanded command.Durable a free did = quiet (still (asked_still v t seat a did) (durable_heard a did))
   commanded command.Flush a free did = absurd did
   commanded command.Checkpoint a free did = absurd did
 
@@ -225,7 +233,7 @@ module _ (v t : View) (seat : ℕ) (session : IsSession v seat) where
   closed_as : (a : Answer) (phase : Phase) → phase_at v seat ≡ phase → Closes phase a → DidClose phase v seat a t → Quiet v seat None a t
   closed_as a Idle is closes did = absurd did
   closed_as answer.Aborted Active is closes did =
-      done (work_at v seat) world.aborts Aborts (inl (active_with (v.session seat).stand is)) did (λ holds. tt) (λ q p. refl)
+      done (work_at v seat) world.aborts Aborts (inl (active_with (v.session seat).stand is)) did (λ holds. tt) tt (λ q p. refl)
   closed_as a Active is closes did = absurd closes
   closed_as a Sealed is closes did = decided v t seat None a session tt did
 

@@ -9,7 +9,7 @@ use Rattle.erm_maps.specs.Runs.{IsRunOf}
 use Rattle.erm_good_report.specs.GoodReport.{places_of}
 use Rattle.erm_good_report.specs.Phases.{Closed}
 use Rattle.erm_good_report.specs.Transactions.{Progress, Said, nothing, progress_of, said_of}
-use Rattle.erm_lines.specs.Executions.{AreClosed, IsLast, IsRun, Move, close, closed_in, flush, line, line_moves, said_in}
+use Rattle.erm_lines.specs.Executions.{AreClosed, IsLast, IsRun, Move, close, closed_in, flush, line, line_moves, log, said_in}
 use Rattle.erm_told.proofs.Closing.{AreLast, are_last, close_said, closed_once, closes_said, heard_alike}
 use Rattle.erm_told.proofs.Executed.{hears}
 use Rattle.erm_told.proofs.Pairs.{Pairs, all_of, pairs_of}
@@ -23,6 +23,7 @@ use Rattle.erm_tight.proofs.Whole.{KeyLaws}
 last_range : (moves : List Move) → AreLast moves → AreMovesInRange moves
 last_range [] last = tt
 last_range (line l a ∷ moves) last = absurd last.0
+last_range (log l a ∷ moves) last = absurd last.0
 last_range (close seat a ∷ moves) last = (tt, last_range moves last.1)
 last_range (flush ∷ moves) last = (tt, last_range moves last.1)
 

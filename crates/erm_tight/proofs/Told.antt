@@ -1,19 +1,14 @@
 -- The transactions that a report tells beside those of the world, with what their lines tell of the records that they touched.
-use Rattle.std.proofs.Common.{◌≡◌, ℕ, zero, suc, ◌⊎◌, ◌||◌, Bool, true, is_some, List, [], ◌∷◌, ◌++◌, Option, Some, None, slice_get, flat_map, option_to_list, inl, inr, refl, sym, ap, ◌∙◌, subst, arith}
+use Rattle.std.proofs.Common.{◌≡◌, ℕ, zero, suc, ◌⊎◌, List, [], ◌∷◌, ◌++◌, Option, Some, None, slice_get, flat_map, option_to_list, inl, inr, refl, sym, ap, ◌∙◌, subst, arith}
 use Rattle.std.specs.List.{range_with_len}
-use Rattle.std.proofs.lemmas.Bool.Decides.{eqb_tells}
 use Rattle.erm_model.specs.declared.history.TransactionRecord.{TransactionRecord}
-use Rattle.erm_model.specs.declared.history.VersionRead.{VersionRead}
-use Rattle.erm_model.specs.declared.history.VersionWritten.{VersionWritten}
 use Rattle.erm_model.specs.Member.{◌∈◌}
 use Rattle.erm_model.proofs.Members.{none_in_nil}
 use Rattle.erm_machine.proofs.Listed.{∈-either, ∈-first, ∈-second}
 use Rattle.erm_world.specs.Laws.{IsCommitOf}
-use Rattle.erm_world.specs.Works.{is_claimed, row_read}
 use Rattle.erm_world.specs.World.{Fate, Finished, IsSession, Stand, View, Work, history_of, record_of}
 use Rattle.erm_world.specs.World as world
 use Rattle.erm_world.proofs.Commits.{tells_commits}
-use Rattle.erm_world.proofs.Works.{row_read-found}
 use Rattle.erm_maps.proofs.Histories.{work_in}
 use Rattle.erm_good_report.specs.Transactions.{Aborts, Commits, Ending, Excludes, Unfinished, Said, Transaction, progress_of, transactions_of}
 use Rattle.erm_good_report.specs.Windows.{IsCommit}
@@ -22,21 +17,6 @@ use Rattle.erm_told.proofs.Ranges.{in_range, in_range_from}
 use Rattle.erm_tight.proofs.Marks.{Marks}
 use Rattle.erm_tight.proofs.Moves.{IsMarked, MarkedOne, MarkedOver}
 use Rattle.erm_tight.proofs.Serial.{IsTold}
-
--- what was claimed is one of the claims, and what was read one of the reads
-pub claimed_in : (cs : List VersionWritten) (x : ℕ) → is_claimed cs x ≡ true → (c : VersionWritten) × (c ∈ cs) × (c.oid ≡ x)
-claimed_in [] x is = cc
-claimed_in (c ∷ cs) x is = elim (eqb_tells c.oid x) as (λ _. (d : VersionWritten) × (d ∈ (c ∷ cs)) × (d.oid ≡ x)) [
-  | inl here ↦ (c, (zero, refl), here.1)
-  | inr there ↦ let later = claimed_in cs x (sym (ap (λ (b : Bool). b || is_claimed cs x) there.0) ∙ is) in (later.0, (suc later.1.0, later.1.1), later.2)
-]
-
-pub read_in : (rs : List VersionRead) (x : ℕ) → is_some (row_read rs x) ≡ true → (r : VersionRead) × (r ∈ rs) × (r.oid ≡ x)
-read_in rs x is = found (row_read rs x) refl is
-  where
-    found : (o : Option (List ℕ)) → row_read rs x ≡ o → is_some o ≡ true → (r : VersionRead) × (r ∈ rs) × (r.oid ≡ x)
-    found None at no_row = cc
-    found (Some row) at some = let it = row_read-found rs x row at in (it.0, it.1, it.2)
 
 in_flat : {X Y : Type 0} (f : X → List Y) (xs : List X) (y : Y) → y ∈ flat_map f xs → (x : X) × (x ∈ xs) × (y ∈ f x)
 in_flat f [] y m = absurd (none_in_nil y m)

@@ -15,7 +15,7 @@ use Rattle.erm_tree.specs.Calls.{ReadsAre}
 use Rattle.erm_tree.specs.Change.{AreReadsThen, IsPutOfNew, makes_claims_writes}
 use Rattle.erm_tree.specs.Reads.{AnyOfFan, IsMet, IsOnWay}
 use Rattle.erm_tree.proofs.Insertion.{Each}
-use Rattle.erm_causes.proofs.Ran.{AreReading}
+use Rattle.erm_told_limits.proofs.Ran.{AreReading}
 
 -- an object's row is a node's
 abbrev pub HasNode : Rows → ℕ → Type 0

@@ -9,7 +9,7 @@ use Rattle.erm_world.specs.World.{View, Work, phase_at, phase_of, work_at, work_
 use Rattle.erm_world.proofs.Txns.{went}
 use Rattle.erm_world.proofs.Works.{Moves, work_face}
 use Rattle.erm_lines.specs.Operations.{Ran}
-use Rattle.erm_causes.proofs.Ran.{AreReading}
+use Rattle.erm_told_limits.proofs.Ran.{AreReading}
 
 -- it was read or claimed
 abbrev pub IsTouched : Work → ℕ → Type 0
@@ -20,13 +20,12 @@ pub record Leaves (w : Work) (events : List Event) (u : Work) : Type 0 where
   pub claimed : (x : ℕ) → is_claimed w.claims x ≡ true → is_claimed u.claims x ≡ true
   pub claims : (x : ℕ) → AreClaiming events x → is_claimed u.claims x ≡ true
   pub touched : (x : ℕ) → IsTouched w x → IsTouched u x
-  pub read : (x : ℕ) → is_some (row_read w.reads x) ≡ true → is_some (row_read u.reads x) ≡ true
   pub reads : (x : ℕ) → AreReading events x → IsTouched u x
 
 pub leaves_itself : (w : Work) → Leaves w [] w
-leaves_itself w = record { claimed = λ x is. is; claims = λ x by. absurd by; touched = λ x is. is; read = λ x is. is; reads = λ x by. absurd by }
+leaves_itself w = record { claimed = λ x is. is; claims = λ x by. absurd by; touched = λ x is. is; reads = λ x by. absurd by }
 
-true_or_not : (b : Bool) → (b ≡ true) ⊎ (b ≡ true → ⊥)
+pub true_or_not : (b : Bool) → (b ≡ true) ⊎ (b ≡ true → ⊥)
 true_or_not true = inl refl
 true_or_not false = inr (λ is. cc)
 
@@ -47,7 +46,6 @@ module _ (w : Work) (u : Work) (x_work : Work) where
     claimed = λ x is. rest.claimed x ((first.claims x).1 (inl is));
     claims = λ x by. elim by as (λ _. is_claimed u.claims x ≡ true) [ inl here ↦ rest.claimed x ((first.claims x).1 (inr here)) | inr later ↦ rest.claims x later ];
     touched = λ x is. rest.touched x (still_touched w event x_work first x is);
-    read = λ x is. rest.read x ((first.reads x).1 (inl is));
     reads = reading event events first rest;
   }
     where

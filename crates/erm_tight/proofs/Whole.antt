@@ -24,7 +24,7 @@ use Rattle.erm_script.specs.declared.script.Command.TheVariants as command
 use Rattle.erm_script.specs.Script.{IsInRange}
 use Rattle.erm_good_report.specs.Transactions.{op_of, table_of}
 use Rattle.erm_lines.specs.Operations.{FrontOf, IsRightOn, IsTidy, WholeOf}
-use Rattle.erm_causes.proofs.Ran.{AreReading}
+use Rattle.erm_told_limits.proofs.Ran.{AreReading}
 use Rattle.erm_tight.proofs.Alike.{writes_claim}
 use Rattle.erm_tight.proofs.Calls.{ArePut, KeepsRecords, MapHasValues, del_kept, get_reads, put_kept, put_sets, same_kept}
 use Rattle.erm_tight.proofs.Claims.{NodesReadBack, front_claims, front_new, joined_claims, new_claims, no_claims, split_claims}

@@ -12,7 +12,7 @@ use Rattle.erm_world.specs.World.{IsSession, Session, View, phase_at, phase_of}
 use Rattle.erm_good_report.specs.Phases.{Closed, Closes, phase_after}
 use Rattle.erm_good_report.specs.Transactions.{Progress, Said, heard}
 use Rattle.erm_lines.specs.Answers.{DidClose}
-use Rattle.erm_lines.specs.Executions.{DidEnd, IsExecution, IsLast, Move, close, closed_in, flush, line, said_in}
+use Rattle.erm_lines.specs.Executions.{DidEnd, IsExecution, IsLast, Move, close, closed_in, flush, line, log, said_in}
 use Rattle.erm_told.proofs.Executed.{hears, still_session}
 use Rattle.erm_told.proofs.Lines.{turn_end}
 use Rattle.erm_told.proofs.Pairs.{Pairs}
@@ -34,6 +34,7 @@ are_last (move ∷ moves) all = (all move (∈-head move moves), are_last moves 
 pub closes_said : (moves : List Move) → AreLast moves → said_in moves ≡ map close_said (closed_in moves)
 closes_said [] last = refl
 closes_said (line l a ∷ moves) last = absurd last.0
+closes_said (log l a ∷ moves) last = absurd last.0
 closes_said (close seat a ∷ moves) last = ap (λ (rest : List Said). record { session = seat; asked = None; answer = a } ∷ rest) (closes_said moves last.1)
 closes_said (flush ∷ moves) last = closes_said moves last.1
 
@@ -117,6 +118,7 @@ pub idle_stays : (moves : List Move) (v t : View) (seat : ℕ) → AreLast moves
     → (c : Closed) → c ∈ closed_in moves → c.session ≢ seat
 idle_stays [] v t seat last is session idle c m same = none_in_nil c m
 idle_stays (line l a ∷ moves) v t seat last executed session idle c m same = absurd last.0
+idle_stays (log l a ∷ moves) v t seat last executed session idle c m same = absurd last.0
 idle_stays (close at a ∷ moves) v t seat last (u, did, lawful, rest) session idle c m same =
     let another : seat ≢ at = λ is. idle_now (phase_at v at) v at a u (ap (λ q. phase_at v q) (sym is) ∙ idle) did.did in
     ⊎_elim
@@ -131,6 +133,7 @@ idle_stays (flush ∷ moves) v t seat last (u, did, lawful, rest) session idle c
 pub closed_once : (moves : List Move) (v t : View) → AreLast moves → IsExecution v moves t → Pairs (λ a b. a.session ≢ b.session) (closed_in moves)
 closed_once [] v t last is = tt
 closed_once (line l a ∷ moves) v t last executed = absurd last.0
+closed_once (log l a ∷ moves) v t last executed = absurd last.0
 closed_once (close at a ∷ moves) v t last (u, did, lawful, rest) = (
   λ c m same.
       idle_stays moves u t at last.1 rest (still_session v u at (turn_end v at a u did).opening did.session) (idle_after v at a u did) c m (sym same),
@@ -143,6 +146,7 @@ pub phase_stays : (moves : List Move) (v t : View) (seat : ℕ) → AreLast move
     → ((c : Closed) → c ∈ closed_in moves → c.session ≢ seat) → phase_at t seat ≡ phase_at v seat
 phase_stays [] v t seat last is session none = ap (λ (u : View). phase_at u seat) is
 phase_stays (line l a ∷ moves) v t seat last executed session none = absurd last.0
+phase_stays (log l a ∷ moves) v t seat last executed session none = absurd last.0
 phase_stays (close at a ∷ moves) v t seat last (u, did, lawful, rest) session none =
     let c : Closed = record { session = at; answer = a } in
     phase_stays moves u t seat last.1 rest (still_session v u seat (turn_end v at a u did).opening session) (λ d m. none d (∈-behind c (closed_in moves) d m))
@@ -158,6 +162,7 @@ pub record IsClosing (v : View) (c : Closed) : Type 0 where
 pub closes_fit : (moves : List Move) (v t : View) → AreLast moves → IsExecution v moves t → (c : Closed) → c ∈ closed_in moves → IsClosing v c
 closes_fit [] v t last is c m = absurd (none_in_nil c m)
 closes_fit (line l a ∷ moves) v t last executed c m = absurd last.0
+closes_fit (log l a ∷ moves) v t last executed c m = absurd last.0
 closes_fit (close at a ∷ moves) v t last (u, did, lawful, rest) c m =
     let d : Closed = record { session = at; answer = a } in
     let opening = (turn_end v at a u did).opening in

@@ -1,5 +1,5 @@
 -- The stamps that a line tells lie between the ends of the log before and after it.
-use Rattle.std.proofs.Common.{◌≡◌, ℕ, ◌<◌, ◌≤◌, Bool, true, false, cond, [], ◌∷◌, Option, Some, None, refl, sym, ap, ◌∙◌, subst, inl, inr, arith}
+use Rattle.std.proofs.Common.{◌≡◌, ℕ, ◌<◌, ◌≤◌, Bool, true, false, cond, [], ◌∷◌, Option, Some, None, refl, sym, ap, ◌∙◌, subst, inl, inr, ⊎_elim, arith}
 use Rattle.erm_model.specs.declared.row_stop.RowStop.{RowStop}
 use Rattle.erm_model.specs.declared.row_stop.RowStop.TheVariants as stop
 use Rattle.erm_model.specs.Member.{◌∈◌}
@@ -17,6 +17,9 @@ use Rattle.erm_world.specs.World as world
 use Rattle.erm_good_report.specs.Phases.{FitsRefusal, asks_commit, phase_asked, refusal_in, refusal_of}
 use Rattle.erm_good_report.specs.Stamps.{begin_told, stamp_drawn, stamp_told}
 use Rattle.erm_lines.specs.Answers.{DidAsked, DidCommand, DidCommit, DidDecide, DidLine, DidOperation, WasRefusedAs, stop_told}
+use Rattle.erm_lines.specs.Executions.{DidLog, DidLogLine, DidMove, move_of}
+use Rattle.erm_lines.proofs.Moved.{moved}
+use Rattle.erm_told.proofs.Executed.{still_session}
 use Rattle.erm_told.proofs.Lines.{phase_refuses}
 
 -- the stamps that an answer tells, beside the ends of the log before and after it
@@ -113,10 +116,10 @@ pub record Decides (v : View) (seat stamp : ℕ) (t : View) : Type 0 where
   pub stamped : stamp_of fate ≡ Some stamp
 
 decides : (v : View) (seat : ℕ) (a : Answer) (t : View) (stamp : ℕ) → DidDecide v seat a t → stamp_told a ≡ Some stamp → Decides v seat stamp t
-decides v seat (answer.Committed at succ pred) t stamp (r, at_is, after, before, (w, own, stand, settled)) told =
+decides v seat (answer.Committed at succ pred) t stamp (r, at_is, after, before, (w, own, stand, ready, settled)) told =
     let same : own ≡ stamp = sym settled.2 ∙ at_is ∙ the_number at stamp told in
     record { work = w; fate = world.commits own r.succ r.pred; stand = stand ∙ ap (λ (n : ℕ). world.sealed w n) same; done = settled.0; stamped = ap (λ (n : ℕ). Some n) same }
-decides v seat (answer.Excluded at succ pred) t stamp (w, own, stand, settled) told =
+decides v seat (answer.Excluded at succ pred) t stamp (w, own, stand, ready, settled) told =
     let same : own ≡ stamp = sym settled.1 ∙ the_number at stamp told in
     record { work = w; fate = world.excluded own succ pred; stand = stand ∙ ap (λ (n : ℕ). world.sealed w n) same; done = settled.0; stamped = ap (λ (n : ℕ). Some n) same }
 decides v seat (answer.WaitSeat other seen) t stamp did told = absurd (cc)
@@ -196,6 +199,9 @@ command_draws v seat (command.Del table key) a t session lawful did = operation_
 command_draws v seat (command.Next table from) a t session lawful did = operation_silent v.tail t.tail v seat (command.Next table from) a t did
 command_draws v seat (command.Scan table low high) a t session lawful did = operation_silent v.tail t.tail v seat (command.Scan table low high) a t did
 command_draws v seat (command.Tidy table key) a t session lawful did = operation_silent v.tail t.tail v seat (command.Tidy table key) a t did
+command_draws v seat command.Durable (answer.Durable stamp) t session lawful did = silent v.tail t.tail (Some command.Durable) (answer.Durable stamp) refl refl
+command_draws v seat command.Durable (answer.NotFlushed flushed) t session lawful did = silent v.tail t.tail (Some command.Durable) (answer.NotFlushed flushed) refl refl
+command_draws v seat command.Durable answer.NoReceipt t session lawful did = silent v.tail t.tail (Some command.Durable) answer.NoReceipt refl refl
 command_draws v seat c a t session lawful did = absurd did
 
 asked_draws : (v : View) (seat : ℕ) (c : Command) (a : Answer) (t : View) (refusal : Option Answer) → refusal_of (phase_at v seat) c ≡ refusal → FitsRefusal refusal c a
@@ -204,6 +210,21 @@ asked_draws v seat c a t None is fits session lawful did = command_draws v seat 
 asked_draws v seat c a t (Some r) is fits session lawful did =
     phase_silent v.tail t.tail (Some c) a (subst (λ (x : Answer). refusal_in x ≡ Some x) (sym fits) (phase_refuses (phase_asked c) (phase_at v seat) r is))
 
-pub line_draws : (v : View) (l : ScriptLine) (a : Answer) (t : View) → IsSession t l.session → IsSerializable sound_law t → DidLine v l a t → Draws v.tail t.tail (Some l.command) a
+line_draws : (v : View) (l : ScriptLine) (a : Answer) (t : View) → IsSession t l.session → IsSerializable sound_law t → DidLine v l a t → Draws v.tail t.tail (Some l.command) a
 line_draws v l a t session lawful did =
     asked_draws v l.session l.command a t (refusal_of (phase_at v l.session) l.command) refl did.fits session lawful did.did
+
+-- A line of the log tells none.
+log_silent : (m n : ℕ) (v t : View) (c : Command) (a : Answer) → DidLog v c a t → Draws m n (Some c) a
+log_silent m n v t command.Flush (answer.Flushed place) did = silent m n (Some command.Flush) (answer.Flushed place) refl refl
+log_silent m n v t command.Flush (answer.Empty place) did = silent m n (Some command.Flush) (answer.Empty place) refl refl
+log_silent m n v t command.Flush (answer.Unfilled place) did = silent m n (Some command.Flush) (answer.Unfilled place) refl refl
+log_silent m n v t command.Checkpoint (answer.Checkpointed place) did = silent m n (Some command.Checkpoint) (answer.Checkpointed place) refl refl
+log_silent m n v t command.Checkpoint (answer.Unfilled place) did = silent m n (Some command.Checkpoint) (answer.Unfilled place) refl refl
+log_silent m n v t c a did = absurd did
+
+pub move_draws : (v : View) (l : ScriptLine) (a : Answer) (t : View) → t.opening ≡ v.opening → IsSerializable sound_law t → DidMove v (move_of l a) t → Draws v.tail t.tail (Some l.command) a
+move_draws v l a t opening lawful did =
+    ⊎_elim (λ (of_session : DidLine v l a t). line_draws v l a t (still_session v t l.session opening of_session.session) lawful of_session)
+    (λ (of_log : DidLogLine v l a t). log_silent v.tail t.tail v t l.command a of_log.did)
+    (moved v l a t did)

@@ -1,13 +1,10 @@
--- The end of a run: each transaction that is told is one that is over, and each that is over is told.
-use Rattle.std.proofs.Common.{◌≡◌, ℕ, zero, suc, List, [], ◌∷◌, ◌++◌, slice_get, flat_map, option_to_list, IfSome, Some, refl, sym, ap, ◌∙◌, subst, inl, inr, ⊎_elim, arith}
-use Rattle.std.specs.List.{range_with_len}
+-- The end of a run: each transaction that is told is one that is over, with the stamp that it was sealed with.
+use Rattle.std.proofs.Common.{◌≡◌, ℕ, List, ◌∷◌, ◌++◌, slice_get, IfSome, Some, sym, ap, ◌∙◌, subst, inl, inr, arith}
 use Rattle.erm_model.specs.Member.{◌∈◌}
-use Rattle.erm_model.proofs.Members.{none_in_nil}
-use Rattle.erm_machine.proofs.Listed.{∈-cons, ∈-first, ∈-head, ∈-second}
+use Rattle.erm_machine.proofs.Listed.{∈-head, ∈-second}
 use Rattle.erm_node.specs.Sound.{sound_law}
 use Rattle.erm_report.specs.declared.answer.Answer.{Answer}
 use Rattle.erm_script.specs.declared.script.ScriptLine.{ScriptLine}
-use Rattle.erm_world.specs.Going.{Extends}
 use Rattle.erm_world.specs.Laws.{IsSerializable}
 use Rattle.erm_world.specs.World.{Finished, IsSession, Session, Stand, View, Work, phase_of}
 use Rattle.erm_world.specs.World as world
@@ -16,12 +13,11 @@ use Rattle.erm_good_report.specs.Phases.{Closed}
 use Rattle.erm_good_report.specs.Transactions.{Transaction, progress_of, stamp_of, transactions_of}
 use Rattle.erm_lines.specs.Executions.{AreClosed, IsExecution, IsRun, line_moves}
 use Rattle.erm_lines.specs.Laws.{ExecutionsGoOn, ExecutionsTell}
-use Rattle.erm_lines.specs.Told.{Continues, IsLater, IsStillSealed, Tells, TellsOne, TellsOver}
+use Rattle.erm_lines.specs.Told.{Continues, IsStillSealed, Tells, TellsOne}
 use Rattle.erm_told.proofs.Drawing.{the_number}
 use Rattle.erm_told.proofs.Endings.{if_told, told_stamp}
 use Rattle.erm_told.proofs.Executed.{still_session}
 use Rattle.erm_told.proofs.Pairs.{Pairs}
-use Rattle.erm_told.proofs.Ranges.{in_range_from}
 use Rattle.erm_told.proofs.Reported.{Differ, IsTold, each_told, told_differ}
 use Rattle.erm_told.proofs.Runs.{executed_both, serializable_then, tells_report}
 use Rattle.erm_told.proofs.Turns.{idle_in}
@@ -29,31 +25,6 @@ use Rattle.erm_told.proofs.Turns.{idle_in}
 -- all moves of a run
 pub all_moves : (v t : View) (script : List ScriptLine) (answers : List Answer) (run : IsRun v script answers t) → IsExecution v (line_moves script answers ++ run.closing) t
 all_moves v t script answers run = executed_both (line_moves script answers) run.closing v run.between t run.lines run.closes
-
--- those told at the end of one place are those over there
-over_at : (seat : ℕ) (ts : List Transaction) (fs : List Finished) (k : ℕ) (f : Finished) → TellsOver seat ts fs → slice_get fs k ≡ Some f
-    → (t : Transaction) × (slice_get ts k ≡ Some t) × TellsOne seat t f
-over_at seat [] [] k f told at = absurd (cc)
-over_at seat [] (g ∷ fs) k f told at = absurd told
-over_at seat (u ∷ ts) [] k f told at = absurd told
-over_at seat (u ∷ ts) (g ∷ fs) zero f told at = (u, refl, subst (λ (x : Finished). TellsOne seat u x) (the_one g f at) told.0)
-  where
-    the_one : (x y : Finished) → Some x ≡ Some y → x ≡ y
-    the_one x y is = cc
-over_at seat (u ∷ ts) (g ∷ fs) (suc k) f told at = over_at seat ts fs k f told.1 at
-
-∈-flat_map_from : {X Y : Type 0} (f : X → List Y) (xs : List X) (x : X) (y : Y) → x ∈ xs → y ∈ f x → y ∈ flat_map f xs
-∈-flat_map_from f [] x y m n = absurd (none_in_nil x m)
-∈-flat_map_from {X} {Y} f (z ∷ xs) x y m n =
-    ⊎_elim (λ (here : z ≡ x). ∈-first (f z) (flat_map f xs) y (subst (λ (w : X). y ∈ f w) (sym here) n))
-    (λ (later : x ∈ xs). ∈-second (f z) (flat_map f xs) y (∈-flat_map_from f xs x y later n))
-    (∈-cons x z xs m)
-
--- One that had gone so far is over, having gone on.
-pub record IsOverAfter (v : View) (seat : ℕ) (w : Work) : Type 0 where
-  pub finished : Finished
-  pub over : finished ∈ (v.session seat).over
-  pub more : Extends w finished.work
 
 -- one is over with its stamp
 pub record IsOverWith (v : View) (seat : ℕ) (w : Work) (stamp : ℕ) : Type 0 where
@@ -65,9 +36,6 @@ pub record IsOverWith (v : View) (seat : ℕ) (w : Work) (stamp : ℕ) : Type 0 
 sealed_idle : (stand : Stand) (w : Work) (stamp : ℕ) → stand ≡ world.sealed w stamp → stand ≡ world.idle → ⊥
 sealed_idle stand w stamp sealed idle = let at = ap phase_of (sym sealed ∙ idle) in cc
 
-active_idle : (stand : Stand) (w : Work) → stand ≡ world.active w → stand ≡ world.idle → ⊥
-active_idle stand w active idle = let at = ap phase_of (sym active ∙ idle) in cc
-
 over_with : (v : View) (seat : ℕ) (w : Work) (stamp : ℕ) → (v.session seat).stand ≡ world.idle → IsStillSealed w stamp (v.session seat) → IsOverWith v seat w stamp
 over_with v seat w stamp idle (inl still) = absurd (sealed_idle (v.session seat).stand w stamp still idle)
 over_with v seat w stamp idle (inr (f, rest, front, over, work, stamped)) = record {
@@ -75,15 +43,6 @@ over_with v seat w stamp idle (inr (f, rest, front, over, work, stamped)) = reco
   over = subst (λ (fs : List Finished). f ∈ fs) (sym over) (∈-second front (f ∷ rest) f (∈-head f rest));
   work = work;
   stamped = stamped;
-}
-
-over_after : (v : View) (seat : ℕ) (w : Work) → (v.session seat).stand ≡ world.idle → IsLater w (v.session seat) → IsOverAfter v seat w
-over_after v seat w idle (u, went, inl active) = absurd (active_idle (v.session seat).stand u active idle)
-over_after v seat w idle (u, went, inr (inl (stamp, sealed))) = absurd (sealed_idle (v.session seat).stand u stamp sealed idle)
-over_after v seat w idle (u, went, inr (inr (f, rest, front, over, work))) = record {
-  finished = f;
-  over = subst (λ (fs : List Finished). f ∈ fs) (sym over) (∈-second front (f ∷ rest) f (∈-head f rest));
-  more = subst (λ (x : Work). Extends w x) (sym work) went;
 }
 
 module _ (tell : ExecutionsTell) (go : ExecutionsGoOn) (v t : View) (script : List ScriptLine) (answers : List Answer) (run : IsRun v script answers t)
@@ -110,19 +69,6 @@ module _ (tell : ExecutionsTell) (go : ExecutionsGoOn) (v t : View) (script : Li
   pub report : IsReport reported
   report = subst (λ (o : world.Opening). IsReport (transactions_of o.sessions (places_of script answers closed))) opening_is
       (each_told t (places_of script answers closed) end_idle end_tells, told_differ t (places_of script answers closed) end_idle end_tells at_end.numbered)
-
-  -- each that is over is told
-  pub is_reported : (seat : ℕ) → IsSession t seat → (f : Finished) → f ∈ (t.session seat).over → (u : Transaction) × (u ∈ reported) × TellsOne seat u f
-  is_reported seat session f m =
-      let p = progress_of seat (places_of script answers closed) in
-      let found = over_at seat p.over (t.session seat).over m.0 f (end_tells seat session).over m.1 in
-      let there = still_session t v seat (sym opening_is) session in (
-        found.0,
-        ∈-flat_map_from (λ q. (progress_of q (places_of script answers closed)).over ++ option_to_list (progress_of q (places_of script answers closed)).current)
-            (range_with_len 1 v.opening.sessions) seat found.0 (in_range_from 1 v.opening.sessions seat there.0 (omega (arith, there.1)))
-            (∈-first p.over (option_to_list p.current) found.0 (m.0, found.1)),
-        found.2,
-      )
 
   -- of a session one transaction has a number
   one_number : (seat : ℕ) → IsSession t seat → (f g : Finished) → f ∈ (t.session seat).over → g ∈ (t.session seat).over → f.work.number ≡ g.work.number → f ≡ g
@@ -152,14 +98,7 @@ module _ (tell : ExecutionsTell) (go : ExecutionsGoOn) (v t : View) (script : Li
 
   -- A session at some time of the run, of which the end goes on.
   module _ (seat : ℕ) (session : IsSession t seat) (s : Session) (goes : Continues s (t.session seat)) where
-    -- what was over is over
-    pub over_later : (f : Finished) → f ∈ s.over → f ∈ (t.session seat).over
-    over_later f m = subst (λ (fs : List Finished). f ∈ fs) (sym goes.over) (∈-first s.over goes.more f m)
-
-    -- what was in progress is over, and what was sealed with its stamp
-    pub active_later : (w : Work) → s.stand ≡ world.active w → IsOverAfter t seat w
-    active_later w is = over_after t seat w (end_idle seat session) (goes.active w is)
-
+    -- what was sealed is over with its stamp
     pub sealed_later : (w : Work) (stamp : ℕ) → s.stand ≡ world.sealed w stamp → IsOverWith t seat w stamp
     sealed_later w stamp is = over_with t seat w stamp (end_idle seat session) (goes.sealed w stamp is)
 

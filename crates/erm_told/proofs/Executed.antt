@@ -1,5 +1,5 @@
 -- What moves in turn tell, and how sessions go on by them.
-use Rattle.std.proofs.Common.{◌≡◌, ℕ, ◌==◌, ◌≤◌, Bool, cond, List, [], ◌∷◌, Option, Some, None, refl, sym, ap, ◌∙◌, subst, inl, inr, fold, eq-eqb, ne_eqb, le_trans}
+use Rattle.std.proofs.Common.{◌≡◌, ◌≢◌, ℕ, ◌==◌, ◌≤◌, Bool, cond, List, [], ◌∷◌, Option, Some, None, refl, sym, ap, ◌∙◌, subst, inl, inr, fold, eq-eqb, ne_eqb, le_trans}
 use Rattle.std.proofs.lemmas.Bool.{cases_eq}
 use Rattle.erm_model.specs.declared.outcome.Phase.{Phase}
 use Rattle.erm_model.specs.declared.outcome.Phase.TheVariants.{Idle}
@@ -12,9 +12,10 @@ use Rattle.erm_world.specs.World as world
 use Rattle.erm_maps.specs.Runs.{IsAnswered, IsRunOf}
 use Rattle.erm_good_report.specs.Phases.{phase_after}
 use Rattle.erm_good_report.specs.Transactions.{Progress, Said, heard, nothing}
-use Rattle.erm_lines.specs.Executions.{DidFlush, IsExecution, Move, close, flush, line, said_in}
+use Rattle.erm_lines.specs.Executions.{DidFlush, IsExecution, Move, close, flush, line, log, said_in}
 use Rattle.erm_lines.specs.Laws.{ExecutionsGoOn, ExecutionsTell}
 use Rattle.erm_lines.specs.Told.{Continues, Tells}
+use Rattle.erm_lines.proofs.Moved.{log_flushes, log_of_none}
 use Rattle.erm_told.proofs.Going.{continues_itself, continues_then}
 use Rattle.erm_told.proofs.Lines.{turn_end, turn_line}
 use Rattle.erm_told.proofs.Turns.{Turn, same_tail}
@@ -55,6 +56,13 @@ knows_turn seat at asked a p phase v t turn knows = elim (cases_eq at seat) as (
       tells = its.tells p knows.tells;
       phase_is = ap (λ (x : Phase). phase_after asked a x) knows.phase_is ∙ its.phase;
     }
+
+-- a line of another session, or of none, which left this one
+knows_logged : (seat at : ℕ) (asked : Option Command) (a : Answer) (p : Progress) (phase : Phase) (v t : View) → at ≢ seat → t.session seat ≡ v.session seat → Knows seat p phase v
+    → Knows seat (cond (at == seat) (heard seat asked a p) p) (cond (at == seat) (phase_after asked a phase) phase) t
+knows_logged seat at asked a p phase v t another is knows =
+    subst (λ (b : Bool). Knows seat (cond b (heard seat asked a p) p) (cond b (phase_after asked a phase) phase) t) (sym (ne_eqb at seat another))
+    (knows_still seat p phase v t is knows)
 
 -- a session of a world that was opened so is one of it still
 pub still_session : (v t : View) (seat : ℕ) → t.opening ≡ v.opening → IsSession v seat → IsSession t seat
@@ -107,6 +115,11 @@ module _ (runs : (number begin : ℕ) → IsRunOf (world.begun number begin) [])
       let turn = turn_line runs stay v l a u did in
       knows_all seat moves (hears seat p s) (turns seat phase s) u t (still_session v u seat turn.opening session) rest
       (knows_turn seat l.session (Some l.command) a p phase v u turn knows)
+  knows_all seat (log l a ∷ moves) p phase v t session (u, did, lawful, rest) knows =
+      let did_flush = log_flushes v u l a did in
+      knows_all seat moves (hears seat p (record { session = l.session; asked = Some l.command; answer = a })) (turns seat phase (record { session = l.session; asked = Some l.command; answer = a }))
+      u t (still_session v u seat did_flush.opening session) rest
+      (knows_logged seat l.session (Some l.command) a p phase v u (log_of_none v u l a seat did session.0) (did_flush.session seat session) knows)
   knows_all seat (close at a ∷ moves) p phase v t session (u, did, lawful, rest) knows =
       let s : Said = record { session = at; asked = None; answer = a } in
       let turn = turn_end v at a u did in
@@ -125,6 +138,7 @@ module _ (runs : (number begin : ℕ) → IsRunOf (world.begun number begin) [])
   goes_all [] v t is = goes_itself v t is
   goes_all (line l a ∷ moves) v t (u, did, lawful, rest) =
       goes_then v u t (goes_turns l.session (Some l.command) a v u (turn_line runs stay v l a u did)) (goes_all moves u t rest)
+  goes_all (log l a ∷ moves) v t (u, did, lawful, rest) = goes_then v u t (goes_flush v u (log_flushes v u l a did)) (goes_all moves u t rest)
   goes_all (close at a ∷ moves) v t (u, did, lawful, rest) = goes_then v u t (goes_turns at None a v u (turn_end v at a u did)) (goes_all moves u t rest)
   goes_all (flush ∷ moves) v t (u, did, lawful, rest) = goes_then v u t (goes_flush v u did) (goes_all moves u t rest)
 

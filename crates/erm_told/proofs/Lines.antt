@@ -69,10 +69,10 @@ is_active_at Sealed none = cc
 -- THE DECISION. A sealed transaction is decided, or waits.
 turn_decides : (v : View) (seat : ℕ) (asked : Option Command) (a : Answer) (t : View) → ((b : Answer) → added asked b ≡ [])
     → phase_after_wait asked (phase_at v seat) ≡ phase_at v seat → DidDecide v seat a t → Turn v seat asked a t
-turn_decides v seat asked (answer.Committed stamp succ pred) t silent waits (r, at, after, before, (w, own, stand, settled)) =
+turn_decides v seat asked (answer.Committed stamp succ pred) t silent waits (r, at, after, before, (w, own, stand, ready, settled)) =
     turn_decided v seat asked (answer.Committed stamp succ pred) t w own (Commits stamp succ pred) (world.commits own r.succ r.pred) stand settled.0 refl (λ p. refl)
     (sym at ∙ settled.2, sym after, sym before) refl (λ steps run. run)
-turn_decides v seat asked (answer.Excluded stamp succ pred) t silent waits (w, own, stand, settled) =
+turn_decides v seat asked (answer.Excluded stamp succ pred) t silent waits (w, own, stand, ready, settled) =
     turn_decided v seat asked (answer.Excluded stamp succ pred) t w own (Excludes (Some stamp) succ pred) (world.excluded own succ pred) stand settled.0 refl (λ p. refl)
     (settled.1, refl, refl) refl (λ steps run. run)
 turn_decides v seat asked (answer.WaitSeat other seen) t silent waits (is, waited) =
@@ -130,6 +130,12 @@ module _ (runs : (number begin : ℕ) → IsRunOf (world.begun number begin) [])
       turn_operation stay v seat (command.Scan table low high) t (is_active_at (phase_at v seat) none) refl a did
   turn_command v seat (command.Tidy table key) a t none did =
       turn_operation stay v seat (command.Tidy table key) t (is_active_at (phase_at v seat) none) refl a did
+  turn_command v seat command.Durable (answer.Durable stamp) t none did =
+      turn_still v seat (Some command.Durable) (answer.Durable stamp) t did.0 refl (λ p told. told_still seat (Some command.Durable) (answer.Durable stamp) p (v.session seat) refl told)
+  turn_command v seat command.Durable (answer.NotFlushed flushed) t none did =
+      turn_still v seat (Some command.Durable) (answer.NotFlushed flushed) t did.0 refl (λ p told. told_still seat (Some command.Durable) (answer.NotFlushed flushed) p (v.session seat) refl told)
+  turn_command v seat command.Durable answer.NoReceipt t none did =
+      turn_still v seat (Some command.Durable) answer.NoReceipt t did.0 refl (λ p told. told_still seat (Some command.Durable) answer.NoReceipt p (v.session seat) refl told)
   turn_command v seat c a t none did = absurd did
 
   turn_asked : (v : View) (seat : ℕ) (c : Command) (a : Answer) (t : View) (refusal : Option Answer) → refusal_of (phase_at v seat) c ≡ refusal

@@ -8,6 +8,8 @@ use Rattle.erm_model.specs.Member.{◌∈◌}
 use Rattle.erm_machine.proofs.Listed.{∈-filter, ∈-filter_from, ∈-map, ∈-map_from}
 use Rattle.erm_node.specs.Sound.{sound_law}
 use Rattle.erm_report.specs.declared.answer.Answer.{Answer}
+use Rattle.erm_script.specs.declared.script.Command.{Command}
+use Rattle.erm_script.specs.declared.script.Command.TheVariants as command
 use Rattle.erm_script.specs.declared.script.ScriptLine.{ScriptLine}
 use Rattle.erm_world.specs.Laws.{IsSerializable}
 use Rattle.erm_world.specs.World.{IsSession, View, phase_at}
@@ -15,9 +17,10 @@ use Rattle.erm_good_report.specs.GoodReport.{places_of}
 use Rattle.erm_good_report.specs.Phases.{Closed, Closes, ClosesAgree, FitsPhase, is_idle, phase_of}
 use Rattle.erm_good_report.specs.Transactions.{Progress, Said, nothing, progress_of, said_of}
 use Rattle.erm_lines.specs.Answers.{DidLine}
-use Rattle.erm_lines.specs.Executions.{AreClosed, IsExecution, IsLast, IsRun, Move, close, closed_in, flush, line, line_moves, said_in}
+use Rattle.erm_lines.specs.Executions.{AreClosed, DidLog, DidLogLine, DidMove, IsExecution, IsLast, IsRun, Move, close, closed_in, flush, line, line_moves, log, move_of, said_in}
 use Rattle.erm_lines.specs.Laws.{ExecutionsGoOn, ExecutionsTell, RunsCloseSessions, RunsHavePhases, RunsTell}
 use Rattle.erm_lines.specs.Told.{Tells}
+use Rattle.erm_lines.proofs.Moved.{logged_fits, moved, said_move}
 use Rattle.erm_told.proofs.Closing.{AreLast, IsClosing, are_last, close_said, closed_once, closes_fit, closes_said, found_closed, heard_alike, phase_stays}
 use Rattle.erm_told.proofs.Executed.{hears, still_session}
 use Rattle.erm_told.proofs.Pairs.{Pairs, all_of, pairs_of}
@@ -31,6 +34,7 @@ executed_both (move ∷ moves) more v u t (w, did, lawful, rest) second = (w, di
 pub said_both : (moves more : List Move) → said_in (moves ++ more) ≡ said_in moves ++ said_in more
 said_both [] more = refl
 said_both (line l a ∷ moves) more = ap (λ (said : List Said). record { session = l.session; asked = Some l.command; answer = a } ∷ said) (said_both moves more)
+said_both (log l a ∷ moves) more = ap (λ (said : List Said). record { session = l.session; asked = Some l.command; answer = a } ∷ said) (said_both moves more)
 said_both (close seat a ∷ moves) more = ap (λ (said : List Said). record { session = seat; asked = None; answer = a } ∷ said) (said_both moves more)
 said_both (flush ∷ moves) more = said_both moves more
 
@@ -39,14 +43,16 @@ pub said_lines : (script : List ScriptLine) (answers : List Answer) → said_in 
 said_lines [] answers = refl
 said_lines (l ∷ script) [] = refl
 said_lines (l ∷ script) (a ∷ answers) =
-    ap (λ (said : List Said). record { session = l.session; asked = Some l.command; answer = a } ∷ said) (said_lines script answers)
+    said_move l a (line_moves script answers)
+    ∙ ap (λ (said : List Said). record { session = l.session; asked = Some l.command; answer = a } ∷ said) (said_lines script answers)
 
 pub said_first : (i : ℕ) (script : List ScriptLine) (answers : List Answer) → said_in (line_moves (take i script) (take i answers)) ≡ take i (said_of script answers)
 said_first zero script answers = refl
 said_first (suc i) [] answers = refl
 said_first (suc i) (l ∷ script) [] = refl
 said_first (suc i) (l ∷ script) (a ∷ answers) =
-    ap (λ (said : List Said). record { session = l.session; asked = Some l.command; answer = a } ∷ said) (said_first i script answers)
+    said_move l a (line_moves (take i script) (take i answers))
+    ∙ ap (λ (said : List Said). record { session = l.session; asked = Some l.command; answer = a } ∷ said) (said_first i script answers)
 
 -- the last world is one whose transactions are serializable
 pub serializable_then : (moves : List Move) (v t : View) → IsSerializable sound_law v → IsExecution v moves t → IsSerializable sound_law t
@@ -58,11 +64,11 @@ pub record AtLine (v : View) (script : List ScriptLine) (answers : List Answer) 
   pub before : View
   pub after : View
   pub start : IsExecution v (line_moves (take i script) (take i answers)) before
-  pub did : DidLine before l a after
+  pub did : DidMove before (move_of l a) after
   pub lawful : IsSerializable sound_law after
   pub rest : IsExecution after (line_moves (drop (suc i) script) (drop (suc i) answers)) t
 
-one_later : (v u : View) (k : ScriptLine) (b : Answer) (script : List ScriptLine) (answers : List Answer) (t : View) (i : ℕ) (l : ScriptLine) (a : Answer) → DidLine v k b u
+one_later : (v u : View) (k : ScriptLine) (b : Answer) (script : List ScriptLine) (answers : List Answer) (t : View) (i : ℕ) (l : ScriptLine) (a : Answer) → DidMove v (move_of k b) u
     → IsSerializable sound_law u → AtLine u script answers t i l a → AtLine v (k ∷ script) (b ∷ answers) t (suc i) l a
 one_later v u k b script answers t i l a did lawful there = record {
   before = there.before;
@@ -83,7 +89,7 @@ at_line (k ∷ script) (b ∷ answers) v t zero l a (u, did, lawful, rest) at an
       before = v;
       after = u;
       start = refl;
-      did = subst (λ (x : ScriptLine). DidLine v x a u) line_is (subst (λ (x : Answer). DidLine v k x u) answer_is did);
+      did = subst (λ (x : ScriptLine). DidMove v (move_of x a) u) line_is (subst (λ (x : Answer). DidMove v (move_of k x) u) answer_is did);
       lawful = lawful;
       rest = rest;
     }
@@ -95,6 +101,12 @@ at_line (k ∷ script) (b ∷ answers) v t zero l a (u, did, lawful, rest) at an
     the_reply x y is = cc
 at_line (k ∷ script) (b ∷ answers) v t (suc i) l a (u, did, lawful, rest) at answered =
     one_later v u k b script answers t i l a did lawful (at_line script answers u t i l a rest at answered)
+
+-- what a line of the log was answered fits any phase
+log_fits : (v t : View) (phase : Phase) (c : Command) (a : Answer) → DidLog v c a t → FitsPhase phase c a
+log_fits v t phase command.Flush a did = logged_fits v t command.Flush a did
+log_fits v t phase command.Checkpoint a did = logged_fits v t command.Checkpoint a did
+log_fits v t phase c a did = absurd did
 
 -- THE SESSIONS CLOSED. Those that a report has are those that the execution closed.
 module _ (v t : View) (script : List ScriptLine) (answers : List Answer) (run : IsRun v script answers t) (closed : List Closed) (are : AreClosed run.closing closed) where
@@ -215,12 +227,19 @@ module _ (tell : ExecutionsTell) where
         → slice_get script i ≡ Some l → slice_get answers i ≡ Some a → FitsPhase (phase_of l.session (take i (said_of script answers))) l.command a
     line_fits v t script answers run i l a at answered =
         let there = at_line script answers v run.between i l a run.lines at answered in
-        let moves = line_moves (take i script) (take i answers) in
-        let session = still_session there.before v l.session (sym (go v there.before moves there.start).0) there.did.session in
-        let phase : phase_of l.session (take i (said_of script answers)) ≡ phase_at there.before l.session =
-        ap (λ (said : List Said). phase_of l.session said) (sym (said_first i script answers)) ∙ (tell v there.before moves run.opened there.start l.session session).1
-        in
-        subst (λ (x : Phase). FitsPhase x l.command a) (sym phase) there.did.fits
+        ⊎_elim (of_session there.before there.after there.start)
+        (λ (of_log : DidLogLine there.before l a there.after). log_fits there.before there.after (phase_of l.session (take i (said_of script answers))) l.command a of_log.did)
+        (moved there.before l a there.after there.did)
+      where
+        of_session : (before after : View) → IsExecution v (line_moves (take i script) (take i answers)) before → DidLine before l a after
+            → FitsPhase (phase_of l.session (take i (said_of script answers))) l.command a
+        of_session before after start did =
+            let moves = line_moves (take i script) (take i answers) in
+            let session = still_session before v l.session (sym (go v before moves start).0) did.session in
+            let phase : phase_of l.session (take i (said_of script answers)) ≡ phase_at before l.session =
+            ap (λ (said : List Said). phase_of l.session said) (sym (said_first i script answers)) ∙ (tell v before moves run.opened start l.session session).1
+            in
+            subst (λ (x : Phase). FitsPhase x l.command a) (sym phase) did.fits
 
     pub runs_phases : RunsHavePhases
     runs_phases v t script answers run closed opening are of = record { fits = line_fits v t script answers run }

@@ -1,5 +1,5 @@
 -- Sessions at a line of a run: what the lines before it tell of them, and the stamps that are told later.
-use Rattle.std.proofs.Common.{◌≡◌, ℕ, suc, List, [], ◌∷◌, ◌++◌, take, drop, slice_get, Option, Some, None, refl, ap, ◌∙◌, subst}
+use Rattle.std.proofs.Common.{◌≡◌, ℕ, suc, List, ◌∷◌, ◌++◌, take, drop, slice_get, Option, Some, None, refl, ap, ◌∙◌, subst}
 use Rattle.erm_model.specs.Member.{◌∈◌}
 use Rattle.erm_report.specs.declared.answer.Answer.{Answer}
 use Rattle.erm_script.specs.declared.script.ScriptLine.{ScriptLine}
@@ -10,7 +10,7 @@ use Rattle.erm_good_report.specs.Phases.{Closed}
 use Rattle.erm_good_report.specs.Phases as phases
 use Rattle.erm_good_report.specs.Refusals.{IsSealedWith, MayHaveStamp, Moment, moment_at}
 use Rattle.erm_good_report.specs.Transactions.{Said, Transaction, progress_of, said_of}
-use Rattle.erm_lines.specs.Executions.{AreClosed, IsRun, line, line_moves}
+use Rattle.erm_lines.specs.Executions.{AreClosed, IsRun, line_moves, move_of}
 use Rattle.erm_lines.specs.Laws.{ExecutionsGoOn, ExecutionsTell}
 use Rattle.erm_lines.specs.Told.{Continues, Tells, TellsCurrent, TellsNow}
 use Rattle.erm_told.proofs.Ended.{opening_is, reported, stamp_later}
@@ -25,14 +25,6 @@ sealed_now seat current stand w stamp is told = from current (subst (λ (at : St
     from : (o : Option Transaction) → TellsNow seat o (world.sealed w stamp) → (t : Transaction) × (o ≡ Some t) × TellsCurrent seat t w
     from None now = absurd now
     from (Some t) now = (t, refl, now.0)
-
-active_now : (seat : ℕ) (current : Option Transaction) (stand : Stand) (w : Work) → stand ≡ world.active w → TellsNow seat current stand
-    → (t : Transaction) × (current ≡ Some t) × TellsCurrent seat t w × (t.sealed ≡ None)
-active_now seat current stand w is told = from current (subst (λ (at : Stand). TellsNow seat current at) is told)
-  where
-    from : (o : Option Transaction) → TellsNow seat o (world.active w) → (t : Transaction) × (o ≡ Some t) × TellsCurrent seat t w × (t.sealed ≡ None)
-    from None now = absurd now
-    from (Some t) now = (t, refl, now.0, now.1)
 
 module _ (tell : ExecutionsTell) (go : ExecutionsGoOn) (v t : View) (script : List ScriptLine) (answers : List Answer) (run : IsRun v script answers t)
     (closed : List Closed) (are : AreClosed run.closing closed) where
@@ -50,20 +42,11 @@ module _ (tell : ExecutionsTell) (go : ExecutionsGoOn) (v t : View) (script : Li
     opening_before : there.before.opening ≡ v.opening
     opening_before = (go v there.before (line_moves (take i script) (take i answers)) there.start).0
 
-    opening_after : there.after.opening ≡ v.opening
-    opening_after = (go there.before there.after (line l a ∷ []) (there.after, there.did, there.lawful, refl)).0 ∙ opening_before
-
     -- sessions go on from there to the end
-    pub after_goes : (seat : ℕ) → IsSession v seat → Continues (there.after.session seat) (t.session seat)
-    after_goes seat session =
-        let moves = line_moves (drop (suc i) script) (drop (suc i) answers) in
-        (go there.after t (moves ++ run.closing) (executed_both moves run.closing there.after run.between t there.rest run.closes)).2 seat
-        (still_session v there.after seat opening_after session)
-
-    pub before_goes : (seat : ℕ) → IsSession v seat → Continues (there.before.session seat) (t.session seat)
+    before_goes : (seat : ℕ) → IsSession v seat → Continues (there.before.session seat) (t.session seat)
     before_goes seat session =
         let moves = line_moves (drop (suc i) script) (drop (suc i) answers) in
-        (go there.before t (line l a ∷ moves ++ run.closing)
+        (go there.before t (move_of l a ∷ moves ++ run.closing)
         (there.after, there.did, there.lawful, executed_both moves run.closing there.after run.between t there.rest run.closes)).2 seat
         (still_session v there.before seat opening_before session)
 
@@ -74,13 +57,7 @@ module _ (tell : ExecutionsTell) (go : ExecutionsGoOn) (v t : View) (script : Li
         subst (λ (said : List Said). Tells seat (progress_of seat said) (there.before.session seat) × (phases.phase_of seat said ≡ phase_at there.before seat)) (said_first i script answers)
         (tell v there.before (line_moves (take i script) (take i answers)) run.opened there.start seat session)
 
-    -- a session with a transaction in progress
-    pub active_with : (seat : ℕ) → IsSession v seat → (w : Work) → (there.before.session seat).stand ≡ world.active w
-        → (x : Transaction) × ((progress_of seat (take i (said_of script answers))).current ≡ Some x) × TellsCurrent seat x w × (x.sealed ≡ None)
-    active_with seat session w is =
-        active_now seat (progress_of seat (take i (said_of script answers))).current (there.before.session seat).stand w is (line_tells seat session).0.now
-
-    -- one with a sealed transaction
+    -- a session with a sealed transaction
     pub sealed_with : (opening : Opening) (seat : ℕ) → IsSession v seat → (w : Work) (stamp : ℕ) → (there.before.session seat).stand ≡ world.sealed w stamp
         → (x : Transaction) × IsSealedWith (moment_at InTurn opening script answers (reported tell go v t script answers run closed are) i l) seat stamp x × TellsCurrent seat x w
     sealed_with opening seat session w stamp is =

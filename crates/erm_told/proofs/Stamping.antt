@@ -14,13 +14,11 @@ use Rattle.erm_good_report.specs.Opening.{InTurn, Opening}
 use Rattle.erm_good_report.specs.Phases.{Closed}
 use Rattle.erm_good_report.specs.Stamps.{AllInTime, StampsAgree, Told, begin_told, stamp_drawn, stamp_told}
 use Rattle.erm_good_report.specs.Transactions.{Said, Transaction, said_of, stamp_of, stamp_of_ending, transactions_of}
-use Rattle.erm_lines.specs.Answers.{DidLine}
-use Rattle.erm_lines.specs.Executions.{AreClosed, IsExecution, IsOpeningOf, IsRun, line, line_moves}
+use Rattle.erm_lines.specs.Executions.{AreClosed, DidMove, IsExecution, IsOpeningOf, IsRun, line_moves, move_of}
 use Rattle.erm_lines.specs.Laws.{ExecutionsGoOn, ExecutionsTell, RunsHaveStamps}
-use Rattle.erm_told.proofs.Drawing.{Draws, line_draws, the_number}
+use Rattle.erm_told.proofs.Drawing.{Draws, move_draws, the_number}
 use Rattle.erm_told.proofs.Ended.{at_end, opening_is, report}
 use Rattle.erm_told.proofs.Endings.{ending_stamp, if_told, told_from, told_stamp}
-use Rattle.erm_told.proofs.Executed.{still_session}
 use Rattle.erm_told.proofs.Pairs.{Pairs, all_pairs, pairs_from}
 use Rattle.erm_told.proofs.Reported.{Differ, IsTold}
 
@@ -53,11 +51,11 @@ later_of m n s draws = record { begin = λ stamp told. (draws.begin stamp told).
 
 module _ (go : ExecutionsGoOn) where
   -- one line
-  line_goes : (v : View) (l : ScriptLine) (a : Answer) (u : View) → DidLine v l a u → IsSerializable sound_law u
+  line_goes : (v : View) (l : ScriptLine) (a : Answer) (u : View) → DidMove v (move_of l a) u → IsSerializable sound_law u
       → Draws v.tail u.tail (Some l.command) a × (v.tail ≤ u.tail)
   line_goes v l a u did lawful =
-      let goes = go v u (line l a ∷ []) (u, did, lawful, refl) in
-      (line_draws v l a u (still_session v u l.session goes.0 did.session) lawful did, goes.1)
+      let goes = go v u (move_of l a ∷ []) (u, did, lawful, refl) in
+      (move_draws v l a u goes.0 lawful did, goes.1)
 
   all_later : (script : List ScriptLine) (answers : List Answer) (v t : View) → IsExecution v (line_moves script answers) t
       → (s : Said) → s ∈ said_of script answers → Later v.tail s

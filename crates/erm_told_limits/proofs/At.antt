@@ -1,5 +1,5 @@
 -- A line of a run: what is so before it.
-use Rattle.std.proofs.Common.{◌≡◌, ℕ, zero, suc, ◌+◌, ◌≤◌, true, List, [], ◌∷◌, ◌++◌, Some, length, take, slice_get, is_some, min, append-nil, append_assoc, refl, sym, ap, ◌∙◌, subst, arith}
+use Rattle.std.proofs.Common.{◌≡◌, ℕ, zero, suc, ◌+◌, ◌≤◌, true, List, [], ◌∷◌, ◌++◌, Some, length, take, slice_get, is_some, min, append-nil, append_assoc, refl, sym, ap, ◌∙◌, subst, ⊎_elim, arith}
 use Rattle.erm_model.specs.declared.limits.TheConstants.{WRITE_LIMIT}
 use Rattle.erm_model.specs.declared.outcome.Phase.TheVariants.{Active}
 use Rattle.erm_node.specs.Sound.{sound_law}
@@ -11,10 +11,11 @@ use Rattle.erm_world.specs.World.{IsSession, Session, View, claims_in, phase_of,
 use Rattle.erm_world.specs.World as world
 use Rattle.erm_good_report.specs.Transactions.{Said, Transaction, progress_of, said_of}
 use Rattle.erm_lines.specs.Answers.{DidLine}
-use Rattle.erm_lines.specs.Executions.{IsExecution, IsOpened, line_moves}
+use Rattle.erm_lines.specs.Executions.{DidLogLine, DidMove, IsExecution, IsOpened, line_moves, move_of}
+use Rattle.erm_lines.proofs.Moved.{log_flushes, moved}
 use Rattle.erm_told_limits.proofs.Grown.{Apart, nothing_apart}
 use Rattle.erm_told_limits.proofs.Heard.{may_claim}
-use Rattle.erm_told_limits.proofs.Holds.{Holds, Laws, holds_then, said_by}
+use Rattle.erm_told_limits.proofs.Holds.{Holds, Laws, holds_moved, said_by}
 use Rattle.erm_told_limits.proofs.Moved.{mades_in}
 use Rattle.erm_told_limits.proofs.Turns.{line_turned}
 use Rattle.erm_told_limits.proofs.Totals.{claims_none, total_zero}
@@ -50,7 +51,16 @@ claims_here front said v end holds is seat t session e =
     let same : length (work_at end seat).claims ≡ length (work_at v seat).claims = ap (λ (x : View). length (work_at x seat).claims) is in
     omega (arith, few, own, same)
 
--- a line that was answered, with what is so before it
+-- a line of the script that was run, with what is so before it
+pub record AtMove (first : View) (ls : List ScriptLine) (said : List Said) (l : ScriptLine) (a : Answer) : Type 0 where
+  pub v : View
+  pub t : View
+  pub holds : Holds ls said v
+  pub did : DidMove v (move_of l a) t
+  pub serializable : IsSerializable sound_law t
+  pub opening : v.opening ≡ first.opening
+
+-- one of a session that was answered
 pub record At (first : View) (ls : List ScriptLine) (said : List Said) (l : ScriptLine) (a : Answer) : Type 0 where
   pub v : View
   pub t : View
@@ -59,13 +69,19 @@ pub record At (first : View) (ls : List ScriptLine) (said : List Said) (l : Scri
   pub serializable : IsSerializable sound_law t
   pub opening : v.opening ≡ first.opening
 
+pub at_session : (first : View) (ls : List ScriptLine) (said : List Said) (l : ScriptLine) (a : Answer) (at : AtMove first ls said l a) → DidLine at.v l a at.t → At first ls said l a
+at_session first ls said l a at did = record { v = at.v; t = at.t; holds = at.holds; did = did; serializable = at.serializable; opening = at.opening }
+
 module _ (laws : Laws) (first : View) where
-  still_open : (ls : List ScriptLine) (said : List Said) (v : View) (l : ScriptLine) (a : Answer) (t : View) → Holds ls said v → DidLine v l a t → IsSerializable sound_law t → t.opening ≡ v.opening
-  still_open ls said v l a t holds did serializable = (line_turned laws.rows_below laws.ways v l a t did serializable (holds.runs l.session did.session)).opening
+  still_open : (ls : List ScriptLine) (said : List Said) (v : View) (l : ScriptLine) (a : Answer) (t : View) → Holds ls said v → DidMove v (move_of l a) t → IsSerializable sound_law t → t.opening ≡ v.opening
+  still_open ls said v l a t holds did serializable =
+      ⊎_elim (λ (of_session : DidLine v l a t). (line_turned laws.rows_below laws.ways v l a t of_session serializable (holds.runs l.session of_session.session)).opening)
+      (λ (of_log : DidLogLine v l a t). (log_flushes v t l a of_log).opening)
+      (moved v l a t did)
 
   pub at_line : (script : List ScriptLine) (answers : List Answer) (front : List ScriptLine) (said : List Said) (v end : View) → Holds front said v → v.opening ≡ first.opening
       → IsExecution v (line_moves script answers) end → (i : ℕ) (l : ScriptLine) (a : Answer) → slice_get script i ≡ Some l → slice_get answers i ≡ Some a
-      → At first (front ++ take i script) (said ++ take i (said_of script answers)) l a
+      → AtMove first (front ++ take i script) (said ++ take i (said_of script answers)) l a
   at_line [] answers front said v end holds opening runs i l a e f = absurd (cc)
   at_line (k ∷ script) [] front said v end holds opening runs i l a e f = absurd (cc)
   at_line (k ∷ script) (b ∷ answers) front said v end holds opening runs zero l a e f =
@@ -75,17 +91,17 @@ module _ (laws : Laws) (first : View) where
         v = v;
         t = runs.0;
         holds = subst (λ (ls : List ScriptLine). Holds ls (said ++ []) v) (sym (append-nil front)) (subst (λ (s : List Said). Holds front s v) (sym (append-nil said)) holds);
-        did = subst (λ (x : ScriptLine). DidLine v x a runs.0) same_line (subst (λ (x : Answer). DidLine v k x runs.0) same_answer runs.1);
+        did = subst (λ (x : ScriptLine). DidMove v (move_of x a) runs.0) same_line (subst (λ (x : Answer). DidMove v (move_of k x) runs.0) same_answer runs.1);
         serializable = runs.2;
         opening = opening;
       }
   at_line (k ∷ script) (b ∷ answers) front said v end holds opening runs (suc i) l a e f =
       let u = runs.0 in
-      let then = holds_then laws front said v holds k b u runs.1 runs.2 in
+      let then = holds_moved laws front said v holds k b u runs.1 runs.2 in
       let still : u.opening ≡ first.opening = still_open front said v k b u holds runs.1 runs.2 ∙ opening in
       let later = at_line script answers (front ++ k ∷ []) (said ++ said_by k b ∷ []) u end then still runs.3 i l a e f in
-      subst (λ (ls : List ScriptLine). At first ls (said ++ said_by k b ∷ take i (said_of script answers)) l a) (append_assoc front (k ∷ []) (take i script))
-      (subst (λ (s : List Said). At first ((front ++ k ∷ []) ++ take i script) s l a) (append_assoc said (said_by k b ∷ []) (take i (said_of script answers))) later)
+      subst (λ (ls : List ScriptLine). AtMove first ls (said ++ said_by k b ∷ take i (said_of script answers)) l a) (append_assoc front (k ∷ []) (take i script))
+      (subst (λ (s : List Said). AtMove first ((front ++ k ∷ []) ++ take i script) s l a) (append_assoc said (said_by k b ∷ []) (take i (said_of script answers))) later)
 
   -- after all lines
   pub claims_after : (script : List ScriptLine) (answers : List Answer) (front : List ScriptLine) (said : List Said) (v end : View) → Holds front said v → IsExecution v (line_moves script answers) end
@@ -93,7 +109,7 @@ module _ (laws : Laws) (first : View) where
   claims_after [] answers front said v end holds is seat t session e = claims_here front said v end holds is seat t session e
   claims_after (k ∷ script) [] front said v end holds is seat t session e = claims_here front said v end holds is seat t session e
   claims_after (k ∷ script) (b ∷ answers) front said v end holds runs seat t session e =
-      claims_after script answers (front ++ k ∷ []) (said ++ said_by k b ∷ []) runs.0 end (holds_then laws front said v holds k b runs.0 runs.1 runs.2) runs.3 seat t session
+      claims_after script answers (front ++ k ∷ []) (said ++ said_by k b ∷ []) runs.0 end (holds_moved laws front said v holds k b runs.0 runs.1 runs.2) runs.3 seat t session
       (subst (λ (s : List Said). (progress_of seat s).current ≡ Some t) (sym (append_assoc said (said_by k b ∷ []) (said_of script answers))) e)
 
 -- the lines up to one that has been run

@@ -144,14 +144,14 @@ module _ (v : View) (seat : ℕ) where
 
   grew_claim : (oid : ℕ) (t : View) → DidClaim v seat oid t → Grew (work_at v seat) (work_at t seat) 0 1
   grew_claim oid t (calls.before is claimed) = grew_within (work_at v seat) (work_at t seat) 0 0 0 1 (omega arith) (omega arith) (same_view t is)
-  grew_claim oid t (calls.now stamp base none less works) =
+  grew_claim oid t (calls.now stamp base none less free newest works) =
       let c : VersionWritten = record { oid = oid; stamp = stamp; base = base; row = base; is_set = false } in
       by_works t (claiming c (work_at v seat)) 0 1 works (grew_claiming (work_at v seat) c less)
 
   -- an object that is claimed is claimed no more
   grew_again : (oid : ℕ) (t : View) → is_claimed (work_at v seat).claims oid ≡ true → DidClaim v seat oid t → Grew (work_at v seat) (work_at t seat) 0 0
   grew_again oid t is_so (calls.before is claimed) = same_view t is
-  grew_again oid t is_so (calls.now stamp base none less works) = absurd (cc)
+  grew_again oid t is_so (calls.now stamp base none less free newest works) = absurd (cc)
 
 pub grew_write : (v : View) (seat oid : ℕ) (row : List ℕ) (t : View) (k : ℕ) → (did : DidWrite v seat oid row t) → Grew (work_at v seat) (work_at did.between seat) 0 k → Grew (work_at v seat) (work_at t seat) 0 k
 grew_write v seat oid row t k did grew =

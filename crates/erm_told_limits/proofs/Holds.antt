@@ -1,5 +1,5 @@
 -- What is so after some lines of an execution.
-use Rattle.std.proofs.Common.{◌≡◌, ℕ, ◌+◌, ◌*◌, ◌<◌, ◌≤◌, ◌==◌, Bool, true, cond, List, [], ◌∷◌, ◌++◌, Option, Some, None, length, is_some, refl, sym, ap, ◌∙◌, subst, inl, inr, arith}
+use Rattle.std.proofs.Common.{◌≡◌, ℕ, ◌+◌, ◌*◌, ◌<◌, ◌≤◌, ◌==◌, Bool, true, cond, List, [], ◌∷◌, ◌++◌, Option, Some, None, length, is_some, refl, sym, ap, ◌∙◌, subst, inl, inr, ⊎_elim, ne_eqb, arith}
 use Rattle.std.proofs.lemmas.Bool.{cases_eq}
 use Rattle.std.proofs.lemmas.Bool.Decides.{eqb_tells}
 use Rattle.std.proofs.lemmas.List.{length-append}
@@ -23,6 +23,8 @@ use Rattle.erm_good_report.specs.Phases.{FitsRefusal, phase_asked, refusal_of}
 use Rattle.erm_good_report.specs.Refusals.{claims_of, draws_of, makes_of, total_of}
 use Rattle.erm_good_report.specs.Transactions.{Exchange, Progress, Said, Transaction, heard, nothing, progress_of, with_line}
 use Rattle.erm_lines.specs.Answers.{DidAsked, DidCommand, DidLine, DidOperation}
+use Rattle.erm_lines.specs.Executions.{DidFlush, DidLogLine, DidMove, move_of}
+use Rattle.erm_lines.proofs.Moved.{log_flushes, log_of_none, moved}
 use Rattle.erm_told_limits.specs.Limits.{AreInRange}
 use Rattle.erm_told_limits.proofs.Arrays.{HaveRowsBelow}
 use Rattle.erm_told_limits.proofs.Grown.{Apart}
@@ -31,7 +33,7 @@ use Rattle.erm_told_limits.proofs.Lines.{HasRun, Known}
 use Rattle.erm_told_limits.proofs.Moved.{Turned}
 use Rattle.erm_told_limits.proofs.Reached.{Ways}
 use Rattle.erm_told_limits.proofs.Tails.{line_tail}
-use Rattle.erm_told_limits.proofs.Totals.{claims_turned, made_turned, mades_by_all, mades_turned}
+use Rattle.erm_told_limits.proofs.Totals.{claims_kept, claims_turned, made_kept, made_turned, mades_by_all, mades_kept, mades_turned}
 use Rattle.erm_told_limits.proofs.Turns.{BegunAreRuns, line_runs, line_turned}
 
 pub record Holds (ls : List ScriptLine) (said : List Said) (v : View) : Type 0 where
@@ -176,7 +178,7 @@ module _ (laws : Laws) (ls : List ScriptLine) (said : List Said) (v : View) (bef
             (before.own seat u (there seat session) (sym (ap (λ (q : Progress). q.current) told) ∙ e))
       ]
 
-pub holds_then : (laws : Laws) (ls : List ScriptLine) (said : List Said) (v : View) → Holds ls said v → (l : ScriptLine) (a : Answer) (t : View) → DidLine v l a t → IsSerializable sound_law t
+holds_then : (laws : Laws) (ls : List ScriptLine) (said : List Said) (v : View) → Holds ls said v → (l : ScriptLine) (a : Answer) (t : View) → DidLine v l a t → IsSerializable sound_law t
     → Holds (ls ++ l ∷ []) (said ++ said_by l a ∷ []) t
 holds_then laws ls said v before l a t did holds =
     let turn = turned laws ls said v before l a t did holds in
@@ -199,3 +201,54 @@ holds_then laws ls said v before l a t did holds =
       apart = apart_then laws ls said v before l a t did holds;
       known = known_then laws ls said v before l a t did holds;
     }
+
+-- A line of the log leaves the sessions.
+module _ (ls : List ScriptLine) (said : List Said) (v : View) (before : Holds ls said v) (l : ScriptLine) (a : Answer) (t : View) (did : DidLogLine v l a t) (holds : IsSerializable sound_law t) where
+  abbrev kept : DidFlush v t
+  kept = log_flushes v t l a did
+
+  was_there : (seat : ℕ) → IsSession t seat → IsSession v seat
+  was_there seat session = subst (λ (o : world.Opening). (0 < seat) × (seat ≤ o.sessions)) kept.opening session
+
+  by_same : (B : Session → Type 0) (seat : ℕ) → IsSession t seat → B (v.session seat) → B (t.session seat)
+  by_same B seat session is = subst B (sym (kept.session seat (was_there seat session))) is
+
+  own_logged : (seat : ℕ) (u : Transaction) → IsSession t seat → (progress_of seat (said ++ said_by l a ∷ [])).current ≡ Some u → length (work_at t seat).claims ≤ may_claim u
+  own_logged seat u session e =
+      let p = progress_of seat said in
+      let told : progress_of seat (said ++ said_by l a ∷ []) ≡ p =
+      progress_then seat said l a ∙ ap (λ (b : Bool). cond b (heard seat (Some l.command) a p) p) (ne_eqb l.session seat (log_of_none v t l a seat did session.0)) in
+      by_same (λ s. length (work_of s.stand).claims ≤ may_claim u) seat session
+      (before.own seat u (was_there seat session) (sym (ap (λ (q : Progress). q.current) told) ∙ e))
+
+  known_logged : AreInRange (ls ++ l ∷ []) → (seat : ℕ) (x : ℕ) → IsSession t seat → is_some (row_read (work_at t seat).reads x) ≡ true → 0 < reached t.opening.rows x + made_by_all t x
+  known_logged range seat x session =
+      by_same (λ s. is_some (row_read (work_of s.stand).reads x) ≡ true → 0 < reached t.opening.rows x + made_by_all t x) seat session
+      (λ read.
+      let some = before.known (λ k m. range k (∈-first ls (l ∷ []) k m)) seat x (was_there seat session) read in
+      let same : reached t.opening.rows x ≡ reached v.opening.rows x = ap (λ (o : world.Opening). reached o.rows x) kept.opening in
+      omega (arith, some, same, made_kept v t kept x))
+
+  pub holds_logged : Holds (ls ++ l ∷ []) (said ++ said_by l a ∷ []) t
+  holds_logged = record {
+    serializable = holds;
+    runs = λ seat session. by_same (λ s. phase_of s.stand ≡ Active → (steps : List Step) × IsRunOf (work_of s.stand) steps) seat session (before.runs seat (was_there seat session));
+    mades = omega (arith, mades_kept v t kept, before.mades, sum_by_push (λ (k : ScriptLine). makes_of k.command) ls l);
+    claims = omega (arith, claims_kept v t kept, before.claims, sum_by_push (λ (k : ScriptLine). claims_of k.command) ls l);
+    tail =
+        let same : t.opening.tail ≡ v.opening.tail = ap (λ (o : world.Opening). o.tail) kept.opening in
+        omega (arith, kept.tail, same, before.tail, sum_by_push (λ (k : ScriptLine). draws_of k.command) ls l);
+    over = λ seat session.
+        by_same (λ s. length s.over ≤ length (ls ++ l ∷ [])) seat session (omega (arith, before.over seat (was_there seat session), length-append ls (l ∷ [])));
+    few = λ seat session. by_same (λ s. length (work_of s.stand).claims ≤ WRITE_LIMIT) seat session (before.few seat (was_there seat session));
+    own = own_logged;
+    apart = λ seat session. by_same (λ s. Apart (work_of s.stand).reads) seat session (before.apart seat (was_there seat session));
+    known = known_logged;
+  }
+
+pub holds_moved : (laws : Laws) (ls : List ScriptLine) (said : List Said) (v : View) → Holds ls said v → (l : ScriptLine) (a : Answer) (t : View) → DidMove v (move_of l a) t → IsSerializable sound_law t
+    → Holds (ls ++ l ∷ []) (said ++ said_by l a ∷ []) t
+holds_moved laws ls said v before l a t did holds =
+    ⊎_elim (λ (of_session : DidLine v l a t). holds_then laws ls said v before l a t of_session holds)
+    (λ (of_log : DidLogLine v l a t). holds_logged ls said v before l a t of_log holds)
+    (moved v l a t did)

@@ -1,5 +1,5 @@
--- The causes of answers that tell of the log, or of the end of numbers: of these a line of a run may have the log's end alone.
-use Rattle.std.proofs.Common.{◌≡◌, ℕ, ◌+◌, ◌<◌, List, Option, Some, None, take, length, slice_get, refl, sym, ap, ◌∙◌, arith}
+-- The causes of answers that tell of the end of the log, or of numbers: of these a line of a run may have the log's end alone.
+use Rattle.std.proofs.Common.{◌≡◌, ℕ, ◌+◌, ◌<◌, List, Option, Some, None, take, length, slice_get, refl, sym, ap, ◌∙◌, ⊎_elim, arith}
 use Rattle.std.proofs.lemmas.List.{length-take}
 use Rattle.std.proofs.lemmas.List.Sums.{sum_by_push}
 use Rattle.std.proofs.lemmas.Option.{slice_get_within}
@@ -15,11 +15,13 @@ use Rattle.erm_script.specs.declared.script.Command.TheVariants as command
 use Rattle.erm_script.specs.declared.script.ScriptLine.{ScriptLine}
 use Rattle.erm_good_report.specs.Opening.{Opening, InTurn}
 use Rattle.erm_good_report.specs.Phases.{FitsRefusal, IsAnswerTo, phase_asked, refusal_in, refusal_of}
-use Rattle.erm_good_report.specs.Refusals.{HasLogCause, HasUnfilledCause, draws_of, moment_at, total_of}
-use Rattle.erm_good_report.specs.Transactions.{Transaction, said_of}
+use Rattle.erm_good_report.specs.Refusals.{HasLogCause, draws_of, moment_at, total_of}
+use Rattle.erm_good_report.specs.Transactions.{Said, Transaction, said_of}
 use Rattle.erm_lines.specs.Answers.{DidAsked, DidCommand, DidLine}
-use Rattle.erm_lines.specs.Executions.{IsOpeningOf, IsRun}
-use Rattle.erm_told_limits.proofs.At.{At, take_next}
+use Rattle.erm_lines.specs.Executions.{DidLog, DidLogLine, IsOpeningOf, IsRun}
+use Rattle.erm_lines.proofs.Moved.{moved}
+use Rattle.erm_told_limits.specs.Limits.{IsEnd}
+use Rattle.erm_told_limits.proofs.At.{At, AtMove, at_session, take_next}
 use Rattle.erm_told_limits.proofs.Causes.{there}
 use Rattle.erm_told_limits.proofs.Holds.{Laws}
 use Rattle.erm_told_limits.proofs.Refused.{kind_of}
@@ -46,35 +48,20 @@ module _ (v : View) (seat : ℕ) (t : View) where
   numbers_ended command.Begin fits did = did
   numbers_ended c fits did = absurd fits
 
-  -- no line of a session asks for the log
-  not_durable : (stamp : ℕ) (c : Command) → IsAnswerTo c (answer.Durable stamp) → DidCommand v seat c (answer.Durable stamp) t → ⊥
-  not_durable stamp command.Durable fits did = did
-  not_durable stamp c fits did = fits
+-- no line of the log has such an answer
+not_logged : (v t : View) (c : Command) (a : Answer) → IsEnd a → DidLog v c a t → ⊥
+not_logged v t command.Flush (answer.Flushed place) is did = is
+not_logged v t command.Flush (answer.Empty place) is did = is
+not_logged v t command.Flush (answer.Unfilled place) is did = is
+not_logged v t command.Checkpoint (answer.Checkpointed place) is did = is
+not_logged v t command.Checkpoint (answer.Unfilled place) is did = is
+not_logged v t c a is did = did
 
-  not_flushed : (place : ℕ) (c : Command) → IsAnswerTo c (answer.NotFlushed place) → DidCommand v seat c (answer.NotFlushed place) t → ⊥
-  not_flushed place command.Durable fits did = did
-  not_flushed place c fits did = fits
-
-  no_receipt : (c : Command) → IsAnswerTo c answer.NoReceipt → DidCommand v seat c answer.NoReceipt t → ⊥
-  no_receipt command.Durable fits did = did
-  no_receipt c fits did = fits
-
-  no_flush : (place : ℕ) (c : Command) → IsAnswerTo c (answer.Flushed place) → DidCommand v seat c (answer.Flushed place) t → ⊥
-  no_flush place command.Flush fits did = did
-  no_flush place c fits did = fits
-
-  not_empty : (place : ℕ) (c : Command) → IsAnswerTo c (answer.Empty place) → DidCommand v seat c (answer.Empty place) t → ⊥
-  not_empty place command.Flush fits did = did
-  not_empty place c fits did = fits
-
-  no_checkpoint : (place : ℕ) (c : Command) → IsAnswerTo c (answer.Checkpointed place) → DidCommand v seat c (answer.Checkpointed place) t → ⊥
-  no_checkpoint place command.Checkpoint fits did = did
-  no_checkpoint place c fits did = fits
-
-  not_unfilled : (place : ℕ) (c : Command) → IsAnswerTo c (answer.Unfilled place) → DidCommand v seat c (answer.Unfilled place) t → ⊥
-  not_unfilled place command.Flush fits did = did
-  not_unfilled place command.Checkpoint fits did = did
-  not_unfilled place c fits did = fits
+of_session : (first : View) (ls : List ScriptLine) (said : List Said) (l : ScriptLine) (a : Answer) → IsEnd a → AtMove first ls said l a → At first ls said l a
+of_session first ls said l a is at =
+    ⊎_elim (λ (did : DidLine at.v l a at.t). at_session first ls said l a at did)
+    (λ (did : DidLogLine at.v l a at.t). absurd (not_logged at.v at.t l.command a is did.did))
+    (moved at.v l a at.t at.did)
 
 module _ (laws : Laws) (v t : View) (script : List ScriptLine) (answers : List Answer) (run : IsRun v script answers t) (opening : Opening) (of : IsOpeningOf v opening)
     (all : List Transaction) (i : ℕ) (l : ScriptLine) (at_script : slice_get script i ≡ Some l) where
@@ -84,8 +71,8 @@ module _ (laws : Laws) (v t : View) (script : List ScriptLine) (answers : List A
       let within = slice_get_within script i l at_script in
       omega (arith, within, length-take i script, run.few)
 
-  log_cause : (a : Answer) → At v (take i script) (take i (said_of script answers)) l a → HasLogCause (moment_at InTurn opening script answers all i l) a
-  log_cause (answer.LogEnd tail) at =
+  log_cause : (a : Answer) → IsEnd a → At v (take i script) (take i (said_of script answers)) l a → HasLogCause (moment_at InTurn opening script answers all i l) a
+  log_cause (answer.LogEnd tail) is at =
       let line = line_did at.v l (answer.LogEnd tail) at.t refl at.did in
       let began = log_ended at.v l.session at.t tail l.command line.0 line.1 in
       let same : at.v.opening.tail ≡ v.opening.tail = ap (λ (o : world.Opening). o.tail) at.opening in
@@ -93,25 +80,14 @@ module _ (laws : Laws) (v t : View) (script : List ScriptLine) (answers : List A
       ap (λ (ls : List ScriptLine). total_of draws_of ls) (take_next script i l at_script) ∙ sum_by_push (λ (k : ScriptLine). draws_of k.command) (take i script) l
       in
       (began.3, omega (arith, began.2, at.holds.tail, same, of.stamp, next))
-  log_cause answer.NumbersEnd at =
+  log_cause answer.NumbersEnd is at =
       let line = line_did at.v l answer.NumbersEnd at.t refl at.did in
       let began = numbers_ended at.v l.session at.t l.command line.0 line.1 in
       let most = at.holds.over l.session at.did.session in
       absurd (omega (arith, began.1, most, few_before))
-  log_cause (answer.Durable stamp) at = let line = line_did at.v l (answer.Durable stamp) at.t refl at.did in absurd (not_durable at.v l.session at.t stamp l.command line.0 line.1)
-  log_cause (answer.NotFlushed place) at = let line = line_did at.v l (answer.NotFlushed place) at.t refl at.did in absurd (not_flushed at.v l.session at.t place l.command line.0 line.1)
-  log_cause answer.NoReceipt at = let line = line_did at.v l answer.NoReceipt at.t refl at.did in absurd (no_receipt at.v l.session at.t l.command line.0 line.1)
-  log_cause (answer.Flushed place) at = let line = line_did at.v l (answer.Flushed place) at.t refl at.did in absurd (no_flush at.v l.session at.t place l.command line.0 line.1)
-  log_cause (answer.Empty place) at = let line = line_did at.v l (answer.Empty place) at.t refl at.did in absurd (not_empty at.v l.session at.t place l.command line.0 line.1)
-  log_cause (answer.Checkpointed place) at = let line = line_did at.v l (answer.Checkpointed place) at.t refl at.did in absurd (no_checkpoint at.v l.session at.t place l.command line.0 line.1)
-  log_cause a at = tt
+  log_cause a is at = absurd is
 
-  unfilled_cause : (c : Command) (a : Answer) → At v (take i script) (take i (said_of script answers)) l a → HasUnfilledCause (moment_at InTurn opening script answers all i l) c a
-  unfilled_cause command.Flush (answer.Unfilled place) at = let line = line_did at.v l (answer.Unfilled place) at.t refl at.did in absurd (not_unfilled at.v l.session at.t place l.command line.0 line.1)
-  unfilled_cause command.Checkpoint (answer.Unfilled place) at = let line = line_did at.v l (answer.Unfilled place) at.t refl at.did in absurd (not_unfilled at.v l.session at.t place l.command line.0 line.1)
-  unfilled_cause c a at = tt
-
-  pub both_causes : (a : Answer) → slice_get answers i ≡ Some a → HasLogCause (moment_at InTurn opening script answers all i l) a × HasUnfilledCause (moment_at InTurn opening script answers all i l) l.command a
-  both_causes a e =
-      let at = there laws v t script answers run i l a at_script e in
-      (log_cause a at, unfilled_cause l.command a at)
+  pub end_cause : (a : Answer) → slice_get answers i ≡ Some a → IsEnd a → HasLogCause (moment_at InTurn opening script answers all i l) a
+  end_cause a e is =
+      let before = take i (said_of script answers) in
+      log_cause a is (of_session v (take i script) before l a is (there laws v t script answers run i l a at_script e))

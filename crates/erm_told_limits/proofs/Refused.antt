@@ -69,22 +69,23 @@ pub record Full (a : Answer) (why : RowStop) : Type 0 where
   pub begins : (v : View) (seat : ℕ) (t : View) → DidCommand v seat command.Begin a t → ⊥
   pub seals : (v : View) (seat : ℕ) (t : View) → DidCommand v seat command.Seal a t → ⊥
   pub aborts : (v : View) (seat : ℕ) (t : View) → DidCommand v seat command.Abort a t → ⊥
+  pub durables : (v : View) (seat : ℕ) (t : View) → DidCommand v seat command.Durable a t → ⊥
 
 pub reads_full : Full answer.ReadsFull stop.ReadsFull
 unfolding stop_of
-reads_full = record { stop_is = refl; no_phase = refl; operated = λ v seat c t did. did; undecided = λ v seat t did. did; begins = λ v seat t did. did; seals = λ v seat t did. did; aborts = λ v seat t did. did }
+reads_full = record { stop_is = refl; no_phase = refl; operated = λ v seat c t did. did; undecided = λ v seat t did. did; begins = λ v seat t did. did; seals = λ v seat t did. did; aborts = λ v seat t did. did; durables = λ v seat t did. did }
 
 pub writes_full : Full answer.WritesFull stop.WritesFull
 unfolding stop_of
-writes_full = record { stop_is = refl; no_phase = refl; operated = λ v seat c t did. did; undecided = λ v seat t did. did; begins = λ v seat t did. did; seals = λ v seat t did. did; aborts = λ v seat t did. did }
+writes_full = record { stop_is = refl; no_phase = refl; operated = λ v seat c t did. did; undecided = λ v seat t did. did; begins = λ v seat t did. did; seals = λ v seat t did. did; aborts = λ v seat t did. did; durables = λ v seat t did. did }
 
 pub cells_full : (drawn : ℕ) → Full (answer.CellsFull drawn) (stop.CellsFull drawn)
 unfolding stop_of
-cells_full drawn = record { stop_is = refl; no_phase = refl; operated = λ v seat c t did. did; undecided = λ v seat t did. did; begins = λ v seat t did. did; seals = λ v seat t did. did; aborts = λ v seat t did. did }
+cells_full drawn = record { stop_is = refl; no_phase = refl; operated = λ v seat c t did. did; undecided = λ v seat t did. did; begins = λ v seat t did. did; seals = λ v seat t did. did; aborts = λ v seat t did. did; durables = λ v seat t did. did }
 
 pub oids_full : (drawn : ℕ) → Full (answer.OidsFull drawn) (stop.OidsFull drawn)
 unfolding stop_of
-oids_full drawn = record { stop_is = refl; no_phase = refl; operated = λ v seat c t did. did; undecided = λ v seat t did. did; begins = λ v seat t did. did; seals = λ v seat t did. did; aborts = λ v seat t did. did }
+oids_full drawn = record { stop_is = refl; no_phase = refl; operated = λ v seat c t did. did; undecided = λ v seat t did. did; begins = λ v seat t did. did; seals = λ v seat t did. did; aborts = λ v seat t did. did; durables = λ v seat t did. did }
 
 module _ (a : Answer) (why : RowStop) (full : Full a why) (v : View) (seat : ℕ) (t : View) where
   cut_off : (c : Command) → phase_asked c ≡ Some Active → refusal_of (phase_at v seat) c ≡ None → DidOperation v seat c a t → WasFull v seat c why t
@@ -107,6 +108,7 @@ module _ (a : Answer) (why : RowStop) (full : Full a why) (v : View) (seat : ℕ
   commanded command.Abort allowed did = absurd (full.aborts v seat t did)
   commanded command.Settle allowed did = absurd (full.undecided v seat t did)
   commanded command.Commit allowed did = absurd (full.undecided did.between seat t did.decided)
+  commanded command.Durable allowed did = absurd (full.durables v seat t did)
   commanded c allowed did = absurd did
 
   asked : (c : Command) (refusal : Option Answer) → refusal_of (phase_at v seat) c ≡ refusal → FitsRefusal refusal c a → DidAsked refusal v seat c a t → WasFull v seat c why t

@@ -16,6 +16,7 @@ use Rattle.erm_good_report.specs.Phases.{refusal_of}
 use Rattle.erm_good_report.specs.Refusals.{draws_of}
 use Rattle.erm_lines.specs.Answers.{DidAsked, DidCommand, DidDecide, DidLine, DidOperation, WasRefusedAs}
 use Rattle.erm_lines.specs.Operations.{Ran}
+use Rattle.erm_lines.proofs.Moved.{asked_still}
 use Rattle.erm_told_limits.proofs.Grown.{all_active, still_active}
 use Rattle.erm_told_limits.proofs.Turns.{wanted}
 
@@ -25,8 +26,8 @@ ran_tail (event ∷ events) v seat t active ran =
     ran_tail events ran.0 seat t (still_active v seat event ran.0 active ran.1) ran.2 ∙ (went sound_law v seat event ran.0 active ran.1).goes.tail
 
 decided_tail : (v : View) (seat : ℕ) (t : View) (a : Answer) → DidDecide v seat a t → t.tail ≡ v.tail
-decided_tail v seat t (answer.Committed stamp succ pred) did = did.4.3.0.tail
-decided_tail v seat t (answer.Excluded stamp succ pred) did = did.3.0.tail
+decided_tail v seat t (answer.Committed stamp succ pred) did = did.4.4.0.tail
+decided_tail v seat t (answer.Excluded stamp succ pred) did = did.4.0.tail
 decided_tail v seat t (answer.WaitSeat other seen) did = ap (λ (x : View). x.tail) did.0
 decided_tail v seat t (answer.WaitRing flushed) did = ap (λ (x : View). x.tail) did.0
 decided_tail v seat t a did = absurd did
@@ -67,6 +68,7 @@ module _ (v : View) (seat : ℕ) (t : View) where
   commanded command.Settle a allowed did = operation command.Settle a (decided_tail v seat t a did)
   commanded command.Commit a allowed did = sealed_tail v did.between seat did.stamp t a did.sealed did.decided
   commanded command.Abort answer.Aborted allowed did = operation command.Abort answer.Aborted did.tail
+  commanded command.Durable a allowed did = operation command.Durable a (ap (λ (x : View). x.tail) (asked_still v t seat a did))
   commanded c a allowed did = absurd did
 
   asked : (c : Command) (a : Answer) (refusal : Option Answer) → refusal_of (phase_at v seat) c ≡ refusal → DidAsked refusal v seat c a t → t.tail ≤ v.tail + GREATEST_BLOCK * draws_of c

@@ -8,6 +8,7 @@ use Rattle.std.specs.List.{flat_map}
 use Rattle.erm_model.specs.Lawful.{times_made}
 use Rattle.erm_world.specs.World.{Finished, IsSession, Session, View, Work, claims_by_all, claims_in, claims_upto, made_by_all, made_in, made_upto, work_of}
 use Rattle.erm_world.specs.World as world
+use Rattle.erm_lines.specs.Executions.{DidFlush}
 use Rattle.erm_told_limits.proofs.Moved.{Turned, mades_in}
 
 -- the sum over the sessions up to a number
@@ -34,6 +35,11 @@ module _ (F : Session → ℕ) where
   unfolding total_upto
   total_zero zero f none = refl
   total_zero (suc n) f none = let last = none (suc n) (omega arith) (omega arith) in omega (arith, total_zero n f (λ q above within. none q above (omega (arith, within))), last)
+
+  pub total_kept : (n : ℕ) (f g : ℕ → Session) → ((q : ℕ) → 0 < q → q ≤ n → g q ≡ f q) → total_upto F n g ≡ total_upto F n f
+  unfolding total_upto
+  total_kept zero f g same = refl
+  total_kept (suc n) f g same = omega (arith, total_kept n f g (λ q above within. same q above (omega (arith, within))), ap F (same (suc n) (omega arith) (omega arith)))
 
 claims_total : (n : ℕ) (session : ℕ → Session) → claims_upto n session ≡ total_upto claims_in n session
 unfolding claims_upto total_upto
@@ -67,6 +73,22 @@ module _ (P : ℕ → Type 0) (m k o : ℕ) (v : View) (seat : ℕ) (t : View) (
       let one = one_turned (λ s. made_in s x) in
       let more = turned.own.made x in
       omega (arith, one, more, made_total t.opening.sessions t.session x, made_total v.opening.sessions v.session x)
+
+-- where the sessions stay
+module _ (v t : View) (did : DidFlush v t) where
+  all_kept : (F : Session → ℕ) → total_upto F t.opening.sessions t.session ≡ total_upto F v.opening.sessions v.session
+  all_kept F =
+      ap (λ (o : world.Opening). total_upto F o.sessions t.session) did.opening
+      ∙ total_kept F v.opening.sessions v.session t.session (λ q above within. did.session q (above, within))
+
+  pub mades_kept : mades_by_all t ≡ mades_by_all v
+  mades_kept = all_kept mades_in
+
+  pub claims_kept : claims_by_all t ≡ claims_by_all v
+  claims_kept = omega (arith, all_kept claims_in, claims_total t.opening.sessions t.session, claims_total v.opening.sessions v.session)
+
+  pub made_kept : (x : ℕ) → made_by_all t x ≡ made_by_all v x
+  made_kept x = omega (arith, all_kept (λ s. made_in s x), made_total t.opening.sessions t.session x, made_total v.opening.sessions v.session x)
 
 -- where no transaction was yet
 pub claims_none : (v : View) → ((q : ℕ) → 0 < q → q ≤ v.opening.sessions → claims_in (v.session q) ≡ 0) → claims_by_all v ≡ 0

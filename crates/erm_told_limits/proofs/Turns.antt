@@ -23,6 +23,7 @@ use Rattle.erm_good_report.specs.Phases.{refusal_for, refusal_of}
 use Rattle.erm_good_report.specs.Refusals.{claims_of, makes_of}
 use Rattle.erm_lines.specs.Answers.{DidAsked, DidCommand, DidDecide, DidLine, DidOperation, WasRefusedAs}
 use Rattle.erm_lines.specs.Operations.{AsksOf, DidCalls, FrontOf, WereCutOff, WholeOf}
+use Rattle.erm_lines.proofs.Moved.{asked_still}
 use Rattle.erm_told_limits.proofs.Arrays.{HaveRowsBelow}
 use Rattle.erm_told_limits.proofs.Grown.{all_active}
 use Rattle.erm_told_limits.proofs.Lines.{HasRun, Known, begun_turned, cut_of, cut_turned, done_as_was, same_turned, whole_turned}
@@ -56,8 +57,8 @@ module _ (P : ℕ → Type 0) (v : View) (seat : ℕ) (t : View) where
   -- a sealed one was decided, or waits
   decided : (a : Answer) → DidDecide v seat a t → Turned P 0 0 1 v seat t
   decided (answer.Committed stamp succ pred) did =
-      let settle = did.4 in settled settle.0 settle.1 (world.commits settle.1 did.0.succ did.0.pred) settle.2 settle.3.0
-  decided (answer.Excluded stamp succ pred) did = settled did.0 did.1 (world.excluded did.1 succ pred) did.2 did.3.0
+      let settle = did.4 in settled settle.0 settle.1 (world.commits settle.1 did.0.succ did.0.pred) settle.2 settle.4.0
+  decided (answer.Excluded stamp succ pred) did = settled did.0 did.1 (world.excluded did.1 succ pred) did.2 did.4.0
   decided (answer.WaitSeat other seen) did = within_one 0 0 0 (omega arith) (turned_nothing P v seat t did.0)
   decided (answer.WaitRing flushed) did = within_one 0 0 0 (omega arith) (turned_nothing P v seat t did.0)
   decided a did = absurd did
@@ -101,6 +102,7 @@ module _ (rows_below : HaveRowsBelow) (ways : Ways) (v : View) (seat : ℕ) (t :
     commanded command.Commit a allowed did =
         turned_then (Known command.Commit t) 0 0 0 0 0 1 v seat did.between t (sealed (Known command.Commit t) v seat did.between did.stamp did.sealed) (decided (Known command.Commit t) did.between seat t a did.decided)
     commanded command.Abort answer.Aborted allowed did = done_as_was (Known command.Abort t) v seat t (work_at v seat) world.aborts refl did
+    commanded command.Durable a allowed did = within_one (Known command.Durable t) v seat t 0 0 0 (omega arith) (turned_nothing (Known command.Durable t) v seat t (asked_still v t seat a did))
     commanded c a allowed did = absurd did
 
     asked : (c : Command) (a : Answer) (refusal : Option Answer) → refusal_of (phase_at v seat) c ≡ refusal → DidAsked refusal v seat c a t → Turned (Known c t) (makes_of c) (claims_of c) 1 v seat t
@@ -133,8 +135,8 @@ same_after : (v : View) (seat : ℕ) (t : View) → t ≡ v → (phase_at v seat
 same_after v seat t is has_run = subst (λ (x : View). phase_at x seat ≡ Active → HasRun x seat) (sym is) has_run
 
 decide_after : (v : View) (seat : ℕ) (t : View) (a : Answer) → DidDecide v seat a t → (phase_at v seat ≡ Active → HasRun v seat) → phase_at t seat ≡ Active → HasRun t seat
-decide_after v seat t (answer.Committed stamp succ pred) did has_run active = done_after v seat t did.4.0 _ did.4.3.0 active
-decide_after v seat t (answer.Excluded stamp succ pred) did has_run active = done_after v seat t did.0 _ did.3.0 active
+decide_after v seat t (answer.Committed stamp succ pred) did has_run active = done_after v seat t did.4.0 _ did.4.4.0 active
+decide_after v seat t (answer.Excluded stamp succ pred) did has_run active = done_after v seat t did.0 _ did.4.0 active
 decide_after v seat t (answer.WaitSeat other seen) did has_run active = same_after v seat t did.0 has_run active
 decide_after v seat t (answer.WaitRing flushed) did has_run active = same_after v seat t did.0 has_run active
 decide_after v seat t a did has_run active = absurd did
@@ -182,6 +184,7 @@ module _ (v : View) (seat : ℕ) (t : View) where
     command_runs command.Settle a allowed did = decide_after v seat t a did has_run then
     command_runs command.Commit a allowed did = commit_runs did.between did.stamp a did.sealed did.decided then
     command_runs command.Abort answer.Aborted allowed did = done_after v seat t (work_at v seat) world.aborts did then
+    command_runs command.Durable a allowed did = same_after v seat t (asked_still v t seat a did) has_run then
     command_runs c a allowed did = absurd did
 
     asked_runs : (c : Command) (a : Answer) (refusal : Option Answer) → refusal_of (phase_at v seat) c ≡ refusal → DidAsked refusal v seat c a t → HasRun t seat

@@ -9,7 +9,7 @@ use Rattle.erm_script.specs.declared.script.ScriptLine.{ScriptLine}
 use Rattle.erm_script.specs.Script.{IsInRange}
 use Rattle.erm_world.specs.World.{IsSession, View, work_at}
 use Rattle.erm_good_report.specs.Opening.{Opening, InTurn}
-use Rattle.erm_good_report.specs.Refusals.{HasLogCause, HasRefusalCause, HasUnfilledCause, IsOwn, Moment, claims_of, moment_at}
+use Rattle.erm_good_report.specs.Refusals.{HasLogCause, HasRefusalCause, IsOwn, Moment, claims_of, moment_at}
 use Rattle.erm_good_report.specs.Transactions.{Transaction, progress_of, said_of}
 use Rattle.erm_lines.specs.Executions.{IsExecution, IsOpened, IsOpeningOf, IsRun, line_moves}
 
@@ -34,9 +34,15 @@ IsFull a = ⊥
 abbrev pub FullHasCause : Type 0
 FullHasCause = OfLines IsFull (λ m l a. (t : Transaction) → IsOwn m l.command a t → HasRefusalCause m l.command t a)
 
--- each answer that tells of the log has its cause
-abbrev pub LogHasCause : Type 0
-LogHasCause = OfLines (λ a. Unit {0}) (λ m l a. HasLogCause m a × HasUnfilledCause m l.command a)
+-- the answers that tell that the log is at its end, or a session's numbers
+abbrev pub IsEnd : Answer → Type 0
+IsEnd (answer.LogEnd tail) = Unit {0}
+IsEnd answer.NumbersEnd = Unit {0}
+IsEnd a = ⊥
+
+-- each of these has its cause
+abbrev pub EndHasCause : Type 0
+EndHasCause = OfLines IsEnd (λ m l a. HasLogCause m a)
 
 -- After some lines of an execution a session's transaction that isn't over has claimed few objects, and no more than its lines so far may.
 abbrev pub ClaimsAreFew : Type 0

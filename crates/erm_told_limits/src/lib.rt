@@ -2,7 +2,7 @@
 //! a function that does nothing.
 #![tactic(auto)]
 
-ghost use Rattle.erm_told_limits.specs.Limits.{ClaimsAreFew, FullHasCause, LogHasCause};
+ghost use Rattle.erm_told_limits.specs.Limits.{ClaimsAreFew, EndHasCause, FullHasCause};
 
 /// Each answer to a line that had no room has its cause in the lines so far: reads in the objects that there may be, claims in the
 /// transaction's own lines, cells and objects in those of all sessions.
@@ -18,10 +18,10 @@ pub fn full_has_cause()
     erm_maps::begun_transactions_are_runs();
 }
 
-/// Each answer that tells of the log, or of the end of numbers, has its cause: of these a session's line may have the log's end alone,
-/// which is no further on than the lines so far may have moved it.
-pub fn log_has_cause()
-    ensures { LogHasCause }
+/// Each answer that tells of the end of the log, or of numbers, has its cause: the log's end is no further on than the lines so far may
+/// have moved it, and numbers are never at their end.
+pub fn end_has_cause()
+    ensures { EndHasCause }
 {
     erm_core_ssn::rows_run_serially();
     erm_core_ssn::serial_order_is_unique();

@@ -41,3 +41,9 @@ opened_runs sessions rows tail run first cells c is n =
 pub opened_in : {L E : Type 0} (r : Result (Plain L) E) (sessions : ℕ) (rows : Rows) (tail run first cells : ℕ) → IfOk r (λ p. core_of p.state ≡ opening_state sessions rows tail run first cells) → IfOk r (λ p. AllRun (plain_view p))
 opened_in (Ok p) sessions rows tail run first cells is = opened_runs sessions rows tail run first cells (core_of p.state) is p.sessions
 opened_in (Err e) sessions rows tail run first cells is = tt
+
+-- and the first has committed nothing
+pub over_in : {L E : Type 0} (r : Result (Plain L) E) (sessions : ℕ) (rows : Rows) (tail run first cells : ℕ) → IfOk r (λ p. core_of p.state ≡ opening_state sessions rows tail run first cells)
+    → IfOk r (λ p. ((plain_view p).session 1).over ≡ [])
+over_in (Ok p) sessions rows tail run first cells is = ap (λ (c : Core). ((view_of p.sessions c).session 1).over) is
+over_in (Err e) sessions rows tail run first cells is = tt

@@ -81,7 +81,7 @@ outcome_kept v t seat w stamp (Excluded at succ pred) runs did = done_kept v t s
 
 pub settled_kept : (v t : View) (seat : ℕ) (r : Result Outcome Wait) → AllRun v
     → IfOk r (λ outcome. DidSettle v seat outcome t) → IfErr r (λ stop. DidNotSettle v seat stop t) → Kept v t
-settled_kept v t seat (Ok outcome) runs did not = outcome_kept v t seat did.0 did.1 outcome runs did.3
+settled_kept v t seat (Ok outcome) runs did not = outcome_kept v t seat did.0 did.1 outcome runs did.4
 settled_kept v t seat (Err wait) runs did not = unchanged v t not.0 runs
 
 -- THE LAW. A run is lawful by each law that says the same as that of sound rows.

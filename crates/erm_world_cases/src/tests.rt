@@ -1,5 +1,5 @@
 //! Two sessions over one table of the world in lists.
-ghost use Rattle.std.specs.Prelude.{◌≡◌, ◌≤◌, IfOk, replicate};
+ghost use Rattle.std.specs.Prelude.{◌≡◌, ◌≤◌, IfOk, [], replicate};
 ghost use Rattle.erm_model.specs.declared.TheConstants.{ROW_WORDS};
 ghost use Rattle.erm_model.specs.declared.limits.TheConstants.{OID_LIMIT, TABLES};
 ghost use Rattle.erm_model.specs.RowTransaction.{SameLaw};
@@ -39,6 +39,7 @@ fn world(rt: &impl Abort, alloc: Global, first: Oid) -> Result<Plain<SoundRows>,
     ensures world { IfOk result (λ p. IsWorld sound_law p) }
     ensures runs { IfOk result (λ p. AllRun (plain_view p)) }
     ensures sessions { IfOk result (λ p. (plain_view p).opening.sessions ≡ 2) }
+    ensures uncommitted { IfOk result (λ p. ((plain_view p).session 1).over ≡ []) }
 {
     let rows = zero_rows(alloc)?;
     assert!(rt; sound(&rows), "rows of zeros are sound");

@@ -1,7 +1,7 @@
 use Rattle.std.proofs.Common.{◌≡◌, List, length, subst, sym, ap, ◌∙◌}
 use Rattle.erm_model.specs.Committed.{RunsInOrder}
 use Rattle.erm_report.specs.declared.answer.Answer.{Answer}
-use Rattle.erm_good_report.specs.GoodReport.{OwesToAnswers, OrderAgrees, places_of}
+use Rattle.erm_good_report.specs.GoodReport.{IsGoodReport, OwesToAnswers, OrderAgrees, places_of}
 use Rattle.erm_good_report.specs.Phases.{Closed, ClosesAgree}
 use Rattle.erm_good_report.specs.Transactions.{history_of, said_of, transactions_of}
 use Rattle.erm_summary.proofs.laws.summaries_are_good.Goals as goal
@@ -14,7 +14,7 @@ returns c mode opening names script answers closed lines s fits each closes owes
     let agrees : OrderAgrees (history_of (transactions_of (length names) (places_of script answers closed))) opening.map s.report =
     record { serial = serial; ascends = s.ascends; run = subst (RunsInOrder s.report.order opening.map) (sym s.state) (runs s.report.order serial) }
     in
-    record {
+    let good : IsGoodReport mode opening names script lines = record {
       report = s.report;
       lines_ok = s.lines_ok;
       fits = fits;
@@ -28,4 +28,5 @@ returns c mode opening names script answers closed lines s fits each closes owes
       order =
           subst (λ (a : List Answer). OrderAgrees (history_of (transactions_of (length names) (places_of script a s.report.closed))) opening.map s.report) same_answers
           (subst (λ (k : List Closed). OrderAgrees (history_of (transactions_of (length names) (places_of script answers k))) opening.map s.report) same_closed agrees);
-    }
+    } in
+    (good, s.answers_ok, s.closed_ok)

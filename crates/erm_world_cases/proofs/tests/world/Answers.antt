@@ -2,7 +2,7 @@ use Rattle.std.proofs.Common.{ℕ, refl, sym, subst, arith, List, ◌∙◌}
 use Rattle.erm_model.specs.declared.limits.TheConstants.{OID_LIMIT}
 use Rattle.erm_model.specs.Rows.{rows_of}
 use Rattle.erm_node.specs.Sound.{IsSound}
-use Rattle.erm_world_cases.proofs.Opened.{new_unreached, opened_in}
+use Rattle.erm_world_cases.proofs.Opened.{new_unreached, opened_in, over_in}
 use Rattle.erm_world_cases.proofs.tests.world.Goals as goal
 
 pub open-requires-clause-meets : goal.open-requires-clause-meets
@@ -13,3 +13,6 @@ open-requires-clause-unreached g c x above = new_unreached c.zero_rows_are_not_r
 
 pub returns-clause-runs : goal.returns-clause-runs
 returns-clause-runs g c = opened_in c.open.result _ _ _ _ _ _ c.open.ensures.opened
+
+pub returns-clause-uncommitted : goal.returns-clause-uncommitted
+returns-clause-uncommitted g c = over_in c.open.result _ _ _ _ _ _ c.open.ensures.opened

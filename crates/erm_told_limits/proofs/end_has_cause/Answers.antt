@@ -1,6 +1,6 @@
-use Rattle.erm_told_limits.proofs.Logs.{both_causes}
+use Rattle.erm_told_limits.proofs.Logs.{end_cause}
 use Rattle.erm_told_limits.proofs.Given.{HistoryLaws, given}
-use Rattle.erm_told_limits.proofs.log_has_cause.Goals as goal
+use Rattle.erm_told_limits.proofs.end_has_cause.Goals as goal
 
 pub returns : goal.returns
 returns c =
@@ -17,4 +17,4 @@ returns c =
     let ways = c.calls_stay_in_their_table.ensures in
     let laws = given histories (record { way = ways.way; met = ways.met; next = ways.next }) c.begun_transactions_are_runs.ensures in
     λ v t script answers run opening of all i l a at_script at_answers is.
-    both_causes laws v t script answers run opening of all i l at_script a at_answers
+    end_cause laws v t script answers run opening of all i l at_script a at_answers is

@@ -5,7 +5,7 @@ use Rattle.erm_script.specs.declared.script.ScriptLine.{ScriptLine}
 use Rattle.erm_world.specs.World.{Opening}
 use Rattle.erm_lines.specs.Answers.{DidLine}
 use Rattle.erm_world_cases.specs.Sessions.{AllRun}
-use Rattle.erm_world_cases.proofs.tests.lines.line.Goals as goal
+use Rattle.erm_world_cases.proofs.tests.lines.kept_line.Goals as goal
 
 pub returns-clause-runs : goal.returns-clause-runs
 returns-clause-runs g c =

@@ -7,13 +7,15 @@ use Rattle.erm_causes.proofs.Begun.{HistoryLaws}
 use Rattle.erm_causes.proofs.Moves.{session_before}
 use Rattle.erm_causes.proofs.Runs.{whole_run}
 use Rattle.erm_causes.proofs.Tables.{run_holds, run_opening}
-use Rattle.erm_tight.proofs.High.{excluded_ends}
+use Rattle.erm_tight.proofs.High.{tight_windows}
+use Rattle.erm_tight.proofs.Orderly.{run_orderly}
 use Rattle.erm_tight.proofs.Runs.{run_marks}
+use Rattle.erm_tight.proofs.Undecided.{opened_orderly}
 use Rattle.erm_tight.proofs.Whole.{KeyLaws, key_laws}
-use Rattle.erm_tight.proofs.runs_exclude_tightly.Goals as goal
+use Rattle.erm_tight.proofs.runs_have_tight_windows.Goals as goal
 
 pub returns : goal.returns
-returns c = λ v t script answers run closed are bounded.
+returns c = λ v t script answers run closed opening are starts.
     let laws : HistoryLaws = record {
       certified = c.prefixes_stand_alone.ensures.certified;
       snapshot = c.prefixes_stand_alone.ensures.snapshot;
@@ -25,9 +27,10 @@ returns c = λ v t script answers run closed are bounded.
     } in
     let keys : KeyLaws = key_laws c.nodes_are_read_back.ensures.record c.record_values.ensures.given c.record_values.ensures.found c.map_has_values_of_records.ensures.value c.nodes_are_read_back.ensures.found in
     let moves = line_moves script answers ++ run.closing in
-    let same = run_opening moves v t (whole_run v t script answers run closed are) in
-    excluded_ends laws t v.opening.sessions (places_of script answers closed) (run_holds moves v t run.opened.serializable (whole_run v t script answers run closed are))
+    let whole = whole_run v t script answers run closed are in
+    let same = run_opening moves v t whole in
+    tight_windows laws t v.opening.sessions (places_of script answers closed) (run_holds moves v t run.opened.serializable whole)
     (ap (λ (o : world.Opening). o.sessions) (sym same))
     (λ seat session. c.runs_tell_sessions.ensures v t script answers run closed are seat (session_before v t seat same session))
     (λ seat session. run_marks v t script answers run closed are keys c.begun_transactions_are_runs.ensures seat (session_before v t seat same session))
-    bounded
+    (run_orderly moves v t run.opened.serializable whole (opened_orderly v run.opened))
