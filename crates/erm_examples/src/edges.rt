@@ -1,4 +1,4 @@
-//! The longest script, faults of source and sink, and words that ask for no command.
+//! The longest script, words and what they ask for, objects used up, and faults of source and sink.
 use crate::memory::{Outcome, call, run};
 use anyhow::{Result, ensure};
 use erm_outside_mem::{MemSink, MemSource};
@@ -13,10 +13,31 @@ const SCRIPT_BYTES: usize = 16_777_216;
 const USAGE: &[u8] =
     b"usage: erm run | threads | make --count N --sessions K [--text] | recover | audit | checkpoint\n";
 
+/// The report of a script without lines.
+const EMPTY_REPORT: &[u8] = b"open 8 run 1\norder 0\nmap 0\nend\n";
+
+/// How many puts are refused for the owner, each of which makes three objects: 26 + 3 * 5,452 is 16,382, so two are left.
+const REFUSED_PUTS: u32 = 5452;
+
+/// Lines before these puts, and what is answered: a leaf of seven keys is committed, and another transaction splits it.
+const BEFORE_PUTS: (&str, &str) = (
+    "a begin\na put 0 1 01\na put 0 2 02\na put 0 3 03\na put 0 4 04\na put 0 5 05\na put 0 6 06\na put 0 7 07\na commit\na begin\na put 0 8 08\n",
+    "open 8 run 1\n1 begin 13\n2 ok\n3 ok\n4 ok\n5 ok\n6 ok\n7 ok\n8 ok\n9 committed 13 succ 13 pred 0\n10 begin 63\n11 ok\n",
+);
+
+/// Lines behind them, and what is answered, with the rest of the report.
+const BEHIND_PUTS: (&str, &str) = (
+    "b begin\nb put 0 9 09\nb get 0 7\nb put 0 9 09\nb commit\na commit\n",
+    "10916 begin 63\n10917 oids full 16384\n10918 value 07\n10919 oids full 16384\n10920 committed 63 succ 63 pred 13\n10921 committed 68 succ 68 pred 63\n\
+     order 3\ncommit a 1 stamp 13 succ 13 pred 0\ncommit b 5453 stamp 63 succ 63 pred 13\ncommit a 2 stamp 68 succ 68 pred 63\n\
+     map 8\npair 0 1 01\npair 0 2 02\npair 0 3 03\npair 0 4 04\npair 0 5 05\npair 0 6 06\npair 0 7 07\npair 0 8 08\nend\n",
+);
+
 /// Tries each edge.
 pub fn check<R: Threads + Wait + Sync>(rt: &R, alloc: Global) -> Result<()> {
     check_sizes(rt, alloc)?;
     check_words(rt, alloc)?;
+    check_objects(rt, alloc)?;
     check_faults(rt, alloc)
 }
 
@@ -25,10 +46,7 @@ fn check_sizes<R: Threads + Wait + Sync>(rt: &R, alloc: Global) -> Result<()> {
     let longest = vec![in alloc; b'#'; SCRIPT_BYTES]?;
     let found = run(rt, alloc, longest.as_slice(), 65536)?;
     ensure!(found.status == 0, "longest script");
-    ensure!(
-        found.bytes.as_slice() == b"open 8 run 1\norder 0\nmap 0\nend\n".as_slice(),
-        "its report"
-    );
+    ensure!(found.bytes.as_slice() == EMPTY_REPORT, "its report");
     let longer = vec![in alloc; b'#'; SCRIPT_BYTES + 1]?;
     let found = run(rt, alloc, longer.as_slice(), 65536)?;
     ensure!(found.status == 9, "longer script");
@@ -39,24 +57,54 @@ fn check_sizes<R: Threads + Wait + Sync>(rt: &R, alloc: Global) -> Result<()> {
     Ok(())
 }
 
-// Words that ask for no command.
+// Words, each with the status that comes of them: 0 for those of the command, 2 for all others.
 fn check_words<R: Threads + Wait + Sync>(rt: &R, alloc: Global) -> Result<()> {
-    let others: [&[&str]; 8] = [
-        &[],
-        &["erm"],
-        &["erm", "frob"],
-        &["erm", "RUN"],
-        &["erm", "run", "run"],
-        &["erm", "--help"],
-        &["erm", "help"],
-        &["erm", "--version"],
+    let cases: [(&[&str], u8); 18] = [
+        (&["erm", "run"], 0),
+        (&["", "run"], 0),
+        (&["run", "run"], 0),
+        (&["erm", "run", "--"], 0),
+        (&[], 2),
+        (&["erm"], 2),
+        (&["run"], 2),
+        (&["erm", ""], 2),
+        (&["erm", "frob"], 2),
+        (&["erm", "RUN"], 2),
+        (&["erm", "run", "run"], 2),
+        (&["erm", "run", "--", "--"], 2),
+        (&["erm", "--", "run"], 2),
+        (&["erm", "run", "--help"], 2),
+        (&["erm", "-h"], 2),
+        (&["erm", "--help"], 2),
+        (&["erm", "help"], 2),
+        (&["erm", "--version"], 2),
     ];
-    for words in others {
+    for (words, status) in cases {
         let source = MemSource::new(Vec::new(alloc), 1);
         let found = call(rt, alloc, words, source, MemSink::new(alloc, 5))?;
-        ensure!(found.status == 2, "other words");
-        ensure!(found.bytes.as_slice() == USAGE, "usage line");
+        let text = if status == 0 { EMPTY_REPORT } else { USAGE };
+        ensure!(found.status == status, "status of words");
+        ensure!(found.bytes.as_slice() == text, "what words print");
     }
+    Ok(())
+}
+
+// A session owns the root of a table. A put of another one is refused for that, and each time it has made three objects,
+// until there are no more: then that is the refusal, and the transaction goes on.
+fn check_objects<R: Threads + Wait + Sync>(rt: &R, alloc: Global) -> Result<()> {
+    let mut script = String::from_str(alloc, BEFORE_PUTS.0)?;
+    let mut report = String::from_str(alloc, BEFORE_PUTS.1)?;
+    for refused in 0..REFUSED_PUTS {
+        let line = 12 + 2 * refused;
+        script.push_str("b begin\nb put 0 9 09\n")?;
+        report.push_str(format!(in alloc; "{line} begin 63\n")?.as_str())?;
+        report.push_str(format!(in alloc; "{} owned 1 2\n", line + 1)?.as_str())?;
+    }
+    script.push_str(BEHIND_PUTS.0)?;
+    report.push_str(BEHIND_PUTS.1)?;
+    let found = run(rt, alloc, script.as_bytes(), 65536)?;
+    ensure!(found.status == 0, "objects used up");
+    ensure!(found.bytes.as_slice() == report.as_bytes(), "its report");
     Ok(())
 }
 

@@ -1,6 +1,6 @@
 //! Runs worked examples through the top call over memory, and prints a line for each. An example is a script in
 //! `NAME.script` and, in `NAME.report`, a line with the status and then the bytes that are to be put; `rows.txt` lists
-//! the names. Then come the longest script, faults of source and sink, and words that ask for no command.
+//! the names. Then come the longest script, words and what they ask for, objects used up, and faults of source and sink.
 #![tactic(auto)]
 
 mod edges;

@@ -14,7 +14,7 @@ use Rattle.erm_report.specs.declared.answer.Answer.{Answer}
 use Rattle.erm_world.specs.Laws.{IsSerializable}
 use Rattle.erm_world.specs.World.{Session, View, phase_at, phase_of}
 use Rattle.erm_good_report.specs.Phases.{Closed}
-use Rattle.erm_lines.specs.Executions.{closed_in, DidEnd, DidFlush, DidMove, IsExecution, IsLast, Move, close, flush, line}
+use Rattle.erm_lines.specs.Executions.{closed_in, DidEnd, DidFlush, DidMove, IsExecution, IsLast, Move, close, flush, line, log}
 use Rattle.erm_run.specs.Closing.{IsClosing, end_of}
 use Rattle.erm_run.proofs.Passing.{Leaves, end_leaves}
 
@@ -33,6 +33,7 @@ all_last moves move all one = All-append IsLast moves (move ∷ []) all single
 end_flush : (moves : List Move) (seat : ℕ) → end_of (moves ++ flush ∷ []) seat ≡ end_of moves seat
 end_flush [] seat = refl
 end_flush (line l a ∷ moves) seat = end_flush moves seat
+end_flush (log l a ∷ moves) seat = end_flush moves seat
 end_flush (close other a ∷ moves) seat = ap (λ (o : Option Answer). if other == seat then Some a else o) (end_flush moves seat)
 end_flush (flush ∷ moves) seat = end_flush moves seat
 
@@ -40,12 +41,14 @@ end_flush (flush ∷ moves) seat = end_flush moves seat
 end_other : (moves : List Move) (seat q : ℕ) (a : Answer) → seat ≢ q → end_of (moves ++ close seat a ∷ []) q ≡ end_of moves q
 end_other [] seat q a other = ap (λ (b : Bool). if b then Some a else None) (ne_eqb seat q other)
 end_other (line l b ∷ moves) seat q a other = end_other moves seat q a other
+end_other (log l b ∷ moves) seat q a other = end_other moves seat q a other
 end_other (close p b ∷ moves) seat q a other = ap (λ (o : Option Answer). if p == q then Some b else o) (end_other moves seat q a other)
 end_other (flush ∷ moves) seat q a other = end_other moves seat q a other
 
 end_own : (moves : List Move) (seat : ℕ) (a : Answer) → end_of moves seat ≡ None → end_of (moves ++ close seat a ∷ []) seat ≡ Some a
 end_own [] seat a none = ap (λ (b : Bool). if b then Some a else None) (eq-eqb seat seat refl)
 end_own (line l b ∷ moves) seat a none = end_own moves seat a none
+end_own (log l b ∷ moves) seat a none = end_own moves seat a none
 end_own (close p b ∷ moves) seat a none = by_test (p == seat) (end_of moves seat) (end_of (moves ++ close seat a ∷ []) seat) none (λ rest. end_own moves seat a rest)
   where
     by_test : (t : Bool) (o e : Option Answer) → (if t then Some b else o) ≡ None → (o ≡ None → e ≡ Some a) → (if t then Some b else e) ≡ Some a
@@ -69,6 +72,7 @@ none_closed v n = record {
 closed_more : (moves more : List Move) → closed_in (moves ++ more) ≡ closed_in moves ++ closed_in more
 closed_more [] more = refl
 closed_more (line l a ∷ moves) more = closed_more moves more
+closed_more (log l a ∷ moves) more = closed_more moves more
 closed_more (close other a ∷ moves) more = ap (λ (cs : List Closed). record { session = other; answer = a } ∷ cs) (closed_more moves more)
 closed_more (flush ∷ moves) more = closed_more moves more
 

@@ -1,5 +1,5 @@
 -- A whole script: its run, and its good report.
-use Rattle.std.proofs.Common.{◌≡◌, ℕ, ◌≤◌, List, length, sym, ap, ◌∙◌, subst}
+use Rattle.std.proofs.Common.{◌≡◌, ℕ, ◌≤◌, List, length, sym, subst}
 use Rattle.std.specs.List.{All}
 use Rattle.std.specs.Prelude.{Option}
 use Rattle.erm_model.specs.Committed.{rank_of}
@@ -13,17 +13,16 @@ use Rattle.erm_report.specs.Printable.{FitsTypes}
 use Rattle.erm_script.specs.declared.script.ScriptLine.{ScriptLine}
 use Rattle.erm_script.specs.Script.{IsInRange}
 use Rattle.erm_world.specs.World.{IsSession, View, phase_at}
-use Rattle.erm_good_report.specs.GoodReport.{IsGoodReport, OwesToAnswers, places_of}
+use Rattle.erm_good_report.specs.GoodReport.{HaveTightWindows, IsGoodReport, IsTightReport, OwesToAnswers, places_of}
 use Rattle.erm_good_report.specs.Opening.{InTurn, Opening}
 use Rattle.erm_good_report.specs.Phases.{Closed, ClosesAgree}
 use Rattle.erm_good_report.specs.Stamps.{StampsAgree}
-use Rattle.erm_good_report.specs.Transactions.{Transaction, history_of, said_of, transactions_of}
+use Rattle.erm_good_report.specs.Transactions.{history_of, said_of, transactions_of}
 use Rattle.erm_lines.specs.Executions.{AreClosed, IsExecution, IsOpened, IsOpeningOf, IsRun, line_moves}
-use Rattle.erm_lines.specs.Laws.{RunsAreSerial, RunsCloseSessions, RunsHaveCauses, RunsHavePhases, RunsHaveSnapshots, RunsHaveStamps, RunsRefuseWithCause}
+use Rattle.erm_lines.specs.Laws.{RunsAreSerial, RunsCloseSessions, RunsHaveCauses, RunsHavePhases, RunsHaveSnapshots, RunsHaveStamps, RunsHaveTightWindows, RunsRefuseWithCause}
 use Rattle.erm_summary.specs.Summary.{SummariesAreGood, Summarizes}
-use Rattle.erm_tight.specs.Ends.{IsLowAt, IsTightCommit, RunsCommitTightly, RunsHaveLowEnds}
-use Rattle.erm_tight.specs.Reports.{HasTightEnds}
 use Rattle.erm_run.specs.Closing.{IsClosing}
+use Rattle.erm_run.specs.Runs.{WasRun}
 use Rattle.erm_run.proofs.Differing.{stamps_differ}
 
 -- lines in turn, and then the end, are a run
@@ -52,48 +51,50 @@ pub record RunLaws : Type 0 where
   pub serial : RunsAreSerial
   pub causes : RunsHaveCauses
   pub refusals : RunsRefuseWithCause
+  pub windows : RunsHaveTightWindows
   pub summaries : SummariesAreGood
 
--- the report of a run is good
-pub good : RunLaws → (v t : View) (script : List ScriptLine) (answers : List Answer) (run : IsRun v script answers t) (closed : List Closed) → AreClosed run.closing closed
-    → (opening : Opening) → IsOpeningOf v opening → (names : List (List ℕ)) → v.opening.sessions ≡ length names → (lines : List Line)
-    → Summarizes opening names script answers closed lines → All FitsTypes lines → IsGoodReport InTurn opening names script lines
-good laws v t script answers run closed are opening of names many lines sums fits =
-    laws.summaries InTurn opening names script answers closed lines sums fits run.each
-    (subst (λ (n : ℕ). ClosesAgree n (said_of script answers) closed) many (laws.closes v t script answers run closed are))
-    (subst (λ (n : ℕ). OwesToAnswers InTurn opening script answers (transactions_of n (places_of script answers closed))) many owes)
-    (subst (λ (n : ℕ). StampsDiffer rank_of (history_of (transactions_of n (places_of script answers closed)))) many (stamps_differ told stamps.differ))
-    (λ order is. laws.serial v t script answers run closed opening are of order
-    (subst (λ (n : ℕ). IsSerialOrder rank_of (history_of (transactions_of n (places_of script answers closed))) order) (sym many) is))
-  where
-    told : List Transaction
-    told = transactions_of v.opening.sessions (places_of script answers closed)
+-- the report of a run is good, and its windows are tight
+module _ (laws : RunLaws) (v t : View) (script : List ScriptLine) (answers : List Answer) (run : IsRun v script answers t) (closed : List Closed) (are : AreClosed run.closing closed)
+    (opening : Opening) (of : IsOpeningOf v opening) where
+  stamps : StampsAgree InTurn opening (transactions_of v.opening.sessions (places_of script answers closed)) (said_of script answers)
+  stamps = laws.stamps v t script answers run closed opening are of
 
-    stamps : StampsAgree InTurn opening told (said_of script answers)
-    stamps = laws.stamps v t script answers run closed opening are of
+  owes : OwesToAnswers InTurn opening script answers (transactions_of v.opening.sessions (places_of script answers closed))
+  owes = record {
+    phases = laws.phases v t script answers run closed opening are of;
+    stamps = stamps;
+    snapshots = laws.snapshots v t script answers run closed opening are of;
+    causes = laws.causes v t script answers run closed opening are of;
+    refusals = laws.refusals v t script answers run closed opening are of;
+  }
 
-    owes : OwesToAnswers InTurn opening script answers told
-    owes = record {
-      phases = laws.phases v t script answers run closed opening are of;
-      stamps = stamps;
-      snapshots = laws.snapshots v t script answers run closed opening are of;
-      causes = laws.causes v t script answers run closed opening are of;
-      refusals = laws.refusals v t script answers run closed opening are of;
+  module _ (names : List (List ℕ)) (many : v.opening.sessions ≡ length names) (lines : List Line) (sums : Summarizes opening names script answers closed lines) (fits : All FitsTypes lines) where
+    good : (good : IsGoodReport InTurn opening names script lines) × (good.report.answers ≡ answers) × (good.report.closed ≡ closed)
+    good =
+        laws.summaries InTurn opening names script answers closed lines sums fits run.each
+        (subst (λ (n : ℕ). ClosesAgree n (said_of script answers) closed) many (laws.closes v t script answers run closed are))
+        (subst (λ (n : ℕ). OwesToAnswers InTurn opening script answers (transactions_of n (places_of script answers closed))) many owes)
+        (subst (λ (n : ℕ). StampsDiffer rank_of (history_of (transactions_of n (places_of script answers closed)))) many
+        (stamps_differ (transactions_of v.opening.sessions (places_of script answers closed)) stamps.differ))
+        (λ order is. laws.serial v t script answers run closed opening are of order
+        (subst (λ (n : ℕ). IsSerialOrder rank_of (history_of (transactions_of n (places_of script answers closed))) order) (sym many) is))
+
+    tight : IsTightReport InTurn opening names script lines
+    tight = record {
+      good = good.0;
+      tight =
+          subst (λ (cs : List Closed). HaveTightWindows (transactions_of (length names) (places_of script good.0.report.answers cs))) (sym good.2)
+          (subst (λ (given : List Answer). HaveTightWindows (transactions_of (length names) (places_of script given closed))) (sym good.1)
+          (subst (λ (n : ℕ). HaveTightWindows (transactions_of n (places_of script answers closed))) many (laws.windows v t script answers run closed opening are of)));
     }
 
--- the windows of the transactions that it tells have tight ends
-pub tight : RunsHaveLowEnds → RunsCommitTightly → (v t : View) (script : List ScriptLine) (answers : List Answer) (run : IsRun v script answers t) (closed : List Closed) → AreClosed run.closing closed
-    → (opening : Opening) → IsOpeningOf v opening → (names : List (List ℕ)) → v.opening.sessions ≡ length names → (lines : List Line)
-    → Summarizes opening names script answers closed lines → HasTightEnds opening names script lines
-tight low commits v t script answers run closed are opening of names many lines sums = record {
-  report = sums.report;
-  lines_ok = sums.lines_ok;
-  low = subst (λ (told : List Transaction). (u : Transaction) → u ∈ told → IsLowAt u.ending told u) same (low v t script answers run closed opening are of);
-  commits = subst (λ (told : List Transaction). (u : Transaction) → u ∈ told → IsTightCommit u.ending told u) same (commits v t script answers run closed opening are of);
-}
-  where
-    same : transactions_of v.opening.sessions (places_of script answers closed) ≡ transactions_of (length names) (places_of script sums.report.answers sums.report.closed)
-    same =
-        ap (λ (n : ℕ). transactions_of n (places_of script answers closed)) many
-        ∙ ap (λ (xs : List Answer). transactions_of (length names) (places_of script xs closed)) (sym sums.answers_ok)
-        ∙ ap (λ (cs : List Closed). transactions_of (length names) (places_of script sums.report.answers cs)) (sym sums.closed_ok)
+-- the report of a run tells of it
+pub was_run : (v t : View) (script : List ScriptLine) (answers : List Answer) (run : IsRun v script answers t) (closed : List Closed) → AreClosed run.closing closed
+    → (opening : Opening) (names : List (List ℕ)) (lines : List Line) → Summarizes opening names script answers closed lines → WasRun v t opening names script lines
+was_run v t script answers run closed are opening names lines sums = record { answers = answers; closed = closed; run = run; are = are; told = sums }
+
+-- lines that tell of a run are a good report of it, whose windows are tight
+pub told_tight : RunLaws → (v t : View) (script : List ScriptLine) (opening : Opening) → IsOpeningOf v opening → (names : List (List ℕ)) → v.opening.sessions ≡ length names
+    → (lines : List Line) → WasRun v t opening names script lines → All FitsTypes lines → IsTightReport InTurn opening names script lines
+told_tight laws v t script opening of names many lines was fits = tight laws v t script was.answers was.run was.closed was.are opening of names many lines was.told fits

@@ -77,8 +77,8 @@ done_leaves v t seat s idle b = record {
 }
 
 settled_leaves : (v t : View) (seat : ℕ) (o : Outcome) → DidSettle v seat o t → Leaves v seat t
-settled_leaves v t seat (outcome.Committed r) (w, stamp, stands, did) = done_leaves v t seat _ refl did.0
-settled_leaves v t seat (outcome.Excluded at succ pred) (w, stamp, stands, did) = done_leaves v t seat _ refl did.0
+settled_leaves v t seat (outcome.Committed r) (w, stamp, stands, ready, did) = done_leaves v t seat _ refl did.0
+settled_leaves v t seat (outcome.Excluded at succ pred) (w, stamp, stands, ready, did) = done_leaves v t seat _ refl did.0
 
 pub end_leaves : (v t : View) (seat : ℕ) (a : Answer) → DidEnd v seat a t → Leaves v seat t
 end_leaves v t seat a e = by_phase (phase_at v seat) a e.fits e.did

@@ -9,7 +9,7 @@ use Rattle.erm_machine.proofs.Listed.{∈-cons, ∈-head}
 use Rattle.erm_report.specs.declared.answer.Answer.{Answer}
 use Rattle.erm_world.specs.World.{View}
 use Rattle.erm_good_report.specs.Phases.{Closed}
-use Rattle.erm_lines.specs.Executions.{AreClosed, Move, close, closed_in, flush, line}
+use Rattle.erm_lines.specs.Executions.{AreClosed, Move, close, closed_in, flush, line, log}
 use Rattle.erm_told.proofs.Pairs.{Pairs, all_pairs}
 use Rattle.erm_run.specs.Closing.{IsClosing, closes_from, end_of}
 
@@ -56,6 +56,7 @@ ascending seat (Some a ∷ ends) = ((λ c m. let at = in_closes (seat + 1) ends 
 ended_in : (moves : List Move) (seat : ℕ) (a : Answer) → end_of moves seat ≡ Some a → ◌∈◌ {X = Closed} (record { session = seat; answer = a }) (closed_in moves)
 ended_in [] seat a is = absurd (let no : None ≡ Some a = is in cc)
 ended_in (line l b ∷ moves) seat a is = ended_in moves seat a is
+ended_in (log l b ∷ moves) seat a is = ended_in moves seat a is
 ended_in (flush ∷ moves) seat a is = ended_in moves seat a is
 ended_in (close other b ∷ moves) seat a is = ⊎_elim
     (λ (here : (eqb other seat ≡ true) × (other ≡ seat)).

@@ -7,12 +7,13 @@ use Rattle.erm_report.specs.declared.answer.Answer.{Answer}
 use Rattle.erm_world.specs.World.{IsSession, Session, Stand, View, Work, phase_at}
 use Rattle.erm_world.specs.World as world
 use Rattle.erm_good_report.specs.Phases.{Closed}
-use Rattle.erm_lines.specs.Executions.{IsExecution, IsLast, Move, close, closed_in, flush, line}
+use Rattle.erm_lines.specs.Executions.{IsExecution, IsLast, Move, close, closed_in, flush, line, log}
 
 -- the answer with which moves close a session, if they do
 abbrev pub end_of : List Move → ℕ → Option Answer
 end_of [] seat = None
 end_of (line l a ∷ moves) seat = end_of moves seat
+end_of (log l a ∷ moves) seat = end_of moves seat
 end_of (close other a ∷ moves) seat = if other == seat then Some a else end_of moves seat
 end_of (flush ∷ moves) seat = end_of moves seat
 

@@ -30,7 +30,8 @@ pub fn answer_all<W: RowWorld>(
     erm_lines::lines_keep_runs();
     let mut answers = Vec::with_capacity(alloc, script.len())?;
     for line in script {
-        answers.push(answer_line(alloc, world, line)?)?;
+        let mut receipt = None;
+        answers.push(answer_line(alloc, world, line, &mut receipt)?)?;
     }
     Ok(answers)
 }

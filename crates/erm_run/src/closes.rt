@@ -19,7 +19,7 @@ use std::alloc::{AllocError, Global};
 /// Closes each session that isn't idle: aborts its transaction where it is active, and decides it where it is sealed. It answers
 /// each session's close by its seat, from 1, or `None` where it was idle.
 ///
-/// A sealed transaction is decided once none is in its way, which gives the outcomes of deciding them by ascending stamp.
+/// A sealed transaction is decided once none is in its way.
 pub fn close_all<W: ScriptWorld>(
     alloc: Global,
     world: &mut W,
@@ -92,7 +92,8 @@ fn close_open<W: RowWorld>(world: &mut W, sessions: Seat, ends: &mut Vec<Option<
         if let Phase::Idle = world.phase(seat) {
             continue;
         }
-        if let Ok(answer) = close_session(world, seat) {
+        let mut receipt = None;
+        if let Ok(answer) = close_session(world, seat, &mut receipt) {
             note(ends, place, answer);
         }
     }

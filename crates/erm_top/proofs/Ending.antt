@@ -1,5 +1,5 @@
 -- How the command ends, told by status.
-use Rattle.std.proofs.Common.{Result, Err, ◌≡◌, ◌≢◌, subst, ℕ, ◌⊎◌, List, inl, inr, arith}
+use Rattle.std.proofs.Common.{Result, Err, Option, Some, IfSome, ◌≡◌, ◌≢◌, ◌≤◌, subst, ℕ, ◌⊎◌, List, [], length, inl, inr, arith}
 use Rattle.std.specs.Prelude.{String}
 use Rattle.std.specs.declared.alloc.Global.{Global}
 use Rattle.erm_report.specs.declared.line.Line.TheVariants as line
@@ -9,11 +9,18 @@ use Rattle.erm_top.specs.declared.command.Stop.{Stop}
 use Rattle.erm_top.specs.declared.command.Stop.TheVariants as stop
 use Rattle.erm_script.specs.Faults.{IsFirstBadLine}
 use Rattle.erm_top.specs.Scripts.{run_grammar}
-use Rattle.erm_top.specs.Statuses.{Reports, TakesAtMost}
+use Rattle.erm_top.specs.Statuses.{Reports, TakesAtMost, TakesMore}
+use Rattle.erm_outside.specs.Faults.{Rose}
+use Rattle.erm_script.specs.Script.{IsScript}
+use Rattle.erm_script.specs.declared.script.ScriptLine.{ScriptLine}
+use Rattle.erm_top.specs.declared.reading.TheConstants.{SCRIPT_BYTES}
 use Rattle.erm_outside.specs.Sink.{Puts, PutsFront}
 use Rattle.erm_report.specs.declared.line.Line.{Line}
 use Rattle.erm_report.specs.Texts.{text_of}
-use Rattle.erm_top.specs.Outcomes.{WasReadWith, Around, RunEnds, PrintsLine, Whole, Cut, Ends}
+use Rattle.erm_top.specs.Outcomes.{WasReadWith, Around, RunEnds, PrintsLine, Whole, Cut, CommandEnds, Ends}
+use Rattle.erm_top.specs.CommandLine.{IsCommand, IsNoCommand, IsRefused}
+use Rattle.erm_top.specs.declared.words.Command.{Command}
+use Rattle.erm_top.specs.declared.words.Command.TheVariants.{Run}
 
 -- a bad line is no fault of the source
 pub no_fault : {T : Type 0} (r : Result T Stop) (fault : ScriptFault) → r ≡ Err (stop.BadLine fault) → r ≢ Err stop.ReadFault
@@ -52,8 +59,81 @@ front_of_report a w = (
 )
 
 -- a status that only the command gives
-pub from_command : (words : List (String Global)) (status : ℕ) (a : Around) → status ≢ 2 → status ≢ 8 → Ends words status a → RunEnds status a
+pub from_command : (words : List (String Global)) (status : ℕ) (a : Around) → status ≢ 2 → status ≢ 8 → Ends words status a → IsCommand words Run × RunEnds status a
 from_command words status a not_two not_eight e = elim e [
-  | inl taken ↦ taken.1
+  | inl asked ↦ run_alone words status a asked.0 asked.1 asked.2
   | inr other ↦ elim other [ inl misused ↦ absurd (not_two misused.2.usage) | inr starved ↦ absurd (not_eight starved.no_memory) ]
+]
+  where
+    run_alone : (words : List (String Global)) (status : ℕ) (a : Around) (command : Command) → IsCommand words command → CommandEnds command status a → IsCommand words Run × RunEnds status a
+    run_alone words status a Run is ends = (is, ends)
+
+-- no command gives the status of words that ask for none
+ends_otherwise : (command : Command) (status : ℕ) (a : Around) → CommandEnds command status a → status ≢ 2
+ends_otherwise Run status a ends two = elim ends.known [
+  | inl is ↦ omega arith
+  | inr more ↦ elim more [
+    | inl is ↦ omega arith
+    | inr more ↦ elim more [
+      | inl is ↦ omega arith
+      | inr more ↦ elim more [ inl is ↦ omega arith | inr more ↦ elim more [ inl is ↦ omega arith | inr is ↦ omega arith ] ]
+    ]
+  ]
+]
+
+-- words that ask for no command
+pub no_command_asked : (words : List (String Global)) (status : ℕ) (a : Around) → status ≡ 2 → Ends words status a → IsNoCommand words × IsRefused words
+no_command_asked words status a two e = elim e [
+  | inl asked ↦ absurd (ends_otherwise asked.0 status a asked.2 two)
+  | inr other ↦ elim other [ inl misused ↦ (misused.0, misused.1) | inr starved ↦ absurd (let eight = starved.no_memory in omega arith) ]
+]
+
+pub no_command_ends : (words : List (String Global)) (status : ℕ) (a : Around) → IsNoCommand words → Ends words status a → (status ≡ 2) ⊎ (status ≡ 8)
+no_command_ends words status a no_command e = elim e [
+  | inl asked ↦ absurd (no_command asked.0 asked.1)
+  | inr other ↦ elim other [ inl misused ↦ inl misused.2.usage | inr starved ↦ inr starved.no_memory ]
+]
+
+-- bytes that were read are those that the source told
+told_bytes : (such : List ℕ → Type 0) (before after : Option (List ℕ)) (bytes : List ℕ) → before ≡ Some bytes → (read : WasReadWith such before after) → such bytes
+told_bytes such before after bytes is read =
+    let told : IfSome (Some bytes) (λ left. (read.bytes ≡ left) × (after ≡ Some [])) = subst (λ (o : Option (List ℕ)). IfSome o (λ left. (read.bytes ≡ left) × (after ≡ Some []))) is read.told in
+    subst such told.0 read.such
+
+not_more : (before after : Option (List ℕ)) (bytes : List ℕ) → before ≡ Some bytes → length bytes ≤ SCRIPT_BYTES → TakesMore SCRIPT_BYTES before after → ⊥
+not_more before after bytes is short more =
+    let told : TakesMore SCRIPT_BYTES (Some bytes) after = subst (λ (o : Option (List ℕ)). TakesMore SCRIPT_BYTES o after) is more in
+    omega (arith, told.1, told.2)
+
+-- a script that is not too long is run, where nothing fails
+run_completes : (status : ℕ) (a : Around) (bytes : List ℕ) (names : List (List ℕ)) (script : List ScriptLine) → a.left_before ≡ Some bytes → length bytes ≤ SCRIPT_BYTES → IsScript run_grammar bytes names script
+    → (Rose a.source_before a.source_after → ⊥) → (Rose a.sink_before a.sink_after → ⊥) → RunEnds status a → (status ≡ 0) ⊎ (status ≡ 8)
+run_completes status a bytes names script left short is source sink ends = elim ends.known [
+  | inl zero ↦ inl zero
+  | inr more ↦ elim more [
+    | inl three ↦
+        let refused = ends.bad_line three in
+        absurd ((told_bytes (λ bytes. IsFirstBadLine run_grammar bytes refused.number refused.kind) a.left_before a.left_after bytes left refused.read).none names script is)
+    | inr more ↦ elim more [
+      | inl four ↦ absurd (source (ends.read_fault four).0)
+      | inr more ↦ elim more [
+        | inl five ↦ absurd (sink (ends.sink_fault five).1)
+        | inr more ↦ elim more [
+          | inl eight ↦ inr eight
+          | inr nine ↦ absurd (not_more a.left_before a.left_after bytes left short (ends.too_long nine).0)
+        ]
+      ]
+    ]
+  ]
+]
+
+command_completes : (command : Command) (status : ℕ) (a : Around) (bytes : List ℕ) (names : List (List ℕ)) (script : List ScriptLine) → a.left_before ≡ Some bytes → length bytes ≤ SCRIPT_BYTES → IsScript run_grammar bytes names script
+    → (Rose a.source_before a.source_after → ⊥) → (Rose a.sink_before a.sink_after → ⊥) → CommandEnds command status a → (status ≡ 0) ⊎ (status ≡ 8)
+command_completes Run = run_completes
+
+pub completes : (words : List (String Global)) (status : ℕ) (a : Around) (bytes : List ℕ) (names : List (List ℕ)) (script : List ScriptLine) → IsCommand words Run → a.left_before ≡ Some bytes → length bytes ≤ SCRIPT_BYTES
+    → IsScript run_grammar bytes names script → (Rose a.source_before a.source_after → ⊥) → (Rose a.sink_before a.sink_after → ⊥) → Ends words status a → (status ≡ 0) ⊎ (status ≡ 8)
+completes words status a bytes names script asked left short is source sink e = elim e [
+  | inl run ↦ command_completes run.0 status a bytes names script left short is source sink run.2
+  | inr other ↦ elim other [ inl misused ↦ absurd (misused.0 Run asked) | inr starved ↦ inr starved.no_memory ]
 ]

@@ -1,4 +1,5 @@
 pub mod CommandLine
+pub mod TakenWords
 pub mod Streams
 pub mod Ending
 pub mod Spelled

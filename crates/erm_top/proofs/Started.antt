@@ -13,12 +13,11 @@ use Rattle.erm_report.specs.declared.answer.Answer.{Answer}
 use Rattle.erm_report.specs.declared.line.Line.{Line}
 use Rattle.erm_report.specs.Printable.{FitsTypes}
 use Rattle.erm_script.specs.declared.script.ScriptLine.{ScriptLine}
-use Rattle.erm_good_report.specs.GoodReport.{IsGoodReport, OwesToAnswers}
+use Rattle.erm_good_report.specs.GoodReport.{IsTightReport, OwesToAnswers}
 use Rattle.erm_good_report.specs.Opening.{InTurn, Opening}
 use Rattle.erm_good_report.specs.Phases.{Closed, ClosesAgree}
 use Rattle.erm_summary.specs.Summary.{SummariesAreGood, Summarizes, opening_at}
 use Rattle.erm_start.specs.Empty.{empty_opening}
-use Rattle.erm_tight.specs.Reports.{HasTightEnds}
 
 -- what a report starts from
 pub opening_is : (m : Database) (rows first : ℕ) → m ≡ empty → rows ≡ 0 → first ≡ 16 → opening_at (record { map = m; stamp = 8; run = 1 }) rows first ≡ empty_opening
@@ -53,9 +52,10 @@ order_none : (order : List Committed) → IsSerialOrder rank_of [] order → (m 
 order_none [] serial m = record { run = refl }
 order_none (c ∷ cs) serial m = absurd (let none : length (c ∷ cs) ≡ 0 = length_permutation [] (c ∷ cs) serial.same in omega (arith, none))
 
-pub empty_report : SummariesAreGood → (opening : Opening) (lines : List Line) → Summarizes opening [] [] [] [] lines → All FitsTypes lines → IsGoodReport InTurn opening [] [] lines
+pub empty_report : SummariesAreGood → (opening : Opening) (lines : List Line) → Summarizes opening [] [] [] [] lines → All FitsTypes lines → IsTightReport InTurn opening [] [] lines
 empty_report good opening lines told fits =
-    good InTurn opening [] [] [] [] lines told fits refl closes_none (owes_nothing opening) (λ i j a b at. absurd (cc)) (λ order serial. order_none order serial opening.map)
+    let found = good InTurn opening [] [] [] [] lines told fits refl closes_none (owes_nothing opening) (λ i j a b at. absurd (cc)) (λ order serial. order_none order serial opening.map) in
+    record { good = found.0; tight = λ t at. absurd (cc) }
 
 -- no name at all
 pub no_length : (n : ℕ) → (n == 0) ≡ true → n ≡ 0
@@ -68,24 +68,15 @@ names_none (n ∷ ns) none = absurd (omega (arith, none))
 
 pub empty_result : SummariesAreGood → (r : Result (Vec Line Global) AllocError) (opening : ℕ → ℕ → Opening) (names : List (List ℕ)) (script : List ScriptLine) (answers : List Answer) (closed : List Closed)
     → length names ≡ 0 → script ≡ [] → answers ≡ [] → closed ≡ [] → opening 0 16 ≡ empty_opening → IfOk r (λ lines. (rows first : ℕ) → Summarizes (opening rows first) names script answers closed lines.items)
-    → IfOk r (λ lines. All FitsTypes lines.items → IsGoodReport InTurn empty_opening names script lines.items)
+    → IfOk r (λ lines. All FitsTypes lines.items → IsTightReport InTurn empty_opening names script lines.items)
 empty_result good (Err e) opening names script answers closed no_name no_line no_answer none_closed is told = tt
 empty_result good (Ok lines) opening names script answers closed no_name no_line no_answer none_closed is told = λ fits.
     let no_names = names_none names no_name in
-    subst (λ (ns : List (List ℕ)). IsGoodReport InTurn empty_opening ns script lines.items) (sym no_names)
-    (subst (λ (ls : List ScriptLine). IsGoodReport InTurn empty_opening [] ls lines.items) (sym no_line)
+    subst (λ (ns : List (List ℕ)). IsTightReport InTurn empty_opening ns script lines.items) (sym no_names)
+    (subst (λ (ls : List ScriptLine). IsTightReport InTurn empty_opening [] ls lines.items) (sym no_line)
     (empty_report good empty_opening lines.items
     (subst (λ (o : Opening). Summarizes o [] [] [] [] lines.items) is
     (subst (λ (cs : List Closed). Summarizes (opening 0 16) [] [] [] cs lines.items) none_closed
     (subst (λ (given : List Answer). Summarizes (opening 0 16) [] [] given closed lines.items) no_answer
     (subst (λ (ls : List ScriptLine). Summarizes (opening 0 16) [] ls answers closed lines.items) no_line
     (subst (λ (ns : List (List ℕ)). Summarizes (opening 0 16) ns script answers closed lines.items) no_names (told 0 16)))))) fits))
-
--- without sessions there is no window
-pub empty_tight : (r : Result (Vec Line Global) AllocError) (opening : ℕ → ℕ → Opening) (names : List (List ℕ)) (script : List ScriptLine) (answers : List Answer) (closed : List Closed) → length names ≡ 0
-    → opening 0 16 ≡ empty_opening → IfOk r (λ lines. (rows first : ℕ) → Summarizes (opening rows first) names script answers closed lines.items) → IfOk r (λ lines. HasTightEnds empty_opening names script lines.items)
-empty_tight (Err e) opening names script answers closed no_name is told = tt
-empty_tight (Ok lines) opening (n ∷ ns) script answers closed no_name is told = absurd (omega (arith, no_name))
-empty_tight (Ok lines) opening [] script answers closed no_name is told =
-    let own = subst (λ (o : Opening). Summarizes o [] script answers closed lines.items) is (told 0 16) in
-    record { report = own.report; lines_ok = own.lines_ok; low = λ t at. absurd (cc); commits = λ t at. absurd (cc) }

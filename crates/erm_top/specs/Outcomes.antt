@@ -11,8 +11,10 @@ use Rattle.erm_report.specs.Texts.{line_text, text_of}
 use Rattle.erm_outside.specs.Sink.{Puts, PutsFront}
 use Rattle.erm_top.specs.Scripts.{run_grammar}
 use Rattle.erm_top.specs.declared.reading.TheConstants.{SCRIPT_BYTES}
-use Rattle.erm_top.specs.CommandLine.{IsRefused, IsTaken}
-use Rattle.erm_top.specs.Statuses.{AreCommandWords, Reports, Prints, TakesAtMost, TakesMore}
+use Rattle.erm_top.specs.declared.words.Command.{Command}
+use Rattle.erm_top.specs.declared.words.Command.TheVariants.{Run}
+use Rattle.erm_top.specs.CommandLine.{IsCommand, IsNoCommand, IsRefused}
+use Rattle.erm_top.specs.Statuses.{Reports, Prints, TakesAtMost, TakesMore}
 
 -- what source and sink tell before and after
 pub record Around : Type 0 where
@@ -89,6 +91,10 @@ pub record Starved (status : ℕ) (a : Around) : Type 0 where
   pub left : a.left_after ≡ a.left_before
   pub sound : a.source_after ≡ a.source_before
 
--- the words are taken for the command, which ends so; or they are refused, and are not its; or memory ran out
+-- what it means for a command to end so
+abbrev pub CommandEnds : Command → ℕ → Around → Type 0
+CommandEnds Run status a = RunEnds status a
+
+-- the words ask for a command, which ends so; or they ask for none, and are refused; or memory ran out
 abbrev pub Ends : List (String Global) → ℕ → Around → Type 0
-Ends words status a = (IsTaken words × RunEnds status a) ⊎ (IsRefused words × (AreCommandWords words → ⊥) × Misused status a) ⊎ Starved status a
+Ends words status a = ((command : Command) × IsCommand words command × CommandEnds command status a) ⊎ (IsNoCommand words × IsRefused words × Misused status a) ⊎ Starved status a

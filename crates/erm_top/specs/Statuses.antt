@@ -1,32 +1,21 @@
 -- What each status of the top call means.
-use Rattle.std.specs.Prelude.{◌≡◌, ℕ, ◌<◌, ◌≤◌, ◌⊎◌, List, length, drop, Option, Some, IfSome, codes}
-use Rattle.std.specs.Prelude.{String, string_bytes}
-use Rattle.std.specs.declared.alloc.Global.{Global}
-use Rattle.std.specs.List.{slice_get}
+use Rattle.std.specs.Prelude.{◌≡◌, ℕ, ◌<◌, ◌≤◌, ◌⊎◌, List, length, drop, Option, Some, IfSome}
 use Rattle.erm_outside.specs.Faults.{Rose}
 use Rattle.erm_outside.specs.Sink.{Puts, PutsFront}
 use Rattle.erm_report.specs.declared.line.Line.{Line}
 use Rattle.erm_script.specs.declared.script.ScriptLine.{ScriptLine}
 use Rattle.erm_script.specs.Script.{IsScript}
-use Rattle.erm_good_report.specs.GoodReport.{IsGoodReport}
+use Rattle.erm_good_report.specs.GoodReport.{IsTightReport}
 use Rattle.erm_good_report.specs.Opening.{InTurn}
 use Rattle.erm_start.specs.Empty.{empty_opening}
-use Rattle.erm_tight.specs.Reports.{HasTightEnds}
 use Rattle.erm_top.specs.Scripts.{run_grammar}
 
--- the words are those of a command: the program's name and `run`
-pub record AreCommandWords (words : List (String Global)) : Type 0 where
-  pub count : length words ≡ 2
-  pub command : (word : String Global) → slice_get words 1 ≡ Some word → string_bytes word ≡ codes "run"
-
--- These lines are a good report of the script that these bytes spell, run from an empty map on. The windows that it tells have tight ends
--- where its lines show them.
+-- These lines are a good report of the script that these bytes spell, run from an empty map on, and the windows that it tells are tight.
 pub record Reports (bytes : List ℕ) (lines : List Line) : Type 0 where
   pub names : List (List ℕ)
   pub script : List ScriptLine
   pub spelled : IsScript run_grammar bytes names script
-  pub good : IsGoodReport InTurn empty_opening names script lines
-  pub tight : HasTightEnds empty_opening names script lines
+  pub tight : IsTightReport InTurn empty_opening names script lines
 
 -- The text of a status was put, where nothing failed, or the sink failed on the way.
 abbrev pub Prints : List ℕ → Option (List ℕ) → Option (List ℕ) → ℕ → ℕ → Type 0

@@ -8,3 +8,4 @@ mod top;
 mod words;
 
 pub use top::{Ended, ermia, run_to_end};
+pub use words::Command;

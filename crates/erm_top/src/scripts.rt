@@ -3,10 +3,9 @@ ghost use Rattle.std.specs.Prelude.{◌≡◌, ◌+◌, ◌≤◌, ℕ, List, If
 ghost use Rattle.std.specs.List.{All};
 ghost use Rattle.erm_report.specs.Printable.{FitsTypes};
 ghost use Rattle.erm_script.specs.Script.{IsScript};
-ghost use Rattle.erm_good_report.specs.GoodReport.{IsGoodReport};
+ghost use Rattle.erm_good_report.specs.GoodReport.{IsTightReport};
 ghost use Rattle.erm_good_report.specs.Opening.{InTurn};
 ghost use Rattle.erm_start.specs.Empty.{empty_opening};
-ghost use Rattle.erm_tight.specs.Reports.{HasTightEnds};
 ghost use Rattle.erm_top.specs.Scripts.{run_grammar};
 ghost use Rattle.erm_top.specs.declared.reading.TheConstants.{SCRIPT_BYTES};
 
@@ -40,8 +39,7 @@ pub fn run_from_empty(
 ) -> Result<Vec<Line>, AllocError>
     requires spelled { (bytes : List ℕ) × IsScript run_grammar bytes names.now script.now }
     requires short { length script.now ≤ SCRIPT_BYTES + 1 }
-    ensures good { IfOk result (λ lines. All FitsTypes lines.items → IsGoodReport InTurn empty_opening names.now script.now lines.items) }
-    ensures tight { IfOk result (λ lines. HasTightEnds empty_opening names.now script.now lines.items) }
+    ensures { IfOk result (λ lines. All FitsTypes lines.items → IsTightReport InTurn empty_opening names.now script.now lines.items) }
 {
     let start = Start {
         map: Map::new(alloc),

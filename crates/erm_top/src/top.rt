@@ -10,13 +10,13 @@ ghost use Rattle.erm_report.specs.declared.line.Line.TheVariants as line;
 ghost use Rattle.erm_report.specs.declared.line.Line.{Line as PrintedLine};
 ghost use Rattle.erm_script.specs.declared.script.ScriptLine.{ScriptLine as LineOfScript};
 ghost use Rattle.erm_top.specs.Scripts.{run_grammar};
-ghost use Rattle.erm_top.specs.Statuses.{AreCommandWords, Reports, Prints, TakesAtMost, TakesMore, IsStatus};
-ghost use Rattle.erm_top.specs.CommandLine.{IsRefused};
+ghost use Rattle.erm_top.specs.Statuses.{Reports, Prints, TakesAtMost, TakesMore, IsStatus};
+ghost use Rattle.erm_top.specs.CommandLine.{IsCommand, IsNoCommand, IsRefused};
 ghost use Rattle.erm_top.specs.Outcomes.{Ends, WasReadWith};
 
 use crate::command::{print, run_command};
 use crate::reading::SCRIPT_BYTES;
-use crate::words::asks_for_run;
+use crate::words::{Command, command_of};
 use erm_outside::{Disk, Gate, Sink, Source};
 use erm_report::{NO_MEMORY, USAGE};
 use std::alloc::Global;
@@ -34,11 +34,11 @@ pub struct Ended<D> {
 
 /// The whole program: what the words of the command line ask for, over a source of bytes and a sink.
 ///
-/// `words` are the program's name and the command `run`. `run` reads a script from the source to its end, runs it and
-/// puts its report. The disk is left alone. The status is
+/// `words` are the program's name and a command; `--` may stand behind them. The command `run` reads a script from the
+/// source to its end, runs it and puts its report. The disk is left alone. The status is
 ///
 /// - 0 where the report was put whole;
-/// - 2 where the words are others, or ask for help; the usage line was printed;
+/// - 2 where the words are others, those that ask for help too; the usage line was printed;
 /// - 3 where the script is not in the grammar; the first bad line was printed, with its first kind of fault;
 /// - 4 where the source failed;
 /// - 5 where the sink failed while the report was put;
@@ -65,10 +65,11 @@ pub fn ermia<R: Threads + Wait + Sync, S: Source, K: Sink, D: Disk + Send, G: Ga
         × Puts (text_of lines) (K.written sink.old) (K.written sink.new) }
     ensures sound { result.status ≡ 0 → (S.faults source.new ≡ S.faults source.old) × (K.faults sink.new ≡ K.faults sink.old) }
 
-    // 2: exactly where the words are refused, as those of no command are, unless memory runs out. They aren't the
-    // program's name and `run`. The source is left alone.
-    ensures usage { result.status ≡ 2 → IsRefused words.now × (AreCommandWords words.now → ⊥) }
-    ensures refused { IsRefused words.now → (result.status ≡ 2) ⊎ (result.status ≡ 8) }
+    // 2: exactly where the words ask for no command, unless memory runs out. The library that reads them refuses them
+    // for a fault of theirs. The source is left alone.
+    ensures usage { result.status ≡ 2 → IsNoCommand words.now × IsRefused words.now }
+    ensures refused { IsNoCommand words.now → (result.status ≡ 2) ⊎ (result.status ≡ 8) }
+    ensures asked { result.status ≢ 2 → result.status ≢ 8 → IsCommand words.now Command.Run }
     ensures usage_text { result.status ≡ 2 → Prints (line_text line.Usage)
         (K.written sink.old) (K.written sink.new) (K.faults sink.old) (K.faults sink.new) }
     ensures usage_source { result.status ≡ 2
@@ -108,7 +109,7 @@ pub fn ermia<R: Threads + Wait + Sync, S: Source, K: Sink, D: Disk + Send, G: Ga
     ensures taken { TakesAtMost (SCRIPT_BYTES + 1) (S.left source.old) (S.left source.new) }
 
     // A script that is not too long is run, unless memory runs out, where nothing fails.
-    ensures complete { (bytes : List ℕ) (names : List (List ℕ)) (script : List LineOfScript) → AreCommandWords words.now
+    ensures complete { (bytes : List ℕ) (names : List (List ℕ)) (script : List LineOfScript) → IsCommand words.now Command.Run
         → S.left source.old ≡ Some bytes → length bytes ≤ SCRIPT_BYTES → IsScript run_grammar bytes names script
         → (Rose (S.faults source.old) (S.faults source.new) → ⊥) → (Rose (K.faults sink.old) (K.faults sink.new) → ⊥)
         → (result.status ≡ 0) ⊎ (result.status ≡ 8) }
@@ -133,10 +134,11 @@ pub fn run_to_end<S: Source, K: Sink>(
         × Puts (text_of lines) (K.written sink.old) (K.written sink.new) }
     ensures sound { result ≡ 0 → (S.faults source.new ≡ S.faults source.old) × (K.faults sink.new ≡ K.faults sink.old) }
 
-    // 2: exactly where the words are refused, as those of no command are, unless memory runs out. They aren't the
-    // program's name and `run`. The source is left alone.
-    ensures usage { result ≡ 2 → IsRefused words.now × (AreCommandWords words.now → ⊥) }
-    ensures refused { IsRefused words.now → (result ≡ 2) ⊎ (result ≡ 8) }
+    // 2: exactly where the words ask for no command, unless memory runs out. The library that reads them refuses them
+    // for a fault of theirs. The source is left alone.
+    ensures usage { result ≡ 2 → IsNoCommand words.now × IsRefused words.now }
+    ensures refused { IsNoCommand words.now → (result ≡ 2) ⊎ (result ≡ 8) }
+    ensures asked { result ≢ 2 → result ≢ 8 → IsCommand words.now Command.Run }
     ensures usage_text { result ≡ 2 → Prints (line_text line.Usage)
         (K.written sink.old) (K.written sink.new) (K.faults sink.old) (K.faults sink.new) }
     ensures usage_source { result ≡ 2
@@ -176,7 +178,7 @@ pub fn run_to_end<S: Source, K: Sink>(
     ensures taken { TakesAtMost (SCRIPT_BYTES + 1) (S.left source.old) (S.left source.new) }
 
     // A script that is not too long is run, unless memory runs out, where nothing fails.
-    ensures complete { (bytes : List ℕ) (names : List (List ℕ)) (script : List LineOfScript) → AreCommandWords words.now
+    ensures complete { (bytes : List ℕ) (names : List (List ℕ)) (script : List LineOfScript) → IsCommand words.now Command.Run
         → S.left source.old ≡ Some bytes → length bytes ≤ SCRIPT_BYTES → IsScript run_grammar bytes names script
         → (Rose (S.faults source.old) (S.faults source.new) → ⊥) → (Rose (K.faults sink.old) (K.faults sink.new) → ⊥)
         → (result ≡ 0) ⊎ (result ≡ 8) }
@@ -197,9 +199,9 @@ fn command<S: Source, K: Sink>(alloc: Global, words: &[String], source: &mut S, 
       sink_after = K.faults sink.new;
     }) }
 {
-    match asks_for_run(alloc, words) {
-        Ok(true) => run_command(alloc, source, sink),
-        Ok(false) => {
+    match command_of(alloc, words) {
+        Ok(Some(Command::Run)) => run_command(alloc, source, sink),
+        Ok(None) => {
             print(sink, USAGE);
             2
         }

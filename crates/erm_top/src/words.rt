@@ -1,38 +1,43 @@
 //! The words of the command line.
-ghost use Rattle.std.specs.Prelude.{◌≡◌, ◌≢◌, IfOk, Ok, true, false};
+ghost use Rattle.std.specs.Prelude.{◌≡◌, IfOk, Ok, Some, None};
 ghost use Rattle.clap.specs.Simple.{app_of};
-ghost use Rattle.erm_top.specs.Statuses.{AreCommandWords};
-ghost use Rattle.erm_top.specs.CommandLine.{IsTaken, IsRefused, command_line};
+ghost use Rattle.erm_top.specs.CommandLine.{IsCommand, IsNoCommand, IsRefused, command_line};
 
-use clap::Command;
+use clap::Command as CommandLine;
 use clap::error::ErrorKind;
 use std::alloc::{AllocError, Global};
 
-/// Whether the words of the command line ask for the command `run`. They don't where they are refused for another cause
-/// than memory, help being one.
-pub fn asks_for_run(alloc: Global, words: &[String]) -> Result<bool, AllocError>
-    ensures taken { result ≡ Ok true → IsTaken words.now }
-    ensures refused { result ≡ Ok false → IsRefused words.now }
-    ensures run { AreCommandWords words.now → result ≢ Ok false }
+/// What the program is asked for.
+#[derive(Clone, Copy)]
+pub enum Command {
+    /// To read a script, run it and put its report.
+    Run,
+}
+
+/// The command that the words of the command line ask for: none where they are refused for another cause than memory,
+/// help being one.
+pub fn command_of(alloc: Global, words: &[String]) -> Result<Option<Command>, AllocError>
+    ensures asked { (command : Command) → result ≡ Ok (Some command) → IsCommand words.now command }
+    ensures refused { result ≡ Ok None → IsNoCommand words.now × IsRefused words.now }
 {
-    let command = command_line(alloc)?;
-    match command.try_get_matches_from(words) {
-        Ok(_matches) => Ok(true),
+    let command_line = command_line(alloc)?;
+    match command_line.try_get_matches_from(words) {
+        Ok(_matches) => Ok(Some(Command::Run)),
         Err(error) => {
             if error.kind() == ErrorKind::OutOfMemory {
                 Err(AllocError)
             } else {
-                Ok(false)
+                Ok(None)
             }
         }
     }
 }
 
 // The command line that the program takes: its name, and a command.
-fn command_line<'a>(alloc: Global) -> Result<Command<'a>, AllocError>
+fn command_line<'a>(alloc: Global) -> Result<CommandLine<'a>, AllocError>
     ensures { IfOk result (λ c. app_of c ≡ command_line) }
 {
-    Command::new(alloc, "erm")
+    CommandLine::new(alloc, "erm")
         .subcommand_required(true)
-        .subcommand(Command::new(alloc, "run"))
+        .subcommand(CommandLine::new(alloc, "run"))
 }

@@ -5,7 +5,8 @@ use Rattle.erm_node.specs.Sound.{sound_law}
 use Rattle.erm_report.specs.declared.answer.Answer.{Answer}
 use Rattle.erm_script.specs.declared.script.ScriptLine.{ScriptLine}
 use Rattle.erm_world.specs.World.{Opening}
-use Rattle.erm_lines.specs.Executions.{IsExecution, Move, line, line_moves}
+use Rattle.erm_lines.specs.Executions.{IsExecution, Move, line_moves, move_of}
+use Rattle.erm_lines.proofs.Moved.{line_moved}
 use Rattle.erm_run.specs.Lines.{IsLineOf}
 use Rattle.erm_run.proofs.Answering.{line_moves_more}
 use Rattle.erm_run.proofs.Closing.{execution_more}
@@ -41,10 +42,10 @@ loop-line-preserved g c =
     let pushed : c.push.new.self.items ≡ c.loop-line.answers.items ++ a ∷ [] = c.in_ok-push.ensures.items in
     let many : length c.loop-line.answers.items ≡ length front = (let size = length-take k script in let within = c.loop-line-test.true in let counted = kept.1 in omega (arith, size, within, counted)) in
     let serial = serializable_too g.W.RowWorld.law sound_law after c.requires.law (g.met.W.RowWorld.serializable c.answer_line.new.world c.answer_line.ensures.stands) in
-    let goes : IsExecution v (line_moves front c.loop-line.answers.items ++ line l a ∷ []) after =
-    execution_more v before after (line_moves front c.loop-line.answers.items) (line l a) kept.4 did serial
+    let goes : IsExecution v (line_moves front c.loop-line.answers.items ++ move_of l a ∷ []) after =
+    execution_more v before after (line_moves front c.loop-line.answers.items) (move_of l a) kept.4 (line_moved before l a after did) serial
     in
-    let moves : line_moves (take (k + 1) script) c.push.new.self.items ≡ line_moves front c.loop-line.answers.items ++ line l a ∷ [] =
+    let moves : line_moves (take (k + 1) script) c.push.new.self.items ≡ line_moves front c.loop-line.answers.items ++ move_of l a ∷ [] =
     ap (λ (ls : List ScriptLine). line_moves ls c.push.new.self.items) longer ∙ ap (λ (xs : List Answer). line_moves (front ++ l ∷ []) xs) pushed ∙ line_moves_more front c.loop-line.answers.items l a many
     in (
       c.answer_line.ensures.stands,

@@ -1,14 +1,13 @@
 use Rattle.std.proofs.Common.{◌≡◌, refl, ap, map, sym, subst, length, IfOk, ◌∙◌}
 use Rattle.std.specs.List.{All}
 use Rattle.erm_report.specs.Printable.{FitsTypes}
-use Rattle.erm_good_report.specs.GoodReport.{IsGoodReport}
+use Rattle.erm_good_report.specs.GoodReport.{IsTightReport}
 use Rattle.erm_good_report.specs.Opening.{InTurn, Opening}
-use Rattle.erm_tight.specs.Reports.{HasTightEnds}
 use Rattle.erm_plain.specs.Stands.{plain_view}
 use Rattle.erm_summary.specs.Summary.{opening_at}
 use Rattle.erm_summary.specs.Told.{closed_of}
 use Rattle.erm_top.proofs.Spelled.{no_line, script_lines, script_ranges}
-use Rattle.erm_top.proofs.Started.{empty_result, empty_tight, no_length, opening_is}
+use Rattle.erm_top.proofs.Started.{empty_result, no_length, opening_is}
 use Rattle.erm_top.proofs.scripts.run_from_empty.Goals as goal
 
 pub run_script-requires-clause-map : goal.run_script-requires-clause-map
@@ -21,25 +20,15 @@ run_script-requires-clause-lines c =
 pub run_script-requires-clause-ranges : goal.run_script-requires-clause-ranges
 run_script-requires-clause-ranges c = script_ranges c.requires.spelled.0 c.args.names.now c.args.script.now c.requires.spelled.1
 
-pub returns-clause-good : goal.returns-clause-good
-returns-clause-good c =
+pub returns : goal.returns
+returns c =
     subst
-    (λ (o : Opening). IfOk c.run_script.result (λ lines. All FitsTypes lines.items → IsGoodReport InTurn o c.args.names.now c.args.script.now lines.items))
-    (opening_is c.new.result _ _ c.new.ensures c.in_ok-world.ensures.empty.rows c.in_ok-world.ensures.empty.first) c.run_script.ensures.good
+    (λ (o : Opening). IfOk c.run_script.result (λ lines. All FitsTypes lines.items → IsTightReport InTurn o c.args.names.now c.args.script.now lines.items))
+    (opening_is c.new.result _ _ c.new.ensures c.in_ok-world.ensures.empty.rows c.in_ok-world.ensures.empty.first) c.run_script.ensures.report
 
-pub returns-clause-tight : goal.returns-clause-tight
-returns-clause-tight c =
-    subst (λ (o : Opening). IfOk c.run_script.result (λ lines. HasTightEnds o c.args.names.now c.args.script.now lines.items))
-    (opening_is c.new.result _ _ c.new.ensures c.in_ok-world.ensures.empty.rows c.in_ok-world.ensures.empty.first) c.run_script.ensures.tight
-
-pub returns-then-is_empty-clause-good : goal.returns-then-is_empty-clause-good
-returns-then-is_empty-clause-good c =
+pub returns-then-is_empty : goal.returns-then-is_empty
+returns-then-is_empty c =
     let no_name : length c.args.names.now ≡ 0 = no_length (length c.args.names.now) (sym c.is_empty.ensures ∙ c.if-is_empty.true) in
     empty_result c.summaries_are_good.ensures c.report_of.result (λ rows first. opening_at (record { map = c.new.result; stamp = 8; run = 1 }) rows first) c.args.names.now c.args.script.now
     c.new-then-is_empty.result.items (map closed_of c.new-then-is_empty-2.result.items) no_name (no_line c.requires.spelled.0 c.args.names.now c.args.script.now c.requires.spelled.1 no_name)
     c.new-then-is_empty.ensures.items (ap (λ closed. map closed_of closed) c.new-then-is_empty-2.ensures.items) (opening_is c.new.result 0 16 c.new.ensures refl refl) c.report_of.ensures
-
-pub returns-then-is_empty-clause-tight : goal.returns-then-is_empty-clause-tight
-returns-then-is_empty-clause-tight c =
-    empty_tight c.report_of.result (λ rows first. opening_at (record { map = c.new.result; stamp = 8; run = 1 }) rows first) c.args.names.now c.args.script.now c.new-then-is_empty.result.items
-    (map closed_of c.new-then-is_empty-2.result.items) (no_length (length c.args.names.now) (sym c.is_empty.ensures ∙ c.if-is_empty.true)) (opening_is c.new.result 0 16 c.new.ensures refl refl) c.report_of.ensures
