@@ -1,0 +1,7 @@
+pub mod OfLines
+pub mod OfOrder
+pub mod OfReplies
+pub mod OfStamps
+pub mod OfWindows
+pub mod Reading
+pub mod Tests

@@ -1,0 +1,84 @@
+-- Stamps that do not agree.
+use Rattle.std.proofs.Common.{◌≡◌, ◌≢◌, ◌<◌, ◌≤◌, ℕ, List, [], ◌∷◌, take, Some, None, refl, sym, ap, inl, arith}
+use Rattle.std.proofs.lemmas.List.Elements.{All-cons, All-from_recursion, All-nil}
+use Rattle.std.specs.FinMap.{empty, insert}
+use Rattle.erm_model.specs.Committed.{HasSnapshotReplies}
+use Rattle.erm_model.specs.Database.{Database, at, value_at}
+use Rattle.erm_model.specs.declared.operation.Reply.TheVariants as reply
+use Rattle.erm_model.proofs.Keys.{value_at-insert}
+use Rattle.erm_script.specs.Script.{IsValue}
+use Rattle.erm_good_report.specs.Windows.{IsCommit}
+use Rattle.erm_report.specs.declared.answer.Answer.TheVariants as answer
+use Rattle.erm_report.specs.Printable.{FitsTypes}
+use Rattle.erm_good_report.specs.Causes.{HasCauseOf}
+use Rattle.erm_good_report.specs.Opening.{InTurn}
+use Rattle.erm_good_report.specs.Phases.{FitsPhase, phase_of}
+use Rattle.erm_good_report.specs.Refusals.{HasCause, moment_at}
+use Rattle.erm_good_report.specs.Transactions.{said_of, Transaction, history_of, steps_of, Commits}
+use Rattle.erm_good_report.proofs.Parts.{each_in, each_place}
+use Rattle.erm_bad_reports.specs.Clauses.{BreaksAlone, Clause, Meets, lines_of, told_of, IsLowAt, IsHighAt, Fit, Answered, Closes, Phases, Stamps, Snapshots, Causes, Refusals, Serial, Ascending, Runs, LowEnds, HighEnds}
+use Rattle.erm_bad_reports.specs.Cases.{begun_too_early, future_was_read}
+use Rattle.erm_bad_reports.proofs.Reading.{owes_of}
+use Rattle.erm_bad_reports.proofs.Tests.{in_one, no_commit_ordered, one_commit_ordered, no_pair_ascends, first_snapshot}
+
+-- ---- a begin within the opening's block
+keeps_but_least : (other : Clause) → other ≢ Stamps → Meets other begun_too_early
+keeps_but_least Fit not = All-from_recursion FitsTypes (lines_of begun_too_early) ((omega arith, omega arith), ((omega arith, omega arith), ((omega arith, tt), (omega arith, (omega arith, (tt, tt))))))
+keeps_but_least Answered not = refl
+keeps_but_least Closes not = record { each = refl; fits = λ c (k, at). cc }
+keeps_but_least Phases not = record { fits = each_place (λ i l a. FitsPhase (phase_of l.session (take i (said_of begun_too_early.script begun_too_early.report.answers))) l.command a) begun_too_early.script begun_too_early.report.answers (tt, (tt, tt)) }
+keeps_but_least Stamps not = absurd (not refl)
+keeps_but_least Snapshots not = in_one _ _ (first_snapshot [] begun_too_early.opening.map 12 [] refl tt)
+keeps_but_least Causes not = in_one _ _ tt
+keeps_but_least Refusals not = record { each = each_place (λ i l a. HasCause (moment_at InTurn begun_too_early.opening begun_too_early.script begun_too_early.report.answers (told_of begun_too_early) i l) l.command a) begun_too_early.script begun_too_early.report.answers (record { own = λ t is. tt; log = tt; unfilled = tt }, (record { own = λ t is. tt; log = tt; unfilled = tt }, tt)) }
+keeps_but_least Serial not = no_commit_ordered
+keeps_but_least Ascending not = no_pair_ascends
+keeps_but_least Runs not = record { run = refl }
+keeps_but_least LowEnds not = in_one _ _ tt
+keeps_but_least HighEnds not = in_one _ _ tt
+
+begins_early : Meets Stamps begun_too_early → ⊥
+begins_early stamps = omega (arith, stamps.least _ (0, refl))
+
+pub least_breaks : BreaksAlone Stamps begun_too_early
+least_breaks = record { breaks = begins_early; keeps = keeps_but_least; refused = λ good. let owes = owes_of begun_too_early refl refl good in begins_early owes.stamps }
+
+-- ---- the future is read
+abbrev told : List Transaction
+told = told_of future_was_read
+
+byte : (b : ℕ) → b < 256 → IsValue (b ∷ [])
+byte b small = (omega arith, All-cons (λ n. n < 256) b [] small (All-nil (λ n. n < 256)))
+
+abbrev one_key : Database
+one_key = insert empty (at 0 1) (1 ∷ [])
+
+there : value_at one_key 0 1 ≡ Some (1 ∷ [])
+there = value_at-insert empty 0 1 (1 ∷ []) 0 1
+
+only_commit : (u : Transaction) (stamp succ : ℕ) → IsCommit told u stamp succ → stamp ≡ 13
+only_commit u stamp succ commit = each_in (λ u. (s p q : ℕ) → u.ending ≡ Commits s p q → s ≡ 13) told (λ s p q is. absurd (cc), (λ s p q is. cc, tt)) u commit.of stamp succ commit.pred commit.ending
+
+keeps_but_draws : (other : Clause) → other ≢ Stamps → Meets other future_was_read
+keeps_but_draws Fit not = All-from_recursion FitsTypes (lines_of future_was_read) ((omega arith, omega arith), ((omega arith, omega arith), ((omega arith, omega arith), ((omega arith, tt), ((omega arith, (omega arith, omega arith, omega arith)), ((omega arith, byte 1 (omega arith)), ((omega arith, tt), (omega arith, ((omega arith, omega arith, omega arith, omega arith), (omega arith, ((omega arith, omega arith, byte 1 (omega arith)), (tt, tt))))))))))))
+keeps_but_draws Answered not = refl
+keeps_but_draws Closes not = record { each = refl; fits = λ c (k, at). cc }
+keeps_but_draws Phases not = record { fits = each_place (λ i l a. FitsPhase (phase_of l.session (take i (said_of future_was_read.script future_was_read.report.answers))) l.command a) future_was_read.script future_was_read.report.answers (tt, (tt, (tt, (tt, (tt, (tt, tt)))))) }
+keeps_but_draws Stamps not = absurd (not refl)
+keeps_but_draws Snapshots not = each_in (λ t. HasSnapshotReplies (history_of told) future_was_read.opening.map t.begin (steps_of t)) told (
+  record { snapshot = one_key; below_begin = record { order = history_of told; serial = one_commit_ordered _; state = refl }; replies = (ap reply.Value (sym there), tt) },
+  (first_snapshot (history_of told) future_was_read.opening.map 13 _ refl (refl, tt), tt),
+)
+keeps_but_draws Causes not = each_in (λ t. HasCauseOf t.ending told t) told (tt, (record { opens = omega arith; closes = omega arith; succ_cause = inl refl; pred_cause = inl refl }, tt))
+keeps_but_draws Refusals not = record { each = each_place (λ i l a. HasCause (moment_at InTurn future_was_read.opening future_was_read.script future_was_read.report.answers (told_of future_was_read) i l) l.command a) future_was_read.script future_was_read.report.answers (record { own = λ t is. tt; log = tt; unfilled = tt }, (record { own = λ t is. tt; log = tt; unfilled = tt }, (record { own = λ t is. tt; log = tt; unfilled = tt }, (record { own = λ t is. tt; log = tt; unfilled = tt }, (record { own = λ t is. tt; log = tt; unfilled = tt }, (record { own = λ t is. tt; log = tt; unfilled = tt }, tt)))))) }
+keeps_but_draws Serial not = one_commit_ordered _
+keeps_but_draws Ascending not = λ i j d less within. absurd (omega arith)
+keeps_but_draws Runs not = record { run = ((refl, tt), refl) }
+keeps_but_draws LowEnds not = each_in (λ t. IsLowAt t.ending told t) told (tt, (λ table key stamp succ u touches commit less puts. absurd (omega (arith, only_commit u stamp succ commit, less)), tt))
+keeps_but_draws HighEnds not = each_in (λ t. IsHighAt t.ending told t) told (tt, (λ table key stamp succ v gets put next less. absurd (omega (arith, only_commit v stamp succ next.commit, less)), tt))
+
+sees_future : Meets Stamps future_was_read → ⊥
+sees_future stamps = let drawn : 18 ≤ 13 = stamps.draws 0 3 (record { session = 0; asked = None; answer = answer.Aborted }) (omega arith) (omega arith) refl in omega (arith, drawn)
+
+pub future_breaks : BreaksAlone Stamps future_was_read
+future_breaks = record { breaks = sees_future; keeps = keeps_but_draws; refused = λ good. let owes = owes_of future_was_read refl refl good in sees_future owes.stamps }

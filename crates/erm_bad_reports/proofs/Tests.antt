@@ -1,0 +1,140 @@
+-- Stamps that agree by a test, and what is so of transactions without lines.
+use Rattle.std.proofs.Common.{◌≡◌, ◌≢◌, ℕ, ◌<◌, ◌≤◌, true, not, ◌==◌, nat_lt, nat_le, List, [], ◌∷◌, ◌++◌, Some, None, refl, sym, subst, ◌∙◌, ◌+◌, arith}
+use Rattle.std.specs.Prelude.{IfSome}
+use Rattle.std.specs.List.{AllByRecursion, AllPairs}
+use Rattle.std.proofs.lemmas.Bool.Decides.{nat_tests}
+use Rattle.std.proofs.lemmas.List.Sorted.{IsPermutation-refl}
+use Rattle.erm_model.specs.Committed.{Committed, HasSnapshotReplies, below, rank_of}
+use Rattle.erm_model.specs.Database.{AscendByKey, Database, key_cmp}
+use Rattle.erm_model.specs.Member.{◌∈◌}
+use Rattle.erm_model.specs.Run.{RunsOne, Step}
+use Rattle.erm_model.specs.SerialOrder.{ComesBefore, IsSerialOrder}
+use Rattle.std.specs.declared.cmp.Ordering.TheVariants.{Less}
+use Rattle.erm_report.specs.declared.answer.Answer.{Answer}
+use Rattle.erm_script.specs.declared.script.Command.{Command}
+use Rattle.erm_good_report.specs.Refusals.{HasCause, HasLogCause, HasRefusalCause, HasUnfilledCause, Moment}
+use Rattle.erm_good_report.specs.Opening.{InTurn, Opening, is_before}
+use Rattle.erm_good_report.specs.Stamps.{Told, StampsAgree, begin_told, stamp_told, stamp_drawn}
+use Rattle.erm_good_report.specs.Transactions.{Exchange, Ending, Unfinished, Commits, Excludes, Aborts, Said, Transaction, stamp_of, stamp_of_ending}
+use Rattle.erm_good_report.specs.Windows.{HasLine, IsHighEnd, IsLowEnd}
+use Rattle.erm_bad_reports.specs.Clauses.{IsLowAt, IsHighAt}
+use Rattle.erm_good_report.proofs.Parts.{each_in, all_pairs_from_test, all_pairs_of_none, told_pass, told_from_test, pairs_pass}
+
+pub less_from : (m n : ℕ) → nat_lt m n ≡ true → m < n
+less_from m n pass = grind (arith, nat_tests)
+
+most_from : (m n : ℕ) → nat_le m n ≡ true → m ≤ n
+most_from m n pass = grind (arith, nat_tests)
+
+other_from : (m n : ℕ) → not (m == n) ≡ true → m ≢ n
+other_from m n pass same = grind (arith, nat_tests)
+
+-- stamps that differ, and places of a report in turn, by tests
+pub stamps_differ : (told : List Transaction) → pairs_pass (λ t u. told_pass (λ m n. not (m == n)) (stamp_of t) (stamp_of u)) told ≡ true → AllPairs (λ t u. Told (λ a b. a ≢ b) (stamp_of t) (stamp_of u)) told
+stamps_differ told pass = all_pairs_from_test (λ t u. Told (λ a b. a ≢ b) (stamp_of t) (stamp_of u)) (λ t u. told_pass (λ m n. not (m == n)) (stamp_of t) (stamp_of u))
+    (λ t u pass. told_from_test (λ a b. a ≢ b) (λ m n. not (m == n)) other_from (stamp_of t) (stamp_of u) pass) told pass
+
+pub stamps_begin : (said : List Said) → pairs_pass (λ a b. told_pass nat_lt (stamp_told a.answer) (begin_told b.answer)) said ≡ true
+    → AllPairs (λ a b. is_before InTurn a.session b.session ≡ true → Told (λ stamp begin. stamp < begin) (stamp_told a.answer) (begin_told b.answer)) said
+stamps_begin said pass = all_pairs_from_test (λ a b. is_before InTurn a.session b.session ≡ true → Told (λ stamp begin. stamp < begin) (stamp_told a.answer) (begin_told b.answer))
+    (λ a b. told_pass nat_lt (stamp_told a.answer) (begin_told b.answer))
+    (λ a b pass before. told_from_test (λ m n. m < n) nat_lt less_from (stamp_told a.answer) (begin_told b.answer) pass) said pass
+
+pub stamps_drawn : (said : List Said) → pairs_pass (λ a b. told_pass nat_le (begin_told a.answer) (stamp_drawn b.asked b.answer)) said ≡ true
+    → AllPairs (λ a b. is_before InTurn a.session b.session ≡ true → Told (λ begin stamp. begin ≤ stamp) (begin_told a.answer) (stamp_drawn b.asked b.answer)) said
+stamps_drawn said pass = all_pairs_from_test (λ a b. is_before InTurn a.session b.session ≡ true → Told (λ begin stamp. begin ≤ stamp) (begin_told a.answer) (stamp_drawn b.asked b.answer))
+    (λ a b. told_pass nat_le (begin_told a.answer) (stamp_drawn b.asked b.answer))
+    (λ a b pass before. told_from_test (λ m n. m ≤ n) nat_le most_from (begin_told a.answer) (stamp_drawn b.asked b.answer) pass) said pass
+
+pub stamps_ascend : (said : List Said) → pairs_pass (λ a b. told_pass nat_lt (stamp_drawn a.asked a.answer) (stamp_drawn b.asked b.answer)) said ≡ true
+    → AllPairs (λ a b. is_before InTurn a.session b.session ≡ true → Told (λ first later. first < later) (stamp_drawn a.asked a.answer) (stamp_drawn b.asked b.answer)) said
+stamps_ascend said pass = all_pairs_from_test (λ a b. is_before InTurn a.session b.session ≡ true → Told (λ first later. first < later) (stamp_drawn a.asked a.answer) (stamp_drawn b.asked b.answer))
+    (λ a b. told_pass nat_lt (stamp_drawn a.asked a.answer) (stamp_drawn b.asked b.answer))
+    (λ a b pass before. told_from_test (λ m n. m < n) nat_lt less_from (stamp_drawn a.asked a.answer) (stamp_drawn b.asked b.answer) pass) said pass
+
+-- stamps agree, where each transaction's own do
+pub stamps_agree : (opening : Opening) (told : List Transaction) (said : List Said)
+    → pairs_pass (λ t u. told_pass (λ m n. not (m == n)) (stamp_of t) (stamp_of u)) told ≡ true
+    → pairs_pass (λ a b. told_pass nat_lt (stamp_told a.answer) (begin_told b.answer)) said ≡ true
+    → pairs_pass (λ a b. told_pass nat_le (begin_told a.answer) (stamp_drawn b.asked b.answer)) said ≡ true
+    → pairs_pass (λ a b. told_pass nat_lt (stamp_drawn a.asked a.answer) (stamp_drawn b.asked b.answer)) said ≡ true
+    → ((t : Transaction) → t ∈ told → opening.stamp + 5 ≤ t.begin)
+    → ((t : Transaction) → t ∈ told → IfSome (stamp_of t) (λ stamp. t.begin ≤ stamp))
+    → ((t : Transaction) → t ∈ told → Told (λ a b. a ≡ b) t.sealed (stamp_of_ending t.ending))
+    → StampsAgree InTurn opening told said
+stamps_agree opening told said differ begins draws ascends least begun sealed = record {
+  differ = stamps_differ told differ;
+  least = least;
+  begun = begun;
+  sealed = sealed;
+  begins = stamps_begin said begins;
+  draws = stamps_drawn said draws;
+  ascends = stamps_ascend said ascends;
+}
+
+-- ---- a transaction without lines has any window
+no_line : (t : Transaction) (P : Exchange → Type 0) → t.lines ≡ [] → HasLine P t → ⊥
+no_line t P none has = nothing_in has.0 (subst (λ (es : List Exchange). has.0 ∈ es) none has.1)
+  where
+    nothing_in : (e : Exchange) → e ∈ [] → ⊥
+    nothing_in e (k, at) = cc
+
+no_split : (before after : List Exchange) (line : Exchange) → [] ≡ before ++ line ∷ after → ⊥
+no_split [] after line same = cc
+no_split (b ∷ before) after line same = cc
+
+low_without_lines : (told : List Transaction) (t : Transaction) (pred : ℕ) → t.lines ≡ [] → IsLowEnd told t pred
+low_without_lines told t pred none = λ table key stamp succ u touches commit less puts. absurd (no_line t _ none touches)
+
+high_without_lines : (told : List Transaction) (t : Transaction) (own succ : ℕ) → t.lines ≡ [] → IsHighEnd told t own succ
+high_without_lines told t own succ none = λ table key stamp next v gets put next_writer less. absurd (let first = gets in no_split first.before first.after first.line (sym none ∙ first.split))
+
+low_at : (told : List Transaction) (t : Transaction) (ending : Ending) → t.lines ≡ [] → IsLowAt ending told t
+low_at told t Unfinished none = tt
+low_at told t (Commits stamp succ pred) none = low_without_lines told t pred none
+low_at told t (Excludes None succ pred) none = tt
+low_at told t (Excludes (Some stamp) succ pred) none = low_without_lines told t pred none
+low_at told t Aborts none = tt
+
+high_at : (told : List Transaction) (t : Transaction) (ending : Ending) → t.lines ≡ [] → IsHighAt ending told t
+high_at told t Unfinished none = tt
+high_at told t (Commits stamp succ pred) none = high_without_lines told t stamp succ none
+high_at told t (Excludes None succ pred) none = tt
+high_at told t (Excludes (Some stamp) succ pred) none = high_without_lines told t stamp succ none
+high_at told t Aborts none = tt
+
+pub low_ends : (told : List Transaction) → AllByRecursion (λ t. t.lines ≡ []) told → (t : Transaction) → t ∈ told → IsLowAt t.ending told t
+low_ends told none t at = low_at told t t.ending (each_in (λ t. t.lines ≡ []) told none t at)
+
+pub high_ends : (told : List Transaction) → AllByRecursion (λ t. t.lines ≡ []) told → (t : Transaction) → t ∈ told → IsHighAt t.ending told t
+high_ends told none t at = high_at told t t.ending (each_in (λ t. t.lines ≡ []) told none t at)
+
+-- of no transaction, and of one, all is so
+pub in_none : (P : Transaction → Type 0) (t : Transaction) → t ∈ [] → P t
+in_none P = each_in P [] tt
+
+pub in_one : (P : Transaction → Type 0) (u : Transaction) → P u → (t : Transaction) → t ∈ u ∷ [] → P t
+in_one P u is = each_in P (u ∷ []) (is, tt)
+
+-- no commit, no order
+pub no_commit_ordered : IsSerialOrder rank_of [] []
+no_commit_ordered = record { same = IsPermutation-refl []; ascends = all_pairs_of_none (λ a b. ComesBefore (rank_of a) (rank_of b)) }
+
+pub one_commit_ordered : (c : Committed) → IsSerialOrder rank_of (c ∷ []) (c ∷ [])
+one_commit_ordered c = record { same = IsPermutation-refl (c ∷ []); ascends = λ i j d less within. absurd (omega arith) }
+
+pub no_pair_ascends : AscendByKey []
+no_pair_ascends = all_pairs_of_none (λ a b. key_cmp a.key b.key ≡ Less)
+
+-- an answer without a cause of its own
+pub no_cause_needed : (m : Moment) (c : Command) (a : Answer) → ((t : Transaction) → HasRefusalCause m c t a) → HasLogCause m a → HasUnfilledCause m c a → HasCause m c a
+no_cause_needed m c a own log unfilled = record { own = λ t is. own t; log = log; unfilled = unfilled }
+
+-- ---- snapshots
+-- where no commit lies below the begin
+pub first_snapshot : (commits : List Committed) (opening : Database) (begin : ℕ) (steps : List Step) → below begin commits ≡ [] → RunsOne opening steps → HasSnapshotReplies commits opening begin steps
+first_snapshot commits opening begin steps none runs = record {
+  snapshot = opening;
+  below_begin = record { order = []; serial = record { same = rw none (IsPermutation-refl []); ascends = all_pairs_of_none (λ a b. ComesBefore (rank_of a) (rank_of b)) }; state = refl };
+  replies = runs;
+}

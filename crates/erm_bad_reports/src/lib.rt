@@ -1,0 +1,9 @@
+//! Reports that are not good: for each clause of a good report a small one that breaks this clause and keeps all others. So no clause
+//! follows from the others, and none is empty.
+#![tactic(auto)]
+
+mod laws;
+
+pub use laws::{
+    lines_are_needed, order_is_needed, replies_are_needed, stamps_are_needed, windows_are_needed,
+};
