@@ -1,2 +1,4 @@
 pub mod Empty
+pub mod LogWords
 mod Slots
+pub mod Windows

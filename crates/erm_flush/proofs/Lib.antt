@@ -1,0 +1,3 @@
+pub mod Flushes
+pub mod Progress
+pub mod Told

@@ -1,0 +1,9 @@
+pub mod Chains
+pub mod Exits
+pub mod FileWords
+pub mod Joins
+pub mod Logged
+pub mod LogWords
+pub mod Readings
+pub mod Trail
+pub mod Written

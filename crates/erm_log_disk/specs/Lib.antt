@@ -1,0 +1,4 @@
+pub mod Chains
+pub mod Pieces
+pub mod Reads
+pub mod Writes
