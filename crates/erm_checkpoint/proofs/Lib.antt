@@ -1,0 +1,7 @@
+pub mod Removed
+pub mod Phases
+pub mod Moments
+pub mod Taken
+pub mod Flushed
+pub mod Told
+pub mod Pinned

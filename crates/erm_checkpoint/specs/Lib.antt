@@ -1,0 +1,4 @@
+pub mod Saved
+pub mod Steps
+pub mod Phases
+pub mod Taken

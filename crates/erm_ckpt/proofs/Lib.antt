@@ -1,0 +1,12 @@
+pub mod Fronts
+pub mod ReadEntry
+pub mod ReadRows
+pub mod SavedRows
+pub mod Written
+pub mod Encoded
+pub mod ReadSlot
+pub mod OneSlot
+pub mod SlotBytes
+pub mod OneRecovery
+pub mod Images
+pub mod Choices
