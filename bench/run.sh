@@ -1,12 +1,17 @@
 #!/usr/bin/env bash
 # Measures `erm run` on scripts of 10^4, 10^5 and 10^6 lines, and prints a table of seconds and peak memory.
 #   bench/run.sh [PROGRAM]      PROGRAM is the launcher at the top, unless another is given
-# The kinds of script, the first three of one session:
-#   many-keys   short transactions of two puts on random keys out of a thousand, a del and a get on keys out of a million
+# A script without flushes has room in its log for some thousands of commits alone. So each begins with a load, in which a session puts
+# five hundred keys, some of its transactions commit, and all others are aborted. The last column counts the lines that were refused: by
+# the phase of their session, or since the log was full.
+# The kinds, the first three of one session beside the load:
+#   puts        short transactions of two puts, a del and a get on random keys
 #   few-keys    the same on sixteen keys, each of which so gets many versions
-#   many-gets   one transaction of gets, after one that puts the fifty keys that they read
+#   gets        one transaction of gets of fifty keys
 #   4-sessions  lines of four sessions by turns, each in short transactions of a put, two gets and, in one of eight, a scan
 #   48-sessions the same of forty-eight sessions
+#   old-reader  puts on one key, of which two thousand commit, beside a session that began before them and stays: each put looks for
+#               the version that this session may read
 set -eu
 top=$(cd "$(dirname "$(readlink -f "${BASH_SOURCE[0]}")")/.." && pwd)
 program=$(readlink -f "${1:-$top/erm}")
@@ -20,60 +25,80 @@ import random
 import sys
 
 LIMIT = 16_777_216
+KEYS = 500
 kind, count = sys.argv[1], int(sys.argv[2])
 pick = random.Random(f"{kind} {count}")
 
 
-def short_transactions(keys, more):
+def load():
+    for first in range(0, KEYS, 50):
+        yield "load begin"
+        for key in range(first, first + 50):
+            yield f"load put 0 {key} {key % 256:02x}"
+        yield "load commit"
+
+
+def ends(commits):
+    """How transactions end: so many by a commit, and all others by an abort."""
+    yield from ["commit"] * commits
     while True:
+        yield "abort"
+
+
+def short_transactions(keys):
+    yield from load()
+    for end in ends(500):
         yield "a begin"
         for _ in range(2):
             value = pick.choice(["-", f"{pick.randrange(256):02x}"])
             yield f"a put 0 {pick.randrange(keys)} {value}"
-        yield f"a del 0 {pick.randrange(more)}"
-        yield f"a get 0 {pick.randrange(more)}"
-        yield from pick.choice([["a commit"], ["a seal", "a settle"], ["a abort"]])
-
-
-def many_gets(count, keys=50):
-    yield "a begin"
-    for key in range(keys):
-        yield f"a put 0 {key} {key:02x}"
-    yield "a commit"
-    yield "a begin"
-    for _ in range(count - keys - 4):
+        yield f"a del 0 {pick.randrange(keys)}"
         yield f"a get 0 {pick.randrange(keys)}"
-    yield "a commit"
+        yield f"a {end}"
 
 
-def by_turns(sessions, keys=1_000):
+def many_gets():
+    yield from load()
+    yield "a begin"
+    while True:
+        yield f"a get 0 {pick.randrange(50)}"
+
+
+def old_reader():
+    yield from load()
+    yield "old begin"
+    for end in ends(2_000):
+        yield "a begin"
+        yield f"a put 0 1 {pick.randrange(256):02x}"
+        yield f"a {end}"
+
+
+def by_turns(sessions):
     def transactions(name):
-        number = 0
-        while True:
-            table = pick.randrange(16)
+        for number, end in enumerate(ends(800 // sessions)):
             yield f"{name} begin"
             for _ in range(2):
-                yield f"{name} get {table} {pick.randrange(keys)}"
+                yield f"{name} get 0 {pick.randrange(KEYS)}"
             if number % 8 == 7:
-                low = pick.randrange(keys)
-                yield f"{name} scan {table} {low} {low + 20}"
-            yield f"{name} put {table} {pick.randrange(keys)} {pick.randrange(256):02x}"
-            yield f"{name} commit"
-            yield f"{name} settle"
-            number += 1
+                low = pick.randrange(KEYS)
+                yield f"{name} scan 0 {low} {low + 20}"
+            yield f"{name} put 0 {pick.randrange(KEYS)} {pick.randrange(256):02x}"
+            yield f"{name} {end}"
 
-    running = [transactions(f"s{place}") for place in range(sessions)]
+    yield from load()
+    running = [transactions(f"s{place}") for place in range(1, sessions)] + [transactions("load")]
     while True:
         for lines in running:
             yield next(lines)
 
 
 lines = {
-    "many-keys": lambda: short_transactions(1_000, 1_000_000),
-    "few-keys": lambda: short_transactions(16, 16),
-    "many-gets": lambda: many_gets(count),
+    "puts": lambda: short_transactions(KEYS),
+    "few-keys": lambda: short_transactions(16),
+    "gets": many_gets,
     "4-sessions": lambda: by_turns(4),
     "48-sessions": lambda: by_turns(48),
+    "old-reader": old_reader,
 }[kind]()
 size = 0
 for _, line in zip(range(count), lines):
@@ -94,21 +119,25 @@ import sys
 import time
 
 program, kind, count, script = sys.argv[1:]
-with open(script, "rb") as lines:
+REFUSALS = (b" no transaction", b" is sealed", b" not idle", b" not sealed", b" wait ring")
+report = script + ".report"
+with open(script, "rb") as lines, open(report, "wb") as put:
     start = time.monotonic()
-    run = subprocess.Popen([program, "run"], stdin=lines, stdout=subprocess.DEVNULL)
+    run = subprocess.Popen([program, "run"], stdin=lines, stdout=put)
     _, ended, usage = os.wait4(run.pid, 0)
     seconds = time.monotonic() - start
 status = os.waitstatus_to_exitcode(ended)
 size = os.path.getsize(script)
-print(f"{kind:11} {int(count):9} {size:9} {seconds:9.2f} {usage.ru_maxrss / 1024:9.1f} {status:7}", flush=True)
+with open(report, "rb") as put:
+    refused = sum(any(refusal in line for refusal in REFUSALS) for line in put)
+print(f"{kind:11} {int(count):9} {size:9} {seconds:9.2f} {usage.ru_maxrss / 1024:9.1f} {status:7} {refused:9}", flush=True)
 PYTHON
 }
 
 # The program is built before anything is measured.
 "$program" run </dev/null >/dev/null || true
-printf '%-11s %9s %9s %9s %9s %7s\n' kind lines bytes seconds MiB status
-for kind in many-keys few-keys many-gets 4-sessions 48-sessions; do
+printf '%-11s %9s %9s %9s %9s %7s %9s\n' kind lines bytes seconds MiB status refused
+for kind in puts few-keys gets 4-sessions 48-sessions old-reader; do
     for count in 10000 100000 1000000; do
         make_script "$kind" "$count" >"$folder/script"
         measure "$kind" "$count" "$folder/script"
