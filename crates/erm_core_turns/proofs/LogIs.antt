@@ -1,12 +1,14 @@
 -- What is so of the log of each state.
 use Rattle.std.proofs.Common.{◌≡◌, ℕ, ◌<◌, ◌≤◌, List, [], ◌∷◌, ◌++◌, Option, Some, None, IfSome, refl, sym, ap, ◌∙◌, subst, arith}
 use Rattle.std.proofs.lemmas.List.{append-nil}
+use Rattle.std.proofs.lemmas.List.Elements.{All-map}
 use Rattle.erm_model.specs.RowTransaction.{Law}
 use Rattle.erm_machine.specs.declared.attempt.Attempt.{Attempt}
 use Rattle.erm_machine.specs.declared.attempt.Decision.TheVariants.{Undecided}
 use Rattle.erm_machine.specs.declared.limits.TheConstants.{FLUSH_SEAT}
 use Rattle.erm_machine.specs.declared.place.Place.{Place}
 use Rattle.erm_machine.specs.declared.place.Place.TheVariants.{Active, Sealed}
+use Rattle.erm_machine.specs.declared.version.Span.{Span}
 use Rattle.erm_machine.specs.Core.{Core}
 use Rattle.erm_machine.specs.Facts.{HasBegun, IsCurrent}
 use Rattle.erm_machine.specs.Lawful.{opening_rows}
@@ -22,7 +24,7 @@ use Rattle.erm_world.specs.Log.{IsEnd, IsLog, place_behind, rows_behind}
 use Rattle.erm_world.specs.Log as log
 use Rattle.erm_world.specs.World.{Session, Stand, Work}
 use Rattle.erm_world.specs.World as world
-use Rattle.erm_core_turns.specs.Turns.{blocks_below, log_of, undecided_at}
+use Rattle.erm_core_turns.specs.Turns.{block_of, blocks_below, log_of, started_at, undecided_at}
 use Rattle.erm_core_turns.proofs.Undecided.{none_undecided, undecided_is}
 use Rattle.erm_core_turns.proofs.Blocks.{blocks_are, in_log, place_of, place_upto, flushed_upto, decided_upto}
 
@@ -109,6 +111,8 @@ module _ (law : Law) (lists : Lists law) (sessions : ℕ) (c : Core) (under : So
       record {
         opening = under.lawful.opening;
         chain = subst (λ (ws : List ℕ). IsChain law.meets (log_start c ws) blocks) (append-nil (words_of blocks)) (whole.chain []);
+        one_run = All-map (λ (b : Block). b.run ≡ c.shared.run) (λ (r : Span). block_of c.shared.run r.seat (started_at r.start (c.seats r.seat).over))
+            (ranges_below (place_of c) c.shared.log) (λ k d within. refl);
         flushed = end_within more c.shared.flushed (flushed_upto c sound) upto.1;
         within = omega (arith, behind, within);
         places = let low = sound.common.ranges.below in omega (arith, low);

@@ -163,17 +163,18 @@ quiet_turn sessions c d quiet stays still flushed =
       flushed = flushed;
     }
 
-abbrev opening_of : Rows → ℕ → ℕ → ℕ → ℕ → Opening
-opening_of rows tail first cells sessions = record { rows = rows; tail = tail; first = first; cells = cells; sessions = sessions }
+abbrev opening_of : Rows → ℕ → ℕ → ℕ → ℕ → ℕ → Opening
+opening_of rows tail run first cells sessions = record { rows = rows; tail = tail; run = run; first = first; cells = cells; sessions = sessions; cuts = 0 }
 
 -- the opening stays, and the sessions show the same
 pub opening_same : (sessions : ℕ) (c d : Core) → Flushes c d → (view_of sessions d).opening ≡ (view_of sessions c).opening
 opening_same sessions c d stays =
     let rows : (ℕ → Object) → Rows = λ objects. opening_rows (record c.shared { objects = objects }) in
-    ap (λ (o : ℕ → Object). opening_of (rows o) d.shared.opening d.shared.first d.shared.cell_limit sessions) stays.shared.objects
-    ∙ ap (λ (n : ℕ). opening_of (rows c.shared.objects) n d.shared.first d.shared.cell_limit sessions) stays.shared.opening
-    ∙ ap (λ (n : ℕ). opening_of (rows c.shared.objects) c.shared.opening n d.shared.cell_limit sessions) stays.shared.first
-    ∙ ap (λ (n : ℕ). opening_of (rows c.shared.objects) c.shared.opening c.shared.first n sessions) stays.shared.cells
+    ap (λ (o : ℕ → Object). opening_of (rows o) d.shared.opening d.shared.run d.shared.first d.shared.cell_limit sessions) stays.shared.objects
+    ∙ ap (λ (n : ℕ). opening_of (rows c.shared.objects) n d.shared.run d.shared.first d.shared.cell_limit sessions) stays.shared.opening
+    ∙ ap (λ (n : ℕ). opening_of (rows c.shared.objects) c.shared.opening n d.shared.first d.shared.cell_limit sessions) stays.shared.run
+    ∙ ap (λ (n : ℕ). opening_of (rows c.shared.objects) c.shared.opening c.shared.run n d.shared.cell_limit sessions) stays.shared.first
+    ∙ ap (λ (n : ℕ). opening_of (rows c.shared.objects) c.shared.opening c.shared.run c.shared.first n sessions) stays.shared.cells
 
 pub session_same : (sessions : ℕ) (c d : Core) → IsQuiet sessions c → Flushes c d → (q : ℕ) → q ≤ sessions → session_of (d.seats q) ≡ session_of (c.seats q)
 session_same sessions c d quiet stays q low = ap session_of (stays.others q (is_other sessions q c quiet low))

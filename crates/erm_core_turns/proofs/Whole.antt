@@ -116,6 +116,7 @@ module _ (law : Law) (sessions : ℕ) (c : Core) (under : SoundUnder law c) (qui
   pub log_of_view : IsSerializable law (view_of sessions c) → IsLogOf (view_of sessions c) (log_of sessions c)
   log_of_view is = record {
     at = refl;
+    run = refl;
     rows = refl;
     tail = refl;
     flushed = refl;

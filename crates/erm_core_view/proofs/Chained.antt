@@ -83,7 +83,15 @@ alone_shows sessions seat c y d s alone pin is = record {
 }
   where
     opening_from : ℕ → Shared → Opening
-    opening_from sessions shared = record { rows = opening_rows shared; tail = shared.opening; first = shared.first; cells = shared.cell_limit; sessions = sessions }
+    opening_from sessions shared = record {
+      rows = opening_rows shared;
+      tail = shared.opening;
+      run = shared.run;
+      first = shared.first;
+      cells = shared.cell_limit;
+      sessions = sessions;
+      cuts = 0;
+    }
 
 -- a session that becomes one twice
 pub becomes_then : (v : View) (seat : ℕ) (s : Session) (t : View) (r : Session) (u : View) → Becomes v seat s t → Becomes t seat r u → Becomes v seat r u

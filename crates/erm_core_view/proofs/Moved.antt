@@ -69,6 +69,14 @@ cells_stay : (p : ℕ) (k : Kind) (found : ℕ) (x : Part) (s : Shared) → (sha
 cells_stay p (kind.AddCounter counter) found x s = counter_cells counter _ s
 cells_stay p k found x s = refl
 
+counter_run : (c : Counter) (n : ℕ) (s : Shared) → (with_counter c n s).run ≡ s.run
+counter_run Objects n s = refl
+counter_run Cells n s = refl
+
+run_stays : (p : ℕ) (k : Kind) (found : ℕ) (x : Part) (s : Shared) → (shared_after p k found x s).run ≡ s.run
+run_stays p (kind.AddCounter counter) found x s = counter_run counter _ s
+run_stays p k found x s = refl
+
 opening_stays : (p : ℕ) (k : Kind) (found : ℕ) (x : Part) (s : Shared) → (shared_after p k found x s).opening ≡ s.opening
 opening_stays p (kind.AddCounter counter) found x s = counter_opening counter _ s
 opening_stays p k found x s = refl
@@ -86,6 +94,7 @@ moved_one sessions p c d k has m =
     let rows : opening_rows after ≡ opening_rows c.shared = fun_ext (λ oid. rows_stay p k found (c.seats p) c.shared oid has) in
     let tail = opening_stays p k found (c.seats p) c.shared in
     let first = first_stays p k found (c.seats p) c.shared in
+    let run = run_stays p k found (c.seats p) c.shared in
     let cells = cells_stay p k found (c.seats p) c.shared in
     let opening : (view_of sessions e).opening ≡ (view_of sessions c).opening = cc in
     subst (λ (to : Core). ChangesOne p k (view_of sessions c) (view_of sessions to)) (sym m.is)

@@ -60,9 +60,11 @@ view_of sessions c = record {
   opening = record {
     rows = opening_rows c.shared;
     tail = c.shared.opening;
+    run = c.shared.run;
     first = c.shared.first;
     cells = c.shared.cell_limit;
     sessions = sessions;
+    cuts = 0;
   };
   session = λ q. session_of (c.seats q);
   tail = c.shared.tail;

@@ -19,7 +19,7 @@ pub record Stands {L : Type 0} (law : Law) (p : Plain L) : Type 0 where
   pub sound : SoundUnder law (core_of p.state)
   pub quiet : IsQuiet p.sessions (core_of p.state)
 
--- it stands, and has what the laws of a world say of its view, and of its log
+-- it stands, and has what the laws of a world say of its view and of its log
 pub record IsWorld {L : Type 0} (law : Law) (p : Plain L) : Type 0 where
   pub stands : Stands law p
   pub serializable : IsSerializable law (plain_view p)

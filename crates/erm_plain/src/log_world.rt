@@ -42,6 +42,10 @@ impl<L: RowLaw> LogWorld for Plain<L> {
         self.unpin()
     }
 
+    fn respects_rows() {
+        L::respects_rows();
+    }
+
     ghost is_log = { λ p world. world.log };
 
     ghost keeps_itself = { λ p. logs.keeps_itself L.law p };

@@ -1,3 +1,4 @@
+pub mod Blocks
 pub mod Commits
 pub mod Lists
 pub mod Txns

@@ -1,6 +1,6 @@
 -- What a world's log means to a flusher: where it goes on, how far it is synced, and the blocks that were gathered so far.
 use Rattle.std.specs.Prelude.{◌≡◌, ℕ, ◌+◌, ◌^◌, ◌<◌, ◌≤◌, ◌⊎◌, List, [], ◌∷◌, ◌++◌, take, Option, Some, None, IfSome, IsSome}
-use Rattle.std.specs.List.{flat_map}
+use Rattle.std.specs.List.{All, flat_map}
 use Rattle.erm_model.specs.Member.{◌∈◌}
 use Rattle.erm_model.specs.Rows.{Rows}
 use Rattle.erm_block.specs.declared.block.Block.{Block}
@@ -43,6 +43,15 @@ rows_behind rows (block ∷ blocks) = rows_behind (rows_after_block block rows) 
 -- the words of blocks
 abbrev pub words_of : List Block → List ℕ
 words_of blocks = flat_map spelling blocks
+
+-- blocks stand one after another from a place on: the stamp of each is its place
+abbrev pub StandFrom : ℕ → List Block → Type 0
+StandFrom at [] = Unit {0}
+StandFrom at (block ∷ blocks) = (block.stamp ≡ at) × StandFrom (at + block.size) blocks
+
+-- a list of blocks is a front of another
+abbrev pub IsFrontOf : List Block → List Block → Type 0
+IsFrontOf xs ys = (rest : List Block) × (ys ≡ xs ++ rest)
 
 -- a place is the end of one of the blocks gathered, or the log's start
 pub record IsEnd (log : Log) (place : ℕ) : Type 0 where
@@ -97,6 +106,7 @@ pub record IsWait (log : Log) (oid : ℕ) (wait : SeatWait) : Type 0 where
 pub record IsLog (sound : Rows → Type 0) (log : Log) : Type 0 where
   pub opening : sound log.opened.rows
   pub chain : IsChain sound (record { words = words_of log.gathered; at = log.opened.at; run = log.opened.run; rows = log.opened.rows }) log.gathered
+  pub one_run : All (λ block. block.run ≡ log.opened.run) log.gathered
   pub flushed : IsEnd log log.flushed
   pub within : gathered_to log ≤ log.tail
   pub places : log.tail < 2 ^ 64

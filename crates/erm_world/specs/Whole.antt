@@ -58,9 +58,10 @@ pub record IsSealedAt (v : View) (place : ℕ) (u : Undecided) : Type 0 where
 -- that of a session's transaction that is over.
 pub record IsLogOf (v : View) (log : Log) : Type 0 where
   pub at : log.opened.at ≡ v.opening.tail
+  pub run : log.opened.run ≡ v.opening.run
   pub rows : log.opened.rows ≡ v.opening.rows
   pub tail : log.tail ≡ v.tail
   pub flushed : log.flushed ≡ v.flushed
   pub pinned : log.pinned ≡ v.pinned
   pub undecided : (place : ℕ) (u : Undecided) → (log.undecided place ≡ Some u) ↔ IsSealedAt v place u
-  pub blocks : (b : Block) → b ∈ log.gathered → IsBlockOf v log.opened.run b
+  pub blocks : (b : Block) → b ∈ log.gathered → IsBlockOf v v.opening.run b

@@ -46,14 +46,16 @@ pub record Session : Type 0 where
   pub over : List Finished
   pub stand : Stand
 
--- how a world was opened: on these rows, where its log begins, the number of the first object that it makes, how many cells it
--- has, and how many sessions
+-- how a world was opened: on these rows, where its log begins and as which run it is written, the number of the first object that
+-- it makes, how many cells it has, how many sessions, and how many versions one call cuts off at most
 pub record Opening : Type 0 where
   pub rows : Rows
   pub tail : ℕ
+  pub run : ℕ
   pub first : ℕ
   pub cells : ℕ
   pub sessions : ℕ
+  pub cuts : ℕ
 
 -- a world: how it was opened, its sessions, the end of its log, the place of the log below which all is synced, and the place as
 -- of which rows are pinned, where they are

@@ -10,7 +10,9 @@ mod txn;
 mod world;
 
 pub use gathered::{Gathered, SeatWait};
-pub use laws::{histories_tell_commits, laws_that_say_the_same};
+pub use laws::{
+    blocks_are_one, blocks_of_sessions_stay, histories_tell_commits, laws_that_say_the_same,
+};
 pub use log_world::LogWorld;
 pub use script_world::ScriptWorld;
 pub use stops::{BeginStop, NotFlushed, Wait};

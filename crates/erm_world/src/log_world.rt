@@ -1,7 +1,7 @@
 //! A world's log, as a flusher sees it.
 ghost use Rattle.std.specs.Prelude.{◌≡◌, ◌<◌, ◌≤◌, IfErr, IfOk, None, Some, length, IsSome};
 ghost use Rattle.erm_model.specs.declared.limits.TheConstants.{OID_LIMIT, RING_WORDS};
-ghost use Rattle.erm_model.specs.RowTransaction.{Law};
+ghost use Rattle.erm_model.specs.RowTransaction.{Law, RespectsRows};
 ghost use Rattle.erm_world.specs.Log.{Gathers, IsLog, IsRowAt, IsWait, Log, gathered_to};
 
 use crate::gathered::{Gathered, SeatWait};
@@ -69,6 +69,10 @@ pub trait LogWorld {
         ensures stands { log_stands self.new }
         ensures keeps { keeps self.old self.new }
         ensures unpinned { log self.new ≡ record (log self.old) { pinned = None } };
+
+    /// The law of its rows looks at the rows of objects that there may be alone.
+    fn respects_rows()
+        ensures { RespectsRows rows_law };
 
     /// What is so of every log.
     ghost is_log: { (w : Self) → log_stands w → IsLog rows_law.meets (log w) };

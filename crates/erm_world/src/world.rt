@@ -79,8 +79,8 @@ pub trait RowWorld {
         ensures ok { IfOk result (λ oid. DidMake (view self.old) seat oid (view self.new)) }
         ensures err { IfErr result (λ stop. DidNotMake (view self.old) seat stop (view self.new)) };
 
-    /// Claims an object where it isn't claimed yet, and cuts off versions of it that nobody may read any more. It answers a count
-    /// of these; how exact it is, each world says for itself.
+    /// Claims an object where it isn't claimed yet, and cuts off versions of it that nobody may read any more. It answers how many
+    /// these were, which is no more than a call of this world cuts off at most.
     fn tidy(&mut self, seat: Seat, oid: Oid) -> Result<u32, RowStop>
         requires stands { stands self.old }
         requires session { IsSession (view self.old) seat }
@@ -88,6 +88,7 @@ pub trait RowWorld {
         requires object { oid < OID_LIMIT }
         ensures stands { stands self.new }
         ensures ok { OnOk result (DidClaim (view self.old) seat oid (view self.new)) }
+        ensures count { IfOk result (λ cut. cut ≤ (view self.old).opening.cuts) }
         ensures err { IfErr result (λ stop. DidNotClaim (view self.old) seat oid stop (view self.new)) };
 
     /// Seals the transaction: its commit stamp, the place of the log, in words, where its block begins. The transaction keeps the
