@@ -1,4 +1,8 @@
+mod Histories
 mod MapCalls
 mod MapClauses
+mod MapLaws
+mod MapPast
 mod MapRows
-mod MapWorlds
+mod Preds
+mod Versions

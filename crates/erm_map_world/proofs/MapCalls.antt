@@ -1,63 +1,28 @@
--- A world of one session whose log has room for one block: what its calls make of it.
-use Rattle.std.proofs.Common.{◌≡◌, ◌≢◌, ℕ, zero, suc, ◌+◌, ◌<◌, ◌≤◌, ◌⊎◌, Bool, true, false, cond, ◌||◌, ◌==◌, eq-eqb, List, [], ◌∷◌, ◌++◌, map, length, sum_by, Option, Some, None, option_map, inl, inr, refl, sym, ap, ◌∙◌, subst, arith, length-append}
+-- A world of one session whose transactions commit one after another: what its calls make of it.
+use Rattle.std.proofs.Common.{◌≡◌, ◌≢◌, ℕ, zero, suc, ◌+◌, ◌<◌, ◌≤◌, ◌⊎◌, Bool, true, false, cond, ◌==◌, List, [], ◌∷◌, ◌++◌, map, length, sum_by, Option, Some, None, option_map, inl, inr, refl, sym, ap, ◌∙◌, subst, arith, append-nil, length-append}
 use Rattle.std.specs.List.{slice_get}
 use Rattle.std.proofs.lemmas.Bool.Decides.{eqb_tells}
+use Rattle.std.proofs.lemmas.Grind.{flat_map-append}
 use Rattle.std.proofs.lemmas.List.Sums.{sum_by_push}
 use Rattle.std.proofs.lemmas.Option.{slice_get-map}
 use Rattle.erm_model.specs.declared.history.VersionRead.{VersionRead}
 use Rattle.erm_model.specs.declared.history.VersionWritten.{VersionWritten}
+use Rattle.erm_model.specs.History.{History, IsNewestBelow, IsPredecessorStamp}
 use Rattle.erm_model.specs.Lawful.{times_made}
 use Rattle.erm_model.specs.RowTransaction.{Law, did_make, made_by}
 use Rattle.erm_model.specs.Rows.{Rows}
 use Rattle.erm_model.proofs.Members.{∈-push, slice_get-push}
+use Rattle.erm_map_world.specs.MapWorks.{commit_with, finished, newest, rows_now}
+use Rattle.erm_map_world.specs.MapWorld.{AreOver, IsMapWorld, Map, Saw, made_of}
+use Rattle.erm_map_world.proofs.MapPast.{over_aborted, over_committed}
+use Rattle.erm_map_world.proofs.Versions.{is_among, never_both, oid_kept}
 use Rattle.erm_world.specs.Laws.{IsLawfulWork}
-use Rattle.erm_map_world.specs.MapWorld.{IsFirst, IsMapWorld, committed, made_of, nothing, running, sealing}
 use Rattle.erm_world.specs.Works.{claiming, is_claimed, making, reading, setting, with_row}
-use Rattle.erm_world.specs.World.{Work, begun, size_of}
+use Rattle.erm_world.specs.World.{Finished, Work, begun, commit_of, committed_in, size_of}
+use Rattle.erm_world.specs.World as world
 use Rattle.erm_world.proofs.Works.{times_made-push}
 
--- FIRST. What one call more leaves of a transaction that saw the rows of the opening.
-first_begun : (start : ℕ) (rows : Rows) (first number : ℕ) → IsFirst start rows first number (begun number start)
-first_begun start rows first number = record {
-  number_is = refl;
-  begin_is = refl;
-  reads = λ r within. absurd (let at = within.1 in cc);
-  claims = λ c within. absurd (let at = within.1 in cc);
-  once = λ i j c d at. cc;
-  made = λ x some. absurd (omega (arith, some));
-}
-
-first_reading : (start : ℕ) (rows : Rows) (first number : ℕ) (w : Work) (r : VersionRead) → r.stamp ≡ 0 → r.row ≡ rows r.oid → IsFirst start rows first number w
-    → IsFirst start rows first number (reading r w)
-first_reading start rows first number w r stamp row is = record {
-  number_is = is.number_is;
-  begin_is = is.begin_is;
-  reads = λ d within. elim (∈-push w.reads r d within) as (λ _. (d.stamp ≡ 0) × (d.row ≡ rows d.oid)) [
-    | inl before ↦ is.reads d before
-    | inr e ↦ (ap (λ (v : VersionRead). v.stamp) e ∙ stamp, ap (λ (v : VersionRead). v.row) e ∙ row ∙ ap (λ (v : VersionRead). rows v.oid) (sym e))
-  ];
-  claims = is.claims;
-  once = is.once;
-  made = is.made;
-}
-
--- a claimed object
-claimed_first : (c : VersionWritten) (cs : List VersionWritten) (oid : ℕ) → c.oid ≡ oid → is_claimed (c ∷ cs) oid ≡ true
-claimed_first c cs oid here = ap (λ (test : Bool). test || is_claimed cs oid) (eq-eqb c.oid oid here)
-
-claimed_later : (a b : Bool) → b ≡ true → (a || b) ≡ true
-claimed_later true b later = refl
-claimed_later false b later = later
-
-is_among : (cs : List VersionWritten) (i : ℕ) (d : VersionWritten) → slice_get cs i ≡ Some d → is_claimed cs d.oid ≡ true
-is_among [] i d at = cc
-is_among (c ∷ cs) zero d at = let same : c ≡ d = cc in claimed_first c cs d.oid (ap (λ (v : VersionWritten). v.oid) same)
-is_among (c ∷ cs) (suc i) d at = claimed_later (c.oid == d.oid) (is_claimed cs d.oid) (is_among cs i d at)
-
-never_both : (b : Bool) → b ≡ true → b ≡ false → ⊥
-never_both true both none = cc
-never_both false both none = cc
-
+-- CLAIMS. One more, of an object that isn't claimed.
 unclaimed_apart : (cs : List VersionWritten) (i : ℕ) (d : VersionWritten) (oid : ℕ) → is_claimed cs oid ≡ false → slice_get cs i ≡ Some d → d.oid ≡ oid → ⊥
 unclaimed_apart cs i d oid none at e = never_both (is_claimed cs oid) (subst (λ (x : ℕ). is_claimed cs x ≡ true) e (is_among cs i d at)) none
 
@@ -75,20 +40,6 @@ once_more cs c none once i j d e first second same = elim (slice_get-push cs c d
   ]
 ]
 
-first_claiming : (start : ℕ) (rows : Rows) (first number : ℕ) (w : Work) (c : VersionWritten) → is_claimed w.claims c.oid ≡ false → c.stamp ≡ 0 → c.base ≡ rows c.oid → c.row ≡ c.base
-    → IsFirst start rows first number w → IsFirst start rows first number (claiming c w)
-first_claiming start rows first number w c none stamp base row is = record {
-  number_is = is.number_is;
-  begin_is = is.begin_is;
-  reads = is.reads;
-  claims = λ d within. elim (∈-push w.claims c d within) as (λ _. (d.stamp ≡ 0) × (d.base ≡ rows d.oid) × (d.is_set ≡ false → d.row ≡ d.base)) [
-    | inl before ↦ is.claims d before
-    | inr e ↦ subst (λ (v : VersionWritten). (v.stamp ≡ 0) × (v.base ≡ rows v.oid) × (v.is_set ≡ false → v.row ≡ v.base)) (sym e) (stamp, base, λ unset. row)
-  ];
-  once = once_more w.claims c none is.once;
-  made = is.made;
-}
-
 -- a claim whose row may have been set
 set_of : (oid : ℕ) (row : List ℕ) (o : Option VersionWritten) (d : VersionWritten) → option_map (with_row oid row) o ≡ Some d
     → (c : VersionWritten) × (o ≡ Some c) × (with_row oid row c ≡ d)
@@ -103,23 +54,6 @@ kept_unset : (here set : Bool) (row old base : List ℕ) → (set ≡ false → 
 kept_unset true set row old base kept unset = cc
 kept_unset false set row old base kept unset = kept unset
 
-first_setting : (start : ℕ) (rows : Rows) (first number : ℕ) (w : Work) (oid : ℕ) (row : List ℕ) → IsFirst start rows first number w → IsFirst start rows first number (setting oid row w)
-first_setting start rows first number w oid row is = record {
-  number_is = is.number_is;
-  begin_is = is.begin_is;
-  reads = is.reads;
-  claims = λ d within.
-      let (c, at, e) = set_at oid row w.claims within.0 d within.1 in
-      let found = is.claims c (within.0, at) in
-      subst (λ (v : VersionWritten). (v.stamp ≡ 0) × (v.base ≡ rows v.oid) × (v.is_set ≡ false → v.row ≡ v.base)) e
-      (found.0, found.1, kept_unset (c.oid == oid) c.is_set row c.row c.base found.2);
-  once = λ i j d e first_at second_at same.
-      let (a, at_a, is_a) = set_at oid row w.claims i d first_at in
-      let (b, at_b, is_b) = set_at oid row w.claims j e second_at in
-      is.once i j a b at_a at_b (ap (λ (v : VersionWritten). v.oid) is_a ∙ same ∙ sym (ap (λ (v : VersionWritten). v.oid) is_b));
-  made = is.made;
-}
-
 zero_or_more : (n : ℕ) → (n ≡ 0) ⊎ (0 < n)
 zero_or_more zero = inl refl
 zero_or_more (suc n) = inr (omega arith)
@@ -130,28 +64,139 @@ made_at next x = elim (eqb_tells x next) as (λ _. ((x ≡ next) × (made_by (di
   | inr there ↦ inr (there.1, ap (λ (test : Bool). cond test 1 0) there.0)
 ]
 
-first_making : (start : ℕ) (rows : Rows) (first number : ℕ) (w : Work) (next : ℕ) → first ≤ next → IsFirst start rows first number w → IsFirst start rows first number (making next w)
-first_making start rows first number w next above is = record {
-  number_is = is.number_is;
-  begin_is = is.begin_is;
-  reads = is.reads;
-  claims = is.claims;
-  once = is.once;
-  made = λ x some. elim (made_at next x) as (λ _. first ≤ x) [
-    | inl here ↦ omega (arith, here.0, above)
-    | inr there ↦ is.made x (omega (arith, times_made-push w.made next x, there.1, some))
-  ];
-}
+-- SAW. What one call more leaves of a transaction that saw the newest versions.
+module _ (law : Law) (rows : Rows) (over : List Finished) (bound number : ℕ) (h : History)
+    (newest_is : (oid : ℕ) → IsNewestBelow h rows oid bound (newest rows over oid).stamp (newest rows over oid).row) where
+  newest_read : (oid : ℕ) → rows_now rows over (newest rows over oid).oid ≡ (newest rows over oid).row
+  newest_read oid = ap (rows_now rows over) (oid_kept over (record { oid = oid; stamp = 0; row = rows oid }))
+
+  newest_at : (w : Work) (oid : ℕ) → w.begin ≡ bound → IsNewestBelow h rows oid w.begin (newest rows over oid).stamp (newest rows over oid).row
+  newest_at w oid here = subst (λ (b : ℕ). IsNewestBelow h rows oid b (newest rows over oid).stamp (newest rows over oid).row) (sym here) (newest_is oid)
+
+  saw_reading : (w : Work) (oid : ℕ) → w.begin ≡ bound → Saw law rows h (rows_now rows over) number w → Saw law rows h (rows_now rows over) number (reading (newest rows over oid) w)
+  saw_reading w oid here is =
+      let v : VersionRead = newest rows over oid in
+      let own : v.oid ≡ oid = oid_kept over (record { oid = oid; stamp = 0; row = rows oid }) in record {
+        number_is = is.number_is;
+        reads = λ d within. elim (∈-push w.reads v d within) as (λ _. IsNewestBelow h rows d.oid w.begin d.stamp d.row) [
+          | inl before ↦ is.reads d before
+          | inr e ↦ subst (λ (x : VersionRead). IsNewestBelow h rows x.oid w.begin x.stamp x.row) (sym e)
+              (subst (λ (x : ℕ). IsNewestBelow h rows x w.begin v.stamp v.row) (sym own) (newest_at w oid here))
+        ];
+        claims = is.claims;
+        kept = is.kept;
+        once = is.once;
+        fits = record {
+          meets = is.fits.meets;
+          reads = λ d within. elim (∈-push w.reads v d within) as (λ _. rows_now rows over d.oid ≡ d.row) [
+            | inl before ↦ is.fits.reads d before
+            | inr e ↦ subst (λ (x : VersionRead). rows_now rows over x.oid ≡ x.row) (sym e) (newest_read oid)
+          ];
+          claims = is.fits.claims;
+          unreached = is.fits.unreached;
+        };
+      }
+
+  abbrev claim_of : ℕ → VersionWritten
+  claim_of oid = record { oid = oid; stamp = (newest rows over oid).stamp; base = (newest rows over oid).row; row = (newest rows over oid).row; is_set = false }
+
+  saw_claiming : (w : Work) (oid : ℕ) → w.begin ≡ bound → is_claimed w.claims oid ≡ false → Saw law rows h (rows_now rows over) number w
+      → Saw law rows h (rows_now rows over) number (claiming (claim_of oid) w)
+  saw_claiming w oid here none is = record {
+    number_is = is.number_is;
+    reads = is.reads;
+    claims = λ d within. elim (∈-push w.claims (claim_of oid) d within) as (λ _. IsNewestBelow h rows d.oid w.begin d.stamp d.base) [
+      | inl before ↦ is.claims d before
+      | inr e ↦ subst (λ (x : VersionWritten). IsNewestBelow h rows x.oid w.begin x.stamp x.base) (sym e) (newest_at w oid here)
+    ];
+    kept = λ d within. elim (∈-push w.claims (claim_of oid) d within) as (λ _. d.is_set ≡ false → d.row ≡ d.base) [
+      | inl before ↦ is.kept d before
+      | inr e ↦ subst (λ (x : VersionWritten). x.is_set ≡ false → x.row ≡ x.base) (sym e) (λ unset. refl)
+    ];
+    once = once_more w.claims (claim_of oid) none is.once;
+    fits = record {
+      meets = is.fits.meets;
+      reads = is.fits.reads;
+      claims = λ d within. elim (∈-push w.claims (claim_of oid) d within) as (λ _. rows_now rows over d.oid ≡ d.base) [
+        | inl before ↦ is.fits.claims d before
+        | inr e ↦ subst (λ (x : VersionWritten). rows_now rows over x.oid ≡ x.base) (sym e) refl
+      ];
+      unreached = is.fits.unreached;
+    };
+  }
+
+  saw_setting : (w : Work) (oid : ℕ) (row : List ℕ) → Saw law rows h (rows_now rows over) number w → Saw law rows h (rows_now rows over) number (setting oid row w)
+  saw_setting w oid row is = record {
+    number_is = is.number_is;
+    reads = is.reads;
+    claims = λ d within.
+        let (c, at, e) = set_at oid row w.claims within.0 d within.1 in
+        subst (λ (v : VersionWritten). IsNewestBelow h rows v.oid w.begin v.stamp v.base) e (is.claims c (within.0, at));
+    kept = λ d within.
+        let (c, at, e) = set_at oid row w.claims within.0 d within.1 in
+        subst (λ (v : VersionWritten). v.is_set ≡ false → v.row ≡ v.base) e (kept_unset (c.oid == oid) c.is_set row c.row c.base (is.kept c (within.0, at)));
+    once = λ i j d e first_at second_at same.
+        let (a, at_a, is_a) = set_at oid row w.claims i d first_at in
+        let (b, at_b, is_b) = set_at oid row w.claims j e second_at in
+        is.once i j a b at_a at_b (ap (λ (v : VersionWritten). v.oid) is_a ∙ same ∙ sym (ap (λ (v : VersionWritten). v.oid) is_b));
+    fits = record {
+      meets = is.fits.meets;
+      reads = is.fits.reads;
+      claims = λ d within.
+          let (c, at, e) = set_at oid row w.claims within.0 d within.1 in
+          subst (λ (v : VersionWritten). rows_now rows over v.oid ≡ v.base) e (is.fits.claims c (within.0, at));
+      unreached = is.fits.unreached;
+    };
+  }
+
+  saw_making : (w : Work) (next : ℕ) → law.reach (rows_now rows over) next ≡ 0 → Saw law rows h (rows_now rows over) number w → Saw law rows h (rows_now rows over) number (making next w)
+  saw_making w next unreached is = record {
+    number_is = is.number_is;
+    reads = is.reads;
+    claims = is.claims;
+    kept = is.kept;
+    once = is.once;
+    fits = record {
+      meets = is.fits.meets;
+      reads = is.fits.reads;
+      claims = is.fits.claims;
+      unreached = λ x some. elim (made_at next x) as (λ _. law.reach (rows_now rows over) x ≡ 0) [
+        | inl here ↦ ap (law.reach (rows_now rows over)) here.0 ∙ unreached
+        | inr there ↦ is.fits.unreached x (omega (arith, times_made-push w.made next x, there.1, some))
+      ];
+    };
+  }
+
+-- what is committed with one more that is over
+pub committed_push : (over : List Finished) (f : Finished) → committed_in 1 (over ++ f ∷ []) ≡ committed_in 1 over ++ commit_of 1 f.work f.fate
+committed_push over f =
+    flat_map-append (λ (g : Finished). commit_of 1 g.work g.fate) over (f ∷ []) ∙ ap (λ (rest : History). committed_in 1 over ++ rest) (append-nil (commit_of 1 f.work f.fate))
 
 -- THE WORLD between two calls
-module _ (law : Law) (start : ℕ) (rows : Rows) (first next tail number : ℕ) (over : List Work) where
-  pub map_begun : IsMapWorld law start rows first next tail number over nothing → IsMapWorld law start rows first next tail (number + 1) over (running (begun (number + 1) start))
+module _ (law : Law) (m : Map) where
+  pub map_begun : IsMapWorld law (record m { stand = world.idle }) → IsMapWorld law (record m { stand = world.active (begun (m.begun + 1) m.tail); begun = m.begun + 1 })
   map_begun is = record {
     positive = is.positive;
     meets = is.meets;
     reach = is.reach;
-    over_is = is.over_is;
-    now_is = (is.now_is.0, omega (arith, is.now_is.1), first_begun start rows first (number + 1));
+    past = is.past;
+    now_is = (
+      omega (arith, is.now_is),
+      refl,
+      record {
+        number_is = refl;
+        reads = λ r within. absurd (let at = within.1 in cc);
+        claims = λ c within. absurd (let at = within.1 in cc);
+        kept = λ c within. absurd (let at = within.1 in cc);
+        once = λ i j c d at. cc;
+        fits = record {
+          meets = is.past.meets;
+          reads = λ r within. absurd (let at = within.1 in cc);
+          claims = λ c within. absurd (let at = within.1 in cc);
+          unreached = λ x some. absurd (omega (arith, some));
+        };
+      },
+    );
     made_once = is.made_once;
     made_new = is.made_new;
     made_all = is.made_all;
@@ -159,97 +204,119 @@ module _ (law : Law) (start : ℕ) (rows : Rows) (first next tail number : ℕ) 
   }
 
   -- where nothing was made
-  goes : (w u : Work) → u.made ≡ w.made → IsFirst start rows first number u → IsMapWorld law start rows first next tail number over (running w)
-      → IsMapWorld law start rows first next tail number over (running u)
-  goes w u same saw is =
-      let made = λ (x : ℕ). ap (λ (list : List ℕ). sum_by (λ (f : Work). times_made f.made x) over + times_made list x) same in record {
+  goes : (w u : Work) → u.made ≡ w.made → u.begin ≡ w.begin → Saw law m.rows (committed_in 1 m.over) (rows_now m.rows m.over) m.begun u
+      → IsMapWorld law (record m { stand = world.active w }) → IsMapWorld law (record m { stand = world.active u })
+  goes w u same begin saw is =
+      let made = λ (x : ℕ). ap (λ (list : List ℕ). sum_by (λ (f : Finished). times_made f.work.made x) m.over + times_made list x) same in record {
         positive = is.positive;
         meets = is.meets;
         reach = is.reach;
-        over_is = is.over_is;
-        now_is = (is.now_is.0, is.now_is.1, saw);
+        past = is.past;
+        now_is = (is.now_is.0, begin ∙ is.now_is.1, saw);
         made_once = λ x. omega (arith, made x, is.made_once x);
         made_new = λ x some. is.made_new x (omega (arith, made x, some));
         made_all = λ x above below. omega (arith, made x, is.made_all x above below);
         next_above = is.next_above;
       }
 
-  pub map_read : (w : Work) (r : VersionRead) → r.stamp ≡ 0 → r.row ≡ rows r.oid → IsMapWorld law start rows first next tail number over (running w)
-      → IsMapWorld law start rows first next tail number over (running (reading r w))
-  map_read w r stamp row is = goes w (reading r w) refl (first_reading start rows first number w r stamp row is.now_is.2) is
+  pub map_read : (w : Work) (oid : ℕ) → IsMapWorld law (record m { stand = world.active w }) → IsMapWorld law (record m { stand = world.active (reading (newest m.rows m.over oid) w) })
+  map_read w oid is =
+      goes w (reading (newest m.rows m.over oid) w) refl refl
+      (saw_reading law m.rows m.over m.tail m.begun (committed_in 1 m.over) is.past.newest_is w oid is.now_is.1 is.now_is.2) is
 
-  pub map_claimed : (w : Work) (c : VersionWritten) → is_claimed w.claims c.oid ≡ false → c.stamp ≡ 0 → c.base ≡ rows c.oid → c.row ≡ c.base
-      → IsMapWorld law start rows first next tail number over (running w) → IsMapWorld law start rows first next tail number over (running (claiming c w))
-  map_claimed w c none stamp base row is = goes w (claiming c w) refl (first_claiming start rows first number w c none stamp base row is.now_is.2) is
+  abbrev pub claim_at : ℕ → VersionWritten
+  claim_at oid = record { oid = oid; stamp = (newest m.rows m.over oid).stamp; base = (newest m.rows m.over oid).row; row = (newest m.rows m.over oid).row; is_set = false }
 
-  pub map_set : (w : Work) (oid : ℕ) (row : List ℕ) → IsMapWorld law start rows first next tail number over (running w) → IsMapWorld law start rows first next tail number over (running (setting oid row w))
-  map_set w oid row is = goes w (setting oid row w) refl (first_setting start rows first number w oid row is.now_is.2) is
+  pub map_claimed : (w : Work) (oid : ℕ) → is_claimed w.claims oid ≡ false → IsMapWorld law (record m { stand = world.active w })
+      → IsMapWorld law (record m { stand = world.active (claiming (claim_at oid) w) })
+  map_claimed w oid none is =
+      goes w (claiming (claim_at oid) w) refl refl
+      (saw_claiming law m.rows m.over m.tail m.begun (committed_in 1 m.over) is.past.newest_is w oid is.now_is.1 none is.now_is.2) is
 
-  pub map_made : (w : Work) → IsMapWorld law start rows first next tail number over (running w) → IsMapWorld law start rows first (next + 1) tail number over (running (making next w))
+  pub map_set : (w : Work) (oid : ℕ) (row : List ℕ) → IsMapWorld law (record m { stand = world.active w }) → IsMapWorld law (record m { stand = world.active (setting oid row w) })
+  map_set w oid row is =
+      goes w (setting oid row w) refl refl
+      (saw_setting law m.rows m.over m.tail m.begun (committed_in 1 m.over) is.past.newest_is w oid row is.now_is.2) is
+
+  -- an object that nobody has made isn't reached
+  next_unreached : (w : Work) → IsMapWorld law (record m { stand = world.active w }) → law.reach (rows_now m.rows m.over) m.next ≡ 0
+  next_unreached w is = elim (zero_or_more (made_of m.over (world.active w) m.next)) as (λ _. law.reach (rows_now m.rows m.over) m.next ≡ 0) [
+    | inl none ↦ omega (arith, is.past.reach m.next, is.reach m.next is.next_above, none)
+    | inr some ↦ absurd (omega (arith, (is.made_new m.next some).1))
+  ]
+
+  pub map_made : (w : Work) → IsMapWorld law (record m { stand = world.active w }) → IsMapWorld law (record m { stand = world.active (making m.next w); next = m.next + 1 })
   map_made w is = record {
     positive = is.positive;
     meets = is.meets;
     reach = is.reach;
-    over_is = is.over_is;
-    now_is = (is.now_is.0, is.now_is.1, first_making start rows first number w next is.next_above is.now_is.2);
-    made_once = λ x. elim (made_at next x) as (λ _. made_of over (running (making next w)) x ≤ 1) [
-      | inl here ↦ elim (zero_or_more (made_of over (running w) x)) as (λ _. made_of over (running (making next w)) x ≤ 1) [
-        | inl none ↦ omega (arith, times_made-push w.made next x, here.1, none)
+    past = is.past;
+    now_is = (
+      is.now_is.0,
+      is.now_is.1,
+      saw_making law m.rows m.over m.tail m.begun (committed_in 1 m.over) is.past.newest_is w m.next (next_unreached w is) is.now_is.2,
+    );
+    made_once = λ x. elim (made_at m.next x) as (λ _. made_of m.over (world.active (making m.next w)) x ≤ 1) [
+      | inl here ↦ elim (zero_or_more (made_of m.over (world.active w) x)) as (λ _. made_of m.over (world.active (making m.next w)) x ≤ 1) [
+        | inl none ↦ omega (arith, times_made-push w.made m.next x, here.1, none)
         | inr some ↦ absurd (omega (arith, (is.made_new x some).1, here.0))
       ]
-      | inr there ↦ omega (arith, times_made-push w.made next x, there.1, is.made_once x)
+      | inr there ↦ omega (arith, times_made-push w.made m.next x, there.1, is.made_once x)
     ];
-    made_new = λ x some. elim (made_at next x) as (λ _. (first ≤ x) × (x < next + 1)) [
+    made_new = λ x some. elim (made_at m.next x) as (λ _. (m.first ≤ x) × (x < m.next + 1)) [
       | inl here ↦ (omega (arith, here.0, is.next_above), omega (arith, here.0))
-      | inr there ↦ let before = is.made_new x (omega (arith, times_made-push w.made next x, there.1, some)) in (before.0, omega (arith, before.1))
+      | inr there ↦ let before = is.made_new x (omega (arith, times_made-push w.made m.next x, there.1, some)) in (before.0, omega (arith, before.1))
     ];
-    made_all = λ x above below. elim (made_at next x) as (λ _. 0 < made_of over (running (making next w)) x) [
-      | inl here ↦ omega (arith, times_made-push w.made next x, here.1)
-      | inr there ↦ omega (arith, times_made-push w.made next x, there.1, is.made_all x above (omega (arith, below, there.0)))
+    made_all = λ x above below. elim (made_at m.next x) as (λ _. 0 < made_of m.over (world.active (making m.next w)) x) [
+      | inl here ↦ omega (arith, times_made-push w.made m.next x, here.1)
+      | inr there ↦ omega (arith, times_made-push w.made m.next x, there.1, is.made_all x above (omega (arith, below, there.0)))
     ];
     next_above = omega (arith, is.next_above);
   }
 
-  pub map_sealed : (w : Work) → IsLawfulWork law w → IsMapWorld law start rows first next tail number over (running w) → IsMapWorld law start rows first next (tail + size_of w) number over (sealing w)
-  map_sealed w lawful is = record {
+  pub map_sealed : (w : Work) (end : ℕ) → end ≡ m.tail + size_of w → IsLawfulWork law w → IsMapWorld law (record m { stand = world.active w })
+      → IsMapWorld law (record m { stand = world.sealed w w.begin; tail = end })
+  map_sealed w end end_is lawful is = record {
     positive = is.positive;
     meets = is.meets;
     reach = is.reach;
-    over_is = is.over_is;
-    now_is = (omega (arith, is.now_is.0), is.now_is.1, is.now_is.2, lawful);
+    past = subst (λ (b : ℕ). AreOver law m.rows m.start b (committed_in 1 m.over) m.over) (sym is.now_is.1) is.past;
+    now_is = (is.now_is.0, refl, omega (arith, end_is, is.now_is.1), lawful, is.now_is.2);
     made_once = is.made_once;
     made_new = is.made_new;
     made_all = is.made_all;
     next_above = is.next_above;
   }
 
-  pub map_committed : (w : Work) → IsMapWorld law start rows first next tail number over (sealing w) → IsMapWorld law start rows first next tail number over (committed w)
-  map_committed w is = record {
-    positive = is.positive;
-    meets = is.meets;
-    reach = is.reach;
-    over_is = is.over_is;
-    now_is = is.now_is;
-    made_once = is.made_once;
-    made_new = is.made_new;
-    made_all = is.made_all;
-    next_above = is.next_above;
-  }
-
-  pub map_aborted : (w : Work) → IsMapWorld law start rows first next tail number over (running w) → IsMapWorld law start rows first next tail number (over ++ w ∷ []) nothing
-  map_aborted w is =
-      let made = λ (x : ℕ). sum_by_push (λ (f : Work). times_made f.made x) over w in
-      let count : length (over ++ w ∷ []) ≡ length over + 1 = length-append over (w ∷ []) in record {
+  pub map_committed : (w : Work) (pred : ℕ) → IsPredecessorStamp (committed_in 1 m.over) pred (commit_with w 0) → IsMapWorld law (record m { stand = world.sealed w w.begin })
+      → IsMapWorld law (record m { stand = world.idle; over = m.over ++ finished w (Some pred) ∷ [] })
+  map_committed w pred pred_is is =
+      let made = λ (x : ℕ). sum_by_push (λ (f : Finished). times_made f.work.made x) m.over (finished w (Some pred)) in
+      let count : length (m.over ++ finished w (Some pred) ∷ []) ≡ length m.over + 1 = length-append m.over (finished w (Some pred) ∷ []) in
+      let saw = subst (λ (n : ℕ). Saw law m.rows (committed_in 1 m.over) (rows_now m.rows m.over) n w) is.now_is.0 is.now_is.4 in record {
         positive = is.positive;
         meets = is.meets;
         reach = is.reach;
-        over_is = λ k u at. elim (slice_get-push over w u k at) as (λ _. IsFirst start rows first (k + 1) u) [
-          | inl before ↦ is.over_is k u before.1
-          | inr last ↦
-              let number_is : number ≡ k + 1 = omega (arith, is.now_is.1, last.0) in
-              subst (IsFirst start rows first (k + 1)) last.1 (subst (λ (n : ℕ). IsFirst start rows first n w) number_is is.now_is.2)
-        ];
-        now_is = (is.now_is.0, omega (arith, is.now_is.1, count));
+        past = subst (λ (h : History). AreOver law m.rows m.start m.tail h (m.over ++ finished w (Some pred) ∷ [])) (sym (committed_push m.over (finished w (Some pred))))
+            (over_committed law m.rows m.start w.begin m.tail (committed_in 1 m.over) m.over w pred is.positive refl (omega (arith, is.now_is.2)) is.now_is.3 saw pred_is is.past);
+        now_is = omega (arith, is.now_is.0, count);
+        made_once = λ x. omega (arith, made x, is.made_once x);
+        made_new = λ x some. is.made_new x (omega (arith, made x, some));
+        made_all = λ x above below. omega (arith, made x, is.made_all x above below);
+        next_above = is.next_above;
+      }
+
+  pub map_aborted : (w : Work) → IsMapWorld law (record m { stand = world.active w }) → IsMapWorld law (record m { stand = world.idle; over = m.over ++ finished w None ∷ [] })
+  map_aborted w is =
+      let made = λ (x : ℕ). sum_by_push (λ (f : Finished). times_made f.work.made x) m.over (finished w None) in
+      let count : length (m.over ++ finished w None ∷ []) ≡ length m.over + 1 = length-append m.over (finished w None ∷ []) in
+      let saw = subst (λ (n : ℕ). Saw law m.rows (committed_in 1 m.over) (rows_now m.rows m.over) n w) is.now_is.0 is.now_is.2 in record {
+        positive = is.positive;
+        meets = is.meets;
+        reach = is.reach;
+        past = subst (λ (h : History). AreOver law m.rows m.start m.tail h (m.over ++ finished w None ∷ [])) (sym (committed_push m.over (finished w None) ∙ append-nil (committed_in 1 m.over)))
+            (over_aborted law m.rows m.start m.tail (committed_in 1 m.over) m.over w (rows_now m.rows m.over) saw (omega (arith, is.past.above, is.now_is.1)) (omega (arith, is.now_is.1)) is.past);
+        now_is = omega (arith, is.now_is.0, count);
         made_once = λ x. omega (arith, made x, is.made_once x);
         made_new = λ x some. is.made_new x (omega (arith, made x, some));
         made_all = λ x above below. omega (arith, made x, is.made_all x above below);

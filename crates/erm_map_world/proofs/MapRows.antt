@@ -1,11 +1,16 @@
 -- Loops over the claims of a transaction in memory.
-use Rattle.std.proofs.Common.{◌≡◌, ◌≢◌, ℕ, ◌+◌, ◌<◌, Bool, true, false, cond, ◌||◌, ◌==◌, List, [], ◌∷◌, ◌++◌, length, get_or, take, Option, Some, None, is_some, Result, Ok, Err, is_ok, is_err, inl, inr, refl, sym, ap, ◌∙◌, eq-eqb}
+use Rattle.std.proofs.Common.{◌≡◌, ◌≢◌, ℕ, ◌+◌, ◌<◌, Bool, true, false, cond, ◌||◌, ◌==◌, List, [], ◌∷◌, ◌++◌, length, map, get_or, take, Option, Some, None, is_some, Result, Ok, Err, is_ok, is_err, inl, inr, refl, sym, ap, ◌∙◌, eq-eqb}
 use Rattle.std.proofs.lemmas.Bool.Decides.{eqb_tells}
+use Rattle.std.specs.List.{slice_get}
+use Rattle.std.proofs.lemmas.Option.{slice_get-get_or}
 use Rattle.std.proofs.lemmas.List.{get_or_default, take_more}
 use Rattle.erm_model.specs.declared.history.VersionRead.{VersionRead}
 use Rattle.erm_model.specs.declared.history.VersionWritten.{VersionWritten}
 use Rattle.erm_model.specs.Rows.{rows_of}
-use Rattle.erm_map_world.specs.MapWorld.{found_row}
+use Rattle.erm_map_world.specs.MapWorks.{done_of, found_row, newest, work_in}
+use Rattle.erm_map_world.specs.declared.works.MapDone.{MapDone}
+use Rattle.erm_map_world.specs.declared.works.MapWork.{MapWork}
+use Rattle.erm_world.specs.World.{begun}
 use Rattle.erm_world.specs.Works.{is_claimed, own_row, row_read}
 use Rattle.erm_world.proofs.Works.{claimed_push, own_row-push}
 
@@ -57,3 +62,18 @@ unfound (Some row) none = cc
 
 pub unclaimed_in : (list items : List VersionWritten) (oid : ℕ) (found : Option (List ℕ)) → list ≡ items → found ≡ found_row list oid → false ≡ is_some found → found_row items oid ≡ None
 unclaimed_in list items oid found same is none = found_in list items oid found same is (unfound found none)
+
+-- a transaction that has done nothing
+pub blank_is : (m : MapWork) (number start : ℕ) → m.number ≡ number → m.begin ≡ start → m.reads.items ≡ [] → m.claims.items ≡ [] → m.made.items ≡ [] → work_in m ≡ begun number start
+blank_is m number start number_is begin_is none unclaimed unmade i = record { number = number_is i; begin = begin_is i; reads = none i; claims = unclaimed i; made = unmade i }
+
+-- the newest version, in the lists behind slices
+pub newest_in : (rows row_items : List (List ℕ)) (over over_items : List MapDone) (oid : ℕ) (found : VersionRead) → rows ≡ row_items → over ≡ over_items → found ≡ newest (rows_of rows) (map done_of over) oid
+    → found ≡ newest (rows_of row_items) (map done_of over_items) oid
+newest_in rows row_items over over_items oid found same_rows same_over is = is ∙ (λ i. newest (rows_of (same_rows i)) (map done_of (same_over i)) oid)
+
+-- the first ones, with the next
+pub take_at : {X : Type 0} (xs : List X) (i : ℕ) (x : X) → slice_get xs i ≡ Some x → i < length xs → take (i + 1) xs ≡ take i xs ++ x ∷ []
+take_at xs i x at within =
+    let there : slice_get xs i ≡ Some (get_or xs i x) = slice_get-get_or xs i x within in
+    let same : get_or xs i x ≡ x = cc in take_more xs i x within ∙ ap (λ y. take i xs ++ y ∷ []) same

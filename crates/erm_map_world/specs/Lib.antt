@@ -1,1 +1,3 @@
+pub mod MapWorks
 pub mod MapWorld
+pub mod Standing

@@ -1,109 +1,130 @@
--- A world of one session over rows in memory, whose log has room for one block. Tests run on it.
-use Rattle.std.specs.Prelude.{◌≡◌, ℕ, ◌+◌, ◌==◌, ◌<◌, ◌≤◌, Bool, true, false, if◌then◌else◌, List, [], ◌∷◌, ◌++◌, map, length, sum_by, slice_get, Option, Some, None}
+-- A world of one session over rows in memory, whose transactions commit one after another. Tests run on it.
+use Rattle.std.specs.Prelude.{◌≡◌, ℕ, ◌+◌, ◌==◌, ◌<◌, ◌≤◌, false, if◌then◌else◌, List, [], length, sum_by, slice_get, Some, None}
+use Rattle.erm_model.specs.declared.history.TransactionRecord.{TransactionRecord}
 use Rattle.erm_model.specs.declared.history.VersionRead.{VersionRead}
 use Rattle.erm_model.specs.declared.history.VersionWritten.{VersionWritten}
 use Rattle.erm_model.specs.declared.outcome.Phase.{Phase}
 use Rattle.erm_model.specs.declared.outcome.Phase.TheVariants as phase
+use Rattle.erm_model.specs.History.{History, IsNewestBelow, IsPredecessorStamp, IsSnapshot, rank_of}
 use Rattle.erm_model.specs.Lawful.{times_made}
 use Rattle.erm_model.specs.Member.{◌∈◌}
 use Rattle.erm_model.specs.RowTransaction.{Law}
 use Rattle.erm_model.specs.Rows.{Rows}
-use Rattle.erm_world.specs.Laws.{IsLawfulWork, IsPossibleIn, IsSerializable}
-use Rattle.erm_world.specs.Works.{is_claimed, own_row}
-use Rattle.erm_world.specs.World.{Finished, Session, Stand, View, Work, begun, size_of}
+use Rattle.erm_model.specs.SerialOrder.{StampsDiffer}
+use Rattle.erm_map_world.specs.MapWorks.{newest, rows_now}
+use Rattle.erm_world.specs.Laws.{FitsWork, IsLawfulWork, IsPossibleIn, IsSerializable}
+use Rattle.erm_world.specs.World.{Finished, Stand, View, Work, committed_in, size_of, stamp_of, work_of}
 use Rattle.erm_world.specs.World as world
 
--- the own row of a claimed object
-abbrev pub found_row : List VersionWritten → ℕ → Option (List ℕ)
-found_row claims oid = if is_claimed claims oid then Some (own_row claims oid []) else None
+-- The world: where its log begins, the rows that it was opened on, the first object that it makes and the next one, the end of its
+-- log, how many transactions have begun, those that are over, in order, and where its session stands.
+pub record Map : Type 0 where
+  pub start : ℕ
+  pub rows : Rows
+  pub first : ℕ
+  pub next : ℕ
+  pub tail : ℕ
+  pub begun : ℕ
+  pub over : List Finished
+  pub stand : Stand
 
--- a transaction that begins where the log does
-abbrev pub work_with : ℕ → ℕ → List VersionRead → List VersionWritten → List ℕ → Work
-work_with start number reads claims made = record { number = number; begin = start; reads = reads; claims = claims; made = made }
+-- where the session stands: its transaction has its block where it began
+abbrev pub stand_of : Phase → Work → Stand
+stand_of phase.Idle w = world.idle
+stand_of phase.Active w = world.active w
+stand_of phase.Sealed w = world.sealed w w.begin
 
--- what has become of the last transaction that began and wasn't aborted
-pub data Now : Type 0 where
-  nothing : Now
-  running : Work → Now
-  sealing : Work → Now
-  committed : Work → Now
-
-abbrev pub now_of : Phase → Bool → Work → Now
-now_of phase.Idle false w = nothing
-now_of phase.Idle true w = committed w
-now_of phase.Active is_committed w = running w
-now_of phase.Sealed is_committed w = sealing w
-
-abbrev pub work_in : Now → Work
-work_in nothing = begun 0 0
-work_in (running w) = w
-work_in (sealing w) = w
-work_in (committed w) = w
-
--- a transaction that was aborted
-abbrev pub aborted : Work → Finished
-aborted w = record { work = w; fate = world.aborts }
-
--- the one that has committed, alone: none committed before it, and none begins after it
-abbrev pub ended : ℕ → Now → List Finished
-ended start nothing = []
-ended start (running w) = []
-ended start (sealing w) = []
-ended start (committed w) = record { work = w; fate = world.commits start start 0 } ∷ []
-
-abbrev pub stand_in : ℕ → Now → Stand
-stand_in start nothing = world.idle
-stand_in start (running w) = world.active w
-stand_in start (sealing w) = world.sealed w start
-stand_in start (committed w) = world.idle
-
-abbrev pub session_in : ℕ → List Work → Now → Session
-session_in start over now = record { over = map aborted over ++ ended start now; stand = stand_in start now }
-
--- what the world means: its log begins at `start`, and is synced up to there
-abbrev pub map_view : ℕ → Rows → ℕ → ℕ → List Work → Now → View
-map_view start rows first tail over now = record {
-  opening = record { rows = rows; tail = start; first = first; cells = 0; sessions = 1 };
-  session = λ q. if q == 1 then session_in start over now else record { over = []; stand = world.idle };
-  tail = tail;
-  flushed = start;
+-- what the world means: nothing of its log is synced
+abbrev pub map_view : Map → View
+map_view m = record {
+  opening = record { rows = m.rows; tail = m.start; run = 1; first = m.first; cells = 0; sessions = 1; cuts = 0 };
+  session = λ q. if q == 1 then record { over = m.over; stand = m.stand } else record { over = []; stand = world.idle };
+  tail = m.tail;
+  flushed = m.start;
   pinned = None;
 }
 
--- a transaction that saw the rows of the opening
-pub record IsFirst (start : ℕ) (rows : Rows) (first number : ℕ) (w : Work) : Type 0 where
-  pub number_is : w.number ≡ number
-  pub begin_is : w.begin ≡ start
-  pub reads : (r : VersionRead) → r ∈ w.reads → (r.stamp ≡ 0) × (r.row ≡ rows r.oid)
-  pub claims : (c : VersionWritten) → c ∈ w.claims → (c.stamp ≡ 0) × (c.base ≡ rows c.oid) × (c.is_set ≡ false → c.row ≡ c.base)
-  pub once : (i j : ℕ) (c d : VersionWritten) → slice_get w.claims i ≡ Some c → slice_get w.claims j ≡ Some d → c.oid ≡ d.oid → i ≡ j
-  pub made : (x : ℕ) → 0 < times_made w.made x → first ≤ x
+-- a world of one session that was just opened on these rows, whose log begins at this place, and which makes objects from this one on
+pub record IsJustOpened (rows : Rows) (first start : ℕ) (v : View) : Type 0 where
+  pub rows_are : v.opening.rows ≡ rows
+  pub first_is : v.opening.first ≡ first
+  pub start_is : v.opening.tail ≡ start
+  pub one : v.opening.sessions ≡ 1
+  pub tail : v.tail ≡ start
+  pub idle : v.session 1 ≡ record { over = []; stand = world.idle }
 
--- where the log ends, how many transactions have begun, and what is so of the last
-abbrev pub IsNow : Law → ℕ → Rows → ℕ → ℕ → ℕ → ℕ → Now → Type 0
-IsNow law start rows first tail number done nothing = (tail ≡ start) × (number ≡ done)
-IsNow law start rows first tail number done (running w) = (tail ≡ start) × (number ≡ done + 1) × IsFirst start rows first number w
-IsNow law start rows first tail number done (sealing w) = (tail ≡ start + size_of w) × (number ≡ done + 1) × IsFirst start rows first number w × IsLawfulWork law w
-IsNow law start rows first tail number done (committed w) = (tail ≡ start + size_of w) × (number ≡ done + 1) × IsFirst start rows first number w × IsLawfulWork law w
+-- a transaction that saw the newest versions where it began, and may have begun on these rows
+pub record Saw (law : Law) (rows : Rows) (h : History) (there : Rows) (number : ℕ) (w : Work) : Type 0 where
+  pub number_is : w.number ≡ number
+  pub reads : (r : VersionRead) → r ∈ w.reads → IsNewestBelow h rows r.oid w.begin r.stamp r.row
+  pub claims : (c : VersionWritten) → c ∈ w.claims → IsNewestBelow h rows c.oid w.begin c.stamp c.base
+  pub kept : (c : VersionWritten) → c ∈ w.claims → c.is_set ≡ false → c.row ≡ c.base
+  pub once : (i j : ℕ) (c d : VersionWritten) → slice_get w.claims i ≡ Some c → slice_get w.claims j ≡ Some d → c.oid ≡ d.oid → i ≡ j
+  pub fits : FitsWork law w there
+
+-- one that is over: it began within the log, and has committed there if it has
+pub record IsPast (law : Law) (rows : Rows) (h : History) (start bound number : ℕ) (f : Finished) : Type 0 where
+  pub there : Rows
+  pub saw : Saw law rows h there number f.work
+  pub above : start ≤ f.work.begin
+  pub below : f.work.begin ≤ bound
+  pub stamped : (stamp : ℕ) → stamp_of f.fate ≡ Some stamp → (stamp ≡ f.work.begin) × (stamp < bound) × IsLawfulWork law f.work
+
+-- a commit below a bound: it began where it committed, and has its definitions' stamps
+pub record IsCommitBelow (h : History) (bound : ℕ) (t : TransactionRecord) : Type 0 where
+  pub seat_is : t.seat ≡ 1
+  pub begin_is : t.begin ≡ t.stamp
+  pub succ_is : t.succ ≡ t.stamp
+  pub below : t.stamp < bound
+  pub pred : IsPredecessorStamp h t.pred t
+  pub window : t.pred < t.stamp
+
+-- The transactions that are over, whose commits are this history, below a bound: each one saw its snapshot, no two have one stamp,
+-- and the rows that they leave are the newest, meet the law, and reach only objects that they made.
+pub record AreOver (law : Law) (rows : Rows) (start bound : ℕ) (h : History) (over : List Finished) : Type 0 where
+  pub above : start ≤ bound
+  pub commits : (t : TransactionRecord) → t ∈ h → IsCommitBelow h bound t
+  pub differ : StampsDiffer rank_of h
+  pub snapshots : IsSnapshot h rows
+  pub past : (k : ℕ) (f : Finished) → slice_get over k ≡ Some f → IsPast law rows h start bound (k + 1) f
+  pub apart : (i j : ℕ) (f g : Finished) (stamp : ℕ) → slice_get over i ≡ Some f → slice_get over j ≡ Some g
+      → stamp_of f.fate ≡ Some stamp → stamp_of g.fate ≡ Some stamp → i ≡ j
+  pub newest_is : (oid : ℕ) → IsNewestBelow h rows oid bound (newest rows over oid).stamp (newest rows over oid).row
+  pub meets : law.meets (rows_now rows over)
+  pub reach : (x : ℕ) → law.reach (rows_now rows over) x ≤ law.reach rows x + sum_by (λ f. times_made f.work.made x) over
+
+-- where the next block begins, or the one that is sealed
+abbrev pub bound_of : Stand → ℕ → ℕ
+bound_of world.idle tail = tail
+bound_of (world.active w) tail = tail
+bound_of (world.sealed w stamp) tail = stamp
+
+-- what is so of the one in progress, and how many have begun
+abbrev pub IsNow : Law → Rows → List Finished → ℕ → ℕ → Stand → Type 0
+IsNow law rows over tail number world.idle = number ≡ length over
+IsNow law rows over tail number (world.active w) =
+    (number ≡ length over + 1) × (w.begin ≡ tail) × Saw law rows (committed_in 1 over) (rows_now rows over) number w
+IsNow law rows over tail number (world.sealed w stamp) = (number ≡ length over + 1) × (w.begin ≡ stamp) × (tail ≡ stamp + size_of w)
+    × IsLawfulWork law w × Saw law rows (committed_in 1 over) (rows_now rows over) number w
 
 -- how often its transactions made an object
-abbrev pub made_of : List Work → Now → ℕ → ℕ
-made_of over now x = sum_by (λ w. times_made w.made x) over + times_made (work_in now).made x
+abbrev pub made_of : List Finished → Stand → ℕ → ℕ
+made_of over stand x = sum_by (λ f. times_made f.work.made x) over + times_made (work_of stand).made x
 
 -- what is so of it between two calls
-pub record IsMapWorld (law : Law) (start : ℕ) (rows : Rows) (first next tail number : ℕ) (over : List Work) (now : Now) : Type 0 where
-  pub positive : 0 < start
-  pub meets : law.meets rows
-  pub reach : (x : ℕ) → first ≤ x → law.reach rows x ≡ 0
-  pub over_is : (k : ℕ) (w : Work) → slice_get over k ≡ Some w → IsFirst start rows first (k + 1) w
-  pub now_is : IsNow law start rows first tail number (length over) now
-  pub made_once : (x : ℕ) → made_of over now x ≤ 1
-  pub made_new : (x : ℕ) → 0 < made_of over now x → (first ≤ x) × (x < next)
-  pub made_all : (x : ℕ) → first ≤ x → x < next → 0 < made_of over now x
-  pub next_above : first ≤ next
+pub record IsMapWorld (law : Law) (m : Map) : Type 0 where
+  pub positive : 0 < m.start
+  pub meets : law.meets m.rows
+  pub reach : (x : ℕ) → m.first ≤ x → law.reach m.rows x ≡ 0
+  pub past : AreOver law m.rows m.start (bound_of m.stand m.tail) (committed_in 1 m.over) m.over
+  pub now_is : IsNow law m.rows m.over m.tail m.begun m.stand
+  pub made_once : (x : ℕ) → made_of m.over m.stand x ≤ 1
+  pub made_new : (x : ℕ) → 0 < made_of m.over m.stand x → (m.first ≤ x) × (x < m.next)
+  pub made_all : (x : ℕ) → m.first ≤ x → x < m.next → 0 < made_of m.over m.stand x
+  pub next_above : m.first ≤ m.next
 
 -- with what the laws of a world say of its view
-pub record Stands (law : Law) (start : ℕ) (rows : Rows) (first next tail number : ℕ) (over : List Work) (now : Now) : Type 0 where
-  pub is : IsMapWorld law start rows first next tail number over now
-  pub serializable : IsSerializable law (map_view start rows first tail over now)
-  pub possible : IsPossibleIn law (map_view start rows first tail over now)
+pub record IsWorld (law : Law) (m : Map) : Type 0 where
+  pub is : IsMapWorld law m
+  pub serializable : IsSerializable law (map_view m)
+  pub possible : IsPossibleIn law (map_view m)

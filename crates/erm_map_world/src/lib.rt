@@ -1,9 +1,11 @@
-//! The smallest world of sessions: one session over rows in memory, whose log has room for one block. The contract's own tests run
-//! on it.
+//! The smallest world of sessions: one session over rows in memory, whose transactions commit one after another. The contract's own
+//! tests run on it.
 #![tactic(auto)]
 
 mod map_world;
 #[cfg(test)]
 mod tests;
+mod works;
 
-pub use map_world::{MapWork, MapWorld};
+pub use map_world::MapWorld;
+pub use works::{MapDone, MapWork};

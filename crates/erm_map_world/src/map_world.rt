@@ -1,33 +1,21 @@
 //! A world of one session over rows in memory.
-ghost use Rattle.std.specs.Prelude.{[], ◌≡◌, ◌+◌, ◌-◌, ◌<◌, ◌≤◌, ◌≢◌, ℕ, length, map, IfOk, vec_capacity, vec_len};
-ghost use Rattle.erm_model.specs.declared.limits.TheConstants.{GREATEST_BLOCK, OID_LIMIT, READ_LIMIT, STOP, WRITE_LIMIT};
-ghost use Rattle.erm_model.specs.declared.outcome.Phase.TheVariants.{Active};
+ghost use Rattle.std.specs.Prelude.{[], ◌≡◌, ◌+◌, ◌<◌, ◌≤◌, ℕ, vec_capacity, vec_len};
+ghost use Rattle.erm_model.specs.declared.limits.TheConstants.{OID_LIMIT, READ_LIMIT, STOP, WRITE_LIMIT};
+ghost use Rattle.erm_model.specs.declared.outcome.Phase.TheVariants.{Active, Sealed};
 ghost use Rattle.erm_model.specs.Rows.{rows_of};
-ghost use Rattle.erm_record.specs.Stored.{block_words};
-ghost use Rattle.erm_map_world.specs.MapWorld.{found_row};
-ghost use Rattle.erm_world.specs.Works.{row_read, with_row};
 
+use crate::works::{MapDone, MapWork, block_size, newest_version, own, predecessor, seen, set_row};
 use erm_model::{
-    LAST_NUMBER, LEAST_BLOCK, OID_LIMIT, Oid, Outcome, Phase, READ_LIMIT, Receipt, Row, RowLaw,
-    RowStop, STOP, Seat, Stamp, VersionRead, VersionWritten, WRITE_LIMIT,
+    LAST_NUMBER, OID_LIMIT, Oid, Outcome, Phase, READ_LIMIT, Receipt, Row, RowLaw, RowStop, STOP,
+    Seat, Stamp, VersionWritten, WRITE_LIMIT,
 };
-use erm_record::stored_length;
 use erm_world::{BeginStop, NotFlushed, RowWorld, Wait};
 use std::alloc::Global;
 use std::marker::PhantomData;
 use std::mem;
 
-/// What a transaction has done.
-#[derive(Drop)]
-pub struct MapWork {
-    pub number: u32,
-    pub reads: Vec<VersionRead>,
-    pub claims: Vec<VersionWritten>,
-    pub made: Vec<Oid>,
-}
-
-/// A world of one session over rows in memory. Its log has room for one block: behind that no transaction begins, so each one
-/// sees the rows of the opening, and there is nothing to undo.
+/// A world of one session over rows in memory, whose transactions commit one after another. It keeps all that are over, in order: an
+/// object's newest version is looked for in what they wrote. No word of its log is synced.
 #[derive(Drop)]
 pub struct MapWorld<L> {
     /// The rows that it was opened on.
@@ -36,87 +24,33 @@ pub struct MapWorld<L> {
     pub first: Oid,
     /// The object that is made next.
     pub next: Oid,
+    /// Where its log begins.
+    pub start: Stamp,
     /// The end of the log.
     pub tail: Stamp,
     /// How many transactions have begun.
     pub begun: u32,
-    /// The transactions that were aborted.
-    pub over: Vec<MapWork>,
-    /// The last one, where the session isn't idle or it has committed.
+    /// The transactions that are over.
+    pub over: Vec<MapDone>,
+    /// The last one that began, where the session isn't idle.
     pub work: MapWork,
     pub phase: Phase,
-    pub committed: bool,
     pub alloc: Global,
     pub law: PhantomData<L>,
     ghost rows_there: { vec_len rows ≡ OID_LIMIT },
     ghost next_below: { next ≤ OID_LIMIT },
     ghost reads_few: { vec_len work.reads ≤ READ_LIMIT },
     ghost claims_few: { vec_len work.claims ≤ WRITE_LIMIT },
-    ghost room: { phase ≡ Active → vec_len over < vec_capacity over },
-}
-
-// The own row of a claimed object.
-fn own(claims: &[VersionWritten], oid: Oid) -> Option<Row>
-    ensures { result ≡ found_row claims.now oid }
-{
-    let mut found = None;
-    for c in claims {
-        if c.oid == oid {
-            found = Some(c.row);
-        }
-    }
-    found
-}
-
-// The row that was read of an object.
-fn seen(reads: &[VersionRead], oid: Oid) -> Option<Row>
-    ensures { result ≡ row_read reads.now oid }
-{
-    for r in reads {
-        if r.oid == oid {
-            return Some(r.row);
-        }
-    }
-    None
-}
-
-// Sets the row of one claim, where it is the object's.
-fn set_one(claim: &mut VersionWritten, oid: Oid, row: &Row)
-    ensures { claim.new ≡ with_row oid row.now claim.old }
-{
-    if claim.oid == oid {
-        claim.row = *row;
-        claim.is_set = true;
-    }
-}
-
-// Sets the row of a claimed object.
-fn set_row(claims: &mut Vec<VersionWritten>, oid: Oid, row: &Row)
-    ensures rows { claims.new.items ≡ map (with_row oid row.now) claims.old.items }
-    ensures len { vec_len claims.new ≡ vec_len claims.old }
-{
-    for c in claims.iter_mut() {
-        set_one(c, oid, row);
-    }
-}
-
-// How many words the block of a transaction has.
-fn block_size(claims: &[VersionWritten]) -> Stamp
-    requires { length claims.now ≤ WRITE_LIMIT }
-    ensures size { result ≡ block_words (map (λ c. c.row) claims.now) }
-    ensures most { result ≤ GREATEST_BLOCK }
-{
-    let mut size = LEAST_BLOCK;
-    for c in claims {
-        size += stored_length(&c.row) as Stamp + 1;
-    }
-    size
+    ghost room_active: { phase ≡ Active → vec_len over < vec_capacity over },
+    ghost room_sealed: { phase ≡ Sealed → vec_len over < vec_capacity over },
+    ghost below_stop: { phase ≡ Active → tail < STOP },
 }
 
 impl<L> MapWorld<L> {
     // The transaction that has done nothing yet.
     fn blank(&self) -> MapWork
         ensures number { result.number ≡ self.now.begun }
+        ensures begin { result.begin ≡ self.now.tail }
         ensures reads { result.reads.items ≡ [] }
         ensures few_reads { vec_len result.reads ≡ 0 }
         ensures claims { result.claims.items ≡ [] }
@@ -125,6 +59,7 @@ impl<L> MapWorld<L> {
     {
         MapWork {
             number: self.begun,
+            begin: self.tail,
             reads: Vec::new(self.alloc),
             claims: Vec::new(self.alloc),
             made: Vec::new(self.alloc),
@@ -133,17 +68,13 @@ impl<L> MapWorld<L> {
 }
 
 impl<L: RowLaw> RowWorld for MapWorld<L> {
-    ghost use Rattle.std.specs.Prelude.{[], map};
-    ghost use Rattle.erm_model.specs.declared.limits.TheConstants.{STOP};
-    ghost use Rattle.erm_model.specs.Rows.{rows_of};
-    ghost use Rattle.erm_map_world.specs.declared.map_world.MapWork.{MapWork};
-    ghost use Rattle.erm_map_world.specs.MapWorld.{Stands, map_view, now_of, work_with};
+    ghost use Rattle.erm_map_world.specs.Standing.{Stands, view_of};
 
     ghost law = { L.law };
 
-    ghost view = { λ w. map_view (STOP - 1) (rows_of w.rows.items) w.first w.tail (map (λ (m : MapWork). work_with (STOP - 1) m.number m.reads.items m.claims.items m.made.items) w.over.items) (now_of w.phase w.committed (work_with (STOP - 1) w.work.number w.work.reads.items w.work.claims.items w.work.made.items)) };
+    ghost view = { λ w. view_of w };
 
-    ghost stands = { λ w. Stands L.law (STOP - 1) (rows_of w.rows.items) w.first w.next w.tail w.begun (map (λ (m : MapWork). work_with (STOP - 1) m.number m.reads.items m.claims.items m.made.items) w.over.items) (now_of w.phase w.committed (work_with (STOP - 1) w.work.number w.work.reads.items w.work.claims.items w.work.made.items)) };
+    ghost stands = { λ w. Stands L.law w };
 
     fn begin(&mut self, _seat: Seat) -> Result<Stamp, BeginStop> {
         if self.begun == LAST_NUMBER {
@@ -175,8 +106,8 @@ impl<L: RowLaw> RowWorld for MapWorld<L> {
         if self.work.reads.len() == READ_LIMIT {
             return Err(RowStop::ReadsFull);
         }
-        let row = self.rows[oid as usize];
-        let read = VersionRead { oid, stamp: 0, row };
+        let read = newest_version(self.rows.as_slice(), self.over.as_slice(), oid);
+        let row = read.row;
         if self.work.reads.push(read).is_err() {
             return Err(RowStop::Memory);
         }
@@ -190,10 +121,11 @@ impl<L: RowLaw> RowWorld for MapWorld<L> {
         if self.work.claims.len() == WRITE_LIMIT {
             return Err(RowStop::WritesFull);
         }
-        let row = self.rows[oid as usize];
+        let found = newest_version(self.rows.as_slice(), self.over.as_slice(), oid);
+        let row = found.row;
         let claim = VersionWritten {
             oid,
-            stamp: 0,
+            stamp: found.stamp,
             base: row,
             row,
             is_set: false,
@@ -237,19 +169,29 @@ impl<L: RowLaw> RowWorld for MapWorld<L> {
     }
 
     fn settle(&mut self, _seat: Seat) -> Result<Outcome, Wait> {
-        self.phase = Phase::Idle;
-        self.committed = true;
-        Ok(Outcome::Committed(Receipt {
+        let pred = predecessor(self.over.as_slice(), &self.work);
+        let receipt = Receipt {
             number: self.work.number,
-            stamp: STOP - 1,
+            stamp: self.work.begin,
             end: self.tail,
-            succ: STOP - 1,
-            pred: 0,
-        }))
+            succ: self.work.begin,
+            pred,
+        };
+        let blank = self.blank();
+        let work = mem::replace(&mut self.work, blank);
+        let done = MapDone {
+            work,
+            pred: Some(pred),
+        };
+        if self.over.push(done).is_err() {
+            unreachable!();
+        }
+        self.phase = Phase::Idle;
+        Ok(Outcome::Committed(receipt))
     }
 
     fn durable(&mut self, _seat: Seat, receipt: &Receipt) -> Result<(), NotFlushed> {
-        let flushed = STOP - 1;
+        let flushed = self.start;
         if receipt.end <= flushed {
             Ok(())
         } else {
@@ -260,11 +202,10 @@ impl<L: RowLaw> RowWorld for MapWorld<L> {
     fn abort(&mut self, _seat: Seat) {
         let blank = self.blank();
         let work = mem::replace(&mut self.work, blank);
-        if self.over.push(work).is_err() {
+        if self.over.push(MapDone { work, pred: None }).is_err() {
             unreachable!();
         }
         self.phase = Phase::Idle;
-        self.committed = false;
     }
 
     ghost serializable = { λ w standing. standing.serializable };
@@ -273,29 +214,35 @@ impl<L: RowLaw> RowWorld for MapWorld<L> {
 }
 
 impl<L: RowLaw> MapWorld<L> {
-    /// A world that is opened on these rows, and makes objects from `first` on.
-    pub fn new(alloc: Global, rows: Vec<Row>, first: Oid) -> MapWorld<L>
+    ghost use Rattle.erm_map_world.specs.MapWorld.{IsJustOpened};
+    ghost use Rattle.erm_map_world.specs.Standing.{Stands, view_of};
+
+    /// A world that is opened on these rows, whose log begins at `start`, and which makes objects from `first` on.
+    pub fn new(alloc: Global, rows: Vec<Row>, first: Oid, start: Stamp) -> MapWorld<L>
         requires rows { vec_len rows ≡ OID_LIMIT }
         requires first { first ≤ OID_LIMIT }
+        requires start { 0 < start }
         requires meets { L.law.meets (rows_of rows.items) }
         requires reach { (x : ℕ) → first ≤ x → L.law.reach (rows_of rows.items) x ≡ 0 }
-        ensures { ⟦<MapWorld<L> as RowWorld>⟧.stands result }
+        ensures stands { Stands L.law result }
+        ensures opened { IsJustOpened (rows_of rows.items) first start (view_of result) }
     {
         MapWorld {
             rows,
             first,
             next: first,
-            tail: STOP - 1,
+            start,
+            tail: start,
             begun: 0,
             over: Vec::new(alloc),
             work: MapWork {
                 number: 0,
+                begin: start,
                 reads: Vec::new(alloc),
                 claims: Vec::new(alloc),
                 made: Vec::new(alloc),
             },
             phase: Phase::Idle,
-            committed: false,
             alloc,
             law: PhantomData,
         }

@@ -11,13 +11,17 @@ use erm_world::{RowWorld, WorldTxn};
 use std::alloc::{AllocError, Global};
 use std::test::Fail;
 
-// A world without a law on rows of zeros, but for one.
-fn world(alloc: Global) -> Result<MapWorld<AnyRows>, AllocError>
+// Where a world's log begins, if not at its end.
+const START: Stamp = 100;
+
+// A world without a law on rows of zeros, but for one, whose log begins here.
+fn world(alloc: Global, start: Stamp) -> Result<MapWorld<AnyRows>, AllocError>
+    requires { 0 < start }
     ensures { IfOk result (λ world. ⟦<MapWorld<AnyRows> as RowWorld>⟧.stands world) }
 {
     let mut rows = Vec::from_elem(alloc, [0; ROW_WORDS], OID_LIMIT as usize)?;
     rows[1] = [7; ROW_WORDS];
-    Ok(MapWorld::new(alloc, rows, 16))
+    Ok(MapWorld::new(alloc, rows, 16, start))
 }
 
 // Begins, where the session is idle.
@@ -127,9 +131,61 @@ fn first_unread(world: &mut MapWorld<AnyRows>) -> Option<(Oid, RowStop)>
     None
 }
 
+// A whole transaction that copies a row, where the session is idle.
+fn copied(world: &mut MapWorld<AnyRows>, from: Oid, to: Oid) -> Option<Outcome>
+    requires stands { ⟦<MapWorld<AnyRows> as RowWorld>⟧.stands world.old }
+    requires from { from < OID_LIMIT }
+    requires to { to < OID_LIMIT }
+    ensures { ⟦<MapWorld<AnyRows> as RowWorld>⟧.stands world.new }
+{
+    begin(world)?;
+    if copy(world, from, to) {
+        commit(world)
+    } else {
+        None
+    }
+}
+
+// What a transaction of this number is told that wrote one row of sevens, and has these stamps.
+fn told(number: u32, stamp: Stamp, pred: Stamp) -> Option<Outcome>
+    requires { stamp < STOP }
+{
+    Some(Outcome::Committed(Receipt {
+        number,
+        stamp,
+        end: stamp + 22,
+        succ: stamp,
+        pred,
+    }))
+}
+
 #[test]
-fn one_transaction_commits(rt: HostRuntime) -> Result<(), Fail> {
-    let mut world = world(rt.alloc())?;
+fn each_transaction_reads_what_the_earlier_ones_committed(rt: HostRuntime) -> Result<(), Fail> {
+    let mut world = world(rt.alloc(), START)?;
+    assert!(rt;
+        copied(&mut world, 1, 2) == told(1, 100, 0),
+        "it saw the rows of the opening alone"
+    );
+    assert!(rt;
+        copied(&mut world, 2, 3) == told(2, 122, 100),
+        "it read a row of the first"
+    );
+    assert!(rt;
+        copied(&mut world, 1, 2) == told(3, 144, 122),
+        "it overwrote a row of the first that the second has read"
+    );
+    assert!(rt; begin(&mut world) == Some(166), "behind the third's block");
+    assert!(rt;
+        row(&mut world, 3) == Some([7; ROW_WORDS]),
+        "the second's row"
+    );
+    assert!(rt; row(&mut world, 4) == Some([0; ROW_WORDS]), "the opening's");
+    Ok(())
+}
+
+#[test]
+fn the_log_ends(rt: HostRuntime) -> Result<(), Fail> {
+    let mut world = world(rt.alloc(), STOP - 1)?;
     assert!(rt; !copy(&mut world, 1, 2), "no transaction has begun");
     assert!(rt; begin(&mut world) == Some(STOP - 1), "the log is empty");
     assert!(rt; begin(&mut world).is_none(), "one is in progress");
@@ -140,7 +196,7 @@ fn one_transaction_commits(rt: HostRuntime) -> Result<(), Fail> {
 
 #[test]
 fn aborted_rows_are_gone(rt: HostRuntime) -> Result<(), Fail> {
-    let mut world = world(rt.alloc())?;
+    let mut world = world(rt.alloc(), START)?;
     assert!(rt; begin(&mut world).is_some());
     assert!(rt;
         row(&mut world, 2) == Some([0; ROW_WORDS]),
@@ -150,10 +206,7 @@ fn aborted_rows_are_gone(rt: HostRuntime) -> Result<(), Fail> {
     assert!(rt; row(&mut world, 2) == Some([7; ROW_WORDS]), "the own row");
     assert!(rt; abort(&mut world), "it is aborted");
     assert!(rt; !abort(&mut world), "once");
-    assert!(rt;
-        begin(&mut world) == Some(STOP - 1),
-        "the log is empty still"
-    );
+    assert!(rt; begin(&mut world) == Some(START), "the log is empty still");
     assert!(rt;
         row(&mut world, 2) == Some([0; ROW_WORDS]),
         "the opening's row again"
@@ -163,7 +216,7 @@ fn aborted_rows_are_gone(rt: HostRuntime) -> Result<(), Fail> {
 
 #[test]
 fn numbers_and_objects_go_on(rt: HostRuntime) -> Result<(), Fail> {
-    let mut world = world(rt.alloc())?;
+    let mut world = world(rt.alloc(), START)?;
     assert!(rt; begin(&mut world).is_some());
     assert!(rt; fresh(&mut world) == Some(16), "the first object");
     assert!(rt; abort(&mut world));
@@ -172,9 +225,9 @@ fn numbers_and_objects_go_on(rt: HostRuntime) -> Result<(), Fail> {
     assert!(rt; copy(&mut world, 1, 17));
     let receipt = Receipt {
         number: 2,
-        stamp: STOP - 1,
-        end: STOP + 21,
-        succ: STOP - 1,
+        stamp: START,
+        end: START + 22,
+        succ: START,
         pred: 0,
     };
     assert!(rt;
@@ -187,7 +240,7 @@ fn numbers_and_objects_go_on(rt: HostRuntime) -> Result<(), Fail> {
 
 #[test]
 fn reads_have_a_limit(rt: HostRuntime) -> Result<(), Fail> {
-    let mut world = world(rt.alloc())?;
+    let mut world = world(rt.alloc(), START)?;
     assert!(rt;
         first_unread(&mut world).is_none(),
         "no transaction has begun"

@@ -1,12 +1,31 @@
-use Rattle.std.proofs.Common.{map, refl}
-use Rattle.erm_model.specs.Rows.{rows_of}
-use Rattle.erm_map_world.specs.declared.map_world.MapWork.{MapWork}
-use Rattle.erm_map_world.specs.MapWorld.{work_with}
+use Rattle.std.proofs.Common.{[], ◌∷◌, ◌++◌, map, Some, refl, sym, ap, ◌∙◌, subst, ℕ, List}
+use Rattle.std.proofs.lemmas.List.{map-append}
+use Rattle.erm_model.specs.History.{IsPredecessorStamp}
+use Rattle.erm_map_world.specs.declared.works.MapDone.{MapDone}
+use Rattle.erm_map_world.specs.declared.works.MapWork.{MapWork}
+use Rattle.erm_map_world.specs.MapWorks.{commit_with, done_of, work_in}
+use Rattle.erm_map_world.specs.Standing.{map_of}
 use Rattle.erm_map_world.proofs.MapClauses.{settle_done, settle_stands}
+use Rattle.erm_map_world.proofs.MapRows.{pushed}
 use Rattle.erm_map_world.proofs.map_world.MapWorldRowWorld.settle.Goals as goal
+use Rattle.erm_world.specs.World.{committed_in}
 
 pub returns-clause-stands : goal.returns-clause-stands
-returns-clause-stands g c = settle_stands g.L.RowLaw.law 1152921504606846975 (rows_of c.args.self.now.rows.items) c.args.self.now.first c.args.self.now.next c.args.self.now.tail c.args.self.now.begun (map (λ (m : MapWork). work_with 1152921504606846975 m.number m.reads.items m.claims.items m.made.items) c.args.self.now.over.items) c.args.self.now.phase c.args.self.now.committed (work_with 1152921504606846975 c.args.self.now.work.number c.args.self.now.work.reads.items c.args.self.now.work.claims.items c.args.self.now.work.made.items) c.args._seat c.requires.session c.requires.sealed c.requires.stands
+returns-clause-stands g c =
+    let s = c.args.self.now in
+    let pred = c.predecessor-pred.result in
+    let told = subst (λ (list : List MapDone). IsPredecessorStamp (committed_in 1 (map done_of list)) pred (commit_with (work_in s.work) 0)) c.as_slice.ensures.value c.predecessor-pred.ensures in
+    settle_stands g.L.RowLaw.law (map_of s) s.phase (work_in s.work) c.args._seat c.requires.session pred _ c.requires.sealed
+    (ap (map done_of) (pushed c.push.result c.push.new.self.items s.over.items (record { work = c.replace-work.result; pred = Some pred }) c.push.ensures.items (sym c.if-is_err.false ∙ c.is_err.ensures.value)
+    ∙ ap (λ (w : MapWork). s.over.items ++ record { work = w; pred = Some pred } ∷ []) c.replace-work.ensures.value)
+    ∙ map-append done_of s.over.items (record { work = s.work; pred = Some pred } ∷ [])) told c.requires.stands
 
 pub returns-clause-ok : goal.returns-clause-ok
-returns-clause-ok g c = settle_done g.L.RowLaw.law 1152921504606846975 (rows_of c.args.self.now.rows.items) c.args.self.now.first c.args.self.now.next c.args.self.now.tail c.args.self.now.begun (map (λ (m : MapWork). work_with 1152921504606846975 m.number m.reads.items m.claims.items m.made.items) c.args.self.now.over.items) c.args.self.now.phase c.args.self.now.committed (work_with 1152921504606846975 c.args.self.now.work.number c.args.self.now.work.reads.items c.args.self.now.work.claims.items c.args.self.now.work.made.items) c.args._seat c.requires.session c.args.self.now.work.number c.requires.sealed refl c.requires.stands
+returns-clause-ok g c =
+    let s = c.args.self.now in
+    let pred = c.predecessor-pred.result in
+    let told = subst (λ (list : List MapDone). IsPredecessorStamp (committed_in 1 (map done_of list)) pred (commit_with (work_in s.work) 0)) c.as_slice.ensures.value c.predecessor-pred.ensures in
+    settle_done g.L.RowLaw.law (map_of s) s.phase (work_in s.work) c.args._seat c.requires.session pred _ c.requires.sealed
+    (ap (map done_of) (pushed c.push.result c.push.new.self.items s.over.items (record { work = c.replace-work.result; pred = Some pred }) c.push.ensures.items (sym c.if-is_err.false ∙ c.is_err.ensures.value)
+    ∙ ap (λ (w : MapWork). s.over.items ++ record { work = w; pred = Some pred } ∷ []) c.replace-work.ensures.value)
+    ∙ map-append done_of s.over.items (record { work = s.work; pred = Some pred } ∷ [])) told c.requires.stands

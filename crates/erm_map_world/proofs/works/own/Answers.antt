@@ -1,7 +1,7 @@
 use Rattle.std.proofs.Common.{◌∙◌}
 use Rattle.erm_map_world.proofs.MapRows.{found_before, found_here}
-use Rattle.erm_map_world.proofs.map_world.own.Goals as goal
-use Rattle.erm_map_world.proofs.map_world.own.Goals.{then-c-oid, else-c-oid}
+use Rattle.erm_map_world.proofs.works.own.Goals as goal
+use Rattle.erm_map_world.proofs.works.own.Goals.{then-c-oid, else-c-oid}
 
 pub loop-c-preserved : goal.loop-c-preserved
 loop-c-preserved c = elim c.if-c-oid.branch [

@@ -1,6 +1,6 @@
 use Rattle.std.proofs.Common.{◌≡◌, ◌≤◌, ◌+◌, ◌*◌, map, take}
 use Rattle.erm_record.specs.Stored.{block_words}
-use Rattle.erm_map_world.proofs.map_world.block_size.Given as goal
+use Rattle.erm_map_world.proofs.works.block_size.Given as goal
 
 abbrev pub invariant-loop-c : goal.invariant-loop-c
 invariant-loop-c l = record {
