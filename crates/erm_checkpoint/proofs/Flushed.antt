@@ -18,7 +18,7 @@ use Rattle.erm_ckpt.specs.declared.slot.TheConstants.{LOG_START}
 use Rattle.erm_ckpt.specs.Recovered.{State, best, end_at, state_behind}
 use Rattle.erm_ckpt.specs.States.{RecoversTo}
 use Rattle.erm_ckpt.proofs.Images.{goes_on, of_end, of_end-end_of, state_behind-append, state_grows}
-use Rattle.erm_checkpoint.specs.Taken.{HoldsLog, IsOneRun, RecoversFlushing, state_at}
+use Rattle.erm_checkpoint.specs.Taken.{HoldsLog, RecoversFlushing, state_at}
 use Rattle.erm_checkpoint.proofs.Taken.{All-front, end_state, not_empty, run_is, same_front}
 
 each_weaker : (P Q : Image → Type 0) (old more : List Step) → ((image : Image) → P image → Q image) → EachImage P old more → EachImage Q old more
@@ -28,9 +28,9 @@ each_weaker P Q old (step ∷ more) weaker (here, each) = (λ image is. weaker i
 module _
     (short : (row : List ℕ) → stored_length row ≤ length row) (sound : Rows → Type 0) (respects : (a b : Rows) → SameRows a b → sound a ↔ sound b) where
   front_recovers : (l m : Log) (slots : Slots) (old : List Step) (front blocks : List Block) (image : Image) → HoldsLog sound l slots old → m.opened ≡ l.opened
-      → (more : (rest : List Block) × (m.gathered ≡ l.gathered ++ rest)) → IsLog sound m → IsOneRun m → LOG_START < m.opened.at → m.gathered ≡ front ++ blocks
+      → (more : (rest : List Block) × (m.gathered ≡ l.gathered ++ rest)) → IsLog sound m → LOG_START < m.opened.at → m.gathered ≡ front ++ blocks
       → (end_of (start_of m) front).at ≡ l.flushed → LeavesFront sound (end_of (start_of m) front) blocks (contents old) image → RecoversFlushing sound l.flushed m front blocks image
-  front_recovers l m slots old front blocks image h opened more is one begin split place leaves shows =
+  front_recovers l m slots old front blocks image h opened more is begin split place leaves shows =
       let start : State = record { at = m.opened.at; run = m.opened.run; rows = m.opened.rows } in
       let long : m.gathered ≡ h.front ++ (h.rest ++ more.0) = more.1 ∙ ap (λ (bs : List Block). bs ++ more.0) h.split ∙ append_assoc h.front h.rest more.0 in
       let states : state_at m h.front ≡ state_at l h.front = ap (λ (s : Start). state_behind (record { at = s.at; run = s.run; rows = s.rows }) h.front) opened in
@@ -50,11 +50,11 @@ module _
       let cut : m.gathered ≡ (front ++ some) ++ drop shown.0 blocks =
       split ∙ ap (λ (bs : List Block). front ++ bs) (sym (take-append-drop shown.0 blocks)) ∙ sym (append_assoc front some (drop shown.0 blocks)) in
       let some_all : All (λ (block : Block). block.run ≡ m.opened.run) (front ++ some) =
-      All-front (λ (block : Block). block.run ≡ m.opened.run) (front ++ some) (drop shown.0 blocks) (subst (All (λ (block : Block). block.run ≡ m.opened.run)) cut one) in
+      All-front (λ (block : Block). block.run ≡ m.opened.run) (front ++ some) (drop shown.0 blocks) (subst (All (λ (block : Block). block.run ≡ m.opened.run)) cut is.one_run) in
       let run_some : (state_behind here some).run ≡ m.opened.run = sym (ap (λ (s : State). s.run) joined) ∙ run_is m.opened.run start (front ++ some) refl some_all in
       let run_all : (end_of end blocks).run ≡ m.opened.run =
       ap (λ (s : State). s.run) (of_end-end_of end blocks ∙ ap (λ (s : State). state_behind s blocks) is_end ∙ sym (state_behind-append start front blocks))
-      ∙ run_is m.opened.run start (front ++ blocks) refl (subst (All (λ (block : Block). block.run ≡ m.opened.run)) split one) in
+      ∙ run_is m.opened.run start (front ++ blocks) refl (subst (All (λ (block : Block). block.run ≡ m.opened.run)) split is.one_run) in
       let grown : m.opened.at ≤ here.at = state_grows start front in
       let further : here.at ≤ (state_behind here some).at = state_grows here some in
       let fresh : IsFresh ((state_behind here some).run + 1) image (state_behind here some).at =
@@ -73,10 +73,10 @@ module _
       }
 
   pub flush_moments : (l m : Log) (slots : Slots) (old new : List Step) → HoldsLog sound l slots old → m.opened ≡ l.opened → (more : (rest : List Block) × (m.gathered ≡ l.gathered ++ rest))
-      → IsLog sound m → IsOneRun m → LOG_START < m.opened.at → (w : WritesFrom sound l.flushed m old new) → AtEachMoment (RecoversFlushing sound l.flushed m w.front w.blocks) old new
-  flush_moments l m slots old new h opened more is one begin w = (
+      → IsLog sound m → LOG_START < m.opened.at → (w : WritesFrom sound l.flushed m old new) → AtEachMoment (RecoversFlushing sound l.flushed m w.front w.blocks) old new
+  flush_moments l m slots old new h opened more is begin w = (
     w.writes.more,
     w.writes.steps,
     each_weaker (LeavesFront sound (end_of (start_of m) w.front) w.blocks (contents old)) (RecoversFlushing sound l.flushed m w.front w.blocks) old w.writes.more
-        (λ image leaves. front_recovers l m slots old w.front w.blocks image h opened more is one begin w.split w.place_is leaves) w.writes.images,
+        (λ image leaves. front_recovers l m slots old w.front w.blocks image h opened more is begin w.split w.place_is leaves) w.writes.images,
   )

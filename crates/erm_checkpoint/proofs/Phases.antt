@@ -9,12 +9,16 @@ use Rattle.erm_log_words.specs.Words.{word_at, word_in}
 use Rattle.erm_outside.specs.declared.disk.File.{File}
 use Rattle.erm_outside.specs.declared.disk.File.TheVariants.{Slot0, Slot1, Segment}
 use Rattle.erm_outside.specs.Disk.{contents, Image, same_file, Step}
+use Rattle.erm_outside.proofs.Images.{same_file-refl}
 use Rattle.erm_ckpt.specs.Checkpoint.{Checkpoint, Checks}
-use Rattle.erm_ckpt.specs.Recovered.{HasBase, Pair, Shows, State, base, best, better, state_behind, state_of}
+use Rattle.erm_ckpt.specs.Recovered.{HasBase, Pair, Shows, State, base, best, better, pair_with, put, state_behind, state_of}
 use Rattle.erm_ckpt.specs.States.{RecoversTo, SameChecks}
 use Rattle.erm_ckpt.proofs.Images.{by_slot, stays}
 use Rattle.erm_ckpt.proofs.OneRecovery.{torn_shows}
-use Rattle.erm_checkpoint.specs.Phases.{MaySave, RecoversTorn, behind, other_file, put_in}
+use Rattle.erm_checkpoint.specs.Phases.{MaySave, RecoversTorn, other_file}
+
+true_isnt_false : true ≡ false → ⊥
+true_isnt_false e = absurd (cc)
 
 -- ---- which slot is best
 
@@ -31,13 +35,13 @@ abbrev two : Option Checkpoint → Option Checkpoint → Pair
 two a b = record { slot0 = a; slot1 = b }
 
 -- with no slot in the other file the best one is the same
-none_is_best : (a b : Option Checkpoint) → best (put_in (other_file (two a b)) (two a b) None) ≡ better a b
+none_is_best : (a b : Option Checkpoint) → best (pair_with (two a b) (other_file (two a b)) None) ≡ better a b
 none_is_best None None = refl
 none_is_best None (Some b) = refl
 none_is_best (Some a) None = refl
 none_is_best (Some a) (Some b) = cases (nat_lt a.slot.stamp b.slot.stamp)
   where
-    cases : (t : Bool) → best (put_in (if t then Slot0 else Slot1) (two (Some a) (Some b)) None) ≡ (if t then Some b else Some a)
+    cases : (t : Bool) → best (pair_with (two (Some a) (Some b)) (if t then Slot0 else Slot1) None) ≡ (if t then Some b else Some a)
     cases true = refl
     cases false = refl
 
@@ -45,7 +49,7 @@ none_is_best (Some a) (Some b) = cases (nat_lt a.slot.stamp b.slot.stamp)
 abbrev BestBehind : Pair → Option Checkpoint → Checkpoint → Type 0
 BestBehind now before c = (best now ≡ Some c) ⊎ ((best now ≡ before) × ((state_of before).at ≡ c.slot.stamp))
 
-best_behind : (a b : Option Checkpoint) (c : Checkpoint) → (state_of (better a b)).at ≤ c.slot.stamp → BestBehind (behind (two a b) c) (better a b) c
+best_behind : (a b : Option Checkpoint) (c : Checkpoint) → (state_of (better a b)).at ≤ c.slot.stamp → BestBehind (put (two a b) c) (better a b) c
 best_behind None None c newer = inl refl
 best_behind None (Some b) c newer = inl (rw (not_below c.slot.stamp b.slot.stamp newer) refl)
 best_behind (Some a) None c newer = behind_first (nat_lt a.slot.stamp c.slot.stamp) refl
@@ -60,7 +64,7 @@ best_behind (Some a) (Some b) c newer = cases (nat_lt a.slot.stamp b.slot.stamp)
     second false e least = inr (refl, (let most = isnt_below a.slot.stamp c.slot.stamp e in omega arith))
 
     cases : (t : Bool) → (state_of (if t then Some b else Some a)).at ≤ c.slot.stamp
-        → BestBehind (put_in (if t then Slot0 else Slot1) (two (Some a) (Some b)) (Some c)) (if t then Some b else Some a) c
+        → BestBehind (pair_with (two (Some a) (Some b)) (if t then Slot0 else Slot1) (Some c)) (if t then Some b else Some a) c
     cases true least = inl (rw (not_below c.slot.stamp b.slot.stamp least) refl)
     cases false least = second (nat_lt a.slot.stamp c.slot.stamp) refl least
 
@@ -88,14 +92,11 @@ module _ (sound : Rows → Type 0) where
     pub slot0 : Shows sound (image Slot0) pair.slot0
     pub slot1 : Shows sound (image Slot1) pair.slot1
 
-  shows_put : (file : File) (old new : Image) (pair : Pair) (shown : Option Checkpoint) → ShowsPair old pair → ((f : File) → same_file file f ≡ false → new f ≡ old f)
-      → Shows sound (new file) shown → ShowsPair new (put_in file pair shown)
-  shows_put Slot0 old new pair shown shows same here = record { slot0 = here; slot1 = subst (λ (bytes : List ℕ). Shows sound bytes pair.slot1) (sym (same Slot1 refl)) shows.slot1 }
-  shows_put Slot1 old new pair shown shows same here = record { slot0 = subst (λ (bytes : List ℕ). Shows sound bytes pair.slot0) (sym (same Slot0 refl)) shows.slot0; slot1 = here }
-  shows_put (Segment n) old new pair shown shows same here = record {
-    slot0 = subst (λ (bytes : List ℕ). Shows sound bytes pair.slot0) (sym (same Slot0 refl)) shows.slot0;
-    slot1 = subst (λ (bytes : List ℕ). Shows sound bytes pair.slot1) (sym (same Slot1 refl)) shows.slot1;
-  }
+  shows_put : (file : File) (old new : Image) (pair : Pair) (shown : Option Checkpoint) → ((n : ℕ) → same_file file (Segment n) ≡ false) → ShowsPair old pair
+      → ((f : File) → same_file file f ≡ false → new f ≡ old f) → Shows sound (new file) shown → ShowsPair new (pair_with pair file shown)
+  shows_put Slot0 old new pair shown slot shows same here = record { slot0 = here; slot1 = subst (λ (bytes : List ℕ). Shows sound bytes pair.slot1) (sym (same Slot1 refl)) shows.slot1 }
+  shows_put Slot1 old new pair shown slot shows same here = record { slot0 = subst (λ (bytes : List ℕ). Shows sound bytes pair.slot0) (sym (same Slot0 refl)) shows.slot0; slot1 = here }
+  shows_put (Segment n) old new pair shown slot shows same here = absurd (true_isnt_false (sym (same_file-refl (Segment n)) ∙ slot n))
 
   same_shows : (old new : List ℕ) (shown : Option Checkpoint) → SameChecks sound old new → Shows sound old shown → Shows sound new shown
   same_shows old new None same shows = λ c checks. shows c ((same c).1 checks)
@@ -139,13 +140,13 @@ module _ (sound : Rows → Type 0) (respects : (a b : Rows) → SameRows a b →
 
   -- one that shows the checkpoint
   pub with_it : (from : State) (front rest : List Block) (pair : Pair) (c : Checkpoint) (steps : List Step) (new : Image) → MaySave sound from front rest pair c steps
-      → Others pair (contents steps) new → Checks sound (new (other_file pair)) c → RecoversTo sound (state_behind from (front ++ rest)) (behind pair c) new
+      → Others pair (contents steps) new → Checks sound (new (other_file pair)) c → RecoversTo sound (state_behind from (front ++ rest)) (put pair c) new
   with_it from front rest pair c steps new may same checks =
-      let shows = shows_put sound (other_file pair) (contents steps) new pair (Some c) (record { slot0 = may.there.recovers.slot0; slot1 = may.there.recovers.slot1 }) same checks in
+      let shows = shows_put sound (other_file pair) (contents steps) new pair (Some c) (other_is_slot pair.slot0 pair.slot1) (record { slot0 = may.there.recovers.slot0; slot1 = may.there.recovers.slot1 }) same checks in
       elim (best_behind pair.slot0 pair.slot1 c may.newer) [
-        | inl is_new ↦ by_slot sound respects (contents steps) new from front rest (behind pair c) c may.list may.there.opens shows.slot0 shows.slot1 is_new may.state
+        | inl is_new ↦ by_slot sound respects (contents steps) new from front rest (put pair c) c may.list may.there.opens shows.slot0 shows.slot1 is_new may.state
             (λ p low. all_words pair (contents steps) new same p)
-        | inr as_was ↦ as_before from front rest pair (behind pair c) c steps new may same shows as_was.0
+        | inr as_was ↦ as_before from front rest pair (put pair c) c steps new may same shows as_was.0
       ]
 
   -- one where the slot is torn
@@ -154,17 +155,17 @@ module _ (sound : Rows → Type 0) (respects : (a b : Rows) → SameRows a b →
   torn_recovers from front rest pair c steps new may same shows =
       let was : ShowsPair sound (contents steps) pair = record { slot0 = may.there.recovers.slot0; slot1 = may.there.recovers.slot1 } in
       elim (torn_shows sound (contents steps (other_file pair)) (new (other_file pair)) c may.is may.are_sound shows) [
-        | inl checks ↦ (behind pair c, with_it from front rest pair c steps new may same checks)
+        | inl checks ↦ (put pair c, with_it from front rest pair c steps new may same checks)
         | inr (inl checks) ↦ (pair, as_before from front rest pair pair c steps new may same (shows_as_before sound (other_file pair) (contents steps) new pair was same checks) refl)
         | inr (inr none) ↦ (
-          put_in (other_file pair) pair None,
-          as_before from front rest pair (put_in (other_file pair) pair None) c steps new may same
-              (shows_put sound (other_file pair) (contents steps) new pair None was same none) (none_is_best pair.slot0 pair.slot1),
+          pair_with pair (other_file pair) None,
+          as_before from front rest pair (pair_with pair (other_file pair) None) c steps new may same
+              (shows_put sound (other_file pair) (contents steps) new pair None (other_is_slot pair.slot0 pair.slot1) was same none) (none_is_best pair.slot0 pair.slot1),
         )
       ]
 
 -- where recovery begins behind a checkpoint
-pub base_behind : (pair : Pair) (c : Checkpoint) → (base pair).at ≤ c.slot.stamp → (base (behind pair c)).at ≡ c.slot.stamp
+pub base_behind : (pair : Pair) (c : Checkpoint) → (base pair).at ≤ c.slot.stamp → (base (put pair c)).at ≡ c.slot.stamp
 base_behind pair c newer =
     elim (best_behind pair.slot0 pair.slot1 c newer) [
       | inl is_new ↦ ap (λ (x : Option Checkpoint). (state_of x).at) is_new
@@ -172,7 +173,7 @@ base_behind pair c newer =
     ]
 
 -- a slot checks then
-pub some_best : (pair : Pair) (c : Checkpoint) → (base pair).at ≤ c.slot.stamp → best (behind pair c) ≢ None
+pub some_best : (pair : Pair) (c : Checkpoint) → (base pair).at ≤ c.slot.stamp → best (put pair c) ≢ None
 some_best pair c newer = λ none.
     let at : (state_of None).at ≡ c.slot.stamp = ap (λ (x : Option Checkpoint). (state_of x).at) (sym none) ∙ base_behind pair c newer in
     put_some pair.slot0 pair.slot1 c none
@@ -193,11 +194,11 @@ some_best pair c newer = λ none.
         cond_some true = λ e. absurd (cc)
         cond_some false = λ e. absurd (cc)
 
-    put_some : (a b : Option Checkpoint) (c : Checkpoint) → best (behind (two a b) c) ≢ None
+    put_some : (a b : Option Checkpoint) (c : Checkpoint) → best (put (two a b) c) ≢ None
     put_some None b c = better_some0 b c
     put_some (Some a) None c = better_some1 (Some a) c
     put_some (Some a) (Some b) c = cases (nat_lt a.slot.stamp b.slot.stamp)
       where
-        cases : (t : Bool) → best (put_in (if t then Slot0 else Slot1) (two (Some a) (Some b)) (Some c)) ≢ None
+        cases : (t : Bool) → best (pair_with (two (Some a) (Some b)) (if t then Slot0 else Slot1) (Some c)) ≢ None
         cases true = better_some0 (Some b) c
         cases false = better_some1 (Some a) c

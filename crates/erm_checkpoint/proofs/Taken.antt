@@ -27,15 +27,17 @@ use Rattle.erm_ckpt.specs.declared.slot.Slot.{Slot}
 use Rattle.erm_ckpt.specs.declared.slot.Slots.{Slots}
 use Rattle.erm_ckpt.specs.declared.slot.TheConstants.{LOG_START}
 use Rattle.erm_ckpt.specs.Checkpoint.{Checkpoint, IsCheckpoint, IsSlot, checkpoint_of, rows_of_checkpoint, slot_words}
-use Rattle.erm_ckpt.specs.Recovered.{Pair, Shows, State, base, best, better, end_at, slots_of, state_behind, state_of}
-use Rattle.erm_ckpt.specs.Slots.{first_left, next_first, removal_end, segment_of, segment_of_best, better_slot}
+use Rattle.erm_ckpt.specs.Recovered.{Shows, State, base, best, better, end_at, put, state_behind, state_of}
+use Rattle.erm_ckpt.specs.Slots.{first_left, next_first, put_slot, removal_end, segment_of, segment_of_best, better_slot}
 use Rattle.erm_ckpt.specs.States.{RecoversTo}
+use Rattle.erm_ckpt.proofs.Choices.{slots_put}
 use Rattle.erm_ckpt.proofs.Images.{goes_on, list_behind, list_same, of_end, of_end-end_of, same_fresh, state_behind-append, state_grows}
-use Rattle.erm_checkpoint.specs.Phases.{IsSaved, MaySave, behind, other_file, put_in}
+use Rattle.erm_checkpoint.specs.Phases.{IsSaved, MaySave, other_file}
 use Rattle.erm_checkpoint.specs.Saved.{AreRowsAt}
 use Rattle.erm_checkpoint.specs.Steps.{SavesAll, slot_written}
-use Rattle.erm_checkpoint.specs.Taken.{HoldsLog, HoldsLogFrom, IsOneRun, put_slot, slots_behind, state_at}
+use Rattle.erm_checkpoint.specs.Taken.{HoldsLog, HoldsLogFrom, state_at}
 use Rattle.erm_checkpoint.proofs.Moments.{removal_moments, removal_words, removals_settle, saved}
+use Rattle.erm_checkpoint.proofs.Phases.{base_behind}
 
 -- ---- states of a log
 
@@ -54,7 +56,7 @@ rows_are : (state : State) (blocks : List Block) → (state_behind state blocks)
 rows_are state [] = refl
 rows_are state (b ∷ bs) = rows_are (record { at = state.at + b.size; run = b.run; rows = rows_after_block b state.rows }) bs
 
-place_is : (state : State) (blocks : List Block) → (state_behind state blocks).at ≡ place_behind state.at blocks
+pub place_is : (state : State) (blocks : List Block) → (state_behind state blocks).at ≡ place_behind state.at blocks
 place_is state [] = refl
 place_is state (b ∷ bs) = place_is (record { at = state.at + b.size; run = b.run; rows = rows_after_block b state.rows }) bs
 
@@ -83,7 +85,7 @@ not_empty image word is = λ none.
 
 -- ---- the log's blocks as ends and as states
 
-stands_from : (sound : Rows → Type 0) (log : Log) → IsLog sound log → MayStand sound (start_of log) log.gathered
+pub stands_from : (sound : Rows → Type 0) (log : Log) → IsLog sound log → MayStand sound (start_of log) log.gathered
 stands_from sound log is = other_words sound _ [] log.gathered (chain_may_stand sound _ log.gathered is.chain)
 
 pub end_state : (log : Log) (front : List Block) → of_end (end_of (start_of log) front) ≡ state_at log front
@@ -121,11 +123,6 @@ bounds (Some a) (Some b) one other = cases (nat_lt a.slot.stamp b.slot.stamp) re
     cases true e = let less = is_below a.slot.stamp b.slot.stamp e in let low = other.first in record { first_low = omega arith; end_low = omega arith }
     cases false e = let least = isnt_below a.slot.stamp b.slot.stamp e in let low = one.first in record { first_low = omega arith; end_low = omega arith }
 
-put_names : (file : File) (pair : Pair) (c : Checkpoint) → put_slot file (slots_of pair) c.slot ≡ slots_of (put_in file pair (Some c))
-put_names Slot0 pair c = refl
-put_names Slot1 pair c = refl
-put_names (Segment n) pair c = refl
-
 last_moment : (Q : Image → Type 0) (old more : List Step) (image : Image) → EachImage Q old more → IsImage (more ++ old) image → Q image
 last_moment Q old [] image each is = each image is
 last_moment Q old (step ∷ more) image each is = each.0 image is
@@ -139,9 +136,9 @@ module _
       let stand : MayStand sound (start_of log) (xs ++ us) = subst (MayStand sound (start_of log)) one (stands_from sound log is) in
       (one_cut short sound (start_of log) xs us ys vs stand (sym one ∙ other) (ap (λ (s : State). s.at) (end_state log xs) ∙ place)).front
 
-  pub flushed_holds : (l m : Log) (slots : Slots) (old mid : List Step) → HoldsLog sound l slots old → HoldsFrom sound l.flushed m old mid → IsReady m mid → GoesOn l m → IsLog sound m → IsOneRun m
+  pub flushed_holds : (l m : Log) (slots : Slots) (old mid : List Step) → HoldsLog sound l slots old → HoldsFrom sound l.flushed m old mid → IsReady m mid → GoesOn l m → IsLog sound m
       → LOG_START < m.opened.at → HoldsLog sound m slots mid
-  flushed_holds l m slots old mid h f ready on is one begin =
+  flushed_holds l m slots old mid h f ready on is begin =
       let opened : m.opened ≡ l.opened = ap (λ (x : Log). x.opened) on.log in
       let split : m.gathered ≡ h.front ++ (h.rest ++ on.more.0) = on.more.1 ∙ ap (λ (bs : List Block). bs ++ on.more.0) h.split ∙ append_assoc h.front h.rest on.more.0 in
       let states : state_at m h.front ≡ state_at l h.front = ap (λ (s : Start). state_behind (record { at = s.at; run = s.run; rows = s.rows }) h.front) opened in
@@ -159,7 +156,7 @@ module _
       let at_is : behind_all.at ≡ m.flushed =
       sym (ap (λ (s : State). s.at) (of_end-end_of end f.blocks ∙ ap (λ (s : State). state_behind s f.blocks) is_end)) ∙ f.to in
       let all : All (λ (block : Block). block.run ≡ m.opened.run) (f.front ++ f.blocks) =
-      All-front (λ (block : Block). block.run ≡ m.opened.run) (f.front ++ f.blocks) f.rest (subst (All (λ (block : Block). block.run ≡ m.opened.run)) whole one) in
+      All-front (λ (block : Block). block.run ≡ m.opened.run) (f.front ++ f.blocks) f.rest (subst (All (λ (block : Block). block.run ≡ m.opened.run)) whole is.one_run) in
       let run : behind_all.run ≡ m.opened.run =
       sym (ap (λ (s : State). s.run) joined) ∙ run_is m.opened.run (record { at = m.opened.at; run = m.opened.run; rows = m.opened.rows }) (f.front ++ f.blocks) refl all in
       let fresh : IsFresh (behind_all.run + 1) (contents mid) behind_all.at =
@@ -181,11 +178,11 @@ module _
             (λ none. let first = begins none in inr (not_empty (contents mid) first.0 first.1)) list fresh);
       }
 
-  pub may_save : (log : Log) (slots : Slots) (slot : Slot) (rows : List (List ℕ)) (steps : List Step) (h : HoldsLog sound log slots steps) → IsLog sound log → IsOneRun log
+  pub may_save : (log : Log) (slots : Slots) (slot : Slot) (rows : List (List ℕ)) (steps : List Step) (h : HoldsLog sound log slots steps) → IsLog sound log
       → LOG_START < log.opened.at → log.opened.at ≤ LOG_END → slot.stamp ≡ log.flushed → slot.run ≡ log.opened.run → 1 ≤ slot.run → slot.run ≤ LAST_RUN → slot.first ≡ next_first slots
       → log.pinned ≡ Some slot.stamp → AreRowsAt log rows → (IsSlot slot → IsCheckpoint (checkpoint_of slot rows)) → SameRows (rows_of_checkpoint (checkpoint_of slot rows)) (rows_of rows)
       → MaySave sound (state_at log h.front) [] [] h.pair (checkpoint_of slot rows) steps
-  may_save log slots slot rows steps h is one begin high stamp run run_low run_high first pinned read is_checkpoint same =
+  may_save log slots slot rows steps h is begin high stamp run run_low run_high first pinned read is_checkpoint same =
       let opened : State = record { at = log.opened.at; run = log.opened.run; rows = log.opened.rows } in
       let here : State = state_at log h.front in
       let c : Checkpoint = checkpoint_of slot rows in
@@ -206,7 +203,7 @@ module _
         first = omega (arith, first_low, first_is, low, to, stamp);
       } in
       let run_here : here.run ≡ log.opened.run = run_is log.opened.run opened h.front refl
-      (All-front (λ (block : Block). block.run ≡ log.opened.run) h.front h.rest (subst (All (λ (block : Block). block.run ≡ log.opened.run)) h.split one)) in
+      (All-front (λ (block : Block). block.run ≡ log.opened.run) h.front h.rest (subst (All (λ (block : Block). block.run ≡ log.opened.run)) h.split is.one_run)) in
       let pin : log.pinned ≡ Some (place_behind log.opened.at h.front) = pinned ∙ ap (λ (n : ℕ). Some n) (stamp ∙ sym to ∙ place_is opened h.front) in
       let rows_here : SameRows (rows_of_checkpoint c) here.rows =
       λ oid lt. same oid lt ∙ read oid lt h.front h.rest h.split pin ∙ ap (λ (r : Rows). r oid) (sym (rows_are opened h.front)) in
@@ -223,33 +220,40 @@ module _
         newer = omega (arith, low, to, stamp);
       }
 
+  -- no segment is removed that holds words behind the place where recovery begins then
+  pub removals_below : (log : Log) (slots : Slots) (c : Checkpoint) (old : List Step) (h : HoldsLog sound log slots old) → MaySave sound (state_at log h.front) [] [] h.pair c old
+      → removal_end slots ≤ (base (put h.pair c)).at / SEGMENT_WORDS
+  removals_below log slots c old h may =
+      let b = bounds h.pair.slot0 h.pair.slot1 (slot_ok sound (contents old Slot0) h.pair.slot0 h.there.recovers.slot0) (slot_ok sound (contents old Slot1) h.pair.slot1 h.there.recovers.slot1) in
+      let end_is : removal_end slots ≡ segment_of_best (better_slot (said h.pair.slot0) (said h.pair.slot1)) = ap removal_end h.names in
+      let end_low = b.end_low in
+      let newer = may.newer in
+      let from = base_behind h.pair c may.newer in
+      omega (arith, end_low, end_is, newer, from)
+
   pub saved_holds : (log : Log) (slots : Slots) (c : Checkpoint) (old new : List Step) (h : HoldsLog sound log slots old) → MaySave sound (state_at log h.front) [] [] h.pair c old → c.slot.stamp ≡ log.flushed
       → SavesAll (other_file h.pair) (bytes_of (slot_words c)) c.slot.first (removal_end slots) old new
-      → HoldsLogFrom sound log (slots_behind slots c.slot) c.slot.stamp new
+      → HoldsLogFrom sound log (put_slot slots c.slot) c.slot.stamp new
   saved_holds log slots c old new h may stamp all =
       let here : State = state_at log h.front in
       let file : File = other_file h.pair in
       let wrote : List Step = slot_written file (bytes_of (slot_words c)) old in
       let s : IsSaved sound here h.pair c old wrote = saved sound respects here [] [] h.pair c old may in
-      let b = bounds h.pair.slot0 h.pair.slot1 (slot_ok sound (contents old Slot0) h.pair.slot0 h.there.recovers.slot0) (slot_ok sound (contents old Slot1) h.pair.slot1 h.there.recovers.slot1) in
-      let end_is : removal_end slots ≡ segment_of_best (better_slot (said h.pair.slot0) (said h.pair.slot1)) = ap removal_end h.names in
-      let end_low = b.end_low in
-      let newer = may.newer in
       let from = s.from in
-      let low : removal_end slots ≤ (base (behind h.pair c)).at / SEGMENT_WORDS = omega (arith, end_low, end_is, newer, from) in
-      let moments = removal_moments sound here (behind h.pair c) c.slot.first (removal_end slots) wrote new s.settled s.there s.some low (inr all) in
+      let low : removal_end slots ≤ (base (put h.pair c)).at / SEGMENT_WORDS = removals_below log slots c old h may in
+      let moments = removal_moments sound here (put h.pair c) c.slot.first (removal_end slots) wrote new s.settled s.there s.some low (inr all) in
       let reads : IsImage (moments.0 ++ wrote) (contents new) = subst (λ (steps : List Step). IsImage steps (contents new)) moments.1 (λ f. reads_may_be _) in
-      let there : RecoversTo sound here (behind h.pair c) (contents new) = last_moment (RecoversTo sound here (behind h.pair c)) wrote moments.0 (contents new) moments.2 reads in
+      let there : RecoversTo sound here (put h.pair c) (contents new) = last_moment (RecoversTo sound here (put h.pair c)) wrote moments.0 (contents new) moments.2 reads in
       let words : (p : ℕ) → log.flushed ≤ p → word_at (contents new) p ≡ word_at (contents old) p =
-      λ p more. removal_words c.slot.first (removal_end slots) wrote new (inr all) p (omega (arith, end_low, end_is, newer, stamp, more)) ∙ s.words p in
+      λ p more. removal_words c.slot.first (removal_end slots) wrote new (inr all) p (omega (arith, low, from, stamp, more)) ∙ s.words p in
       record {
         holds = record {
           ready = record {
             settled = removals_settle c.slot.first (removal_end slots) wrote new s.settled all;
             fresh = same_fresh log.opened.run log.flushed (contents old) (contents new) words h.ready.fresh;
           };
-          pair = behind h.pair c;
-          names = ap (λ (x : Slots). slots_behind x c.slot) h.names ∙ put_names file h.pair c;
+          pair = put h.pair c;
+          names = ap (λ (x : Slots). put_slot x c.slot) h.names ∙ sym (slots_put h.pair c);
           begins = λ none. absurd (s.some none);
           front = h.front;
           rest = h.rest;

@@ -14,11 +14,11 @@ use Rattle.erm_ckpt.specs.declared.slot.Slot.{Slot}
 use Rattle.erm_ckpt.specs.declared.slot.Slots.{Slots}
 use Rattle.erm_ckpt.specs.declared.slot.TheConstants.{LOG_START}
 use Rattle.erm_ckpt.specs.Checkpoint.{IsCheckpoint, IsSlot, checkpoint_of, rows_of_checkpoint}
-use Rattle.erm_ckpt.specs.Slots.{next_first, other_of, removal_end}
+use Rattle.erm_ckpt.specs.Slots.{next_first, other_of, put_slot, removal_end}
 use Rattle.erm_checkpoint.specs.Phases.{MaySave}
 use Rattle.erm_checkpoint.specs.Saved.{AreRowsAt, slot_bytes}
 use Rattle.erm_checkpoint.specs.Steps.{SavesAll, SavesPart}
-use Rattle.erm_checkpoint.specs.Taken.{HoldsLog, HoldsLogFrom, IsOneRun, slots_behind, state_at, Takes, TakesAll}
+use Rattle.erm_checkpoint.specs.Taken.{HoldsLog, HoldsLogFrom, state_at, Takes, TakesAll}
 use Rattle.erm_checkpoint.proofs.Taken.{flushed_holds, may_save, saved_holds}
 
 -- a buffer that was filled whole
@@ -36,7 +36,6 @@ was_ok (Err e) P fine p = absurd (cc)
 -- what is so where the rows as of a pin were read
 pub record AtPin (sound : Rows → Type 0) (log : Log) (slot : Slot) (slots : Slots) (rows : List (List ℕ)) : Type 0 where
   pub is : IsLog sound log
-  pub one : IsOneRun log
   pub begin : LOG_START < log.opened.at
   pub high : log.opened.at ≤ LOG_END
   pub stamp : slot.stamp ≡ log.flushed
@@ -51,13 +50,12 @@ pub record AtPin (sound : Rows → Type 0) (log : Log) (slot : Slot) (slots : Sl
 
 pub at_pin : (sound : Rows → Type 0) (l m n : Log) (slot : Slot) (slots : Slots) (rows read : List (List ℕ)) → GoesOn l m → n ≡ m → m.flushed ≡ m.tail → l.pinned ≡ Some slot.stamp
     → slot.stamp ≡ l.tail → slot.run ≡ l.opened.run → 1 ≤ slot.run → slot.run ≤ LAST_RUN → slot.first ≡ next_first slots → LOG_START < l.opened.at → l.opened.at ≤ LOG_END
-    → IsLog sound n → IsOneRun n → AreRowsAt m read → rows ≡ read → (IsSlot slot → IsCheckpoint (checkpoint_of slot rows)) → SameRows (rows_of_checkpoint (checkpoint_of slot rows)) (rows_of rows)
+    → IsLog sound n → AreRowsAt m read → rows ≡ read → (IsSlot slot → IsCheckpoint (checkpoint_of slot rows)) → SameRows (rows_of_checkpoint (checkpoint_of slot rows)) (rows_of rows)
     → AtPin sound n slot slots rows
-at_pin sound l m n slot slots rows read on same flushed pinned stamp run run_low run_high first begin high is one reads rows_are is_checkpoint has =
+at_pin sound l m n slot slots rows read on same flushed pinned stamp run run_low run_high first begin high is reads rows_are is_checkpoint has =
     let opened : n.opened ≡ l.opened = ap (λ (x : Log). x.opened) same ∙ ap (λ (x : Log). x.opened) on.log in
     record {
       is = is;
-      one = one;
       begin = subst (λ (s : Start). LOG_START < s.at) (sym opened) begin;
       high = subst (λ (s : Start). s.at ≤ LOG_END) (sym opened) high;
       stamp = stamp ∙ sym (ap (λ (x : Log). x.tail) on.log) ∙ sym flushed ∙ sym (ap (λ (x : Log). x.flushed) same);
@@ -74,16 +72,16 @@ at_pin sound l m n slot slots rows read on same flushed pinned stamp run run_low
 module _
     (short : (row : List ℕ) → stored_length row ≤ length row) (sound : Rows → Type 0) (respects : (a b : Rows) → SameRows a b → sound a ↔ sound b) where
   pub told_holds : (l m : Log) (slots : Slots) (before after : Option (List Step)) → IfSome before (HoldsLog sound l slots) → Tells (HoldsFrom sound l.flushed m) before after → IfSome after (IsReady m)
-      → GoesOn l m → IsLog sound m → IsOneRun m → LOG_START < m.opened.at → IfSome after (HoldsLog sound m slots)
-  told_holds l m slots None after held from ready on is one begin = subst (λ (x : Option (List Step)). IfSome x (HoldsLog sound m slots)) (sym from) tt
-  told_holds l m slots (Some old) after held (mid, told, from) ready on is one begin =
+      → GoesOn l m → IsLog sound m → LOG_START < m.opened.at → IfSome after (HoldsLog sound m slots)
+  told_holds l m slots None after held from ready on is begin = subst (λ (x : Option (List Step)). IfSome x (HoldsLog sound m slots)) (sym from) tt
+  told_holds l m slots (Some old) after held (mid, told, from) ready on is begin =
       let here : IsReady m mid = subst (λ (x : Option (List Step)). IfSome x (IsReady m)) told ready in
-      subst (λ (x : Option (List Step)). IfSome x (HoldsLog sound m slots)) (sym told) (flushed_holds short sound respects l m slots old mid held from here on is one begin)
+      subst (λ (x : Option (List Step)). IfSome x (HoldsLog sound m slots)) (sym told) (flushed_holds short sound respects l m slots old mid held from here on is begin)
 
   may_at : (log : Log) (slots : Slots) (slot : Slot) (rows : List (List ℕ)) (steps : List Step) (h : HoldsLog sound log slots steps) → AtPin sound log slot slots rows
       → MaySave sound (state_at log h.front) [] [] h.pair (checkpoint_of slot rows) steps
   may_at log slots slot rows steps h p =
-      may_save short sound respects log slots slot rows steps h p.is p.one p.begin p.high p.stamp p.run p.run_low p.run_high p.first p.pinned p.read p.is_checkpoint p.same
+      may_save short sound respects log slots slot rows steps h p.is p.begin p.high p.stamp p.run p.run_low p.run_high p.first p.pinned p.read p.is_checkpoint p.same
 
   pub told_takes : (place : ℕ) (m : Log) (slots : Slots) (slot : Slot) (rows : List (List ℕ)) (before mid after : Option (List Step)) → Tells (WritesFrom sound place m) before mid
       → IfSome mid (HoldsLog sound m slots) → AtPin sound m slot slots rows
@@ -132,10 +130,10 @@ module _
       )
 
   pub told_lasts : (m : Log) (slots : Slots) (slot : Slot) (rows : List (List ℕ)) (mid after : Option (List Step)) → IfSome mid (HoldsLog sound m slots) → AtPin sound m slot slots rows
-      → Tells (SavesAll (other_of slots) (slot_bytes slot rows) slot.first (removal_end slots)) mid after → IfSome after (HoldsLogFrom sound m (slots_behind slots slot) slot.stamp)
-  told_lasts m slots slot rows None after held p saves = subst (λ (x : Option (List Step)). IfSome x (HoldsLogFrom sound m (slots_behind slots slot) slot.stamp)) (sym saves) tt
+      → Tells (SavesAll (other_of slots) (slot_bytes slot rows) slot.first (removal_end slots)) mid after → IfSome after (HoldsLogFrom sound m (put_slot slots slot) slot.stamp)
+  told_lasts m slots slot rows None after held p saves = subst (λ (x : Option (List Step)). IfSome x (HoldsLogFrom sound m (put_slot slots slot) slot.stamp)) (sym saves) tt
   told_lasts m slots slot rows (Some steps) after h p (new, told, all) =
-      subst (λ (x : Option (List Step)). IfSome x (HoldsLogFrom sound m (slots_behind slots slot) slot.stamp)) (sym told)
+      subst (λ (x : Option (List Step)). IfSome x (HoldsLogFrom sound m (put_slot slots slot) slot.stamp)) (sym told)
       (saved_holds short sound respects m slots (checkpoint_of slot rows) steps new h (may_at m slots slot rows steps h p) p.stamp
       (subst (λ (file : File). SavesAll file (slot_bytes slot rows) slot.first (removal_end slots) steps new) (ap other_of h.names) all))
 

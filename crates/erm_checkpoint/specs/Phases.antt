@@ -1,5 +1,5 @@
 -- What the slots show behind a checkpoint, and what each image recovers to while it is saved.
-use Rattle.std.specs.Prelude.{◌≡◌, ◌≢◌, ◌≤◌, ◌++◌, ℕ, List, [], Option, Some, None}
+use Rattle.std.specs.Prelude.{◌≡◌, ◌≢◌, ◌≤◌, ◌++◌, ℕ, List, [], Some, None}
 use Rattle.erm_model.specs.Rows.{Rows}
 use Rattle.erm_block.specs.declared.block.Block.{Block}
 use Rattle.erm_block.specs.LogList.{IsLogList}
@@ -7,26 +7,16 @@ use Rattle.erm_bytes.specs.Bytes.{bytes_of}
 use Rattle.erm_log_words.specs.Tears.{ShowsSlot}
 use Rattle.erm_log_words.specs.Words.{word_at}
 use Rattle.erm_outside.specs.declared.disk.File.{File}
-use Rattle.erm_outside.specs.declared.disk.File.TheVariants.{Slot0, Slot1, Segment}
+use Rattle.erm_outside.specs.declared.disk.File.TheVariants.{Segment}
 use Rattle.erm_outside.specs.Disk.{contents, Image, IsSettled, Step}
 use Rattle.erm_ckpt.specs.Checkpoint.{Checkpoint, IsCheckedSlot, IsCheckpoint, rows_of_checkpoint, slot_words}
-use Rattle.erm_ckpt.specs.Recovered.{Pair, State, base, best, end_at, slots_of, state_behind, state_of}
+use Rattle.erm_ckpt.specs.Recovered.{Pair, State, base, best, end_at, put, slots_of, state_behind, state_of}
 use Rattle.erm_ckpt.specs.Slots.{other_of}
 use Rattle.erm_ckpt.specs.States.{RecoversTo, SameState}
-
--- the pair with this in a slot's file
-abbrev pub put_in : File → Pair → Option Checkpoint → Pair
-put_in Slot0 pair shown = record { slot0 = shown; slot1 = pair.slot1 }
-put_in Slot1 pair shown = record { slot0 = pair.slot0; slot1 = shown }
-put_in (Segment n) pair shown = pair
 
 -- the file of the slot that isn't best
 abbrev pub other_file : Pair → File
 other_file pair = other_of (slots_of pair)
-
--- the pair behind a checkpoint
-abbrev pub behind : Pair → Checkpoint → Pair
-behind pair checkpoint = put_in (other_file pair) pair (Some checkpoint)
 
 -- A checkpoint may be saved: nothing is pending, the disk recovers from a state to that behind some blocks, and the checkpoint has
 -- the state behind a front of them, at or above the place where recovery begins. Where no slot checks, the first segment is there.
@@ -53,7 +43,7 @@ RecoversTorn sound state pair checkpoint before image =
 -- words of the log are as before.
 pub record IsSaved (sound : Rows → Type 0) (state : State) (pair : Pair) (checkpoint : Checkpoint) (old new : List Step) : Type 0 where
   pub settled : IsSettled new
-  pub there : RecoversTo sound state (behind pair checkpoint) (contents new)
-  pub some : best (behind pair checkpoint) ≢ None
-  pub from : (base (behind pair checkpoint)).at ≡ checkpoint.slot.stamp
+  pub there : RecoversTo sound state (put pair checkpoint) (contents new)
+  pub some : best (put pair checkpoint) ≢ None
+  pub from : (base (put pair checkpoint)).at ≡ checkpoint.slot.stamp
   pub words : (p : ℕ) → word_at (contents new) p ≡ word_at (contents old) p

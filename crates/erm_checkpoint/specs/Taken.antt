@@ -1,6 +1,5 @@
 -- Checkpoints of a log: what a disk holds of it, and what taking one does and answers.
 use Rattle.std.specs.Prelude.{◌≡◌, ◌≢◌, ◌<◌, ◌≤◌, ◌⊎◌, ◌++◌, ℕ, Bool, false, IsSome, IsTrue, List, [], Some, None, Result, Ok, Err}
-use Rattle.std.specs.List.{All}
 use Rattle.erm_bytes.specs.Bytes.{bytes_of}
 use Rattle.erm_model.specs.declared.limits.TheConstants.{OID_LIMIT}
 use Rattle.erm_model.specs.Rows.{Rows}
@@ -9,8 +8,6 @@ use Rattle.erm_flush.specs.Turns.{GoesOn, IsReady, start_of, WritesFrom}
 use Rattle.erm_block.specs.LogList.{end_of}
 use Rattle.erm_log_words.specs.Tears.{ShowsBlocks}
 use Rattle.erm_log_words.specs.Words.{word_at}
-use Rattle.erm_outside.specs.declared.disk.File.{File}
-use Rattle.erm_outside.specs.declared.disk.File.TheVariants.{Slot0, Slot1, Segment}
 use Rattle.erm_outside.specs.Disk.{contents, Image, Step}
 use Rattle.erm_outside.specs.Faults.{Rose}
 use Rattle.erm_world.specs.Log.{IsWait, Log}
@@ -19,7 +16,7 @@ use Rattle.erm_ckpt.specs.declared.slot.Slots.{Slots}
 use Rattle.erm_ckpt.specs.declared.slot.TheConstants.{LOG_START}
 use Rattle.erm_ckpt.specs.Checkpoint.{Checkpoint, slot_words}
 use Rattle.erm_ckpt.specs.Recovered.{Pair, State, base, best, slots_of, state_behind}
-use Rattle.erm_ckpt.specs.Slots.{next_first, other_of, removal_end}
+use Rattle.erm_ckpt.specs.Slots.{next_first, removal_end}
 use Rattle.erm_ckpt.specs.States.{RecoversPast, RecoversTo}
 use Rattle.erm_checkpoint.specs.declared.stops.CheckpointStop.{CheckpointStop}
 use Rattle.erm_checkpoint.specs.declared.stops.CheckpointStop.TheVariants.{DiskFault, Failed, NotYet, Unfilled}
@@ -29,10 +26,6 @@ use Rattle.erm_checkpoint.specs.Steps.{SavesAll, SavesPart}
 -- the state of a log behind blocks that stand from its start on
 abbrev pub state_at : Log → List Block → State
 state_at log front = state_behind (record { at = log.opened.at; run = log.opened.run; rows = log.opened.rows }) front
-
--- each block that was gathered is of the log's run
-abbrev pub IsOneRun : Log → Type 0
-IsOneRun log = All (λ block. block.run ≡ log.opened.run) log.gathered
 
 -- A disk holds a log as far as it is flushed: nothing is pending, and the disk recovers from these slots to the state at the place
 -- flushed, where no block of the log's run or a later one reads. Where no slot checks, the log's first word is there.
@@ -58,16 +51,6 @@ pub record HoldsLogFrom (sound : Rows → Type 0) (log : Log) (slots : Slots) (s
 abbrev pub RecoversFlushing : (Rows → Type 0) → ℕ → Log → List Block → List Block → Image → Type 0
 RecoversFlushing sound place log front blocks image =
     ShowsBlocks image (end_of (start_of log) front).at (end_of (start_of log) front).run blocks → RecoversPast sound (state_at log []) log.gathered place image
-
--- slots with this one in a slot's file
-abbrev pub put_slot : File → Slots → Slot → Slots
-put_slot Slot0 slots slot = record { slot0 = Some slot; slot1 = slots.slot1 }
-put_slot Slot1 slots slot = record { slot0 = slots.slot0; slot1 = Some slot }
-put_slot (Segment n) slots slot = slots
-
--- the slots behind a checkpoint with this one
-abbrev pub slots_behind : Slots → Slot → Slots
-slots_behind slots slot = put_slot (other_of slots) slots slot
 
 -- A checkpoint was saved to a disk from which it may be saved, or that was begun: it holds the log's state at the place flushed.
 pub record SavesLog (sound : Rows → Type 0) (log : Log) (slots : Slots) (slot : Slot) (old new : List Step) : Type 0 where

@@ -1,18 +1,17 @@
 //! Taking checkpoints.
 ghost use Rattle.std.specs.Prelude.{◌≡◌, ◌<◌, ◌≤◌, false, None, Some, IfOk, IfSome, IsTrue, OnErr, OnOk};
 ghost use Rattle.erm_ckpt.specs.declared.slot.TheConstants.{LOG_START};
-ghost use Rattle.erm_ckpt.specs.Slots.{next_first};
+ghost use Rattle.erm_ckpt.specs.Slots.{next_first, put_slot};
 ghost use Rattle.erm_model.specs.declared.limits.TheConstants.{LAST_RUN, LOG_END};
-ghost use Rattle.erm_model.specs.RowTransaction.{RespectsRows};
 ghost use Rattle.erm_outside.specs.Disk.{Tells};
-ghost use Rattle.erm_checkpoint.specs.Taken.{Checkpoints, Counts, HoldsLog, HoldsLogFrom, IsOneRun, Takes, TakesAll, TakesAt, slot_at_end, slots_behind};
+ghost use Rattle.erm_checkpoint.specs.Taken.{Checkpoints, Counts, HoldsLog, HoldsLogFrom, Takes, TakesAll, TakesAt, slot_at_end};
 
 use crate::{CheckpointStop, read_rows, save_rows};
 use erm_bytes::WORD_BYTES;
-use erm_ckpt::{SLOT_WORDS, Slot, Slots, next_first, other_of};
+use erm_ckpt::{SLOT_WORDS, Slot, Slots, next_first, put_slot};
 use erm_flush::{FlushStop, Flusher};
 use erm_model::{OID_LIMIT, ROW_WORDS, Row, Stamp};
-use erm_outside::{Disk, File};
+use erm_outside::Disk;
 use erm_record::stored_words_tell_the_row;
 use erm_world::LogWorld;
 use std::alloc::{AllocError, Global};
@@ -67,10 +66,6 @@ impl Checkpointer {
         requires begins { LOG_START < (W.log world.old).opened.at }
         requires high { (W.log world.old).opened.at ≤ LOG_END }
 
-        // Each block that the world gathers is of its log's run, and its law looks at rows of objects that there may be alone.
-        requires one_run { (w : W) → W.log_stands w → IsOneRun (W.log w) }
-        requires respects { RespectsRows W.rows_law }
-
         // After a fault nothing is asked of the disk.
         requires holds { flusher.old ≡ false → IfSome (D.told disk.old) (HoldsLog W.rows_law.meets (W.log world.old) slots.old) }
 
@@ -91,7 +86,7 @@ impl Checkpointer {
 
         // The slots are those that were given, and where the checkpoint was taken its own.
         ensures slots { OnErr result (slots.new ≡ slots.old) }
-        ensures put { OnOk result (slots.new ≡ slots_behind slots.old (slot_at_end (W.log world.new) run slots.old)) }
+        ensures put { OnOk result (slots.new ≡ put_slot slots.old (slot_at_end (W.log world.new) run slots.old)) }
     {
         let stamp = world.pin();
         let slot = Slot {
@@ -102,7 +97,7 @@ impl Checkpointer {
         let taken = self.take(flusher, disk, world, slots, &slot);
         world.unpin();
         taken?;
-        put(slots, slot);
+        put_slot(slots, slot);
         Ok(stamp)
     }
 
@@ -124,8 +119,6 @@ impl Checkpointer {
         requires first { slot.now.first ≡ next_first slots.now }
         requires begins { LOG_START < (W.log world.old).opened.at }
         requires high { (W.log world.old).opened.at ≤ LOG_END }
-        requires one_run { (w : W) → W.log_stands w → IsOneRun (W.log w) }
-        requires respects { RespectsRows W.rows_law }
         requires holds { flusher.old ≡ false → IfSome (D.told disk.old) (HoldsLog W.rows_law.meets (W.log world.old) slots.now) }
         ensures stands { W.log_stands world.new }
         ensures keeps { W.keeps world.old world.new }
@@ -134,10 +127,11 @@ impl Checkpointer {
         ensures still { IsTrue flusher.old → D.told disk.new ≡ D.told disk.old }
         ensures any_moment { flusher.old ≡ false → Tells (Takes W.rows_law.meets (W.log world.old).flushed (W.log world.new) slots.now slot.now) (D.told disk.old) (D.told disk.new) }
         ensures saved { OnOk result (Tells (TakesAll W.rows_law.meets (W.log world.old).flushed (W.log world.new) slots.now slot.now) (D.told disk.old) (D.told disk.new)) }
-        ensures lasts { OnOk result (IfSome (D.told disk.new) (HoldsLogFrom W.rows_law.meets (W.log world.new) (slots_behind slots.now slot.now) slot.now.stamp)) }
+        ensures lasts { OnOk result (IfSome (D.told disk.new) (HoldsLogFrom W.rows_law.meets (W.log world.new) (put_slot slots.now slot.now) slot.now.stamp)) }
         ensures stays { OnErr result (flusher.new ≡ false → IfSome (D.told disk.new) (HoldsLog W.rows_law.meets (W.log world.new) slots.now)) }
     {
         stored_words_tell_the_row();
+        W::respects_rows();
         match flusher.flush_all(disk, world) {
             FlushStop::Empty { .. } => {}
             FlushStop::Unfilled { at } => return Err(CheckpointStop::Unfilled { at }),
@@ -164,16 +158,5 @@ impl Checkpointer {
             return Err(CheckpointStop::DiskFault);
         }
         Ok(())
-    }
-}
-
-// Puts what a slot says in the place of the one that isn't best.
-fn put(slots: &mut Slots, slot: Slot)
-    ensures { slots.new ≡ slots_behind slots.old slot }
-{
-    match other_of(slots) {
-        File::Slot0 => slots.slot0 = Some(slot),
-        File::Slot1 => slots.slot1 = Some(slot),
-        File::Segment(_) => {}
     }
 }

@@ -10,9 +10,9 @@ ghost use Rattle.erm_world.specs.Log.{IsLog, Log};
 ghost use Rattle.erm_ckpt.specs.declared.slot.Slot.{Slot as DiskSlot};
 ghost use Rattle.erm_ckpt.specs.declared.slot.Slots.{Slots as DiskSlots};
 ghost use Rattle.erm_ckpt.specs.declared.slot.TheConstants.{LOG_START};
-ghost use Rattle.erm_ckpt.specs.Slots.{next_first, removal_end};
+ghost use Rattle.erm_ckpt.specs.Slots.{next_first, put_slot, removal_end};
 ghost use Rattle.erm_checkpoint.specs.Saved.{AreRowsAt};
-ghost use Rattle.erm_checkpoint.specs.Taken.{HoldsLog, HoldsLogFrom, IsOneRun, RecoversFlushing, slots_behind, state_at};
+ghost use Rattle.erm_checkpoint.specs.Taken.{HoldsLog, HoldsLogFrom, RecoversFlushing, state_at};
 ghost use Rattle.erm_log_words.specs.Words.{word_at};
 ghost use Rattle.erm_outside.specs.Disk.{AtEachMoment, IsSettled, Step, contents};
 ghost use Rattle.erm_ckpt.specs.Checkpoint.{Checkpoint, IsCheckpoint, IsSlot, checkpoint_of, rows_of_checkpoint, slot_words};
@@ -53,7 +53,7 @@ pub fn removals_spare_the_log<L: RowLaw>()
 /// was gathered, at or above the place flushed before, where it shows each block that is written whole or none there.
 pub fn flushes_recover<L: RowLaw>()
     ensures { (before now : Log) (slots : DiskSlots) (old new : List Step) → HoldsLog L.law.meets before slots old
-        → now.opened ≡ before.opened → ((rest : List Block) × (now.gathered ≡ before.gathered ++ rest)) → IsLog L.law.meets now → IsOneRun now
+        → now.opened ≡ before.opened → ((rest : List Block) × (now.gathered ≡ before.gathered ++ rest)) → IsLog L.law.meets now
         → LOG_START < now.opened.at → (flushes : WritesFrom L.law.meets before.flushed now old new)
         → AtEachMoment (RecoversFlushing L.law.meets before.flushed now flushes.front flushes.blocks) old new }
 {
@@ -64,7 +64,7 @@ pub fn flushes_recover<L: RowLaw>()
 /// Where a disk held a log as far as it was flushed, and the log was flushed further, the disk holds it so far too.
 pub fn flushed_logs_are_held<L: RowLaw>()
     ensures { (before now : Log) (slots : DiskSlots) (old new : List Step) → HoldsLog L.law.meets before slots old
-        → HoldsFrom L.law.meets before.flushed now old new → IsReady now new → GoesOn before now → IsLog L.law.meets now → IsOneRun now
+        → HoldsFrom L.law.meets before.flushed now old new → IsReady now new → GoesOn before now → IsLog L.law.meets now
         → LOG_START < now.opened.at → HoldsLog L.law.meets now slots new }
 {
     L::respects_rows();
@@ -75,7 +75,7 @@ pub fn flushed_logs_are_held<L: RowLaw>()
 /// disk holds the log still, from the checkpoint's place on.
 pub fn checkpoints_hold_logs<L: RowLaw>()
     ensures may { (log : Log) (slots : DiskSlots) (slot : DiskSlot) (rows : List (List ℕ)) (steps : List Step) (holds : HoldsLog L.law.meets log slots steps)
-        → IsLog L.law.meets log → IsOneRun log → LOG_START < log.opened.at → log.opened.at ≤ LOG_END
+        → IsLog L.law.meets log → LOG_START < log.opened.at → log.opened.at ≤ LOG_END
         → slot.stamp ≡ log.flushed → slot.run ≡ log.opened.run → 1 ≤ slot.run → slot.run ≤ LAST_RUN → slot.first ≡ next_first slots
         → log.pinned ≡ Some slot.stamp → AreRowsAt log rows
         → (IsSlot slot → IsCheckpoint (checkpoint_of slot rows)) → SameRows (rows_of_checkpoint (checkpoint_of slot rows)) (rows_of rows)
@@ -83,7 +83,7 @@ pub fn checkpoints_hold_logs<L: RowLaw>()
     ensures saved { (log : Log) (slots : DiskSlots) (checkpoint : Checkpoint) (old new : List Step) (holds : HoldsLog L.law.meets log slots old)
         → MaySave L.law.meets (state_at log holds.front) [] [] holds.pair checkpoint old → checkpoint.slot.stamp ≡ log.flushed
         → SavesAll (other_file holds.pair) (bytes_of (slot_words checkpoint)) checkpoint.slot.first (removal_end slots) old new
-        → HoldsLogFrom L.law.meets log (slots_behind slots checkpoint.slot) checkpoint.slot.stamp new }
+        → HoldsLogFrom L.law.meets log (put_slot slots checkpoint.slot) checkpoint.slot.stamp new }
 {
     L::respects_rows();
     stored_words_tell_the_row();

@@ -75,7 +75,7 @@ behind a checkpoint false is low = inr (refl, omega (arith, low, at_or_behind a.
 -- of two, by which of them was the best
 of_two : (a b checkpoint : Checkpoint) (test : Bool) → IfSome (cond test (Some b) (Some a)) (λ old. old.slot.stamp ≤ checkpoint.slot.stamp)
     → IsBestOrTie (cond test (Some b) (Some a)) checkpoint
-    (best (pair_with (record { slot0 = Some a; slot1 = Some b }) (cond test Slot0 Slot1) checkpoint))
+    (best (pair_with (record { slot0 = Some a; slot1 = Some b }) (cond test Slot0 Slot1) (Some checkpoint)))
 of_two a b checkpoint true low = inl (in_front checkpoint b low)
 of_two a b checkpoint false low = behind a checkpoint (nat_lt a.slot.stamp checkpoint.slot.stamp) refl low
 
@@ -91,7 +91,7 @@ pub best_put : (pair : Pair) (checkpoint : Checkpoint) → IfSome (best pair) (�
 best_put pair checkpoint low = best_with pair.slot0 pair.slot1 checkpoint low
 
 -- the slots of the checkpoints with another one
-slots_of_with : (pair : Pair) (file : File) (checkpoint : Checkpoint) → slots_of (pair_with pair file checkpoint) ≡ slots_with (slots_of pair) file checkpoint.slot
+slots_of_with : (pair : Pair) (file : File) (checkpoint : Checkpoint) → slots_of (pair_with pair file (Some checkpoint)) ≡ slots_with (slots_of pair) file checkpoint.slot
 slots_of_with pair Slot0 checkpoint = refl
 slots_of_with pair Slot1 checkpoint = refl
 slots_of_with pair (Segment n) checkpoint = refl

@@ -59,14 +59,14 @@ better (Some a) (Some b) = if nat_lt a.slot.stamp b.slot.stamp then Some b else 
 abbrev pub best : Pair → Option Checkpoint
 best pair = better pair.slot0 pair.slot1
 
--- the checkpoints with another one in a file
-abbrev pub pair_with : Pair → File → Checkpoint → Pair
-pair_with pair Slot0 checkpoint = record pair { slot0 = Some checkpoint }
-pair_with pair _ checkpoint = record pair { slot1 = Some checkpoint }
+-- the checkpoints where a slot's file shows another one, or none
+abbrev pub pair_with : Pair → File → Option Checkpoint → Pair
+pair_with pair Slot0 shown = record pair { slot0 = shown }
+pair_with pair _ shown = record pair { slot1 = shown }
 
 -- the checkpoints after another one is written: it takes the place of the one that isn't the best
 abbrev pub put : Pair → Checkpoint → Pair
-put pair checkpoint = pair_with pair (other_of (slots_of pair)) checkpoint
+put pair checkpoint = pair_with pair (other_of (slots_of pair)) (Some checkpoint)
 
 -- the state behind a checkpoint, or at the start of the log
 abbrev pub state_of : Option Checkpoint → State

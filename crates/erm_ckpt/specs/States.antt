@@ -1,12 +1,12 @@
 -- Disks and images that recover to a state of the log: that behind the blocks of this run of the engine, or behind a front of them.
-use Rattle.std.specs.Prelude.{◌≡◌, ℕ, ◌+◌, ◌≤◌, ◌↔◌, List, ◌++◌, Some}
+use Rattle.std.specs.Prelude.{◌≡◌, ℕ, ◌+◌, ◌≤◌, ◌↔◌, List, ◌++◌}
 use Rattle.erm_model.specs.Rows.{Rows}
 use Rattle.erm_model.specs.RowTransaction.{SameRows}
 use Rattle.erm_block.specs.declared.block.Block.{Block}
 use Rattle.erm_outside.specs.Disk.{Image, IsSettled, Step, contents}
 use Rattle.erm_log_words.specs.Tears.{IsFresh}
-use Rattle.erm_ckpt.specs.Checkpoint.{Checkpoint, Checks, IsCheckpoint, rows_of_checkpoint}
-use Rattle.erm_ckpt.specs.Recovered.{Pair, Recovers, State, base, state_behind, state_of}
+use Rattle.erm_ckpt.specs.Checkpoint.{Checkpoint, Checks}
+use Rattle.erm_ckpt.specs.Recovered.{Pair, Recovers, State, base, state_behind}
 
 -- two states say the same of each object that there may be
 pub record SameState (a b : State) : Type 0 where
@@ -39,12 +39,3 @@ pub record HoldsAll (sound : Rows → Type 0) (state : State) (pair : Pair) (ste
 -- the same slots check in two files
 abbrev pub SameChecks : (Rows → Type 0) → List ℕ → List ℕ → Type 0
 SameChecks sound old new = (checkpoint : Checkpoint) → Checks sound old checkpoint ↔ Checks sound new checkpoint
-
--- a checkpoint has the state behind a front of these blocks, which stand from a state on
-pub record Saves (sound : Rows → Type 0) (opened : State) (blocks : List Block) (checkpoint : Checkpoint) : Type 0 where
-  pub front : List Block
-  pub rest : List Block
-  pub split : blocks ≡ front ++ rest
-  pub is : IsCheckpoint checkpoint
-  pub state : SameState (state_of (Some checkpoint)) (state_behind opened front)
-  pub are_sound : sound (rows_of_checkpoint checkpoint)

@@ -1,5 +1,5 @@
 -- Opening a log: an Open block at the place recovered, of the next run.
-use Rattle.std.specs.Prelude.{◌≡◌, ℕ, ◌+◌, ◌⊎◌, List, [], ◌++◌, Option}
+use Rattle.std.specs.Prelude.{◌≡◌, ℕ, ◌+◌, ◌⊎◌, List, [], ◌++◌, Option, Result, Err}
 use Rattle.erm_model.specs.Rows.{Rows}
 use Rattle.erm_model.specs.declared.limits.TheConstants.{LEAST_BLOCK}
 use Rattle.erm_block.specs.declared.block.Block.{Block}
@@ -10,6 +10,9 @@ use Rattle.erm_log_words.specs.Tears.{IsFresh, ShowsBlock}
 use Rattle.erm_log_disk.specs.Writes.{AllWriteWords}
 use Rattle.erm_ckpt.specs.Recovered.{Pair, State}
 use Rattle.erm_ckpt.specs.States.{HoldsAll, RecoversTo}
+use Rattle.erm_recover.specs.declared.open.OpenStop.{OpenStop}
+use Rattle.erm_recover.specs.declared.open.OpenStop.TheVariants.{LogEnd, RunsEnd}
+use Rattle.erm_recover.specs.declared.recovered.Recovered.{Recovered}
 
 -- the Open block that the next run writes at this place, behind a block of this run
 abbrev pub open_block : ℕ → ℕ → Block
@@ -46,6 +49,12 @@ pub record Opens (sound : Rows → Type 0) (state : State) (pair : Pair) (old ne
 -- the same, as far as the disk tells
 abbrev pub OpensTold : (Rows → Type 0) → State → Pair → Option (List Step) → Option (List Step) → Type 0
 OpensTold sound state pair before after = Tells (Opens sound state pair) before after
+
+-- why a log wasn't opened, but for a fault: its last run, or its next free word, is told, and nothing was done
+abbrev pub StopsAs : Result ℕ OpenStop → Recovered → Option (List Step) → Option (List Step) → Type 0
+StopsAs (Err (RunsEnd run)) recovered before after = (run ≡ recovered.run) × (after ≡ before)
+StopsAs (Err (LogEnd tail)) recovered before after = (tail ≡ recovered.stamp) × (after ≡ before)
+StopsAs result recovered before after = Unit {0}
 
 -- the disk holds the state behind the Open block, as far as it tells
 abbrev pub HoldsOpened : (Rows → Type 0) → State → Pair → Option (List Step) → Option (List Step) → Type 0

@@ -8,7 +8,7 @@ ghost use Rattle.erm_outside.specs.Disk.{IsSettled, contents};
 ghost use Rattle.erm_outside.specs.Faults.{Rose};
 ghost use Rattle.erm_log_words.specs.Tears.{IsFresh};
 ghost use Rattle.erm_ckpt.specs.Recovered.{Pair};
-ghost use Rattle.erm_recover.specs.Opening.{HoldsOpened, OpensTold, open_block};
+ghost use Rattle.erm_recover.specs.Opening.{HoldsOpened, OpensTold, StopsAs, open_block};
 ghost use Rattle.erm_recover.specs.Recovering.{IsRecovered, state_recovered};
 
 use crate::Recovered;
@@ -91,6 +91,9 @@ pub fn open_log<D: Disk, L: RowLaw>(disk: &mut D, recovered: &Recovered) -> Resu
     ensures lasts { OnOk result ((pair : Pair) → IfSome (D.told disk.old) (λ steps. IsRecovered L.law.meets steps recovered.now pair)
         → HoldsOpened L.law.meets (state_recovered recovered.now) pair (D.told disk.old) (D.told disk.new)) }
     ensures tail { IfOk result (λ tail. tail ≡ recovered.now.stamp + LEAST_BLOCK) }
+
+    // Where it stops but for a fault nothing was done, and it tells what was recovered.
+    ensures stops { StopsAs result recovered.now (D.told disk.old) (D.told disk.new) }
 
     // The end of runs comes before that of the log, and the disk's count of faults rises exactly where it failed.
     ensures runs_end { result ≡ Err (OpenStop.RunsEnd recovered.now.run) ↔ (LAST_RUN ≤ recovered.now.run) }

@@ -44,7 +44,7 @@ returns-clause-lasts g c =
     let m = g.W.LogWorld.log c.unpin.new.self in
     let sound = g.W.LogWorld.rows_law.meets in
     let told = g.D.Disk.told c.take-taken.new.disk in
-    subst (λ (slots : Slots). IfSome told (HoldsLogFrom sound m slots c.pin-stamp.result)) (sym c.put.ensures)
+    subst (λ (slots : Slots). IfSome told (HoldsLogFrom sound m slots c.pin-stamp.result)) (sym c.put_slot.ensures)
     (told_lasts_other sound n m n.tail None _ c.pin-stamp.result told c.unpin.ensures.unpinned c.in_ok-taken.ensures.lasts)
 
 pub returns-clause-stays : goal.returns-clause-stays
@@ -53,6 +53,6 @@ returns-clause-stays g c = λ fine.
     let m = g.W.LogWorld.log c.unpin.new.self in
     let sound = g.W.LogWorld.rows_law.meets in
     let told = g.D.Disk.told c.take-taken.new.disk in
-    subst (λ (slots : Slots). IfSome told (HoldsLog sound m slots)) (sym c.put.ensures)
+    subst (λ (slots : Slots). IfSome told (HoldsLog sound m slots)) (sym c.put_slot.ensures)
     (told_holds_from sound m _ c.pin-stamp.result told
     (told_lasts_other sound n m n.tail None _ c.pin-stamp.result told c.unpin.ensures.unpinned c.in_ok-taken.ensures.lasts))
