@@ -1,0 +1,78 @@
+-- What each image recovers to while a log is flushed.
+use Rattle.std.proofs.Common.{◌≡◌, ◌≢◌, ℕ, ◌<◌, ◌≤◌, ◌↔◌, ◌++◌, List, [], ◌∷◌, length, refl, sym, ap, ◌∙◌, subst, arith, append_assoc}
+use Rattle.erm_model.specs.Rows.{Rows}
+use Rattle.erm_model.specs.RowTransaction.{SameRows}
+use Rattle.erm_record.specs.Stored.{stored_length}
+use Rattle.erm_block.specs.declared.block.Block.{Block}
+use Rattle.erm_block.specs.LogList.{End, end_of}
+use Rattle.erm_flush.specs.Turns.{WritesFrom, start_of}
+use Rattle.erm_flush.proofs.Flushes.{other_words}
+use Rattle.erm_log_disk.specs.Chains.{MayStand}
+use Rattle.erm_log_disk.specs.Writes.{AllWriteWords}
+use Rattle.erm_log_disk.proofs.Chains.{may_stand-behind}
+use Rattle.erm_log_words.specs.Tears.{ShowsBlocks}
+use Rattle.erm_log_words.specs.Words.{log_words}
+use Rattle.erm_outside.specs.Disk.{contents, Image, IsImage, Step}
+use Rattle.erm_ckpt.specs.declared.slot.Slots.{Slots}
+use Rattle.erm_ckpt.specs.declared.slot.TheConstants.{LOG_START}
+use Rattle.erm_ckpt.specs.Recovered.{State, end_at, state_behind}
+use Rattle.erm_ckpt.specs.States.{RecoversPast, RecoversTo}
+use Rattle.erm_checkpoint.specs.Taken.{HoldsLog, RecoversFlushing, state_at}
+use Rattle.erm_checkpoint.proofs.Flushed.{flush_moments}
+use Rattle.erm_checkpoint.proofs.Taken.{end_state, same_front, stands_from}
+use Rattle.erm_world.specs.Log.{IsLog, Log, Start, words_of}
+use Rattle.erm_crash.specs.Kept.{KeepsBlocks}
+use Rattle.erm_crash.specs.Moments.{IsMoment, TearsApart}
+use Rattle.erm_crash.proofs.Moments.{from_each, last_write, parts_of, settled_image}
+
+module _
+    (short : (row : List ℕ) → stored_length row ≤ length row) (sound : Rows → Type 0) (respects : (a b : Rows) → SameRows a b → sound a ↔ sound b) where
+  -- the disk recovered to the state behind the front from which blocks were written
+  front_there : (l m : Log) (slots : Slots) (old : List Step) (front blocks : List Block) (h : HoldsLog sound l slots old) → m.opened ≡ l.opened
+      → (more : (rest : List Block) × (m.gathered ≡ l.gathered ++ rest)) → IsLog sound m → m.gathered ≡ front ++ blocks → (end_of (start_of m) front).at ≡ l.flushed
+      → RecoversTo sound (state_at m front) h.pair (contents old)
+  front_there l m slots old front blocks h opened more is split place =
+      let long : m.gathered ≡ h.front ++ (h.rest ++ more.0) = more.1 ∙ ap (λ (bs : List Block). bs ++ more.0) h.split ∙ append_assoc h.front h.rest more.0 in
+      let states : state_at m h.front ≡ state_at l h.front = ap (λ (s : Start). state_behind (record { at = s.at; run = s.run; rows = s.rows }) h.front) opened in
+      let fronts : h.front ≡ front = same_front short sound respects m h.front (h.rest ++ more.0) front blocks is long split (ap (λ (s : State). s.at) states ∙ h.to ∙ sym place) in
+      subst (λ (s : State). RecoversTo sound s h.pair (contents old)) (sym states ∙ ap (state_at m) fronts) h.there
+
+  at_flush : (l m : Log) (slots : Slots) (old new now : List Step) → HoldsLog sound l slots old → m.opened ≡ l.opened → (more : (rest : List Block) × (m.gathered ≡ l.gathered ++ rest))
+      → IsLog sound m → LOG_START < m.opened.at → (w : WritesFrom sound l.flushed m old new) (moment : IsMoment old new now) (before : List Step) → moment.before ≡ before
+      → (image : Image) → IsImage now image → TearsApart sound now image → RecoversPast sound (state_at m []) m.gathered l.flushed image
+  at_flush l m slots old new now h opened more is begin w moment [] none image is_image tears =
+      let same : now ≡ old = moment.since ∙ ap (λ (ss : List Step). ss ++ old) none in
+      let place : (state_at m w.front).at ≡ l.flushed = ap (λ (s : State). s.at) (sym (end_state m w.front)) ∙ w.place_is in
+      settled_image (RecoversPast sound (state_at m []) m.gathered l.flushed) old image h.ready.settled (subst (λ (ss : List Step). IsImage ss image) same is_image)
+      (record {
+        front = w.front;
+        rest = w.blocks;
+        split = w.split;
+        low = omega (arith, place);
+        pair = h.pair;
+        there = front_there l m slots old w.front w.blocks h opened more is w.split w.place_is;
+      })
+  at_flush l m slots old new now h opened more is begin w moment (s ∷ before) some image is_image tears =
+      let end : End = end_of (start_of m) w.front in
+      let here : State = state_at m w.front in
+      let is_end = end_state m w.front in
+      let all : MayStand sound (start_of m) (w.front ++ w.blocks) = subst (MayStand sound (start_of m)) w.split (stands_from sound m is) in
+      let behind : MayStand sound (end_at (contents old) (record { at = end.at; run = end.run; rows = end.rows })) w.blocks =
+      other_words sound end (log_words (contents old) end.at) w.blocks (may_stand-behind sound (start_of m) w.front w.blocks all) in
+      let stand : MayStand sound (end_at (contents old) here) w.blocks = subst (λ (t : State). MayStand sound (end_at (contents old) t) w.blocks) is_end behind in
+      let parts = parts_of old new w.writes.more now moment w.writes.steps in
+      let wrote : AllWriteWords end.at (words_of w.blocks) moment.before =
+      last_write end.at (words_of w.blocks) moment.after moment.before (subst (AllWriteWords end.at (words_of w.blocks)) parts w.writes.writes) in
+      let writes : AllWriteWords here.at (words_of w.blocks) moment.before = subst (λ (t : State). AllWriteWords t.at (words_of w.blocks) moment.before) is_end wrote in
+      let done : moment.before ≢ [] = λ none. let e : s ∷ before ≡ [] = sym some ∙ none in absurd (cc) in
+      let shown : ShowsBlocks image here.at here.run w.blocks =
+      tears.blocks old moment.before here h.pair w.blocks moment.since done h.ready.settled (front_there l m slots old w.front w.blocks h opened more is w.split w.place_is) stand writes in
+      let shows : ShowsBlocks image end.at end.run w.blocks = subst (λ (t : State). ShowsBlocks image t.at t.run w.blocks) (sym is_end) shown in
+      from_each (RecoversFlushing sound l.flushed m w.front w.blocks) old new now (flush_moments short sound respects l m slots old new h opened more is begin w) moment image is_image shows
+
+  pub flush_keeps : (l m : Log) (slots : Slots) (old new : List Step) → HoldsLog sound l slots old → m.opened ≡ l.opened → ((rest : List Block) × (m.gathered ≡ l.gathered ++ rest))
+      → IsLog sound m → LOG_START < m.opened.at → WritesFrom sound l.flushed m old new → KeepsBlocks sound (state_at m []) m.gathered l.flushed old new
+  flush_keeps l m slots old new h opened more is begin w = (
+    (w.writes.more, w.writes.steps),
+    λ now moment image is_image tears. at_flush l m slots old new now h opened more is begin w moment moment.before refl image is_image tears,
+  )

@@ -1,0 +1,6 @@
+pub mod Moments
+pub mod Opened
+pub mod Flushed
+pub mod Saved
+pub mod Since
+pub mod Stays
