@@ -80,8 +80,8 @@ told_kept v l a t place did = refl
 -- a line of the log tells where it is flushed then
 logged_told : (v t : View) (c : Command) (a : Answer) (place : ℕ) → DidLog v c a t → flushed_told place a ≡ t.flushed
 logged_told v t command.Flush (answer.Flushed p) place did = sym did.0.up
-logged_told v t command.Flush (answer.Empty p) place did = did.1 ∙ sym (ap (λ (x : View). x.flushed) did.0)
-logged_told v t command.Flush (answer.Unfilled p) place did = did.1 ∙ sym (ap (λ (x : View). x.flushed) did.0)
+logged_told v t command.Flush (answer.Empty p) place did = sym did.0.up
+logged_told v t command.Flush (answer.Unfilled p) place did = sym did.0.up
 logged_told v t command.Checkpoint (answer.Checkpointed p) place did = sym did.0.up
 logged_told v t command.Checkpoint (answer.Unfilled p) place did = sym did.0.up
 logged_told v t c a place did = absurd did

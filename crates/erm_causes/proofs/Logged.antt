@@ -23,7 +23,7 @@ use Rattle.erm_good_report.specs.Phases as report
 use Rattle.erm_good_report.specs.Refusals.{HasLogCause, HasUnfilledCause, IsAboveAll, IsLeastUndecided, IsSealedWith, IsUndecidedAt, Moment, NoneIsSealed, flushed_at, flushed_told, last_commit, moment_at, stamp_committed}
 use Rattle.erm_good_report.specs.Transactions.{Aborts, Commits, Ending, Excludes, Progress, Said, Transaction, Unfinished, heard, nothing, progress_of, stamp_of, stamp_of_ending}
 use Rattle.erm_lines.specs.Answers.{DidAskDurable, DidCommand, DidLine, IsCommitted, IsLastCommit}
-use Rattle.erm_lines.specs.Executions.{AreClosed, DidLog, DidLogLine, IsDecidedTo, IsExecution, IsOpeningOf, IsPendingAt, IsRun, line_moves, move_of, said_in}
+use Rattle.erm_lines.specs.Executions.{AreClosed, DidLog, DidLogLine, IsCourse, IsDecidedTo, IsExecution, IsOpeningOf, IsPendingAt, line_moves, move_of, said_in}
 use Rattle.erm_lines.specs.Laws.{ExecutionsGoOn, ExecutionsTell}
 use Rattle.erm_lines.specs.Told.{EndsAs, Tells, TellsCurrent, TellsOver}
 use Rattle.erm_lines.proofs.Moved.{moved, said_move}
@@ -169,7 +169,7 @@ no_refusal (answer.Unfilled place) is = refl
 no_refusal (answer.Checkpointed place) is = refl
 no_refusal a is = absurd is
 
-module _ (tell : ExecutionsTell) (go : ExecutionsGoOn) (v t : View) (script : List ScriptLine) (answers : List Answer) (run : IsRun v script answers t)
+module _ (tell : ExecutionsTell) (go : ExecutionsGoOn) (v t : View) (script : List ScriptLine) (answers : List Answer) (run : IsCourse v script answers t)
     (closed : List Closed) (are : AreClosed run.closing closed) (opening : Opening) (starts : IsOpeningOf v opening)
     (i : ℕ) (l : ScriptLine) (a : Answer) (at : slice_get script i ≡ Some l) (answered : slice_get answers i ≡ Some a) where
   x : AtLine v script answers run.between i l a

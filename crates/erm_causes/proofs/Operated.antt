@@ -104,5 +104,5 @@ module _ (v u : View) (seat : ℕ) (c : Command) (active : phase_at v seat ≡ A
 
   pub operated : (a : Answer) → DidOperation v seat c a u → Operated v seat c a u
   operated (answer.Replied r) (op, is, did) = whole _ did (λ q asked p. refl)
-  operated (answer.Cut cells) (none, did) = whole [] did (λ q asked p. refl)
+  operated (answer.Cut cells) (none, few, did) = whole [] did (λ q asked p. refl)
   operated a did = refused_as a did

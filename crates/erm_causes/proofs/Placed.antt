@@ -240,7 +240,7 @@ goes_steps v t seat active goes = one_steps v t seat goes.others goes.opening (o
 
 operated_steps : (v t : View) (seat : ℕ) (c : Command) (a : Answer) → phase_at v seat ≡ Active → DidOperation v seat c a t → Steps v t
 operated_steps v t seat c (answer.Replied r) active did = goes_steps v t seat active (ran_goes did.2.events v t seat active did.2.ran).0
-operated_steps v t seat c (answer.Cut cells) active did = goes_steps v t seat active (ran_goes did.1.events v t seat active did.1.ran).0
+operated_steps v t seat c (answer.Cut cells) active did = goes_steps v t seat active (ran_goes did.2.events v t seat active did.2.ran).0
 operated_steps v t seat c a active did = cut_off did
   where
     cut_off : WasRefusedAs v seat c a t → Steps v t
@@ -283,9 +283,40 @@ module _ (v t : View) (seat : ℕ) (before : Placed v) where
   asked c a (Some refusal) is did = placed_then v t before (still_steps v t did)
   asked c a None is did = commanded c a is did
 
--- LINES OF THE LOG. What is flushed goes up to where all is decided.
+-- LINES OF THE LOG. What is flushed goes up to where all is decided, or stays.
 module _ (v t : View) (before : Placed v) where
-  module _ (place : ℕ) (did : FlushesTo v place t) (decided : IsDecidedTo v place) where
+  -- a place within the log, at no block, and below all that isn't decided
+  record IsPlace (place : ℕ) : Type 0 where
+    within : place ≤ v.tail
+    beside : (q : ℕ) (w : Work) (s : ℕ) → IsSession v q → HasStamp v q w s → (place ≤ s) ⊎ (s + size_of w ≤ place)
+    least : (s : ℕ) → IsPendingAt v s → place ≤ s
+
+  decided_place : (place : ℕ) → IsDecidedTo v place → IsPlace place
+  decided_place place decided = record { within = by decided.stop; beside = beside; least = decided.least }
+    where
+      by : (place ≡ v.tail) ⊎ IsPendingAt v place → place ≤ v.tail
+      by (inl is) = omega (arith, is)
+      by (inr is) = omega (arith, before.ends is.seat is.work place is.session (inr is.sealed))
+
+      beside : (q : ℕ) (w : Work) (s : ℕ) → IsSession v q → HasStamp v q w s → (place ≤ s) ⊎ (s + size_of w ≤ place)
+      beside q w s session has = from decided.stop
+        where
+          below : IsPendingAt v place → (s < place) ⊎ (place ≤ s) → (place ≤ s) ⊎ (s + size_of w ≤ place)
+          below is (inl less) = inr (before.apart q is.seat w is.work s place session is.session has (inr is.sealed) less)
+          below is (inr above) = inl above
+
+          from : (place ≡ v.tail) ⊎ IsPendingAt v place → (place ≤ s) ⊎ (s + size_of w ≤ place)
+          from (inl is) = inr (omega (arith, is, before.ends q w s session has))
+          from (inr is) = below is (cases_lt s place)
+
+  flushed_place : (place : ℕ) → place ≡ v.flushed → IsPlace place
+  flushed_place place is = record {
+    within = omega (arith, is, before.low);
+    beside = λ q w s session has. subst (λ (n : ℕ). (n ≤ s) ⊎ (s + size_of w ≤ n)) (sym is) (before.flushed q w s session has);
+    least = λ s pending. omega (arith, is, before.pending s pending);
+  }
+
+  module _ (place : ℕ) (did : FlushesTo v place t) (at : IsPlace place) where
     flushes_session : (q : ℕ) → IsSession t q → IsSession v q
     flushes_session q session = subst (λ (o : world.Opening). (0 < q) × (q ≤ o.sessions)) did.flushes.opening session
 
@@ -294,38 +325,20 @@ module _ (v t : View) (before : Placed v) where
         subst (HasIn w s)
         (did.flushes.session q (flushes_session q session)) has
 
-    within : place ≤ v.tail
-    within = by decided.stop
-      where
-        by : (place ≡ v.tail) ⊎ IsPendingAt v place → place ≤ v.tail
-        by (inl is) = omega (arith, is)
-        by (inr is) = omega (arith, before.ends is.seat is.work place is.session (inr is.sealed))
-
-    beside : (q : ℕ) (w : Work) (s : ℕ) → IsSession v q → HasStamp v q w s → (place ≤ s) ⊎ (s + size_of w ≤ place)
-    beside q w s session has = by decided.stop
-      where
-        below : IsPendingAt v place → (s < place) ⊎ (place ≤ s) → (place ≤ s) ⊎ (s + size_of w ≤ place)
-        below is (inl less) = inr (before.apart q is.seat w is.work s place session is.session has (inr is.sealed) less)
-        below is (inr above) = inl above
-
-        by : (place ≡ v.tail) ⊎ IsPendingAt v place → (place ≤ s) ⊎ (s + size_of w ≤ place)
-        by (inl is) = inr (omega (arith, is, before.ends q w s session has))
-        by (inr is) = below is (cases_lt s place)
-
     flushes_placed : Placed t
     flushes_placed = record {
-      low = omega (arith, did.up, within, did.flushes.tail);
+      low = omega (arith, did.up, at.within, did.flushes.tail);
       ends = λ p w s session has. omega (arith, before.ends p w s (flushes_session p session) (flushes_has p w s session has), did.flushes.tail);
       apart = λ p q w u s r session then_session has then_has below.
           before.apart p q w u s r (flushes_session p session) (flushes_session q then_session) (flushes_has p w s session has) (flushes_has q u r then_session then_has) below;
       flushed = λ p w s session has.
-          subst (λ (n : ℕ). (n ≤ s) ⊎ (s + size_of w ≤ n)) (sym did.up) (beside p w s (flushes_session p session) (flushes_has p w s session has));
+          subst (λ (n : ℕ). (n ≤ s) ⊎ (s + size_of w ≤ n)) (sym did.up) (at.beside p w s (flushes_session p session) (flushes_has p w s session has));
       pending = λ s is.
           let there = flushes_session is.seat is.session in
           omega (
             arith,
             did.up,
-            decided.least s (record {
+            at.least s (record {
               seat = is.seat;
               session = there;
               work = is.work;
@@ -335,11 +348,11 @@ module _ (v t : View) (before : Placed v) where
     }
 
   logged_placed : (c : Command) (a : Answer) → DidLog v c a t → Placed t
-  logged_placed command.Flush (answer.Flushed place) did = flushes_placed place did.0 did.2
-  logged_placed command.Flush (answer.Empty place) did = placed_then v t before (still_steps v t did.0)
-  logged_placed command.Flush (answer.Unfilled place) did = placed_then v t before (still_steps v t did.0)
-  logged_placed command.Checkpoint (answer.Checkpointed place) did = flushes_placed place did.0 did.2
-  logged_placed command.Checkpoint (answer.Unfilled place) did = flushes_placed place did.0 did.2
+  logged_placed command.Flush (answer.Flushed place) did = flushes_placed place did.0 (decided_place place did.2)
+  logged_placed command.Flush (answer.Empty place) did = flushes_placed place did.0 (flushed_place place did.1)
+  logged_placed command.Flush (answer.Unfilled place) did = flushes_placed place did.0 (flushed_place place did.1)
+  logged_placed command.Checkpoint (answer.Checkpointed place) did = flushes_placed place did.0 (decided_place place did.2)
+  logged_placed command.Checkpoint (answer.Unfilled place) did = flushes_placed place did.0 (decided_place place did.2)
   logged_placed c a did = absurd did
 
 move_placed : (v : View) (l : ScriptLine) (a : Answer) (t : View) → Placed v → DidMove v (move_of l a) t → Placed t

@@ -1,6 +1,5 @@
 -- The transactions of a run that a report tells touch objects of their lines' tables alone.
-use Rattle.std.proofs.Common.{◌≡◌, ◌≢◌, ℕ, ◌<◌, List, [], ◌∷◌, ◌++◌, map, fold, sym, ap, ◌∙◌, subst, arith}
-use Rattle.std.proofs.lemmas.List.Sums.{fold-append}
+use Rattle.std.proofs.Common.{ℕ, List, [], ◌∷◌, ◌++◌, ◌∙◌, subst}
 use Rattle.erm_model.specs.Member.{◌∈◌}
 use Rattle.erm_model.proofs.Members.{∈-behind}
 use Rattle.erm_machine.proofs.Listed.{∈-head}
@@ -11,12 +10,10 @@ use Rattle.erm_world.specs.World as world
 use Rattle.erm_maps.specs.Runs.{IsRunOf}
 use Rattle.erm_good_report.specs.GoodReport.{places_of}
 use Rattle.erm_good_report.specs.Phases.{Closed}
-use Rattle.erm_good_report.specs.Transactions.{Progress, Said, nothing, progress_of, said_of}
-use Rattle.erm_lines.specs.Executions.{AreClosed, IsExecution, IsLast, IsRun, Move, close, closed_in, flush, line, line_moves, log, said_in}
-use Rattle.erm_told.proofs.Closing.{AreLast, are_last, close_said, closed_once, closes_said, heard_alike}
-use Rattle.erm_told.proofs.Executed.{hears}
-use Rattle.erm_told.proofs.Pairs.{Pairs, all_of, pairs_of}
-use Rattle.erm_told.proofs.Runs.{executed_both, said_both, said_lines}
+use Rattle.erm_good_report.specs.Transactions.{Progress, nothing, progress_of}
+use Rattle.erm_lines.specs.Executions.{AreClosed, IsCourse, IsExecution, Move, close, flush, line, line_moves, log}
+use Rattle.erm_told.proofs.Closing.{AreLast}
+use Rattle.erm_told.proofs.Runs.{executed_both, last_moves, same_progress}
 use Rattle.erm_script.specs.Script.{IsInRange}
 use Rattle.erm_causes.specs.Laws.{RunsTouchTables}
 use Rattle.erm_causes.specs.Touched.{TouchesAll}
@@ -37,37 +34,14 @@ lines_range (l ∷ script) [] more range then_range = then_range
 lines_range (l ∷ script) (a ∷ answers) more range then_range =
     (move_range l a (range l (∈-head l script)), lines_range script answers more (λ k within. range k (∈-behind l script k within)) then_range)
 
-last_range : (moves : List Move) → AreLast moves → AreMovesInRange moves
+pub last_range : (moves : List Move) → AreLast moves → AreMovesInRange moves
 last_range [] last = tt
 last_range (line l a ∷ moves) last = absurd last.0
 last_range (log l a ∷ moves) last = absurd last.0
 last_range (close seat a ∷ moves) last = (tt, last_range moves last.1)
 last_range (flush ∷ moves) last = (tt, last_range moves last.1)
 
-module _ (v t : View) (script : List ScriptLine) (answers : List Answer) (run : IsRun v script answers t) (closed : List Closed) (are : AreClosed run.closing closed) where
-  last_moves : AreLast run.closing
-  last_moves = are_last run.closing (λ move m. all_of IsLast run.closing run.last move m)
-
-  -- the places of the report give each session what the moves give it
-  same_progress : (seat : ℕ) → progress_of seat (said_in (line_moves script answers ++ run.closing)) ≡ progress_of seat (places_of script answers closed)
-  same_progress seat =
-      let lines = said_of script answers in
-      let ends = closed_in run.closing in
-      let said : said_in (line_moves script answers ++ run.closing) ≡ lines ++ map close_said ends =
-      said_both (line_moves script answers) run.closing
-      ∙ ap (λ (first : List Said). first ++ said_in run.closing) (said_lines script answers)
-      ∙ ap (λ (second : List Said). lines ++ second) (closes_said run.closing last_moves)
-      in
-      ap (λ (list : List Said). fold (hears seat) nothing list) said
-      ∙ fold-append (hears seat) nothing lines (map close_said ends)
-      ∙ heard_alike seat ends closed (fold (hears seat) nothing lines) (closed_once run.closing run.between t last_moves run.closes)
-      (apart closed (pairs_of (λ (a b : Closed). a.session < b.session) closed are.ascend)) are.all are.only
-      ∙ sym (fold-append (hears seat) nothing lines (map close_said closed))
-    where
-      apart : (cs : List Closed) → Pairs (λ (a b : Closed). a.session < b.session) cs → Pairs (λ (a b : Closed). a.session ≢ b.session) cs
-      apart [] pairs = tt
-      apart (c ∷ cs) pairs = (λ d m same. omega (arith, pairs.0 d m, same), apart cs pairs.1)
-
+module _ (v t : View) (script : List ScriptLine) (answers : List Answer) (run : IsCourse v script answers t) (closed : List Closed) (are : AreClosed run.closing closed) where
   pub whole_run : IsExecution v (line_moves script answers ++ run.closing) t
   whole_run = executed_both (line_moves script answers) run.closing v run.between t run.lines run.closes
 
@@ -79,9 +53,9 @@ module _ (v t : View) (script : List ScriptLine) (answers : List Answer) (run : 
         → TouchesAll of.table (history_of t) (progress_of seat (places_of script answers closed)) (t.session seat)
     touched_by of seat session =
         let moves = line_moves script answers ++ run.closing in
-        let fine = run_fine tree laws begun of.table moves (λ q. nothing) v t whole_run (lines_range script answers run.closing run.ranges (last_range run.closing last_moves)) of.opened of.right
+        let fine = run_fine tree laws begun of.table moves (λ q. nothing) v t whole_run (lines_range script answers run.closing run.ranges (last_range run.closing (last_moves v t script answers run closed are))) of.opened of.right
         (opened_fine tree laws begun of.table v run.opened) in
-        subst (λ (p : Progress). TouchesAll of.table (history_of t) p (t.session seat)) (heard_said moves (λ q. nothing) seat ∙ same_progress seat)
+        subst (λ (p : Progress). TouchesAll of.table (history_of t) p (t.session seat)) (heard_said moves (λ q. nothing) seat ∙ same_progress v t script answers run closed are seat)
         (fine_touches of.table (history_of t) (heard_moves moves (λ q. nothing) seat) (t.session seat) (fine seat (still_session v t seat (run_opening moves v t whole_run) session)))
 
 pub runs_touch : TreeLaws → HistoryLaws → ((number begin : ℕ) → IsRunOf (world.begun number begin) []) → RunsTouchTables

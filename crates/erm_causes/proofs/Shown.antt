@@ -20,12 +20,12 @@ use Rattle.erm_good_report.specs.GoodReport.{places_of}
 use Rattle.erm_good_report.specs.Opening.{InTurn, Opening}
 use Rattle.erm_good_report.specs.Phases.{Closed, refusal_in, refusal_of}
 use Rattle.erm_good_report.specs.Phases as report
-use Rattle.erm_good_report.specs.Refusals.{HasLogCause, HasRefusalCause, HasUnfilledCause, Moment, claims_of, current_of, flushed_at, flushed_told, moment_at}
+use Rattle.erm_good_report.specs.Refusals.{HasCauses, HasLogCause, HasRefusalCause, HasUnfilledCause, Moment, claims_of, current_of, flushed_at, flushed_told, moment_at}
 use Rattle.erm_good_report.specs.Transactions.{Progress, Said, Transaction, nothing, progress_of, said_of, table_of, transactions_of, with_line}
 use Rattle.erm_lines.specs.Answers.{DidLine}
-use Rattle.erm_lines.specs.Executions.{AreClosed, DidLog, DidLogLine, IsExecution, IsOpeningOf, IsRun, Move, line_moves, move_of, said_in}
+use Rattle.erm_lines.specs.Executions.{AreClosed, DidLog, DidLogLine, IsCourse, IsExecution, IsOpeningOf, Move, line_moves, move_of, said_in}
 use Rattle.erm_lines.proofs.Moved.{moved}
-use Rattle.erm_lines.specs.Laws.{ExecutionsGoOn, ExecutionsTell, RunsRefuseWithCause}
+use Rattle.erm_lines.specs.Laws.{ExecutionsGoOn, ExecutionsTell, OfCourses}
 use Rattle.erm_lines.specs.Told.{Tells}
 use Rattle.erm_told.proofs.Ended.{at_end, end_tells, opening_is, stamp_later}
 use Rattle.erm_told.proofs.Runs.{said_first, said_lines}
@@ -77,7 +77,7 @@ pub record Ready (table : ℕ → ℕ) (m : Moment) (c : Command) (a : Answer) (
   pub allows : Allowed before m.session c a after
 
 module _ (tree : TreeLaws) (laws : HistoryLaws) (begun : (number begin : ℕ) → IsRunOf (world.begun number begin) []) (tell : ExecutionsTell) (go : ExecutionsGoOn) (few : ClaimsAreFew)
-    (v t : View) (script : List ScriptLine) (answers : List Answer) (run : IsRun v script answers t) (closed : List Closed) (are : AreClosed run.closing closed) (opening : Opening) (starts : IsOpeningOf v opening) where
+    (v t : View) (script : List ScriptLine) (answers : List Answer) (run : IsCourse v script answers t) (closed : List Closed) (are : AreClosed run.closing closed) (opening : Opening) (starts : IsOpeningOf v opening) where
   abbrev all : List Transaction
   all = transactions_of v.opening.sessions (places_of script answers closed)
 
@@ -244,7 +244,7 @@ any_unfilled m command.Flush (answer.Unfilled place) log = log tt
 any_unfilled m command.Checkpoint (answer.Unfilled place) log = log tt
 any_unfilled m c a log = tt
 
-pub with_cause : RunsRefuseForOthers → FullHasCause → EndHasCause → RunsTellLog → RunsRefuseWithCause
+pub with_cause : RunsRefuseForOthers → FullHasCause → EndHasCause → RunsTellLog → OfCourses (λ opening script answers closed told. HasCauses InTurn opening script answers told)
 with_cause others full end log v t script answers run closed opening are starts = record {
   each = λ i l a at answered.
       let all = transactions_of v.opening.sessions (places_of script answers closed) in

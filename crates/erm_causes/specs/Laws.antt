@@ -1,4 +1,4 @@
--- What runs owe by the tables of their objects: the laws, as statements.
+-- What runs owe by the tables of their objects, whole or so far: the laws, as statements.
 use Rattle.std.specs.Prelude.{◌≡◌, ℕ, List, Some}
 use Rattle.std.specs.List.{slice_get}
 use Rattle.erm_report.specs.declared.answer.Answer.{Answer}
@@ -10,14 +10,14 @@ use Rattle.erm_good_report.specs.Opening.{InTurn, Opening}
 use Rattle.erm_good_report.specs.Phases.{Closed}
 use Rattle.erm_good_report.specs.Refusals.{HasLogCause, HasRefusalCause, HasUnfilledCause, IsOwn, moment_at}
 use Rattle.erm_good_report.specs.Transactions.{Transaction, progress_of}
-use Rattle.erm_lines.specs.Executions.{AreClosed, IsRun}
-use Rattle.erm_lines.specs.Laws.{OfRuns}
+use Rattle.erm_lines.specs.Executions.{AreClosed, IsCourse}
+use Rattle.erm_lines.specs.Laws.{OfCourses}
 use Rattle.erm_causes.specs.Touched.{AreOfTables, TouchesAll}
 
 -- Each object of a run is of one table, which is that whose tree reaches it at the opening, if one does. Each transaction told has a line
 -- of the table of each object that it read, and one that writes in the table of each that it claimed.
 abbrev pub RunsTouchTables : Type 0
-RunsTouchTables = (v t : View) (script : List ScriptLine) (answers : List Answer) (run : IsRun v script answers t) (closed : List Closed)
+RunsTouchTables = (v t : View) (script : List ScriptLine) (answers : List Answer) (run : IsCourse v script answers t) (closed : List Closed)
     → AreClosed run.closing closed
     → (table : ℕ → ℕ) × AreOfTables table v.opening.rows
     × ((seat : ℕ) → IsSession v seat → TouchesAll table (history_of t) (progress_of seat (places_of script answers closed)) (t.session seat))
@@ -54,7 +54,7 @@ TellsLog opening script answers told = (i : ℕ) (l : ScriptLine) (a : Answer) �
     → HasLogCause (moment_at InTurn opening script answers told i l) a × HasUnfilledCause (moment_at InTurn opening script answers told i l) l.command a
 
 abbrev pub RunsTellLog : Type 0
-RunsTellLog = OfRuns (λ opening script answers closed told. TellsLog opening script answers told)
+RunsTellLog = OfCourses (λ opening script answers closed told. TellsLog opening script answers told)
 
 abbrev pub RunsRefuseForOthers : Type 0
-RunsRefuseForOthers = OfRuns (λ opening script answers closed told. RefusesForOthers opening script answers told)
+RunsRefuseForOthers = OfCourses (λ opening script answers closed told. RefusesForOthers opening script answers told)

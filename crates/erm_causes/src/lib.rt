@@ -3,7 +3,7 @@
 #![tactic(auto)]
 
 ghost use Rattle.erm_causes.specs.Laws.{RunsRefuseForOthers, RunsTellLog, RunsTouchTables};
-ghost use Rattle.erm_lines.specs.Laws.{RunsHaveCauses, RunsRefuseWithCause};
+ghost use Rattle.erm_lines.specs.Laws.{PartsHaveCauses, PartsRefuseWithCause, RunsHaveCauses, RunsRefuseWithCause};
 
 /// Each object of a run has one table: that of the line that made it, or that whose tree reached it at the opening. Each
 /// transaction that the report tells has a line of the table of each object that it read, and one that writes in the table of each
@@ -25,7 +25,15 @@ pub fn runs_have_causes()
     ensures { RunsHaveCauses }
 {
     runs_touch_tables();
-    erm_told::runs_tell_sessions();
+    erm_told::executions_tell_sessions();
+}
+
+/// The same of a run that was cut off.
+pub fn parts_have_causes()
+    ensures { PartsHaveCauses }
+{
+    runs_touch_tables();
+    erm_told::executions_tell_sessions();
 }
 
 /// Each answer of a run that waits for another session, or that refuses for what another one owns, committed or excluded, has its
@@ -56,6 +64,16 @@ pub fn runs_tell_log()
 /// Each answer of a run that refuses, or that tells of the log, has its cause in the lines.
 pub fn runs_refuse_with_cause()
     ensures { RunsRefuseWithCause }
+{
+    runs_refuse_for_others();
+    erm_told_limits::full_has_cause();
+    erm_told_limits::end_has_cause();
+    runs_tell_log();
+}
+
+/// The same of a run that was cut off.
+pub fn parts_refuse_with_cause()
+    ensures { PartsRefuseWithCause }
 {
     runs_refuse_for_others();
     erm_told_limits::full_has_cause();

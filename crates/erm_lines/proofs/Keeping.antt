@@ -23,7 +23,7 @@ use Rattle.erm_lines.specs.Answers.{DidAsked, DidClose, DidCommand, DidCommit, D
 use Rattle.erm_lines.specs.Executions.{DidEnd, DidFlush, DidLogLine}
 use Rattle.erm_lines.specs.Operations.{DidCalls, Ran}
 use Rattle.erm_lines.specs.Whole.{AreRunsNow}
-use Rattle.erm_lines.proofs.Moved.{asked_still, log_flushes}
+use Rattle.erm_lines.proofs.Moved.{active_where, asked_still, log_flushes}
 
 -- where a session is active, its transaction is the run of some operations
 abbrev IsRunNow : Session → Type 0
@@ -132,16 +132,11 @@ refused_turns v t seat c a active run (stop, told, cut) =
 
 operation_turns : (v t : View) (seat : ℕ) (c : Command) (a : Answer) → phase_at v seat ≡ Active → IsRunAt v seat → DidOperation v seat c a t → Turns v seat t
 operation_turns v t seat c (answer.Replied r) active run (op, is, did) = called_turns v t seat _ _ active run did
-operation_turns v t seat c (answer.Cut cells) active run (is, did) = called_turns v t seat [] _ active run did
+operation_turns v t seat c (answer.Cut cells) active run (is, few, did) = called_turns v t seat [] _ active run did
 operation_turns v t seat c a active run did = refused_turns v t seat c a active run did
 
 -- LINES.
 module _ (none : (number begin : ℕ) → IsRunOf (begun number begin) []) (v t : View) (seat : ℕ) (runs : AreRunsNow v) where
-  active_where : (phase : Phase) → refusal_for (Some Active) phase ≡ None → phase ≡ Active
-  active_where Idle is = cc
-  active_where Active is = refl
-  active_where Sealed is = cc
-
   begun_kept : (a : Answer) → DidCommand v seat command.Begin a t → Kept v t
   begun_kept (answer.Began stamp) did = kept v t seat runs (record {
     own = begun_runs none (t.session seat) _ stamp (ap (λ (s : Session). s.stand) did.3.own);

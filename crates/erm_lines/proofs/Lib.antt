@@ -1,6 +1,7 @@
 pub mod Bridge
 pub mod Found
 pub mod Keeping
+pub mod Left
 pub mod Lines
 pub mod Looked
 pub mod Moved

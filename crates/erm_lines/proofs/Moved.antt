@@ -1,12 +1,14 @@
 -- The move of a line: it is that of a session, or of the log, which leaves the sessions.
-use Rattle.std.proofs.Common.{◌≡◌, sym, ◌≢◌, ℕ, ◌<◌, ◌⊎◌, List, ◌∷◌, Some, refl, subst, ap, inl, inr, arith}
+use Rattle.std.proofs.Common.{◌≡◌, sym, ◌≢◌, ℕ, ◌<◌, ◌⊎◌, List, ◌∷◌, Some, None, refl, subst, inl, inr, arith}
+use Rattle.erm_model.specs.declared.outcome.Phase.{Phase}
+use Rattle.erm_model.specs.declared.outcome.Phase.TheVariants.{Active, Idle, Sealed}
 use Rattle.erm_report.specs.declared.answer.Answer.{Answer}
 use Rattle.erm_report.specs.declared.answer.Answer.TheVariants as answer
 use Rattle.erm_script.specs.declared.script.Command.{Command}
 use Rattle.erm_script.specs.declared.script.Command.TheVariants as command
 use Rattle.erm_script.specs.declared.script.ScriptLine.{ScriptLine}
 use Rattle.erm_world.specs.World.{View, phase_at}
-use Rattle.erm_good_report.specs.Phases.{IsAnswerTo, refusal_of}
+use Rattle.erm_good_report.specs.Phases.{IsAnswerTo, refusal_for, refusal_of}
 use Rattle.erm_lines.specs.Answers.{DidAskDurable, DidAsked, DidLine}
 use Rattle.erm_lines.specs.Executions.{DidFlush, DidLog, DidLogLine, DidMove, Move, move_as, move_of, said_in}
 
@@ -40,20 +42,11 @@ said_move l a moves = by l.command
     by command.Checkpoint = refl
     by c = refl
 
--- a world in which nothing happened
-still : (v t : View) → t ≡ v → DidFlush v t
-still v t is = record {
-  session = λ seat session. ap (λ (u : View). u.session seat) is;
-  opening = ap (λ (u : View). u.opening) is;
-  tail = ap (λ (u : View). u.tail) is;
-  above = omega (arith, ap (λ (u : View). u.flushed) is);
-}
-
 -- a line of the log leaves the sessions, and what is flushed stays so
 pub logged_flushes : (v t : View) (c : Command) (a : Answer) → DidLog v c a t → DidFlush v t
 logged_flushes v t command.Flush (answer.Flushed place) did = did.0.flushes
-logged_flushes v t command.Flush (answer.Empty place) did = still v t did.0
-logged_flushes v t command.Flush (answer.Unfilled place) did = still v t did.0
+logged_flushes v t command.Flush (answer.Empty place) did = did.0.flushes
+logged_flushes v t command.Flush (answer.Unfilled place) did = did.0.flushes
 logged_flushes v t command.Checkpoint (answer.Checkpointed place) did = did.0.flushes
 logged_flushes v t command.Checkpoint (answer.Unfilled place) did = did.0.flushes
 logged_flushes v t c a did = absurd did
@@ -73,6 +66,12 @@ logged_fits v t c a did = absurd did
 -- its session is none
 pub log_of_none : (v t : View) (l : ScriptLine) (a : Answer) (seat : ℕ) → DidLogLine v l a t → 0 < seat → l.session ≢ seat
 log_of_none v t l a seat did above same = omega (arith, did.session, above, same)
+
+-- a phase that refuses no command that asks for an active session is that
+pub active_where : (phase : Phase) → refusal_for (Some Active) phase ≡ None → phase ≡ Active
+active_where Idle is = cc
+active_where Active is = refl
+active_where Sealed is = cc
 
 -- the question whether a commit is on the disk changes nothing
 pub asked_still : (v t : View) (seat : ℕ) (a : Answer) → DidAskDurable v seat a t → t ≡ v

@@ -112,7 +112,7 @@ ran_goes (event ∷ events) v t seat active (u, answered, rest) =
 -- what an operation does to its session
 pub operated_goes : (v t : View) (seat : ℕ) (c : Command) (a : Answer) → phase_at v seat ≡ Active → DidOperation v seat c a t → Goes v seat t
 operated_goes v t seat c (answer.Replied r) active did = (ran_goes did.2.events v t seat active did.2.ran).0
-operated_goes v t seat c (answer.Cut cells) active did = (ran_goes did.1.events v t seat active did.1.ran).0
+operated_goes v t seat c (answer.Cut cells) active did = (ran_goes did.2.events v t seat active did.2.ran).0
 operated_goes v t seat c a active did = cut_off did
   where
     cut_off : WasRefusedAs v seat c a t → Goes v seat t

@@ -1,5 +1,5 @@
 -- A key that is tidied, as its line is answered.
-use Rattle.std.proofs.Common.{◌≡◌, refl, sym, ◌∙◌, subst, ℕ, List, [], ◌∷◌, ◌++◌, append-nil, Option, Some, None, inl, inr, Result, IfOk}
+use Rattle.std.proofs.Common.{◌≡◌, refl, sym, ◌∙◌, subst, ℕ, ◌≤◌, List, [], ◌∷◌, ◌++◌, append-nil, Option, Some, None, inl, inr, Result, IfOk, arith}
 use Rattle.std.specs.Prelude.{MatchOption}
 use Rattle.erm_model.specs.declared.row_stop.RowStop.{RowStop}
 use Rattle.erm_model.specs.Rows.{Rows}
@@ -17,7 +17,7 @@ use Rattle.erm_tree.specs.Operations.{AnswersStutter, CutOffsStutter, LooksStutt
 use Rattle.erm_tree.specs.Reads.{IsOnWay}
 use Rattle.erm_tree.proofs.Calls.{Agrees-after_reads}
 use Rattle.erm_world.specs.Face.{WasRefused}
-use Rattle.erm_world.specs.World.{View, work_at}
+use Rattle.erm_world.specs.World.{Opening, View, work_at}
 use Rattle.erm_maps.specs.Runs.{IsRunOf}
 use Rattle.erm_lines.specs.Answers.{stop_told}
 use Rattle.erm_lines.specs.Operations.{IsTidy}
@@ -42,15 +42,16 @@ module _ {S : Type 0} (law : Law) (view : S → View) (seat : S → ℕ) (stands
   abbrev pub Looked : ℕ → ℕ → S → S → Option ℕ → Type 0
   Looked table key s t found = SawIn (face law view seat stands one same) (IsOnWay table key) s t (λ rows. found ≡ record_in rows table key)
 
-  pub tidy_none : (s t : S) (table key cells : ℕ) (found : Option ℕ) → LooksStutter (face law view seat stands one same) (IsOnWay table key) (λ rows. None ≡ record_in rows table key) → found ≡ None → Looked table key s t found
-      → WasAnswered (view s) (seat s) (command.Tidy table key) (answer.Cut cells) (view t)
-  tidy_none s t table key cells found looks is look =
+  pub tidy_none : (s t : S) (table key : ℕ) (found : Option ℕ) → LooksStutter (face law view seat stands one same) (IsOnWay table key) (λ rows. None ≡ record_in rows table key) → found ≡ None → Looked table key s t found
+      → WasAnswered (view s) (seat s) (command.Tidy table key) (answer.Cut 0) (view t)
+  tidy_none s t table key found looks is look =
       let did = subst (Looked table key s t) is look in
       let es = did.saw.events in
       record {
         fits = tt;
         did = (
           refl,
+          omega arith,
           record {
             events = es;
             ran = ran law view seat stands one same es s t did.saw.goes_on.runs;
@@ -69,9 +70,9 @@ module _ {S : Type 0} (law : Law) (view : S → View) (seat : S → ℕ) (stands
       }
 
   module _ (s u t : S) (table key oid : ℕ) (found : Option ℕ) (looks : LooksStutter (face law view seat stands one same) (IsOnWay table key) (λ rows. Some oid ≡ record_in rows table key)) (is : found ≡ Some oid) (look : Looked table key s u found) where
-    pub tidy_some : (cells : ℕ) → AnswersStutter (face law view seat stands one same) (did_claim oid) → Does (face law view seat stands one same) u (did_claim oid) t
+    pub tidy_some : (cells : ℕ) → cells ≤ (view u).opening.cuts → AnswersStutter (face law view seat stands one same) (did_claim oid) → Does (face law view seat stands one same) u (did_claim oid) t
         → WasAnswered (view s) (seat s) (command.Tidy table key) (answer.Cut cells) (view t)
-    tidy_some cells claims does =
+    tidy_some cells few claims does =
         let did = subst (Looked table key s u) is look in
         let es = did.saw.events in
         let more : List Event = did_claim oid ∷ [] in
@@ -80,6 +81,7 @@ module _ {S : Type 0} (law : Law) (view : S → View) (seat : S → ℕ) (stands
           fits = tt;
           did = (
             refl,
+            subst (λ (o : Opening). cells ≤ o.cuts) did.saw.follows.3.opening few,
             record {
               events = es ++ more;
               ran = ran law view seat stands one same (es ++ more) s t

@@ -42,7 +42,7 @@ WasRefusedAs v seat c a t = (stop : RowStop) × (stop_told stop ≡ Some a) × W
 abbrev pub DidOperation : View → ℕ → Command → Answer → View → Type 0
 DidOperation v seat c (answer.Replied r) t =
     (op : Op) × (op_of c ≡ Some op) × DidCalls v seat (record { op = op; reply = r } ∷ []) (WholeOf c (answer.Replied r)) t
-DidOperation v seat c (answer.Cut cells) t = (op_of c ≡ None) × DidCalls v seat [] (WholeOf c (answer.Cut cells)) t
+DidOperation v seat c (answer.Cut cells) t = (op_of c ≡ None) × (cells ≤ v.opening.cuts) × DidCalls v seat [] (WholeOf c (answer.Cut cells)) t
 DidOperation v seat c a t = WasRefusedAs v seat c a t
 
 -- a sealed transaction was decided, or waits

@@ -58,8 +58,8 @@ pub record FlushesTo (v : View) (place : ℕ) (t : View) : Type 0 where
 -- A line of the log was run. A flush raises the place below which all is synced as far as all is decided; a checkpoint needs all decided.
 abbrev pub DidLog : View → Command → Answer → View → Type 0
 DidLog v command.Flush (answer.Flushed place) t = FlushesTo v place t × (v.flushed < place) × IsDecidedTo v place
-DidLog v command.Flush (answer.Empty place) t = (t ≡ v) × (place ≡ v.flushed) × (place ≡ v.tail)
-DidLog v command.Flush (answer.Unfilled place) t = (t ≡ v) × (place ≡ v.flushed) × IsPendingAt v place × IsDecidedTo v place
+DidLog v command.Flush (answer.Empty place) t = FlushesTo v place t × (place ≡ v.flushed) × (place ≡ v.tail)
+DidLog v command.Flush (answer.Unfilled place) t = FlushesTo v place t × (place ≡ v.flushed) × IsPendingAt v place × IsDecidedTo v place
 DidLog v command.Checkpoint (answer.Checkpointed place) t = FlushesTo v place t × (place ≡ v.tail) × IsDecidedTo v place
 DidLog v command.Checkpoint (answer.Unfilled place) t = FlushesTo v place t × IsPendingAt v place × IsDecidedTo v place
 DidLog v c a t = ⊥
@@ -129,6 +129,7 @@ pub record IsOpened (v : View) : Type 0 where
   pub idle : (seat : ℕ) → IsSession v seat → v.session seat ≡ record { over = []; stand = world.idle }
   pub tail : v.tail ≡ v.opening.tail
   pub flushed : v.flushed ≡ v.opening.tail
+  pub pinned : v.pinned ≡ None
   pub serializable : IsSerializable sound_law v
 
 -- An execution of a script, of no more lines than a session may have transactions, whose commands are in range: the answers are those of its lines, one for each, and then all sessions are closed.
@@ -143,6 +144,27 @@ pub record IsRun (v : View) (script : List ScriptLine) (answers : List Answer) (
   pub last : All IsLast closing
   pub closes : IsExecution between closing t
   pub idle : (seat : ℕ) → IsSession t seat → phase_at t seat ≡ Idle
+
+-- A run so far: an execution of the first lines of a script, which has no more lines than a session may have transactions, and whose
+-- commands are in range. The answers are those of these lines, one for each; and then some sessions may have been closed.
+pub record IsCourse (v : View) (script : List ScriptLine) (answers : List Answer) (t : View) : Type 0 where
+  pub opened : IsOpened v
+  pub ranges : (l : ScriptLine) → l ∈ script → IsInRange l.command
+  pub few : length script ≤ LAST_NUMBER
+  pub most : length answers ≤ length script
+  pub between : View
+  pub lines : IsExecution v (line_moves script answers) between
+  pub closing : List Move
+  pub last : All IsLast closing
+  pub closes : IsExecution between closing t
+
+-- A run that was cut off behind some of its lines: no session is closed.
+pub record IsPart (v : View) (script : List ScriptLine) (answers : List Answer) (t : View) : Type 0 where
+  pub opened : IsOpened v
+  pub ranges : (l : ScriptLine) → l ∈ script → IsInRange l.command
+  pub few : length script ≤ LAST_NUMBER
+  pub most : length answers ≤ length script
+  pub lines : IsExecution v (line_moves script answers) t
 
 -- these are the sessions that an execution closed, by seat
 pub record AreClosed (closing : List Move) (closed : List Closed) : Type 0 where

@@ -1,10 +1,11 @@
-//! A law of lines. Its function does nothing.
+//! Laws of lines. Their functions do nothing.
 ghost use Rattle.std.specs.Prelude.{◌≡◌, ℕ};
 ghost use Rattle.erm_report.specs.declared.answer.Answer.{Answer};
 ghost use Rattle.erm_script.specs.declared.script.ScriptLine.{ScriptLine};
 ghost use Rattle.erm_world.specs.World.{View};
 ghost use Rattle.erm_lines.specs.Answers.{DidLine};
 ghost use Rattle.erm_lines.specs.Executions.{DidEnd, DidLogLine};
+ghost use Rattle.erm_lines.specs.Laws.{ClosesLeaveTheLog, LinesLeaveTheLog};
 ghost use Rattle.erm_lines.specs.Whole.{AreRunsNow};
 
 /// Where each transaction in progress is the run of some operations, each still is after a line of a session, after one of the log, and
@@ -16,3 +17,9 @@ pub fn lines_keep_runs()
 {
     erm_maps::begun_transactions_are_runs();
 }
+
+/// A line of a session, and a session's close, leave what the flusher and the pin say of the log.
+pub fn lines_leave_the_log()
+    ensures lines { LinesLeaveTheLog }
+    ensures closes { ClosesLeaveTheLog }
+{}

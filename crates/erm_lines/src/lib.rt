@@ -14,5 +14,5 @@ mod tidy;
 
 pub use durable::answer_durable;
 pub use ends::close_session;
-pub use laws::lines_keep_runs;
+pub use laws::{lines_keep_runs, lines_leave_the_log};
 pub use line::answer_line;

@@ -1,5 +1,5 @@
 //! Cutting off the versions of a key.
-ghost use Rattle.std.specs.Prelude.{◌≡◌, ◌<◌, ℕ, List, IfOk, IfErr, OnOk};
+ghost use Rattle.std.specs.Prelude.{◌≡◌, ◌<◌, ◌≤◌, ℕ, List, IfOk, IfErr, OnOk};
 ghost use Rattle.erm_model.specs.RowTransaction.{Does, IsRefused, SameLaw, StopsClaim, asked_claim, did_claim};
 ghost use Rattle.erm_model.specs.Run.{Step};
 ghost use Rattle.erm_node.specs.Sound.{sound_law};
@@ -15,11 +15,12 @@ use erm_tree::find;
 use erm_world::{RowWorld, WorldTxn};
 use std::alloc::AllocError;
 
-// Cuts off versions of an object, which the transaction claims. It answers how many.
+// Cuts off versions of an object, which the transaction claims. It answers how many, which is no more than a call cuts off at most.
 fn tidy_object<'a, W: RowWorld>(txn: &mut WorldTxn<'a, W>, oid: Oid) -> Result<u32, RowStop>
     requires active { ⟦<WorldTxn<'a, W> as RowRead>⟧.face.active txn.old }
     requires object { oid < OID_LIMIT }
     ensures ok { OnOk result (Does ⟦<WorldTxn<'a, W> as RowRead>⟧.face txn.old (did_claim oid) txn.new) }
+    ensures count { IfOk result (λ cut. cut ≤ (W.view txn.old.world.now).opening.cuts) }
     ensures err { IfErr result (λ stop. IsRefused ⟦<WorldTxn<'a, W> as RowRead>⟧.face StopsClaim txn.old (asked_claim oid) stop txn.new) }
 {
     txn.world.tidy(txn.seat, oid)

@@ -106,7 +106,7 @@ module _ (laws : KeyLaws) (v u : View) (seat : ℕ) (c : Command) (k : ℕ) (nam
       (line_did (answer.Replied r) did.events (replied_over r o is)
       (whole_did laws did.events c k named range r o is (λ rows sound agrees. did.of rows sound agrees) (λ rows sound agrees. did.right (record { op = o; reply = r }) refl rows sound agrees)))
       (λ before run. (_, did.run before run)) (λ q asked p. refl)
-  called (answer.Cut cells) (none, did) =
+  called (answer.Cut cells) (none, few, did) =
       goes did.events did.ran (line_did (answer.Cut cells) did.events (cut_over cells none) (tidy_did laws did.events c k named range cells none (λ rows sound agrees. did.of rows sound agrees)))
       (λ before run. (_, did.run before run)) (λ q asked p. refl)
   called a did = refused_as a (λ replied. let never : None ≡ Some replied.0 = replied.1 in cc) (λ tidied. let other = tidied.1 in cc) did

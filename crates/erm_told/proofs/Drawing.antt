@@ -161,7 +161,7 @@ settle_draws v seat a t session lawful did = record {
   drawn = λ stamp told. no_number (stamp_drawn (Some command.Settle) a) stamp ((v.tail ≤ stamp) × (stamp < t.tail)) (settles_none v seat a t did) told;
 }
 
-abbrev stamp_at : Stand → ℕ
+abbrev pub stamp_at : Stand → ℕ
 stamp_at world.idle = 0
 stamp_at (world.active w) = 0
 stamp_at (world.sealed w stamp) = stamp

@@ -43,3 +43,10 @@ told_stamp seat t f stamp tells is =
     ⊎_elim (λ (ended : stamp_of_ending t.ending ≡ Some stamp). ending_stamp t.ending f.fate stamp tells.ends ended)
     (λ (sealed : t.sealed ≡ Some stamp). tells.sealed stamp sealed)
     (either_of t.session t.number t.begin t.lines t.sealed t.ending stamp is)
+
+-- one that isn't over has the stamp of its seal alone
+pub unfinished_stamp : (t : Transaction) (stamp : ℕ) → t.ending ≡ Unfinished → stamp_of t ≡ Some stamp → t.sealed ≡ Some stamp
+unfinished_stamp t stamp unfinished is =
+    ⊎_elim (λ (ended : stamp_of_ending t.ending ≡ Some stamp). let none : None ≡ Some stamp = sym (ap stamp_of_ending unfinished) ∙ ended in absurd (cc))
+    (λ (sealed : t.sealed ≡ Some stamp). sealed)
+    (either_of t.session t.number t.begin t.lines t.sealed t.ending stamp is)

@@ -1,4 +1,6 @@
 pub mod Closing
+pub mod Courses
+pub mod Cutting
 pub mod Drawing
 pub mod Ended
 pub mod Endings

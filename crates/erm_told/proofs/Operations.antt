@@ -146,6 +146,6 @@ module _ (stay : (w u : Work) (steps : List Step) → Extends w u → IsAnswered
     pub turn_operation : (a : Answer) → DidOperation v seat c a t → At a
     turn_operation (answer.Replied r) (op, is, did) =
         turn_ran v seat (Some c) (answer.Replied r) t (record { op = op; reply = r } ∷ []) (WholeOf c (answer.Replied r)) active did (one_replied c op r is) refl (λ p. refl)
-    turn_operation (answer.Cut cells) (is, did) =
+    turn_operation (answer.Cut cells) (is, few, did) =
         turn_ran v seat (Some c) (answer.Cut cells) t [] (WholeOf c (answer.Cut cells)) active did (none_asked c (answer.Cut cells) is) refl (λ p. refl)
     turn_operation a did = refused_as a did

@@ -1,24 +1,34 @@
 -- The transactions that a report tells are those of its sessions, each once.
-use Rattle.std.proofs.Common.{◌≡◌, ◌≢◌, ℕ, zero, suc, ◌+◌, ◌<◌, List, [], ◌∷◌, ◌++◌, slice_get, flat_map, option_to_list, Option, Some, None, refl, sym, ◌∙◌, subst, ⊎_elim, arith}
+use Rattle.std.proofs.Common.{◌≡◌, ◌≢◌, ◌⊎◌, ℕ, zero, suc, ◌+◌, ◌<◌, List, [], ◌∷◌, ◌++◌, length, slice_get, flat_map, option_to_list, Option, Some, None, refl, sym, ap, ◌∙◌, subst, inl, inr, ⊎_elim, arith}
 use Rattle.std.specs.List.{range_with_len}
 use Rattle.erm_model.specs.Member.{◌∈◌}
 use Rattle.erm_model.proofs.Members.{none_in_nil, ∈-behind}
 use Rattle.erm_machine.proofs.Listed.{∈-either, ∈-head}
 use Rattle.erm_world.specs.Laws.{IsNumbered}
-use Rattle.erm_world.specs.World.{Finished, IsSession, Session, Stand, View}
+use Rattle.erm_world.specs.World.{Finished, Has, HasStamp, IsCurrent, IsSession, Stand, View, Work}
 use Rattle.erm_world.specs.World as world
-use Rattle.erm_good_report.specs.Transactions.{Said, Transaction, progress_of, transactions_of}
-use Rattle.erm_lines.specs.Told.{Tells, TellsNow, TellsOne, TellsOver}
+use Rattle.erm_good_report.specs.Stamps.{Told}
+use Rattle.erm_good_report.specs.Transactions.{Said, Transaction, progress_of, stamp_of, stamp_of_ending, transactions_of}
+use Rattle.erm_lines.specs.Told.{Tells, TellsCurrent, TellsNow, TellsOne, TellsOver, TellsWork}
+use Rattle.erm_told.proofs.Drawing.{no_number, the_number}
+use Rattle.erm_told.proofs.Endings.{ending_stamp, told_from, told_stamp, unfinished_stamp}
 use Rattle.erm_told.proofs.Pairs.{Pairs, pairs_from}
 use Rattle.erm_told.proofs.Ranges.{in_range, pairs_range}
 
--- a transaction told is one of a session of the world, that is over
+-- A transaction told is this session's, over or not: with its name and begin stamp, and with its commit stamp where that is told; and
+-- its seal's stamp is that of its outcome.
+pub record IsToldIn (v : View) (seat : ℕ) (t : Transaction) : Type 0 where
+  pub work : Work
+  pub has : Has v seat work
+  pub tells : TellsWork seat t work
+  pub stamped : (stamp : ℕ) → stamp_of t ≡ Some stamp → HasStamp v seat work stamp
+  pub agrees : Told (λ a b. a ≡ b) t.sealed (stamp_of_ending t.ending)
+
+-- it is one of a session of the world
 pub record IsTold (v : View) (t : Transaction) : Type 0 where
   pub seat : ℕ
   pub session : IsSession v seat
-  pub finished : Finished
-  pub over : finished ∈ (v.session seat).over
-  pub tells : TellsOne seat t finished
+  pub own : IsToldIn v seat t
 
 -- what stands at a place of those told is that at the place of those over
 pub told_at : (seat : ℕ) (ts : List Transaction) (fs : List Finished) (k : ℕ) (t : Transaction) → TellsOver seat ts fs → slice_get ts k ≡ Some t
@@ -65,34 +75,79 @@ numbered_ascend (t ∷ ts) c numbered = (
 abbrev pub Differ : Transaction → Transaction → Type 0
 Differ t u = t.session ≡ u.session → t.number ≢ u.number
 
--- no transaction is told that isn't over where the session is idle
-pub none_current : (seat : ℕ) (current : Option Transaction) (stand : Stand) → stand ≡ world.idle → TellsNow seat current stand → current ≡ None
-none_current seat None stand idle told = refl
-none_current seat (Some t) world.idle idle told = absurd told
-none_current seat (Some t) (world.active w) idle told = cc
-none_current seat (Some t) (world.sealed w stamp) idle told = cc
+-- one that is over
+told_over : (v : View) (seat : ℕ) (t : Transaction) (f : Finished) → f ∈ (v.session seat).over → TellsOne seat t f → IsToldIn v seat t
+told_over v seat t f over tells = record {
+  work = f.work;
+  has = inl (f, over, refl);
+  tells = tells.work;
+  stamped = λ stamp is. inl (f, over, refl, told_stamp seat t f stamp tells is);
+  agrees = told_from t.sealed (stamp_of_ending t.ending) (λ a b. a ≡ b) (λ m n sealed ended.
+      the_number m n (sym (tells.sealed m sealed) ∙ ending_stamp t.ending f.fate n tells.ends ended));
+}
 
--- All sessions of the world are idle, and what was said tells their transactions.
-module _ (v : View) (said : List Said) (idle : (seat : ℕ) → IsSession v seat → (v.session seat).stand ≡ world.idle)
-    (tells : (seat : ℕ) → IsSession v seat → Tells seat (progress_of seat said) (v.session seat)) where
+-- one that isn't
+told_current : (v : View) (seat : ℕ) (t : Transaction) (w : Work) → IsCurrent (v.session seat).stand w → TellsCurrent seat t w
+    → ((stamp : ℕ) → t.sealed ≡ Some stamp → (v.session seat).stand ≡ world.sealed w stamp) → IsToldIn v seat t
+told_current v seat t w current tells sealed = record {
+  work = w;
+  has = inr current;
+  tells = tells.work;
+  stamped = λ stamp is. inr (sealed stamp (unfinished_stamp t stamp tells.unfinished is));
+  agrees = told_from t.sealed (stamp_of_ending t.ending) (λ a b. a ≡ b) (λ m n first ended.
+      no_number (stamp_of_ending t.ending) n (m ≡ n) (ap stamp_of_ending tells.unfinished) ended);
+}
+
+told_now : (v : View) (seat : ℕ) (t : Transaction) (stand : Stand) → (v.session seat).stand ≡ stand → TellsNow seat (Some t) stand → IsToldIn v seat t
+told_now v seat t world.idle is tells = absurd tells
+told_now v seat t (world.active w) is tells =
+    told_current v seat t w (subst (λ (at : Stand). IsCurrent at w) (sym is) refl) tells.0
+    (λ stamp sealed. no_number t.sealed stamp ((v.session seat).stand ≡ world.sealed w stamp) tells.1 sealed)
+told_now v seat t (world.sealed w drawn) is tells =
+    told_current v seat t w (subst (λ (at : Stand). IsCurrent at w) (sym is) refl) tells.0
+    (λ stamp sealed. ⊎_elim (λ (none : t.sealed ≡ None). no_number t.sealed stamp ((v.session seat).stand ≡ world.sealed w stamp) none sealed)
+    (λ (some : t.sealed ≡ Some drawn). is ∙ ap (λ (n : ℕ). world.sealed w n) (the_number drawn stamp (sym some ∙ sealed))) tells.1)
+
+-- as many are told to be over as are
+pub same_length : (seat : ℕ) (ts : List Transaction) (fs : List Finished) → TellsOver seat ts fs → length ts ≡ length fs
+same_length seat [] [] tells = refl
+same_length seat [] (f ∷ fs) tells = absurd tells
+same_length seat (t ∷ ts) [] tells = absurd tells
+same_length seat (t ∷ ts) (f ∷ fs) tells = ap suc (same_length seat ts fs tells.1)
+
+-- the number of one that isn't over
+number_now : (seat : ℕ) (t : Transaction) (stand : Stand) (number : ℕ) → TellsNow seat (Some t) stand → ((w : Work) → IsCurrent stand w → w.number ≡ number) → t.number ≡ number
+number_now seat t world.idle number tells is = absurd tells
+number_now seat t (world.active w) number tells is = tells.0.work.number ∙ is w refl
+number_now seat t (world.sealed w stamp) number tells is = tells.0.work.number ∙ is w refl
+
+-- what stands in a list, or behind it
+at_either : {X : Type 0} (xs : List X) (o : Option X) (k : ℕ) (x : X) → slice_get (xs ++ option_to_list o) k ≡ Some x → (slice_get xs k ≡ Some x) ⊎ ((o ≡ Some x) × (k ≡ length xs))
+at_either [] None k x at = absurd (cc)
+at_either [] (Some y) zero x at = inr (at, refl)
+at_either [] (Some y) (suc k) x at = absurd (cc)
+at_either (y ∷ xs) o zero x at = inl at
+at_either {X} (y ∷ xs) o (suc k) x at =
+    ⊎_elim (λ (here : slice_get xs k ≡ Some x). inl here) (λ (behind : (o ≡ Some x) × (k ≡ length xs)). inr (behind.0, ap suc behind.1)) (at_either xs o k x at)
+
+-- What was said tells the transactions of the world's sessions.
+module _ (v : View) (said : List Said) (tells : (seat : ℕ) → IsSession v seat → Tells seat (progress_of seat said) (v.session seat)) where
   -- the transactions of one session
   abbrev of_seat : ℕ → List Transaction
   of_seat seat = (progress_of seat said).over ++ option_to_list (progress_of seat said).current
 
-  none_now : (seat : ℕ) → IsSession v seat → (progress_of seat said).current ≡ None
-  none_now seat session = none_current seat (progress_of seat said).current (v.session seat).stand (idle seat session) (tells seat session).now
+  now : (seat : ℕ) → IsSession v seat → (t : Transaction) → (progress_of seat said).current ≡ Some t → TellsNow seat (Some t) (v.session seat).stand
+  now seat session t is = subst (λ (o : Option Transaction). TellsNow seat o (v.session seat).stand) is (tells seat session).now
 
-  over_told : (seat : ℕ) (t : Transaction) → IsSession v seat → t ∈ (progress_of seat said).over → IsTold v t
-  over_told seat t session m =
-      let found = told_at seat (progress_of seat said).over (v.session seat).over m.0 t (tells seat session).over m.1 in
-      record { seat = seat; session = session; finished = found.0; over = (m.0, found.1); tells = found.2 }
-
-  in_over : (seat : ℕ) (t : Transaction) → IsSession v seat → t ∈ of_seat seat → t ∈ (progress_of seat said).over
-  in_over seat t session m =
-      ⊎_elim (λ (over : t ∈ (progress_of seat said).over). over)
-      (λ (now : t ∈ option_to_list (progress_of seat said).current).
-      absurd (none_in_nil t (subst (λ (o : Option Transaction). t ∈ option_to_list o) (none_now seat session) now)))
-      (∈-either (progress_of seat said).over (option_to_list (progress_of seat said).current) t m)
+  in_seat : (seat : ℕ) (t : Transaction) → IsSession v seat → t ∈ of_seat seat → IsToldIn v seat t
+  in_seat seat t session m =
+      ⊎_elim
+      (λ (at : slice_get (progress_of seat said).over m.0 ≡ Some t).
+      let found = told_at seat (progress_of seat said).over (v.session seat).over m.0 t (tells seat session).over at in
+      told_over v seat t found.0 (m.0, found.1) found.2)
+      (λ (at : ((progress_of seat said).current ≡ Some t) × (m.0 ≡ length (progress_of seat said).over)).
+      told_now v seat t (v.session seat).stand refl (now seat session t at.0))
+      (at_either (progress_of seat said).over (progress_of seat said).current m.0 t m.1)
 
   of_range : (seat : ℕ) → seat ∈ range_with_len 1 v.opening.sessions → IsSession v seat
   of_range seat m = let bounds = in_range 1 v.opening.sessions seat m in (omega (arith, bounds.0), omega (arith, bounds.1))
@@ -100,32 +155,30 @@ module _ (v : View) (said : List Said) (idle : (seat : ℕ) → IsSession v seat
   pub each_told : (t : Transaction) → t ∈ transactions_of v.opening.sessions said → IsTold v t
   each_told t m =
       let found = ∈-flat_map of_seat (range_with_len 1 v.opening.sessions) t m in
-      let session = of_range found.0 found.1 in over_told found.0 t session (in_over found.0 t session found.2)
+      let session = of_range found.0 found.1 in record { seat = found.0; session = session; own = in_seat found.0 t session found.2 }
 
   module _ (numbered : (seat : ℕ) → IsSession v seat → IsNumbered (v.session seat)) where
+    number : (seat : ℕ) → IsSession v seat → (k : ℕ) (t : Transaction) → slice_get (of_seat seat) k ≡ Some t → t.number ≡ k + 1
+    number seat session k t at =
+        ⊎_elim
+        (λ (over : slice_get (progress_of seat said).over k ≡ Some t).
+        let found = told_at seat (progress_of seat said).over (v.session seat).over k t (tells seat session).over over in
+        found.2.work.number ∙ (numbered seat session).over k found.0 found.1)
+        (λ (behind : ((progress_of seat said).current ≡ Some t) × (k ≡ length (progress_of seat said).over)).
+        let last = number_now seat t (v.session seat).stand (length (v.session seat).over + 1) (now seat session t behind.0) (numbered seat session).now in
+        omega (arith, last, behind.1, same_length seat (progress_of seat said).over (v.session seat).over (tells seat session).over))
+        (at_either (progress_of seat said).over (progress_of seat said).current k t at)
+
     seat_differs : (seat : ℕ) → IsSession v seat → Pairs Differ (of_seat seat)
     seat_differs seat session =
-        pairs_both Differ (progress_of seat said).over (option_to_list (progress_of seat said).current)
-        (pairs_from (λ (t u : Transaction). t.number < u.number) Differ (progress_of seat said).over (numbered_ascend (progress_of seat said).over 1 number)
-        (λ t u m n before session same. omega (arith, before, same)))
-        (subst (λ (o : Option Transaction). Pairs Differ (option_to_list o)) (sym (none_now seat session)) tt)
-        (λ t u m n. absurd (none_in_nil u (subst (λ (o : Option Transaction). u ∈ option_to_list o) (none_now seat session) n)))
-      where
-        number : (k : ℕ) (t : Transaction) → slice_get (progress_of seat said).over k ≡ Some t → t.number ≡ k + 1
-        number k t at =
-            let found = told_at seat (progress_of seat said).over (v.session seat).over k t (tells seat session).over at in
-            found.2.work.number ∙ (numbered seat session).over k found.0 found.1
-
-    session_is : (seat : ℕ) (t : Transaction) → IsSession v seat → t ∈ of_seat seat → t.session ≡ seat
-    session_is seat t session m =
-        let over = in_over seat t session m in
-        (told_at seat (progress_of seat said).over (v.session seat).over over.0 t (tells seat session).over over.1).2.work.session
+        pairs_from (λ (t u : Transaction). t.number < u.number) Differ (of_seat seat) (numbered_ascend (of_seat seat) 1 (number seat session))
+        (λ t u m n before session same. omega (arith, before, same))
 
     pub told_differ : Pairs Differ (transactions_of v.opening.sessions said)
     told_differ =
         pairs_flat of_seat Differ (range_with_len 1 v.opening.sessions) (λ seat m. seat_differs seat (of_range seat m))
         (pairs_from (λ (p q : ℕ). p < q) (λ p q. (t u : Transaction) → t ∈ of_seat p → u ∈ of_seat q → Differ t u) (range_with_len 1 v.opening.sessions) (pairs_range 1 v.opening.sessions)
         (λ p q in_p in_q before t u m n same number.
-        let first = session_is p t (of_range p in_p) m in
-        let second = session_is q u (of_range q in_q) n in
+        let first = (in_seat p t (of_range p in_p) m).tells.session in
+        let second = (in_seat q u (of_range q in_q) n).tells.session in
         omega (arith, before, first, second, same)))

@@ -14,14 +14,15 @@ use Rattle.erm_script.specs.declared.script.ScriptLine.{ScriptLine}
 use Rattle.erm_world.specs.Laws.{IsSerializable}
 use Rattle.erm_world.specs.World.{IsSession, View, phase_at}
 use Rattle.erm_good_report.specs.GoodReport.{places_of}
-use Rattle.erm_good_report.specs.Phases.{Closed, Closes, ClosesAgree, FitsPhase, is_idle, phase_of}
+use Rattle.erm_good_report.specs.Phases.{Closed, Closes, ClosesAgree, FitsPhase, PhasesAgree, is_idle, phase_of}
 use Rattle.erm_good_report.specs.Transactions.{Progress, Said, nothing, progress_of, said_of}
 use Rattle.erm_lines.specs.Answers.{DidLine}
-use Rattle.erm_lines.specs.Executions.{AreClosed, DidLog, DidLogLine, DidMove, IsExecution, IsLast, IsRun, Move, close, closed_in, flush, line, line_moves, log, move_of, said_in}
-use Rattle.erm_lines.specs.Laws.{ExecutionsGoOn, ExecutionsTell, RunsCloseSessions, RunsHavePhases, RunsTell}
+use Rattle.erm_lines.specs.Executions.{AreClosed, DidLog, DidLogLine, DidMove, IsCourse, IsExecution, IsLast, Move, close, closed_in, flush, line, line_moves, log, move_of, said_in}
+use Rattle.erm_lines.specs.Laws.{ExecutionsGoOn, ExecutionsTell, OfCourses, RunsCloseSessions, RunsTell}
 use Rattle.erm_lines.specs.Told.{Tells}
 use Rattle.erm_lines.proofs.Moved.{logged_fits, moved, said_move}
 use Rattle.erm_told.proofs.Closing.{AreLast, IsClosing, are_last, close_said, closed_once, closes_fit, closes_said, found_closed, heard_alike, phase_stays}
+use Rattle.erm_told.proofs.Courses.{run_so_far}
 use Rattle.erm_told.proofs.Executed.{hears, still_session}
 use Rattle.erm_told.proofs.Pairs.{Pairs, all_of, pairs_of}
 use Rattle.erm_told.proofs.Ranges.{in_range, in_range_from, pairs_filter, pairs_map, pairs_range, same_list}
@@ -109,15 +110,15 @@ log_fits v t phase command.Checkpoint a did = logged_fits v t command.Checkpoint
 log_fits v t phase c a did = absurd did
 
 -- THE SESSIONS CLOSED. Those that a report has are those that the execution closed.
-module _ (v t : View) (script : List ScriptLine) (answers : List Answer) (run : IsRun v script answers t) (closed : List Closed) (are : AreClosed run.closing closed) where
-  last_moves : AreLast run.closing
+module _ (v t : View) (script : List ScriptLine) (answers : List Answer) (run : IsCourse v script answers t) (closed : List Closed) (are : AreClosed run.closing closed) where
+  pub last_moves : AreLast run.closing
   last_moves = are_last run.closing (λ move m. all_of IsLast run.closing run.last move m)
 
   ascending : Pairs (λ (a b : Closed). a.session < b.session) closed
   ascending = pairs_of (λ (a b : Closed). a.session < b.session) closed are.ascend
 
   -- the places of the report give each session what the moves give it
-  same_progress : (seat : ℕ) → progress_of seat (said_in (line_moves script answers ++ run.closing)) ≡ progress_of seat (places_of script answers closed)
+  pub same_progress : (seat : ℕ) → progress_of seat (said_in (line_moves script answers ++ run.closing)) ≡ progress_of seat (places_of script answers closed)
   same_progress seat =
       let lines = said_of script answers in
       let ends = closed_in run.closing in
@@ -187,43 +188,45 @@ module _ (v t : View) (script : List ScriptLine) (answers : List Answer) (run : 
           (in_range_from 1 v.opening.sessions c.0.session session.0 (omega (arith, session.1)))
           (closes_left (phase_of c.0.session (said_of script answers)) c.0.answer (fits_at c.0 c.1)))
 
-      idle_before : (s : ℕ) → IsSession v s → ((c : Closed) → c ∈ closed → c.session ≢ s) → phase_of s (said_of script answers) ≡ Idle
-      idle_before s session none =
-          let there = still_session v run.between s opening_between session in
-          phase_before s session
-          ∙ sym (phase_stays run.closing run.between t s last_moves run.closes there (λ c m. none c (are.all c m)))
-          ∙ run.idle s (still_session v t s opening_end session)
+      -- ALL SESSIONS are idle at the end of a whole run.
+      module _ (idle : (seat : ℕ) → IsSession t seat → phase_at t seat ≡ Idle) where
+        idle_before : (s : ℕ) → IsSession v s → ((c : Closed) → c ∈ closed → c.session ≢ s) → phase_of s (said_of script answers) ≡ Idle
+        idle_before s session none =
+            let there = still_session v run.between s opening_between session in
+            phase_before s session
+            ∙ sym (phase_stays run.closing run.between t s last_moves run.closes there (λ c m. none c (are.all c m)))
+            ∙ idle s (still_session v t s opening_end session)
 
-      left_are_closed : (s : ℕ) → s ∈ filter is_left (range_with_len 1 v.opening.sessions) → s ∈ map (λ (c : Closed). c.session) closed
-      left_are_closed s m =
-          let kept = ∈-filter is_left s (range_with_len 1 v.opening.sessions) m in
-          let bounds = in_range 1 v.opening.sessions s kept.0 in
-          let session : IsSession v s = (bounds.0, omega (arith, bounds.1)) in
-          ⊎_elim
-          (λ (found : (c : Closed) × (c ∈ closed) × (c.session ≡ s)).
-          subst (λ (x : ℕ). x ∈ map (λ (c : Closed). c.session) closed) found.2 (∈-map_from (λ (c : Closed). c.session) closed found.0 found.1))
-          (λ (none : (c : Closed) → c ∈ closed → c.session ≢ s).
-          absurd (idle_left (phase_of s (said_of script answers)) (idle_before s session none) kept.1))
-          (found_closed s closed)
+        left_are_closed : (s : ℕ) → s ∈ filter is_left (range_with_len 1 v.opening.sessions) → s ∈ map (λ (c : Closed). c.session) closed
+        left_are_closed s m =
+            let kept = ∈-filter is_left s (range_with_len 1 v.opening.sessions) m in
+            let bounds = in_range 1 v.opening.sessions s kept.0 in
+            let session : IsSession v s = (bounds.0, omega (arith, bounds.1)) in
+            ⊎_elim
+            (λ (found : (c : Closed) × (c ∈ closed) × (c.session ≡ s)).
+            subst (λ (x : ℕ). x ∈ map (λ (c : Closed). c.session) closed) found.2 (∈-map_from (λ (c : Closed). c.session) closed found.0 found.1))
+            (λ (none : (c : Closed) → c ∈ closed → c.session ≢ s).
+            absurd (idle_left (phase_of s (said_of script answers)) (idle_before s session none) kept.1))
+            (found_closed s closed)
 
-      pub closes_agree : ClosesAgree v.opening.sessions (said_of script answers) closed
-      closes_agree = record {
-        each =
-            same_list (map (λ (c : Closed). c.session) closed) (filter is_left (range_with_len 1 v.opening.sessions))
-            (pairs_map (λ (c : Closed). c.session) (λ (a b : ℕ). a < b) closed ascending)
-            (pairs_filter (λ (a b : ℕ). a < b) is_left (range_with_len 1 v.opening.sessions) (pairs_range 1 v.opening.sessions)) closed_are_left left_are_closed;
-        fits = fits_at;
-      }
+        pub closes_agree : ClosesAgree v.opening.sessions (said_of script answers) closed
+        closes_agree = record {
+          each =
+              same_list (map (λ (c : Closed). c.session) closed) (filter is_left (range_with_len 1 v.opening.sessions))
+              (pairs_map (λ (c : Closed). c.session) (λ (a b : ℕ). a < b) closed ascending)
+              (pairs_filter (λ (a b : ℕ). a < b) is_left (range_with_len 1 v.opening.sessions) (pairs_range 1 v.opening.sessions)) closed_are_left left_are_closed;
+          fits = fits_at;
+        }
 
 module _ (tell : ExecutionsTell) where
   pub runs_tell : RunsTell
-  runs_tell v t script answers run closed are seat session = tells_report v t script answers run closed are tell seat session
+  runs_tell v t script answers run closed are seat session = tells_report v t script answers (run_so_far v t script answers run) closed are tell seat session
 
   module _ (go : ExecutionsGoOn) where
     pub runs_close : RunsCloseSessions
-    runs_close v t script answers run closed are = closes_agree v t script answers run closed are tell go
+    runs_close v t script answers run closed are = closes_agree v t script answers (run_so_far v t script answers run) closed are tell go run.idle
 
-    line_fits : (v t : View) (script : List ScriptLine) (answers : List Answer) (run : IsRun v script answers t) (i : ℕ) (l : ScriptLine) (a : Answer)
+    line_fits : (v t : View) (script : List ScriptLine) (answers : List Answer) (run : IsCourse v script answers t) (i : ℕ) (l : ScriptLine) (a : Answer)
         → slice_get script i ≡ Some l → slice_get answers i ≡ Some a → FitsPhase (phase_of l.session (take i (said_of script answers))) l.command a
     line_fits v t script answers run i l a at answered =
         let there = at_line script answers v run.between i l a run.lines at answered in
@@ -241,5 +244,5 @@ module _ (tell : ExecutionsTell) where
             in
             subst (λ (x : Phase). FitsPhase x l.command a) (sym phase) did.fits
 
-    pub runs_phases : RunsHavePhases
-    runs_phases v t script answers run closed opening are of = record { fits = line_fits v t script answers run }
+    pub phases : OfCourses (λ opening script answers closed told. PhasesAgree script answers)
+    phases v t script answers run closed opening are of = record { fits = line_fits v t script answers run }

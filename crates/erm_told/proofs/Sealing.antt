@@ -10,7 +10,7 @@ use Rattle.erm_good_report.specs.Phases.{Closed}
 use Rattle.erm_good_report.specs.Phases as phases
 use Rattle.erm_good_report.specs.Refusals.{IsSealedWith, MayHaveStamp, Moment, moment_at}
 use Rattle.erm_good_report.specs.Transactions.{Said, Transaction, progress_of, said_of}
-use Rattle.erm_lines.specs.Executions.{AreClosed, IsRun, line_moves, move_of}
+use Rattle.erm_lines.specs.Executions.{AreClosed, IsCourse, line_moves, move_of}
 use Rattle.erm_lines.specs.Laws.{ExecutionsGoOn, ExecutionsTell}
 use Rattle.erm_lines.specs.Told.{Continues, Tells, TellsCurrent, TellsNow}
 use Rattle.erm_told.proofs.Ended.{opening_is, reported, stamp_later}
@@ -26,7 +26,7 @@ sealed_now seat current stand w stamp is told = from current (subst (λ (at : St
     from None now = absurd now
     from (Some t) now = (t, refl, now.0)
 
-module _ (tell : ExecutionsTell) (go : ExecutionsGoOn) (v t : View) (script : List ScriptLine) (answers : List Answer) (run : IsRun v script answers t)
+module _ (tell : ExecutionsTell) (go : ExecutionsGoOn) (v t : View) (script : List ScriptLine) (answers : List Answer) (run : IsCourse v script answers t)
     (closed : List Closed) (are : AreClosed run.closing closed) where
   -- A transaction that is sealed at some time has this stamp, and none else is told of it.
   pub may_have_stamp : (m : Moment) → m.all ≡ reported tell go v t script answers run closed are → (seat : ℕ) → IsSession t seat → (s : Session) → Continues s (t.session seat)

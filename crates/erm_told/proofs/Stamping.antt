@@ -1,5 +1,5 @@
 -- The stamps that the report of a run tells agree.
-use Rattle.std.proofs.Common.{◌≡◌, ◌≢◌, ℕ, ◌<◌, ◌≤◌, List, [], ◌∷◌, IfSome, Some, refl, sym, ap, ◌∙◌, subst, inl, ⊎_elim, arith, le_trans}
+use Rattle.std.proofs.Common.{◌≡◌, ◌≢◌, ℕ, ◌<◌, ◌≤◌, List, [], ◌∷◌, IfSome, Some, refl, sym, ap, ◌∙◌, subst, ⊎_elim, arith, le_trans}
 use Rattle.erm_model.specs.Member.{◌∈◌}
 use Rattle.erm_model.proofs.Members.{none_in_nil}
 use Rattle.erm_machine.proofs.Listed.{∈-cons}
@@ -13,12 +13,12 @@ use Rattle.erm_good_report.specs.GoodReport.{places_of}
 use Rattle.erm_good_report.specs.Opening.{InTurn, Opening}
 use Rattle.erm_good_report.specs.Phases.{Closed}
 use Rattle.erm_good_report.specs.Stamps.{AllInTime, StampsAgree, Told, begin_told, stamp_drawn, stamp_told}
-use Rattle.erm_good_report.specs.Transactions.{Said, Transaction, said_of, stamp_of, stamp_of_ending, transactions_of}
-use Rattle.erm_lines.specs.Executions.{AreClosed, DidMove, IsExecution, IsOpeningOf, IsRun, line_moves, move_of}
-use Rattle.erm_lines.specs.Laws.{ExecutionsGoOn, ExecutionsTell, RunsHaveStamps}
-use Rattle.erm_told.proofs.Drawing.{Draws, move_draws, the_number}
+use Rattle.erm_good_report.specs.Transactions.{Said, Transaction, said_of, stamp_of, transactions_of}
+use Rattle.erm_lines.specs.Executions.{AreClosed, DidMove, IsCourse, IsExecution, IsOpeningOf, line_moves, move_of}
+use Rattle.erm_lines.specs.Laws.{ExecutionsGoOn, ExecutionsTell, OfCourses}
+use Rattle.erm_told.proofs.Drawing.{Draws, move_draws}
 use Rattle.erm_told.proofs.Ended.{at_end, opening_is, report}
-use Rattle.erm_told.proofs.Endings.{ending_stamp, if_told, told_from, told_stamp}
+use Rattle.erm_told.proofs.Endings.{if_told, told_from}
 use Rattle.erm_told.proofs.Pairs.{Pairs, all_pairs, pairs_from}
 use Rattle.erm_told.proofs.Reported.{Differ, IsTold}
 
@@ -83,32 +83,25 @@ in_time P said before gives =
     let pairs = pairs_from Before P said before (λ a b m n is. gives a b is) in λ i j d first in_it earlier. all_pairs P said pairs i j d first in_it
 
 module _ (v : View) (lawful : IsSerializable sound_law v) where
-  has_stamp : (t : Transaction) (told : IsTold v t) (stamp : ℕ) → stamp_of t ≡ Some stamp → HasStamp v told.seat told.finished.work stamp
-  has_stamp t told stamp is = inl (told.finished, told.over, refl, told_stamp told.seat t told.finished stamp told.tells is)
-
   stamps_differ : (t u : Transaction) → IsTold v t → IsTold v u → Differ t u → Told (λ a b. a ≢ b) (stamp_of t) (stamp_of u)
   stamps_differ t u told then_told differ = told_from (stamp_of t) (stamp_of u) (λ a b. a ≢ b) (λ m n is then_is same.
-      let first = has_stamp t told m is in
-      let second = has_stamp u then_told m (then_is ∙ ap (λ (k : ℕ). Some k) (sym same)) in
-      let one = lawful.differ told.seat then_told.seat told.finished.work then_told.finished.work m told.session then_told.session first second in
-      differ (told.tells.work.session ∙ one.0 ∙ sym then_told.tells.work.session) (told.tells.work.number ∙ one.1 ∙ sym then_told.tells.work.number))
+      let first = told.own.stamped m is in
+      let second = then_told.own.stamped m (then_is ∙ ap (λ (k : ℕ). Some k) (sym same)) in
+      let one = lawful.differ told.seat then_told.seat told.own.work then_told.own.work m told.session then_told.session first second in
+      differ (told.own.tells.session ∙ one.0 ∙ sym then_told.own.tells.session) (told.own.tells.number ∙ one.1 ∙ sym then_told.own.tells.number))
 
   stamp_above : (t : Transaction) → IsTold v t → IfSome (stamp_of t) (λ stamp. t.begin ≤ stamp)
   stamp_above t told = if_told (stamp_of t) (λ stamp. t.begin ≤ stamp) (λ stamp is.
-      let above = (lawful.stamps told.seat told.finished.work stamp told.session (has_stamp t told stamp is)).0 in
-      omega (arith, above, told.tells.work.begin))
+      let above = (lawful.stamps told.seat told.own.work stamp told.session (told.own.stamped stamp is)).0 in
+      omega (arith, above, told.own.tells.begin))
 
   begin_above : (t : Transaction) → IsTold v t → v.opening.tail ≤ t.begin
   begin_above t told =
-      let above = (lawful.begins told.seat told.finished.work told.session (inl (told.finished, told.over, refl))).0 in
-      omega (arith, above, told.tells.work.begin)
-
-  seal_agrees : (t : Transaction) → IsTold v t → Told (λ a b. a ≡ b) t.sealed (stamp_of_ending t.ending)
-  seal_agrees t told = told_from t.sealed (stamp_of_ending t.ending) (λ a b. a ≡ b) (λ m n sealed ended.
-      the_number m n (sym (told.tells.sealed m sealed) ∙ ending_stamp t.ending told.finished.fate n told.tells.ends ended))
+      let above = (lawful.begins told.seat told.own.work told.session told.own.has).0 in
+      omega (arith, above, told.own.tells.begin)
 
 module _ (tell : ExecutionsTell) (go : ExecutionsGoOn) where
-  module _ (v t : View) (script : List ScriptLine) (answers : List Answer) (run : IsRun v script answers t) (closed : List Closed) (opening : Opening)
+  module _ (v t : View) (script : List ScriptLine) (answers : List Answer) (run : IsCourse v script answers t) (closed : List Closed) (opening : Opening)
       (are : AreClosed run.closing closed) (of : IsOpeningOf v opening) where
     lawful : IsSerializable sound_law t
     lawful = at_end tell go v t script answers run closed are
@@ -126,7 +119,7 @@ module _ (tell : ExecutionsTell) (go : ExecutionsGoOn) where
               (λ u w m n differ. stamps_differ t lawful u w (of_world u m) (of_world w n) differ));
           least = λ u m. omega (arith, begin_above t lawful u (of_world u m), ap (λ (o : world.Opening). o.tail) (opening_is tell go v t script answers run closed are), of.stamp);
           begun = λ u m. stamp_above t lawful u (of_world u m);
-          sealed = λ u m. seal_agrees t lawful u (of_world u m);
+          sealed = λ u m. (of_world u m).own.agrees;
           begins = in_time (λ a b. Told (λ stamp begin. stamp < begin) (stamp_told a.answer) (begin_told b.answer)) (said_of script answers) before
               (λ a b is. told_from (stamp_told a.answer) (begin_told b.answer) (λ stamp begin. stamp < begin) is.begins);
           draws = in_time (λ a b. Told (λ begin stamp. begin ≤ stamp) (begin_told a.answer) (stamp_drawn b.asked b.answer)) (said_of script answers) before
@@ -135,5 +128,5 @@ module _ (tell : ExecutionsTell) (go : ExecutionsGoOn) where
               (λ a b is. told_from (stamp_drawn a.asked a.answer) (stamp_drawn b.asked b.answer) (λ first later. first < later) is.ascends);
         }
 
-  pub runs_stamps : RunsHaveStamps
-  runs_stamps v t script answers run closed opening are of = stamps_agree v t script answers run closed opening are of
+  pub stamps : OfCourses (λ opening script answers closed told. StampsAgree InTurn opening told (said_of script answers))
+  stamps v t script answers run closed opening are of = stamps_agree v t script answers run closed opening are of

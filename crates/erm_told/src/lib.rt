@@ -2,7 +2,7 @@
 //! Each law is the contract of a function that does nothing.
 #![tactic(auto)]
 
-ghost use Rattle.erm_lines.specs.Laws.{ExecutionsGoOn, ExecutionsTell, RunsCloseSessions, RunsHavePhases, RunsHaveStamps, RunsTell};
+ghost use Rattle.erm_lines.specs.Laws.{ExecutionsGoOn, ExecutionsTell, PartsCutFew, PartsHavePhases, PartsHaveStamps, RunsCloseSessions, RunsCutFew, RunsHavePhases, RunsHaveStamps, RunsTell};
 
 /// After any moves each session's transactions are those that the moves tell, and its phase is the one that the answers leave.
 pub fn executions_tell_sessions()
@@ -48,5 +48,35 @@ pub fn runs_have_stamps()
     ensures { RunsHaveStamps }
 {
     executions_tell_sessions();
+    executions_go_on();
+}
+
+/// The same of a run that was cut off: each answer fits the phase that the answers before it leave.
+pub fn parts_have_phases()
+    ensures { PartsHavePhases }
+{
+    executions_tell_sessions();
+    executions_go_on();
+}
+
+/// The stamps that the report of a run that was cut off tells agree, those of transactions that are not over too.
+pub fn parts_have_stamps()
+    ensures { PartsHaveStamps }
+{
+    executions_tell_sessions();
+    executions_go_on();
+}
+
+/// No tidy of a run cuts off more versions than a call of its world does at most.
+pub fn runs_cut_few()
+    ensures { RunsCutFew }
+{
+    executions_go_on();
+}
+
+/// Nor does one of a run that was cut off.
+pub fn parts_cut_few()
+    ensures { PartsCutFew }
+{
     executions_go_on();
 }

@@ -17,7 +17,7 @@ use Rattle.erm_good_report.specs.Opening.{Opening, InTurn}
 use Rattle.erm_good_report.specs.Refusals.{HasRefusalCause, IsOwn, moment_at, claims_of, makes_of, total_of}
 use Rattle.erm_good_report.specs.Transactions.{Said, Transaction, said_of}
 use Rattle.erm_lines.specs.Answers.{DidLine}
-use Rattle.erm_lines.specs.Executions.{DidLog, DidLogLine, IsOpeningOf, IsRun}
+use Rattle.erm_lines.specs.Executions.{DidLog, DidLogLine, IsCourse, IsOpeningOf}
 use Rattle.erm_lines.proofs.Moved.{moved}
 use Rattle.erm_told_limits.specs.Limits.{AreInRange, IsFull}
 use Rattle.erm_told_limits.proofs.At.{At, AtMove, at_line, at_session, opened_holds, take_next}
@@ -31,7 +31,7 @@ taken : (ls : List ScriptLine) (n : ℕ) (k : ScriptLine) → k ∈ take n ls �
 taken ls n k m = subst (λ (all : List ScriptLine). k ∈ all) (take-append-drop n ls) (∈-first (take n ls) (drop n ls) k m)
 
 -- the line, with what is so before it
-pub there : (laws : Laws) (v t : View) (script : List ScriptLine) (answers : List Answer) → IsRun v script answers t → (i : ℕ) (l : ScriptLine) (a : Answer) → slice_get script i ≡ Some l → slice_get answers i ≡ Some a
+pub there : (laws : Laws) (v t : View) (script : List ScriptLine) (answers : List Answer) → IsCourse v script answers t → (i : ℕ) (l : ScriptLine) (a : Answer) → slice_get script i ≡ Some l → slice_get answers i ≡ Some a
     → AtMove v (take i script) (take i (said_of script answers)) l a
 there laws v t script answers run i l a at_script at_answers = at_line laws v script answers [] [] v run.between (opened_holds v run.opened) refl run.lines i l a at_script at_answers
 
@@ -51,7 +51,7 @@ of_session first ls said l a is at =
     (moved at.v l a at.t at.did)
 
 module _ (laws : Laws) (zeros : (rows : Rows) (x : ℕ) → IsSound rows → TABLES ≤ x → rows x ≡ replicate ROW_WORDS 0 → reached rows x ≡ 0)
-    (v t : View) (script : List ScriptLine) (answers : List Answer) (run : IsRun v script answers t) (opening : Opening) (of : IsOpeningOf v opening)
+    (v t : View) (script : List ScriptLine) (answers : List Answer) (run : IsCourse v script answers t) (opening : Opening) (of : IsOpeningOf v opening)
     (all : List Transaction) (i : ℕ) (l : ScriptLine) (at_script : slice_get script i ≡ Some l) where
   -- the lines up to it are in range
   in_range : AreInRange (take i script ++ l ∷ [])

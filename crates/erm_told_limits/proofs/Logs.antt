@@ -18,7 +18,7 @@ use Rattle.erm_good_report.specs.Phases.{FitsRefusal, IsAnswerTo, phase_asked, r
 use Rattle.erm_good_report.specs.Refusals.{HasLogCause, draws_of, moment_at, total_of}
 use Rattle.erm_good_report.specs.Transactions.{Said, Transaction, said_of}
 use Rattle.erm_lines.specs.Answers.{DidAsked, DidCommand, DidLine}
-use Rattle.erm_lines.specs.Executions.{DidLog, DidLogLine, IsOpeningOf, IsRun}
+use Rattle.erm_lines.specs.Executions.{DidLog, DidLogLine, IsCourse, IsOpeningOf}
 use Rattle.erm_lines.proofs.Moved.{moved}
 use Rattle.erm_told_limits.specs.Limits.{IsEnd}
 use Rattle.erm_told_limits.proofs.At.{At, AtMove, at_session, take_next}
@@ -63,7 +63,7 @@ of_session first ls said l a is at =
     (λ (did : DidLogLine at.v l a at.t). absurd (not_logged at.v at.t l.command a is did.did))
     (moved at.v l a at.t at.did)
 
-module _ (laws : Laws) (v t : View) (script : List ScriptLine) (answers : List Answer) (run : IsRun v script answers t) (opening : Opening) (of : IsOpeningOf v opening)
+module _ (laws : Laws) (v t : View) (script : List ScriptLine) (answers : List Answer) (run : IsCourse v script answers t) (opening : Opening) (of : IsOpeningOf v opening)
     (all : List Transaction) (i : ℕ) (l : ScriptLine) (at_script : slice_get script i ≡ Some l) where
   -- the lines before it are fewer than a session may have transactions
   few_before : length (take i script) < LAST_NUMBER

@@ -44,7 +44,7 @@ module _ (v : View) (seat : ℕ) (t : View) where
 
     operated_tail : (c : Command) (a : Answer) → DidOperation v seat c a t → t.tail ≡ v.tail
     operated_tail c (answer.Replied r) did = ran_tail did.2.events v seat t active did.2.ran
-    operated_tail c (answer.Cut cells) did = ran_tail did.1.events v seat t active did.1.ran
+    operated_tail c (answer.Cut cells) did = ran_tail did.2.events v seat t active did.2.ran
     operated_tail c a did = cut_tail c a did
 
   began_tail : (a : Answer) → DidCommand v seat command.Begin a t → t.tail ≡ v.tail

@@ -78,7 +78,7 @@ module _ (rows_below : HaveRowsBelow) (ways : Ways) (v : View) (seat : ℕ) (t :
 
     operated : (a : Answer) → DidOperation v seat c a t → Turned (Known c t) (makes_of c) (claims_of c) 1 v seat t
     operated (answer.Replied r) did = answered (answer.Replied r) _ did.2
-    operated (answer.Cut cells) did = answered (answer.Cut cells) [] did.1
+    operated (answer.Cut cells) did = answered (answer.Cut cells) [] did.2
     operated a did = cut_off a did
 
   began : (a : Answer) → phase_at v seat ≡ Idle → DidCommand v seat command.Begin a t → Turned (Known command.Begin t) 0 0 1 v seat t
@@ -158,7 +158,7 @@ module _ (v : View) (seat : ℕ) (t : View) where
 
   operation_runs : (c : Command) (a : Answer) → DidOperation v seat c a t → phase_at v seat ≡ Active → HasRun v seat → phase_at t seat ≡ Active → HasRun t seat
   operation_runs c (answer.Replied r) did active has_run then = calls_run _ _ did.2 has_run
-  operation_runs c (answer.Cut cells) did active has_run then = calls_run [] _ did.1 has_run
+  operation_runs c (answer.Cut cells) did active has_run then = calls_run [] _ did.2 has_run
   operation_runs c a did active has_run then = cut_runs c did.0 did.2 active has_run then
 
   commit_runs : (u : View) (stamp : ℕ) (a : Answer) → DidSeal v seat stamp u → DidDecide u seat a t → phase_at t seat ≡ Active → HasRun t seat

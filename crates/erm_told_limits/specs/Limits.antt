@@ -11,15 +11,15 @@ use Rattle.erm_world.specs.World.{IsSession, View, work_at}
 use Rattle.erm_good_report.specs.Opening.{Opening, InTurn}
 use Rattle.erm_good_report.specs.Refusals.{HasLogCause, HasRefusalCause, IsOwn, Moment, claims_of, moment_at}
 use Rattle.erm_good_report.specs.Transactions.{Transaction, progress_of, said_of}
-use Rattle.erm_lines.specs.Executions.{IsExecution, IsOpened, IsOpeningOf, IsRun, line_moves}
+use Rattle.erm_lines.specs.Executions.{IsCourse, IsExecution, IsOpened, IsOpeningOf, line_moves}
 
 -- the arguments of each line are in range
 abbrev pub AreInRange : List ScriptLine → Type 0
 AreInRange script = (l : ScriptLine) → l ∈ script → IsInRange l.command
 
--- a fact of each line of a run that has such an answer, at its moment, whatever all transactions are
+-- a fact of each line of a run so far that has such an answer, at its moment, whatever all transactions are
 abbrev pub OfLines : (Answer → Type 0) → (Moment → ScriptLine → Answer → Type 0) → Type 0
-OfLines Kind Fact = (v t : View) (script : List ScriptLine) (answers : List Answer) → IsRun v script answers t → (opening : Opening) → IsOpeningOf v opening
+OfLines Kind Fact = (v t : View) (script : List ScriptLine) (answers : List Answer) → IsCourse v script answers t → (opening : Opening) → IsOpeningOf v opening
     → (all : List Transaction) (i : ℕ) (l : ScriptLine) (a : Answer) → slice_get script i ≡ Some l → slice_get answers i ≡ Some a → Kind a → Fact (moment_at InTurn opening script answers all i l) l a
 
 -- the answers to a line that had no room: for reads, claims, cells or objects

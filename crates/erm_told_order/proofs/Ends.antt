@@ -1,34 +1,39 @@
--- The world at the end of a run.
-use Rattle.std.proofs.Common.{◌≡◌, ℕ, ◌<◌, ◌≤◌, List, [], ◌∷◌, sym, ap, ◌∙◌, subst}
+-- What a run so far tells of its last world: the map that it began on, and the replies of its transactions.
+use Rattle.std.proofs.Common.{◌≡◌, ℕ, List, sym, ap, ◌∙◌, subst}
+use Rattle.erm_model.specs.Committed.{HasSnapshotReplies}
+use Rattle.erm_model.specs.Member.{◌∈◌}
 use Rattle.erm_node.specs.Sound.{sound_law}
 use Rattle.erm_node.specs.TreeMap.{map_of_rows}
 use Rattle.erm_report.specs.declared.answer.Answer.{Answer}
 use Rattle.erm_script.specs.declared.script.ScriptLine.{ScriptLine}
 use Rattle.erm_world.specs.Laws.{IsSerializable}
-use Rattle.erm_world.specs.World.{IsSession, View}
+use Rattle.erm_world.specs.World.{View}
 use Rattle.erm_world.specs.World as world
+use Rattle.erm_maps.specs.Runs.{AreRuns, RepliesAreSnapshots, Told}
 use Rattle.erm_good_report.specs.GoodReport.{places_of}
 use Rattle.erm_good_report.specs.Opening.{Opening}
 use Rattle.erm_good_report.specs.Phases.{Closed}
-use Rattle.erm_good_report.specs.Transactions.{progress_of}
-use Rattle.erm_lines.specs.Executions.{AreClosed, IsExecution, IsOpeningOf, IsRun, Move, line_moves}
-use Rattle.erm_lines.specs.Laws.{ExecutionsGoOn, RunsTell}
-use Rattle.erm_lines.specs.Told.{Tells}
+use Rattle.erm_good_report.specs.Transactions.{Transaction, history_of, progress_of, steps_of, transactions_of}
+use Rattle.erm_lines.specs.Executions.{AreClosed, IsCourse, IsOpeningOf}
+use Rattle.erm_lines.specs.Laws.{ExecutionsGoOn, ExecutionsTell, OfCourses}
+use Rattle.erm_told.proofs.Ended.{at_end, end_tells, opening_is}
+use Rattle.erm_told_order.proofs.Orders.{are_runs, snapshots_told}
+use Rattle.erm_told_order.proofs.Places.{told_by}
 
--- an execution of a serializable world leaves one
-pub stays_serializable : (v t : View) (moves : List Move) → IsSerializable sound_law v → IsExecution v moves t → IsSerializable sound_law t
-stays_serializable v t [] holds runs = subst (λ w. IsSerializable sound_law w) (sym runs) holds
-stays_serializable v t (move ∷ moves) holds runs = stays_serializable runs.0 t moves runs.2 runs.3
+module _ (tell : ExecutionsTell) (go : ExecutionsGoOn) where
+  pub end_map : (v t : View) (script : List ScriptLine) (answers : List Answer) (run : IsCourse v script answers t) (closed : List Closed) → AreClosed run.closing closed
+      → (opening : Opening) → IsOpeningOf v opening → opening.map ≡ map_of_rows t.opening.rows
+  end_map v t script answers run closed closes opening of =
+      of.map ∙ ap (λ (o : world.Opening). map_of_rows o.rows) (sym (opening_is tell go v t script answers run closed closes))
 
-module _ (go_on : ExecutionsGoOn) (tell : RunsTell) (v t : View) (script : List ScriptLine) (answers : List Answer) (run : IsRun v script answers t) (closed : List Closed) (closes : AreClosed run.closing closed) where
-  pub end_holds : IsSerializable sound_law t
-  end_holds = stays_serializable run.between t run.closing (stays_serializable v run.between (line_moves script answers) run.opened.serializable run.lines) run.closes
-
-  pub end_opening : t.opening ≡ v.opening
-  end_opening = (go_on run.between t run.closing run.closes).0 ∙ (go_on v run.between (line_moves script answers) run.lines).0
-
-  pub end_tells : (seat : ℕ) → IsSession t seat → Tells seat (progress_of seat (places_of script answers closed)) (t.session seat)
-  end_tells seat session = tell v t script answers run closed closes seat (subst (λ (opening : world.Opening). (0 < seat) × (seat ≤ opening.sessions)) end_opening session)
-
-  pub end_map : (opening : Opening) → IsOpeningOf v opening → opening.map ≡ map_of_rows t.opening.rows
-  end_map opening of = of.map ∙ ap (λ (o : world.Opening). map_of_rows o.rows) (sym end_opening)
+  pub snapshots : ((v : View) (told : Told) → IsSerializable sound_law v → AreRuns v told → RepliesAreSnapshots v told)
+      → OfCourses (λ opening script answers closed told. (t : Transaction) → t ∈ told → HasSnapshotReplies (history_of told) opening.map t.begin (steps_of t))
+  snapshots replies v t script answers run closed opening closes of =
+      let said = places_of script answers closed in
+      let progress = λ (seat : ℕ). progress_of seat said in
+      let holds = at_end tell go v t script answers run closed closes in
+      let tells = end_tells tell go v t script answers run closed closes in
+      let same = end_map v t script answers run closed closes opening of in
+      subst (λ (o : world.Opening). (u : Transaction) → u ∈ transactions_of o.sessions said → HasSnapshotReplies (history_of (transactions_of o.sessions said)) opening.map u.begin (steps_of u))
+      (opening_is tell go v t script answers run closed closes)
+      (snapshots_told t progress holds tells opening.map same (replies t (told_by progress) holds (are_runs t progress holds tells)))

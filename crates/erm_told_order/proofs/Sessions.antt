@@ -11,6 +11,7 @@ use Rattle.erm_world.specs.World as world
 use Rattle.erm_maps.specs.Runs.{IsAnswered, IsRunOf}
 use Rattle.erm_good_report.specs.Transactions.{Progress, Transaction, steps_of}
 use Rattle.erm_lines.specs.Told.{RanAs, Tells, TellsCurrent, TellsNow, TellsOne, TellsOver}
+use Rattle.erm_told.proofs.Reported.{same_length}
 use Rattle.erm_told_order.proofs.Places.{all_of, first_at, last_at, steps_at, steps_there}
 
 -- a transaction of the world that is told, with its operations
@@ -39,13 +40,6 @@ told_over seat all (t ∷ ts) (f ∷ fs) n tells at numbers = (
       (λ k u e. let place : n + suc k ≡ (n + 1) + k = omega arith in subst (λ m. slice_get all m ≡ Some u) place (at (suc k) u e))
       (λ k g e. let number = numbers (suc k) g e in omega (arith, number)),
 )
-
--- as many are told as are over
-same_length : (seat : ℕ) (ts : List Transaction) (fs : List Finished) → TellsOver seat ts fs → length ts ≡ length fs
-same_length seat [] [] tells = refl
-same_length seat [] (f ∷ fs) tells = absurd tells
-same_length seat (t ∷ ts) [] tells = absurd tells
-same_length seat (t ∷ ts) (f ∷ fs) tells = ap suc (same_length seat ts fs tells.1)
 
 -- one that is over is told
 pub record HasTold (seat : ℕ) (told : ℕ → List Step) (ts : List Transaction) (f : Finished) : Type 0 where

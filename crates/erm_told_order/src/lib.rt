@@ -2,14 +2,23 @@
 //! that does nothing.
 #![tactic(auto)]
 
-ghost use Rattle.erm_lines.specs.Laws.{RunsAreSerial, RunsHaveSnapshots};
+ghost use Rattle.erm_lines.specs.Laws.{PartsHaveSnapshots, RunsAreSerial, RunsHaveSnapshots};
 
 /// Each transaction that a report tells was answered as its operations are on the state below its begin stamp.
 pub fn runs_have_snapshots()
     ensures { RunsHaveSnapshots }
 {
+    erm_told::executions_tell_sessions();
     erm_told::executions_go_on();
-    erm_told::runs_tell_sessions();
+    erm_maps::histories_run_as_operations();
+}
+
+/// The same of a run that was cut off, whose transactions may not be over.
+pub fn parts_have_snapshots()
+    ensures { PartsHaveSnapshots }
+{
+    erm_told::executions_tell_sessions();
+    erm_told::executions_go_on();
     erm_maps::histories_run_as_operations();
 }
 
@@ -17,8 +26,8 @@ pub fn runs_have_snapshots()
 pub fn runs_are_serial()
     ensures { RunsAreSerial }
 {
+    erm_told::executions_tell_sessions();
     erm_told::executions_go_on();
-    erm_told::runs_tell_sessions();
     erm_core_ssn::serial_order_is_unique();
     erm_maps::histories_run_as_operations();
 }

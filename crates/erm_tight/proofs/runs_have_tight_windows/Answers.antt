@@ -3,6 +3,7 @@ use Rattle.std.specs.Prelude.{◌++◌}
 use Rattle.erm_good_report.specs.GoodReport.{places_of}
 use Rattle.erm_world.specs.World as world
 use Rattle.erm_lines.specs.Executions.{line_moves}
+use Rattle.erm_told.proofs.Courses.{run_so_far}
 use Rattle.erm_causes.proofs.Begun.{HistoryLaws}
 use Rattle.erm_causes.proofs.Moves.{session_before}
 use Rattle.erm_causes.proofs.Runs.{whole_run}
@@ -27,10 +28,11 @@ returns c = λ v t script answers run closed opening are starts.
     } in
     let keys : KeyLaws = key_laws c.nodes_are_read_back.ensures.record c.record_values.ensures.given c.record_values.ensures.found c.map_has_values_of_records.ensures.value c.nodes_are_read_back.ensures.found in
     let moves = line_moves script answers ++ run.closing in
-    let whole = whole_run v t script answers run closed are in
+    let so_far = run_so_far v t script answers run in
+    let whole = whole_run v t script answers so_far closed are in
     let same = run_opening moves v t whole in
     tight_windows laws t v.opening.sessions (places_of script answers closed) (run_holds moves v t run.opened.serializable whole)
     (ap (λ (o : world.Opening). o.sessions) (sym same))
     (λ seat session. c.runs_tell_sessions.ensures v t script answers run closed are seat (session_before v t seat same session))
-    (λ seat session. run_marks v t script answers run closed are keys c.begun_transactions_are_runs.ensures seat (session_before v t seat same session))
+    (λ seat session. run_marks v t script answers so_far closed are keys c.begun_transactions_are_runs.ensures seat (session_before v t seat same session))
     (run_orderly moves v t run.opened.serializable whole (opened_orderly v run.opened))

@@ -1,0 +1,9 @@
+use Rattle.erm_good_report.specs.Opening.{InTurn}
+use Rattle.erm_good_report.specs.Refusals.{HasCauses}
+use Rattle.erm_told.proofs.Courses.{of_parts}
+use Rattle.erm_causes.proofs.Shown.{with_cause}
+use Rattle.erm_causes.proofs.parts_refuse_with_cause.Goals as goal
+
+pub returns : goal.returns
+returns c = of_parts (λ opening script answers closed told. HasCauses InTurn opening script answers told)
+    (with_cause c.runs_refuse_for_others.ensures c.full_has_cause.ensures c.end_has_cause.ensures c.runs_tell_log.ensures)

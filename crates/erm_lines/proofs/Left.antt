@@ -1,0 +1,78 @@
+-- Lines of sessions, and their closes, leave what the flusher and the pin say of the log.
+use Rattle.std.proofs.Common.{◌≡◌, ℕ, Option, Some, None, refl, ap, ◌∙◌}
+use Rattle.erm_model.specs.declared.outcome.Phase.{Phase}
+use Rattle.erm_model.specs.declared.outcome.Phase.TheVariants.{Active, Idle, Sealed}
+use Rattle.erm_report.specs.declared.answer.Answer.{Answer}
+use Rattle.erm_report.specs.declared.answer.Answer.TheVariants as answer
+use Rattle.erm_script.specs.declared.script.Command.{Command}
+use Rattle.erm_script.specs.declared.script.Command.TheVariants as command
+use Rattle.erm_world.specs.Calls.{DidSeal}
+use Rattle.erm_world.specs.Face.{Goes}
+use Rattle.erm_world.specs.World.{View, phase_at}
+use Rattle.erm_good_report.specs.Phases.{refusal_of}
+use Rattle.erm_lines.specs.Answers.{DidAsked, DidClose, DidCommand, DidCommit, DidDecide, DidOperation}
+use Rattle.erm_lines.specs.Laws.{ClosesLeaveTheLog, LinesLeaveTheLog}
+use Rattle.erm_lines.proofs.Moved.{active_where, asked_still}
+use Rattle.erm_lines.proofs.Receipts.{operated_goes}
+
+abbrev Leaves : View → View → Type 0
+Leaves v t = (t.flushed ≡ v.flushed) × (t.pinned ≡ v.pinned)
+
+unchanged : (v t : View) → t ≡ v → Leaves v t
+unchanged v t is = (ap (λ (u : View). u.flushed) is, ap (λ (u : View). u.pinned) is)
+
+sealed : (v t : View) (seat stamp : ℕ) → DidSeal v seat stamp t → Leaves v t
+sealed v t seat stamp did = (did.flushed, did.pinned)
+
+decided : (v t : View) (seat : ℕ) (a : Answer) → DidDecide v seat a t → Leaves v t
+decided v t seat (answer.Committed at succ pred) (r, at_is, after, before, (w, own, stand, ready, settled)) = (settled.0.flushed, settled.0.pinned)
+decided v t seat (answer.Excluded at succ pred) (w, own, stand, ready, settled) = (settled.0.flushed, settled.0.pinned)
+decided v t seat (answer.WaitSeat other seen) did = unchanged v t did.0
+decided v t seat (answer.WaitRing flushed) did = unchanged v t did.0
+decided v t seat a did = absurd did
+
+committed : (v t : View) (seat : ℕ) (a : Answer) → DidCommit v seat a t → Leaves v t
+committed v t seat a did =
+    let first = sealed v did.between seat did.stamp did.sealed in
+    let second = decided did.between t seat a did.decided in
+    (second.0 ∙ first.0, second.1 ∙ first.1)
+
+module _ (v t : View) (seat : ℕ) where
+  began : (a : Answer) → DidCommand v seat command.Begin a t → Leaves v t
+  began (answer.Began stamp) did = (did.3.flushed, did.3.pinned)
+  began (answer.LogEnd tail) did = unchanged v t did.0
+  began answer.NumbersEnd did = unchanged v t did.0
+  began a did = absurd did
+
+  operated : (c : Command) (a : Answer) → phase_at v seat ≡ Active → DidOperation v seat c a t → Leaves v t
+  operated c a active did = let goes : Goes v seat t = operated_goes v t seat c a active did in (goes.flushed, goes.pinned)
+
+  commanded : (c : Command) (a : Answer) → refusal_of (phase_at v seat) c ≡ None → DidCommand v seat c a t → Leaves v t
+  commanded command.Begin a allowed did = began a did
+  commanded (command.Get table key) a allowed did = operated (command.Get table key) a (active_where (phase_at v seat) allowed) did
+  commanded (command.Put table key value) a allowed did = operated (command.Put table key value) a (active_where (phase_at v seat) allowed) did
+  commanded (command.Del table key) a allowed did = operated (command.Del table key) a (active_where (phase_at v seat) allowed) did
+  commanded (command.Next table from) a allowed did = operated (command.Next table from) a (active_where (phase_at v seat) allowed) did
+  commanded (command.Scan table low high) a allowed did = operated (command.Scan table low high) a (active_where (phase_at v seat) allowed) did
+  commanded (command.Tidy table key) a allowed did = operated (command.Tidy table key) a (active_where (phase_at v seat) allowed) did
+  commanded command.Seal (answer.Sealed stamp) allowed did = sealed v t seat stamp did
+  commanded command.Settle a allowed did = decided v t seat a did
+  commanded command.Commit a allowed did = committed v t seat a did
+  commanded command.Abort answer.Aborted allowed did = (did.flushed, did.pinned)
+  commanded command.Durable a allowed did = unchanged v t (asked_still v t seat a did)
+  commanded c a allowed did = absurd did
+
+  asked : (c : Command) (a : Answer) (refusal : Option Answer) → refusal_of (phase_at v seat) c ≡ refusal → DidAsked refusal v seat c a t → Leaves v t
+  asked c a (Some r) is same = unchanged v t same
+  asked c a None is did = commanded c a is did
+
+  closed : (phase : Phase) (a : Answer) → DidClose phase v seat a t → Leaves v t
+  closed Idle a did = absurd did
+  closed Active a did = (did.flushed, did.pinned)
+  closed Sealed a did = decided v t seat a did
+
+pub lines_leave : LinesLeaveTheLog
+lines_leave v t l a did = asked v t l.session l.command a (refusal_of (phase_at v l.session) l.command) refl did.did
+
+pub closes_leave : ClosesLeaveTheLog
+closes_leave v t seat a did = closed v t seat (phase_at v seat) a did.did

@@ -1,0 +1,10 @@
+use Rattle.erm_good_report.specs.Opening.{InTurn}
+use Rattle.erm_good_report.specs.Stamps.{StampsAgree}
+use Rattle.erm_good_report.specs.Transactions.{said_of}
+use Rattle.erm_told.proofs.Courses.{of_parts}
+use Rattle.erm_told.proofs.Stamping.{stamps}
+use Rattle.erm_told.proofs.parts_have_stamps.Goals as goal
+
+pub returns : goal.returns
+returns c = of_parts (λ opening script answers closed told. StampsAgree InTurn opening told (said_of script answers))
+    (stamps c.executions_tell_sessions.ensures c.executions_go_on.ensures)
