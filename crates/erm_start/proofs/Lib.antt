@@ -1,2 +1,3 @@
 pub mod Zeros
+pub mod First
 pub mod Opened

@@ -1,65 +1,131 @@
--- The view of an opening.
-use Rattle.std.proofs.Common.{◌≡◌, ℕ, ◌<◌, Result, Ok, Err, IfOk, Bool, true, false, if◌then◌else◌, [], refl, sym, ap, ◌∙◌, subst, arith}
-use Rattle.std.proofs.lemmas.Bool.{lt-ltb}
-use Rattle.erm_model.specs.declared.limits.TheConstants.{MOST_CELLS, OID_LIMIT}
+-- The view and the log of a world that was just opened.
+use Rattle.std.proofs.Common.{◌≡◌, ℕ, ◌+◌, ◌-◌, ◌<◌, ◌≤◌, Result, Ok, Err, IfOk, ◌⊎◌, Bool, true, false, if◌then◌else◌, [], None, inl, inr, refl, sym, ap, ◌∙◌, subst, arith}
+use Rattle.std.proofs.lemmas.Bool.{cases_lt, lt-ltb}
+use Rattle.erm_model.specs.declared.limits.TheConstants.{LEAST_BLOCK, MOST_CELLS, OID_LIMIT, TABLES}
 use Rattle.erm_model.specs.Rows.{Rows}
+use Rattle.erm_model.specs.RowTransaction.{SameRows}
+use Rattle.erm_machine.specs.declared.limits.TheConstants.{FLUSH_SEAT}
 use Rattle.erm_machine.specs.declared.place.Place.TheVariants.{Idle, Vacant}
 use Rattle.erm_machine.specs.Core.{Core, fresh_part, is_taken, no_object, opened_object, opening_state}
 use Rattle.erm_machine.specs.Lawful.{opening_rows}
-use Rattle.erm_core_view.specs.Views.{session_of, view_of}
-use Rattle.erm_node.specs.Sound.{sound_law}
+use Rattle.erm_core_turns.specs.Turns.{log_of}
+use Rattle.erm_core_view.specs.Views.{pin_of, session_of, view_of}
+use Rattle.erm_node.specs.Sound.{reached, sound_law}
 use Rattle.erm_world.specs.Laws.{IsSerializable}
 use Rattle.erm_world.specs.World as world
+use Rattle.erm_world.specs.World.{View}
 use Rattle.erm_core.specs.Cores.{core_of}
+use Rattle.erm_lines.specs.Executions.{is_zero}
+use Rattle.erm_plain.specs.Logs.{plain_log}
 use Rattle.erm_plain.specs.Stands.{IsWorld, plain_view}
 use Rattle.erm_plain.specs.declared.plain.Plain.{Plain}
 use Rattle.erm_start.specs.Empty.{IsEmptyWorld}
+use Rattle.erm_start.specs.Recovered.{IsFirstObject, IsOpenedLog, IsOpenedOn}
+use Rattle.erm_start.specs.declared.start.TheConstants.{FIRST_RUN, OPENING}
 use Rattle.erm_start.proofs.Zeros.{zeros, zeros-count, zeros-map}
 
--- a session is idle at first
+-- a session is idle at first, and nothing is pinned
 idle_at : (b : Bool) (run tail : ℕ) → session_of (fresh_part (if b then Idle else Vacant) run tail) ≡ record { over = []; stand = world.idle }
 idle_at true run tail = refl
 idle_at false run tail = refl
+
+unpinned_at : (b : Bool) (run tail : ℕ) → pin_of (fresh_part (if b then Idle else Vacant) run tail).place (fresh_part (if b then Idle else Vacant) run tail).current ≡ None
+unpinned_at true run tail = refl
+unpinned_at false run tail = refl
 
 -- the rows are those that it was opened on
 row_at : (rows : Rows) (b : Bool) (oid : ℕ) → b ≡ true → opening_rows (record (opening_state 0 rows 0 0 0 0).shared { objects = λ o. if b then opened_object rows o else no_object }) oid ≡ rows oid
 row_at rows true oid is = refl
 row_at rows false oid is = absurd (cc)
 
-rows_opened : (sessions : ℕ) (rows : Rows) (tail run first cells oid : ℕ) → oid < OID_LIMIT → opening_rows (opening_state sessions rows tail run first cells).shared oid ≡ rows oid
+rows_opened : (sessions : ℕ) (rows : Rows) (tail run first cells : ℕ) → SameRows (opening_rows (opening_state sessions rows tail run first cells).shared) rows
 rows_opened sessions rows tail run first cells oid below = row_at rows _ oid (lt-ltb oid OID_LIMIT below)
 
-zero_row : (sessions : ℕ) (rows : Rows) (tail run first cells : ℕ) → ((oid : ℕ) → oid < OID_LIMIT → rows oid ≡ zeros) → (oid : ℕ) → oid < OID_LIMIT
-    → opening_rows (opening_state sessions rows tail run first cells).shared oid ≡ zeros
-zero_row sessions rows tail run first cells none oid below = rows_opened sessions rows tail run first cells oid below ∙ none oid below
+-- the view and the log of the opening's state
+module _ (sessions : ℕ) (rows : Rows) (tail run first : ℕ) where
+  abbrev start : Core
+  start = opening_state sessions rows tail run first MOST_CELLS
 
-opened_empty : (sessions : ℕ) (rows : Rows) → ((oid : ℕ) → oid < OID_LIMIT → rows oid ≡ zeros) → IsSerializable sound_law (view_of sessions (opening_state sessions rows 13 1 16 MOST_CELLS))
-    → IsEmptyWorld sessions (view_of sessions (opening_state sessions rows 13 1 16 MOST_CELLS))
-opened_empty sessions rows none serializable = record {
-  opened = record {
-    idle = λ seat session. idle_at (is_taken sessions seat) 1 13;
+  view_at : IsFirstObject rows first → IsSerializable sound_law (view_of sessions start) → ((oid : ℕ) → start.shared.first ≤ oid → reached (opening_rows start.shared) oid ≡ 0)
+      → IsOpenedOn rows tail run sessions (view_of sessions start)
+  view_at is serializable unreached = record {
+    opened = record {
+      idle = λ seat session. idle_at (is_taken sessions seat) run tail;
+      tail = refl;
+      flushed = refl;
+      pinned = unpinned_at (is_taken sessions FLUSH_SEAT) run tail;
+      serializable = serializable;
+    };
+    rows = rows_opened sessions rows tail run first MOST_CELLS;
+    tail = refl;
+    run = refl;
+    sessions = refl;
+    first = is;
+    cells = omega arith;
+    cuts = refl;
+    unreached = unreached;
+  }
+
+  log_at : IsOpenedLog rows tail run (log_of sessions start)
+  log_at = record {
+    at = refl;
+    run = refl;
+    rows = rows_opened sessions rows tail run first MOST_CELLS;
     tail = refl;
     flushed = refl;
-    serializable = serializable;
-  };
-  sessions = refl;
-  map = zeros-map _ (λ oid below. zero_row sessions rows 13 1 16 MOST_CELLS none oid (omega (arith, below)));
-  rows = zeros-count _ (λ oid below. zero_row sessions rows 13 1 16 MOST_CELLS none oid below);
-  tail = refl;
-  first = refl;
-  cells = omega arith;
+    gathered = refl;
+    pinned = unpinned_at (is_taken sessions FLUSH_SEAT) run tail;
+  }
+
+  -- a world that was opened so has them
+  view_is : (many : ℕ) (c : Core) → many ≡ sessions → c ≡ start → IsFirstObject rows first → IsSerializable sound_law (view_of many c)
+      → ((oid : ℕ) → c.shared.first ≤ oid → reached (opening_rows c.shared) oid ≡ 0) → IsOpenedOn rows tail run sessions (view_of many c)
+  view_is many c same at is =
+      subst
+      (λ (n : ℕ). IsSerializable sound_law (view_of n c) → ((oid : ℕ) → c.shared.first ≤ oid → reached (opening_rows c.shared) oid ≡ 0) → IsOpenedOn rows tail run sessions (view_of n c))
+      (sym same)
+      (subst
+      (λ (d : Core). IsSerializable sound_law (view_of sessions d) → ((oid : ℕ) → d.shared.first ≤ oid → reached (opening_rows d.shared) oid ≡ 0) → IsOpenedOn rows tail run sessions (view_of sessions d))
+      (sym at) (view_at is))
+
+  log_is : (many : ℕ) (c : Core) → many ≡ sessions → c ≡ start → IsOpenedLog rows tail run (log_of many c)
+  log_is many c same at =
+      subst (λ (n : ℕ). IsOpenedLog rows tail run (log_of n c)) (sym same) (subst (λ (d : Core). IsOpenedLog rows tail run (log_of sessions d)) (sym at) log_at)
+
+  pub opened_on : {L E : Type 0} (r : Result (Plain L) E) → IsFirstObject rows first → IfOk r (λ p. IsWorld sound_law p) → IfOk r (λ p. core_of p.state ≡ start)
+      → IfOk r (λ p. p.sessions ≡ sessions) → IfOk r (λ p. IsOpenedOn rows tail run sessions (plain_view p))
+  opened_on (Ok p) is world opened many = view_is p.sessions (core_of p.state) many opened is world.serializable world.stands.sound.lawful.below
+  opened_on (Err e) is world opened many = tt
+
+  pub opened_log : {L E : Type 0} (r : Result (Plain L) E) → IfOk r (λ p. core_of p.state ≡ start) → IfOk r (λ p. p.sessions ≡ sessions)
+      → IfOk r (λ p. IsOpenedLog rows tail run (plain_log p))
+  opened_log (Ok p) opened many = log_is p.sessions (core_of p.state) many opened
+  opened_log (Err e) opened many = tt
+
+-- on rows of zeros it is an empty one
+empty_on : (rows : Rows) (many : ℕ) (v : View) → ((oid : ℕ) → oid < OID_LIMIT → rows oid ≡ zeros) → IsOpenedOn rows (OPENING + LEAST_BLOCK) FIRST_RUN many v → IsEmptyWorld many v
+empty_on rows many v none is = record {
+  opened = is.opened;
+  sessions = is.sessions;
+  map = zeros-map v.opening.rows (λ oid below. row_zeros oid (omega (arith, below)));
+  rows = zeros-count v.opening.rows row_zeros;
+  tail = is.tail;
+  first = first_is (cases_lt TABLES v.opening.first);
+  cells = is.cells;
 }
+  where
+    row_zeros : (oid : ℕ) → oid < OID_LIMIT → v.opening.rows oid ≡ zeros
+    row_zeros oid below = is.rows oid below ∙ none oid below
 
--- a world that was opened so is an empty one
-pub is_empty : (sessions many : ℕ) (rows : Rows) (c : Core) → many ≡ sessions → c ≡ opening_state sessions rows 13 1 16 MOST_CELLS → ((oid : ℕ) → oid < OID_LIMIT → rows oid ≡ zeros)
-    → IsSerializable sound_law (view_of many c) → IsEmptyWorld sessions (view_of many c)
-is_empty sessions many rows c same is none serializable =
-    subst (λ n. IsSerializable sound_law (view_of n c) → IsEmptyWorld sessions (view_of n c)) (sym same)
-    (subst (λ at. IsSerializable sound_law (view_of sessions at) → IsEmptyWorld sessions (view_of sessions at)) (sym is) (opened_empty sessions rows none)) serializable
+    first_is : (TABLES < v.opening.first) ⊎ (v.opening.first ≤ TABLES) → v.opening.first ≡ TABLES
+    first_is (inl more) =
+        let within = is.first.within in
+        let of_zeros : is_zero (rows (v.opening.first - 1)) ≡ true = ap is_zero (none (v.opening.first - 1) (omega (arith, within, more))) in
+        let other = is.first.used more in
+        absurd (cc)
+    first_is (inr least) = let tables = is.first.tables in omega (arith, least, tables)
 
-pub opened_ok : {L E : Type 0} (r : Result (Plain L) E) (sessions first : ℕ) (rows : Rows) → first ≡ 16 → ((oid : ℕ) → oid < OID_LIMIT → rows oid ≡ zeros)
-    → IfOk r (λ p. IsWorld sound_law p) → IfOk r (λ p. core_of p.state ≡ opening_state sessions rows 13 1 first MOST_CELLS) → IfOk r (λ p. p.sessions ≡ sessions)
-    → IfOk r (λ p. IsEmptyWorld sessions (plain_view p))
-opened_ok (Ok p) sessions first rows from none world opened many =
-    is_empty sessions p.sessions rows (core_of p.state) many (opened ∙ ap (λ n. opening_state sessions rows 13 1 n MOST_CELLS) from) none world.serializable
-opened_ok (Err e) sessions first rows from none world opened many = tt
+pub empty_ok : {L E : Type 0} (r : Result (Plain L) E) (many : ℕ) (rows : Rows) → ((oid : ℕ) → oid < OID_LIMIT → rows oid ≡ zeros)
+    → IfOk r (λ p. IsOpenedOn rows (OPENING + LEAST_BLOCK) FIRST_RUN many (plain_view p)) → IfOk r (λ p. IsEmptyWorld many (plain_view p))
+empty_ok (Ok p) many rows none is = empty_on rows many (plain_view p) none is
+empty_ok (Err e) many rows none is = tt

@@ -8,7 +8,7 @@ use Rattle.std.proofs.lemmas.Bool.{cases_eq}
 use Rattle.erm_model.specs.declared.limits.TheConstants.{OID_LIMIT}
 use Rattle.erm_model.specs.Rows.{Rows, rows_of}
 use Rattle.erm_node.specs.Node.{first_child, node_of, node_row, pairs_of}
-use Rattle.erm_node.specs.Sound.{IsSound, inner_levels, levels_of, reached, reached_below}
+use Rattle.erm_node.specs.Sound.{IsSound, inner_levels, levels_of, reached_below}
 use Rattle.erm_node.specs.Tree.{Fan, IsTree, entries, same_oid, times, total}
 use Rattle.erm_node.specs.TreeMap.{map_of_rows, entry_value, tree_values, values_below}
 use Rattle.erm_node.proofs.Reached.{reached-is}
@@ -76,10 +76,6 @@ zeros-sound rows zero_rows = record {
   once = λ x. omega (arith, reached-is rows x, one_below rows 16 x zero_rows);
   bounded = λ x above. reached-is rows x ∙ none_below rows 16 x zero_rows (omega (arith, above));
 }
-
--- and reach no object that may be made
-pub zeros-unreached : (rows : Rows) → ((oid : ℕ) → oid < 16 → rows oid ≡ zeros) → (x : ℕ) → 16 ≤ x → reached rows x ≡ 0
-zeros-unreached rows zero_rows x above = reached-is rows x ∙ none_below rows 16 x zero_rows above
 
 -- no table has a value
 no_values : (rows : Rows) (table : ℕ) → rows table ≡ zeros → tree_values rows table (levels_of rows table) table 0 ≡ []

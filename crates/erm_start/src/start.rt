@@ -7,7 +7,8 @@ ghost use Rattle.erm_node.specs.Sound.{sound_law};
 ghost use Rattle.erm_plain.specs.Stands.{plain_view};
 ghost use Rattle.erm_start.specs.Empty.{IsEmptyWorld};
 
-use erm_model::{LEAST_BLOCK, OID_LIMIT, ROW_WORDS, Row, Seat, Stamp, TABLES};
+use crate::recovered::open_world;
+use erm_model::{LEAST_BLOCK, OID_LIMIT, ROW_WORDS, Row, Seat, Stamp};
 use erm_node::SoundRows;
 use erm_plain::Plain;
 use erm_world::RowWorld;
@@ -29,7 +30,7 @@ pub fn empty_world(alloc: Global, sessions: Seat) -> Result<Plain<SoundRows>, Al
 {
     let rows = zero_rows(alloc)?;
     let tail = OPENING + LEAST_BLOCK;
-    Plain::open(alloc, &rows, tail, FIRST_RUN, u64::from(TABLES), sessions)
+    open_world(alloc, &rows, tail, FIRST_RUN, sessions)
 }
 
 // As many rows of zeros as there may be objects.
