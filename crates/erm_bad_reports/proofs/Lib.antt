@@ -1,7 +1,12 @@
+pub mod OfCauses
+pub mod OfCutReports
 pub mod OfLines
 pub mod OfOrder
+pub mod OfRefusals
 pub mod OfReplies
+pub mod OfStampParts
 pub mod OfStamps
+pub mod OfStampsOfTwo
 pub mod OfWindows
 pub mod Reading
 pub mod Tests

@@ -1,6 +1,6 @@
 -- Orders and maps that are not those of a good report.
-use Rattle.std.proofs.Common.{◌≡◌, ◌≢◌, ℕ, ◌<◌, ◌≤◌, List, [], ◌∷◌, length, map, take, Some, None, refl, sym, ap, ◌∙◌, inl, inr, arith}
-use Rattle.std.proofs.lemmas.List.Elements.{All-cons, All-from_recursion, All-nil}
+use Rattle.std.proofs.Common.{◌≡◌, ◌≢◌, ◌≤◌, List, [], ◌∷◌, length, map, take, Some, None, refl, sym, ap, ◌∙◌, inl, inr, arith}
+use Rattle.std.proofs.lemmas.List.Elements.{All-from_recursion}
 use Rattle.std.proofs.lemmas.List.Sorted.{length_permutation}
 use Rattle.erm_model.specs.Committed.{Committed, HasSnapshotReplies, RunsInOrder, below, rank_of}
 use Rattle.erm_model.specs.Database.{Database, at, entries_of, value_at}
@@ -9,7 +9,6 @@ use Rattle.erm_model.proofs.Keys.{value_at-empty, value_at-insert}
 use Rattle.std.specs.FinMap.{empty, from_entries}
 use Rattle.std.specs.List.{AllPairs}
 use Rattle.std.specs.Prelude.{IfSome}
-use Rattle.erm_script.specs.Script.{IsValue}
 use Rattle.erm_good_report.specs.Stamps.{Told}
 use Rattle.erm_report.specs.Printable.{FitsTypes}
 use Rattle.erm_good_report.specs.Causes.{HasCauseOf}
@@ -22,10 +21,7 @@ use Rattle.erm_good_report.proofs.Parts.{each_in, each_place}
 use Rattle.erm_bad_reports.specs.Clauses.{BreaksAlone, Clause, Meets, lines_of, told_of, Fit, Answered, Closes, Phases, Stamps, Snapshots, Causes, Refusals, Serial, Ascending, Runs, LowEnds, HighEnds}
 use Rattle.erm_bad_reports.specs.Cases.{order_turned_round, pairs_turned_round, pair_from_nowhere}
 use Rattle.erm_bad_reports.proofs.Reading.{orders_of}
-use Rattle.erm_bad_reports.proofs.Tests.{in_none, no_commit_ordered, one_commit_ordered, no_pair_ascends, stamps_agree, first_snapshot, low_ends, high_ends}
-
-byte : (b : ℕ) → b < 256 → IsValue (b ∷ [])
-byte b small = (omega arith, All-cons (λ n. n < 256) b [] small (All-nil (λ n. n < 256)))
+use Rattle.erm_bad_reports.proofs.Tests.{byte, in_none, no_commit_ordered, one_commit_ordered, no_pair_ascends, stamps_agree, first_snapshot, low_ends, high_ends}
 
 -- ---- commits in another order
 abbrev told : List Transaction

@@ -1,12 +1,11 @@
 -- Stamps that do not agree.
-use Rattle.std.proofs.Common.{◌≡◌, ◌≢◌, ◌<◌, ◌≤◌, ℕ, List, [], ◌∷◌, take, Some, None, refl, sym, ap, inl, arith}
-use Rattle.std.proofs.lemmas.List.Elements.{All-cons, All-from_recursion, All-nil}
+use Rattle.std.proofs.Common.{◌≡◌, ◌≢◌, ◌≤◌, ℕ, List, [], ◌∷◌, take, Some, None, refl, sym, ap, inl, arith}
+use Rattle.std.proofs.lemmas.List.Elements.{All-from_recursion}
 use Rattle.std.specs.FinMap.{empty, insert}
 use Rattle.erm_model.specs.Committed.{HasSnapshotReplies}
 use Rattle.erm_model.specs.Database.{Database, at, value_at}
 use Rattle.erm_model.specs.declared.operation.Reply.TheVariants as reply
 use Rattle.erm_model.proofs.Keys.{value_at-insert}
-use Rattle.erm_script.specs.Script.{IsValue}
 use Rattle.erm_good_report.specs.Windows.{IsCommit}
 use Rattle.erm_report.specs.declared.answer.Answer.TheVariants as answer
 use Rattle.erm_report.specs.Printable.{FitsTypes}
@@ -19,7 +18,7 @@ use Rattle.erm_good_report.proofs.Parts.{each_in, each_place}
 use Rattle.erm_bad_reports.specs.Clauses.{BreaksAlone, Clause, Meets, lines_of, told_of, IsLowAt, IsHighAt, Fit, Answered, Closes, Phases, Stamps, Snapshots, Causes, Refusals, Serial, Ascending, Runs, LowEnds, HighEnds}
 use Rattle.erm_bad_reports.specs.Cases.{begun_too_early, future_was_read}
 use Rattle.erm_bad_reports.proofs.Reading.{owes_of}
-use Rattle.erm_bad_reports.proofs.Tests.{in_one, no_commit_ordered, one_commit_ordered, no_pair_ascends, first_snapshot}
+use Rattle.erm_bad_reports.proofs.Tests.{byte, in_one, no_commit_ordered, one_commit_ordered, no_pair_ascends, first_snapshot}
 
 -- ---- a begin within the opening's block
 keeps_but_least : (other : Clause) → other ≢ Stamps → Meets other begun_too_early
@@ -46,9 +45,6 @@ least_breaks = record { breaks = begins_early; keeps = keeps_but_least; refused 
 -- ---- the future is read
 abbrev told : List Transaction
 told = told_of future_was_read
-
-byte : (b : ℕ) → b < 256 → IsValue (b ∷ [])
-byte b small = (omega arith, All-cons (λ n. n < 256) b [] small (All-nil (λ n. n < 256)))
 
 abbrev one_key : Database
 one_key = insert empty (at 0 1) (1 ∷ [])

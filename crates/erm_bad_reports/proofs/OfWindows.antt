@@ -1,6 +1,6 @@
 -- Windows whose ends are not tight.
-use Rattle.std.proofs.Common.{◌≡◌, ◌≢◌, ◌==◌, ◌&&◌, nat_lt, Bool, true, false, cond, Option, ℕ, ◌<◌, ◌≤◌, List, [], ◌∷◌, take, Some, None, refl, sym, ap, ◌∙◌, inl, inr, arith}
-use Rattle.std.proofs.lemmas.List.Elements.{All-cons, All-from_recursion, All-nil}
+use Rattle.std.proofs.Common.{◌≡◌, ◌≢◌, ◌==◌, ◌&&◌, nat_lt, Bool, true, false, cond, Option, ℕ, ◌≤◌, List, [], ◌∷◌, take, Some, None, refl, sym, ap, ◌∙◌, inl, inr, arith}
+use Rattle.std.proofs.lemmas.List.Elements.{All-from_recursion}
 use Rattle.std.proofs.lemmas.List.Sorted.{IsPermutation-refl}
 use Rattle.erm_model.specs.Committed.{HasSnapshotReplies, below, rank_of}
 use Rattle.erm_model.specs.Database.{Database, at, value_at}
@@ -8,7 +8,6 @@ use Rattle.erm_model.specs.SerialOrder.{ComesBefore}
 use Rattle.erm_model.proofs.Keys.{same_database, value_at-insert}
 use Rattle.std.specs.FinMap.{empty, insert}
 use Rattle.std.specs.Prelude.{IfSome}
-use Rattle.erm_script.specs.Script.{IsValue}
 use Rattle.erm_good_report.specs.Stamps.{Told}
 use Rattle.erm_model.specs.Member.{◌∈◌}
 use Rattle.erm_report.specs.Printable.{FitsTypes}
@@ -25,10 +24,7 @@ use Rattle.erm_good_report.proofs.Parts.{all_pairs_from_test, all_pairs_of_two, 
 use Rattle.erm_bad_reports.specs.Clauses.{BreaksAlone, Clause, Meets, lines_of, told_of, IsLowAt, IsHighAt, Fit, Answered, Closes, Phases, Stamps, Snapshots, Causes, Refusals, Serial, Ascending, Runs, LowEnds, HighEnds}
 use Rattle.erm_bad_reports.specs.Cases.{predecessor_too_low, successor_too_high}
 use Rattle.erm_bad_reports.proofs.Reading.{told_read}
-use Rattle.erm_bad_reports.proofs.Tests.{less_from, one_commit_ordered, stamps_agree, first_snapshot}
-
-byte : (b : ℕ) → b < 256 → IsValue (b ∷ [])
-byte b small = (omega arith, All-cons (λ n. n < 256) b [] small (All-nil (λ n. n < 256)))
+use Rattle.erm_bad_reports.proofs.Tests.{byte, less_from, one_commit_ordered, stamps_agree, first_snapshot}
 
 abbrev one_key : Database
 one_key = insert empty (at 0 1) (1 ∷ [])

@@ -1,5 +1,5 @@
 -- Stamps that agree by a test, and what is so of transactions without lines.
-use Rattle.std.proofs.Common.{◌≡◌, ◌≢◌, ℕ, ◌<◌, ◌≤◌, true, not, ◌==◌, nat_lt, nat_le, List, [], ◌∷◌, ◌++◌, Some, None, refl, sym, subst, ◌∙◌, ◌+◌, arith}
+use Rattle.std.proofs.Common.{◌≡◌, ◌≢◌, ℕ, ◌<◌, ◌≤◌, true, not, ◌==◌, nat_lt, nat_le, List, [], ◌∷◌, ◌++◌, Some, None, refl, sym, subst, take, ◌∙◌, ◌+◌, arith}
 use Rattle.std.specs.Prelude.{IfSome}
 use Rattle.std.specs.List.{AllByRecursion, AllPairs}
 use Rattle.std.proofs.lemmas.Bool.Decides.{nat_tests}
@@ -11,19 +11,25 @@ use Rattle.erm_model.specs.Run.{RunsOne, Step}
 use Rattle.erm_model.specs.SerialOrder.{ComesBefore, IsSerialOrder}
 use Rattle.std.specs.declared.cmp.Ordering.TheVariants.{Less}
 use Rattle.erm_report.specs.declared.answer.Answer.{Answer}
+use Rattle.erm_report.specs.declared.answer.Answer.TheVariants as answer
+use Rattle.erm_script.specs.Script.{IsValue}
 use Rattle.erm_script.specs.declared.script.Command.{Command}
-use Rattle.erm_good_report.specs.Refusals.{HasCause, HasLogCause, HasRefusalCause, HasUnfilledCause, Moment}
+use Rattle.erm_script.specs.declared.script.Command.TheVariants as command
+use Rattle.erm_model.specs.declared.limits.TheConstants.{RING_WORDS}
+use Rattle.std.proofs.lemmas.List.Elements.{All-cons, All-nil}
+use Rattle.erm_good_report.specs.Phases.{FitsPhase, phase_of}
+use Rattle.erm_good_report.specs.Refusals.{HasCause, HasLogCause, HasRefusalCause, HasUnfilledCause, MayHaveStamp, Moment, flushed_at, moment_at, most_words}
 use Rattle.erm_good_report.specs.Opening.{InTurn, Opening, is_before}
 use Rattle.erm_good_report.specs.Stamps.{Told, StampsAgree, begin_told, stamp_told, stamp_drawn}
-use Rattle.erm_good_report.specs.Transactions.{Exchange, Ending, Unfinished, Commits, Excludes, Aborts, Said, Transaction, stamp_of, stamp_of_ending}
+use Rattle.erm_good_report.specs.Transactions.{Exchange, Ending, Unfinished, Commits, Excludes, Aborts, Said, Transaction, said_of, stamp_of, stamp_of_ending}
 use Rattle.erm_good_report.specs.Windows.{HasLine, IsHighEnd, IsLowEnd}
-use Rattle.erm_bad_reports.specs.Clauses.{IsLowAt, IsHighAt}
-use Rattle.erm_good_report.proofs.Parts.{each_in, all_pairs_from_test, all_pairs_of_none, told_pass, told_from_test, pairs_pass}
+use Rattle.erm_bad_reports.specs.Clauses.{Case, Meets, Phases, Refusals, told_of, IsLowAt, IsHighAt}
+use Rattle.erm_good_report.proofs.Parts.{EachPlace, each_in, each_place, all_pairs_from_test, all_pairs_of_none, told_pass, told_from_test, pairs_pass}
 
 pub less_from : (m n : ℕ) → nat_lt m n ≡ true → m < n
 less_from m n pass = grind (arith, nat_tests)
 
-most_from : (m n : ℕ) → nat_le m n ≡ true → m ≤ n
+pub most_from : (m n : ℕ) → nat_le m n ≡ true → m ≤ n
 most_from m n pass = grind (arith, nat_tests)
 
 other_from : (m n : ℕ) → not (m == n) ≡ true → m ≢ n
@@ -138,3 +144,27 @@ first_snapshot commits opening begin steps none runs = record {
   below_begin = record { order = []; serial = record { same = rw none (IsPermutation-refl []); ascends = all_pairs_of_none (λ a b. ComesBefore (rank_of a) (rank_of b)) }; state = refl };
   replies = runs;
 }
+
+-- ---- phases and causes, place by place
+pub phases_kept : (k : Case) → EachPlace (λ i l a. FitsPhase (phase_of l.session (take i (said_of k.script k.report.answers))) l.command a) 0 k.script k.report.answers → Meets Phases k
+phases_kept k each =
+    record { fits = each_place (λ i l a. FitsPhase (phase_of l.session (take i (said_of k.script k.report.answers))) l.command a) k.script k.report.answers each }
+
+pub refusals_kept : (k : Case) → EachPlace (λ i l a. HasCause (moment_at k.mode k.opening k.script k.report.answers (told_of k) i l) l.command a) 0 k.script k.report.answers → Meets Refusals k
+refusals_kept k each =
+    record { each = each_place (λ i l a. HasCause (moment_at k.mode k.opening k.script k.report.answers (told_of k) i l) l.command a) k.script k.report.answers each }
+
+-- a wait for the ring of a transaction whose stamp may be 40000
+pub ring_wait : (m : Moment) → m.mode ≡ InTurn → 13 ≡ flushed_at m → ((t : Transaction) → MayHaveStamp m t 40000) → HasCause m command.Commit (answer.WaitRing 13)
+ring_wait m in_turn flushed stamp = record {
+  own = λ t is. (in_turn, record { flushed_is = flushed; own = 40000; own_is = stamp t; full = enough (most_words t) });
+  log = tt;
+  unfilled = tt;
+}
+  where
+    enough : (words : ℕ) → 13 + RING_WORDS < 40000 + words
+    enough words = omega arith
+
+-- a value of one byte
+pub byte : (b : ℕ) → b < 256 → IsValue (b ∷ [])
+byte b small = (omega arith, All-cons (λ n. n < 256) b [] small (All-nil (λ n. n < 256)))

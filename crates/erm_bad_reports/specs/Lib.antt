@@ -1,2 +1,6 @@
 pub mod Cases
+pub mod CauseCases
 pub mod Clauses
+pub mod CutReports
+pub mod Refused
+pub mod StampParts

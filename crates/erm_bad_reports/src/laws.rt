@@ -8,6 +8,12 @@ ghost use Rattle.erm_bad_reports.specs.Cases.{begun_too_early, future_was_read};
 ghost use Rattle.erm_bad_reports.specs.Cases.{value_from_nowhere, predecessor_unknown, excluded_alone, owned_by_nobody};
 ghost use Rattle.erm_bad_reports.specs.Cases.{order_turned_round, pairs_turned_round, pair_from_nowhere};
 ghost use Rattle.erm_bad_reports.specs.Cases.{predecessor_too_low, successor_too_high};
+ghost use Rattle.erm_bad_reports.specs.CauseCases.{excluded_with, successor_unknown, window_closed};
+ghost use Rattle.erm_bad_reports.specs.CutReports.{BreaksCutAlone, FaultAt, Fitting, IsNoCutReport, Once, Owing, Unseen};
+ghost use Rattle.erm_bad_reports.specs.CutReports.{closed_too_early, closed_twice, cut_number_too_great, cut_without_begin, fault_outside};
+ghost use Rattle.erm_bad_reports.specs.Refused.{alone, answers_alone, before_abort, answers_before_abort, before_settle, answers_before_settle, after_commit, answers_after_commit, newer_than_nothing};
+ghost use Rattle.erm_bad_reports.specs.StampParts.{BreaksPartAlone, Differ, Least, Begun, Sealed, Begins, Draws, Ascends, stamp_below_begin, sealed_with_another, begun_at_a_commit, drawn_below, stamp_of_two};
+ghost use Rattle.std.specs.List.{AllByRecursion};
 
 /// Lines: a line is missing; a number doesn't fit its type; an answer is missing; a session that is active isn't closed; a get is answered
 /// outside a transaction.
@@ -25,12 +31,42 @@ pub fn stamps_are_needed()
     ensures draws { BreaksAlone Stamps future_was_read }
 {}
 
+/// Each part of stamps that agree: one stamp of two; a begin within the opening's block; a stamp below its begin; another stamp than the seal's; a begin at
+/// a commit told before; an aborted transaction that read the future; a stamp below one drawn before.
+pub fn parts_of_stamps_are_needed()
+    ensures differ { BreaksPartAlone Differ stamp_of_two }
+    ensures least { BreaksPartAlone Least begun_too_early }
+    ensures begun { BreaksPartAlone Begun stamp_below_begin }
+    ensures sealed { BreaksPartAlone Sealed sealed_with_another }
+    ensures begins { BreaksPartAlone Begins begun_at_a_commit }
+    ensures draws { BreaksPartAlone Draws future_was_read }
+    ensures ascends { BreaksPartAlone Ascends drawn_below }
+{}
+
 /// Replies and causes: an aborted transaction gets what nobody put; a commit, an exclusion and a refusal have no cause.
 pub fn replies_are_needed()
     ensures snapshots { BreaksAlone Snapshots value_from_nowhere }
     ensures commit { BreaksAlone Causes predecessor_unknown }
     ensures exclusion { BreaksAlone Causes excluded_alone }
     ensures refusal { BreaksAlone Refusals owned_by_nobody }
+{}
+
+/// Causes of windows: a commit's successor stamp is that of no commit; a window is closed, and its transaction commits; of an exclusion the
+/// predecessor stamp, and then the successor stamp, is that of no commit.
+pub fn causes_of_windows_are_needed()
+    ensures successor { BreaksAlone Causes successor_unknown }
+    ensures opens { BreaksAlone Causes window_closed }
+    ensures excluded_predecessor { BreaksAlone Causes (excluded_with 13 14) }
+    ensures excluded_successor { BreaksAlone Causes (excluded_with 9 13) }
+{}
+
+/// Causes of refusals: each of these answers has none where it stands.
+pub fn causes_of_refusals_are_needed()
+    ensures alone { AllByRecursion (λ r. BreaksAlone Refusals (alone r)) answers_alone }
+    ensures active { AllByRecursion (λ r. BreaksAlone Refusals (before_abort r)) answers_before_abort }
+    ensures sealed { AllByRecursion (λ a. BreaksAlone Refusals (before_settle a)) answers_before_settle }
+    ensures committed { AllByRecursion (λ r. BreaksAlone Refusals (after_commit r)) answers_after_commit }
+    ensures newer { BreaksAlone Refusals newer_than_nothing }
 {}
 
 /// The order: commits are told in another order than the serial one; pairs don't ascend; a pair is nobody's.
@@ -44,4 +80,14 @@ pub fn order_is_needed()
 pub fn windows_are_needed()
     ensures low { BreaksAlone LowEnds predecessor_too_low }
     ensures high { BreaksAlone HighEnds successor_too_high }
+{}
+
+/// Reports that the disk's fault cut off: the fault is told outside the lines; a number doesn't fit its type; a get is answered outside a
+/// transaction; a session is closed twice, or before its last line; of these two the parts are shown to break it, not the lines.
+pub fn clauses_of_cut_reports_are_needed()
+    ensures fault { BreaksCutAlone FaultAt fault_outside × IsNoCutReport fault_outside }
+    ensures fit { BreaksCutAlone Fitting cut_number_too_great × IsNoCutReport cut_number_too_great }
+    ensures owes { BreaksCutAlone Owing cut_without_begin × IsNoCutReport cut_without_begin }
+    ensures once { BreaksCutAlone Once closed_twice }
+    ensures unseen { BreaksCutAlone Unseen closed_too_early }
 {}

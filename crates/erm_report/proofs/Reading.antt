@@ -314,7 +314,7 @@ line_in-line_words (line.Map pairs) fits = ap (λ n. line.Map n) (number_in-deci
 line_in-line_words (line.Pair pair) fits =
     let key = number_in (decimal pair.key.key) in
     let value = value_in (value_word pair.value) in
-    ap (λ n. line.Pair (record { key = record { table = n; key = key }; value = value })) (number_8 pair.key.table fits.0)
+    ap (λ n. line.Pair (record { key = record { table = n; key = key }; value = value })) (number_in-decimal pair.key.table (let small = fits.0 in omega arith))
     ∙ ap (λ n. line.Pair (record { key = record { table = pair.key.table; key = n }; value = value })) (number_in-decimal pair.key.key fits.1)
     ∙ ap (λ v. line.Pair (record { key = pair.key; value = v })) (value_in-value_word pair.value fits.2)
 line_in-line_words line.End fits = refl

@@ -267,7 +267,7 @@ parts_at-words_text (line.Commit session n stamp succ pred) fits name =
 parts_at-words_text (line.Map pairs) fits name = more (codes "map") _ _ refl (last (decimal pairs) (number pairs fits))
 parts_at-words_text (line.Pair pair) fits name =
     ap (λ rest. parts_at 32 (codes "pair " ++ rest)) (regroup (decimal pair.key.table) (codes " ") (decimal pair.key.key) (codes " ") (value_word pair.value))
-    ∙ more (codes "pair") _ _ refl (more (decimal pair.key.table) _ _ (number_8 pair.key.table fits.0) (more (decimal pair.key.key) _ _ (number pair.key.key fits.1)
+    ∙ more (codes "pair") _ _ refl (more (decimal pair.key.table) _ _ (number pair.key.table (let small = fits.0 in omega arith)) (more (decimal pair.key.key) _ _ (number pair.key.key fits.1)
     (last (value_word pair.value) (value_lacks pair.value fits.2))))
 parts_at-words_text line.End fits name = last (codes "end") refl
 parts_at-words_text line.DiskFault fits name = more (codes "disk") _ _ refl (last (codes "fault") refl)
@@ -382,7 +382,7 @@ lacks-words_text (line.Commit session n stamp succ pred) fits name =
     (stamps_end stamp succ pred fits.1 fits.2 fits.3)
 lacks-words_text (line.Map pairs) fits name = digits_end pairs fits
 lacks-words_text (line.Pair pair) fits name =
-    five (decimal pair.key.table) (codes " ") (decimal pair.key.key) (codes " ") (value_word pair.value) (digits_end_8 pair.key.table fits.0) refl (digits_end pair.key.key fits.1) refl
+    five (decimal pair.key.table) (codes " ") (decimal pair.key.key) (codes " ") (value_word pair.value) (digits_end pair.key.table (let small = fits.0 in omega arith)) refl (digits_end pair.key.key fits.1) refl
     (value_end pair.value fits.2)
 lacks-words_text line.End fits name = refl
 lacks-words_text line.DiskFault fits name = refl

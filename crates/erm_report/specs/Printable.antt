@@ -1,6 +1,7 @@
 -- What of its lines a text tells, and which lines it tells so.
 use Rattle.std.specs.Prelude.{◌≡◌, ◌≢◌, ◌↔◌, ℕ, ◌^◌, ◌<◌, List, map, length, Some, None}
 use Rattle.std.specs.List.{All}
+use Rattle.erm_model.specs.declared.limits.TheConstants.{TABLES}
 use Rattle.erm_model.specs.declared.operation.Reply.{Reply}
 use Rattle.erm_model.specs.declared.operation.Reply.TheVariants as reply
 use Rattle.erm_report.specs.declared.answer.Answer.{Answer}
@@ -49,7 +50,12 @@ FitsAnswer (NotFlushed flushed) = flushed < 2 ^ 64
 FitsAnswer (Unfilled stamp) = stamp < 2 ^ 64
 FitsAnswer answer = Unit {0}
 
--- the numbers of a line fit their types, and its values are values
+-- the table that a line names, if it names one, is one of those that there are
+abbrev pub IsInTables : Line → Type 0
+IsInTables (line.Pair pair) = pair.key.table < TABLES
+IsInTables l = Unit {0}
+
+-- the numbers of a line fit their types, its values are values, and its table is one of those that there are
 abbrev pub FitsTypes : Line → Type 0
 FitsTypes (line.Open stamp run) = (stamp < 2 ^ 64) × (run < 2 ^ 64)
 FitsTypes (line.Answer number answer) = (number < 2 ^ 32) × FitsAnswer answer
@@ -57,7 +63,7 @@ FitsTypes (line.Close session answer) = FitsAnswer answer
 FitsTypes (line.Order commits) = commits < 2 ^ 64
 FitsTypes (line.Commit session number stamp succ pred) = (number < 2 ^ 32) × (stamp < 2 ^ 64) × (succ < 2 ^ 64) × (pred < 2 ^ 64)
 FitsTypes (line.Map pairs) = pairs < 2 ^ 64
-FitsTypes (line.Pair pair) = (pair.key.table < 2 ^ 8) × (pair.key.key < 2 ^ 64) × IsValue pair.value
+FitsTypes (line.Pair pair) = (pair.key.table < TABLES) × (pair.key.key < 2 ^ 64) × IsValue pair.value
 FitsTypes (line.Recovered stamp run) = (stamp < 2 ^ 64) × (run < 2 ^ 64)
 FitsTypes (line.Audited base stamp run) = (base < 2 ^ 64) × (stamp < 2 ^ 64) × (run < 2 ^ 64)
 FitsTypes (line.LoggedCommit seat number stamp succ) = (seat < 2 ^ 8) × (number < 2 ^ 32) × (stamp < 2 ^ 64) × (succ < 2 ^ 64)

@@ -3,7 +3,7 @@
 
 ghost use Rattle.std.specs.Prelude.{◌≡◌, ◌++◌, ◌-◌, ◌<◌, ◌∷◌, OnOk, OnErr, codes, decimal, length, take};
 ghost use Rattle.erm_report.specs.declared.line.Line.TheVariants as line;
-ghost use Rattle.erm_report.specs.Printable.{FitsAnswer, FitsTypes};
+ghost use Rattle.erm_report.specs.Printable.{FitsAnswer, FitsTypes, IsInTables};
 ghost use Rattle.erm_report.specs.Texts.{line_text, words_text, fault_word, pair_text};
 
 mod answer;
@@ -35,10 +35,11 @@ pub const NO_BASE: &[u8] = b"no base\n";
 /// The line for a disk that failed outside the lines of a script.
 pub const DISK_FAULT: &[u8] = b"disk fault\n";
 
-/// Adds the text of a line at the end. The numbers and values of a line that was added fit their types.
+/// Adds the text of a line at the end. The numbers and values of a line that was added fit their types, where its table is one
+/// of those that there are.
 pub fn push_line(out: &mut Vec<u8>, line: &Line) -> Result<(), AllocError>
     ensures ok { OnOk result (out.new.items ≡ out.old.items ++ line_text line.now) }
-    ensures fits { OnOk result (FitsTypes line.now) }
+    ensures fits { OnOk result (IsInTables line.now → FitsTypes line.now) }
     ensures front { OnErr result (take (length out.old.items) out.new.items ≡ out.old.items) }
 {
     push_words(out, line)?;
@@ -48,7 +49,7 @@ pub fn push_line(out: &mut Vec<u8>, line: &Line) -> Result<(), AllocError>
 // the words of a line, without its end
 fn push_words(out: &mut Vec<u8>, line: &Line) -> Result<(), AllocError>
     ensures ok { OnOk result (out.new.items ≡ out.old.items ++ words_text line.now) }
-    ensures fits { OnOk result (FitsTypes line.now) }
+    ensures fits { OnOk result (IsInTables line.now → FitsTypes line.now) }
     ensures front { OnErr result (take (length out.old.items) out.new.items ≡ out.old.items) }
 {
     match line {
@@ -201,7 +202,7 @@ fn fault_word(kind: FaultKind) -> &'static [u8]
 
 fn push_pair(out: &mut Vec<u8>, pair: &Pair) -> Result<(), AllocError>
     ensures ok { OnOk result (out.new.items ≡ out.old.items ++ pair_text pair.now) }
-    ensures fits { OnOk result (FitsTypes (line.Pair pair.now)) }
+    ensures fits { OnOk result (IsInTables (line.Pair pair.now) → FitsTypes (line.Pair pair.now)) }
     ensures front { OnErr result (take (length out.old.items) out.new.items ≡ out.old.items) }
 {
     let (table, key) = (pair.key.table, pair.key.key);

@@ -1,6 +1,6 @@
 //! The text of a report.
 ghost use Rattle.std.specs.Prelude.{◌≡◌, ◌++◌, [], OnOk, OnErr};
-ghost use Rattle.erm_report.specs.Printable.{FitsTypes};
+ghost use Rattle.erm_report.specs.Printable.{FitsTypes, IsInTables};
 ghost use Rattle.erm_report.specs.Texts.{line_text};
 
 use crate::Line;
@@ -32,11 +32,11 @@ impl Text {
         }
     }
 
-    /// Adds the text of a line at the end. The numbers and values of a line that was added fit their types. An `Err`
-    /// changes nothing.
+    /// Adds the text of a line at the end. The numbers and values of a line that was added fit their types, where its table
+    /// is one of those that there are. An `Err` changes nothing.
     pub fn add(&mut self, line: &Line) -> Result<(), AllocError>
         ensures ok { OnOk result (self.new ≡ self.old ++ line_text line.now) }
-        ensures fits { OnOk result (FitsTypes line.now) }
+        ensures fits { OnOk result (IsInTables line.now → FitsTypes line.now) }
         ensures err { OnErr result (self.new ≡ self.old) }
     {
         let length = self.bytes.len();

@@ -2,4 +2,5 @@ pub mod Reports
 pub mod Seats
 pub mod Serial
 pub mod Sessions
+pub mod Tables
 pub mod Writes

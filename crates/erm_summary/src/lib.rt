@@ -13,7 +13,7 @@ mod tests;
 mod told;
 
 pub use commits::commits_told;
-pub use laws::summaries_are_good;
+pub use laws::{summaries_are_good, summaries_are_in_tables};
 pub use maps::map_after;
 pub use order::order_of;
 pub use report::{Start, report_of};

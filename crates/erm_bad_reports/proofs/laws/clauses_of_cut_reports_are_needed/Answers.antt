@@ -1,0 +1,17 @@
+use Rattle.erm_bad_reports.proofs.OfCutReports.{fault_breaks, fitting_breaks, once_breaks, owing_breaks, unseen_breaks}
+use Rattle.erm_bad_reports.proofs.laws.clauses_of_cut_reports_are_needed.Goals as goal
+
+pub returns-clause-fault : goal.returns-clause-fault
+returns-clause-fault c = fault_breaks
+
+pub returns-clause-fit : goal.returns-clause-fit
+returns-clause-fit c = fitting_breaks
+
+pub returns-clause-owes : goal.returns-clause-owes
+returns-clause-owes c = owing_breaks
+
+pub returns-clause-once : goal.returns-clause-once
+returns-clause-once c = once_breaks
+
+pub returns-clause-unseen : goal.returns-clause-unseen
+returns-clause-unseen c = unseen_breaks

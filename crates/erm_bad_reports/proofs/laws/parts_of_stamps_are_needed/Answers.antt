@@ -1,0 +1,24 @@
+use Rattle.erm_bad_reports.proofs.OfStampParts.{ascends_alone, begins_alone, begun_alone, draws_alone, least_alone, sealed_alone}
+use Rattle.erm_bad_reports.proofs.OfStampsOfTwo.{differ_alone}
+use Rattle.erm_bad_reports.proofs.laws.parts_of_stamps_are_needed.Goals as goal
+
+pub returns-clause-least : goal.returns-clause-least
+returns-clause-least c = least_alone
+
+pub returns-clause-begun : goal.returns-clause-begun
+returns-clause-begun c = begun_alone
+
+pub returns-clause-sealed : goal.returns-clause-sealed
+returns-clause-sealed c = sealed_alone
+
+pub returns-clause-begins : goal.returns-clause-begins
+returns-clause-begins c = begins_alone
+
+pub returns-clause-draws : goal.returns-clause-draws
+returns-clause-draws c = draws_alone
+
+pub returns-clause-ascends : goal.returns-clause-ascends
+returns-clause-ascends c = ascends_alone
+
+pub returns-clause-differ : goal.returns-clause-differ
+returns-clause-differ c = differ_alone

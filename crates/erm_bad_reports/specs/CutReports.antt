@@ -1,0 +1,102 @@
+-- The clauses of a report that the disk's fault cut off, and small reports of which each breaks one of them.
+use Rattle.std.specs.Prelude.{◌≡◌, ◌≢◌, ℕ, ◌^◌, List, [], ◌∷◌, ◌++◌, length, Option, Some, None}
+use Rattle.std.specs.List.{All, AllPairs, slice_get}
+use Rattle.erm_model.specs.Member.{◌∈◌}
+use Rattle.erm_model.specs.declared.operation.Reply.TheVariants as reply
+use Rattle.erm_report.specs.declared.answer.Answer.{Answer}
+use Rattle.erm_report.specs.declared.answer.Answer.TheVariants as answer
+use Rattle.erm_report.specs.declared.line.Line.{Line}
+use Rattle.erm_report.specs.declared.line.Line.TheVariants as line
+use Rattle.erm_report.specs.Printable.{FitsTypes}
+use Rattle.erm_script.specs.declared.script.Command.TheVariants as command
+use Rattle.erm_script.specs.declared.script.ScriptLine.{ScriptLine}
+use Rattle.erm_good_report.specs.GoodReport.{IsClosedUnseen, IsCutReport, OwesToAnswers, answer_lines, fault_line, places_of}
+use Rattle.erm_good_report.specs.Opening.{InTurn, Opening}
+use Rattle.erm_good_report.specs.Phases.{Closed}
+use Rattle.erm_good_report.specs.Transactions.{Transaction, transactions_of}
+use Rattle.erm_bad_reports.specs.Cases.{a_line, asked_from, one_name, opening_at}
+
+-- a script that was run in turn until the disk failed, the answers so far, the line at which it failed, if it was one, and the sessions closed
+-- unseen
+pub record CutCase : Type 0 where
+  pub opening : Opening
+  pub names : List (List ℕ)
+  pub script : List ScriptLine
+  pub answers : List Answer
+  pub fault : Option ScriptLine
+  pub closed : List Closed
+
+abbrev pub cut_lines_of : CutCase → List Line
+cut_lines_of k = line.Open k.opening.stamp k.opening.run ∷ answer_lines k.script k.answers ++ fault_line k.fault ∷ []
+
+abbrev pub told_of_cut : CutCase → List Transaction
+told_of_cut k = transactions_of (length k.names) (places_of k.script k.answers k.closed)
+
+-- what such a report owes: the fault is that of the first line without an answer; numbers and values fit their types; a session is closed
+-- once; sessions that are closed unseen are sealed and have no line left; what a good report owes to its answers
+pub data CutClause : Type 0 where
+  FaultAt : CutClause
+  Fitting : CutClause
+  Once : CutClause
+  Unseen : CutClause
+  Owing : CutClause
+
+abbrev pub MeetsCut : CutClause → CutCase → Type 0
+MeetsCut FaultAt k = k.fault ≡ slice_get k.script (length k.answers)
+MeetsCut Fitting k = All FitsTypes (cut_lines_of k)
+MeetsCut Once k = AllPairs (λ c d. c.session ≢ d.session) k.closed
+MeetsCut Unseen k = (c : Closed) → c ∈ k.closed → IsClosedUnseen k.script k.answers c
+MeetsCut Owing k = OwesToAnswers InTurn k.opening k.script k.answers (told_of_cut k)
+
+-- The report breaks this clause alone.
+pub record BreaksCutAlone (clause : CutClause) (k : CutCase) : Type 0 where
+  pub breaks : MeetsCut clause k → ⊥
+  pub keeps : (other : CutClause) → other ≢ clause → MeetsCut other k
+
+-- its lines are no report that was cut off, whatever parts they are read as
+abbrev pub IsNoCutReport : CutCase → Type 0
+IsNoCutReport k = IsCutReport InTurn k.opening k.names k.script (cut_lines_of k) → ⊥
+
+-- the fault is told outside the lines, and a line has no answer
+abbrev pub fault_outside : CutCase
+fault_outside = record { opening = opening_at 8; names = one_name; script = asked_from 1 (a_line command.Begin ∷ []); answers = []; fault = None; closed = [] }
+
+-- the opening's block stands at 2^64
+abbrev pub cut_number_too_great : CutCase
+cut_number_too_great = record { opening = opening_at (2 ^ 64); names = []; script = []; answers = []; fault = None; closed = [] }
+
+-- a get is answered though no transaction was begun
+abbrev pub cut_without_begin : CutCase
+cut_without_begin = record {
+  opening = opening_at 8;
+  names = one_name;
+  script = asked_from 1 (a_line (command.Get 0 1) ∷ []);
+  answers = answer.Replied (reply.Value None) ∷ [];
+  fault = None;
+  closed = [];
+}
+
+-- a session whose commit waits for the ring is closed twice
+abbrev pub closed_with : ℕ → Closed
+closed_with stamp = record { session = 1; answer = answer.Committed stamp stamp 0 }
+
+abbrev pub closed_twice : CutCase
+closed_twice = record {
+  opening = opening_at 8;
+  names = one_name;
+  script = asked_from 1 (a_line command.Begin ∷ a_line command.Commit ∷ []);
+  answers = answer.Began 13 ∷ answer.WaitRing 13 ∷ [];
+  fault = None;
+  closed = closed_with 40000 ∷ closed_with 40000 ∷ [];
+}
+
+-- it is closed, and has a line left
+abbrev pub closed_too_early : CutCase
+closed_too_early = record {
+  opening = opening_at 8;
+  names = one_name;
+  script = asked_from 1 (a_line command.Begin ∷ a_line command.Commit ∷ a_line command.Settle ∷ []);
+  answers = answer.Began 13 ∷ answer.WaitRing 13 ∷ [];
+  fault = Some (record { line = 3; session = 1; command = command.Settle });
+  closed = closed_with 40000 ∷ [];
+}
