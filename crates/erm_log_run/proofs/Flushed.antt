@@ -1,0 +1,111 @@
+-- A log that a disk holds, after calls of the flusher.
+use Rattle.std.proofs.Common.{◌≡◌, ℕ, ◌<◌, ◌++◌, false, List, [], Option, IfSome, sym, ap, subst}
+use Rattle.erm_model.specs.Rows.{Rows}
+use Rattle.erm_block.specs.declared.block.Block.{Block}
+use Rattle.erm_flush.specs.Turns.{GoesOn, HoldsFrom, IsReady, WritesFrom}
+use Rattle.erm_outside.specs.Disk.{Step, Tells}
+use Rattle.erm_world.specs.Log.{IsLog, IsStop, Log, Start}
+use Rattle.erm_ckpt.specs.declared.slot.Slots.{Slots}
+use Rattle.erm_ckpt.specs.declared.slot.TheConstants.{LOG_START}
+use Rattle.erm_checkpoint.specs.Taken.{GoesOnTo, HoldsLog, Takes, slot_at_end, state_at}
+use Rattle.erm_crash.specs.Kept.{KeepsBlocks}
+use Rattle.erm_log_run.specs.Keeping.{IsHeld, Keeper, KeepsMoments, KeepsOn}
+use Rattle.erm_log_run.proofs.Held.{IsFlushing, MomentsGoOn, Onward, all_flushed, held_on, keeps_moments, keeps_on, tells_and, tells_from, told_after}
+
+-- the laws of flushes
+pub record FlushLaws (sound : Rows → Type 0) : Type 0 where
+  pub go_on : MomentsGoOn sound
+  pub keep : (before now : Log) (slots : Slots) (old new : List Step) → HoldsLog sound before slots old → now.opened ≡ before.opened
+      → ((rest : List Block) × (now.gathered ≡ before.gathered ++ rest)) → IsLog sound now → LOG_START < now.opened.at → WritesFrom sound before.flushed now old new
+      → KeepsBlocks sound (state_at now []) now.gathered before.flushed old new
+  pub hold : (before now : Log) (slots : Slots) (old new : List Step) → HoldsLog sound before slots old → HoldsFrom sound before.flushed now old new → IsReady now new
+      → GoesOn before now → IsLog sound now → LOG_START < now.opened.at → HoldsLog sound now slots new
+
+-- what a flusher's calls did
+pub record Flushes (sound : Rows → Type 0) (k m : Keeper) : Type 0 where
+  pub held : IsHeld sound k
+  pub slots : m.slots ≡ k.slots
+  pub run : m.run ≡ k.run
+  pub is : IsLog sound m.log
+  pub goes : GoesOn k.log m.log
+  pub writes : Tells (WritesFrom sound k.log.flushed m.log) k.told m.told
+
+module _ (sound : Rows → Type 0) (laws : FlushLaws sound) (k m : Keeper) (f : Flushes sound k m) where
+  opened : m.log.opened ≡ k.log.opened
+  opened = ap (λ (l : Log). l.opened) f.goes.log
+
+  begins : LOG_START < m.log.opened.at
+  begins = subst (λ (s : Start). LOG_START < s.at) (sym opened) f.held.begins
+
+  on : Onward k m
+  on = record { opened = opened; further = f.goes.further; more = f.goes.more }
+
+  flushing : IsFlushing sound k m
+  flushing =
+      tells_from (HoldsLog sound k.log k.slots) (WritesFrom sound k.log.flushed m.log) (KeepsBlocks sound (state_at m.log []) m.log.gathered k.log.flushed) k.told m.told f.held.holds
+      (λ old new holds writes. laws.keep k.log m.log k.slots old new holds opened f.goes.more f.is begins writes) f.writes
+
+  -- the disk failed
+  pub fault_keeps : KeepsMoments sound k m
+  fault_keeps = keeps_moments sound laws.go_on k m on flushing
+
+  -- what was written lasts
+  pub holds_flushed : Tells (HoldsFrom sound k.log.flushed m.log) k.told m.told → IfSome m.told (IsReady m.log) → IfSome m.told (HoldsLog sound m.log m.slots)
+  holds_flushed lasts ready = subst (λ (s : Slots). IfSome m.told (HoldsLog sound m.log s)) (sym f.slots)
+      (told_after (HoldsLog sound m.log k.slots) Both k.told m.told (λ old new both. both)
+      (tells_from (HoldsLog sound k.log k.slots) (λ old new. IsReady m.log new × HoldsFrom sound k.log.flushed m.log old new) Both k.told m.told f.held.holds
+      (λ old new holds lasts. laws.hold k.log m.log k.slots old new holds lasts.1 lasts.0 f.goes f.is begins)
+      (tells_and (IsReady m.log) (HoldsFrom sound k.log.flushed m.log) k.told m.told ready lasts)))
+    where
+      Both : List Step → List Step → Type 0
+      Both old new = HoldsLog sound m.log k.slots new
+
+  -- all that was gathered is flushed
+  pub flush_keeps : m.failed ≡ false → IsStop m.log m.log.flushed → IfSome m.told (HoldsLog sound m.log m.slots) → IsHeld sound m × KeepsOn sound k m
+  flush_keeps well stops holds = (
+    held_on sound k m f.held opened f.run well (ap (λ (l : Log). l.pinned) f.goes.log) holds,
+    keeps_on sound laws.go_on k m on (all_flushed sound m.log f.is stops) holds flushing,
+  )
+
+-- where the log and what keeps it are as they were, it is held still
+pub stays_held : (sound : Rows → Type 0) (k m : Keeper) → IsHeld sound k → m.log ≡ k.log → m.slots ≡ k.slots → m.told ≡ k.told → IfSome m.told (HoldsLog sound m.log m.slots)
+stays_held sound k m held log slots told =
+    subst (λ (o : Option (List Step)). IfSome o (HoldsLog sound m.log m.slots)) (sym told)
+    (subst (λ (l : Log). IfSome k.told (HoldsLog sound l m.slots)) (sym log) (subst (λ (s : Slots). IfSome k.told (HoldsLog sound k.log s)) (sym slots) held.holds))
+
+-- CHECKPOINT.
+pub record CheckpointLaws (sound : Rows → Type 0) : Type 0 where
+  pub go_on : MomentsGoOn sound
+  pub keep : (before now : Log) (slots : Slots) (run : ℕ) (old new : List Step) → HoldsLog sound before slots old → GoesOnTo before now → IsLog sound now → LOG_START < now.opened.at
+      → Takes sound before.flushed now slots (slot_at_end now run slots) old new → KeepsBlocks sound (state_at now []) now.gathered before.flushed old new
+
+-- what a checkpoint did
+pub record Checkpoints (sound : Rows → Type 0) (k m : Keeper) : Type 0 where
+  pub held : IsHeld sound k
+  pub run : m.run ≡ k.run
+  pub is : IsLog sound m.log
+  pub goes : GoesOnTo k.log m.log
+  pub takes : Tells (Takes sound k.log.flushed m.log k.slots (slot_at_end m.log k.run k.slots)) k.told m.told
+
+module _ (sound : Rows → Type 0) (laws : CheckpointLaws sound) (k m : Keeper) (f : Checkpoints sound k m) where
+  begun : m.log.opened ≡ k.log.opened
+  begun = ap (λ (l : Log). l.opened) f.goes.log
+
+  further : Onward k m
+  further = record { opened = begun; further = f.goes.further; more = f.goes.more }
+
+  taking : IsFlushing sound k m
+  taking =
+      tells_from (HoldsLog sound k.log k.slots) (Takes sound k.log.flushed m.log k.slots (slot_at_end m.log k.run k.slots)) (KeepsBlocks sound (state_at m.log []) m.log.gathered k.log.flushed) k.told m.told f.held.holds
+      (λ old new holds takes. laws.keep k.log m.log k.slots k.run old new holds f.goes f.is (subst (λ (s : Start). LOG_START < s.at) (sym begun) f.held.begins) takes) f.takes
+
+  -- the disk failed
+  pub checkpoint_fault_keeps : KeepsMoments sound k m
+  checkpoint_fault_keeps = keeps_moments sound laws.go_on k m further taking
+
+  -- all that was gathered is flushed
+  pub checkpoint_keeps : m.failed ≡ false → IsStop m.log m.log.flushed → IfSome m.told (HoldsLog sound m.log m.slots) → IsHeld sound m × KeepsOn sound k m
+  checkpoint_keeps well stops holds = (
+    held_on sound k m f.held begun f.run well (ap (λ (l : Log). l.pinned) f.goes.log) holds,
+    keeps_on sound laws.go_on k m further (all_flushed sound m.log f.is stops) holds taking,
+  )

@@ -1,0 +1,137 @@
+-- A whole script: its run, and its good report.
+use Rattle.std.proofs.Common.{◌≡◌, ℕ, ◌≤◌, List, [], length, sym, subst, arith}
+use Rattle.std.specs.List.{All}
+use Rattle.std.specs.Prelude.{Option}
+use Rattle.erm_model.specs.Committed.{rank_of}
+use Rattle.erm_model.specs.declared.limits.TheConstants.{LAST_NUMBER}
+use Rattle.erm_model.specs.declared.outcome.Phase.TheVariants.{Idle}
+use Rattle.erm_model.specs.Member.{◌∈◌}
+use Rattle.erm_model.proofs.Members.{none_in_nil}
+use Rattle.erm_model.specs.SerialOrder.{IsSerialOrder, StampsDiffer}
+use Rattle.erm_report.specs.declared.answer.Answer.{Answer}
+use Rattle.erm_report.specs.declared.line.Line.{Line}
+use Rattle.erm_report.specs.Printable.{FitsTypes}
+use Rattle.erm_script.specs.declared.script.ScriptLine.{ScriptLine}
+use Rattle.erm_script.specs.Script.{IsInRange}
+use Rattle.erm_world.specs.World.{IsSession, View, phase_at}
+use Rattle.erm_good_report.specs.GoodReport.{HaveTightWindows, IsCutReport, IsGoodReport, IsTightReport, OwesToAnswers, places_of}
+use Rattle.erm_good_report.specs.Opening.{InTurn, Opening}
+use Rattle.erm_good_report.specs.Phases.{Closed, ClosesAgree}
+use Rattle.erm_good_report.specs.Stamps.{StampsAgree}
+use Rattle.erm_good_report.specs.Transactions.{history_of, said_of, transactions_of}
+use Rattle.erm_lines.specs.Executions.{AreClosed, IsExecution, IsOpened, IsOpeningOf, IsPart, IsRun, line_moves}
+use Rattle.erm_lines.specs.Laws.{PartsHaveCauses, PartsHavePhases, PartsHaveSnapshots, PartsHaveStamps, PartsRefuseWithCause, RunsAreSerial, RunsCloseSessions, RunsHaveCauses, RunsHavePhases, RunsHaveSnapshots, RunsHaveStamps, RunsHaveTightWindows, RunsRefuseWithCause}
+use Rattle.erm_summary.specs.Summary.{SummariesAreGood, Summarizes}
+use Rattle.erm_log_run.specs.Closing.{IsClosing}
+use Rattle.erm_log_run.specs.Runs.{WasCut, WasRun}
+use Rattle.erm_log_run.proofs.Differing.{stamps_differ}
+
+-- lines in turn, and then the end, are a run
+abbrev pub is_run : (v u t : View) (script : List ScriptLine) (answers : List Answer) (n : ℕ) (ends : List (Option Answer)) → IsOpened v → ((l : ScriptLine) → l ∈ script → IsInRange l.command)
+    → length script ≤ LAST_NUMBER → length answers ≡ length script → IsExecution v (line_moves script answers) u → (is : IsClosing u n ends t)
+    → ((seat : ℕ) → IsSession t seat → phase_at t seat ≡ Idle) → IsRun v script answers t
+is_run v u t script answers n ends opened ranges few each lines is idle = record {
+  opened = opened;
+  ranges = ranges;
+  few = few;
+  each = each;
+  between = u;
+  lines = lines;
+  closing = is.closing;
+  last = is.last;
+  closes = is.closes;
+  idle = idle;
+}
+
+-- the laws of runs
+pub record RunLaws : Type 0 where
+  pub phases : RunsHavePhases
+  pub closes : RunsCloseSessions
+  pub stamps : RunsHaveStamps
+  pub snapshots : RunsHaveSnapshots
+  pub serial : RunsAreSerial
+  pub causes : RunsHaveCauses
+  pub refusals : RunsRefuseWithCause
+  pub windows : RunsHaveTightWindows
+  pub summaries : SummariesAreGood
+
+-- the report of a run is good, and its windows are tight
+module _ (laws : RunLaws) (v t : View) (script : List ScriptLine) (answers : List Answer) (run : IsRun v script answers t) (closed : List Closed) (are : AreClosed run.closing closed)
+    (opening : Opening) (of : IsOpeningOf v opening) where
+  stamps : StampsAgree InTurn opening (transactions_of v.opening.sessions (places_of script answers closed)) (said_of script answers)
+  stamps = laws.stamps v t script answers run closed opening are of
+
+  owes : OwesToAnswers InTurn opening script answers (transactions_of v.opening.sessions (places_of script answers closed))
+  owes = record {
+    phases = laws.phases v t script answers run closed opening are of;
+    stamps = stamps;
+    snapshots = laws.snapshots v t script answers run closed opening are of;
+    causes = laws.causes v t script answers run closed opening are of;
+    refusals = laws.refusals v t script answers run closed opening are of;
+  }
+
+  module _ (names : List (List ℕ)) (many : v.opening.sessions ≡ length names) (lines : List Line) (sums : Summarizes opening names script answers closed lines) (fits : All FitsTypes lines) where
+    good : (good : IsGoodReport InTurn opening names script lines) × (good.report.answers ≡ answers) × (good.report.closed ≡ closed)
+    good =
+        laws.summaries InTurn opening names script answers closed lines sums fits run.each
+        (subst (λ (n : ℕ). ClosesAgree n (said_of script answers) closed) many (laws.closes v t script answers run closed are))
+        (subst (λ (n : ℕ). OwesToAnswers InTurn opening script answers (transactions_of n (places_of script answers closed))) many owes)
+        (subst (λ (n : ℕ). StampsDiffer rank_of (history_of (transactions_of n (places_of script answers closed)))) many
+        (stamps_differ (transactions_of v.opening.sessions (places_of script answers closed)) stamps.differ))
+        (λ order is. laws.serial v t script answers run closed opening are of order
+        (subst (λ (n : ℕ). IsSerialOrder rank_of (history_of (transactions_of n (places_of script answers closed))) order) (sym many) is))
+
+    tight : IsTightReport InTurn opening names script lines
+    tight = record {
+      good = good.0;
+      tight =
+          subst (λ (cs : List Closed). HaveTightWindows (transactions_of (length names) (places_of script good.0.report.answers cs))) (sym good.2)
+          (subst (λ (given : List Answer). HaveTightWindows (transactions_of (length names) (places_of script given closed))) (sym good.1)
+          (subst (λ (n : ℕ). HaveTightWindows (transactions_of n (places_of script answers closed))) many (laws.windows v t script answers run closed opening are of)));
+    }
+
+-- the report of a run tells of it
+pub was_run : (v t : View) (script : List ScriptLine) (answers : List Answer) (run : IsRun v script answers t) (closed : List Closed) → AreClosed run.closing closed
+    → (opening : Opening) (names : List (List ℕ)) (lines : List Line) → Summarizes opening names script answers closed lines → WasRun v t opening names script lines
+was_run v t script answers run closed are opening names lines sums = record { answers = answers; closed = closed; run = run; are = are; told = sums }
+
+-- lines that tell of a run are a good report of it, whose windows are tight
+pub told_tight : RunLaws → (v t : View) (script : List ScriptLine) (opening : Opening) → IsOpeningOf v opening → (names : List (List ℕ)) → v.opening.sessions ≡ length names
+    → (lines : List Line) → WasRun v t opening names script lines → All FitsTypes lines → IsTightReport InTurn opening names script lines
+told_tight laws v t script opening of names many lines was fits = tight laws v t script was.answers was.run was.closed was.are opening of names many lines was.told fits
+
+-- the laws of runs that are cut off
+pub record CutLaws : Type 0 where
+  pub phases : PartsHavePhases
+  pub stamps : PartsHaveStamps
+  pub snapshots : PartsHaveSnapshots
+  pub causes : PartsHaveCauses
+  pub refusals : PartsRefuseWithCause
+
+-- lines that tell of the front of a run, and of the disk's fault, are a report of it
+pub told_cut : CutLaws → (v : View) (script : List ScriptLine) (opening : Opening) → IsOpeningOf v opening → IsOpened v → ((l : ScriptLine) → l ∈ script → IsInRange l.command)
+    → length script ≤ LAST_NUMBER → (names : List (List ℕ)) → v.opening.sessions ≡ length names → (lines : List Line) → WasCut v opening names script lines → All FitsTypes lines
+    → IsCutReport InTurn opening names script lines
+told_cut laws v script opening of opened ranges few names many lines was fits = record {
+  answers = was.answers;
+  fault = was.fault;
+  lines_ok = was.lines_ok;
+  at = was.at;
+  fits = fits;
+  closed = [];
+  once = λ i j d below within. absurd (omega (arith, within));
+  unseen = λ c within. absurd (none_in_nil c within);
+  owes = subst (λ (n : ℕ). OwesToAnswers InTurn opening script was.answers (transactions_of n (places_of script was.answers []))) many owes;
+}
+  where
+    part : IsPart v script was.answers was.between
+    part = record { opened = opened; ranges = ranges; few = few; most = was.most; lines = was.ran }
+
+    owes : OwesToAnswers InTurn opening script was.answers (transactions_of v.opening.sessions (places_of script was.answers []))
+    owes = record {
+      phases = laws.phases v was.between script was.answers part opening of;
+      stamps = laws.stamps v was.between script was.answers part opening of;
+      snapshots = laws.snapshots v was.between script was.answers part opening of;
+      causes = laws.causes v was.between script was.answers part opening of;
+      refusals = laws.refusals v was.between script was.answers part opening of;
+    }

@@ -1,0 +1,102 @@
+-- The moments of a whole run.
+use Rattle.std.proofs.Common.{◌≡◌, ℕ, ◌+◌, ◌≤◌, ◌++◌, List, [], ◌∷◌, append_assoc, length, Option, Some, None, IfSome, refl, sym, ap, ◌∙◌, subst, arith}
+use Rattle.std.proofs.lemmas.List.{length-append}
+use mathlib.Core.Path.{fun_ext}
+use Rattle.erm_model.specs.Rows.{Rows}
+use Rattle.erm_block.specs.declared.block.Block.{Block}
+use Rattle.erm_outside.specs.Disk.{Image, IsImage, Step, Tells, contents}
+use Rattle.erm_outside.specs.declared.disk.File.{File}
+use Rattle.erm_world.specs.Log.{Log}
+use Rattle.erm_ckpt.specs.Recovered.{State, state_behind}
+use Rattle.erm_ckpt.specs.States.{RecoversPast, RecoversTo}
+use Rattle.erm_checkpoint.specs.Taken.{HoldsLog, state_at}
+use Rattle.erm_crash.specs.Kept.{KeepsBlocks, KeepsSince}
+use Rattle.erm_crash.specs.Moments.{IsMoment}
+use Rattle.erm_log_run.specs.Keeping.{IsHeld, IsKept, Keeper, KeepsMoments, KeepsOn}
+use Rattle.erm_log_run.proofs.Held.{same_start, tells_weaker}
+
+-- an end of no list is none
+no_front : {X : Type 0} (xs ys : List X) → xs ++ ys ≡ [] → xs ≡ []
+no_front [] ys e = refl
+no_front (x ∷ xs) ys e = absurd (cc)
+
+-- a moment from steps to the same steps
+one_moment : (steps now : List Step) → IsMoment steps steps now → now ≡ steps
+one_moment steps now m = m.since ∙ ap (λ (before : List Step). before ++ steps) (empty m.before (
+    let more = length-append m.before steps in
+    let all = length-append m.after now in
+    let a = ap length m.since in
+    let b = ap length m.later in
+    omega (arith, more, all, a, b)))
+  where
+    empty : (xs : List Step) → length xs ≡ 0 → xs ≡ []
+    empty [] none = refl
+    empty (x ∷ xs) none = absurd (omega (arith, none))
+
+-- a log of which nothing is gathered yet is kept from its start on
+pub first_kept : (sound : Rows → Type 0) (k : Keeper) → IfSome k.told (HoldsLog sound k.log k.slots) → k.log.gathered ≡ [] → k.log.opened.at ≡ k.log.flushed → IsKept sound k.told k.log.flushed k
+first_kept sound k holds none start = by k.told holds
+  where
+    Kept : List Step → List Step → Type 0
+    Kept = KeepsSince sound k.log.flushed k.log k.slots
+
+    front_none : (steps : List Step) (h : HoldsLog sound k.log k.slots steps) → h.front ≡ []
+    front_none steps h = no_front h.front h.rest (sym h.split ∙ none)
+
+    past : (steps now : List Step) (h : HoldsLog sound k.log k.slots steps) → IsMoment steps steps now → (image : Image) → IsImage now image → RecoversPast sound (state_at k.log []) [] k.log.flushed image
+    past steps now h m image is =
+        let here : IsImage steps image = subst (λ (x : List Step). IsImage x image) (one_moment steps now m) is in
+        let same : image ≡ contents steps = fun_ext (λ (file : File). h.ready.settled file (image file) (here file)) in
+        record {
+          front = [];
+          rest = [];
+          split = refl;
+          low = omega (arith, start);
+          pair = h.pair;
+          there = subst (λ (bytes : Image). RecoversTo sound (state_at k.log []) h.pair bytes) (sym same)
+              (subst (λ (bs : List Block). RecoversTo sound (state_at k.log bs) h.pair (contents steps)) (front_none steps h) h.there);
+        }
+
+    by : (o : Option (List Step)) → IfSome o (HoldsLog sound k.log k.slots) → Tells Kept o o
+    by None held = refl
+    by (Some steps) h = (
+      steps,
+      refl,
+      record {
+        holds = h;
+        front = [];
+        rest = [];
+        split = none;
+        to = start;
+        moments = (([], refl), λ now m image is tears. past steps now h m image is);
+      },
+    )
+
+-- at each moment each image has recovered to a front of what is gathered
+pub moments_of : (sound : Rows → Type 0) (k m : Keeper) → KeepsOn sound k m → IsKept sound k.told k.log.flushed k
+    → Tells (KeepsBlocks sound (state_at k.log []) m.log.gathered k.log.flushed) k.told m.told
+moments_of sound k m on kept =
+    tells_weaker (KeepsSince sound k.log.flushed m.log m.slots) (KeepsBlocks sound (state_at k.log []) m.log.gathered k.log.flushed) k.told m.told
+    (λ old new since. subst (λ (s : State). KeepsBlocks sound s m.log.gathered k.log.flushed old new) (same_start k.log m.log on.opened)
+    (subst (λ (bs : List Block). KeepsBlocks sound (state_at m.log []) bs k.log.flushed old new) (sym since.split) (longer (state_at m.log []) since.front since.rest old new since.moments)))
+    (on.keeps k.told k.log.flushed (omega arith) kept)
+  where
+    longer : (from : State) (front rest : List Block) (old new : List Step) → KeepsBlocks sound from front k.log.flushed old new → KeepsBlocks sound from (front ++ rest) k.log.flushed old new
+    longer from front rest old new keeps = (
+      keeps.0,
+      λ now m image is tears.
+          let p = keeps.1 now m image is tears in
+          record {
+            front = p.front;
+            rest = p.rest ++ rest;
+            split = ap (λ (bs : List Block). bs ++ rest) p.split ∙ append_assoc p.front p.rest rest;
+            low = p.low;
+            pair = p.pair;
+            there = p.there;
+          },
+    )
+
+pub moments_at_fault : (sound : Rows → Type 0) (k m : Keeper) → KeepsMoments sound k m → IsKept sound k.told k.log.flushed k
+    → Tells (KeepsBlocks sound (state_at k.log []) m.log.gathered k.log.flushed) k.told m.told
+moments_at_fault sound k m on kept =
+    subst (λ (s : State). Tells (KeepsBlocks sound s m.log.gathered k.log.flushed) k.told m.told) (same_start k.log m.log on.opened) (on.keeps k.told k.log.flushed (omega arith) kept)

@@ -1,0 +1,105 @@
+use Rattle.std.proofs.Common.{◌≡◌, ◌+◌, ◌<◌, ◌≤◌, ◌∷◌, [], ◌++◌, List, length, take, Some, refl, ap, sym, ◌∙◌, subst, arith}
+use Rattle.std.proofs.lemmas.List.{take_more, length-append, length-take}
+use Rattle.std.proofs.lemmas.Option.{slice_get-get_or}
+use Rattle.std.proofs.lemmas.Result.{err_from_is_err_and}
+use Rattle.erm_node.specs.Sound.{sound_law}
+use Rattle.erm_report.specs.declared.answer.Answer.{Answer}
+use Rattle.erm_script.specs.declared.script.ScriptLine.{ScriptLine}
+use Rattle.erm_lines.specs.Executions.{IsExecution, Move, line_moves, move_of}
+use Rattle.erm_log_run.specs.Keeping.{Keeper, keeper_of}
+use Rattle.erm_log_run.specs.Lines.{IsLineOf}
+use Rattle.erm_log_run.proofs.Answering.{line_moves_front, line_moves_more}
+use Rattle.erm_log_run.proofs.Closing.{execution_more}
+use Rattle.erm_log_run.proofs.Leaving.{on_itself, on_then}
+use Rattle.erm_log_run.proofs.Lined.{line_of_too}
+use Rattle.erm_log_run.proofs.Serial.{serializable_too}
+use Rattle.erm_log_run.proofs.Stopped.{stop_keeps, stop_ran}
+use Rattle.erm_log_run.proofs.answers.answer_all.Goals as goal
+
+pub loop-line-init : goal.loop-line-init
+loop-line-init g c = record {
+  stands = c.requires.stands;
+  many = ap (λ (xs : List Answer). length xs) c.requires.none;
+  runs = c.requires.runs;
+  opening = refl;
+  receipts = c.requires.receipts;
+  ran = subst (λ (xs : List Answer). IsExecution (g.W.RowWorld.view c.args.world.now) (line_moves (take 0 c.args.script.now) xs) (g.W.RowWorld.view c.args.world.now)) (sym c.requires.none) refl;
+  held = c.requires.held;
+  keeps = on_itself g.W.LogWorld.rows_law.meets _;
+  faults = refl;
+}
+
+pub run_line-requires : goal.run_line-requires
+run_line-requires g c =
+    let script = c.args.script.now in
+    let k = c.loop-line.line-index in
+    let l = c.line-item.result in
+    let kept = c.loop-line.invariant in
+    let v = g.W.RowWorld.view c.args.world.now in
+    let one : IsLineOf v l = c.requires.lines l (k, slice_get-get_or script k l c.loop-line-test.true ∙ ap (λ (x : ScriptLine). Some x) (sym c.line-item.is)) in
+    record {
+      stands = kept.stands;
+      law = c.requires.law;
+      runs = kept.runs;
+      line = line_of_too v (g.W.RowWorld.view c.loop-line.world) l kept.opening one;
+      receipts = kept.receipts;
+      held = kept.held;
+    }
+
+pub loop-line-preserved : goal.loop-line-preserved
+loop-line-preserved g c =
+    let v = g.W.RowWorld.view c.args.world.now in
+    let before = g.W.RowWorld.view c.loop-line.world in
+    let after = g.W.RowWorld.view c.run_line.new.world in
+    let script = c.args.script.now in
+    let k = c.loop-line.line-index in
+    let l = c.line-item.result in
+    let a = c.in_ok-answer.answer in
+    let kept = c.loop-line.invariant in
+    let front = take k script in
+    let longer : take (k + 1) script ≡ front ++ l ∷ [] = take_more script k l c.loop-line-test.true ∙ ap (λ (x : ScriptLine). front ++ x ∷ []) (sym c.line-item.is) in
+    let pushed : c.push.new.self.items ≡ c.loop-line.answers.items ++ a ∷ [] = c.in_ok-push.ensures.items in
+    let many : length c.loop-line.answers.items ≡ length front = (let size = length-take k script in let within = c.loop-line-test.true in let counted = kept.many in omega (arith, size, within, counted)) in
+    let serial = serializable_too g.W.RowWorld.law sound_law after c.requires.law (g.met.W.RowWorld.serializable c.run_line.new.world c.run_line.ensures.stands) in
+    let goes : IsExecution v (line_moves front c.loop-line.answers.items ++ move_of l a ∷ []) after =
+    execution_more v before after (line_moves front c.loop-line.answers.items) (move_of l a) kept.ran c.in_ok-answer.ensures.moved serial
+    in
+    let moves : line_moves (take (k + 1) script) c.push.new.self.items ≡ line_moves front c.loop-line.answers.items ++ move_of l a ∷ [] =
+    ap (λ (ls : List ScriptLine). line_moves ls c.push.new.self.items) longer ∙ ap (λ (xs : List Answer). line_moves (front ++ l ∷ []) xs) pushed ∙ line_moves_more front c.loop-line.answers.items l a many
+    in
+    let keeps = c.in_ok-answer.ensures.keeps in
+    let first : Keeper = keeper_of (g.W.LogWorld.log c.args.world.now) c.args.store.now (g.D.Disk.told c.args.store.now.disk) in
+    let was : Keeper = keeper_of (g.W.LogWorld.log c.loop-line.world) c.loop-line.store (g.D.Disk.told c.loop-line.store.disk) in
+    let is : Keeper = keeper_of (g.W.LogWorld.log c.run_line.new.world) c.run_line.new.store (g.D.Disk.told c.run_line.new.store.disk) in
+    record {
+      stands = c.run_line.ensures.stands;
+      many = (let size = ap (λ (xs : List Answer). length xs) pushed ∙ length-append c.loop-line.answers.items (a ∷ []) in let counted = kept.many in omega (arith, size, counted));
+      runs = c.in_ok-answer.ensures.runs;
+      opening = c.in_ok-answer.ensures.opening ∙ kept.opening;
+      receipts = c.in_ok-answer.ensures.receipts;
+      ran = subst (λ (ms : List Move). IsExecution v ms after) (sym moves) goes;
+      held = keeps.0;
+      keeps = on_then g.W.LogWorld.rows_law.meets first was is kept.keeps keeps.1;
+      faults = c.in_ok-answer.ensures.counts ∙ kept.faults;
+    }
+
+pub returns-in_err-answer-clause-ran : goal.returns-in_err-answer-clause-ran
+returns-in_err-answer-clause-ran g c =
+    let v = g.W.RowWorld.view c.args.world.now in
+    let before = g.W.RowWorld.view c.loop-line.world in
+    let script = c.args.script.now in
+    let answers = c.loop-line.answers.items in
+    let kept = c.loop-line.invariant in
+    let fewer = c.loop-line-test.true in
+    let many = kept.many in
+    let p = err_from_is_err_and c.from_residual.result c.from_residual.ensures.1 in
+    rw p.1 (stop_ran (Unit {0}) p.0 v before (g.W.RowWorld.view c.run_line.new.world) script answers (omega (arith, fewer, many)) (subst (λ (ms : List Move). IsExecution v ms before) (line_moves_front script c.loop-line.line-index answers many) kept.ran))
+
+pub returns-in_err-answer-clause-keeps : goal.returns-in_err-answer-clause-keeps
+returns-in_err-answer-clause-keeps g c =
+    let kept = c.loop-line.invariant in
+    let first : Keeper = keeper_of (g.W.LogWorld.log c.args.world.now) c.args.store.now (g.D.Disk.told c.args.store.now.disk) in
+    let was : Keeper = keeper_of (g.W.LogWorld.log c.loop-line.world) c.loop-line.store (g.D.Disk.told c.loop-line.store.disk) in
+    let is : Keeper = keeper_of (g.W.LogWorld.log c.run_line.new.world) c.run_line.new.store (g.D.Disk.told c.run_line.new.store.disk) in
+    let p = err_from_is_err_and c.from_residual.result c.from_residual.ensures.1 in
+    rw (p.1, p.2) (stop_keeps Answer (Unit {0}) g.W.LogWorld.rows_law.meets c.in_err-answer.field-0.0 first was is kept.keeps c.in_err-answer.ensures.keeps)

@@ -1,0 +1,62 @@
+use Rattle.std.proofs.Common.{◌≡◌, Option, Vec, refl, rules, sym, ap, ◌∙◌}
+use Rattle.std.proofs.lemmas.Result.{err_from_is_err_and}
+use Rattle.std.specs.declared.alloc.Global.{Global}
+use Rattle.erm_model.specs.declared.outcome.Phase.TheVariants.{Active, Idle}
+use Rattle.erm_report.specs.declared.answer.Answer.{Answer}
+use Rattle.erm_world.specs.World.{Opening, Session, phase_of}
+use Rattle.erm_log_run.specs.Keeping.{Keeper, keeper_of}
+use Rattle.erm_log_run.proofs.Receipts.{none_received}
+use Rattle.erm_log_run.proofs.Leaving.{on_itself}
+use Rattle.erm_log_run.proofs.Results.{all_ran, counts_then, cut_ran, keeps_then}
+use Rattle.erm_log_run.proofs.Stopped.{stop_counts, stop_keeps}
+use Rattle.erm_log_run.proofs.whole.run_all.Goals as goal
+
+pub answer_all-requires-clause-runs : goal.answer_all-requires-clause-runs
+answer_all-requires-clause-runs g c = λ seat session active.
+    absurd (let no : Idle ≡ Active = sym (ap (λ (s : Session). phase_of s.stand) (c.requires.opened.idle seat session)) ∙ active in cc)
+
+pub answer_all-requires-clause-receipts : goal.answer_all-requires-clause-receipts
+answer_all-requires-clause-receipts g c =
+    none_received (g.W.RowWorld.view c.args.world.now) c.args.sessions _ c.requires.opened c.requires.sessions
+    (c.deref_mut.ensures.value ∙ c.in_ok-receipts.ensures)
+
+pub returns-in_err-answer_all : goal.returns-in_err-answer_all
+returns-in_err-answer_all g c =
+    let v = g.W.RowWorld.view c.args.world.now in
+    let t = g.W.RowWorld.view c.answer_all.new.world in
+    let stop = c.in_err-answer_all.field-0.0 in
+    let first : Keeper = keeper_of (g.W.LogWorld.log c.args.world.now) c.args.store.now (g.D.Disk.told c.args.store.now.disk) in
+    let mid : Keeper = keeper_of (g.W.LogWorld.log c.answer_all.new.world) c.answer_all.new.store (g.D.Disk.told c.answer_all.new.store.disk) in
+    let sound = g.W.LogWorld.rows_law.meets in
+    let p = err_from_is_err_and c.from_residual-in_err-answer_all.result c.from_residual-in_err-answer_all.ensures.1 in
+    record {
+      stands = c.answer_all.ensures.stands;
+      ran = rw (p.1, p.2) (cut_ran (Unit {0}) stop v t c.args.sessions c.args.script.now c.answer_all.new.answers.items c.in_err-answer_all.ensures.ran);
+      keeps = rw (p.1, p.2) (stop_keeps (Unit {0}) (Vec (Option Answer) Global) sound stop first first mid (on_itself sound first) c.in_err-answer_all.ensures.keeps);
+      counts = rw (p.1, p.2) (stop_counts (Unit {0}) (Vec (Option Answer) Global) stop (g.D.Disk.faults c.args.store.now.disk) (g.D.Disk.faults c.args.store.now.disk) (g.D.Disk.faults c.answer_all.new.store.disk) refl c.in_err-answer_all.ensures.counts);
+    }
+
+pub close_all-requires : goal.close_all-requires
+close_all-requires g c = record {
+  stands = c.answer_all.ensures.stands;
+  law = c.requires.law;
+  sessions = ap (λ (o : Opening). o.sessions) c.in_ok-answer_all.ensures.ran.1 ∙ c.requires.sessions;
+  held = c.in_ok-answer_all.ensures.keeps.0;
+}
+
+pub returns : goal.returns
+returns g c =
+    let v = g.W.RowWorld.view c.args.world.now in
+    let u = g.W.RowWorld.view c.answer_all.new.world in
+    let t = g.W.RowWorld.view c.close_all.new.world in
+    let r = c.close_all.result in
+    let ran = c.in_ok-answer_all.ensures.ran in
+    let first : Keeper = keeper_of (g.W.LogWorld.log c.args.world.now) c.args.store.now (g.D.Disk.told c.args.store.now.disk) in
+    let mid : Keeper = keeper_of (g.W.LogWorld.log c.answer_all.new.world) c.answer_all.new.store (g.D.Disk.told c.answer_all.new.store.disk) in
+    let last : Keeper = keeper_of (g.W.LogWorld.log c.close_all.new.world) c.close_all.new.store (g.D.Disk.told c.close_all.new.store.disk) in
+    record {
+      stands = c.close_all.ensures.stands;
+      ran = all_ran r v u t c.args.sessions c.args.script.now c.answer_all.new.answers.items ran.0 ran.2 c.close_all.ensures.closing c.close_all.ensures.idle c.close_all.ensures.flushed;
+      keeps = keeps_then r g.W.LogWorld.rows_law.meets first mid last c.in_ok-answer_all.ensures.keeps.1 c.close_all.ensures.keeps;
+      counts = counts_then r _ _ _ c.in_ok-answer_all.ensures.counts c.close_all.ensures.counts;
+    }

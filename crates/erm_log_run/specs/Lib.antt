@@ -1,0 +1,4 @@
+pub mod Closing
+pub mod Keeping
+pub mod Lines
+pub mod Runs

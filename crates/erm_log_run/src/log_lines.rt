@@ -1,0 +1,66 @@
+//! The lines of the log: a flush, and a checkpoint.
+ghost use Rattle.std.specs.Prelude.{IfOk};
+ghost use Rattle.erm_lines.specs.Executions.{DidLog};
+ghost use Rattle.erm_script.specs.declared.script.Command.TheVariants.{Checkpoint, Flush};
+ghost use Rattle.erm_log_run.specs.Keeping.{CountsFaults, IsHeld, Keeps, keeper_of};
+
+use crate::{LineStop, RowsOf, Store};
+use erm_checkpoint::CheckpointStop;
+use erm_flush::FlushStop;
+use erm_outside::Disk;
+use erm_report::Answer;
+use erm_world::ScriptWorld;
+
+/// Flushes the log up to the first transaction that isn't decided, or to its end.
+pub fn flush_line<W: ScriptWorld, D: Disk>(
+    world: &mut W,
+    store: &mut Store<D>,
+) -> Result<Answer, LineStop>
+    requires stands { W.stands world.old }
+    requires held { IsHeld W.rows_law.meets (keeper_of (W.log world.old) store.old (D.told store.old.disk)) }
+    ensures stands { W.stands world.new }
+    ensures answered { IfOk result (λ a. DidLog (W.view world.old) Flush a (W.view world.new)) }
+    ensures keeps { Keeps W.rows_law.meets result (keeper_of (W.log world.old) store.old (D.told store.old.disk)) (keeper_of (W.log world.new) store.new (D.told store.new.disk)) }
+    ensures counts { CountsFaults result (D.faults store.old.disk) (D.faults store.new.disk) }
+{
+    erm_crash::flushes_keep::<RowsOf<W>>();
+    erm_crash::moments_go_on::<RowsOf<W>>();
+    erm_checkpoint::flushed_logs_are_held::<RowsOf<W>>();
+    match store.flusher.flush_turn(&mut store.disk, world) {
+        Ok(place) => Ok(Answer::Flushed(place)),
+        Err(FlushStop::Empty { at }) => Ok(Answer::Empty(at)),
+        Err(FlushStop::Unfilled { at }) => Ok(Answer::Unfilled(at)),
+        Err(FlushStop::DiskFault) => Err(LineStop::DiskFault),
+        Err(FlushStop::Failed) => Err(LineStop::DiskFault),
+    }
+}
+
+/// Takes a checkpoint, where all is decided.
+pub fn checkpoint_line<W: ScriptWorld, D: Disk>(
+    world: &mut W,
+    store: &mut Store<D>,
+) -> Result<Answer, LineStop>
+    requires stands { W.stands world.old }
+    requires held { IsHeld W.rows_law.meets (keeper_of (W.log world.old) store.old (D.told store.old.disk)) }
+    ensures stands { W.stands world.new }
+    ensures answered { IfOk result (λ a. DidLog (W.view world.old) Checkpoint a (W.view world.new)) }
+    ensures keeps { Keeps W.rows_law.meets result (keeper_of (W.log world.old) store.old (D.told store.old.disk)) (keeper_of (W.log world.new) store.new (D.told store.new.disk)) }
+    ensures counts { CountsFaults result (D.faults store.old.disk) (D.faults store.new.disk) }
+{
+    erm_crash::checkpoints_keep::<RowsOf<W>>();
+    erm_crash::moments_go_on::<RowsOf<W>>();
+    let Store {
+        disk,
+        flusher,
+        checkpointer,
+        slots,
+        run,
+    } = store;
+    match checkpointer.checkpoint_turn(flusher, disk, world, slots, *run) {
+        Ok(place) => Ok(Answer::Checkpointed(place)),
+        Err(CheckpointStop::Unfilled { at }) => Ok(Answer::Unfilled(at)),
+        Err(CheckpointStop::NotYet { .. }) => Err(LineStop::DiskFault),
+        Err(CheckpointStop::DiskFault) => Err(LineStop::DiskFault),
+        Err(CheckpointStop::Failed) => Err(LineStop::DiskFault),
+    }
+}
