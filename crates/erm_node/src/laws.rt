@@ -3,6 +3,7 @@
 ghost use Rattle.std.specs.Prelude.{◌≡◌, ◌<◌, ◌≤◌, ℕ, suc, List, true, Some, None, replicate};
 ghost use Rattle.erm_model.specs.Database.{value_at};
 ghost use Rattle.erm_model.specs.Rows.{Rows};
+ghost use Rattle.erm_model.specs.RowTransaction.{SameRows};
 ghost use Rattle.erm_record.specs.Record.{IsRecord};
 ghost use Rattle.erm_node.specs.Node.{Shape, is_node, node_of, node_row};
 ghost use Rattle.erm_node.specs.Tree.{AscendWithin, IsTree, entries, times};
@@ -50,4 +51,9 @@ pub fn keys_ascend()
 pub fn map_has_values_of_records()
     ensures value { (rows : Rows) (table key : ℕ) → IsSound rows → table < TABLES → value_at (map_of_rows rows) table key ≡ value_in rows table key }
     ensures none { (rows : Rows) (table key : ℕ) → IsSound rows → TABLES ≤ table → value_at (map_of_rows rows) table key ≡ None }
+{}
+
+/// The map of sound rows is told by the rows of the objects that there may be.
+pub fn same_rows_same_map()
+    ensures { (a b : Rows) → SameRows a b → IsSound a → map_of_rows a ≡ map_of_rows b }
 {}

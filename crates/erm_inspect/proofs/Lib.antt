@@ -1,0 +1,3 @@
+pub mod Orders
+pub mod Stamps
+pub mod Told

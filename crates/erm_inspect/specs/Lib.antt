@@ -1,0 +1,4 @@
+pub mod Audits
+pub mod Maps
+pub mod Recoveries
+pub mod Stops

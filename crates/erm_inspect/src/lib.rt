@@ -1,0 +1,14 @@
+//! What is told of a disk: the database map that it recovers to, and the commits of its log in the serial order.
+#![tactic(auto)]
+
+mod audit;
+mod found;
+mod map_lines;
+mod recovery;
+mod stop;
+#[cfg(test)]
+mod tests;
+
+pub use audit::audited;
+pub use recovery::recovered;
+pub use stop::InspectStop;
