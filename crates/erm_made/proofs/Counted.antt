@@ -1,0 +1,149 @@
+-- The counts of a report's lines are those of its answers, where no session is closed at the end.
+use Rattle.std.proofs.Common.{◌≡◌, ℕ, zero, suc, ◌+◌, Bool, true, false, cond, not, List, [], ◌∷◌, ◌++◌, length, map, Option, Some, take, refl, sym, ap, ◌∙◌, subst, append_assoc, append-nil, arith}
+use Rattle.std.specs.Prelude.{IfSome}
+use Rattle.std.specs.List.{filter, range_with_len, slice_get}
+use Rattle.erm_model.specs.declared.map.Pair.{Pair}
+use Rattle.erm_model.specs.Committed.{Committed}
+use Rattle.erm_report.specs.declared.answer.Answer.{Answer}
+use Rattle.erm_report.specs.declared.line.Line.{Line}
+use Rattle.erm_report.specs.declared.line.Line.TheVariants as line
+use Rattle.erm_script.specs.declared.script.ScriptLine.{ScriptLine}
+use Rattle.erm_good_report.specs.GoodReport.{Report, answer_lines, close_line, commit_line, report_lines}
+use Rattle.erm_good_report.specs.Opening.{Mode, Opening}
+use Rattle.erm_good_report.specs.Phases.{Closed, FitsPhase, is_idle, phase_of}
+use Rattle.erm_good_report.specs.Refusals.{moment_at}
+use Rattle.erm_good_report.specs.GoodReport.{places_of}
+use Rattle.erm_good_report.specs.Transactions.{Said, said_of, transactions_of}
+use Rattle.erm_good_report.proofs.Determining.{after_answers, report_lines_by_parts}
+use Rattle.erm_make.specs.Workload.{names_of, numbered, workload}
+use Rattle.erm_made.specs.Counts.{count, is_commit, is_exclusion, leaves_open, meets_newer, meets_owner, tells}
+use Rattle.erm_made.specs.Law.{IsReportOfWorkload}
+use Rattle.erm_made.proofs.Balance.{AreCounted, IsOver, all_end, ended_in}
+use Rattle.erm_made.proofs.Turns.{is_stuck, not_stuck}
+use Rattle.erm_made.proofs.Walks.{workload_walks}
+
+-- ---- counts of lists
+
+count-cons : {X : Type 0} (p : X → Bool) (x : X) (xs : List X) → count p (x ∷ xs) ≡ cond (p x) 1 0 + count p xs
+count-cons {X} p x xs =
+    let by : (b : Bool) → length (cond b (x ∷ filter p xs) (filter p xs)) ≡ cond b 1 0 + length (filter p xs) =
+    λ b. elim b as (λ t. length (cond t (x ∷ filter p xs) (filter p xs)) ≡ cond t 1 0 + length (filter p xs)) [ true ↦ omega arith | false ↦ omega arith ] in
+    by (p x)
+
+count-append : {X : Type 0} (p : X → Bool) (xs ys : List X) → count p (xs ++ ys) ≡ count p xs + count p ys
+count-append p [] ys = omega arith
+count-append p (x ∷ xs) ys = omega (arith, count-cons p x (xs ++ ys), count-cons p x xs, count-append p xs ys)
+
+false_first : (b : Bool) (n : ℕ) → cond b 1 0 + n ≡ 0 → b ≡ false
+false_first true n none = absurd (omega (arith, none))
+false_first false n none = refl
+
+-- where none is such, that one isn't
+isnt_such : {X : Type 0} (p : X → Bool) (xs : List X) (i : ℕ) (y : X) → count p xs ≡ 0 → slice_get xs i ≡ Some y → p y ≡ false
+isnt_such {X} p [] i y none at = let P : Option X → Type 0 = λ o. IfSome o (λ z. ⊥) in absurd (subst P at tt)
+isnt_such {X} p (x ∷ xs) zero y none at =
+    let P : Option X → Type 0 = λ o. IfSome o (λ z. p z ≡ false) in
+    subst P at (false_first (p x) (count p xs) (sym (count-cons p x xs) ∙ none))
+isnt_such p (x ∷ xs) (suc i) y none at = isnt_such p xs i y (omega (arith, count-cons p x xs, none)) at
+
+-- ---- the lines of a report
+
+count_answers : (p : Answer → Bool) (script : List ScriptLine) (answers : List Answer) → length answers ≡ length script → count (tells p) (answer_lines script answers) ≡ count p answers
+count_answers p [] [] same = refl
+count_answers p [] (a ∷ answers) same = absurd (omega (arith, same))
+count_answers p (l ∷ script) [] same = absurd (omega (arith, same))
+count_answers p (l ∷ script) (a ∷ answers) same =
+    count-cons (tells p) (line.Answer l.line a) (answer_lines script answers)
+    ∙ ap (λ n. cond (p a) 1 0 + n) (count_answers p script answers (omega (arith, same))) ∙ sym (count-cons p a answers)
+
+no_commit_tells : (p : Answer → Bool) (names : List (List ℕ)) (commits : List Committed) (rest : List Line) → count (tells p) (map (commit_line names) commits ++ rest) ≡ count (tells p) rest
+no_commit_tells p names [] rest = refl
+no_commit_tells p names (c ∷ commits) rest = no_commit_tells p names commits rest
+
+no_pair_tells : (p : Answer → Bool) (pairs : List Pair) (rest : List Line) → count (tells p) (map line.Pair pairs ++ rest) ≡ count (tells p) rest
+no_pair_tells p [] rest = refl
+no_pair_tells p (pair ∷ pairs) rest = no_pair_tells p pairs rest
+
+none_after : (p : Answer → Bool) (names : List (List ℕ)) (r : Report) → r.closed ≡ [] → count (tells p) (after_answers names r) ≡ 0
+none_after p names r none =
+    let pairs : List Line = map line.Pair r.pairs ++ line.End ∷ [] in
+    let P : List Closed → Type 0 = λ closed. count (tells p) (map (close_line names) closed ++ (line.Order (length r.order) ∷ map (commit_line names) r.order ++ (line.Map (length r.pairs) ∷ pairs))) ≡ 0 in
+    let base : P [] = no_commit_tells p names r.order (line.Map (length r.pairs) ∷ pairs) ∙ no_pair_tells p r.pairs (line.End ∷ []) in
+    subst P (sym none) base
+
+count_parts : (p : Answer → Bool) (opening : Opening) (names : List (List ℕ)) (script : List ScriptLine) (r : Report) (lines : List Line) → lines ≡ report_lines opening names script r
+    → length r.answers ≡ length script → count (tells p) lines ≡ count p r.answers + count (tells p) (after_answers names r)
+count_parts p opening names script r lines is same =
+    ap (λ ls. count (tells p) ls) (is ∙ report_lines_by_parts opening names script r)
+    ∙ count-append (tells p) (answer_lines script r.answers) (after_answers names r)
+    ∙ ap (λ n. n + count (tells p) (after_answers names r)) (count_answers p script r.answers same)
+
+-- ---- the answers
+
+ended_is : (answers : List Answer) → ended_in answers ≡ count is_commit answers + count is_exclusion answers + count meets_owner answers + count meets_newer answers
+ended_is [] = refl
+ended_is (a ∷ answers) =
+    omega (arith, ended_is answers, count-cons is_commit a answers, count-cons is_exclusion a answers, count-cons meets_owner a answers, count-cons meets_newer a answers)
+
+-- each answer fits and is counted, where each at its place does so
+counted_of : (before : List Said) (script : List ScriptLine) (answers : List Answer) → length answers ≡ length script
+    → ((i : ℕ) (l : ScriptLine) (a : Answer) → slice_get script i ≡ Some l → slice_get answers i ≡ Some a
+    → FitsPhase (phase_of l.session (before ++ take i (said_of script answers))) l.command a × (is_stuck a ≡ false)) → AreCounted before script answers
+counted_of before [] [] same each = tt
+counted_of before [] (a ∷ answers) same each = absurd (omega (arith, same))
+counted_of before (l ∷ script) [] same each = absurd (omega (arith, same))
+counted_of before (l ∷ script) (a ∷ answers) same each =
+    let one : Said = record { session = l.session; asked = Some l.command; answer = a } in
+    let first = each 0 l a refl refl in
+    let P : List Said → Type 0 = λ said. FitsPhase (phase_of l.session said) l.command a in (
+      subst P (append-nil before) first.0,
+      first.1,
+      counted_of (before ++ one ∷ []) script answers (omega (arith, same))
+          (λ i k b at said.
+          let Q : List Said → Type 0 = λ all. FitsPhase (phase_of k.session all) k.command b in
+          let later = each (suc i) k b at said in
+          (subst Q (sym (append_assoc before (one ∷ []) (take i (said_of script answers)))) later.0, later.1)),
+    )
+
+-- ---- no session is closed
+
+none_kept : (f : ℕ → Bool) (a n : ℕ) → ((k : ℕ) → f k ≡ false) → filter f (range_with_len a n) ≡ []
+none_kept f a zero none = refl
+none_kept f a (suc n) none =
+    ap (λ b. cond b (a ∷ filter f (range_with_len (a + 1) n)) (filter f (range_with_len (a + 1) n))) (none a) ∙ none_kept f (a + 1) n none
+
+no_element : {X Y : Type 0} (f : X → Y) (xs : List X) → map f xs ≡ [] → xs ≡ []
+no_element f [] none = refl
+no_element f (x ∷ xs) none = absurd (omega (arith, ap length none))
+
+-- ---- both together
+
+pub each_counted : (mode : Mode) (opening : Opening) (transactions sessions : ℕ) (lines : List Line) → IsReportOfWorkload mode opening transactions sessions lines
+    → count (tells is_commit) lines + count (tells is_exclusion) lines + count (tells meets_owner) lines + count (tells meets_newer) lines ≡ 16 + transactions
+each_counted mode opening transactions sessions lines is =
+    let names : List (List ℕ) = names_of transactions sessions in
+    let script : List ScriptLine = numbered 1 (workload transactions sessions) in
+    let good = is.good in
+    let r : Report = good.report in
+    let said : List Said = said_of script r.answers in
+    let all = transactions_of (length names) (places_of script r.answers r.closed) in
+    let parts : (p : Answer → Bool) → count (tells p) lines ≡ count p r.answers + count (tells p) (after_answers names r) =
+    λ p. count_parts p opening names script r lines good.lines_ok good.each in
+    let decided : count leaves_open r.answers ≡ 0 = omega (arith, parts leaves_open, is.decided) in
+    let counted : AreCounted [] script r.answers = counted_of [] script r.answers good.each
+    (λ i l a at told. (
+      good.owes.phases.fits i l a at told,
+      not_stuck (moment_at mode opening script r.answers all i l) a (good.owes.refusals.each i l a at told).log (isnt_such leaves_open r.answers i a decided told),
+    )) in
+    let over : IsOver (16 + transactions) 0 said r.answers =
+    all_end (sessions + 1) (16 + transactions) 1 (workload transactions sessions) r.answers (omega arith) (workload_walks transactions sessions is.some) counted in
+    let closed : r.closed ≡ [] =
+    no_element (λ (c : Closed). c.session) r.closed
+    (good.closes.each ∙ none_kept (λ k. not (is_idle (phase_of k said))) 1 (length names) (λ k. ap (λ p. not (is_idle p)) (over.idle k))) in
+    let of : (p : Answer → Bool) → count (tells p) lines ≡ count p r.answers = λ p. omega (arith, parts p, none_after p names r closed) in
+    omega (arith, of is_commit, of is_exclusion, of meets_owner, of meets_newer, ended_is r.answers, over.all)
+
+pub counts_add_up : (mode : Mode) (opening : Opening) (transactions sessions : ℕ) (lines : List Line) → IsReportOfWorkload mode opening transactions sessions lines
+    → count (tells meets_newer) lines ≡ 0
+    → count (tells is_commit) lines + count (tells is_exclusion) lines + count (tells meets_owner) lines ≡ 16 + transactions
+counts_add_up mode opening transactions sessions lines is none = omega (arith, each_counted mode opening transactions sessions lines is, none)

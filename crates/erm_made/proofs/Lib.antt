@@ -1,0 +1,4 @@
+pub mod Balance
+pub mod Counted
+pub mod Turns
+pub mod Walks

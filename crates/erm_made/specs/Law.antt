@@ -1,0 +1,24 @@
+-- What the counts of a workload's report add up to.
+use Rattle.std.specs.Prelude.{◌≡◌, ℕ, ◌+◌, ◌≤◌, List}
+use Rattle.erm_report.specs.declared.line.Line.{Line}
+use Rattle.erm_good_report.specs.GoodReport.{IsGoodReport}
+use Rattle.erm_good_report.specs.Opening.{Mode, Opening}
+use Rattle.erm_make.specs.Workload.{names_of, numbered, workload}
+use Rattle.erm_made.specs.Counts.{count, is_commit, is_exclusion, leaves_open, meets_newer, meets_owner, tells}
+
+-- the lines are a good report of the workload of so many transactions and sessions, and none of them leaves a transaction open
+pub record IsReportOfWorkload (mode : Mode) (opening : Opening) (transactions sessions : ℕ) (lines : List Line) : Type 0 where
+  pub some : 1 ≤ sessions
+  pub good : IsGoodReport mode opening (names_of transactions sessions) (numbered 1 (workload transactions sessions)) lines
+  pub decided : count (tells leaves_open) lines ≡ 0
+
+-- Each transaction, of those that load and of the others, ends once: it commits, is excluded, meets an owner or meets a newer version.
+abbrev pub EachIsCounted : Type 0
+EachIsCounted = (mode : Mode) (opening : Opening) (transactions sessions : ℕ) (lines : List Line) → IsReportOfWorkload mode opening transactions sessions lines
+    → count (tells is_commit) lines + count (tells is_exclusion) lines + count (tells meets_owner) lines + count (tells meets_newer) lines ≡ 16 + transactions
+
+-- So the three counts add up to all, where none meets a newer version.
+abbrev pub CountsAddUp : Type 0
+CountsAddUp = (mode : Mode) (opening : Opening) (transactions sessions : ℕ) (lines : List Line) → IsReportOfWorkload mode opening transactions sessions lines
+    → count (tells meets_newer) lines ≡ 0
+    → count (tells is_commit) lines + count (tells is_exclusion) lines + count (tells meets_owner) lines ≡ 16 + transactions
