@@ -1,6 +1,8 @@
 -- How the command ends, told by status.
-use Rattle.std.proofs.Common.{Result, Err, Option, Some, IfSome, ◌≡◌, ◌≢◌, ◌≤◌, subst, ℕ, ◌⊎◌, List, [], length, inl, inr, arith}
-use Rattle.std.specs.Prelude.{String}
+use Rattle.std.proofs.Common.{Result, Ok, Err, Option, Some, IfSome, true, false, refl, sym, ap, ◌∙◌, ◌≡◌, ◌≢◌, ◌≤◌, subst, ℕ, ◌⊎◌, List, [], length, inl, inr, arith}
+use Rattle.std.specs.Prelude.{String, IsErr, None}
+use Rattle.std.proofs.lemmas.Bool.{true≢false}
+use Rattle.std.specs.declared.alloc.AllocError.{AllocError}
 use Rattle.std.specs.declared.alloc.Global.{Global}
 use Rattle.erm_report.specs.declared.line.Line.TheVariants as line
 use Rattle.erm_script.specs.declared.fault.FaultKind.{FaultKind}
@@ -18,9 +20,10 @@ use Rattle.erm_outside.specs.Sink.{Puts, PutsFront}
 use Rattle.erm_report.specs.declared.line.Line.{Line}
 use Rattle.erm_report.specs.Texts.{text_of}
 use Rattle.erm_top.specs.Outcomes.{WasReadWith, Around, RunEnds, PrintsLine, Whole, Cut, CommandEnds, Ends}
-use Rattle.erm_top.specs.CommandLine.{IsCommand, IsNoCommand, IsRefused}
-use Rattle.erm_top.specs.declared.words.Command.{Command}
-use Rattle.erm_top.specs.declared.words.Command.TheVariants.{Run}
+use Rattle.erm_command_line.specs.CommandLine.{IsCommand}
+use Rattle.erm_command_line.specs.declared.command.Command.{Command}
+use Rattle.erm_command_line.specs.declared.command.Command.TheVariants.{Run, Threads, Recover, Audit, Checkpoint, Make}
+use Rattle.erm_top.specs.Commands.{AskForNothing, is_on}
 
 -- a bad line is no fault of the source
 pub no_fault : {T : Type 0} (r : Result T Stop) (fault : ScriptFault) → r ≡ Err (stop.BadLine fault) → r ≢ Err stop.ReadFault
@@ -62,11 +65,16 @@ front_of_report a w = (
 pub from_command : (words : List (String Global)) (status : ℕ) (a : Around) → status ≢ 2 → status ≢ 8 → Ends words status a → IsCommand words Run × RunEnds status a
 from_command words status a not_two not_eight e = elim e [
   | inl asked ↦ run_alone words status a asked.0 asked.1 asked.2
-  | inr other ↦ elim other [ inl misused ↦ absurd (not_two misused.2.usage) | inr starved ↦ absurd (not_eight starved.no_memory) ]
+  | inr other ↦ elim other [ inl misused ↦ absurd (not_two misused.1.usage) | inr starved ↦ absurd (not_eight starved.no_memory) ]
 ]
   where
     run_alone : (words : List (String Global)) (status : ℕ) (a : Around) (command : Command) → IsCommand words command → CommandEnds command status a → IsCommand words Run × RunEnds status a
     run_alone words status a Run is ends = (is, ends)
+    run_alone words status a Threads is ends = absurd ends
+    run_alone words status a Recover is ends = absurd ends
+    run_alone words status a Audit is ends = absurd ends
+    run_alone words status a Checkpoint is ends = absurd ends
+    run_alone words status a (Make count sessions text) is ends = absurd ends
 
 -- no command gives the status of words that ask for none
 ends_otherwise : (command : Command) (status : ℕ) (a : Around) → CommandEnds command status a → status ≢ 2
@@ -80,18 +88,53 @@ ends_otherwise Run status a ends two = elim ends.known [
     ]
   ]
 ]
+ends_otherwise Threads status a ends two = ends
+ends_otherwise Recover status a ends two = ends
+ends_otherwise Audit status a ends two = ends
+ends_otherwise Checkpoint status a ends two = ends
+ends_otherwise (Make count sessions text) status a ends two = ends
 
--- words that ask for no command
-pub no_command_asked : (words : List (String Global)) (status : ℕ) (a : Around) → status ≡ 2 → Ends words status a → IsNoCommand words × IsRefused words
-no_command_asked words status a two e = elim e [
-  | inl asked ↦ absurd (ends_otherwise asked.0 status a asked.2 two)
-  | inr other ↦ elim other [ inl misused ↦ (misused.0, misused.1) | inr starved ↦ absurd (let eight = starved.no_memory in omega arith) ]
+-- a command that ends is one that the program has
+ends_is_on : (command : Command) (status : ℕ) (a : Around) → CommandEnds command status a → is_on command ≡ true
+ends_is_on Run status a ends = refl
+ends_is_on Threads status a ends = absurd ends
+ends_is_on Recover status a ends = absurd ends
+ends_is_on Audit status a ends = absurd ends
+ends_is_on Checkpoint status a ends = absurd ends
+ends_is_on (Make count sessions text) status a ends = absurd ends
+
+-- the one command that the program has is `run`
+pub on_is_run : (words : List (String Global)) (command : Command) → is_on command ≡ true → IsCommand words command → IsCommand words Run
+on_is_run words Run on is = is
+on_is_run words Threads on is = absurd (cc on)
+on_is_run words Recover on is = absurd (cc on)
+on_is_run words Audit on is = absurd (cc on)
+on_is_run words Checkpoint on is = absurd (cc on)
+on_is_run words (Make count sessions text) on is = absurd (cc on)
+
+-- words that ask for one command that the program hasn't ask for no other
+pub off_asks_nothing : (words : List (String Global)) (r : Result (Option Command) AllocError) (off : Command) → r ≡ Ok (Some off) → is_on off ≡ false
+    → ((command : Command) → IsCommand words command → (r ≡ Ok (Some command)) ⊎ IsErr r) → AskForNothing words
+off_asks_nothing words (Err e) off is not_on found command on asked = absurd (cc is)
+off_asks_nothing words (Ok None) off is not_on found command on asked = absurd (cc is)
+off_asks_nothing words (Ok (Some other)) off is not_on found command on asked = elim (found command asked) [
+  | inl same ↦
+      let one : command ≡ off = cc in
+      true≢false (sym on ∙ ap is_on one ∙ not_on)
+  | inr failed ↦ absurd (cc failed)
 ]
 
-pub no_command_ends : (words : List (String Global)) (status : ℕ) (a : Around) → IsNoCommand words → Ends words status a → (status ≡ 2) ⊎ (status ≡ 8)
+-- words that ask for no command
+pub no_command_asked : (words : List (String Global)) (status : ℕ) (a : Around) → status ≡ 2 → Ends words status a → AskForNothing words
+no_command_asked words status a two e = elim e [
+  | inl asked ↦ absurd (ends_otherwise asked.0 status a asked.2 two)
+  | inr other ↦ elim other [ inl misused ↦ misused.0 | inr starved ↦ absurd (let eight = starved.no_memory in omega arith) ]
+]
+
+pub no_command_ends : (words : List (String Global)) (status : ℕ) (a : Around) → AskForNothing words → Ends words status a → (status ≡ 2) ⊎ (status ≡ 8)
 no_command_ends words status a no_command e = elim e [
-  | inl asked ↦ absurd (no_command asked.0 asked.1)
-  | inr other ↦ elim other [ inl misused ↦ inl misused.2.usage | inr starved ↦ inr starved.no_memory ]
+  | inl asked ↦ absurd (no_command asked.0 (ends_is_on asked.0 status a asked.2) asked.1)
+  | inr other ↦ elim other [ inl misused ↦ inl misused.1.usage | inr starved ↦ inr starved.no_memory ]
 ]
 
 -- bytes that were read are those that the source told
@@ -129,11 +172,16 @@ run_completes status a bytes names script left short is source sink ends = elim 
 
 command_completes : (command : Command) (status : ℕ) (a : Around) (bytes : List ℕ) (names : List (List ℕ)) (script : List ScriptLine) → a.left_before ≡ Some bytes → length bytes ≤ SCRIPT_BYTES → IsScript run_grammar bytes names script
     → (Rose a.source_before a.source_after → ⊥) → (Rose a.sink_before a.sink_after → ⊥) → CommandEnds command status a → (status ≡ 0) ⊎ (status ≡ 8)
-command_completes Run = run_completes
+command_completes Run status a bytes names script left short is source sink ends = run_completes status a bytes names script left short is source sink ends
+command_completes Threads status a bytes names script left short is source sink ends = absurd ends
+command_completes Recover status a bytes names script left short is source sink ends = absurd ends
+command_completes Audit status a bytes names script left short is source sink ends = absurd ends
+command_completes Checkpoint status a bytes names script left short is source sink ends = absurd ends
+command_completes (Make count sessions text) status a bytes names script left short is source sink ends = absurd ends
 
 pub completes : (words : List (String Global)) (status : ℕ) (a : Around) (bytes : List ℕ) (names : List (List ℕ)) (script : List ScriptLine) → IsCommand words Run → a.left_before ≡ Some bytes → length bytes ≤ SCRIPT_BYTES
     → IsScript run_grammar bytes names script → (Rose a.source_before a.source_after → ⊥) → (Rose a.sink_before a.sink_after → ⊥) → Ends words status a → (status ≡ 0) ⊎ (status ≡ 8)
 completes words status a bytes names script asked left short is source sink e = elim e [
   | inl run ↦ command_completes run.0 status a bytes names script left short is source sink run.2
-  | inr other ↦ elim other [ inl misused ↦ absurd (misused.0 Run asked) | inr starved ↦ inr starved.no_memory ]
+  | inr other ↦ elim other [ inl misused ↦ absurd (misused.0 Run refl asked) | inr starved ↦ inr starved.no_memory ]
 ]

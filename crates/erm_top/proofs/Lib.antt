@@ -1,5 +1,3 @@
-pub mod CommandLine
-pub mod TakenWords
 pub mod Streams
 pub mod Ending
 pub mod Spelled

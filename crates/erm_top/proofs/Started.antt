@@ -7,17 +7,23 @@ use Rattle.std.specs.List.{All}
 use Rattle.std.proofs.lemmas.Bool.{eqb-true}
 use Rattle.std.proofs.lemmas.List.Sorted.{length_permutation}
 use Rattle.erm_model.specs.Committed.{Committed, RunsInOrder, rank_of, state_after}
-use Rattle.erm_model.specs.Database.{Database}
+use Rattle.erm_model.specs.Database.{Database, value_at}
+use Rattle.erm_model.specs.Member.{◌∈◌}
+use Rattle.erm_model.proofs.Keys.{value_at-empty}
+use Rattle.erm_script.specs.Script.{IsInRange}
+use Rattle.erm_summary.specs.Tables.{KeysAreInTables, SummariesAreInTables}
 use Rattle.erm_model.specs.SerialOrder.{IsSerialOrder}
 use Rattle.erm_report.specs.declared.answer.Answer.{Answer}
 use Rattle.erm_report.specs.declared.line.Line.{Line}
-use Rattle.erm_report.specs.Printable.{FitsTypes}
+use Rattle.erm_report.specs.Printable.{FitsTypes, IsInTables}
 use Rattle.erm_script.specs.declared.script.ScriptLine.{ScriptLine}
 use Rattle.erm_good_report.specs.GoodReport.{IsTightReport, OwesToAnswers}
 use Rattle.erm_good_report.specs.Opening.{InTurn, Opening}
 use Rattle.erm_good_report.specs.Phases.{Closed, ClosesAgree}
 use Rattle.erm_summary.specs.Summary.{SummariesAreGood, Summarizes, opening_at}
 use Rattle.erm_start.specs.Empty.{empty_opening}
+use Rattle.erm_run.specs.Runs.{WasRun}
+use Rattle.erm_world.specs.World.{View}
 
 -- what a report starts from
 pub opening_is : (m : Database) (rows first : ℕ) → m ≡ empty → rows ≡ 0 → first ≡ 16 → opening_at (record { map = m; stamp = 8; run = 1 }) rows first ≡ empty_opening
@@ -80,3 +86,20 @@ empty_result good (Ok lines) opening names script answers closed no_name no_line
     (subst (λ (given : List Answer). Summarizes (opening 0 16) [] [] given closed lines.items) no_answer
     (subst (λ (ls : List ScriptLine). Summarizes (opening 0 16) [] ls answers closed lines.items) no_line
     (subst (λ (ns : List (List ℕ)). Summarizes (opening 0 16) ns script answers closed lines.items) no_names (told 0 16)))))) fits))
+
+-- an empty map has no key
+pub empty_keys : (m : Database) → m ≡ empty → KeysAreInTables m
+empty_keys m none = λ table key above. ap (λ (n : Database). value_at n table key) none ∙ value_at-empty table key
+
+-- the tables of the report of a run, by what its summary says
+pub run_in_tables : SummariesAreInTables → (r : Result (Vec Line Global) AllocError) (v t : View) (opening : Opening) (names : List (List ℕ)) (script : List ScriptLine)
+    → IfOk r (λ lines. WasRun v t opening names script lines.items) → KeysAreInTables opening.map → ((l : ScriptLine) → l ∈ script → IsInRange l.command) → IfOk r (λ lines. All IsInTables lines.items)
+run_in_tables law (Err e) v t opening names script was keys ranges = tt
+run_in_tables law (Ok lines) v t opening names script was keys ranges = law opening names script was.answers was.closed lines.items was.told keys ranges
+
+-- the same of a script without lines
+pub empty_in_tables : SummariesAreInTables → (r : Result (Vec Line Global) AllocError) (opening : ℕ → ℕ → Opening) (names : List (List ℕ)) (script : List ScriptLine) (answers : List Answer) (closed : List Closed)
+    → IfOk r (λ lines. (rows first : ℕ) → Summarizes (opening rows first) names script answers closed lines.items) → KeysAreInTables (opening 0 16).map → ((l : ScriptLine) → l ∈ script → IsInRange l.command)
+    → IfOk r (λ lines. All IsInTables lines.items)
+empty_in_tables law (Err e) opening names script answers closed told keys ranges = tt
+empty_in_tables law (Ok lines) opening names script answers closed told keys ranges = law (opening 0 16) names script answers closed lines.items (told 0 16) keys ranges

@@ -1,4 +1,4 @@
-pub mod CommandLine
+pub mod Commands
 pub mod Outcomes
 pub mod Scripts
 pub mod Statuses

@@ -11,9 +11,10 @@ use Rattle.erm_report.specs.Texts.{line_text, text_of}
 use Rattle.erm_outside.specs.Sink.{Puts, PutsFront}
 use Rattle.erm_top.specs.Scripts.{run_grammar}
 use Rattle.erm_top.specs.declared.reading.TheConstants.{SCRIPT_BYTES}
-use Rattle.erm_top.specs.declared.words.Command.{Command}
-use Rattle.erm_top.specs.declared.words.Command.TheVariants.{Run}
-use Rattle.erm_top.specs.CommandLine.{IsCommand, IsNoCommand, IsRefused}
+use Rattle.erm_command_line.specs.CommandLine.{IsCommand}
+use Rattle.erm_command_line.specs.declared.command.Command.{Command}
+use Rattle.erm_command_line.specs.declared.command.Command.TheVariants.{Run}
+use Rattle.erm_top.specs.Commands.{AskForNothing}
 use Rattle.erm_top.specs.Statuses.{Reports, Prints, TakesAtMost, TakesMore}
 
 -- what source and sink tell before and after
@@ -91,10 +92,11 @@ pub record Starved (status : ℕ) (a : Around) : Type 0 where
   pub left : a.left_after ≡ a.left_before
   pub sound : a.source_after ≡ a.source_before
 
--- what it means for a command to end so
+-- what it means for a command that the program has to end so
 abbrev pub CommandEnds : Command → ℕ → Around → Type 0
 CommandEnds Run status a = RunEnds status a
+CommandEnds command status a = ⊥
 
--- the words ask for a command, which ends so; or they ask for none, and are refused; or memory ran out
+-- the words ask for a command that the program has, which ends so; or they ask for none; or memory ran out
 abbrev pub Ends : List (String Global) → ℕ → Around → Type 0
-Ends words status a = ((command : Command) × IsCommand words command × CommandEnds command status a) ⊎ (IsNoCommand words × IsRefused words × Misused status a) ⊎ Starved status a
+Ends words status a = ((command : Command) × IsCommand words command × CommandEnds command status a) ⊎ (AskForNothing words × Misused status a) ⊎ Starved status a

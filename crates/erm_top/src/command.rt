@@ -4,7 +4,7 @@ ghost use Rattle.erm_outside.specs.Faults.{Rose};
 ghost use Rattle.erm_script.specs.declared.fault.ScriptFault.{ScriptFault};
 ghost use Rattle.erm_script.specs.Faults.{IsFirstBadLine};
 ghost use Rattle.std.specs.List.{All};
-ghost use Rattle.erm_report.specs.Printable.{FitsTypes};
+ghost use Rattle.erm_report.specs.Printable.{FitsTypes, IsInTables};
 ghost use Rattle.erm_report.specs.Texts.{line_text, text_of};
 ghost use Rattle.erm_report.specs.declared.line.Line.TheVariants as line;
 ghost use Rattle.erm_top.specs.Outcomes.{HasReport, RunEnds, WasReadWith};
@@ -111,7 +111,7 @@ fn answer(alloc: Global, bytes: &[u8]) -> Result<Text, Stop>
 // The text of lines, one after the other.
 fn report_text(alloc: Global, lines: &[Line]) -> Result<Text, AllocError>
     ensures text { IfOk result (λ text. text ≡ text_of lines.now) }
-    ensures fits { OnOk result (All FitsTypes lines.now) }
+    ensures fits { OnOk result (All IsInTables lines.now → All FitsTypes lines.now) }
 {
     let mut text = Text::new(alloc);
     for line in lines {

@@ -2,10 +2,10 @@
 #![tactic(auto)]
 
 mod command;
+mod commands;
 mod reading;
 mod scripts;
 mod top;
-mod words;
 
+pub use erm_command_line::Command;
 pub use top::{Ended, ermia, run_to_end};
-pub use words::Command;

@@ -1,7 +1,7 @@
 //! A script of sessions, run from an empty map on.
 ghost use Rattle.std.specs.Prelude.{◌≡◌, ◌+◌, ◌≤◌, ℕ, List, IfOk, length};
 ghost use Rattle.std.specs.List.{All};
-ghost use Rattle.erm_report.specs.Printable.{FitsTypes};
+ghost use Rattle.erm_report.specs.Printable.{FitsTypes, IsInTables};
 ghost use Rattle.erm_script.specs.Script.{IsScript};
 ghost use Rattle.erm_good_report.specs.GoodReport.{IsTightReport};
 ghost use Rattle.erm_good_report.specs.Opening.{InTurn};
@@ -14,7 +14,7 @@ use erm_report::Line;
 use erm_run::run_script;
 use erm_script::{Grammar, ScriptLine};
 use erm_start::{FIRST_RUN, OPENING, empty_world};
-use erm_summary::{Start, report_of, summaries_are_good};
+use erm_summary::{Start, report_of, summaries_are_good, summaries_are_in_tables};
 use std::alloc::{AllocError, Global};
 
 /// Which scripts the command `run` takes: those of up to 48 sessions, whose lines ask for no log and no checkpoint.
@@ -39,13 +39,15 @@ pub fn run_from_empty(
 ) -> Result<Vec<Line>, AllocError>
     requires spelled { (bytes : List ℕ) × IsScript run_grammar bytes names.now script.now }
     requires short { length script.now ≤ SCRIPT_BYTES + 1 }
-    ensures { IfOk result (λ lines. All FitsTypes lines.items → IsTightReport InTurn empty_opening names.now script.now lines.items) }
+    ensures tables { IfOk result (λ lines. All IsInTables lines.items) }
+    ensures report { IfOk result (λ lines. All FitsTypes lines.items → IsTightReport InTurn empty_opening names.now script.now lines.items) }
 {
     let start = Start {
         map: Map::new(alloc),
         stamp: OPENING,
         run: FIRST_RUN,
     };
+    summaries_are_in_tables();
     if names.is_empty() {
         summaries_are_good();
         return report_of(

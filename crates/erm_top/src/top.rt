@@ -11,12 +11,14 @@ ghost use Rattle.erm_report.specs.declared.line.Line.{Line as PrintedLine};
 ghost use Rattle.erm_script.specs.declared.script.ScriptLine.{ScriptLine as LineOfScript};
 ghost use Rattle.erm_top.specs.Scripts.{run_grammar};
 ghost use Rattle.erm_top.specs.Statuses.{Reports, Prints, TakesAtMost, TakesMore, IsStatus};
-ghost use Rattle.erm_top.specs.CommandLine.{IsCommand, IsNoCommand, IsRefused};
+ghost use Rattle.erm_command_line.specs.CommandLine.{IsCommand};
+ghost use Rattle.erm_top.specs.Commands.{AskForNothing};
 ghost use Rattle.erm_top.specs.Outcomes.{Ends, WasReadWith};
 
 use crate::command::{print, run_command};
+use crate::commands::command_on;
 use crate::reading::SCRIPT_BYTES;
-use crate::words::{Command, command_of};
+use erm_command_line::Command;
 use erm_outside::{Disk, Gate, Sink, Source};
 use erm_report::{NO_MEMORY, USAGE};
 use std::alloc::Global;
@@ -38,7 +40,7 @@ pub struct Ended<D> {
 /// source to its end, runs it and puts its report. The disk is left alone. The status is
 ///
 /// - 0 where the report was put whole;
-/// - 2 where the words are others, those that ask for help too; the usage line was printed;
+/// - 2 where the words ask for no command that the program has, those that ask for help too; the usage line was printed;
 /// - 3 where the script is not in the grammar; the first bad line was printed, with its first kind of fault;
 /// - 4 where the source failed;
 /// - 5 where the sink failed while the report was put;
@@ -65,10 +67,9 @@ pub fn ermia<R: Threads + Wait + Sync, S: Source, K: Sink, D: Disk + Send, G: Ga
         × Puts (text_of lines) (K.written sink.old) (K.written sink.new) }
     ensures sound { result.status ≡ 0 → (S.faults source.new ≡ S.faults source.old) × (K.faults sink.new ≡ K.faults sink.old) }
 
-    // 2: exactly where the words ask for no command, unless memory runs out. The library that reads them refuses them
-    // for a fault of theirs. The source is left alone.
-    ensures usage { result.status ≡ 2 → IsNoCommand words.now × IsRefused words.now }
-    ensures refused { IsNoCommand words.now → (result.status ≡ 2) ⊎ (result.status ≡ 8) }
+    // 2: exactly where the words ask for no command that the program has, unless memory runs out. The source is left alone.
+    ensures usage { result.status ≡ 2 → AskForNothing words.now }
+    ensures refused { AskForNothing words.now → (result.status ≡ 2) ⊎ (result.status ≡ 8) }
     ensures asked { result.status ≢ 2 → result.status ≢ 8 → IsCommand words.now Command.Run }
     ensures usage_text { result.status ≡ 2 → Prints (line_text line.Usage)
         (K.written sink.old) (K.written sink.new) (K.faults sink.old) (K.faults sink.new) }
@@ -134,10 +135,9 @@ pub fn run_to_end<S: Source, K: Sink>(
         × Puts (text_of lines) (K.written sink.old) (K.written sink.new) }
     ensures sound { result ≡ 0 → (S.faults source.new ≡ S.faults source.old) × (K.faults sink.new ≡ K.faults sink.old) }
 
-    // 2: exactly where the words ask for no command, unless memory runs out. The library that reads them refuses them
-    // for a fault of theirs. The source is left alone.
-    ensures usage { result ≡ 2 → IsNoCommand words.now × IsRefused words.now }
-    ensures refused { IsNoCommand words.now → (result ≡ 2) ⊎ (result ≡ 8) }
+    // 2: exactly where the words ask for no command that the program has, unless memory runs out. The source is left alone.
+    ensures usage { result ≡ 2 → AskForNothing words.now }
+    ensures refused { AskForNothing words.now → (result ≡ 2) ⊎ (result ≡ 8) }
     ensures asked { result ≢ 2 → result ≢ 8 → IsCommand words.now Command.Run }
     ensures usage_text { result ≡ 2 → Prints (line_text line.Usage)
         (K.written sink.old) (K.written sink.new) (K.faults sink.old) (K.faults sink.new) }
@@ -199,8 +199,8 @@ fn command<S: Source, K: Sink>(alloc: Global, words: &[String], source: &mut S, 
       sink_after = K.faults sink.new;
     }) }
 {
-    match command_of(alloc, words) {
-        Ok(Some(Command::Run)) => run_command(alloc, source, sink),
+    match command_on(alloc, words) {
+        Ok(Some(_command)) => run_command(alloc, source, sink),
         Ok(None) => {
             print(sink, USAGE);
             2

@@ -1,0 +1,12 @@
+pub mod Levels
+pub mod CommandWords
+pub mod FirstWords
+pub mod LongWords
+pub mod MakeClasses
+pub mod MakeEnds
+pub mod MakeOptions
+pub mod MakePasses
+pub mod MakeWalk
+pub mod MakeWords
+pub mod Numbers
+pub mod Reading
