@@ -1,3 +1,6 @@
+pub mod Closings
+pub mod Logged
 pub mod Newest
 pub mod Ranges
+pub mod Spare
 pub mod States

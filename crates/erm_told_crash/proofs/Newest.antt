@@ -47,7 +47,7 @@ module _ (v : View) (holds : IsSerializable sound_law v) (ranges : StandApart v)
   )
 
   -- no commit has its stamp in the range behind another stamp
-  none_behind : (seat : ℕ) (w : Work) (stamp : ℕ) → IsSession v seat → HasStamp v seat w stamp → (u : TransactionRecord) → u ∈ history_of v
+  pub none_behind : (seat : ℕ) (w : Work) (stamp : ℕ) → IsSession v seat → HasStamp v seat w stamp → (u : TransactionRecord) → u ∈ history_of v
       → u.stamp < stamp + size_of w → u.stamp ≤ stamp
   none_behind seat w stamp session has u m less =
       let own : IsCommitted v u = of_history v u m in
@@ -66,7 +66,7 @@ module _ (v : View) (holds : IsSerializable sound_law v) (ranges : StandApart v)
   }
 
   -- transactions that are over and have one stamp are one
-  one_over : (p q : ℕ) (f g : Finished) (stamp : ℕ) → IsSession v p → IsSession v q → f ∈ (v.session p).over → g ∈ (v.session q).over
+  pub one_over : (p q : ℕ) (f g : Finished) (stamp : ℕ) → IsSession v p → IsSession v q → f ∈ (v.session p).over → g ∈ (v.session q).over
       → stamp_of f.fate ≡ Some stamp → stamp_of g.fate ≡ Some stamp → f ≡ g
   one_over p q f g stamp of_p of_q (k, at) (n, there) first second =
       let same = holds.differ p q f.work g.work stamp of_p of_q (inl (f, (k, at), refl, first)) (inl (g, (n, there), refl, second)) in

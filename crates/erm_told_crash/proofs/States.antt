@@ -109,20 +109,20 @@ same_state order others opening m end same_order same_map is = rw (same_order, s
 
 module _ (tell : ExecutionsTell) (go : ExecutionsGoOn) (apart : RangesStandApart) (v t : View) (script : List ScriptLine) (answers : List Answer) (run : IsCourse v script answers t)
     (closed : List Closed) (closes : AreClosed run.closing closed) where
-  holds : IsSerializable sound_law t
+  pub holds : IsSerializable sound_law t
   holds = at_end tell go v t script answers run closed closes
 
-  ranges : StandApart t
+  pub ranges : StandApart t
   ranges = apart v t (line_moves script answers ++ run.closing) run.opened (all_moves v t script answers run)
 
   -- the commits told are those of the last world, as the operations told, which are their runs
-  abbrev told : Told
+  abbrev pub told : Told
   told = told_by (λ (seat : ℕ). progress_of seat (places_of script answers closed))
 
   runs_told : AreRuns t told
   runs_told = are_runs t (λ (seat : ℕ). progress_of seat (places_of script answers closed)) holds (end_tells tell go v t script answers run closed closes)
 
-  told_as : history_of (transactions_of v.opening.sessions (places_of script answers closed)) ≡ told_commits told (world.history_of t)
+  pub told_as : history_of (transactions_of v.opening.sessions (places_of script answers closed)) ≡ told_commits told (world.history_of t)
   told_as =
       ap (λ (o : world.Opening). history_of (transactions_of o.sessions (places_of script answers closed))) (sym (opening_is tell go v t script answers run closed closes))
       ∙ commits_told t (λ (seat : ℕ). progress_of seat (places_of script answers closed)) holds (end_tells tell go v t script answers run closed closes)

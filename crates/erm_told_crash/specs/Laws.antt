@@ -1,5 +1,6 @@
 -- What the log of a run tells of its database map: the laws, as statements.
 use Rattle.std.specs.Prelude.{◌≡◌, ℕ, ◌+◌, ◌<◌, ◌≤◌, List, ◌++◌}
+use Rattle.erm_model.specs.Member.{◌∈◌}
 use Rattle.erm_model.specs.Committed.{Committed, IsStateBelow, rank_of, state_after}
 use Rattle.erm_model.specs.SerialOrder.{IsSerialOrder}
 use Rattle.erm_block.specs.declared.block.Block.{Block}
@@ -12,9 +13,9 @@ use Rattle.erm_world.specs.Whole.{IsLogOf}
 use Rattle.erm_world.specs.World.{HasStamp, IsSession, View, Work, size_of}
 use Rattle.erm_good_report.specs.GoodReport.{places_of}
 use Rattle.erm_good_report.specs.Opening.{Opening}
-use Rattle.erm_good_report.specs.Phases.{Closed}
-use Rattle.erm_good_report.specs.Transactions.{history_of, transactions_of}
-use Rattle.erm_lines.specs.Executions.{AreClosed, IsExecution, IsOpened, IsOpeningOf, IsRun, Move}
+use Rattle.erm_good_report.specs.Phases.{Closed, Closes, phase_of}
+use Rattle.erm_good_report.specs.Transactions.{history_of, said_of, transactions_of}
+use Rattle.erm_lines.specs.Executions.{AreClosed, IsCourse, IsExecution, IsOpened, IsOpeningOf, IsRun, Move}
 
 -- The ranges of the log that sessions' transactions take from their commit stamps on: of two, the one with the smaller stamp ends at
 -- or below the other's; and each ends within the log.
@@ -26,13 +27,20 @@ pub record StandApart (v : View) : Type 0 where
 abbrev pub RangesStandApart : Type 0
 RangesStandApart = (v t : View) (moves : List Move) → IsOpened v → IsExecution v moves t → StandApart t
 
--- at each block of the log of a run, the rows behind it stand for the state, as the report tells it, below the place behind it
-abbrev pub RunsTellStates : Type 0
-RunsTellStates = (v t : View) (script : List ScriptLine) (answers : List Answer) (run : IsRun v script answers t) (closed : List Closed) (opening : Opening)
-    → AreClosed run.closing closed → IsOpeningOf v opening → (log : Log) → IsLogOf t log → IsLog sound_law.meets log
+-- at each block of the log of a run so far, the rows behind it stand for the state, as its answers and the sessions closed tell it, below the
+-- place behind it
+abbrev pub CoursesTellStates : Type 0
+CoursesTellStates = (v t : View) (script : List ScriptLine) (answers : List Answer) (course : IsCourse v script answers t) (closed : List Closed) (opening : Opening)
+    → AreClosed course.closing closed → IsOpeningOf v opening → (log : Log) → IsLogOf t log → IsLog sound_law.meets log
     → (front rest : List Block) → log.gathered ≡ front ++ rest
     → IsStateBelow (history_of (transactions_of v.opening.sessions (places_of script answers closed))) opening.map (place_behind log.opened.at front)
     (map_of_rows (rows_behind log.opened.rows front))
+
+-- the sessions that a run so far closed can be listed, and each was closed as the answers leave it
+abbrev pub CoursesClose : Type 0
+CoursesClose = (v t : View) (script : List ScriptLine) (answers : List Answer) (course : IsCourse v script answers t)
+    → (closed : List Closed) × AreClosed course.closing closed
+    × ((c : Closed) → c ∈ closed → (0 < c.session) × (c.session ≤ v.opening.sessions) × Closes (phase_of c.session (said_of script answers)) c.answer)
 
 -- where the log of a run is gathered to its end, the rows behind it stand for the state after all commits that the report tells, in
 -- the serial order

@@ -1,12 +1,11 @@
 use Rattle.erm_model.specs.History.{below}
 use Rattle.erm_world.specs.World.{history_of}
-use Rattle.erm_told.proofs.Courses.{run_so_far}
 use Rattle.erm_told_crash.proofs.States.{state_behind}
 use Rattle.erm_told_crash.proofs.logs_tell_states.Goals as goal
 
 pub returns : goal.returns
-returns c = λ v t script answers run closed opening closes of log log_of is.
-    state_behind c.executions_tell_sessions.ensures c.executions_go_on.ensures c.ranges_stand_apart.ensures v t script answers (run_so_far v t script answers run) closed closes
+returns c = λ v t script answers course closed opening closes of log log_of is.
+    state_behind c.executions_tell_sessions.ensures c.executions_go_on.ensures c.ranges_stand_apart.ensures v t script answers course closed closes
     opening of log log_of is
     (λ holds. record {
       order = λ bound. c.serial_order_is_unique.ensures.exists (below bound (history_of t)) (c.prefixes_stand_alone.ensures.certified (history_of t) holds.certified bound);

@@ -1,0 +1,36 @@
+-- Which blocks the log of a run so far has of the commits that its report tells.
+use Rattle.std.specs.Prelude.{◌≡◌, ◌⊎◌, ◌<◌, ◌≤◌, List}
+use Rattle.erm_model.specs.Committed.{Committed}
+use Rattle.erm_model.specs.Member.{◌∈◌}
+use Rattle.erm_block.specs.declared.block.Block.{Block}
+use Rattle.erm_block.specs.declared.block.Kind.TheVariants.{Commit, Skip}
+use Rattle.erm_node.specs.Sound.{sound_law}
+use Rattle.erm_report.specs.declared.answer.Answer.{Answer}
+use Rattle.erm_script.specs.declared.script.ScriptLine.{ScriptLine}
+use Rattle.erm_world.specs.Log.{IsLog, Log, gathered_to}
+use Rattle.erm_world.specs.Whole.{IsLogOf}
+use Rattle.erm_world.specs.World.{View}
+use Rattle.erm_good_report.specs.GoodReport.{places_of}
+use Rattle.erm_good_report.specs.Phases.{Closed}
+use Rattle.erm_good_report.specs.Transactions.{history_of, transactions_of}
+use Rattle.erm_lines.specs.Executions.{AreClosed, IsCourse}
+
+-- a block is that of a commit: it has its name, and its stamps
+pub record IsLogged (block : Block) (c : Committed) : Type 0 where
+  pub kind : block.kind ≡ Commit
+  pub seat : block.seat ≡ c.session
+  pub number : block.number ≡ c.number
+  pub stamp : block.stamp ≡ c.stamp
+  pub succ : block.succ ≡ c.succ
+
+-- A log has these commits: each block gathered is that of one of them, or of a transaction that was excluded; each that is below the place
+-- behind the blocks has its block; and all lie between the log's start and its end.
+pub record HasCommits (log : Log) (commits : List Committed) : Type 0 where
+  pub each : (block : Block) → block ∈ log.gathered → (block.kind ≡ Skip) ⊎ ((c : Committed) × (c ∈ commits) × IsLogged block c)
+  pub all : (c : Committed) → c ∈ commits → c.stamp < gathered_to log → (block : Block) × (block ∈ log.gathered) × IsLogged block c
+  pub within : (c : Committed) → c ∈ commits → (log.opened.at ≤ c.stamp) × (c.stamp < log.tail)
+
+-- the log of a run so far has the commits that are told
+abbrev pub CoursesLogCommits : Type 0
+CoursesLogCommits = (v t : View) (script : List ScriptLine) (answers : List Answer) (course : IsCourse v script answers t) (closed : List Closed) → AreClosed course.closing closed
+    → (log : Log) → IsLogOf t log → IsLog sound_law.meets log → HasCommits log (history_of (transactions_of v.opening.sessions (places_of script answers closed)))

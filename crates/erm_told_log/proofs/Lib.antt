@@ -1,0 +1,5 @@
+pub mod Opened
+pub mod Places
+pub mod Runs
+pub mod Stays
+pub mod Tails
