@@ -19,10 +19,7 @@ use Rattle.erm_lines.specs.Executions.{is_zero}
 use Rattle.erm_plain.specs.Logs.{plain_log}
 use Rattle.erm_plain.specs.Stands.{IsWorld, plain_view}
 use Rattle.erm_plain.specs.declared.plain.Plain.{Plain}
-use Rattle.erm_start.specs.Empty.{IsEmptyWorld}
 use Rattle.erm_start.specs.Recovered.{IsFirstObject, IsOpenedLog, IsOpenedOn}
-use Rattle.erm_start.specs.declared.start.TheConstants.{FIRST_RUN, OPENING}
-use Rattle.erm_start.proofs.Zeros.{zeros, zeros-count, zeros-map}
 
 -- a session is idle at first, and nothing is pinned
 idle_at : (b : Bool) (run tail : ℕ) → session_of (fresh_part (if b then Idle else Vacant) run tail) ≡ record { over = []; stand = world.idle }
@@ -101,31 +98,3 @@ module _ (sessions : ℕ) (rows : Rows) (tail run first : ℕ) where
       → IfOk r (λ p. IsOpenedLog rows tail run (plain_log p))
   opened_log (Ok p) opened many = log_is p.sessions (core_of p.state) many opened
   opened_log (Err e) opened many = tt
-
--- on rows of zeros it is an empty one
-empty_on : (rows : Rows) (many : ℕ) (v : View) → ((oid : ℕ) → oid < OID_LIMIT → rows oid ≡ zeros) → IsOpenedOn rows (OPENING + LEAST_BLOCK) FIRST_RUN many v → IsEmptyWorld many v
-empty_on rows many v none is = record {
-  opened = is.opened;
-  sessions = is.sessions;
-  map = zeros-map v.opening.rows (λ oid below. row_zeros oid (omega (arith, below)));
-  rows = zeros-count v.opening.rows row_zeros;
-  tail = is.tail;
-  first = first_is (cases_lt TABLES v.opening.first);
-  cells = is.cells;
-}
-  where
-    row_zeros : (oid : ℕ) → oid < OID_LIMIT → v.opening.rows oid ≡ zeros
-    row_zeros oid below = is.rows oid below ∙ none oid below
-
-    first_is : (TABLES < v.opening.first) ⊎ (v.opening.first ≤ TABLES) → v.opening.first ≡ TABLES
-    first_is (inl more) =
-        let within = is.first.within in
-        let of_zeros : is_zero (rows (v.opening.first - 1)) ≡ true = ap is_zero (none (v.opening.first - 1) (omega (arith, within, more))) in
-        let other = is.first.used more in
-        absurd (cc)
-    first_is (inr least) = let tables = is.first.tables in omega (arith, least, tables)
-
-pub empty_ok : {L E : Type 0} (r : Result (Plain L) E) (many : ℕ) (rows : Rows) → ((oid : ℕ) → oid < OID_LIMIT → rows oid ≡ zeros)
-    → IfOk r (λ p. IsOpenedOn rows (OPENING + LEAST_BLOCK) FIRST_RUN many (plain_view p)) → IfOk r (λ p. IsEmptyWorld many (plain_view p))
-empty_ok (Ok p) many rows none is = empty_on rows many (plain_view p) none is
-empty_ok (Err e) many rows none is = tt

@@ -1,11 +1,11 @@
 -- Rows of zeros: sound ones, whose map is empty.
-use Rattle.std.proofs.Common.{◌≡◌, ℕ, zero, suc, ◌+◌, ◌^◌, ◌<◌, ◌≤◌, true, false, List, [], ◌++◌, length, replicate, get_or, Some, None, refl, sym, ap, ◌∙◌, subst, inl, inr, arith}
+use Rattle.std.proofs.Common.{◌≡◌, ℕ, zero, suc, ◌+◌, ◌-◌, ◌^◌, ◌<◌, ◌≤◌, ◌⊎◌, true, false, List, [], ◌++◌, length, replicate, get_or, Some, None, refl, sym, ap, ◌∙◌, subst, inl, inr, arith}
 use Rattle.std.specs.Prelude.{not, filter_map, flat_map}
 use Rattle.std.specs.FinMap.{empty, from_entries}
 use Rattle.std.specs.List.{filter, range_with_len}
 use Rattle.std.specs.Option.{option_map_or}
-use Rattle.std.proofs.lemmas.Bool.{cases_eq}
-use Rattle.erm_model.specs.declared.limits.TheConstants.{OID_LIMIT}
+use Rattle.std.proofs.lemmas.Bool.{cases_eq, cases_lt}
+use Rattle.erm_model.specs.declared.limits.TheConstants.{OID_LIMIT, TABLES}
 use Rattle.erm_model.specs.Rows.{Rows, rows_of}
 use Rattle.erm_node.specs.Node.{first_child, node_of, node_row, pairs_of}
 use Rattle.erm_node.specs.Sound.{IsSound, inner_levels, levels_of, reached_below}
@@ -14,6 +14,7 @@ use Rattle.erm_node.specs.TreeMap.{map_of_rows, entry_value, tree_values, values
 use Rattle.erm_node.proofs.Reached.{reached-is}
 use Rattle.erm_node.proofs.Walks.{same_oid-le, same_oid-other}
 use Rattle.erm_lines.specs.Executions.{count_rows, is_zero}
+use Rattle.erm_start.specs.Recovered.{IsFirstObject}
 
 -- the row of zeros is the leaf without pairs
 abbrev pub zeros : List ℕ
@@ -111,3 +112,15 @@ get_or-zeros (suc n) (suc t) row below = get_or-zeros n t row (omega (arith, bel
 
 pub zeros-listed : (n : ℕ) (rows : List (List ℕ)) → rows ≡ replicate n zeros → (oid : ℕ) → oid < n → rows_of rows oid ≡ zeros
 zeros-listed n rows is oid below = ap (λ (list : List (List ℕ)). get_or list oid []) is ∙ get_or-zeros n oid zeros below
+
+-- the first object that a world on rows of zeros makes is that behind the tables
+pub zeros-first : (rows : Rows) (first : ℕ) → ((oid : ℕ) → oid < OID_LIMIT → rows oid ≡ zeros) → IsFirstObject rows first → first ≡ TABLES
+zeros-first rows first none is = first_is (cases_lt TABLES first)
+  where
+    first_is : (TABLES < first) ⊎ (first ≤ TABLES) → first ≡ TABLES
+    first_is (inl more) =
+        let within = is.within in
+        let of_zeros : is_zero (rows (first - 1)) ≡ true = ap is_zero (none (first - 1) (omega (arith, within, more))) in
+        let other = is.used more in
+        absurd (cc)
+    first_is (inr least) = let tables = is.tables in omega (arith, least, tables)

@@ -1,8 +1,8 @@
 //! The worlds on which scripts start.
 #![tactic(auto)]
 
+mod laws;
 mod recovered;
-mod start;
 
+pub use laws::zero_rows_are_the_empty_map;
 pub use recovered::open_world;
-pub use start::{FIRST_RUN, OPENING, empty_world};
