@@ -7,9 +7,10 @@ use Rattle.erm_outside.specs.Disk.{Step, Tells}
 use Rattle.erm_world.specs.Log.{IsLog, IsStop, Log, Start}
 use Rattle.erm_ckpt.specs.declared.slot.Slots.{Slots}
 use Rattle.erm_ckpt.specs.declared.slot.TheConstants.{LOG_START}
-use Rattle.erm_checkpoint.specs.Taken.{GoesOnTo, HoldsLog, Takes, slot_at_end, state_at}
+use Rattle.erm_checkpoint.specs.Taken.{GoesOnTo, HoldsLog, HoldsLogFrom, Takes, slot_at_end, state_at}
 use Rattle.erm_crash.specs.Kept.{KeepsBlocks}
-use Rattle.erm_log_run.specs.Keeping.{IsHeld, Keeper, KeepsMoments, KeepsOn}
+use Rattle.erm_told_log.specs.Tail.{BeginBelow, MeetsTail}
+use Rattle.erm_log_run.specs.Keeping.{IsHeld, Keeper, KeepsMoments, KeepsOn, MeetsTold}
 use Rattle.erm_log_run.proofs.Held.{IsFlushing, MomentsGoOn, Onward, all_flushed, held_on, keeps_moments, keeps_on, tells_and, tells_from, told_after}
 
 -- the laws of flushes
@@ -20,6 +21,8 @@ pub record FlushLaws (sound : Rows → Type 0) : Type 0 where
       → KeepsBlocks sound (state_at now []) now.gathered before.flushed old new
   pub hold : (before now : Log) (slots : Slots) (old new : List Step) → HoldsLog sound before slots old → HoldsFrom sound before.flushed now old new → IsReady now new
       → GoesOn before now → IsLog sound now → LOG_START < now.opened.at → HoldsLog sound now slots new
+  pub meet : (earlier : List Block) (before now : Log) (slots later : Slots) (old new : List Step) → MeetsTail sound earlier before slots old → HoldsFrom sound before.flushed now old new
+      → HoldsLog sound now later new → now.opened ≡ before.opened → ((rest : List Block) × (now.gathered ≡ before.gathered ++ rest)) → IsLog sound now → MeetsTail sound earlier now later new
 
 -- what a flusher's calls did
 pub record Flushes (sound : Rows → Type 0) (k m : Keeper) : Type 0 where
@@ -29,6 +32,12 @@ pub record Flushes (sound : Rows → Type 0) (k m : Keeper) : Type 0 where
   pub is : IsLog sound m.log
   pub goes : GoesOn k.log m.log
   pub writes : Tells (WritesFrom sound k.log.flushed m.log) k.told m.told
+
+-- where the log and what keeps it are as they were, all is so still
+stays : (k m : Keeper) (P : Log → Slots → List Step → Type 0) → m.log ≡ k.log → m.slots ≡ k.slots → m.told ≡ k.told → IfSome k.told (P k.log k.slots) → IfSome m.told (P m.log m.slots)
+stays k m P log slots told so =
+    subst (λ (o : Option (List Step)). IfSome o (P m.log m.slots)) (sym told)
+    (subst (λ (l : Log). IfSome k.told (P l m.slots)) (sym log) (subst (λ (s : Slots). IfSome k.told (P k.log s)) (sym slots) so))
 
 module _ (sound : Rows → Type 0) (laws : FlushLaws sound) (k m : Keeper) (f : Flushes sound k m) where
   opened : m.log.opened ≡ k.log.opened
@@ -50,7 +59,7 @@ module _ (sound : Rows → Type 0) (laws : FlushLaws sound) (k m : Keeper) (f : 
   fault_keeps = keeps_moments sound laws.go_on k m on flushing
 
   -- what was written lasts
-  pub holds_flushed : Tells (HoldsFrom sound k.log.flushed m.log) k.told m.told → IfSome m.told (IsReady m.log) → IfSome m.told (HoldsLog sound m.log m.slots)
+  holds_flushed : Tells (HoldsFrom sound k.log.flushed m.log) k.told m.told → IfSome m.told (IsReady m.log) → IfSome m.told (HoldsLog sound m.log m.slots)
   holds_flushed lasts ready = subst (λ (s : Slots). IfSome m.told (HoldsLog sound m.log s)) (sym f.slots)
       (told_after (HoldsLog sound m.log k.slots) Both k.told m.told (λ old new both. both)
       (tells_from (HoldsLog sound k.log k.slots) (λ old new. IsReady m.log new × HoldsFrom sound k.log.flushed m.log old new) Both k.told m.told f.held.holds
@@ -60,24 +69,39 @@ module _ (sound : Rows → Type 0) (laws : FlushLaws sound) (k m : Keeper) (f : 
       Both : List Step → List Step → Type 0
       Both old new = HoldsLog sound m.log k.slots new
 
-  -- all that was gathered is flushed
-  pub flush_keeps : m.failed ≡ false → IsStop m.log m.log.flushed → IfSome m.told (HoldsLog sound m.log m.slots) → IsHeld sound m × KeepsOn sound k m
-  flush_keeps well stops holds = (
+  -- and recovery meets it too
+  meets_flushed : Tells (HoldsFrom sound k.log.flushed m.log) k.told m.told → IfSome m.told (HoldsLog sound m.log m.slots) → (earlier : List Block) → MeetsTold sound earlier k → MeetsTold sound earlier m
+  meets_flushed lasts holds earlier met = told_after (MeetsTail sound earlier m.log m.slots) Meets k.told m.told (λ old new meets. meets)
+      (tells_from (MeetsTail sound earlier k.log k.slots) (λ old new. HoldsLog sound m.log m.slots new × HoldsFrom sound k.log.flushed m.log old new) Meets k.told m.told met
+      (λ old new tail lasts. laws.meet earlier k.log m.log k.slots m.slots old new tail lasts.1 lasts.0 opened f.goes.more f.is)
+      (tells_and (HoldsLog sound m.log m.slots) (HoldsFrom sound k.log.flushed m.log) k.told m.told holds lasts))
+    where
+      Meets : List Step → List Step → Type 0
+      Meets old new = MeetsTail sound earlier m.log m.slots new
+
+  kept_so : m.failed ≡ false → IsStop m.log m.log.flushed → IfSome m.told (HoldsLog sound m.log m.slots) → ((earlier : List Block) → MeetsTold sound earlier k → MeetsTold sound earlier m)
+      → IsHeld sound m × KeepsOn sound k m
+  kept_so well stops holds tail = (
     held_on sound k m f.held opened f.run well (ap (λ (l : Log). l.pinned) f.goes.log) holds,
-    keeps_on sound laws.go_on k m on (all_flushed sound m.log f.is stops) holds flushing,
+    keeps_on sound laws.go_on k m on (all_flushed sound m.log f.is stops) holds tail flushing,
   )
 
--- where the log and what keeps it are as they were, it is held still
-pub stays_held : (sound : Rows → Type 0) (k m : Keeper) → IsHeld sound k → m.log ≡ k.log → m.slots ≡ k.slots → m.told ≡ k.told → IfSome m.told (HoldsLog sound m.log m.slots)
-stays_held sound k m held log slots told =
-    subst (λ (o : Option (List Step)). IfSome o (HoldsLog sound m.log m.slots)) (sym told)
-    (subst (λ (l : Log). IfSome k.told (HoldsLog sound l m.slots)) (sym log) (subst (λ (s : Slots). IfSome k.told (HoldsLog sound k.log s)) (sym slots) held.holds))
+  -- all that was gathered is flushed
+  pub flush_keeps : m.failed ≡ false → IsStop m.log m.log.flushed → Tells (HoldsFrom sound k.log.flushed m.log) k.told m.told → IfSome m.told (IsReady m.log) → IsHeld sound m × KeepsOn sound k m
+  flush_keeps well stops lasts ready = let holds = holds_flushed lasts ready in kept_so well stops holds (meets_flushed lasts holds)
+
+  -- nothing was done
+  pub idle_keeps : m.failed ≡ false → IsStop m.log m.log.flushed → m.log ≡ k.log → m.told ≡ k.told → IsHeld sound m × KeepsOn sound k m
+  idle_keeps well stops log told =
+      kept_so well stops (stays k m (HoldsLog sound) log f.slots told f.held.holds) (λ earlier met. stays k m (MeetsTail sound earlier) log f.slots told met)
 
 -- CHECKPOINT.
 pub record CheckpointLaws (sound : Rows → Type 0) : Type 0 where
   pub go_on : MomentsGoOn sound
   pub keep : (before now : Log) (slots : Slots) (run : ℕ) (old new : List Step) → HoldsLog sound before slots old → GoesOnTo before now → IsLog sound now → LOG_START < now.opened.at
       → Takes sound before.flushed now slots (slot_at_end now run slots) old new → KeepsBlocks sound (state_at now []) now.gathered before.flushed old new
+  pub pass : (earlier : List Block) (log : Log) (slots : Slots) (stamp : ℕ) (steps : List Step) → BeginBelow log.opened.at earlier → IsLog sound log → HoldsLogFrom sound log slots stamp steps
+      → log.flushed ≡ stamp → MeetsTail sound earlier log slots steps
 
 -- what a checkpoint did
 pub record Checkpoints (sound : Rows → Type 0) (k m : Keeper) : Type 0 where
@@ -103,9 +127,23 @@ module _ (sound : Rows → Type 0) (laws : CheckpointLaws sound) (k m : Keeper) 
   pub checkpoint_fault_keeps : KeepsMoments sound k m
   checkpoint_fault_keeps = keeps_moments sound laws.go_on k m further taking
 
+  -- recovery meets none of the blocks then
+  passes_all : (stamp : ℕ) → m.log.flushed ≡ stamp → IfSome m.told (HoldsLogFrom sound m.log m.slots stamp) → (earlier : List Block) → MeetsTold sound earlier k → MeetsTold sound earlier m
+  passes_all stamp to lasts earlier met = told_after (MeetsTail sound earlier m.log m.slots) Meets k.told m.told (λ old new meets. meets)
+      (tells_from (MeetsTail sound earlier k.log k.slots) (λ old new. HoldsLogFrom sound m.log m.slots stamp new × Took old new) Meets k.told m.told met
+      (λ old new tail took. laws.pass earlier m.log m.slots stamp new (subst (λ (s : Start). BeginBelow s.at earlier) (sym begun) tail.early) f.is took.0 to)
+      (tells_and (HoldsLogFrom sound m.log m.slots stamp) Took k.told m.told lasts f.takes))
+    where
+      Took : List Step → List Step → Type 0
+      Took = Takes sound k.log.flushed m.log k.slots (slot_at_end m.log k.run k.slots)
+
+      Meets : List Step → List Step → Type 0
+      Meets old new = MeetsTail sound earlier m.log m.slots new
+
   -- all that was gathered is flushed
-  pub checkpoint_keeps : m.failed ≡ false → IsStop m.log m.log.flushed → IfSome m.told (HoldsLog sound m.log m.slots) → IsHeld sound m × KeepsOn sound k m
-  checkpoint_keeps well stops holds = (
+  pub checkpoint_keeps : (stamp : ℕ) → m.failed ≡ false → m.log.flushed ≡ stamp → IsStop m.log m.log.flushed → IfSome m.told (HoldsLog sound m.log m.slots)
+      → IfSome m.told (HoldsLogFrom sound m.log m.slots stamp) → IsHeld sound m × KeepsOn sound k m
+  checkpoint_keeps stamp well to stops holds lasts = (
     held_on sound k m f.held begun f.run well (ap (λ (l : Log). l.pinned) f.goes.log) holds,
-    keeps_on sound laws.go_on k m further (all_flushed sound m.log f.is stops) holds taking,
+    keeps_on sound laws.go_on k m further (all_flushed sound m.log f.is stops) holds (passes_all stamp to lasts) taking,
   )

@@ -1,14 +1,17 @@
 -- A flush: how far the log is flushed behind it.
-use Rattle.std.proofs.Common.{inl, inr, ◌≡◌, ◌≤◌, true, Option, Some, None, refl, sym, ap, ◌∙◌, arith}
-use Rattle.std.specs.Prelude.{is_some}
+use Rattle.std.proofs.Common.{inl, inr, ◌≡◌, ◌≤◌, true, Option, Some, None, Ok, Err, refl, sym, ap, ◌∙◌, subst, arith}
+use Rattle.std.specs.Prelude.{is_some, Result}
 use Rattle.erm_model.specs.RowTransaction.{Law}
 use Rattle.erm_model.specs.declared.outcome.Phase.TheVariants.{Idle, Sealed}
 use Rattle.erm_world.specs.Laws.{IsSerializable}
 use Rattle.erm_world.specs.Log.{IsStop, Log}
 use Rattle.erm_world.specs.Whole.{IsLogOf, KeepsSessions}
-use Rattle.erm_world.specs.World.{View, phase_of}
+use Rattle.erm_world.specs.World.{IsSession, Opening, View, phase_of}
 use Rattle.erm_lines.specs.Executions.{DidFlush}
+use Rattle.erm_log_run.specs.declared.stops.LineStop.{LineStop}
+use Rattle.erm_log_run.specs.declared.stops.LineStop.TheVariants.{DiskFault, Memory}
 use Rattle.erm_log_run.specs.Closing.{IsFlushedUp, IsFlushedWhenIdle}
+use Rattle.erm_log_run.specs.Runs.{FlushesOnFault}
 
 -- where an option is something
 pub some_of : {X : Type 0} (o : Option X) → is_some o ≡ true → (x : X) × (o ≡ Some x)
@@ -37,6 +40,20 @@ did_flush v t l m before after keeps goes = record {
   tail = keeps.tail;
   above = let old = before.flushed in let new = after.flushed in omega (arith, old, new, goes);
 }
+
+-- one flush behind another
+pub flushed_then : (v u t : View) → DidFlush v u → DidFlush u t → DidFlush v t
+flushed_then v u t first second = record {
+  session = λ seat session. second.session seat (subst (λ (o : Opening). IsSession (record v { opening = o }) seat) (sym first.opening) session) ∙ first.session seat session;
+  opening = second.opening ∙ first.opening;
+  tail = second.tail ∙ first.tail;
+  above = let low = first.above in let high = second.above in omega (arith, low, high);
+}
+
+pub flushes_then : {T : Type 0} (r : Result T LineStop) (v u t : View) → DidFlush v u → FlushesOnFault r u t → FlushesOnFault r v t
+flushes_then (Ok x) v u t first second = tt
+flushes_then (Err DiskFault) v u t first second = flushed_then v u t first second
+flushes_then (Err Memory) v u t first second = tt
 
 -- where nobody is sealed, a place where nothing is to gather is the log's end
 pub all_when_idle : (v : View) (log : Log) → IsLogOf v log → IsStop log log.flushed → IsFlushedWhenIdle v

@@ -1,5 +1,5 @@
 -- A whole script: its run, and its good report.
-use Rattle.std.proofs.Common.{◌≡◌, ℕ, ◌≤◌, List, [], length, sym, subst, arith}
+use Rattle.std.proofs.Common.{◌≡◌, ℕ, ◌≤◌, List, [], length, refl, sym, subst, arith}
 use Rattle.std.specs.List.{All}
 use Rattle.std.specs.Prelude.{Option}
 use Rattle.erm_model.specs.Committed.{rank_of}
@@ -23,7 +23,7 @@ use Rattle.erm_lines.specs.Executions.{AreClosed, IsExecution, IsOpened, IsOpeni
 use Rattle.erm_lines.specs.Laws.{PartsHaveCauses, PartsHavePhases, PartsHaveSnapshots, PartsHaveStamps, PartsRefuseWithCause, RunsAreSerial, RunsCloseSessions, RunsHaveCauses, RunsHavePhases, RunsHaveSnapshots, RunsHaveStamps, RunsHaveTightWindows, RunsRefuseWithCause}
 use Rattle.erm_summary.specs.Summary.{SummariesAreGood, Summarizes}
 use Rattle.erm_log_run.specs.Closing.{IsClosing}
-use Rattle.erm_log_run.specs.Runs.{WasCut, WasRun}
+use Rattle.erm_log_run.specs.Runs.{IsCutReportOf, IsReportOf, WasCut, WasRun}
 use Rattle.erm_log_run.proofs.Differing.{stamps_differ}
 
 -- lines in turn, and then the end, are a run
@@ -90,15 +90,15 @@ module _ (laws : RunLaws) (v t : View) (script : List ScriptLine) (answers : Lis
           (subst (λ (n : ℕ). HaveTightWindows (transactions_of n (places_of script answers closed))) many (laws.windows v t script answers run closed opening are of)));
     }
 
--- the report of a run tells of it
-pub was_run : (v t : View) (script : List ScriptLine) (answers : List Answer) (run : IsRun v script answers t) (closed : List Closed) → AreClosed run.closing closed
-    → (opening : Opening) (names : List (List ℕ)) (lines : List Line) → Summarizes opening names script answers closed lines → WasRun v t opening names script lines
-was_run v t script answers run closed are opening names lines sums = record { answers = answers; closed = closed; run = run; are = are; told = sums }
-
 -- lines that tell of a run are a good report of it, whose windows are tight
 pub told_tight : RunLaws → (v t : View) (script : List ScriptLine) (opening : Opening) → IsOpeningOf v opening → (names : List (List ℕ)) → v.opening.sessions ≡ length names
-    → (lines : List Line) → WasRun v t opening names script lines → All FitsTypes lines → IsTightReport InTurn opening names script lines
-told_tight laws v t script opening of names many lines was fits = tight laws v t script was.answers was.run was.closed was.are opening of names many lines was.told fits
+    → (lines : List Line) → (was : WasRun v t opening names script lines) → All FitsTypes lines → IsReportOf opening names script was.answers was.closed lines
+unfolding tight good
+told_tight laws v t script opening of names many lines was fits = record {
+  tight = tight laws v t script was.answers was.run was.closed was.are opening of names many lines was.told fits;
+  answers_are = (good laws v t script was.answers was.run was.closed was.are opening of names many lines was.told fits).1;
+  closed_are = (good laws v t script was.answers was.run was.closed was.are opening of names many lines was.told fits).2;
+}
 
 -- the laws of runs that are cut off
 pub record CutLaws : Type 0 where
@@ -109,29 +109,34 @@ pub record CutLaws : Type 0 where
   pub refusals : PartsRefuseWithCause
 
 -- lines that tell of the front of a run, and of the disk's fault, are a report of it
-pub told_cut : CutLaws → (v : View) (script : List ScriptLine) (opening : Opening) → IsOpeningOf v opening → IsOpened v → ((l : ScriptLine) → l ∈ script → IsInRange l.command)
-    → length script ≤ LAST_NUMBER → (names : List (List ℕ)) → v.opening.sessions ≡ length names → (lines : List Line) → WasCut v opening names script lines → All FitsTypes lines
-    → IsCutReport InTurn opening names script lines
-told_cut laws v script opening of opened ranges few names many lines was fits = record {
-  answers = was.answers;
-  fault = was.fault;
-  lines_ok = was.lines_ok;
-  at = was.at;
-  fits = fits;
-  closed = [];
-  once = λ i j d below within. absurd (omega (arith, within));
-  unseen = λ c within. absurd (none_in_nil c within);
-  owes = subst (λ (n : ℕ). OwesToAnswers InTurn opening script was.answers (transactions_of n (places_of script was.answers []))) many owes;
-}
+pub told_cut : CutLaws → (v t : View) (script : List ScriptLine) (opening : Opening) → IsOpeningOf v opening → (names : List (List ℕ)) → v.opening.sessions ≡ length names
+    → (lines : List Line) → (was : WasCut v t opening names script lines) → All FitsTypes lines → IsCutReportOf opening names script was.answers lines
+told_cut laws v t script opening of names many lines was fits = record { cut = cut; answers_are = refl }
   where
-    part : IsPart v script was.answers was.between
-    part = record { opened = opened; ranges = ranges; few = few; most = was.most; lines = was.ran }
+    between : View
+    between = was.course.between
+
+    part : IsPart v script was.answers between
+    part = record { opened = was.course.opened; ranges = was.course.ranges; few = was.course.few; most = was.course.most; lines = was.course.lines }
 
     owes : OwesToAnswers InTurn opening script was.answers (transactions_of v.opening.sessions (places_of script was.answers []))
     owes = record {
-      phases = laws.phases v was.between script was.answers part opening of;
-      stamps = laws.stamps v was.between script was.answers part opening of;
-      snapshots = laws.snapshots v was.between script was.answers part opening of;
-      causes = laws.causes v was.between script was.answers part opening of;
-      refusals = laws.refusals v was.between script was.answers part opening of;
+      phases = laws.phases v between script was.answers part opening of;
+      stamps = laws.stamps v between script was.answers part opening of;
+      snapshots = laws.snapshots v between script was.answers part opening of;
+      causes = laws.causes v between script was.answers part opening of;
+      refusals = laws.refusals v between script was.answers part opening of;
+    }
+
+    cut : IsCutReport InTurn opening names script lines
+    cut = record {
+      answers = was.answers;
+      fault = was.fault;
+      lines_ok = was.lines_ok;
+      at = was.at;
+      fits = fits;
+      closed = [];
+      once = λ i j d below within. absurd (omega (arith, within));
+      unseen = λ c within. absurd (none_in_nil c within);
+      owes = subst (λ (n : ℕ). OwesToAnswers InTurn opening script was.answers (transactions_of n (places_of script was.answers []))) many owes;
     }

@@ -1,18 +1,17 @@
 -- Logs that a disk holds, while they are flushed.
-use Rattle.std.proofs.Common.{inl, inr, ◌≡◌, ℕ, ◌+◌, ◌<◌, ◌≤◌, ◌⊎◌, ◌++◌, Bool, true, false, List, [], ◌∷◌, Option, Some, None, IfSome, refl, sym, ap, ◌∙◌, subst, arith, append_assoc}
+use Rattle.std.proofs.Common.{inl, inr, ◌≡◌, ℕ, ◌+◌, ◌<◌, ◌≤◌, ◌⊎◌, ◌++◌, true, false, List, [], ◌∷◌, Option, Some, None, IfSome, sym, ap, ◌∙◌, subst, arith, append_assoc}
 use Rattle.std.specs.Prelude.{is_some}
 use Rattle.std.proofs.lemmas.List.{append-nil}
 use Rattle.erm_model.specs.Rows.{Rows}
 use Rattle.erm_block.specs.declared.block.Block.{Block}
 use Rattle.erm_outside.specs.Disk.{Step, Tells}
 use Rattle.erm_world.specs.Log.{IsLog, IsStop, Log, Start, gathered_to, place_behind}
-use Rattle.erm_ckpt.specs.declared.slot.Slots.{Slots}
 use Rattle.erm_ckpt.specs.declared.slot.TheConstants.{LOG_START}
 use Rattle.erm_ckpt.specs.Recovered.{State, state_behind}
 use Rattle.erm_model.specs.declared.limits.TheConstants.{LOG_END}
 use Rattle.erm_checkpoint.specs.Taken.{HoldsLog, state_at}
 use Rattle.erm_crash.specs.Kept.{KeepsBlocks, KeepsSince}
-use Rattle.erm_log_run.specs.Keeping.{IsHeld, IsKept, Keeper, KeepsMoments, KeepsOn}
+use Rattle.erm_log_run.specs.Keeping.{IsHeld, Keeper, KeepsMoments, KeepsOn, MeetsTold}
 
 grows : (at : ℕ) (blocks : List Block) → at ≤ place_behind at blocks
 grows at [] = omega arith
@@ -108,8 +107,9 @@ module _ (sound : Rows → Type 0) (go_on : MomentsGoOn sound) (k m : Keeper) (o
   }
 
   -- where all that was gathered is flushed
-  pub keeps_on : gathered_to m.log ≡ m.log.flushed → IfSome m.told (HoldsLog sound m.log m.slots) → IsFlushing sound k m → KeepsOn sound k m
-  keeps_on all holds flushing = record {
+  pub keeps_on : gathered_to m.log ≡ m.log.flushed → IfSome m.told (HoldsLog sound m.log m.slots) → ((earlier : List Block) → MeetsTold sound earlier k → MeetsTold sound earlier m)
+      → IsFlushing sound k m → KeepsOn sound k m
+  keeps_on all holds tail flushing = record {
     opened = on.opened;
     further = on.further;
     keeps = λ start place low kept. tells_join (KeepsSince sound place k.log k.slots) (λ b c. HoldsLog sound m.log m.slots c × Later b c) (KeepsSince sound place m.log m.slots) start k.told m.told
@@ -121,6 +121,7 @@ module _ (sound : Rows → Type 0) (go_on : MomentsGoOn sound) (k m : Keeper) (o
           to = all;
           moments = joined place low a b c since both.1;
         }) kept (tells_and (HoldsLog sound m.log m.slots) Later k.told m.told holds flushing);
+    tail = tail;
   }
 
 -- what was held is held still

@@ -1,5 +1,5 @@
 -- The moments of a whole run.
-use Rattle.std.proofs.Common.{◌≡◌, ℕ, ◌+◌, ◌≤◌, ◌++◌, List, [], ◌∷◌, append_assoc, length, Option, Some, None, IfSome, refl, sym, ap, ◌∙◌, subst, arith}
+use Rattle.std.proofs.Common.{◌≡◌, ℕ, ◌≤◌, ◌++◌, List, [], ◌∷◌, append_assoc, length, Option, Some, None, IfSome, refl, sym, ap, ◌∙◌, subst, arith}
 use Rattle.std.proofs.lemmas.List.{length-append}
 use mathlib.Core.Path.{fun_ext}
 use Rattle.erm_model.specs.Rows.{Rows}
@@ -7,12 +7,13 @@ use Rattle.erm_block.specs.declared.block.Block.{Block}
 use Rattle.erm_outside.specs.Disk.{Image, IsImage, Step, Tells, contents}
 use Rattle.erm_outside.specs.declared.disk.File.{File}
 use Rattle.erm_world.specs.Log.{Log}
-use Rattle.erm_ckpt.specs.Recovered.{State, state_behind}
+use Rattle.erm_ckpt.specs.declared.slot.Slots.{Slots}
+use Rattle.erm_ckpt.specs.Recovered.{State}
 use Rattle.erm_ckpt.specs.States.{RecoversPast, RecoversTo}
 use Rattle.erm_checkpoint.specs.Taken.{HoldsLog, state_at}
 use Rattle.erm_crash.specs.Kept.{KeepsBlocks, KeepsSince}
 use Rattle.erm_crash.specs.Moments.{IsMoment}
-use Rattle.erm_log_run.specs.Keeping.{IsHeld, IsKept, Keeper, KeepsMoments, KeepsOn}
+use Rattle.erm_log_run.specs.Keeping.{IsKept, Keeper, KeepsMoments, KeepsOn}
 use Rattle.erm_log_run.proofs.Held.{same_start, tells_weaker}
 
 -- an end of no list is none
@@ -72,29 +73,60 @@ first_kept sound k holds none start = by k.told holds
       },
     )
 
+-- what images recover to is so of a lower place, and of more blocks
+lower : (sound : Rows → Type 0) (from : State) (blocks : List Block) (place later : ℕ) (old new : List Step) → place ≤ later → KeepsBlocks sound from blocks later old new → KeepsBlocks sound from blocks place old new
+lower sound from blocks place later old new below keeps = (
+  keeps.0,
+  λ now m image is tears.
+      let p = keeps.1 now m image is tears in
+      record {
+        front = p.front;
+        rest = p.rest;
+        split = p.split;
+        low = (let low = p.low in omega (arith, below, low));
+        pair = p.pair;
+        there = p.there;
+      },
+)
+
+longer : (sound : Rows → Type 0) (from : State) (front rest : List Block) (place : ℕ) (old new : List Step) → KeepsBlocks sound from front place old new → KeepsBlocks sound from (front ++ rest) place old new
+longer sound from front rest place old new keeps = (
+  keeps.0,
+  λ now m image is tears.
+      let p = keeps.1 now m image is tears in
+      record {
+        front = p.front;
+        rest = p.rest ++ rest;
+        split = ap (λ (bs : List Block). bs ++ rest) p.split ∙ append_assoc p.front p.rest rest;
+        low = p.low;
+        pair = p.pair;
+        there = p.there;
+      },
+)
+
+-- what is so of a log that was kept since some steps
+pub since_lower : (sound : Rows → Type 0) (place later : ℕ) (log : Log) (slots : Slots) (old new : List Step) → place ≤ later → KeepsSince sound later log slots old new → KeepsSince sound place log slots old new
+since_lower sound place later log slots old new below since = record {
+  holds = since.holds;
+  front = since.front;
+  rest = since.rest;
+  split = since.split;
+  to = since.to;
+  moments = lower sound (state_at log []) since.front place later old new below since.moments;
+}
+
+pub blocks_since : (sound : Rows → Type 0) (place : ℕ) (log : Log) (slots : Slots) (old new : List Step) → KeepsSince sound place log slots old new
+    → KeepsBlocks sound (state_at log []) log.gathered place old new
+blocks_since sound place log slots old new since =
+    subst (λ (bs : List Block). KeepsBlocks sound (state_at log []) bs place old new) (sym since.split) (longer sound (state_at log []) since.front since.rest place old new since.moments)
+
 -- at each moment each image has recovered to a front of what is gathered
 pub moments_of : (sound : Rows → Type 0) (k m : Keeper) → KeepsOn sound k m → IsKept sound k.told k.log.flushed k
     → Tells (KeepsBlocks sound (state_at k.log []) m.log.gathered k.log.flushed) k.told m.told
 moments_of sound k m on kept =
     tells_weaker (KeepsSince sound k.log.flushed m.log m.slots) (KeepsBlocks sound (state_at k.log []) m.log.gathered k.log.flushed) k.told m.told
-    (λ old new since. subst (λ (s : State). KeepsBlocks sound s m.log.gathered k.log.flushed old new) (same_start k.log m.log on.opened)
-    (subst (λ (bs : List Block). KeepsBlocks sound (state_at m.log []) bs k.log.flushed old new) (sym since.split) (longer (state_at m.log []) since.front since.rest old new since.moments)))
+    (λ old new since. subst (λ (s : State). KeepsBlocks sound s m.log.gathered k.log.flushed old new) (same_start k.log m.log on.opened) (blocks_since sound k.log.flushed m.log m.slots old new since))
     (on.keeps k.told k.log.flushed (omega arith) kept)
-  where
-    longer : (from : State) (front rest : List Block) (old new : List Step) → KeepsBlocks sound from front k.log.flushed old new → KeepsBlocks sound from (front ++ rest) k.log.flushed old new
-    longer from front rest old new keeps = (
-      keeps.0,
-      λ now m image is tears.
-          let p = keeps.1 now m image is tears in
-          record {
-            front = p.front;
-            rest = p.rest ++ rest;
-            split = ap (λ (bs : List Block). bs ++ rest) p.split ∙ append_assoc p.front p.rest rest;
-            low = p.low;
-            pair = p.pair;
-            there = p.there;
-          },
-    )
 
 pub moments_at_fault : (sound : Rows → Type 0) (k m : Keeper) → KeepsMoments sound k m → IsKept sound k.told k.log.flushed k
     → Tells (KeepsBlocks sound (state_at k.log []) m.log.gathered k.log.flushed) k.told m.told

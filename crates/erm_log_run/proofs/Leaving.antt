@@ -3,10 +3,10 @@ use Rattle.std.proofs.Common.{◌≡◌, ◌≢◌, ℕ, ◌++◌, append-nil, a
 use Rattle.std.specs.Prelude.{◌⊎◌}
 use Rattle.erm_model.specs.Rows.{Rows}
 use Rattle.erm_model.specs.RowTransaction.{Law}
+use Rattle.erm_block.specs.declared.block.Block.{Block}
 use Rattle.erm_outside.specs.Disk.{Step, Tells}
 use Rattle.erm_script.specs.declared.script.Command.{Command}
 use Rattle.erm_report.specs.declared.answer.Answer.{Answer}
-use Rattle.erm_script.specs.declared.script.ScriptLine.{ScriptLine}
 use Rattle.erm_world.specs.Laws.{IsSerializable}
 use Rattle.erm_world.specs.Log.{IsLog, Log, Start}
 use Rattle.erm_world.specs.Whole.{IsLogOf}
@@ -14,10 +14,8 @@ use Rattle.erm_world.specs.World.{Finished, IsSession, Opening, Session, View}
 use Rattle.erm_ckpt.specs.declared.slot.Slots.{Slots}
 use Rattle.erm_checkpoint.specs.Taken.{HoldsLog}
 use Rattle.erm_crash.specs.Kept.{KeepsSince, LeavesLog}
-use Rattle.erm_lines.specs.Answers.{DidLine}
-use Rattle.erm_lines.specs.Executions.{DidEnd}
-use Rattle.erm_lines.specs.Laws.{ClosesLeaveTheLog, LinesLeaveTheLog}
 use Rattle.erm_told.proofs.Turns.{Turn}
+use Rattle.erm_told_log.specs.Tail.{MeetsTail}
 use Rattle.erm_log_run.specs.Keeping.{IsHeld, Keeper, KeepsMoments, KeepsOn}
 use Rattle.erm_log_run.proofs.Held.{held_on, tells_weaker}
 
@@ -69,6 +67,8 @@ pub record SessionLaws (law : Law) : Type 0 where
       → IsLog law.meets before → IsLog law.meets now → HoldsLog law.meets before slots steps → HoldsLog law.meets now slots steps
   pub kept : (v t : View) (place : ℕ) (before now : Log) (slots : Slots) (old steps : List Step) → IsSerializable law t → LeavesLog v t → IsLogOf v before → IsLogOf t now
       → IsLog law.meets before → IsLog law.meets now → KeepsSince law.meets place before slots old steps → KeepsSince law.meets place now slots old steps
+  pub met : (v t : View) (earlier : List Block) (before now : Log) (slots : Slots) (steps : List Step) → IsSerializable law t → LeavesLog v t → IsLogOf v before → IsLogOf t now
+      → IsLog law.meets before → IsLog law.meets now → MeetsTail law.meets earlier before slots steps → MeetsTail law.meets earlier now slots steps
 
 -- a log that sessions leave is held still, and kept on
 pub session_keeps : (law : Law) → SessionLaws law → (v t : View) (k m : Keeper) → IsSerializable law t → LeavesLog v t → IsLogOf v k.log → IsLogOf t m.log → IsLog law.meets k.log → IsLog law.meets m.log
@@ -77,7 +77,7 @@ session_keeps law laws v t k m serial leaves before after was is held slots run 
   held_on law.meets k m held opened run (failed ∙ held.well) (after.pinned ∙ leaves.pinned ∙ sym before.pinned)
       (subst (λ (o : Option (List Step)). IfSome o (HoldsLog law.meets m.log m.slots)) (sym told)
       (subst (λ (s : Slots). IfSome k.told (HoldsLog law.meets m.log s)) (sym slots)
-      (if_some k.told held.holds))),
+      (if_some (HoldsLog law.meets k.log k.slots) (HoldsLog law.meets m.log k.slots) (λ steps holds. laws.held v t k.log m.log k.slots steps serial leaves before after was is holds) k.told held.holds))),
   record {
     opened = opened;
     further = (let a = after.flushed in let b = before.flushed in let same = leaves.flushed in omega (arith, a, b, same));
@@ -86,28 +86,34 @@ session_keeps law laws v t k m serial leaves before after was is held slots run 
         (subst (λ (o : Option (List Step)). IsKeptAt start place k.slots o) (sym told)
         (tells_weaker (KeepsSince law.meets place k.log k.slots) (KeepsSince law.meets place m.log k.slots) start k.told
         (λ old steps since. laws.kept v t place k.log m.log k.slots old steps serial leaves before after was is since) kept));
+    tail = λ earlier met.
+        subst (λ (o : Option (List Step)). IfSome o (MeetsTail law.meets earlier m.log m.slots)) (sym told)
+        (subst (λ (s : Slots). IfSome k.told (MeetsTail law.meets earlier m.log s)) (sym slots)
+        (if_some (MeetsTail law.meets earlier k.log k.slots) (MeetsTail law.meets earlier m.log k.slots)
+        (λ steps tail. laws.met v t earlier k.log m.log k.slots steps serial leaves before after was is tail) k.told met));
   },
 )
   where
     opened : m.log.opened ≡ k.log.opened
     opened = same_opened v t k.log m.log before after leaves.opening
 
-    if_some : (o : Option (List Step)) → IfSome o (HoldsLog law.meets k.log k.slots) → IfSome o (HoldsLog law.meets m.log k.slots)
-    if_some None none = none
-    if_some (Some steps) holds = laws.held v t k.log m.log k.slots steps serial leaves before after was is holds
+    if_some : (P Q : List Step → Type 0) → ((steps : List Step) → P steps → Q steps) → (o : Option (List Step)) → IfSome o P → IfSome o Q
+    if_some P Q so None none = none
+    if_some P Q so (Some steps) p = so steps p
 
     IsKeptAt : Option (List Step) → ℕ → Slots → Option (List Step) → Type 0
     IsKeptAt start place s o = Tells (KeepsSince law.meets place m.log s) start o
 
 -- KEPT ON, one after another.
 pub on_itself : (sound : Rows → Type 0) (k : Keeper) → KeepsOn sound k k
-on_itself sound k = record { opened = refl; further = omega arith; keeps = λ start place low kept. kept }
+on_itself sound k = record { opened = refl; further = omega arith; keeps = λ start place low kept. kept; tail = λ earlier met. met }
 
 pub on_then : (sound : Rows → Type 0) (k l m : Keeper) → KeepsOn sound k l → KeepsOn sound l m → KeepsOn sound k m
 on_then sound k l m first second = record {
   opened = second.opened ∙ first.opened;
   further = (let a = first.further in let b = second.further in omega (arith, a, b));
   keeps = λ start place low kept. second.keeps start place (let a = first.further in omega (arith, low, a)) (first.keeps start place low kept);
+  tail = λ earlier met. second.tail earlier (first.tail earlier met);
 }
 
 pub moments_then : (sound : Rows → Type 0) (k l m : Keeper) → KeepsOn sound k l → KeepsMoments sound l m → KeepsMoments sound k m

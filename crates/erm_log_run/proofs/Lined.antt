@@ -8,7 +8,7 @@ use Rattle.erm_script.specs.declared.script.Command.TheVariants as command
 use Rattle.erm_script.specs.declared.script.ScriptLine.{ScriptLine}
 use Rattle.erm_world.specs.World.{IsSession, Opening, View, phase_at}
 use Rattle.erm_good_report.specs.Phases.{FitsPhase, phase_asked, refusal_of}
-use Rattle.erm_lines.specs.Answers.{DidAsked, DidCommand, DidLine}
+use Rattle.erm_lines.specs.Answers.{DidAsked, DidLine}
 use Rattle.erm_lines.specs.Executions.{DidLog, DidLogLine, DidMove, move_as, move_of}
 use Rattle.erm_lines.specs.Whole.{WasAnswered}
 use Rattle.erm_log_run.specs.Lines.{IsLineOf, Names}

@@ -1,18 +1,18 @@
 -- What a flush says of a world's view.
-use Rattle.std.proofs.Common.{inl, inr, ◌≡◌, ℕ, ◌<◌, ◌≤◌, true, Option, Some, None, refl, sym, ap, ◌∙◌, subst, arith, map}
+use Rattle.std.proofs.Common.{inl, inr, ◌≡◌, ℕ, ◌<◌, ◌≤◌, true, Some, None, refl, sym, ap, ◌∙◌, subst, arith, map}
 use Rattle.std.specs.Prelude.{is_some, ◌⊎◌}
 use Rattle.erm_model.specs.Rows.{Rows}
 use Rattle.erm_checkpoint.specs.Taken.{GoesOnTo, pinned_at_end}
 use Rattle.erm_flush.specs.Turns.{DidGather}
+use Rattle.erm_report.specs.declared.answer.Answer.{Answer}
 use Rattle.erm_report.specs.declared.answer.Answer.TheVariants as answer
 use Rattle.erm_script.specs.declared.script.Command.TheVariants as command
 use Rattle.erm_world.specs.declared.gathered.SeatWait.{SeatWait}
 use Rattle.erm_world.specs.Log.{IsLog, IsStop, IsWait, Log, Undecided, gathered_to}
 use Rattle.erm_world.specs.Whole.{IsLogOf, KeepsSessions}
 use Rattle.erm_world.specs.World.{IsSession, Opening, Session, View}
-use Rattle.erm_world.specs.World as world
-use Rattle.erm_lines.specs.Executions.{DidLog, FlushesTo, IsDecidedTo, IsPendingAt}
-use Rattle.erm_log_run.proofs.Flushing.{did_flush, some_of}
+use Rattle.erm_lines.specs.Executions.{DidFlush, DidLog, FlushesTo, IsDecidedTo, IsPendingAt}
+use Rattle.erm_log_run.proofs.Flushing.{did_flush, flushed_then, some_of}
 use Rattle.erm_log_run.proofs.Held.{flushed_within}
 
 -- a range that isn't decided is that of a transaction that is sealed
@@ -110,12 +110,30 @@ module _ (sound : Rows → Type 0) (v t : View) (l m : Log) (before : IsLogOf v 
     decided_at place up (inl (up ∙ sym ends)),
   )
 
-  pub unfinished_did : (place : ℕ) → GoesOnTo l m → m.flushed ≡ place → is_some (m.undecided place) ≡ true → DidLog v command.Checkpoint (answer.Unfilled place) t
+  pub unfinished_did : (place : ℕ) → l.flushed ≤ m.flushed → m.flushed ≡ place → is_some (m.undecided place) ≡ true → DidLog v command.Checkpoint (answer.Unfilled place) t
   unfinished_did place goes up busy = (
-    flushes_to v t keeps l m place before after goes.further up,
+    flushes_to v t keeps l m place before after goes up,
     pending_before v t keeps place (pending t m place after busy),
     decided_at place up (inr (subst (λ (n : ℕ). is_some (m.undecided n) ≡ true) (sym up) busy)),
   )
+
+flushes_behind : (v u t : View) (place : ℕ) → DidFlush v u → FlushesTo u place t → FlushesTo v place t
+flushes_behind v u t place first did = record { flushes = flushed_then v u t first did.flushes; up = did.up }
+
+-- where all of the log was flushed, nothing is left to decide
+pub all_decided : (v t : View) (l m : Log) → IsLogOf v l → IsLogOf t m → KeepsSessions v t → l.flushed ≡ l.tail → GoesOnTo l m → (place : ℕ) → m.flushed ≡ place → place < m.tail → ⊥
+all_decided v t l m before after keeps ends goes place up low =
+    let old = before.tail in
+    let new = after.tail in
+    let same = keeps.tail in
+    let further = goes.further in
+    omega (arith, ends, old, new, same, further, up, low)
+
+-- a checkpoint behind a flush
+pub checkpoint_behind : (v u t : View) → DidFlush v u → KeepsSessions v u → (a : Answer) → DidLog u command.Checkpoint a t → DidLog v command.Checkpoint a t
+checkpoint_behind v u t first keeps (answer.Checkpointed place) did = (flushes_behind v u t place first did.0, did.1 ∙ keeps.tail, decided_before v u keeps place did.2)
+checkpoint_behind v u t first keeps (answer.Unfilled place) did = (flushes_behind v u t place first did.0, pending_before v u keeps place did.1, decided_before v u keeps place did.2)
+checkpoint_behind v u t first keeps a did = absurd did
 
 -- a row that isn't known yet is that of a transaction below the log's end, which isn't decided; where all is flushed there is none
 pub none_waits : (sound : Rows → Type 0) (m : Log) (oid : ℕ) (wait : SeatWait) → IsLog sound m → m.flushed ≡ m.tail → IsWait (pinned_at_end m) oid wait → ⊥

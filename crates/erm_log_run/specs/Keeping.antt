@@ -4,11 +4,13 @@ use Rattle.erm_model.specs.declared.limits.TheConstants.{LAST_RUN, LOG_END}
 use Rattle.erm_model.specs.Rows.{Rows}
 use Rattle.erm_outside.specs.Disk.{Step, Tells}
 use Rattle.erm_outside.specs.Faults.{Rose}
+use Rattle.erm_block.specs.declared.block.Block.{Block}
 use Rattle.erm_world.specs.Log.{Log}
 use Rattle.erm_ckpt.specs.declared.slot.Slots.{Slots}
 use Rattle.erm_ckpt.specs.declared.slot.TheConstants.{LOG_START}
 use Rattle.erm_checkpoint.specs.Taken.{HoldsLog, state_at}
 use Rattle.erm_crash.specs.Kept.{KeepsBlocks, KeepsSince}
+use Rattle.erm_told_log.specs.Tail.{MeetsTail}
 use Rattle.erm_log_run.specs.declared.stops.LineStop.{LineStop}
 use Rattle.erm_log_run.specs.declared.stops.LineStop.TheVariants.{DiskFault, Memory}
 use Rattle.erm_log_run.specs.declared.store.Store.{Store}
@@ -40,11 +42,17 @@ pub record IsHeld (sound : Rows → Type 0) (k : Keeper) : Type 0 where
 abbrev pub IsKept : (Rows → Type 0) → Option (List Step) → ℕ → Keeper → Type 0
 IsKept sound start place k = Tells (KeepsSince sound place k.log k.slots) start k.told
 
--- The log is kept still, from wherever on and since whenever it was. It is flushed as far as before at least.
+-- of earlier blocks and of the log's that are flushed recovery meets the last ones, as far as the disk tells
+abbrev pub MeetsTold : (Rows → Type 0) → List Block → Keeper → Type 0
+MeetsTold sound earlier k = IfSome k.told (MeetsTail sound earlier k.log k.slots)
+
+-- The log is kept still, from wherever on and since whenever it was. It is flushed as far as before at least. And recovery meets the last of
+-- its blocks that are flushed still, behind whatever earlier blocks it did.
 pub record KeepsOn (sound : Rows → Type 0) (k m : Keeper) : Type 0 where
   pub opened : m.log.opened ≡ k.log.opened
   pub further : k.log.flushed ≤ m.log.flushed
   pub keeps : (start : Option (List Step)) (place : ℕ) → place ≤ k.log.flushed → IsKept sound start place k → IsKept sound start place m
+  pub tail : (earlier : List Block) → MeetsTold sound earlier k → MeetsTold sound earlier m
 
 -- at each moment since a log was kept each image has recovered to a front of what is gathered now, from that place on
 pub record KeepsMoments (sound : Rows → Type 0) (k m : Keeper) : Type 0 where

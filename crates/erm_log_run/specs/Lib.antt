@@ -1,4 +1,7 @@
+pub mod Acknowledged
+pub mod Alike
 pub mod Closing
 pub mod Keeping
 pub mod Lines
 pub mod Runs
+pub mod Saving

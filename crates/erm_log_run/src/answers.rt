@@ -1,13 +1,15 @@
 //! The lines of a script, one after another.
-ghost use Rattle.std.specs.Prelude.{◌≡◌, []};
+ghost use Rattle.std.specs.Prelude.{◌≡◌, [], OnOk};
 ghost use Rattle.erm_model.specs.RowTransaction.{SameLaw};
 ghost use Rattle.erm_node.specs.Sound.{sound_law};
 ghost use Rattle.erm_lines.specs.Whole.{AreRunsNow};
+ghost use Rattle.erm_log_run.specs.Acknowledged.{KeepsTold};
 ghost use Rattle.erm_log_run.specs.Keeping.{CountsFaults, IsHeld, Keeps, keeper_of};
 ghost use Rattle.erm_log_run.specs.Lines.{AreLinesOf, AreReceipts};
 ghost use Rattle.erm_log_run.specs.Runs.{Ran};
+ghost use Rattle.erm_log_run.specs.Saving.{AreSaved, saved_at};
 
-use crate::{LineStop, Store, run_line};
+use crate::{LineStop, RowsOf, Store, run_line};
 use erm_model::Receipt;
 use erm_outside::Disk;
 use erm_report::Answer;
@@ -34,8 +36,11 @@ pub fn answer_all<W: ScriptWorld, D: Disk>(
     ensures stands { W.stands world.new }
     ensures ran { Ran result (W.view world.old) script.now answers.new.items (W.view world.new) }
     ensures keeps { Keeps W.rows_law.meets result (keeper_of (W.log world.old) store.old (D.told store.old.disk)) (keeper_of (W.log world.new) store.new (D.told store.new.disk)) }
+    ensures told { KeepsTold W.rows_law.meets result answers.new.items (D.told store.old.disk) (keeper_of (W.log world.new) store.new (D.told store.new.disk)) }
+    ensures saves { OnOk result (AreSaved (saved_at answers.new.items) (D.told store.old.disk) store.old.slots store.new.slots) }
     ensures counts { CountsFaults result (D.faults store.old.disk) (D.faults store.new.disk) }
 {
+    erm_crash::kept_logs_begin::<RowsOf<W>>();
     for line in script {
         let answer = run_line(alloc, world, store, line, receipts)?;
         answers.push(answer)?;

@@ -10,6 +10,7 @@ ghost use Rattle.erm_summary.specs.Told.{closed_of};
 ghost use Rattle.erm_crash.specs.Kept.{LeavesLog};
 ghost use Rattle.erm_log_run.specs.Closing.{HasClosed, IsClosing, IsFlushedUp, IsFlushedWhenIdle, closes_from};
 ghost use Rattle.erm_log_run.specs.Keeping.{CountsFaults, IsHeld, Keeps, keeper_of};
+ghost use Rattle.erm_log_run.specs.Runs.{ClosesOnFault, FlushesOnFault};
 
 use crate::{LineStop, RowsOf, Store};
 use erm_flush::FlushStop;
@@ -24,7 +25,8 @@ use std::alloc::{AllocError, Global};
 /// Closes each session that isn't idle: aborts its transaction where it is active, and decides it where it is sealed. Then all of the
 /// log is flushed. It answers each session's close by its seat, from 1, or `None` where it was idle.
 ///
-/// A sealed transaction is decided once none is in its way.
+/// A sealed transaction is decided once none is in its way. In whichever order they are decided, each ends alike: as in that of their
+/// stamps (`sessions_close_alike`).
 pub fn close_all<W: ScriptWorld, D: Disk>(
     alloc: Global,
     world: &mut W,
@@ -39,11 +41,14 @@ pub fn close_all<W: ScriptWorld, D: Disk>(
     ensures closing { IfOk result (λ ends. IsClosing (W.view world.old) sessions ends.items (W.view world.new)) }
     ensures idle { OnOk result ((seat : ℕ) → IsSession (W.view world.new) seat → phase_at (W.view world.new) seat ≡ Idle) }
     ensures flushed { OnOk result ((W.view world.new).flushed ≡ (W.view world.new).tail) }
+    ensures slots { OnOk result (store.new.slots ≡ store.old.slots) }
+    ensures closes { ClosesOnFault result (W.view world.old) (W.view world.new) }
     ensures keeps { Keeps W.rows_law.meets result (keeper_of (W.log world.old) store.old (D.told store.old.disk)) (keeper_of (W.log world.new) store.new (D.told store.new.disk)) }
     ensures counts { CountsFaults result (D.faults store.old.disk) (D.faults store.new.disk) }
 {
     erm_crash::held_logs_stay::<RowsOf<W>>();
     erm_crash::kept_logs_stay::<RowsOf<W>>();
+    erm_told_log::met_logs_stay::<RowsOf<W>>();
     let mut ends = no_ends(alloc, sessions)?;
     for _ in 0..sessions {
         flush_up(world, store)?;
@@ -70,7 +75,9 @@ fn flush_up<W: ScriptWorld, D: Disk>(world: &mut W, store: &mut Store<D>) -> Res
     requires held { IsHeld W.rows_law.meets (keeper_of (W.log world.old) store.old (D.told store.old.disk)) }
     ensures stands { W.stands world.new }
     ensures flushed { OnOk result (DidFlush (W.view world.old) (W.view world.new)) }
+    ensures flushes { FlushesOnFault result (W.view world.old) (W.view world.new) }
     ensures up { OnOk result (IsFlushedUp (W.view world.new)) }
+    ensures slots { OnOk result (store.new.slots ≡ store.old.slots) }
     ensures all { OnOk result (IsFlushedWhenIdle (W.view world.new)) }
     ensures keeps { Keeps W.rows_law.meets result (keeper_of (W.log world.old) store.old (D.told store.old.disk)) (keeper_of (W.log world.new) store.new (D.told store.new.disk)) }
     ensures counts { CountsFaults result (D.faults store.old.disk) (D.faults store.new.disk) }
@@ -78,6 +85,7 @@ fn flush_up<W: ScriptWorld, D: Disk>(world: &mut W, store: &mut Store<D>) -> Res
     erm_crash::flushes_keep::<RowsOf<W>>();
     erm_crash::moments_go_on::<RowsOf<W>>();
     erm_checkpoint::flushed_logs_are_held::<RowsOf<W>>();
+    erm_told_log::flushed_logs_meet_more::<RowsOf<W>>();
     match store.flusher.flush_all(&mut store.disk, world) {
         FlushStop::Empty { .. } => Ok(()),
         FlushStop::Unfilled { .. } => Ok(()),

@@ -4,6 +4,7 @@
 mod answers;
 mod closes;
 mod cut;
+mod laws;
 mod lines;
 mod log_lines;
 mod rows;
@@ -14,6 +15,7 @@ mod whole;
 pub use answers::answer_all;
 pub use closes::{by_seat, close_all};
 pub use cut::cut_report;
+pub use laws::sessions_close_alike;
 pub use lines::run_line;
 pub use log_lines::{checkpoint_line, flush_line};
 pub use rows::RowsOf;

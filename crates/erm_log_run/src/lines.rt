@@ -1,5 +1,5 @@
 //! One line of a script: of a session, or of the log.
-ghost use Rattle.std.specs.Prelude.{◌≡◌, ◌<◌, IfOk, IfSome, OnOk};
+ghost use Rattle.std.specs.Prelude.{◌≡◌, ◌<◌, None, IfOk, IfSome, OnOk};
 ghost use Rattle.erm_model.specs.RowTransaction.{SameLaw};
 ghost use Rattle.erm_model.specs.declared.limits.TheConstants.{TABLES};
 ghost use Rattle.erm_node.specs.Sound.{sound_law};
@@ -10,6 +10,8 @@ ghost use Rattle.erm_lines.specs.Executions.{DidMove, move_of};
 ghost use Rattle.erm_lines.specs.Whole.{AreRunsNow};
 ghost use Rattle.erm_log_run.specs.Keeping.{CountsFaults, IsHeld, Keeps, keeper_of};
 ghost use Rattle.erm_log_run.specs.Lines.{AreReceipts, IsLineOf};
+ghost use Rattle.erm_log_run.specs.Runs.{FailsOfLog, FlushesOnFault};
+ghost use Rattle.erm_log_run.specs.Saving.{AreSaved, saved_by};
 
 use crate::{LineStop, RowsOf, Store, checkpoint_line, flush_line};
 use erm_lines::{answer_durable, answer_line};
@@ -67,10 +69,13 @@ pub fn run_line<W: ScriptWorld, D: Disk>(
     requires held { IsHeld W.rows_law.meets (keeper_of (W.log world.old) store.old (D.told store.old.disk)) }
     ensures stands { W.stands world.new }
     ensures moved { IfOk result (λ a. DidMove (W.view world.old) (move_of line.now a) (W.view world.new)) }
+    ensures flushes { FlushesOnFault result (W.view world.old) (W.view world.new) }
+    ensures of_log { FailsOfLog result line.now }
     ensures runs { OnOk result (AreRunsNow (W.view world.new)) }
     ensures opening { OnOk result ((W.view world.new).opening ≡ (W.view world.old).opening) }
     ensures receipts { OnOk result (AreReceipts (W.view world.new) receipts.new) }
     ensures keeps { Keeps W.rows_law.meets result (keeper_of (W.log world.old) store.old (D.told store.old.disk)) (keeper_of (W.log world.new) store.new (D.told store.new.disk)) }
+    ensures saves { IfOk result (λ a. AreSaved (saved_by a None) (D.told store.new.disk) store.old.slots store.new.slots) }
     ensures counts { CountsFaults result (D.faults store.old.disk) (D.faults store.new.disk) }
 {
     erm_maps::begun_transactions_are_runs();
@@ -79,6 +84,7 @@ pub fn run_line<W: ScriptWorld, D: Disk>(
     erm_lines::lines_leave_the_log();
     erm_crash::held_logs_stay::<RowsOf<W>>();
     erm_crash::kept_logs_stay::<RowsOf<W>>();
+    erm_told_log::met_logs_stay::<RowsOf<W>>();
     match line.command {
         Command::Flush => flush_line(world, store),
         Command::Checkpoint => checkpoint_line(world, store),

@@ -1,16 +1,15 @@
 //! A whole script, from the opening of a world to the last line of the report.
-ghost use Rattle.std.specs.Prelude.{◌≡◌, ◌+◌, ◌<◌, ◌≤◌, false, [], None, IfOk, IfSome, OnOk, length, replicate};
+ghost use Rattle.std.specs.Prelude.{◌≡◌, ◌+◌, ◌<◌, ◌≤◌, false, List, [], None, IfOk, IfSome, OnOk, length, replicate};
 ghost use Rattle.std.specs.List.{All};
 ghost use Rattle.erm_model.specs.Member.{◌∈◌};
 ghost use Rattle.erm_model.specs.RowTransaction.{SameLaw};
 ghost use Rattle.erm_model.specs.declared.limits.TheConstants.{LAST_NUMBER, LAST_RUN, LEAST_BLOCK, LOG_END, SESSIONS, TABLE_CELLS};
+ghost use Rattle.erm_block.specs.declared.block.Block.{Block};
 ghost use Rattle.erm_node.specs.Sound.{sound_law};
 ghost use Rattle.erm_node.specs.TreeMap.{map_of_rows};
 ghost use Rattle.erm_report.specs.Printable.{FitsTypes};
 ghost use Rattle.erm_script.specs.Script.{IsInRange};
 ghost use Rattle.erm_script.specs.declared.script.ScriptLine.{ScriptLine as LineOfScript};
-ghost use Rattle.erm_good_report.specs.GoodReport.{IsCutReport, IsTightReport};
-ghost use Rattle.erm_good_report.specs.Opening.{InTurn};
 ghost use Rattle.erm_lines.specs.Executions.{IsOpened, count_rows};
 ghost use Rattle.erm_summary.specs.Summary.{opening_at};
 ghost use Rattle.erm_outside.specs.Disk.{Tells};
@@ -18,9 +17,12 @@ ghost use Rattle.erm_outside.specs.Faults.{Rose};
 ghost use Rattle.erm_ckpt.specs.declared.slot.TheConstants.{LOG_START};
 ghost use Rattle.erm_checkpoint.specs.Taken.{HoldsLog, state_at};
 ghost use Rattle.erm_crash.specs.Kept.{KeepsBlocks};
+ghost use Rattle.erm_told_log.specs.Tail.{MeetsTail};
 ghost use Rattle.erm_log_run.specs.Keeping.{CountsFaults, IsHeld, Keeps, keeper_of};
 ghost use Rattle.erm_log_run.specs.Lines.{AreLinesOf};
-ghost use Rattle.erm_log_run.specs.Runs.{OnFault, RanAll, UnlessFault, UnlessMemory, WasCut, WasRun};
+ghost use Rattle.erm_log_run.specs.Acknowledged.{AllLast, KeepsTold};
+ghost use Rattle.erm_log_run.specs.Runs.{IsCutReportOf, IsReportOf, OnFault, RanAll, UnlessFault, UnlessMemory, WasCut, WasRun, lines_in};
+ghost use Rattle.erm_log_run.specs.Saving.{AreSaved, saved_at};
 
 use crate::{LineStop, RunStop, Store, answer_all, by_seat, close_all, cut_report};
 use erm_model::{Name, Receipt, Seat};
@@ -51,6 +53,8 @@ fn run_all<W: ScriptWorld, D: Disk>(
     ensures stands { W.stands world.new }
     ensures ran { RanAll result (W.view world.old) sessions script.now answers.new.items (W.view world.new) }
     ensures keeps { Keeps W.rows_law.meets result (keeper_of (W.log world.old) store.old (D.told store.old.disk)) (keeper_of (W.log world.new) store.new (D.told store.new.disk)) }
+    ensures told { KeepsTold W.rows_law.meets result answers.new.items (D.told store.old.disk) (keeper_of (W.log world.new) store.new (D.told store.new.disk)) }
+    ensures saves { OnOk result (AreSaved (saved_at answers.new.items) (D.told store.old.disk) store.old.slots store.new.slots) }
     ensures counts { CountsFaults result (D.faults store.old.disk) (D.faults store.new.disk) }
 {
     let mut receipts = no_receipts(alloc, sessions)?;
@@ -100,24 +104,33 @@ pub fn run_script<W: ScriptWorld, D: Disk>(
     requires holds { IfSome (D.told store.old.disk) (HoldsLog W.rows_law.meets (W.log world.old) store.old.slots) }
     requires none_gathered { (W.log world.old).gathered ≡ [] }
 
-    ensures stands { OnOk result (W.stands world.new) }
+    ensures stands { UnlessMemory result (W.stands world.new) }
+
+    // The lines are a good report, whose windows are tight, of this very run. The last checkpoint that it tells left its slot, and with none
+    // the slots are those from before.
     ensures ran { IfOk result (λ lines.
-        WasRun (W.view world.old) (W.view world.new) (opening_at start (count_rows (W.view world.old).opening.rows) (W.view world.old).opening.first) names.now script.now lines.items) }
-    ensures report { IfOk result (λ lines. All FitsTypes lines.items
-        → IsTightReport InTurn (opening_at start (count_rows (W.view world.old).opening.rows) (W.view world.old).opening.first) names.now script.now lines.items) }
+        (was : WasRun (W.view world.old) (W.view world.new) (opening_at start (count_rows (W.view world.old).opening.rows) (W.view world.old).opening.first) names.now script.now lines.items)
+        × (All FitsTypes lines.items → IsReportOf (opening_at start (count_rows (W.view world.old).opening.rows) (W.view world.old).opening.first) names.now script.now was.answers was.closed lines.items)
+        × AreSaved (saved_at was.answers) (D.told store.old.disk) store.old.slots store.new.slots) }
 
     // All that committed is flushed at the end, and the disk holds the log.
     ensures flushed { OnOk result ((W.view world.new).flushed ≡ (W.view world.new).tail) }
     ensures holds { OnOk result (IfSome (D.told store.new.disk) (HoldsLog W.rows_law.meets (W.log world.new) store.new.slots)) }
 
-    // At each moment each image recovers to a front of what was gathered.
-    ensures moments { UnlessMemory result (Tells (KeepsBlocks W.rows_law.meets (state_at (W.log world.old) []) (W.log world.new).gathered (W.log world.old).flushed) (D.told store.old.disk) (D.told store.new.disk)) }
+    // Behind whatever earlier blocks recovery met at first, it meets the last of the log's blocks at the end.
+    ensures tail { OnOk result ((earlier : List Block) → IfSome (D.told store.old.disk) (MeetsTail W.rows_law.meets earlier (W.log world.old) store.old.slots)
+        → IfSome (D.told store.new.disk) (MeetsTail W.rows_law.meets earlier (W.log world.new) store.new.slots)) }
 
-    // The disk's count of faults rises exactly where a fault is the answer.
-    ensures fault { OnFault result (λ lines. Rose (D.faults store.old.disk) (D.faults store.new.disk)
-        × WasCut (W.view world.old) (opening_at start (count_rows (W.view world.old).opening.rows) (W.view world.old).opening.first) names.now script.now lines) }
-    ensures cut { OnFault result (λ lines. All FitsTypes lines
-        → IsCutReport InTurn (opening_at start (count_rows (W.view world.old).opening.rows) (W.view world.old).opening.first) names.now script.now lines) }
+    // At each moment each image recovers to a front of what was gathered: to all below a place that a line acknowledges, from some moment
+    // on to the end.
+    ensures moments { UnlessMemory result (Tells (KeepsBlocks W.rows_law.meets (state_at (W.log world.old) []) (W.log world.new).gathered (W.log world.old).flushed) (D.told store.old.disk) (D.told store.new.disk)) }
+    ensures acknowledged { UnlessMemory result (Tells (AllLast W.rows_law.meets (state_at (W.log world.old) []) (W.log world.new).gathered (lines_in result)) (D.told store.old.disk) (D.told store.new.disk)) }
+
+    // Where the disk fails the lines tell of the run up to then. The disk's count of faults rises exactly where a fault is the answer.
+    ensures cut { OnFault result (λ lines.
+        (was : WasCut (W.view world.old) (W.view world.new) (opening_at start (count_rows (W.view world.old).opening.rows) (W.view world.old).opening.first) names.now script.now lines)
+        × (All FitsTypes lines → IsCutReportOf (opening_at start (count_rows (W.view world.old).opening.rows) (W.view world.old).opening.first) names.now script.now was.answers lines)) }
+    ensures fault { OnFault result (λ lines. Rose (D.faults store.old.disk) (D.faults store.new.disk)) }
     ensures sound { UnlessFault result (D.faults store.new.disk ≡ D.faults store.old.disk) }
 {
     erm_told::runs_have_phases();

@@ -1,19 +1,27 @@
-use Rattle.std.proofs.Common.{◌≡◌, ◌+◌, ◌<◌, ◌≤◌, ◌∷◌, [], ◌++◌, List, length, take, Some, refl, ap, sym, ◌∙◌, subst, arith}
+use Rattle.std.proofs.Common.{◌≡◌, ℕ, ◌+◌, ◌≤◌, ◌∷◌, [], ◌++◌, List, length, take, Some, refl, ap, sym, ◌∙◌, subst, arith}
+use Rattle.std.specs.List.{slice_get}
 use Rattle.std.proofs.lemmas.List.{take_more, length-append, length-take}
 use Rattle.std.proofs.lemmas.Option.{slice_get-get_or}
 use Rattle.std.proofs.lemmas.Result.{err_from_is_err_and}
+use Rattle.erm_model.specs.Member.{◌∈◌}
+use Rattle.erm_model.proofs.Members.{none_in_nil}
 use Rattle.erm_node.specs.Sound.{sound_law}
 use Rattle.erm_report.specs.declared.answer.Answer.{Answer}
 use Rattle.erm_script.specs.declared.script.ScriptLine.{ScriptLine}
 use Rattle.erm_lines.specs.Executions.{IsExecution, Move, line_moves, move_of}
-use Rattle.erm_log_run.specs.Keeping.{Keeper, keeper_of}
+use Rattle.erm_log_run.specs.Acknowledged.{place_told}
+use Rattle.erm_log_run.specs.Keeping.{Keeper, KeepsOn, keeper_of}
 use Rattle.erm_log_run.specs.Lines.{IsLineOf}
+use Rattle.erm_log_run.specs.Saving.{AreSaved, saved_at}
 use Rattle.erm_log_run.proofs.Answering.{line_moves_front, line_moves_more}
 use Rattle.erm_log_run.proofs.Closing.{execution_more}
 use Rattle.erm_log_run.proofs.Leaving.{on_itself, on_then}
 use Rattle.erm_log_run.proofs.Lined.{line_of_too}
 use Rattle.erm_log_run.proofs.Serial.{serializable_too}
+use Rattle.erm_log_run.proofs.Saving.{saved_more}
 use Rattle.erm_log_run.proofs.Stopped.{stop_keeps, stop_ran}
+use Rattle.erm_log_run.proofs.Reached.{move_reaches}
+use Rattle.erm_log_run.proofs.Told.{AreKept, all_kept_more, stop_told}
 use Rattle.erm_log_run.proofs.answers.answer_all.Goals as goal
 
 pub loop-line-init : goal.loop-line-init
@@ -26,6 +34,8 @@ loop-line-init g c = record {
   ran = subst (λ (xs : List Answer). IsExecution (g.W.RowWorld.view c.args.world.now) (line_moves (take 0 c.args.script.now) xs) (g.W.RowWorld.view c.args.world.now)) (sym c.requires.none) refl;
   held = c.requires.held;
   keeps = on_itself g.W.LogWorld.rows_law.meets _;
+  told = λ place is. absurd (none_in_nil is.answer (subst (λ (xs : List Answer). is.answer ∈ xs) c.requires.none is.given));
+  saves = subst (λ (xs : List Answer). AreSaved (saved_at xs) (g.D.Disk.told c.args.store.now.disk) c.args.store.now.slots c.args.store.now.slots) (sym c.requires.none) refl;
   faults = refl;
 }
 
@@ -71,6 +81,12 @@ loop-line-preserved g c =
     let first : Keeper = keeper_of (g.W.LogWorld.log c.args.world.now) c.args.store.now (g.D.Disk.told c.args.store.now.disk) in
     let was : Keeper = keeper_of (g.W.LogWorld.log c.loop-line.world) c.loop-line.store (g.D.Disk.told c.loop-line.store.disk) in
     let is : Keeper = keeper_of (g.W.LogWorld.log c.run_line.new.world) c.run_line.new.store (g.D.Disk.told c.run_line.new.store.disk) in
+    let sound = g.W.LogWorld.rows_law.meets in
+    let further : KeepsOn sound first is = on_then sound first was is kept.keeps keeps.1 in
+    let of = g.met.W.ScriptWorld.one_log c.run_line.new.world c.run_line.ensures.stands in
+    let reaches : (place : ℕ) → place_told a ≡ Some place → place ≤ is.log.flushed =
+    λ place told. let low = move_reaches before after l a place c.in_ok-answer.ensures.moved told in let same = of.flushed in omega (arith, low, same)
+    in
     record {
       stands = c.run_line.ensures.stands;
       many = (let size = ap (λ (xs : List Answer). length xs) pushed ∙ length-append c.loop-line.answers.items (a ∷ []) in let counted = kept.many in omega (arith, size, counted));
@@ -79,7 +95,11 @@ loop-line-preserved g c =
       receipts = c.in_ok-answer.ensures.receipts;
       ran = subst (λ (ms : List Move). IsExecution v ms after) (sym moves) goes;
       held = keeps.0;
-      keeps = on_then g.W.LogWorld.rows_law.meets first was is kept.keeps keeps.1;
+      keeps = further;
+      told = subst (λ (xs : List Answer). AreKept sound first.told xs is) (sym pushed)
+          (all_kept_more sound c.kept_logs_begin.ensures first was is c.loop-line.answers.items a c.requires.held keeps.1 further keeps.0 reaches kept.told);
+      saves = subst (λ (xs : List Answer). AreSaved (saved_at xs) first.told first.slots is.slots) (sym pushed)
+          (saved_more sound c.kept_logs_begin.ensures first was is c.loop-line.answers.items a c.requires.held further kept.saves c.in_ok-answer.ensures.saves);
       faults = c.in_ok-answer.ensures.counts ∙ kept.faults;
     }
 
@@ -89,11 +109,18 @@ returns-in_err-answer-clause-ran g c =
     let before = g.W.RowWorld.view c.loop-line.world in
     let script = c.args.script.now in
     let answers = c.loop-line.answers.items in
+    let k = c.loop-line.line-index in
+    let l = c.line-item.result in
     let kept = c.loop-line.invariant in
     let fewer = c.loop-line-test.true in
     let many = kept.many in
     let p = err_from_is_err_and c.from_residual.result c.from_residual.ensures.1 in
-    rw p.1 (stop_ran (Unit {0}) p.0 v before (g.W.RowWorld.view c.run_line.new.world) script answers (omega (arith, fewer, many)) (subst (λ (ms : List Move). IsExecution v ms before) (line_moves_front script c.loop-line.line-index answers many) kept.ran))
+    let after = g.W.RowWorld.view c.run_line.new.world in
+    let serial = serializable_too g.W.RowWorld.law sound_law after c.requires.law (g.met.W.RowWorld.serializable c.run_line.new.world c.run_line.ensures.stands) in
+    let at : slice_get script (length answers) ≡ Some l =
+    ap (λ (n : ℕ). slice_get script n) many ∙ slice_get-get_or script k l fewer ∙ ap (λ (x : ScriptLine). Some x) (sym c.line-item.is)
+    in
+    rw (p.1, p.2) (stop_ran Answer (Unit {0}) c.in_err-answer.field-0.0 v before after script answers (omega (arith, fewer, many)) l at c.in_err-answer.ensures.of_log (subst (λ (ms : List Move). IsExecution v ms before) (line_moves_front script c.loop-line.line-index answers many) kept.ran) c.in_err-answer.ensures.flushes serial)
 
 pub returns-in_err-answer-clause-keeps : goal.returns-in_err-answer-clause-keeps
 returns-in_err-answer-clause-keeps g c =
@@ -103,3 +130,12 @@ returns-in_err-answer-clause-keeps g c =
     let is : Keeper = keeper_of (g.W.LogWorld.log c.run_line.new.world) c.run_line.new.store (g.D.Disk.told c.run_line.new.store.disk) in
     let p = err_from_is_err_and c.from_residual.result c.from_residual.ensures.1 in
     rw (p.1, p.2) (stop_keeps Answer (Unit {0}) g.W.LogWorld.rows_law.meets c.in_err-answer.field-0.0 first was is kept.keeps c.in_err-answer.ensures.keeps)
+
+pub returns-in_err-answer-clause-told : goal.returns-in_err-answer-clause-told
+returns-in_err-answer-clause-told g c =
+    let kept = c.loop-line.invariant in
+    let first : Keeper = keeper_of (g.W.LogWorld.log c.args.world.now) c.args.store.now (g.D.Disk.told c.args.store.now.disk) in
+    let was : Keeper = keeper_of (g.W.LogWorld.log c.loop-line.world) c.loop-line.store (g.D.Disk.told c.loop-line.store.disk) in
+    let is : Keeper = keeper_of (g.W.LogWorld.log c.run_line.new.world) c.run_line.new.store (g.D.Disk.told c.run_line.new.store.disk) in
+    let p = err_from_is_err_and c.from_residual.result c.from_residual.ensures.1 in
+    rw (p.1, p.2) (stop_told Answer (Unit {0}) g.W.LogWorld.rows_law.meets c.in_err-answer.field-0.0 first.told c.loop-line.answers.items was is kept.told c.in_err-answer.ensures.keeps)

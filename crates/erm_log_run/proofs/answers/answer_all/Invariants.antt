@@ -3,6 +3,8 @@ use Rattle.erm_lines.specs.Executions.{IsExecution, line_moves}
 use Rattle.erm_lines.specs.Whole.{AreRunsNow}
 use Rattle.erm_log_run.specs.Keeping.{IsHeld, KeepsOn, keeper_of}
 use Rattle.erm_log_run.specs.Lines.{AreReceipts}
+use Rattle.erm_log_run.specs.Saving.{AreSaved, saved_at}
+use Rattle.erm_log_run.proofs.Told.{AreKept}
 use Rattle.erm_log_run.proofs.answers.answer_all.Given as goal
 
 -- the lines so far were answered, and the log is kept
@@ -16,5 +18,7 @@ invariant-loop-line g l = record {
   ran : IsExecution (g.W.RowWorld.view l.fn.world) (line_moves (take l.line-index l.script) l.answers.items) (g.W.RowWorld.view l.world);
   held : IsHeld g.W.LogWorld.rows_law.meets (keeper_of (g.W.LogWorld.log l.world) l.store (g.D.Disk.told l.store.disk));
   keeps : KeepsOn g.W.LogWorld.rows_law.meets (keeper_of (g.W.LogWorld.log l.fn.world) l.fn.store (g.D.Disk.told l.fn.store.disk)) (keeper_of (g.W.LogWorld.log l.world) l.store (g.D.Disk.told l.store.disk));
+  told : AreKept g.W.LogWorld.rows_law.meets (g.D.Disk.told l.fn.store.disk) l.answers.items (keeper_of (g.W.LogWorld.log l.world) l.store (g.D.Disk.told l.store.disk));
+  saves : AreSaved (saved_at l.answers.items) (g.D.Disk.told l.fn.store.disk) l.fn.store.slots l.store.slots;
   faults : g.D.Disk.faults l.store.disk ≡ g.D.Disk.faults l.fn.store.disk;
 }

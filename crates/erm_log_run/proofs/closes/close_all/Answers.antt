@@ -1,5 +1,7 @@
-use Rattle.std.proofs.Common.{◌≡◌, length, None, Option, List, refl, replicate, sym, ap, ◌∙◌, subst, arith}
+use Rattle.std.proofs.Common.{◌≡◌, length, None, Option, List, Vec, refl, replicate, sym, ap, ◌∙◌, subst, arith}
 use Rattle.std.proofs.lemmas.List.{length-replicate}
+use Rattle.std.proofs.lemmas.Result.{err_from_is_err_and}
+use Rattle.std.specs.declared.alloc.Global.{Global}
 use Rattle.erm_report.specs.declared.answer.Answer.{Answer}
 use Rattle.erm_node.specs.Sound.{sound_law}
 use Rattle.erm_world.specs.World.{Opening}
@@ -9,6 +11,7 @@ use Rattle.erm_log_run.proofs.Closing.{flushed_too, none_closed}
 use Rattle.erm_log_run.proofs.Leaving.{SessionLaws, on_itself, on_then, session_keeps}
 use Rattle.erm_log_run.proofs.Progress.{all_idle, first_count, idle_after, none_left, same_count, turn_taken}
 use Rattle.erm_log_run.proofs.Serial.{serializable_too}
+use Rattle.erm_log_run.proofs.Stopped.{stop_closes}
 use Rattle.erm_log_run.proofs.closes.close_all.Goals as goal
 
 pub loop-init : goal.loop-init
@@ -24,6 +27,7 @@ loop-init g c =
       counted = first_count n v;
       held = c.requires.held;
       keeps = on_itself g.W.LogWorld.rows_law.meets _;
+      slots = refl;
       faults = refl;
     }
 
@@ -53,7 +57,7 @@ loop-preserved g c =
     let k : Keeper = keeper_of (g.W.LogWorld.log mid_world) s (g.D.Disk.told s.disk) in
     let m : Keeper = keeper_of (g.W.LogWorld.log new) s (g.D.Disk.told s.disk) in
     let flushes = c.in_ok-flush_up.ensures.keeps in
-    let laws : SessionLaws law = record { held = c.held_logs_stay.ensures; kept = c.kept_logs_stay.ensures } in
+    let laws : SessionLaws law = record { held = c.held_logs_stay.ensures; kept = c.kept_logs_stay.ensures; met = c.met_logs_stay.ensures } in
     let keeps = session_keeps law laws mid after k m (serializable_too g.W.RowWorld.law law after g.met.W.ScriptWorld.one_law (g.met.W.RowWorld.serializable new stands)) c.close_open.ensures.leaves
     (g.met.W.ScriptWorld.one_log mid_world mid_stands) (g.met.W.ScriptWorld.one_log new stands)
     (g.met.W.LogWorld.is_log mid_world (g.met.W.ScriptWorld.may_flush mid_world mid_stands)) (g.met.W.LogWorld.is_log new (g.met.W.ScriptWorld.may_flush new stands))
@@ -67,6 +71,7 @@ loop-preserved g c =
       counted = turn_taken n c.loop.counter mid after many_mid c.close_open.ensures.closed (omega (arith, same, counted)) c.loop-test.true;
       held = keeps.0;
       keeps = on_then law.meets first k m (on_then law.meets first was k kept.keeps flushes.1) keeps.1;
+      slots = c.in_ok-flush_up.ensures.slots ∙ kept.slots;
       faults = c.in_ok-flush_up.ensures.counts ∙ kept.faults;
     }
 
@@ -91,3 +96,21 @@ returns-clause-idle g c =
 
 pub returns-clause-flushed : goal.returns-clause-flushed
 returns-clause-flushed g c = c.in_ok-flush_up-2.ensures.all (returns-clause-idle g c)
+
+pub returns-in_err-flush_up-clause-closes : goal.returns-in_err-flush_up-clause-closes
+returns-in_err-flush_up-clause-closes g c =
+    let v = g.W.RowWorld.view c.args.world.now in
+    let before = g.W.RowWorld.view c.loop.world in
+    let after = g.W.RowWorld.view c.flush_up.new.world in
+    let serial = serializable_too g.W.RowWorld.law sound_law after c.requires.law (g.met.W.RowWorld.serializable c.flush_up.new.world c.flush_up.ensures.stands) in
+    let p = err_from_is_err_and c.from_residual-in_err-flush_up.result c.from_residual-in_err-flush_up.ensures.1 in
+    rw (p.1, p.2) (stop_closes (Unit {0}) (Vec (Option Answer) Global) c.in_err-flush_up.field-0.0 v before after c.args.sessions c.loop.ends.items c.loop.invariant.closing c.in_err-flush_up.ensures.flushes serial)
+
+pub returns-in_err-flush_up-2-clause-closes : goal.returns-in_err-flush_up-2-clause-closes
+returns-in_err-flush_up-2-clause-closes g c =
+    let v = g.W.RowWorld.view c.args.world.now in
+    let before = g.W.RowWorld.view c.loop.world in
+    let after = g.W.RowWorld.view c.flush_up-2.new.world in
+    let serial = serializable_too g.W.RowWorld.law sound_law after c.requires.law (g.met.W.RowWorld.serializable c.flush_up-2.new.world c.flush_up-2.ensures.stands) in
+    let p = err_from_is_err_and c.from_residual-in_err-flush_up-2.result c.from_residual-in_err-flush_up-2.ensures.1 in
+    rw (p.1, p.2) (stop_closes (Unit {0}) (Vec (Option Answer) Global) c.in_err-flush_up-2.field-0.0 v before after c.args.sessions c.loop.ends.items c.loop.invariant.closing c.in_err-flush_up-2.ensures.flushes serial)

@@ -13,5 +13,6 @@ invariant-loop g l = record {
   counted : count_open l.sessions (g.W.RowWorld.view l.world).session + l.counter ≤ l.sessions;
   held : IsHeld g.W.LogWorld.rows_law.meets (keeper_of (g.W.LogWorld.log l.world) l.store (g.D.Disk.told l.store.disk));
   keeps : KeepsOn g.W.LogWorld.rows_law.meets (keeper_of (g.W.LogWorld.log l.fn.world) l.fn.store (g.D.Disk.told l.fn.store.disk)) (keeper_of (g.W.LogWorld.log l.world) l.store (g.D.Disk.told l.store.disk));
+  slots : l.store.slots ≡ l.fn.store.slots;
   faults : g.D.Disk.faults l.store.disk ≡ g.D.Disk.faults l.fn.store.disk;
 }

@@ -1,8 +1,7 @@
-use Rattle.std.proofs.Common.{inl, inr, ◌≡◌, ℕ, false, refl, sym, ap, ◌∙◌, subst}
-use Rattle.erm_flush.specs.Turns.{GoesOn}
-use Rattle.erm_world.specs.Log.{IsStop, Log}
+use Rattle.std.proofs.Common.{inl, inr, ℕ, refl, sym, ◌∙◌, subst}
+use Rattle.erm_world.specs.Log.{IsStop}
 use Rattle.erm_log_run.specs.Keeping.{Keeper, keeper_of}
-use Rattle.erm_log_run.proofs.Flushed.{Flushes, FlushLaws, fault_keeps, flush_keeps, holds_flushed}
+use Rattle.erm_log_run.proofs.Flushed.{Flushes, FlushLaws, fault_keeps, flush_keeps}
 use Rattle.erm_log_run.proofs.Flushing.{all_when_idle, did_flush, up_from}
 use Rattle.erm_log_run.proofs.closes.flush_up.Goals as goal
 
@@ -19,7 +18,7 @@ returns-in-Empty g c =
     let turn = c.in-Empty.ensures.turns in
     let k : Keeper = keeper_of l s (g.D.Disk.told s.disk) in
     let m : Keeper = record { log = n; slots = s.slots; run = s.run; failed = c.flush_all.new.self; told = g.D.Disk.told c.flush_all.new.disk } in
-    let laws : FlushLaws sound = record { go_on = c.moments_go_on.ensures; keep = c.flushes_keep.ensures; hold = c.flushed_logs_are_held.ensures } in
+    let laws : FlushLaws sound = record { go_on = c.moments_go_on.ensures; keep = c.flushes_keep.ensures; hold = c.flushed_logs_are_held.ensures; meet = c.flushed_logs_meet_more.ensures } in
     let f : Flushes sound k m = record { held = c.requires.held; slots = refl; run = refl; is = is; goes = turn.2; writes = c.in-Empty.ensures.any_moment c.requires.held.well } in
     let before = g.met.W.ScriptWorld.one_log w c.requires.stands in
     let after = g.met.W.ScriptWorld.one_log new stay.0 in
@@ -27,9 +26,11 @@ returns-in-Empty g c =
     record {
       stands = stay.0;
       flushed = did_flush (g.W.RowWorld.view w) (g.W.RowWorld.view new) l n before after stay.1 turn.2.further;
+      flushes = tt;
       up = up_from g.W.RowWorld.law (g.W.RowWorld.view new) n (g.met.W.RowWorld.serializable new stay.0) after stops;
+      slots = refl;
       all = all_when_idle (g.W.RowWorld.view new) n after stops;
-      keeps = flush_keeps sound laws k m f turn.1 stops (holds_flushed sound laws k m f (c.in-Empty.ensures.lasts turn.1) (c.in-Empty.ensures.ready turn.1));
+      keeps = flush_keeps sound laws k m f turn.1 stops (c.in-Empty.ensures.lasts turn.1) (c.in-Empty.ensures.ready turn.1);
       counts = c.in-Empty.ensures.counts;
     }
 
@@ -46,7 +47,7 @@ returns-in-Unfilled g c =
     let turn = c.in-Unfilled.ensures.turns in
     let k : Keeper = keeper_of l s (g.D.Disk.told s.disk) in
     let m : Keeper = record { log = n; slots = s.slots; run = s.run; failed = c.flush_all.new.self; told = g.D.Disk.told c.flush_all.new.disk } in
-    let laws : FlushLaws sound = record { go_on = c.moments_go_on.ensures; keep = c.flushes_keep.ensures; hold = c.flushed_logs_are_held.ensures } in
+    let laws : FlushLaws sound = record { go_on = c.moments_go_on.ensures; keep = c.flushes_keep.ensures; hold = c.flushed_logs_are_held.ensures; meet = c.flushed_logs_meet_more.ensures } in
     let f : Flushes sound k m = record { held = c.requires.held; slots = refl; run = refl; is = is; goes = turn.2; writes = c.in-Unfilled.ensures.any_moment c.requires.held.well } in
     let before = g.met.W.ScriptWorld.one_log w c.requires.stands in
     let after = g.met.W.ScriptWorld.one_log new stay.0 in
@@ -54,9 +55,11 @@ returns-in-Unfilled g c =
     record {
       stands = stay.0;
       flushed = did_flush (g.W.RowWorld.view w) (g.W.RowWorld.view new) l n before after stay.1 turn.2.further;
+      flushes = tt;
       up = up_from g.W.RowWorld.law (g.W.RowWorld.view new) n (g.met.W.RowWorld.serializable new stay.0) after stops;
+      slots = refl;
       all = all_when_idle (g.W.RowWorld.view new) n after stops;
-      keeps = flush_keeps sound laws k m f turn.1 stops (holds_flushed sound laws k m f (c.in-Unfilled.ensures.lasts turn.1) (c.in-Unfilled.ensures.ready turn.1));
+      keeps = flush_keeps sound laws k m f turn.1 stops (c.in-Unfilled.ensures.lasts turn.1) (c.in-Unfilled.ensures.ready turn.1);
       counts = c.in-Unfilled.ensures.counts;
     }
 
@@ -73,12 +76,14 @@ returns-in-DiskFault g c =
     let turn = c.in-DiskFault.ensures.turns in
     let k : Keeper = keeper_of l s (g.D.Disk.told s.disk) in
     let m : Keeper = record { log = n; slots = s.slots; run = s.run; failed = c.flush_all.new.self; told = g.D.Disk.told c.flush_all.new.disk } in
-    let laws : FlushLaws sound = record { go_on = c.moments_go_on.ensures; keep = c.flushes_keep.ensures; hold = c.flushed_logs_are_held.ensures } in
+    let laws : FlushLaws sound = record { go_on = c.moments_go_on.ensures; keep = c.flushes_keep.ensures; hold = c.flushed_logs_are_held.ensures; meet = c.flushed_logs_meet_more.ensures } in
     let f : Flushes sound k m = record { held = c.requires.held; slots = refl; run = refl; is = is; goes = turn.2; writes = c.in-DiskFault.ensures.any_moment c.requires.held.well } in
     record {
       stands = stay.0;
       flushed = tt;
+      flushes = did_flush (g.W.RowWorld.view w) (g.W.RowWorld.view new) l n (g.met.W.ScriptWorld.one_log w c.requires.stands) (g.met.W.ScriptWorld.one_log new stay.0) stay.1 turn.2.further;
       up = tt;
+      slots = tt;
       all = tt;
       keeps = fault_keeps sound laws k m f;
       counts = c.in-DiskFault.ensures.counts;

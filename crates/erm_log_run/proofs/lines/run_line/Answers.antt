@@ -1,10 +1,7 @@
-use Rattle.std.proofs.Common.{◌≡◌, ℕ, Ok, Err, IfOk, refl, sym, ap, ◌∙◌, subst}
+use Rattle.std.proofs.Common.{◌≡◌, IfOk, inl, inr, refl, subst}
 use Rattle.std.proofs.lemmas.Result.{IfOk-weaker}
-use Rattle.erm_model.specs.RowTransaction.{Law}
-use Rattle.erm_report.specs.declared.answer.Answer.{Answer}
 use Rattle.erm_script.specs.declared.script.Command.{Command}
 use Rattle.erm_script.specs.declared.script.Command.TheVariants as command
-use Rattle.erm_node.specs.Sound.{sound_law}
 use Rattle.erm_lines.specs.Executions.{DidLogLine}
 use Rattle.erm_lines.proofs.Moved.{line_moved, log_flushes}
 use Rattle.erm_told.proofs.Lines.{turn_line}
@@ -13,8 +10,9 @@ use Rattle.erm_log_run.specs.Lines.{Names}
 use Rattle.erm_log_run.proofs.Leaving.{SessionLaws, session_keeps, turn_leaves}
 use Rattle.erm_log_run.proofs.Lined.{checkpoint_moved, flush_moved, log_line, names_session}
 use Rattle.erm_log_run.proofs.Receipts.{receipts_stay}
+use Rattle.erm_log_run.proofs.Saving.{session_saved}
 use Rattle.erm_log_run.proofs.Serial.{serializable_too}
-use Rattle.erm_log_run.proofs.Stopped.{ok_then}
+use Rattle.erm_log_run.proofs.Stopped.{fails_of_log, ok_then}
 use Rattle.erm_log_run.proofs.lines.run_line.Goals as goal
 
 pub returns-in-Flush : goal.returns-in-Flush
@@ -33,7 +31,10 @@ returns-in-Flush g c =
       runs = ok_then r (λ a. DidLogLine v l a t) _ (λ a did. (c.lines_keep_runs.ensures.logs v t l a c.requires.runs did).0) logged;
       opening = ok_then r (λ a. DidLogLine v l a t) _ (λ a did. (c.lines_keep_runs.ensures.logs v t l a c.requires.runs did).1) logged;
       receipts = ok_then r (λ a. DidLogLine v l a t) _ (λ a did. let f = log_flushes v t l a did in receipts_stay v t rs f.opening f.session c.requires.receipts) logged;
+      flushes = c.flush_line.ensures.flushes;
+      of_log = fails_of_log r l (inl is);
       keeps = c.flush_line.ensures.keeps;
+      saves = c.flush_line.ensures.saves;
       counts = c.flush_line.ensures.counts;
     }
 
@@ -53,7 +54,10 @@ returns-in-Checkpoint g c =
       runs = ok_then r (λ a. DidLogLine v l a t) _ (λ a did. (c.lines_keep_runs.ensures.logs v t l a c.requires.runs did).0) logged;
       opening = ok_then r (λ a. DidLogLine v l a t) _ (λ a did. (c.lines_keep_runs.ensures.logs v t l a c.requires.runs did).1) logged;
       receipts = ok_then r (λ a. DidLogLine v l a t) _ (λ a did. let f = log_flushes v t l a did in receipts_stay v t rs f.opening f.session c.requires.receipts) logged;
+      flushes = c.checkpoint_line.ensures.flushes;
+      of_log = fails_of_log r l (inr is);
       keeps = c.checkpoint_line.ensures.keeps;
+      saves = c.checkpoint_line.ensures.saves;
       counts = c.checkpoint_line.ensures.counts;
     }
 
@@ -83,13 +87,15 @@ returns-in_ok-session_line-in_default g c =
     let turn = turn_line c.begun_transactions_are_runs.ensures c.answers_stay.ensures v l a t did in
     let stands = c.session_line.ensures.stands in
     let serial = serializable_too g.W.RowWorld.law law t g.met.W.ScriptWorld.one_law (g.met.W.RowWorld.serializable new stands) in
-    let laws : SessionLaws law = record { held = c.held_logs_stay.ensures; kept = c.kept_logs_stay.ensures } in
+    let laws : SessionLaws law = record { held = c.held_logs_stay.ensures; kept = c.kept_logs_stay.ensures; met = c.met_logs_stay.ensures } in
     let k : Keeper = keeper_of (g.W.LogWorld.log w) s (g.D.Disk.told s.disk) in
     let m : Keeper = keeper_of (g.W.LogWorld.log new) s (g.D.Disk.told s.disk) in
     let runs = c.lines_keep_runs.ensures.lines v t l a c.requires.runs did in
     record {
       stands = stands;
       moved = line_moved v l a t did;
+      flushes = tt;
+      of_log = tt;
       runs = runs.0;
       opening = runs.1;
       receipts = c.in_ok-session_line-in_default.ensures.receipts;
@@ -97,5 +103,6 @@ returns-in_ok-session_line-in_default g c =
           (g.met.W.ScriptWorld.one_log w c.requires.stands) (g.met.W.ScriptWorld.one_log new stands)
           (g.met.W.LogWorld.is_log w (g.met.W.ScriptWorld.may_flush w c.requires.stands)) (g.met.W.LogWorld.is_log new (g.met.W.ScriptWorld.may_flush new stands))
           c.requires.held refl refl refl refl;
+      saves = session_saved v t l a (g.D.Disk.told s.disk) s.slots did;
       counts = refl;
     }

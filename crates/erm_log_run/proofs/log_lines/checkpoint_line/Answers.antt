@@ -1,98 +1,122 @@
-use Rattle.std.proofs.Common.{inl, inr, ◌≡◌, ℕ, Err, refl, sym, ap, ◌∙◌, subst}
-use Rattle.erm_checkpoint.specs.declared.stops.CheckpointStop.{CheckpointStop}
-use Rattle.erm_checkpoint.specs.Taken.{Counts}
-use Rattle.erm_checkpoint.specs.Taken as taken
-use Rattle.erm_world.specs.Log.{IsStop, Log}
+use Rattle.std.proofs.Common.{inl, inr, ◌≡◌, ℕ, refl, sym, ◌∙◌, subst}
+use Rattle.std.proofs.lemmas.Result.{IfOk-weaker}
+use Rattle.erm_world.specs.Log.{IsStop}
 use Rattle.erm_log_run.specs.Keeping.{Keeper, keeper_of}
-use Rattle.erm_log_run.proofs.Flushed.{CheckpointLaws, Checkpoints, checkpoint_fault_keeps, checkpoint_keeps}
-use Rattle.erm_log_run.proofs.Logged.{checkpointed_did, none_waits, unfinished_did}
+use Rattle.erm_log_run.proofs.Flushed.{Flushes, FlushLaws, fault_keeps, flush_keeps}
+use Rattle.erm_log_run.proofs.Flushing.{did_flush, flushes_then}
+use Rattle.erm_log_run.proofs.Logged.{checkpoint_behind, unfinished_did}
+use Rattle.erm_log_run.proofs.Results.{counts_then, keeps_then}
 use Rattle.erm_log_run.proofs.log_lines.checkpoint_line.Goals as goal
 
-pub returns-in-Ok : goal.returns-in-Ok
-returns-in-Ok g c =
+pub checkpoint_flushed-requires : goal.checkpoint_flushed-requires
+checkpoint_flushed-requires g c =
     let w = c.args.world.now in
-    let new = c.checkpoint_turn.new.world in
+    let new = c.flush_all.new.world in
     let s = c.args.store.now in
     let sound = g.W.LogWorld.rows_law.meets in
     let l = g.W.LogWorld.log w in
     let n = g.W.LogWorld.log new in
-    let stay = g.met.W.ScriptWorld.sessions_stay w new c.requires.stands c.checkpoint_turn.ensures.keeps c.checkpoint_turn.ensures.stands in
-    let is = g.met.W.LogWorld.is_log new c.checkpoint_turn.ensures.stands in
-    let did = c.in-Ok.ensures.checkpoints in
+    let stay = g.met.W.ScriptWorld.sessions_stay w new c.requires.stands c.flush_all.ensures.keeps c.flush_all.ensures.stands in
+    let is = g.met.W.LogWorld.is_log new c.flush_all.ensures.stands in
+    let turn = c.in-Empty.ensures.turns in
     let k : Keeper = keeper_of l s (g.D.Disk.told s.disk) in
-    let m : Keeper = record { log = n; slots = c.checkpoint_turn.new.slots; run = s.run; failed = c.checkpoint_turn.new.flusher; told = g.D.Disk.told c.checkpoint_turn.new.disk } in
-    let laws : CheckpointLaws sound = record { go_on = c.moments_go_on.ensures; keep = c.checkpoints_keep.ensures } in
-    let f : Checkpoints sound k m = record { held = c.requires.held; run = refl; is = is; goes = did.2; takes = c.in-Ok.ensures.any_moment c.requires.held.well } in
-    let before = g.met.W.ScriptWorld.one_log w c.requires.stands in
-    let after = g.met.W.ScriptWorld.one_log new stay.0 in
+    let m : Keeper = record { log = n; slots = s.slots; run = s.run; failed = c.flush_all.new.self; told = g.D.Disk.told c.flush_all.new.disk } in
+    let laws : FlushLaws sound = record { go_on = c.moments_go_on.ensures; keep = c.flushes_keep.ensures; hold = c.flushed_logs_are_held.ensures; meet = c.flushed_logs_meet_more.ensures } in
+    let f : Flushes sound k m = record { held = c.requires.held; slots = refl; run = refl; is = is; goes = turn.2; writes = c.in-Empty.ensures.any_moment c.requires.held.well } in
+    let ends : n.flushed ≡ n.tail = turn.3 ∙ sym turn.4 in
     record {
       stands = stay.0;
-      answered = checkpointed_did sound (g.W.RowWorld.view w) (g.W.RowWorld.view new) l n before after is stay.1 c.in-Ok.place did.2 did.3 did.4;
-      keeps = checkpoint_keeps sound laws k m f did.1 (inl (did.4 ∙ sym did.3)) (c.in-Ok.ensures.stays did.1);
-      counts = c.in-Ok.ensures.counts;
+      held = (flush_keeps sound laws k m f turn.1 (inl ends) (c.in-Empty.ensures.lasts turn.1) (c.in-Empty.ensures.ready turn.1)).0;
+      flushed = ends;
     }
 
-pub returns-in-Err-Unfilled : goal.returns-in-Err-Unfilled
-returns-in-Err-Unfilled g c =
+pub returns-in-Empty : goal.returns-in-Empty
+returns-in-Empty g c =
     let w = c.args.world.now in
-    let new = c.checkpoint_turn.new.world in
+    let mid = c.flush_all.new.world in
+    let new = c.checkpoint_flushed.new.world in
+    let s = c.args.store.now in
+    let z = c.checkpoint_flushed.new.store in
+    let sound = g.W.LogWorld.rows_law.meets in
+    let l = g.W.LogWorld.log w in
+    let n = g.W.LogWorld.log mid in
+    let v = g.W.RowWorld.view w in
+    let u = g.W.RowWorld.view mid in
+    let t = g.W.RowWorld.view new in
+    let stay = g.met.W.ScriptWorld.sessions_stay w mid c.requires.stands c.flush_all.ensures.keeps c.flush_all.ensures.stands in
+    let is = g.met.W.LogWorld.is_log mid c.flush_all.ensures.stands in
+    let turn = c.in-Empty.ensures.turns in
+    let k : Keeper = keeper_of l s (g.D.Disk.told s.disk) in
+    let m : Keeper = record { log = n; slots = s.slots; run = s.run; failed = c.flush_all.new.self; told = g.D.Disk.told c.flush_all.new.disk } in
+    let last : Keeper = keeper_of (g.W.LogWorld.log new) z (g.D.Disk.told z.disk) in
+    let laws : FlushLaws sound = record { go_on = c.moments_go_on.ensures; keep = c.flushes_keep.ensures; hold = c.flushed_logs_are_held.ensures; meet = c.flushed_logs_meet_more.ensures } in
+    let f : Flushes sound k m = record { held = c.requires.held; slots = refl; run = refl; is = is; goes = turn.2; writes = c.in-Empty.ensures.any_moment c.requires.held.well } in
+    let keeps = flush_keeps sound laws k m f turn.1 (inl (turn.3 ∙ sym turn.4)) (c.in-Empty.ensures.lasts turn.1) (c.in-Empty.ensures.ready turn.1) in
+    let first = did_flush v u l n (g.met.W.ScriptWorld.one_log w c.requires.stands) (g.met.W.ScriptWorld.one_log mid stay.0) stay.1 turn.2.further in
+    let r = c.checkpoint_flushed.result in
+    let did = c.checkpoint_flushed.ensures in
+    record {
+      stands = did.stands;
+      answered = IfOk-weaker r _ _ (λ a done. checkpoint_behind v u t first stay.1 a done) did.answered;
+      flushes = flushes_then r v u t first did.flushes;
+      keeps = keeps_then r sound k m last keeps.1 did.keeps;
+      saves = did.saves;
+      counts = counts_then r _ _ _ c.in-Empty.ensures.counts did.counts;
+    }
+
+pub returns-in-Unfilled : goal.returns-in-Unfilled
+returns-in-Unfilled g c =
+    let w = c.args.world.now in
+    let new = c.flush_all.new.world in
     let s = c.args.store.now in
     let sound = g.W.LogWorld.rows_law.meets in
     let l = g.W.LogWorld.log w in
     let n = g.W.LogWorld.log new in
-    let stay = g.met.W.ScriptWorld.sessions_stay w new c.requires.stands c.checkpoint_turn.ensures.keeps c.checkpoint_turn.ensures.stands in
-    let is = g.met.W.LogWorld.is_log new c.checkpoint_turn.ensures.stands in
-    let did = subst (λ (stop : CheckpointStop). taken.Checkpoints (Err stop) s.flusher c.checkpoint_turn.new.flusher l n) c.in-Err-Unfilled.field-0-is c.in-Err-Unfilled.ensures.checkpoints in
+    let stay = g.met.W.ScriptWorld.sessions_stay w new c.requires.stands c.flush_all.ensures.keeps c.flush_all.ensures.stands in
+    let is = g.met.W.LogWorld.is_log new c.flush_all.ensures.stands in
+    let turn = c.in-Unfilled.ensures.turns in
     let k : Keeper = keeper_of l s (g.D.Disk.told s.disk) in
-    let m : Keeper = record { log = n; slots = c.checkpoint_turn.new.slots; run = s.run; failed = c.checkpoint_turn.new.flusher; told = g.D.Disk.told c.checkpoint_turn.new.disk } in
-    let laws : CheckpointLaws sound = record { go_on = c.moments_go_on.ensures; keep = c.checkpoints_keep.ensures } in
-    let f : Checkpoints sound k m = record { held = c.requires.held; run = refl; is = is; goes = did.2; takes = c.in-Err-Unfilled.ensures.any_moment c.requires.held.well } in
+    let m : Keeper = record { log = n; slots = s.slots; run = s.run; failed = c.flush_all.new.self; told = g.D.Disk.told c.flush_all.new.disk } in
+    let laws : FlushLaws sound = record { go_on = c.moments_go_on.ensures; keep = c.flushes_keep.ensures; hold = c.flushed_logs_are_held.ensures; meet = c.flushed_logs_meet_more.ensures } in
+    let f : Flushes sound k m = record { held = c.requires.held; slots = refl; run = refl; is = is; goes = turn.2; writes = c.in-Unfilled.ensures.any_moment c.requires.held.well } in
     let before = g.met.W.ScriptWorld.one_log w c.requires.stands in
     let after = g.met.W.ScriptWorld.one_log new stay.0 in
+    let stops : IsStop n n.flushed = subst (λ (x : ℕ). IsStop n x) (sym turn.3) (inr turn.5) in
     record {
       stands = stay.0;
-      answered = unfinished_did sound (g.W.RowWorld.view w) (g.W.RowWorld.view new) l n before after is stay.1 c.in-Err-Unfilled.at did.2 did.3 did.5;
-      keeps = checkpoint_keeps sound laws k m f did.1 (subst (λ (x : ℕ). IsStop n x) (sym did.3) (inr did.5)) (c.in-Err-Unfilled.ensures.stays did.1);
-      counts = subst (λ (stop : CheckpointStop). Counts {T = ℕ} (Err stop) (g.D.Disk.faults s.disk) (g.D.Disk.faults c.checkpoint_turn.new.disk)) c.in-Err-Unfilled.field-0-is c.in-Err-Unfilled.ensures.counts;
+      answered = unfinished_did sound (g.W.RowWorld.view w) (g.W.RowWorld.view new) l n before after is stay.1 c.in-Unfilled.at turn.2.further turn.3 turn.5;
+      flushes = tt;
+      keeps = flush_keeps sound laws k m f turn.1 stops (c.in-Unfilled.ensures.lasts turn.1) (c.in-Unfilled.ensures.ready turn.1);
+      saves = refl;
+      counts = c.in-Unfilled.ensures.counts;
     }
 
-pub returns-in-Err-NotYet : goal.returns-in-Err-NotYet
-returns-in-Err-NotYet g c =
-    let s = c.args.store.now in
-    let l = g.W.LogWorld.log c.args.world.now in
-    let n = g.W.LogWorld.log c.checkpoint_turn.new.world in
-    let is = g.met.W.LogWorld.is_log c.checkpoint_turn.new.world c.checkpoint_turn.ensures.stands in
-    let did = subst (λ (stop : CheckpointStop). taken.Checkpoints (Err stop) s.flusher c.checkpoint_turn.new.flusher l n) c.in-Err-NotYet.field-0-is c.in-Err-NotYet.ensures.checkpoints in
-    absurd (none_waits g.W.LogWorld.rows_law.meets n did.4.0 _ is did.3 did.4.2)
-
-pub returns-in-Err-DiskFault : goal.returns-in-Err-DiskFault
-returns-in-Err-DiskFault g c =
+pub returns-in-DiskFault : goal.returns-in-DiskFault
+returns-in-DiskFault g c =
     let w = c.args.world.now in
-    let new = c.checkpoint_turn.new.world in
+    let new = c.flush_all.new.world in
     let s = c.args.store.now in
     let sound = g.W.LogWorld.rows_law.meets in
     let l = g.W.LogWorld.log w in
     let n = g.W.LogWorld.log new in
-    let stay = g.met.W.ScriptWorld.sessions_stay w new c.requires.stands c.checkpoint_turn.ensures.keeps c.checkpoint_turn.ensures.stands in
-    let is = g.met.W.LogWorld.is_log new c.checkpoint_turn.ensures.stands in
-    let did = subst (λ (stop : CheckpointStop). taken.Checkpoints (Err stop) s.flusher c.checkpoint_turn.new.flusher l n) c.in-Err-DiskFault.field-0-is c.in-Err-DiskFault.ensures.checkpoints in
+    let stay = g.met.W.ScriptWorld.sessions_stay w new c.requires.stands c.flush_all.ensures.keeps c.flush_all.ensures.stands in
+    let is = g.met.W.LogWorld.is_log new c.flush_all.ensures.stands in
+    let turn = c.in-DiskFault.ensures.turns in
     let k : Keeper = keeper_of l s (g.D.Disk.told s.disk) in
-    let m : Keeper = record { log = n; slots = c.checkpoint_turn.new.slots; run = s.run; failed = c.checkpoint_turn.new.flusher; told = g.D.Disk.told c.checkpoint_turn.new.disk } in
-    let laws : CheckpointLaws sound = record { go_on = c.moments_go_on.ensures; keep = c.checkpoints_keep.ensures } in
-    let f : Checkpoints sound k m = record { held = c.requires.held; run = refl; is = is; goes = did.2; takes = c.in-Err-DiskFault.ensures.any_moment c.requires.held.well } in
+    let m : Keeper = record { log = n; slots = s.slots; run = s.run; failed = c.flush_all.new.self; told = g.D.Disk.told c.flush_all.new.disk } in
+    let laws : FlushLaws sound = record { go_on = c.moments_go_on.ensures; keep = c.flushes_keep.ensures; hold = c.flushed_logs_are_held.ensures; meet = c.flushed_logs_meet_more.ensures } in
+    let f : Flushes sound k m = record { held = c.requires.held; slots = refl; run = refl; is = is; goes = turn.2; writes = c.in-DiskFault.ensures.any_moment c.requires.held.well } in
     record {
       stands = stay.0;
       answered = tt;
-      keeps = checkpoint_fault_keeps sound laws k m f;
-      counts = subst (λ (stop : CheckpointStop). Counts {T = ℕ} (Err stop) (g.D.Disk.faults s.disk) (g.D.Disk.faults c.checkpoint_turn.new.disk)) c.in-Err-DiskFault.field-0-is c.in-Err-DiskFault.ensures.counts;
+      flushes = did_flush (g.W.RowWorld.view w) (g.W.RowWorld.view new) l n (g.met.W.ScriptWorld.one_log w c.requires.stands) (g.met.W.ScriptWorld.one_log new stay.0) stay.1 turn.2.further;
+      keeps = fault_keeps sound laws k m f;
+      saves = tt;
+      counts = c.in-DiskFault.ensures.counts;
     }
 
-pub returns-in-Err-Failed : goal.returns-in-Err-Failed
-returns-in-Err-Failed g c =
-    let s = c.args.store.now in
-    let l = g.W.LogWorld.log c.args.world.now in
-    let n = g.W.LogWorld.log c.checkpoint_turn.new.world in
-    let did = subst (λ (stop : CheckpointStop). taken.Checkpoints (Err stop) s.flusher c.checkpoint_turn.new.flusher l n) c.in-Err-Failed.field-0-is c.in-Err-Failed.ensures.checkpoints in
-    let failed = did.0 in
+pub returns-in-Failed : goal.returns-in-Failed
+returns-in-Failed g c =
+    let failed = c.in-Failed.ensures.turns.0 in
     let well = c.requires.held.well in
     absurd (cc)

@@ -1,14 +1,17 @@
-use Rattle.std.proofs.Common.{◌≡◌, Option, Vec, refl, rules, sym, ap, ◌∙◌}
+use Rattle.std.proofs.Common.{◌≡◌, Option, Vec, refl, sym, ap, ◌∙◌}
 use Rattle.std.proofs.lemmas.Result.{err_from_is_err_and}
 use Rattle.std.specs.declared.alloc.Global.{Global}
 use Rattle.erm_model.specs.declared.outcome.Phase.TheVariants.{Active, Idle}
 use Rattle.erm_report.specs.declared.answer.Answer.{Answer}
 use Rattle.erm_world.specs.World.{Opening, Session, phase_of}
 use Rattle.erm_log_run.specs.Keeping.{Keeper, keeper_of}
+use Rattle.erm_log_run.specs.Saving.{saved_at}
 use Rattle.erm_log_run.proofs.Receipts.{none_received}
 use Rattle.erm_log_run.proofs.Leaving.{on_itself}
 use Rattle.erm_log_run.proofs.Results.{all_ran, counts_then, cut_ran, keeps_then}
+use Rattle.erm_log_run.proofs.Saving.{saved_then}
 use Rattle.erm_log_run.proofs.Stopped.{stop_counts, stop_keeps}
+use Rattle.erm_log_run.proofs.Told.{stop_told_too, told_then}
 use Rattle.erm_log_run.proofs.whole.run_all.Goals as goal
 
 pub answer_all-requires-clause-runs : goal.answer_all-requires-clause-runs
@@ -33,6 +36,8 @@ returns-in_err-answer_all g c =
       stands = c.answer_all.ensures.stands;
       ran = rw (p.1, p.2) (cut_ran (Unit {0}) stop v t c.args.sessions c.args.script.now c.answer_all.new.answers.items c.in_err-answer_all.ensures.ran);
       keeps = rw (p.1, p.2) (stop_keeps (Unit {0}) (Vec (Option Answer) Global) sound stop first first mid (on_itself sound first) c.in_err-answer_all.ensures.keeps);
+      told = rw (p.1, p.2) (stop_told_too (Unit {0}) (Vec (Option Answer) Global) sound stop first.told c.answer_all.new.answers.items mid c.in_err-answer_all.ensures.told);
+      saves = rw p.1 tt;
       counts = rw (p.1, p.2) (stop_counts (Unit {0}) (Vec (Option Answer) Global) stop (g.D.Disk.faults c.args.store.now.disk) (g.D.Disk.faults c.args.store.now.disk) (g.D.Disk.faults c.answer_all.new.store.disk) refl c.in_err-answer_all.ensures.counts);
     }
 
@@ -56,7 +61,9 @@ returns g c =
     let last : Keeper = keeper_of (g.W.LogWorld.log c.close_all.new.world) c.close_all.new.store (g.D.Disk.told c.close_all.new.store.disk) in
     record {
       stands = c.close_all.ensures.stands;
-      ran = all_ran r v u t c.args.sessions c.args.script.now c.answer_all.new.answers.items ran.0 ran.2 c.close_all.ensures.closing c.close_all.ensures.idle c.close_all.ensures.flushed;
+      ran = all_ran r v u t c.args.sessions c.args.script.now c.answer_all.new.answers.items ran.0 ran.2 c.close_all.ensures.closing c.close_all.ensures.idle c.close_all.ensures.flushed c.close_all.ensures.closes;
       keeps = keeps_then r g.W.LogWorld.rows_law.meets first mid last c.in_ok-answer_all.ensures.keeps.1 c.close_all.ensures.keeps;
+      told = told_then r g.W.LogWorld.rows_law.meets first.told c.answer_all.new.answers.items mid last c.in_ok-answer_all.ensures.told c.close_all.ensures.keeps;
+      saves = saved_then r (saved_at c.answer_all.new.answers.items) first.told first.slots mid.slots last.slots c.in_ok-answer_all.ensures.saves c.close_all.ensures.slots;
       counts = counts_then r _ _ _ c.in_ok-answer_all.ensures.counts c.close_all.ensures.counts;
     }

@@ -1,18 +1,20 @@
-use Rattle.std.proofs.Common.{rules, ◌≡◌, ◌+◌, ◌≤◌, List, length, Err, Option, Vec, refl, sym, ap, ◌∙◌, subst, arith}
+use Rattle.std.proofs.Common.{rules, ◌≤◌, List, length, Err, Option, Vec, refl, sym, ◌∙◌, subst, arith}
 use Rattle.std.specs.List.{slice_get}
 use Rattle.std.specs.declared.alloc.Global.{Global}
 use Rattle.erm_report.specs.declared.answer.Answer.{Answer}
 use Rattle.erm_world.specs.World.{View}
 use Rattle.erm_good_report.specs.Opening as report
 use Rattle.erm_good_report.specs.Phases.{Closed}
-use Rattle.erm_lines.specs.Executions.{AreClosed, IsOpeningOf, IsRun, count_rows}
+use Rattle.erm_lines.specs.Executions.{AreClosed, IsCourse, IsOpeningOf, IsRun, count_rows}
 use Rattle.erm_summary.specs.Summary.{Summarizes, opening_at}
 use Rattle.erm_log_run.specs.declared.stops.LineStop.{LineStop}
+use Rattle.erm_log_run.specs.Acknowledged.{KeepsTold}
 use Rattle.erm_log_run.specs.Closing.{closes_from}
 use Rattle.erm_log_run.specs.Keeping.{CountsFaults, IsKept, Keeper, Keeps, keeper_of}
 use Rattle.erm_log_run.specs.Runs.{RanAll, WasCut, WasRun}
-use Rattle.erm_log_run.proofs.Good.{CutLaws, RunLaws, is_run, told_cut, told_tight, was_run}
+use Rattle.erm_log_run.proofs.Good.{CutLaws, RunLaws, is_run, told_cut, told_tight}
 use Rattle.erm_log_run.proofs.Kept.{first_kept, moments_at_fault, moments_of}
+use Rattle.erm_log_run.proofs.Lasting.{all_last_at_fault, all_last_now, cut_tells, summary_tells}
 use Rattle.erm_log_run.proofs.Seats.{are_closed}
 use Rattle.erm_log_run.proofs.whole.run_script.Goals as goal
 
@@ -92,9 +94,10 @@ returns-in-Ok g c =
     let rows = count_rows v.opening.rows in
     let opening : report.Opening = opening_at c.args.start rows v.opening.first in
     let lines = c.in_ok-report_of-in-Ok.field-0.items in
-    let was : WasRun v t opening names script lines = was_run v t script answers run closed are opening names lines
-    (subst (λ (cs : List Closed). Summarizes opening names script answers cs lines) c.in_ok-closed-in-Ok.ensures.closed (c.in_ok-report_of-in-Ok.ensures rows v.opening.first))
+    let sums : Summarizes opening names script answers closed lines =
+    subst (λ (cs : List Closed). Summarizes opening names script answers cs lines) c.in_ok-closed-in-Ok.ensures.closed (c.in_ok-report_of-in-Ok.ensures rows v.opening.first)
     in
+    let was : WasRun v t opening names script lines = record { answers = answers; closed = closed; run = run; are = are; told = sums } in
     let is : IsOpeningOf v opening = record { map = c.requires.map; stamp = c.requires.stamp; rows = refl; first = refl; cells = c.requires.cells } in
     let laws : RunLaws = record {
       phases = c.runs_have_phases.ensures;
@@ -107,15 +110,17 @@ returns-in-Ok g c =
       windows = c.runs_have_tight_windows.ensures;
       summaries = c.summaries_are_good.ensures;
     } in
+    let moments = moments_of sound k m keeps.1 kept in
     record {
       stands = c.run_all.ensures.stands;
-      ran = was;
-      report = λ fits. told_tight laws v t script opening is names c.requires.sessions lines was fits;
+      ran = (was, (λ fits. told_tight laws v t script opening is names c.requires.sessions lines was fits), c.in-Ok.ensures.saves);
       flushed = ran.3;
       holds = keeps.0.holds;
-      moments = moments_of sound k m keeps.1 kept;
-      fault = tt;
+      tail = keeps.1.tail;
+      moments = moments;
+      acknowledged = all_last_now sound k m answers lines keeps.1 c.in-Ok.ensures.told (summary_tells opening names script answers closed lines sums) moments;
       cut = tt;
+      fault = tt;
       sound = c.in-Ok.ensures.counts;
     }
 
@@ -127,6 +132,7 @@ returns-in-Err-DiskFault g c =
     let z = c.run_all.new.store in
     let sound = g.W.LogWorld.rows_law.meets in
     let v : View = g.W.RowWorld.view w in
+    let t : View = g.W.RowWorld.view new in
     let of = g.met.W.ScriptWorld.one_log w c.requires.stands in
     let k : Keeper = keeper_of (g.W.LogWorld.log w) s (g.D.Disk.told s.disk) in
     let m : Keeper = keeper_of (g.W.LogWorld.log new) z (g.D.Disk.told z.disk) in
@@ -135,19 +141,33 @@ returns-in-Err-DiskFault g c =
     let names = c.args.names.now in
     let answers = c.run_all.new.answers.items in
     let lines = c.cut_report.result.items in
-    let ran = subst (λ (stop : LineStop). RanAll (Err stop) v (length names) script answers (g.W.RowWorld.view new)) c.in-Err-DiskFault.field-0-is c.in-Err-DiskFault.ensures.ran in
+    let ran = subst (λ (stop : LineStop). RanAll (Err stop) v (length names) script answers t) c.in-Err-DiskFault.field-0-is c.in-Err-DiskFault.ensures.ran in
     let keeps = subst (λ (stop : LineStop). Keeps {T = Vec (Option Answer) Global} sound (Err stop) k m) c.in-Err-DiskFault.field-0-is c.in-Err-DiskFault.ensures.keeps in
+    let told = subst (λ (stop : LineStop). KeepsTold {T = Vec (Option Answer) Global} sound (Err stop) answers k.told m) c.in-Err-DiskFault.field-0-is c.in-Err-DiskFault.ensures.told in
     let counts = subst (λ (stop : LineStop). CountsFaults {T = Vec (Option Answer) Global} (Err stop) (g.D.Disk.faults s.disk) (g.D.Disk.faults z.disk)) c.in-Err-DiskFault.field-0-is c.in-Err-DiskFault.ensures.counts in
     let rows = count_rows v.opening.rows in
     let opening : report.Opening = opening_at c.args.start rows v.opening.first in
     let is : IsOpeningOf v opening = record { map = c.requires.map; stamp = c.requires.stamp; rows = refl; first = refl; cells = c.requires.cells } in
-    let was : WasCut v opening names script lines = record {
-      answers = answers;
+    let goes = ran.1.1 in
+    let short = c.requires.short in
+    let course : IsCourse v script answers t = record {
+      opened = c.requires.opened;
+      ranges = c.requires.ranges;
+      few = omega (arith, short);
       most = ran.0;
-      between = ran.1.0;
-      ran = ran.1.1;
+      between = goes.between;
+      lines = goes.lines;
+      closing = ran.1.0;
+      last = goes.last;
+      closes = goes.closes;
+    } in
+    let was : WasCut v t opening names script lines = record {
+      answers = answers;
+      course = course;
+      late = ran.1.2;
       fault = slice_get script (length answers);
       at = refl;
+      of_log = ran.2;
       lines_ok = c.cut_report.ensures;
     } in
     let laws : CutLaws = record {
@@ -157,15 +177,16 @@ returns-in-Err-DiskFault g c =
       causes = c.parts_have_causes.ensures;
       refusals = c.parts_refuse_with_cause.ensures;
     } in
-    let short = c.requires.short in
+    let moments = moments_at_fault sound k m keeps kept in
     record {
-      stands = tt;
+      stands = c.run_all.ensures.stands;
       ran = tt;
-      report = tt;
       flushed = tt;
       holds = tt;
-      moments = moments_at_fault sound k m keeps kept;
-      fault = (counts, was);
-      cut = λ fits. told_cut laws v script opening is c.requires.opened c.requires.ranges (omega (arith, short)) names c.requires.sessions lines was fits;
+      tail = tt;
+      moments = moments;
+      acknowledged = all_last_at_fault sound k m answers lines keeps told (cut_tells lines c.args.start.stamp c.args.start.run script answers was.fault was.lines_ok) moments;
+      cut = (was, λ fits. told_cut laws v t script opening is names c.requires.sessions lines was fits);
+      fault = counts;
       sound = tt;
     }
