@@ -1,0 +1,62 @@
+-- Sessions that were closed of which no line tells, and what answers tell of versions cut off.
+use Rattle.std.proofs.Common.{◌≡◌, ℕ, ◌<◌, List, [], ◌∷◌, length, refl, subst, arith}
+use Rattle.erm_model.specs.Member.{◌∈◌}
+use Rattle.erm_model.proofs.Members.{none_in_nil}
+use Rattle.erm_machine.proofs.Listed.{∈-head}
+use Rattle.erm_report.specs.declared.answer.Answer.{Answer}
+use Rattle.erm_script.specs.declared.script.ScriptLine.{ScriptLine}
+use Rattle.erm_world.specs.World.{View}
+use Rattle.erm_good_report.specs.Phases.{Closed}
+use Rattle.erm_lines.specs.Executions.{AreClosed, IsCourse, IsPart, IsRun, closed_in}
+use Rattle.erm_lines.specs.Laws.{PartsCutFew, RunsCutFew}
+use Rattle.erm_told_crash.specs.Laws.{CoursesClose}
+use Rattle.erm_disk_run.specs.Runs.{AreUncut, AreUnseen}
+
+-- a list whose elements stand in an empty one is empty
+none_listed : (xs : List Closed) → ((c : Closed) → c ∈ xs → c ∈ []) → xs ≡ []
+none_listed [] only = refl
+none_listed (x ∷ xs) only = absurd (none_in_nil x (only x (∈-head x xs)))
+
+-- the sessions that a run so far closed, behind all lines of the script
+pub record HasUnseen (names : List (List ℕ)) (v t : View) (script : List ScriptLine) (answers : List Answer) (course : IsCourse v script answers t) : Type 0 where
+  pub closed : List Closed
+  pub are : AreClosed course.closing closed
+  pub unseen : AreUnseen names script answers closed
+
+pub has_unseen : CoursesClose → (names : List (List ℕ)) (v t : View) (script : List ScriptLine) (answers : List Answer) (course : IsCourse v script answers t)
+    → (length answers < length script → closed_in course.closing ≡ []) → HasUnseen names v t script answers course
+has_unseen close names v t script answers course late =
+    let found = close v t script answers course in
+    record {
+      closed = found.0;
+      are = found.1;
+      unseen = record {
+        once = found.1.ascend;
+        fits = λ c m. (found.2 c m).2;
+        late = λ less. none_listed found.0 (λ c m. subst (λ (cs : List Closed). c ∈ cs) (late less) (found.1.only c m));
+      };
+    }
+
+-- a whole run is one so far
+abbrev pub whole_course : (v t : View) (script : List ScriptLine) (answers : List Answer) → IsRun v script answers t → IsCourse v script answers t
+whole_course v t script answers run = record {
+  opened = run.opened;
+  ranges = run.ranges;
+  few = run.few;
+  most = (let each = run.each in omega (arith, each));
+  between = run.between;
+  lines = run.lines;
+  closing = run.closing;
+  last = run.last;
+  closes = run.closes;
+}
+
+-- in a world that cuts off no versions no answer tells that some were
+pub run_uncut : RunsCutFew → (v t : View) (script : List ScriptLine) (answers : List Answer) → IsRun v script answers t → v.opening.cuts ≡ 0 → AreUncut answers
+run_uncut few v t script answers run none n m = let least = few v t script answers run n m in omega (arith, least, none)
+
+pub course_uncut : PartsCutFew → (v t : View) (script : List ScriptLine) (answers : List Answer) → IsCourse v script answers t → v.opening.cuts ≡ 0 → AreUncut answers
+course_uncut few v t script answers course none n m =
+    let part : IsPart v script answers course.between = record { opened = course.opened; ranges = course.ranges; few = course.few; most = course.most; lines = course.lines } in
+    let least = few v course.between script answers part n m in
+    omega (arith, least, none)

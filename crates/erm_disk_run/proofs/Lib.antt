@@ -1,0 +1,10 @@
+pub mod Cut
+pub mod Left
+pub mod Opened
+pub mod Outlived
+pub mod SavedAt
+pub mod SlotsLeft
+pub mod Spared
+pub mod Told
+pub mod ToldEnds
+pub mod ToldRun

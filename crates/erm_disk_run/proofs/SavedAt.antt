@@ -1,0 +1,199 @@
+-- A checkpoint of a log that was just opened: nothing is gathered, and the slot has the map found.
+use Rattle.std.proofs.Common.{◌≡◌, ℕ, ◌+◌, ◌<◌, ◌≤◌, ◌++◌, false, List, [], ◌∷◌, Bool, IfSome, Option, Some, None, Err, refl, sym, ap, ◌∙◌, subst, arith, inr}
+use Rattle.std.specs.List.{slice_get}
+use Rattle.erm_model.specs.Member.{◌∈◌}
+use Rattle.erm_model.specs.Rows.{Rows}
+use Rattle.erm_model.specs.RowTransaction.{SameRows}
+use Rattle.erm_model.specs.declared.limits.TheConstants.{LEAST_BLOCK}
+use Rattle.erm_record.proofs.StoredRows.{stored_length-le}
+use Rattle.erm_block.specs.declared.block.Block.{Block}
+use Rattle.erm_block.specs.LogList.{IsChain, rows_after_block}
+use Rattle.erm_block.proofs.OneSpelling.{length-spelling}
+use Rattle.erm_outside.specs.Disk.{Image, Step, Tells, contents}
+use Rattle.erm_log_words.specs.Tears.{IsFresh}
+use Rattle.erm_ckpt.specs.declared.slot.Slots.{Slots}
+use Rattle.erm_ckpt.specs.declared.slot.TheConstants.{LOG_START}
+use Rattle.erm_ckpt.specs.Recovered.{Pair, State, base, end_at, state_behind}
+use Rattle.erm_ckpt.specs.States.{RecoversPast, RecoversTo, SameState}
+use Rattle.erm_ckpt.proofs.Images.{state_grows}
+use Rattle.erm_checkpoint.specs.declared.stops.CheckpointStop.{CheckpointStop}
+use Rattle.erm_checkpoint.specs.declared.stops.CheckpointStop.TheVariants as stop
+use Rattle.erm_checkpoint.specs.Taken.{Checkpoints, GoesOnTo, HoldsLog, HoldsLogFrom, Takes, slot_at_end, state_at}
+use Rattle.erm_crash.specs.Kept.{KeepsBlocks}
+use Rattle.erm_crash.specs.Moments.{TearsApart}
+use Rattle.erm_crash.proofs.Moments.{joined, weaker}
+use Rattle.erm_log_run.proofs.Held.{tells_and, tells_join, tells_weaker}
+use Rattle.erm_log_run.proofs.Logged.{none_waits}
+use Rattle.erm_node.specs.Sound.{IsSound, sound_law}
+use Rattle.erm_node.specs.TreeMap.{map_of_rows}
+use Rattle.erm_plain.specs.Logs.{KeepsSessions as KeepsPlain, plain_log, view_kept}
+use Rattle.erm_plain.specs.Stands.{IsWorld, plain_view}
+use Rattle.erm_plain.specs.declared.plain.Plain.{Plain}
+use Rattle.erm_recover.specs.Opening.{opened}
+use Rattle.erm_start.specs.Recovered.{IsOpenedLog, IsOpenedOn}
+use Rattle.erm_world.specs.Log.{IsLog, Log, Start}
+use Rattle.erm_world.specs.Whole.{IsLogOf, KeepsSessions}
+use Rattle.erm_world.specs.World.{Finished, Opening, Session, View}
+use Rattle.erm_disk_run.specs.Crashes.{KeepsCommits, RecoversBelow}
+use Rattle.erm_disk_run.specs.Opened.{IsOpenedWorld, OpensLog}
+use Rattle.erm_disk_run.specs.Saved.{IsSaved}
+use Rattle.erm_disk_run.proofs.Opened.{MayOpenAll, below_of, opening_commits}
+
+-- the law of checkpoints
+abbrev pub CheckpointsKeep : Type 0
+CheckpointsKeep = (before now : Log) (slots : Slots) (run : ℕ) (old new : List Step) → HoldsLog sound_law.meets before slots old → GoesOnTo before now → IsLog sound_law.meets now
+    → LOG_START < now.opened.at → Takes sound_law.meets before.flushed now slots (slot_at_end now run slots) old new
+    → KeepsBlocks sound_law.meets (state_at now []) now.gathered before.flushed old new
+
+-- the law of maps
+abbrev pub SameMaps : Type 0
+SameMaps = (a b : Rows) → SameRows a b → IsSound a → map_of_rows a ≡ map_of_rows b
+
+-- where a log list ends at the place where it begins, there are no blocks
+no_blocks : (image : Image) (s : State) (blocks : List Block) → IsChain sound_law.meets (end_at image s) blocks → (state_behind s blocks).at ≡ s.at → blocks ≡ []
+no_blocks image s [] chain same = refl
+no_blocks image s (b ∷ bs) (next, others) same =
+    let size = length-spelling stored_length-le b s.at s.run next.stands.is in
+    let grows = state_grows (record { at = s.at + b.size; run = b.run; rows = rows_after_block b s.rows }) bs in
+    absurd (omega (arith, size, grows, same))
+
+-- a log before and after calls of a flusher, and the views that it has then; it was just opened on a state's rows
+pub record Turned (state : State) (v t : View) (l m : Log) : Type 0 where
+  pub view : IsOpenedOn state.rows (state.at + LEAST_BLOCK) (state.run + 1) 1 v
+  pub log : IsOpenedLog state.rows (state.at + LEAST_BLOCK) (state.run + 1) l
+  pub before : IsLogOf v l
+  pub after : IsLogOf t m
+  pub is : IsLog sound_law.meets m
+  pub keeps : KeepsSessions v t
+  pub goes : GoesOnTo l m
+
+-- so it is of a world
+pub turned_world : {L : Type 0} (state : State) (p q : Plain L) → IsOpenedWorld state 1 p → IsWorld sound_law p → IsWorld sound_law q → KeepsPlain sound_law p q → GoesOnTo (plain_log p) (plain_log q)
+    → Turned state (plain_view p) (plain_view q) (plain_log p) (plain_log q)
+turned_world state p q world first second keeps goes = record {
+  view = world.view;
+  log = world.log;
+  before = first.log_of_view;
+  after = second.log_of_view;
+  is = second.log;
+  keeps = view_kept sound_law p q keeps;
+  goes = goes;
+}
+
+-- it goes on, where the flusher hadn't failed before
+pub goes_on : (l m : Log) (cause : CheckpointStop) (was now : Bool) → was ≡ false → Checkpoints (Err cause) was now l m → GoesOnTo l m
+goes_on l m (stop.Unfilled at) was now well did = did.2
+goes_on l m (stop.NotYet seat seen) was now well did = did.2
+goes_on l m stop.DiskFault was now well did = did.2
+goes_on l m stop.Failed was now well did = let failed = did.0 in absurd (cc)
+
+module _ (state : State) (v t : View) (l m : Log) (turned : Turned state v t l m) where
+  begun : m.opened ≡ l.opened
+  begun = ap (λ (x : Log). x.opened) turned.goes.log
+
+  at_is : m.opened.at ≡ state.at + LEAST_BLOCK
+  at_is = ap (λ (s : Start). s.at) begun ∙ turned.log.at
+
+  run_is : m.opened.run ≡ state.run + 1
+  run_is = ap (λ (s : Start). s.run) begun ∙ turned.log.run
+
+  rows_are : SameRows m.opened.rows state.rows
+  rows_are oid less = ap (λ (s : Start). s.rows oid) begun ∙ turned.log.rows oid less
+
+  pub tail_is : m.tail ≡ state.at + LEAST_BLOCK
+  tail_is = turned.after.tail ∙ turned.keeps.tail ∙ sym turned.before.tail ∙ turned.log.tail
+
+  -- no session has a transaction that is over
+  none_over : (b : Block) → b ∈ m.gathered → ⊥
+  none_over b inside =
+      let of = turned.after.blocks b inside in
+      let session = subst (λ (n : ℕ). (0 < b.seat) × (b.seat ≤ n)) (ap (λ (o : Opening). o.sessions) turned.keeps.opening) of.session in
+      let none : (t.session b.seat).over ≡ [] = ap (λ (s : Session). s.over) (turned.keeps.session b.seat session ∙ turned.view.opened.idle b.seat session) in
+      let found : of.of ∈ [] = subst (λ (over : List Finished). of.of ∈ over) none of.over in
+      let no : None ≡ Some of.of = found.1 in
+      absurd (cc)
+
+  pub none_gathered : m.gathered ≡ []
+  none_gathered = by m.gathered refl
+    where
+      by : (blocks : List Block) → m.gathered ≡ blocks → blocks ≡ []
+      by [] same = refl
+      by (b ∷ bs) same = absurd (none_over b (0, ap (λ (xs : List Block). slice_get xs 0) same))
+
+  -- what recovers to the log's start does so to the state that was opened
+  to_opened : (pair : Pair) (image : Image) → RecoversTo sound_law.meets (state_at m []) pair image → RecoversTo sound_law.meets (opened state) pair image
+  to_opened pair image there = record {
+    blocks = there.blocks;
+    recovers = there.recovers;
+    is = record { at = there.is.at ∙ at_is; run = there.is.run ∙ run_is; rows = λ oid less. there.is.rows oid less ∙ rows_are oid less };
+    opens = subst (λ (at : ℕ). IsFresh (state.run + 1 + 1) image at) at_is (subst (λ (run : ℕ). IsFresh (run + 1) image m.opened.at) run_is there.opens);
+  }
+
+  no_front : (front rest : List Block) → m.gathered ≡ front ++ rest → front ≡ []
+  no_front [] rest split = refl
+  no_front (b ∷ front) rest split = let no : [] ≡ b ∷ (front ++ rest) = sym none_gathered ∙ split in absurd (cc)
+
+  front_opened : (front rest : List Block) (pair : Pair) (image : Image) → m.gathered ≡ front ++ rest → RecoversTo sound_law.meets (state_at m front) pair image
+      → RecoversTo sound_law.meets (opened state) pair image
+  front_opened front rest pair image split there =
+      to_opened pair image (subst (λ (bs : List Block). RecoversTo sound_law.meets (state_at m bs) pair image) (no_front front rest split) there)
+
+  -- each image at each moment recovers to the map found
+  blocks_commits : MayOpenAll → (place : ℕ) (old new : List Step) → KeepsBlocks sound_law.meets (state_at m []) m.gathered place old new → KeepsCommits [] state state.at old new
+  blocks_commits opens place old new =
+      weaker _ _ old new (λ now image keeps tears.
+      let past : RecoversPast sound_law.meets (state_at m []) m.gathered place image = keeps tears in
+      below_of opens [] state (opened state) past.pair image (front_opened past.front past.rest past.pair image past.split past.there) refl (omega arith) (inr refl) refl)
+
+  -- the slot is of the place behind the block that opened the log, and has the map found
+  saved_at : SameMaps → IsSound state.rows → (slots : Slots) (stamp : ℕ) (steps : List Step) → m.tail ≡ stamp → HoldsLogFrom sound_law.meets m slots stamp steps → IsSaved state steps
+  saved_at maps sound slots stamp steps ends h =
+      let pair = h.holds.pair in
+      let there : RecoversTo sound_law.meets (opened state) pair (contents steps) = front_opened h.holds.front h.holds.rest pair (contents steps) h.holds.split h.holds.there in
+      let place : (base pair).at ≡ state.at + LEAST_BLOCK = h.from ∙ sym ends ∙ tail_is in
+      let none : there.blocks ≡ [] = no_blocks (contents steps) (base pair) there.blocks there.recovers.list.chain (there.is.at ∙ sym place) in
+      let same : SameState (base pair) (opened state) = subst (λ (bs : List Block). SameState (state_behind (base pair) bs) (opened state)) none there.is in
+      record {
+        settled = h.holds.ready.settled;
+        pair = pair;
+        there = there;
+        some = h.some;
+        at = place;
+        run = same.run;
+        map = sym (maps state.rows (base pair).rows (λ oid less. sym (same.rows oid less)) sound);
+      }
+
+  -- ---- as far as the disk tells
+
+  module _ (before mid after : Option (List Step)) (slots : Slots) (opens : Tells (OpensLog state l slots) before mid) where
+    pub commits_told : CheckpointsKeep → MayOpenAll → LOG_START ≤ state.at → (run : ℕ) → Tells (Takes sound_law.meets l.flushed m slots (slot_at_end m run slots)) mid after
+        → Tells (KeepsCommits [] state state.at) before after
+    commits_told keep may low run takes =
+        tells_join (OpensLog state l slots) (Takes sound_law.meets l.flushed m slots (slot_at_end m run slots)) (KeepsCommits [] state state.at) before mid after both opens takes
+      where
+        Keeps : List Step → Image → Type 0
+        Keeps now image = TearsApart sound_law.meets now image → RecoversBelow [] state state.at image
+
+        both : (a b c : List Step) → OpensLog state l slots a b → Takes sound_law.meets l.flushed m slots (slot_at_end m run slots) b c → KeepsCommits [] state state.at a c
+        both a b c o takes =
+            joined Keeps a b c (opening_commits may [] state o.pair a b refl refl o.keeps)
+            (blocks_commits may l.flushed b c (keep l m slots run b c o.holds turned.goes turned.is (omega (arith, low, at_is)) takes))
+
+    pub saved_told : SameMaps → IsSound state.rows → (later : Slots) (stamp : ℕ) → m.tail ≡ stamp → IfSome after (HoldsLogFrom sound_law.meets m later stamp)
+        → Tells (KeepsCommits [] state state.at) before after → Tells (λ old new. IsSaved state new) before after
+    saved_told maps sound later stamp ends holds keeps =
+        tells_weaker (λ old new. HoldsLogFrom sound_law.meets m later stamp new × KeepsCommits [] state state.at old new) (λ old new. IsSaved state new) before after
+        (λ old new both. saved_at maps sound later stamp new ends both.0)
+        (tells_and (HoldsLogFrom sound_law.meets m later stamp) (KeepsCommits [] state state.at) before after holds keeps)
+
+  -- nothing is undecided: only a fault stops a checkpoint
+  pub only_faults : (cause : CheckpointStop) (was now : Bool) → was ≡ false → Checkpoints (Err cause) was now l m → cause ≡ stop.DiskFault
+  only_faults (stop.Unfilled at) was now well did =
+      let further = turned.goes.further in
+      let flushed = turned.log.flushed in
+      let up = did.3 in
+      let low = did.4 in
+      absurd (omega (arith, further, flushed, up, low, tail_is))
+  only_faults (stop.NotYet seat seen) was now well did = absurd (none_waits sound_law.meets m did.4.0 _ turned.is did.3 did.4.2)
+  only_faults stop.DiskFault was now well did = refl
+  only_faults stop.Failed was now well did = let failed = did.0 in absurd (cc)

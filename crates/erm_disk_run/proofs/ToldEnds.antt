@@ -1,0 +1,163 @@
+-- How a run on a disk ends, by what running its script over the world and the log answers.
+use Rattle.std.proofs.Common.{◌≡◌, ℕ, ◌+◌, ◌<◌, List, [], ◌∷◌, ◌++◌, length, Option, Some, None, Result, Ok, Err, Vec, IfOk, IfSome, OnOk, refl, sym, ap, ◌∙◌, subst, arith}
+use Rattle.std.specs.List.{All}
+use Rattle.std.specs.declared.alloc.Global.{Global}
+use Rattle.std.proofs.lemmas.List.Elements.{All-cons}
+use Rattle.erm_model.specs.Member.{◌∈◌}
+use Rattle.erm_model.specs.declared.limits.TheConstants.{LAST_RUN, LEAST_BLOCK, STOP}
+use Rattle.erm_block.specs.declared.block.Block.{Block}
+use Rattle.erm_outside.specs.Disk.{Step, Tells}
+use Rattle.erm_outside.specs.Faults.{Rose}
+use Rattle.erm_ckpt.specs.declared.slot.Slots.{Slots}
+use Rattle.erm_ckpt.specs.Recovered.{State}
+use Rattle.erm_checkpoint.specs.Taken.{state_at}
+use Rattle.erm_crash.specs.Kept.{KeepsBlocks}
+use Rattle.erm_told_log.specs.Tail.{MeetsTail}
+use Rattle.erm_node.specs.Sound.{IsSound}
+use Rattle.erm_report.specs.declared.answer.Answer.{Answer}
+use Rattle.erm_report.specs.declared.line.Line.{Line}
+use Rattle.erm_report.specs.declared.line.Line.TheVariants as line
+use Rattle.erm_report.specs.Printable.{FitsTypes, IsInTables}
+use Rattle.erm_script.specs.declared.script.ScriptLine.{ScriptLine}
+use Rattle.erm_script.specs.Script.{IsInRange}
+use Rattle.erm_world.specs.Log.{IsLog, Log}
+use Rattle.erm_world.specs.Whole.{IsLogOf}
+use Rattle.erm_world.specs.World.{View}
+use Rattle.erm_good_report.specs.GoodReport.{answer_lines, fault_line}
+use Rattle.erm_good_report.specs.Opening.{Opening}
+use Rattle.erm_summary.specs.Summary.{opening_at}
+use Rattle.erm_summary.specs.Tables.{KeysAreInTables, SummariesAreInTables}
+use Rattle.erm_lines.specs.Executions.{IsOpeningOf, count_rows}
+use Rattle.erm_plain.specs.Logs.{plain_log}
+use Rattle.erm_plain.specs.Stands.{plain_view}
+use Rattle.erm_log_run.proofs.Held.{tells_weaker}
+use Rattle.erm_log_run.specs.Acknowledged.{AllLast}
+use Rattle.erm_log_run.specs.Runs.{IsCutReportOf, IsReportOf, OnFault, UnlessFault, UnlessMemory, WasCut, WasRun, lines_in}
+use Rattle.erm_log_run.specs.Saving.{AreSaved, saved_at}
+use Rattle.erm_log_run.specs.declared.stops.RunStop.{RunStop as LogRunStop}
+use Rattle.erm_log_run.specs.declared.stops.RunStop.TheVariants as log_stop
+use Rattle.erm_disk_run.specs.Found.{IsFound, StartsFrom}
+use Rattle.erm_disk_run.specs.Opened.{NamesFound, OpensLog, WasOpened}
+use Rattle.erm_disk_run.specs.declared.opening.Opened.{Opened}
+use Rattle.erm_disk_run.specs.Runs.{AreInTables, CountsRun, EndsRun}
+use Rattle.erm_disk_run.specs.declared.stops.RunStop.{RunStop}
+use Rattle.erm_disk_run.specs.declared.stops.RunStop.TheVariants as run
+use Rattle.erm_disk_run.proofs.Outlived.{OpensAt}
+use Rattle.erm_disk_run.proofs.Told.{MapsAreTold, OpensOn, same_map, starts_from}
+use Rattle.erm_disk_run.proofs.ToldRun.{DiskLaws, MeetsLog, RunsOn, meets_still, was_cut_on, was_run_on}
+
+-- the answer is told as it is
+abbrev pub ended_as : Result (Vec Line Global) LogRunStop → Result (Vec Line Global) RunStop
+ended_as (Ok lines) = Ok lines
+ended_as (Err (log_stop.DiskFault lines)) = Err (run.DiskFault lines)
+ended_as (Err log_stop.Memory) = Err run.Memory
+
+-- what was opened before the script was run
+pub record StartsOn (state : State) (many : ℕ) (v : View) (begun : Log) (slots : Slots) (opening : Opening) (before mid : Option (List Step)) : Type 0 where
+  pub found : IsFound before state
+  pub low : state.at < STOP
+  pub run_low : state.run < LAST_RUN
+  pub opened : OpensOn state many v
+  pub first : IsLogOf v begun
+  pub opens : Tells (OpensAt state) before mid
+  pub named : Tells (λ old new. NamesFound slots old) before mid
+  pub starts : StartsFrom state opening
+  pub of : IsOpeningOf v opening
+
+-- a world that was just opened, as a report starts from it
+abbrev pub opening_of : Opened → Opening
+opening_of o = opening_at o.start (count_rows (plain_view o.world).opening.rows) (plain_view o.world).opening.first
+
+pub opened_on : MapsAreTold → (before mid : Option (List Step)) (state : State) (many : ℕ) (o : Opened) → IsLogOf (plain_view o.world) (plain_log o.world) → WasOpened before mid state many o
+    → StartsOn state many (plain_view o.world) (plain_log o.world) o.slots (opening_of o) before mid
+opened_on maps before mid state many o first was =
+    let v : View = plain_view o.world in
+    record {
+      found = was.found;
+      low = was.world.low;
+      run_low = was.world.run_low;
+      opened = was.world.view;
+      first = first;
+      opens = tells_weaker (OpensLog state (plain_log o.world) o.slots) (OpensAt state) before mid (λ a b opens. (opens.pair, opens.keeps)) was.disk;
+      named = tells_weaker (OpensLog state (plain_log o.world) o.slots) (λ old new. NamesFound o.slots old) before mid (λ a b opens. opens.found) was.disk;
+      starts = starts_from maps state many v was.world.view o.start (was.map ∙ sym (same_map maps state many v was.world.view)) was.stamp was.run;
+      of = record {
+        map = was.map ∙ sym (same_map maps state many v was.world.view);
+        stamp = was.world.view.tail ∙ ap (λ (n : ℕ). n + LEAST_BLOCK) (sym was.stamp);
+        rows = refl;
+        first = refl;
+        cells = was.world.view.cells;
+      };
+    }
+
+module _ (laws : DiskLaws) (state : State) (names : List (List ℕ)) (v t : View) (begun log : Log) (opening : Opening) (script : List ScriptLine) (first slots : Slots) (before mid after : Option (List Step))
+    (on : StartsOn state (length names) v begun first opening before mid) where
+  abbrev Moments : Type 0
+  Moments = Tells (KeepsBlocks IsSound (state_at begun []) log.gathered begun.flushed) mid after
+
+  abbrev Acknowledged : List Line → Type 0
+  Acknowledged lines = Tells (AllLast IsSound (state_at begun []) log.gathered lines) mid after
+
+  abbrev IsWhole : List Line → Type 0
+  IsWhole lines = (was : WasRun v t opening names script lines) × (All FitsTypes lines → IsReportOf opening names script was.answers was.closed lines)
+      × AreSaved (saved_at was.answers) mid first slots
+
+  abbrev IsCut : List Line → Type 0
+  IsCut lines = (was : WasCut v t opening names script lines) × (All FitsTypes lines → IsCutReportOf opening names script was.answers lines)
+
+  runs_on : IsLogOf t log × IsLog IsSound log → (lines : List Line) → Moments → Acknowledged lines → RunsOn state (length names) v t begun log lines before mid after
+  runs_on log_is lines moments acknowledged = record {
+    opened = on.opened;
+    low = on.low;
+    run_low = on.run_low;
+    first = on.first;
+    flushed = on.first.flushed;
+    log_of = log_is.0;
+    is = log_is.1;
+    opens = on.opens;
+    moments = moments;
+    acknowledged = acknowledged;
+  }
+
+  pub ends : (r : Result (Vec Line Global) LogRunStop) (S : Type 0) → (S → IsLogOf t log × IsLog IsSound log) → UnlessMemory r S → UnlessMemory r Moments → UnlessMemory r (Acknowledged (lines_in r))
+      → OnOk r (t.flushed ≡ t.tail) → IfSome mid (MeetsLog begun first)
+      → OnOk r ((earlier : List Block) → IfSome mid (MeetsTail IsSound earlier begun first) → IfSome after (MeetsTail IsSound earlier log slots)) → IfOk r (λ lines. IsWhole lines.items) → OnFault r IsCut → EndsRun (ended_as r) before after names script
+  ends (Ok lines) S of stands moments acknowledged flushed meets still ran cut = λ fits. (
+    state,
+    on.found,
+    was_run_on laws state names v t begun log script lines.items before mid after (runs_on (of stands) lines.items moments acknowledged) slots flushed
+        (meets_still begun log first slots (KeepsBlocks IsSound (state_at begun []) log.gathered begun.flushed) mid after moments meets still) opening on.starts ran.0 (ran.1 fits) first on.named ran.2,
+  )
+  ends (Err (log_stop.DiskFault lines)) S of stands moments acknowledged flushed meets still ran cut = λ fits. (
+    state,
+    on.found,
+    was_cut_on laws state names v t begun log script lines.items before mid after (runs_on (of stands) lines.items moments acknowledged) opening on.starts on.of cut.0 (cut.1 fits),
+  )
+  ends (Err log_stop.Memory) S of stands moments acknowledged flushed meets still ran cut = tt
+
+  -- a cut report has no line of the map
+  no_line : All IsInTables []
+  no_line = λ k d low. absurd (omega (arith, low))
+
+  cut_lines : (ls : List ScriptLine) (answers : List Answer) (last : Line) → IsInTables last → All IsInTables (answer_lines ls answers ++ last ∷ [])
+  cut_lines [] answers last is = All-cons IsInTables last [] is no_line
+  cut_lines (l ∷ ls) [] last is = All-cons IsInTables last [] is no_line
+  cut_lines (l ∷ ls) (a ∷ answers) last is = All-cons IsInTables (line.Answer l.line a) (answer_lines ls answers ++ last ∷ []) tt (cut_lines ls answers last is)
+
+  fault_in_tables : (fault : Option ScriptLine) → IsInTables (fault_line fault)
+  fault_in_tables None = tt
+  fault_in_tables (Some l) = tt
+
+  pub tables : SummariesAreInTables → KeysAreInTables opening.map → ((l : ScriptLine) → l ∈ script → IsInRange l.command)
+      → (r : Result (Vec Line Global) LogRunStop) → IfOk r (λ lines. IsWhole lines.items) → OnFault r IsCut → AreInTables (ended_as r)
+  tables law keys ranges (Ok lines) ran cut = law opening names script ran.0.answers ran.0.closed lines.items ran.0.told keys ranges
+  tables law keys ranges (Err (log_stop.DiskFault lines)) ran cut =
+      let was = cut.0 in
+      subst (All IsInTables) (sym was.lines_ok)
+      (All-cons IsInTables (line.Open opening.stamp opening.run) (answer_lines script was.answers ++ fault_line was.fault ∷ []) tt (cut_lines script was.answers (fault_line was.fault) (fault_in_tables was.fault)))
+  tables law keys ranges (Err log_stop.Memory) ran cut = tt
+
+pub counts : (r : Result (Vec Line Global) LogRunStop) (before now : ℕ) → OnFault r (λ lines. Rose before now) → UnlessFault r (now ≡ before) → CountsRun (ended_as r) before now
+counts (Ok lines) before now rose same = same
+counts (Err (log_stop.DiskFault lines)) before now rose same = rose
+counts (Err log_stop.Memory) before now rose same = same

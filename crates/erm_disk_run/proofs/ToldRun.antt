@@ -1,0 +1,183 @@
+-- A script that was run on a disk, wholly or up to a fault.
+use Rattle.std.proofs.Common.{◌≡◌, ℕ, ◌<◌, ◌≤◌, List, [], length, Option, Some, None, IfSome, sym, ap, ◌∙◌, subst, arith}
+use Rattle.std.specs.FinMap.{from_entries}
+use Rattle.std.specs.List.{slice_get}
+use Rattle.erm_model.specs.Database.{Database, entries_of}
+use Rattle.erm_model.specs.declared.limits.TheConstants.{LAST_RUN, STOP}
+use Rattle.erm_block.specs.declared.block.Block.{Block}
+use Rattle.erm_outside.specs.Disk.{Step, Tells}
+use Rattle.erm_ckpt.specs.declared.slot.Slots.{Slots}
+use Rattle.erm_ckpt.specs.Recovered.{State}
+use Rattle.erm_checkpoint.specs.Taken.{state_at}
+use Rattle.erm_crash.specs.Kept.{KeepsBlocks}
+use Rattle.erm_node.specs.Sound.{sound_law}
+use Rattle.erm_report.specs.declared.answer.Answer.{Answer}
+use Rattle.erm_report.specs.declared.line.Line.{Line}
+use Rattle.erm_script.specs.declared.script.ScriptLine.{ScriptLine}
+use Rattle.erm_world.specs.Log.{IsLog, Log}
+use Rattle.erm_world.specs.Whole.{IsLogOf}
+use Rattle.erm_world.specs.World.{View}
+use Rattle.erm_world.specs.World as world
+use Rattle.erm_good_report.specs.GoodReport.{IsGoodReport, OwesToAnswers, places_of}
+use Rattle.erm_good_report.specs.Opening.{InTurn, Opening}
+use Rattle.erm_good_report.specs.Phases.{Closed}
+use Rattle.erm_good_report.specs.Transactions.{transactions_of}
+use Rattle.erm_lines.specs.Executions.{AreClosed, IsCourse, IsOpeningOf}
+use Rattle.erm_lines.specs.Laws.{PartsCutFew, RunsCutFew}
+use Rattle.erm_told_crash.specs.Laws.{CoursesClose}
+use Rattle.erm_told_log.specs.Tail.{MeetsTail}
+use Rattle.erm_log_run.specs.Acknowledged.{AllLast}
+use Rattle.erm_log_run.specs.Lines.{IsLineOfLog}
+use Rattle.erm_log_run.specs.Runs.{IsCutReportOf, IsReportOf, WasCut, WasRun}
+use Rattle.erm_log_run.specs.Saving.{AreSaved, saved_at}
+use Rattle.erm_log_run.proofs.Held.{tells_and, tells_join, tells_weaker}
+use Rattle.erm_disk_run.specs.Crashes.{Leaves, Outlives}
+use Rattle.erm_disk_run.specs.Found.{StartsFrom}
+use Rattle.erm_disk_run.specs.Opened.{NamesFound}
+use Rattle.erm_disk_run.specs.Owed.{CoursesOwe}
+use Rattle.erm_disk_run.specs.Runs.{AreUncut, AreUnseen, WasCutOn, WasRunOn, commits_told}
+use Rattle.erm_disk_run.proofs.Cut.{HasUnseen, course_uncut, has_unseen, run_uncut, whole_course}
+use Rattle.erm_disk_run.proofs.Left.{AuditLaws, OrdersAreOne, leaves}
+use Rattle.erm_disk_run.proofs.Opened.{MayOpenAll}
+use Rattle.erm_disk_run.proofs.Outlived.{OpensAt, outlives, tells_both}
+use Rattle.erm_disk_run.proofs.SlotsLeft.{SlotsLeft, saved_told}
+use Rattle.erm_disk_run.proofs.Told.{CourseLaws, OpensOn, RanOn, opening_stays}
+
+-- the laws that a run on a disk rests on
+pub record DiskLaws : Type 0 where
+  pub courses : CourseLaws
+  pub may : MayOpenAll
+  pub one : OrdersAreOne
+  pub audits : AuditLaws
+  pub runs_few : RunsCutFew
+  pub parts_few : PartsCutFew
+  pub close : CoursesClose
+  pub owe : CoursesOwe
+
+-- behind some earlier blocks recovery meets the last of a log's that are flushed
+abbrev pub MeetsLog : Log → Slots → List Step → Type 0
+MeetsLog log slots steps = (earlier : List Block) × MeetsTail sound_law.meets earlier log slots steps
+
+-- so it does at the end of a run, where it did at first
+pub meets_still : (begun log : Log) (first slots : Slots) (P : List Step → List Step → Type 0) (mid after : Option (List Step)) → Tells P mid after → IfSome mid (MeetsLog begun first)
+    → ((earlier : List Block) → IfSome mid (MeetsTail sound_law.meets earlier begun first) → IfSome after (MeetsTail sound_law.meets earlier log slots)) → IfSome after (MeetsLog log slots)
+meets_still begun log first slots P None after told meets still = subst (λ (o : Option (List Step)). IfSome o (MeetsLog log slots)) (sym told) tt
+meets_still begun log first slots P (Some steps) after told (earlier, meets) still = some after (still earlier meets)
+  where
+    some : (o : Option (List Step)) → IfSome o (MeetsTail sound_law.meets earlier log slots) → IfSome o (MeetsLog log slots)
+    some None meets = tt
+    some (Some steps) meets = (earlier, meets)
+
+-- A disk's log was opened on a state, with a world of a session for each name, and what a report starts from. Then moves were made from one view
+-- to another, while each image at each moment recovered to what the log had gathered.
+pub record RunsOn (state : State) (many : ℕ) (v t : View) (begun log : Log) (lines : List Line) (before mid after : Option (List Step)) : Type 0 where
+  pub opened : OpensOn state many v
+  pub low : state.at < STOP
+  pub run_low : state.run < LAST_RUN
+  pub first : IsLogOf v begun
+  pub flushed : begun.flushed ≡ v.flushed
+  pub log_of : IsLogOf t log
+  pub is : IsLog sound_law.meets log
+  pub opens : Tells (OpensAt state) before mid
+  pub moments : Tells (KeepsBlocks sound_law.meets (state_at begun []) log.gathered begun.flushed) mid after
+  pub acknowledged : Tells (AllLast sound_law.meets (state_at begun []) log.gathered lines) mid after
+
+-- states that say the same are one
+one_state : (a b : State) → a.at ≡ b.at → a.run ≡ b.run → a.rows ≡ b.rows → a ≡ b
+one_state a b at run rows = λ i. record { at = at i; run = run i; rows = rows i }
+
+module _ (laws : DiskLaws) (state : State) (names : List (List ℕ)) (v t : View) (begun log : Log) (script : List ScriptLine) (lines : List Line) (before mid after : Option (List Step))
+    (on : RunsOn state (length names) v t begun log lines before mid after) where
+  -- where the run began is where the log began
+  same_start : (answers : List Answer) (closed : List Closed) → RanOn state (length names) v t log script answers closed → state_at begun [] ≡ state_at log []
+  same_start answers closed ran =
+      let stays : v.opening ≡ t.opening = sym (opening_stays laws.courses state (length names) v t log script answers closed ran) in
+      one_state (state_at begun []) (state_at log []) (on.first.at ∙ ap (λ (o : world.Opening). o.tail) stays ∙ sym on.log_of.at)
+      (on.first.run ∙ ap (λ (o : world.Opening). o.run) stays ∙ sym on.log_of.run) (on.first.rows ∙ ap (λ (o : world.Opening). o.rows) stays ∙ sym on.log_of.rows)
+
+  low : state.at ≤ begun.flushed
+  low = let flushed = on.flushed in let at = on.opened.opened.flushed in let tail = on.opened.tail in omega (arith, flushed, at, tail)
+
+  outlived : (answers : List Answer) (closed : List Closed) → RanOn state (length names) v t log script answers closed
+      → Tells (Outlives (commits_told names script answers closed) state lines) before after
+  outlived answers closed ran =
+      tells_join (OpensAt state) (λ b c. KeepsBlocks sound_law.meets (state_at log []) log.gathered begun.flushed b c × AllLast sound_law.meets (state_at log []) log.gathered lines b c)
+      (Outlives (commits_told names script answers closed) state lines) before mid after
+      (outlives laws.courses laws.may state (length names) v t log script answers closed ran lines begun.flushed low) on.opens
+      (subst (λ (s : State). Tells (λ b c. KeepsBlocks sound_law.meets s log.gathered begun.flushed b c × AllLast sound_law.meets s log.gathered lines b c) mid after)
+      (same_start answers closed ran)
+      (tells_both (KeepsBlocks sound_law.meets (state_at begun []) log.gathered begun.flushed) (AllLast sound_law.meets (state_at begun []) log.gathered lines) mid after on.moments on.acknowledged))
+
+  -- of a course and the sessions that it closed
+  ran_on : (answers : List Answer) (closed : List Closed) (course : IsCourse v script answers t) → AreClosed course.closing closed → RanOn state (length names) v t log script answers closed
+  ran_on answers closed course are = record { opened = on.opened; course = course; are = are; log_of = on.log_of; is = on.is }
+
+  pub was_run_on : (slots : Slots) → t.flushed ≡ t.tail → IfSome after (MeetsLog log slots) → (opening : Opening) → StartsFrom state opening
+      → (was : WasRun v t opening names script lines) → IsReportOf opening names script was.answers was.closed lines → (first : Slots)
+      → Tells (λ old new. NamesFound first old) before mid → AreSaved (saved_at was.answers) mid first slots → WasRunOn before after state names script lines
+  was_run_on slots flushed meets opening starts was report first named saved = record {
+    low = on.low;
+    run_low = on.run_low;
+    opening = opening;
+    starts = starts;
+    tight = report.tight;
+    uncut = subst AreUncut (sym report.answers_are) (run_uncut laws.runs_few v t script was.answers was.run on.opened.cuts);
+    outlives = outlived answers closed ran;
+    leaves =
+        tells_weaker (λ old new. (MeetsLog log slots new × Outlives (commits_told names script answers closed) state lines old new) × SlotsLeft answers slots old new)
+        (λ old new. Leaves (commits_told names script answers closed) state answers end old new) before after
+        (λ old new both. leaves laws.courses laws.may laws.one laws.audits state (length names) v t log script answers closed ran slots new both.0.0 ends good.report.order opening.map end starts.map
+        good.order.serial good.order.run old both.1)
+        (tells_both (λ old new. MeetsLog log slots new × Outlives (commits_told names script answers closed) state lines old new) (SlotsLeft answers slots) before after
+        (tells_and (MeetsLog log slots) (Outlives (commits_told names script answers closed) state lines) before after meets (outlived answers closed ran)) left);
+  }
+    where
+      good : IsGoodReport InTurn opening names script lines
+      good = report.tight.good
+
+      answers : List Answer
+      answers = good.report.answers
+
+      closed : List Closed
+      closed = good.report.closed
+
+      end : Database
+      end = from_entries (entries_of good.report.pairs)
+
+      left : Tells (SlotsLeft answers slots) before after
+      left = tells_join (λ old new. NamesFound first old) (λ old new. AreSaved (saved_at answers) (Some new) first slots) (SlotsLeft answers slots) before mid after
+          (λ a b c is kept. record { first = first; named = is; saved = kept }) named
+          (saved_told (KeepsBlocks sound_law.meets (state_at begun []) log.gathered begun.flushed) answers first slots mid after
+          (subst (λ (given : List Answer). AreSaved (saved_at given) mid first slots) (sym report.answers_are) saved) on.moments)
+
+      ends : log.flushed ≡ log.tail
+      ends = on.log_of.flushed ∙ flushed ∙ sym on.log_of.tail
+
+      ran : RanOn state (length names) v t log script answers closed
+      ran =
+          subst (λ (cs : List Closed). RanOn state (length names) v t log script answers cs) (sym report.closed_are)
+          (subst (λ (given : List Answer). RanOn state (length names) v t log script given was.closed) (sym report.answers_are)
+          (ran_on was.answers was.closed (whole_course v t script was.answers was.run) was.are))
+
+  pub was_cut_on : (opening : Opening) → StartsFrom state opening → IsOpeningOf v opening → (was : WasCut v t opening names script lines) → IsCutReportOf opening names script was.answers lines
+      → WasCutOn before after state names script lines
+  was_cut_on opening starts of was report = record {
+    low = on.low;
+    run_low = on.run_low;
+    opening = opening;
+    starts = starts;
+    cut = report.cut;
+    of_log = subst (λ (o : Option ScriptLine). IfSome o IsLineOfLog)
+        (was.at ∙ ap (λ (given : List Answer). slice_get script (length given)) (sym report.answers_are) ∙ sym report.cut.at) was.of_log;
+    uncut = subst AreUncut (sym report.answers_are) (course_uncut laws.parts_few v t script was.answers was.course on.opened.cuts);
+    closed = found.closed;
+    unseen = subst (λ (given : List Answer). AreUnseen names script given found.closed) (sym report.answers_are) found.unseen;
+    owes = subst (λ (given : List Answer). OwesToAnswers InTurn opening script given (transactions_of (length names) (places_of script given found.closed))) (sym report.answers_are)
+        (subst (λ (n : ℕ). OwesToAnswers InTurn opening script was.answers (transactions_of n (places_of script was.answers found.closed))) on.opened.sessions
+        (laws.owe v t script was.answers was.course found.closed opening found.are of));
+    outlives = outlived report.cut.answers found.closed (subst (λ (given : List Answer). RanOn state (length names) v t log script given found.closed) (sym report.answers_are)
+        (ran_on was.answers found.closed was.course found.are));
+  }
+    where
+      found : HasUnseen names v t script was.answers was.course
+      found = has_unseen laws.close names v t script was.answers was.course was.late

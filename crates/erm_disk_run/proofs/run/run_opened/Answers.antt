@@ -1,0 +1,89 @@
+use Rattle.std.proofs.Common.{◌≡◌, Result, Err, Vec, length, sym, ap, ◌∙◌, subst}
+use Rattle.std.specs.declared.alloc.Global.{Global}
+use Rattle.erm_model.specs.Database.{Database, value_at}
+use Rattle.erm_checkpoint.specs.Taken.{HoldsLog}
+use Rattle.erm_node.specs.Sound.{IsSound, sound_law}
+use Rattle.erm_plain.specs.Logs.{plain_log}
+use Rattle.erm_plain.specs.Stands.{IsWorld, plain_view}
+use Rattle.erm_report.specs.declared.line.Line.{Line}
+use Rattle.erm_world.specs.Log.{Log}
+use Rattle.erm_world.specs.World.{View}
+use Rattle.erm_summary.specs.Tables.{KeysAreInTables}
+use Rattle.erm_log_run.specs.declared.stops.RunStop.{RunStop as LogRunStop}
+use Rattle.erm_log_run.proofs.Held.{told_after}
+use Rattle.erm_disk_run.specs.Opened.{OpensLog}
+use Rattle.erm_disk_run.specs.Runs.{AreInTables, CountsRun, EndsRun}
+use Rattle.erm_disk_run.specs.declared.stops.RunStop.{RunStop}
+use Rattle.erm_disk_run.proofs.Spared.{script_lines}
+use Rattle.erm_disk_run.proofs.Told.{same_map}
+use Rattle.erm_disk_run.proofs.ToldEnds.{counts, ended_as, ends, opened_on, opening_of, tables}
+use Rattle.erm_disk_run.proofs.ToldRun.{DiskLaws, MeetsLog}
+use Rattle.erm_disk_run.proofs.run.run_opened.Goals as goal
+use Rattle.erm_disk_run.proofs.run.run_opened.Goals.{in-Ok, in-Err-DiskFault, in-Err-Memory}
+
+pub run_script-requires-clause-map : goal.run_script-requires-clause-map
+run_script-requires-clause-map g c =
+    let was = c.requires.opened.2 in
+    was.map ∙ sym (same_map c.same_rows_same_map.ensures c.requires.opened.1 (length c.args.names.now) (plain_view c.args.opened.world) was.world.view)
+
+pub run_script-requires-clause-lines : goal.run_script-requires-clause-lines
+run_script-requires-clause-lines g c =
+    script_lines (plain_view c.args.opened.world) c.args.script.now (length c.args.names.now) c.requires.opened.2.world.view.sessions c.requires.script.each
+
+pub run_script-requires-clause-ranges : goal.run_script-requires-clause-ranges
+run_script-requires-clause-ranges g c = λ l m. (c.requires.script.each l m).range
+
+pub run_script-requires-clause-holds : goal.run_script-requires-clause-holds
+run_script-requires-clause-holds g c =
+    let log : Log = plain_log c.args.opened.world in
+    told_after (HoldsLog IsSound log c.args.opened.slots) (OpensLog c.requires.opened.1 log c.args.opened.slots) c.requires.opened.0 (g.D.Disk.told c.args.disk) (λ a b opens. opens.holds) c.requires.opened.2.disk
+
+pub returns : goal.returns
+returns g c =
+    let o = c.args.opened in
+    let names = c.args.names.now in
+    let script = c.args.script.now in
+    let mid = g.D.Disk.told c.args.disk in
+    let store = c.run_script.new.store in
+    let after = g.D.Disk.told store.disk in
+    let did = c.run_script.ensures in
+    let t : View = plain_view c.run_script.new.world in
+    let log : Log = plain_log c.run_script.new.world in
+    let maps = c.same_rows_same_map.ensures in
+    let laws : DiskLaws = record {
+      courses = record { tell = c.executions_tell_sessions.ensures; go = c.executions_go_on.ensures; states = c.logs_tell_states.ensures; maps = maps };
+      may = c.kept_images_may_open.ensures;
+      one = c.serial_order_is_unique.ensures.unique_for_sessions;
+      audits = record { logged = c.logs_have_the_commits_told.ensures; meet = c.recovery_meets_the_run.ensures; audit = c.audits_tell_the_commits.ensures };
+      runs_few = c.runs_cut_few.ensures;
+      parts_few = c.parts_cut_few.ensures;
+      close = c.courses_close_sessions.ensures;
+      owe = c.courses_owe_to_answers.ensures;
+    } in
+    let told : ended_as c.run_script.result ≡ c.match-run_script.ended = elim c.match-run_script.branch [
+      | in-Ok w ↦ ap ended_as w.in-Ok.is ∙ sym w.ended-is
+      | in-Err-DiskFault w ↦ ap ended_as w.in-Err-DiskFault.is ∙ ap (λ (stop : LogRunStop). ended_as (Err stop)) w.in-Err-DiskFault.field-0-is ∙ sym w.ended-is
+      | in-Err-Memory w ↦ ap ended_as w.in-Err-Memory.is ∙ ap (λ (stop : LogRunStop). ended_as (Err stop)) w.in-Err-Memory.field-0-is ∙ sym w.ended-is
+    ] in
+    let start = c.requires.opened.0 in
+    let found = c.requires.opened.1 in
+    let was = c.requires.opened.2 in
+    let keys : KeysAreInTables o.start.map = λ table key above.
+    ap (λ (m : Database). value_at m table key) was.map ∙ c.map_has_values_of_records.ensures.none found.rows table key was.found.are_sound above
+    in
+    record {
+      ended = λ before state opens.
+          subst (λ (e : Result (Vec Line Global) RunStop). EndsRun e before after names script) told
+          (ends laws state names (plain_view o.world) t (plain_log o.world) log (opening_of o) script o.slots store.slots before mid after
+          (opened_on maps before mid state (length names) o c.requires.stands.log_of_view opens) c.run_script.result (IsWorld sound_law c.run_script.new.world)
+          (λ stands. (stands.log_of_view, stands.log)) did.stands did.moments did.acknowledged did.flushed
+          (told_after (MeetsLog (plain_log o.world) o.slots) (OpensLog state (plain_log o.world) o.slots) before mid (λ a b opens. opens.tail) opens.disk) did.tail did.ran did.cut);
+      tables =
+          subst AreInTables told
+          (tables laws found names (plain_view o.world) t (plain_log o.world) log (opening_of o) script o.slots store.slots start mid after
+          (opened_on maps start mid found (length names) o c.requires.stands.log_of_view was) c.summaries_are_in_tables.ensures keys (λ l m. (c.requires.script.each l m).range)
+          c.run_script.result did.ran did.cut);
+      counts =
+          subst (λ (e : Result (Vec Line Global) RunStop). CountsRun e (g.D.Disk.faults c.args.disk) (g.D.Disk.faults store.disk)) told
+          (counts c.run_script.result (g.D.Disk.faults c.args.disk) (g.D.Disk.faults store.disk) did.fault did.sound);
+    }

@@ -1,0 +1,63 @@
+-- What a crash leaves of a disk at any moment of a run, by the commits that the run tells.
+use Rattle.std.specs.Prelude.{◌≡◌, ◌≢◌, ℕ, ◌+◌, ◌<◌, ◌≤◌, ◌⊎◌, List, Some, None}
+use Rattle.erm_model.specs.Committed.{Committed, IsStateBelow}
+use Rattle.erm_model.specs.Database.{Database}
+use Rattle.erm_model.specs.Member.{◌∈◌}
+use Rattle.erm_model.specs.declared.limits.TheConstants.{LEAST_BLOCK}
+use Rattle.erm_outside.specs.Disk.{Image, IsSettled, Step, contents}
+use Rattle.erm_block.specs.declared.block.Block.{Block}
+use Rattle.erm_ckpt.specs.Recovered.{Pair, Recovers, RecoversAt, State, base, best, slots_of}
+use Rattle.erm_told_audit.specs.Audits.{AuditTells}
+use Rattle.erm_ckpt.specs.States.{RecoversTo}
+use Rattle.erm_crash.specs.Moments.{AtMoments, IsMoment, TearsApart}
+use Rattle.erm_log_run.specs.Acknowledged.{IsAcknowledged}
+use Rattle.erm_log_run.specs.Saving.{saved_at}
+use Rattle.erm_log_words.specs.Kept.{MayOpen}
+use Rattle.erm_node.specs.Sound.{sound_law}
+use Rattle.erm_node.specs.TreeMap.{map_of_rows}
+use Rattle.erm_report.specs.declared.answer.Answer.{Answer}
+use Rattle.erm_report.specs.declared.line.Line.{Line}
+
+-- An image recovers to the map that some commits make below a stamp, from a state on. The stamp is at or above a place, and the run is the
+-- state's or the next. And the image may be opened again.
+pub record RecoversBelow (commits : List Committed) (from : State) (place : ℕ) (image : Image) : Type 0 where
+  pub found : State
+  pub pair : Pair
+  pub there : RecoversTo sound_law.meets found pair image
+  pub low : place ≤ found.at
+  pub run : (found.run ≡ from.run) ⊎ (found.run ≡ from.run + 1)
+  pub map : IsStateBelow commits (map_of_rows from.rows) found.at (map_of_rows found.rows)
+  pub opens : MayOpen (RecoversAt sound_law.meets) image
+
+-- so does each image at each moment that shows each block and each slot whole, or none
+abbrev pub KeepsCommits : List Committed → State → ℕ → List Step → List Step → Type 0
+KeepsCommits commits from place old new =
+    AtMoments (λ now image. TearsApart sound_law.meets now image → RecoversBelow commits from place image) old new
+
+-- so it is from some moment on, up to the last one
+pub record KeepsSince (commits : List Committed) (from : State) (place : ℕ) (old new : List Step) : Type 0 where
+  pub mid : List Step
+  pub moment : IsMoment old new mid
+  pub keeps : KeepsCommits commits from place mid new
+
+-- Commits outlive a crash: at each moment each image recovers to those below a stamp, and from some moment on to all below each place that
+-- these lines acknowledge.
+pub record Outlives (commits : List Committed) (from : State) (lines : List Line) (old new : List Step) : Type 0 where
+  pub moments : KeepsCommits commits from from.at old new
+  pub acknowledged : (place : ℕ) → IsAcknowledged lines place → KeepsSince commits from place old new
+
+-- At the end nothing is pending on a disk, so that a crash leaves what it reads: it recovers to this map, in the next run, behind all commits. Of
+-- the commits in the blocks that recovery meets those of this run are just these, from the place on where recovery begins. The best checkpoint is
+-- the last one that the answers tell, and with none the slots are those from before.
+pub record Leaves (commits : List Committed) (from : State) (answers : List Answer) (m : Database) (old steps : List Step) : Type 0 where
+  pub settled : IsSettled steps
+  pub found : State
+  pub pair : Pair
+  pub there : RecoversTo sound_law.meets found pair (contents steps)
+  pub run : found.run ≡ from.run + 1
+  pub low : from.at + LEAST_BLOCK ≤ found.at
+  pub above : (c : Committed) → c ∈ commits → c.stamp < found.at
+  pub map : map_of_rows found.rows ≡ m
+  pub logged : (best : Pair) (blocks : List Block) → Recovers sound_law.meets (contents steps) best blocks → AuditTells blocks (base best).at (from.at + LEAST_BLOCK) commits
+  pub saved : (place : ℕ) → saved_at answers ≡ Some place → (best pair ≢ None) × ((base pair).at ≡ place)
+  pub spared : saved_at answers ≡ None → (before : Pair) (blocks : List Block) → Recovers sound_law.meets (contents old) before blocks → slots_of pair ≡ slots_of before

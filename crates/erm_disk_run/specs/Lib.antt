@@ -1,0 +1,7 @@
+pub mod Crashes
+pub mod Found
+pub mod Opened
+pub mod Owed
+pub mod Runs
+pub mod Saved
+pub mod Stops

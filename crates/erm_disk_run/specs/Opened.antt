@@ -1,0 +1,83 @@
+-- A disk's log that was just opened for the next run, and why none is.
+use Rattle.std.specs.Prelude.{◌≡◌, ℕ, ◌+◌, ◌<◌, List, Option, false}
+use Rattle.erm_model.specs.Rows.{Rows}
+use Rattle.erm_model.specs.declared.limits.TheConstants.{LAST_RUN, LEAST_BLOCK, STOP}
+use Rattle.erm_block.specs.declared.block.Block.{Block}
+use Rattle.erm_outside.specs.Disk.{Step, Tells, contents}
+use Rattle.erm_ckpt.specs.declared.slot.Slots.{Slots}
+use Rattle.erm_ckpt.specs.Recovered.{Pair, Recovers, State, slots_of}
+use Rattle.erm_checkpoint.specs.Taken.{HoldsLog}
+use Rattle.erm_crash.specs.Kept.{KeepsOpening}
+use Rattle.erm_node.specs.Sound.{sound_law}
+use Rattle.erm_node.specs.TreeMap.{map_of_rows}
+use Rattle.erm_plain.specs.Logs.{plain_log}
+use Rattle.erm_plain.specs.Stands.{plain_view}
+use Rattle.erm_plain.specs.declared.plain.Plain.{Plain}
+use Rattle.erm_recover.specs.declared.open.OpenStop.{OpenStop}
+use Rattle.erm_recover.specs.declared.open.OpenStop.TheVariants as opening
+use Rattle.erm_recover.specs.declared.stop.RecoverStop.{RecoverStop}
+use Rattle.erm_recover.specs.declared.stop.RecoverStop.TheVariants as recover
+use Rattle.erm_start.specs.Recovered.{IsOpenedLog, IsOpenedOn}
+use Rattle.erm_told_log.specs.Tail.{MeetsTail}
+use Rattle.erm_world.specs.Log.{Log}
+use Rattle.erm_disk_run.specs.declared.opening.Opened.{Opened}
+use Rattle.erm_disk_run.specs.declared.opening.Room.{Room}
+use Rattle.erm_disk_run.specs.declared.stops.DiskStop.{DiskStop}
+use Rattle.erm_disk_run.specs.declared.stops.DiskStop.TheVariants as stop
+use Rattle.erm_disk_run.specs.Found.{IsFound}
+
+-- slots name the checkpoints from which a disk recovers as it reads
+pub record NamesFound (slots : Slots) (steps : List Step) : Type 0 where
+  pub pair : Pair
+  pub blocks : List Block
+  pub recovers : Recovers sound_law.meets (contents steps) pair blocks
+  pub names : slots ≡ slots_of pair
+
+-- The log of a state was opened on a disk. The slots are those found there. At each moment each image recovers to the state, in its run or the
+-- next, and at the end the disk holds the log that was opened, behind the blocks found.
+pub record OpensLog (state : State) (log : Log) (slots : Slots) (old new : List Step) : Type 0 where
+  pub pair : Pair
+  pub found : NamesFound slots old
+  pub keeps : KeepsOpening sound_law.meets state pair old new
+  pub holds : HoldsLog sound_law.meets log slots new
+  pub tail : (earlier : List Block) × MeetsTail sound_law.meets earlier log slots new
+
+-- the same of a world's log, as far as the disk tells
+abbrev pub OpensTold : {L : Type 0} → State → Plain L → Slots → Option (List Step) → Option (List Step) → Type 0
+OpensTold state world slots before after = Tells (OpensLog state (plain_log world) slots) before after
+
+-- A world of so many sessions was opened on the rows of a state, behind the block that opens its log for the next run, below the end of runs and of
+-- the log.
+pub record IsOpenedWorld {L : Type 0} (state : State) (sessions : ℕ) (world : Plain L) : Type 0 where
+  pub low : state.at < STOP
+  pub run_low : state.run < LAST_RUN
+  pub view : IsOpenedOn state.rows (state.at + LEAST_BLOCK) (state.run + 1) sessions (plain_view world)
+  pub log : IsOpenedLog state.rows (state.at + LEAST_BLOCK) (state.run + 1) (plain_log world)
+
+-- a flusher that hasn't failed, and the map of these rows
+pub record IsRoomFor (rows : Rows) (room : Room) : Type 0 where
+  pub well : room.flusher ≡ false
+  pub map : room.map ≡ map_of_rows rows
+
+-- A state was found on a disk and its log opened, with a world of so many sessions. What a report starts from is the state's map, place and
+-- next run, and the flusher hasn't failed.
+pub record WasOpened (before after : Option (List Step)) (state : State) (sessions : ℕ) (o : Opened) : Type 0 where
+  pub found : IsFound before state
+  pub world : IsOpenedWorld state sessions o.world
+  pub disk : OpensTold state o.world o.slots before after
+  pub map : o.start.map ≡ map_of_rows state.rows
+  pub stamp : o.start.stamp ≡ state.at
+  pub run : o.start.run ≡ state.run + 1
+  pub well : o.flusher ≡ false
+
+-- why nothing is run, by why a disk isn't recovered
+abbrev pub stop_of_recovery : RecoverStop → DiskStop
+stop_of_recovery recover.DiskFault = stop.DiskFault
+stop_of_recovery recover.NoBase = stop.NoBase
+stop_of_recovery recover.Memory = stop.Memory
+
+-- and by why its log isn't opened
+abbrev pub stop_of_opening : OpenStop → DiskStop
+stop_of_opening (opening.RunsEnd run) = stop.RunsEnd run
+stop_of_opening (opening.LogEnd tail) = stop.LogEnd tail
+stop_of_opening opening.DiskFault = stop.DiskFault

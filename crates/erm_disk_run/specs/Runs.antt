@@ -1,0 +1,111 @@
+-- A script that was run on a disk: what its report tells, and what a crash leaves.
+use Rattle.std.specs.Prelude.{◌≡◌, ℕ, ◌+◌, ◌<◌, ◌≤◌, List, [], length, Option, IfSome, Result, Ok, Err, Vec}
+use Rattle.std.specs.FinMap.{from_entries}
+use Rattle.std.specs.List.{All, AllPairs}
+use Rattle.std.specs.declared.alloc.Global.{Global}
+use Rattle.erm_model.specs.Committed.{Committed}
+use Rattle.erm_model.specs.Database.{entries_of}
+use Rattle.erm_model.specs.Member.{◌∈◌}
+use Rattle.erm_model.specs.declared.limits.TheConstants.{LAST_NUMBER, LAST_RUN, SESSIONS, STOP, TABLES}
+use Rattle.erm_ckpt.specs.Recovered.{State}
+use Rattle.erm_outside.specs.Disk.{Step, Tells}
+use Rattle.erm_report.specs.declared.answer.Answer.{Answer}
+use Rattle.erm_report.specs.declared.answer.Answer.TheVariants as answer
+use Rattle.erm_outside.specs.Faults.{Rose}
+use Rattle.erm_report.specs.Printable.{FitsTypes, IsInTables}
+use Rattle.erm_report.specs.declared.line.Line.{Line}
+use Rattle.erm_script.specs.Script.{IsInRange}
+use Rattle.erm_script.specs.declared.script.Command.{Command}
+use Rattle.erm_script.specs.declared.script.Command.TheVariants as command
+use Rattle.erm_script.specs.declared.script.ScriptLine.{ScriptLine}
+use Rattle.erm_log_run.specs.Lines.{IsLineOfLog}
+use Rattle.erm_good_report.specs.GoodReport.{IsCutReport, IsTightReport, OwesToAnswers, places_of}
+use Rattle.erm_good_report.specs.Opening.{InTurn, Opening}
+use Rattle.erm_good_report.specs.Phases.{Closed, Closes, phase_of}
+use Rattle.erm_good_report.specs.Transactions.{history_of, said_of, table_of, transactions_of}
+use Rattle.erm_disk_run.specs.Crashes.{Leaves, Outlives}
+use Rattle.erm_disk_run.specs.Found.{IsFound, StartsFrom}
+use Rattle.erm_disk_run.specs.Stops.{CountsStop, StopsFor}
+use Rattle.erm_disk_run.specs.declared.stops.RunStop.{RunStop}
+use Rattle.erm_disk_run.specs.declared.stops.RunStop.TheVariants as run
+
+-- a line of the log names no session, any other one of so many
+abbrev pub NamesOneOf : ℕ → Command → ℕ → Type 0
+NamesOneOf sessions command.Flush session = session ≡ 0
+NamesOneOf sessions command.Checkpoint session = session ≡ 0
+NamesOneOf sessions c session = (0 < session) × (session ≤ sessions)
+
+-- a line of a script that can be run: it names a session as its command asks, one of the tables, where it names one, and numbers in range
+pub record MayBeRun (sessions : ℕ) (l : ScriptLine) : Type 0 where
+  pub session : NamesOneOf sessions l.command l.session
+  pub table : IfSome (table_of l.command) (λ table. table < TABLES)
+  pub range : IsInRange l.command
+
+-- a script of so many sessions, not too long, each line of which can be run
+pub record IsScriptFor (names : List (List ℕ)) (script : List ScriptLine) : Type 0 where
+  pub few : length names ≤ SESSIONS
+  pub short : length script + SESSIONS ≤ LAST_NUMBER
+  pub each : (l : ScriptLine) → l ∈ script → MayBeRun (length names) l
+
+-- the commits that these answers and closed sessions of a script tell
+abbrev pub commits_told : List (List ℕ) → List ScriptLine → List Answer → List Closed → List Committed
+commits_told names script answers closed = history_of (transactions_of (length names) (places_of script answers closed))
+
+-- no answer tells that versions were cut off
+abbrev pub AreUncut : List Answer → Type 0
+AreUncut answers = (n : ℕ) → answer.Cut n ∈ answers → n ≡ 0
+
+-- A script was run on a disk from which a state was found, below the end of the log and of runs: these lines are a good report, whose windows are
+-- tight. The commits that it tells outlive a crash at any moment, and at the end the disk recovers to the map that it tells.
+pub record WasRunOn (before after : Option (List Step)) (state : State) (names : List (List ℕ)) (script : List ScriptLine) (lines : List Line) : Type 0 where
+  pub low : state.at < STOP
+  pub run_low : state.run < LAST_RUN
+  pub opening : Opening
+  pub starts : StartsFrom state opening
+  pub tight : IsTightReport InTurn opening names script lines
+  pub uncut : AreUncut tight.good.report.answers
+  pub outlives : Tells (Outlives (commits_told names script tight.good.report.answers tight.good.report.closed) state lines) before after
+  pub leaves : Tells (λ old new. Leaves (commits_told names script tight.good.report.answers tight.good.report.closed) state tight.good.report.answers
+      (from_entries (entries_of tight.good.report.pairs)) old new) before after
+
+-- Sessions were closed of which no line tells, each once, as the answers leave it; and only behind all lines of the script.
+pub record AreUnseen (names : List (List ℕ)) (script : List ScriptLine) (answers : List Answer) (closed : List Closed) : Type 0 where
+  pub once : AllPairs (λ c d. c.session < d.session) closed
+  pub fits : (c : Closed) → c ∈ closed → Closes (phase_of c.session (said_of script answers)) c.answer
+  pub late : length answers < length script → closed ≡ []
+
+-- The disk failed while a script was run on it, at a line of the log or behind all lines: these lines are the report up to then. With the
+-- sessions that were closed behind its last line the answers are what a report owes, and the commits that both tell outlive a crash at any
+-- moment.
+pub record WasCutOn (before after : Option (List Step)) (state : State) (names : List (List ℕ)) (script : List ScriptLine) (lines : List Line) : Type 0 where
+  pub low : state.at < STOP
+  pub run_low : state.run < LAST_RUN
+  pub opening : Opening
+  pub starts : StartsFrom state opening
+  pub cut : IsCutReport InTurn opening names script lines
+  pub of_log : IfSome cut.fault IsLineOfLog
+  pub uncut : AreUncut cut.answers
+  pub closed : List Closed
+  pub unseen : AreUnseen names script cut.answers closed
+  pub owes : OwesToAnswers InTurn opening script cut.answers (transactions_of (length names) (places_of script cut.answers closed))
+  pub outlives : Tells (Outlives (commits_told names script cut.answers closed) state lines) before after
+
+-- how a run ends on a disk before and after
+abbrev pub EndsRun : Result (Vec Line Global) RunStop → Option (List Step) → Option (List Step) → List (List ℕ) → List ScriptLine → Type 0
+EndsRun (Ok lines) before after names script = All FitsTypes lines.items → (state : State) × IsFound before state × WasRunOn before after state names script lines.items
+EndsRun (Err (run.DiskFault lines)) before after names script = All FitsTypes lines.items → (state : State) × IsFound before state × WasCutOn before after state names script lines.items
+EndsRun (Err (run.Unopened stop)) before after names script = StopsFor stop before after
+EndsRun (Err run.Memory) before after names script = Unit {0}
+
+-- the disk's count of faults rose exactly where the disk is why there is no report, or none that is whole
+abbrev pub CountsRun : Result (Vec Line Global) RunStop → ℕ → ℕ → Type 0
+CountsRun (Ok lines) before now = now ≡ before
+CountsRun (Err (run.DiskFault lines)) before now = Rose before now
+CountsRun (Err (run.Unopened stop)) before now = CountsStop stop before now
+CountsRun (Err run.Memory) before now = now ≡ before
+
+-- the lines of a report, whole or cut off, name tables that there are
+abbrev pub AreInTables : Result (Vec Line Global) RunStop → Type 0
+AreInTables (Ok lines) = All IsInTables lines.items
+AreInTables (Err (run.DiskFault lines)) = All IsInTables lines.items
+AreInTables (Err stop) = Unit {0}

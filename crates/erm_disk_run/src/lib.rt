@@ -1,0 +1,17 @@
+//! Runs on a disk: what is found on it is opened, a script is run or a checkpoint taken, and a crash at any moment leaves what was promised.
+#![tactic(auto)]
+
+mod checkpoint;
+mod laws;
+mod opening;
+mod run;
+mod stops;
+
+pub use checkpoint::checkpoint_on_disk;
+pub use run::run_on_disk;
+pub use stops::{DiskStop, OnDisk, RunStop};
+
+#[cfg(test)]
+mod run_tests;
+#[cfg(test)]
+mod tests;

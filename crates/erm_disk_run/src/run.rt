@@ -1,0 +1,118 @@
+//! A script, run on a disk.
+ghost use Rattle.std.specs.Prelude.{◌≡◌, ◌<◌, IfSome, List, Option, length};
+ghost use Rattle.erm_ckpt.specs.Recovered.{State};
+ghost use Rattle.erm_outside.specs.Disk.{Step};
+ghost use Rattle.erm_disk_run.specs.Found.{IsKept};
+ghost use Rattle.erm_disk_run.specs.Opened.{WasOpened};
+ghost use Rattle.erm_disk_run.specs.Runs.{AreInTables, CountsRun, EndsRun, IsScriptFor};
+
+use crate::laws::courses_owe_to_answers;
+use crate::opening::{Opened, open_disk};
+use crate::{OnDisk, RunStop};
+use erm_log_run::{RunStop as LogRunStop, Store, run_script};
+use erm_model::{Name, Seat};
+use erm_node::SoundRows;
+use erm_outside::Disk;
+use erm_plain::Plain;
+use erm_script::ScriptLine;
+use erm_world::RowWorld;
+use std::alloc::Global;
+
+/// Recovers a disk, opens its log for the next run, and runs a script there, one line after another. It gives the lines of the report, which is
+/// good and whose windows are tight. A crash at any moment leaves the commits below one stamp: all that a line acknowledged, once it has,
+/// and all at the end. Each image that a crash leaves may be opened again.
+pub fn run_on_disk<D: Disk>(
+    alloc: Global,
+    disk: D,
+    names: &[Name],
+    script: &[ScriptLine],
+) -> OnDisk<D, RunStop>
+    requires script { IsScriptFor names.now script.now }
+    requires kept { IfSome (D.told disk) IsKept }
+    ensures ended { EndsRun result.ended (D.told disk) (D.told result.disk) names.now script.now }
+    ensures tables { AreInTables result.ended }
+    ensures counts { CountsRun result.ended (D.faults disk) (D.faults result.disk) }
+{
+    erm_told_crash::spare_names_tell_nothing();
+
+    // A world has a session: where the script names none, its lines are those of the log, and this one stays idle.
+    if names.is_empty() {
+        run_named(alloc, disk, &[Name::empty()], script)
+    } else {
+        run_named(alloc, disk, names, script)
+    }
+}
+
+// Runs a script that names a session.
+fn run_named<D: Disk>(
+    alloc: Global,
+    disk: D,
+    names: &[Name],
+    script: &[ScriptLine],
+) -> OnDisk<D, RunStop>
+    requires some { 0 < length names.now }
+    requires script { IsScriptFor names.now script.now }
+    requires kept { IfSome (D.told disk) IsKept }
+    ensures ended { EndsRun result.ended (D.told disk) (D.told result.disk) names.now script.now }
+    ensures tables { AreInTables result.ended }
+    ensures counts { CountsRun result.ended (D.faults disk) (D.faults result.disk) }
+{
+    let mut disk = disk;
+    match open_disk(alloc, &mut disk, names.len() as Seat) {
+        Ok(opened) => run_opened(alloc, disk, opened, names, script),
+        Err(stop) => OnDisk {
+            disk,
+            ended: Err(RunStop::Unopened(stop)),
+        },
+    }
+}
+
+// Runs a script over the world of a disk that was just opened.
+fn run_opened<D: Disk>(
+    alloc: Global,
+    disk: D,
+    opened: Opened,
+    names: &[Name],
+    script: &[ScriptLine],
+) -> OnDisk<D, RunStop>
+    requires opened { (before : Option (List Step)) × (state : State) × WasOpened before (D.told disk) state (length names.now) opened }
+    requires stands { ⟦<Plain<SoundRows> as RowWorld>⟧.stands opened.world }
+    requires script { IsScriptFor names.now script.now }
+    ensures ended { (before : Option (List Step)) (state : State) → WasOpened before (D.told disk) state (length names.now) opened
+        → EndsRun result.ended before (D.told result.disk) names.now script.now }
+    ensures tables { AreInTables result.ended }
+    ensures counts { CountsRun result.ended (D.faults disk) (D.faults result.disk) }
+{
+    erm_told::executions_tell_sessions();
+    erm_told::executions_go_on();
+    erm_told::runs_cut_few();
+    erm_told::parts_cut_few();
+    erm_told_crash::logs_tell_states();
+    erm_told_crash::courses_close_sessions();
+    courses_owe_to_answers();
+    erm_told_crash::logs_have_the_commits_told();
+    erm_told_log::recovery_meets_the_run::<SoundRows>();
+    erm_told_audit::audits_tell_the_commits();
+    erm_core_ssn::serial_order_is_unique();
+    erm_node::same_rows_same_map();
+    erm_node::map_has_values_of_records();
+    erm_crash::kept_images_may_open::<SoundRows>();
+    erm_summary::summaries_are_in_tables();
+    let mut world = opened.world;
+    let mut store = Store {
+        disk,
+        flusher: opened.flusher,
+        checkpointer: opened.checkpointer,
+        slots: opened.slots,
+        run: opened.start.run,
+    };
+    let ended = match run_script(alloc, &mut world, &mut store, opened.start, names, script) {
+        Ok(lines) => Ok(lines),
+        Err(LogRunStop::DiskFault(lines)) => Err(RunStop::DiskFault(lines)),
+        Err(LogRunStop::Memory) => Err(RunStop::Memory),
+    };
+    OnDisk {
+        disk: store.disk,
+        ended,
+    }
+}
