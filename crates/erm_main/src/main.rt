@@ -1,8 +1,8 @@
-//! The program `erm`: the top call over standard input and standard output.
+//! The program `erm`: the top call over standard input, standard output and the disk in the working folder.
 #![tactic(auto)]
 
-use erm_outside_mem::{MemDisk, OpenGate};
-use erm_outside_real::{ReaderSource, WriterSink};
+use erm_outside_mem::OpenGate;
+use erm_outside_real::{FolderDisk, ReaderSource, WriterSink};
 use erm_top::ermia;
 use std::process::ExitCode;
 use std::rt::Env;
@@ -12,7 +12,7 @@ fn main(rt: HostRuntime) -> ExitCode {
     let mut source = ReaderSource::new(rt.reader());
     let mut sink = WriterSink::new(io::writer(&rt));
     let words = words(&rt);
-    let disk = MemDisk::new(rt.alloc());
+    let disk = FolderDisk::new(&rt);
     let ended = ermia(
         &rt,
         rt.alloc(),

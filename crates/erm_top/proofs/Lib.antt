@@ -1,5 +1,12 @@
-pub mod Streams
-pub mod Ending
+pub mod Asked
+pub mod Disks
+pub mod Fitting
+pub mod Inspected
+pub mod Printed
+pub mod Ran
+pub mod Rooms
 pub mod Spelled
-pub mod Started
-mod Texts
+pub mod Stopping
+pub mod Streams
+pub mod Texted
+pub mod Whole

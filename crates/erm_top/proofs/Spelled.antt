@@ -1,18 +1,15 @@
 -- What lines that are spelled may ask for.
-use Rattle.std.proofs.Common.{◌≡◌, ℕ, zero, suc, ◌<◌, ◌≤◌, true, false, List, [], ◌∷◌, length, Some, IfSome, refl, ap, subst, inl, inr, arith}
-use Rattle.std.specs.Prelude.{IsSome, max}
+use Rattle.std.proofs.Common.{◌≡◌, ℕ, zero, suc, ◌+◌, ◌<◌, ◌≤◌, true, false, List, [], ◌∷◌, length, Some, IfSome, ap, subst, inl, inr, arith}
+use Rattle.std.specs.Prelude.{max}
 use Rattle.std.specs.List.{slice_get}
-use Rattle.erm_model.specs.declared.limits.TheConstants.{TABLES}
-use Rattle.erm_model.specs.Member.{◌∈◌}
-use Rattle.erm_script.specs.Keywords.{has_command, names_session}
-use Rattle.erm_script.specs.Script.{AreNumbered, AreSpelled, IsCommand, IsInRange, IsScript, IsSpelled, kept_lines, keyword_of}
+use Rattle.erm_model.specs.declared.limits.TheConstants.{LAST_NUMBER, SESSIONS, TABLES}
+use Rattle.erm_script.specs.Keywords.{names_session}
+use Rattle.erm_script.specs.Script.{AreNumbered, AreSpelled, IsInRange, IsScript, IsSpelled, kept_lines, keyword_of}
 use Rattle.erm_script.specs.declared.script.Command.{Command}
 use Rattle.erm_script.specs.declared.script.Command.TheVariants as command
 use Rattle.erm_script.specs.declared.script.ScriptLine.{ScriptLine}
-use Rattle.erm_good_report.specs.Phases.{phase_asked}
 use Rattle.erm_good_report.specs.Transactions.{table_of}
-use Rattle.erm_world.specs.World.{View}
-use Rattle.erm_run.specs.Lines.{AreLinesOf}
+use Rattle.erm_disk_run.specs.Runs.{IsScriptFor, MayBeRun, NamesOneOf}
 use Rattle.erm_top.specs.Scripts.{run_grammar}
 
 -- each line is spelled by one of the bytes' lines
@@ -34,18 +31,16 @@ numbered_at seen [] many k l numbered at = absurd (cc)
 numbered_at seen (x ∷ xs) many zero l numbered at = let rest = seen_le (max seen x.session) xs many numbered.1 in let same : x ≡ l = (cc) in omega (arith, rest, ap (λ (s : ScriptLine). s.session) same)
 numbered_at seen (x ∷ xs) many (suc k) l numbered at = numbered_at (max seen x.session) xs many k l numbered.1 at
 
--- each line names its session
-no_lone : (c : Command) → names_session (keyword_of c) ≡ false → has_command run_grammar (keyword_of c) ≡ true → ⊥
-no_lone command.Flush unnamed there = absurd (cc)
-no_lone command.Checkpoint unnamed there = absurd (cc)
-no_lone c unnamed there = absurd (cc)
+-- a command that names a session, or none, does so in the lines that can be run
+names_one : (c : Command) (many session : ℕ) → names_session (keyword_of c) ≡ true → 0 < session → session ≤ many → NamesOneOf many c session
+names_one command.Flush many session named low high = absurd (cc)
+names_one command.Checkpoint many session named low high = absurd (cc)
+names_one c many session named low high = (low, high)
 
--- a command that there is asks for a phase, and for one of the tables where it names one
-asks_phase : (c : Command) → has_command run_grammar (keyword_of c) ≡ true → IsSome (phase_asked c)
-asks_phase command.Durable there = absurd (cc)
-asks_phase command.Flush there = absurd (cc)
-asks_phase command.Checkpoint there = absurd (cc)
-asks_phase c there = search
+names_none : (c : Command) (many session : ℕ) → names_session (keyword_of c) ≡ false → session ≡ 0 → NamesOneOf many c session
+names_none command.Flush many session unnamed none = none
+names_none command.Checkpoint many session unnamed none = none
+names_none c many session unnamed none = absurd (cc)
 
 names_table : (c : Command) → IsInRange c → IfSome (table_of c) (λ table. table < TABLES)
 names_table (command.Get table key) range = omega (arith, range.0)
@@ -56,36 +51,24 @@ names_table (command.Scan table low high) range = omega (arith, range.0.0)
 names_table (command.Tidy table key) range = omega (arith, range.0)
 names_table c range = search
 
--- what a line is, that is spelled
-record IsAsked (l : ScriptLine) : Type 0 where
-  session : 0 < l.session
-  ok : IsCommand run_grammar l.command
-
-asked : (names : List (List ℕ)) (line : List ℕ) (l : ScriptLine) → IsSpelled run_grammar names line l → IsAsked l
-asked names line l spelled = elim spelled as (λ _. IsAsked l) [
-  | inl named ↦ record { session = omega (arith, named.0); ok = named.1.command_ok }
-  | inr alone ↦ absurd (no_lone l.command alone.1.unnamed alone.1.command_ok.there)
+may_be_run : (names : List (List ℕ)) (line : List ℕ) (l : ScriptLine) → IsSpelled run_grammar names line l → l.session ≤ length names → MayBeRun (length names) l
+may_be_run names line l spelled high = elim spelled as (λ _. MayBeRun (length names) l) [
+  | inl named ↦ record {
+    session = names_one l.command (length names) l.session named.1.named named.0 high;
+    table = names_table l.command named.1.command_ok.in_range;
+    range = named.1.command_ok.in_range;
+  }
+  | inr alone ↦ record {
+    session = names_none l.command (length names) l.session alone.1.unnamed alone.0;
+    table = names_table l.command alone.1.command_ok.in_range;
+    range = alone.1.command_ok.in_range;
+  }
 ]
 
-script_asked : (bytes : List ℕ) (names : List (List ℕ)) (script : List ScriptLine) → IsScript run_grammar bytes names script → (l : ScriptLine) → l ∈ script → IsAsked l
-script_asked bytes names script is l at = let found = spelled_at names (kept_lines bytes) script at.0 l is.spelled at.1 in asked names found.0 l found.1
-
--- the lines of a script are those of a world with its sessions
-pub script_lines : (bytes : List ℕ) (names : List (List ℕ)) (script : List ScriptLine) (v : View) → IsScript run_grammar bytes names script → v.opening.sessions ≡ length names → AreLinesOf v script
-script_lines bytes names script v is many l at =
-    let own = script_asked bytes names script is l at in
-    record {
-      session = (own.session, omega (arith, many, numbered_at 0 script (length names) at.0 l is.numbered at.1));
-      asks = asks_phase l.command own.ok.there;
-      table = names_table l.command own.ok.in_range;
-    }
-
-pub script_ranges : (bytes : List ℕ) (names : List (List ℕ)) (script : List ScriptLine) → IsScript run_grammar bytes names script → (l : ScriptLine) → l ∈ script → IsInRange l.command
-script_ranges bytes names script is l at = (script_asked bytes names script is l at).ok.in_range
-
--- a script without sessions has no line
-pub no_line : (bytes : List ℕ) (names : List (List ℕ)) (script : List ScriptLine) → IsScript run_grammar bytes names script → length names ≡ 0 → script ≡ []
-no_line bytes names [] is none = refl
-no_line bytes names (x ∷ xs) is none =
-    let own = script_asked bytes names (x ∷ xs) is x (0, refl) in
-    absurd (omega (arith, own.session, none, numbered_at 0 (x ∷ xs) (length names) 0 x is.numbered refl))
+-- A script that is not too long can be run.
+pub can_be_run : (bytes : List ℕ) (names : List (List ℕ)) (script : List ScriptLine) → IsScript run_grammar bytes names script → length script + SESSIONS ≤ LAST_NUMBER → IsScriptFor names script
+can_be_run bytes names script is short = record {
+  few = is.few;
+  short = short;
+  each = λ l at. let found = spelled_at names (kept_lines bytes) script at.0 l is.spelled at.1 in may_be_run names found.0 l found.1 (numbered_at 0 script (length names) at.0 l is.numbered at.1);
+}

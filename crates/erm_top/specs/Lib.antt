@@ -1,4 +1,9 @@
+pub mod Around
 pub mod Commands
+pub mod Inspections
+pub mod Makes
 pub mod Outcomes
+pub mod Runs
 pub mod Scripts
-pub mod Statuses
+pub mod Stopped
+pub mod Told

@@ -3,6 +3,6 @@ use Rattle.std.specs.Prelude.{true, false}
 use Rattle.erm_model.specs.declared.limits.TheConstants.{SESSIONS}
 use Rattle.erm_script.specs.declared.grammar.Grammar.{Grammar}
 
--- up to 48 sessions, with the commands of an index; without a log and checkpoints, and all on one thread
+-- up to 48 sessions, with the commands of an index, of a log and of checkpoints, and all on one thread
 abbrev pub run_grammar : Grammar
-run_grammar = record { sessions = SESSIONS; index = true; log = false; checkpoints = false; threads = false }
+run_grammar = record { sessions = SESSIONS; index = true; log = true; checkpoints = true; threads = false }

@@ -1,7 +1,7 @@
 //! The commands that the program has.
 ghost use Rattle.std.specs.Prelude.{◌≡◌, true, Ok, Some, None};
 ghost use Rattle.erm_command_line.specs.CommandLine.{IsCommand};
-ghost use Rattle.erm_top.specs.Commands.{AskForNothing, is_on};
+ghost use Rattle.erm_top.specs.Commands.{AskForNothing, IsSized, is_on};
 
 use erm_command_line::{Command, command_of};
 use std::alloc::{AllocError, Global};
@@ -9,6 +9,8 @@ use std::alloc::{AllocError, Global};
 /// The command that the words ask for: none where they ask for no command that the program has.
 pub fn command_on(alloc: Global, words: &[String]) -> Result<Option<Command>, AllocError>
     ensures asked { (command : Command) → result ≡ Ok (Some command) → (is_on command ≡ true) × IsCommand words.now command }
+    ensures sized { (command : Command) → result ≡ Ok (Some command) → IsSized command }
+    ensures only { (command other : Command) → result ≡ Ok (Some command) → IsCommand words.now other → other ≡ command }
     ensures nothing { result ≡ Ok None → AskForNothing words.now }
 {
     match command_of(alloc, words)? {
@@ -27,8 +29,5 @@ pub fn command_on(alloc: Global, words: &[String]) -> Result<Option<Command>, Al
 fn is_on(command: Command) -> bool
     ensures { result ≡ is_on command }
 {
-    match command {
-        Command::Run => true,
-        _ => false,
-    }
+    !matches!(command, Command::Threads)
 }

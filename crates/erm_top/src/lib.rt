@@ -1,10 +1,14 @@
 //! The top call: from the words of the command line to a status.
 #![tactic(auto)]
 
-mod command;
+mod checkpoint;
 mod commands;
+mod inspect;
+mod make;
+mod printing;
 mod reading;
-mod scripts;
+mod run;
+mod texts;
 mod top;
 
 pub use erm_command_line::Command;

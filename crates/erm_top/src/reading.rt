@@ -1,7 +1,7 @@
 //! Reading a script from a source to its end.
 ghost use Rattle.std.specs.Prelude.{◌≡◌, ◌≢◌, ℕ, ◌+◌, ◌<◌, ◌≤◌, [], length, Some, IfOk, IfSome, Err};
 ghost use Rattle.erm_outside.specs.Faults.{Rose};
-ghost use Rattle.erm_top.specs.Statuses.{TakesAtMost, TakesMore};
+ghost use Rattle.erm_top.specs.Told.{TookAtMost, TookMore};
 
 use erm_outside::{Failed, Source};
 use std::alloc::{AllocError, Global};
@@ -52,8 +52,8 @@ pub fn read_all<S: Source>(alloc: Global, source: &mut S) -> Result<Vec<u8>, Rea
     ensures short { IfOk result (λ bytes. length bytes.items ≤ SCRIPT_BYTES) }
     ensures sound { result ≢ Err ReadError.Fault → S.faults source.new ≡ S.faults source.old }
     ensures fault { result ≡ Err ReadError.Fault → Rose (S.faults source.old) (S.faults source.new) }
-    ensures too_long { result ≡ Err ReadError.TooLong → TakesMore SCRIPT_BYTES (S.left source.old) (S.left source.new) }
-    ensures taken { TakesAtMost (SCRIPT_BYTES + 1) (S.left source.old) (S.left source.new) }
+    ensures too_long { result ≡ Err ReadError.TooLong → TookMore SCRIPT_BYTES (S.left source.old) (S.left source.new) }
+    ensures taken { TookAtMost (SCRIPT_BYTES + 1) (S.left source.old) (S.left source.new) }
 {
     let mut bytes = Vec::new(alloc);
     let mut chunk = [0; CHUNK_BYTES];

@@ -1,0 +1,18 @@
+use Rattle.std.proofs.Common.{Err, ap, ◌∙◌}
+use Rattle.erm_top.proofs.Texted.{tells_counts, tells_failed, tells_unmade}
+use Rattle.erm_top.proofs.make.made_text.Goals as goal
+
+pub returns-in_ok-counts_text-in-Ok : goal.returns-in_ok-counts_text-in-Ok
+returns-in_ok-counts_text-in-Ok c = λ before after faults now ends counts.
+    tells_counts c.args.ended c.requires before after faults now c.in-Ok.lines c.in-Ok.is c.deref.result.now c.deref.ensures.value c.in_ok-counts_text-in-Ok.ensures.fits counts
+    c.args.count c.args.sessions c.in_ok-counts_text-in-Ok.field-0 c.in_ok-counts_text-in-Ok.ensures.text ends
+
+pub returns-in-Err-Unopened : goal.returns-in-Err-Unopened
+returns-in-Err-Unopened c = λ before after faults now ends counts.
+    tells_unmade c.args.ended c.requires before after faults now c.in-Err-Unopened.stop (c.in-Err-Unopened.is ∙ ap (λ s. Err s) c.in-Err-Unopened.field-0-is) c.not_opened.result
+    (c.not_opened.ensures before after faults now) counts c.args.count c.args.sessions ends
+
+pub returns-in_ok-try_each_text-in-Err-DiskFault : goal.returns-in_ok-try_each_text-in-Err-DiskFault
+returns-in_ok-try_each_text-in-Err-DiskFault c = λ before after faults now ends counts.
+    tells_failed c.args.ended c.requires before after faults now c.in-Err-DiskFault.lines (c.in-Err-DiskFault.is ∙ ap (λ s. Err s) c.in-Err-DiskFault.field-0-is) c.deref-in-Err-DiskFault.result.now
+    c.deref-in-Err-DiskFault.ensures.value c.in_ok-try_each_text-in-Err-DiskFault.ensures counts c.args.count c.args.sessions ends

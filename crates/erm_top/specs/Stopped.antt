@@ -1,0 +1,113 @@
+-- What a command has to tell of what it did to a disk, by what the disk tells before and after, and by its faults.
+use Rattle.std.specs.Prelude.{◌≡◌, ℕ, ◌⊎◌, List, Option, Result, Ok, Err, Vec}
+use Rattle.std.specs.declared.alloc.Global.{Global}
+use Rattle.erm_ckpt.specs.Recovered.{State}
+use Rattle.erm_outside.specs.Disk.{Step}
+use Rattle.erm_outside.specs.Faults.{Rose}
+use Rattle.erm_report.specs.Texts.{line_text, text_of}
+use Rattle.erm_report.specs.declared.line.Line.{Line}
+use Rattle.erm_report.specs.declared.line.Line.TheVariants as line
+use Rattle.erm_script.specs.declared.fault.FaultKind.{FaultKind}
+use Rattle.erm_script.specs.declared.script.ScriptLine.{ScriptLine}
+use Rattle.erm_script.specs.Faults.{IsFirstBadLine}
+use Rattle.erm_made.specs.declared.counts.Made.{Made}
+use Rattle.erm_made.specs.Counts.{made_lines}
+use Rattle.erm_make.specs.Workload.{names_of}
+use Rattle.erm_inspect.specs.declared.stop.InspectStop.{InspectStop}
+use Rattle.erm_inspect.specs.declared.stop.InspectStop.TheVariants as inspect
+use Rattle.erm_disk_run.specs.declared.stops.DiskStop.TheVariants as disk
+use Rattle.erm_disk_run.specs.Found.{IsFound}
+use Rattle.erm_disk_run.specs.Runs.{WasCutOn, WasRunOn}
+use Rattle.erm_disk_run.specs.Saved.{WasCheckpointed}
+use Rattle.erm_disk_run.specs.Stops.{KeepsMap, StopsFor}
+use Rattle.erm_top.specs.Makes.{AreCountsOf, lines_of}
+use Rattle.erm_top.specs.Scripts.{run_grammar}
+use Rattle.erm_top.specs.Told.{TookMore, WasRead}
+use Rattle.erm_top.specs.declared.printing.Stop.{Stop}
+use Rattle.erm_top.specs.declared.printing.Stop.TheVariants as stop
+use Rattle.erm_top.specs.declared.reading.TheConstants.{SCRIPT_BYTES}
+
+-- why bytes are no script that was read
+abbrev pub IsRefusal : List ℕ → Stop → Type 0
+IsRefusal bytes (stop.BadLine text) = (number : ℕ) × (kind : FaultKind) × (text ≡ line_text (line.BadLine number kind)) × IsFirstBadLine run_grammar bytes number kind
+IsRefusal bytes stop.Memory = Unit {0}
+IsRefusal bytes stop = ⊥
+
+-- why no script was read of a source, by what it tells before and after, and by its faults
+abbrev pub NotRead : Stop → Option (List ℕ) → Option (List ℕ) → ℕ → ℕ → Type 0
+NotRead (stop.BadLine text) before after faults now = ((bytes : List ℕ) × WasRead bytes before after × IsRefusal bytes (stop.BadLine text)) × (now ≡ faults)
+NotRead stop.ReadFault before after faults now = Rose faults now
+NotRead stop.TooLong before after faults now = TookMore SCRIPT_BYTES before after × (now ≡ faults)
+NotRead stop.Memory before after faults now = now ≡ faults
+NotRead stop before after faults now = ⊥
+
+-- a text tells that nothing comes behind what the disk holds
+abbrev pub TellsEnd : List ℕ → Option (List Step) → Option (List Step) → Type 0
+TellsEnd text before after = ((run : ℕ) × (text ≡ line_text (line.RunsEnd run)) × StopsFor (disk.RunsEnd run) before after)
+    ⊎ ((tail : ℕ) × (text ≡ line_text (line.LogEnd tail)) × StopsFor (disk.LogEnd tail) before after)
+
+-- Why nothing was done on a disk. Where memory ran out, its log may have been opened, and each image at each moment recovers to the map found.
+abbrev pub NotOpened : Stop → Option (List Step) → Option (List Step) → ℕ → ℕ → Type 0
+NotOpened stop.NoBase before after faults now = StopsFor disk.NoBase before after × (now ≡ faults)
+NotOpened stop.DiskFault before after faults now = StopsFor disk.DiskFault before after × Rose faults now
+NotOpened (stop.AtEnd text) before after faults now = TellsEnd text before after × (now ≡ faults)
+NotOpened stop.Memory before after faults now = KeepsMap before after × (now ≡ faults)
+NotOpened stop before after faults now = ⊥
+
+-- a script was run on a disk, to its end or until the disk failed, and a text is that of its report
+pub record TellsRun (before after : Option (List Step)) (names : List (List ℕ)) (script : List ScriptLine) (text : List ℕ) : Type 0 where
+  pub state : State
+  pub found : IsFound before state
+  pub lines : List Line
+  pub ran : WasRunOn before after state names script lines
+  pub text_is : text ≡ text_of lines
+
+pub record TellsCut (before after : Option (List Step)) (names : List (List ℕ)) (script : List ScriptLine) (text : List ℕ) : Type 0 where
+  pub state : State
+  pub found : IsFound before state
+  pub lines : List Line
+  pub cut : WasCutOn before after state names script lines
+  pub text_is : text ≡ text_of lines
+
+-- What there is to tell of a script's run. Where memory runs out, the disk may have failed before.
+abbrev pub TellsRan : Result (List ℕ) Stop → List (List ℕ) → List ScriptLine → Option (List Step) → Option (List Step) → ℕ → ℕ → Type 0
+TellsRan (Ok text) names script before after faults now = TellsRun before after names script text × (now ≡ faults)
+TellsRan (Err (stop.Cut text)) names script before after faults now = TellsCut before after names script text × Rose faults now
+TellsRan (Err stop.Memory) names script before after faults now = (now ≡ faults) ⊎ Rose faults now
+TellsRan (Err stop) names script before after faults now = NotOpened stop before after faults now
+
+-- what there is to tell of what was found on a disk
+abbrev pub TellsFound : Result (Vec Line Global) InspectStop → Result (List ℕ) Stop → Type 0
+TellsFound (Ok lines) told = (told ≡ Ok (text_of lines.items)) ⊎ (told ≡ Err stop.Memory)
+TellsFound (Err inspect.DiskFault) told = told ≡ Err stop.DiskFault
+TellsFound (Err inspect.NoBase) told = told ≡ Err stop.NoBase
+TellsFound (Err inspect.Memory) told = told ≡ Err stop.Memory
+
+-- What there is to tell of a checkpoint. Where memory runs out, it may have been taken before, which keeps the map too.
+abbrev pub TellsSaved : Result (List ℕ) Stop → Option (List Step) → Option (List Step) → ℕ → ℕ → Type 0
+TellsSaved (Ok text) before after faults now = ((state : State) × IsFound before state × (lines : List Line)
+    × WasCheckpointed before after state lines × (text ≡ text_of lines)) × (now ≡ faults)
+TellsSaved (Err stop) before after faults now = NotOpened stop before after faults now
+
+-- a text tells the counts of a report's lines
+pub record TellsCounted (transactions sessions : ℕ) (lines : List Line) (text : List ℕ) : Type 0 where
+  pub made : Made
+  pub counts : AreCountsOf lines made
+  pub text_is : text ≡ text_of (made_lines transactions sessions made)
+
+-- the workload of so many transactions and sessions was run on a disk, and a text tells the counts of its report
+pub record TellsCounts (transactions sessions : ℕ) (before after : Option (List Step)) (text : List ℕ) : Type 0 where
+  pub state : State
+  pub found : IsFound before state
+  pub lines : List Line
+  pub ran : WasRunOn before after state (names_of transactions sessions) (lines_of transactions sessions) lines
+  pub counted : TellsCounted transactions sessions lines text
+
+-- What there is to tell of a workload's run. Where memory runs out, the disk may have failed before.
+abbrev pub TellsMaking : ℕ → ℕ → Result (List ℕ) Stop → Option (List Step) → Option (List Step) → ℕ → ℕ → Type 0
+TellsMaking transactions sessions (Ok text) before after faults now = TellsCounts transactions sessions before after text × (now ≡ faults)
+TellsMaking transactions sessions (Err stop.DiskFault) before after faults now = (StopsFor disk.DiskFault before after
+    ⊎ ((state : State) × IsFound before state × (lines : List Line) × WasCutOn before after state (names_of transactions sessions) (lines_of transactions sessions) lines))
+    × Rose faults now
+TellsMaking transactions sessions (Err stop.Memory) before after faults now = (now ≡ faults) ⊎ Rose faults now
+TellsMaking transactions sessions (Err stop) before after faults now = NotOpened stop before after faults now
