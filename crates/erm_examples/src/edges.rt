@@ -1,6 +1,7 @@
-//! The longest script, words and what they ask for, objects used up, and faults of source and sink.
+//! The longest script, words and what they ask for, objects and the ring used up, and faults of source and sink.
+use crate::device::Device;
 use crate::memory::{Outcome, call, run};
-use anyhow::{Result, ensure};
+use anyhow::{Context, Result, ensure};
 use erm_outside_mem::{MemSink, MemSource};
 use std::alloc::{AllocError, Global};
 use std::sync::Wait;
@@ -14,7 +15,75 @@ const USAGE: &[u8] =
     b"usage: erm run | threads | make --count N --sessions K [--text] | recover | audit | checkpoint\n";
 
 /// The report of a script without lines.
-const EMPTY_REPORT: &[u8] = b"open 8 run 1\norder 0\nmap 0\nend\n";
+const EMPTY_REPORT: &str = "open 8 run 1\norder 0\nmap 0\nend\n";
+
+/// The report of the least workload.
+const MADE_REPORT: &str = "made 1 sessions 1\ncommitted 17\nexcluded 0\nowned 0\npairs 64\nend\n";
+
+/// Words that ask for a command, and what it prints where nothing is read and the disk has no files.
+const COMMANDS: [(&[&str], &str); 11] = [
+    (&["erm", "run"], EMPTY_REPORT),
+    (&["", "run"], EMPTY_REPORT),
+    (&["run", "run"], EMPTY_REPORT),
+    (&["erm", "run", "--"], EMPTY_REPORT),
+    (&["erm", "recover"], "recovered 8 run 0\nmap 0\nend\n"),
+    (
+        &["erm", "audit"],
+        "audit 8 to 8 run 0\norder 0\nmap 0\nend\n",
+    ),
+    (&["erm", "checkpoint"], "open 8 run 1\ncheckpoint 13\nend\n"),
+    (
+        &["erm", "checkpoint", "--"],
+        "open 8 run 1\ncheckpoint 13\nend\n",
+    ),
+    (
+        &["erm", "make", "--count", "1", "--sessions", "1"],
+        MADE_REPORT,
+    ),
+    (
+        &["erm", "make", "--sessions", "1", "--count", "1"],
+        MADE_REPORT,
+    ),
+    (&["erm", "make", "--count=1", "--sessions=1"], MADE_REPORT),
+];
+
+/// Words that ask for no command that the program has.
+const OTHERS: [&[&str]; 25] = [
+    &[],
+    &["erm"],
+    &["run"],
+    &["erm", ""],
+    &["erm", "frob"],
+    &["erm", "RUN"],
+    &["erm", "threads"],
+    &["erm", "run", "run"],
+    &["erm", "run", "recover"],
+    &["erm", "run", "--", "--"],
+    &["erm", "--", "run"],
+    &["erm", "run", "--help"],
+    &["erm", "run", "--text"],
+    &["erm", "-h"],
+    &["erm", "--help"],
+    &["erm", "help"],
+    &["erm", "--version"],
+    &["erm", "make"],
+    &["erm", "make", "--count", "1"],
+    &["erm", "make", "--count", "0", "--sessions", "1"],
+    &["erm", "make", "--count", "100001", "--sessions", "1"],
+    &["erm", "make", "--count", "1", "--sessions", "17"],
+    &["erm", "make", "--count", "01", "--sessions", "1"],
+    &[
+        "erm",
+        "make",
+        "--count",
+        "1",
+        "--count",
+        "1",
+        "--sessions",
+        "1",
+    ],
+    &["erm", "recover", "--count", "1"],
+];
 
 /// How many puts are refused for the owner, each of which makes three objects: 26 + 3 * 5,452 is 16,382, so two are left.
 const REFUSED_PUTS: u32 = 5452;
@@ -33,11 +102,24 @@ const BEHIND_PUTS: (&str, &str) = (
      map 8\npair 0 1 01\npair 0 2 02\npair 0 3 03\npair 0 4 04\npair 0 5 05\npair 0 6 06\npair 0 7 07\npair 0 8 08\nend\n",
 );
 
+/// How many commits of five words each the ring takes.
+const RING_COMMITS: u32 = 6553;
+
+/// Lines behind these commits, and what is answered: the next commit waits until they are flushed.
+const BEHIND_COMMITS: (&str, &str) = (
+    "a begin\na commit\nflush\na settle\n",
+    "13107 begin 32778\n13108 wait ring 13\n13109 flushed 32778\n13110 committed 32778 succ 32778 pred 0\norder 6554\n",
+);
+
+/// The rest of the report.
+const BEHIND_ORDER: &str = "commit a 6554 stamp 32778 succ 32778 pred 0\nmap 0\nend\n";
+
 /// Tries each edge.
 pub fn check<R: Threads + Wait + Sync>(rt: &R, alloc: Global) -> Result<()> {
     check_sizes(rt, alloc)?;
     check_words(rt, alloc)?;
     check_objects(rt, alloc)?;
+    check_ring(rt, alloc)?;
     check_faults(rt, alloc)
 }
 
@@ -46,7 +128,10 @@ fn check_sizes<R: Threads + Wait + Sync>(rt: &R, alloc: Global) -> Result<()> {
     let longest = vec![in alloc; b'#'; SCRIPT_BYTES]?;
     let found = run(rt, alloc, longest.as_slice(), 65536)?;
     ensure!(found.status == 0, "longest script");
-    ensure!(found.bytes.as_slice() == EMPTY_REPORT, "its report");
+    ensure!(
+        found.bytes.as_slice() == EMPTY_REPORT.as_bytes(),
+        "its report"
+    );
     let longer = vec![in alloc; b'#'; SCRIPT_BYTES + 1]?;
     let found = run(rt, alloc, longer.as_slice(), 65536)?;
     ensure!(found.status == 9, "longer script");
@@ -57,35 +142,30 @@ fn check_sizes<R: Threads + Wait + Sync>(rt: &R, alloc: Global) -> Result<()> {
     Ok(())
 }
 
-// Words, each with the status that comes of them: 0 for those of the command, 2 for all others.
+// Words of each command, on a disk without files, and others.
 fn check_words<R: Threads + Wait + Sync>(rt: &R, alloc: Global) -> Result<()> {
-    let cases: [(&[&str], u8); 18] = [
-        (&["erm", "run"], 0),
-        (&["", "run"], 0),
-        (&["run", "run"], 0),
-        (&["erm", "run", "--"], 0),
-        (&[], 2),
-        (&["erm"], 2),
-        (&["run"], 2),
-        (&["erm", ""], 2),
-        (&["erm", "frob"], 2),
-        (&["erm", "RUN"], 2),
-        (&["erm", "run", "run"], 2),
-        (&["erm", "run", "--", "--"], 2),
-        (&["erm", "--", "run"], 2),
-        (&["erm", "run", "--help"], 2),
-        (&["erm", "-h"], 2),
-        (&["erm", "--help"], 2),
-        (&["erm", "help"], 2),
-        (&["erm", "--version"], 2),
-    ];
-    for (words, status) in cases {
-        let source = MemSource::new(Vec::new(alloc), 1);
-        let found = call(rt, alloc, words, source, MemSink::new(alloc, 5))?;
-        let text = if status == 0 { EMPTY_REPORT } else { USAGE };
-        ensure!(found.status == status, "status of words");
-        ensure!(found.bytes.as_slice() == text, "what words print");
+    for (words, report) in COMMANDS {
+        check_call(rt, alloc, words, 0, report.as_bytes()).context(format_args!("{words:?}"))?;
     }
+    for words in OTHERS {
+        check_call(rt, alloc, words, 2, USAGE).context(format_args!("{words:?}"))?;
+    }
+    Ok(())
+}
+
+// Calls the program with words over nothing to read and a disk without files.
+fn check_call<R: Threads + Wait + Sync>(
+    rt: &R,
+    alloc: Global,
+    words: &[&str],
+    status: u8,
+    report: &[u8],
+) -> Result<()> {
+    let source = MemSource::new(Vec::new(alloc), 1);
+    let sink = MemSink::new(alloc, 5);
+    let found = call(rt, alloc, words, source, sink, Device::new(alloc))?;
+    ensure!(found.status == status, "status of words");
+    ensure!(found.bytes.as_slice() == report, "what words print");
     Ok(())
 }
 
@@ -104,6 +184,30 @@ fn check_objects<R: Threads + Wait + Sync>(rt: &R, alloc: Global) -> Result<()> 
     report.push_str(BEHIND_PUTS.1)?;
     let found = run(rt, alloc, script.as_bytes(), 65536)?;
     ensure!(found.status == 0, "objects used up");
+    ensure!(found.bytes.as_slice() == report.as_bytes(), "its report");
+    Ok(())
+}
+
+// Commits without a flush fill the ring.
+fn check_ring<R: Threads + Wait + Sync>(rt: &R, alloc: Global) -> Result<()> {
+    let mut script = String::new(alloc);
+    let mut report = String::from_str(alloc, "open 8 run 1\n")?;
+    let mut order = String::new(alloc);
+    for number in 1..=RING_COMMITS {
+        let line = 2 * number;
+        let stamp = 8 + 5 * number;
+        let ends = format!(in alloc; "{stamp} succ {stamp} pred 0\n")?;
+        script.push_str("a begin\na commit\n")?;
+        report.push_str(format!(in alloc; "{} begin {stamp}\n", line - 1)?.as_str())?;
+        report.push_str(format!(in alloc; "{line} committed {ends}")?.as_str())?;
+        order.push_str(format!(in alloc; "commit a {number} stamp {ends}")?.as_str())?;
+    }
+    script.push_str(BEHIND_COMMITS.0)?;
+    report.push_str(BEHIND_COMMITS.1)?;
+    report.push_str(order.as_str())?;
+    report.push_str(BEHIND_ORDER)?;
+    let found = run(rt, alloc, script.as_bytes(), 65536)?;
+    ensure!(found.status == 0, "ring used up");
     ensure!(found.bytes.as_slice() == report.as_bytes(), "its report");
     Ok(())
 }
@@ -138,5 +242,6 @@ fn with_faults<R: Threads + Wait + Sync>(
     let script = Vec::from_slice(alloc, b"a begin\n")?;
     let source = MemSource::new(script, 5).failing(Vec::from_slice(alloc, taking)?);
     let sink = MemSink::new(alloc, 5).failing(Vec::from_slice(alloc, putting)?);
-    call(rt, alloc, &["erm", "run"], source, sink)
+    let device = Device::new(alloc);
+    call(rt, alloc, &["erm", "run"], source, sink, device)
 }
