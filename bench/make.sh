@@ -154,8 +154,8 @@ def postgres():
 PYTHON
 }
 
-# The program is built before anything is measured.
-"$program" run </dev/null >/dev/null || true
+# The program is built before anything is measured: without words it does nothing else.
+"$program" </dev/null >/dev/null || true
 kinds="erm"
 if python3 -c 'import sqlite3' 2>/dev/null; then kinds="$kinds sqlite"; else echo "sqlite is skipped: not installed"; fi
 if start_postgres; then kinds="$kinds postgres"; else echo "postgres is skipped: not installed, or it didn't start"; fi

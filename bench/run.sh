@@ -109,21 +109,23 @@ if size > LIMIT:
 PYTHON
 }
 
-# Runs the program on a script and prints a row. The least peak that it can show is what the process had before it became
+# Runs the program on a script, in a new folder, and prints a row. The least peak that it can show is what the process had before it became
 # the program, some 14 MiB.
 measure() {
     python3 - "$program" "$1" "$2" "$3" <<'PYTHON'
 import os
 import subprocess
 import sys
+import tempfile
 import time
 
 program, kind, count, script = sys.argv[1:]
 REFUSALS = (b" no transaction", b" is sealed", b" not idle", b" not sealed", b" wait ring")
 report = script + ".report"
+disk = tempfile.mkdtemp(dir=os.path.dirname(script))
 with open(script, "rb") as lines, open(report, "wb") as put:
     start = time.monotonic()
-    run = subprocess.Popen([program, "run"], stdin=lines, stdout=put)
+    run = subprocess.Popen([program, "run"], stdin=lines, stdout=put, cwd=disk)
     _, ended, usage = os.wait4(run.pid, 0)
     seconds = time.monotonic() - start
 status = os.waitstatus_to_exitcode(ended)
@@ -134,8 +136,8 @@ print(f"{kind:11} {int(count):9} {size:9} {seconds:9.2f} {usage.ru_maxrss / 1024
 PYTHON
 }
 
-# The program is built before anything is measured.
-"$program" run </dev/null >/dev/null || true
+# The program is built before anything is measured: without words it does nothing else.
+"$program" </dev/null >/dev/null || true
 printf '%-11s %9s %9s %9s %9s %7s %9s\n' kind lines bytes seconds MiB status refused
 for kind in puts few-keys gets 4-sessions 48-sessions old-reader; do
     for count in 10000 100000 1000000; do
