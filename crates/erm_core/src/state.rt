@@ -7,14 +7,47 @@ mod step;
 
 ghost use Rattle.std.specs.Prelude.{◌≡◌, ◌+◌, ◌%◌, ◌≤◌, Some, None, MatchOption, vec_len, vec_capacity};
 ghost use Rattle.erm_machine.specs.declared.limits.TheConstants.{ANNOUNCERS, OBJECT_LIMIT, RING_WORDS};
+ghost use Rattle.erm_kept.specs.Attempts.{attempt_of};
+ghost use Rattle.erm_kept.specs.Objects.{object_of};
 ghost use Rattle.erm_machine.specs.Core as core_specs;
+ghost use Rattle.erm_machine.specs.Words as word_specs;
 ghost use Rattle.erm_core.specs.Seats.{promised_in, AreNumbered};
 
-use erm_kept::ObjectState;
 use erm_kept::words::{begin_of, blank_cell, cell_word, state_of};
-use erm_machine::{CellWord, Counter, Kind, RING_WORDS, Span, VersionAt};
+use erm_kept::{AttemptState, ObjectState};
+use erm_machine::{CellWord, Counter, Kind, OwnCell, RING_WORDS, Span, VersionAt};
 use erm_model::{Oid, Seat, Stamp};
 use erm_seat::SeatState;
+
+// A word of the version of an object at a place.
+fn word_of_version(object: &ObjectState, place: usize, word: CellWord) -> u64
+    ensures { result ≡ word_specs.cell_word word (core_specs.version_at (object_of object.now) place).words }
+{
+    match object.versions.get(place) {
+        Some(version) => cell_word(word, &version.words),
+        None => cell_word(word, &blank_cell()),
+    }
+}
+
+// A word of a claim's own cell, or of a blank one where it has none.
+fn word_of_own(own: &Option<OwnCell>, word: CellWord) -> u64
+    ensures { result ≡ word_specs.cell_word word (core_specs.own_words own.now) }
+{
+    match own {
+        Some(own) => cell_word(word, &own.words),
+        None => cell_word(word, &blank_cell()),
+    }
+}
+
+// A word of the own cell of the claim at a place.
+fn word_of_claim(t: &AttemptState, place: usize, word: CellWord) -> u64
+    ensures { result ≡ word_specs.cell_word word (core_specs.own_words (core_specs.claim_at (attempt_of t.now) place).own) }
+{
+    match t.writes.get(place) {
+        Some(claim) => word_of_own(&claim.own, word),
+        None => cell_word(word, &blank_cell()),
+    }
+}
 
 /// The state of the machine: what the seats share, and what each keeps.
 #[derive(Drop)]
@@ -44,7 +77,6 @@ pub struct State {
 
 impl State {
     ghost use Rattle.erm_core.specs.Cores.{core_of, shared_of};
-    ghost use Rattle.erm_kept.specs.Objects.{object_of};
     ghost use Rattle.erm_seat.specs.Kinds.{IsPlain};
     ghost use Rattle.erm_seat.specs.Parts.{part_of};
 
@@ -153,7 +185,7 @@ impl State {
         ensures { result ≡ core_specs.word_at (core_of self.now) (core_specs.version_word version word) }
     {
         match self.objects.get(version.oid as usize) {
-            Some(object) => cell_word(word, &object.version_at(version.place).words),
+            Some(object) => word_of_version(object, version.place, word),
             None => cell_word(word, &blank_cell()),
         }
     }
@@ -163,10 +195,7 @@ impl State {
         ensures { result ≡ core_specs.word_at (core_of self.now) (core_specs.own_word seat claim cell word) }
     {
         match self.seats.get(seat as usize) {
-            Some(x) => match x.current.claim_at(claim).own {
-                Some(own) => cell_word(word, &own.words),
-                None => cell_word(word, &blank_cell()),
-            },
+            Some(x) => word_of_claim(&x.current, claim, word),
             None => cell_word(word, &blank_cell()),
         }
     }

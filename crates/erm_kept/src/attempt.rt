@@ -146,6 +146,7 @@ impl AttemptState {
     }
 
     /// The read at a place.
+    #[inline(always)]
     pub fn read_at(&self, place: usize) -> Read
         ensures { result ≡ seat_specs.read_at (attempt_of self.now) place }
     {

@@ -1,13 +1,14 @@
 //! The claims of a transaction and their own cells.
-ghost use Rattle.std.specs.Prelude.{◌≡◌};
+ghost use Rattle.std.specs.Prelude.{◌≡◌, slice_set};
 ghost use Rattle.erm_machine.specs.Core as core_specs;
 ghost use Rattle.erm_machine.specs.Reading as reading_specs;
 ghost use Rattle.erm_machine.specs.Seat as seat_specs;
 ghost use Rattle.erm_machine.specs.Settling as settling_specs;
+ghost use Rattle.erm_machine.specs.declared.version.CellWord.TheVariants.{Row};
 ghost use Rattle.erm_kept.specs.Attempts.{attempt_of, KeepsSize};
 
 use crate::AttemptState;
-use crate::words::set_word;
+use crate::words::put_word;
 use erm_machine::{CellWord, Claim, OwnCell, VersionAt};
 use erm_model::ROW_WORDS;
 
@@ -40,21 +41,29 @@ pub fn is_own(cell: u32, own: Option<OwnCell>) -> bool
     }
 }
 
-// The words of a claim's own cell after one is stored.
-fn with_own_word(word: CellWord, value: u64, own: Option<OwnCell>) -> Option<OwnCell>
-    ensures { result ≡ reading_specs.with_own_word word value own }
+// Stores a word into a claim's own cell.
+fn put_own_word(word: CellWord, value: u64, own: &mut Option<OwnCell>)
+    ensures { own.new ≡ reading_specs.with_own_word word value own.old }
 {
-    match own {
-        Some(own) => Some(OwnCell {
-            cell: own.cell,
-            words: set_word(word, value, own.words),
-        }),
-        None => None,
+    if let Some(own) = own {
+        put_word(word, value, &mut own.words);
     }
+}
+
+// Stores a word of a claim's new row, as a write or as a copy of the row overwritten.
+fn put_row_word(k: u8, value: u64, is_set: bool, claim: &mut Claim)
+    ensures { claim.new ≡ record claim.old { row = slice_set claim.old.row k value; own = reading_specs.with_own_word (Row k) value claim.old.own; is_set = is_set } }
+{
+    if (k as usize) < ROW_WORDS {
+        claim.row[k as usize] = value;
+    }
+    put_own_word(CellWord::Row(k), value, &mut claim.own);
+    claim.is_set = is_set;
 }
 
 impl AttemptState {
     /// The claim at a place.
+    #[inline(always)]
     pub fn claim_at(&self, place: usize) -> Claim
         ensures { result ≡ core_specs.claim_at (attempt_of self.now) place }
     {
@@ -65,6 +74,7 @@ impl AttemptState {
     }
 
     /// The place of the newest claim.
+    #[inline(always)]
     pub fn last_claim(&self) -> usize
         ensures { result ≡ seat_specs.last_claim (attempt_of self.now) }
     {
@@ -72,20 +82,11 @@ impl AttemptState {
     }
 
     /// The newest claim.
+    #[inline(always)]
     pub fn newest_claim(&self) -> Claim
         ensures { result ≡ core_specs.claim_at (attempt_of self.now) (seat_specs.last_claim (attempt_of self.now)) }
     {
         self.claim_at(self.last_claim())
-    }
-
-    // Changes the claim at a place.
-    fn set_claim(&mut self, place: usize, claim: Claim)
-        ensures after { attempt_of self.new ≡ seat_specs.with_claim place claim (attempt_of self.old) }
-        ensures size { KeepsSize self.old self.new }
-    {
-        if place < self.writes.len() {
-            self.writes[place] = claim;
-        }
     }
 
     /// The newest claim gets this cell.
@@ -94,9 +95,9 @@ impl AttemptState {
         ensures size { KeepsSize self.old self.new }
     {
         let place = self.last_claim();
-        let mut claim = self.claim_at(place);
-        claim.own = Some(own);
-        self.set_claim(place, claim);
+        if place < self.writes.len() {
+            self.writes[place].own = Some(own);
+        }
     }
 
     /// Stores a word into the own cell of the claim at a place.
@@ -104,9 +105,9 @@ impl AttemptState {
         ensures after { attempt_of self.new ≡ reading_specs.stored_own place word value (attempt_of self.old) }
         ensures size { KeepsSize self.old self.new }
     {
-        let mut claim = self.claim_at(place);
-        claim.own = with_own_word(word, value, claim.own);
-        self.set_claim(place, claim);
+        if place < self.writes.len() {
+            put_own_word(word, value, &mut self.writes[place].own);
+        }
     }
 
     /// Stores a word of the new row of the claim at a place, as a write or as a copy of the row overwritten.
@@ -114,13 +115,9 @@ impl AttemptState {
         ensures after { attempt_of self.new ≡ reading_specs.stored_row place k value is_set (attempt_of self.old) }
         ensures size { KeepsSize self.old self.new }
     {
-        let mut claim = self.claim_at(place);
-        if (k as usize) < ROW_WORDS {
-            claim.row[k as usize] = value;
+        if place < self.writes.len() {
+            put_row_word(k, value, is_set, &mut self.writes[place]);
         }
-        claim.own = with_own_word(CellWord::Row(k), value, claim.own);
-        claim.is_set = is_set;
-        self.set_claim(place, claim);
     }
 
     /// The value of a word of a claim's new version before its row.
@@ -140,9 +137,10 @@ impl AttemptState {
         ensures after { attempt_of self.new ≡ settling_specs.without_entry place (attempt_of self.old) }
         ensures size { KeepsSize self.old self.new }
     {
-        let mut claim = self.claim_at(place);
-        claim.held = false;
-        claim.own = None;
-        self.set_claim(place, claim);
+        if place < self.writes.len() {
+            let claim = &mut self.writes[place];
+            claim.held = false;
+            claim.own = None;
+        }
     }
 }

@@ -6,7 +6,7 @@ ghost use Rattle.erm_machine.specs.Step as step_specs;
 ghost use Rattle.erm_machine.specs.Words.{owner_of};
 ghost use Rattle.erm_machine.specs.declared.version.CellWord.TheVariants.{Link};
 
-use crate::words::{blank_cell, claimed, set_word, with_bit, without_bit};
+use crate::words::{blank_cell, claimed, put_word, with_bit, without_bit};
 use erm_machine::{ANNOUNCERS, Cell, CellWord, Kind, Version};
 use erm_model::{Row, Seat};
 use std::alloc::{AllocError, Global};
@@ -55,6 +55,7 @@ impl ObjectState {
     }
 
     /// The version at a place.
+    #[inline(always)]
     pub fn version_at(&self, place: usize) -> Version
         ensures { result ≡ core_specs.version_at (object_of self.now) place }
     {
@@ -73,8 +74,7 @@ impl ObjectState {
         ensures room { vec_capacity self.new.versions ≡ vec_capacity self.old.versions }
     {
         if place < self.versions.len() {
-            let words = self.versions[place].words;
-            self.versions[place].words = set_word(word, value, words);
+            put_word(word, value, &mut self.versions[place].words);
         }
     }
 

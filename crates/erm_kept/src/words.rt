@@ -243,11 +243,10 @@ fn row_word(row: &[u64], k: u8) -> u64
     }
 }
 
-/// The cell with one word changed.
-pub fn set_word(word: CellWord, value: u64, cell: Cell) -> Cell
-    ensures { result ≡ word_specs.set_word word value cell }
+/// Changes one word of a cell.
+pub fn put_word(word: CellWord, value: u64, cell: &mut Cell)
+    ensures { cell.new ≡ word_specs.set_word word value cell.old }
 {
-    let mut cell = cell;
     match word {
         CellWord::Stamp => cell.stamp = value,
         CellWord::Link => cell.link = value,
@@ -261,7 +260,6 @@ pub fn set_word(word: CellWord, value: u64, cell: Cell) -> Cell
             }
         }
     }
-    cell
 }
 
 /// A cell that was never used.

@@ -1,14 +1,28 @@
 //! Room for what a call's steps add to a seat's lists, and for what its transaction adds later on account of it.
-ghost use Rattle.std.specs.Prelude.{◌≡◌, ◌+◌, ◌<◌, OnOk, vec_len, vec_capacity};
+ghost use Rattle.std.specs.Prelude.{◌≡◌, ◌+◌, ◌<◌, ◌≤◌, OnOk, vec_len, vec_capacity};
 ghost use Rattle.erm_seat.specs.Parts.{part_of};
 ghost use Rattle.erm_seat.specs.Rooms.{HasBeginRoom, HasClaimRoom, HasCutRoom, HasDrawRoom, HasSpareRoom, Reserves};
 
 use crate::SeatState;
-use erm_machine::GREATEST_BLOCK;
+use erm_machine::{Claim, GREATEST_BLOCK};
 use std::alloc::AllocError;
 
 // No transaction has so many claims.
 const MOST_CLAIMS: usize = 1 << 32;
+
+// Room for one more claim, and for no other where it is the first: most transactions have one.
+fn reserve_one(claims: &mut Vec<Claim>) -> Result<(), AllocError>
+    ensures ok { OnOk result (vec_len claims.new < vec_capacity claims.new) }
+    ensures items { claims.new.items ≡ claims.old.items }
+    ensures len { vec_len claims.new ≡ vec_len claims.old }
+    ensures capacity { vec_capacity claims.old ≤ vec_capacity claims.new }
+{
+    if claims.is_empty() {
+        claims.reserve_exact(1)
+    } else {
+        claims.reserve(1)
+    }
+}
 
 impl SeatState {
     /// Room for a transaction, where the log has room for its range. What the seat is stays.
@@ -83,7 +97,7 @@ impl SeatState {
         if claims >= MOST_CLAIMS {
             return Err(AllocError);
         }
-        self.current.writes.reserve(1)?;
+        reserve_one(&mut self.current.writes)?;
         self.current.block.reserve(4 + 17 * (claims + 1))?;
         self.spare.reserve(claims + 1)
     }

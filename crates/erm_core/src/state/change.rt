@@ -50,18 +50,18 @@ impl State {
         seat: Seat,
         kind: Kind,
         found: u64,
-        added: Option<Version>,
+        added: &Option<Version>,
     )
         requires known { oid < OBJECT_LIMIT }
         requires named { oid ≡ object_in kind }
         requires seat { seat < ANNOUNCERS }
         requires room { HasChangeRoom self.old kind }
-        ensures core { ChangesObject kind → core_of self.new ≡ record (core_of self.old) { shared = shared_with seat kind found added (shared_of self.old) } }
+        ensures core { ChangesObject kind → core_of self.new ≡ record (core_of self.old) { shared = shared_with seat kind found added.now (shared_of self.old) } }
         ensures log { self.new.log ≡ self.old.log }
         ensures seats { self.new.seats ≡ self.old.seats }
         ensures objects { ChangesObject kind → ObjectsLeave kind self.old.objects.items self.new.objects.items }
     {
-        self.objects[oid as usize].change(seat, kind, found, added);
+        self.objects[oid as usize].change(seat, kind, found, *added);
     }
 
     fn add_counter(&mut self, counter: Counter, found: u64)
@@ -116,12 +116,12 @@ impl State {
     }
 
     /// Changes what is shared, where an install adds this version.
-    pub fn change(&mut self, seat: Seat, kind: Kind, found: u64, added: Option<Version>)
+    pub fn change(&mut self, seat: Seat, kind: Kind, found: u64, added: &Option<Version>)
         requires seat { seat < ANNOUNCERS }
         requires known { object_in kind < OBJECT_LIMIT }
         requires room { HasChangeRoom self.old kind }
         requires fits { DrawFits self.old kind found }
-        ensures core { core_of self.new ≡ record (core_of self.old) { shared = shared_with seat kind found added (shared_of self.old) } }
+        ensures core { core_of self.new ≡ record (core_of self.old) { shared = shared_with seat kind found added.now (shared_of self.old) } }
         ensures log { DrawsIn self.old self.new kind }
         ensures seats { self.new.seats ≡ self.old.seats }
         ensures objects { ObjectsLeave kind self.old.objects.items self.new.objects.items }

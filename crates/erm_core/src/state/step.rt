@@ -67,17 +67,6 @@ fn told(kind: Kind, found: u64) -> Answer
 }
 
 impl State {
-    // The version that a step adds.
-    fn added(&self, seat: Seat, kind: Kind) -> Option<Version>
-        requires seat { seat < ANNOUNCERS }
-        ensures { result ≡ added_in kind ((core_of self.now).seats seat) }
-    {
-        match kind {
-            Kind::Install { head, .. } => self.seats[seat as usize].added(head),
-            _ => None,
-        }
-    }
-
     // The seat takes its step, where its guard is met.
     fn turn(&mut self, seat: Seat, kind: Kind, found: u64) -> bool
         requires seat { seat < ANNOUNCERS }
@@ -98,6 +87,27 @@ impl State {
 }
 
 impl State {
+    // A step that meets one word, or a device, where an install adds this version.
+    fn step_adding(&mut self, seat: Seat, kind: Kind, added: &Option<Version>) -> Answer
+        requires one { MeetsOne kind }
+        requires seat { seat < ANNOUNCERS }
+        requires room { HasRoom self.old seat kind }
+        requires sound { Sound (core_of self.old) }
+        requires added { added.now ≡ added_in kind ((core_of self.old).seats seat) }
+        ensures step { ◌≡◌ {A = Answer × Core} (result, core_of self.new) (step_specs.core_step (core_of self.old) (event_at seat kind)) }
+        ensures left { LeavesRoom self.old self.new seat kind }
+    {
+        if !is_known(kind) {
+            return Answer::Failed;
+        }
+        let found = self.word(seat, kind);
+        if !self.turn(seat, kind, found) {
+            return Answer::Failed;
+        }
+        self.change(seat, kind, found, added);
+        told(kind, found)
+    }
+
     // A step that meets one word, or a device.
     fn step_word(&mut self, seat: Seat, kind: Kind) -> Answer
         requires one { MeetsOne kind }
@@ -107,16 +117,13 @@ impl State {
         ensures step { ◌≡◌ {A = Answer × Core} (result, core_of self.new) (step_specs.core_step (core_of self.old) (event_at seat kind)) }
         ensures left { LeavesRoom self.old self.new seat kind }
     {
-        if !is_known(kind) {
-            return Answer::Failed;
+        match kind {
+            Kind::Install { head, .. } => {
+                let added = self.seats[seat as usize].added(head);
+                self.step_adding(seat, kind, &added)
+            }
+            _ => self.step_adding(seat, kind, &None),
         }
-        let found = self.word(seat, kind);
-        let added = self.added(seat, kind);
-        if !self.turn(seat, kind, found) {
-            return Answer::Failed;
-        }
-        self.change(seat, kind, found, added);
-        told(kind, found)
     }
 
     // A vacant seat is taken.

@@ -34,13 +34,13 @@ change-requires-clause-room c =
 pub returns-clause-core : goal.returns-clause-core
 returns-clause-core c = λ changes.
     ap (λ (f : ℕ → Object). let d : Core = record { shared = record (shared_of c.args.self.now) { objects = f }; seats = parts_of c.args.self.now.run c.args.self.now.opening c.args.self.now.seats.items } in d)
-    (objects_set c.args.self.now.objects.items c.args.oid c.index_mut.result.now c.change.new.self (object_after c.args.seat c.args.kind c.args.found c.args.added)
+    (objects_set c.args.self.now.objects.items c.args.oid c.index_mut.result.now c.change.new.self (object_after c.args.seat c.args.kind c.args.found c.args.added.now)
     (within c.args.self.now.objects.len c.args.oid c.args.self.now.objects.items c.args.self.now.objects.ok.0 c.args.self.now.all_objects c.requires.known) c.index_mut.ensures.value c.change.ensures.after)
     ∙ ap (λ (s : Shared). let d : Core = record { shared = s; seats = parts_of c.args.self.now.run c.args.self.now.opening c.args.self.now.seats.items } in d)
-    (shared_object c.args.seat c.args.kind c.args.found c.args.added (shared_of c.args.self.now) c.args.oid changes c.requires.named)
+    (shared_object c.args.seat c.args.kind c.args.found c.args.added.now (shared_of c.args.self.now) c.args.oid changes c.requires.named)
 
 pub returns-clause-objects : goal.returns-clause-objects
 returns-clause-objects c = λ _.
-    objects_leave c.args.seat c.args.kind c.args.found c.args.added c.args.self.now.objects.items c.args.oid c.index_mut.result.now c.change.new.self
+    objects_leave c.args.seat c.args.kind c.args.found c.args.added.now c.args.self.now.objects.items c.args.oid c.index_mut.result.now c.change.new.self
     (within c.args.self.now.objects.len c.args.oid c.args.self.now.objects.items c.args.self.now.objects.ok.0 c.args.self.now.all_objects c.requires.known) c.index_mut.ensures.value c.requires.named
     c.change.ensures.after c.change.ensures.room

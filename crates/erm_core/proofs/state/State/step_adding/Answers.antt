@@ -12,7 +12,7 @@ use Rattle.erm_core.specs.Cores.{core_of, shared_of, shared_with, added_in}
 use Rattle.erm_core.proofs.Rooms.{change_room, leaves_room, room_stays}
 use Rattle.erm_core.proofs.Steps.{taken_step, failed_step, refused_none, unknown_none, core_path, fits_after}
 use Rattle.erm_core.proofs.Tables.{shared_by_version}
-use Rattle.erm_core.proofs.state.State.step_word.Goals as goal
+use Rattle.erm_core.proofs.state.State.step_adding.Goals as goal
 
 -- the whole state after the seat's step and the change of what is shared
 state_after : (s t u : State) (p : ℕ) (k : Kind) (found : ℕ) (v : Option Version) (y : Part) → shared_of t ≡ shared_of s →
@@ -57,8 +57,8 @@ returns-clause-step c =
     ap (λ (a : Answer). let r : Answer × Core = (a, core_of c.change.new.self) in r) c.told.ensures
     ∙ taken_step (core_of s) c.args.seat c.args.kind c.word-found.result ((core_of c.turn.new.self).seats c.args.seat) (core_of c.change.new.self) c.requires.one known
     c.word-found.ensures c.if-not-turn.ensures.after
-    (state_after s c.turn.new.self c.change.new.self c.args.seat c.args.kind c.word-found.result c.added-added.result ((core_of c.turn.new.self).seats c.args.seat)
-    c.turn.ensures.shared (c.if-not-turn.ensures.seats refl) c.added-added.ensures c.change.ensures.core)
+    (state_after s c.turn.new.self c.change.new.self c.args.seat c.args.kind c.word-found.result c.args.added.now ((core_of c.turn.new.self).seats c.args.seat)
+    c.turn.ensures.shared (c.if-not-turn.ensures.seats refl) c.requires.added c.change.ensures.core)
 
 pub returns-then-not-is_known-clause-left : goal.returns-then-not-is_known-clause-left
 returns-then-not-is_known-clause-left c = room_stays c.args.self.now c.args.seat c.args.kind
