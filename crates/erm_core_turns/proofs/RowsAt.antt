@@ -123,11 +123,18 @@ module _ (law : Law) (lists : Lists law) (more : More law) (sessions : ℕ) (c :
       ∙ sym (ap (λ (rows : Rows). rows oid) (rows_upto law lists sessions c under quiet b (blocks_below c b) part))
       ∙ ap (λ (bs : List Block). rows_behind (opening_rows c.shared) bs oid) (sym same)
 
-  pub seen_row : (oid place : ℕ) (row : List ℕ) → IsSeen c oid b place row → IsRowAt (log_of sessions c) oid row
-  seen_row oid place row seen front rest e pinned =
+  -- so that a row which is the newest below the pin of all that the world has committed is that of the blocks gathered up to it
+  pub newest_row : (oid stamp : ℕ) (row : List ℕ) → IsNewestBelow (world.history_of (view_of sessions c)) (opening_rows c.shared) oid b stamp row → IsRowAt (log_of sessions c) oid row
+  newest_row oid stamp row newest front rest e pinned =
       let at : b ≡ place_behind c.shared.opening front = same_Some b (place_behind c.shared.opening front) (sym pin_is ∙ pinned) in
       let total : place_behind c.shared.opening (front ++ rest) ≡ place_of c =
       ap (place_behind c.shared.opening) (sym e) ∙ gathered_behind law lists sessions c under quiet
       in
       let low = behind_more c.shared.opening front rest in
-      behind_row oid (version_at (c.shared.objects oid) place).words.stamp row (seen_newest oid place row seen) (omega (arith, at, total, low)) front rest e at
+      let here = subst (λ (h : History). IsNewestBelow h (opening_rows c.shared) oid b stamp row) history newest in
+      behind_row oid stamp row here (omega (arith, at, total, low)) front rest e at
+
+  pub seen_row : (oid place : ℕ) (row : List ℕ) → IsSeen c oid b place row → IsRowAt (log_of sessions c) oid row
+  seen_row oid place row seen =
+      let stamp = (version_at (c.shared.objects oid) place).words.stamp in
+      newest_row oid stamp row (newest_shown oid stamp row (seen_newest oid place row seen))

@@ -1,5 +1,5 @@
 -- A state after steps of one session, and the early test.
-use Rattle.std.proofs.Common.{◌≡◌, ◌≢◌, ℕ, zero, suc, ◌<◌, ◌≤◌, ◌⊎◌, ⊎_elim, Bool, true, false, ◌&&◌, eqb, leb, ltb, List, [], ◌∷◌, ◌++◌, filter, length, map, Option, Some, None, refl, sym, ap, ◌∙◌, subst, inl, inr, arith}
+use Rattle.std.proofs.Common.{◌≡◌, ◌≢◌, ℕ, ◌<◌, ◌≤◌, ◌⊎◌, ⊎_elim, Bool, true, false, ◌&&◌, eqb, leb, ltb, List, [], ◌∷◌, ◌++◌, filter, length, map, Option, Some, None, refl, sym, ap, ◌∙◌, subst, inl, inr, arith}
 use Rattle.std.specs.Prelude.{if◌then◌else◌, is_none, not, nat_lt}
 use Rattle.std.proofs.lemmas.Bool.{and_parts, cases_Bool, cases_eq, leb-true, ltb-true, or_cases, eqb-true}
 use Rattle.erm_model.specs.declared.history.TransactionRecord.{TransactionRecord}
@@ -26,7 +26,7 @@ use Rattle.erm_machine.proofs.Holders.{holds_from, stands_at}
 use Rattle.erm_machine.proofs.Listed.{∈-filter, ∈-map, ∈-map_from}
 use Rattle.erm_model.proofs.Members.{∈-behind}
 use Rattle.erm_world.specs.Calls.{DidAbort, IsAhead, IsClearOf, IsDone, IsShut, Works}
-use Rattle.erm_world.specs.World.{Finished, IsSession, Opening, Session, Stand, View, Work, history_of, history_upto, work_at}
+use Rattle.erm_world.specs.World.{Finished, IsSession, Opening, Session, View, Work, history_of, history_upto, work_at}
 use Rattle.erm_world.specs.World as world
 use Rattle.erm_world.specs.Works.{is_claimed}
 use Rattle.erm_core_view.specs.Views.{IsBetween, IsQuiet, stand_of, view_of, work_of}
@@ -34,6 +34,7 @@ use Rattle.erm_core_view.proofs.Commits.{has_the_history}
 use Rattle.erm_core_view.proofs.Shown.{work_active}
 use Rattle.erm_plain.specs.Reads.{GoesOn, closed_window}
 use Rattle.erm_plain.proofs.Aborts.{unsealed}
+use Rattle.erm_plain.proofs.Histories.{history_same}
 use Rattle.erm_plain.proofs.Quiet.{IsActive, quiet_after}
 
 between_active : (pl : Place) (u : Task) → is_active pl ≡ true → may_start u ≡ true → IsBetween pl u
@@ -228,17 +229,10 @@ shut_is sessions seat succ pred c sound quiet at e =
     runs.succ_attained)
 
 -- A CALL THAT ENDS the transaction, after another one that went on.
-history_same : (n : ℕ) (s t : ℕ → Session) → ((q : ℕ) → (t q).over ≡ (s q).over) → history_upto n t ≡ history_upto n s
-unfolding history_upto
-history_same zero s t same = refl
-history_same (suc n) s t same =
-    ap (λ (h : History). h ++ world.committed_in (suc n) (t (suc n)).over) (history_same n s t same)
-    ∙ ap (λ (over : List Finished). history_upto n s ++ world.committed_in (suc n) over) (same (suc n))
-
 pub works_history : (v t : View) (seat : ℕ) (w : Work) → Works v seat w t → history_of t ≡ history_of v
 works_history v t seat w works =
     ap (λ (o : Opening). history_upto o.sessions t.session) works.opening
-    ∙ history_same v.opening.sessions v.session t.session (λ q.
+    ∙ history_same v.opening.sessions v.session t.session (λ q above within.
     ⊎_elim
     (λ (here : q ≡ seat). subst (λ (n : ℕ). (t.session n).over ≡ (v.session n).over) (sym here) (ap (λ (s : Session). s.over) works.own))
     (λ (there : q ≡ seat → ⊥). ap (λ (s : Session). s.over) (works.others q there))

@@ -6,7 +6,9 @@ pub mod Exchanges
 pub mod FinalRows
 pub mod Finishing
 pub mod GatherCall
+pub mod Histories
 pub mod Kept
+pub mod Lasting
 mod Leaving
 pub mod Newest
 pub mod Numbers

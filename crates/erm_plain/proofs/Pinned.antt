@@ -1,7 +1,7 @@
 -- Rows as of the pin: the last version below it, and who may still write one.
 use Rattle.std.proofs.Common.{◌≡◌, ◌≢◌, ℕ, zero, suc, ◌+◌, ◌<◌, ◌≤◌, ◌⊎◌, ⊎_elim, Bool, true, false, ◌||◌, cond, eqb, ltb, List, [], ◌∷◌, ◌++◌, length, map, take, get_or, Option, Some, None, IfSome, refl, sym, ap, ◌∙◌, subst, inl, inr, arith}
 use Rattle.std.specs.Prelude.{IsSome, if◌then◌else◌}
-use Rattle.std.proofs.lemmas.Bool.{cases_eq, cases_lt, cond-false, cond-true, eq-eqb, eqb-false, eqb-true, le-ltb, lt-ltb, ne_eqb, or_cases}
+use Rattle.std.proofs.lemmas.Bool.{cases_eq, cases_lt, cond-false, cond-true, eq-eqb, eqb-false, eqb-true, le-ltb, lt-ltb, ne_eqb, or_cases, or_left, or_right}
 use Rattle.std.proofs.lemmas.List.{take_more}
 use Rattle.std.proofs.lemmas.Option.{same_Some}
 use Rattle.erm_model.specs.declared.history.VersionWritten.{VersionWritten}
@@ -28,9 +28,10 @@ use Rattle.erm_core_view.specs.Views.{IsBetween, IsQuiet, pin_of, view_of}
 use Rattle.erm_sound.specs.Kept.{SoundUnder}
 use Rattle.erm_world.specs.declared.gathered.SeatWait.{SeatWait}
 use Rattle.erm_world.specs.Laws.{IsSerializable}
-use Rattle.erm_world.specs.Log.{IsRowAt, IsWait, Undecided}
+use Rattle.erm_world.specs.Log.{IsRowAt, IsUnwaited, IsWait, Undecided}
 use Rattle.erm_world.specs.Works.{is_claimed}
 use Rattle.erm_plain.specs.Pinned.{IsNewestRow, owner_below, row_below}
+use Rattle.erm_plain.proofs.Early.{ahead_holds}
 use Rattle.erm_plain.proofs.Owners.{owner_ahead}
 
 abbrev F : ℕ
@@ -136,6 +137,12 @@ claimed_among (w ∷ ws) oid e =
     (λ (later : is_claimed ws oid ≡ true). ∈-behind w.oid (map (λ (v : VersionWritten). v.oid) ws) oid (claimed_among ws oid later))
     (or_cases (eqb w.oid oid) (is_claimed ws oid) e)
 
+-- and one that is among the objects that are claimed is claimed
+claimed_of : (claims : List VersionWritten) (oid : ℕ) → oid ∈ map (λ (w : VersionWritten). w.oid) claims → is_claimed claims oid ≡ true
+claimed_of [] oid (k, is) = absurd (cc)
+claimed_of (w ∷ ws) oid (zero, is) = or_left (eqb w.oid oid) (is_claimed ws oid) (eq-eqb w.oid oid (same_Some w.oid oid is))
+claimed_of (w ∷ ws) oid (suc k, is) = or_right (eqb w.oid oid) (is_claimed ws oid) (claimed_of ws oid (k, is))
+
 module _ (law : Law) (lists : Lists law) (more : More law) (sessions : ℕ) (c : Core) (under : SoundUnder law c) (quiet : IsQuiet sessions c)
     (is : IsSerializable law (view_of sessions c)) (some : IsSome (pin_of (c.seats F).place (c.seats F).current)) (oid : ℕ) (known : oid < OBJECT_LIMIT) where
   abbrev b : ℕ
@@ -221,6 +228,24 @@ module _ (law : Law) (lists : Lists law) (more : More law) (sessions : ℕ) (c :
 
       positive : 0 < b
       positive = let low = active_begun (c.seats F).place refl some in let behind = quiet.opened in omega (arith, low, behind)
+
+  -- and nobody is waited for
+  pub unwaited_found : owner_below c oid b ≡ None → IsUnwaited (log_of sessions c) oid
+  unwaited_found none wait waits =
+      let sealed = (undecided_are law (view_of sessions c) is wait.seen waits.by).0 waits.undecided in
+      let q = waits.by.seat in
+      let plain : is_flusher q ≡ false = quiet.few q sealed.session.1 in
+      let another : q ≢ F = λ same. let flusher : is_flusher q ≡ true = eq-eqb q F same in cc in
+      let claims = claimed_of sealed.work.claims oid (subst (λ (oids : List ℕ). oid ∈ oids) sealed.claims waits.claims) in
+      let below = subst (λ (o : Option ℕ). IfSome o (λ place. wait.seen < place)) (pin_is law lists more sessions c under quiet is some) waits.below in
+      apart none q (λ same. another (sym same)) (ahead_holds sessions F oid b q wait.seen c under.sound quiet (record {
+        session = sealed.session;
+        another = another;
+        work = sealed.work;
+        stand = sealed.stand;
+        below = below;
+        claims = claims;
+      }))
 
   -- WHO is waited for is sealed below the pin, and has claimed the object
   some_of : {X : Type 0} (p : Bool) (x y : X) → cond p None (Some x) ≡ Some y → (p ≡ false) × (x ≡ y)

@@ -1,5 +1,5 @@
 //! The block of a transaction, whose header decides it.
-ghost use Rattle.std.specs.Prelude.{◌≡◌, ◌<◌, ◌≤◌, ◌^◌, length, map, true};
+ghost use Rattle.std.specs.Prelude.{◌≡◌, ◌<◌, ◌≤◌, ◌^◌, [], length, map, true};
 ghost use Rattle.erm_core.specs.Cores.{core_of};
 ghost use Rattle.erm_core_blocks.specs.Spelled.{IsBlockOf, decided_by, entries_of};
 ghost use Rattle.erm_kept.specs.Attempts.{attempt_of};
@@ -17,19 +17,19 @@ use erm_kept::AttemptState;
 use erm_machine::{Claim, Decision, Kind};
 use erm_model::{Oid, Row, RowLaw, Seat, Stamp};
 
-// The entries of claims: their objects, with their rows.
-fn entries(claims: &[Claim]) -> ArrayVec<(Oid, Row), BLOCK_ROWS>
-    requires { length claims.now ≤ WRITE_LIMIT }
-    ensures { result.items ≡ entries_of Commit (map written_of claims.now) }
+// Adds the entries of claims to none: their objects, with their rows.
+fn add_entries(claims: &[Claim], entries: &mut ArrayVec<(Oid, Row), BLOCK_ROWS>)
+    requires few { length claims.now ≤ WRITE_LIMIT }
+    requires none { entries.old.items ≡ [] }
+    ensures { entries.new.items ≡ entries_of Commit (map written_of claims.now) }
 {
-    let mut entries = ArrayVec::new();
     for claim in claims {
         entries.push((claim.version.oid, claim.row));
     }
-    entries
 }
 
 // The block of a transaction, as its exclusion window decides it.
+#[inline(always)]
 fn block_of(seat: Seat, run: u64, number: u32, t: &AttemptState) -> Block
     requires number { number ≡ (attempt_of t.now).number }
     requires least { LEAST_BLOCK ≤ t.now.size }
@@ -40,12 +40,8 @@ fn block_of(seat: Seat, run: u64, number: u32, t: &AttemptState) -> Block
     ensures least { LEAST_BLOCK ≤ result.size }
     ensures most { result.size ≤ GREATEST_BLOCK }
 {
-    let (kind, rows) = match t.decision() {
-        Decision::Commit => (BlockKind::Commit, entries(&t.writes)),
-        _ => (BlockKind::Skip, ArrayVec::new()),
-    };
-    Block {
-        kind,
+    let mut block = Block {
+        kind: BlockKind::Skip,
         run,
         stamp: t.stamp,
         succ: t.succ,
@@ -53,8 +49,13 @@ fn block_of(seat: Seat, run: u64, number: u32, t: &AttemptState) -> Block
         number,
         n: t.writes.len() as u16,
         size: t.size as u16,
-        rows,
+        rows: ArrayVec::new(),
+    };
+    if let Decision::Commit = t.decision() {
+        block.kind = BlockKind::Commit;
+        add_entries(&t.writes, &mut block.rows);
     }
+    block
 }
 
 impl<L: RowLaw> Plain<L> {

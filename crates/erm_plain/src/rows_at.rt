@@ -6,7 +6,7 @@ ghost use Rattle.erm_model.specs.declared.limits.TheConstants.{OID_LIMIT};
 ghost use Rattle.erm_plain.specs.Logs.{KeepsSessions, plain_log};
 ghost use Rattle.erm_plain.specs.Pinned.{IsNewestRow, owner_below, row_below};
 ghost use Rattle.erm_plain.specs.Stands.{Stands, plain_view};
-ghost use Rattle.erm_world.specs.Log.{IsRowAt, IsWait};
+ghost use Rattle.erm_world.specs.Log.{IsRowAsPinned, IsRowAt, IsUnwaited, IsWait};
 
 use crate::Plain;
 use erm_kept::words::{is_clear, owner_of};
@@ -83,6 +83,9 @@ impl<L: RowLaw> Plain<L> {
         ensures same { plain_log self.new ≡ plain_log self.old }
         ensures row { IfOk result (λ row. IsRowAt (plain_log self.old) oid row) }
         ensures newest { IfOk result (λ row. IfSome (plain_log self.old).pinned (IsNewestRow (plain_view self.old) oid row)) }
+        ensures lasts { IfOk result (λ row. (later : Plain L) → KeepsSessions L.law self.new later
+            → IsRowAsPinned (plain_log self.old) (plain_log later) oid row) }
+        ensures clear { IfOk result (λ row. IsUnwaited (plain_log self.old) oid) }
         ensures wait { IfErr result (λ wait. IsWait (plain_log self.old) oid wait) }
     {
         erm_log_list::blocks_are_a_log_list::<L>();

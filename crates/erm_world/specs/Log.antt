@@ -92,6 +92,10 @@ abbrev pub IsRowAt : Log → ℕ → List ℕ → Type 0
 IsRowAt log oid row = (front rest : List Block) → log.gathered ≡ front ++ rest → log.pinned ≡ Some (place_behind log.opened.at front)
     → row ≡ rows_behind log.opened.rows front oid
 
+-- and so it is of a later log as of the same pin, whatever is gathered by then
+abbrev pub IsRowAsPinned : Log → Log → ℕ → List ℕ → Type 0
+IsRowAsPinned log later oid row = later.pinned ≡ log.pinned → IsRowAt later oid row
+
 -- a transaction of this seat that isn't decided is sealed with this stamp, below the pin, and has claimed the object
 pub record IsWait (log : Log) (oid : ℕ) (wait : SeatWait) : Type 0 where
   pub by : Undecided
@@ -99,6 +103,10 @@ pub record IsWait (log : Log) (oid : ℕ) (wait : SeatWait) : Type 0 where
   pub seat : by.seat ≡ wait.seat
   pub claims : oid ∈ by.claims
   pub below : IfSome log.pinned (λ place. wait.seen < place)
+
+-- nobody who isn't decided is sealed below the pin and has claimed the object
+abbrev pub IsUnwaited : Log → ℕ → Type 0
+IsUnwaited log oid = (wait : SeatWait) → IsWait log oid wait → ⊥
 
 -- What is so of every log: the blocks gathered are a chain of the grammar from its start on, each written in its run, with rows that are sound
 -- after each; it is synced up to the end of one of them; below their end all is decided; it is pinned at a place of the log, and where that

@@ -2,7 +2,7 @@
 ghost use Rattle.std.specs.Prelude.{◌≡◌, ◌<◌, ◌≤◌, IfErr, IfOk, None, Some, length, IsSome};
 ghost use Rattle.erm_model.specs.declared.limits.TheConstants.{OID_LIMIT, RING_WORDS};
 ghost use Rattle.erm_model.specs.RowTransaction.{Law, RespectsRows};
-ghost use Rattle.erm_world.specs.Log.{Gathers, IsLog, IsRowAt, IsWait, Log, gathered_to};
+ghost use Rattle.erm_world.specs.Log.{Gathers, IsLog, IsRowAsPinned, IsRowAt, IsUnwaited, IsWait, Log, gathered_to};
 
 use crate::gathered::{Gathered, SeatWait};
 use erm_model::{Oid, Row, Stamp};
@@ -50,7 +50,7 @@ pub trait LogWorld {
         ensures place { (log self.old).tail ≤ result }
         ensures pinned { log self.new ≡ record (log self.old) { tail = result; pinned = Some result } };
 
-    /// The row of an object as of the place pinned. It waits where a transaction that isn't decided is sealed below the pin and has
+    /// The row of an object as of the place pinned. It waits just where a transaction that isn't decided is sealed below the pin and has
     /// claimed the object, which the answer names.
     fn row_at(&mut self, oid: Oid) -> Result<Row, SeatWait>
         requires stands { log_stands self.old }
@@ -60,6 +60,8 @@ pub trait LogWorld {
         ensures keeps { keeps self.old self.new }
         ensures same { log self.new ≡ log self.old }
         ensures row { IfOk result (λ row. IsRowAt (log self.old) oid row) }
+        ensures clear { IfOk result (λ row. IsUnwaited (log self.old) oid) }
+        ensures lasts { IfOk result (λ row. (later : Self) → keeps self.new later → IsRowAsPinned (log self.old) (log later) oid row) }
         ensures wait { IfErr result (λ wait. IsWait (log self.old) oid wait) };
 
     /// Ends the pin.
