@@ -1,5 +1,7 @@
 pub mod OfCauses
 pub mod OfCutReports
+pub mod OfFlushed
+pub mod OfLaterCommits
 pub mod OfLines
 pub mod OfOrder
 pub mod OfRefusals

@@ -25,7 +25,7 @@ keeps_but_successor Fit not = All-from_recursion FitsTypes (lines_of successor_u
 keeps_but_successor Answered not = refl
 keeps_but_successor Closes not = record { each = refl; fits = λ c (k, at). cc }
 keeps_but_successor Phases not = phases_kept successor_unknown (tt, (tt, tt))
-keeps_but_successor Stamps not = stamps_agree successor_unknown.opening (told_of successor_unknown) (said_of successor_unknown.script successor_unknown.report.answers) refl refl refl refl (in_one _ _ (omega arith)) (in_one _ _ (omega arith)) (in_one _ _ tt)
+keeps_but_successor Stamps not = stamps_agree successor_unknown.opening (told_of successor_unknown) (said_of successor_unknown.script successor_unknown.report.answers) refl refl refl refl refl refl (in_one _ _ (omega arith)) (in_one _ _ (omega arith)) (in_one _ _ tt)
 keeps_but_successor Snapshots not = in_one _ _ (first_snapshot (history_of (told_of successor_unknown)) empty 13 [] refl tt)
 keeps_but_successor Causes not = absurd (not refl)
 keeps_but_successor Refusals not = refusals_kept successor_unknown (record { own = λ t is. tt; log = tt; unfilled = tt }, (record { own = λ t is. tt; log = tt; unfilled = tt }, tt))
@@ -64,7 +64,7 @@ keeps_but_opens Fit not = All-from_recursion FitsTypes (lines_of window_closed) 
 keeps_but_opens Answered not = refl
 keeps_but_opens Closes not = record { each = refl; fits = λ c (k, at). cc }
 keeps_but_opens Phases not = phases_kept window_closed (tt, (tt, (tt, (tt, (tt, (tt, tt))))))
-keeps_but_opens Stamps not = stamps_agree window_closed.opening both (said_of window_closed.script window_closed.report.answers) refl refl refl refl
+keeps_but_opens Stamps not = stamps_agree window_closed.opening both (said_of window_closed.script window_closed.report.answers) refl refl refl refl refl refl
     (each_in (λ t. 13 ≤ t.begin) both (omega arith, (omega arith, tt)))
     (each_in (λ t. IfSome (stamp_of t) (λ stamp. t.begin ≤ stamp)) both (omega arith, (omega arith, tt)))
     (each_in (λ t. Told (λ a b. a ≡ b) t.sealed (stamp_of_ending t.ending)) both (tt, (tt, tt)))
@@ -111,7 +111,7 @@ module _ (succ pred : ℕ) (low : succ < 2 ^ 64) (high : pred < 2 ^ 64) (breaks 
   keeps_but_end Answered not = refl
   keeps_but_end Closes not = record { each = refl; fits = λ c (k, at). cc }
   keeps_but_end Phases not = phases_kept (excluded_with succ pred) (tt, (tt, (tt, (tt, (tt, (tt, tt))))))
-  keeps_but_end Stamps not = stamps_agree (excluded_with succ pred).opening (told_of (excluded_with succ pred)) (said_of (excluded_with succ pred).script (excluded_with succ pred).report.answers) refl refl refl refl
+  keeps_but_end Stamps not = stamps_agree (excluded_with succ pred).opening (told_of (excluded_with succ pred)) (said_of (excluded_with succ pred).script (excluded_with succ pred).report.answers) refl refl refl refl refl refl
       (each_in (λ t. 13 ≤ t.begin) (told_of (excluded_with succ pred)) (omega arith, (omega arith, tt)))
       (each_in (λ t. IfSome (stamp_of t) (λ stamp. t.begin ≤ stamp)) (told_of (excluded_with succ pred)) (omega arith, (omega arith, tt)))
       (each_in (λ t. Told (λ a b. a ≡ b) t.sealed (stamp_of_ending t.ending)) (told_of (excluded_with succ pred)) (tt, (tt, tt)))

@@ -1,5 +1,5 @@
 -- Reports cut off by the disk's fault that are not those of a run.
-use Rattle.std.proofs.Common.{◌≡◌, ◌≢◌, ℕ, zero, suc, ◌≤◌, List, [], ◌∷◌, ◌++◌, length, take, Option, Some, None, refl, sym, ap, ◌∙◌, inl, subst, arith}
+use Rattle.std.proofs.Common.{◌≡◌, ◌≢◌, ℕ, zero, suc, ◌≤◌, List, [], ◌∷◌, ◌++◌, length, take, Option, Some, None, refl, sym, ap, ◌∙◌, inl, inr, subst, arith}
 use Rattle.std.specs.FinMap.{empty}
 use Rattle.std.specs.Prelude.{IfSome}
 use Rattle.std.specs.List.{All, slice_get}
@@ -11,24 +11,25 @@ use Rattle.erm_report.specs.declared.line.Line.TheVariants as line
 use Rattle.erm_report.specs.Printable.{FitsTypes}
 use Rattle.erm_script.specs.declared.script.Command.TheVariants as command
 use Rattle.erm_script.specs.declared.script.ScriptLine.{ScriptLine}
-use Rattle.erm_good_report.specs.GoodReport.{IsClosedUnseen, answer_lines, fault_line}
+use Rattle.erm_good_report.specs.GoodReport.{IsClosedUnseen, IsLineOfLog, answer_lines, fault_line}
 use Rattle.erm_good_report.specs.Opening.{InTurn}
 use Rattle.erm_good_report.specs.Phases.{FitsPhase, PhasesAgree, phase_of}
 use Rattle.erm_good_report.specs.Refusals.{HasCause, moment_at}
 use Rattle.erm_good_report.specs.Transactions.{history_of, said_of, stamp_of}
 use Rattle.erm_good_report.proofs.Parts.{each_in, each_place}
-use Rattle.erm_bad_reports.specs.CutReports.{BreaksCutAlone, CutClause, FaultAt, Fitting, IsNoCutReport, MeetsCut, Once, Owing, Unseen, cut_lines_of, told_of_cut, closed_too_early, closed_twice, closed_with, cut_number_too_great, cut_without_begin, fault_outside}
+use Rattle.erm_bad_reports.specs.CutReports.{BreaksCutAlone, AtLog, CutClause, FaultAt, Fitting, IsNoCutReport, MeetsCut, Once, Owing, Unseen, cut_lines_of, told_of_cut, closed_too_early, closed_twice, closed_with, cut_number_too_great, cut_without_begin, fault_at_begin, fault_outside}
 use Rattle.erm_bad_reports.proofs.Tests.{ring_wait, first_snapshot, in_none, in_one, stamps_agree}
 
 -- ---- a fault outside the lines
 keeps_but_fault : (other : CutClause) → other ≢ FaultAt → MeetsCut other fault_outside
 keeps_but_fault FaultAt not = absurd (not refl)
+keeps_but_fault AtLog not = tt
 keeps_but_fault Fitting not = All-from_recursion FitsTypes (cut_lines_of fault_outside) ((omega arith, omega arith), (tt, tt))
 keeps_but_fault Once not = λ i j d less within. absurd (omega arith)
 keeps_but_fault Unseen not = λ c (k, at). cc
 keeps_but_fault Owing not = record {
   phases = record { fits = λ i l a at beside. absurd (cc beside) };
-  stamps = stamps_agree fault_outside.opening [] [] refl refl refl refl (in_none _) (in_none _) (in_none _);
+  stamps = stamps_agree fault_outside.opening [] [] refl refl refl refl refl refl (in_none _) (in_none _) (in_none _);
   snapshots = in_none _;
   causes = in_none _;
   refusals = record { each = λ i l a at beside. absurd (cc beside) };
@@ -51,15 +52,48 @@ fault_breaks = (
       cc at),
 )
 
+-- ---- a fault at a begin
+keeps_but_log : (other : CutClause) → other ≢ AtLog → MeetsCut other fault_at_begin
+keeps_but_log FaultAt not = refl
+keeps_but_log AtLog not = absurd (not refl)
+keeps_but_log Fitting not = All-from_recursion FitsTypes (cut_lines_of fault_at_begin) ((omega arith, omega arith), ((omega arith, tt), tt))
+keeps_but_log Once not = λ i j d less within. absurd (omega arith)
+keeps_but_log Unseen not = λ c (k, at). cc
+keeps_but_log Owing not = record {
+  phases = record { fits = λ i l a at beside. absurd (cc beside) };
+  stamps = stamps_agree fault_at_begin.opening [] [] refl refl refl refl refl refl (in_none _) (in_none _) (in_none _);
+  snapshots = in_none _;
+  causes = in_none _;
+  refusals = record { each = λ i l a at beside. absurd (cc beside) };
+}
+
+begin_of_log : IfSome (Some (record { line = 1; session = 1; command = command.Begin })) IsLineOfLog → ⊥
+begin_of_log (inl flush) = cc flush
+begin_of_log (inr checkpoint) = cc checkpoint
+
+begin_read : (answers : List Answer) (fault : Option ScriptLine)
+    → line.Open 8 1 ∷ line.Answer 1 answer.DiskFault ∷ [] ≡ line.Open 8 1 ∷ answer_lines fault_at_begin.script answers ++ fault_line fault ∷ [] → (answers ≡ [] → ⊥) → ⊥
+begin_read [] fault same not = not refl
+begin_read (a ∷ answers) fault same not = cc same
+
+pub log_breaks : BreaksCutAlone AtLog fault_at_begin × IsNoCutReport fault_at_begin
+log_breaks = (
+  record { breaks = begin_of_log; keeps = keeps_but_log },
+  λ cut. begin_read cut.answers cut.fault cut.lines_ok (λ none.
+      let at : cut.fault ≡ Some (record { line = 1; session = 1; command = command.Begin }) = cut.at ∙ ap (λ (given : List Answer). slice_get fault_at_begin.script (length given)) none in
+      begin_of_log (subst (λ (fault : Option ScriptLine). IfSome fault IsLineOfLog) at cut.of_log)),
+)
+
 -- ---- a number that is too great
 keeps_but_fitting : (other : CutClause) → other ≢ Fitting → MeetsCut other cut_number_too_great
 keeps_but_fitting FaultAt not = refl
+keeps_but_fitting AtLog not = tt
 keeps_but_fitting Fitting not = absurd (not refl)
 keeps_but_fitting Once not = λ i j d less within. absurd (omega arith)
 keeps_but_fitting Unseen not = λ c (k, at). cc
 keeps_but_fitting Owing not = record {
   phases = record { fits = λ i l a at. absurd (cc) };
-  stamps = stamps_agree cut_number_too_great.opening [] [] refl refl refl refl (in_none _) (in_none _) (in_none _);
+  stamps = stamps_agree cut_number_too_great.opening [] [] refl refl refl refl refl refl (in_none _) (in_none _) (in_none _);
   snapshots = in_none _;
   causes = in_none _;
   refusals = record { each = λ i l a at. absurd (cc) };
@@ -74,6 +108,7 @@ fitting_breaks = (record { breaks = too_great; keeps = keeps_but_fitting }, λ c
 -- ---- an answer outside a transaction
 keeps_but_owing : (other : CutClause) → other ≢ Owing → MeetsCut other cut_without_begin
 keeps_but_owing FaultAt not = refl
+keeps_but_owing AtLog not = tt
 keeps_but_owing Fitting not = All-from_recursion FitsTypes (cut_lines_of cut_without_begin) ((omega arith, omega arith), ((omega arith, tt), (tt, tt)))
 keeps_but_owing Once not = λ i j d less within. absurd (omega arith)
 keeps_but_owing Unseen not = λ c (k, at). cc
@@ -105,12 +140,13 @@ none_left (suc (suc i)) l above at = cc at
 
 keeps_but_once : (other : CutClause) → other ≢ Once → MeetsCut other closed_twice
 keeps_but_once FaultAt not = refl
+keeps_but_once AtLog not = tt
 keeps_but_once Fitting not = All-from_recursion FitsTypes (cut_lines_of closed_twice) ((omega arith, omega arith), ((omega arith, omega arith), ((omega arith, omega arith), (tt, tt))))
 keeps_but_once Once not = absurd (not refl)
 keeps_but_once Unseen not = each_in (IsClosedUnseen closed_twice.script closed_twice.answers) closed_twice.closed (record { fits = tt; sealed = refl; answered = λ i l above at. absurd (none_left i l above at) }, (record { fits = tt; sealed = refl; answered = λ i l above at. absurd (none_left i l above at) }, tt))
 keeps_but_once Owing not = record {
   phases = record { fits = each_place (λ i l a. FitsPhase (phase_of l.session (take i (said_of closed_twice.script closed_twice.answers))) l.command a) closed_twice.script closed_twice.answers (tt, (tt, tt)) };
-  stamps = stamps_agree closed_twice.opening (told_of_cut closed_twice) (said_of closed_twice.script closed_twice.answers) refl refl refl refl (in_one _ _ (omega arith)) (in_one _ _ (omega arith)) (in_one _ _ tt);
+  stamps = stamps_agree closed_twice.opening (told_of_cut closed_twice) (said_of closed_twice.script closed_twice.answers) refl refl refl refl refl refl (in_one _ _ (omega arith)) (in_one _ _ (omega arith)) (in_one _ _ tt);
   snapshots = in_one _ _ (first_snapshot (history_of (told_of_cut closed_twice)) empty 13 [] refl tt);
   causes = in_one _ _ (record { opens = omega arith; closes = omega arith; succ_cause = inl refl; pred_cause = inl refl });
   refusals = record {
@@ -130,12 +166,13 @@ once_breaks = record { breaks = λ once. let other : 1 ≢ 1 = once 0 1 (closed_
 -- ---- a session that is closed before its last line
 keeps_but_unseen : (other : CutClause) → other ≢ Unseen → MeetsCut other closed_too_early
 keeps_but_unseen FaultAt not = refl
+keeps_but_unseen AtLog not = inl refl
 keeps_but_unseen Fitting not = All-from_recursion FitsTypes (cut_lines_of closed_too_early) ((omega arith, omega arith), ((omega arith, omega arith), ((omega arith, omega arith), ((omega arith, tt), tt))))
 keeps_but_unseen Once not = λ i j d less within. absurd (omega arith)
 keeps_but_unseen Unseen not = absurd (not refl)
 keeps_but_unseen Owing not = record {
   phases = record { fits = each_place (λ i l a. FitsPhase (phase_of l.session (take i (said_of closed_too_early.script closed_too_early.answers))) l.command a) closed_too_early.script closed_too_early.answers (tt, (tt, tt)) };
-  stamps = stamps_agree closed_too_early.opening (told_of_cut closed_too_early) (said_of closed_too_early.script closed_too_early.answers) refl refl refl refl (in_one _ _ (omega arith)) (in_one _ _ (omega arith)) (in_one _ _ tt);
+  stamps = stamps_agree closed_too_early.opening (told_of_cut closed_too_early) (said_of closed_too_early.script closed_too_early.answers) refl refl refl refl refl refl (in_one _ _ (omega arith)) (in_one _ _ (omega arith)) (in_one _ _ tt);
   snapshots = in_one _ _ (first_snapshot (history_of (told_of_cut closed_too_early)) empty 13 [] refl tt);
   causes = in_one _ _ (record { opens = omega arith; closes = omega arith; succ_cause = inl refl; pred_cause = inl refl });
   refusals = record {
@@ -150,4 +187,4 @@ keeps_but_unseen Owing not = record {
 }
 
 pub unseen_breaks : BreaksCutAlone Unseen closed_too_early
-unseen_breaks = record { breaks = λ unseen. (unseen (closed_with 40000) (0, refl)).answered 2 _ (omega arith) refl refl; keeps = keeps_but_unseen }
+unseen_breaks = record { breaks = λ unseen. (unseen (closed_with 40000) (0, refl)).answered 3 _ (omega arith) refl refl; keeps = keeps_but_unseen }

@@ -37,7 +37,7 @@ keeps_but_fit Fit not = absurd (not refl)
 keeps_but_fit Answered not = refl
 keeps_but_fit Closes not = record { each = refl; fits = λ c (k, at). cc }
 keeps_but_fit Phases not = record { fits = λ i l a at. absurd (cc) }
-keeps_but_fit Stamps not = stamps_agree number_too_great.opening [] [] refl refl refl refl (in_none _) (in_none _) (in_none _)
+keeps_but_fit Stamps not = stamps_agree number_too_great.opening [] [] refl refl refl refl refl refl (in_none _) (in_none _) (in_none _)
 keeps_but_fit Snapshots not = in_none _
 keeps_but_fit Causes not = in_none _
 keeps_but_fit Refusals not = record { each = λ i l a at. absurd (cc) }
@@ -59,7 +59,7 @@ keeps_but_answered Fit not = All-from_recursion FitsTypes (lines_of line_left_ou
 keeps_but_answered Answered not = absurd (not refl)
 keeps_but_answered Closes not = record { each = refl; fits = λ c (k, at). cc }
 keeps_but_answered Phases not = record { fits = λ i l a at beside. absurd (cc beside) }
-keeps_but_answered Stamps not = stamps_agree line_left_out.opening [] [] refl refl refl refl (in_none _) (in_none _) (in_none _)
+keeps_but_answered Stamps not = stamps_agree line_left_out.opening [] [] refl refl refl refl refl refl (in_none _) (in_none _) (in_none _)
 keeps_but_answered Snapshots not = in_none _
 keeps_but_answered Causes not = in_none _
 keeps_but_answered Refusals not = record { each = λ i l a at beside. absurd (cc beside) }
@@ -86,7 +86,7 @@ keeps_but_closes Fit not = All-from_recursion FitsTypes (lines_of left_open) ((o
 keeps_but_closes Answered not = refl
 keeps_but_closes Closes not = absurd (not refl)
 keeps_but_closes Phases not = record { fits = each_place (λ i l a. FitsPhase (phase_of l.session (take i (said_of left_open.script left_open.report.answers))) l.command a) left_open.script left_open.report.answers (tt, tt) }
-keeps_but_closes Stamps not = stamps_agree left_open.opening (told_of left_open) (said_of left_open.script left_open.report.answers) refl refl refl refl (in_one _ _ (omega arith)) (in_one _ _ tt) (in_one _ _ tt)
+keeps_but_closes Stamps not = stamps_agree left_open.opening (told_of left_open) (said_of left_open.script left_open.report.answers) refl refl refl refl refl refl (in_one _ _ (omega arith)) (in_one _ _ tt) (in_one _ _ tt)
 keeps_but_closes Snapshots not = in_one _ _ (first_snapshot [] left_open.opening.map 13 [] refl tt)
 keeps_but_closes Causes not = in_one _ _ tt
 keeps_but_closes Refusals not = record { each = each_place (λ i l a. HasCause (moment_at InTurn left_open.opening left_open.script left_open.report.answers (told_of left_open) i l) l.command a) left_open.script left_open.report.answers (record { own = λ t is. tt; log = tt; unfilled = tt }, tt) }
@@ -108,7 +108,7 @@ keeps_but_phases Fit not = All-from_recursion FitsTypes (lines_of got_without_be
 keeps_but_phases Answered not = refl
 keeps_but_phases Closes not = record { each = refl; fits = λ c (k, at). cc }
 keeps_but_phases Phases not = absurd (not refl)
-keeps_but_phases Stamps not = stamps_agree got_without_begin.opening [] (said_of got_without_begin.script got_without_begin.report.answers) refl refl refl refl (in_none _) (in_none _) (in_none _)
+keeps_but_phases Stamps not = stamps_agree got_without_begin.opening [] (said_of got_without_begin.script got_without_begin.report.answers) refl refl refl refl refl refl (in_none _) (in_none _) (in_none _)
 keeps_but_phases Snapshots not = in_none _
 keeps_but_phases Causes not = in_none _
 keeps_but_phases Refusals not = record { each = each_place (λ i l a. HasCause (moment_at InTurn got_without_begin.opening got_without_begin.script got_without_begin.report.answers (told_of got_without_begin) i l) l.command a) got_without_begin.script got_without_begin.report.answers (record { own = λ t is. tt; log = tt; unfilled = tt }, tt) }

@@ -32,7 +32,7 @@ keeps_but_serial Fit not = All-from_recursion FitsTypes (lines_of order_turned_r
 keeps_but_serial Answered not = refl
 keeps_but_serial Closes not = record { each = refl; fits = λ c (k, at). cc }
 keeps_but_serial Phases not = record { fits = each_place (λ i l a. FitsPhase (phase_of l.session (take i (said_of order_turned_round.script order_turned_round.report.answers))) l.command a) order_turned_round.script order_turned_round.report.answers (tt, (tt, (tt, (tt, tt)))) }
-keeps_but_serial Stamps not = stamps_agree order_turned_round.opening (told_of order_turned_round) (said_of order_turned_round.script order_turned_round.report.answers) refl refl refl refl (each_in (λ t. 13 ≤ t.begin) told (omega arith, (omega arith, tt))) (each_in (λ t. IfSome (stamp_of t) (λ stamp. t.begin ≤ stamp)) told (omega arith, (omega arith, tt))) (each_in (λ t. Told (λ a b. a ≡ b) t.sealed (stamp_of_ending t.ending)) told (tt, (tt, tt)))
+keeps_but_serial Stamps not = stamps_agree order_turned_round.opening (told_of order_turned_round) (said_of order_turned_round.script order_turned_round.report.answers) refl refl refl refl refl refl (each_in (λ t. 13 ≤ t.begin) told (omega arith, (omega arith, tt))) (each_in (λ t. IfSome (stamp_of t) (λ stamp. t.begin ≤ stamp)) told (omega arith, (omega arith, tt))) (each_in (λ t. Told (λ a b. a ≡ b) t.sealed (stamp_of_ending t.ending)) told (tt, (tt, tt)))
 keeps_but_serial Snapshots not = each_in (λ t. HasSnapshotReplies (history_of told) order_turned_round.opening.map t.begin (steps_of t)) told (
   first_snapshot (history_of told) order_turned_round.opening.map 13 [] refl tt,
   (
@@ -78,7 +78,7 @@ keeps_but_ascending Fit not = All-from_recursion FitsTypes (lines_of pairs_turne
 keeps_but_ascending Answered not = refl
 keeps_but_ascending Closes not = record { each = refl; fits = λ c (k, at). cc }
 keeps_but_ascending Phases not = record { fits = each_place (λ i l a. FitsPhase (phase_of l.session (take i (said_of pairs_turned_round.script pairs_turned_round.report.answers))) l.command a) pairs_turned_round.script pairs_turned_round.report.answers tt }
-keeps_but_ascending Stamps not = stamps_agree pairs_turned_round.opening (told_of pairs_turned_round) (said_of pairs_turned_round.script pairs_turned_round.report.answers) refl refl refl refl (in_none _) (in_none _) (in_none _)
+keeps_but_ascending Stamps not = stamps_agree pairs_turned_round.opening (told_of pairs_turned_round) (said_of pairs_turned_round.script pairs_turned_round.report.answers) refl refl refl refl refl refl (in_none _) (in_none _) (in_none _)
 keeps_but_ascending Snapshots not = in_none _
 keeps_but_ascending Causes not = in_none _
 keeps_but_ascending Refusals not = record { each = each_place (λ i l a. HasCause (moment_at InTurn pairs_turned_round.opening pairs_turned_round.script pairs_turned_round.report.answers (told_of pairs_turned_round) i l) l.command a) pairs_turned_round.script pairs_turned_round.report.answers tt }
@@ -100,7 +100,7 @@ keeps_but_runs Fit not = All-from_recursion FitsTypes (lines_of pair_from_nowher
 keeps_but_runs Answered not = refl
 keeps_but_runs Closes not = record { each = refl; fits = λ c (k, at). cc }
 keeps_but_runs Phases not = record { fits = each_place (λ i l a. FitsPhase (phase_of l.session (take i (said_of pair_from_nowhere.script pair_from_nowhere.report.answers))) l.command a) pair_from_nowhere.script pair_from_nowhere.report.answers tt }
-keeps_but_runs Stamps not = stamps_agree pair_from_nowhere.opening (told_of pair_from_nowhere) (said_of pair_from_nowhere.script pair_from_nowhere.report.answers) refl refl refl refl (in_none _) (in_none _) (in_none _)
+keeps_but_runs Stamps not = stamps_agree pair_from_nowhere.opening (told_of pair_from_nowhere) (said_of pair_from_nowhere.script pair_from_nowhere.report.answers) refl refl refl refl refl refl (in_none _) (in_none _) (in_none _)
 keeps_but_runs Snapshots not = in_none _
 keeps_but_runs Causes not = in_none _
 keeps_but_runs Refusals not = record { each = each_place (λ i l a. HasCause (moment_at InTurn pair_from_nowhere.opening pair_from_nowhere.script pair_from_nowhere.report.answers (told_of pair_from_nowhere) i l) l.command a) pair_from_nowhere.script pair_from_nowhere.report.answers tt }

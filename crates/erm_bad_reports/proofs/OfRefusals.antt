@@ -32,6 +32,8 @@ stamps_of_one_place opening s = record {
   begins = λ i j d less within. absurd (omega arith);
   draws = λ i j d less within. absurd (omega arith);
   ascends = λ i j d less within. absurd (omega arith);
+  flushes = λ i j d less within. absurd (omega arith);
+  flushes_first = λ i j d less within. absurd (omega arith);
 }
 
 -- ---- a line of a session that has no transaction
@@ -109,14 +111,14 @@ module _ (r : Exchange) (fits : FitsAnswer r.answer) (phase : FitsPhase Active r
 
 pub before_abort_break : AllByRecursion (λ r. BreaksAlone Refusals (before_abort r)) answers_before_abort
 before_abort_break = (
-  breaks_before_abort _ (omega arith, omega arith) tt tt (record { each = refl; fits = λ c (k, at). cc }) (stamps_agree _ _ _ refl refl refl refl (in_one _ _ (omega arith)) (in_one _ _ tt) (in_one _ _ tt)) refl refl (λ refusals. let cause = (refusals.each 1 _ _ refl refl).own _ (_, refl, refl) in let current : None ≡ Some cause.1.other = cause.1.sealed.current in cc),
+  breaks_before_abort _ (omega arith, omega arith) tt tt (record { each = refl; fits = λ c (k, at). cc }) (stamps_agree _ _ _ refl refl refl refl refl refl (in_one _ _ (omega arith)) (in_one _ _ tt) (in_one _ _ tt)) refl refl (λ refusals. let cause = (refusals.each 1 _ _ refl refl).own _ (_, refl, refl) in let current : None ≡ Some cause.1.other = cause.1.sealed.current in cc),
   (
-    breaks_before_abort _ tt tt tt (record { each = refl; fits = λ c (k, at). cc }) (stamps_agree _ _ _ refl refl refl refl (in_one _ _ (omega arith)) (in_one _ _ tt) (in_one _ _ tt)) refl refl (λ refusals. let many : 512 < 16 = (refusals.each 1 _ _ refl refl).own _ (_, refl, refl) in omega (arith, many)),
+    breaks_before_abort _ tt tt tt (record { each = refl; fits = λ c (k, at). cc }) (stamps_agree _ _ _ refl refl refl refl refl refl (in_one _ _ (omega arith)) (in_one _ _ tt) (in_one _ _ tt)) refl refl (λ refusals. let many : 512 < 16 = (refusals.each 1 _ _ refl refl).own _ (_, refl, refl) in omega (arith, many)),
     (
-      breaks_before_abort _ tt tt tt (record { each = refl; fits = λ c (k, at). cc }) (stamps_agree _ _ _ refl refl refl refl (in_one _ _ (omega arith)) (in_one _ _ tt) (in_one _ _ tt)) refl refl (λ refusals. let many : 128 < 26 = (refusals.each 1 _ _ refl refl).own _ (_, refl, refl) in omega (arith, many)),
+      breaks_before_abort _ tt tt tt (record { each = refl; fits = λ c (k, at). cc }) (stamps_agree _ _ _ refl refl refl refl refl refl (in_one _ _ (omega arith)) (in_one _ _ tt) (in_one _ _ tt)) refl refl (λ refusals. let many : 128 < 26 = (refusals.each 1 _ _ refl refl).own _ (_, refl, refl) in omega (arith, many)),
       (
-        breaks_before_abort _ (omega arith) tt tt (record { each = refl; fits = λ c (k, at). cc }) (stamps_agree _ _ _ refl refl refl refl (in_one _ _ (omega arith)) (in_one _ _ tt) (in_one _ _ tt)) refl refl (λ refusals. let many : (65536 ≤ 65536) × (65536 < 16410) = (refusals.each 1 _ _ refl refl).own _ (_, refl, refl) in omega (arith, many.1)),
-        (breaks_before_abort _ (omega arith) tt tt (record { each = refl; fits = λ c (k, at). cc }) (stamps_agree _ _ _ refl refl refl refl (in_one _ _ (omega arith)) (in_one _ _ tt) (in_one _ _ tt)) refl refl (λ refusals. let many : (16384 ≤ 16384) × (16384 < 30) = (refusals.each 1 _ _ refl refl).own _ (_, refl, refl) in omega (arith, many.1)), tt),
+        breaks_before_abort _ (omega arith) tt tt (record { each = refl; fits = λ c (k, at). cc }) (stamps_agree _ _ _ refl refl refl refl refl refl (in_one _ _ (omega arith)) (in_one _ _ tt) (in_one _ _ tt)) refl refl (λ refusals. let many : (65536 ≤ 65536) × (65536 < 16410) = (refusals.each 1 _ _ refl refl).own _ (_, refl, refl) in omega (arith, many.1)),
+        (breaks_before_abort _ (omega arith) tt tt (record { each = refl; fits = λ c (k, at). cc }) (stamps_agree _ _ _ refl refl refl refl refl refl (in_one _ _ (omega arith)) (in_one _ _ tt) (in_one _ _ tt)) refl refl (λ refusals. let many : (16384 ≤ 16384) × (16384 < 30) = (refusals.each 1 _ _ refl refl).own _ (_, refl, refl) in omega (arith, many.1)), tt),
       ),
     ),
   ),
@@ -151,8 +153,8 @@ module _ (a : Answer) (fits : FitsAnswer a) (phase : FitsPhase Active command.Co
 
 pub before_settle_break : AllByRecursion (λ a. BreaksAlone Refusals (before_settle a)) answers_before_settle
 before_settle_break = (
-  breaks_before_settle _ (omega arith, omega arith) tt tt (record { each = refl; fits = λ c (k, at). cc }) (stamps_agree _ _ _ refl refl refl refl (in_one _ _ (omega arith)) (in_one _ _ (omega arith)) (in_one _ _ tt)) refl (λ refusals. let cause = (refusals.each 1 _ _ refl refl).own _ (_, refl, refl) in let current : None ≡ Some cause.1.other = cause.1.sealed.current in cc),
-  (breaks_before_settle _ (omega arith) tt tt (record { each = refl; fits = λ c (k, at). cc }) (stamps_agree _ _ _ refl refl refl refl (in_one _ _ (omega arith)) (in_one _ _ (omega arith)) (in_one _ _ tt)) refl (λ refusals. let cause = (refusals.each 1 _ _ refl refl).own _ (_, refl, refl) in let own : 18 ≡ cause.1.own = cause.1.own_is settled (0, refl) refl refl in let full : 32781 < cause.1.own + 5 = cause.1.full in omega (arith, own, full)), tt),
+  breaks_before_settle _ (omega arith, omega arith) tt tt (record { each = refl; fits = λ c (k, at). cc }) (stamps_agree _ _ _ refl refl refl refl refl refl (in_one _ _ (omega arith)) (in_one _ _ (omega arith)) (in_one _ _ tt)) refl (λ refusals. let cause = (refusals.each 1 _ _ refl refl).own _ (_, refl, refl) in let current : None ≡ Some cause.1.other = cause.1.sealed.current in cc),
+  (breaks_before_settle _ (omega arith) tt tt (record { each = refl; fits = λ c (k, at). cc }) (stamps_agree _ _ _ refl refl refl refl refl refl (in_one _ _ (omega arith)) (in_one _ _ (omega arith)) (in_one _ _ tt)) refl (λ refusals. let cause = (refusals.each 1 _ _ refl refl).own _ (_, refl, refl) in let own : 18 ≡ cause.1.own = cause.1.own_is settled (0, refl) refl refl in let full : 32781 < cause.1.own + 5 = cause.1.full in omega (arith, own, full)), tt),
 )
 
 -- ---- a line after a commit
@@ -183,10 +185,10 @@ module _ (r : Exchange) (fits : FitsAnswer r.answer) (phase : FitsPhase Idle r.a
 
 pub after_commit_break : AllByRecursion (λ r. BreaksAlone Refusals (after_commit r)) answers_after_commit
 after_commit_break = (
-  breaks_after_commit _ tt tt (record { each = refl; fits = λ c (k, at). cc }) (stamps_agree _ _ _ refl refl refl refl (in_one _ _ (omega arith)) (in_one _ _ (omega arith)) (in_one _ _ tt)) refl (λ refusals. let last : Some 13 ≡ None = (refusals.each 2 _ _ refl refl).log in cc),
+  breaks_after_commit _ tt tt (record { each = refl; fits = λ c (k, at). cc }) (stamps_agree _ _ _ refl refl refl refl refl refl (in_one _ _ (omega arith)) (in_one _ _ (omega arith)) (in_one _ _ tt)) refl (λ refusals. let last : Some 13 ≡ None = (refusals.each 2 _ _ refl refl).log in cc),
   (
-    breaks_after_commit _ (omega arith) tt (record { each = refl; fits = λ c (k, at). cc }) (stamps_agree _ _ _ refl refl refl refl (in_one _ _ (omega arith)) (in_one _ _ (omega arith)) (in_one _ _ tt)) refl (λ refusals. let log = (refusals.each 2 _ _ refl refl).log in let below : 13 < 13 = log.1 refl in omega (arith, below)),
-    (breaks_after_commit _ (omega arith) tt (record { each = refl; fits = λ c (k, at). cc }) (stamps_agree _ _ _ refl refl refl refl (in_one _ _ (omega arith)) (in_one _ _ (omega arith)) (in_one _ _ tt)) refl (λ refusals. let below : 13 < 13 = (refusals.each 2 _ _ refl refl).log 13 (1, committed, inl ((0, refl), refl)) in omega (arith, below)), tt),
+    breaks_after_commit _ (omega arith) tt (record { each = refl; fits = λ c (k, at). cc }) (stamps_agree _ _ _ refl refl refl refl refl refl (in_one _ _ (omega arith)) (in_one _ _ (omega arith)) (in_one _ _ tt)) refl (λ refusals. let log = (refusals.each 2 _ _ refl refl).log in let below : 13 < 13 = log.1 refl in omega (arith, below)),
+    (breaks_after_commit _ (omega arith) tt (record { each = refl; fits = λ c (k, at). cc }) (stamps_agree _ _ _ refl refl refl refl refl refl (in_one _ _ (omega arith)) (in_one _ _ (omega arith)) (in_one _ _ tt)) refl (λ refusals. let below : 13 < 13 = (refusals.each 2 _ _ refl refl).log 13 (1, committed, inl ((0, refl), refl)) in omega (arith, below)), tt),
   ),
 )
 
@@ -196,7 +198,7 @@ keeps_but_newer Fit not = All-from_recursion FitsTypes (lines_of newer_than_noth
 keeps_but_newer Answered not = refl
 keeps_but_newer Closes not = record { each = refl; fits = λ c (k, at). cc }
 keeps_but_newer Phases not = phases_kept newer_than_nothing (tt, (tt, tt))
-keeps_but_newer Stamps not = stamps_agree newer_than_nothing.opening (told_of newer_than_nothing) (said_of newer_than_nothing.script newer_than_nothing.report.answers) refl refl refl refl (in_one _ _ (omega arith)) (in_one _ _ tt) (in_one _ _ tt)
+keeps_but_newer Stamps not = stamps_agree newer_than_nothing.opening (told_of newer_than_nothing) (said_of newer_than_nothing.script newer_than_nothing.report.answers) refl refl refl refl refl refl (in_one _ _ (omega arith)) (in_one _ _ tt) (in_one _ _ tt)
 keeps_but_newer Snapshots not = in_one _ _ (first_snapshot [] empty 13 [] refl tt)
 keeps_but_newer Causes not = in_one _ _ tt
 keeps_but_newer Refusals not = absurd (not refl)

@@ -27,7 +27,7 @@ keeps_but_snapshots Fit not = All-from_recursion FitsTypes (lines_of value_from_
 keeps_but_snapshots Answered not = refl
 keeps_but_snapshots Closes not = record { each = refl; fits = λ c (k, at). cc }
 keeps_but_snapshots Phases not = record { fits = each_place (λ i l a. FitsPhase (phase_of l.session (take i (said_of value_from_nowhere.script value_from_nowhere.report.answers))) l.command a) value_from_nowhere.script value_from_nowhere.report.answers (tt, (tt, (tt, tt))) }
-keeps_but_snapshots Stamps not = stamps_agree value_from_nowhere.opening (told_of value_from_nowhere) (said_of value_from_nowhere.script value_from_nowhere.report.answers) refl refl refl refl (in_one _ _ (omega arith)) (in_one _ _ tt) (in_one _ _ tt)
+keeps_but_snapshots Stamps not = stamps_agree value_from_nowhere.opening (told_of value_from_nowhere) (said_of value_from_nowhere.script value_from_nowhere.report.answers) refl refl refl refl refl refl (in_one _ _ (omega arith)) (in_one _ _ tt) (in_one _ _ tt)
 keeps_but_snapshots Snapshots not = absurd (not refl)
 keeps_but_snapshots Causes not = in_one _ _ tt
 keeps_but_snapshots Refusals not = record { each = each_place (λ i l a. HasCause (moment_at InTurn value_from_nowhere.opening value_from_nowhere.script value_from_nowhere.report.answers (told_of value_from_nowhere) i l) l.command a) value_from_nowhere.script value_from_nowhere.report.answers (record { own = λ t is. tt; log = tt; unfilled = tt }, (record { own = λ t is. tt; log = tt; unfilled = tt }, (record { own = λ t is. tt; log = tt; unfilled = tt }, tt))) }
@@ -61,7 +61,7 @@ keeps_but_commit Fit not = All-from_recursion FitsTypes (lines_of predecessor_un
 keeps_but_commit Answered not = refl
 keeps_but_commit Closes not = record { each = refl; fits = λ c (k, at). cc }
 keeps_but_commit Phases not = record { fits = each_place (λ i l a. FitsPhase (phase_of l.session (take i (said_of predecessor_unknown.script predecessor_unknown.report.answers))) l.command a) predecessor_unknown.script predecessor_unknown.report.answers (tt, (tt, tt)) }
-keeps_but_commit Stamps not = stamps_agree predecessor_unknown.opening (told_of predecessor_unknown) (said_of predecessor_unknown.script predecessor_unknown.report.answers) refl refl refl refl (in_one _ _ (omega arith)) (in_one _ _ (omega arith)) (in_one _ _ tt)
+keeps_but_commit Stamps not = stamps_agree predecessor_unknown.opening (told_of predecessor_unknown) (said_of predecessor_unknown.script predecessor_unknown.report.answers) refl refl refl refl refl refl (in_one _ _ (omega arith)) (in_one _ _ (omega arith)) (in_one _ _ tt)
 keeps_but_commit Snapshots not = in_one _ _ (first_snapshot (history_of (told_of predecessor_unknown)) predecessor_unknown.opening.map 13 [] refl tt)
 keeps_but_commit Causes not = absurd (not refl)
 keeps_but_commit Refusals not = record { each = each_place (λ i l a. HasCause (moment_at InTurn predecessor_unknown.opening predecessor_unknown.script predecessor_unknown.report.answers (told_of predecessor_unknown) i l) l.command a) predecessor_unknown.script predecessor_unknown.report.answers (record { own = λ t is. tt; log = tt; unfilled = tt }, (record { own = λ t is. tt; log = tt; unfilled = tt }, tt)) }
@@ -89,7 +89,7 @@ keeps_but_exclusion Fit not = All-from_recursion FitsTypes (lines_of excluded_al
 keeps_but_exclusion Answered not = refl
 keeps_but_exclusion Closes not = record { each = refl; fits = λ c (k, at). cc }
 keeps_but_exclusion Phases not = record { fits = each_place (λ i l a. FitsPhase (phase_of l.session (take i (said_of excluded_alone.script excluded_alone.report.answers))) l.command a) excluded_alone.script excluded_alone.report.answers (tt, (tt, tt)) }
-keeps_but_exclusion Stamps not = stamps_agree excluded_alone.opening (told_of excluded_alone) (said_of excluded_alone.script excluded_alone.report.answers) refl refl refl refl (in_one _ _ (omega arith)) (in_one _ _ (omega arith)) (in_one _ _ tt)
+keeps_but_exclusion Stamps not = stamps_agree excluded_alone.opening (told_of excluded_alone) (said_of excluded_alone.script excluded_alone.report.answers) refl refl refl refl refl refl (in_one _ _ (omega arith)) (in_one _ _ (omega arith)) (in_one _ _ tt)
 keeps_but_exclusion Snapshots not = in_one _ _ (first_snapshot [] excluded_alone.opening.map 13 [] refl tt)
 keeps_but_exclusion Causes not = absurd (not refl)
 keeps_but_exclusion Refusals not = record { each = each_place (λ i l a. HasCause (moment_at InTurn excluded_alone.opening excluded_alone.script excluded_alone.report.answers (told_of excluded_alone) i l) l.command a) excluded_alone.script excluded_alone.report.answers (record { own = λ t is. tt; log = tt; unfilled = tt }, (record { own = λ t is. tt; log = tt; unfilled = tt }, tt)) }
@@ -116,7 +116,7 @@ keeps_but_refusals Fit not = All-from_recursion FitsTypes (lines_of owned_by_nob
 keeps_but_refusals Answered not = refl
 keeps_but_refusals Closes not = record { each = refl; fits = λ c (k, at). cc }
 keeps_but_refusals Phases not = record { fits = each_place (λ i l a. FitsPhase (phase_of l.session (take i (said_of owned_by_nobody.script owned_by_nobody.report.answers))) l.command a) owned_by_nobody.script owned_by_nobody.report.answers (tt, (tt, tt)) }
-keeps_but_refusals Stamps not = stamps_agree owned_by_nobody.opening (told_of owned_by_nobody) (said_of owned_by_nobody.script owned_by_nobody.report.answers) refl refl refl refl (in_one _ _ (omega arith)) (in_one _ _ tt) (in_one _ _ tt)
+keeps_but_refusals Stamps not = stamps_agree owned_by_nobody.opening (told_of owned_by_nobody) (said_of owned_by_nobody.script owned_by_nobody.report.answers) refl refl refl refl refl refl (in_one _ _ (omega arith)) (in_one _ _ tt) (in_one _ _ tt)
 keeps_but_refusals Snapshots not = in_one _ _ (first_snapshot [] owned_by_nobody.opening.map 13 [] refl tt)
 keeps_but_refusals Causes not = in_one _ _ tt
 keeps_but_refusals Refusals not = absurd (not refl)

@@ -14,10 +14,10 @@ use Rattle.erm_good_report.specs.Transactions.{Said, history_of, said_of, stamp_
 use Rattle.erm_good_report.proofs.Parts.{all_pairs_of_two, each_in}
 use Rattle.erm_bad_reports.specs.Cases.{begun_too_early, future_was_read}
 use Rattle.erm_bad_reports.specs.Clauses.{Clause, Meets, lines_of, told_of, Fit, Answered, Closes, Phases, Stamps, Snapshots, Causes, Refusals, Serial, Ascending, Runs, LowEnds, HighEnds}
-use Rattle.erm_bad_reports.specs.StampParts.{BreaksPartAlone, Part, MeetsPart, Differ, Least, Begun, Sealed, Begins, Draws, Ascends, stamp_below_begin, sealed_with_another, begun_at_a_commit, drawn_below}
+use Rattle.erm_bad_reports.specs.StampParts.{BreaksPartAlone, Part, MeetsPart, Differ, Least, Begun, Sealed, Begins, Draws, Ascends, Flushes, FlushesFirst, stamp_below_begin, sealed_with_another, begun_at_a_commit, drawn_below}
 use Rattle.erm_bad_reports.proofs.OfStamps.{future_breaks, least_breaks}
 use Rattle.erm_bad_reports.proofs.Reading.{owes_of}
-use Rattle.erm_bad_reports.proofs.Tests.{ring_wait, in_one, one_commit_ordered, no_pair_ascends, first_snapshot, low_ends, high_ends, phases_kept, refusals_kept, stamps_ascend, stamps_begin, stamps_differ, stamps_drawn}
+use Rattle.erm_bad_reports.proofs.Tests.{ring_wait, in_one, one_commit_ordered, no_pair_ascends, first_snapshot, low_ends, high_ends, phases_kept, refusals_kept, flushed_begin, flushed_drawn, stamps_ascend, stamps_begin, stamps_differ, stamps_drawn}
 
 -- a place of a report, where one is asked for
 any_place : Said
@@ -32,6 +32,8 @@ parts_but_least Sealed not = in_one _ _ tt
 parts_but_least Begins not = stamps_begin (said_of begun_too_early.script begun_too_early.report.answers) refl
 parts_but_least Draws not = stamps_drawn (said_of begun_too_early.script begun_too_early.report.answers) refl
 parts_but_least Ascends not = stamps_ascend (said_of begun_too_early.script begun_too_early.report.answers) refl
+parts_but_least Flushes not = flushed_begin (said_of begun_too_early.script begun_too_early.report.answers) refl
+parts_but_least FlushesFirst not = flushed_drawn (said_of begun_too_early.script begun_too_early.report.answers) refl
 
 pub least_alone : BreaksPartAlone Least begun_too_early
 least_alone = record { breaks = λ least. omega (arith, least _ (0, refl)); keeps = parts_but_least; clause = least_breaks }
@@ -45,6 +47,8 @@ parts_but_draws Sealed not = each_in (λ t. Told (λ a b. a ≡ b) t.sealed (sta
 parts_but_draws Begins not = stamps_begin (said_of future_was_read.script future_was_read.report.answers) refl
 parts_but_draws Draws not = absurd (not refl)
 parts_but_draws Ascends not = stamps_ascend (said_of future_was_read.script future_was_read.report.answers) refl
+parts_but_draws Flushes not = flushed_begin (said_of future_was_read.script future_was_read.report.answers) refl
+parts_but_draws FlushesFirst not = flushed_drawn (said_of future_was_read.script future_was_read.report.answers) refl
 
 pub draws_alone : BreaksPartAlone Draws future_was_read
 draws_alone = record { breaks = λ draws. let drawn : 18 ≤ 13 = draws 0 3 any_place (omega arith) (omega arith) refl in omega (arith, drawn); keeps = parts_but_draws; clause = future_breaks }
@@ -79,6 +83,8 @@ parts_but_begun Sealed not = in_one _ _ tt
 parts_but_begun Begins not = stamps_begin (said_of stamp_below_begin.script stamp_below_begin.report.answers) refl
 parts_but_begun Draws not = stamps_drawn (said_of stamp_below_begin.script stamp_below_begin.report.answers) refl
 parts_but_begun Ascends not = stamps_ascend (said_of stamp_below_begin.script stamp_below_begin.report.answers) refl
+parts_but_begun Flushes not = flushed_begin (said_of stamp_below_begin.script stamp_below_begin.report.answers) refl
+parts_but_begun FlushesFirst not = flushed_drawn (said_of stamp_below_begin.script stamp_below_begin.report.answers) refl
 
 begins_above : MeetsPart Begun stamp_below_begin → ⊥
 begins_above begun = let above : 50000 ≤ 40000 = begun _ (0, refl) in omega (arith, above)
@@ -114,6 +120,8 @@ parts_but_sealed Sealed not = absurd (not refl)
 parts_but_sealed Begins not = stamps_begin (said_of sealed_with_another.script sealed_with_another.report.answers) refl
 parts_but_sealed Draws not = stamps_drawn (said_of sealed_with_another.script sealed_with_another.report.answers) refl
 parts_but_sealed Ascends not = stamps_ascend (said_of sealed_with_another.script sealed_with_another.report.answers) refl
+parts_but_sealed Flushes not = flushed_begin (said_of sealed_with_another.script sealed_with_another.report.answers) refl
+parts_but_sealed FlushesFirst not = flushed_drawn (said_of sealed_with_another.script sealed_with_another.report.answers) refl
 
 seals_another : MeetsPart Sealed sealed_with_another → ⊥
 seals_another sealed = let same : 13 ≡ 18 = sealed _ (0, refl) in omega (arith, same)
@@ -151,6 +159,8 @@ parts_but_begins Sealed not = each_in (λ t. Told (λ a b. a ≡ b) t.sealed (st
 parts_but_begins Begins not = absurd (not refl)
 parts_but_begins Draws not = stamps_drawn (said_of begun_at_a_commit.script begun_at_a_commit.report.answers) refl
 parts_but_begins Ascends not = stamps_ascend (said_of begun_at_a_commit.script begun_at_a_commit.report.answers) refl
+parts_but_begins Flushes not = flushed_begin (said_of begun_at_a_commit.script begun_at_a_commit.report.answers) refl
+parts_but_begins FlushesFirst not = flushed_drawn (said_of begun_at_a_commit.script begun_at_a_commit.report.answers) refl
 
 begins_at_it : MeetsPart Begins begun_at_a_commit → ⊥
 begins_at_it begins = let above : 13 < 13 = begins 1 2 any_place (omega arith) (omega arith) refl in omega (arith, above)
@@ -188,6 +198,8 @@ parts_but_ascends Sealed not = each_in (λ t. Told (λ a b. a ≡ b) t.sealed (s
 parts_but_ascends Begins not = stamps_begin (said_of drawn_below.script drawn_below.report.answers) refl
 parts_but_ascends Draws not = stamps_drawn (said_of drawn_below.script drawn_below.report.answers) refl
 parts_but_ascends Ascends not = absurd (not refl)
+parts_but_ascends Flushes not = flushed_begin (said_of drawn_below.script drawn_below.report.answers) refl
+parts_but_ascends FlushesFirst not = flushed_drawn (said_of drawn_below.script drawn_below.report.answers) refl
 
 drawn_too_low : MeetsPart Ascends drawn_below → ⊥
 drawn_too_low ascends = let above : 18 < 13 = ascends 2 3 any_place (omega arith) (omega arith) refl in omega (arith, above)

@@ -11,12 +11,12 @@ use Rattle.erm_model.proofs.Keys.{value_at-empty}
 use Rattle.erm_report.specs.Printable.{FitsTypes}
 use Rattle.erm_good_report.specs.Causes.{HasCauseOf}
 use Rattle.erm_good_report.specs.Opening.{AtOnce, is_before}
-use Rattle.erm_good_report.specs.Stamps.{AllInTime, Told, begin_told, stamp_drawn, stamp_told}
+use Rattle.erm_good_report.specs.Stamps.{AllInTime, Told, begin_told, place_told, stamp_drawn, stamp_told}
 use Rattle.erm_good_report.specs.Transactions.{Commits, Said, Transaction, history_of, said_of, stamp_of, stamp_of_ending, steps_of}
 use Rattle.erm_good_report.specs.Windows.{IsCommit}
 use Rattle.erm_good_report.proofs.Parts.{all_pairs_from_test, all_pairs_of_two, each_in, pairs_pass, told_from_test, told_pass}
 use Rattle.erm_bad_reports.specs.Clauses.{Clause, Meets, lines_of, told_of, IsLowAt, IsHighAt, Fit, Answered, Closes, Phases, Stamps, Snapshots, Causes, Refusals, Serial, Ascending, Runs, LowEnds, HighEnds}
-use Rattle.erm_bad_reports.specs.StampParts.{BreaksPartAlone, Part, MeetsPart, Differ, Least, Begun, Sealed, Begins, Draws, Ascends, stamp_of_two}
+use Rattle.erm_bad_reports.specs.StampParts.{BreaksPartAlone, Part, MeetsPart, Differ, Least, Begun, Sealed, Begins, Draws, Ascends, Flushes, FlushesFirst, stamp_of_two}
 use Rattle.erm_bad_reports.proofs.Reading.{owes_of}
 use Rattle.erm_bad_reports.proofs.Tests.{byte, first_snapshot, less_from, most_from, phases_kept, refusals_kept}
 
@@ -124,6 +124,8 @@ parts_but_differ Sealed not = each_in (λ t. Told (λ a b. a ≡ b) t.sealed (st
 parts_but_differ Begins not = in_time (λ stamp begin. stamp < begin) nat_lt less_from (λ a. stamp_told a.answer) (λ b. begin_told b.answer) said refl
 parts_but_differ Draws not = in_time (λ begin stamp. begin ≤ stamp) nat_le most_from (λ a. begin_told a.answer) (λ b. stamp_drawn b.asked b.answer) said refl
 parts_but_differ Ascends not = in_time (λ first later. first < later) nat_lt less_from (λ a. stamp_drawn a.asked a.answer) (λ b. stamp_drawn b.asked b.answer) said refl
+parts_but_differ Flushes not = in_time (λ place begin. place ≤ begin) nat_le most_from (λ a. place_told a.answer) (λ b. begin_told b.answer) said refl
+parts_but_differ FlushesFirst not = in_time (λ place stamp. place ≤ stamp) nat_le most_from (λ a. place_told a.answer) (λ b. stamp_drawn b.asked b.answer) said refl
 
 -- a transaction, where one is asked for
 any_transaction : Transaction

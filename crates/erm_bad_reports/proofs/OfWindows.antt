@@ -67,7 +67,7 @@ keeps_but_low Fit not = All-from_recursion FitsTypes (lines_of predecessor_too_l
 keeps_but_low Answered not = refl
 keeps_but_low Closes not = record { each = refl; fits = λ c (k, at). cc }
 keeps_but_low Phases not = record { fits = each_place (λ i l a. FitsPhase (phase_of l.session (take i (said_of predecessor_too_low.script predecessor_too_low.report.answers))) l.command a) predecessor_too_low.script predecessor_too_low.report.answers (tt, (tt, (tt, (tt, (tt, (tt, tt)))))) }
-keeps_but_low Stamps not = stamps_agree predecessor_too_low.opening low_told (said_of predecessor_too_low.script predecessor_too_low.report.answers) refl refl refl refl
+keeps_but_low Stamps not = stamps_agree predecessor_too_low.opening low_told (said_of predecessor_too_low.script predecessor_too_low.report.answers) refl refl refl refl refl refl
     (each_in (λ t. 13 ≤ t.begin) low_told (omega arith, (omega arith, tt)))
     (each_in (λ t. IfSome (stamp_of t) (λ stamp. t.begin ≤ stamp)) low_told (omega arith, (omega arith, tt)))
     (each_in (λ t. Told (λ a b. a ≡ b) t.sealed (stamp_of_ending t.ending)) low_told (tt, (tt, tt)))
@@ -129,7 +129,7 @@ keeps_but_high Fit not = All-from_recursion FitsTypes (lines_of successor_too_hi
 keeps_but_high Answered not = refl
 keeps_but_high Closes not = record { each = refl; fits = λ c (k, at). cc }
 keeps_but_high Phases not = record { fits = each_place (λ i l a. FitsPhase (phase_of l.session (take i (said_of successor_too_high.script successor_too_high.report.answers))) l.command a) successor_too_high.script successor_too_high.report.answers (tt, (tt, (tt, (tt, (tt, (tt, (tt, (tt, (tt, tt))))))))) }
-keeps_but_high Stamps not = stamps_agree successor_too_high.opening high_told (said_of successor_too_high.script successor_too_high.report.answers) refl refl refl refl
+keeps_but_high Stamps not = stamps_agree successor_too_high.opening high_told (said_of successor_too_high.script successor_too_high.report.answers) refl refl refl refl refl refl
     (each_in (λ t. 13 ≤ t.begin) high_told (omega arith, (omega arith, (omega arith, tt))))
     (each_in (λ t. IfSome (stamp_of t) (λ stamp. t.begin ≤ stamp)) high_told (omega arith, (omega arith, (omega arith, tt))))
     (each_in (λ t. Told (λ a b. a ≡ b) t.sealed (stamp_of_ending t.ending)) high_told (tt, (tt, (tt, tt))))

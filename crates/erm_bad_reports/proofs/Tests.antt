@@ -1,5 +1,5 @@
 -- Stamps that agree by a test, and what is so of transactions without lines.
-use Rattle.std.proofs.Common.{◌≡◌, ◌≢◌, ℕ, ◌<◌, ◌≤◌, true, not, ◌==◌, nat_lt, nat_le, List, [], ◌∷◌, ◌++◌, Some, None, refl, sym, subst, take, ◌∙◌, ◌+◌, arith}
+use Rattle.std.proofs.Common.{◌≡◌, ◌≢◌, ℕ, ◌<◌, ◌≤◌, Bool, true, false, cond, not, ◌==◌, nat_lt, nat_le, List, [], ◌∷◌, ◌++◌, Some, None, refl, sym, subst, take, ◌∙◌, ◌+◌, arith}
 use Rattle.std.specs.Prelude.{IfSome}
 use Rattle.std.specs.List.{AllByRecursion, AllPairs}
 use Rattle.std.proofs.lemmas.Bool.Decides.{nat_tests}
@@ -20,8 +20,8 @@ use Rattle.std.proofs.lemmas.List.Elements.{All-cons, All-nil}
 use Rattle.erm_good_report.specs.Phases.{FitsPhase, phase_of}
 use Rattle.erm_good_report.specs.Refusals.{HasCause, HasLogCause, HasRefusalCause, HasUnfilledCause, MayHaveStamp, Moment, flushed_at, moment_at, most_words}
 use Rattle.erm_good_report.specs.Opening.{InTurn, Opening, is_before}
-use Rattle.erm_good_report.specs.Stamps.{Told, StampsAgree, begin_told, stamp_told, stamp_drawn}
-use Rattle.erm_good_report.specs.Transactions.{Exchange, Ending, Unfinished, Commits, Excludes, Aborts, Said, Transaction, said_of, stamp_of, stamp_of_ending}
+use Rattle.erm_good_report.specs.Stamps.{Told, StampsAgree, begin_told, place_told, stamp_told, stamp_drawn}
+use Rattle.erm_good_report.specs.Transactions.{Exchange, Ending, Unfinished, Commits, Excludes, Aborts, Progress, Said, Transaction, heard, nothing, progress_of, said_of, stamp_of, stamp_of_ending}
 use Rattle.erm_good_report.specs.Windows.{HasLine, IsHighEnd, IsLowEnd}
 use Rattle.erm_bad_reports.specs.Clauses.{Case, Meets, Phases, Refusals, told_of, IsLowAt, IsHighAt}
 use Rattle.erm_good_report.proofs.Parts.{EachPlace, each_in, each_place, all_pairs_from_test, all_pairs_of_none, told_pass, told_from_test, pairs_pass}
@@ -58,17 +58,31 @@ stamps_ascend said pass = all_pairs_from_test (λ a b. is_before InTurn a.sessio
     (λ a b. told_pass nat_lt (stamp_drawn a.asked a.answer) (stamp_drawn b.asked b.answer))
     (λ a b pass before. told_from_test (λ m n. m < n) nat_lt less_from (stamp_drawn a.asked a.answer) (stamp_drawn b.asked b.answer) pass) said pass
 
+pub flushed_begin : (said : List Said) → pairs_pass (λ a b. told_pass nat_le (place_told a.answer) (begin_told b.answer)) said ≡ true
+    → AllPairs (λ a b. is_before InTurn a.session b.session ≡ true → Told (λ place begin. place ≤ begin) (place_told a.answer) (begin_told b.answer)) said
+flushed_begin said pass = all_pairs_from_test (λ a b. is_before InTurn a.session b.session ≡ true → Told (λ place begin. place ≤ begin) (place_told a.answer) (begin_told b.answer))
+    (λ a b. told_pass nat_le (place_told a.answer) (begin_told b.answer))
+    (λ a b pass before. told_from_test (λ m n. m ≤ n) nat_le most_from (place_told a.answer) (begin_told b.answer) pass) said pass
+
+pub flushed_drawn : (said : List Said) → pairs_pass (λ a b. told_pass nat_le (place_told a.answer) (stamp_drawn b.asked b.answer)) said ≡ true
+    → AllPairs (λ a b. is_before InTurn a.session b.session ≡ true → Told (λ place stamp. place ≤ stamp) (place_told a.answer) (stamp_drawn b.asked b.answer)) said
+flushed_drawn said pass = all_pairs_from_test (λ a b. is_before InTurn a.session b.session ≡ true → Told (λ place stamp. place ≤ stamp) (place_told a.answer) (stamp_drawn b.asked b.answer))
+    (λ a b. told_pass nat_le (place_told a.answer) (stamp_drawn b.asked b.answer))
+    (λ a b pass before. told_from_test (λ m n. m ≤ n) nat_le most_from (place_told a.answer) (stamp_drawn b.asked b.answer) pass) said pass
+
 -- stamps agree, where each transaction's own do
 pub stamps_agree : (opening : Opening) (told : List Transaction) (said : List Said)
     → pairs_pass (λ t u. told_pass (λ m n. not (m == n)) (stamp_of t) (stamp_of u)) told ≡ true
     → pairs_pass (λ a b. told_pass nat_lt (stamp_told a.answer) (begin_told b.answer)) said ≡ true
     → pairs_pass (λ a b. told_pass nat_le (begin_told a.answer) (stamp_drawn b.asked b.answer)) said ≡ true
     → pairs_pass (λ a b. told_pass nat_lt (stamp_drawn a.asked a.answer) (stamp_drawn b.asked b.answer)) said ≡ true
+    → pairs_pass (λ a b. told_pass nat_le (place_told a.answer) (begin_told b.answer)) said ≡ true
+    → pairs_pass (λ a b. told_pass nat_le (place_told a.answer) (stamp_drawn b.asked b.answer)) said ≡ true
     → ((t : Transaction) → t ∈ told → opening.stamp + 5 ≤ t.begin)
     → ((t : Transaction) → t ∈ told → IfSome (stamp_of t) (λ stamp. t.begin ≤ stamp))
     → ((t : Transaction) → t ∈ told → Told (λ a b. a ≡ b) t.sealed (stamp_of_ending t.ending))
     → StampsAgree InTurn opening told said
-stamps_agree opening told said differ begins draws ascends least begun sealed = record {
+stamps_agree opening told said differ begins draws ascends flushes flushes_first least begun sealed = record {
   differ = stamps_differ told differ;
   least = least;
   begun = begun;
@@ -76,6 +90,8 @@ stamps_agree opening told said differ begins draws ascends least begun sealed = 
   begins = stamps_begin said begins;
   draws = stamps_drawn said draws;
   ascends = stamps_ascend said ascends;
+  flushes = flushed_begin said flushes;
+  flushes_first = flushed_drawn said flushes_first;
 }
 
 -- ---- a transaction without lines has any window
@@ -144,6 +160,15 @@ first_snapshot commits opening begin steps none runs = record {
   below_begin = record { order = []; serial = record { same = rw none (IsPermutation-refl []); ascends = all_pairs_of_none (λ a b. ComesBefore (rank_of a) (rank_of b)) }; state = refl };
   replies = runs;
 }
+
+-- ---- a first line
+-- behind the begin of the first session no transaction of any is over
+pub begin_over : (session : ℕ) → (progress_of session (record { session = 1; asked = Some command.Begin; answer = answer.Began 13 } ∷ [])).over ≡ []
+begin_over session = either_over (1 == session) (heard session (Some command.Begin) (answer.Began 13) nothing) nothing refl refl
+  where
+    either_over : (b : Bool) (p q : Progress) → p.over ≡ [] → q.over ≡ [] → (cond b p q).over ≡ []
+    either_over true p q first second = first
+    either_over false p q first second = second
 
 -- ---- phases and causes, place by place
 pub phases_kept : (k : Case) → EachPlace (λ i l a. FitsPhase (phase_of l.session (take i (said_of k.script k.report.answers))) l.command a) 0 k.script k.report.answers → Meets Phases k

@@ -21,7 +21,7 @@ use Rattle.erm_bad_reports.specs.Clauses.{Case}
 abbrev pub opening_at : ℕ → Opening
 opening_at stamp = record { map = empty; stamp = stamp; run = 1; rows = 0; first = 16 }
 
--- a line of a session, numbered from 1; lines of two sessions, a and b
+-- a line of a session, numbered from 1; lines of two sessions, a and b, and of the log
 abbrev pub asked_from : ℕ → List (ℕ × Command) → List ScriptLine
 asked_from number [] = []
 asked_from number (l ∷ ls) = record { line = number; session = l.0; command = l.1 } ∷ asked_from (number + 1) ls
@@ -31,6 +31,9 @@ a_line c = (1, c)
 
 abbrev pub b_line : Command → ℕ × Command
 b_line c = (2, c)
+
+abbrev pub of_log : Command → ℕ × Command
+of_log c = (0, c)
 
 -- a run of these lines from an empty map, with these answers, this order and these pairs; no session was closed
 abbrev pub case_of : List (List ℕ) → List (ℕ × Command) → List Answer → List Committed → List Pair → Case

@@ -1,5 +1,5 @@
 -- The clauses of a report that the disk's fault cut off, and small reports of which each breaks one of them.
-use Rattle.std.specs.Prelude.{◌≡◌, ◌≢◌, ℕ, ◌^◌, List, [], ◌∷◌, ◌++◌, length, Option, Some, None}
+use Rattle.std.specs.Prelude.{◌≡◌, ◌≢◌, ℕ, ◌^◌, List, [], ◌∷◌, ◌++◌, length, Option, Some, None, IfSome}
 use Rattle.std.specs.List.{All, AllPairs, slice_get}
 use Rattle.erm_model.specs.Member.{◌∈◌}
 use Rattle.erm_model.specs.declared.operation.Reply.TheVariants as reply
@@ -10,11 +10,11 @@ use Rattle.erm_report.specs.declared.line.Line.TheVariants as line
 use Rattle.erm_report.specs.Printable.{FitsTypes}
 use Rattle.erm_script.specs.declared.script.Command.TheVariants as command
 use Rattle.erm_script.specs.declared.script.ScriptLine.{ScriptLine}
-use Rattle.erm_good_report.specs.GoodReport.{IsClosedUnseen, IsCutReport, OwesToAnswers, answer_lines, fault_line, places_of}
+use Rattle.erm_good_report.specs.GoodReport.{IsClosedUnseen, IsCutReport, IsLineOfLog, OwesToAnswers, answer_lines, fault_line, places_of}
 use Rattle.erm_good_report.specs.Opening.{InTurn, Opening}
 use Rattle.erm_good_report.specs.Phases.{Closed}
 use Rattle.erm_good_report.specs.Transactions.{Transaction, transactions_of}
-use Rattle.erm_bad_reports.specs.Cases.{a_line, asked_from, one_name, opening_at}
+use Rattle.erm_bad_reports.specs.Cases.{a_line, asked_from, of_log, one_name, opening_at}
 
 -- a script that was run in turn until the disk failed, the answers so far, the line at which it failed, if it was one, and the sessions closed
 -- unseen
@@ -32,10 +32,11 @@ cut_lines_of k = line.Open k.opening.stamp k.opening.run ∷ answer_lines k.scri
 abbrev pub told_of_cut : CutCase → List Transaction
 told_of_cut k = transactions_of (length k.names) (places_of k.script k.answers k.closed)
 
--- what such a report owes: the fault is that of the first line without an answer; numbers and values fit their types; a session is closed
+-- what such a report owes: the fault is that of the first line without an answer; that is one of the log; numbers and values fit their types; a session is closed
 -- once; sessions that are closed unseen are sealed and have no line left; what a good report owes to its answers
 pub data CutClause : Type 0 where
   FaultAt : CutClause
+  AtLog : CutClause
   Fitting : CutClause
   Once : CutClause
   Unseen : CutClause
@@ -43,6 +44,7 @@ pub data CutClause : Type 0 where
 
 abbrev pub MeetsCut : CutClause → CutCase → Type 0
 MeetsCut FaultAt k = k.fault ≡ slice_get k.script (length k.answers)
+MeetsCut AtLog k = IfSome k.fault IsLineOfLog
 MeetsCut Fitting k = All FitsTypes (cut_lines_of k)
 MeetsCut Once k = AllPairs (λ c d. c.session ≢ d.session) k.closed
 MeetsCut Unseen k = (c : Closed) → c ∈ k.closed → IsClosedUnseen k.script k.answers c
@@ -60,6 +62,17 @@ IsNoCutReport k = IsCutReport InTurn k.opening k.names k.script (cut_lines_of k)
 -- the fault is told outside the lines, and a line has no answer
 abbrev pub fault_outside : CutCase
 fault_outside = record { opening = opening_at 8; names = one_name; script = asked_from 1 (a_line command.Begin ∷ []); answers = []; fault = None; closed = [] }
+
+-- the fault is told at a begin
+abbrev pub fault_at_begin : CutCase
+fault_at_begin = record {
+  opening = opening_at 8;
+  names = one_name;
+  script = asked_from 1 (a_line command.Begin ∷ []);
+  answers = [];
+  fault = Some (record { line = 1; session = 1; command = command.Begin });
+  closed = [];
+}
 
 -- the opening's block stands at 2^64
 abbrev pub cut_number_too_great : CutCase
@@ -95,8 +108,8 @@ abbrev pub closed_too_early : CutCase
 closed_too_early = record {
   opening = opening_at 8;
   names = one_name;
-  script = asked_from 1 (a_line command.Begin ∷ a_line command.Commit ∷ a_line command.Settle ∷ []);
+  script = asked_from 1 (a_line command.Begin ∷ a_line command.Commit ∷ of_log command.Flush ∷ a_line command.Settle ∷ []);
   answers = answer.Began 13 ∷ answer.WaitRing 13 ∷ [];
-  fault = Some (record { line = 3; session = 1; command = command.Settle });
+  fault = Some (record { line = 3; session = 0; command = command.Flush });
   closed = closed_with 40000 ∷ [];
 }

@@ -1,11 +1,14 @@
 -- Small reports with an answer that has no cause: what surrounds the answer, and a list of the answers.
 use Rattle.std.specs.Prelude.{List, [], ◌∷◌}
+use Rattle.erm_model.specs.Database.{at}
+use Rattle.erm_model.specs.declared.operation.Op.TheVariants as op
+use Rattle.erm_model.specs.declared.operation.Reply.TheVariants as reply
 use Rattle.erm_report.specs.declared.answer.Answer.{Answer}
 use Rattle.erm_report.specs.declared.answer.Answer.TheVariants as answer
 use Rattle.erm_script.specs.declared.script.Command.TheVariants as command
 use Rattle.erm_good_report.specs.Transactions.{Exchange}
 use Rattle.erm_bad_reports.specs.Clauses.{Case}
-use Rattle.erm_bad_reports.specs.Cases.{a_line, case_of, commit_by, one_name}
+use Rattle.erm_bad_reports.specs.Cases.{a_line, b_line, case_of, commit_by, one_name, two_names}
 
 -- a line of a session that has no transaction
 abbrev pub alone : Exchange → Case
@@ -64,3 +67,11 @@ answers_after_commit =
 -- a transaction is told of a newer version, and no other one committed
 abbrev pub newer_than_nothing : Case
 newer_than_nothing = case_of one_name (a_line command.Begin ∷ a_line (command.Put 0 1 (1 ∷ [])) ∷ []) (answer.Began 13 ∷ answer.Newer 20 ∷ []) [] []
+
+-- the first session's put is refused so, and the second one puts the key afterwards, and commits
+abbrev pub refused_first : Answer → Case
+refused_first refusal = case_of two_names
+    (a_line command.Begin ∷ a_line (command.Put 0 1 (2 ∷ [])) ∷ b_line command.Begin ∷ b_line (command.Put 0 1 (1 ∷ [])) ∷ b_line command.Commit ∷ [])
+    (answer.Began 13 ∷ refusal ∷ answer.Began 18 ∷ answer.Replied reply.Done ∷ answer.Committed 18 18 0 ∷ [])
+    (commit_by 2 1 18 18 18 0 (record { op = op.Put 0 1 (1 ∷ []); reply = reply.Done } ∷ []) ∷ [])
+    (record { key = at 0 1; value = 1 ∷ [] } ∷ [])

@@ -1,6 +1,7 @@
 //! Laws of reports that break one clause. Each holds as it stands, and its function does nothing.
 ghost use Rattle.erm_good_report.specs.GoodReport.{IsGoodReport};
 ghost use Rattle.erm_good_report.specs.Opening.{InTurn, Opening};
+ghost use Rattle.erm_report.specs.declared.answer.Answer.TheVariants as answer;
 ghost use Rattle.std.specs.Prelude.{[]};
 ghost use Rattle.erm_bad_reports.specs.Clauses.{BreaksAlone, Fit, Answered, Closes, Phases, Stamps, Snapshots, Causes, Refusals, Serial, Ascending, Runs, LowEnds, HighEnds};
 ghost use Rattle.erm_bad_reports.specs.Cases.{commit_left_out, number_too_great, line_left_out, left_open, got_without_begin};
@@ -9,10 +10,10 @@ ghost use Rattle.erm_bad_reports.specs.Cases.{value_from_nowhere, predecessor_un
 ghost use Rattle.erm_bad_reports.specs.Cases.{order_turned_round, pairs_turned_round, pair_from_nowhere};
 ghost use Rattle.erm_bad_reports.specs.Cases.{predecessor_too_low, successor_too_high};
 ghost use Rattle.erm_bad_reports.specs.CauseCases.{excluded_with, successor_unknown, window_closed};
-ghost use Rattle.erm_bad_reports.specs.CutReports.{BreaksCutAlone, FaultAt, Fitting, IsNoCutReport, Once, Owing, Unseen};
-ghost use Rattle.erm_bad_reports.specs.CutReports.{closed_too_early, closed_twice, cut_number_too_great, cut_without_begin, fault_outside};
-ghost use Rattle.erm_bad_reports.specs.Refused.{alone, answers_alone, before_abort, answers_before_abort, before_settle, answers_before_settle, after_commit, answers_after_commit, newer_than_nothing};
-ghost use Rattle.erm_bad_reports.specs.StampParts.{BreaksPartAlone, Differ, Least, Begun, Sealed, Begins, Draws, Ascends, stamp_below_begin, sealed_with_another, begun_at_a_commit, drawn_below, stamp_of_two};
+ghost use Rattle.erm_bad_reports.specs.CutReports.{AtLog, BreaksCutAlone, FaultAt, Fitting, IsNoCutReport, Once, Owing, Unseen};
+ghost use Rattle.erm_bad_reports.specs.CutReports.{closed_too_early, closed_twice, cut_number_too_great, cut_without_begin, fault_at_begin, fault_outside};
+ghost use Rattle.erm_bad_reports.specs.Refused.{alone, answers_alone, before_abort, answers_before_abort, before_settle, answers_before_settle, after_commit, answers_after_commit, newer_than_nothing, refused_first};
+ghost use Rattle.erm_bad_reports.specs.StampParts.{BreaksPartAlone, Differ, Least, Begun, Sealed, Begins, Draws, Ascends, Flushes, FlushesFirst, stamp_below_begin, sealed_with_another, begun_at_a_commit, drawn_below, begun_below_the_flushed, drawn_below_the_flushed, stamp_of_two};
 ghost use Rattle.std.specs.List.{AllByRecursion};
 
 /// Lines: a line is missing; a number doesn't fit its type; an answer is missing; a session that is active isn't closed; a get is answered
@@ -32,7 +33,8 @@ pub fn stamps_are_needed()
 {}
 
 /// Each part of stamps that agree: one stamp of two; a begin within the opening's block; a stamp below its begin; another stamp than the seal's; a begin at
-/// a commit told before; an aborted transaction that read the future; a stamp below one drawn before.
+/// a commit told before; an aborted transaction that read the future; a stamp below one drawn before; a begin below a place told flushed before; and a
+/// stamp below it.
 pub fn parts_of_stamps_are_needed()
     ensures differ { BreaksPartAlone Differ stamp_of_two }
     ensures least { BreaksPartAlone Least begun_too_early }
@@ -41,6 +43,8 @@ pub fn parts_of_stamps_are_needed()
     ensures begins { BreaksPartAlone Begins begun_at_a_commit }
     ensures draws { BreaksPartAlone Draws future_was_read }
     ensures ascends { BreaksPartAlone Ascends drawn_below }
+    ensures flushes { BreaksPartAlone Flushes begun_below_the_flushed }
+    ensures flushes_first { BreaksPartAlone FlushesFirst drawn_below_the_flushed }
 {}
 
 /// Replies and causes: an aborted transaction gets what nobody put; a commit, an exclusion and a refusal have no cause.
@@ -60,13 +64,16 @@ pub fn causes_of_windows_are_needed()
     ensures excluded_successor { BreaksAlone Causes (excluded_with 9 13) }
 {}
 
-/// Causes of refusals: each of these answers has none where it stands.
+/// Causes of refusals: each of these answers has none where it stands; and that a newer version, or a closed window, is one of a commit of a
+/// later line is none.
 pub fn causes_of_refusals_are_needed()
     ensures alone { AllByRecursion (λ r. BreaksAlone Refusals (alone r)) answers_alone }
     ensures active { AllByRecursion (λ r. BreaksAlone Refusals (before_abort r)) answers_before_abort }
     ensures sealed { AllByRecursion (λ a. BreaksAlone Refusals (before_settle a)) answers_before_settle }
     ensures committed { AllByRecursion (λ r. BreaksAlone Refusals (after_commit r)) answers_after_commit }
     ensures newer { BreaksAlone Refusals newer_than_nothing }
+    ensures newer_later { BreaksAlone Refusals (refused_first (answer.Newer 18)) }
+    ensures shut_later { BreaksAlone Refusals (refused_first (answer.ExcludedEarly 18 18)) }
 {}
 
 /// The order: commits are told in another order than the serial one; pairs don't ascend; a pair is nobody's.
@@ -82,10 +89,11 @@ pub fn windows_are_needed()
     ensures high { BreaksAlone HighEnds successor_too_high }
 {}
 
-/// Reports that the disk's fault cut off: the fault is told outside the lines; a number doesn't fit its type; a get is answered outside a
+/// Reports that the disk's fault cut off: the fault is told outside the lines, or at a line of a session; a number doesn't fit its type; a get is answered outside a
 /// transaction; a session is closed twice, or before its last line; of these two the parts are shown to break it, not the lines.
 pub fn clauses_of_cut_reports_are_needed()
     ensures fault { BreaksCutAlone FaultAt fault_outside × IsNoCutReport fault_outside }
+    ensures log { BreaksCutAlone AtLog fault_at_begin × IsNoCutReport fault_at_begin }
     ensures fit { BreaksCutAlone Fitting cut_number_too_great × IsNoCutReport cut_number_too_great }
     ensures owes { BreaksCutAlone Owing cut_without_begin × IsNoCutReport cut_without_begin }
     ensures once { BreaksCutAlone Once closed_twice }

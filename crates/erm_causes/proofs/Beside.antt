@@ -112,20 +112,29 @@ module _ (table : ℕ → ℕ) (told : List Transaction) (t : Transaction) (w : 
         lt_or_le zero (suc b) = inl (omega arith)
         lt_or_le (suc a) (suc b) = elim (lt_or_le a b) [ inl less ↦ inl (omega (arith, less)) | inr most ↦ inr (omega (arith, most)) ]
 
-    -- one whose window was closed shows the causes
+    -- one whose window was closed shows the causes, of which is so what is so of each commit
+    pub shows_closed_by : (P : Transaction → Type 0) → ((u : TransactionRecord) → u ∈ h → (commit : ToldCommit table told u) × P commit.by) → t.begin ≡ w.begin → (stamp : Option ℕ) (succ pred : ℕ)
+        → IsClosedBy h w stamp succ pred → (shut : HasNoWindow told t stamp succ pred) × P shut.after × P shut.before
+    shows_closed_by P commits begin stamp succ pred closed =
+        let found = commits closed.after closed.after_in in
+        let other = commits closed.before closed.before_in in
+        let after = found.0 in
+        let before = other.0 in (
+          record {
+            closed = closed.closed;
+            after = after.by;
+            after_in = after.of;
+            succ_cause = subst (λ (n : ℕ). OverwritesBeside after.by t stamp n) closed.succ_is
+                (overwrites_beside closed.after after stamp closed.overwrites (omega (arith, begin, overwrites_after closed.after closed.after_in closed.overwrites)) closed.after_below);
+            before = before.by;
+            before_in = before.of;
+            pred_cause = subst (λ (n : ℕ). CommitsBeside before.by t n) closed.pred_is (commits_beside closed.before before closed.counts);
+            below = closed.before_below;
+          },
+          found.1,
+          other.1,
+        )
+
     pub shows_closed : ((u : TransactionRecord) → u ∈ h → ToldCommit table told u) → t.begin ≡ w.begin → (stamp : Option ℕ) (succ pred : ℕ) → IsClosedBy h w stamp succ pred
         → HasNoWindow told t stamp succ pred
-    shows_closed commits begin stamp succ pred closed =
-        let after = commits closed.after closed.after_in in
-        let before = commits closed.before closed.before_in in
-        record {
-          closed = closed.closed;
-          after = after.by;
-          after_in = after.of;
-          succ_cause = subst (λ (n : ℕ). OverwritesBeside after.by t stamp n) closed.succ_is
-              (overwrites_beside closed.after after stamp closed.overwrites (omega (arith, begin, overwrites_after closed.after closed.after_in closed.overwrites)) closed.after_below);
-          before = before.by;
-          before_in = before.of;
-          pred_cause = subst (λ (n : ℕ). CommitsBeside before.by t n) closed.pred_is (commits_beside closed.before before closed.counts);
-          below = closed.before_below;
-        }
+    shows_closed commits begin stamp succ pred closed = (shows_closed_by (λ u. Unit {0}) (λ u within. (commits u within, tt)) begin stamp succ pred closed).0

@@ -1,5 +1,5 @@
 -- Each commit that a report tells, and each exclusion, has its causes.
-use Rattle.std.proofs.Common.{◌≡◌, ℕ, zero, suc, ◌<◌, ◌⊎◌, List, [], ◌∷◌, ◌++◌, Option, Some, None, slice_get, flat_map, option_to_list, inl, inr, refl, sym, ap, ◌∙◌, subst, arith}
+use Rattle.std.proofs.Common.{◌≡◌, ℕ, zero, suc, ◌<◌, ◌≤◌, ◌⊎◌, List, [], ◌∷◌, ◌++◌, Option, Some, None, slice_get, flat_map, option_to_list, inl, inr, refl, sym, ap, ◌∙◌, subst, arith}
 use Rattle.std.specs.List.{range_with_len}
 use Rattle.erm_model.specs.declared.history.TransactionRecord.{TransactionRecord}
 use Rattle.erm_model.specs.History.{History, IsPredecessorStamp, IsSuccessorStamp}
@@ -61,6 +61,19 @@ commits_as (Excludes None u p) stamp succ pred ends = absurd ends
 commits_as (Excludes (Some s) u p) stamp succ pred ends = absurd ends
 commits_as Aborts stamp succ pred ends = absurd ends
 
+-- one that is over is told
+pub over_told : (sessions : ℕ) (said : List Said) (seat : ℕ) → 0 < seat → seat ≤ sessions → (t : Transaction) → t ∈ (progress_of seat said).over → t ∈ transactions_of sessions said
+over_told sessions said seat some most t m =
+    let place = in_range_from 1 sessions seat some (omega (arith, most)) in
+    from_flat (λ q. (progress_of q said).over ++ option_to_list (progress_of q said).current) (range_with_len 1 sessions) seat t place.0 place.1
+    (∈-first (progress_of seat said).over (option_to_list (progress_of seat said).current) t m)
+
+-- A commit of a world is told, and the transaction that it is of is over.
+pub record OverCommit (v : View) (table : ℕ → ℕ) (sessions : ℕ) (said : List Said) (u : TransactionRecord) : Type 0 where
+  pub told : ToldCommit table (transactions_of sessions said) u
+  pub session : IsSession v told.by.session
+  pub over : told.by ∈ (progress_of told.by.session said).over
+
 module _ (v : View) (sessions : ℕ) (said : List Said) (table : ℕ → ℕ) (holds : IsSerializable sound_law v) (of : sessions ≡ v.opening.sessions)
     (tells : (seat : ℕ) → IsSession v seat → Tells seat (progress_of seat said) (v.session seat))
     (touches : (seat : ℕ) → IsSession v seat → TouchesAll table (history_of v) (progress_of seat said) (v.session seat)) where
@@ -68,24 +81,30 @@ module _ (v : View) (sessions : ℕ) (said : List Said) (table : ℕ → ℕ) (h
   of_seat seat = (progress_of seat said).over ++ option_to_list (progress_of seat said).current
 
   told_over : (seat : ℕ) → IsSession v seat → (t : Transaction) → t ∈ (progress_of seat said).over → t ∈ transactions_of sessions said
-  told_over seat session t m =
-      let place = in_range_from 1 sessions seat session.0 (omega (arith, session.1, of)) in
-      from_flat of_seat (range_with_len 1 sessions) seat t place.0 place.1 (∈-first (progress_of seat said).over (option_to_list (progress_of seat said).current) t m)
+  told_over seat session t m = over_told sessions said seat session.0 (omega (arith, session.1, of)) t m
 
   -- each commit of the world is told
-  pub commit_told : (u : TransactionRecord) → u ∈ history_of v → ToldCommit table (transactions_of sessions said) u
-  commit_told u within =
+  pub commit_over : (u : TransactionRecord) → u ∈ history_of v → OverCommit v table sessions said u
+  commit_over u within =
       let own : IsCommitOf v u = (tells_commits v).only u within in
       let f : Finished = record { work = own.work; fate = world.commits own.stamp own.succ own.pred } in
       let found = both_over own.seat table (history_of v) (progress_of own.seat said).over (v.session own.seat).over own.over.0 f
       (tells own.seat own.session).over (touches own.seat own.session).over own.over.1 in
-      subst (λ (r : TransactionRecord). ToldCommit table (transactions_of sessions said) r) (sym own.is) (record {
-        by = found.0;
-        of = told_over own.seat own.session found.0 (own.over.0, found.1);
-        session = found.2.tells.work.session;
-        ending = commits_as found.0.ending own.stamp own.succ own.pred found.2.tells.ends;
-        touches = record { reads = found.2.touches.touches.reads; claims = found.2.touches.touches.claims };
+      let same = found.2.tells.work.session in
+      subst (λ (r : TransactionRecord). OverCommit v table sessions said r) (sym own.is) (record {
+        told = record {
+          by = found.0;
+          of = told_over own.seat own.session found.0 (own.over.0, found.1);
+          session = same;
+          ending = commits_as found.0.ending own.stamp own.succ own.pred found.2.tells.ends;
+          touches = record { reads = found.2.touches.touches.reads; claims = found.2.touches.touches.claims };
+        };
+        session = subst (λ (q : ℕ). IsSession v q) (sym same) own.session;
+        over = subst (λ (q : ℕ). found.0 ∈ (progress_of q said).over) (sym same) (own.over.0, found.1);
       })
+
+  pub commit_told : (u : TransactionRecord) → u ∈ history_of v → ToldCommit table (transactions_of sessions said) u
+  commit_told u within = (commit_over u within).told
 
   -- the window of a commit
   module _ (seat : ℕ) (session : IsSession v seat) (t : Transaction) (f : Finished) (over : f ∈ (v.session seat).over) (both : BothAt seat table (history_of v) t f) where

@@ -3,6 +3,7 @@ pub mod Begun
 pub mod Beside
 pub mod Causes
 pub mod Coloured
+pub mod Early
 pub mod Ended
 pub mod Fine
 pub mod Flushed

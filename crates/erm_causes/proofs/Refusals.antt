@@ -23,15 +23,16 @@ use Rattle.erm_world.proofs.Lists.{∈-last}
 use Rattle.erm_good_report.specs.Causes.{HasNoWindow}
 use Rattle.erm_good_report.specs.Opening.{InTurn}
 use Rattle.erm_good_report.specs.Phases.{refusal_of}
-use Rattle.erm_good_report.specs.Refusals.{HasWaitCause, IsNewerBy, IsOwnedBy, MayHaveStamp, Moment, WaitsForRing, WaitsToRead, WaitsToSettle, claims_of, current_of, flushed_at, most_words}
+use Rattle.erm_good_report.specs.Refusals.{HasWaitCause, IsNewerBy, IsOwnedBy, MayHaveStamp, Moment, WaitsForRing, WaitsToRead, WaitsToSettle, WasOver, claims_of, current_of, flushed_at, most_words}
 use Rattle.erm_good_report.specs.Transactions.{Excludes, Exchange, Transaction, progress_of, table_of, with_line}
 use Rattle.erm_lines.specs.Answers.{DidCommand, WasRefusedAs, stop_told}
 use Rattle.erm_lines.specs.Operations.{AsksOf, FrontOf, WereCutOff}
 use Rattle.erm_causes.specs.Touched.{AreOfTables, IsClosedBy, Touches}
 use Rattle.erm_causes.proofs.Answered.{done_turned, last_touches, now_active, out_fine, shut_closed, stayed_fine}
 use Rattle.erm_causes.proofs.Begun.{HistoryLaws}
-use Rattle.erm_causes.proofs.Beside.{ToldCommit, shows_closed}
+use Rattle.erm_causes.proofs.Beside.{shows_closed_by}
 use Rattle.erm_causes.proofs.Coloured.{AskedOf}
+use Rattle.erm_causes.proofs.Early.{EarlyCommit, committed_before}
 use Rattle.erm_causes.proofs.Fine.{history_grows, still_session}
 use Rattle.erm_causes.proofs.Lines.{CutFine}
 use Rattle.erm_causes.proofs.Moments.{NowTold, current_of_sealed, now_told, the_told}
@@ -40,7 +41,7 @@ use Rattle.erm_causes.proofs.Operated.{Last, Shut, excluded_done, newer_done, ow
 use Rattle.erm_causes.proofs.Operated as operated
 use Rattle.erm_causes.proofs.Own.{TreeLaws}
 use Rattle.erm_causes.proofs.Quiet.{same_line, wants_active}
-use Rattle.erm_told_limits.proofs.Ran.{active_with, ran}
+use Rattle.erm_told_limits.proofs.Ran.{Stays, active_with, ran}
 use Rattle.erm_causes.proofs.Waits.{Waited, excluded_named, named_active, newer_named, none_for_ring, owned_named, waited_ring, waited_seat}
 use Rattle.erm_causes.proofs.Waits as waits
 use Rattle.erm_causes.proofs.Refused.{Known, KnowsStamps, newer_by, owned_by, waits_to_read, waits_to_settle}
@@ -134,6 +135,10 @@ work_begin asked w u (operated.same_work is) = ap (λ (x : Work). x.begin) is
 work_begin asked w u (operated.read r asks is) = ap (λ (x : Work). x.begin) is
 work_begin asked w u (operated.claimed c asks is) = ap (λ (x : Work). x.begin) is
 
+-- its window was closed before its seal, by commits that were over
+abbrev pub WasShut : Moment → Transaction → ℕ → ℕ → Type 0
+WasShut m t succ pred = (shut : HasNoWindow m.all t None succ pred) × WasOver m shut.after × WasOver m shut.before
+
 -- one sealed transaction is another's
 sealed_work : (stand : Stand) (w u : Work) (stamp : ℕ) → stand ≡ world.sealed w stamp → work_of stand ≡ u → w ≡ u
 sealed_work stand w u stamp sealed is = ap work_of (sym sealed) ∙ is
@@ -142,7 +147,7 @@ module _ (tree : TreeLaws) (laws : HistoryLaws) (table : ℕ → ℕ) (m : Momen
     (holds : IsSerializable sound_law after) (opened : AreOfTables table after.opening.rows) (fine : AllFine table (λ q. progress_of q m.before) before)
     (made : (k : ℕ) → table_of c ≡ Some k → (x : ℕ) → made_by_all before x < made_by_all after x → table x ≡ k)
     (known : Known table m before) (stamps : KnowsStamps m before) (stamps_after : KnowsStamps m after)
-    (commits : (u : TransactionRecord) → u ∈ history_of after → ToldCommit table m.all u) (free : refusal_of (phase_at before m.session) c ≡ None) where
+    (commits : (u : TransactionRecord) → u ∈ history_of before → EarlyCommit table m u) (free : refusal_of (phase_at before m.session) c ≡ None) where
   -- A line that names a table.
   module _ (k : ℕ) (named : table_of c ≡ Some k) (active : phase_at before m.session ≡ Active) (a : Answer) where
     own : NowTold table m.session (current_of m m.session) (work_at before m.session)
@@ -180,6 +185,12 @@ module _ (tree : TreeLaws) (laws : HistoryLaws) (table : ℕ → ℕ) (m : Momen
         let gone = ran sound_law did.events before did.at m.session active did.ran in
         owned_by table m before known stamps c a own k named did.at gone.0 claim.0 (asked_there did.asked claim.0 cut.asked_is (inr claim.1)) other number mode claim.2
 
+    -- where its refusal ends the transaction, all that is committed then was so before
+    back : (at : View) (w : Work) → Stays before m.session at → IsDone at m.session w world.aborts after → (u : TransactionRecord) → u ∈ history_of after → u ∈ history_of before
+    back at w gone done =
+        committed_before before after m.session w (λ q another. done.others q another ∙ gone.others q another) (done.opening ∙ gone.opening)
+        (ap (λ (s : Session). s.over) done.own ∙ ap (λ (fs : List Finished). fs ++ record { work = w; fate = world.aborts } ∷ []) gone.over)
+
     named_newer : (stamp : ℕ) → WasRefusedAs before m.session c (answer.Newer stamp) after → IsNewerBy m c (with_line (Some c) a own.told) stamp
     named_newer stamp (why, told, did) =
         let is = is_newer why stamp told in
@@ -189,9 +200,9 @@ module _ (tree : TreeLaws) (laws : HistoryLaws) (table : ℕ → ℕ) (m : Momen
         let cut = cut_out why did (work_at did.at m.session) (operated.same_work refl) done in
         let gone = ran sound_law did.events before did.at m.session active did.ran in
         newer_by table m before known stamps c a own k named did.at gone.0 claim.0 (asked_there did.asked claim.0 cut.asked_is (inr claim.1)) stamp claim.2
-        (λ u within. commits u (history_grows did.at after m.session (done_turned did.at after m.session (work_at did.at m.session) world.aborts done) u within))
+        (λ u within. commits u (back did.at (work_at did.at m.session) gone.0 done u (history_grows did.at after m.session (done_turned did.at after m.session (work_at did.at m.session) world.aborts done) u within)))
 
-    named_excluded : (succ pred : ℕ) → WasRefusedAs before m.session c (answer.ExcludedEarly succ pred) after → HasNoWindow m.all (with_line (Some c) a own.told) None succ pred
+    named_excluded : (succ pred : ℕ) → WasRefusedAs before m.session c (answer.ExcludedEarly succ pred) after → WasShut m (with_line (Some c) a own.told) succ pred
     named_excluded succ pred (why, told, did) =
         let is = is_excluded why succ pred told in
         let refused = subst (λ (s : RowStop). WasRefused did.at m.session did.asked s after) is did.refused in
@@ -208,8 +219,9 @@ module _ (tree : TreeLaws) (laws : HistoryLaws) (table : ℕ → ℕ) (m : Momen
         let closed : IsClosedBy (history_of after) shut.work None succ pred = shut_closed did.at after m.session shut.work (Excludes None succ pred)
         (history_grows did.at after m.session (done_turned did.at after m.session shut.work world.aborts shut.done)) shut.shut in
         let in_after = still_session before after m.session (shut.done.opening ∙ gone.0.opening) session in
-        shows_closed table m.all (with_line (Some c) a own.told) shut.work touches (history_of after) after.opening.rows holds.snapshots
-        (holds.sees m.session shut.work in_after (inl (f, within, refl))).reads commits
+        shows_closed_by table m.all (with_line (Some c) a own.told) shut.work touches (history_of after) after.opening.rows holds.snapshots
+        (holds.sees m.session shut.work in_after (inl (f, within, refl))).reads (WasOver m)
+        (λ u committed. let found = commits u (back did.at shut.work gone.0 shut.done u committed) in (found.told, found.early))
         (own.tells.work.begin ∙ sym gone.0.more.begin ∙ sym (work_begin did.asked (work_at did.at m.session) shut.work shut.last)) None succ pred closed
 
   -- A line that decides its transaction: the session has it sealed with this stamp, in a world in which the others are as before.
@@ -314,10 +326,10 @@ module _ (tree : TreeLaws) (laws : HistoryLaws) (table : ℕ → ℕ) (m : Momen
         (named_newer it.table it.names active (answer.Newer stamp) stamp it.refused)
 
     pub excluded_cause : (succ pred : ℕ) → DidCommand before m.session c (answer.ExcludedEarly succ pred) after
-        → HasNoWindow m.all (with_line (Some c) (answer.ExcludedEarly succ pred) u) None succ pred
+        → WasShut m (with_line (Some c) (answer.ExcludedEarly succ pred) u) succ pred
     excluded_cause succ pred did =
         let a = answer.ExcludedEarly succ pred in
         let it = excluded_named before after m.session c succ pred did in
         let active = named_active (phase_at before m.session) c it.table it.names free in
-        as_told (λ t. HasNoWindow m.all (with_line (Some c) a t) None succ pred) (work_at before m.session) (own it.table it.names active a)
+        as_told (λ t. WasShut m (with_line (Some c) a t) succ pred) (work_at before m.session) (own it.table it.names active a)
         (named_excluded it.table it.names active a succ pred it.refused)

@@ -19,7 +19,8 @@ use Rattle.erm_good_report.specs.Refusals.{IsInProgress, IsNewerBy, IsOwnedBy, I
 use Rattle.erm_good_report.specs.Transactions.{Commits, Transaction, table_of, with_line}
 use Rattle.erm_lines.specs.Told.{TellsNow}
 use Rattle.erm_causes.specs.Touched.{Touches}
-use Rattle.erm_causes.proofs.Beside.{ToldCommit, claimed_at, read_at, writes_name}
+use Rattle.erm_causes.proofs.Beside.{claimed_at, read_at, writes_name}
+use Rattle.erm_causes.proofs.Early.{EarlyCommit}
 use Rattle.erm_causes.proofs.Fine.{FineNow, names_more}
 use Rattle.erm_causes.proofs.Lines.{lines_before}
 use Rattle.erm_causes.proofs.Moments.{NowTold, current_of_sealed, now_told}
@@ -99,10 +100,11 @@ module _ (table : ℕ → ℕ) (m : Moment) (v : View) (known : Known table m v)
           writes = writes_there now.told owned.work now.touches owned.claims;
         }
 
-    pub newer_by : (stamp : ℕ) → IsNewer at m.session oid stamp → ((u : TransactionRecord) → u ∈ history_of at → ToldCommit table m.all u)
+    pub newer_by : (stamp : ℕ) → IsNewer at m.session oid stamp → ((u : TransactionRecord) → u ∈ history_of at → EarlyCommit table m u)
         → IsNewerBy m c (with_line (Some c) a own.told) stamp
     newer_by stamp newer commits =
-        let by = commits newer.by newer.committed in
+        let found = commits newer.by newer.committed in
+        let by = found.told in
         let made = newer.makes in
         record {
           by = by.by;
@@ -111,6 +113,7 @@ module _ (table : ℕ → ℕ) (m : Moment) (v : View) (known : Known table m v)
           succ = newer.by.succ;
           pred = newer.by.pred;
           commits = subst (λ (n : ℕ). by.by.ending ≡ Commits n newer.by.succ newer.by.pred) newer.stamp_is by.ending;
+          early = found.early;
           above = omega (arith, newer.above, begin_is);
           table = k;
           named = named;

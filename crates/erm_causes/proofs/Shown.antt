@@ -27,23 +27,23 @@ use Rattle.erm_lines.specs.Executions.{AreClosed, DidLog, DidLogLine, IsCourse, 
 use Rattle.erm_lines.proofs.Moved.{moved}
 use Rattle.erm_lines.specs.Laws.{ExecutionsGoOn, ExecutionsTell, OfCourses}
 use Rattle.erm_lines.specs.Told.{Tells}
-use Rattle.erm_told.proofs.Ended.{at_end, end_tells, opening_is, stamp_later}
-use Rattle.erm_told.proofs.Runs.{said_first, said_lines}
+use Rattle.erm_told.proofs.Ended.{stamp_later}
+use Rattle.erm_told.proofs.Runs.{said_first, said_lines, serializable_then}
 use Rattle.erm_told_limits.specs.Limits.{ClaimsAreFew, EndHasCause, FullHasCause, IsEnd, IsFull}
 use Rattle.erm_causes.specs.Laws.{IsForOthers, IsOfLog, RefusesForOthers, RunsRefuseForOthers, RunsTellLog}
 use Rattle.erm_causes.specs.Touched.{AreOfTables}
 use Rattle.erm_causes.proofs.Begun.{HistoryLaws}
-use Rattle.erm_causes.proofs.Beside.{ToldCommit}
-use Rattle.erm_causes.proofs.Causes.{commit_told}
-use Rattle.erm_causes.proofs.Fine.{IsFine, still_session}
+use Rattle.erm_causes.proofs.Causes.{commit_over, over_told}
+use Rattle.erm_causes.proofs.Early.{EarlyCommit, over_later}
+use Rattle.erm_causes.proofs.Fine.{IsFine, fine_touches, still_session}
 use Rattle.erm_causes.proofs.Flushed.{lines_told}
 use Rattle.erm_causes.proofs.Moments.{AtMoment, at_moment}
 use Rattle.erm_causes.proofs.Moves.{AllFine, move_opening, move_range, session_before}
 use Rattle.erm_causes.proofs.Own.{TreeLaws}
 use Rattle.erm_causes.proofs.Refusals.{excluded_cause, newer_cause, owned_cause, wait_ring, wait_seat}
 use Rattle.erm_causes.proofs.Refused.{Known, KnowsStamps}
-use Rattle.erm_causes.proofs.Runs.{AreInRange, table_at, touched_by, whole_run}
-use Rattle.erm_causes.proofs.Tables.{AreMovesInRange, TableOf, heard_said, opened_fine, run_fine, run_history, run_opening}
+use Rattle.erm_causes.proofs.Runs.{AreInRange, table_at, whole_run}
+use Rattle.erm_causes.proofs.Tables.{AreMovesInRange, TableOf, heard_said, opened_fine, run_fine, run_opening}
 use Rattle.erm_causes.proofs.Waits.{Allowed, allowed}
 
 -- the first lines are in range
@@ -73,7 +73,7 @@ pub record Ready (table : ℕ → ℕ) (m : Moment) (c : Command) (a : Answer) (
   pub known : Known table m before
   pub stamps : KnowsStamps m before
   pub stamps_after : KnowsStamps m after
-  pub commits : (u : TransactionRecord) → u ∈ history_of after → ToldCommit table m.all u
+  pub commits : (u : TransactionRecord) → u ∈ history_of before → EarlyCommit table m u
   pub allows : Allowed before m.session c a after
 
 module _ (tree : TreeLaws) (laws : HistoryLaws) (begun : (number begin : ℕ) → IsRunOf (world.begun number begin) []) (tell : ExecutionsTell) (go : ExecutionsGoOn) (few : ClaimsAreFew)
@@ -83,13 +83,6 @@ module _ (tree : TreeLaws) (laws : HistoryLaws) (begun : (number begin : ℕ) �
 
   of : TableOf (line_moves script answers ++ run.closing) v t (whole_run v t script answers run closed are)
   of = table_at v t script answers run closed are tree laws begun
-
-  commit_at : (u : TransactionRecord) → u ∈ history_of t → ToldCommit of.table all u
-  commit_at u within =
-      let same = opening_is tell go v t script answers run closed are in
-      commit_told t v.opening.sessions (places_of script answers closed) of.table (at_end tell go v t script answers run closed are) (ap (λ (o : world.Opening). o.sessions) (sym same))
-      (end_tells tell go v t script answers run closed are)
-      (λ seat session. touched_by v t script answers run closed are tree laws begun of seat (session_before v t seat same session)) u within
 
   stamps_at : (m : Moment) (x : View) (rest : List Move) → m.all ≡ all → x.opening ≡ v.opening → IsExecution x rest t → KnowsStamps m x
   stamps_at m x rest same opened goes q session w stamp stand told session_is number_is u within u_session u_number =
@@ -139,6 +132,25 @@ module _ (tree : TreeLaws) (laws : HistoryLaws) (begun : (number begin : ℕ) �
         ∙ ap (λ (place : ℕ). fold (λ (at : ℕ) (s : Said). flushed_told at s.answer) place (said_in first)) (sym (run.opened.flushed ∙ starts.stamp))
         ∙ lines_told (take i script) (take i answers) v here.before here.start)
 
+    -- each commit by then is told, and the transaction that it is of is over
+    commit_there : (u : TransactionRecord) → u ∈ history_of here.before → EarlyCommit of.table m u
+    commit_there u within =
+        let found = commit_over here.before v.opening.sessions m.before of.table (serializable_then first v here.before run.opened.serializable here.start)
+        (ap (λ (o : world.Opening). o.sessions) (sym opening_before)) (λ q session. (told_there q session).0)
+        (λ q session. fine_touches of.table (history_of here.before) (progress_of q m.before) (here.before.session q) (fine_there q session)) u within in
+        let by = found.told.by in
+        let session = session_before v here.before by.session opening_before found.session in
+        record {
+          told = record {
+            by = by;
+            of = over_told v.opening.sessions (places_of script answers closed) by.session session.0 session.1 by (over_later by.session script answers closed i by found.over);
+            session = found.told.session;
+            ending = found.told.ending;
+            touches = found.told.touches;
+          };
+          early = λ in_turn. found.over;
+        }
+
     ready : DidLine here.before l a here.after → refusal_in a ≡ None → Ready of.table m l.command a here.before here.after
     ready did none = record {
       session = did.session;
@@ -154,7 +166,7 @@ module _ (tree : TreeLaws) (laws : HistoryLaws) (begun : (number begin : ℕ) �
       };
       stamps = stamps_at m here.before (move_of l a ∷ here.rest) refl opening_before (here.after, here.did, here.holds, here.goes);
       stamps_after = stamps_at m here.after here.rest refl opening_after here.goes;
-      commits = λ u within. commit_at u (run_history here.rest here.after t here.goes u within);
+      commits = commit_there;
       allows = allowed here.before l a here.after none did;
     }
 

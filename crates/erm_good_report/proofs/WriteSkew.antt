@@ -23,7 +23,7 @@ use Rattle.erm_good_report.specs.GoodReport.{IsGoodReport, OrderAgrees, Report, 
 use Rattle.erm_good_report.specs.Opening.{InTurn, is_before}
 use Rattle.erm_good_report.specs.Phases.{FitsPhase, phase_of}
 use Rattle.erm_good_report.specs.Refusals.{HasCause, moment_at}
-use Rattle.erm_good_report.specs.Stamps.{Told, StampsAgree, begin_told, stamp_told, stamp_drawn}
+use Rattle.erm_good_report.specs.Stamps.{Told, StampsAgree, begin_told, place_told, stamp_told, stamp_drawn}
 use Rattle.erm_good_report.specs.Transactions.{Said, said_of, Transaction, transactions_of, history_of, stamp_of, stamp_of_ending, steps_of, Commits}
 use Rattle.erm_good_report.specs.Windows.{IsCommit, IsTightAt}
 use Rattle.erm_good_report.specs.WriteSkew.{first_opening, names, script, answers, report_with, WriteSkewIsExcluded}
@@ -78,6 +78,12 @@ stamps = record {
   ascends = all_pairs_from_test (λ a b. is_before InTurn a.session b.session ≡ true → Told (λ first later. first < later) (stamp_drawn a.asked a.answer) (stamp_drawn b.asked b.answer))
       (λ a b. told_pass nat_lt (stamp_drawn a.asked a.answer) (stamp_drawn b.asked b.answer))
       (λ a b pass before. told_from_test (λ m n. m < n) nat_lt less_from (stamp_drawn a.asked a.answer) (stamp_drawn b.asked b.answer) pass) said refl;
+  flushes = all_pairs_from_test (λ a b. is_before InTurn a.session b.session ≡ true → Told (λ place begin. place ≤ begin) (place_told a.answer) (begin_told b.answer))
+      (λ a b. told_pass nat_le (place_told a.answer) (begin_told b.answer))
+      (λ a b pass before. told_from_test (λ m n. m ≤ n) nat_le most_from (place_told a.answer) (begin_told b.answer) pass) said refl;
+  flushes_first = all_pairs_from_test (λ a b. is_before InTurn a.session b.session ≡ true → Told (λ place stamp. place ≤ stamp) (place_told a.answer) (stamp_drawn b.asked b.answer))
+      (λ a b. told_pass nat_le (place_told a.answer) (stamp_drawn b.asked b.answer))
+      (λ a b pass before. told_from_test (λ m n. m ≤ n) nat_le most_from (place_told a.answer) (stamp_drawn b.asked b.answer) pass) said refl;
 }
 
 -- ---- snapshot replies

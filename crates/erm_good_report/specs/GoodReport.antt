@@ -1,5 +1,5 @@
 -- The good report: what a report owes to its script, for any number of sessions.
-use Rattle.std.specs.Prelude.{◌≡◌, ◌≢◌, ℕ, ◌≤◌, List, [], ◌∷◌, ◌++◌, length, map, Option, Some, None}
+use Rattle.std.specs.Prelude.{◌≡◌, ◌≢◌, ℕ, ◌≤◌, ◌⊎◌, List, [], ◌∷◌, ◌++◌, length, map, Option, Some, None, IfSome}
 use Rattle.std.specs.List.{All, AllPairs, slice_get}
 use Rattle.std.specs.FinMap.{from_entries}
 use Rattle.erm_model.specs.declared.map.Pair.{Pair}
@@ -13,6 +13,7 @@ use Rattle.erm_report.specs.declared.answer.Answer.TheVariants as answer
 use Rattle.erm_report.specs.declared.line.Line.{Line}
 use Rattle.erm_report.specs.declared.line.Line.TheVariants as line
 use Rattle.erm_report.specs.Printable.{FitsTypes}
+use Rattle.erm_script.specs.declared.script.Command.TheVariants as command
 use Rattle.erm_script.specs.declared.script.ScriptLine.{ScriptLine}
 use Rattle.erm_script.specs.Script.{name_of}
 use Rattle.erm_good_report.specs.Causes.{HasCauseOf}
@@ -94,19 +95,24 @@ abbrev pub fault_line : Option ScriptLine → Line
 fault_line None = line.DiskFault
 fault_line (Some l) = line.Answer l.line answer.DiskFault
 
+-- a line of the log is a flush or a checkpoint
+abbrev pub IsLineOfLog : ScriptLine → Type 0
+IsLineOfLog l = (l.command ≡ command.Flush) ⊎ (l.command ≡ command.Checkpoint)
+
 -- A session that was closed though no line tells it: all its lines are answered, and leave it sealed.
 pub record IsClosedUnseen (script : List ScriptLine) (answers : List Answer) (c : Closed) : Type 0 where
   pub fits : Closes Sealed c.answer
   pub sealed : phase_of c.session (said_of script answers) ≡ Sealed
   pub answered : (i : ℕ) (l : ScriptLine) → length answers ≤ i → slice_get script i ≡ Some l → l.session ≢ c.session
 
--- The report of a run that the disk's fault cut off: the opening, the answers so far, and the fault. Sessions may have been closed that
+-- The report of a run that the disk's fault cut off, at a line of the log or behind all lines: the opening, the answers so far, and the fault. Sessions may have been closed that
 -- no line tells of, each once, and what they committed counts for the transactions told.
 pub record IsCutReport (mode : Mode) (opening : Opening) (names : List (List ℕ)) (script : List ScriptLine) (lines : List Line) : Type 0 where
   pub answers : List Answer
   pub fault : Option ScriptLine
   pub lines_ok : lines ≡ line.Open opening.stamp opening.run ∷ answer_lines script answers ++ fault_line fault ∷ []
   pub at : fault ≡ slice_get script (length answers)
+  pub of_log : IfSome fault IsLineOfLog
   pub fits : All FitsTypes lines
   pub closed : List Closed
   pub once : AllPairs (λ c d. c.session ≢ d.session) closed

@@ -157,7 +157,11 @@ pub record IsOwnedBy (m : Moment) (c : Command) (seat number : ℕ) : Type 0 whe
   pub named : table_of c ≡ Some table
   pub writes : WritesTable other table
 
--- another session's commit with this stamp, at or above the begin, has a line that writes in this table
+-- where lines are run in turn, the transaction was over before this line
+abbrev pub WasOver : Moment → Transaction → Type 0
+WasOver m t = m.mode ≡ InTurn → t ∈ (progress_of t.session m.before).over
+
+-- another session's commit with this stamp, at or above the begin, has a line that writes in this table; in turn it was over before
 pub record IsNewerBy (m : Moment) (c : Command) (t : Transaction) (stamp : ℕ) : Type 0 where
   pub by : Transaction
   pub of : by ∈ m.all
@@ -165,6 +169,7 @@ pub record IsNewerBy (m : Moment) (c : Command) (t : Transaction) (stamp : ℕ) 
   pub succ : ℕ
   pub pred : ℕ
   pub commits : by.ending ≡ Commits stamp succ pred
+  pub early : WasOver m by
   pub above : t.begin ≤ stamp
   pub table : ℕ
   pub named : table_of c ≡ Some table
@@ -184,7 +189,7 @@ HasRefusalCause m c t (answer.WaitSeat seat seen) = (m.mode ≡ InTurn) × HasWa
 HasRefusalCause m c t (answer.WaitRing flushed) = (m.mode ≡ InTurn) × WaitsForRing m t flushed
 HasRefusalCause m c t (answer.Owned seat number) = IsOwnedBy m c seat number
 HasRefusalCause m c t (answer.Newer stamp) = IsNewerBy m c t stamp
-HasRefusalCause m c t (answer.ExcludedEarly succ pred) = HasNoWindow m.all t None succ pred
+HasRefusalCause m c t (answer.ExcludedEarly succ pred) = (shut : HasNoWindow m.all t None succ pred) × WasOver m shut.after × WasOver m shut.before
 HasRefusalCause m c t answer.ReadsFull = READ_LIMIT < TABLES + m.opening.rows + total_of makes_of m.lines
 HasRefusalCause m c t answer.WritesFull = WRITE_LIMIT < sum_by (λ e. claims_of e.asked) t.lines
 HasRefusalCause m c t (answer.CellsFull drawn) = (TABLE_CELLS ≤ drawn) × (TABLE_CELLS < OID_LIMIT + total_of claims_of m.lines)

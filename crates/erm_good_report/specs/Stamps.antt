@@ -21,6 +21,15 @@ stamp_told (answer.Committed stamp succ pred) = Some stamp
 stamp_told (answer.Excluded stamp succ pred) = Some stamp
 stamp_told a = None
 
+-- the place below which an answer says that all is flushed: that of a flush or of a checkpoint; or one above the stamp of a commit that is durable
+abbrev pub place_told : Answer → Option ℕ
+place_told (answer.Flushed place) = Some place
+place_told (answer.Empty place) = Some place
+place_told (answer.Unfilled place) = Some place
+place_told (answer.Checkpointed place) = Some place
+place_told (answer.Durable stamp) = Some (stamp + 1)
+place_told a = None
+
 -- the commit stamp that a line draws and tells: a seal's, or a commit's; a settle tells one that was drawn before
 abbrev pub stamp_decided : Option Command → Option ℕ → Option ℕ
 stamp_decided asked told = if asks_commit asked then told else None
@@ -40,7 +49,7 @@ AllInTime mode P said = AllPairs (λ a b. is_before mode a.session b.session ≡
 -- Stamps agree. Those of two transactions differ; each is at or above the end of the opening's block and the begin of its transaction,
 -- which is above it too; that of a seal is the one that the outcome tells. A begin is above each commit stamp that an earlier line
 -- told. A stamp that a line draws is at least each begin that an earlier line told, so that no transaction reads the future, and
--- above each stamp that an earlier one drew.
+-- above each stamp that an earlier one drew. A place below which an earlier line says that all is flushed is above neither.
 pub record StampsAgree (mode : Mode) (opening : Opening) (transactions : List Transaction) (said : List Said) : Type 0 where
   pub differ : AllPairs (λ t u. Told (λ a b. a ≢ b) (stamp_of t) (stamp_of u)) transactions
   pub least : (t : Transaction) → t ∈ transactions → opening.stamp + LEAST_BLOCK ≤ t.begin
@@ -49,3 +58,5 @@ pub record StampsAgree (mode : Mode) (opening : Opening) (transactions : List Tr
   pub begins : AllInTime mode (λ a b. Told (λ stamp begin. stamp < begin) (stamp_told a.answer) (begin_told b.answer)) said
   pub draws : AllInTime mode (λ a b. Told (λ begin stamp. begin ≤ stamp) (begin_told a.answer) (stamp_drawn b.asked b.answer)) said
   pub ascends : AllInTime mode (λ a b. Told (λ first later. first < later) (stamp_drawn a.asked a.answer) (stamp_drawn b.asked b.answer)) said
+  pub flushes : AllInTime mode (λ a b. Told (λ place begin. place ≤ begin) (place_told a.answer) (begin_told b.answer)) said
+  pub flushes_first : AllInTime mode (λ a b. Told (λ place stamp. place ≤ stamp) (place_told a.answer) (stamp_drawn b.asked b.answer)) said

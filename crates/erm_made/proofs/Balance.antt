@@ -16,7 +16,7 @@ use Rattle.erm_made.proofs.Walks.{Walks, WalksOn}
 
 -- ---- sums over the first numbers
 
-abbrev summed : (ℕ → ℕ) → ℕ → ℕ
+abbrev pub summed : (ℕ → ℕ) → ℕ → ℕ
 summed f zero = 0
 summed f (suc n) = f n + summed f n
 
@@ -53,10 +53,10 @@ none_is_summed f (suc n) none =
 -- ---- phases
 
 -- a line with its answer
-abbrev said_one : ℕ → Command → Answer → Said
+abbrev pub said_one : ℕ → Command → Answer → Said
 said_one s c a = record { session = s; asked = Some c; answer = a }
 
-abbrev hears : ℕ → Phase → Said → Phase
+abbrev pub hears : ℕ → Phase → Said → Phase
 hears k phase s = cond (eqb s.session k) (phase_after s.asked s.answer phase) phase
 
 phase_own : (s : ℕ) (c : Command) (a : Answer) (before : List Said) → phase_of s (before ++ said_one s c a ∷ []) ≡ phase_after (Some c) a (phase_of s before)
@@ -70,27 +70,31 @@ phase_other s k c a before another =
     fold-append (hears k) Idle before (said_one s c a ∷ []) ∙ ap (λ b. cond b (phase_after (Some c) a phase) phase) (ne_eqb s k another)
 
 -- how many of the first sessions have a transaction in progress
-abbrev progressing : ℕ → List Said → ℕ
+abbrev pub progressing : ℕ → List Said → ℕ
 progressing m before = summed (λ k. in_progress (phase_of k before)) m
 
-abbrev IsOutside : ℕ → ℕ → ℕ → Type 0
+abbrev pub IsOutside : ℕ → ℕ → ℕ → Type 0
 IsOutside lo hi k = (k < lo) ⊎ (hi ≤ k)
 
 -- Sessions outside of those that have begun are idle, none is sealed, and as many have ended or are in progress as have begun.
-record State (m lo hi begun ended : ℕ) (before : List Said) : Type 0 where
-  within : hi ≤ m
-  order : lo ≤ hi
-  idle : (k : ℕ) → IsOutside lo hi k → phase_of k before ≡ Idle
-  unsealed : (k : ℕ) → IsUnsealed (phase_of k before)
-  balance : ended + progressing m before ≡ begun
+pub record State (m lo hi begun ended : ℕ) (before : List Said) : Type 0 where
+  pub within : hi ≤ m
+  pub order : lo ≤ hi
+  pub idle : (k : ℕ) → IsOutside lo hi k → phase_of k before ≡ Idle
+  pub unsealed : (k : ℕ) → IsUnsealed (phase_of k before)
+  pub balance : ended + progressing m before ≡ begun
 
--- answers fit, and are counted
-abbrev pub AreCounted : List Said → List ScriptLine → List Answer → Type 0
-AreCounted before [] [] = Unit {0}
-AreCounted before [] (a ∷ answers) = ⊥
-AreCounted before (l ∷ ls) [] = ⊥
-AreCounted before (l ∷ ls) (a ∷ answers) =
-    FitsPhase (phase_of l.session before) l.command a × (is_stuck a ≡ false) × AreCounted (before ++ record { session = l.session; asked = Some l.command; answer = a } ∷ []) ls answers
+-- so is each line with its answer, behind what was said before it
+abbrev pub AreEach : (List Said → ScriptLine → Answer → Type 0) → List Said → List ScriptLine → List Answer → Type 0
+AreEach P before [] [] = Unit {0}
+AreEach P before [] (a ∷ answers) = ⊥
+AreEach P before (l ∷ ls) [] = ⊥
+AreEach P before (l ∷ ls) (a ∷ answers) = P before l a × AreEach P (before ++ said_one l.session l.command a ∷ []) ls answers
+
+-- an answer fits, and is counted
+pub record IsCounted (before : List Said) (l : ScriptLine) (a : Answer) : Type 0 where
+  pub fits : FitsPhase (phase_of l.session before) l.command a
+  pub calm : is_stuck a ≡ false
 
 -- how many transactions the answers end
 abbrev pub ended_in : List Answer → ℕ
@@ -135,18 +139,18 @@ module _ (m : ℕ) where
     Continues c = (l h b : ℕ) → State m l h b (ended + weight a) (before ++ said_one s c a ∷ []) → next l h b → R
 
     begin_next : s < m → State m lo hi begun ended before → FitsPhase (phase_of s before) command.Begin a → is_stuck a ≡ false
-        → (s ≡ hi) × (lo ≤ hi) × next lo (hi + 1) (begun + 1) → Continues command.Begin → R
+        → (s ≡ hi) × (lo ≡ 1) × next lo (hi + 1) (begun + 1) → Continues command.Begin → R
     begin_next known st fits calm w go =
         let idle : phase_of s before ≡ Idle = st.idle s (inr (omega (arith, w.0))) in
         go lo (hi + 1) (begun + 1)
         (moves command.Begin s lo hi lo (hi + 1) begun (begun + 1) ended before a known st (begin_turn (phase_of s before) a idle fits calm) refl
-        (omega (arith, known, w.0)) (omega (arith, w.1))
+        (omega (arith, known, w.0)) (omega (arith, st.order))
         (λ k o another. ⊎_elim (λ (below : k < lo). inl below) (λ (above : hi + 1 ≤ k). inr (omega (arith, above))) o)
-        (λ o. absurd (⊎_elim (λ (below : s < lo). omega (arith, below, w.0, w.1)) (λ (above : hi + 1 ≤ s). omega (arith, above, w.0)) o)))
+        (λ o. absurd (⊎_elim (λ (below : s < lo). omega (arith, below, w.0, st.order)) (λ (above : hi + 1 ≤ s). omega (arith, above, w.0)) o)))
         w.2
 
     begin_anew : s < m → State m lo hi begun ended before → FitsPhase (phase_of s before) command.Begin a → is_stuck a ≡ false
-        → (lo ≡ hi) × next s (s + 1) (begun + 1) → Continues command.Begin → R
+        → (lo ≡ hi) × (s ≡ 1) × next s (s + 1) (begun + 1) → Continues command.Begin → R
     begin_anew known st fits calm w go =
         let all : (k : ℕ) → IsOutside lo hi k = λ k. ⊎_elim (λ (below : k < lo). inl below) (λ (above : lo ≤ k). inr (omega (arith, above, w.0))) (cases_lt k lo) in
         let idle : phase_of s before ≡ Idle = st.idle s (all s) in
@@ -154,7 +158,7 @@ module _ (m : ℕ) where
         (moves command.Begin s lo hi s (s + 1) begun (begun + 1) ended before a known st (begin_turn (phase_of s before) a idle fits calm) refl
         (omega (arith, known)) (omega arith) (λ k o another. all k)
         (λ o. absurd (⊎_elim (λ (below : s < s). omega (arith, below)) (λ (above : s + 1 ≤ s). omega (arith, above)) o)))
-        w.1
+        w.2
 
     commits : s < m → State m lo hi begun ended before → FitsPhase (phase_of s before) command.Commit a → is_stuck a ≡ false
         → (s ≡ lo) × (lo < hi) × next (lo + 1) hi begun → Continues command.Commit → R
@@ -185,17 +189,17 @@ module _ (m : ℕ) where
         (moves command.Flush s lo hi lo hi begun begun ended before a known st still.turn (omega arith) st.within st.order (λ k o another. o) (λ o. still.same ∙ st.idle s o))
         w
 
-    step : (c : Command) → s < m → WalksOn c s lo hi begun next → State m lo hi begun ended before → FitsPhase (phase_of s before) c a → is_stuck a ≡ false → Continues c → R
+    pub step : (c : Command) → s < m → WalksOn c s lo hi begun next → State m lo hi begun ended before → FitsPhase (phase_of s before) c a → is_stuck a ≡ false → Continues c → R
     step command.Begin known w st fits calm go =
         ⊎_elim
-        (λ (q : (s ≡ hi) × (lo ≤ hi) × next lo (hi + 1) (begun + 1)). begin_next known st fits calm q go)
-        (λ (q : (lo ≡ hi) × next s (s + 1) (begun + 1)). begin_anew known st fits calm q go)
+        (λ (q : (s ≡ hi) × (lo ≡ 1) × next lo (hi + 1) (begun + 1)). begin_next known st fits calm q go)
+        (λ (q : (lo ≡ hi) × (s ≡ 1) × next s (s + 1) (begun + 1)). begin_anew known st fits calm q go)
         w
     step command.Commit known w st fits calm go = commits known st fits calm w go
     step (command.Get table key) known w st fits calm go =
         accesses (command.Get table key) refl known st (get_turn table key (phase_of s before) a (st.unsealed s) fits) w go
     step (command.Put table key value) known w st fits calm go =
-        accesses (command.Put table key value) refl known st (put_turn table key value (phase_of s before) a (st.unsealed s) fits) w go
+        accesses (command.Put table key value) refl known st (put_turn table key value (phase_of s before) a (st.unsealed s) fits) (w.0, w.1, w.3) go
     step command.Flush known w st fits calm go = flushes known st fits w go
     step (command.Del table key) known w st fits calm go = absurd w
     step (command.Next table from) known w st fits calm go = absurd w
@@ -214,7 +218,7 @@ pub record IsOver (total ended : ℕ) (said : List Said) (answers : List Answer)
 
 module _ (m total : ℕ) where
   goes : (rs : List Request) (answers : List Answer) (lo hi begun ended n : ℕ) (before : List Said) → Walks m total lo hi begun rs → State m lo hi begun ended before
-      → AreCounted before (numbered n rs) answers → IsOver total ended (before ++ said_of (numbered n rs) answers) answers
+      → AreEach IsCounted before (numbered n rs) answers → IsOver total ended (before ++ said_of (numbered n rs) answers) answers
   goes [] [] lo hi begun ended n before w st counted =
       let all : (k : ℕ) → phase_of k before ≡ Idle = λ k. st.idle k (⊎_elim (λ (below : k < lo). inl below) (λ (above : lo ≤ k). inr (omega (arith, above, w.0))) (cases_lt k lo)) in
       let none : progressing m before ≡ 0 = none_is_summed (λ k. in_progress (phase_of k before)) m (λ k. ap in_progress (all k)) in
@@ -224,20 +228,21 @@ module _ (m total : ℕ) where
   goes (r ∷ rs) (a ∷ answers) lo hi begun ended n before w st counted =
       let one : Said = said_one r.0 r.1 a in
       let rest : List Said = said_of (numbered (n + 1) rs) answers in
-      step m (IsOver total ended (before ++ one ∷ rest) (a ∷ answers)) (λ l h b. Walks m total l h b rs) r.0 lo hi begun ended before a r.1 w.0 w.1 st counted.0 counted.1
+      step m (IsOver total ended (before ++ one ∷ rest) (a ∷ answers)) (λ l h b. Walks m total l h b rs) r.0 lo hi begun ended before a r.1 w.0 w.1 st counted.0.fits counted.0.calm
       (λ l h b later more.
-      let over = goes rs answers l h b (ended + weight a) (n + 1) (before ++ one ∷ []) more later counted.2 in
+      let over = goes rs answers l h b (ended + weight a) (n + 1) (before ++ one ∷ []) more later counted.1 in
       record { idle = λ k. ap (λ said. phase_of k said) (sym (append_assoc before (one ∷ []) rest)) ∙ over.idle k; all = omega (arith, over.all) })
 
 -- from the start on
-pub all_end : (m total n : ℕ) (rs : List Request) (answers : List Answer) → 1 ≤ m → Walks m total 1 1 0 rs → AreCounted [] (numbered n rs) answers
+pub at_start : (m : ℕ) → 1 ≤ m → State m 1 1 0 0 []
+at_start m some = record {
+  within = some;
+  order = omega arith;
+  idle = λ k o. refl;
+  unsealed = λ k. tt;
+  balance = omega (arith, none_is_summed (λ k. 0) m (λ k. refl));
+}
+
+pub all_end : (m total n : ℕ) (rs : List Request) (answers : List Answer) → 1 ≤ m → Walks m total 1 1 0 rs → AreEach IsCounted [] (numbered n rs) answers
     → IsOver total 0 (said_of (numbered n rs) answers) answers
-all_end m total n rs answers some w counted =
-    let start : State m 1 1 0 0 [] = record {
-      within = some;
-      order = omega arith;
-      idle = λ k o. refl;
-      unsealed = λ k. tt;
-      balance = omega (arith, none_is_summed (λ k. 0) m (λ k. refl));
-    } in
-    goes m total rs answers 1 1 0 0 n [] w start counted
+all_end m total n rs answers some w counted = goes m total rs answers 1 1 0 0 n [] w (at_start m some) counted

@@ -10,7 +10,7 @@ use Rattle.erm_report.specs.declared.line.Line.TheVariants as line
 use Rattle.erm_script.specs.declared.script.ScriptLine.{ScriptLine}
 use Rattle.erm_good_report.specs.GoodReport.{Report, answer_lines, close_line, commit_line, report_lines}
 use Rattle.erm_good_report.specs.Opening.{Mode, Opening}
-use Rattle.erm_good_report.specs.Phases.{Closed, FitsPhase, is_idle, phase_of}
+use Rattle.erm_good_report.specs.Phases.{Closed, is_idle, phase_of}
 use Rattle.erm_good_report.specs.Refusals.{moment_at}
 use Rattle.erm_good_report.specs.GoodReport.{places_of}
 use Rattle.erm_good_report.specs.Transactions.{Said, said_of, transactions_of}
@@ -18,13 +18,13 @@ use Rattle.erm_good_report.proofs.Determining.{after_answers, report_lines_by_pa
 use Rattle.erm_make.specs.Workload.{names_of, numbered, workload}
 use Rattle.erm_made.specs.Counts.{count, is_commit, is_exclusion, leaves_open, meets_newer, meets_owner, tells}
 use Rattle.erm_made.specs.Law.{IsReportOfWorkload}
-use Rattle.erm_made.proofs.Balance.{AreCounted, IsOver, all_end, ended_in}
-use Rattle.erm_made.proofs.Turns.{is_stuck, not_stuck}
+use Rattle.erm_made.proofs.Balance.{AreEach, IsCounted, IsOver, all_end, ended_in, said_one}
+use Rattle.erm_made.proofs.Turns.{not_stuck}
 use Rattle.erm_made.proofs.Walks.{workload_walks}
 
 -- ---- counts of lists
 
-count-cons : {X : Type 0} (p : X → Bool) (x : X) (xs : List X) → count p (x ∷ xs) ≡ cond (p x) 1 0 + count p xs
+pub count-cons : {X : Type 0} (p : X → Bool) (x : X) (xs : List X) → count p (x ∷ xs) ≡ cond (p x) 1 0 + count p xs
 count-cons {X} p x xs =
     let by : (b : Bool) → length (cond b (x ∷ filter p xs) (filter p xs)) ≡ cond b 1 0 + length (filter p xs) =
     λ b. elim b as (λ t. length (cond t (x ∷ filter p xs) (filter p xs)) ≡ cond t 1 0 + length (filter p xs)) [ true ↦ omega arith | false ↦ omega arith ] in
@@ -85,24 +85,21 @@ ended_is [] = refl
 ended_is (a ∷ answers) =
     omega (arith, ended_is answers, count-cons is_commit a answers, count-cons is_exclusion a answers, count-cons meets_owner a answers, count-cons meets_newer a answers)
 
--- each answer fits and is counted, where each at its place does so
-counted_of : (before : List Said) (script : List ScriptLine) (answers : List Answer) → length answers ≡ length script
-    → ((i : ℕ) (l : ScriptLine) (a : Answer) → slice_get script i ≡ Some l → slice_get answers i ≡ Some a
-    → FitsPhase (phase_of l.session (before ++ take i (said_of script answers))) l.command a × (is_stuck a ≡ false)) → AreCounted before script answers
-counted_of before [] [] same each = tt
-counted_of before [] (a ∷ answers) same each = absurd (omega (arith, same))
-counted_of before (l ∷ script) [] same each = absurd (omega (arith, same))
-counted_of before (l ∷ script) (a ∷ answers) same each =
-    let one : Said = record { session = l.session; asked = Some l.command; answer = a } in
-    let first = each 0 l a refl refl in
-    let P : List Said → Type 0 = λ said. FitsPhase (phase_of l.session said) l.command a in (
-      subst P (append-nil before) first.0,
-      first.1,
-      counted_of (before ++ one ∷ []) script answers (omega (arith, same))
+-- so is each line with its answer, where it is so at each place
+pub each_of : (P : List Said → ScriptLine → Answer → Type 0) (before : List Said) (script : List ScriptLine) (answers : List Answer) → length answers ≡ length script
+    → ((i : ℕ) (l : ScriptLine) (a : Answer) → slice_get script i ≡ Some l → slice_get answers i ≡ Some a → P (before ++ take i (said_of script answers)) l a)
+    → AreEach P before script answers
+each_of P before [] [] same each = tt
+each_of P before [] (a ∷ answers) same each = absurd (omega (arith, same))
+each_of P before (l ∷ script) [] same each = absurd (omega (arith, same))
+each_of P before (l ∷ script) (a ∷ answers) same each =
+    let one : Said = said_one l.session l.command a in
+    let Q : List Said → Type 0 = λ said. P said l a in (
+      subst Q (append-nil before) (each 0 l a refl refl),
+      each_of P (before ++ one ∷ []) script answers (omega (arith, same))
           (λ i k b at said.
-          let Q : List Said → Type 0 = λ all. FitsPhase (phase_of k.session all) k.command b in
-          let later = each (suc i) k b at said in
-          (subst Q (sym (append_assoc before (one ∷ []) (take i (said_of script answers)))) later.0, later.1)),
+          let R : List Said → Type 0 = λ all. P all k b in
+          subst R (sym (append_assoc before (one ∷ []) (take i (said_of script answers)))) (each (suc i) k b at said)),
     )
 
 -- ---- no session is closed
@@ -116,34 +113,45 @@ no_element : {X Y : Type 0} (f : X → Y) (xs : List X) → map f xs ≡ [] → 
 no_element f [] none = refl
 no_element f (x ∷ xs) none = absurd (omega (arith, ap length none))
 
--- ---- both together
+-- ---- all together
 
-pub each_counted : (mode : Mode) (opening : Opening) (transactions sessions : ℕ) (lines : List Line) → IsReportOfWorkload mode opening transactions sessions lines
-    → count (tells is_commit) lines + count (tells is_exclusion) lines + count (tells meets_owner) lines + count (tells meets_newer) lines ≡ 16 + transactions
-each_counted mode opening transactions sessions lines is =
-    let names : List (List ℕ) = names_of transactions sessions in
-    let script : List ScriptLine = numbered 1 (workload transactions sessions) in
-    let good = is.good in
-    let r : Report = good.report in
-    let said : List Said = said_of script r.answers in
-    let all = transactions_of (length names) (places_of script r.answers r.closed) in
-    let parts : (p : Answer → Bool) → count (tells p) lines ≡ count p r.answers + count (tells p) (after_answers names r) =
-    λ p. count_parts p opening names script r lines good.lines_ok good.each in
-    let decided : count leaves_open r.answers ≡ 0 = omega (arith, parts leaves_open, is.decided) in
-    let counted : AreCounted [] script r.answers = counted_of [] script r.answers good.each
-    (λ i l a at told. (
-      good.owes.phases.fits i l a at told,
-      not_stuck (moment_at mode opening script r.answers all i l) a (good.owes.refusals.each i l a at told).log (isnt_such leaves_open r.answers i a decided told),
-    )) in
-    let over : IsOver (16 + transactions) 0 said r.answers =
-    all_end (sessions + 1) (16 + transactions) 1 (workload transactions sessions) r.answers (omega arith) (workload_walks transactions sessions is.some) counted in
-    let closed : r.closed ≡ [] =
-    no_element (λ (c : Closed). c.session) r.closed
-    (good.closes.each ∙ none_kept (λ k. not (is_idle (phase_of k said))) 1 (length names) (λ k. ap (λ p. not (is_idle p)) (over.idle k))) in
-    let of : (p : Answer → Bool) → count (tells p) lines ≡ count p r.answers = λ p. omega (arith, parts p, none_after p names r closed) in
-    omega (arith, of is_commit, of is_exclusion, of meets_owner, of meets_newer, ended_is r.answers, over.all)
+module _ (mode : Mode) (opening : Opening) (transactions sessions : ℕ) (lines : List Line) (is : IsReportOfWorkload mode opening transactions sessions lines) where
+  abbrev names : List (List ℕ)
+  names = names_of transactions sessions
 
-pub counts_add_up : (mode : Mode) (opening : Opening) (transactions sessions : ℕ) (lines : List Line) → IsReportOfWorkload mode opening transactions sessions lines
-    → count (tells meets_newer) lines ≡ 0
-    → count (tells is_commit) lines + count (tells is_exclusion) lines + count (tells meets_owner) lines ≡ 16 + transactions
-counts_add_up mode opening transactions sessions lines is none = omega (arith, each_counted mode opening transactions sessions lines is, none)
+  abbrev script : List ScriptLine
+  script = numbered 1 (workload transactions sessions)
+
+  abbrev answers : List Answer
+  answers = is.good.report.answers
+
+  parts : (p : Answer → Bool) → count (tells p) lines ≡ count p answers + count (tells p) (after_answers names is.good.report)
+  parts p = count_parts p opening names script is.good.report lines is.good.lines_ok is.good.each
+
+  -- each answer fits, and is counted
+  pub counted_at : (i : ℕ) (l : ScriptLine) (a : Answer) → slice_get script i ≡ Some l → slice_get answers i ≡ Some a → IsCounted (take i (said_of script answers)) l a
+  counted_at i l a at told =
+      let all = transactions_of (length names) (places_of script answers is.good.report.closed) in
+      let decided : count leaves_open answers ≡ 0 = omega (arith, parts leaves_open, is.decided) in
+      record {
+        fits = is.good.owes.phases.fits i l a at told;
+        calm = not_stuck (moment_at mode opening script answers all i l) a (is.good.owes.refusals.each i l a at told).log (isnt_such leaves_open answers i a decided told);
+      }
+
+  all_over : IsOver (16 + transactions) 0 (said_of script answers) answers
+  all_over =
+      all_end (sessions + 1) (16 + transactions) 1 (workload transactions sessions) answers (omega arith) (workload_walks transactions sessions is.some)
+      (each_of IsCounted [] script answers is.good.each counted_at)
+
+  none_closed : is.good.report.closed ≡ []
+  none_closed =
+      let said : List Said = said_of script answers in
+      no_element (λ (c : Closed). c.session) is.good.report.closed
+      (is.good.closes.each ∙ none_kept (λ k. not (is_idle (phase_of k said))) 1 (length names) (λ k. ap (λ p. not (is_idle p)) (all_over.idle k)))
+
+  -- the lines tell as many as the answers do
+  pub count_of : (p : Answer → Bool) → count (tells p) lines ≡ count p answers
+  count_of p = omega (arith, parts p, none_after p names is.good.report none_closed)
+
+  pub each_counted : count (tells is_commit) lines + count (tells is_exclusion) lines + count (tells meets_owner) lines + count (tells meets_newer) lines ≡ 16 + transactions
+  each_counted = omega (arith, count_of is_commit, count_of is_exclusion, count_of meets_owner, count_of meets_newer, ended_is answers, all_over.all)

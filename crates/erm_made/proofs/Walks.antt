@@ -9,12 +9,13 @@ use Rattle.erm_make.specs.Workload.{Request, accesses, all_accesses, batch, batc
 use Rattle.erm_make.proofs.Steps.{at_end, one_more}
 
 -- Some transactions are in progress, those of sessions from a first one on and below a last one, and so many have begun. A begin is of the
--- next session, or of any where none is in progress; a commit is of the first one; and what reads or writes is of one of them.
+-- next session where none of them has been asked to commit, so that the first one is session 1, or of session 1 where none is in progress;
+-- a commit is of the first one; what reads is of one of them, and what writes too, where none of them has been asked to commit.
 abbrev pub WalksOn : Command → ℕ → ℕ → ℕ → ℕ → (ℕ → ℕ → ℕ → Type 0) → Type 0
-WalksOn command.Begin s lo hi begun next = ((s ≡ hi) × (lo ≤ hi) × next lo (hi + 1) (begun + 1)) ⊎ ((lo ≡ hi) × next s (s + 1) (begun + 1))
+WalksOn command.Begin s lo hi begun next = ((s ≡ hi) × (lo ≡ 1) × next lo (hi + 1) (begun + 1)) ⊎ ((lo ≡ hi) × (s ≡ 1) × next s (s + 1) (begun + 1))
 WalksOn command.Commit s lo hi begun next = (s ≡ lo) × (lo < hi) × next (lo + 1) hi begun
 WalksOn (command.Get table key) s lo hi begun next = (lo ≤ s) × (s < hi) × next lo hi begun
-WalksOn (command.Put table key value) s lo hi begun next = (lo ≤ s) × (s < hi) × next lo hi begun
+WalksOn (command.Put table key value) s lo hi begun next = (lo ≤ s) × (s < hi) × (lo ≡ 1) × next lo hi begun
 WalksOn command.Flush s lo hi begun next = next lo hi begun
 WalksOn c s lo hi begun next = ⊥
 
@@ -31,17 +32,18 @@ module _ (m total : ℕ) where
       let R : ℕ → Type 0 = λ x. Walks m total l h x rs in
       subst R same (subst Q same_hi (subst P same_lo w))
 
-  -- where none is in progress any session may begin
+  -- where none is in progress session 1 may begin, whichever was the last one
   anew_on : (c : Command) (s k begun : ℕ) (rs : List Request) → ((b : ℕ) → Walks m total 1 1 b rs → Walks m total k k b rs)
       → WalksOn c s 1 1 begun (λ l h b. Walks m total l h b rs) → WalksOn c s k k begun (λ l h b. Walks m total l h b rs)
   anew_on command.Begin s k begun rs more w =
-      inr (
+      ⊎_elim
+      (λ (q : (s ≡ 1) × (1 ≡ 1) × Walks m total 1 (1 + 1) (begun + 1) rs). inr (
         refl,
-        ⊎_elim
-            (λ (q : (s ≡ 1) × (1 ≤ 1) × Walks m total 1 (1 + 1) (begun + 1) rs). walks_as 1 (1 + 1) (begun + 1) s (s + 1) (begun + 1) rs (sym q.0) (omega (arith, q.0)) refl q.2)
-            (λ (q : (1 ≡ 1) × Walks m total s (s + 1) (begun + 1) rs). q.1)
-            w,
-      )
+        q.0,
+        walks_as 1 (1 + 1) (begun + 1) s (s + 1) (begun + 1) rs (sym q.0) (omega (arith, q.0)) refl q.2,
+      ))
+      (λ (q : (1 ≡ 1) × (s ≡ 1) × Walks m total s (s + 1) (begun + 1) rs). inr (refl, q.1, q.2))
+      w
   anew_on command.Commit s k begun rs more w = absurd (omega (arith, w.1))
   anew_on (command.Get table key) s k begun rs more w = absurd (omega (arith, w.0, w.1))
   anew_on (command.Put table key value) s k begun rs more w = absurd (omega (arith, w.0, w.1))
@@ -62,16 +64,16 @@ module _ (m total : ℕ) where
 
   -- ---- a batch
 
-  walks_begins : (lo a n begun : ℕ) (rest : List Request) → lo ≤ a → a + n ≤ m → Walks m total lo (a + n) (begun + n) rest
-      → Walks m total lo a begun (map (λ seat. (seat, command.Begin)) (range_with_len a n) ++ rest)
-  walks_begins lo a zero begun rest least most w = walks_as lo (a + 0) (begun + 0) lo a begun rest refl (omega arith) (omega arith) w
-  walks_begins lo a (suc n) begun rest least most w = (
+  walks_begins : (a n begun : ℕ) (rest : List Request) → a + n ≤ m → Walks m total 1 (a + n) (begun + n) rest
+      → Walks m total 1 a begun (map (λ seat. (seat, command.Begin)) (range_with_len a n) ++ rest)
+  walks_begins a zero begun rest most w = walks_as 1 (a + 0) (begun + 0) 1 a begun rest refl (omega arith) (omega arith) w
+  walks_begins a (suc n) begun rest most w = (
     omega (arith, most),
     inl (
       refl,
-      least,
-      walks_begins lo (a + 1) n (begun + 1) rest (omega (arith, least)) (omega (arith, most))
-          (walks_as lo (a + suc n) (begun + suc n) lo (a + 1 + n) (begun + 1 + n) rest refl (omega arith) (omega arith) w),
+      refl,
+      walks_begins (a + 1) n (begun + 1) rest (omega (arith, most))
+          (walks_as 1 (a + suc n) (begun + suc n) 1 (a + 1 + n) (begun + 1 + n) rest refl (omega arith) (omega arith) w),
     ),
   )
 
@@ -97,7 +99,7 @@ module _ (m total : ℕ) where
       let least : 1 ≤ p + 1 = omega arith in
       let below : p + 1 < hi = omega (arith, most) in
       let known : p + 1 < m = omega (arith, below, few) in
-      (known, (least, below, (known, (least, below, (known, (least, below, more))))))
+      (known, (least, below, (known, (least, below, (known, (least, below, refl, more))))))
 
   walks_batch : (first size begun : ℕ) (rest : List Request) → size + 1 ≤ m → Walks m total 1 1 (begun + size) rest
       → Walks m total 1 1 begun (batch first size ++ rest)
@@ -109,7 +111,7 @@ module _ (m total : ℕ) where
       let P : List Request → Type 0 = λ rs. Walks m total 1 1 begun rs in
       let grouped : begins ++ all ++ commits ++ rest ≡ begins ++ (all ++ (commits ++ rest)) = append_assoc (begins ++ all) commits rest ∙ append_assoc begins all (commits ++ rest) in
       subst P (sym grouped)
-      (walks_begins 1 1 size begun (all ++ (commits ++ rest)) (omega arith) (omega (arith, few))
+      (walks_begins 1 size begun (all ++ (commits ++ rest)) (omega (arith, few))
       (walks_accesses first 0 size (1 + size) (begun + size) (commits ++ rest) (omega arith) (omega (arith, few))
       (walks_commits 1 size (1 + size) (begun + size) rest (omega arith) (omega (arith, few)) (anew (1 + size) (begun + size) rest w))))
 
@@ -160,7 +162,7 @@ module _ (m total : ℕ) where
       let least : 1 ≤ 1 = omega arith in
       let below : 1 < 2 = omega arith in
       let last : Walks m total 1 2 (begun + 1) ((1, command.Commit) ∷ rest) = (known, (refl, below, anew 2 (begun + 1) rest w)) in
-      (known, inr (refl, (known, (least, below, (known, (least, below, (known, (least, below, (known, (least, below, last))))))))))
+      (known, inr (refl, refl, (known, (least, below, refl, (known, (least, below, refl, (known, (least, below, refl, (known, (least, below, refl, last))))))))))
 
   walks_loads : (i n begun : ℕ) (rest : List Request) → 2 ≤ m → Walks m total 1 1 (begun + n) rest → Walks m total 1 1 begun (flat_map load_transaction (range_with_len i n) ++ rest)
   walks_loads i zero begun rest some w = walks_as 1 1 (begun + 0) 1 1 begun rest refl refl (omega arith) w

@@ -1,5 +1,5 @@
--- The stamps that a line tells lie between the ends of the log before and after it.
-use Rattle.std.proofs.Common.{◌≡◌, ℕ, ◌<◌, ◌≤◌, Bool, true, false, cond, [], ◌∷◌, Option, Some, None, refl, sym, ap, ◌∙◌, subst, inl, inr, ⊎_elim, arith}
+-- The stamps that a line tells lie between the ends of the log before and after it, and a place that it tells to be flushed is not above the latter.
+use Rattle.std.proofs.Common.{◌≡◌, ℕ, ◌+◌, ◌<◌, ◌≤◌, List, Bool, true, false, cond, [], ◌∷◌, Option, Some, None, refl, sym, ap, ◌∙◌, subst, inl, inr, ⊎_elim, arith}
 use Rattle.erm_model.specs.declared.row_stop.RowStop.{RowStop}
 use Rattle.erm_model.specs.declared.row_stop.RowStop.TheVariants as stop
 use Rattle.erm_model.specs.Member.{◌∈◌}
@@ -15,18 +15,19 @@ use Rattle.erm_world.specs.Laws.{IsSerializable}
 use Rattle.erm_world.specs.World.{Fate, Finished, HasStamp, IsSession, Session, Stand, View, Work, phase_at, stamp_of, work_at}
 use Rattle.erm_world.specs.World as world
 use Rattle.erm_good_report.specs.Phases.{FitsRefusal, asks_commit, phase_asked, refusal_in, refusal_of}
-use Rattle.erm_good_report.specs.Stamps.{begin_told, stamp_drawn, stamp_told}
-use Rattle.erm_lines.specs.Answers.{DidAsked, DidCommand, DidCommit, DidDecide, DidLine, DidOperation, WasRefusedAs, stop_told}
-use Rattle.erm_lines.specs.Executions.{DidLog, DidLogLine, DidMove, move_of}
+use Rattle.erm_good_report.specs.Stamps.{begin_told, place_told, stamp_drawn, stamp_told}
+use Rattle.erm_lines.specs.Answers.{DidAskDurable, DidAsked, DidCommand, DidCommit, DidDecide, DidLine, DidOperation, WasRefusedAs, stop_told}
+use Rattle.erm_lines.specs.Executions.{DidLog, DidLogLine, DidMove, FlushesTo, move_of}
 use Rattle.erm_lines.proofs.Moved.{moved}
 use Rattle.erm_told.proofs.Executed.{still_session}
 use Rattle.erm_told.proofs.Lines.{phase_refuses}
 
--- the stamps that an answer tells, beside the ends of the log before and after it
+-- the stamps that an answer tells, and the place that it tells to be flushed, beside the ends of the log before and after it
 pub record Draws (m n : ℕ) (asked : Option Command) (a : Answer) : Type 0 where
   pub begin : (stamp : ℕ) → begin_told a ≡ Some stamp → (m ≤ stamp) × (stamp ≤ n)
   pub told : (stamp : ℕ) → stamp_told a ≡ Some stamp → stamp < n
   pub drawn : (stamp : ℕ) → stamp_drawn asked a ≡ Some stamp → (m ≤ stamp) × (stamp < n)
+  pub placed : (place : ℕ) → place_told a ≡ Some place → place ≤ n
 
 -- some number is one, and none is none
 pub the_number : (m n : ℕ) → Some m ≡ Some n → m ≡ n
@@ -45,43 +46,47 @@ drawn_none : (asked : Option Command) (a : Answer) → stamp_told a ≡ None →
 drawn_none asked (answer.Sealed stamp) is = absurd (cc)
 drawn_none asked a is = decided_none (asks_commit asked) (stamp_told a) is
 
-silent : (m n : ℕ) (asked : Option Command) (a : Answer) → begin_told a ≡ None → stamp_told a ≡ None → Draws m n asked a
-silent m n asked a no_begin no_stamp = record {
+stampless : (m n : ℕ) (asked : Option Command) (a : Answer) → begin_told a ≡ None → stamp_told a ≡ None → ((place : ℕ) → place_told a ≡ Some place → place ≤ n) → Draws m n asked a
+stampless m n asked a no_begin no_stamp placed = record {
   begin = λ stamp is. no_number (begin_told a) stamp ((m ≤ stamp) × (stamp ≤ n)) no_begin is;
   told = λ stamp is. no_number (stamp_told a) stamp (stamp < n) no_stamp is;
   drawn = λ stamp is. no_number (stamp_drawn asked a) stamp ((m ≤ stamp) × (stamp < n)) (drawn_none asked a no_stamp) is;
+  placed = placed;
 }
+
+silent : (m n : ℕ) (asked : Option Command) (a : Answer) → begin_told a ≡ None → stamp_told a ≡ None → place_told a ≡ None → Draws m n asked a
+silent m n asked a no_begin no_stamp no_place = stampless m n asked a no_begin no_stamp (λ place is. no_number (place_told a) place (place ≤ n) no_place is)
 
 -- REFUSALS tell no stamps.
 phase_silent : (m n : ℕ) (asked : Option Command) (a : Answer) → refusal_in a ≡ Some a → Draws m n asked a
-phase_silent m n asked answer.NotIdle is = silent m n asked answer.NotIdle refl refl
-phase_silent m n asked answer.NoTransaction is = silent m n asked answer.NoTransaction refl refl
-phase_silent m n asked answer.IsSealed is = silent m n asked answer.IsSealed refl refl
-phase_silent m n asked answer.NotSealed is = silent m n asked answer.NotSealed refl refl
+phase_silent m n asked answer.NotIdle is = silent m n asked answer.NotIdle refl refl refl
+phase_silent m n asked answer.NoTransaction is = silent m n asked answer.NoTransaction refl refl refl
+phase_silent m n asked answer.IsSealed is = silent m n asked answer.IsSealed refl refl refl
+phase_silent m n asked answer.NotSealed is = silent m n asked answer.NotSealed refl refl refl
 phase_silent m n asked a is = absurd (cc)
 
 abbrev IsSilent : Option Answer → Type 0
 IsSilent None = Unit {0}
-IsSilent (Some a) = (begin_told a ≡ None) × (stamp_told a ≡ None)
+IsSilent (Some a) = (begin_told a ≡ None) × (stamp_told a ≡ None) × (place_told a ≡ None)
 
 stop_silent : (why : RowStop) → IsSilent (stop_told why)
-stop_silent (stop.NotYet other seen) = (refl, refl)
-stop_silent stop.ReadsFull = (refl, refl)
-stop_silent (stop.Owned other number) = (refl, refl)
-stop_silent (stop.Newer stamp) = (refl, refl)
-stop_silent stop.WritesFull = (refl, refl)
-stop_silent (stop.CellsFull drawn) = (refl, refl)
-stop_silent (stop.OidsFull drawn) = (refl, refl)
-stop_silent (stop.Excluded succ pred) = (refl, refl)
+stop_silent (stop.NotYet other seen) = (refl, refl, refl)
+stop_silent stop.ReadsFull = (refl, refl, refl)
+stop_silent (stop.Owned other number) = (refl, refl, refl)
+stop_silent (stop.Newer stamp) = (refl, refl, refl)
+stop_silent stop.WritesFull = (refl, refl, refl)
+stop_silent (stop.CellsFull drawn) = (refl, refl, refl)
+stop_silent (stop.OidsFull drawn) = (refl, refl, refl)
+stop_silent (stop.Excluded succ pred) = (refl, refl, refl)
 stop_silent stop.Memory = tt
 
 cut_silent : (m n : ℕ) (v : View) (seat : ℕ) (c : Command) (a : Answer) (t : View) → WasRefusedAs v seat c a t → Draws m n (Some c) a
 cut_silent m n v seat c a t (why, told, cut) =
-    let none : IsSilent (Some a) = subst IsSilent told (stop_silent why) in silent m n (Some c) a none.0 none.1
+    let none : IsSilent (Some a) = subst IsSilent told (stop_silent why) in silent m n (Some c) a none.0 none.1 none.2
 
 operation_silent : (m n : ℕ) (v : View) (seat : ℕ) (c : Command) (a : Answer) (t : View) → DidOperation v seat c a t → Draws m n (Some c) a
-operation_silent m n v seat c (answer.Replied r) t did = silent m n (Some c) (answer.Replied r) refl refl
-operation_silent m n v seat c (answer.Cut cells) t did = silent m n (Some c) (answer.Cut cells) refl refl
+operation_silent m n v seat c (answer.Replied r) t did = silent m n (Some c) (answer.Replied r) refl refl refl
+operation_silent m n v seat c (answer.Cut cells) t did = silent m n (Some c) (answer.Cut cells) refl refl refl
 operation_silent m n v seat c a t did = cut_silent m n v seat c a t did
 
 -- A BEGIN draws the end of the log.
@@ -91,6 +96,7 @@ begin_draws v seat begin asked t (few, room, is, now) = record {
       let same = the_number begin stamp told in (omega (arith, is, same), omega (arith, is, same, now.tail));
   told = λ stamp told. no_number None stamp (stamp < t.tail) refl told;
   drawn = λ stamp told. no_number (stamp_drawn asked (answer.Began begin)) stamp ((v.tail ≤ stamp) × (stamp < t.tail)) (drawn_none asked (answer.Began begin) refl) told;
+  placed = λ place told. no_number None place (place ≤ t.tail) refl told;
 }
 
 -- A SEAL draws it too, and the block goes behind it.
@@ -105,6 +111,7 @@ seal_draws v seat stamp asked t session lawful did =
       begin = λ other told. no_number None other ((v.tail ≤ other) × (other ≤ t.tail)) refl told;
       told = λ other told. let same = the_number stamp other told in omega (arith, below, same);
       drawn = λ other told. let same = the_number stamp other told in (omega (arith, same, did.stamp_is), omega (arith, below, same));
+      placed = λ place told. no_number None place (place ≤ t.tail) refl told;
     }
 
 -- A DECISION tells the stamp of the transaction decided.
@@ -140,6 +147,13 @@ no_begin v seat (answer.WaitSeat other seen) t did = refl
 no_begin v seat (answer.WaitRing flushed) t did = refl
 no_begin v seat a t did = absurd did
 
+no_place : (v : View) (seat : ℕ) (a : Answer) (t : View) → DidDecide v seat a t → place_told a ≡ None
+no_place v seat (answer.Committed at succ pred) t did = refl
+no_place v seat (answer.Excluded at succ pred) t did = refl
+no_place v seat (answer.WaitSeat other seen) t did = refl
+no_place v seat (answer.WaitRing flushed) t did = refl
+no_place v seat a t did = absurd did
+
 settles_none : (v : View) (seat : ℕ) (a : Answer) (t : View) → DidDecide v seat a t → stamp_drawn (Some command.Settle) a ≡ None
 settles_none v seat (answer.Committed at succ pred) t did = refl
 settles_none v seat (answer.Excluded at succ pred) t did = refl
@@ -159,6 +173,7 @@ settle_draws v seat a t session lawful did = record {
   begin = λ stamp told. no_number (begin_told a) stamp ((v.tail ≤ stamp) × (stamp ≤ t.tail)) (no_begin v seat a t did) told;
   told = λ stamp told. decided_below v seat stamp t session lawful (decides v seat a t stamp did told);
   drawn = λ stamp told. no_number (stamp_drawn (Some command.Settle) a) stamp ((v.tail ≤ stamp) × (stamp < t.tail)) (settles_none v seat a t did) told;
+  placed = λ place told. no_number (place_told a) place (place ≤ t.tail) (no_place v seat a t did) told;
 }
 
 abbrev pub stamp_at : Stand → ℕ
@@ -173,6 +188,7 @@ commit_draws v seat a t session lawful did = record {
   drawn = λ stamp told.
       let tells : stamp_told a ≡ Some stamp = sym (commits_told did.between seat a t did.decided) ∙ told in
       (drawn_at stamp tells, below stamp tells);
+  placed = λ place told. no_number (place_told a) place (place ≤ t.tail) (no_place did.between seat a t did.decided) told;
 }
   where
     below : (stamp : ℕ) → stamp_told a ≡ Some stamp → stamp < t.tail
@@ -184,24 +200,36 @@ commit_draws v seat a t session lawful did = record {
         let same : did.stamp ≡ stamp = ap stamp_at (sym (ap (λ (s : Session). s.stand) did.sealed.own) ∙ decided.stand) in
         omega (arith, same, did.sealed.stamp_is)
 
+-- A DURABLE commit lies below the end of the log.
+durable_draws : (v : View) (seat stamp : ℕ) (asked : Option Command) (t : View) → IsSession t seat → IsSerializable sound_law t → DidAskDurable v seat (answer.Durable stamp) t
+    → Draws v.tail t.tail asked (answer.Durable stamp)
+durable_draws v seat stamp asked t session lawful (same, (end, last, flushed)) =
+    let f : Finished = last.last in
+    let before : f ∈ (v.session seat).over =
+    subst (λ (fs : List Finished). f ∈ fs) (sym last.split) (∈-second last.front (f ∷ last.rest) f (∈-head f last.rest)) in
+    let over : f ∈ (t.session seat).over = subst (λ (u : View). f ∈ (u.session seat).over) (sym same) before in
+    let below : stamp < t.tail = (lawful.stamps seat f.work stamp session (inl (f, over, refl, ap stamp_of last.commits.2))).1 in
+    stampless v.tail t.tail asked (answer.Durable stamp) refl refl (λ place told.
+    let is = the_number (stamp + 1) place told in omega (arith, below, is))
+
 -- THE LINES.
 command_draws : (v : View) (seat : ℕ) (c : Command) (a : Answer) (t : View) → IsSession t seat → IsSerializable sound_law t → DidCommand v seat c a t → Draws v.tail t.tail (Some c) a
 command_draws v seat command.Begin (answer.Began stamp) t session lawful did = begin_draws v seat stamp (Some command.Begin) t did
-command_draws v seat command.Begin (answer.LogEnd tail) t session lawful did = silent v.tail t.tail (Some command.Begin) (answer.LogEnd tail) refl refl
-command_draws v seat command.Begin answer.NumbersEnd t session lawful did = silent v.tail t.tail (Some command.Begin) answer.NumbersEnd refl refl
+command_draws v seat command.Begin (answer.LogEnd tail) t session lawful did = silent v.tail t.tail (Some command.Begin) (answer.LogEnd tail) refl refl refl
+command_draws v seat command.Begin answer.NumbersEnd t session lawful did = silent v.tail t.tail (Some command.Begin) answer.NumbersEnd refl refl refl
 command_draws v seat command.Seal (answer.Sealed stamp) t session lawful did = seal_draws v seat stamp (Some command.Seal) t session lawful did
 command_draws v seat command.Settle a t session lawful did = settle_draws v seat a t session lawful did
 command_draws v seat command.Commit a t session lawful did = commit_draws v seat a t session lawful did
-command_draws v seat command.Abort answer.Aborted t session lawful did = silent v.tail t.tail (Some command.Abort) answer.Aborted refl refl
+command_draws v seat command.Abort answer.Aborted t session lawful did = silent v.tail t.tail (Some command.Abort) answer.Aborted refl refl refl
 command_draws v seat (command.Get table key) a t session lawful did = operation_silent v.tail t.tail v seat (command.Get table key) a t did
 command_draws v seat (command.Put table key value) a t session lawful did = operation_silent v.tail t.tail v seat (command.Put table key value) a t did
 command_draws v seat (command.Del table key) a t session lawful did = operation_silent v.tail t.tail v seat (command.Del table key) a t did
 command_draws v seat (command.Next table from) a t session lawful did = operation_silent v.tail t.tail v seat (command.Next table from) a t did
 command_draws v seat (command.Scan table low high) a t session lawful did = operation_silent v.tail t.tail v seat (command.Scan table low high) a t did
 command_draws v seat (command.Tidy table key) a t session lawful did = operation_silent v.tail t.tail v seat (command.Tidy table key) a t did
-command_draws v seat command.Durable (answer.Durable stamp) t session lawful did = silent v.tail t.tail (Some command.Durable) (answer.Durable stamp) refl refl
-command_draws v seat command.Durable (answer.NotFlushed flushed) t session lawful did = silent v.tail t.tail (Some command.Durable) (answer.NotFlushed flushed) refl refl
-command_draws v seat command.Durable answer.NoReceipt t session lawful did = silent v.tail t.tail (Some command.Durable) answer.NoReceipt refl refl
+command_draws v seat command.Durable (answer.Durable stamp) t session lawful did = durable_draws v seat stamp (Some command.Durable) t session lawful did
+command_draws v seat command.Durable (answer.NotFlushed flushed) t session lawful did = silent v.tail t.tail (Some command.Durable) (answer.NotFlushed flushed) refl refl refl
+command_draws v seat command.Durable answer.NoReceipt t session lawful did = silent v.tail t.tail (Some command.Durable) answer.NoReceipt refl refl refl
 command_draws v seat c a t session lawful did = absurd did
 
 asked_draws : (v : View) (seat : ℕ) (c : Command) (a : Answer) (t : View) (refusal : Option Answer) → refusal_of (phase_at v seat) c ≡ refusal → FitsRefusal refusal c a
@@ -214,17 +242,23 @@ line_draws : (v : View) (l : ScriptLine) (a : Answer) (t : View) → IsSession t
 line_draws v l a t session lawful did =
     asked_draws v l.session l.command a t (refusal_of (phase_at v l.session) l.command) refl did.fits session lawful did.did
 
--- A line of the log tells none.
-log_silent : (m n : ℕ) (v t : View) (c : Command) (a : Answer) → DidLog v c a t → Draws m n (Some c) a
-log_silent m n v t command.Flush (answer.Flushed place) did = silent m n (Some command.Flush) (answer.Flushed place) refl refl
-log_silent m n v t command.Flush (answer.Empty place) did = silent m n (Some command.Flush) (answer.Empty place) refl refl
-log_silent m n v t command.Flush (answer.Unfilled place) did = silent m n (Some command.Flush) (answer.Unfilled place) refl refl
-log_silent m n v t command.Checkpoint (answer.Checkpointed place) did = silent m n (Some command.Checkpoint) (answer.Checkpointed place) refl refl
-log_silent m n v t command.Checkpoint (answer.Unfilled place) did = silent m n (Some command.Checkpoint) (answer.Unfilled place) refl refl
-log_silent m n v t c a did = absurd did
+-- A line of the log tells a place within it, up to which it is synced then.
+log_placed : (m : ℕ) (v t : View) (asked : Option Command) (a : Answer) (place : ℕ) → IsSerializable sound_law t → FlushesTo v place t
+    → begin_told a ≡ None → stamp_told a ≡ None → place_told a ≡ Some place → Draws m t.tail asked a
+log_placed m v t asked a place lawful did no_begin no_stamp is =
+    stampless m t.tail asked a no_begin no_stamp (λ other told.
+    let same = the_number place other (sym is ∙ told) in omega (arith, did.up, same, lawful.flushed.1))
+
+log_draws : (m : ℕ) (v t : View) (c : Command) (a : Answer) → IsSerializable sound_law t → DidLog v c a t → Draws m t.tail (Some c) a
+log_draws m v t command.Flush (answer.Flushed place) lawful did = log_placed m v t (Some command.Flush) (answer.Flushed place) place lawful did.0 refl refl refl
+log_draws m v t command.Flush (answer.Empty place) lawful did = log_placed m v t (Some command.Flush) (answer.Empty place) place lawful did.0 refl refl refl
+log_draws m v t command.Flush (answer.Unfilled place) lawful did = log_placed m v t (Some command.Flush) (answer.Unfilled place) place lawful did.0 refl refl refl
+log_draws m v t command.Checkpoint (answer.Checkpointed place) lawful did = log_placed m v t (Some command.Checkpoint) (answer.Checkpointed place) place lawful did.0 refl refl refl
+log_draws m v t command.Checkpoint (answer.Unfilled place) lawful did = log_placed m v t (Some command.Checkpoint) (answer.Unfilled place) place lawful did.0 refl refl refl
+log_draws m v t c a lawful did = absurd did
 
 pub move_draws : (v : View) (l : ScriptLine) (a : Answer) (t : View) → t.opening ≡ v.opening → IsSerializable sound_law t → DidMove v (move_of l a) t → Draws v.tail t.tail (Some l.command) a
 move_draws v l a t opening lawful did =
     ⊎_elim (λ (of_session : DidLine v l a t). line_draws v l a t (still_session v t l.session opening of_session.session) lawful of_session)
-    (λ (of_log : DidLogLine v l a t). log_silent v.tail t.tail v t l.command a of_log.did)
+    (λ (of_log : DidLogLine v l a t). log_draws v.tail v t l.command a lawful of_log.did)
     (moved v l a t did)

@@ -12,7 +12,7 @@ use Rattle.erm_world.specs.World as world
 use Rattle.erm_good_report.specs.GoodReport.{places_of}
 use Rattle.erm_good_report.specs.Opening.{InTurn, Opening}
 use Rattle.erm_good_report.specs.Phases.{Closed}
-use Rattle.erm_good_report.specs.Stamps.{AllInTime, StampsAgree, Told, begin_told, stamp_drawn, stamp_told}
+use Rattle.erm_good_report.specs.Stamps.{AllInTime, StampsAgree, Told, begin_told, place_told, stamp_drawn, stamp_told}
 use Rattle.erm_good_report.specs.Transactions.{Said, Transaction, said_of, stamp_of, transactions_of}
 use Rattle.erm_lines.specs.Executions.{AreClosed, DidMove, IsCourse, IsExecution, IsOpeningOf, line_moves, move_of}
 use Rattle.erm_lines.specs.Laws.{ExecutionsGoOn, ExecutionsTell, OfCourses}
@@ -32,12 +32,16 @@ record Before (a b : Said) : Type 0 where
   begins : (stamp begin : ℕ) → stamp_told a.answer ≡ Some stamp → begin_told b.answer ≡ Some begin → stamp < begin
   draws : (begin stamp : ℕ) → begin_told a.answer ≡ Some begin → stamp_drawn b.asked b.answer ≡ Some stamp → begin ≤ stamp
   ascends : (first later : ℕ) → stamp_drawn a.asked a.answer ≡ Some first → stamp_drawn b.asked b.answer ≡ Some later → first < later
+  flushes : (place begin : ℕ) → place_told a.answer ≡ Some place → begin_told b.answer ≡ Some begin → place ≤ begin
+  flushes_first : (place stamp : ℕ) → place_told a.answer ≡ Some place → stamp_drawn b.asked b.answer ≡ Some stamp → place ≤ stamp
 
 before_of : (m n : ℕ) (a b : Said) → Draws m n a.asked a.answer → Later n b → Before a b
 before_of m n a b draws later = record {
   begins = λ stamp begin told then_told. omega (arith, draws.told stamp told, later.begin begin then_told);
   draws = λ begin stamp told then_told. omega (arith, (draws.begin begin told).1, later.drawn stamp then_told);
   ascends = λ first last told then_told. omega (arith, (draws.drawn first told).1, later.drawn last then_told);
+  flushes = λ place begin told then_told. le_trans (draws.placed place told) (later.begin begin then_told);
+  flushes_first = λ place stamp told then_told. le_trans (draws.placed place told) (later.drawn stamp then_told);
 }
 
 later_still : (m n : ℕ) (s : Said) → m ≤ n → Later n s → Later m s
@@ -126,6 +130,10 @@ module _ (tell : ExecutionsTell) (go : ExecutionsGoOn) where
               (λ a b is. told_from (begin_told a.answer) (stamp_drawn b.asked b.answer) (λ begin stamp. begin ≤ stamp) is.draws);
           ascends = in_time (λ a b. Told (λ first later. first < later) (stamp_drawn a.asked a.answer) (stamp_drawn b.asked b.answer)) (said_of script answers) before
               (λ a b is. told_from (stamp_drawn a.asked a.answer) (stamp_drawn b.asked b.answer) (λ first later. first < later) is.ascends);
+          flushes = in_time (λ a b. Told (λ place begin. place ≤ begin) (place_told a.answer) (begin_told b.answer)) (said_of script answers) before
+              (λ a b is. told_from (place_told a.answer) (begin_told b.answer) (λ place begin. place ≤ begin) is.flushes);
+          flushes_first = in_time (λ a b. Told (λ place stamp. place ≤ stamp) (place_told a.answer) (stamp_drawn b.asked b.answer)) (said_of script answers) before
+              (λ a b is. told_from (place_told a.answer) (stamp_drawn b.asked b.answer) (λ place stamp. place ≤ stamp) is.flushes_first);
         }
 
   pub stamps : OfCourses (λ opening script answers closed told. StampsAgree InTurn opening told (said_of script answers))

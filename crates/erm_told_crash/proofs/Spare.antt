@@ -130,6 +130,7 @@ cut mode opening name script lines none told = (
     fault = told.fault;
     lines_ok = told.lines_ok;
     at = told.at;
+    of_log = told.of_log;
     fits = told.fits;
     closed = told.closed;
     once = told.once;

@@ -1,8 +1,11 @@
-use Rattle.erm_bad_reports.proofs.OfCutReports.{fault_breaks, fitting_breaks, once_breaks, owing_breaks, unseen_breaks}
+use Rattle.erm_bad_reports.proofs.OfCutReports.{fault_breaks, fitting_breaks, log_breaks, once_breaks, owing_breaks, unseen_breaks}
 use Rattle.erm_bad_reports.proofs.laws.clauses_of_cut_reports_are_needed.Goals as goal
 
 pub returns-clause-fault : goal.returns-clause-fault
 returns-clause-fault c = fault_breaks
+
+pub returns-clause-log : goal.returns-clause-log
+returns-clause-log c = log_breaks
 
 pub returns-clause-fit : goal.returns-clause-fit
 returns-clause-fit c = fitting_breaks

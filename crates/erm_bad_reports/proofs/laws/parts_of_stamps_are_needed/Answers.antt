@@ -1,3 +1,4 @@
+use Rattle.erm_bad_reports.proofs.OfFlushed.{flushes_alone, flushes_first_alone}
 use Rattle.erm_bad_reports.proofs.OfStampParts.{ascends_alone, begins_alone, begun_alone, draws_alone, least_alone, sealed_alone}
 use Rattle.erm_bad_reports.proofs.OfStampsOfTwo.{differ_alone}
 use Rattle.erm_bad_reports.proofs.laws.parts_of_stamps_are_needed.Goals as goal
@@ -19,6 +20,12 @@ returns-clause-draws c = draws_alone
 
 pub returns-clause-ascends : goal.returns-clause-ascends
 returns-clause-ascends c = ascends_alone
+
+pub returns-clause-flushes : goal.returns-clause-flushes
+returns-clause-flushes c = flushes_alone
+
+pub returns-clause-flushes_first : goal.returns-clause-flushes_first
+returns-clause-flushes_first c = flushes_first_alone
 
 pub returns-clause-differ : goal.returns-clause-differ
 returns-clause-differ c = differ_alone
