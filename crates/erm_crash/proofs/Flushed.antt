@@ -9,13 +9,13 @@ use Rattle.erm_flush.specs.Turns.{WritesFrom, start_of}
 use Rattle.erm_flush.proofs.Flushes.{other_words}
 use Rattle.erm_log_disk.specs.Chains.{MayStand}
 use Rattle.erm_log_disk.specs.Writes.{AllWriteWords}
-use Rattle.erm_log_disk.proofs.Chains.{may_stand-behind}
-use Rattle.erm_log_words.specs.Tears.{ShowsBlocks}
+use Rattle.erm_log_disk.proofs.Chains.{may_stand-behind, may_stand-front, run_low, runs_grow}
+use Rattle.erm_log_words.specs.Tears.{IsFresh, ShowsBlocks}
 use Rattle.erm_log_words.specs.Words.{log_words}
-use Rattle.erm_outside.specs.Disk.{contents, Image, IsImage, Step}
+use Rattle.erm_outside.specs.Disk.{contents, Image, IsImage, IsSettled, Step}
 use Rattle.erm_ckpt.specs.declared.slot.Slots.{Slots}
 use Rattle.erm_ckpt.specs.declared.slot.TheConstants.{LOG_START}
-use Rattle.erm_ckpt.specs.Recovered.{State, end_at, state_behind}
+use Rattle.erm_ckpt.specs.Recovered.{Pair, State, end_at, state_behind}
 use Rattle.erm_ckpt.specs.States.{RecoversPast, RecoversTo}
 use Rattle.erm_checkpoint.specs.Taken.{HoldsLog, RecoversFlushing, state_at}
 use Rattle.erm_checkpoint.proofs.Flushed.{flush_moments}
@@ -36,6 +36,16 @@ module _
       let states : state_at m h.front ≡ state_at l h.front = ap (λ (s : Start). state_behind (record { at = s.at; run = s.run; rows = s.rows }) h.front) opened in
       let fronts : h.front ≡ front = same_front short sound respects m h.front (h.rest ++ more.0) front blocks is long split (ap (λ (s : State). s.at) states ∙ h.to ∙ sym place) in
       subst (λ (s : State). RecoversTo sound s h.pair (contents old)) (sym states ∙ ap (state_at m) fronts) h.there
+
+  -- an image shows each of the blocks that were written behind a state of this run or a later one, where no block of it or a later one read
+  shows_written : (now : List Step) (image : Image) → TearsApart sound now image → (old more : List Step) (state : State) (pair : Pair) (blocks : List Block) (run : ℕ)
+      → now ≡ more ++ old → more ≢ [] → IsSettled old → RecoversTo sound state pair (contents old) → run ≤ state.run → IsFresh run (contents old) state.at
+      → MayStand sound (end_at (contents old) state) blocks → AllWriteWords state.at (words_of blocks) more → ShowsBlocks image state.at state.run blocks
+  shows_written now image tears old more state pair [] run since done settled there low fresh stand writes = tt
+  shows_written now image tears old more state pair (b ∷ bs) run since done settled there low fresh stand writes =
+      let grows = run_low b state.at state.run stand.0 in
+      let before : IsFresh b.run (contents old) state.at = λ p le block run_before high stands. fresh p le block run_before (omega (arith, low, grows, high)) stands in
+      tears.blocks old more state pair b bs since done settled there before stand writes
 
   at_flush : (l m : Log) (slots : Slots) (old new now : List Step) → HoldsLog sound l slots old → m.opened ≡ l.opened → (more : (rest : List Block) × (m.gathered ≡ l.gathered ++ rest))
       → IsLog sound m → LOG_START < m.opened.at → (w : WritesFrom sound l.flushed m old new) (moment : IsMoment old new now) (before : List Step) → moment.before ≡ before
@@ -65,8 +75,13 @@ module _
       last_write end.at (words_of w.blocks) moment.after moment.before (subst (AllWriteWords end.at (words_of w.blocks)) parts w.writes.writes) in
       let writes : AllWriteWords here.at (words_of w.blocks) moment.before = subst (λ (t : State). AllWriteWords t.at (words_of w.blocks) moment.before) is_end wrote in
       let done : moment.before ≢ [] = λ none. let e : s ∷ before ≡ [] = sym some ∙ none in absurd (cc) in
+      let there = front_there l m slots old w.front w.blocks h opened more is w.split w.place_is in
+      let place : here.at ≡ l.flushed = ap (λ (t : State). t.at) (sym is_end) ∙ w.place_is in
+      let fresh : IsFresh l.opened.run (contents old) here.at = subst (IsFresh l.opened.run (contents old)) (sym place) h.ready.fresh in
+      let first : (start_of m).run ≤ end.run = runs_grow sound (start_of m) w.front (may_stand-front sound (start_of m) w.front w.blocks all) in
+      let low : l.opened.run ≤ here.run = omega (arith, first, ap (λ (s : Start). s.run) opened, ap (λ (t : State). t.run) is_end) in
       let shown : ShowsBlocks image here.at here.run w.blocks =
-      tears.blocks old moment.before here h.pair w.blocks moment.since done h.ready.settled (front_there l m slots old w.front w.blocks h opened more is w.split w.place_is) stand writes in
+      shows_written now image tears old moment.before here h.pair w.blocks l.opened.run moment.since done h.ready.settled there low fresh stand writes in
       let shows : ShowsBlocks image end.at end.run w.blocks = subst (λ (t : State). ShowsBlocks image t.at t.run w.blocks) (sym is_end) shown in
       from_each (RecoversFlushing sound l.flushed m w.front w.blocks) old new now (flush_moments short sound respects l m slots old new h opened more is begin w) moment image is_image shows
 

@@ -44,7 +44,7 @@ module _ (sound : Rows → Type 0) where
       let writes : AllWriteWords state.at (words_of (block ∷ [])) m.before = subst (λ (ws : List ℕ). AllWriteWords state.at ws m.before) (sym (append-nil (spelling block))) wrote in
       let done : m.before ≢ [] = λ none. let e : s ∷ before ≡ [] = sym some ∙ none in absurd (cc) in
       from_each (RecoversEither sound state pair) old new now (opens.more, opens.steps, opens.images) m image is
-      (tears.blocks old m.before state pair (block ∷ []) m.since done settled there stand writes).0
+      (tears.blocks old m.before state pair block [] m.since done settled there there.opens stand writes).0
 
   pub opening_keeps : (state : State) (pair : Pair) (old new : List Step) → IsSettled old → RecoversTo sound state pair (contents old) → sound state.rows → state.at < STOP → state.run < LAST_RUN
       → Opens sound state pair old new → KeepsOpening sound state pair old new
