@@ -95,6 +95,7 @@ module _ (laws : CourseLaws) (may : MayOpenAll) (state : State) (sessions : ℕ)
         record {
           mid = since.mid;
           moment = since_before old mid new since.mid opening.0.0 opening.0.1 since.moment;
+          holds = since.holds;
           keeps = weaker _ _ since.mid new (λ now image is tears. below_past known image (is tears)) since.keeps;
         };
   }

@@ -1,5 +1,5 @@
 -- A script that names no session is run with a spare name, which tells nothing.
-use Rattle.std.proofs.Common.{◌≡◌, ◌≢◌, ℕ, List, [], ◌∷◌, Option, IfSome, Result, Ok, Err, Vec, sym, ap, subst, arith}
+use Rattle.std.proofs.Common.{◌≡◌, ◌≢◌, ℕ, List, [], ◌∷◌, Option, Result, Ok, Err, Vec, sym, ap, subst, arith}
 use Rattle.std.specs.FinMap.{from_entries}
 use Rattle.std.specs.declared.alloc.Global.{Global}
 use Rattle.erm_model.specs.Committed.{Committed}
@@ -21,9 +21,9 @@ use Rattle.erm_good_report.specs.Phases.{Closed, Closes, phase_of}
 use Rattle.erm_good_report.specs.Transactions.{Transaction, history_of, said_of, transactions_of}
 use Rattle.erm_told_crash.specs.Spare.{NamesNoSession, SpareNamesTellNothing}
 use Rattle.erm_told_crash.proofs.Spare.{idle, no_transactions}
-use Rattle.erm_log_run.specs.Lines.{AreLinesOf, IsLineOfLog, Names}
-use Rattle.erm_disk_run.specs.Crashes.{Leaves, Outlives}
-use Rattle.erm_disk_run.specs.Runs.{AreUncut, AreUnseen, EndsRun, IsScriptFor, MayBeRun, NamesOneOf, WasCutOn, WasRunOn, commits_told}
+use Rattle.erm_log_run.specs.Lines.{AreLinesOf, Names}
+use Rattle.erm_disk_run.specs.Crashes.{KeepsCommits, Leaves, Outlives}
+use Rattle.erm_disk_run.specs.Runs.{AreUncut, AreUnseen, EndsRun, IsScriptFor, LeavesUntold, MayBeRun, NamesOneOf, WasCutOn, WasRunOn, WasStarvedOn, commits_told}
 use Rattle.erm_disk_run.specs.declared.stops.RunStop.{RunStop}
 use Rattle.erm_disk_run.specs.declared.stops.RunStop.TheVariants as run
 
@@ -98,7 +98,6 @@ module _ (spare : SpareNamesTellNothing) (before after : Option (List Step)) (st
         opening = was.opening;
         starts = was.starts;
         cut = without.0;
-        of_log = subst (λ (o : Option ScriptLine). IfSome o IsLineOfLog) (sym without.2) was.of_log;
         uncut = subst AreUncut same was.uncut;
         closed = was.closed;
         unseen = subst (λ (given : List Answer). AreUnseen [] script given was.closed) same (record { once = was.unseen.once; fits = was.unseen.fits; late = was.unseen.late });
@@ -107,10 +106,38 @@ module _ (spare : SpareNamesTellNothing) (before after : Option (List Step)) (st
         outlives = subst (λ (cs : List Committed). Tells (Outlives cs state lines) before after) empty was.outlives;
       }
 
+  spared_starved : WasStarvedOn before after state (name ∷ []) script → WasStarvedOn before after state [] script
+  spared_starved was =
+      let untold : transactions_of 1 (places_of script was.answers was.closed) ≡ [] =
+      no_transactions script was.answers none was.closed (not_closed was.answers was.closed was.unseen.fits)
+      in
+      let empty : commits_told (name ∷ []) script was.answers was.closed ≡ [] = ap history_of untold in
+      record {
+        low = was.low;
+        run_low = was.run_low;
+        opening = was.opening;
+        starts = was.starts;
+        answers = was.answers;
+        most = was.most;
+        uncut = was.uncut;
+        closed = was.closed;
+        unseen = record { once = was.unseen.once; fits = was.unseen.fits; late = was.unseen.late };
+        owes = subst (λ (ts : List Transaction). OwesToAnswers InTurn was.opening script was.answers ts) untold was.owes;
+        moments = subst (λ (cs : List Committed). Tells (KeepsCommits cs state state.at) before after) empty was.moments;
+      }
+
 -- how a run ends that had a spare name
 pub spared : SpareNamesTellNothing → (before after : Option (List Step)) (name : List ℕ) (script : List ScriptLine) → NamesNoSession script
     → (ended : Result (Vec Line Global) RunStop) → EndsRun ended before after (name ∷ []) script → EndsRun ended before after [] script
 spared spare before after name script none (Ok lines) ends = λ fits. let was = ends fits in (was.0, was.1, spared_run spare before after was.0 name script lines.items none was.2)
 spared spare before after name script none (Err (run.DiskFault lines)) ends = λ fits. let was = ends fits in (was.0, was.1, spared_cut spare before after was.0 name script lines.items none was.2)
 spared spare before after name script none (Err (run.Unopened stop)) ends = ends
-spared spare before after name script none (Err run.Memory) ends = ends
+spared spare before after name script none (Err run.Memory) ends = (ends.0, ends.1, spared_starved spare before after ends.0 name script [] none ends.2)
+
+-- and what it leaves untold
+pub spared_untold : SpareNamesTellNothing → (before after : Option (List Step)) (name : List ℕ) (script : List ScriptLine) → NamesNoSession script
+    → (ended : Result (Vec Line Global) RunStop) → LeavesUntold ended before after (name ∷ []) script → LeavesUntold ended before after [] script
+spared_untold spare before after name script none (Ok lines) was = (was.0, was.1, spared_starved spare before after was.0 name script [] none was.2)
+spared_untold spare before after name script none (Err (run.DiskFault lines)) was = (was.0, was.1, spared_starved spare before after was.0 name script [] none was.2)
+spared_untold spare before after name script none (Err (run.Unopened stop)) was = tt
+spared_untold spare before after name script none (Err run.Memory) was = (was.0, was.1, spared_starved spare before after was.0 name script [] none was.2)

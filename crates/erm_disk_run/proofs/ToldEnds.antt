@@ -4,6 +4,7 @@ use Rattle.std.specs.List.{All}
 use Rattle.std.specs.declared.alloc.Global.{Global}
 use Rattle.std.proofs.lemmas.List.Elements.{All-cons}
 use Rattle.erm_model.specs.Member.{◌∈◌}
+use Rattle.erm_model.proofs.Members.{none_in_nil}
 use Rattle.erm_model.specs.declared.limits.TheConstants.{LAST_RUN, LEAST_BLOCK, STOP}
 use Rattle.erm_block.specs.declared.block.Block.{Block}
 use Rattle.erm_outside.specs.Disk.{Step, Tells}
@@ -34,17 +35,19 @@ use Rattle.erm_log_run.proofs.Held.{tells_weaker}
 use Rattle.erm_log_run.specs.Acknowledged.{AllLast}
 use Rattle.erm_log_run.specs.Runs.{IsCutReportOf, IsReportOf, OnFault, UnlessFault, UnlessMemory, WasCut, WasRun, lines_in}
 use Rattle.erm_log_run.specs.Saving.{AreSaved, saved_at}
+use Rattle.erm_log_run.specs.Starving.{OnMemory, WasStarved}
 use Rattle.erm_log_run.specs.declared.stops.RunStop.{RunStop as LogRunStop}
 use Rattle.erm_log_run.specs.declared.stops.RunStop.TheVariants as log_stop
 use Rattle.erm_disk_run.specs.Found.{IsFound, StartsFrom}
 use Rattle.erm_disk_run.specs.Opened.{NamesFound, OpensLog, WasOpened}
 use Rattle.erm_disk_run.specs.declared.opening.Opened.{Opened}
-use Rattle.erm_disk_run.specs.Runs.{AreInTables, CountsRun, EndsRun}
+use Rattle.erm_disk_run.specs.Runs.{AreInTables, CountsRun, EndsRun, LeavesUntold, WasStarvedOn}
 use Rattle.erm_disk_run.specs.declared.stops.RunStop.{RunStop}
 use Rattle.erm_disk_run.specs.declared.stops.RunStop.TheVariants as run
+use Rattle.erm_disk_run.proofs.Cut.{whole_course}
 use Rattle.erm_disk_run.proofs.Outlived.{OpensAt}
 use Rattle.erm_disk_run.proofs.Told.{MapsAreTold, OpensOn, same_map, starts_from}
-use Rattle.erm_disk_run.proofs.ToldRun.{DiskLaws, MeetsLog, RunsOn, meets_still, was_cut_on, was_run_on}
+use Rattle.erm_disk_run.proofs.ToldRun.{DiskLaws, MeetsLog, RunsOn, meets_still, was_cut_on, was_run_on, was_starved_on}
 
 -- the answer is told as it is
 abbrev pub ended_as : Result (Vec Line Global) LogRunStop → Result (Vec Line Global) RunStop
@@ -119,21 +122,58 @@ module _ (laws : DiskLaws) (state : State) (names : List (List ℕ)) (v t : View
     acknowledged = acknowledged;
   }
 
+  -- where memory ran out the run so far was of another view, and another log
+  starved_on : WasStarved IsSound v script begun mid after → WasStarvedOn before after state names script
+  starved_on was = was_starved_on laws state names v was.view begun was.log script [] before mid after
+      (record {
+        opened = on.opened;
+        low = on.low;
+        run_low = on.run_low;
+        first = on.first;
+        flushed = on.first.flushed;
+        log_of = was.log_of;
+        is = was.is;
+        opens = on.opens;
+        moments = was.moments;
+        acknowledged = tells_weaker (KeepsBlocks IsSound (state_at begun []) was.log.gathered begun.flushed) (AllLast IsSound (state_at begun []) was.log.gathered []) mid after
+            (λ old new keeps place is. absurd (none_in_nil (line.Answer is.number is.answer) is.told)) was.moments;
+      }) opening on.starts on.of was.answers was.course was.late
+
   pub ends : (r : Result (Vec Line Global) LogRunStop) (S : Type 0) → (S → IsLogOf t log × IsLog IsSound log) → UnlessMemory r S → UnlessMemory r Moments → UnlessMemory r (Acknowledged (lines_in r))
       → OnOk r (t.flushed ≡ t.tail) → IfSome mid (MeetsLog begun first)
-      → OnOk r ((earlier : List Block) → IfSome mid (MeetsTail IsSound earlier begun first) → IfSome after (MeetsTail IsSound earlier log slots)) → IfOk r (λ lines. IsWhole lines.items) → OnFault r IsCut → EndsRun (ended_as r) before after names script
-  ends (Ok lines) S of stands moments acknowledged flushed meets still ran cut = λ fits. (
+      → OnOk r ((earlier : List Block) → IfSome mid (MeetsTail IsSound earlier begun first) → IfSome after (MeetsTail IsSound earlier log slots)) → IfOk r (λ lines. IsWhole lines.items) → OnFault r IsCut
+      → OnMemory r (WasStarved IsSound v script begun mid after) → EndsRun (ended_as r) before after names script
+  ends (Ok lines) S of stands moments acknowledged flushed meets still ran cut starved = λ fits. (
     state,
     on.found,
     was_run_on laws state names v t begun log script lines.items before mid after (runs_on (of stands) lines.items moments acknowledged) slots flushed
         (meets_still begun log first slots (KeepsBlocks IsSound (state_at begun []) log.gathered begun.flushed) mid after moments meets still) opening on.starts ran.0 (ran.1 fits) first on.named ran.2,
   )
-  ends (Err (log_stop.DiskFault lines)) S of stands moments acknowledged flushed meets still ran cut = λ fits. (
+  ends (Err (log_stop.DiskFault lines)) S of stands moments acknowledged flushed meets still ran cut starved = λ fits. (
     state,
     on.found,
     was_cut_on laws state names v t begun log script lines.items before mid after (runs_on (of stands) lines.items moments acknowledged) opening on.starts on.of cut.0 (cut.1 fits),
   )
-  ends (Err log_stop.Memory) S of stands moments acknowledged flushed meets still ran cut = tt
+  ends (Err log_stop.Memory) S of stands moments acknowledged flushed meets still ran cut starved = (state, on.found, starved_on starved)
+
+  -- of a run of which nothing is told the lines that were run are known, as of one that starved
+  pub untold : (r : Result (Vec Line Global) LogRunStop) (S : Type 0) → (S → IsLogOf t log × IsLog IsSound log) → UnlessMemory r S → UnlessMemory r Moments → UnlessMemory r (Acknowledged (lines_in r))
+      → IfOk r (λ lines. IsWhole lines.items) → OnFault r IsCut → OnMemory r (WasStarved IsSound v script begun mid after) → LeavesUntold (ended_as r) before after names script
+  untold (Ok lines) S of stands moments acknowledged ran cut starved =
+      let was = ran.0 in
+      let each = was.run.each in (
+        state,
+        on.found,
+        was_starved_on laws state names v t begun log script lines.items before mid after (runs_on (of stands) lines.items moments acknowledged) opening on.starts on.of was.answers
+            (whole_course v t script was.answers was.run) (λ fewer. absurd (omega (arith, each, fewer))),
+      )
+  untold (Err (log_stop.DiskFault lines)) S of stands moments acknowledged ran cut starved =
+      let was = cut.0 in (
+        state,
+        on.found,
+        was_starved_on laws state names v t begun log script lines.items before mid after (runs_on (of stands) lines.items moments acknowledged) opening on.starts on.of was.answers was.course was.late,
+      )
+  untold (Err log_stop.Memory) S of stands moments acknowledged ran cut starved = (state, on.found, starved_on starved)
 
   -- a cut report has no line of the map
   no_line : All IsInTables []

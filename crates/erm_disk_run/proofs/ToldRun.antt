@@ -1,7 +1,6 @@
 -- A script that was run on a disk, wholly or up to a fault.
 use Rattle.std.proofs.Common.{◌≡◌, ℕ, ◌<◌, ◌≤◌, List, [], length, Option, Some, None, IfSome, sym, ap, ◌∙◌, subst, arith}
 use Rattle.std.specs.FinMap.{from_entries}
-use Rattle.std.specs.List.{slice_get}
 use Rattle.erm_model.specs.Database.{Database, entries_of}
 use Rattle.erm_model.specs.declared.limits.TheConstants.{LAST_RUN, STOP}
 use Rattle.erm_block.specs.declared.block.Block.{Block}
@@ -22,20 +21,19 @@ use Rattle.erm_good_report.specs.GoodReport.{IsGoodReport, OwesToAnswers, places
 use Rattle.erm_good_report.specs.Opening.{InTurn, Opening}
 use Rattle.erm_good_report.specs.Phases.{Closed}
 use Rattle.erm_good_report.specs.Transactions.{transactions_of}
-use Rattle.erm_lines.specs.Executions.{AreClosed, IsCourse, IsOpeningOf}
+use Rattle.erm_lines.specs.Executions.{AreClosed, IsCourse, IsOpeningOf, closed_in}
 use Rattle.erm_lines.specs.Laws.{PartsCutFew, RunsCutFew}
 use Rattle.erm_told_crash.specs.Laws.{CoursesClose}
 use Rattle.erm_told_log.specs.Tail.{MeetsTail}
 use Rattle.erm_log_run.specs.Acknowledged.{AllLast}
-use Rattle.erm_log_run.specs.Lines.{IsLineOfLog}
 use Rattle.erm_log_run.specs.Runs.{IsCutReportOf, IsReportOf, WasCut, WasRun}
 use Rattle.erm_log_run.specs.Saving.{AreSaved, saved_at}
 use Rattle.erm_log_run.proofs.Held.{tells_and, tells_join, tells_weaker}
-use Rattle.erm_disk_run.specs.Crashes.{Leaves, Outlives}
+use Rattle.erm_disk_run.specs.Crashes.{KeepsCommits, Leaves, Outlives}
 use Rattle.erm_disk_run.specs.Found.{StartsFrom}
 use Rattle.erm_disk_run.specs.Opened.{NamesFound}
 use Rattle.erm_disk_run.specs.Owed.{CoursesOwe}
-use Rattle.erm_disk_run.specs.Runs.{AreUncut, AreUnseen, WasCutOn, WasRunOn, commits_told}
+use Rattle.erm_disk_run.specs.Runs.{AreUncut, AreUnseen, WasCutOn, WasRunOn, WasStarvedOn, commits_told}
 use Rattle.erm_disk_run.proofs.Cut.{HasUnseen, course_uncut, has_unseen, run_uncut, whole_course}
 use Rattle.erm_disk_run.proofs.Left.{AuditLaws, OrdersAreOne, leaves}
 use Rattle.erm_disk_run.proofs.Opened.{MayOpenAll}
@@ -167,8 +165,6 @@ module _ (laws : DiskLaws) (state : State) (names : List (List ℕ)) (v t : View
     opening = opening;
     starts = starts;
     cut = report.cut;
-    of_log = subst (λ (o : Option ScriptLine). IfSome o IsLineOfLog)
-        (was.at ∙ ap (λ (given : List Answer). slice_get script (length given)) (sym report.answers_are) ∙ sym report.cut.at) was.of_log;
     uncut = subst AreUncut (sym report.answers_are) (course_uncut laws.parts_few v t script was.answers was.course on.opened.cuts);
     closed = found.closed;
     unseen = subst (λ (given : List Answer). AreUnseen names script given found.closed) (sym report.answers_are) found.unseen;
@@ -181,3 +177,25 @@ module _ (laws : DiskLaws) (state : State) (names : List (List ℕ)) (v t : View
     where
       found : HasUnseen names v t script was.answers was.course
       found = has_unseen laws.close names v t script was.answers was.course was.late
+
+  -- memory ran out: no line tells of it
+  pub was_starved_on : (opening : Opening) → StartsFrom state opening → IsOpeningOf v opening → (answers : List Answer) (course : IsCourse v script answers t)
+      → (length answers < length script → closed_in course.closing ≡ []) → WasStarvedOn before after state names script
+  was_starved_on opening starts of answers course late = record {
+    low = on.low;
+    run_low = on.run_low;
+    opening = opening;
+    starts = starts;
+    answers = answers;
+    most = course.most;
+    uncut = course_uncut laws.parts_few v t script answers course on.opened.cuts;
+    closed = found.closed;
+    unseen = found.unseen;
+    owes = subst (λ (n : ℕ). OwesToAnswers InTurn opening script answers (transactions_of n (places_of script answers found.closed))) on.opened.sessions
+        (laws.owe v t script answers course found.closed opening found.are of);
+    moments = tells_weaker (Outlives (commits_told names script answers found.closed) state lines) (KeepsCommits (commits_told names script answers found.closed) state state.at) before after
+        (λ old new outlives. outlives.moments) (outlived answers found.closed (ran_on answers found.closed course found.are));
+  }
+    where
+      found : HasUnseen names v t script answers course
+      found = has_unseen laws.close names v t script answers course late

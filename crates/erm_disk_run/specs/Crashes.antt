@@ -10,7 +10,7 @@ use Rattle.erm_ckpt.specs.Recovered.{Pair, Recovers, RecoversAt, State, base, be
 use Rattle.erm_told_audit.specs.Audits.{AuditTells}
 use Rattle.erm_ckpt.specs.States.{RecoversTo}
 use Rattle.erm_crash.specs.Moments.{AtMoments, IsMoment, TearsApart}
-use Rattle.erm_log_run.specs.Acknowledged.{IsAcknowledged}
+use Rattle.erm_log_run.specs.Acknowledged.{HoldsTold, IsAcknowledged}
 use Rattle.erm_log_run.specs.Saving.{saved_at}
 use Rattle.erm_log_words.specs.Kept.{MayOpen}
 use Rattle.erm_node.specs.Sound.{sound_law}
@@ -34,17 +34,18 @@ abbrev pub KeepsCommits : List Committed → State → ℕ → List Step → Lis
 KeepsCommits commits from place old new =
     AtMoments (λ now image. TearsApart sound_law.meets now image → RecoversBelow commits from place image) old new
 
--- so it is from some moment on, up to the last one
-pub record KeepsSince (commits : List Committed) (from : State) (place : ℕ) (old new : List Step) : Type 0 where
+-- so it is up to the last moment, from one on at which the disk recovered to the place that an answer tells
+pub record KeepsSince (commits : List Committed) (from : State) (a : Answer) (place : ℕ) (old new : List Step) : Type 0 where
   pub mid : List Step
   pub moment : IsMoment old new mid
+  pub holds : HoldsTold sound_law.meets a place mid
   pub keeps : KeepsCommits commits from place mid new
 
--- Commits outlive a crash: at each moment each image recovers to those below a stamp, and from some moment on to all below each place that
--- these lines acknowledge.
+-- Commits outlive a crash: at each moment each image recovers to those below a stamp, and from a moment on at which the disk recovered to a place
+-- that one of these lines acknowledges to all below it.
 pub record Outlives (commits : List Committed) (from : State) (lines : List Line) (old new : List Step) : Type 0 where
   pub moments : KeepsCommits commits from from.at old new
-  pub acknowledged : (place : ℕ) → IsAcknowledged lines place → KeepsSince commits from place old new
+  pub acknowledged : (place : ℕ) (is : IsAcknowledged lines place) → KeepsSince commits from is.answer place old new
 
 -- At the end nothing is pending on a disk, so that a crash leaves what it reads: it recovers to this map, in the next run, behind all commits. Of
 -- the commits in the blocks that recovery meets those of this run are just these, from the place on where recovery begins. The best checkpoint is

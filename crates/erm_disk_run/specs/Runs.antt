@@ -18,12 +18,11 @@ use Rattle.erm_script.specs.Script.{IsInRange}
 use Rattle.erm_script.specs.declared.script.Command.{Command}
 use Rattle.erm_script.specs.declared.script.Command.TheVariants as command
 use Rattle.erm_script.specs.declared.script.ScriptLine.{ScriptLine}
-use Rattle.erm_log_run.specs.Lines.{IsLineOfLog}
 use Rattle.erm_good_report.specs.GoodReport.{IsCutReport, IsTightReport, OwesToAnswers, places_of}
 use Rattle.erm_good_report.specs.Opening.{InTurn, Opening}
 use Rattle.erm_good_report.specs.Phases.{Closed, Closes, phase_of}
 use Rattle.erm_good_report.specs.Transactions.{history_of, said_of, table_of, transactions_of}
-use Rattle.erm_disk_run.specs.Crashes.{Leaves, Outlives}
+use Rattle.erm_disk_run.specs.Crashes.{KeepsCommits, Leaves, Outlives}
 use Rattle.erm_disk_run.specs.Found.{IsFound, StartsFrom}
 use Rattle.erm_disk_run.specs.Stops.{CountsStop, StopsFor}
 use Rattle.erm_disk_run.specs.declared.stops.RunStop.{RunStop}
@@ -83,19 +82,38 @@ pub record WasCutOn (before after : Option (List Step)) (state : State) (names :
   pub opening : Opening
   pub starts : StartsFrom state opening
   pub cut : IsCutReport InTurn opening names script lines
-  pub of_log : IfSome cut.fault IsLineOfLog
   pub uncut : AreUncut cut.answers
   pub closed : List Closed
   pub unseen : AreUnseen names script cut.answers closed
   pub owes : OwesToAnswers InTurn opening script cut.answers (transactions_of (length names) (places_of script cut.answers closed))
   pub outlives : Tells (Outlives (commits_told names script cut.answers closed) state lines) before after
 
+-- Memory ran out while a script was run on a disk, or was told: behind some of its lines, or behind all of them. These answers, of which no line tells,
+-- are what a report owes, with the sessions that were closed behind the last line. At each moment each image recovers to the commits below a stamp that both tell.
+pub record WasStarvedOn (before after : Option (List Step)) (state : State) (names : List (List ℕ)) (script : List ScriptLine) : Type 0 where
+  pub low : state.at < STOP
+  pub run_low : state.run < LAST_RUN
+  pub opening : Opening
+  pub starts : StartsFrom state opening
+  pub answers : List Answer
+  pub most : length answers ≤ length script
+  pub uncut : AreUncut answers
+  pub closed : List Closed
+  pub unseen : AreUnseen names script answers closed
+  pub owes : OwesToAnswers InTurn opening script answers (transactions_of (length names) (places_of script answers closed))
+  pub moments : Tells (KeepsCommits (commits_told names script answers closed) state state.at) before after
+
 -- how a run ends on a disk before and after
 abbrev pub EndsRun : Result (Vec Line Global) RunStop → Option (List Step) → Option (List Step) → List (List ℕ) → List ScriptLine → Type 0
 EndsRun (Ok lines) before after names script = All FitsTypes lines.items → (state : State) × IsFound before state × WasRunOn before after state names script lines.items
 EndsRun (Err (run.DiskFault lines)) before after names script = All FitsTypes lines.items → (state : State) × IsFound before state × WasCutOn before after state names script lines.items
 EndsRun (Err (run.Unopened stop)) before after names script = StopsFor stop before after
-EndsRun (Err run.Memory) before after names script = Unit {0}
+EndsRun (Err run.Memory) before after names script = (state : State) × IsFound before state × WasStarvedOn before after state names script
+
+-- what is left by a run that was begun, where nothing is told of it
+abbrev pub LeavesUntold : Result (Vec Line Global) RunStop → Option (List Step) → Option (List Step) → List (List ℕ) → List ScriptLine → Type 0
+LeavesUntold (Err (run.Unopened stop)) before after names script = Unit {0}
+LeavesUntold ended before after names script = (state : State) × IsFound before state × WasStarvedOn before after state names script
 
 -- the disk's count of faults rose exactly where the disk is why there is no report, or none that is whole
 abbrev pub CountsRun : Result (Vec Line Global) RunStop → ℕ → ℕ → Type 0

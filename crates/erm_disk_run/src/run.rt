@@ -4,7 +4,7 @@ ghost use Rattle.erm_ckpt.specs.Recovered.{State};
 ghost use Rattle.erm_outside.specs.Disk.{Step};
 ghost use Rattle.erm_disk_run.specs.Found.{IsKept};
 ghost use Rattle.erm_disk_run.specs.Opened.{WasOpened};
-ghost use Rattle.erm_disk_run.specs.Runs.{AreInTables, CountsRun, EndsRun, IsScriptFor};
+ghost use Rattle.erm_disk_run.specs.Runs.{AreInTables, CountsRun, EndsRun, IsScriptFor, LeavesUntold};
 
 use crate::laws::courses_owe_to_answers;
 use crate::opening::{Opened, open_disk};
@@ -20,7 +20,8 @@ use std::alloc::Global;
 
 /// Recovers a disk, opens its log for the next run, and runs a script there, one line after another. It gives the lines of the report, which is
 /// good and whose windows are tight. A crash at any moment leaves the commits below one stamp: all that a line acknowledged, once it has,
-/// and all at the end. Each image that a crash leaves may be opened again.
+/// and all at the end. Each image that a crash leaves may be opened again. Where no memory is left for the report, a crash leaves commits of the
+/// lines that were run.
 pub fn run_on_disk<D: Disk>(
     alloc: Global,
     disk: D,
@@ -30,6 +31,7 @@ pub fn run_on_disk<D: Disk>(
     requires script { IsScriptFor names.now script.now }
     requires kept { IfSome (D.told disk) IsKept }
     ensures ended { EndsRun result.ended (D.told disk) (D.told result.disk) names.now script.now }
+    ensures untold { LeavesUntold result.ended (D.told disk) (D.told result.disk) names.now script.now }
     ensures tables { AreInTables result.ended }
     ensures counts { CountsRun result.ended (D.faults disk) (D.faults result.disk) }
 {
@@ -54,6 +56,7 @@ fn run_named<D: Disk>(
     requires script { IsScriptFor names.now script.now }
     requires kept { IfSome (D.told disk) IsKept }
     ensures ended { EndsRun result.ended (D.told disk) (D.told result.disk) names.now script.now }
+    ensures untold { LeavesUntold result.ended (D.told disk) (D.told result.disk) names.now script.now }
     ensures tables { AreInTables result.ended }
     ensures counts { CountsRun result.ended (D.faults disk) (D.faults result.disk) }
 {
@@ -80,6 +83,8 @@ fn run_opened<D: Disk>(
     requires script { IsScriptFor names.now script.now }
     ensures ended { (before : Option (List Step)) (state : State) → WasOpened before (D.told disk) state (length names.now) opened
         → EndsRun result.ended before (D.told result.disk) names.now script.now }
+    ensures untold { (before : Option (List Step)) (state : State) → WasOpened before (D.told disk) state (length names.now) opened
+        → LeavesUntold result.ended before (D.told result.disk) names.now script.now }
     ensures tables { AreInTables result.ended }
     ensures counts { CountsRun result.ended (D.faults disk) (D.faults result.disk) }
 {

@@ -134,6 +134,7 @@ told_cut laws v t script opening of names many lines was fits = record { cut = c
       fault = was.fault;
       lines_ok = was.lines_ok;
       at = was.at;
+      of_log = was.of_log;
       fits = fits;
       closed = [];
       once = λ i j d below within. absurd (omega (arith, within));

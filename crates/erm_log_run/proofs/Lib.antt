@@ -22,5 +22,6 @@ pub mod Results
 pub mod Saving
 pub mod Seats
 pub mod Serial
+pub mod Starving
 pub mod Stopped
 pub mod Told

@@ -1,4 +1,4 @@
--- A place that an answer tells is flushed.
+-- The log is flushed to the place that an answer tells, or to one above it.
 use Rattle.std.proofs.Common.{◌≡◌, ℕ, ◌+◌, ◌≤◌, Option, Some, None, refl, sym, subst, ap, ◌∙◌, arith, inl, inr}
 use Rattle.erm_model.specs.declared.outcome.Phase.{Phase}
 use Rattle.erm_model.specs.declared.outcome.Phase.TheVariants.{Active, Idle, Sealed}
@@ -12,7 +12,8 @@ use Rattle.erm_good_report.specs.Phases.{FitsRefusal, IsAnswerTo, refusal_for, r
 use Rattle.erm_lines.specs.Answers.{DidAsked, DidCommand, DidLine}
 use Rattle.erm_lines.specs.Executions.{DidLog, DidMove, move_of}
 use Rattle.erm_lines.proofs.Moved.{moved}
-use Rattle.erm_log_run.specs.Acknowledged.{place_told}
+use Rattle.erm_good_report.specs.Stamps.{place_told}
+use Rattle.erm_log_run.specs.Acknowledged.{EndsAt}
 
 -- a block has words
 some_size : (w : Work) → 1 ≤ size_of w
@@ -23,16 +24,16 @@ same_place : (told place : ℕ) → Some told ≡ Some place → told ≡ place
 same_place told place is = cc
 
 -- a line of the log
-log_reaches : (v t : View) (c : Command) (a : Answer) (place : ℕ) → DidLog v c a t → place_told a ≡ Some place → place ≤ t.flushed
-log_reaches v t command.Flush (answer.Flushed p) place did told = let up = did.0.up in let same = same_place p place told in omega (arith, up, same)
-log_reaches v t command.Flush (answer.Empty p) place did told = let up = did.0.up in let same = same_place p place told in omega (arith, up, same)
-log_reaches v t command.Flush (answer.Unfilled p) place did told = let up = did.0.up in let same = same_place p place told in omega (arith, up, same)
-log_reaches v t command.Checkpoint (answer.Checkpointed p) place did told = let up = did.0.up in let same = same_place p place told in omega (arith, up, same)
-log_reaches v t command.Checkpoint (answer.Unfilled p) place did told = let up = did.0.up in let same = same_place p place told in omega (arith, up, same)
+log_reaches : (v t : View) (c : Command) (a : Answer) (place : ℕ) → DidLog v c a t → place_told a ≡ Some place → EndsAt a place t.flushed
+log_reaches v t command.Flush (answer.Flushed p) place did told = did.0.up ∙ same_place p place told
+log_reaches v t command.Flush (answer.Empty p) place did told = did.0.up ∙ same_place p place told
+log_reaches v t command.Flush (answer.Unfilled p) place did told = did.0.up ∙ same_place p place told
+log_reaches v t command.Checkpoint (answer.Checkpointed p) place did told = did.0.up ∙ same_place p place told
+log_reaches v t command.Checkpoint (answer.Unfilled p) place did told = did.0.up ∙ same_place p place told
 log_reaches v t c a place did told = absurd did
 
 -- a line of a session whose phase allows it: only a commit that is durable tells a place
-command_reaches : (v t : View) (seat : ℕ) (c : Command) (a : Answer) (place : ℕ) → IsAnswerTo c a → DidCommand v seat c a t → place_told a ≡ Some place → place ≤ t.flushed
+command_reaches : (v t : View) (seat : ℕ) (c : Command) (a : Answer) (place : ℕ) → IsAnswerTo c a → DidCommand v seat c a t → place_told a ≡ Some place → EndsAt a place t.flushed
 command_reaches v t seat command.Flush a place fits did told = absurd did
 command_reaches v t seat command.Checkpoint a place fits did told = absurd did
 command_reaches v t seat command.Durable (answer.Durable stamp) place fits did told =
@@ -66,15 +67,15 @@ refusal_tells_none (Some Sealed) Idle r place is told = none_told answer.NotSeal
 refusal_tells_none (Some Sealed) Active r place is told = none_told answer.NotSealed r place refl is told
 refusal_tells_none asked phase r place is told = let no : None ≡ Some r = is in cc
 
-line_reaches : (v t : View) (l : ScriptLine) (a : Answer) (place : ℕ) → DidLine v l a t → place_told a ≡ Some place → place ≤ t.flushed
+line_reaches : (v t : View) (l : ScriptLine) (a : Answer) (place : ℕ) → DidLine v l a t → place_told a ≡ Some place → EndsAt a place t.flushed
 line_reaches v t l a place is told = by (refusal_of (phase_at v l.session) l.command) refl is.fits is.did
   where
-    by : (o : Option Answer) → refusal_of (phase_at v l.session) l.command ≡ o → FitsRefusal o l.command a → DidAsked o v l.session l.command a t → place ≤ t.flushed
+    by : (o : Option Answer) → refusal_of (phase_at v l.session) l.command ≡ o → FitsRefusal o l.command a → DidAsked o v l.session l.command a t → EndsAt a place t.flushed
     by None free fits did = command_reaches v t l.session l.command a place fits did told
     by (Some r) refused fits did = absurd (refusal_tells_none _ (phase_at v l.session) r place refused (subst (λ (x : Answer). place_told x ≡ Some place) fits told))
 
 -- any line
-pub move_reaches : (v t : View) (l : ScriptLine) (a : Answer) (place : ℕ) → DidMove v (move_of l a) t → place_told a ≡ Some place → place ≤ t.flushed
+pub move_reaches : (v t : View) (l : ScriptLine) (a : Answer) (place : ℕ) → DidMove v (move_of l a) t → place_told a ≡ Some place → EndsAt a place t.flushed
 move_reaches v t l a place did told = elim (moved v l a t did) [
   | inl is ↦ line_reaches v t l a place is told
   | inr is ↦ log_reaches v t l.command a place is.did told

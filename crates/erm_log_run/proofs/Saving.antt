@@ -12,13 +12,13 @@ use Rattle.erm_world.specs.World.{View}
 use Rattle.erm_ckpt.specs.declared.slot.Slots.{Slots}
 use Rattle.erm_ckpt.specs.Checkpoint.{Checkpoint}
 use Rattle.erm_ckpt.specs.Recovered.{Pair, best, slots_of, state_of}
-use Rattle.erm_ckpt.specs.Slots.{best_of}
+use Rattle.erm_ckpt.specs.Slots.{best_of, next_first, put_slot}
 use Rattle.erm_ckpt.proofs.Choices.{best_slot}
-use Rattle.erm_checkpoint.specs.Taken.{HoldsLogFrom}
+use Rattle.erm_checkpoint.specs.Taken.{HoldsLogFrom, TakesAll, slot_at_end}
 use Rattle.erm_crash.specs.Kept.{KeepsSince}
 use Rattle.erm_lines.specs.Answers.{DidLine}
 use Rattle.erm_log_run.specs.Keeping.{IsHeld, Keeper, KeepsOn}
-use Rattle.erm_log_run.specs.Saving.{AreSaved, IsBestAt, saved_at, saved_by, saved_from}
+use Rattle.erm_log_run.specs.Saving.{AreSaved, IsBestAt, Removes, TookPlace, saved_at, saved_by, saved_from}
 use Rattle.erm_log_run.proofs.Reached.{no_checkpoint}
 use Rattle.erm_log_run.proofs.Told.{LogsBegin, kept_now}
 
@@ -43,6 +43,22 @@ named_best slots pair place names some at = by (best pair) refl some at
 pub checkpoint_saved : (sound : Rows → Type 0) (log : Log) (slots : Slots) (place : ℕ) (told : Option (List Step)) → IfSome told (HoldsLogFrom sound log slots place) → IfSome told (λ steps. IsBestAt slots place)
 checkpoint_saved sound log slots place None lasts = lasts
 checkpoint_saved sound log slots place (Some steps) lasts = named_best slots lasts.holds.pair place lasts.holds.names lasts.some lasts.from
+
+-- and what it removed
+pub checkpoint_removes : (sound : Rows → Type 0) (flushed : ℕ) (log : Log) (old new : Slots) (run place : ℕ) (before told : Option (List Step)) → log.tail ≡ place → new ≡ put_slot old (slot_at_end log run old)
+    → Tells (TakesAll sound flushed log old (slot_at_end log run old)) before told → Removes (answer.Checkpointed place) told old new
+checkpoint_removes sound flushed log old new run place None told tail put takes = subst (λ (o : Option (List Step)). IfSome o (TookPlace place old new)) (sym takes) tt
+checkpoint_removes sound flushed log old new run place (Some first) told tail put (steps, is, all) =
+    subst (λ (o : Option (List Step)). IfSome o (TookPlace place old new)) (sym is) (record {
+      run = run;
+      put = put ∙ ap (λ (n : ℕ). put_slot old (record { stamp = n; run = run; first = next_first old })) tail;
+      gone = all.saves.gone;
+    })
+
+-- a line of a session removes nothing
+pub session_removes : (v t : View) (l : ScriptLine) (a : Answer) (told : Option (List Step)) (slots : Slots) → DidLine v l a t → Removes a told slots slots
+session_removes v t l (answer.Checkpointed place) told slots did = absurd (no_checkpoint v t l place did)
+session_removes v t l a told slots did = tt
 
 -- a line of a session leaves the slots
 pub session_saved : (v t : View) (l : ScriptLine) (a : Answer) (told : Option (List Step)) (slots : Slots) → DidLine v l a t → AreSaved (saved_by a None) told slots slots

@@ -14,7 +14,7 @@ use Rattle.erm_log_run.specs.declared.stops.LineStop.{LineStop}
 use Rattle.erm_log_run.specs.declared.stops.LineStop.TheVariants.{DiskFault, Memory}
 use Rattle.erm_log_run.specs.Closing.{IsClosing}
 use Rattle.erm_log_run.specs.Keeping.{CountsFaults, Keeper, Keeps, KeepsOn}
-use Rattle.erm_log_run.specs.Lines.{IsLineOfLog}
+use Rattle.erm_good_report.specs.GoodReport.{IsLineOfLog}
 use Rattle.erm_log_run.specs.Runs.{ClosesOnFault, FailsOfLog, FlushesOnFault, Ran}
 use Rattle.erm_log_run.proofs.Closing.{all_last, execution_more}
 use Rattle.erm_log_run.proofs.Leaving.{moments_then}

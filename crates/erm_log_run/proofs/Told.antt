@@ -1,28 +1,85 @@
 -- The places that answers tell, while the log is kept to them.
-use Rattle.std.proofs.Common.{◌≡◌, ℕ, ◌≤◌, ◌⊎◌, ◌++◌, List, [], ◌∷◌, Option, Some, None, IfSome, Ok, Err, refl, subst, arith, inl, inr}
+use Rattle.std.proofs.Common.{◌≡◌, ◌≢◌, ℕ, ◌≤◌, ◌++◌, List, [], ◌∷◌, Option, Some, None, IfSome, Ok, Err, refl, sym, ap, ◌∙◌, subst, arith, inl, inr}
 use Rattle.std.specs.Prelude.{Result}
+use Rattle.std.specs.Option.{option_map}
+use Rattle.std.proofs.lemmas.Option.{same_Some}
 use Rattle.erm_model.specs.Rows.{Rows}
 use Rattle.erm_model.proofs.Members.{∈-push}
 use Rattle.erm_outside.specs.Disk.{Step, Tells}
 use Rattle.erm_report.specs.declared.answer.Answer.{Answer}
+use Rattle.erm_report.specs.declared.answer.Answer.TheVariants as answer
 use Rattle.erm_world.specs.Log.{Log}
 use Rattle.erm_ckpt.specs.declared.slot.Slots.{Slots}
-use Rattle.erm_ckpt.specs.Recovered.{State}
+use Rattle.erm_ckpt.specs.declared.slot.Slot.{Slot}
+use Rattle.erm_ckpt.specs.Checkpoint.{Checkpoint}
+use Rattle.erm_ckpt.specs.Recovered.{Pair, State, base, best, slots_of, state_of}
+use Rattle.erm_ckpt.specs.Slots.{best_of}
+use Rattle.erm_ckpt.proofs.Choices.{best_slot}
 use Rattle.erm_checkpoint.specs.Taken.{HoldsLog, state_at}
 use Rattle.erm_crash.specs.Kept.{KeepsBlocks, KeepsSince}
 use Rattle.erm_log_run.specs.declared.stops.LineStop.{LineStop}
 use Rattle.erm_log_run.specs.declared.stops.LineStop.TheVariants.{DiskFault, Memory}
-use Rattle.erm_log_run.specs.Acknowledged.{GoesOnFrom, IsKeptTo, IsTold, KeepsTold, LastsFrom, place_told}
+use Rattle.erm_log_run.specs.Acknowledged.{EndsAt, GoesOnFrom, HoldsTold, IsKeptTo, IsSavedAt, IsTold, KeepsTold, LastsFrom}
+use Rattle.erm_log_run.specs.Saving.{AreSaved, IsBestAt, Removes, TookPlace, saved_by}
+use Rattle.erm_good_report.specs.Stamps.{place_told}
 use Rattle.erm_log_run.specs.Keeping.{IsHeld, IsKept, Keeper, Keeps, KeepsMoments, KeepsOn}
-use Rattle.erm_log_run.proofs.Held.{tells_join, tells_weaker}
+use Rattle.erm_log_run.proofs.Held.{tells_and, tells_join, tells_weaker}
 use Rattle.erm_log_run.proofs.Kept.{blocks_since, since_lower}
 
--- one of the answers before, or the one more
-pub told_more : (answers : List Answer) (a : Answer) (place : ℕ) → IsTold (answers ++ a ∷ []) place → IsTold answers place ⊎ (place_told a ≡ Some place)
-told_more answers a place is = elim (∈-push answers a is.answer is.given) [
-  | inl before ↦ inl (record { answer = is.answer; given = before; tells = is.tells })
-  | inr last ↦ inr (subst (λ (x : Answer). place_told x ≡ Some place) last is.tells)
-]
+-- a place at which an answer ends is told at or below it
+pub ends_low : (a : Answer) (place end : ℕ) → EndsAt a place end → place ≤ end
+ends_low (answer.Durable stamp) place end low = low
+ends_low a place end is = omega (arith, is)
+
+-- the best of the slots is that of the checkpoint that an answer tells, and those before it named the segments that are gone
+abbrev pub BestFor : Answer → Slots → List Step → Type 0
+BestFor (answer.Checkpointed place) slots steps = IsBestAt slots place × ((before : Slots) × TookPlace place before slots steps)
+BestFor a slots steps = Unit {0}
+
+-- slots that name checkpoints name the best one
+best_there : (slots : Slots) (pair : Pair) (place : ℕ) → slots ≡ slots_of pair → IsBestAt slots place → (best pair ≢ None) × ((base pair).at ≡ place)
+best_there slots pair place names is = by (best pair) refl
+  where
+    by : (o : Option Checkpoint) → best pair ≡ o → (best pair ≢ None) × ((base pair).at ≡ place)
+    by None none =
+        let shown = sym is.best ∙ ap best_of names ∙ best_slot pair ∙ ap (λ (o : Option Checkpoint). option_map (λ checkpoint. checkpoint.slot) o) none in absurd (cc)
+    by (Some c) some =
+        let shown : Some is.slot ≡ Some c.slot = sym is.best ∙ ap best_of names ∙ best_slot pair ∙ ap (λ (o : Option Checkpoint). option_map (λ checkpoint. checkpoint.slot) o) some in
+        let same : is.slot ≡ c.slot = same_Some is.slot c.slot shown in (
+          (λ none. let no : ◌≡◌ {A = Option Checkpoint} None (Some c) = sym none ∙ some in cc),
+          ap (λ (o : Option Checkpoint). (state_of o).at) some ∙ ap (λ (s : Slot). s.stamp) (sym same) ∙ is.at,
+        )
+
+saved_for : (a : Answer) (slots : Slots) (pair : Pair) (steps : List Step) → slots ≡ slots_of pair → BestFor a slots steps → IsSavedAt a pair steps
+saved_for (answer.Checkpointed place) slots pair steps names saved =
+    let best = best_there slots pair place names saved.0 in
+    (best.0, best.1, (saved.1.0, subst (λ (s : Slots). TookPlace place saved.1.0 s steps) names saved.1.1))
+saved_for a slots pair steps names saved = tt
+
+-- what a line leaves of the slots, and of the segments, tells so of its answer
+pub best_for : (a : Answer) (told : Option (List Step)) (old new : Slots) → AreSaved (saved_by a None) told old new → Removes a told old new → IfSome told (BestFor a new)
+best_for (answer.Checkpointed place) None old new saved removes = tt
+best_for (answer.Checkpointed place) (Some steps) old new saved removes = (saved, (old, removes))
+best_for a None old new saved removes = tt
+best_for a (Some steps) old new saved removes = tt
+
+-- where a log is flushed to the place that an answer tells, a disk that holds it recovers to that
+holds_told : (sound : Rows → Type 0) (log : Log) (slots : Slots) (a : Answer) (place : ℕ) → EndsAt a place log.flushed → (steps : List Step) → BestFor a slots steps → HoldsLog sound log slots steps → HoldsTold sound a place steps
+holds_told sound log slots a place ends steps saved h = record {
+  settled = h.ready.settled;
+  found = state_at log h.front;
+  pair = h.pair;
+  there = h.there;
+  ends = subst (EndsAt a place) (sym h.to) ends;
+  saved = saved_for a slots h.pair steps h.names saved;
+}
+
+holds_now : (sound : Rows → Type 0) (k : Keeper) (a : Answer) (place : ℕ) → IsHeld sound k → EndsAt a place k.log.flushed → IfSome k.told (BestFor a k.slots) → IfSome k.told (HoldsTold sound a place)
+holds_now sound k a place held ends saved = by k.told held.holds saved
+  where
+    by : (o : Option (List Step)) → IfSome o (HoldsLog sound k.log k.slots) → IfSome o (BestFor a k.slots) → IfSome o (HoldsTold sound a place)
+    by None holds saved = tt
+    by (Some steps) holds saved = holds_told sound k.log k.slots a place ends steps saved holds
 
 -- a log that a disk holds is kept from now on
 abbrev pub LogsBegin : (Rows → Type 0) → Type 0
@@ -37,60 +94,70 @@ kept_now sound begins k held = by k.told held.holds
 
 module _ (sound : Rows → Type 0) (first : Option (List Step)) where
   abbrev pub AreKept : List Answer → Keeper → Type 0
-  AreKept answers k = (place : ℕ) → IsTold answers place → IsKeptTo sound first k place
+  AreKept answers k = (place : ℕ) (is : IsTold answers place) → IsKeptTo sound first k is.answer place
 
   -- the log is kept on
-  pub kept_on : (k m : Keeper) (place : ℕ) → KeepsOn sound k m → IsKeptTo sound first k place → IsKeptTo sound first m place
-  kept_on k m place on is = record {
+  pub kept_on : (k m : Keeper) (a : Answer) (place : ℕ) → KeepsOn sound k m → IsKeptTo sound first k a place → IsKeptTo sound first m a place
+  kept_on k m a place on is = record {
     start = is.start;
     later = is.later;
+    holds = is.holds;
     low = (let low = is.low in let further = on.further in omega (arith, low, further));
     kept = on.keeps is.start place is.low is.kept;
   }
 
   -- what each image since some moment recovers to, where the disk failed, and where it holds the log still
-  lasts : (from : State) (m : Keeper) (place : ℕ) (start : Option (List Step)) → Tells GoesOnFrom first start → Tells (KeepsBlocks sound from m.log.gathered place) start m.told
-      → Tells (LastsFrom sound from m.log.gathered place) first m.told
-  lasts from m place start later keeps = tells_join GoesOnFrom (KeepsBlocks sound from m.log.gathered place) (LastsFrom sound from m.log.gathered place) first start m.told
-      (λ a b c goes since. record {
-        mid = b;
-        moment = record { before = goes.0; since = goes.1; after = since.0.0; later = since.0.1 };
+  lasts : (from : State) (k m : Keeper) (a : Answer) (place : ℕ) (is : IsKeptTo sound first k a place) → Tells (KeepsBlocks sound from m.log.gathered place) is.start m.told
+      → Tells (LastsFrom sound from m.log.gathered a place) first m.told
+  lasts from k m a place is keeps = tells_join (λ old new. HoldsTold sound a place new × GoesOnFrom old new) (KeepsBlocks sound from m.log.gathered place) (LastsFrom sound from m.log.gathered a place)
+      first is.start m.told
+      (λ old mid new goes since. record {
+        mid = mid;
+        moment = record { before = goes.1.0; since = goes.1.1; after = since.0.0; later = since.0.1 };
+        holds = goes.0;
         keeps = since;
-      }) later keeps
+      }) (tells_and (HoldsTold sound a place) GoesOnFrom first is.start is.holds is.later) keeps
 
-  pub lasts_at_fault : (k m : Keeper) (place : ℕ) → KeepsMoments sound k m → IsKeptTo sound first k place → Tells (LastsFrom sound (state_at m.log []) m.log.gathered place) first m.told
-  lasts_at_fault k m place on is = lasts (state_at m.log []) m place is.start is.later (on.keeps is.start place is.low is.kept)
+  pub lasts_at_fault : (k m : Keeper) (a : Answer) (place : ℕ) → KeepsMoments sound k m → IsKeptTo sound first k a place → Tells (LastsFrom sound (state_at m.log []) m.log.gathered a place) first m.told
+  lasts_at_fault k m a place on is = lasts (state_at m.log []) k m a place is (on.keeps is.start place is.low is.kept)
 
-  pub lasts_now : (m : Keeper) (place : ℕ) → IsKeptTo sound first m place → Tells (LastsFrom sound (state_at m.log []) m.log.gathered place) first m.told
-  lasts_now m place is = lasts (state_at m.log []) m place is.start is.later
+  pub lasts_now : (m : Keeper) (a : Answer) (place : ℕ) → IsKeptTo sound first m a place → Tells (LastsFrom sound (state_at m.log []) m.log.gathered a place) first m.told
+  lasts_now m a place is = lasts (state_at m.log []) m m a place is
       (tells_weaker (KeepsSince sound place m.log m.slots) (KeepsBlocks sound (state_at m.log []) m.log.gathered place) is.start m.told (λ old new since. blocks_since sound place m.log m.slots old new since) is.kept)
 
 -- a place that is flushed now
-pub kept_to_now : (sound : Rows → Type 0) → LogsBegin sound → (first k : Keeper) (place : ℕ) → IsHeld sound first → KeepsOn sound first k → IsHeld sound k → place ≤ k.log.flushed → IsKeptTo sound first.told k place
-kept_to_now sound begins first k place held on holds low = record {
+pub kept_to_now : (sound : Rows → Type 0) → LogsBegin sound → (first k : Keeper) (a : Answer) (place : ℕ) → IsHeld sound first → KeepsOn sound first k → IsHeld sound k → EndsAt a place k.log.flushed
+    → IfSome k.told (BestFor a k.slots) → IsKeptTo sound first.told k a place
+kept_to_now sound begins first k a place held on holds ends saved = record {
   start = k.told;
   later = tells_weaker (KeepsSince sound first.log.flushed k.log k.slots) GoesOnFrom first.told k.told (λ old new since. since.moments.0)
       (on.keeps first.told first.log.flushed (omega arith) (kept_now sound begins first held));
+  holds = holds_now sound k a place holds ends saved;
   low = low;
   kept = tells_weaker (KeepsSince sound k.log.flushed k.log k.slots) (KeepsSince sound place k.log k.slots) k.told k.told (λ old new since. since_lower sound place k.log.flushed k.log k.slots old new low since) (kept_now sound begins k holds);
 }
+  where
+    low : place ≤ k.log.flushed
+    low = ends_low a place k.log.flushed ends
 
 -- ALL OF THEM.
 pub all_kept_on : (sound : Rows → Type 0) (first : Option (List Step)) (answers : List Answer) (k m : Keeper) → KeepsOn sound k m → AreKept sound first answers k → AreKept sound first answers m
-all_kept_on sound first answers k m on all place told = kept_on sound first k m place on (all place told)
+all_kept_on sound first answers k m on all place told = kept_on sound first k m told.answer place on (all place told)
 
 -- one answer more
 pub all_kept_more : (sound : Rows → Type 0) → LogsBegin sound → (first k m : Keeper) (answers : List Answer) (a : Answer) → IsHeld sound first → KeepsOn sound k m → KeepsOn sound first m → IsHeld sound m
-    → ((place : ℕ) → place_told a ≡ Some place → place ≤ m.log.flushed) → AreKept sound first.told answers k → AreKept sound first.told (answers ++ a ∷ []) m
-all_kept_more sound begins first k m answers a held on after holds reaches all place told = elim (told_more answers a place told) [
-  | inl old ↦ kept_on sound first.told k m place on (all place old)
-  | inr new ↦ kept_to_now sound begins first m place held after holds (reaches place new)
+    → ((place : ℕ) → place_told a ≡ Some place → EndsAt a place m.log.flushed) → AreSaved (saved_by a None) m.told k.slots m.slots → Removes a m.told k.slots m.slots → AreKept sound first.told answers k → AreKept sound first.told (answers ++ a ∷ []) m
+all_kept_more sound begins first k m answers a held on after holds reaches saves removes all place told = elim (∈-push answers a told.answer told.given) [
+  | inl before ↦ kept_on sound first.told k m told.answer place on (all place (record { answer = told.answer; given = before; tells = told.tells }))
+  | inr last ↦
+      subst (λ (x : Answer). IsKeptTo sound first.told m x place) (sym last)
+      (kept_to_now sound begins first m a place held after holds (reaches place (subst (λ (x : Answer). place_told x ≡ Some place) last told.tells)) (best_for a m.told k.slots m.slots saves removes))
 ]
 
 -- a call wasn't answered
 pub stop_told : (T U : Type 0) (sound : Rows → Type 0) (stop : LineStop) (first : Option (List Step)) (answers : List Answer) (k m : Keeper) → AreKept sound first answers k
     → Keeps {T = T} sound (Err stop) k m → KeepsTold {T = U} sound (Err stop) answers first m
-stop_told T U sound DiskFault first answers k m all keeps = λ place told. lasts_at_fault sound first k m place keeps (all place told)
+stop_told T U sound DiskFault first answers k m all keeps = λ place told. lasts_at_fault sound first k m told.answer place keeps (all place told)
 stop_told T U sound Memory first answers k m all keeps = tt
 
 -- the same stop
@@ -103,5 +170,5 @@ stop_told_too T U sound Memory first answers m told = tt
 pub told_then : {T : Type 0} (r : Result T LineStop) (sound : Rows → Type 0) (first : Option (List Step)) (answers : List Answer) (k m : Keeper) → AreKept sound first answers k → Keeps sound r k m
     → KeepsTold sound r answers first m
 told_then (Ok x) sound first answers k m all keeps = all_kept_on sound first answers k m keeps.1 all
-told_then (Err DiskFault) sound first answers k m all keeps = λ place told. lasts_at_fault sound first k m place keeps (all place told)
+told_then (Err DiskFault) sound first answers k m all keeps = λ place told. lasts_at_fault sound first k m told.answer place keeps (all place told)
 told_then (Err Memory) sound first answers k m all keeps = tt

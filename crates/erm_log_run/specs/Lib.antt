@@ -5,3 +5,4 @@ pub mod Keeping
 pub mod Lines
 pub mod Runs
 pub mod Saving
+pub mod Starving

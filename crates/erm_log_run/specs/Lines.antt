@@ -1,5 +1,5 @@
 -- The lines of a script that a world can run, and the receipts of its sessions meanwhile.
-use Rattle.std.specs.Prelude.{◌≡◌, ℕ, ◌+◌, ◌<◌, ◌⊎◌, List, Option, None, IfSome, length, slice_index_or}
+use Rattle.std.specs.Prelude.{◌≡◌, ℕ, ◌+◌, ◌<◌, List, Option, None, IfSome, length, slice_index_or}
 use Rattle.erm_model.specs.declared.limits.TheConstants.{TABLES}
 use Rattle.erm_model.specs.declared.outcome.Receipt.{Receipt}
 use Rattle.erm_model.specs.Member.{◌∈◌}
@@ -9,10 +9,6 @@ use Rattle.erm_script.specs.declared.script.ScriptLine.{ScriptLine}
 use Rattle.erm_world.specs.World.{IsSession, View}
 use Rattle.erm_good_report.specs.Transactions.{table_of}
 use Rattle.erm_lines.specs.Answers.{IsReceiptOf}
-
--- a line of the log is a flush or a checkpoint
-abbrev pub IsLineOfLog : ScriptLine → Type 0
-IsLineOfLog l = (l.command ≡ command.Flush) ⊎ (l.command ≡ command.Checkpoint)
 
 -- a line of the log names no session, any other one of the world
 abbrev pub Names : View → Command → ℕ → Type 0

@@ -8,7 +8,7 @@ use Rattle.erm_report.specs.declared.line.Line.TheVariants as line
 use Rattle.erm_script.specs.declared.script.ScriptLine.{ScriptLine}
 use Rattle.erm_model.specs.declared.outcome.Phase.TheVariants.{Idle}
 use Rattle.erm_world.specs.World.{IsSession, View, phase_at}
-use Rattle.erm_good_report.specs.GoodReport.{answer_lines, fault_line, IsCutReport, IsTightReport}
+use Rattle.erm_good_report.specs.GoodReport.{answer_lines, fault_line, IsCutReport, IsLineOfLog, IsTightReport}
 use Rattle.erm_good_report.specs.Opening.{InTurn, Opening}
 use Rattle.erm_good_report.specs.Phases.{Closed}
 use Rattle.erm_lines.specs.Executions.{AreClosed, closed_in, DidFlush, IsCourse, IsExecution, IsLast, IsRun, Move, line_moves}
@@ -17,7 +17,6 @@ use Rattle.erm_log_run.specs.declared.stops.LineStop.TheVariants.{DiskFault, Mem
 use Rattle.erm_log_run.specs.declared.stops.RunStop.{RunStop}
 use Rattle.erm_log_run.specs.declared.stops.RunStop.TheVariants as run
 use Rattle.erm_log_run.specs.Closing.{IsClosing}
-use Rattle.erm_log_run.specs.Lines.{IsLineOfLog}
 use Rattle.erm_summary.specs.Summary.{Summarizes}
 
 -- The script was run over this very world, from one view of it to another, and the lines are the report of that run: of its answers, and of

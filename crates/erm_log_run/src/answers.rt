@@ -8,6 +8,7 @@ ghost use Rattle.erm_log_run.specs.Keeping.{CountsFaults, IsHeld, Keeps, keeper_
 ghost use Rattle.erm_log_run.specs.Lines.{AreLinesOf, AreReceipts};
 ghost use Rattle.erm_log_run.specs.Runs.{Ran};
 ghost use Rattle.erm_log_run.specs.Saving.{AreSaved, saved_at};
+ghost use Rattle.erm_log_run.specs.Starving.{Starves, WhereStarved};
 
 use crate::{LineStop, RowsOf, Store, run_line};
 use erm_model::Receipt;
@@ -39,6 +40,7 @@ pub fn answer_all<W: ScriptWorld, D: Disk>(
     ensures told { KeepsTold W.rows_law.meets result answers.new.items (D.told store.old.disk) (keeper_of (W.log world.new) store.new (D.told store.new.disk)) }
     ensures saves { OnOk result (AreSaved (saved_at answers.new.items) (D.told store.old.disk) store.old.slots store.new.slots) }
     ensures counts { CountsFaults result (D.faults store.old.disk) (D.faults store.new.disk) }
+    ensures starved { WhereStarved result (Starves W.rows_law.meets (W.view world.old) script.now (keeper_of (W.log world.old) store.old (D.told store.old.disk)) (D.told store.new.disk)) }
 {
     erm_crash::kept_logs_begin::<RowsOf<W>>();
     for line in script {

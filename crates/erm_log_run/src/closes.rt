@@ -11,6 +11,7 @@ ghost use Rattle.erm_crash.specs.Kept.{LeavesLog};
 ghost use Rattle.erm_log_run.specs.Closing.{HasClosed, IsClosing, IsFlushedUp, IsFlushedWhenIdle, closes_from};
 ghost use Rattle.erm_log_run.specs.Keeping.{CountsFaults, IsHeld, Keeps, keeper_of};
 ghost use Rattle.erm_log_run.specs.Runs.{ClosesOnFault, FlushesOnFault};
+ghost use Rattle.erm_log_run.specs.Starving.{WhereStarved};
 
 use crate::{LineStop, RowsOf, Store};
 use erm_flush::FlushStop;
@@ -45,6 +46,7 @@ pub fn close_all<W: ScriptWorld, D: Disk>(
     ensures closes { ClosesOnFault result (W.view world.old) (W.view world.new) }
     ensures keeps { Keeps W.rows_law.meets result (keeper_of (W.log world.old) store.old (D.told store.old.disk)) (keeper_of (W.log world.new) store.new (D.told store.new.disk)) }
     ensures counts { CountsFaults result (D.faults store.old.disk) (D.faults store.new.disk) }
+    ensures spared { WhereStarved result (store.new ≡ store.old) }
 {
     erm_crash::held_logs_stay::<RowsOf<W>>();
     erm_crash::kept_logs_stay::<RowsOf<W>>();
@@ -81,6 +83,7 @@ fn flush_up<W: ScriptWorld, D: Disk>(world: &mut W, store: &mut Store<D>) -> Res
     ensures all { OnOk result (IsFlushedWhenIdle (W.view world.new)) }
     ensures keeps { Keeps W.rows_law.meets result (keeper_of (W.log world.old) store.old (D.told store.old.disk)) (keeper_of (W.log world.new) store.new (D.told store.new.disk)) }
     ensures counts { CountsFaults result (D.faults store.old.disk) (D.faults store.new.disk) }
+    ensures fed { WhereStarved result ⊥ }
 {
     erm_crash::flushes_keep::<RowsOf<W>>();
     erm_crash::moments_go_on::<RowsOf<W>>();

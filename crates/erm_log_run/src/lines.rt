@@ -11,7 +11,8 @@ ghost use Rattle.erm_lines.specs.Whole.{AreRunsNow};
 ghost use Rattle.erm_log_run.specs.Keeping.{CountsFaults, IsHeld, Keeps, keeper_of};
 ghost use Rattle.erm_log_run.specs.Lines.{AreReceipts, IsLineOf};
 ghost use Rattle.erm_log_run.specs.Runs.{FailsOfLog, FlushesOnFault};
-ghost use Rattle.erm_log_run.specs.Saving.{AreSaved, saved_by};
+ghost use Rattle.erm_log_run.specs.Saving.{AreSaved, Removes, saved_by};
+ghost use Rattle.erm_log_run.specs.Starving.{WhereStarved};
 
 use crate::{LineStop, RowsOf, Store, checkpoint_line, flush_line};
 use erm_lines::{answer_durable, answer_line};
@@ -76,7 +77,9 @@ pub fn run_line<W: ScriptWorld, D: Disk>(
     ensures receipts { OnOk result (AreReceipts (W.view world.new) receipts.new) }
     ensures keeps { Keeps W.rows_law.meets result (keeper_of (W.log world.old) store.old (D.told store.old.disk)) (keeper_of (W.log world.new) store.new (D.told store.new.disk)) }
     ensures saves { IfOk result (λ a. AreSaved (saved_by a None) (D.told store.new.disk) store.old.slots store.new.slots) }
+    ensures removes { IfOk result (λ a. Removes a (D.told store.new.disk) store.old.slots store.new.slots) }
     ensures counts { CountsFaults result (D.faults store.old.disk) (D.faults store.new.disk) }
+    ensures spared { WhereStarved result (store.new ≡ store.old) }
 {
     erm_maps::begun_transactions_are_runs();
     erm_maps::answers_stay();

@@ -4,7 +4,8 @@ ghost use Rattle.erm_lines.specs.Executions.{DidLog};
 ghost use Rattle.erm_script.specs.declared.script.Command.TheVariants.{Checkpoint, Flush};
 ghost use Rattle.erm_log_run.specs.Keeping.{CountsFaults, IsHeld, Keeps, keeper_of};
 ghost use Rattle.erm_log_run.specs.Runs.{FlushesOnFault};
-ghost use Rattle.erm_log_run.specs.Saving.{AreSaved, saved_by};
+ghost use Rattle.erm_log_run.specs.Saving.{AreSaved, Removes, saved_by};
+ghost use Rattle.erm_log_run.specs.Starving.{WhereStarved};
 
 use crate::{LineStop, RowsOf, Store};
 use erm_checkpoint::CheckpointStop;
@@ -25,7 +26,9 @@ pub fn flush_line<W: ScriptWorld, D: Disk>(
     ensures flushes { FlushesOnFault result (W.view world.old) (W.view world.new) }
     ensures keeps { Keeps W.rows_law.meets result (keeper_of (W.log world.old) store.old (D.told store.old.disk)) (keeper_of (W.log world.new) store.new (D.told store.new.disk)) }
     ensures saves { IfOk result (λ a. AreSaved (saved_by a None) (D.told store.new.disk) store.old.slots store.new.slots) }
+    ensures removes { IfOk result (λ a. Removes a (D.told store.new.disk) store.old.slots store.new.slots) }
     ensures counts { CountsFaults result (D.faults store.old.disk) (D.faults store.new.disk) }
+    ensures fed { WhereStarved result ⊥ }
 {
     erm_crash::flushes_keep::<RowsOf<W>>();
     erm_crash::moments_go_on::<RowsOf<W>>();
@@ -52,7 +55,9 @@ pub fn checkpoint_line<W: ScriptWorld, D: Disk>(
     ensures flushes { FlushesOnFault result (W.view world.old) (W.view world.new) }
     ensures keeps { Keeps W.rows_law.meets result (keeper_of (W.log world.old) store.old (D.told store.old.disk)) (keeper_of (W.log world.new) store.new (D.told store.new.disk)) }
     ensures saves { IfOk result (λ a. AreSaved (saved_by a None) (D.told store.new.disk) store.old.slots store.new.slots) }
+    ensures removes { IfOk result (λ a. Removes a (D.told store.new.disk) store.old.slots store.new.slots) }
     ensures counts { CountsFaults result (D.faults store.old.disk) (D.faults store.new.disk) }
+    ensures fed { WhereStarved result ⊥ }
 {
     erm_crash::flushes_keep::<RowsOf<W>>();
     erm_crash::moments_go_on::<RowsOf<W>>();
@@ -79,7 +84,9 @@ fn checkpoint_flushed<W: ScriptWorld, D: Disk>(
     ensures flushes { FlushesOnFault result (W.view world.old) (W.view world.new) }
     ensures keeps { Keeps W.rows_law.meets result (keeper_of (W.log world.old) store.old (D.told store.old.disk)) (keeper_of (W.log world.new) store.new (D.told store.new.disk)) }
     ensures saves { IfOk result (λ a. AreSaved (saved_by a None) (D.told store.new.disk) store.old.slots store.new.slots) }
+    ensures removes { IfOk result (λ a. Removes a (D.told store.new.disk) store.old.slots store.new.slots) }
     ensures counts { CountsFaults result (D.faults store.old.disk) (D.faults store.new.disk) }
+    ensures fed { WhereStarved result ⊥ }
 {
     erm_crash::checkpoints_keep::<RowsOf<W>>();
     erm_crash::moments_go_on::<RowsOf<W>>();

@@ -23,6 +23,7 @@ ghost use Rattle.erm_log_run.specs.Lines.{AreLinesOf};
 ghost use Rattle.erm_log_run.specs.Acknowledged.{AllLast, KeepsTold};
 ghost use Rattle.erm_log_run.specs.Runs.{IsCutReportOf, IsReportOf, OnFault, RanAll, UnlessFault, UnlessMemory, WasCut, WasRun, lines_in};
 ghost use Rattle.erm_log_run.specs.Saving.{AreSaved, saved_at};
+ghost use Rattle.erm_log_run.specs.Starving.{OnMemory, Starves, WasStarved, WhereStarved};
 
 use crate::{LineStop, RunStop, Store, answer_all, by_seat, close_all, cut_report};
 use erm_model::{Name, Receipt, Seat};
@@ -56,6 +57,7 @@ fn run_all<W: ScriptWorld, D: Disk>(
     ensures told { KeepsTold W.rows_law.meets result answers.new.items (D.told store.old.disk) (keeper_of (W.log world.new) store.new (D.told store.new.disk)) }
     ensures saves { OnOk result (AreSaved (saved_at answers.new.items) (D.told store.old.disk) store.old.slots store.new.slots) }
     ensures counts { CountsFaults result (D.faults store.old.disk) (D.faults store.new.disk) }
+    ensures starved { WhereStarved result (Starves W.rows_law.meets (W.view world.old) script.now (keeper_of (W.log world.old) store.old (D.told store.old.disk)) (D.told store.new.disk)) }
 {
     let mut receipts = no_receipts(alloc, sessions)?;
     answer_all(alloc, world, store, script, &mut receipts, answers)?;
@@ -132,6 +134,9 @@ pub fn run_script<W: ScriptWorld, D: Disk>(
         × (All FitsTypes lines → IsCutReportOf (opening_at start (count_rows (W.view world.old).opening.rows) (W.view world.old).opening.first) names.now script.now was.answers lines)) }
     ensures fault { OnFault result (λ lines. Rose (D.faults store.old.disk) (D.faults store.new.disk)) }
     ensures sound { UnlessFault result (D.faults store.new.disk ≡ D.faults store.old.disk) }
+
+    // Where memory runs out each image at each moment recovers to a front of what the script's first lines gathered.
+    ensures starved { OnMemory result (WasStarved W.rows_law.meets (W.view world.old) script.now (W.log world.old) (D.told store.old.disk) (D.told store.new.disk)) }
 {
     erm_told::runs_have_phases();
     erm_told::runs_close_sessions();

@@ -1,7 +1,6 @@
 -- How the commands end that read no source.
 use Rattle.std.proofs.Common.{◌≡◌, ◌≢◌, ℕ, ◌≤◌, ◌⊎◌, List, Result, Ok, Err, subst, inl, inr, arith}
-use Rattle.erm_good_report.specs.Opening.{InTurn}
-use Rattle.erm_made.specs.Law.{EachIsCounted}
+use Rattle.erm_made.specs.Law.{CountsAddUp}
 use Rattle.erm_outside.specs.Faults.{Rose}
 use Rattle.erm_disk_run.specs.declared.stops.DiskStop.TheVariants as disk
 use Rattle.erm_disk_run.specs.Stops.{StopsFor}
@@ -68,7 +67,7 @@ module _ (one : OneRecovery) (status : ℕ) (a : Around) (source : LeavesSource 
     }
 
 -- a workload that is run
-module _ (one : OneRecovery) (each : EachIsCounted) (transactions sessions : ℕ) (some : 1 ≤ sessions) (status : ℕ) (a : Around) (source : LeavesSource a) where
+module _ (one : OneRecovery) (sum : CountsAddUp) (transactions sessions : ℕ) (some : 1 ≤ sessions) (status : ℕ) (a : Around) (source : LeavesSource a) where
   abbrev Making : Result (List ℕ) Stop → Type 0
   Making told = TellsMaking transactions sessions told a.told_before a.told_after a.disk_before a.disk_after
 
@@ -77,8 +76,8 @@ module _ (one : OneRecovery) (each : EachIsCounted) (transactions sessions : ℕ
   made_soundly (Err stop.DiskFault) made put other = absurd (other put.0)
   made_soundly (Err stop.NoBase) made put other = inl made.1
   made_soundly (Err (stop.AtEnd text)) made put other = inl made.1
-  made_soundly (Err stop.Memory) (inl same) put other = inl same
-  made_soundly (Err stop.Memory) (inr rose) put other = inr (put.0, rose)
+  made_soundly (Err stop.Memory) (left, inl same) put other = inl same
+  made_soundly (Err stop.Memory) (left, inr rose) put other = inr (put.0, rose)
   made_soundly (Err s) made put other = absurd made
 
   module _ (told : Result (List ℕ) Stop) (making : Making told) (put : PutsAround told status a) where
@@ -96,8 +95,8 @@ module _ (one : OneRecovery) (each : EachIsCounted) (transactions sessions : ℕ
           made = t.counted.made;
           counts = t.counted.counts;
           adds_up = λ decided.
-              let sum = each InTurn t.ran.opening transactions sessions t.lines (record { some = some; good = t.ran.tight.good; decided = decided }) in
-              omega (arith, sum, t.counted.counts.committed, t.counted.counts.excluded, t.counted.counts.owned);
+              let all = sum t.ran.opening transactions sessions t.lines (record { some = some; good = t.ran.tight.good; decided = decided }) in
+              omega (arith, all, t.counted.counts.committed, t.counted.counts.excluded, t.counted.counts.owned);
           text_is = t.counted.text_is;
         }
 
@@ -127,7 +126,7 @@ module _ (one : OneRecovery) (each : EachIsCounted) (transactions sessions : ℕ
         | inr p ↦ absurd (by (Err (stop.Cut p.0)) p.1)
       ];
       no_base = λ e. ((no_base status a told put e).1, no_seven e);
-      no_memory = λ e. (no_memory status a told put e).1;
+      no_memory = λ e. let p = no_memory status a told put e in (p.1, (by (Err stop.Memory) p.0).0);
       at_end = no_ten;
       source = source;
       disk_sound = made_soundly told making put;

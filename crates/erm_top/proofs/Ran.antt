@@ -7,9 +7,9 @@ use Rattle.erm_script.specs.declared.script.ScriptLine.{ScriptLine}
 use Rattle.erm_disk_run.specs.declared.stops.DiskStop.TheVariants as disk
 use Rattle.erm_disk_run.specs.Stops.{StopsFor}
 use Rattle.erm_top.specs.Around.{Around, PrintsText, TakesMore, WasReadWith}
-use Rattle.erm_top.specs.Runs.{IsAtEnd, NothingFailed, Refused, Reports, ReportsCut, RunEnds, SpellScript}
+use Rattle.erm_top.specs.Runs.{IsAtEnd, LeftByMemory, NothingFailed, Refused, Reports, ReportsCut, RunEnds, SpellScript, Starved}
 use Rattle.erm_top.specs.Scripts.{run_grammar}
-use Rattle.erm_top.specs.Stopped.{NotRead, TellsEnd, TellsRan}
+use Rattle.erm_top.specs.Stopped.{LeavesScript, NotRead, TellsEnd, TellsRan}
 use Rattle.erm_top.specs.Told.{TookAtMost, WasRead}
 use Rattle.erm_top.specs.declared.printing.Stop.{Stop}
 use Rattle.erm_top.specs.declared.printing.Stop.TheVariants as stop
@@ -50,8 +50,8 @@ module _ (one : OneRecovery) (status : ℕ) (a : Around) (taken : TookAtMost (SC
   ran_soundly (Err stop.DiskFault) names script ran put other = absurd (other put.0)
   ran_soundly (Err stop.NoBase) names script ran put other = inl ran.1
   ran_soundly (Err (stop.AtEnd text)) names script ran put other = inl ran.1
-  ran_soundly (Err stop.Memory) names script (inl same) put other = inl same
-  ran_soundly (Err stop.Memory) names script (inr rose) put other = inr (put.0, rose)
+  ran_soundly (Err stop.Memory) names script (left, inl same) put other = inl same
+  ran_soundly (Err stop.Memory) names script (left, inr rose) put other = inr (put.0, rose)
   ran_soundly (Err s) names script ran put other = absurd ran
 
   -- a script was read, and run or not
@@ -73,6 +73,10 @@ module _ (one : OneRecovery) (status : ℕ) (a : Around) (taken : TookAtMost (SC
     reports_cut : (text : List ℕ) → told ≡ Err (stop.Cut text) → WasReadWith (λ bytes. ReportsCut a bytes text) a
     reports_cut text e = let t = (at (Err (stop.Cut text)) e).0 in
         reading (λ bytes. ReportsCut a bytes text) (record { names = names; script = script; spelled = is; state = t.state; found = t.found; lines = t.lines; cut = t.cut; text_is = t.text_is })
+
+    starved : LeavesScript names script a.told_before a.told_after → LeftByMemory a
+    starved (inl keeps) = inl keeps
+    starved (inr was) = inr (reading (Starved a) (record { names = names; script = script; spelled = is; state = was.0; found = was.1; was = was.2 }))
 
     not_three : status ≢ 3
     not_three e = let p = bad_line status a told put e in at (Err (stop.BadLine p.0)) p.1
@@ -107,7 +111,7 @@ module _ (one : OneRecovery) (status : ℕ) (a : Around) (taken : TookAtMost (SC
         ],
       );
       no_base = λ e. (spelled, (no_base status a told put e).1, seven e);
-      no_memory = λ e. (no_memory status a told put e).1;
+      no_memory = λ e. let p = no_memory status a told put e in (p.1, starved (at (Err stop.Memory) p.0).0);
       too_long = λ e. absurd (not_nine e);
       at_end = λ e. (spelled, ten e);
       source_sound = λ _. sound;
@@ -182,7 +186,7 @@ module _ (one : OneRecovery) (status : ℕ) (a : Around) (taken : TookAtMost (SC
       read_fault = λ e. (source_failed e, (read_fault status a told put e).1, record { told = still; sound = sound });
       disk_fault = λ e. absurd (not_six e);
       no_base = λ e. absurd (not_seven e);
-      no_memory = λ e. (no_memory status a told put e).1;
+      no_memory = λ e. ((no_memory status a told put e).1, inl (inl still));
       too_long = λ e. (too_many e, (too_long status a told put e).1, record { told = still; sound = sound });
       at_end = λ e. absurd (not_ten e);
       source_sound = unread_soundly told unread put;

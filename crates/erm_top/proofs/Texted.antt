@@ -1,5 +1,5 @@
 -- What there is to tell of a run, by how it ended.
-use Rattle.std.proofs.Common.{◌≡◌, ℕ, List, Option, Result, Ok, Err, Vec, ap, ◌∙◌, subst, inl, inr}
+use Rattle.std.proofs.Common.{◌≡◌, ℕ, ◌⊎◌, List, Option, Result, Ok, Err, Vec, ap, ◌∙◌, subst, inl, inr}
 use Rattle.std.specs.List.{All}
 use Rattle.std.specs.declared.alloc.Global.{Global}
 use Rattle.erm_outside.specs.Disk.{Step}
@@ -12,12 +12,29 @@ use Rattle.erm_script.specs.declared.script.ScriptLine.{ScriptLine}
 use Rattle.erm_disk_run.specs.declared.stops.DiskStop.{DiskStop}
 use Rattle.erm_disk_run.specs.declared.stops.RunStop.{RunStop}
 use Rattle.erm_disk_run.specs.declared.stops.RunStop.TheVariants as run
-use Rattle.erm_disk_run.specs.Runs.{AreInTables, CountsRun, EndsRun}
+use Rattle.erm_disk_run.specs.Runs.{AreInTables, CountsRun, EndsRun, LeavesUntold}
 use Rattle.erm_disk_run.specs.Stops.{CountsStop, StopsFor}
 use Rattle.erm_top.specs.Makes.{lines_of}
-use Rattle.erm_top.specs.Stopped.{NotOpened, TellsCounted, TellsCounts, TellsCut, TellsMaking, TellsRan, TellsRun}
+use Rattle.erm_top.specs.Stopped.{LeavesScript, NotOpened, TellsCounted, TellsCounts, TellsCut, TellsMaking, TellsRan, TellsRun}
 use Rattle.erm_top.specs.declared.printing.Stop.{Stop}
 use Rattle.erm_top.specs.declared.printing.Stop.TheVariants as stop
+
+-- a run that was begun
+abbrev pub Begun : Result (Vec Line Global) RunStop → Type 0
+Begun (Err (run.Unopened stop)) = ⊥
+Begun ended = Unit {0}
+
+-- no memory was left for what there is to tell of it
+pub untold_run : (e ended : Result (Vec Line Global) RunStop) → ended ≡ e → (before after : Option (List Step)) (faults now : ℕ) (names : List (List ℕ)) (script : List ScriptLine)
+    → LeavesUntold ended before after names script → CountsRun ended faults now → Begun e → LeavesScript names script before after × ((now ≡ faults) ⊎ Rose faults now)
+untold_run e ended is before after faults now names script left counts begun =
+    of e begun (subst (λ (r : Result (Vec Line Global) RunStop). LeavesUntold r before after names script) is left) (subst (λ (r : Result (Vec Line Global) RunStop). CountsRun r faults now) is counts)
+  where
+    of : (e : Result (Vec Line Global) RunStop) → Begun e → LeavesUntold e before after names script → CountsRun e faults now → LeavesScript names script before after × ((now ≡ faults) ⊎ Rose faults now)
+    of (Ok lines) begun left counts = (inr left, inl counts)
+    of (Err (run.DiskFault lines)) begun left counts = (inr left, inr counts)
+    of (Err run.Memory) begun left counts = (inr left, inl counts)
+    of (Err (run.Unopened stop)) begun left counts = absurd begun
 
 -- lines that are read as a slice fit their types
 abbrev pub FitAs : List Line → Type 0
@@ -84,7 +101,7 @@ module _ (ended : Result (Vec Line Global) RunStop) (tables : AreInTables ended)
     tells_stop names script ends = of_run told (stopped names script ends)
       where
         of_run : (s : Stop) → NotOpened s before after faults now → TellsRan (Err s) names script before after faults now
-        of_run stop.Memory why = inl why.1
+        of_run stop.Memory why = (inl why.0, inl why.1)
         of_run (stop.Cut text) why = absurd why
         of_run s why = why
 
@@ -93,6 +110,6 @@ module _ (ended : Result (Vec Line Global) RunStop) (tables : AreInTables ended)
     tells_unmade transactions sessions ends = of_making told (stopped (names_of transactions sessions) (lines_of transactions sessions) ends)
       where
         of_making : (s : Stop) → NotOpened s before after faults now → TellsMaking transactions sessions (Err s) before after faults now
-        of_making stop.Memory why = inl why.1
+        of_making stop.Memory why = (inl why.0, inl why.1)
         of_making stop.DiskFault why = (inl why.0, why.1)
         of_making s why = why

@@ -2,7 +2,7 @@
 use Rattle.std.proofs.Common.{◌≡◌, ◌≢◌, ℕ, ◌+◌, true, false, List, Option, Some, None, Err, refl, sym, subst, inl, inr, arith}
 use Rattle.std.specs.Prelude.{String}
 use Rattle.std.specs.declared.alloc.Global.{Global}
-use Rattle.erm_made.specs.Law.{EachIsCounted}
+use Rattle.erm_made.specs.Law.{CountsAddUp}
 use Rattle.erm_report.specs.Texts.{line_text}
 use Rattle.erm_report.specs.declared.line.Line.TheVariants as line
 use Rattle.erm_command_line.specs.CommandLine.{IsCommand}
@@ -38,16 +38,16 @@ took_none None = tt
 took_none (Some bytes) = (0, omega arith, omega arith, refl)
 
 -- memory ran out before anything was done
-pub starved : OneRecovery → EachIsCounted → (words : List (String Global)) (command : Command) (a : Around) → is_on command ≡ true → IsCommand words command → LeavesSource a → LeavesDisk a
+pub starved : OneRecovery → CountsAddUp → (words : List (String Global)) (command : Command) (a : Around) → is_on command ≡ true → IsCommand words command → LeavesSource a → LeavesDisk a
     → Prints (line_text line.NoMemory) a.written_before a.written_after a.sink_before a.sink_after → CommandEnds command 8 a
-starved one each words Run a on asked source still put =
+starved one sum words Run a on asked source still put =
     unread_ends one 8 a (subst (λ (o : Option (List ℕ)). TookAtMost (SCRIPT_BYTES + 1) a.left_before o) (sym source.left) (took_none a.left_before)) (Err stop.Memory) source.sound (refl, put) still.told still.sound
-starved one each words Recover a on asked source still put = inspection_ends IsRecovery HasRecoveryForm 8 a (Err stop.Memory) still.sound (refl, put) source still.told
-starved one each words Audit a on asked source still put = inspection_ends IsAudit HasAuditForm 8 a (Err stop.Memory) still.sound (refl, put) source still.told
-starved one each words Checkpoint a on asked source still put = checkpoint_ends one 8 a source (Err stop.Memory) (inl still.told, still.sound) (refl, put)
-starved one each words (Make transactions sessions false) a on asked source still put =
-    make_ends one each transactions sessions (is_sized words (Make transactions sessions false) asked).2 8 a source (Err stop.Memory) (inl still.sound) (refl, put)
-starved one each words (Make transactions sessions true) a on asked source still put = record {
+starved one sum words Recover a on asked source still put = inspection_ends IsRecovery HasRecoveryForm 8 a (Err stop.Memory) still.sound (refl, put) source still.told
+starved one sum words Audit a on asked source still put = inspection_ends IsAudit HasAuditForm 8 a (Err stop.Memory) still.sound (refl, put) source still.told
+starved one sum words Checkpoint a on asked source still put = checkpoint_ends one 8 a source (Err stop.Memory) (inl still.told, still.sound) (refl, put)
+starved one sum words (Make transactions sessions false) a on asked source still put =
+    make_ends one sum transactions sessions (is_sized words (Make transactions sessions false) asked).2 8 a source (Err stop.Memory) (inl (inl still.told), inl still.sound) (refl, put)
+starved one sum words (Make transactions sessions true) a on asked source still put = record {
   known = inr (inr refl);
   success = λ e. absurd (omega (arith, e));
   sink_fault = λ e. absurd (omega (arith, e));
@@ -56,7 +56,7 @@ starved one each words (Make transactions sessions true) a on asked source still
   disk = still;
   complete = λ calm. inr refl;
 }
-starved one each words Threads a on asked source still put = absurd (cc on)
+starved one sum words Threads a on asked source still put = absurd (cc on)
 
 -- so ends what the words ask for, which is one command
 pub ends : (words : List (String Global)) (command : Command) (status : ℕ) (a : Around) → is_on command ≡ true → IsCommand words command
@@ -77,10 +77,10 @@ ends_misused words a none source still put = record {
 }
 
 -- or no memory was left for the words
-pub ends_starved : OneRecovery → EachIsCounted → (words : List (String Global)) (a : Around) → LeavesSource a → LeavesDisk a
+pub ends_starved : OneRecovery → CountsAddUp → (words : List (String Global)) (a : Around) → LeavesSource a → LeavesDisk a
     → Prints (line_text line.NoMemory) a.written_before a.written_after a.sink_before a.sink_after → Ends words 8 a
-ends_starved one each words a source still put = record {
-  ended = λ command on asked. starved one each words command a on asked source still put;
+ends_starved one sum words a source still put = record {
+  ended = λ command on asked. starved one sum words command a on asked source still put;
   misused = λ none. record { known = inr refl; usage = λ e. absurd (omega (arith, e)); no_memory = λ e. put; source = source; disk = still };
   usage = λ two. absurd (omega (arith, two));
 }

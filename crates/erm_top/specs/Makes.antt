@@ -9,11 +9,11 @@ use Rattle.erm_script.specs.declared.script.ScriptLine.{ScriptLine}
 use Rattle.erm_make.specs.Texts.{lines_but_flushes, script_text}
 use Rattle.erm_make.specs.Workload.{names_of, numbered, workload}
 use Rattle.erm_made.specs.declared.counts.Made.{Made}
-use Rattle.erm_made.specs.Counts.{count, is_commit, is_exclusion, is_pair, leaves_open, made_lines, meets_newer, meets_owner, tells}
+use Rattle.erm_made.specs.Counts.{count, is_commit, is_exclusion, is_pair, leaves_open, made_lines, meets_owner, tells}
 use Rattle.erm_disk_run.specs.declared.stops.DiskStop.TheVariants as disk
 use Rattle.erm_disk_run.specs.Found.{IsFound}
-use Rattle.erm_disk_run.specs.Runs.{WasCutOn, WasRunOn}
-use Rattle.erm_disk_run.specs.Stops.{StopsFor}
+use Rattle.erm_disk_run.specs.Runs.{WasCutOn, WasRunOn, WasStarvedOn}
+use Rattle.erm_disk_run.specs.Stops.{KeepsMap, StopsFor}
 use Rattle.erm_top.specs.Around.{Around, LeavesDisk, LeavesSource, PrintsLine, PutsCut, PutsWhole}
 use Rattle.erm_top.specs.Runs.{HasRoom, IsAtEnd, NothingFailed}
 
@@ -37,7 +37,7 @@ pub record TellsMade (transactions sessions : ℕ) (a : Around) (text : List ℕ
   pub made : Made
   pub counts : AreCountsOf lines made
   -- where no line leaves a transaction open, each of them is counted: the sixteen that load, and the others
-  pub adds_up : count (tells leaves_open) lines ≡ 0 → made.committed + made.excluded + made.owned + count (tells meets_newer) lines ≡ 16 + transactions
+  pub adds_up : count (tells leaves_open) lines ≡ 0 → made.committed + made.excluded + made.owned ≡ 16 + transactions
   pub text_is : text ≡ text_of (made_lines transactions sessions made)
 
 -- the disk failed before the workload was run, or while it was
@@ -46,6 +46,12 @@ FailsMaking transactions sessions a = StopsFor disk.DiskFault a.told_before a.to
     ⊎ ((state : State) × IsFound a.told_before state
     × ((lines : List Line) × WasCutOn a.told_before a.told_after state (names_of transactions sessions) (lines_of transactions sessions) lines))
 
+-- What is left on the disk where memory ran out: it is as it was, or each image at each moment recovers to the map found, or the workload was run up to
+-- some line.
+abbrev pub LeftByMaking : ℕ → ℕ → Around → Type 0
+LeftByMaking transactions sessions a = KeepsMap a.told_before a.told_after
+    ⊎ ((state : State) × IsFound a.told_before state × WasStarvedOn a.told_before a.told_after state (names_of transactions sessions) (lines_of transactions sessions))
+
 -- what each status means of `make` where the workload is run
 pub record MakeEnds (transactions sessions status : ℕ) (a : Around) : Type 0 where
   pub known : (status ≡ 0) ⊎ (status ≡ 5) ⊎ (status ≡ 6) ⊎ (status ≡ 7) ⊎ (status ≡ 8) ⊎ (status ≡ 10)
@@ -53,7 +59,7 @@ pub record MakeEnds (transactions sessions status : ℕ) (a : Around) : Type 0 w
   pub sink_fault : status ≡ 5 → (text : List ℕ) × TellsMade transactions sessions a text × PutsCut text a
   pub disk_fault : status ≡ 6 → Rose a.disk_before a.disk_after × PrintsLine line.DiskFault a × FailsMaking transactions sessions a
   pub no_base : status ≡ 7 → PrintsLine line.NoBase a × StopsFor disk.NoBase a.told_before a.told_after
-  pub no_memory : status ≡ 8 → PrintsLine line.NoMemory a
+  pub no_memory : status ≡ 8 → PrintsLine line.NoMemory a × LeftByMaking transactions sessions a
   pub at_end : status ≡ 10 → IsAtEnd a
   pub source : LeavesSource a
   -- The disk did not fail with another status, unless no memory was left when it had.

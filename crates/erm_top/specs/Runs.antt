@@ -13,8 +13,8 @@ use Rattle.erm_script.specs.Faults.{IsFirstBadLine}
 use Rattle.erm_script.specs.Script.{IsScript}
 use Rattle.erm_disk_run.specs.declared.stops.DiskStop.TheVariants as disk
 use Rattle.erm_disk_run.specs.Found.{IsFound, ReadsAs}
-use Rattle.erm_disk_run.specs.Runs.{WasCutOn, WasRunOn}
-use Rattle.erm_disk_run.specs.Stops.{StopsFor}
+use Rattle.erm_disk_run.specs.Runs.{WasCutOn, WasRunOn, WasStarvedOn}
+use Rattle.erm_disk_run.specs.Stops.{KeepsMap, StopsFor}
 use Rattle.erm_top.specs.Around.{Around, LeavesDisk, PrintsLine, PrintsText, PutsCut, PutsWhole, TakesAtMost, TakesMore, WasReadWith}
 use Rattle.erm_top.specs.Scripts.{run_grammar}
 use Rattle.erm_top.specs.declared.reading.TheConstants.{SCRIPT_BYTES}
@@ -40,6 +40,20 @@ pub record ReportsCut (a : Around) (bytes text : List ℕ) : Type 0 where
   pub lines : List Line
   pub cut : WasCutOn a.told_before a.told_after state names script lines
   pub text_is : text ≡ text_of lines
+
+-- Bytes spell a script, which was run on the disk up to some of its lines, or to its end: memory ran out meanwhile, or for its report.
+pub record Starved (a : Around) (bytes : List ℕ) : Type 0 where
+  pub names : List (List ℕ)
+  pub script : List ScriptLine
+  pub spelled : IsScript run_grammar bytes names script
+  pub state : State
+  pub found : IsFound a.told_before state
+  pub was : WasStarvedOn a.told_before a.told_after state names script
+
+-- What is left on the disk where memory ran out: it is as it was, or each image at each moment recovers to the map found, or a script was run up to
+-- some line.
+abbrev pub LeftByMemory : Around → Type 0
+LeftByMemory a = KeepsMap a.told_before a.told_after ⊎ WasReadWith (Starved a) a
 
 -- bytes spell a script
 abbrev pub SpellScript : List ℕ → Type 0
@@ -91,7 +105,7 @@ pub record RunEnds (status : ℕ) (a : Around) : Type 0 where
   pub read_fault : status ≡ 4 → Rose a.source_before a.source_after × PrintsLine line.ReadFault a × LeavesDisk a
   pub disk_fault : status ≡ 6 → Rose a.disk_before a.disk_after × FailsOnDisk a
   pub no_base : status ≡ 7 → WasReadWith SpellScript a × PrintsLine line.NoBase a × StopsFor disk.NoBase a.told_before a.told_after
-  pub no_memory : status ≡ 8 → PrintsLine line.NoMemory a
+  pub no_memory : status ≡ 8 → PrintsLine line.NoMemory a × LeftByMemory a
   pub too_long : status ≡ 9 → TakesMore SCRIPT_BYTES a × PrintsLine line.TooLong a × LeavesDisk a
   pub at_end : status ≡ 10 → WasReadWith SpellScript a × IsAtEnd a
   -- Source and disk did not fail with another status, unless no memory was left for the report up to where the disk failed. And no more bytes

@@ -17,7 +17,7 @@ use Rattle.erm_inspect.specs.declared.stop.InspectStop.{InspectStop}
 use Rattle.erm_inspect.specs.declared.stop.InspectStop.TheVariants as inspect
 use Rattle.erm_disk_run.specs.declared.stops.DiskStop.TheVariants as disk
 use Rattle.erm_disk_run.specs.Found.{IsFound}
-use Rattle.erm_disk_run.specs.Runs.{WasCutOn, WasRunOn}
+use Rattle.erm_disk_run.specs.Runs.{WasCutOn, WasRunOn, WasStarvedOn}
 use Rattle.erm_disk_run.specs.Saved.{WasCheckpointed}
 use Rattle.erm_disk_run.specs.Stops.{KeepsMap, StopsFor}
 use Rattle.erm_top.specs.Makes.{AreCountsOf, lines_of}
@@ -69,11 +69,15 @@ pub record TellsCut (before after : Option (List Step)) (names : List (List ℕ)
   pub cut : WasCutOn before after state names script lines
   pub text_is : text ≡ text_of lines
 
+-- no memory was left to tell of a script: nothing was run of it, and each image at each moment recovers to the map found, or it was run up to some line
+abbrev pub LeavesScript : List (List ℕ) → List ScriptLine → Option (List Step) → Option (List Step) → Type 0
+LeavesScript names script before after = KeepsMap before after ⊎ ((state : State) × IsFound before state × WasStarvedOn before after state names script)
+
 -- What there is to tell of a script's run. Where memory runs out, the disk may have failed before.
 abbrev pub TellsRan : Result (List ℕ) Stop → List (List ℕ) → List ScriptLine → Option (List Step) → Option (List Step) → ℕ → ℕ → Type 0
 TellsRan (Ok text) names script before after faults now = TellsRun before after names script text × (now ≡ faults)
 TellsRan (Err (stop.Cut text)) names script before after faults now = TellsCut before after names script text × Rose faults now
-TellsRan (Err stop.Memory) names script before after faults now = (now ≡ faults) ⊎ Rose faults now
+TellsRan (Err stop.Memory) names script before after faults now = LeavesScript names script before after × ((now ≡ faults) ⊎ Rose faults now)
 TellsRan (Err stop) names script before after faults now = NotOpened stop before after faults now
 
 -- what there is to tell of what was found on a disk
@@ -109,5 +113,6 @@ TellsMaking transactions sessions (Ok text) before after faults now = TellsCount
 TellsMaking transactions sessions (Err stop.DiskFault) before after faults now = (StopsFor disk.DiskFault before after
     ⊎ ((state : State) × IsFound before state × (lines : List Line) × WasCutOn before after state (names_of transactions sessions) (lines_of transactions sessions) lines))
     × Rose faults now
-TellsMaking transactions sessions (Err stop.Memory) before after faults now = (now ≡ faults) ⊎ Rose faults now
+TellsMaking transactions sessions (Err stop.Memory) before after faults now = LeavesScript (names_of transactions sessions) (lines_of transactions sessions) before after
+    × ((now ≡ faults) ⊎ Rose faults now)
 TellsMaking transactions sessions (Err stop) before after faults now = NotOpened stop before after faults now

@@ -3,7 +3,7 @@ ghost use Rattle.std.specs.Prelude.{◌≡◌, ◌≤◌, ℕ, List, Option, IfO
 ghost use Rattle.std.specs.List.{All};
 ghost use Rattle.erm_command_line.specs.declared.command.TheConstants.{MOST_SESSIONS, MOST_TRANSACTIONS};
 ghost use Rattle.erm_disk_run.specs.Found.{IsKept};
-ghost use Rattle.erm_disk_run.specs.Runs.{AreInTables, CountsRun, EndsRun};
+ghost use Rattle.erm_disk_run.specs.Runs.{AreInTables, CountsRun, EndsRun, LeavesUntold};
 ghost use Rattle.erm_make.specs.Workload.{names_of};
 ghost use Rattle.erm_outside.specs.Disk.{Step};
 ghost use Rattle.erm_report.specs.Printable.{FitsTypes, IsInTables};
@@ -136,7 +136,7 @@ fn made_text(
 ) -> Result<Text, Stop>
     requires { AreInTables ended }
     ensures { (before after : Option (List Step)) (faults now : ℕ) → EndsRun ended before after (names_of count sessions) (lines_of count sessions)
-        → CountsRun ended faults now → TellsMaking count sessions result before after faults now }
+        → LeavesUntold ended before after (names_of count sessions) (lines_of count sessions) → CountsRun ended faults now → TellsMaking count sessions result before after faults now }
 {
     match ended {
         Ok(lines) => Ok(counts_text(alloc, count, sessions, &lines)?),

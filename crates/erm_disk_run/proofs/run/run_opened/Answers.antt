@@ -12,11 +12,11 @@ use Rattle.erm_summary.specs.Tables.{KeysAreInTables}
 use Rattle.erm_log_run.specs.declared.stops.RunStop.{RunStop as LogRunStop}
 use Rattle.erm_log_run.proofs.Held.{told_after}
 use Rattle.erm_disk_run.specs.Opened.{OpensLog}
-use Rattle.erm_disk_run.specs.Runs.{AreInTables, CountsRun, EndsRun}
+use Rattle.erm_disk_run.specs.Runs.{AreInTables, CountsRun, EndsRun, LeavesUntold}
 use Rattle.erm_disk_run.specs.declared.stops.RunStop.{RunStop}
 use Rattle.erm_disk_run.proofs.Spared.{script_lines}
 use Rattle.erm_disk_run.proofs.Told.{same_map}
-use Rattle.erm_disk_run.proofs.ToldEnds.{counts, ended_as, ends, opened_on, opening_of, tables}
+use Rattle.erm_disk_run.proofs.ToldEnds.{counts, ended_as, ends, opened_on, opening_of, tables, untold}
 use Rattle.erm_disk_run.proofs.ToldRun.{DiskLaws, MeetsLog}
 use Rattle.erm_disk_run.proofs.run.run_opened.Goals as goal
 use Rattle.erm_disk_run.proofs.run.run_opened.Goals.{in-Ok, in-Err-DiskFault, in-Err-Memory}
@@ -77,7 +77,12 @@ returns g c =
           (ends laws state names (plain_view o.world) t (plain_log o.world) log (opening_of o) script o.slots store.slots before mid after
           (opened_on maps before mid state (length names) o c.requires.stands.log_of_view opens) c.run_script.result (IsWorld sound_law c.run_script.new.world)
           (λ stands. (stands.log_of_view, stands.log)) did.stands did.moments did.acknowledged did.flushed
-          (told_after (MeetsLog (plain_log o.world) o.slots) (OpensLog state (plain_log o.world) o.slots) before mid (λ a b opens. opens.tail) opens.disk) did.tail did.ran did.cut);
+          (told_after (MeetsLog (plain_log o.world) o.slots) (OpensLog state (plain_log o.world) o.slots) before mid (λ a b opens. opens.tail) opens.disk) did.tail did.ran did.cut did.starved);
+      untold = λ before state opens.
+          subst (λ (e : Result (Vec Line Global) RunStop). LeavesUntold e before after names script) told
+          (untold laws state names (plain_view o.world) t (plain_log o.world) log (opening_of o) script o.slots store.slots before mid after
+          (opened_on maps before mid state (length names) o c.requires.stands.log_of_view opens) c.run_script.result (IsWorld sound_law c.run_script.new.world)
+          (λ stands. (stands.log_of_view, stands.log)) did.stands did.moments did.acknowledged did.ran did.cut did.starved);
       tables =
           subst AreInTables told
           (tables laws found names (plain_view o.world) t (plain_log o.world) log (opening_of o) script o.slots store.slots start mid after

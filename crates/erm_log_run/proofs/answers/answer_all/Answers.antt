@@ -1,4 +1,4 @@
-use Rattle.std.proofs.Common.{◌≡◌, ℕ, ◌+◌, ◌≤◌, ◌∷◌, [], ◌++◌, List, length, take, Some, refl, ap, sym, ◌∙◌, subst, arith}
+use Rattle.std.proofs.Common.{◌≡◌, ℕ, ◌+◌, ◌∷◌, [], ◌++◌, List, length, take, Some, refl, ap, sym, ◌∙◌, subst, arith}
 use Rattle.std.specs.List.{slice_get}
 use Rattle.std.proofs.lemmas.List.{take_more, length-append, length-take}
 use Rattle.std.proofs.lemmas.Option.{slice_get-get_or}
@@ -9,16 +9,19 @@ use Rattle.erm_node.specs.Sound.{sound_law}
 use Rattle.erm_report.specs.declared.answer.Answer.{Answer}
 use Rattle.erm_script.specs.declared.script.ScriptLine.{ScriptLine}
 use Rattle.erm_lines.specs.Executions.{IsExecution, Move, line_moves, move_of}
-use Rattle.erm_log_run.specs.Acknowledged.{place_told}
+use Rattle.erm_good_report.specs.Stamps.{place_told}
+use Rattle.erm_log_run.specs.Acknowledged.{EndsAt}
 use Rattle.erm_log_run.specs.Keeping.{Keeper, KeepsOn, keeper_of}
 use Rattle.erm_log_run.specs.Lines.{IsLineOf}
 use Rattle.erm_log_run.specs.Saving.{AreSaved, saved_at}
+use Rattle.erm_log_run.specs.Starving.{Starves}
 use Rattle.erm_log_run.proofs.Answering.{line_moves_front, line_moves_more}
 use Rattle.erm_log_run.proofs.Closing.{execution_more}
 use Rattle.erm_log_run.proofs.Leaving.{on_itself, on_then}
 use Rattle.erm_log_run.proofs.Lined.{line_of_too}
 use Rattle.erm_log_run.proofs.Serial.{serializable_too}
 use Rattle.erm_log_run.proofs.Saving.{saved_more}
+use Rattle.erm_log_run.proofs.Starving.{starved_behind, starved_so, stop_starves}
 use Rattle.erm_log_run.proofs.Stopped.{stop_keeps, stop_ran}
 use Rattle.erm_log_run.proofs.Reached.{move_reaches}
 use Rattle.erm_log_run.proofs.Told.{AreKept, all_kept_more, stop_told}
@@ -84,8 +87,8 @@ loop-line-preserved g c =
     let sound = g.W.LogWorld.rows_law.meets in
     let further : KeepsOn sound first is = on_then sound first was is kept.keeps keeps.1 in
     let of = g.met.W.ScriptWorld.one_log c.run_line.new.world c.run_line.ensures.stands in
-    let reaches : (place : ℕ) → place_told a ≡ Some place → place ≤ is.log.flushed =
-    λ place told. let low = move_reaches before after l a place c.in_ok-answer.ensures.moved told in let same = of.flushed in omega (arith, low, same)
+    let reaches : (place : ℕ) → place_told a ≡ Some place → EndsAt a place is.log.flushed =
+    λ place told. subst (EndsAt a place) (sym of.flushed) (move_reaches before after l a place c.in_ok-answer.ensures.moved told)
     in
     record {
       stands = c.run_line.ensures.stands;
@@ -97,7 +100,7 @@ loop-line-preserved g c =
       held = keeps.0;
       keeps = further;
       told = subst (λ (xs : List Answer). AreKept sound first.told xs is) (sym pushed)
-          (all_kept_more sound c.kept_logs_begin.ensures first was is c.loop-line.answers.items a c.requires.held keeps.1 further keeps.0 reaches kept.told);
+          (all_kept_more sound c.kept_logs_begin.ensures first was is c.loop-line.answers.items a c.requires.held keeps.1 further keeps.0 reaches c.in_ok-answer.ensures.saves c.in_ok-answer.ensures.removes kept.told);
       saves = subst (λ (xs : List Answer). AreSaved (saved_at xs) first.told first.slots is.slots) (sym pushed)
           (saved_more sound c.kept_logs_begin.ensures first was is c.loop-line.answers.items a c.requires.held further kept.saves c.in_ok-answer.ensures.saves);
       faults = c.in_ok-answer.ensures.counts ∙ kept.faults;
@@ -139,3 +142,60 @@ returns-in_err-answer-clause-told g c =
     let is : Keeper = keeper_of (g.W.LogWorld.log c.run_line.new.world) c.run_line.new.store (g.D.Disk.told c.run_line.new.store.disk) in
     let p = err_from_is_err_and c.from_residual.result c.from_residual.ensures.1 in
     rw (p.1, p.2) (stop_told Answer (Unit {0}) g.W.LogWorld.rows_law.meets c.in_err-answer.field-0.0 first.told c.loop-line.answers.items was is kept.told c.in_err-answer.ensures.keeps)
+
+pub returns-in_err-answer-clause-starved : goal.returns-in_err-answer-clause-starved
+returns-in_err-answer-clause-starved g c =
+    let v = g.W.RowWorld.view c.args.world.now in
+    let before = g.W.RowWorld.view c.loop-line.world in
+    let script = c.args.script.now in
+    let answers = c.loop-line.answers.items in
+    let kept = c.loop-line.invariant in
+    let fewer = c.loop-line-test.true in
+    let many = kept.many in
+    let sound = g.W.LogWorld.rows_law.meets in
+    let first : Keeper = keeper_of (g.W.LogWorld.log c.args.world.now) c.args.store.now (g.D.Disk.told c.args.store.now.disk) in
+    let was : Keeper = keeper_of (g.W.LogWorld.log c.loop-line.world) c.loop-line.store (g.D.Disk.told c.loop-line.store.disk) in
+    let told = g.D.Disk.told c.run_line.new.store.disk in
+    let p = err_from_is_err_and c.from_residual.result c.from_residual.ensures.1 in
+    rw (p.1, p.2)
+    (stop_starves Answer (Unit {0}) c.in_err-answer.field-0.0 (c.run_line.new.store ≡ c.loop-line.store) (Starves sound v script first told)
+    (λ same.
+    starved_behind sound v before script answers first was told (omega (arith, fewer, many)) (subst (λ (ms : List Move). IsExecution v ms before) (line_moves_front script c.loop-line.line-index answers many) kept.ran)
+    (g.met.W.ScriptWorld.one_log c.loop-line.world kept.stands) (g.met.W.LogWorld.is_log c.loop-line.world (g.met.W.ScriptWorld.may_flush c.loop-line.world kept.stands))
+    (rw same) kept.keeps)
+    c.in_err-answer.ensures.spared)
+
+pub returns-in_err-push-clause-starved : goal.returns-in_err-push-clause-starved
+returns-in_err-push-clause-starved g c =
+    let v = g.W.RowWorld.view c.args.world.now in
+    let before = g.W.RowWorld.view c.loop-line.world in
+    let new = c.run_line.new.world in
+    let after = g.W.RowWorld.view new in
+    let script = c.args.script.now in
+    let k = c.loop-line.line-index in
+    let l = c.line-item.result in
+    let a = c.in_ok-answer.answer in
+    let kept = c.loop-line.invariant in
+    let front = take k script in
+    let answers = c.loop-line.answers.items ++ a ∷ [] in
+    let fewer = c.loop-line-test.true in
+    let counted = kept.many in
+    let longer : take (k + 1) script ≡ front ++ l ∷ [] = take_more script k l fewer ∙ ap (λ (x : ScriptLine). front ++ x ∷ []) (sym c.line-item.is) in
+    let many : length c.loop-line.answers.items ≡ length front = (let size = length-take k script in omega (arith, size, fewer, counted)) in
+    let more : length answers ≡ k + 1 = (let size = length-append c.loop-line.answers.items (a ∷ []) in omega (arith, size, counted)) in
+    let stands = c.run_line.ensures.stands in
+    let serial = serializable_too g.W.RowWorld.law sound_law after c.requires.law (g.met.W.RowWorld.serializable new stands) in
+    let goes : IsExecution v (line_moves front c.loop-line.answers.items ++ move_of l a ∷ []) after =
+    execution_more v before after (line_moves front c.loop-line.answers.items) (move_of l a) kept.ran c.in_ok-answer.ensures.moved serial
+    in
+    let moves : line_moves script answers ≡ line_moves front c.loop-line.answers.items ++ move_of l a ∷ [] =
+    sym (line_moves_front script (k + 1) answers more) ∙ ap (λ (ls : List ScriptLine). line_moves ls answers) longer ∙ line_moves_more front c.loop-line.answers.items l a many
+    in
+    let first : Keeper = keeper_of (g.W.LogWorld.log c.args.world.now) c.args.store.now (g.D.Disk.told c.args.store.now.disk) in
+    let was : Keeper = keeper_of (g.W.LogWorld.log c.loop-line.world) c.loop-line.store (g.D.Disk.told c.loop-line.store.disk) in
+    let is : Keeper = keeper_of (g.W.LogWorld.log new) c.run_line.new.store (g.D.Disk.told c.run_line.new.store.disk) in
+    let sound = g.W.LogWorld.rows_law.meets in
+    starved_so _ (Starves sound v script first is.told)
+    (starved_behind sound v after script answers first is is.told (omega (arith, fewer, more)) (subst (λ (ms : List Move). IsExecution v ms after) (sym moves) goes)
+    (g.met.W.ScriptWorld.one_log new stands) (g.met.W.LogWorld.is_log new (g.met.W.ScriptWorld.may_flush new stands)) refl
+    (on_then sound first was is kept.keeps c.in_ok-answer.ensures.keeps.1))

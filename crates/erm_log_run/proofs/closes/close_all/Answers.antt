@@ -11,6 +11,7 @@ use Rattle.erm_log_run.proofs.Closing.{flushed_too, none_closed}
 use Rattle.erm_log_run.proofs.Leaving.{SessionLaws, on_itself, on_then, session_keeps}
 use Rattle.erm_log_run.proofs.Progress.{all_idle, first_count, idle_after, none_left, same_count, turn_taken}
 use Rattle.erm_log_run.proofs.Serial.{serializable_too}
+use Rattle.erm_log_run.proofs.Starving.{stop_starves}
 use Rattle.erm_log_run.proofs.Stopped.{stop_closes}
 use Rattle.erm_log_run.proofs.closes.close_all.Goals as goal
 
@@ -114,3 +115,13 @@ returns-in_err-flush_up-2-clause-closes g c =
     let serial = serializable_too g.W.RowWorld.law sound_law after c.requires.law (g.met.W.RowWorld.serializable c.flush_up-2.new.world c.flush_up-2.ensures.stands) in
     let p = err_from_is_err_and c.from_residual-in_err-flush_up-2.result c.from_residual-in_err-flush_up-2.ensures.1 in
     rw (p.1, p.2) (stop_closes (Unit {0}) (Vec (Option Answer) Global) c.in_err-flush_up-2.field-0.0 v before after c.args.sessions c.loop.ends.items c.loop.invariant.closing c.in_err-flush_up-2.ensures.flushes serial)
+
+pub returns-in_err-flush_up-clause-spared : goal.returns-in_err-flush_up-clause-spared
+returns-in_err-flush_up-clause-spared g c =
+    let p = err_from_is_err_and c.from_residual-in_err-flush_up.result c.from_residual-in_err-flush_up.ensures.1 in
+    rw (p.1, p.2) (stop_starves (Unit {0}) (Vec (Option Answer) Global) c.in_err-flush_up.field-0.0 ⊥ (c.flush_up.new.store ≡ c.args.store.now) (λ no. absurd no) c.in_err-flush_up.ensures.fed)
+
+pub returns-in_err-flush_up-2-clause-spared : goal.returns-in_err-flush_up-2-clause-spared
+returns-in_err-flush_up-2-clause-spared g c =
+    let p = err_from_is_err_and c.from_residual-in_err-flush_up-2.result c.from_residual-in_err-flush_up-2.ensures.1 in
+    rw (p.1, p.2) (stop_starves (Unit {0}) (Vec (Option Answer) Global) c.in_err-flush_up-2.field-0.0 ⊥ (c.flush_up-2.new.store ≡ c.args.store.now) (λ no. absurd no) c.in_err-flush_up-2.ensures.fed)

@@ -32,6 +32,7 @@ returns-in-Empty g c =
       all = all_when_idle (g.W.RowWorld.view new) n after stops;
       keeps = flush_keeps sound laws k m f turn.1 stops (c.in-Empty.ensures.lasts turn.1) (c.in-Empty.ensures.ready turn.1);
       counts = c.in-Empty.ensures.counts;
+      fed = tt;
     }
 
 pub returns-in-Unfilled : goal.returns-in-Unfilled
@@ -61,6 +62,7 @@ returns-in-Unfilled g c =
       all = all_when_idle (g.W.RowWorld.view new) n after stops;
       keeps = flush_keeps sound laws k m f turn.1 stops (c.in-Unfilled.ensures.lasts turn.1) (c.in-Unfilled.ensures.ready turn.1);
       counts = c.in-Unfilled.ensures.counts;
+      fed = tt;
     }
 
 pub returns-in-DiskFault : goal.returns-in-DiskFault
@@ -87,6 +89,7 @@ returns-in-DiskFault g c =
       all = tt;
       keeps = fault_keeps sound laws k m f;
       counts = c.in-DiskFault.ensures.counts;
+      fed = tt;
     }
 
 pub returns-in-Failed : goal.returns-in-Failed

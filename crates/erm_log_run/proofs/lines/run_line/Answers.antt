@@ -10,8 +10,9 @@ use Rattle.erm_log_run.specs.Lines.{Names}
 use Rattle.erm_log_run.proofs.Leaving.{SessionLaws, session_keeps, turn_leaves}
 use Rattle.erm_log_run.proofs.Lined.{checkpoint_moved, flush_moved, log_line, names_session}
 use Rattle.erm_log_run.proofs.Receipts.{receipts_stay}
-use Rattle.erm_log_run.proofs.Saving.{session_saved}
+use Rattle.erm_log_run.proofs.Saving.{session_removes, session_saved}
 use Rattle.erm_log_run.proofs.Serial.{serializable_too}
+use Rattle.erm_log_run.proofs.Starving.{starved_weaker}
 use Rattle.erm_log_run.proofs.Stopped.{fails_of_log, ok_then}
 use Rattle.erm_log_run.proofs.lines.run_line.Goals as goal
 
@@ -35,7 +36,9 @@ returns-in-Flush g c =
       of_log = fails_of_log r l (inl is);
       keeps = c.flush_line.ensures.keeps;
       saves = c.flush_line.ensures.saves;
+      removes = c.flush_line.ensures.removes;
       counts = c.flush_line.ensures.counts;
+      spared = starved_weaker r ⊥ (c.flush_line.new.store ≡ c.args.store.now) (λ no. absurd no) c.flush_line.ensures.fed;
     }
 
 pub returns-in-Checkpoint : goal.returns-in-Checkpoint
@@ -58,7 +61,9 @@ returns-in-Checkpoint g c =
       of_log = fails_of_log r l (inr is);
       keeps = c.checkpoint_line.ensures.keeps;
       saves = c.checkpoint_line.ensures.saves;
+      removes = c.checkpoint_line.ensures.removes;
       counts = c.checkpoint_line.ensures.counts;
+      spared = starved_weaker r ⊥ (c.checkpoint_line.new.store ≡ c.args.store.now) (λ no. absurd no) c.checkpoint_line.ensures.fed;
     }
 
 pub session_line-requires : goal.session_line-requires
@@ -104,5 +109,7 @@ returns-in_ok-session_line-in_default g c =
           (g.met.W.LogWorld.is_log w (g.met.W.ScriptWorld.may_flush w c.requires.stands)) (g.met.W.LogWorld.is_log new (g.met.W.ScriptWorld.may_flush new stands))
           c.requires.held refl refl refl refl;
       saves = session_saved v t l a (g.D.Disk.told s.disk) s.slots did;
+      removes = session_removes v t l a (g.D.Disk.told s.disk) s.slots did;
       counts = refl;
+      spared = tt;
     }

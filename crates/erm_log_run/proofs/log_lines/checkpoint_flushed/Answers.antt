@@ -6,7 +6,7 @@ use Rattle.erm_log_run.specs.Keeping.{Keeper, keeper_of}
 use Rattle.erm_log_run.proofs.Flushed.{CheckpointLaws, Checkpoints, checkpoint_fault_keeps, checkpoint_keeps}
 use Rattle.erm_log_run.proofs.Flushing.{did_flush}
 use Rattle.erm_log_run.proofs.Logged.{all_decided, checkpointed_did, none_waits}
-use Rattle.erm_log_run.proofs.Saving.{checkpoint_saved}
+use Rattle.erm_log_run.proofs.Saving.{checkpoint_removes, checkpoint_saved}
 use Rattle.erm_log_run.proofs.log_lines.checkpoint_flushed.Goals as goal
 
 pub returns-in-Ok : goal.returns-in-Ok
@@ -31,8 +31,10 @@ returns-in-Ok g c =
       answered = checkpointed_did sound (g.W.RowWorld.view w) (g.W.RowWorld.view new) l n before after is stay.1 c.in-Ok.place did.2 did.3 did.4;
       flushes = tt;
       keeps = checkpoint_keeps sound laws k m f c.in-Ok.place did.1 did.4 (inl (did.4 ∙ sym did.3)) (c.in-Ok.ensures.stays did.1) c.in-Ok.ensures.lasts;
+      removes = checkpoint_removes sound l.flushed n s.slots c.checkpoint_turn.new.slots s.run c.in-Ok.place (g.D.Disk.told s.disk) (g.D.Disk.told c.checkpoint_turn.new.disk) did.3 c.in-Ok.ensures.put c.in-Ok.ensures.saved;
       saves = checkpoint_saved sound n c.checkpoint_turn.new.slots c.in-Ok.place (g.D.Disk.told c.checkpoint_turn.new.disk) c.in-Ok.ensures.lasts;
       counts = c.in-Ok.ensures.counts;
+      fed = tt;
     }
 
 pub returns-in-Err-Unfilled : goal.returns-in-Err-Unfilled
@@ -75,7 +77,9 @@ returns-in-Err-DiskFault g c =
       flushes = did_flush (g.W.RowWorld.view w) (g.W.RowWorld.view new) l n (g.met.W.ScriptWorld.one_log w c.requires.stands) (g.met.W.ScriptWorld.one_log new stay.0) stay.1 did.2.further;
       keeps = checkpoint_fault_keeps sound laws k m f;
       saves = tt;
+      removes = tt;
       counts = subst (λ (stop : CheckpointStop). Counts {T = ℕ} (Err stop) (g.D.Disk.faults s.disk) (g.D.Disk.faults c.checkpoint_turn.new.disk)) c.in-Err-DiskFault.field-0-is c.in-Err-DiskFault.ensures.counts;
+      fed = tt;
     }
 
 pub returns-in-Err-Failed : goal.returns-in-Err-Failed

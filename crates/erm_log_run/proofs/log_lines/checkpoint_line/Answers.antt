@@ -61,7 +61,9 @@ returns-in-Empty g c =
       flushes = flushes_then r v u t first did.flushes;
       keeps = keeps_then r sound k m last keeps.1 did.keeps;
       saves = did.saves;
+      removes = did.removes;
       counts = counts_then r _ _ _ c.in-Empty.ensures.counts did.counts;
+      fed = did.fed;
     }
 
 pub returns-in-Unfilled : goal.returns-in-Unfilled
@@ -88,7 +90,9 @@ returns-in-Unfilled g c =
       flushes = tt;
       keeps = flush_keeps sound laws k m f turn.1 stops (c.in-Unfilled.ensures.lasts turn.1) (c.in-Unfilled.ensures.ready turn.1);
       saves = refl;
+      removes = tt;
       counts = c.in-Unfilled.ensures.counts;
+      fed = tt;
     }
 
 pub returns-in-DiskFault : goal.returns-in-DiskFault
@@ -112,7 +116,9 @@ returns-in-DiskFault g c =
       flushes = did_flush (g.W.RowWorld.view w) (g.W.RowWorld.view new) l n (g.met.W.ScriptWorld.one_log w c.requires.stands) (g.met.W.ScriptWorld.one_log new stay.0) stay.1 turn.2.further;
       keeps = fault_keeps sound laws k m f;
       saves = tt;
+      removes = tt;
       counts = c.in-DiskFault.ensures.counts;
+      fed = tt;
     }
 
 pub returns-in-Failed : goal.returns-in-Failed

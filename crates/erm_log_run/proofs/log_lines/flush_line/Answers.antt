@@ -33,7 +33,9 @@ returns-in-Ok g c =
       flushes = tt;
       keeps = flush_keeps sound laws k m f turn.1 stops c.in-Ok.ensures.lasts (c.in-Ok.ensures.ready turn.1);
       saves = refl;
+      removes = tt;
       counts = c.in-Ok.ensures.counts;
+      fed = tt;
     }
 
 pub returns-in-Err-Empty : goal.returns-in-Err-Empty
@@ -61,7 +63,9 @@ returns-in-Err-Empty g c =
       flushes = tt;
       keeps = idle_keeps sound laws k m f turn.1 stops turn.2 stays;
       saves = refl;
+      removes = tt;
       counts = subst (λ (stop : FlushStop). Counts (Err stop) (g.D.Disk.faults s.disk) (g.D.Disk.faults c.flush_turn.new.disk)) c.in-Err-Empty.field-0-is c.in-Err-Empty.ensures.counts;
+      fed = tt;
     }
 
 pub returns-in-Err-Unfilled : goal.returns-in-Err-Unfilled
@@ -89,7 +93,9 @@ returns-in-Err-Unfilled g c =
       flushes = tt;
       keeps = idle_keeps sound laws k m f turn.1 stops turn.2 stays;
       saves = refl;
+      removes = tt;
       counts = subst (λ (stop : FlushStop). Counts (Err stop) (g.D.Disk.faults s.disk) (g.D.Disk.faults c.flush_turn.new.disk)) c.in-Err-Unfilled.field-0-is c.in-Err-Unfilled.ensures.counts;
+      fed = tt;
     }
 
 pub returns-in-Err-DiskFault : goal.returns-in-Err-DiskFault
@@ -113,7 +119,9 @@ returns-in-Err-DiskFault g c =
       flushes = did_flush (g.W.RowWorld.view w) (g.W.RowWorld.view new) l n (g.met.W.ScriptWorld.one_log w c.requires.stands) (g.met.W.ScriptWorld.one_log new stay.0) stay.1 turn.2.goes_on.further;
       keeps = fault_keeps sound laws k m f;
       saves = tt;
+      removes = tt;
       counts = subst (λ (stop : FlushStop). Counts (Err stop) (g.D.Disk.faults s.disk) (g.D.Disk.faults c.flush_turn.new.disk)) c.in-Err-DiskFault.field-0-is c.in-Err-DiskFault.ensures.counts;
+      fed = tt;
     }
 
 pub returns-in-Err-Failed : goal.returns-in-Err-Failed

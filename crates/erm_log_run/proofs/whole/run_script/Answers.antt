@@ -12,10 +12,12 @@ use Rattle.erm_log_run.specs.Acknowledged.{KeepsTold}
 use Rattle.erm_log_run.specs.Closing.{closes_from}
 use Rattle.erm_log_run.specs.Keeping.{CountsFaults, IsKept, Keeper, Keeps, keeper_of}
 use Rattle.erm_log_run.specs.Runs.{RanAll, WasCut, WasRun}
+use Rattle.erm_log_run.specs.Starving.{Starves, WasStarved, WhereStarved}
 use Rattle.erm_log_run.proofs.Good.{CutLaws, RunLaws, is_run, told_cut, told_tight}
 use Rattle.erm_log_run.proofs.Kept.{first_kept, moments_at_fault, moments_of}
 use Rattle.erm_log_run.proofs.Lasting.{all_last_at_fault, all_last_now, cut_tells, summary_tells}
 use Rattle.erm_log_run.proofs.Seats.{are_closed}
+use Rattle.erm_log_run.proofs.Starving.{memory_so, starved_first, starved_last, was_starved}
 use Rattle.erm_log_run.proofs.whole.run_script.Goals as goal
 
 pub run_all-requires : goal.run_all-requires
@@ -122,6 +124,7 @@ returns-in-Ok g c =
       cut = tt;
       fault = tt;
       sound = c.in-Ok.ensures.counts;
+      starved = tt;
     }
 
 pub returns-in-Err-DiskFault : goal.returns-in-Err-DiskFault
@@ -189,4 +192,104 @@ returns-in-Err-DiskFault g c =
       cut = (was, λ fits. told_cut laws v t script opening is names c.requires.sessions lines was fits);
       fault = counts;
       sound = tt;
+      starved = tt;
     }
+
+pub returns-in_err-answers-clause-starved : goal.returns-in_err-answers-clause-starved
+returns-in_err-answers-clause-starved g c =
+    let w = c.args.world.now in
+    let s = c.args.store.now in
+    let sound = g.W.LogWorld.rows_law.meets in
+    let v : View = g.W.RowWorld.view w in
+    let of = g.met.W.ScriptWorld.one_log w c.requires.stands in
+    let k : Keeper = keeper_of (g.W.LogWorld.log w) s (g.D.Disk.told s.disk) in
+    let kept : IsKept sound k.told k.log.flushed k = first_kept sound k c.requires.holds c.requires.none_gathered (of.at ∙ sym c.requires.opened.flushed ∙ sym of.flushed) in
+    let script = c.args.script.now in
+    let short = c.requires.short in
+    memory_so _ (WasStarved sound v script k.log k.told k.told)
+    (was_starved sound v script k k.told c.requires.opened c.requires.ranges (omega (arith, short)) kept
+    (starved_first sound v script k of (g.met.W.LogWorld.is_log w (g.met.W.ScriptWorld.may_flush w c.requires.stands))))
+
+pub returns-in_err-lines-clause-starved : goal.returns-in_err-lines-clause-starved
+returns-in_err-lines-clause-starved g c =
+    let w = c.args.world.now in
+    let s = c.args.store.now in
+    let sound = g.W.LogWorld.rows_law.meets in
+    let v : View = g.W.RowWorld.view w in
+    let of = g.met.W.ScriptWorld.one_log w c.requires.stands in
+    let k : Keeper = keeper_of (g.W.LogWorld.log w) s (g.D.Disk.told s.disk) in
+    let kept : IsKept sound k.told k.log.flushed k = first_kept sound k c.requires.holds c.requires.none_gathered (of.at ∙ sym c.requires.opened.flushed ∙ sym of.flushed) in
+    let script = c.args.script.now in
+    let short = c.requires.short in
+    memory_so _ (WasStarved sound v script k.log k.told k.told)
+    (was_starved sound v script k k.told c.requires.opened c.requires.ranges (omega (arith, short)) kept
+    (starved_first sound v script k of (g.met.W.LogWorld.is_log w (g.met.W.ScriptWorld.may_flush w c.requires.stands))))
+
+pub returns : goal.returns
+returns g c =
+    let w = c.args.world.now in
+    let s = c.args.store.now in
+    let sound = g.W.LogWorld.rows_law.meets in
+    let v : View = g.W.RowWorld.view w in
+    let of = g.met.W.ScriptWorld.one_log w c.requires.stands in
+    let k : Keeper = keeper_of (g.W.LogWorld.log w) s (g.D.Disk.told s.disk) in
+    let kept : IsKept sound k.told k.log.flushed k = first_kept sound k c.requires.holds c.requires.none_gathered (of.at ∙ sym c.requires.opened.flushed ∙ sym of.flushed) in
+    let script = c.args.script.now in
+    let short = c.requires.short in
+    let told = g.D.Disk.told c.run_all.new.store.disk in
+    let starved = subst (λ (stop : LineStop). WhereStarved {T = Vec (Option Answer) Global} (Err stop) (Starves sound v script k told)) c.in-Err-Memory.field-0-is c.in-Err-Memory.ensures.starved in
+    record {
+      stands = tt;
+      ran = tt;
+      flushed = tt;
+      holds = tt;
+      tail = tt;
+      moments = tt;
+      acknowledged = tt;
+      cut = tt;
+      fault = tt;
+      sound = subst (λ (stop : LineStop). CountsFaults {T = Vec (Option Answer) Global} (Err stop) (g.D.Disk.faults s.disk) (g.D.Disk.faults c.run_all.new.store.disk)) c.in-Err-Memory.field-0-is c.in-Err-Memory.ensures.counts;
+      starved = was_starved sound v script k told c.requires.opened c.requires.ranges (omega (arith, short)) kept starved;
+    }
+
+pub returns-in_err-closed-in-Ok-clause-starved : goal.returns-in_err-closed-in-Ok-clause-starved
+returns-in_err-closed-in-Ok-clause-starved g c =
+    let w = c.args.world.now in
+    let s = c.args.store.now in
+    let sound = g.W.LogWorld.rows_law.meets in
+    let v : View = g.W.RowWorld.view w in
+    let of = g.met.W.ScriptWorld.one_log w c.requires.stands in
+    let k : Keeper = keeper_of (g.W.LogWorld.log w) s (g.D.Disk.told s.disk) in
+    let kept : IsKept sound k.told k.log.flushed k = first_kept sound k c.requires.holds c.requires.none_gathered (of.at ∙ sym c.requires.opened.flushed ∙ sym of.flushed) in
+    let script = c.args.script.now in
+    let short = c.requires.short in
+    let new = c.run_all.new.world in
+    let z = c.run_all.new.store in
+    let m : Keeper = keeper_of (g.W.LogWorld.log new) z (g.D.Disk.told z.disk) in
+    let stands = c.run_all.ensures.stands in
+    let ran = c.in-Ok.ensures.ran in
+    memory_so _ (WasStarved sound v script k.log k.told m.told)
+    (was_starved sound v script k m.told c.requires.opened c.requires.ranges (omega (arith, short)) kept
+    (starved_last sound v ran.1.0 (g.W.RowWorld.view new) _ script c.run_all.new.answers.items c.in-Ok.ends.items k m ran.0 ran.1.1 ran.1.2
+    (g.met.W.ScriptWorld.one_log new stands) (g.met.W.LogWorld.is_log new (g.met.W.ScriptWorld.may_flush new stands)) c.in-Ok.ensures.keeps.1))
+
+pub returns-in_err-report_of-in-Ok-clause-starved : goal.returns-in_err-report_of-in-Ok-clause-starved
+returns-in_err-report_of-in-Ok-clause-starved g c =
+    let w = c.args.world.now in
+    let s = c.args.store.now in
+    let sound = g.W.LogWorld.rows_law.meets in
+    let v : View = g.W.RowWorld.view w in
+    let of = g.met.W.ScriptWorld.one_log w c.requires.stands in
+    let k : Keeper = keeper_of (g.W.LogWorld.log w) s (g.D.Disk.told s.disk) in
+    let kept : IsKept sound k.told k.log.flushed k = first_kept sound k c.requires.holds c.requires.none_gathered (of.at ∙ sym c.requires.opened.flushed ∙ sym of.flushed) in
+    let script = c.args.script.now in
+    let short = c.requires.short in
+    let new = c.run_all.new.world in
+    let z = c.run_all.new.store in
+    let m : Keeper = keeper_of (g.W.LogWorld.log new) z (g.D.Disk.told z.disk) in
+    let stands = c.run_all.ensures.stands in
+    let ran = c.in-Ok.ensures.ran in
+    memory_so _ (WasStarved sound v script k.log k.told m.told)
+    (was_starved sound v script k m.told c.requires.opened c.requires.ranges (omega (arith, short)) kept
+    (starved_last sound v ran.1.0 (g.W.RowWorld.view new) _ script c.run_all.new.answers.items c.in-Ok.ends.items k m ran.0 ran.1.1 ran.1.2
+    (g.met.W.ScriptWorld.one_log new stands) (g.met.W.LogWorld.is_log new (g.met.W.ScriptWorld.may_flush new stands)) c.in-Ok.ensures.keeps.1))
