@@ -10,24 +10,31 @@ use Rattle.erm_layout.specs.declared.limits.TheConstants.{WORDS}
 use Rattle.erm_layout.specs.declared.word.Word.{Word}
 use Rattle.erm_layout.specs.Layout.{HasNumber, index_of}
 use Rattle.erm_layout.specs.Spots.{word_of_spot}
+use Rattle.erm_machine.specs.declared.limits.TheConstants.{ANNOUNCERS}
+use Rattle.erm_machine.specs.declared.event.Counter.TheVariants.{Objects, Cells}
 use Rattle.erm_machine.specs.declared.event.Kind.{Kind}
 use Rattle.erm_machine.specs.declared.event.Kind.TheVariants as kind
 use Rattle.erm_machine.specs.declared.part.Part.{Part}
 use Rattle.erm_machine.specs.declared.place.Place.TheVariants.{Vacant}
-use Rattle.erm_machine.specs.Core.{Core, Shared, Spot, spot_of, word_at, fresh_part}
+use Rattle.erm_machine.specs.declared.version.Cell.{Cell}
+use Rattle.erm_machine.specs.Core.{Core, Shared, spot_of, word_at, fresh_part}
 use Rattle.erm_machine.specs.Sound.{Sound}
 use Rattle.erm_machine.specs.Step.{part_after, stored, shared_after, is_known, after_event}
-use Rattle.erm_machine.specs.Words.{put}
+use Rattle.erm_machine.specs.Words.{put, is_seat}
 use Rattle.erm_machine.proofs.Frames.{put_other}
 use Rattle.erm_machine.proofs.QuietKinds.{keeps_log}
+use Rattle.erm_model.specs.declared.limits.TheConstants.{TABLE_CELLS}
 use Rattle.erm_model.specs.Member.{◌∈◌}
 use Rattle.erm_rule.specs.declared.view.Held.{Held}
 use Rattle.erm_rule.specs.declared.view.Opening.{Opening}
 use Rattle.erm_rule.specs.declared.view.View.{View}
-use Rattle.erm_rule.specs.Rule.{Tells, Stands, HeldByNone, Kept}
+use Rattle.erm_rule.specs.Cells.{word_in, cells_after, IsTold}
+use Rattle.erm_rule.specs.Rule.{Stands, HeldByNone, Kept}
 use Rattle.erm_rule.specs.Steps.{Ready, Agrees, Told}
 use Rattle.erm_rule.specs.Views.{part_in, held_after, with_part, IsView, IsInOrder}
-use Rattle.erm_rule.proofs.Found.{next, event_is, met_after, unmet_after, one_spot, has_number}
+use Rattle.erm_rule.proofs.Filled.{cells_next}
+use Rattle.erm_rule.proofs.Found.{next, event_is, met_after, unmet_after, from_some}
+use Rattle.erm_rule.proofs.Lives.{Lives, is_met, lives}
 use Rattle.erm_rule.proofs.Parts.{order_after, in_map, map_in, found_among}
 
 -- the laws on which the rule stands: two words have two numbers, and each event keeps the state sound
@@ -41,8 +48,8 @@ abbrev pub KeepsSound : Type 0
 KeepsSound = (c d : Core) (seat : ℕ) (k : Kind) → Sound c → after_event c seat k ≡ Some d → Sound d
 
 -- a view that stands is one of the state
-pub standing_view : (words : List ℕ) (views : List View) (c : Core) (holder : ℕ → ℕ) (id : ℕ) (v : View) → Stands words views c holder → get_elem? views id ≡ some v → IsView v c
-standing_view words views c holder id v stands at q x e =
+pub standing_view : (words : List ℕ) (views : List View) (c : Core) (cells : ℕ → Cell) (holder : ℕ → ℕ) (id : ℕ) (v : View) → Stands words views c cells holder → get_elem? views id ≡ some v → IsView v c
+standing_view words views c cells holder id v stands at q x e =
     let h = found_among q v.held x e in
     let is : c.seats h.0.seat ≡ h.0.part = stands.parts_are id v h.0 at h.1 in
     subst (λ n. c.seats n ≡ x) h.2 (is ∙ h.3)
@@ -53,24 +60,41 @@ set_there [] id v w at = absurd (some-ne-none v (sym at))
 set_there (x ∷ xs) zero v w at = refl
 set_there (x ∷ xs) (suc id) v w at = set_there xs id v w at
 
-module _ (words : List ℕ) (views : List View) (c : Core) (holder : ℕ → ℕ) (stands : Stands words views c holder)
+-- a seat that has words is one of those that are counted
+pub of_seat : (q : ℕ) → is_seat q ≡ true → q < ANNOUNCERS
+of_seat q h = grind arith
+
+module _ (words : List ℕ) (views : List View) (c : Core) (cells : ℕ → Cell) (holder : ℕ → ℕ) (stands : Stands words views c cells holder) (sound : Sound c)
     (one_number : OneNumber) (below : Below) (id : ℕ) (v : View) (at : get_elem? views id ≡ some v)
     (who : ℕ) (x y : Part) (has : part_in v who ≡ Some x)
-    (k : Kind) (after : part_after who k (word_at c (spot_of who k)) c.shared (c.seats who) ≡ Some y)
-    (w : Word) (tells : Tells (spot_of who k)) (met : word_of_spot (spot_of who k) ≡ Some w)
+    (k : Kind) (told : IsTold k) (known : is_known k ≡ true) (after : part_after who k (word_at c (spot_of who k)) c.shared (c.seats who) ≡ Some y)
+    (w : Word) (numbered : HasNumber w) (met : word_of_spot (spot_of who k) ≡ Some w)
     (n : ℕ) (agrees : n ≡ stored who k (word_at c (spot_of who k))) where
-  words_after : (spot : Spot) (u : Word) → Tells spot → word_of_spot spot ≡ Some u → get_or (set words (index_of w) n) (index_of u) 0 ≡ word_at (next c who k y) spot
-  words_after spot u told is =
+  seat : who < ANNOUNCERS
+  seat =
+      let h = found_among who v.held x has in
+      of_seat who (ap is_seat (sym h.2) ∙ (stands.in_order id v at).seats h.0 h.1)
+
+  alive : Lives c (spot_of who k)
+  alive = lives c who sound k (word_at c (spot_of who k)) y seat told after
+
+  -- what the cells hold after the step
+  abbrev map_after : ℕ → Cell
+  map_after = cells_after k (stored who k (word_at c (spot_of who k))) cells
+
+  word_met : word_in (next c who k y) map_after w ≡ n
+  word_met = met_after c who y k cells stands.cells_are.rows after w met numbered (is_met c cells stands.cells_are (spot_of who k) alive) ∙ sym agrees
+
+  words_after : (u : Word) → HasNumber u → get_or (set words (index_of w) n) (index_of u) 0 ≡ word_in (next c who k y) map_after u
+  words_after u has_number =
       ⊎_elim
       (λ (same : index_of u ≡ index_of w).
-      let one : u ≡ w = one_number u w (has_number spot u told is) (has_number (spot_of who k) w tells met) same in
-      let here : spot ≡ spot_of who k = one_spot spot (spot_of who k) w told tells (is ∙ ap Some one) met in
-      let low : index_of w < length words = let b = below w (has_number (spot_of who k) w tells met) in let l = stands.count in omega (arith, b, l) in
-      subst (λ s. get_or (set words (index_of w) n) (index_of u) 0 ≡ word_at (next c who k y) s) (sym here)
-      (ap (λ i. get_or (set words (index_of w) n) i 0) same ∙ get_or-set_same words (index_of w) n 0 low ∙ agrees ∙ sym (met_after c who y k after tells)))
+      let one : u ≡ w = one_number u w has_number numbered same in
+      let low : index_of w < length words = let b = below w numbered in let l = stands.count in omega (arith, b, l) in
+      ap (λ i. get_or (set words (index_of w) n) i 0) same ∙ get_or-set_same words (index_of w) n 0 low ∙ sym word_met ∙ ap (word_in (next c who k y) map_after) (sym one))
       (λ (other : index_of u ≡ index_of w → ⊥).
-      let ne : spot ≢ spot_of who k = λ e. other (let both : Some u ≡ Some w = sym is ∙ ap word_of_spot e ∙ met in ap index_of (cc)) in
-      get_or-set_other words (index_of w) (index_of u) n 0 other ∙ stands.words_are spot u told is ∙ sym (unmet_after c who y k after spot told ne))
+      let ne : word_of_spot (spot_of who k) ≢ Some u = λ e. other (let both : Some u ≡ Some w = sym e ∙ met in ap index_of (cc)) in
+      get_or-set_other words (index_of w) (index_of u) n 0 other ∙ stands.words_are u has_number ∙ sym (unmet_after c who y k (stored who k (word_at c (spot_of who k))) cells after u ne))
       (cases_eq (index_of u) (index_of w))
 
   -- the parts in the changed view, and in the others, which don't have the seat
@@ -89,10 +113,11 @@ module _ (words : List ℕ) (views : List View) (c : Core) (holder : ℕ → ℕ
       ⊎_elim (λ (t : (j ≡ id) × (with_part who y v ≡ u)). subst (λ (i : ℕ). P i u) (sym t.0) (subst (λ (z : View). P id z) t.1 own)) (λ (t : (j ≢ id) × (get_elem? views j ≡ some u)). others j u t.0 t.1)
       (at_set views id j (with_part who y v) u e)
 
-  stands_after : Stands (set words (index_of w) n) (set views id (with_part who y v)) (next c who k y) holder
+  stands_after : Stands (set words (index_of w) n) (set views id (with_part who y v)) (next c who k y) map_after holder
   stands_after = record {
     count = length-set words (index_of w) n ∙ stands.count;
     words_are = words_after;
+    cells_are = cells_next c sound who seat cells stands.cells_are y k told known alive after;
     parts_are = λ j u h e m.
         views_after (λ (i : ℕ) (z : View). (h : Held) → h ∈ z.held → put c.seats who y h.seat ≡ h.part) own_parts
         (λ i z ne there g in_z.
@@ -131,23 +156,29 @@ same_opening : (p : ℕ) (k : Kind) (found : ℕ) (x : Part) (s : Shared) → (s
 same_opening p (kind.AddTail size) found x s = refl
 same_opening p k found x s = (keeps_log p k found x s tt).opening
 
+same_limit : (p : ℕ) (k : Kind) (found : ℕ) (x : Part) (s : Shared) → (shared_after p k found x s).cell_limit ≡ s.cell_limit
+same_limit p (kind.AddCounter Objects) found x s = refl
+same_limit p (kind.AddCounter Cells) found x s = refl
+same_limit p k found x s = refl
+
 -- ONE PROOF FOR ALL KINDS. A step that the machine takes whatever the view leaves open, on the word that it meets, which
 -- becomes what the step stores, is allowed, and tells what the play wants of it.
 module _ (one_number : OneNumber) (below : Below) (keeps_sound : KeepsSound)
     (opening : Opening) (slots id : ℕ) (me : Me (Unit {0}) View) (who : ℕ) (k : Kind) (w : Word) (f : ℕ → ℕ)
     (has : IsSome (part_in me.0 who)) (ready : Ready me.0 who k) (known : is_known k ≡ true)
-    (tells : Tells (spot_of who k)) (met : word_of_spot (spot_of who k) ≡ Some w) (agrees : Agrees me.0 who k f) where
-  told_by : (words : List ℕ) (views : List View) (c : Core) (holder : ℕ → ℕ) (y : Part) (found : ℕ) → Stands words views c holder → Sound c → get_elem? views id ≡ some me.0 →
-      found ≡ word_at c (spot_of who k) → part_after who k (word_at c (spot_of who k)) c.shared (c.seats who) ≡ Some y →
+    (told : IsTold k) (met : word_of_spot (spot_of who k) ≡ Some w) (numbered : HasNumber w) (agrees : Agrees me.0 who k f) where
+  told_by : (words : List ℕ) (views : List View) (c : Core) (cells : ℕ → Cell) (holder : ℕ → ℕ) (y : Part) (found : ℕ) → Stands words views c cells holder → Sound c → c.shared.cell_limit ≡ TABLE_CELLS →
+      get_elem? views id ≡ some me.0 → found ≡ word_at c (spot_of who k) → part_after who k (word_at c (spot_of who k)) c.shared (c.seats who) ≡ Some y →
       (n : ℕ) → n ≡ stored who k (word_at c (spot_of who k)) → Told me.0 who k found (with_part who y me.0)
-  told_by words views c holder y found stands sound at is after n agreed =
+  told_by words views c cells holder y found stands sound limit at is after n agreed =
       let x = some_of (part_in me.0 who) has in
       let event = event_is c who k y known after in
       record {
         before = c;
         sound = sound;
-        is_view = standing_view words views c holder id me.0 stands at;
+        is_view = standing_view words views c cells holder id me.0 stands at;
         in_order = stands.in_order id me.0 at;
+        limit = limit;
         met = sym is;
         part = y;
         part_is = subst (λ (m : ℕ). part_after who k m c.shared (c.seats who) ≡ Some y) (sym is) after;
@@ -156,49 +187,58 @@ module _ (one_number : OneNumber) (below : Below) (keeps_sound : KeepsSound)
         event = event;
         sound_after = keeps_sound c (next c who k y) who k sound event;
         is_view_after =
-            standing_view (set words (index_of w) n) (set views id (with_part who y me.0)) (next c who k y) holder id (with_part who y me.0)
-            (stands_after words views c holder stands one_number below id me.0 at who x.0 y x.1 k after w tells met n agreed)
+            standing_view (set words (index_of w) n) (set views id (with_part who y me.0)) (next c who k y) (map_after words views c cells holder stands sound one_number below id me.0 at who x.0 y x.1 k told known after w numbered met n agreed)
+            holder id (with_part who y me.0)
+            (stands_after words views c cells holder stands sound one_number below id me.0 at who x.0 y x.1 k told known after w numbered met n agreed)
             (set_there views id me.0 (with_part who y me.0) at);
+        limit_after = same_limit who k (word_at c (spot_of who k)) (c.seats who) c.shared ∙ limit;
       }
 
   pub allowed : (tells_of : ℕ → Me (Unit {0}) View → Type 0) → ((found : ℕ) (u : View) → Told me.0 who k found u → tells_of found (u, me.1)) →
       Allows (Kept opening) slots id me (index_of w) f tells_of
   allowed tells_of telling s kept homes at small =
       let c = kept.core in
-      let found : ℕ = get_or s.words (index_of w) 0 in
-      let is : found ≡ word_at c (spot_of who k) = kept.stands.words_are (spot_of who k) w tells met in
-      let sees = standing_view s.words s.views c kept.holder id me.0 kept.stands at in
+      let stands = kept.stands in
+      let sees = standing_view s.words s.views c kept.cells kept.holder id me.0 stands at in
       let guard = ready c kept.sound sees in
       let y = some_of (part_after who k (word_at c (spot_of who k)) c.shared (c.seats who)) guard in
       let x = some_of (part_in me.0 who) has in
+      let found : ℕ = get_or s.words (index_of w) 0 in
+      let stored_is : stored who k (word_at c (spot_of who k)) ≡ stored who k (word_at c (spot_of who k)) = refl in
+      let live = alive s.words s.views c kept.cells kept.holder stands kept.sound one_number below id me.0 at who x.0 y.0 x.1 k told known y.1 w numbered met _ stored_is in
+      let is : found ≡ word_at c (spot_of who k) =
+      stands.words_are w numbered
+      ∙ from_some (word_of_spot (spot_of who k)) (λ u. word_in c kept.cells u ≡ word_at c (spot_of who k)) w met (is_met c kept.cells stands.cells_are (spot_of who k) live) in
       let agreed : f found ≡ stored who k (word_at c (spot_of who k)) = ap f is ∙ agrees c kept.sound sees guard in (
         with_part who y.0 me.0,
         keeps,
         tt,
         record {
           core = next c who k y.0;
+          cells = cells_after k (stored who k (word_at c (spot_of who k))) kept.cells;
           holder = kept.holder;
-          stands = stands_after s.words s.views c kept.holder kept.stands one_number below id me.0 at who x.0 y.0 x.1 k y.1 w tells met (f found) agreed;
+          stands = stands_after s.words s.views c kept.cells kept.holder stands kept.sound one_number below id me.0 at who x.0 y.0 x.1 k told known y.1 w numbered met (f found) agreed;
           others =
-              others_after s.words s.views c kept.holder kept.stands one_number below id me.0 at who x.0 y.0 x.1 k y.1 w tells met (f found) agreed (fresh_part Vacant opening.run opening.tail)
-              kept.others;
+              others_after s.words s.views c kept.cells kept.holder stands kept.sound one_number below id me.0 at who x.0 y.0 x.1 k told known y.1 w numbered met (f found) agreed
+              (fresh_part Vacant opening.run opening.tail) kept.others;
           sound = keeps_sound c (next c who k y.0) who k kept.sound (event_is c who k y.0 known y.1);
           opened = same_opening who k (word_at c (spot_of who k)) (c.seats who) c.shared ∙ kept.opened;
+          limit = same_limit who k (word_at c (spot_of who k)) (c.seats who) c.shared ∙ kept.limit;
         },
-        telling found (with_part who y.0 me.0) (told_by s.words s.views c kept.holder y.0 found kept.stands kept.sound at is y.1 (f found) agreed),
+        telling found (with_part who y.0 me.0) (told_by s.words s.views c kept.cells kept.holder y.0 found stands kept.sound kept.limit at is y.1 (f found) agreed),
       )
 
   -- the same at the word's number, for the plays that tell the word found, and those that don't
-  module _ (i : ℕ) (is : i ≡ index_of w) (seat : ℕ) (deed : Kind) (same_seat : seat ≡ who) (same_kind : deed ≡ k) where
-    told_as : (found : ℕ) (u : View) → Told me.0 who k found u → Told me.0 seat deed found u
-    told_as found u t = subst (λ (p : ℕ). Told me.0 p deed found u) (sym same_seat) (subst (λ (j : Kind). Told me.0 who j found u) (sym same_kind) t)
+  module _ (i : ℕ) (is : i ≡ index_of w) (seat : ℕ) (same_seat : seat ≡ who) where
+    told_as : (found : ℕ) (u : View) → Told me.0 who k found u → Told me.0 seat k found u
+    told_as found u t = subst (λ (p : ℕ). Told me.0 p k found u) (sym same_seat) t
 
     at_number : (tells_of : ℕ → Me (Unit {0}) View → Type 0) → ((found : ℕ) (u : View) → Told me.0 who k found u → tells_of found (u, me.1)) →
         Allows (Kept opening) slots id me i f tells_of
     at_number tells_of telling = subst (λ (j : ℕ). Allows (Kept opening) slots id me j f tells_of) (sym is) (allowed tells_of telling)
 
-    pub allows_finding : Allows (Kept opening) slots id me i f (λ found m. Told me.0 seat deed found m.0 × (m.1 ≡ me.1))
-    allows_finding = at_number (λ found m. Told me.0 seat deed found m.0 × (m.1 ≡ me.1)) (λ found u t. (told_as found u t, refl))
+    pub allows_finding : Allows (Kept opening) slots id me i f (λ found m. Told me.0 seat k found m.0 × (m.1 ≡ me.1))
+    allows_finding = at_number (λ found m. Told me.0 seat k found m.0 × (m.1 ≡ me.1)) (λ found u t. (told_as found u t, refl))
 
-    pub allows_storing : Allows (Kept opening) slots id me i f (λ _ m. ((found : ℕ) × Told me.0 seat deed found m.0) × (m.1 ≡ me.1))
-    allows_storing = at_number (λ _ m. ((found : ℕ) × Told me.0 seat deed found m.0) × (m.1 ≡ me.1)) (λ found u t. ((found, told_as found u t), refl))
+    pub allows_storing : Allows (Kept opening) slots id me i f (λ _ m. ((found : ℕ) × Told me.0 seat k found m.0) × (m.1 ≡ me.1))
+    allows_storing = at_number (λ _ m. ((found : ℕ) × Told me.0 seat k found m.0) × (m.1 ≡ me.1)) (λ found u t. ((found, told_as found u t), refl))

@@ -6,12 +6,15 @@ use mathlib.Core.Option.{some, some-injective, some-ne-none}
 use lib.ListN.{get_elem?}
 use Rattle.atomic_table.specs.Table.{Splits, Joins, Final, Seen}
 use Rattle.atomic_table.proofs.Lists.{at_set, set_else, at_longer, at_last}
+use Rattle.erm_layout.specs.declared.word.Word.{Word}
 use Rattle.erm_layout.specs.declared.word.Word.TheVariants as word
+use Rattle.erm_machine.specs.declared.limits.TheConstants.{ANNOUNCERS}
 use Rattle.erm_machine.specs.declared.event.Kind.TheVariants as kind
 use Rattle.erm_machine.specs.declared.part.Part.{Part}
 use Rattle.erm_machine.specs.declared.place.Place.{Place}
 use Rattle.erm_machine.specs.declared.place.Place.TheVariants.{Vacant, Idle}
-use Rattle.erm_machine.specs.Core.{Core, Spot, tail_word, begin_word, state_word, word_at, fresh_part}
+use Rattle.erm_machine.specs.declared.version.Cell.{Cell}
+use Rattle.erm_machine.specs.Core.{Core, fresh_part}
 use Rattle.erm_machine.specs.Life.{split, join}
 use Rattle.erm_machine.specs.Seat.{saw, when, is_vacant}
 use Rattle.erm_machine.specs.Step as step
@@ -23,10 +26,12 @@ use Rattle.erm_model.proofs.Members.{∈-at}
 use Rattle.erm_rule.specs.declared.view.Held.{Held}
 use Rattle.erm_rule.specs.declared.view.Opening.{Opening}
 use Rattle.erm_rule.specs.declared.view.View.{View}
-use Rattle.erm_rule.specs.Rule.{Tells, Stands, HeldByNone, Kept}
+use Rattle.erm_rule.specs.Cells.{word_in, SeatCells, CellsAre}
+use Rattle.erm_rule.specs.Rule.{Stands, HeldByNone, Kept}
 use Rattle.erm_rule.specs.Steps.{Ends}
 use Rattle.erm_rule.specs.Views.{of_seats, EachOnce, no_held, first_held, last_held, left_of, taken, right_of, joined, held_after, IsInOrder}
 use Rattle.erm_rule.proofs.Allowed.{KeepsSound, standing_view, set_there}
+use Rattle.erm_rule.proofs.Carried.{Carries, carry}
 use Rattle.erm_rule.proofs.Parts.{order_after, in_map, map_in, here, in_either, in_one, in_other, in_front, last_or_front, split_at, none_there, once_front, once_both, last_apart}
 
 -- a view that is put behind the others
@@ -52,17 +57,24 @@ both_true a b x e f = cc
 neither : (a b : Bool) (x : Part) → a ≡ false → b ≡ false → when (not a && not b) x ≡ Some x
 neither a b x e f = cc
 
--- the words stay where one seat's part changes that keeps its own two
-kept_words : (c : Core) (p : ℕ) (y : Part) → begin_of y.place ≡ begin_of (c.seats p).place → state_of y.place ≡ state_of (c.seats p).place →
-    (spot : Spot) → Tells spot → word_at (record c { seats = put c.seats p y }) spot ≡ word_at c spot
-kept_words c p y same_begin same_state tail_word tells = refl
-kept_words c p y same_begin same_state (begin_word q) tells =
+-- the words stay where one seat's part changes that keeps its own two, and the cells that keeps its claims and its spare cells
+kept_words : (c : Core) (p : ℕ) (y : Part) (cells : ℕ → Cell) → begin_of y.place ≡ begin_of (c.seats p).place → state_of y.place ≡ state_of (c.seats p).place →
+    (u : Word) → word_in (record c { seats = put c.seats p y }) cells u ≡ word_in c cells u
+kept_words c p y cells same_begin same_state (word.Begin q) =
     at_cases (λ z. begin_of z.place ≡ begin_of (c.seats q).place) c.seats p y q
     (λ is. subst (λ n. begin_of y.place ≡ begin_of (c.seats n).place) (sym is) same_begin) (λ _. refl)
-kept_words c p y same_begin same_state (state_word q) tells =
+kept_words c p y cells same_begin same_state (word.State q) =
     at_cases (λ z. state_of z.place ≡ state_of (c.seats q).place) c.seats p y q
     (λ is. subst (λ n. state_of y.place ≡ state_of (c.seats n).place) (sym is) same_state) (λ _. refl)
-kept_words c p y same_begin same_state _ tells = absurd tells
+kept_words c p y cells same_begin same_state _ = refl
+
+kept_cells : (c : Core) (p : ℕ) (y : Part) (cells : ℕ → Cell) → Carries (c.seats p) y → CellsAre c cells → CellsAre (record c { seats = put c.seats p y }) cells
+kept_cells c p y cells own are = record {
+  rows = are.rows;
+  objects = are.objects;
+  seats = λ q below. at_cases (SeatCells cells) c.seats p y q (λ is. own.kept cells (are.seats p (subst (λ n. n < ANNOUNCERS) is below))) (λ _. are.seats q below);
+  undrawn = are.undrawn;
+}
 
 first_there : (v : View) → 0 < length v.held → first_held v ∈ v.held
 first_there v some_held = ∈-at v.held 0 no_held some_held
@@ -104,7 +116,7 @@ join_event c a b x y taker other ne taken_one taken_too =
     unmet_guard _ _ _ (ne_eqb b a ne) (ap (λ (o : Option Part). step.with_part c a o) is)
 
 -- SPLIT
-module _ (words : List ℕ) (views : List View) (c : Core) (holder : ℕ → ℕ) (stands : Stands words views c holder) (id : ℕ) (v : View) (at : get_elem? views id ≡ some v)
+module _ (words : List ℕ) (views : List View) (c : Core) (cells : ℕ → Cell) (holder : ℕ → ℕ) (stands : Stands words views c cells holder) (id : ℕ) (v : View) (at : get_elem? views id ≡ some v)
     (g l : Held) (front : List Held) (l_in : l ∈ v.held) (front_in : (h : Held) → h ∈ front → h ∈ v.held) (front_once : EachOnce front) (apart : (h : Held) → h ∈ front → h.seat ≢ l.seat)
     (vacant : l.part.place ≡ Vacant) where
   abbrev split_part : Part
@@ -148,10 +160,16 @@ module _ (words : List ℕ) (views : List View) (c : Core) (holder : ℕ → ℕ
   split_state : state_of split_part.place ≡ state_of (c.seats l.seat).place
   split_state = sym (ap (λ (z : Part). state_of z.place) (stands.parts_are id v l at l_in) ∙ ap state_of vacant)
 
-  split_stands : Stands words split_views split_core split_holder
+  split_carries : Carries (c.seats l.seat) split_part
+  split_carries =
+      let same = stands.parts_are id v l at l_in in
+      carry (c.seats l.seat) split_part (ap (λ (z : Part). z.current.writes) (sym same)) (ap (λ (z : Part). z.spare) (sym same))
+
+  split_stands : Stands words split_views split_core cells split_holder
   split_stands = record {
     count = stands.count;
-    words_are = λ spot w tells is. stands.words_are spot w tells is ∙ sym (kept_words c l.seat split_part split_begin split_state spot tells);
+    words_are = λ u has. stands.words_are u has ∙ sym (kept_words c l.seat split_part cells split_begin split_state u);
+    cells_are = kept_cells c l.seat split_part cells split_carries stands.cells_are;
     parts_are = λ j u h e m.
         each_split (λ (i : ℕ) (z : View). (h : Held) → h ∈ z.held → put c.seats l.seat split_part h.seat ≡ h.part)
         (λ h m. put_other c.seats l.seat split_part h.seat (apart h m) ∙ stands.parts_are id v h at (front_in h m))
@@ -213,20 +231,22 @@ splits keeps_sound o id v several giver given s kept at =
     let vacant : (last_held v).part.place ≡ Vacant = vacant_is (last_held v).part.place given in
     record {
       core = record c { seats = put c.seats (last_held v).seat (taken (first_held v) (last_held v)).part };
+      cells = kept.cells;
       holder = put kept.holder (last_held v).seat (length s.views);
-      stands = split_stands s.words s.views c kept.holder stands id v at (first_held v) (last_held v) front l_in front_in (once_front (length v.held - 1) v.held once) apart vacant;
+      stands = split_stands s.words s.views c kept.cells kept.holder stands id v at (first_held v) (last_held v) front l_in front_in (once_front (length v.held - 1) v.held once) apart vacant;
       others =
-          split_others s.words s.views c kept.holder stands id v at (first_held v) (last_held v) front l_in front_in (once_front (length v.held - 1) v.held once) apart vacant
+          split_others s.words s.views c kept.cells kept.holder stands id v at (first_held v) (last_held v) front l_in front_in (once_front (length v.held - 1) v.held once) apart vacant
           (λ h m. last_or_front (length v.held - 1) v.held no_held h (omega (arith, some_held)) m) (fresh_part Vacant o.run o.tail) kept.others;
       sound =
           keeps_sound c (record c { seats = put c.seats (last_held v).seat (taken (first_held v) (last_held v)).part }) (first_held v).seat (kind.Split (last_held v).seat) kept.sound
           (split_event c (first_held v).seat (last_held v).seat (first_held v).part (last_held v).part (stands.parts_are id v (first_held v) at (front_in (first_held v) g_in))
           (stands.parts_are id v (last_held v) at l_in) (λ same. apart (first_held v) g_in (sym same)) ((stands.in_order id v at).seats (last_held v) l_in) giver given);
       opened = kept.opened;
+      limit = kept.limit;
     }
 
 -- JOIN
-module _ (words : List ℕ) (views : List View) (c : Core) (holder : ℕ → ℕ) (stands : Stands words views c holder) (id : ℕ) (v : View) (at : get_elem? views id ≡ some v)
+module _ (words : List ℕ) (views : List View) (c : Core) (cells : ℕ → Cell) (holder : ℕ → ℕ) (stands : Stands words views c cells holder) (id : ℕ) (v : View) (at : get_elem? views id ≡ some v)
     (other : ℕ) (ne : other ≢ id) (w : View) (there : get_elem? views other ≡ some w) (a : Held) (a_in : a ∈ v.held) (m : ℕ) where
   abbrev join_part : Part
   join_part = saw m a.part
@@ -284,10 +304,16 @@ module _ (words : List ℕ) (views : List View) (c : Core) (holder : ℕ → ℕ
   own_place : (c.seats a.seat).place ≡ join_part.place
   own_place = ap (λ (z : Part). z.place) (stands.parts_are id v a at a_in)
 
-  join_stands : Stands words join_views join_core join_holder
+  join_carries : Carries (c.seats a.seat) join_part
+  join_carries =
+      let same = stands.parts_are id v a at a_in in
+      carry (c.seats a.seat) join_part (ap (λ (z : Part). z.current.writes) (sym same)) (ap (λ (z : Part). z.spare) (sym same))
+
+  join_stands : Stands words join_views join_core cells join_holder
   join_stands = record {
     count = stands.count;
-    words_are = λ spot z tells is. stands.words_are spot z tells is ∙ sym (kept_words c a.seat join_part (sym (ap begin_of own_place)) (sym (ap state_of own_place)) spot tells);
+    words_are = λ u has. stands.words_are u has ∙ sym (kept_words c a.seat join_part cells (sym (ap begin_of own_place)) (sym (ap state_of own_place)) u);
+    cells_are = kept_cells c a.seat join_part cells join_carries stands.cells_are;
     parts_are = λ j u h e n.
         each_join (λ (i : ℕ) (z : View). (h : Held) → h ∈ z.held → put c.seats a.seat join_part h.seat ≡ h.part)
         (both_each (λ h. put c.seats a.seat join_part h.seat ≡ h.part)
@@ -351,15 +377,17 @@ joins keeps_sound o id v other w some_held some_too taker taken_one s kept at ne
     let m : ℕ = max (first_held v).part.seen (first_held w).part.seen in
     record {
       core = record c { seats = put c.seats (first_held v).seat (saw m (first_held v).part) };
+      cells = kept.cells;
       holder = λ q. if kept.holder q == other then id else kept.holder q;
-      stands = join_stands s.words s.views c kept.holder stands id v at other ne w there (first_held v) a_in m;
-      others = join_others s.words s.views c kept.holder stands id v at other ne w there (first_held v) a_in m (fresh_part Vacant o.run o.tail) kept.others;
+      stands = join_stands s.words s.views c kept.cells kept.holder stands id v at other ne w there (first_held v) a_in m;
+      others = join_others s.words s.views c kept.cells kept.holder stands id v at other ne w there (first_held v) a_in m (fresh_part Vacant o.run o.tail) kept.others;
       sound =
           keeps_sound c (record c { seats = put c.seats (first_held v).seat (saw m (first_held v).part) }) (first_held v).seat (kind.Join (first_held w).seat) kept.sound
           (join_event c (first_held v).seat (first_held w).seat (first_held v).part (first_held w).part (stands.parts_are id v (first_held v) at a_in)
           (stands.parts_are other w (first_held w) there b_in)
-          (not_first s.words s.views c kept.holder stands id v at other ne w there (first_held v) a_in m other w ne there (first_held w) b_in) taker taken_one);
+          (not_first s.words s.views c kept.cells kept.holder stands id v at other ne w there (first_held v) a_in m other w ne there (first_held w) b_in) taker taken_one);
       opened = kept.opened;
+      limit = kept.limit;
     }
 
 -- CLOSE
@@ -376,8 +404,8 @@ ends o id v ws xs tail final is =
     record {
       core = kept.core;
       sound = kept.sound;
-      is_view = standing_view s.words s.views kept.core kept.holder id v kept.stands final.1.1;
+      is_view = standing_view s.words s.views kept.core kept.cells kept.holder id v kept.stands final.1.1;
       opened = kept.opened;
       others = λ q wordless. kept.others q (λ j u h there m same. absurd (let seat : is_seat h.seat ≡ true = (kept.stands.in_order j u there).seats h m in cc));
-      tail_is = sym (kept.stands.words_are tail_word word.Tail tt refl) ∙ ap (λ (l : List ℕ). get_or l 0 0) words ∙ first_word ws tail is;
+      tail_is = sym (kept.stands.words_are word.Tail tt) ∙ ap (λ (l : List ℕ). get_or l 0 0) words ∙ first_word ws tail is;
     }

@@ -1,9 +1,16 @@
 pub mod Allowed
+pub mod Carried
+pub mod CutOff
 pub mod Draws
+pub mod Filled
 pub mod Found
 pub mod Handing
 pub mod Joins
+pub mod Lives
 pub mod Notes
+pub mod Numbered
+pub mod OnePlace
 pub mod Opens
 pub mod Parts
+pub mod Stored
 pub mod Telling

@@ -2,6 +2,7 @@
 use Rattle.std.specs.Prelude.{◌≡◌, ℕ, false, [], Some, IsSome}
 use Rattle.atomic_table.specs.declared.shared.Seat.{Seat}
 use Rattle.atomic_table.specs.Seated.{TableId}
+use Rattle.erm_model.specs.declared.limits.TheConstants.{TABLE_CELLS}
 use Rattle.erm_layout.specs.declared.limits.TheConstants.{WORDS}
 use Rattle.erm_machine.specs.declared.event.Kind.{Kind}
 use Rattle.erm_machine.specs.declared.part.Part.{Part}
@@ -38,6 +39,7 @@ pub record Told (v : View) (who : ℕ) (kind : Kind) (found : ℕ) (w : View) : 
   pub sound : Sound before
   pub is_view : IsView v before
   pub in_order : IsInOrder v
+  pub limit : before.shared.cell_limit ≡ TABLE_CELLS
   pub met : word_at before (spot_of who kind) ≡ found
   pub part : Part
   pub part_is : part_after who kind found before.shared (before.seats who) ≡ Some part
@@ -46,6 +48,7 @@ pub record Told (v : View) (who : ℕ) (kind : Kind) (found : ℕ) (w : View) : 
   pub event : after_event before who kind ≡ Some after
   pub sound_after : Sound after
   pub is_view_after : IsView w after
+  pub limit_after : after.shared.cell_limit ≡ TABLE_CELLS
 
 -- The table's last state: a sound one of its opening, in which the seats of the view have its parts, with this tail. A seat
 -- without words, which no view can have, is one that has done nothing.

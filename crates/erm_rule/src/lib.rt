@@ -13,6 +13,10 @@ mod view;
 pub use laws::{notes_are_kept, notes_hold, sessions_are_handed_out};
 pub use life::{add_tail, load_begin, load_state, load_tail, store_begin, store_state};
 pub use passes::{close, join, open, split};
+pub use plays::Deed;
 pub use rule::{Pass, Standing, Table};
-pub use steps::{add, load, store};
+pub use steps::{
+    add, add_as, and, and_as, exchange, exchange_as, load, load_as, or, or_as, raise, raise_as,
+    store, store_as, swap, swap_as,
+};
 pub use view::{Held, Opening, View};

@@ -1,6 +1,6 @@
 //! The table and its passes: made, cut in two, joined, and closed.
 ghost use Rattle.std.specs.Prelude.{◌≡◌, ◌+◌, ◌<◌, ◌≤◌, IfOk};
-ghost use Rattle.erm_rule.specs.Rule.{IsFirst, first_view};
+ghost use Rattle.erm_rule.specs.Rule.{IsFirst, IsFirstUpTo, first_view};
 ghost use Rattle.erm_rule.specs.Steps.{Fits, Ends};
 ghost use Rattle.erm_rule.specs.Views.{view, left_of, right_of, joined, MayGive, MayJoin};
 
@@ -8,7 +8,7 @@ use crate::plays::{Cut, Glue};
 use crate::rule::{Pass, Table};
 use crate::view::Opening;
 use erm_layout::{WORDS, Word, index};
-use erm_machine::STOP;
+use erm_machine::{Counter, OBJECT_LIMIT, STOP};
 use erm_model::Stamp;
 use std::alloc::{AllocError, Global};
 
@@ -26,13 +26,25 @@ pub fn open(alloc: Global, opening: &Opening) -> Result<(Table, Pass), AllocErro
     Table::of_words(alloc, &words, opening)
 }
 
-// The words of an empty log that begins at this tail.
+// The words of an empty log that begins at this tail, with the entries of all objects.
 fn first_words(alloc: Global, tail: Stamp) -> Result<Vec<u64>, AllocError>
     ensures { IfOk result (λ words. IsFirst tail words.items) }
+{
+    let mut words = bare_words(alloc, tail)?;
+    for oid in 0..OBJECT_LIMIT {
+        words[index(Word::Entry(oid))] = u64::from(oid);
+    }
+    Ok(words)
+}
+
+// The words but for the entries: the cells of the objects are drawn.
+fn bare_words(alloc: Global, tail: Stamp) -> Result<Vec<u64>, AllocError>
+    ensures { IfOk result (λ words. IsFirstUpTo tail 0 words.items) }
 {
     let mut words = vec![in alloc; 0_u64; WORDS]?;
     words[index(Word::Tail)] = tail;
     words[index(Word::Flushed)] = tail;
+    words[index(Word::Counter(Counter::Cells))] = u64::from(OBJECT_LIMIT);
     Ok(words)
 }
 

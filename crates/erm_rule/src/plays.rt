@@ -5,7 +5,7 @@ use erm_machine::Kind;
 use std::marker::{Brand, PhantomData};
 
 /// Which seat steps, and which kind of step it takes: for proofs alone.
-pub(crate) trait Deed {
+pub trait Deed {
     ghost use Rattle.std.specs.Prelude.{ℕ};
     ghost use Rattle.erm_machine.specs.declared.event.Kind.{Kind};
 

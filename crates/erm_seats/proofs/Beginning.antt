@@ -4,7 +4,6 @@ use Rattle.std.specs.Prelude.{if◌then◌else◌, IsSome}
 use Rattle.std.proofs.lemmas.Bool.{and_parts, cases_eq, leb-true}
 use Rattle.erm_machine.specs.declared.attempt.Attempt.{Attempt}
 use Rattle.erm_machine.specs.declared.limits.TheConstants.{STOP}
-use Rattle.erm_machine.specs.declared.event.Kind.{Kind}
 use Rattle.erm_machine.specs.declared.event.Kind.TheVariants as kind
 use Rattle.erm_machine.specs.declared.event.TailUse.TheVariants as purpose
 use Rattle.erm_machine.specs.declared.part.Part.{Part}
@@ -18,8 +17,9 @@ use Rattle.erm_model.specs.Member.{◌∈◌}
 use Rattle.erm_rule.specs.declared.view.View.{View}
 use Rattle.erm_rule.specs.Steps.{Ready, Told}
 use Rattle.erm_rule.specs.Views.{part_in, part_of, with_part}
+use Rattle.erm_rule.proofs.Numbered.{known_after}
 use Rattle.erm_rule.proofs.Telling.{held_part, ready_by, told_first, told_after, changed_here, changed_other}
-use Rattle.erm_seats.specs.Calls.{begun_part, DidBegin, IsPastSeen, IsKnown}
+use Rattle.erm_seats.specs.Calls.{begun_part, DidBegin, IsPastSeen}
 use Rattle.erm_seats.proofs.Stamps.{over_below, view_below}
 
 not_true : (b : Bool) → not b ≡ true → b ≡ false
@@ -32,10 +32,6 @@ some_when b x e = ap (λ (t : Bool). is_some (when t x)) e
 pub when_is : (b : Bool) (x z : Part) → when b x ≡ Some z → z ≡ x
 when_is true x z e = cc
 when_is false x z e = absurd (cc)
-
--- the state after a step is one of the view after
-pub known_after : (v : View) (who : ℕ) (k : Kind) (found : ℕ) (w : View) → Told v who k found w → IsKnown w
-known_after v who k found w told = record { core = told.after; sound = told.sound_after; is_view = told.is_view_after }
 
 -- the part once the first tail is loaded, and once it is announced
 abbrev pub loaded_part : ℕ → Part → Part

@@ -14,9 +14,11 @@ use Rattle.erm_rule.specs.declared.view.View.{View}
 use Rattle.erm_rule.specs.Steps.{Ready, Told}
 use Rattle.erm_rule.specs.Views.{part_in, part_of, with_part, IsView}
 use Rattle.erm_rule.proofs.Parts.{with_part-same}
+use Rattle.erm_rule.specs.Hands.{IsKnown}
+use Rattle.erm_rule.proofs.Numbered.{known_after}
 use Rattle.erm_rule.proofs.Telling.{ready_by, told_first, part_of-changed}
-use Rattle.erm_seats.specs.Calls.{clear_part, FindsState, IsKnown, StaysClear}
-use Rattle.erm_seats.proofs.Beginning.{some_when, when_is, known_after}
+use Rattle.erm_seats.specs.Calls.{clear_part, FindsState, StaysClear}
+use Rattle.erm_seats.proofs.Beginning.{some_when, when_is}
 
 -- the law of notes
 abbrev pub NotesHold : Type 0

@@ -18,9 +18,10 @@ use Rattle.erm_model.specs.Member.{◌∈◌}
 use Rattle.erm_rule.specs.declared.view.View.{View}
 use Rattle.erm_rule.specs.Steps.{Ready, Told}
 use Rattle.erm_rule.specs.Views.{part_in, part_of, with_part}
+use Rattle.erm_rule.proofs.Numbered.{known_after}
 use Rattle.erm_rule.proofs.Telling.{held_part, ready_by, told_first, told_after, changed_here, changed_other}
 use Rattle.erm_seats.specs.Calls.{sealed_part, DidSeal, IsPastSeen}
-use Rattle.erm_seats.proofs.Beginning.{some_when, when_is, known_after}
+use Rattle.erm_seats.proofs.Beginning.{some_when, when_is}
 use Rattle.erm_seats.proofs.Stamps.{over_below, tail_positive, view_below}
 
 active_is : (pl : Place) → is_active pl ≡ true → pl ≡ Active (begin_of pl)

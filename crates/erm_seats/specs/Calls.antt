@@ -12,6 +12,7 @@ use Rattle.erm_machine.specs.Seat.{saw, with_range}
 use Rattle.erm_machine.specs.Sound.{Sound}
 use Rattle.erm_machine.specs.Words.{begin_of, state_of, is_clear, is_flusher, refuses}
 use Rattle.erm_rule.specs.declared.view.View.{View}
+use Rattle.erm_rule.specs.Hands.{IsKnown}
 use Rattle.erm_rule.specs.Views.{part_in, part_of, with_part, IsView}
 use Rattle.erm_seats.specs.declared.answer.BeginStop.{BeginStop}
 use Rattle.erm_seats.specs.declared.answer.BeginStop.TheVariants.{LogEnd}
@@ -39,13 +40,6 @@ clear_part seat bound x = record x { task = after_clear seat bound x x.task; cle
 -- a tail or a stamp is at least each tail that a seat of the view has seen
 abbrev pub IsPastSeen : View → ℕ → Type 0
 IsPastSeen v stamp = (q : ℕ) (x : Part) → part_in v q ≡ Some x → x.seen ≤ stamp
-
--- There is a sound state in which the view's seats have its parts. So what every sound state says of these seats is so of
--- the view's parts.
-pub record IsKnown (v : View) : Type 0 where
-  pub core : Core
-  pub sound : Sound core
-  pub is_view : IsView v core
 
 -- A begin: the seat announced a tail, and the begin stamp is at least that, above each stamp of the seat's own earlier
 -- transactions, and at least each tail that a seat of the pass had seen.

@@ -1,7 +1,8 @@
 use Rattle.std.proofs.Common.{sym, ap, ◌∙◌}
 use Rattle.erm_machine.specs.Seat.{is_vacant}
+use Rattle.erm_rule.proofs.Numbered.{known_after}
 use Rattle.erm_rule.proofs.Telling.{held_part, is_held, changed_here}
-use Rattle.erm_seats.proofs.Beginning.{first_past, known_after, ready_first, stopped_view, loaded_view, ready_announce, announced_view, ready_second, stopped_tail, did_begin}
+use Rattle.erm_seats.proofs.Beginning.{first_past, ready_first, stopped_view, loaded_view, ready_announce, announced_view, ready_second, stopped_tail, did_begin}
 use Rattle.erm_seats.proofs.life.begin_steps.Goals as goal
 
 pub load_tail-tail-requires-clause-ready : goal.load_tail-tail-requires-clause-ready

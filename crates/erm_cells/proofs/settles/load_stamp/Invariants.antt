@@ -1,0 +1,6 @@
+use Rattle.erm_cells.specs.Hands.{cell_word_of, stamp_kind}
+use Rattle.erm_rule.specs.Views.{part_of}
+use Rattle.erm_cells.proofs.settles.load_stamp.Given as goal
+
+abbrev pub ghosts-load_as : goal.ghosts-load_as
+ghosts-load_as a = record { seat = a.who; kind = stamp_kind (part_of a.p.now.me.0 a.who) (cell_word_of a.word) }

@@ -1,0 +1,7 @@
+use Rattle.erm_cells.specs.Hands.{cell_word_of}
+use Rattle.erm_rule.specs.Hands.{walk_kind}
+use Rattle.erm_rule.specs.Views.{part_of}
+use Rattle.erm_cells.proofs.walks.load_walked.Given as goal
+
+abbrev pub ghosts-load_as : goal.ghosts-load_as
+ghosts-load_as a = record { seat = a.who; kind = walk_kind (part_of a.p.now.me.0 a.who) (cell_word_of a.word) }
