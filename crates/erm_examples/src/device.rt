@@ -19,11 +19,13 @@ pub enum Kind {
     Remove,
 }
 
-/// A disk in memory that tells nothing. Of the calls of a kind one may be made to fail.
+/// A disk in memory that tells nothing. Of the calls of a kind one may be made to fail, and a read of a segment fails that
+/// was removed.
 #[derive(Drop)]
 pub struct Device {
     disk: MemDisk,
     failing: Option<(Kind, u64)>,
+    removed: u64,
     faults: u64,
 }
 
@@ -33,16 +35,18 @@ impl Device {
         Self::over(MemDisk::new(alloc))
     }
 
-    // A disk over one in memory, none of whose calls is made to fail here.
+    // A disk over one in memory, none of whose calls is made to fail here, and of which no segment was removed.
     fn over(disk: MemDisk) -> Self {
         Device {
             disk,
             failing: None,
+            removed: 0,
             faults: 0,
         }
     }
 
-    /// The disk that a crash now may leave: with what was waited for, and of the rest what the pick says.
+    /// The disk that a crash now may leave: with what was waited for, and of the rest what the pick says. What was removed
+    /// from it may be there again, so each file of it may be read.
     pub fn image(&self, pick: Pick) -> Result<Self, AllocError> {
         Ok(Self::over(self.disk.image(pick)?))
     }
@@ -83,6 +87,23 @@ impl Device {
         self.failing = Some((kind, number - 1));
         Ok(())
     }
+
+    // Notes that a file was removed. Segments are removed from the front of the log on.
+    fn note_removed(&mut self, file: File)
+        ensures { self.new.faults ≡ self.old.faults }
+    {
+        if let File::Segment(number) = file {
+            self.removed = number.saturating_add(1);
+        }
+    }
+
+    // Whether a file is a segment that was removed.
+    fn is_removed(&self, file: File) -> bool {
+        match file {
+            File::Segment(number) => number < self.removed,
+            _ => false,
+        }
+    }
 }
 
 impl Disk for Device {
@@ -99,6 +120,9 @@ impl Disk for Device {
 
     fn read(&mut self, file: File, at: u64, buf: &mut [u8]) -> Result<usize, Failed> {
         self.begin(Kind::Read)?;
+        if self.is_removed(file) {
+            return Err(self.fail());
+        }
         match self.disk.read(file, at, buf) {
             Ok(count) => Ok(count),
             Err(_) => Err(self.fail()),
@@ -131,7 +155,10 @@ impl Disk for Device {
     fn remove(&mut self, file: File) -> Result<(), Failed> {
         self.begin(Kind::Remove)?;
         match self.disk.remove(file) {
-            Ok(()) => Ok(()),
+            Ok(()) => {
+                self.note_removed(file);
+                Ok(())
+            }
             Err(_) => Err(self.fail()),
         }
     }

@@ -1,7 +1,9 @@
 //! The longest script, words and what they ask for, objects and the ring used up, and faults of source and sink.
+ghost use Rattle.std.specs.Prelude.{◌<◌, ◌≤◌};
+
 use crate::device::Device;
-use crate::memory::{Outcome, call, run};
-use anyhow::{Context, Result, ensure};
+use crate::memory::{Outcome, call, run, words_of};
+use anyhow::{Result, ensure};
 use erm_outside_mem::{MemSink, MemSource};
 use std::alloc::{AllocError, Global};
 use std::sync::Wait;
@@ -11,78 +13,67 @@ use std::thread::Threads;
 const SCRIPT_BYTES: usize = 16_777_216;
 
 /// The usage line.
-const USAGE: &[u8] =
-    b"usage: erm run | threads | make --count N --sessions K [--text] | recover | audit | checkpoint\n";
+const USAGE: &str =
+    "usage: erm run | threads | make --count N --sessions K [--text] | recover | audit | checkpoint\n";
 
 /// The report of a script without lines.
 const EMPTY_REPORT: &str = "open 8 run 1\norder 0\nmap 0\nend\n";
+
+/// What a checkpoint of a disk without files prints.
+const CHECKPOINT_REPORT: &str = "open 8 run 1\ncheckpoint 13\nend\n";
 
 /// The report of the least workload.
 const MADE_REPORT: &str = "made 1 sessions 1\ncommitted 17\nexcluded 0\nowned 0\npairs 64\nend\n";
 
 /// Words that ask for a command, and what it prints where nothing is read and the disk has no files.
-const COMMANDS: [(&[&str], &str); 11] = [
-    (&["erm", "run"], EMPTY_REPORT),
-    (&["", "run"], EMPTY_REPORT),
-    (&["run", "run"], EMPTY_REPORT),
-    (&["erm", "run", "--"], EMPTY_REPORT),
-    (&["erm", "recover"], "recovered 8 run 0\nmap 0\nend\n"),
-    (
-        &["erm", "audit"],
-        "audit 8 to 8 run 0\norder 0\nmap 0\nend\n",
-    ),
-    (&["erm", "checkpoint"], "open 8 run 1\ncheckpoint 13\nend\n"),
-    (
-        &["erm", "checkpoint", "--"],
-        "open 8 run 1\ncheckpoint 13\nend\n",
-    ),
-    (
-        &["erm", "make", "--count", "1", "--sessions", "1"],
-        MADE_REPORT,
-    ),
-    (
-        &["erm", "make", "--sessions", "1", "--count", "1"],
-        MADE_REPORT,
-    ),
-    (&["erm", "make", "--count=1", "--sessions=1"], MADE_REPORT),
+const COMMANDS: [(&str, &str); 11] = [
+    ("erm run", EMPTY_REPORT),
+    (" run", EMPTY_REPORT),
+    ("run run", EMPTY_REPORT),
+    ("erm run --", EMPTY_REPORT),
+    ("erm recover", "recovered 8 run 0\nmap 0\nend\n"),
+    ("erm audit", "audit 8 to 8 run 0\norder 0\nmap 0\nend\n"),
+    ("erm checkpoint", CHECKPOINT_REPORT),
+    ("erm checkpoint --", CHECKPOINT_REPORT),
+    ("erm make --count 1 --sessions 1", MADE_REPORT),
+    ("erm make --sessions 1 --count 1", MADE_REPORT),
+    ("erm make --count=1 --sessions=1", MADE_REPORT),
 ];
 
 /// Words that ask for no command that the program has.
-const OTHERS: [&[&str]; 25] = [
-    &[],
-    &["erm"],
-    &["run"],
-    &["erm", ""],
-    &["erm", "frob"],
-    &["erm", "RUN"],
-    &["erm", "threads"],
-    &["erm", "run", "run"],
-    &["erm", "run", "recover"],
-    &["erm", "run", "--", "--"],
-    &["erm", "--", "run"],
-    &["erm", "run", "--help"],
-    &["erm", "run", "--text"],
-    &["erm", "-h"],
-    &["erm", "--help"],
-    &["erm", "help"],
-    &["erm", "--version"],
-    &["erm", "make"],
-    &["erm", "make", "--count", "1"],
-    &["erm", "make", "--count", "0", "--sessions", "1"],
-    &["erm", "make", "--count", "100001", "--sessions", "1"],
-    &["erm", "make", "--count", "1", "--sessions", "17"],
-    &["erm", "make", "--count", "01", "--sessions", "1"],
-    &[
-        "erm",
-        "make",
-        "--count",
-        "1",
-        "--count",
-        "1",
-        "--sessions",
-        "1",
-    ],
-    &["erm", "recover", "--count", "1"],
+const OTHERS: [&str; 24] = [
+    "erm",
+    "run",
+    "erm ",
+    "erm frob",
+    "erm RUN",
+    "erm threads",
+    "erm run run",
+    "erm run recover",
+    "erm run -- --",
+    "erm -- run",
+    "erm run --help",
+    "erm run --text",
+    "erm -h",
+    "erm --help",
+    "erm help",
+    "erm --version",
+    "erm make",
+    "erm make --count 1",
+    "erm make --count 0 --sessions 1",
+    "erm make --count 100001 --sessions 1",
+    "erm make --count 1 --sessions 17",
+    "erm make --count 01 --sessions 1",
+    "erm make --count 1 --count 1 --sessions 1",
+    "erm recover --count 1",
+];
+
+/// Calls at which the source and the sink fail where a script of one line is run, five bytes a call; the status and what
+/// was put.
+const FAULTS: [(&[u64], &[u64], u8, &str); 3] = [
+    (&[2], &[], 4, "read fault\n"),
+    (&[], &[3], 5, "open 8 run"),
+    (&[1], &[1], 4, ""),
 ];
 
 /// How many puts are refused for the owner, each of which makes three objects: 26 + 3 * 5,452 is 16,382, so two are left.
@@ -114,121 +105,144 @@ const BEHIND_COMMITS: (&str, &str) = (
 /// The rest of the report.
 const BEHIND_ORDER: &str = "commit a 6554 stamp 32778 succ 32778 pred 0\nmap 0\nend\n";
 
+/// A script that grows, with what it is to print.
+#[derive(Drop)]
+struct Row {
+    script: String,
+    report: String,
+}
+
+impl Row {
+    // Adds lines, and what is printed.
+    fn push(&mut self, script: &str, report: &str) -> Result<(), AllocError> {
+        self.script.push_str(script)?;
+        self.report.push_str(report)
+    }
+}
+
 /// Tries each edge.
 pub fn check<R: Threads + Wait + Sync>(rt: &R, alloc: Global) -> Result<()> {
-    check_sizes(rt, alloc)?;
+    check_comment(rt, alloc, SCRIPT_BYTES, 0, EMPTY_REPORT)?;
+    check_comment(rt, alloc, SCRIPT_BYTES + 1, 9, "too long\n")?;
     check_words(rt, alloc)?;
-    check_objects(rt, alloc)?;
-    check_ring(rt, alloc)?;
+    check_row(rt, alloc, "objects used up", objects(alloc)?)?;
+    check_row(rt, alloc, "ring used up", ring(alloc)?)?;
     check_faults(rt, alloc)
 }
 
-// A script of comments that is as long as one may be, and one that is longer.
-fn check_sizes<R: Threads + Wait + Sync>(rt: &R, alloc: Global) -> Result<()> {
-    let longest = vec![in alloc; b'#'; SCRIPT_BYTES]?;
-    let found = run(rt, alloc, longest.as_slice(), 65536)?;
-    ensure!(found.status == 0, "longest script");
-    ensure!(
-        found.bytes.as_slice() == EMPTY_REPORT.as_bytes(),
-        "its report"
-    );
-    let longer = vec![in alloc; b'#'; SCRIPT_BYTES + 1]?;
-    let found = run(rt, alloc, longer.as_slice(), 65536)?;
-    ensure!(found.status == 9, "longer script");
-    ensure!(
-        found.bytes.as_slice() == b"too long\n".as_slice(),
-        "its text"
-    );
+// A script of a comment that has so many bytes.
+fn check_comment<R: Threads + Wait + Sync>(
+    rt: &R,
+    alloc: Global,
+    count: usize,
+    status: u8,
+    report: &str,
+) -> Result<()> {
+    let script = vec![in alloc; b'#'; count]?;
+    let ended = run(rt, alloc, &script, 65536)?;
+    ensure!(ended.is(status, report), "script of {count} bytes");
     Ok(())
 }
 
 // Words of each command, on a disk without files, and others.
 fn check_words<R: Threads + Wait + Sync>(rt: &R, alloc: Global) -> Result<()> {
-    for (words, report) in COMMANDS {
-        check_call(rt, alloc, words, 0, report.as_bytes()).context(format_args!("{words:?}"))?;
+    for (line, report) in COMMANDS {
+        check_line(rt, alloc, line, 0, report)?;
     }
-    for words in OTHERS {
-        check_call(rt, alloc, words, 2, USAGE).context(format_args!("{words:?}"))?;
+    for line in OTHERS {
+        check_line(rt, alloc, line, 2, USAGE)?;
     }
+    let ended = call_with(rt, alloc, &[])?;
+    ensure!(ended.is(2, USAGE), "no words");
+    Ok(())
+}
+
+// The words of a line.
+fn check_line<R: Threads + Wait + Sync>(
+    rt: &R,
+    alloc: Global,
+    line: &str,
+    status: u8,
+    report: &str,
+) -> Result<()> {
+    let words = words_of(alloc, line)?;
+    let ended = call_with(rt, alloc, &words)?;
+    ensure!(ended.is(status, report), "{line}");
     Ok(())
 }
 
 // Calls the program with words over nothing to read and a disk without files.
-fn check_call<R: Threads + Wait + Sync>(
+fn call_with<R: Threads + Wait + Sync>(
     rt: &R,
     alloc: Global,
-    words: &[&str],
-    status: u8,
-    report: &[u8],
-) -> Result<()> {
+    words: &[String],
+) -> Result<Outcome, AllocError> {
     let source = MemSource::new(Vec::new(alloc), 1);
     let sink = MemSink::new(alloc, 5);
-    let found = call(rt, alloc, words, source, sink, Device::new(alloc))?;
-    ensure!(found.status == status, "status of words");
-    ensure!(found.bytes.as_slice() == report, "what words print");
+    call(rt, alloc, words, source, sink, Device::new(alloc))
+}
+
+// A script and what it is to print.
+fn check_row<R: Threads + Wait + Sync>(rt: &R, alloc: Global, name: &str, row: Row) -> Result<()> {
+    let ended = run(rt, alloc, row.script.as_bytes(), 65536)?;
+    ensure!(ended.is(0, &row.report), "{name}");
     Ok(())
 }
 
 // A session owns the root of a table. A put of another one is refused for that, and each time it has made three objects,
 // until there are no more: then that is the refusal, and the transaction goes on.
-fn check_objects<R: Threads + Wait + Sync>(rt: &R, alloc: Global) -> Result<()> {
-    let mut script = String::from_str(alloc, BEFORE_PUTS.0)?;
-    let mut report = String::from_str(alloc, BEFORE_PUTS.1)?;
+fn objects(alloc: Global) -> Result<Row, AllocError> {
+    let mut row = Row {
+        script: String::from_str(alloc, BEFORE_PUTS.0)?,
+        report: String::from_str(alloc, BEFORE_PUTS.1)?,
+    };
     for refused in 0..REFUSED_PUTS {
         let line = 12 + 2 * refused;
-        script.push_str("b begin\nb put 0 9 09\n")?;
-        report.push_str(format!(in alloc; "{line} begin 63\n")?.as_str())?;
-        report.push_str(format!(in alloc; "{} owned 1 2\n", line + 1)?.as_str())?;
+        let answers = format!(in alloc; "{line} begin 63\n{} owned 1 2\n", line + 1)?;
+        row.push("b begin\nb put 0 9 09\n", &answers)?;
     }
-    script.push_str(BEHIND_PUTS.0)?;
-    report.push_str(BEHIND_PUTS.1)?;
-    let found = run(rt, alloc, script.as_bytes(), 65536)?;
-    ensure!(found.status == 0, "objects used up");
-    ensure!(found.bytes.as_slice() == report.as_bytes(), "its report");
-    Ok(())
+    row.push(BEHIND_PUTS.0, BEHIND_PUTS.1)?;
+    Ok(row)
 }
 
 // Commits without a flush fill the ring.
-fn check_ring<R: Threads + Wait + Sync>(rt: &R, alloc: Global) -> Result<()> {
-    let mut script = String::new(alloc);
-    let mut report = String::from_str(alloc, "open 8 run 1\n")?;
+fn ring(alloc: Global) -> Result<Row, AllocError> {
     let mut order = String::new(alloc);
+    let mut row = Row {
+        script: String::new(alloc),
+        report: String::from_str(alloc, "open 8 run 1\n")?,
+    };
     for number in 1..=RING_COMMITS {
-        let line = 2 * number;
         let stamp = 8 + 5 * number;
         let ends = format!(in alloc; "{stamp} succ {stamp} pred 0\n")?;
-        script.push_str("a begin\na commit\n")?;
-        report.push_str(format!(in alloc; "{} begin {stamp}\n", line - 1)?.as_str())?;
-        report.push_str(format!(in alloc; "{line} committed {ends}")?.as_str())?;
-        order.push_str(format!(in alloc; "commit a {number} stamp {ends}")?.as_str())?;
+        row.push("a begin\na commit\n", &answers_of(alloc, number, &ends)?)?;
+        order.push_str(&format!(in alloc; "commit a {number} stamp {ends}")?)?;
     }
-    script.push_str(BEHIND_COMMITS.0)?;
-    report.push_str(BEHIND_COMMITS.1)?;
-    report.push_str(order.as_str())?;
-    report.push_str(BEHIND_ORDER)?;
-    let found = run(rt, alloc, script.as_bytes(), 65536)?;
-    ensure!(found.status == 0, "ring used up");
-    ensure!(found.bytes.as_slice() == report.as_bytes(), "its report");
-    Ok(())
+    row.push(BEHIND_COMMITS.0, BEHIND_COMMITS.1)?;
+    row.push("", &order)?;
+    row.push("", BEHIND_ORDER)?;
+    Ok(row)
+}
+
+// What the two lines of a commit are answered.
+fn answers_of(alloc: Global, number: u32, ends: &str) -> Result<String, AllocError>
+    requires some { 0 < number }
+    requires few { number ≤ RING_COMMITS }
+{
+    let line = 2 * number;
+    let stamp = 8 + 5 * number;
+    format!(in alloc; "{} begin {stamp}\n{line} committed {ends}", line - 1)
 }
 
 // Source and sink that fail at a call.
 fn check_faults<R: Threads + Wait + Sync>(rt: &R, alloc: Global) -> Result<()> {
-    let found = with_faults(rt, alloc, &[2], &[])?;
-    ensure!(found.status == 4, "source fails");
-    ensure!(
-        found.bytes.as_slice() == b"read fault\n".as_slice(),
-        "its text"
-    );
-    let found = with_faults(rt, alloc, &[], &[3])?;
-    ensure!(found.status == 5, "sink fails");
-    ensure!(
-        found.bytes.as_slice() == b"open 8 run".as_slice(),
-        "front of the report"
-    );
-    let found = with_faults(rt, alloc, &[1], &[1])?;
-    ensure!(found.status == 4, "both fail");
-    ensure!(found.bytes.is_empty(), "nothing was put");
+    for (taking, putting, status, report) in FAULTS {
+        let ended = with_faults(rt, alloc, taking, putting)?;
+        ensure!(
+            ended.is(status, report),
+            "{report}: faults of source or sink"
+        );
+    }
     Ok(())
 }
 
@@ -242,6 +256,6 @@ fn with_faults<R: Threads + Wait + Sync>(
     let script = Vec::from_slice(alloc, b"a begin\n")?;
     let source = MemSource::new(script, 5).failing(Vec::from_slice(alloc, taking)?);
     let sink = MemSink::new(alloc, 5).failing(Vec::from_slice(alloc, putting)?);
-    let device = Device::new(alloc);
-    call(rt, alloc, &["erm", "run"], source, sink, device)
+    let words = words_of(alloc, "erm run")?;
+    call(rt, alloc, &words, source, sink, Device::new(alloc))
 }

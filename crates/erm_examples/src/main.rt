@@ -13,8 +13,8 @@ mod memory;
 mod steps;
 mod stops;
 
-use anyhow::{Context, Result, ensure};
-use std::alloc::Global;
+use anyhow::{Result, ensure};
+use std::alloc::{AllocError, Global};
 use std::fs;
 use std::rt::Files;
 use std::sync::Wait;
@@ -24,60 +24,80 @@ use std::thread::Threads;
 const PER_CALL: [usize; 3] = [1, 7, 65536];
 
 fn main(rt: HostRuntime) -> Result<()> {
-    check_rows(&rt, rt.alloc(), "rows.txt")?;
-    check_disks(&rt, rt.alloc(), "disks.txt")?;
+    check_rows(&rt, rt.alloc())?;
+    check_disks(&rt, rt.alloc())?;
     edges::check(&rt, rt.alloc())?;
     println!(rt; "edges: as expected")?;
     Ok(())
 }
 
-// Runs the examples whose names a file lists.
+// Runs the examples on an empty disk. A line is begun before each, so that it tells which one fails.
 fn check_rows<R: Files + AllocGlobal + Print + Threads + Wait + Sync>(
     rt: &R,
     alloc: Global,
-    list: &str,
 ) -> Result<()> {
-    let names = fs::read_to_string(rt, list).context(format_args!("{list}"))?;
+    let names = fs::read_to_string(rt, "rows.txt")?;
     for name in names.lines() {
-        let script = fs::read(rt, format!(in alloc; "{name}.script")?.as_str())?;
-        let report = fs::read(rt, format!(in alloc; "{name}.report")?.as_str())?;
-        check_row(rt, alloc, script.as_slice(), report.as_slice()).context(format_args!("{name}"))?;
-        println!(rt; "{name}: as expected")?;
+        print!(rt; "{name}: ")?;
+        check_named_row(rt, alloc, name)?;
+        println!(rt; "as expected")?;
     }
     Ok(())
 }
 
-// Carries out the examples over a disk whose names a file lists.
+// Carries out the examples over a disk.
 fn check_disks<R: Files + AllocGlobal + Print + Threads + Wait + Sync>(
     rt: &R,
     alloc: Global,
-    list: &str,
 ) -> Result<()> {
-    let names = fs::read_to_string(rt, list).context(format_args!("{list}"))?;
+    let names = fs::read_to_string(rt, "disks.txt")?;
     for name in names.lines() {
-        let lines = fs::read_to_string(rt, format!(in alloc; "{name}.steps")?.as_str())?;
-        steps::carry_out(rt, alloc, &lines).context(format_args!("{name}"))?;
-        println!(rt; "{name}: as expected")?;
+        print!(rt; "{name}: ")?;
+        let lines = read(rt, alloc, name, "steps")?;
+        steps::carry_out(rt, alloc, &lines)?;
+        println!(rt; "as expected")?;
     }
     Ok(())
+}
+
+// Runs the example of a name.
+fn check_named_row<R: Files + AllocGlobal + Threads + Wait + Sync>(
+    rt: &R,
+    alloc: Global,
+    name: &str,
+) -> Result<()> {
+    let script = read(rt, alloc, name, "script")?;
+    let report = read(rt, alloc, name, "report")?;
+    check_row(rt, alloc, &script, &report)
+}
+
+// The text of an example's file.
+fn read<R: Files + AllocGlobal>(rt: &R, alloc: Global, name: &str, kind: &str) -> Result<String> {
+    let file = format!(in alloc; "{name}.{kind}")?;
+    Ok(fs::read_to_string(rt, &file)?)
 }
 
 // Runs an example at each size of call, and compares status and bytes.
 fn check_row<R: Threads + Wait + Sync>(
     rt: &R,
     alloc: Global,
-    script: &[u8],
-    report: &[u8],
+    script: &str,
+    report: &str,
 ) -> Result<()> {
     for per_call in PER_CALL {
-        let found = memory::run(rt, alloc, script, per_call)?;
-        let mut shown = found.status.to_string(alloc)?.into_bytes();
-        shown.push(b'\n')?;
-        shown.extend_from_slice(found.bytes.as_slice())?;
-        ensure!(
-            shown.as_slice() == report,
-            "other bytes at {per_call} a call"
-        );
+        let shown = show(rt, alloc, script, per_call)?;
+        ensure!(shown.as_str() == report, "other bytes at {per_call} a call");
     }
     Ok(())
+}
+
+// A line with the status of a script, and what it prints.
+fn show<R: Threads + Wait + Sync>(
+    rt: &R,
+    alloc: Global,
+    script: &str,
+    per_call: usize,
+) -> Result<String, AllocError> {
+    let ended = memory::run(rt, alloc, script.as_bytes(), per_call)?;
+    format!(in alloc; "{}\n{}", ended.status, ended.text())
 }

@@ -17,45 +17,58 @@ pub struct Outcome {
     pub device: Device,
 }
 
+impl Outcome {
+    /// What was put. Bytes that are no text count as none.
+    pub fn text(&self) -> &str {
+        str::from_utf8(self.bytes.as_slice()).unwrap_or("")
+    }
+
+    /// Whether the call ended with this status, and put just this.
+    pub fn is(&self, status: u8, report: &str) -> bool {
+        self.status == status && self.bytes.as_slice() == report.as_bytes()
+    }
+}
+
 /// Calls the program with these words over this source, this sink and this disk.
 pub fn call<R: Threads + Wait + Sync>(
     rt: &R,
     alloc: Global,
-    words: &[&str],
+    words: &[String],
     mut source: MemSource,
     mut sink: MemSink,
     device: Device,
 ) -> Result<Outcome, AllocError> {
-    let mut owned = Vec::new(alloc);
-    for word in words {
-        owned.push(String::from_str(alloc, word)?)?;
-    }
-    let ended = ermia(rt, alloc, &owned, &mut source, &mut sink, device, &OpenGate);
-    let bytes = Vec::from_slice(alloc, sink.as_slice())?;
+    let ended = ermia(rt, alloc, words, &mut source, &mut sink, device, &OpenGate);
     Ok(Outcome {
         status: ended.status,
-        bytes,
+        bytes: Vec::from_slice(alloc, sink.as_slice())?,
         device: ended.disk,
     })
 }
 
-/// Calls the program with these words behind its name over this script, with so many bytes a call of source and sink.
+/// The words of a line, with a space between each two.
+pub fn words_of(alloc: Global, line: &str) -> Result<Vec<String>, AllocError> {
+    let mut words = Vec::new(alloc);
+    for word in line.split(' ') {
+        words.push(String::from_str(alloc, word)?)?;
+    }
+    Ok(words)
+}
+
+/// Calls the program with the words of this line, the first of which is its name, over this script, with so many bytes a
+/// call of source and sink.
 pub fn call_over<R: Threads + Wait + Sync>(
     rt: &R,
     alloc: Global,
-    words: &str,
+    line: &str,
     script: &[u8],
     per_call: usize,
     device: Device,
 ) -> Result<Outcome, AllocError> {
-    let at_least_one = per_call.max(1);
-    let mut all = vec![in alloc; "erm"]?;
-    for word in words.split_whitespace() {
-        all.push(word)?;
-    }
-    let source = MemSource::new(Vec::from_slice(alloc, script)?, at_least_one);
-    let sink = MemSink::new(alloc, at_least_one);
-    call(rt, alloc, &all, source, sink, device)
+    let words = words_of(alloc, line)?;
+    let source = MemSource::new(Vec::from_slice(alloc, script)?, per_call.max(1));
+    let sink = MemSink::new(alloc, per_call.max(1));
+    call(rt, alloc, &words, source, sink, device)
 }
 
 /// Runs a script on an empty disk, with so many bytes a call of source and sink.
@@ -65,5 +78,5 @@ pub fn run<R: Threads + Wait + Sync>(
     script: &[u8],
     per_call: usize,
 ) -> Result<Outcome, AllocError> {
-    call_over(rt, alloc, "run", script, per_call, Device::new(alloc))
+    call_over(rt, alloc, "erm run", script, per_call, Device::new(alloc))
 }

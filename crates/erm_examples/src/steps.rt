@@ -1,10 +1,11 @@
 //! Examples over a disk: calls of the program one after another, and what befalls the disk between them.
 //!
 //! Each line begins with a mark. Behind `#` stands what the example shows. `$` has the words of a call behind the program's
-//! name, `<` a line that it reads, `>` a line that it is to print, and `=` the status with which it is to end; there the
-//! call is made. A line with `|` before it tells what the disk may recover to where the call was stopped on its way. `!`
-//! changes the disk, and `?` tells bytes that stand on it.
-use crate::changes::{change, compare};
+//! name, `<` a line that it reads, `>` a line that it is to print, or `> ...` where any lines stand, once in a report at
+//! most, and `=` the status with which it is to end; there the call is made. A line with `|` before it tells what calls say
+//! of the disk where the call was stopped on its way: `recover`, the next `run`, and `recover` again, of each the status and
+//! the first line. `!` changes the disk, and `?` tells bytes that stand on it.
+use crate::changes::{change, stands};
 use crate::device::Device;
 use crate::memory::call_over;
 use crate::stops;
@@ -20,14 +21,14 @@ const PER_CALL: usize = 7;
 /// A call of the program.
 #[derive(Drop)]
 pub struct Call {
-    /// Its words, behind the program's name.
+    /// Its words, the program's name before them.
     pub words: String,
     /// What it reads.
     pub script: String,
     /// What it is to print.
     pub report: String,
-    /// The first lines that a recovery may print where the call was stopped.
-    pub recovered: String,
+    /// What calls behind it may tell where it was stopped.
+    pub behind: String,
 }
 
 impl Call {
@@ -37,8 +38,20 @@ impl Call {
             words: String::new(alloc),
             script: String::new(alloc),
             report: String::new(alloc),
-            recovered: String::new(alloc),
+            behind: String::new(alloc),
         }
+    }
+
+    // Adds what a line with this mark tells of the call, if it does, and answers whether it does.
+    fn add(&mut self, mark: &str, rest: &str) -> Result<bool, AllocError> {
+        match mark {
+            "$" => push_words(&mut self.words, rest)?,
+            "<" => push_line(&mut self.script, rest)?,
+            ">" => push_line(&mut self.report, rest)?,
+            "|" => push_line(&mut self.behind, rest)?,
+            _ => return Ok(mark == "#"),
+        }
+        Ok(true)
     }
 }
 
@@ -55,12 +68,8 @@ pub fn carry_out<R: Threads + Wait + Sync>(rt: &R, alloc: Global, lines: &str) -
         device: Device::new(alloc),
         call: Call::new(alloc),
     };
-    let mut number = 0_u32;
     for line in lines.lines() {
-        number = number.saturating_add(1);
-        example
-            .follow(rt, alloc, line)
-            .context(format_args!("line {number}"))?;
+        example.follow(rt, alloc, line)?;
     }
     ensure!(example.call.words.is_empty(), "a call without a status");
     Ok(())
@@ -75,17 +84,21 @@ impl Example {
         line: &str,
     ) -> Result<()> {
         let (mark, rest) = line.split_once(' ').unwrap_or((line, ""));
+        if self.call.add(mark, rest)? {
+            return Ok(());
+        }
         match mark {
-            "#" => {}
-            "$" => self.call.words.push_str(rest)?,
-            "<" => push_line(&mut self.call.script, rest)?,
-            ">" => push_line(&mut self.call.report, rest)?,
-            "|" => push_line(&mut self.call.recovered, rest)?,
-            "!" => change(alloc, &mut self.device, rest)?,
-            "?" => compare(alloc, &mut self.device, rest)?,
-            "=" => self.make(rt, alloc, rest)?,
+            "!" => change(alloc, &mut self.device, rest).context("unknown change"),
+            "?" => self.compare(alloc, rest),
+            "=" => self.make(rt, alloc, rest),
             _ => bail!("unknown mark"),
         }
+    }
+
+    // Compares bytes that stand on the disk.
+    fn compare(&self, alloc: Global, line: &str) -> Result<()> {
+        let same = stands(alloc, &self.device, line).context("unknown place")?;
+        ensure!(same, "other bytes at {line}");
         Ok(())
     }
 
@@ -97,20 +110,56 @@ impl Example {
         status: &str,
     ) -> Result<()> {
         let call = mem::replace(&mut self.call, Call::new(alloc));
-        if !call.recovered.is_empty() {
+        if !call.behind.is_empty() {
             stops::check(rt, alloc, &self.device, &call)?;
         }
         let device = mem::replace(&mut self.device, Device::new(alloc));
-        let script = call.script.as_bytes();
-        let ended = call_over(rt, alloc, &call.words, script, PER_CALL, device)?;
-        self.device = ended.device;
-        ensure!(ended.status == status.parse::<u8>()?, "other status");
-        ensure!(
-            ended.bytes.as_slice() == call.report.as_bytes(),
-            "other bytes"
-        );
+        self.device = made(rt, alloc, &call, status, device)?;
         Ok(())
     }
+}
+
+// Makes a call on a disk, which it hands back. It is to end with a status.
+fn made<R: Threads + Wait + Sync>(
+    rt: &R,
+    alloc: Global,
+    call: &Call,
+    status: &str,
+    device: Device,
+) -> Result<Device> {
+    let script = call.script.as_bytes();
+    let ended = call_over(rt, alloc, &call.words, script, PER_CALL, device)?;
+    let same = status
+        .parse::<u8>()
+        .is_ok_and(|status| status == ended.status);
+    ensure!(
+        same && is_told(&call.report, ended.text()),
+        "{}: other status or bytes",
+        call.words
+    );
+    Ok(ended.device)
+}
+
+// Whether a report is told by lines, of which one may stand for any lines.
+fn is_told(lines: &str, report: &str) -> bool {
+    match lines.split_once("...\n") {
+        Some((front, back)) => has_ends(report, front, back),
+        None => report == lines,
+    }
+}
+
+// Whether a text has this front, and this end behind it.
+fn has_ends(text: &str, front: &str, back: &str) -> bool {
+    match text.strip_prefix(front) {
+        Some(rest) => rest.ends_with(back),
+        None => false,
+    }
+}
+
+// Adds the words of a call, behind the program's name.
+fn push_words(words: &mut String, rest: &str) -> Result<(), AllocError> {
+    words.push_str("erm ")?;
+    words.push_str(rest)
 }
 
 // Adds a line to lines.

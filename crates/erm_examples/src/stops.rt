@@ -2,7 +2,7 @@
 use crate::device::Device;
 use crate::memory::{Outcome, call_over};
 use crate::steps::Call;
-use anyhow::{Context, Result, bail, ensure};
+use anyhow::{Result, bail, ensure};
 use erm_outside_mem::Pick;
 use std::alloc::{AllocError, Global};
 use std::sync::Wait;
@@ -17,80 +17,121 @@ const PER_CALL: usize = 65536;
 /// The status of a call of the program that the disk failed.
 const DISK_FAULT: u8 = 6;
 
+/// What it prints last.
+const LAST_LINE: &str = "disk fault\n";
+
+/// The calls that are made in turn on what a crash leaves, with nothing to read, and what stands behind what each tells.
+const BEHIND: [(&str, &str); 3] = [
+    ("erm recover", ", "),
+    ("erm run", ", "),
+    ("erm recover", "\n"),
+];
+
 /// What a crash may leave of what was not waited for.
 const PICKS: [Pick; 3] = [Pick::Nothing, Pick::All, Pick::Marks];
 
 /// Stops a call of the program at each call of the disk in turn, until none is left. It prints its report up to there.
-/// Whatever a crash then leaves recovers to one of the states that are named, and each of them comes.
+/// What calls then tell of what a crash leaves are the lines that are named, in this order: first where nothing is kept of what was not
+/// waited for, then where all of it is, then where marks of it are. Of lines that follow one another and are the same one is named.
 pub fn check<R: Threads + Wait + Sync>(
     rt: &R,
     alloc: Global,
     device: &Device,
     call: &Call,
 ) -> Result<()> {
-    let mut came = vec![in alloc; false; call.recovered.lines().count()]?;
+    let mut told = String::new(alloc);
+    for pick in PICKS {
+        stop_at_each(rt, alloc, device, call, pick, &mut told)?;
+    }
+    ensure!(told.as_str() == call.behind.as_str(), "others told: {told}");
+    Ok(())
+}
+
+// Stops a call of the program at each call of the disk, and adds what calls tell of what a crash leaves then.
+fn stop_at_each<R: Threads + Wait + Sync>(
+    rt: &R,
+    alloc: Global,
+    device: &Device,
+    call: &Call,
+    pick: Pick,
+    told: &mut String,
+) -> Result<()> {
     for calls in 0..MOST_CALLS {
-        let stopped = device.stopped_at(calls)?;
-        let script = call.script.as_bytes();
-        let ended = call_over(rt, alloc, &call.words, script, PER_CALL, stopped)?;
+        let ended = stop(rt, alloc, device, call, calls)?;
         if ended.status != DISK_FAULT {
-            ensure!(!came.contains(&false), "a state that never comes");
             return Ok(());
         }
-        check_stop(rt, alloc, call, &ended, &mut came).context(format_args!("at {calls}"))?;
+        ensure!(is_cut(&call.report, ended.text()), "other bytes at {calls}");
+        let line = tell_behind(rt, alloc, ended.device.image(pick)?)?;
+        if !is_last(told, &line) {
+            told.push_str(&line)?;
+        }
     }
     bail!("too many calls of the disk")
 }
 
-// What one stop prints and leaves.
-fn check_stop<R: Threads + Wait + Sync>(
+// Makes a call of the program on a copy of a disk, of which each call behind the first so many fails.
+fn stop<R: Threads + Wait + Sync>(
     rt: &R,
     alloc: Global,
+    device: &Device,
     call: &Call,
-    ended: &Outcome,
-    came: &mut [bool],
-) -> Result<()> {
-    ensure!(
-        is_cut(alloc, &call.report, ended.bytes.as_slice())?,
-        "another report"
-    );
-    for pick in PICKS {
-        let image = ended.device.image(pick)?;
-        let found = call_over(rt, alloc, "recover", &[], PER_CALL, image)?;
-        let place = place_of(&call.recovered, found.bytes.as_slice()).context("another state")?;
-        if let Some(one) = came.get_mut(place) {
-            *one = true;
-        }
-    }
-    Ok(())
+    calls: u64,
+) -> Result<Outcome, AllocError> {
+    let stopped = device.stopped_at(calls)?;
+    let script = call.script.as_bytes();
+    call_over(rt, alloc, &call.words, script, PER_CALL, stopped)
 }
 
-// Which of these lines a text begins with.
-fn place_of(lines: &str, text: &[u8]) -> Option<usize> {
-    let mut rest = text.split(|byte| *byte == b'\n');
-    let first = rest.next()?;
-    lines.lines().position(|line| line.as_bytes() == first)
+// A line of what these calls tell of a disk, made one after another: of each the status and the first line that it prints. Between two
+// of them a crash takes away what was not waited for.
+fn tell_behind<R: Threads + Wait + Sync>(
+    rt: &R,
+    alloc: Global,
+    mut device: Device,
+) -> Result<String, AllocError> {
+    let mut told = String::new(alloc);
+    for (words, end) in BEHIND {
+        let ended = call_over(rt, alloc, words, &[], PER_CALL, device)?;
+        let line = ended.text().lines().next().unwrap_or("");
+        told.push_str(format!(in alloc; "{} {line}{end}", ended.status)?.as_str())?;
+        device = ended.device.image(Pick::Nothing)?;
+    }
+    Ok(told)
+}
+
+// Whether the last of some lines is this one.
+fn is_last(lines: &str, line: &str) -> bool {
+    match lines.strip_suffix(line) {
+        Some(front) => front.is_empty() || front.ends_with('\n'),
+        None => false,
+    }
 }
 
 // Whether a report is a front of another, cut by a fault of the disk: in place of an answer, or outside the lines.
-fn is_cut(alloc: Global, whole: &str, cut: &[u8]) -> Result<bool, AllocError> {
-    let mut front = String::new(alloc);
-    for line in whole.lines() {
-        let number = number_of(line);
-        let fault = format!(in alloc; "{front}{number}disk fault\n")?;
-        if fault.as_bytes() == cut {
-            return Ok(true);
-        }
-        front.push_str(line)?;
-        front.push('\n')?;
+fn is_cut(whole: &str, cut: &str) -> bool {
+    let Some(front) = cut.strip_suffix(LAST_LINE) else {
+        return false;
+    };
+    let last = front.rsplit('\n').next().unwrap_or("");
+    match whole.strip_prefix(front) {
+        Some(rest) if last.is_empty() => starts_with_word(rest),
+        Some(_) => is_number(last),
+        None => false,
     }
-    Ok(false)
 }
 
-// The number that a line of a report begins with, and the space behind it; nothing where it has none.
-fn number_of(line: &str) -> &str {
-    match line.split_once(' ') {
-        Some((word, _)) if word.parse::<u32>().is_ok() => &line[..word.len() + 1],
-        _ => "",
+// Whether a text starts with a line that has no number.
+fn starts_with_word(text: &str) -> bool {
+    text.bytes()
+        .next()
+        .is_some_and(|byte| !byte.is_ascii_digit())
+}
+
+// Whether a text is a number with a space behind it.
+fn is_number(text: &str) -> bool {
+    match text.strip_suffix(' ') {
+        Some(digits) => digits.parse::<u32>().is_ok(),
+        None => false,
     }
 }

@@ -1,0 +1,11 @@
+//! The program `erm` again. Beside it stands a run of a script that is not in the grammar: status 3.
+#![tactic(auto)]
+
+use erm_outside_real::FolderDisk;
+use erm_program::program;
+use std::process::ExitCode;
+
+fn main(rt: HostRuntime) -> ExitCode {
+    let disk = FolderDisk::new(&rt);
+    program(&rt, disk)
+}
