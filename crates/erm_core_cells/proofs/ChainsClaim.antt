@@ -111,7 +111,7 @@ module _ (c : Core) (p oid seen number : ℕ) (sound : Sound c) (known : oid < O
       let h = entered_hand c p sound oid known in
       record {
         named = named_kept c.shared t (entry_extends oid (c.shared.objects oid).entry c.shared) u h.named;
-        cut = cut_kept c.shared t x y (λ _ g. g) (λ k _. entry_grows oid (c.shared.objects oid).entry c.shared k) u h.named h.cut;
+        cut = cut_kept c.shared t x y (λ _ g. g) (λ _ m. m) (λ k _. entry_grows oid (c.shared.objects oid).entry c.shared k) u h.named h.cut;
         head = head_kept c.shared t (entry_same oid c.shared) u h.head;
       }
 

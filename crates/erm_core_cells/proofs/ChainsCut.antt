@@ -1,23 +1,28 @@
 -- A cut: the version whose link is swapped becomes the oldest one attached.
-use Rattle.std.proofs.Common.{◌≡◌, ◌≢◌, ℕ, ◌+◌, ◌-◌, ◌<◌, ◌≤◌, ⊎_elim, length, refl, sym, ap, ◌∙◌, subst, arith, get_or-set_same, get_or-set_other}
+use Rattle.std.proofs.Common.{◌≡◌, ◌≢◌, ℕ, ◌+◌, ◌-◌, ◌<◌, ◌≤◌, ⊎_elim, length, drop, take, get_or, ◌++◌, length-take, refl, sym, ap, ◌∙◌, subst, arith, get_or-set_same, get_or-set_other}
 use Rattle.std.proofs.lemmas.Bool.{cases_eq, eqb-false}
+use Rattle.std.proofs.lemmas.List.{get_or-drop, get_or-take, length-drop}
+use Rattle.erm_model.specs.Member.{◌∈◌}
+use Rattle.erm_model.proofs.Members.{∈-at}
 use Rattle.erm_machine.specs.declared.event.Kind.TheVariants as kind
 use Rattle.erm_machine.specs.declared.limits.TheConstants.{OBJECT_LIMIT}
+use Rattle.erm_machine.specs.declared.part.Part.{Part}
 use Rattle.erm_machine.specs.declared.place.Place.TheVariants.{Vacant}
 use Rattle.erm_machine.specs.declared.task.Task.TheVariants as task
 use Rattle.erm_machine.specs.declared.version.CellWord.TheVariants as word
 use Rattle.erm_machine.specs.declared.version.Version.{Version}
 use Rattle.erm_machine.specs.declared.version.VersionAt.{VersionAt}
 use Rattle.erm_machine.specs.Begins.{horizon_of, IsBelowBegin}
-use Rattle.erm_machine.specs.Chains.{LinksFrom, Linked, OwnChains}
+use Rattle.erm_machine.specs.Chains.{LinksFrom, Linked, IsSpare, OwnChains}
 use Rattle.erm_machine.specs.Core.{Core, Object, Shared, no_version, version_at, with_version}
 use Rattle.erm_machine.specs.Facts.{Holds, HasBegun}
-use Rattle.erm_machine.specs.Reading.{older, after_cut, detached}
+use Rattle.erm_machine.specs.Reading.{older, after_cut, detached, cut_off}
 use Rattle.erm_machine.specs.Sound.{Sound}
 use Rattle.erm_machine.specs.Step.{with_object}
 use Rattle.erm_machine.specs.Words.{set_word}
 use Rattle.erm_machine.proofs.Frames.{put_same, put_other}
 use Rattle.erm_machine.proofs.Holders.{held_once}
+use Rattle.erm_machine.proofs.Listed.{∈-map_from, ∈-second}
 use Rattle.erm_machine.proofs.Objects.{Extends, extends}
 use Rattle.erm_core_cells.proofs.ChainsCells.{seat_within}
 use Rattle.erm_core_cells.proofs.ChainsFrames.{Grows, grows_refl, name_kept, named_kept, cut_kept, head_kept, heads_after, long_word}
@@ -65,6 +70,18 @@ module _ (o : Object) (place : ℕ) (within : place < length o.versions) where
 
   detached_ends : o.cut < place → Linked o → (version_at (cut_at o place) o.cut).words.link ≡ 0
   detached_ends above linked = ap (λ (v : Version). v.words.link) (cut_other o.cut (λ same. absurd (omega (arith, same, above)))) ∙ linked.oldest
+
+  -- the cell of each version from the cut before to the new one is among those cut off
+  cell_cut_off : (k : ℕ) → o.cut ≤ k → k < place → record { cell = (version_at o k).cell; words = (version_at o k).words } ∈ cut_off place o
+  cell_cut_off k from below =
+      let off = drop o.cut (take place o.versions) in
+      let sizes = length-drop o.cut (take place o.versions) in
+      let size = length-take place o.versions in
+      let inside : k - o.cut < length off = omega (arith, sizes, size, within, from, below) in
+      let back : o.cut + (k - o.cut) ≡ k = omega (arith, from) in
+      let is : get_or off (k - o.cut) no_version ≡ version_at o k =
+      get_or-drop o.cut (take place o.versions) (k - o.cut) no_version ∙ ap (λ n. get_or (take place o.versions) n no_version) back ∙ get_or-take place o.versions k no_version below in
+      ∈-map_from (λ (v : Version). record { cell = v.cell; words = v.words }) off (version_at o k) (subst (λ (v : Version). v ∈ off) is (∈-at off (k - o.cut) no_version inside))
 
 module _ (c : Core) (p : ℕ) (v : VersionAt) (horizon : ℕ) (sound : Sound c) (at : (c.seats p).task ≡ task.CutFound v horizon) where
   abbrev pub after : Shared
@@ -114,10 +131,25 @@ module _ (c : Core) (p : ℕ) (v : VersionAt) (horizon : ℕ) (sound : Sound c) 
   named_after : (oid : ℕ) → Extends (c.shared.objects oid) (after.objects oid)
   named_after oid = extends p (kind.SwapLink v) 0 (c.seats p) c.shared oid
 
+  -- the seat's part, where the cells cut off are spare ones
+  abbrev pub with_cut_off : Part
+  with_cut_off = record (c.seats p) { spare = (c.seats p).spare ++ cut_off v.place (c.shared.objects v.oid) }
+
+  spare_after : (k : ℕ) → (c.shared.objects v.oid).cut ≤ k → k < v.place → IsSpare after with_cut_off v.oid k
+  spare_after k from below =
+      let o = c.shared.objects v.oid in
+      let same = cut_other o v.place hand.named.within k (λ at. absurd (omega (arith, at, below))) in
+      record {
+        own = record { cell = (version_at o k).cell; words = (version_at o k).words };
+        spare = ∈-second (c.seats p).spare (cut_off v.place o) _ (cell_cut_off o v.place hand.named.within k from below);
+        cell = subst (λ (u : Object). (version_at o k).cell ≡ (version_at u k).cell) (sym here) (sym (ap (λ (u : Version). u.cell) same));
+        link = subst (λ (u : Object). (version_at o k).words.link ≡ (version_at u k).words.link) (sym here) (sym (ap (λ (u : Version). u.words.link) same));
+      }
+
   -- the version that the seat has in hand next: the newest one that it has cut off
-  pub hand_after : Hand after (c.seats p) (detached (link_of c p sound v) v (c.seats p))
+  pub hand_after : Hand after with_cut_off (detached (link_of c p sound v) v (c.seats p))
   hand_after =
-      hand_if after (c.seats p) _ (after_cut (c.seats p)) (task.Detaches (older v (link_of c p sound v))) (λ _. after_cut_hand after (c.seats p))
+      hand_if after with_cut_off _ (after_cut (c.seats p)) (task.Detaches (older v (link_of c p sound v))) (λ _. after_cut_hand after with_cut_off)
       (λ some.
       let linked = sound.common.chains.linked v.oid hand.named.object in
       let within = hand.named.within in
@@ -131,6 +163,7 @@ module _ (c : Core) (p : ℕ) (v : VersionAt) (horizon : ℕ) (sound : Sound c) 
           links = subst (λ (o : Object). LinksFrom o (c.shared.objects v.oid).cut (v.place - 1 + 1)) (sym here) (detached_links (c.shared.objects v.oid) v.place within above linked);
           ends = subst (λ (o : Object). (version_at o (c.shared.objects v.oid).cut).words.link ≡ 0) (sym here) (detached_ends (c.shared.objects v.oid) v.place within above linked);
           off = subst (λ (o : Object). v.place - 1 < o.cut) (sym here) (let less : v.place - 1 < v.place = omega (arith, above) in less);
+          spare = λ k from upto. spare_after k from (omega (arith, upto, above));
         };
         head = tt;
       })
@@ -142,7 +175,7 @@ module _ (c : Core) (p : ℕ) (v : VersionAt) (horizon : ℕ) (sound : Sound c) 
       let own = (sound.own q).chains in
       record {
         named = named_kept c.shared after named_after x.task own.named;
-        cut = cut_kept c.shared after x x (λ _ h. h) (λ oid h. apart oid h) x.task own.named own.cut;
+        cut = cut_kept c.shared after x x (λ _ h. h) (λ _ m. m) (λ oid h. apart oid h) x.task own.named own.cut;
         head = head_kept c.shared after (λ oid. heads_after p (kind.SwapLink v) 0 (c.seats p) c.shared tt oid) x.task own.head;
       }
     where

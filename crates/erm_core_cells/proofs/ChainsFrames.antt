@@ -1,6 +1,8 @@
 -- What a step leaves of chains: an object's cut, and the cells, links and stamps of its versions.
 use Rattle.std.proofs.Common.{◌≡◌, ℕ, ◌-◌, ◌<◌, ◌≤◌, true, length, Option, Some, None, refl, sym, ap, ◌∙◌, subst, arith, length-set, max}
 use Rattle.std.proofs.lemmas.Bool.{and_parts, eqb-true}
+use Rattle.erm_model.specs.Member.{◌∈◌}
+use Rattle.erm_machine.specs.declared.attempt.OwnCell.{OwnCell}
 use Rattle.erm_machine.specs.declared.event.Kind.{Kind}
 use Rattle.erm_machine.specs.declared.event.Kind.TheVariants as kind
 use Rattle.erm_machine.specs.declared.part.Part.{Part}
@@ -174,8 +176,8 @@ module _ (s t : Shared) (e : (oid : ℕ) → Extends (s.objects oid) (t.objects 
   named_kept (task.Detaches version) n = name_kept version n
   named_kept _ n = tt
 
--- what a cutter has in hand is kept where the chains of the objects that it holds are, and so are its claims
-module _ (s t : Shared) (x y : Part) (holds : (oid : ℕ) → Holds x oid → Holds y oid)
+-- what a cutter has in hand is kept where the chains of the objects that it holds are, and so are its claims and its spare cells
+module _ (s t : Shared) (x y : Part) (holds : (oid : ℕ) → Holds x oid → Holds y oid) (spares : (own : OwnCell) → own ∈ x.spare → own ∈ y.spare)
     (g : (oid : ℕ) → Holds x oid → Grows (s.objects oid) (t.objects oid)) where
   pub attached_kept : (v : VersionAt) → IsAttached s x v → IsAttached t y v
   attached_kept v a = record { claimed = holds v.oid a.claimed; attached = let c = (g v.oid a.claimed).cut in let h = a.attached in omega (arith, c, h) }
@@ -196,6 +198,10 @@ module _ (s t : Shared) (x y : Part) (holds : (oid : ℕ) → Holds x oid → Ho
             omega (arith, old, link, cell);
         ends = grows.link a.last (omega (arith, within, below)) ∙ a.ends;
         off = let c = grows.cut in let h = a.off in omega (arith, c, h);
+        spare = λ k from upto.
+            let old = a.spare k from upto in
+            let inside : k < length (s.objects v.oid).versions = omega (arith, within, upto) in
+            record { own = old.own; spare = spares old.own old.spare; cell = old.cell ∙ sym (grows.cell k inside); link = old.link ∙ sym (grows.link k inside) };
       }
 
   pub cut_kept : (u : Task) → NamedInHand s u → CutInHand s x u → CutInHand t y u

@@ -31,7 +31,7 @@ use Rattle.erm_machine.proofs.Guards.{when_then, if_then, unless_some}
 use Rattle.erm_machine.proofs.Objects.{Extends, extends}
 use Rattle.erm_machine.proofs.QuietKinds.{MeetsOne, Moves, moves}
 use Rattle.erm_core_cells.proofs.ChainsClaim.{claim_hand, claim_session, set_reader_hand}
-use Rattle.erm_core_cells.proofs.ChainsCut.{linked_after, below_after, hand_after, others_after, after, cut_at}
+use Rattle.erm_core_cells.proofs.ChainsCut.{linked_after, below_after, with_cut_off, hand_after, others_after, after, cut_at}
 use Rattle.erm_core_cells.proofs.ChainsFrames.{Grows, grows_refl, CutsNone, grows_after, KeepsHeads, heads_after, put_object, linked_kept, named_kept, cut_kept, head_kept, same_name}
 use Rattle.erm_core_cells.proofs.ChainsHeads.{head_attached, heads_put, session_owner, claim_fits, linked_installed, installed_fits}
 use Rattle.erm_core_cells.proofs.ChainsInstalls.{install_outcome}
@@ -79,7 +79,7 @@ other_kept c t q sound g e head =
     let own = (sound.own q).chains in
     record {
       named = named_kept c.shared t e (c.seats q).task own.named;
-      cut = cut_kept c.shared t (c.seats q) (c.seats q) (λ _ h. h) (λ oid _. g oid) (c.seats q).task own.named own.cut;
+      cut = cut_kept c.shared t (c.seats q) (c.seats q) (λ _ h. h) (λ _ m. m) (λ oid _. g oid) (c.seats q).task own.named own.cut;
       head = head;
     }
 
@@ -95,7 +95,7 @@ plain_kept c p k d none heads sound m mine =
     (λ oid known. linked_kept (c.shared.objects oid) (t.objects oid) (g oid) (h oid).as_long (sound.common.chains.linked oid known))
     (record {
       named = named_kept c.shared t e m.part.task mine.named;
-      cut = cut_kept c.shared t m.part m.part (λ _ u. u) (λ oid _. g oid) m.part.task mine.named mine.cut;
+      cut = cut_kept c.shared t m.part m.part (λ _ u. u) (λ _ u. u) (λ oid _. g oid) m.part.task mine.named mine.cut;
       head = head_kept c.shared t h m.part.task mine.head;
     })
     (λ q _. other_kept c t q sound g e (head_kept c.shared t h (c.seats q).task (sound.own q).chains.head))
@@ -103,7 +103,7 @@ plain_kept c p k d none heads sound m mine =
     (λ q _. below_kept c q t (c.seats q) sound g (same_start c q))
     (sym m.is)
 
--- where the call and the claims stay, or no version is in hand any more
+-- where the call, the claims and the spare cells stay, or no version is in hand any more
 steady_kept : (c : Core) (p : ℕ) (k : Kind) (d : Core) → CutsNone k → KeepsHeads k → KeepsHand k → MeetsOne k → Sound c → after_event c p k ≡ Some d → Kept d
 steady_kept c p k d none heads keeps one sound e =
     let m = moves c p k d one e in
@@ -181,7 +181,7 @@ swap_kept c p sound v (task.CutFound version horizon) y d at e =
     let found : x.task ≡ task.CutFound v horizon = subst (λ n. x.task ≡ task.CutFound n horizon) (sym same) at in
     let t = after c p v horizon sound found in
     let in_hand = λ (n : VersionAt). record x { task = detached (link_of c p sound v) n x; spare = x.spare ++ cut_off n.place (c.shared.objects v.oid) } in
-    let h = hand_moved t x (in_hand v) (detached (link_of c p sound v) v x) (λ _ u. u) (hand_after c p v horizon sound found) in
+    let h = hand_moved t (with_cut_off c p v horizon sound found) (in_hand v) (detached (link_of c p sound v) v x) (λ _ u. u) (λ _ u. u) (hand_after c p v horizon sound found) in
     let mine : OwnChains t (in_hand v) = record { named = h.named; cut = h.cut; head = h.head } in
     kept_from c p (in_hand version) t d (linked_after c p v horizon sound found) (subst (λ n. OwnChains t (in_hand n)) same mine)
     (others_after c p v horizon sound found)
@@ -223,7 +223,7 @@ join_kept c p other d sound e = by_test _ e
     from None at e = absurd (cc)
     from (Some y) at e =
         when_then (λ z. record c { seats = put c.seats p z } ≡ d → Kept d) _ _ y at
-        (λ g is. part_kept c p _ d sound (stays_hand c.shared (c.seats p) _ (sound.own p).chains (record { stays = inr (refl, refl) }))
+        (λ g is. part_kept c p _ d sound (stays_hand c.shared (c.seats p) _ (sound.own p).chains (record { stays = inr (refl, refl, refl) }))
         (record { starts = λ h. inl (h, refl) }) is) (same_Some _ _ e)
 
     by_test : (b : Bool) → (if b then None else with_part c p (join (c.seats p) (c.seats other))) ≡ Some d → Kept d

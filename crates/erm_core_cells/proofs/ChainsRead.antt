@@ -1,8 +1,9 @@
 -- Steps that load words: the version that is in hand afterwards has the cell that its name says, and that of a cut is attached.
-use Rattle.std.proofs.Common.{◌≡◌, ◌≢◌, ℕ, ◌+◌, ◌-◌, ◌%◌, ◌^◌, ◌<◌, ◌≤◌, ⊎_elim, Bool, true, false, length, Some, None, refl, sym, ap, ◌∙◌, subst, arith}
+use Rattle.std.proofs.Common.{◌≡◌, ◌≢◌, ℕ, ◌+◌, ◌-◌, ◌%◌, ◌^◌, ◌<◌, ◌≤◌, ⊎_elim, Bool, true, false, List, length, Some, None, refl, sym, ap, ◌∙◌, subst, arith}
 use Rattle.std.specs.Prelude.{if◌then◌else◌}
 use Rattle.std.proofs.lemmas.Bool.{and_parts, cases_eq, cases_lt, eqb-true, eqb-false, ltb-true}
 use Rattle.erm_model.specs.Member.{◌∈◌}
+use Rattle.erm_machine.specs.declared.attempt.OwnCell.{OwnCell}
 use Rattle.erm_machine.specs.declared.event.Kind.TheVariants as kind
 use Rattle.erm_machine.specs.declared.limits.TheConstants.{OBJECT_LIMIT}
 use Rattle.erm_machine.specs.declared.part.Part.{Part}
@@ -35,19 +36,19 @@ pub record Hand (s : Shared) (x : Part) (t : Task) : Type 0 where
 pub hand_of : (s : Shared) (x : Part) (t : Task) → x.task ≡ t → OwnChains s x → Hand s x t
 hand_of s x t at own = subst (Hand s x) at (record { named = own.named; cut = own.cut; head = own.head })
 
-pub hand_moved : (s : Shared) (x y : Part) (t : Task) → ((oid : ℕ) → Holds x oid → Holds y oid) → Hand s x t → Hand s y t
-hand_moved s x y t holds h = record {
+pub hand_moved : (s : Shared) (x y : Part) (t : Task) → ((oid : ℕ) → Holds x oid → Holds y oid) → ((own : OwnCell) → own ∈ x.spare → own ∈ y.spare) → Hand s x t → Hand s y t
+hand_moved s x y t holds spares h = record {
   named = h.named;
-  cut = cut_kept s s x y holds (λ oid _. grows_refl (s.objects oid)) t h.named h.cut;
+  cut = cut_kept s s x y holds spares (λ oid _. grows_refl (s.objects oid)) t h.named h.cut;
   head = h.head;
 }
 
 -- the call alone changes
 pub with_hand : (s : Shared) (x : Part) (t : Task) → Hand s x t → OwnChains s (record x { task = t })
-with_hand s x t h = let m = hand_moved s x (record x { task = t }) t (λ _ g. g) h in record { named = m.named; cut = m.cut; head = m.head }
+with_hand s x t h = let m = hand_moved s x (record x { task = t }) t (λ _ g. g) (λ _ m. m) h in record { named = m.named; cut = m.cut; head = m.head }
 
 pub bare_hand : (s : Shared) (x : Part) (t : Task) → Bare t → Hand s x t
-bare_hand s x t b = let own = bare_chains s (record x { task = t }) b in hand_moved s (record x { task = t }) x t (λ _ g. g) (record { named = own.named; cut = own.cut; head = own.head })
+bare_hand s x t b = let own = bare_chains s (record x { task = t }) b in hand_moved s (record x { task = t }) x t (λ _ g. g) (λ _ m. m) (record { named = own.named; cut = own.cut; head = own.head })
 
 pub hand_if : (s : Shared) (x : Part) (b : Bool) (t u : Task) → (b ≡ true → Hand s x t) → (b ≡ false → Hand s x u) → Hand s x (if b then t else u)
 hand_if s x b t u f g = either_way (Hand s x) b t u f g
@@ -91,7 +92,7 @@ older_named c v link sound n positive is =
 pub horizon_hand : (s : Shared) (found : ℕ) (x : Part) (t : Task) (y : Part) → Hand s x t → load_tail_for_horizon found x t ≡ Some y → OwnChains s y
 horizon_hand s found x (task.Claimed version) y h e =
     when_then (OwnChains s) _ _ y e (λ _.
-    let m = hand_moved s x _ (task.Horizon version found 1) (λ _ g. g) (record { named = h.named; cut = h.cut; head = tt }) in
+    let m = hand_moved s x _ (task.Horizon version found 1) (λ _ g. g) (λ _ m. m) (record { named = h.named; cut = h.cut; head = tt }) in
     record { named = m.named; cut = m.cut; head = tt })
 horizon_hand s found x _ y h e = absurd (cc)
 
@@ -117,7 +118,7 @@ load_state_hand s seat other bound found x y own e =
     when_then (OwnChains s) _ _ y e (λ _.
     let h = hand_of s x x.task refl own in
     let after = hand_if s x (is_clear found bound) (after_clear other bound x x.task) x.task (λ _. clear_hand s other bound x x.task h) (λ _. h) in
-    let m = hand_moved s x _ (if is_clear found bound then after_clear other bound x x.task else x.task) (λ _ g. g) after in
+    let m = hand_moved s x _ (if is_clear found bound then after_clear other bound x x.task else x.task) (λ _ g. g) (λ _ m. m) after in
     record { named = m.named; cut = m.cut; head = m.head })
 
 -- a stamp of the version in hand that counts for the exclusion window
@@ -131,12 +132,13 @@ active_stamp_hand s found v word.ReaderStamp x task.Draws y h e = when_then (Own
 active_stamp_hand s found v word.ReaderStamp x task.Fetched y h e = when_then (OwnChains s) _ _ y e (λ _. record { named = tt; cut = tt; head = tt })
 active_stamp_hand s found v _ x _ y h e = absurd (cc)
 
--- where the call and the claims stay, or no version is in hand any more
+-- where the call, the claims and the spare cells stay, or no version is in hand any more
 pub stays_hand : (s : Shared) (x y : Part) → OwnChains s x → Stays x y → OwnChains s y
 stays_hand s x y own st =
     ⊎_elim (λ (b : Bare y.task). bare_chains s y b)
-    (λ (same : (y.task ≡ x.task) × (y.current.writes ≡ x.current.writes)).
-    let h = hand_moved s x y y.task (λ oid (g : Holds x oid). (g.0, subst (λ ws. g.0 ∈ ws) (sym same.1) g.1, g.2, g.3)) (hand_of s x y.task (sym same.0) own) in
+    (λ (same : (y.task ≡ x.task) × (y.current.writes ≡ x.current.writes) × (y.spare ≡ x.spare)).
+    let h = hand_moved s x y y.task (λ oid (g : Holds x oid). (g.0, subst (λ ws. g.0 ∈ ws) (sym same.1) g.1, g.2, g.3))
+    (λ own m. subst (λ (owns : List OwnCell). own ∈ owns) (sym same.2) m) (hand_of s x y.task (sym same.0) own) in
     record { named = h.named; cut = h.cut; head = h.head }) st.stays
 
 pub load_stamp_hand : (s : Shared) (found : ℕ) (v : VersionAt) (w : CellWord) (x : Part) (y : Part) → OwnChains s x → load_stamp found v w x ≡ Some y → OwnChains s y
@@ -274,6 +276,7 @@ module _ (c : Core) (p : ℕ) (sound : Sound c) where
           links = λ k from to. d.links k from (omega (arith, to, above));
           ends = d.ends;
           off = let off = d.off in omega (arith, off);
+          spare = λ k from upto. d.spare k from (omega (arith, upto));
         };
         head = tt;
       })

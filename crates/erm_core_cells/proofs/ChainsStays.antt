@@ -94,12 +94,12 @@ bare_head s _ b = tt
 pub bare_chains : (s : Shared) (y : Part) → Bare y.task → OwnChains s y
 bare_chains s y b = record { named = bare_named s y.task b.bare; cut = bare_cut s y y.task b.bare; head = bare_head s y.task b.bare }
 
--- a step that leaves the call and the claims, or has no version in hand from then on
+-- a step that leaves the call, the claims and the spare cells, or has no version in hand from then on
 pub record Stays (x y : Part) : Type 0 where
-  pub stays : (Bare y.task) ⊎ ((y.task ≡ x.task) × (y.current.writes ≡ x.current.writes))
+  pub stays : (Bare y.task) ⊎ ((y.task ≡ x.task) × (y.current.writes ≡ x.current.writes) × (y.spare ≡ x.spare))
 
-stays_same : (x y : Part) → y.task ≡ x.task → y.current.writes ≡ x.current.writes → Stays x y
-stays_same x y t w = record { stays = inr (t, w) }
+stays_same : (x y : Part) → y.task ≡ x.task → y.current.writes ≡ x.current.writes → y.spare ≡ x.spare → Stays x y
+stays_same x y t w o = record { stays = inr (t, w, o) }
 
 lets_go : (x y : Part) → Bare y.task → Stays x y
 lets_go x y b = record { stays = inl b }
@@ -187,10 +187,10 @@ s_clear_reader v x None y e = absurd (cc)
 s_clear_reader v x (Some n) y e = when_then (Stays x) _ _ y e (λ _. lets_go_from x _ tt)
 
 s_to_settle : (found : ℕ) (x : Part) → Stays x (load_flushed_to_settle found x)
-s_to_settle found x = either_way (Stays x) _ (with_task (task.Settles 0 0) x) x (λ _. lets_go_from x (with_task (task.Settles 0 0) x) tt) (λ _. stays_same x x refl refl)
+s_to_settle found x = either_way (Stays x) _ (with_task (task.Settles 0 0) x) x (λ _. lets_go_from x (with_task (task.Settles 0 0) x) tt) (λ _. stays_same x x refl refl refl)
 
 s_load_flushed : (found : ℕ) (x : Part) (f : Flushing) (y : Part) → load_flushed found x f ≡ Some y → Stays x y
-s_load_flushed found x (flushing.Tail tail) y e = some_then (Stays x) _ y e (stays_same x _ refl refl)
+s_load_flushed found x (flushing.Tail tail) y e = some_then (Stays x) _ y e (stays_same x _ refl refl refl)
 s_load_flushed found x _ y e = when_then (Stays x) _ _ y e (λ _. s_to_settle found x)
 
 s_if : (x : Part) (b : Bool) (l r : Part) → Stays x l → Stays x r → Stays x (if b then l else r)
@@ -198,40 +198,40 @@ s_if x b l r f g = either_way (Stays x) b l r (λ _. f) (λ _. g)
 
 -- the flush seat's own fields change
 s_flushing : (x : Part) (f : Flushing) (to : ℕ) → Stays x (record x { flushing = f; gathered_to = to })
-s_flushing x f to = stays_same x _ refl refl
+s_flushing x f to = stays_same x _ refl refl refl
 
 s_gathered : (tail from block next end : ℕ) (x : Part) → Stays x (gathered_word tail from block next end x)
 s_gathered tail from block next end x = either_way (Stays x) _ _ _ (λ _. s_flushing x _ _) (λ _. s_flushing x _ _)
 
 s_load_ring : (at found : ℕ) (x : Part) (f : Flushing) (y : Part) → load_ring at found x f ≡ Some y → Stays x y
 s_load_ring at found x (flushing.Gathers tail from block next end) y e =
-    when_then (Stays x) _ _ y e (λ _. s_if x _ _ _ (s_gathered tail from block next end x) (s_if x _ _ _ (stays_same x x refl refl) (s_gathered tail from next next _ x)))
+    when_then (Stays x) _ _ y e (λ _. s_if x _ _ _ (s_gathered tail from block next end x) (s_if x _ _ _ (stays_same x x refl refl refl) (s_gathered tail from next next _ x)))
 s_load_ring at found x _ y e = absurd (cc)
 
 s_clear_ring : (at : ℕ) (x : Part) (f : Flushing) (y : Part) → clear_ring at x f ≡ Some y → Stays x y
-s_clear_ring at x (flushing.Gathers tail from block next end) y e = when_then (Stays x) _ _ y e (λ _. stays_same x _ refl refl)
-s_clear_ring at x (flushing.Clears next to) y e = when_then (Stays x) _ _ y e (λ _. stays_same x _ refl refl)
+s_clear_ring at x (flushing.Gathers tail from block next end) y e = when_then (Stays x) _ _ y e (λ _. stays_same x _ refl refl refl)
+s_clear_ring at x (flushing.Clears next to) y e = when_then (Stays x) _ _ y e (λ _. stays_same x _ refl refl refl)
 s_clear_ring at x _ y e = absurd (cc)
 
 s_store_flushed : (value : ℕ) (x : Part) (f : Flushing) (y : Part) → store_flushed value x f ≡ Some y → Stays x y
-s_store_flushed value x (flushing.Clears next to) y e = when_then (Stays x) _ _ y e (λ _. stays_same x _ refl refl)
+s_store_flushed value x (flushing.Clears next to) y e = when_then (Stays x) _ _ y e (λ _. stays_same x _ refl refl refl)
 s_store_flushed value x _ y e = absurd (cc)
 
 -- steps that move the seat on in its life
 s_begin : (seat found : ℕ) (x : Part) (pl : Place) (y : Part) → load_tail_to_begin seat found x pl ≡ Some y → Stays x y
-s_begin seat found x Idle y e = when_then (Stays x) _ _ y e (λ _. stays_same x _ refl refl)
+s_begin seat found x Idle y e = when_then (Stays x) _ _ y e (λ _. stays_same x _ refl refl refl)
 s_begin seat found x (Announced tail) y e = when_then (Stays x) _ _ y e (λ _. lets_go_from x _ tt)
 s_begin seat found x _ y e = absurd (cc)
 
 s_gather : (seat found : ℕ) (x : Part) (y : Part) → load_tail_to_gather seat found x ≡ Some y → Stays x y
-s_gather seat found x y e = when_then (Stays x) _ _ y e (λ _. stays_same x _ refl refl)
+s_gather seat found x y e = when_then (Stays x) _ _ y e (λ _. stays_same x _ refl refl refl)
 
 s_add_tail : (seat size found : ℕ) (x : Part) (pl : Place) (y : Part) → add_tail seat size found x pl ≡ Some y → Stays x y
-s_add_tail seat size found x (Sealing tail) y e = when_then (Stays x) _ _ y e (λ _. stays_same x _ refl refl)
+s_add_tail seat size found x (Sealing tail) y e = when_then (Stays x) _ _ y e (λ _. stays_same x _ refl refl refl)
 s_add_tail seat size found x _ y e = absurd (cc)
 
 s_store_begin : (seat value : ℕ) (x : Part) (pl : Place) (y : Part) → store_begin seat value x pl ≡ Some y → Stays x y
-s_store_begin seat value x (Begun tail) y e = when_then (Stays x) _ _ y e (λ _. stays_same x _ refl refl)
+s_store_begin seat value x (Begun tail) y e = when_then (Stays x) _ _ y e (λ _. stays_same x _ refl refl refl)
 s_store_begin seat value x (Active tail) y e =
     when_then (Stays x) _ _ y e (λ _. either_way (Stays x) (is_flusher seat) _ _ (λ _. lets_go_from x _ tt) (λ _. lets_go_from x _ tt))
 s_store_begin seat value x (Decided tail stamp) y e = when_then (Stays x) _ _ y e (λ _. lets_go_from x _ tt)
@@ -239,7 +239,7 @@ s_store_begin seat value x _ y e = absurd (cc)
 
 s_store_state : (seat value : ℕ) (x : Part) (pl : Place) (y : Part) → TaskFits pl x.current x.task → store_state seat value x pl ≡ Some y → Stays x y
 s_store_state seat value x (Active tail) y rests e = when_then (Stays x) _ _ y e (λ _. lets_go_from x _ tt)
-s_store_state seat value x (Drawn tail stamp) y rests e = when_then (Stays x) _ _ y e (λ _. stays_same x _ refl refl)
+s_store_state seat value x (Drawn tail stamp) y rests e = when_then (Stays x) _ _ y e (λ _. stays_same x _ refl refl refl)
 s_store_state seat value x (Leaving stamp) y rests e = when_then (Stays x) _ _ y e (λ _. lets_go_from x _ (subst IsBare (sym rests) tt))
 s_store_state seat value x _ y rests e = absurd (cc)
 
@@ -247,7 +247,7 @@ s_decide : (at header : ℕ) (x : Part) (pl : Place) (t : Task) (y : Part) → d
 s_decide at header x (Sealed tail stamp) (task.Fills words) y e = when_then (Stays x) _ _ y e (λ _. lets_go_from x _ tt)
 s_decide at header x _ _ y e = absurd (cc)
 
--- kinds that leave the version in hand and the claims, or let the version go
+-- kinds that leave the version in hand, the claims and the spare cells, or let the version go
 abbrev pub KeepsHand : Kind → Type 0
 KeepsHand (kind.LoadTail purpose.Horizon) = ⊥
 KeepsHand (kind.LoadTail _) = Unit {0}

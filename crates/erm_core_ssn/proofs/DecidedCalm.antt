@@ -31,6 +31,7 @@ use Rattle.erm_core_ssn.proofs.DecidedBuild.{NotEnds, starts_not_ends, Plain, ma
 abbrev pub IsPlain : Task → Type 0
 IsPlain (task.Registered version) = ⊥
 IsPlain (task.Overtaken version overwriter) = ⊥
+IsPlain (task.Rated version) = ⊥
 IsPlain task.Fetched = ⊥
 IsPlain (task.Settles reads writes) = ⊥
 IsPlain (task.ReadOwned read owner) = ⊥
@@ -55,6 +56,7 @@ free_if b t u f g = either_way IsFree b t u (λ _. f) (λ _. g)
 pub plain_of : (t : Task) → IsPlain t → Plain t
 plain_of (task.Registered version) h = absurd h
 plain_of (task.Overtaken version overwriter) h = absurd h
+plain_of (task.Rated version) h = absurd h
 plain_of task.Fetched h = absurd h
 plain_of (task.Settles reads writes) h = absurd h
 plain_of (task.ReadOwned read owner) h = absurd h

@@ -51,6 +51,7 @@ mark_stays s t a (task.Overtaken v mark) keeps h = (keeps.kept v.oid v.place mar
 mark_stays s t a (task.ReadOvertaken read mark) keeps h =
     (keeps.kept (read_at a read).version.oid (read_at a read).version.place mark h.0 h.1, h.1, h.2)
 mark_stays s t a (task.Registered v) keeps h = h
+mark_stays s t a (task.Rated v) keeps h = h
 mark_stays s t a task.Fetched keeps h = h
 mark_stays s t a _ keeps h = tt
 

@@ -147,7 +147,8 @@ module _ (c : Core) (p : ℕ) (sound : Sound c) where
       let same : v ≡ version = same_is v version g in
       let on : NotEnds (c.seats p).task = subst NotEnds (sym at) tt in
       either_way (λ (u : Task). Leaves c p (record (c.seats p) { task = u })) (eqb found 0) (task.Rated version) (task.Overtaken version found)
-      (λ _. retask c p sound _ (task.Rated version) refl refl refl refl on tt (omega arith) (omega arith) tt (λ q _. none_passing (c.seats q) (task.Rated version) (c.seats p).current (λ _. refl)) (λ q _. tt))
+      (λ _. retask c p sound _ (task.Rated version) refl refl refl refl on tt (omega arith) (omega arith) (hand (task.Registered version) at)
+      (λ q _. none_passing (c.seats q) (task.Rated version) (c.seats p).current (λ _. refl)) (λ q _. tt))
       (λ some. retask c p sound _ (task.Overtaken version found) refl refl refl refl on tt (omega arith) (omega arith)
       (sym (is ∙ ap (λ (w : VersionAt). (version_at (c.shared.objects w.oid) w.place).words.overwriter) same), not_zero found some, hand (task.Registered version) at)
       (λ q _. none_passing (c.seats q) (task.Overtaken version found) (c.seats p).current (λ _. refl)) (λ q _. tt)))
@@ -183,7 +184,7 @@ module _ (c : Core) (p : ℕ) (sound : Sound c) where
       let same : v ≡ version = same_is v version g in
       let h = hand (task.Overtaken version mark) at in
       let o = overtaker version mark h.0 h.1 h.2 in
-      works c p sound _ active refl refl refl tt (λ _. refl) (λ _. refl) (λ q. tt)
+      works c p sound _ active refl refl refl h.2 (λ _. refl) (λ _. refl) (λ q. tt)
       (λ _. chosen (history_of c.seats) c.shared.tail (c.seats p).current found mark
       (o.0, o.1, below_tail c sound o.0 o.1, o.3, is ∙ (ap (λ (w : VersionAt). (version_at (c.shared.objects w.oid) w.place).words.overwriter_succ) same ∙ o.4))
       (active_fits c p sound active (subst NotEnds (sym at) tt))))

@@ -1,5 +1,7 @@
 -- Chains: links name cells, and so do the versions in hand.
 use Rattle.std.specs.Prelude.{◌≡◌, ℕ, ◌+◌, ◌-◌, ◌<◌, ◌≤◌, length, Option, Some, None}
+use Rattle.erm_model.specs.Member.{◌∈◌}
+use Rattle.erm_machine.specs.declared.attempt.OwnCell.{OwnCell}
 use Rattle.erm_machine.specs.declared.limits.TheConstants.{OBJECT_LIMIT}
 use Rattle.erm_machine.specs.declared.part.Part.{Part}
 use Rattle.erm_machine.specs.declared.task.Task.{Task}
@@ -51,7 +53,15 @@ pub record IsAttached (s : Shared) (x : Part) (v : VersionAt) : Type 0 where
   pub claimed : Holds x v.oid
   pub attached : (s.objects v.oid).cut ≤ v.place
 
--- the version in hand of those that a cut has taken off: the links from it on name older ones, and the last one's is 0
+-- the cell of the version at a place of an object is one of the seat's spare ones, and has the version's link
+pub record IsSpare (s : Shared) (x : Part) (oid place : ℕ) : Type 0 where
+  pub own : OwnCell
+  pub spare : own ∈ x.spare
+  pub cell : own.cell ≡ (version_at (s.objects oid) place).cell
+  pub link : own.words.link ≡ (version_at (s.objects oid) place).words.link
+
+-- The version in hand of those that a cut has taken off: the links from it on name older ones, and the last one's is 0. Their
+-- cells are the seat's spare ones.
 pub record IsDetached (s : Shared) (x : Part) (v : VersionAt) : Type 0 where
   pub claimed : Holds x v.oid
   pub last : ℕ
@@ -59,6 +69,7 @@ pub record IsDetached (s : Shared) (x : Part) (v : VersionAt) : Type 0 where
   pub links : LinksFrom (s.objects v.oid) last (v.place + 1)
   pub ends : (version_at (s.objects v.oid) last).words.link ≡ 0
   pub off : v.place < (s.objects v.oid).cut
+  pub spare : (k : ℕ) → last ≤ k → k ≤ v.place → IsSpare s x v.oid k
 
 -- the version in hand of a cut
 abbrev pub CutInHand : Shared → Part → Task → Type 0

@@ -147,6 +147,7 @@ MarkInHand s t (task.Registered v) = IsRead t v
 MarkInHand s t (task.Overtaken v mark) = ((version_at (s.objects v.oid) v.place).words.overwriter ≡ mark) × (0 < mark) × IsRead t v
 MarkInHand s t (task.ReadOvertaken read mark) =
     ((version_at (s.objects (read_at t read).version.oid) (read_at t read).version.place).words.overwriter ≡ mark) × (0 < mark) × (mark < t.stamp)
+MarkInHand s t (task.Rated v) = IsRead t v
 MarkInHand s t task.Fetched = (0 < length t.writes) × (is_none (claim_at t (last_claim t)).own ≡ false)
 MarkInHand s t _ = Unit {0}
 
