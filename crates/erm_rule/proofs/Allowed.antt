@@ -1,5 +1,5 @@
 -- A step of the machine on a word keeps the rule, and tells what it tells: for every kind of step at once.
-use Rattle.std.proofs.Common.{◌≡◌, ◌≢◌, ℕ, zero, suc, ◌<◌, ◌≤◌, ⊎_elim, Bool, true, false, List, [], ◌∷◌, length, map, get_or, set, Option, Some, None, is_some, refl, sym, ap, ◌∙◌, subst, arith, length-set, get_or-set_same, get_or-set_other}
+use Rattle.std.proofs.Common.{◌≡◌, ◌≢◌, ℕ, zero, suc, ◌<◌, ◌≤◌, ⊎_elim, Bool, true, false, List, [], ◌∷◌, length, map, get_or, set, Option, Some, None, is_some, unwrap_or, refl, sym, ap, ◌∙◌, subst, arith, length-set, get_or-set_same, get_or-set_other}
 use Rattle.std.specs.Prelude.{if◌then◌else◌, IsSome}
 use Rattle.std.proofs.lemmas.Bool.{cases_eq}
 use mathlib.Core.Option.{some, some-injective, some-ne-none}
@@ -18,26 +18,32 @@ use Rattle.erm_machine.specs.declared.part.Part.{Part}
 use Rattle.erm_machine.specs.declared.place.Place.TheVariants.{Vacant}
 use Rattle.erm_machine.specs.declared.version.Cell.{Cell}
 use Rattle.erm_machine.specs.Core.{Core, Shared, spot_of, word_at, fresh_part}
+use Rattle.erm_machine.specs.Decided.{record_of}
+use Rattle.erm_machine.specs.Lawful.{DrawsLawfully, Lawful}
 use Rattle.erm_machine.specs.Sound.{Sound}
 use Rattle.erm_machine.specs.Step.{part_after, stored, shared_after, is_known, after_event}
 use Rattle.erm_machine.specs.Words.{put, is_seat}
 use Rattle.erm_machine.proofs.Frames.{put_other}
-use Rattle.erm_machine.proofs.QuietKinds.{keeps_log}
 use Rattle.erm_model.specs.declared.limits.TheConstants.{TABLE_CELLS}
+use Rattle.erm_model.specs.Lawful.{IsLawfulRecord}
 use Rattle.erm_model.specs.Member.{◌∈◌}
+use Rattle.erm_model.specs.RowTransaction.{Law}
 use Rattle.erm_rule.specs.declared.view.Held.{Held}
 use Rattle.erm_rule.specs.declared.view.Opening.{Opening}
 use Rattle.erm_rule.specs.declared.view.View.{View}
 use Rattle.erm_rule.specs.Cells.{word_in, cells_after, IsTold}
-use Rattle.erm_rule.specs.Rule.{Stands, HeldByNone, Kept}
-use Rattle.erm_rule.specs.Steps.{Ready, Agrees, Told}
-use Rattle.erm_rule.specs.Views.{part_in, held_after, with_part, IsView, IsInOrder}
+use Rattle.erm_rule.specs.Newest.{CutsAtNewest}
+use Rattle.erm_rule.specs.Rule.{Stands, HeldByNone, KeptUnder}
+use Rattle.erm_rule.specs.Steps.{Ready, Agrees, Promises, Told, ToldUnder}
+use Rattle.erm_rule.specs.Views.{part_in, part_of, held_after, with_part, IsView, IsInOrder}
 use Rattle.erm_rule.proofs.Filled.{cells_next}
 use Rattle.erm_rule.proofs.Found.{next, event_is, met_after, unmet_after, from_some}
-use Rattle.erm_rule.proofs.Lives.{Lives, is_met, lives}
+use Rattle.erm_rule.proofs.Lives.{Meets, is_as_met, lives}
+use Rattle.erm_rule.proofs.Newest.{newest_kept}
+use Rattle.erm_rule.proofs.Opened.{stays_opened}
 use Rattle.erm_rule.proofs.Parts.{order_after, in_map, map_in, found_among}
 
--- the laws on which the rule stands: two words have two numbers, and each event keeps the state sound
+-- the laws on which the rule stands: two words have two numbers, and each event keeps the state sound, and the law of rows
 abbrev pub OneNumber : Type 0
 OneNumber = (v w : Word) → HasNumber v → HasNumber w → index_of v ≡ index_of w → v ≡ w
 
@@ -46,6 +52,9 @@ Below = (w : Word) → HasNumber w → index_of w < WORDS
 
 abbrev pub KeepsSound : Type 0
 KeepsSound = (c d : Core) (seat : ℕ) (k : Kind) → Sound c → after_event c seat k ≡ Some d → Sound d
+
+abbrev pub KeepsLaw : Law → Type 0
+KeepsLaw law = (c d : Core) (seat : ℕ) (k : Kind) → Sound c → Lawful law c.shared c.seats → DrawsLawfully law c seat k → after_event c seat k ≡ Some d → Lawful law d.shared d.seats
 
 -- a view that stands is one of the state
 pub standing_view : (words : List ℕ) (views : List View) (c : Core) (cells : ℕ → Cell) (holder : ℕ → ℕ) (id : ℕ) (v : View) → Stands words views c cells holder → get_elem? views id ≡ some v → IsView v c
@@ -75,7 +84,7 @@ module _ (words : List ℕ) (views : List View) (c : Core) (cells : ℕ → Cell
       let h = found_among who v.held x has in
       of_seat who (ap is_seat (sym h.2) ∙ (stands.in_order id v at).seats h.0 h.1)
 
-  alive : Lives c (spot_of who k)
+  alive : Meets c who k
   alive = lives c who sound k (word_at c (spot_of who k)) y seat told after
 
   -- what the cells hold after the step
@@ -83,7 +92,7 @@ module _ (words : List ℕ) (views : List View) (c : Core) (cells : ℕ → Cell
   map_after = cells_after k (stored who k (word_at c (spot_of who k))) cells
 
   word_met : word_in (next c who k y) map_after w ≡ n
-  word_met = met_after c who y k cells stands.cells_are.rows after w met numbered (is_met c cells stands.cells_are (spot_of who k) alive) ∙ sym agrees
+  word_met = met_after c who y k cells stands.cells_are.rows after w met numbered (is_as_met c who cells stands.cells_are k alive) ∙ sym agrees
 
   words_after : (u : Word) → HasNumber u → get_or (set words (index_of w) n) (index_of u) 0 ≡ word_in (next c who k y) map_after u
   words_after u has_number =
@@ -152,30 +161,34 @@ pub some_of : {X : Type 0} (o : Option X) → IsSome o → (x : X) × (o ≡ Som
 some_of None h = absurd (cc)
 some_of (Some x) h = (x, refl)
 
-same_opening : (p : ℕ) (k : Kind) (found : ℕ) (x : Part) (s : Shared) → (shared_after p k found x s).opening ≡ s.opening
-same_opening p (kind.AddTail size) found x s = refl
-same_opening p k found x s = (keeps_log p k found x s tt).opening
-
 same_limit : (p : ℕ) (k : Kind) (found : ℕ) (x : Part) (s : Shared) → (shared_after p k found x s).cell_limit ≡ s.cell_limit
 same_limit p (kind.AddCounter Objects) found x s = refl
 same_limit p (kind.AddCounter Cells) found x s = refl
 same_limit p k found x s = refl
 
+-- what the caller promises of the view is so of each state of the view
+promised : (law : Law) (c : Core) (v : View) (who : ℕ) (k : Kind) (x : Part) → part_in v who ≡ Some x → IsView v c → Promises law v who k → DrawsLawfully law c who k
+promised law c v who (kind.AddTail size) x has sees lawful =
+    let own : part_of v who ≡ x = ap (λ (o : Option Part). unwrap_or o (fresh_part Vacant 0 0)) has in
+    subst (λ (z : Part). IsLawfulRecord law (record_of who z.current)) (own ∙ sym (sees who x has)) lawful
+promised law c v who k x has sees lawful = tt
+
 -- ONE PROOF FOR ALL KINDS. A step that the machine takes whatever the view leaves open, on the word that it meets, which
 -- becomes what the step stores, is allowed, and tells what the play wants of it.
-module _ (one_number : OneNumber) (below : Below) (keeps_sound : KeepsSound)
+module _ (law : Law) (one_number : OneNumber) (below : Below) (keeps_sound : KeepsSound) (keeps_law : KeepsLaw law)
     (opening : Opening) (slots id : ℕ) (me : Me (Unit {0}) View) (who : ℕ) (k : Kind) (w : Word) (f : ℕ → ℕ)
-    (has : IsSome (part_in me.0 who)) (ready : Ready me.0 who k) (known : is_known k ≡ true)
+    (has : IsSome (part_in me.0 who)) (ready : Ready me.0 who k) (promises : Promises law me.0 who k) (known : is_known k ≡ true)
     (told : IsTold k) (met : word_of_spot (spot_of who k) ≡ Some w) (numbered : HasNumber w) (agrees : Agrees me.0 who k f) where
-  told_by : (words : List ℕ) (views : List View) (c : Core) (cells : ℕ → Cell) (holder : ℕ → ℕ) (y : Part) (found : ℕ) → Stands words views c cells holder → Sound c → c.shared.cell_limit ≡ TABLE_CELLS →
+  told_by : (words : List ℕ) (views : List View) (c : Core) (cells : ℕ → Cell) (holder : ℕ → ℕ) (y : Part) (found : ℕ) → Stands words views c cells holder → Sound c → CutsAtNewest c → c.shared.cell_limit ≡ TABLE_CELLS →
       get_elem? views id ≡ some me.0 → found ≡ word_at c (spot_of who k) → part_after who k (word_at c (spot_of who k)) c.shared (c.seats who) ≡ Some y →
       (n : ℕ) → n ≡ stored who k (word_at c (spot_of who k)) → Told me.0 who k found (with_part who y me.0)
-  told_by words views c cells holder y found stands sound limit at is after n agreed =
+  told_by words views c cells holder y found stands sound cuts limit at is after n agreed =
       let x = some_of (part_in me.0 who) has in
       let event = event_is c who k y known after in
       record {
         before = c;
         sound = sound;
+        cuts = cuts;
         is_view = standing_view words views c cells holder id me.0 stands at;
         in_order = stands.in_order id me.0 at;
         limit = limit;
@@ -186,6 +199,7 @@ module _ (one_number : OneNumber) (below : Below) (keeps_sound : KeepsSound)
         after = next c who k y;
         event = event;
         sound_after = keeps_sound c (next c who k y) who k sound event;
+        cuts_after = newest_kept c who k (next c who k y) sound cuts event;
         is_view_after =
             standing_view (set words (index_of w) n) (set views id (with_part who y me.0)) (next c who k y) (map_after words views c cells holder stands sound one_number below id me.0 at who x.0 y x.1 k told known after w numbered met n agreed)
             holder id (with_part who y me.0)
@@ -194,9 +208,11 @@ module _ (one_number : OneNumber) (below : Below) (keeps_sound : KeepsSound)
         limit_after = same_limit who k (word_at c (spot_of who k)) (c.seats who) c.shared ∙ limit;
       }
 
-  pub allowed : (tells_of : ℕ → Me (Unit {0}) View → Type 0) → ((found : ℕ) (u : View) → Told me.0 who k found u → tells_of found (u, me.1)) →
-      Allows (Kept opening) slots id me (index_of w) f tells_of
-  allowed tells_of telling s kept homes at small =
+  pub allowed : (tells_of : ℕ → Me (Unit {0}) View → Type 0) → ((found : ℕ) (u : View) → ToldUnder law me.0 who k found u → tells_of found (u, me.1)) →
+      Allows (KeptUnder law opening) slots id me (index_of w) f tells_of
+  unfolding told_by
+  allowed tells_of telling s under homes at small =
+      let kept = under.kept in
       let c = kept.core in
       let stands = kept.stands in
       let sees = standing_view s.words s.views c kept.cells kept.holder id me.0 stands at in
@@ -208,37 +224,48 @@ module _ (one_number : OneNumber) (below : Below) (keeps_sound : KeepsSound)
       let live = alive s.words s.views c kept.cells kept.holder stands kept.sound one_number below id me.0 at who x.0 y.0 x.1 k told known y.1 w numbered met _ stored_is in
       let is : found ≡ word_at c (spot_of who k) =
       stands.words_are w numbered
-      ∙ from_some (word_of_spot (spot_of who k)) (λ u. word_in c kept.cells u ≡ word_at c (spot_of who k)) w met (is_met c kept.cells stands.cells_are (spot_of who k) live) in
+      ∙ from_some (word_of_spot (spot_of who k)) (λ u. word_in c kept.cells u ≡ word_at c (spot_of who k)) w met (is_as_met c who kept.cells stands.cells_are k live) in
+      let event = event_is c who k y.0 known y.1 in
+      let after : Lawful law (next c who k y.0).shared (next c who k y.0).seats =
+      keeps_law c (next c who k y.0) who k kept.sound under.lawful (promised law c me.0 who k x.0 x.1 sees promises) event in
       let agreed : f found ≡ stored who k (word_at c (spot_of who k)) = ap f is ∙ agrees c kept.sound sees guard in (
         with_part who y.0 me.0,
         keeps,
         tt,
         record {
-          core = next c who k y.0;
-          cells = cells_after k (stored who k (word_at c (spot_of who k))) kept.cells;
-          holder = kept.holder;
-          stands = stands_after s.words s.views c kept.cells kept.holder stands kept.sound one_number below id me.0 at who x.0 y.0 x.1 k told known y.1 w numbered met (f found) agreed;
-          others =
-              others_after s.words s.views c kept.cells kept.holder stands kept.sound one_number below id me.0 at who x.0 y.0 x.1 k told known y.1 w numbered met (f found) agreed
-              (fresh_part Vacant opening.run opening.tail) kept.others;
-          sound = keeps_sound c (next c who k y.0) who k kept.sound (event_is c who k y.0 known y.1);
-          opened = same_opening who k (word_at c (spot_of who k)) (c.seats who) c.shared ∙ kept.opened;
-          limit = same_limit who k (word_at c (spot_of who k)) (c.seats who) c.shared ∙ kept.limit;
+          kept = record {
+            core = next c who k y.0;
+            cells = cells_after k (stored who k (word_at c (spot_of who k))) kept.cells;
+            holder = kept.holder;
+            stands = stands_after s.words s.views c kept.cells kept.holder stands kept.sound one_number below id me.0 at who x.0 y.0 x.1 k told known y.1 w numbered met (f found) agreed;
+            others =
+                others_after s.words s.views c kept.cells kept.holder stands kept.sound one_number below id me.0 at who x.0 y.0 x.1 k told known y.1 w numbered met (f found) agreed
+                (fresh_part Vacant opening.run opening.tail) kept.others;
+            sound = keeps_sound c (next c who k y.0) who k kept.sound event;
+            cuts = newest_kept c who k (next c who k y.0) kept.sound kept.cuts event;
+            opened = stays_opened opening c who k (word_at c (spot_of who k)) (c.seats who) (next c who k y.0) kept.sound event kept.opened;
+            limit = same_limit who k (word_at c (spot_of who k)) (c.seats who) c.shared ∙ kept.limit;
+          };
+          lawful = after;
         },
-        telling found (with_part who y.0 me.0) (told_by s.words s.views c kept.cells kept.holder y.0 found stands kept.sound kept.limit at is y.1 (f found) agreed),
+        telling found (with_part who y.0 me.0) (record {
+          told = told_by s.words s.views c kept.cells kept.holder y.0 found stands kept.sound kept.cuts kept.limit at is y.1 (f found) agreed;
+          lawful = under.lawful;
+          lawful_after = after;
+        }),
       )
 
   -- the same at the word's number, for the plays that tell the word found, and those that don't
   module _ (i : ℕ) (is : i ≡ index_of w) (seat : ℕ) (same_seat : seat ≡ who) where
-    told_as : (found : ℕ) (u : View) → Told me.0 who k found u → Told me.0 seat k found u
-    told_as found u t = subst (λ (p : ℕ). Told me.0 p k found u) (sym same_seat) t
+    told_as : (found : ℕ) (u : View) → ToldUnder law me.0 who k found u → ToldUnder law me.0 seat k found u
+    told_as found u t = subst (λ (p : ℕ). ToldUnder law me.0 p k found u) (sym same_seat) t
 
-    at_number : (tells_of : ℕ → Me (Unit {0}) View → Type 0) → ((found : ℕ) (u : View) → Told me.0 who k found u → tells_of found (u, me.1)) →
-        Allows (Kept opening) slots id me i f tells_of
-    at_number tells_of telling = subst (λ (j : ℕ). Allows (Kept opening) slots id me j f tells_of) (sym is) (allowed tells_of telling)
+    at_number : (tells_of : ℕ → Me (Unit {0}) View → Type 0) → ((found : ℕ) (u : View) → ToldUnder law me.0 who k found u → tells_of found (u, me.1)) →
+        Allows (KeptUnder law opening) slots id me i f tells_of
+    at_number tells_of telling = subst (λ (j : ℕ). Allows (KeptUnder law opening) slots id me j f tells_of) (sym is) (allowed tells_of telling)
 
-    pub allows_finding : Allows (Kept opening) slots id me i f (λ found m. Told me.0 seat k found m.0 × (m.1 ≡ me.1))
-    allows_finding = at_number (λ found m. Told me.0 seat k found m.0 × (m.1 ≡ me.1)) (λ found u t. (told_as found u t, refl))
+    pub allows_finding : Allows (KeptUnder law opening) slots id me i f (λ found m. ToldUnder law me.0 seat k found m.0 × (m.1 ≡ me.1))
+    allows_finding = at_number (λ found m. ToldUnder law me.0 seat k found m.0 × (m.1 ≡ me.1)) (λ found u t. (told_as found u t, refl))
 
-    pub allows_storing : Allows (Kept opening) slots id me i f (λ _ m. ((found : ℕ) × Told me.0 seat k found m.0) × (m.1 ≡ me.1))
-    allows_storing = at_number (λ _ m. ((found : ℕ) × Told me.0 seat k found m.0) × (m.1 ≡ me.1)) (λ found u t. ((found, told_as found u t), refl))
+    pub allows_storing : Allows (KeptUnder law opening) slots id me i f (λ _ m. ((found : ℕ) × ToldUnder law me.0 seat k found m.0) × (m.1 ≡ me.1))
+    allows_storing = at_number (λ _ m. ((found : ℕ) × ToldUnder law me.0 seat k found m.0) × (m.1 ≡ me.1)) (λ found u t. ((found, told_as found u t), refl))

@@ -36,7 +36,7 @@ use Rattle.erm_rule.specs.Cells.{ObjectCells, SeatCells, CellsAre, change, cells
 use Rattle.erm_rule.proofs.Carried.{Carries, OwnsOf, in_both, owns_set, carries, c_add_object}
 use Rattle.erm_rule.proofs.CutOff.{was_attached}
 use Rattle.erm_rule.proofs.Found.{next}
-use Rattle.erm_rule.proofs.Lives.{Lives}
+use Rattle.erm_rule.proofs.Lives.{Meets}
 use Rattle.erm_rule.proofs.OnePlace.{IsLive, claim_within, claim_owns, claim_counts, spare_counts, own_drawn, own_unchained, own_apart, own_claim_alone, own_not_spare, live_drawn, live_unowned, live_apart, live_alone}
 use Rattle.erm_rule.proofs.Stored.{Stores, own_of, own_within, stores}
 
@@ -324,7 +324,7 @@ module _ (c : Core) (sound : Sound c) (p : ℕ) (seat : p < ANNOUNCERS) (cells :
   found k = word_at c (spot_of p k)
 
   -- ALL KINDS
-  pub cells_next : (k : Kind) → IsTold k → is_known k ≡ true → Lives c (spot_of p k) → part_after p k (found k) s x ≡ Some y →
+  pub cells_next : (k : Kind) → IsTold k → is_known k ≡ true → Meets c p k → part_after p k (found k) s x ≡ Some y →
       CellsAre (next c p k y) (cells_after k (stored p k (found k)) cells)
   cells_next (kind.Split other) told known live e = absurd told
   cells_next (kind.Join other) told known live e = absurd told

@@ -22,16 +22,18 @@ use Rattle.erm_machine.specs.Step.{after_event}
 use Rattle.erm_machine.specs.Words.{put, begin_of, state_of, is_seat}
 use Rattle.erm_machine.proofs.Frames.{at_cases, put_same, put_other}
 use Rattle.erm_model.specs.Member.{◌∈◌}
+use Rattle.erm_model.specs.RowTransaction.{Law}
 use Rattle.erm_model.proofs.Members.{∈-at}
 use Rattle.erm_rule.specs.declared.view.Held.{Held}
 use Rattle.erm_rule.specs.declared.view.Opening.{Opening}
 use Rattle.erm_rule.specs.declared.view.View.{View}
 use Rattle.erm_rule.specs.Cells.{word_in, SeatCells, CellsAre}
-use Rattle.erm_rule.specs.Rule.{Stands, HeldByNone, Kept}
-use Rattle.erm_rule.specs.Steps.{Ends}
+use Rattle.erm_rule.specs.Rule.{Stands, HeldByNone, KeptUnder}
+use Rattle.erm_rule.specs.Steps.{EndsUnder}
 use Rattle.erm_rule.specs.Views.{of_seats, EachOnce, no_held, first_held, last_held, left_of, taken, right_of, joined, held_after, IsInOrder}
-use Rattle.erm_rule.proofs.Allowed.{KeepsSound, standing_view, set_there}
+use Rattle.erm_rule.proofs.Allowed.{KeepsLaw, KeepsSound, standing_view, set_there}
 use Rattle.erm_rule.proofs.Carried.{Carries, carry}
+use Rattle.erm_rule.proofs.Newest.{newest_kept}
 use Rattle.erm_rule.proofs.Parts.{order_after, in_map, map_in, here, in_either, in_one, in_other, in_front, last_or_front, split_at, none_there, once_front, once_both, last_apart}
 
 -- a view that is put behind the others
@@ -216,9 +218,10 @@ module _ (words : List ℕ) (views : List View) (c : Core) (cells : ℕ → Cell
         put_other c.seats l.seat split_part q (λ (same : q ≡ l.seat). old id v l at l_in (sym same)) ∙ others q old
 
 -- the first seat hands out the last one, which is vacant
-pub splits : KeepsSound → (o : Opening) (id : ℕ) (v : View) → 2 ≤ length v.held → is_vacant (first_held v).part.place ≡ false → is_vacant (last_held v).part.place ≡ true →
-    Splits (Kept o) id v (left_of v) (right_of v)
-splits keeps_sound o id v several giver given s kept at =
+pub splits : (law : Law) → KeepsSound → KeepsLaw law → (o : Opening) (id : ℕ) (v : View) → 2 ≤ length v.held → is_vacant (first_held v).part.place ≡ false → is_vacant (last_held v).part.place ≡ true →
+    Splits (KeptUnder law o) id v (left_of v) (right_of v)
+splits law keeps_sound keeps_law o id v several giver given s under at =
+    let kept = under.kept in
     let c = kept.core in
     let stands = kept.stands in
     let some_held : 0 < length v.held = omega (arith, several) in
@@ -229,20 +232,25 @@ splits keeps_sound o id v several giver given s kept at =
     let apart : (h : Held) → h ∈ front → h.seat ≢ (last_held v).seat = last_apart v.held no_held some_held once in
     let g_in : first_held v ∈ front = first_in_front v.held (length v.held - 1) (omega (arith, several)) some_held in
     let vacant : (last_held v).part.place ≡ Vacant = vacant_is (last_held v).part.place given in
+    let next : Core = record c { seats = put c.seats (last_held v).seat (taken (first_held v) (last_held v)).part } in
+    let event : after_event c (first_held v).seat (kind.Split (last_held v).seat) ≡ Some next =
+    split_event c (first_held v).seat (last_held v).seat (first_held v).part (last_held v).part (stands.parts_are id v (first_held v) at (front_in (first_held v) g_in))
+    (stands.parts_are id v (last_held v) at l_in) (λ same. apart (first_held v) g_in (sym same)) ((stands.in_order id v at).seats (last_held v) l_in) giver given in
     record {
-      core = record c { seats = put c.seats (last_held v).seat (taken (first_held v) (last_held v)).part };
-      cells = kept.cells;
-      holder = put kept.holder (last_held v).seat (length s.views);
-      stands = split_stands s.words s.views c kept.cells kept.holder stands id v at (first_held v) (last_held v) front l_in front_in (once_front (length v.held - 1) v.held once) apart vacant;
-      others =
-          split_others s.words s.views c kept.cells kept.holder stands id v at (first_held v) (last_held v) front l_in front_in (once_front (length v.held - 1) v.held once) apart vacant
-          (λ h m. last_or_front (length v.held - 1) v.held no_held h (omega (arith, some_held)) m) (fresh_part Vacant o.run o.tail) kept.others;
-      sound =
-          keeps_sound c (record c { seats = put c.seats (last_held v).seat (taken (first_held v) (last_held v)).part }) (first_held v).seat (kind.Split (last_held v).seat) kept.sound
-          (split_event c (first_held v).seat (last_held v).seat (first_held v).part (last_held v).part (stands.parts_are id v (first_held v) at (front_in (first_held v) g_in))
-          (stands.parts_are id v (last_held v) at l_in) (λ same. apart (first_held v) g_in (sym same)) ((stands.in_order id v at).seats (last_held v) l_in) giver given);
-      opened = kept.opened;
-      limit = kept.limit;
+      kept = record {
+        core = next;
+        cells = kept.cells;
+        holder = put kept.holder (last_held v).seat (length s.views);
+        stands = split_stands s.words s.views c kept.cells kept.holder stands id v at (first_held v) (last_held v) front l_in front_in (once_front (length v.held - 1) v.held once) apart vacant;
+        others =
+            split_others s.words s.views c kept.cells kept.holder stands id v at (first_held v) (last_held v) front l_in front_in (once_front (length v.held - 1) v.held once) apart vacant
+            (λ h m. last_or_front (length v.held - 1) v.held no_held h (omega (arith, some_held)) m) (fresh_part Vacant o.run o.tail) kept.others;
+        sound = keeps_sound c next (first_held v).seat (kind.Split (last_held v).seat) kept.sound event;
+        cuts = newest_kept c (first_held v).seat (kind.Split (last_held v).seat) next kept.sound kept.cuts event;
+        opened = kept.opened;
+        limit = kept.limit;
+      };
+      lawful = keeps_law c next (first_held v).seat (kind.Split (last_held v).seat) kept.sound under.lawful tt event;
     }
 
 -- JOIN
@@ -366,28 +374,34 @@ other_view : (views : List View) (id other : ℕ) (u w : View) → other ≢ id 
 other_view views id other u w ne e = ⊎_elim (λ (t : (other ≡ id) × (u ≡ w)). absurd (ne t.0)) (λ (t : (other ≢ id) × (get_elem? views other ≡ some w)). t.1) (at_set views id other u w e)
 
 -- the first seat takes in the first of another pass, and the pass all of its seats
-pub joins : KeepsSound → (o : Opening) (id : ℕ) (v : View) (other : ℕ) (w : View) → 0 < length v.held → 0 < length w.held →
-    is_vacant (first_held v).part.place ≡ false → is_vacant (first_held w).part.place ≡ false → Joins (Kept o) id v other w (joined v w) (of_seats [])
-joins keeps_sound o id v other w some_held some_too taker taken_one s kept at ne is =
+pub joins : (law : Law) → KeepsSound → KeepsLaw law → (o : Opening) (id : ℕ) (v : View) (other : ℕ) (w : View) → 0 < length v.held → 0 < length w.held →
+    is_vacant (first_held v).part.place ≡ false → is_vacant (first_held w).part.place ≡ false → Joins (KeptUnder law o) id v other w (joined v w) (of_seats [])
+joins law keeps_sound keeps_law o id v other w some_held some_too taker taken_one s under at ne is =
+    let kept = under.kept in
     let c = kept.core in
     let stands = kept.stands in
     let there : get_elem? s.views other ≡ some w = other_view s.views id other (joined v w) w ne is in
     let a_in : first_held v ∈ v.held = first_there v some_held in
     let b_in : first_held w ∈ w.held = first_there w some_too in
     let m : ℕ = max (first_held v).part.seen (first_held w).part.seen in
+    let next : Core = record c { seats = put c.seats (first_held v).seat (saw m (first_held v).part) } in
+    let event : after_event c (first_held v).seat (kind.Join (first_held w).seat) ≡ Some next =
+    join_event c (first_held v).seat (first_held w).seat (first_held v).part (first_held w).part (stands.parts_are id v (first_held v) at a_in)
+    (stands.parts_are other w (first_held w) there b_in)
+    (not_first s.words s.views c kept.cells kept.holder stands id v at other ne w there (first_held v) a_in m other w ne there (first_held w) b_in) taker taken_one in
     record {
-      core = record c { seats = put c.seats (first_held v).seat (saw m (first_held v).part) };
-      cells = kept.cells;
-      holder = λ q. if kept.holder q == other then id else kept.holder q;
-      stands = join_stands s.words s.views c kept.cells kept.holder stands id v at other ne w there (first_held v) a_in m;
-      others = join_others s.words s.views c kept.cells kept.holder stands id v at other ne w there (first_held v) a_in m (fresh_part Vacant o.run o.tail) kept.others;
-      sound =
-          keeps_sound c (record c { seats = put c.seats (first_held v).seat (saw m (first_held v).part) }) (first_held v).seat (kind.Join (first_held w).seat) kept.sound
-          (join_event c (first_held v).seat (first_held w).seat (first_held v).part (first_held w).part (stands.parts_are id v (first_held v) at a_in)
-          (stands.parts_are other w (first_held w) there b_in)
-          (not_first s.words s.views c kept.cells kept.holder stands id v at other ne w there (first_held v) a_in m other w ne there (first_held w) b_in) taker taken_one);
-      opened = kept.opened;
-      limit = kept.limit;
+      kept = record {
+        core = next;
+        cells = kept.cells;
+        holder = λ q. if kept.holder q == other then id else kept.holder q;
+        stands = join_stands s.words s.views c kept.cells kept.holder stands id v at other ne w there (first_held v) a_in m;
+        others = join_others s.words s.views c kept.cells kept.holder stands id v at other ne w there (first_held v) a_in m (fresh_part Vacant o.run o.tail) kept.others;
+        sound = keeps_sound c next (first_held v).seat (kind.Join (first_held w).seat) kept.sound event;
+        cuts = newest_kept c (first_held v).seat (kind.Join (first_held w).seat) next kept.sound kept.cuts event;
+        opened = kept.opened;
+        limit = kept.limit;
+      };
+      lawful = keeps_law c next (first_held v).seat (kind.Join (first_held w).seat) kept.sound under.lawful tt event;
     }
 
 -- CLOSE
@@ -396,16 +410,20 @@ first_word [] n e = absurd (some-ne-none n (sym e))
 first_word (x ∷ xs) n e = some-injective x n e
 
 -- the tail in the last state
-pub ends : (o : Opening) (id : ℕ) (v : View) (ws : List ℕ) (xs : List (Unit {0})) (tail : ℕ) → Final (Seen (Kept o) id v) ws xs → get_elem? ws 0 ≡ some tail → Ends o v tail
-ends o id v ws xs tail final is =
+pub ends : (law : Law) (o : Opening) (id : ℕ) (v : View) (ws : List ℕ) (xs : List (Unit {0})) (tail : ℕ) → Final (Seen (KeptUnder law o) id v) ws xs → get_elem? ws 0 ≡ some tail → EndsUnder law o v tail
+ends law o id v ws xs tail final is =
     let s = final.0 in
-    let kept = final.1.0 in
+    let under = final.1.0 in
+    let kept = under.kept in
     let words : s.words ≡ ws = final.2 in
     record {
-      core = kept.core;
-      sound = kept.sound;
-      is_view = standing_view s.words s.views kept.core kept.cells kept.holder id v kept.stands final.1.1;
-      opened = kept.opened;
-      others = λ q wordless. kept.others q (λ j u h there m same. absurd (let seat : is_seat h.seat ≡ true = (kept.stands.in_order j u there).seats h m in cc));
-      tail_is = sym (kept.stands.words_are word.Tail tt) ∙ ap (λ (l : List ℕ). get_or l 0 0) words ∙ first_word ws tail is;
+      ends = record {
+        core = kept.core;
+        sound = kept.sound;
+        is_view = standing_view s.words s.views kept.core kept.cells kept.holder id v kept.stands final.1.1;
+        opened = kept.opened;
+        others = λ q wordless. kept.others q (λ j u h there m same. absurd (let seat : is_seat h.seat ≡ true = (kept.stands.in_order j u there).seats h m in cc));
+        tail_is = sym (kept.stands.words_are word.Tail tt) ∙ ap (λ (l : List ℕ). get_or l 0 0) words ∙ first_word ws tail is;
+      };
+      lawful = under.lawful;
     }

@@ -7,9 +7,11 @@ pub mod Found
 pub mod Handing
 pub mod Joins
 pub mod Lives
+pub mod Newest
 pub mod Notes
 pub mod Numbered
 pub mod OnePlace
+pub mod Opened
 pub mod Opens
 pub mod Parts
 pub mod Stored

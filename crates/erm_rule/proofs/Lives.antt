@@ -1,5 +1,5 @@
--- The word that a step meets is where its kind says: a version met is attached, and a cell that is stored into is the claim's own.
--- That follows from the step's guard, in a sound state.
+-- The word that a step meets is where its kind says: a version met is attached, or its cell is a spare one, and a cell that is
+-- stored into is the claim's own. That follows from the step's guard, in a sound state.
 use Rattle.std.proofs.Common.{◌≡◌, ℕ, ◌-◌, ◌<◌, ◌≤◌, true, ◌||◌, [], ◌∷◌, length, inl, inr, Option, Some, None, refl, sym, ap, ◌∙◌, subst, arith}
 use Rattle.std.specs.Prelude.{IfSome}
 use Rattle.std.proofs.lemmas.Bool.{and_parts, or_cases, ltb-true}
@@ -25,7 +25,7 @@ use Rattle.erm_machine.specs.Chains.{IsNamed, NamedInHand, CutInHand}
 use Rattle.erm_machine.specs.Core.{Core, Shared, Spot, tail_word, flushed_word, counter_word, begin_word, state_word, entry_word, version_word, own_word, ring_word, no_word, spot_of, word_at, version_at, newest, claim_at, own_words}
 use Rattle.erm_machine.specs.Decided.{MarkInHand, IsRead}
 use Rattle.erm_machine.specs.Facts.{HasBegun, over_of, all_of}
-use Rattle.erm_machine.specs.Reading.{set_reader, load_walked_stamp, load_walked_link, load_cell, swap_link, load_active_stamp}
+use Rattle.erm_machine.specs.Reading.{set_reader, may_load_row, may_copy_row, load_walked_stamp, load_walked_link, load_cell, swap_link, load_detached, load_active_stamp}
 use Rattle.erm_machine.specs.Seat.{is_own, is_active, is_sealed, is_decided, end_of, last_claim, read_at, same_version, no_read}
 use Rattle.erm_machine.specs.Settling.{load_readers, load_settled_stamp, load_stamp, raise_reader, installs, mark_overwritten, clear_reader}
 use Rattle.erm_machine.specs.Snapshot.{InHand, NewerFrom}
@@ -38,7 +38,7 @@ use Rattle.erm_machine.proofs.Listed.{∈-head, ∈-second}
 use Rattle.erm_machine.proofs.QuietKinds.{begun_active, begun_sealed, begun_decided}
 use Rattle.erm_core_cells.proofs.ChainsFrames.{same_name}
 use Rattle.erm_rule.specs.Cells.{word_in, CellsAre, IsTold}
-use Rattle.erm_rule.proofs.OnePlace.{IsLive}
+use Rattle.erm_rule.proofs.OnePlace.{IsLive, live_drawn, own_drawn, spare_counts}
 use Rattle.erm_rule.proofs.Stored.{own_of, stores}
 
 -- the word of a spot is where the spot says
@@ -62,6 +62,38 @@ is_met c cells are (own_word seat claim cell w) live =
     ap (λ (n : ℕ). cell_word w (cells n)) (sym o.cell_is) ∙ ap (cell_word w) ((are.seats seat live.0).owns claim o.own o.is) ∙ sym (ap (λ (q : Option OwnCell). cell_word w (own_words q)) o.is)
 is_met c cells are (ring_word at) live = refl
 is_met c cells are no_word live = tt
+
+-- a version's cell is one of the seat's spare ones, and has the version's link
+pub record IsOff (c : Core) (p : ℕ) (v : VersionAt) : Type 0 where
+  pub seat : p < ANNOUNCERS
+  pub own : OwnCell
+  pub spare : own ∈ (c.seats p).spare
+  pub cell : own.cell ≡ v.cell
+  pub link : own.words.link ≡ (version_at (c.shared.objects v.oid) v.place).words.link
+
+-- the word that a step of this kind meets is where the kind says, or is the link of a version cut off
+abbrev pub Meets : Core → ℕ → Kind → Type 0
+Meets c p (kind.LoadDetached v) = IsOff c p v
+Meets c p k = Lives c (spot_of p k)
+
+-- so the word of the table is what the state says of the word that is met
+pub is_as_met : (c : Core) (p : ℕ) (cells : ℕ → Cell) → CellsAre c cells → (k : Kind) → Meets c p k → IfSome (word_of_spot (spot_of p k)) (λ u. word_in c cells u ≡ word_at c (spot_of p k))
+is_as_met c p cells are (kind.LoadDetached v) off =
+    ap (λ (n : ℕ). cell_word word.Link (cells n)) (sym off.cell) ∙ ap (cell_word word.Link) ((are.seats p off.seat).spares off.own off.spare) ∙ off.link
+is_as_met c p cells are k meets = is_met c cells are (spot_of p k) meets
+
+-- the version of a spot, if it is a version's
+abbrev version_of : Spot → VersionAt → VersionAt
+version_of (version_word v w) u = v
+version_of _ u = u
+
+-- and the cell of the version that is met was drawn
+pub met_drawn : (c : Core) (p : ℕ) → Sound c → (k : Kind) → Meets c p k → (u : VersionAt) (w : CellWord) → spot_of p k ≡ version_word u w → u.cell < c.shared.cell_limit
+met_drawn c p sound (kind.LoadDetached v) off u w is =
+    let cell : off.own.cell ≡ u.cell = off.cell ∙ ap (λ (t : Spot). (version_of t u).cell) is in
+    subst (λ (n : ℕ). n < c.shared.cell_limit) cell
+    (own_drawn c.shared c.seats sound.common.cells off.own.cell p off.seat (spare_counts off.own.cell (c.seats p) off.own off.spare refl)).1
+met_drawn c p sound k meets u w is = (live_drawn c.shared c.seats sound.common.cells u (subst (Lives c) is meets)).1
 
 -- how many claims are over, of a seat that has begun
 over_at : (pl : Place) (t : Task) (n : ℕ) → HasBegun pl → over_of pl t n ≡ over_of (Active 0) t n
@@ -143,15 +175,46 @@ module _ (c : Core) (p : ℕ) (sound : Sound c) where
       when_then (λ _. IsLive s v) _ _ y e (λ g. live_as s v version g (live_attached version named cut.attached))
   walked_link_live found v _ y begun named cut hand e = absurd (cc)
 
-  cell_live : (found : ℕ) (v : VersionAt) (w : CellWord) (y : Part) → IsTold (kind.LoadCell v w) → load_cell found v w x ≡ Some y → IsLive s v
-  cell_live found v word.Stamp y told e =
+  is_read_live : (v : VersionAt) → IsRead x.current v → HasBegun x.place → IsLive s v
+  is_read_live v r begun = subst (λ (u : VersionAt). IsLive s u) r.2 (read_live r.0 r.1 begun)
+
+  last_live : (t : Task) → x.task ≡ t → HasBegun x.place → 0 < length x.current.writes → over_of (Active 0) t (length x.current.writes) ≡ 0 → IsLive s (claim_at x.current (last_claim x.current)).version
+  last_live t at begun some none = claim_live (last_claim x.current) t at begun (last (length x.current.writes) some) (least _ _ none)
+    where
+      last : (n : ℕ) → 0 < n → n - 1 < n
+      last n h = omega (arith, h)
+
+      least : (m n : ℕ) → m ≡ 0 → m ≤ n
+      least m n e = omega (arith, e)
+
+  -- a row is loaded of the version in hand, or to be copied
+  row_live : (v : VersionAt) (t : Task) → HasBegun x.place → NamedInHand s t → InHand s x.current.begin t → MarkInHand s x.current t → may_load_row v t ≡ true → IsLive s v
+  row_live v (task.Found version stamp head) begun named hand mark g = live_as s v version g (live_newer version named begun hand.newer)
+  row_live v (task.Registered version) begun named hand mark g = live_as s v version g (is_read_live version mark begun)
+  row_live v (task.Overtaken version overwriter) begun named hand mark g = live_as s v version g (is_read_live version mark.2 begun)
+  row_live v (task.Rated version) begun named hand mark g = live_as s v version g (is_read_live version mark begun)
+  row_live v _ begun named hand mark g = absurd (cc)
+
+  copied_live : (v : VersionAt) (t : Task) → x.task ≡ t → HasBegun x.place → IsBounded p x.current t → may_copy_row v x t ≡ true → IsLive s v
+  copied_live v (task.Copies w) at begun bounded g = live_as s v _ g (last_live (task.Copies w) at begun bounded.0 refl)
+  copied_live v _ at begun bounded g = absurd (cc)
+
+  cell_live : (found : ℕ) (v : VersionAt) (w : CellWord) (y : Part) → load_cell found v w x ≡ Some y → IsLive s v
+  cell_live found v word.Stamp y e =
       if_then (λ _. IsLive s v) (is_active x.place) (load_walked_stamp found v x x.task) None y e
       (λ active h. walked_stamp_live found v x.task y (begun_active x.place active) (sound.own p).chains.named (sound.own p).chains.cut (sound.own p).snapshot.in_hand h) (λ _ h. absurd (cc))
-  cell_live found v word.Link y told e =
+  cell_live found v word.Link y e =
       if_then (λ _. IsLive s v) (is_active x.place) (load_walked_link found v x x.task) None y e
       (λ active h. walked_link_live found v x.task y (begun_active x.place active) (sound.own p).chains.named (sound.own p).chains.cut (sound.own p).snapshot.in_hand h) (λ _ h. absurd (cc))
-  cell_live found v (word.Row k) y told e = absurd told
-  cell_live found v _ y told e = absurd (cc)
+  cell_live found v (word.Row k) y e =
+      when_then (λ _. IsLive s v) _ _ y e (λ g.
+      let parts = and_parts _ _ g in
+      let begun = begun_active x.place parts.0 in
+      elim (or_cases (may_load_row v x.task) (may_copy_row v x x.task) parts.1) [
+        | inl loaded ↦ row_live v x.task begun (sound.own p).chains.named (sound.own p).snapshot.in_hand (sound.own p).decided.in_hand loaded
+        | inr copied ↦ copied_live v x.task refl begun (sound.own p).bounds.bounded copied
+      ])
+  cell_live found v _ y e = absurd (cc)
 
   reader_live : (v : VersionAt) (t : Task) (y : Part) → NamedInHand s t → InHand s x.current.begin t → set_reader p v (s.objects v.oid) x t ≡ Some y → IsLive s v
   reader_live v (task.Found version stamp head) y named hand e =
@@ -165,17 +228,13 @@ module _ (c : Core) (p : ℕ) (sound : Sound c) where
       when_then (λ _. IsLive s v) _ _ y e (λ g. live_as s v version (and_parts _ _ g).1 (live_attached version named cut.0.attached))
   swap_live found v _ y named cut e = absurd (cc)
 
-  is_read_live : (v : VersionAt) → IsRead x.current v → HasBegun x.place → IsLive s v
-  is_read_live v r begun = subst (λ (u : VersionAt). IsLive s u) r.2 (read_live r.0 r.1 begun)
-
-  last_live : (t : Task) → x.task ≡ t → HasBegun x.place → 0 < length x.current.writes → over_of (Active 0) t (length x.current.writes) ≡ 0 → IsLive s (claim_at x.current (last_claim x.current)).version
-  last_live t at begun some none = claim_live (last_claim x.current) t at begun (last (length x.current.writes) some) (least _ _ none)
-    where
-      last : (n : ℕ) → 0 < n → n - 1 < n
-      last n h = omega (arith, h)
-
-      least : (m n : ℕ) → m ≡ 0 → m ≤ n
-      least m n e = omega (arith, e)
+  detached_off : (found : ℕ) (v : VersionAt) (t : Task) (y : Part) → p < ANNOUNCERS → NamedInHand s t → CutInHand s x t → load_detached found v x t ≡ Some y → IsOff c p v
+  detached_off found v (task.Detaches version) y seat named cut e =
+      when_then (λ _. IsOff c p v) _ _ y e (λ g.
+      let off = cut.spare version.place cut.below (omega arith) in
+      subst (IsOff c p) (sym (same_name v version (and_parts _ _ g).1))
+      (record { seat = seat; own = off.own; spare = off.spare; cell = off.cell ∙ named.cell; link = off.link }))
+  detached_off found v _ y seat named cut e = absurd (cc)
 
   active_stamp_live : (found : ℕ) (v : VersionAt) (w : CellWord) (t : Task) (y : Part) → x.task ≡ t → HasBegun x.place → MarkInHand s x.current t → WantsCell x t
       → load_active_stamp found v w x t ≡ Some y → IsLive s v
@@ -244,10 +303,10 @@ module _ (c : Core) (p : ℕ) (sound : Sound c) where
       let low = and_parts _ _ (and_parts _ _ same.0).0 in
       live_as s v _ same.1 (read_live i.3 (ltb-true _ _ low.1) (begun_ending x.place (and_parts _ _ low.0).0)))
 
-  pub lives : (k : Kind) (found : ℕ) (y : Part) → p < ANNOUNCERS → IsTold k → part_after p k found s x ≡ Some y → Lives c (spot_of p k)
+  pub lives : (k : Kind) (found : ℕ) (y : Part) → p < ANNOUNCERS → IsTold k → part_after p k found s x ≡ Some y → Meets c p k
   lives (kind.Split other) found y seat told e = absurd told
   lives (kind.Join other) found y seat told e = absurd told
-  lives (kind.LoadCell v w) found y seat told e = cell_live found v w y told (unless_some _ _ y e)
+  lives (kind.LoadCell v w) found y seat told e = cell_live found v w y (unless_some _ _ y e)
   lives (kind.StoreCell place cell w value) found y seat told e = (seat, (stores place cell w value x y e).own)
   lives (kind.SetReader v) found y seat told e = reader_live v x.task y (sound.own p).chains.named (sound.own p).snapshot.in_hand e
   lives (kind.ClearReader v) found y seat told e = clear_live v (end_of x.task) y e
@@ -257,5 +316,5 @@ module _ (c : Core) (p : ℕ) (sound : Sound c) where
   lives (kind.StoreSucc v value) found y seat told e = mark_live 6 v value x.current.succ x.task y refl e
   lives (kind.StoreOverwriter v value) found y seat told e = mark_live 7 v value x.current.stamp x.task y refl e
   lives (kind.SwapLink v) found y seat told e = swap_live found v x.task y (sound.own p).chains.named (sound.own p).chains.cut e
-  lives (kind.LoadDetached v) found y seat told e = absurd told
+  lives (kind.LoadDetached v) found y seat told e = detached_off found v x.task y seat (sound.own p).chains.named (sound.own p).chains.cut e
   lives _ found y seat told e = tt

@@ -1,5 +1,5 @@
 -- Where a sound state has the view's parts, the cell of the version that a step meets is one of the table's.
-use Rattle.std.proofs.Common.{◌≡◌, ℕ, ◌<◌, true, sym, ap, ◌∙◌, subst, arith}
+use Rattle.std.proofs.Common.{◌≡◌, ℕ, ◌<◌, true, sym, ap, ◌∙◌, subst}
 use Rattle.std.specs.Prelude.{IsSome}
 use Rattle.erm_layout.specs.declared.word.Word.TheVariants as table
 use Rattle.erm_layout.specs.Layout.{HasNumber, IsInCell}
@@ -8,19 +8,17 @@ use Rattle.erm_machine.specs.declared.event.Kind.{Kind}
 use Rattle.erm_machine.specs.declared.version.CellWord.{CellWord}
 use Rattle.erm_machine.specs.declared.version.CellWord.TheVariants as word
 use Rattle.erm_machine.specs.declared.version.VersionAt.{VersionAt}
-use Rattle.erm_machine.specs.Core.{Spot, version_word, spot_of, word_at}
+use Rattle.erm_machine.specs.Core.{version_word, spot_of, word_at}
 use Rattle.erm_machine.specs.Step.{part_after, has_word}
 use Rattle.erm_machine.specs.Words.{is_seat}
 use Rattle.std.proofs.lemmas.Bool.{ltb-true}
-use Rattle.erm_model.specs.declared.limits.TheConstants.{TABLE_CELLS}
 use Rattle.erm_rule.specs.declared.view.View.{View}
 use Rattle.erm_rule.specs.Cells.{IsTold}
 use Rattle.erm_rule.specs.Hands.{IsKnown}
 use Rattle.erm_rule.specs.Steps.{Ready, Told}
 use Rattle.erm_rule.specs.Views.{part_in, IsInOrder}
 use Rattle.erm_rule.proofs.Allowed.{of_seat, some_of}
-use Rattle.erm_rule.proofs.Lives.{Lives, lives}
-use Rattle.erm_rule.proofs.OnePlace.{IsLive, live_drawn}
+use Rattle.erm_rule.proofs.Lives.{Meets, met_drawn, lives}
 use Rattle.erm_rule.proofs.Parts.{found_among, order_after}
 
 -- each step leaves a view that is one of a sound state
@@ -28,6 +26,7 @@ pub known_after : (v : View) (who : ℕ) (k : Kind) (found : ℕ) (w : View) →
 known_after v who k found w told = record {
   core = told.after;
   sound = told.sound_after;
+  cuts = told.cuts_after;
   is_view = told.is_view_after;
   limit = told.limit_after;
   in_order = subst IsInOrder (sym told.view_is) (order_after who told.part v told.in_order);
@@ -45,18 +44,11 @@ module _ (v : View) (who : ℕ) (k : Kind) (known : IsKnown v) (has : IsSome (pa
       let h = found_among who v.held x.0 x.1 in
       of_seat who (ap is_seat (sym h.2) ∙ known.in_order.seats h.0 h.1)
 
-  pub known_live : Lives known.core (spot_of who k)
-  known_live =
+  pub known_met : Meets known.core who k
+  known_met =
       let c = known.core in
       let y = some_of (part_after who k (word_at c (spot_of who k)) c.shared (c.seats who)) (ready c known.sound known.is_view) in
       lives c who known.sound k (word_at c (spot_of who k)) y.0 known_seat told y.1
 
-  -- a live version's cell
-  live_small : (u : VersionAt) → IsLive known.core.shared u → u.cell < TABLE_CELLS
-  live_small u live = below _ _ _ (live_drawn known.core.shared known.core.seats known.sound.common.cells u live).1 known.limit
-    where
-      below : (n m k : ℕ) → n < m → m ≡ k → n < k
-      below n m k lt e = omega (arith, lt, e)
-
   pub numbered : (u : VersionAt) (w : CellWord) → spot_of who k ≡ version_word u w → IsInCell w → HasNumber (table.Cell u.cell w)
-  numbered u w is within = (live_small u (subst (λ (t : Spot). Lives known.core t) is known_live), within)
+  numbered u w is within = (subst (λ n. u.cell < n) known.limit (met_drawn known.core who known.sound k known_met u w is), within)

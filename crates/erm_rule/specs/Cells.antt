@@ -58,11 +58,8 @@ cells_after (kind.StoreOverwriter v value) n cells = change v.cell word.Overwrit
 cells_after (kind.SwapLink v) n cells = change v.cell word.Link n cells
 cells_after _ n cells = cells
 
--- The kinds whose steps on words are told of. Splits and joins meet no word. Of the rows of versions, and of the links of those
--- cut off, a sound state doesn't say in each case that their cells are still theirs.
+-- The kinds whose steps on words are told of: splits and joins meet no word.
 abbrev pub IsTold : Kind → Type 0
 IsTold (kind.Split other) = ⊥
 IsTold (kind.Join other) = ⊥
-IsTold (kind.LoadCell v (word.Row k)) = ⊥
-IsTold (kind.LoadDetached v) = ⊥
 IsTold _ = Unit {0}

@@ -11,13 +11,16 @@ use Rattle.erm_machine.specs.declared.version.VersionAt.{VersionAt}
 use Rattle.erm_machine.specs.Core.{Core, no_claim}
 use Rattle.erm_machine.specs.Sound.{Sound}
 use Rattle.erm_rule.specs.declared.view.View.{View}
+use Rattle.erm_rule.specs.Newest.{CutsAtNewest}
 use Rattle.erm_rule.specs.Views.{IsView, IsInOrder}
 
 -- There is a sound state, with the table's cells, in which the view's seats have its parts, and the view is in order. So what
--- every sound state says of these seats is so of the view's parts.
+-- every sound state says of these seats is so of the view's parts. Each cut in progress then cuts behind the newest version below its
+-- horizon.
 pub record IsKnown (v : View) : Type 0 where
   pub core : Core
   pub sound : Sound core
+  pub cuts : CutsAtNewest core
   pub is_view : IsView v core
   pub limit : core.shared.cell_limit ≡ TABLE_CELLS
   pub in_order : IsInOrder v

@@ -1,5 +1,6 @@
 pub mod Cells
 pub mod Hands
+pub mod Newest
 pub mod Rule
 pub mod Steps
 pub mod Views

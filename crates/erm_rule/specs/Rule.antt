@@ -1,19 +1,24 @@
 -- The rule: the words and the views of all passes stand for a sound state of the machine.
-use Rattle.std.specs.Prelude.{◌≡◌, ◌≢◌, ◌⊎◌, ℕ, ◌+◌, ◌-◌, ◌<◌, ◌≤◌, take, zero, suc, List, [], ◌∷◌, length, slice_index}
+use Rattle.std.specs.Prelude.{◌≡◌, ◌≢◌, ℕ, ◌+◌, ◌-◌, take, zero, suc, List, [], ◌∷◌, length, replicate, slice_index, slice_index_or}
 use mathlib.Core.Option.{some}
 use lib.ListN.{get_elem?}
 use Rattle.atomic_table.specs.Table.{State}
 use Rattle.erm_model.specs.Member.{◌∈◌}
 use Rattle.erm_model.specs.declared.limits.TheConstants.{TABLE_CELLS}
-use Rattle.erm_layout.specs.declared.limits.TheConstants.{CELLS_FROM, ENTRIES_FROM, WORDS}
+use Rattle.erm_model.specs.RowTransaction.{Law, SameRows}
+use Rattle.erm_model.specs.Rows.{Rows, rows_of}
+use Rattle.erm_layout.specs.declared.limits.TheConstants.{WORDS}
 use Rattle.erm_layout.specs.declared.word.Word.{Word}
 use Rattle.erm_layout.specs.Layout.{HasNumber, index_of}
-use Rattle.erm_machine.specs.declared.limits.TheConstants.{FLUSH_SEAT, OBJECT_LIMIT, SESSIONS}
+use Rattle.erm_machine.specs.declared.limits.TheConstants.{FLUSH_SEAT, SESSIONS}
 use Rattle.erm_machine.specs.declared.place.Place.TheVariants.{Vacant, Idle}
 use Rattle.erm_machine.specs.declared.version.Cell.{Cell}
-use Rattle.erm_machine.specs.Core.{Core, fresh_part}
+use Rattle.erm_machine.specs.Core.{Core, Shared, fresh_part, opening_state}
+use Rattle.erm_machine.specs.Lawful.{Lawful, opening_rows}
 use Rattle.erm_machine.specs.Sound.{Sound}
+use Rattle.erm_machine.specs.Words.{blank_cell}
 use Rattle.erm_rule.specs.Cells.{word_in, CellsAre}
+use Rattle.erm_rule.specs.Newest.{CutsAtNewest}
 use Rattle.erm_rule.specs.declared.view.Held.{Held}
 use Rattle.erm_rule.specs.declared.view.Opening.{Opening}
 use Rattle.erm_rule.specs.declared.view.View.{View}
@@ -34,8 +39,16 @@ pub record Stands (words : List ℕ) (views : List View) (c : Core) (cells : ℕ
 abbrev pub HeldByNone : List View → ℕ → Type 0
 HeldByNone views q = (id : ℕ) (v : View) (h : Held) → get_elem? views id ≡ some v → h ∈ v.held → h.seat ≢ q
 
--- Some sound state of this opening, with the table's cells, for which the table stands. A seat that no view has is one that has
--- done nothing.
+-- What of a state is the opening's for ever: where its log begins, its run, the number of the first object to make, and the rows
+-- of the versions found at opening.
+pub record IsOpened (opening : Opening) (s : Shared) : Type 0 where
+  pub tail : s.opening ≡ opening.tail
+  pub run : s.run ≡ opening.run
+  pub first : s.first ≡ opening.first
+  pub rows : SameRows (rows_of opening.rows.items) (opening_rows s)
+
+-- Some sound state of this opening, with the table's cells, for which the table stands, and in which each cut in progress cuts
+-- behind the newest version below its horizon. A seat that no view has is one that has done nothing.
 pub record Kept (opening : Opening) (s : State (Unit {0}) View) : Type 0 where
   pub core : Core
   pub cells : ℕ → Cell
@@ -43,8 +56,14 @@ pub record Kept (opening : Opening) (s : State (Unit {0}) View) : Type 0 where
   pub stands : Stands s.words s.views core cells holder
   pub others : (q : ℕ) → HeldByNone s.views q → core.seats q ≡ fresh_part Vacant opening.run opening.tail
   pub sound : Sound core
-  pub opened : core.shared.opening ≡ opening.tail
+  pub cuts : CutsAtNewest core
+  pub opened : IsOpened opening core.shared
   pub limit : core.shared.cell_limit ≡ TABLE_CELLS
+
+-- the same, and the state's rows keep the law
+pub record KeptUnder (law : Law) (opening : Opening) (s : State (Unit {0}) View) : Type 0 where
+  pub kept : Kept opening s
+  pub lawful : Lawful law kept.core.shared kept.core.seats
 
 -- the sessions from a number down to 1, all vacant
 abbrev pub vacant_from : Opening → ℕ → List Held
@@ -69,20 +88,19 @@ pub record HandsOut (opening : Opening) (given : ℕ) : Type 0 where
   pub left : left_of (rest_view opening given) ≡ rest_view opening (given + 1)
   pub right : right_of (rest_view opening given) ≡ session_view opening (given + 1)
 
--- the word of this number is zero when the table is made
-abbrev pub IsZeroAtFirst : ℕ → Type 0
-IsZeroAtFirst i = (2 ≤ i) × (i ≢ 3) × ((i < ENTRIES_FROM) ⊎ (CELLS_FROM ≤ i))
+-- the rows of an opening, and zeros for numbers above those of its objects
+abbrev pub first_rows : Opening → Rows
+first_rows opening oid = slice_index_or opening.rows.items oid (replicate 16 0)
 
--- The words when the table is made, with the entries of the objects below a number: the log ends where it begins, all of it is
--- synced, each entry names the cell of the same number, the cells of all objects are drawn, and the rest is zeros.
-pub record IsFirstUpTo (tail upto : ℕ) (words : List ℕ) : Type 0 where
+-- the state of an opening, with the table's cells: no session is taken
+abbrev pub first_core : Opening → Core
+first_core opening = opening_state 0 (first_rows opening) opening.tail opening.run opening.first TABLE_CELLS
+
+-- what each cell holds then: those of the objects have their rows
+abbrev pub first_cells : Opening → ℕ → Cell
+first_cells opening cell = record blank_cell { row = first_rows opening cell }
+
+-- these are the words of that state
+pub record IsFirst (opening : Opening) (words : List ℕ) : Type 0 where
   pub count : length words ≡ WORDS
-  pub tail_is : slice_index words 0 ≡ tail
-  pub flushed_is : slice_index words 1 ≡ tail
-  pub drawn_is : slice_index words 3 ≡ OBJECT_LIMIT
-  pub entries : (oid : ℕ) → oid < upto → slice_index words (ENTRIES_FROM + oid) ≡ oid
-  pub others : (i : ℕ) → IsZeroAtFirst i → slice_index words i ≡ 0
-
--- with the entries of all objects
-abbrev pub IsFirst : ℕ → List ℕ → Type 0
-IsFirst tail words = IsFirstUpTo tail OBJECT_LIMIT words
+  pub words_are : (w : Word) → HasNumber w → slice_index words (index_of w) ≡ word_in (first_core opening) (first_cells opening) w

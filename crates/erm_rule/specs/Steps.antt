@@ -3,17 +3,24 @@ use Rattle.std.specs.Prelude.{◌≡◌, ℕ, false, [], Some, IsSome}
 use Rattle.atomic_table.specs.declared.shared.Seat.{Seat}
 use Rattle.atomic_table.specs.Seated.{TableId}
 use Rattle.erm_model.specs.declared.limits.TheConstants.{TABLE_CELLS}
+use Rattle.erm_model.specs.Lawful.{IsLawfulRecord}
+use Rattle.erm_model.specs.RowTransaction.{Law}
 use Rattle.erm_layout.specs.declared.limits.TheConstants.{WORDS}
 use Rattle.erm_machine.specs.declared.event.Kind.{Kind}
+use Rattle.erm_machine.specs.declared.event.Kind.TheVariants as kind
 use Rattle.erm_machine.specs.declared.part.Part.{Part}
 use Rattle.erm_machine.specs.declared.place.Place.TheVariants.{Vacant}
 use Rattle.erm_machine.specs.Core.{Core, spot_of, word_at, fresh_part}
+use Rattle.erm_machine.specs.Decided.{record_of}
+use Rattle.erm_machine.specs.Lawful.{Lawful}
 use Rattle.erm_machine.specs.Sound.{Sound}
 use Rattle.erm_machine.specs.Step.{part_after, stored, after_event}
 use Rattle.erm_machine.specs.Words.{is_seat}
 use Rattle.erm_rule.specs.declared.view.Opening.{Opening}
 use Rattle.erm_rule.specs.declared.view.View.{View}
-use Rattle.erm_rule.specs.Views.{with_part, IsView, IsInOrder}
+use Rattle.erm_rule.specs.Newest.{CutsAtNewest}
+use Rattle.erm_rule.specs.Rule.{IsOpened}
+use Rattle.erm_rule.specs.Views.{part_of, with_part, IsView, IsInOrder}
 
 -- the pass is one of this table, which has all words and no slots
 pub record Fits (table : TableId) (p : Seat (Unit {0}) View) : Type 0 where
@@ -32,11 +39,17 @@ Agrees v who kind f =
     (c : Core) → Sound c → IsView v c → IsSome (part_after who kind (word_at c (spot_of who kind)) c.shared (c.seats who))
     → f (word_at c (spot_of who kind)) ≡ stored who kind (word_at c (spot_of who kind))
 
+-- The caller's promise: a step that draws a range of the log draws it for a lawful transaction.
+abbrev pub Promises : Law → View → ℕ → Kind → Type 0
+Promises law v who (kind.AddTail size) = IsLawfulRecord law (record_of who (part_of v who).current)
+Promises law v who _ = Unit {0}
+
 -- A step of a seat, from a sound state with the parts of the view before to one with those of the view after: the word
--- found, and the seat's part after.
+-- found, and the seat's part after. In both states each cut in progress cuts behind the newest version below its horizon.
 pub record Told (v : View) (who : ℕ) (kind : Kind) (found : ℕ) (w : View) : Type 0 where
   pub before : Core
   pub sound : Sound before
+  pub cuts : CutsAtNewest before
   pub is_view : IsView v before
   pub in_order : IsInOrder v
   pub limit : before.shared.cell_limit ≡ TABLE_CELLS
@@ -47,8 +60,15 @@ pub record Told (v : View) (who : ℕ) (kind : Kind) (found : ℕ) (w : View) : 
   pub after : Core
   pub event : after_event before who kind ≡ Some after
   pub sound_after : Sound after
+  pub cuts_after : CutsAtNewest after
   pub is_view_after : IsView w after
   pub limit_after : after.shared.cell_limit ≡ TABLE_CELLS
+
+-- A step that is told, between states whose rows keep the law.
+pub record ToldUnder (law : Law) (v : View) (who : ℕ) (kind : Kind) (found : ℕ) (w : View) : Type 0 where
+  pub told : Told v who kind found w
+  pub lawful : Lawful law told.before.shared told.before.seats
+  pub lawful_after : Lawful law told.after.shared told.after.seats
 
 -- The table's last state: a sound one of its opening, in which the seats of the view have its parts, with this tail. A seat
 -- without words, which no view can have, is one that has done nothing.
@@ -56,6 +76,11 @@ pub record Ends (o : Opening) (v : View) (tail : ℕ) : Type 0 where
   pub core : Core
   pub sound : Sound core
   pub is_view : IsView v core
-  pub opened : core.shared.opening ≡ o.tail
+  pub opened : IsOpened o core.shared
   pub tail_is : core.shared.tail ≡ tail
   pub others : (q : ℕ) → is_seat q ≡ false → core.seats q ≡ fresh_part Vacant o.run o.tail
+
+-- the table's last state, whose rows keep the law
+pub record EndsUnder (law : Law) (o : Opening) (v : View) (tail : ℕ) : Type 0 where
+  pub ends : Ends o v tail
+  pub lawful : Lawful law ends.core.shared ends.core.seats

@@ -9,6 +9,7 @@ mod plays;
 mod rule;
 mod steps;
 mod view;
+mod words;
 
 pub use laws::{notes_are_kept, notes_hold, sessions_are_handed_out};
 pub use life::{add_tail, load_begin, load_state, load_tail, store_begin, store_state};

@@ -2,6 +2,7 @@
 use crate::view::View;
 use atomic_table::{Join, Play, Split};
 use erm_machine::Kind;
+use erm_model::RowLaw;
 use std::marker::{Brand, PhantomData};
 
 /// Which seat steps, and which kind of step it takes: for proofs alone.
@@ -23,27 +24,27 @@ impl Deed for Brand {
 }
 
 /// The step is one of the machine, and the word is the one that it met.
-pub(crate) struct Finds<M> {
-    deed: PhantomData<M>,
+pub(crate) struct Finds<L, M> {
+    of: PhantomData<(L, M)>,
 }
 
-impl<M: Deed> Play<(), View> for Finds<M> {
+impl<L: RowLaw, M: Deed> Play<(), View> for Finds<L, M> {
     ghost use Rattle.std.specs.Prelude.{◌≡◌};
-    ghost use Rattle.erm_rule.specs.Steps.{Told};
+    ghost use Rattle.erm_rule.specs.Steps.{ToldUnder};
 
-    ghost then = { λ _ me found after. Told me.0 M.seat M.kind found after.0 × (after.1 ≡ me.1) };
+    ghost then = { λ _ me found after. ToldUnder L.law me.0 M.seat M.kind found after.0 × (after.1 ≡ me.1) };
 }
 
 /// The step is one of the machine. The word that it met isn't told.
-pub(crate) struct Stores<M> {
-    deed: PhantomData<M>,
+pub(crate) struct Stores<L, M> {
+    of: PhantomData<(L, M)>,
 }
 
-impl<M: Deed> Play<(), View> for Stores<M> {
+impl<L: RowLaw, M: Deed> Play<(), View> for Stores<L, M> {
     ghost use Rattle.std.specs.Prelude.{◌≡◌, ℕ};
-    ghost use Rattle.erm_rule.specs.Steps.{Told};
+    ghost use Rattle.erm_rule.specs.Steps.{ToldUnder};
 
-    ghost then = { λ _ me _ after. ((found : ℕ) × Told me.0 M.seat M.kind found after.0) × (after.1 ≡ me.1) };
+    ghost then = { λ _ me _ after. ((found : ℕ) × ToldUnder L.law me.0 M.seat M.kind found after.0) × (after.1 ≡ me.1) };
 }
 
 /// A pass hands out its last seat.

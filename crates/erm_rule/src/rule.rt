@@ -1,21 +1,28 @@
 //! The rule of the table's words.
 use crate::view::{Opening, View};
 use atomic_table::{Seat, TableRule};
+use erm_model::RowLaw;
 use std::alloc::Global;
+use std::marker::PhantomData;
 
-/// The words and the views of all passes stand for a sound state of the machine.
-pub struct Standing;
+/// The words and the views of all passes stand for a sound state of the machine, whose rows keep the law `L`.
+pub struct Standing<L> {
+    law: PhantomData<L>,
+}
 
-impl TableRule<(), View, Opening> for Standing {
-    ghost use Rattle.erm_rule.specs.Rule.{Kept, first_view};
+impl<L: RowLaw> TableRule<(), View, Opening> for Standing<L> {
+    ghost use Rattle.erm_rule.specs.Rule.{KeptUnder, first_view};
 
-    ghost holds = { Kept };
+    ghost holds = { KeptUnder L.law };
 
     ghost first = { first_view };
 }
 
-/// The words that all seats share.
-pub type Table = atomic_table::Table<(), View, Opening, Standing, Global>;
+/// The words that all seats share. Nothing but the steps of this crate can change them.
+#[derive(Drop)]
+pub struct Table<L: RowLaw> {
+    pub(crate) words: atomic_table::Table<(), View, Opening, Standing<L>, Global>,
+}
 
 /// The right to step for some seats. It has no bytes.
 pub type Pass = Seat<(), View>;

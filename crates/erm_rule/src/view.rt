@@ -1,6 +1,6 @@
 //! What a pass knows of the machine.
 use erm_machine::Part;
-use erm_model::{Seat, Stamp};
+use erm_model::{Oid, Row, Seat, Stamp};
 use std::collections::LinkedList;
 
 /// A seat that a pass has, with what the seat keeps. No value of it is made.
@@ -14,9 +14,12 @@ pub struct View {
     pub held: LinkedList<Held>,
 }
 
-/// What the table is told when it is made: where the log of this opening begins, and which run of the log it is.
-#[derive(Clone, Copy)]
+/// What the table is told when it is made: where the log of this opening begins, which run of the log it is, the number of the
+/// first object to make, and the rows of all objects.
+#[derive(Drop)]
 pub struct Opening {
     pub tail: Stamp,
     pub run: u64,
+    pub first: Oid,
+    pub rows: Vec<Row>,
 }

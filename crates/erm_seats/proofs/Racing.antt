@@ -11,7 +11,10 @@ use Rattle.erm_machine.specs.Core.{Core, fresh_part}
 use Rattle.erm_machine.specs.Seat.{has_number, is_active, is_vacant, may_start}
 use Rattle.erm_machine.specs.Sound.{Sound}
 use Rattle.erm_machine.specs.Words.{is_flusher}
+use Rattle.erm_model.specs.declared.history.TransactionRecord.{TransactionRecord}
+use Rattle.erm_model.specs.Lawful.{IsLawfulRecord}
 use Rattle.erm_model.specs.Member.{◌∈◌}
+use Rattle.erm_model.specs.RowTransaction.{any_law}
 use Rattle.erm_rule.specs.declared.view.Opening.{Opening}
 use Rattle.erm_rule.specs.declared.view.View.{View}
 use Rattle.erm_rule.specs.Rule.{first_view, rest_view, HandsOut}
@@ -212,7 +215,7 @@ have_raced o size tail begin stamp answer begin_too stamp_too answer_too v w u a
     record {
       core = ends.core;
       sound = ends.sound;
-      opened = ends.opened;
+      opened = ends.opened.tail;
       tail_is = ends.tail_is;
       announced = one.announced;
       announced_too = two.announced;
@@ -274,3 +277,7 @@ module _ (first : (o : Opening) → rest_view o 0 ≡ first_view o) (more : (o :
 
     pub rest_given : (u : View) → u ≡ left_of w → u ≡ rest_view o 2
     rest_given u e = e ∙ ap left_of from_one ∙ (more o 1 (omega arith)).left
+
+-- every transaction keeps the law that all rows meet
+pub any_lawful : (t : TransactionRecord) → IsLawfulRecord any_law t
+any_lawful t = record { meets = λ rows fits. tt; reach = λ rows x fits. omega arith }

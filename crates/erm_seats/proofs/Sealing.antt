@@ -11,15 +11,18 @@ use Rattle.erm_machine.specs.declared.place.Place.{Place}
 use Rattle.erm_machine.specs.declared.place.Place.TheVariants.{Active, Sealing, Drawn}
 use Rattle.erm_machine.specs.declared.task.Task.TheVariants.{Rest}
 use Rattle.erm_machine.specs.Begins.{BeginsAt}
+use Rattle.erm_machine.specs.Decided.{record_of}
 use Rattle.erm_machine.specs.Life.{store_state}
 use Rattle.erm_machine.specs.Seat.{is_active, is_vacant, may_start, with_range}
 use Rattle.erm_machine.specs.Words.{begin_of, is_session}
+use Rattle.erm_model.specs.Lawful.{IsLawfulRecord}
 use Rattle.erm_model.specs.Member.{◌∈◌}
+use Rattle.erm_model.specs.RowTransaction.{Law}
 use Rattle.erm_rule.specs.declared.view.View.{View}
 use Rattle.erm_rule.specs.Steps.{Ready, Told}
 use Rattle.erm_rule.specs.Views.{part_in, part_of, with_part}
 use Rattle.erm_rule.proofs.Numbered.{known_after}
-use Rattle.erm_rule.proofs.Telling.{held_part, ready_by, told_first, told_after, changed_here, changed_other}
+use Rattle.erm_rule.proofs.Telling.{held_part, ready_by, told_first, told_after, changed_here, changed_other, part_of-changed}
 use Rattle.erm_seats.specs.Calls.{sealed_part, DidSeal, IsPastSeen}
 use Rattle.erm_seats.proofs.Beginning.{some_when, when_is}
 use Rattle.erm_seats.proofs.Stamps.{over_below, tail_positive, view_below}
@@ -56,6 +59,10 @@ module _ (v : View) (who : ℕ) (x : Part) (has : part_in v who ≡ Some x) (ses
         (λ s z e. when_is (is_session who && may_start x.task) (sealing_part x) z (subst (λ (pl : Place). store_state who 1 x pl ≡ Some z) (active_is x.place active) e))
 
   module _ (size : ℕ) (least : LEAST_BLOCK ≤ size) (greatest : size ≤ GREATEST_BLOCK) (w : View) (is : w ≡ with_part who (sealing_part x) v) where
+    -- the transaction is the one before the seal
+    pub still_lawful : (law : Law) → IsLawfulRecord law (record_of who x.current) → IsLawfulRecord law (record_of who (part_of w who).current)
+    still_lawful law lawful = subst (λ (z : Part). IsLawfulRecord law (record_of who z.current)) (sym (part_of-changed v who w (sealing_part x) x has is)) lawful
+
     pub ready_draw : Ready w who (kind.AddTail size)
     ready_draw =
         ready_by w who (kind.AddTail size) (sealing_part x) (changed_here v who w (sealing_part x) x has is)

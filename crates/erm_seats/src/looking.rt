@@ -7,17 +7,17 @@ ghost use Rattle.erm_rule.specs.Views.{view, part_of};
 ghost use Rattle.erm_seats.specs.Calls.{DidLook, OnClear, StaysClear};
 
 use crate::answer::Look;
-use erm_model::{Seat, Stamp};
+use erm_model::{RowLaw, Seat, Stamp};
 use erm_rule::{Pass, Table, load_state};
 
 /// Looks at another seat with a bound that is at most a tail that the own seat has seen.
-pub fn look(t: &Table, p: &mut Pass, who: Seat, seat: Seat, bound: Stamp) -> Look
-    requires fits { Fits t.now.shared.table_id p.old }
+pub fn look<L: RowLaw>(t: &Table<L>, p: &mut Pass, who: Seat, seat: Seat, bound: Stamp) -> Look
+    requires fits { Fits t.now.words.shared.table_id p.old }
     requires taken { is_vacant (part_of (view p.old) who).place ≡ false }
     requires other { seat ≢ who }
     requires seat { is_seat seat ≡ true }
     requires bound { bound ≤ (part_of (view p.old) who).seen }
-    ensures fits { Fits t.now.shared.table_id p.new }
+    ensures fits { Fits t.now.words.shared.table_id p.new }
     ensures looked { DidLook (view p.old) who seat bound result (view p.new) }
     ensures stays { OnClear result (StaysClear who seat bound (part_of (view p.new) who).clear) }
 {

@@ -1,4 +1,4 @@
-ghost use Rattle.std.specs.Prelude.{◌≡◌, ◌≢◌, ◌+◌, ◌<◌, ◌≤◌, ◌⊎◌, true, IfOk, IfNone, IfSome};
+ghost use Rattle.std.specs.Prelude.{◌≡◌, ◌≢◌, ◌+◌, ◌<◌, ◌≤◌, ◌⊎◌, true, vec_len, IfOk, IfNone, IfSome};
 ghost use Rattle.erm_machine.specs.Words.{is_session};
 ghost use Rattle.erm_rule.specs.Rule.{rest_view};
 ghost use Rattle.erm_rule.specs.Steps.{Fits};
@@ -7,20 +7,40 @@ ghost use Rattle.erm_seats.specs.Race.{idle_part, HasRun, HasStopped, HaveRaced}
 
 use crate::answer::{BeginStop, Look};
 use crate::{begin_steps, look, seal_steps};
-use erm_machine::{FLUSH_SEAT, GREATEST_BLOCK, LEAST_BLOCK, STOP};
-use erm_model::{Seat, Stamp};
-use erm_rule::{Opening, Pass, Table, close, join, open, sessions_are_handed_out, split};
+use erm_machine::{FLUSH_SEAT, GREATEST_BLOCK, LEAST_BLOCK, OBJECT_LIMIT, STOP};
+use erm_model::{AnyRows, ROW_WORDS, Seat, Stamp};
+use erm_rule::{Opening, Pass, close, join, open, sessions_are_handed_out, split};
 use std::alloc::{AllocError, Global};
 use std::test::Fail;
 use std::thread;
 use std::thread::Threads;
 
+// A table whose rows may be any.
+type Table = erm_rule::Table<AnyRows>;
+
+// An opening on rows of zeros, whose log begins at this tail.
+fn opening_at(alloc: Global, tail: Stamp) -> Result<Opening, AllocError>
+    ensures tail { IfOk result (λ o. o.tail ≡ tail) }
+    ensures first { IfOk result (λ o. o.first ≤ OBJECT_LIMIT) }
+    ensures rows { IfOk result (λ o. vec_len o.rows ≡ OBJECT_LIMIT) }
+{
+    let rows = vec![in alloc; [0; ROW_WORDS]; OBJECT_LIMIT as usize]?;
+    Ok(Opening {
+        tail,
+        run: 1,
+        first: 16,
+        rows,
+    })
+}
+
 // A table, the pass that is left, and the passes of sessions 1 and 2.
 fn open_two(alloc: Global, opening: &Opening) -> Result<(Table, Pass, Pass, Pass), AllocError>
     requires positive { 0 < opening.now.tail }
     requires low { opening.now.tail ≤ STOP + 4 }
-    ensures key { IfOk result (λ t. t.0.shared.key ≡ opening.now) }
-    ensures fits { IfOk result (λ t. Fits t.0.shared.table_id t.1 × Fits t.0.shared.table_id t.2 × Fits t.0.shared.table_id t.3) }
+    requires first { opening.now.first ≤ OBJECT_LIMIT }
+    requires rows { vec_len opening.now.rows ≡ OBJECT_LIMIT }
+    ensures key { IfOk result (λ t. t.0.words.shared.key ≡ opening.now) }
+    ensures fits { IfOk result (λ t. Fits t.0.words.shared.table_id t.1 × Fits t.0.words.shared.table_id t.2 × Fits t.0.words.shared.table_id t.3) }
     ensures rest { IfOk result (λ t. view t.1 ≡ rest_view opening.now 2) }
     ensures first { IfOk result (λ t. view t.2 ≡ one_seat 1 (idle_part opening.now)) }
     ensures second { IfOk result (λ t. view t.3 ≡ one_seat 2 (idle_part opening.now)) }
@@ -44,12 +64,12 @@ fn run(
     other: Seat,
     size: u64,
 ) -> Option<Ran>
-    requires fits { Fits t.now.shared.table_id pass }
+    requires fits { Fits t.now.words.shared.table_id pass }
     requires idle { view pass ≡ one_seat who (idle_part opening.now) }
     requires sessions { (is_session who ≡ true) × (is_session other ≡ true) × (other ≢ who) }
     requires least { LEAST_BLOCK ≤ size }
     requires greatest { size ≤ GREATEST_BLOCK }
-    ensures fits { IfSome result (λ r. Fits t.now.shared.table_id r.0) }
+    ensures fits { IfSome result (λ r. Fits t.now.words.shared.table_id r.0) }
     ensures ran { IfSome result (λ r. HasRun opening.now who other size r.1 r.2 r.3 (view r.0)) }
     ensures stopped { IfNone result (HasStopped opening.now who) }
 {
@@ -71,6 +91,8 @@ fn race<R: Threads + Sync>(
 ) -> Result<Option<Raced>, AllocError>
     requires positive { 0 < opening.now.tail }
     requires low { opening.now.tail ≤ STOP + 4 }
+    requires first { opening.now.first ≤ OBJECT_LIMIT }
+    requires rows { vec_len opening.now.rows ≡ OBJECT_LIMIT }
     requires least { LEAST_BLOCK ≤ size }
     requires greatest { size ≤ GREATEST_BLOCK }
     ensures raced { IfOk result (λ o. IfSome o (λ r. HaveRaced opening.now size r.0 r.1.0 r.1.1 r.1.2 r.2.0 r.2.1 r.2.2)) }
@@ -81,12 +103,12 @@ fn race<R: Threads + Sync>(
     let (one, two) = thread::join(
         rt,
         move ||
-            requires { Fits t.now.shared.table_id first × (view first ≡ one_seat 1 (idle_part opening.now)) × (LEAST_BLOCK ≤ size) × (size ≤ GREATEST_BLOCK) }
-            ensures { IfSome result (λ r. Fits t.entry.now.shared.table_id r.0 × HasRun opening.entry.now 1 2 size r.1 r.2 r.3 (view r.0)) × IfNone result (HasStopped opening.entry.now 1) }
+            requires { Fits t.now.words.shared.table_id first × (view first ≡ one_seat 1 (idle_part opening.now)) × (LEAST_BLOCK ≤ size) × (size ≤ GREATEST_BLOCK) }
+            ensures { IfSome result (λ r. Fits t.entry.now.words.shared.table_id r.0 × HasRun opening.entry.now 1 2 size r.1 r.2 r.3 (view r.0)) × IfNone result (HasStopped opening.entry.now 1) }
         { run(t, first, opening, 1, 2, size) },
         move ||
-            requires { Fits t.now.shared.table_id second × (view second ≡ one_seat 2 (idle_part opening.now)) × (LEAST_BLOCK ≤ size) × (size ≤ GREATEST_BLOCK) }
-            ensures { IfSome result (λ r. Fits t.entry.now.shared.table_id r.0 × HasRun opening.entry.now 2 1 size r.1 r.2 r.3 (view r.0)) × IfNone result (HasStopped opening.entry.now 2) }
+            requires { Fits t.now.words.shared.table_id second × (view second ≡ one_seat 2 (idle_part opening.now)) × (LEAST_BLOCK ≤ size) × (size ≤ GREATEST_BLOCK) }
+            ensures { IfSome result (λ r. Fits t.entry.now.words.shared.table_id r.0 × HasRun opening.entry.now 2 1 size r.1 r.2 r.3 (view r.0)) × IfNone result (HasStopped opening.entry.now 2) }
         { run(t, second, opening, 2, 1, size) },
     );
     let Some((first, begin, stamp, answer)) = one else {
@@ -110,7 +132,7 @@ fn look_at_sealed(
     mut second: Pass,
     opening: &Opening,
 ) -> Option<(Stamp, Stamp, Stamp, Look, Look)>
-    requires fits { Fits t.now.shared.table_id first × Fits t.now.shared.table_id second }
+    requires fits { Fits t.now.words.shared.table_id first × Fits t.now.words.shared.table_id second }
     requires first { view first ≡ one_seat 1 (idle_part opening.now) }
     requires second { view second ≡ one_seat 2 (idle_part opening.now) }
 {
@@ -132,7 +154,7 @@ fn begin_both(
     mut first: Pass,
     opening: &Opening,
 ) -> (Result<Stamp, BeginStop>, Result<Stamp, BeginStop>)
-    requires fits { Fits t.now.shared.table_id rest × Fits t.now.shared.table_id first }
+    requires fits { Fits t.now.words.shared.table_id rest × Fits t.now.words.shared.table_id first }
     requires rest { view rest ≡ rest_view opening.now 2 }
     requires first { view first ≡ one_seat 1 (idle_part opening.now) }
 {
@@ -143,7 +165,7 @@ fn begin_both(
 
 #[test]
 fn looks_at_a_sealed_session(rt: HostRuntime) -> Result<(), Fail> {
-    let opening = Opening { tail: 13, run: 1 };
+    let opening = opening_at(rt.alloc(), 13)?;
     let (table, _rest, first, second) = open_two(rt.alloc(), &opening)?;
     let found = look_at_sealed(&table, first, second, &opening);
     let waits = Look::NotYet { seat: 1, seen: 13 };
@@ -158,7 +180,7 @@ fn begun_at(alloc: Global, tail: Stamp) -> Result<Begun, AllocError>
     requires positive { 0 < tail }
     requires low { tail ≤ STOP + 4 }
 {
-    let opening = Opening { tail, run: 1 };
+    let opening = opening_at(alloc, tail)?;
     let (table, rest, first, _second) = open_two(alloc, &opening)?;
     Ok(begin_both(&table, rest, first, &opening))
 }
@@ -175,7 +197,7 @@ fn begins_below_the_end_alone(rt: HostRuntime) -> Result<(), Fail> {
 
 #[test]
 fn two_sessions_race(rt: HostRuntime) -> Result<(), Fail> {
-    let opening = Opening { tail: 13, run: 1 };
+    let opening = opening_at(rt.alloc(), 13)?;
     let raced = race(&rt, rt.alloc(), &opening, 22)?;
     let (tail, one, two) = raced.ok_or("no session began")?;
     let ((before, early), (after, late)) = if one.1 < two.1 {

@@ -1,6 +1,6 @@
 use Rattle.std.proofs.Common.{ℕ, arith}
 use Rattle.erm_seats.specs.Calls.{DidBegin}
-use Rattle.erm_seats.proofs.Racing.{seal_active, seal_rests, begun_taken, begun_bound, again_taken, again_bound, ok_says}
+use Rattle.erm_seats.proofs.Racing.{any_lawful, seal_active, seal_rests, begun_taken, begun_bound, again_taken, again_bound, ok_says}
 use Rattle.erm_seats.proofs.tests.look_at_sealed.Goals as goal
 
 pub look-at-requires-clause-taken : goal.look-at-requires-clause-taken
@@ -35,3 +35,6 @@ look-above-requires-clause-bound c =
     begun_bound c.args.opening.now 2 c.in_ok-late.late c.args.second.me.0 _ c.requires.second
     (ok_says (λ (begin : ℕ). DidBegin c.args.second.me.0 2 begin c.begin_steps-2.new.p.me.0) c.begin_steps-2.result c.in_ok-late.late c.in_ok-late.ensures.value c.begin_steps-2.ensures.begun)
     14 c.if-late-lt14.false
+
+pub seal_steps-stamp-requires-clause-lawful : goal.seal_steps-stamp-requires-clause-lawful
+seal_steps-stamp-requires-clause-lawful c = any_lawful _

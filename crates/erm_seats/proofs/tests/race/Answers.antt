@@ -45,4 +45,4 @@ returns-clause-raced g c =
     have_raced o c.args.size c.close-tail.result c.in-Some.begin c.in-Some.stamp c.in-Some.answer c.in-Some-two.begin_too c.in-Some-two.stamp_too c.in-Some-two.answer_too
     c.in-Some.first.me.0 c.in-Some-two.second.me.0 _ _ one two c.in_ok-table.ensures.rest
     (c.join-2.ensures.joined ∙ ap (λ (v : View). joined v c.in-Some-two.second.me.0) c.join.ensures.joined)
-    (subst (λ (k : Opening). Ends k c.join-2.new.p.me.0 c.close-tail.result) c.in_ok-table.ensures.key c.close-tail.ensures.ends)
+    (subst (λ (k : Opening). Ends k c.join-2.new.p.me.0 c.close-tail.result) c.in_ok-table.ensures.key c.close-tail.ensures.ends.ends)

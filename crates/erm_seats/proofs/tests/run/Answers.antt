@@ -3,7 +3,7 @@ use Rattle.erm_machine.specs.declared.part.Part.{Part}
 use Rattle.erm_seats.specs.declared.answer.BeginStop.{BeginStop}
 use Rattle.erm_seats.specs.Calls.{DidBegin, DidStop}
 use Rattle.erm_seats.specs.Race.{HasStopped}
-use Rattle.erm_seats.proofs.Racing.{alone_there, not_there, number_left, seal_active, seal_rests, run_taken, run_bound, has_run, has_stopped, ok_says, err_says}
+use Rattle.erm_seats.proofs.Racing.{any_lawful, alone_there, not_there, number_left, seal_active, seal_rests, run_taken, run_bound, has_run, has_stopped, ok_says, err_says}
 use Rattle.erm_seats.proofs.tests.run.Goals as goal
 
 pub look-answer-requires-clause-taken : goal.look-answer-requires-clause-taken
@@ -46,3 +46,6 @@ begin_steps-requires-clause-idle c = ap (λ (z : Part). z.place) (alone_there c.
 
 pub begin_steps-requires-clause-number : goal.begin_steps-requires-clause-number
 begin_steps-requires-clause-number c = number_left c.args.opening.now c.args.who c.args.pass.me.0 c.requires.idle
+
+pub seal_steps-stamp-requires-clause-lawful : goal.seal_steps-stamp-requires-clause-lawful
+seal_steps-stamp-requires-clause-lawful c = any_lawful _
