@@ -1,7 +1,7 @@
 -- Drawing a cell from the counter.
 use Rattle.std.proofs.Common.{◌≡◌, ℕ, Bool, true, false, [], List, length, ltb, Some, sym, ap, ◌∙◌, subst}
 use Rattle.std.specs.Prelude.{if◌then◌else◌, nat_lt}
-use Rattle.std.proofs.lemmas.Bool.{eq-eqb, ltb-true}
+use Rattle.std.proofs.lemmas.Bool.{eq-eqb, ltb-false, ltb-true}
 use Rattle.erm_model.specs.declared.limits.TheConstants.{TABLE_CELLS}
 use Rattle.erm_machine.specs.declared.attempt.OwnCell.{OwnCell}
 use Rattle.erm_machine.specs.declared.event.Counter.TheVariants.{Cells}
@@ -16,10 +16,11 @@ use Rattle.erm_machine.specs.Step.{part_after}
 use Rattle.erm_machine.specs.Words.{blank_cell}
 use Rattle.erm_rule.specs.declared.view.View.{View}
 use Rattle.erm_rule.specs.Steps.{Ready, Told}
-use Rattle.erm_rule.specs.Views.{part_in, part_of, with_part}
+use Rattle.erm_rule.specs.Views.{part_in, part_of, with_part, IsView}
 use Rattle.erm_rule.proofs.Numbered.{known_after}
+use Rattle.erm_rule.proofs.Parts.{with_part-same}
 use Rattle.erm_rule.proofs.Telling.{changed_here}
-use Rattle.erm_cells.specs.Calls.{DidDraw, DidRefuse}
+use Rattle.erm_cells.specs.Spare.{DidCount, DidRefuse}
 use Rattle.erm_cells.proofs.Heads.{has}
 use Rattle.erm_cells.proofs.Views.{when_true, both, ready_at, told_is, told_next}
 
@@ -53,11 +54,21 @@ module _ (v : View) (who : ℕ) (active : is_active (part_of v who).place ≡ tr
         ∙ ap (λ (n : ℕ). with_part who (seen_part (ltb found n) x) v) told.limit
 
     -- there is none left
-    pub refused_first : (found : ℕ) (w : View) → Told v who (kind.LoadCounter Cells) found w → nat_lt found TABLE_CELLS ≡ false → DidRefuse v who w
+    pub refused_first : (found : ℕ) (w : View) → Told v who (kind.LoadCounter Cells) found w → nat_lt found TABLE_CELLS ≡ false → DidRefuse v who found w
     refused_first found w told high = record {
       view_is = loaded_is found w told ∙ ap (λ (b : Bool). with_part who (seen_part b x) v) high;
       known = known_after v who (kind.LoadCounter Cells) found w told;
+      counting = task.Draws;
+      state = told.before;
+      sound = told.sound;
+      is_view = subst (λ (u : View). IsView u told.before) (sym (unchanged ∙ with_part-same who x v told.in_order (has v who active))) told.is_view;
+      limit = told.limit;
+      counted = told.met;
+      all_drawn = ltb-false found TABLE_CELLS high;
     }
+      where
+        unchanged : with_part who (with_task task.Draws x) v ≡ with_part who x v
+        unchanged = ap (λ (t : Task). with_part who (with_task t x) v) (sym draws)
 
     module _ (seen : ℕ) (u : View) (first : Told v who (kind.LoadCounter Cells) seen u) (low : nat_lt seen TABLE_CELLS ≡ true) where
       abbrev pool : Part
@@ -82,14 +93,21 @@ module _ (v : View) (who : ℕ) (active : is_active (part_of v who).place ≡ tr
             told_next v who (kind.AddCounter Cells) found u w pool x (raised_part found (ltb found told.before.shared.cell_limit) x) (has v who active) pool_is told (after_add found told.before.shared)
             ∙ ap (λ (n : ℕ). with_part who (raised_part found (ltb found n) x) v) told.limit
 
-        pub refused_then : nat_lt found TABLE_CELLS ≡ false → DidRefuse v who w
+        pub refused_then : nat_lt found TABLE_CELLS ≡ false → DidRefuse v who found w
         refused_then high = record {
           view_is = raised_is ∙ ap (λ (b : Bool). with_part who (raised_part found b x) v) high;
           known = known_after u who (kind.AddCounter Cells) found w told;
+          counting = task.Pool;
+          state = told.before;
+          sound = told.sound;
+          is_view = subst (λ (z : View). IsView z told.before) pool_is told.is_view;
+          limit = told.limit;
+          counted = told.met;
+          all_drawn = ltb-false found TABLE_CELLS high;
         }
 
-        pub did_draw : nat_lt found TABLE_CELLS ≡ true → DidDraw v who found w
-        did_draw below = record {
+        pub did_count : nat_lt found TABLE_CELLS ≡ true → DidCount v who found w
+        did_count below = record {
           view_is = raised_is ∙ ap (λ (b : Bool). with_part who (raised_part found b x) v) below;
           small = ltb-true found TABLE_CELLS below;
           known = known_after u who (kind.AddCounter Cells) found w told;

@@ -1,7 +1,7 @@
 -- Finding a head: the entry is loaded, and then the stamp of the version in hand.
 use Rattle.std.proofs.Common.{◌≡◌, ℕ, ◌<◌, Bool, true, false, Some, None, refl, sym, ap, ◌∙◌, subst, eqb}
 use Rattle.std.specs.Prelude.{if◌then◌else◌}
-use Rattle.std.proofs.lemmas.Bool.{eq-eqb}
+use Rattle.std.proofs.lemmas.Bool.{eq-eqb, lt-ltb}
 use Rattle.erm_machine.specs.declared.event.Kind.TheVariants as kind
 use Rattle.erm_machine.specs.declared.limits.TheConstants.{OBJECT_LIMIT}
 use Rattle.erm_machine.specs.declared.part.Part.{Part}
@@ -9,7 +9,7 @@ use Rattle.erm_machine.specs.declared.task.Task.{Task}
 use Rattle.erm_machine.specs.declared.task.Task.TheVariants as task
 use Rattle.erm_machine.specs.declared.version.CellWord.TheVariants as word
 use Rattle.erm_machine.specs.declared.version.VersionAt.{VersionAt}
-use Rattle.erm_machine.specs.Core.{Object, Shared, spot_of, word_at}
+use Rattle.erm_machine.specs.Core.{Core, Object, Shared, spot_of, version_word, word_at}
 use Rattle.erm_machine.specs.Reading.{head_version, entered, load_entry, load_walked_stamp}
 use Rattle.erm_machine.specs.Seat.{with_task, is_active, is_sealed, same_version}
 use Rattle.erm_machine.specs.Settling.{load_read_entry}
@@ -19,16 +19,16 @@ use Rattle.erm_rule.specs.declared.view.View.{View}
 use Rattle.erm_rule.specs.Hands.{in_hand, walk_kind}
 use Rattle.erm_rule.specs.Steps.{Ready, Told}
 use Rattle.erm_rule.specs.Views.{part_in, part_of, with_part}
-use Rattle.erm_rule.proofs.Numbered.{known_after}
 use Rattle.erm_rule.proofs.Telling.{held_part, changed_here, part_of-changed}
 use Rattle.erm_cells.specs.Calls.{starts_anew, walked, DidEnter, DidWalk}
+use Rattle.erm_cells.proofs.After.{after_known, after_is, entry_still}
 use Rattle.erm_cells.proofs.Views.{active_taken, active_unsealed, when_true, both, first_branch, other_branch, ready_at, told_is, told_next}
 
 entry_guard : (seat oid found : ℕ) (o : Object) (x : Part) (t : Task) → starts_anew t ≡ true → is_active x.place ≡ true → load_entry seat oid found o x t ≡ Some (with_task (entered seat oid found o) x)
 entry_guard seat oid found o x (task.Cleared cleared) starts active = absurd (cc)
 entry_guard seat oid found o x _ starts active = when_true _ _ (both _ _ active starts)
 
-same_self : (v : VersionAt) → same_version v v ≡ true
+pub same_self : (v : VersionAt) → same_version v v ≡ true
 same_self v = both _ _ (both _ _ (eq-eqb v.oid v.oid refl) (eq-eqb v.place v.place refl)) (eq-eqb v.cell v.cell refl)
 
 -- an entry that nobody owns
@@ -58,11 +58,12 @@ module _ (v : View) (who : ℕ) (active : is_active (part_of v who).place ≡ tr
       ready_at v who (kind.LoadEntry oid) x has (λ c. with_task (entered who oid (c.shared.objects oid).entry (c.shared.objects oid)) x)
       (λ c sound. after_entry oid (c.shared.objects oid).entry c.shared starts)
 
-  pub did_enter : (oid entry : ℕ) (w : View) → starts_anew x.task ≡ true → Told v who (kind.LoadEntry oid) entry w → DidEnter v who oid entry w
-  did_enter oid entry w starts told = record {
+  pub did_enter : (oid entry : ℕ) (w : View) → oid < OBJECT_LIMIT → starts_anew x.task ≡ true → Told v who (kind.LoadEntry oid) entry w → DidEnter v who oid entry w
+  did_enter oid entry w below starts told = record {
     object = told.before.shared.objects oid;
     view_is = told_is v who (kind.LoadEntry oid) entry w x (with_task (entered who oid entry (told.before.shared.objects oid)) x) has told (after_entry oid entry told.before.shared starts);
-    known = known_after v who (kind.LoadEntry oid) entry w told;
+    known = after_known v who (kind.LoadEntry oid) entry w told;
+    met = entry_still v who oid entry w told below;
   }
 
   -- the head in hand
@@ -99,14 +100,20 @@ module _ (v : View) (who : ℕ) (active : is_active (part_of v who).place ≡ tr
         (ready_at u who (kind.LoadCell head word.Stamp) walks has_walks (λ c. with_task (walked head entry (word_at c (spot_of who (kind.LoadCell head word.Stamp))) x) x)
         (λ c sound. after_walk (word_at c (spot_of who (kind.LoadCell head word.Stamp))) c.shared))
 
-    pub did_walk : (stamp : ℕ) (w : View) → Told u who (walk_kind (part_of u who) word.Stamp) stamp w → DidWalk v who oid entry stamp w
-    did_walk stamp w told =
+    plain_entry : oid < OBJECT_LIMIT → entry ≡ head_of entry
+    plain_entry below = subst (λ n. owner_of n ≡ 0 → n ≡ head_of n) enter.met (enter.known.sound.common.claims.objects oid below).plain free
+
+    pub did_walk : (stamp : ℕ) (w : View) → oid < OBJECT_LIMIT → Told u who (walk_kind (part_of u who) word.Stamp) stamp w → DidWalk v who oid entry stamp w
+    did_walk stamp w below told =
         let same : Told u who (kind.LoadCell head word.Stamp) stamp w = subst (λ (z : Part). Told u who (walk_kind z word.Stamp) stamp w) part_is told in
         record {
           version = head;
           oid_is = refl;
           cell_is = refl;
           unowned = free;
+          plain = plain_entry below;
           view_is = told_next v who (kind.LoadCell head word.Stamp) stamp u w walks x (with_task (walked head entry stamp x) x) has here same (after_walk stamp same.before.shared);
-          known = known_after u who (kind.LoadCell head word.Stamp) stamp w same;
+          known = after_known u who (kind.LoadCell head word.Stamp) stamp w same;
+          stamp_is =
+              ap (λ (c : Core). word_at c (version_word head word.Stamp)) (sym (after_is u who (kind.LoadCell head word.Stamp) stamp w same (both _ true (lt-ltb oid OBJECT_LIMIT below) refl))) ∙ same.met;
         }

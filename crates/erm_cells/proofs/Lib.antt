@@ -1,6 +1,17 @@
+pub mod After
 pub mod Alone
+pub mod Claimed
+pub mod Copied
 pub mod Drawing
+pub mod Heading
 pub mod Heads
+pub mod Linking
+pub mod Loading
+pub mod Placing
+pub mod Rating
+pub mod Spares
+pub mod Staying
+pub mod Storing
 pub mod Taking
 pub mod Views
 pub mod Walking

@@ -2,7 +2,6 @@
 use Rattle.std.proofs.Common.{◌≡◌, ◌≢◌, ℕ, ◌<◌, Bool, true, ◌++◌, ◌∷◌, [], length, Some, refl, sym, ap, ◌∙◌, subst, eqb}
 use Rattle.std.specs.Prelude.{if◌then◌else◌}
 use Rattle.std.proofs.lemmas.Bool.{eq-eqb, ne_eqb, lt-ltb}
-use Rattle.std.proofs.lemmas.Option.{same_Some}
 use Rattle.erm_machine.specs.declared.event.Kind.TheVariants as kind
 use Rattle.erm_machine.specs.declared.limits.TheConstants.{OBJECT_LIMIT, WRITE_LIMIT}
 use Rattle.erm_machine.specs.declared.part.Part.{Part}
@@ -18,9 +17,8 @@ use Rattle.erm_machine.proofs.Frames.{put_same}
 use Rattle.erm_rule.specs.declared.view.View.{View}
 use Rattle.erm_rule.specs.Steps.{Ready, Told}
 use Rattle.erm_rule.specs.Views.{part_of, with_part}
-use Rattle.erm_rule.proofs.Found.{next, event_is}
-use Rattle.erm_rule.proofs.Numbered.{known_after}
 use Rattle.erm_cells.specs.Calls.{IsFoundHead, DidEnter, DidTake}
+use Rattle.erm_cells.proofs.After.{after_known, after_is}
 use Rattle.erm_cells.proofs.Heads.{has}
 use Rattle.erm_cells.proofs.Views.{when_true, both, ready_at, told_is}
 
@@ -70,16 +68,20 @@ module _ (v : View) (who : ℕ) (active : is_active (part_of v who).place ≡ tr
     exchanged_is =
         told_is v who (kind.Claim oid seen number) entry w x (exchanged who oid entry o head.version head.stamp (eqb entry seen) x) (has v who active) told (after_claim entry told.before.shared)
 
+    entry_stored : oid < OBJECT_LIMIT → (told.after.shared.objects oid).entry ≡ stored who (kind.Claim oid seen number) o.entry
+    entry_stored known =
+        ap (λ (c : Core). (c.shared.objects oid).entry) (sym (after_is v who (kind.Claim oid seen number) entry w told (lt-ltb oid OBJECT_LIMIT known)))
+        ∙ ap (λ (z : Object). z.entry) (put_same told.before.shared.objects oid _)
+
     entry_after : oid < OBJECT_LIMIT → entry ≡ seen → (told.after.shared.objects oid).entry ≡ claimed seen who x.current.number
     entry_after known same =
-        let part = subst (λ (n : ℕ). part_after who (kind.Claim oid seen number) n told.before.shared (told.before.seats who) ≡ Some told.part) (sym told.met) told.part_is in
-        let is : next told.before who (kind.Claim oid seen number) told.part ≡ told.after =
-        same_Some _ _ (sym (event_is told.before who (kind.Claim oid seen number) told.part (lt-ltb oid OBJECT_LIMIT known) part) ∙ told.event) in
-        let here : ((next told.before who (kind.Claim oid seen number) told.part).shared.objects oid).entry ≡ stored who (kind.Claim oid seen number) o.entry =
-        ap (λ (z : Object). z.entry) (put_same told.before.shared.objects oid _) in
         let became : stored who (kind.Claim oid seen number) o.entry ≡ claimed seen who number =
         ap (λ (b : Bool). if b then claimed seen who number else o.entry) (eq-eqb o.entry seen (told.met ∙ same)) in
-        ap (λ (c : Core). (c.shared.objects oid).entry) (sym is) ∙ here ∙ became ∙ ap (claimed seen who) (sym numbered)
+        entry_stored known ∙ became ∙ ap (claimed seen who) (sym numbered)
+
+    entry_left : oid < OBJECT_LIMIT → entry ≢ seen → (told.after.shared.objects oid).entry ≡ entry
+    entry_left known other =
+        entry_stored known ∙ ap (λ (b : Bool). if b then claimed seen who number else o.entry) (ne_eqb o.entry seen (λ same. other (sym told.met ∙ same))) ∙ told.met
 
     pub did_take : oid < OBJECT_LIMIT → entry ≡ seen → DidTake v who oid seen w
     did_take known same = record {
@@ -89,19 +91,14 @@ module _ (v : View) (who : ℕ) (active : is_active (part_of v who).place ≡ tr
       found = head.is;
       oid_is = head.oid_is;
       view_is = exchanged_is ∙ ap (λ (b : Bool). with_part who (exchanged who oid entry o head.version head.stamp b x) v) (eq-eqb entry seen same);
-      known = record {
-        core = told.after;
-        sound = told.sound_after;
-        is_view = told.is_view_after;
-        limit = told.limit_after;
-        in_order = (known_after v who (kind.Claim oid seen number) entry w told).in_order;
-      };
+      known = after_known v who (kind.Claim oid seen number) entry w told;
       entry = entry_after known same;
     }
 
-    pub did_lose : entry ≢ seen → DidEnter v who oid entry w
-    did_lose other = record {
+    pub did_lose : oid < OBJECT_LIMIT → entry ≢ seen → DidEnter v who oid entry w
+    did_lose known other = record {
       object = o;
       view_is = exchanged_is ∙ ap (λ (b : Bool). with_part who (exchanged who oid entry o head.version head.stamp b x) v) (ne_eqb entry seen other);
-      known = known_after v who (kind.Claim oid seen number) entry w told;
+      known = after_known v who (kind.Claim oid seen number) entry w told;
+      met = entry_left known other;
     }

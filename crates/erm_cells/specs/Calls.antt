@@ -1,6 +1,5 @@
--- What finding a head, taking an entry and drawing a cell leave of a pass's view.
+-- What finding a head and taking an entry leave of a pass's view, and when a cell is one seat's alone.
 use Rattle.std.specs.Prelude.{◌≡◌, ◌≢◌, ℕ, ◌<◌, ◌≤◌, Bool, false, nat_lt, if◌then◌else◌, List, [], ◌∷◌, ◌++◌, length, Some}
-use Rattle.erm_model.specs.declared.limits.TheConstants.{TABLE_CELLS}
 use Rattle.erm_model.specs.Member.{◌∈◌}
 use Rattle.erm_machine.specs.declared.attempt.OwnCell.{OwnCell}
 use Rattle.erm_machine.specs.declared.limits.TheConstants.{ANNOUNCERS, OBJECT_LIMIT}
@@ -9,9 +8,9 @@ use Rattle.erm_machine.specs.declared.task.Task.{Task}
 use Rattle.erm_machine.specs.declared.task.Task.TheVariants as task
 use Rattle.erm_machine.specs.declared.version.VersionAt.{VersionAt}
 use Rattle.erm_machine.specs.Core.{Core, Object, version_at, claim_at}
-use Rattle.erm_machine.specs.Reading.{entered, new_claim, with_cell}
+use Rattle.erm_machine.specs.Reading.{entered, new_claim}
 use Rattle.erm_machine.specs.Seat.{with_task, may_start}
-use Rattle.erm_machine.specs.Words.{head_of, owner_of, claimed, blank_cell}
+use Rattle.erm_machine.specs.Words.{head_of, owner_of, claimed}
 use Rattle.erm_rule.specs.declared.view.View.{View}
 use Rattle.erm_rule.specs.Hands.{IsKnown}
 use Rattle.erm_rule.specs.Views.{part_of, with_part}
@@ -23,24 +22,29 @@ abbrev pub starts_anew : Task → Bool
 starts_anew (task.Cleared oid) = false
 starts_anew t = may_start t
 
--- An entry was loaded: what is in hand follows from the entry, and from an object whose newest version has its head's cell.
+-- An entry was loaded, and left as it is: what is in hand follows from it, and from an object whose newest version has its head's
+-- cell.
 pub record DidEnter (v : View) (who oid entry : ℕ) (w : View) : Type 0 where
   pub object : Object
   pub view_is : w ≡ with_part who (with_task (entered who oid entry object) (part_of v who)) v
   pub known : IsKnown w
+  pub met : (known.core.shared.objects oid).entry ≡ entry
 
 -- the task once the stamp of a head is loaded that nobody owns
 abbrev pub walked : VersionAt → ℕ → ℕ → Part → Task
 walked version entry stamp x = if nat_lt stamp x.current.begin then task.Found version stamp (Some entry) else task.Passed version
 
--- the head of an object's chain is in hand, with its stamp
+-- The head of an object's chain is in hand, by an entry that nobody owns and so is the head's cell alone. The head's stamp was
+-- loaded, and left as it is.
 pub record DidWalk (v : View) (who oid entry stamp : ℕ) (w : View) : Type 0 where
   pub version : VersionAt
   pub oid_is : version.oid ≡ oid
   pub cell_is : version.cell ≡ head_of entry
   pub unowned : owner_of entry ≡ 0
+  pub plain : entry ≡ head_of entry
   pub view_is : w ≡ with_part who (with_task (walked version entry stamp (part_of v who)) (part_of v who)) v
   pub known : IsKnown w
+  pub stamp_is : (version_at (known.core.shared.objects version.oid) version.place).words.stamp ≡ stamp
 
 -- the head was found, or the entry has an owner
 abbrev pub DidFind : View → ℕ → ℕ → Head → View → Type 0
@@ -69,21 +73,6 @@ pub record DidTake (v : View) (who oid seen : ℕ) (w : View) : Type 0 where
   pub view_is : w ≡ with_part who (taken_part version stamp base (part_of v who)) v
   pub known : IsKnown w
   pub entry : (known.core.shared.objects oid).entry ≡ claimed seen who (part_of v who).current.number
-
--- the part of a seat whose newest claim has drawn this cell
-abbrev pub drawn_part : ℕ → Part → Part
-drawn_part cell x = record x { task = task.Fetched; current = with_cell (record { cell = cell; words = blank_cell }) x.current }
-
--- a cell was drawn from the counter
-pub record DidDraw (v : View) (who cell : ℕ) (w : View) : Type 0 where
-  pub view_is : w ≡ with_part who (drawn_part cell (part_of v who)) v
-  pub small : cell < TABLE_CELLS
-  pub known : IsKnown w
-
--- there was none
-pub record DidRefuse (v : View) (who : ℕ) (w : View) : Type 0 where
-  pub view_is : w ≡ with_part who (with_task task.Refused (part_of v who)) v
-  pub known : IsKnown w
 
 -- the cell is in no chain
 abbrev pub IsUnchained : Core → ℕ → Type 0

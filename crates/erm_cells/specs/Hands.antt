@@ -19,6 +19,11 @@ abbrev pub cell_word_of : Word → CellWord
 cell_word_of (table.Cell cell w) = w
 cell_word_of w = word.Stamp
 
+-- the place in its row of a cell's word, if it is one of the row
+abbrev pub row_place_of : Word → ℕ
+row_place_of (table.Cell cell (word.Row place)) = place
+row_place_of w = 0
+
 -- the version that the newest claim overwrites
 abbrev pub newest_claimed : Part → VersionAt
 newest_claimed x = (claim_at x.current (last_claim x.current)).version
@@ -27,9 +32,17 @@ newest_claimed x = (claim_at x.current (last_claim x.current)).version
 abbrev pub rated_kind : Part → Kind
 rated_kind x = kind.LoadStamp (newest_claimed x) word.ReaderStamp
 
+-- the load of a word of its row
+abbrev pub copied_kind : Part → ℕ → Kind
+copied_kind x place = kind.LoadCell (newest_claimed x) (word.Row place)
+
 -- the swap of the link of the version in hand
 abbrev pub swap_kind : Part → Kind
 swap_kind x = kind.SwapLink (in_hand x.task)
+
+-- the load of the link of the version in hand, which was cut off
+abbrev pub detached_kind : Part → Kind
+detached_kind x = kind.LoadDetached (in_hand x.task)
 
 -- the own bit of the version in hand is set
 abbrev pub reader_kind : Part → Kind

@@ -1,2 +1,8 @@
 pub mod Calls
 pub mod Hands
+pub mod Heads
+pub mod Links
+pub mod Placed
+pub mod Reads
+pub mod Rows
+pub mod Spare

@@ -1,36 +1,43 @@
 //! Steps on entries.
 ghost use Rattle.std.specs.Prelude.{◌≡◌, ◌<◌, ℕ, IsSome};
 ghost use Rattle.erm_machine.specs.declared.event.Kind.TheVariants.{LoadEntry, Claim, Install};
-ghost use Rattle.erm_rule.specs.Steps.{Fits, Ready, Told};
+ghost use Rattle.erm_rule.specs.Steps.{Fits, Ready, ToldUnder};
 ghost use Rattle.erm_rule.specs.Views.{view, part_in};
 
 use erm_kept::words::claimed;
 use erm_layout::Word;
 use erm_machine::{Kind, OBJECT_LIMIT};
-use erm_model::{Oid, Seat};
+use erm_model::{Oid, RowLaw, Seat};
 use erm_rule::{Pass, Table, exchange, load, store};
 
 /// Loads an object's entry.
-pub fn load_entry(t: &Table, p: &mut Pass, who: Seat, oid: Oid) -> u64
-    requires fits { Fits t.now.shared.table_id p.old }
+pub fn load_entry<L: RowLaw>(t: &Table<L>, p: &mut Pass, who: Seat, oid: Oid) -> u64
+    requires fits { Fits t.now.words.shared.table_id p.old }
     requires held { IsSome (part_in (view p.old) who) }
     requires object { oid < OBJECT_LIMIT }
     requires ready { Ready (view p.old) who (LoadEntry oid) }
-    ensures fits { Fits t.now.shared.table_id p.new }
-    ensures told { Told (view p.old) who (LoadEntry oid) result (view p.new) }
+    ensures fits { Fits t.now.words.shared.table_id p.new }
+    ensures told { ToldUnder L.law (view p.old) who (LoadEntry oid) result (view p.new) }
 {
     load(t, p, who, Kind::LoadEntry { oid }, Word::Entry(oid))
 }
 
 /// Exchanges an entry for one with the same head that the seat's transaction of this number owns, where it still is the one
 /// seen. The answer is the entry found.
-pub fn claim_entry(t: &Table, p: &mut Pass, who: Seat, oid: Oid, seen: u64, number: u32) -> u64
-    requires fits { Fits t.now.shared.table_id p.old }
+pub fn claim_entry<L: RowLaw>(
+    t: &Table<L>,
+    p: &mut Pass,
+    who: Seat,
+    oid: Oid,
+    seen: u64,
+    number: u32,
+) -> u64
+    requires fits { Fits t.now.words.shared.table_id p.old }
     requires held { IsSome (part_in (view p.old) who) }
     requires object { oid < OBJECT_LIMIT }
     requires ready { Ready (view p.old) who (Claim oid seen number) }
-    ensures fits { Fits t.now.shared.table_id p.new }
-    ensures told { Told (view p.old) who (Claim oid seen number) result (view p.new) }
+    ensures fits { Fits t.now.words.shared.table_id p.new }
+    ensures told { ToldUnder L.law (view p.old) who (Claim oid seen number) result (view p.new) }
 {
     let kind = Kind::Claim { oid, seen, number };
     let owned = claimed(seen, who, number);
@@ -38,13 +45,13 @@ pub fn claim_entry(t: &Table, p: &mut Pass, who: Seat, oid: Oid, seen: u64, numb
 }
 
 /// Stores an entry without owner, whose head is this cell: installs a version, or releases the entry with its old head.
-pub fn install(t: &Table, p: &mut Pass, who: Seat, oid: Oid, head: u32)
-    requires fits { Fits t.now.shared.table_id p.old }
+pub fn install<L: RowLaw>(t: &Table<L>, p: &mut Pass, who: Seat, oid: Oid, head: u32)
+    requires fits { Fits t.now.words.shared.table_id p.old }
     requires held { IsSome (part_in (view p.old) who) }
     requires object { oid < OBJECT_LIMIT }
     requires ready { Ready (view p.old) who (Install oid head) }
-    ensures fits { Fits t.now.shared.table_id p.new }
-    ensures told { (found : ℕ) × Told (view p.old) who (Install oid head) found (view p.new) }
+    ensures fits { Fits t.now.words.shared.table_id p.new }
+    ensures told { (found : ℕ) × ToldUnder L.law (view p.old) who (Install oid head) found (view p.new) }
 {
     let kind = Kind::Install { oid, head };
     store(t, p, who, kind, Word::Entry(oid), u64::from(head));

@@ -2,17 +2,17 @@
 ghost use Rattle.std.specs.Prelude.{◌≡◌, ◌<◌, ℕ, true, IsSome};
 ghost use Rattle.erm_layout.specs.Layout.{IsInCell};
 ghost use Rattle.erm_machine.specs.declared.event.Kind.TheVariants.{StoreCell, LoadCounter, AddCounter};
-ghost use Rattle.erm_rule.specs.Steps.{Fits, Ready, Told};
+ghost use Rattle.erm_rule.specs.Steps.{Fits, Ready, ToldUnder};
 ghost use Rattle.erm_rule.specs.Views.{view, part_in};
 
 use erm_layout::Word;
 use erm_machine::{CellWord, Counter, Kind};
-use erm_model::{Seat, TABLE_CELLS};
+use erm_model::{RowLaw, Seat, TABLE_CELLS};
 use erm_rule::{Pass, Table, add, load, store};
 
 /// Stores a word of the own cell of the claim at a place.
-pub fn store_own(
-    t: &Table,
+pub fn store_own<L: RowLaw>(
+    t: &Table<L>,
     p: &mut Pass,
     who: Seat,
     claim: usize,
@@ -20,13 +20,13 @@ pub fn store_own(
     word: CellWord,
     value: u64,
 )
-    requires fits { Fits t.now.shared.table_id p.old }
+    requires fits { Fits t.now.words.shared.table_id p.old }
     requires held { IsSome (part_in (view p.old) who) }
     requires cell { cell < TABLE_CELLS }
     requires word { IsInCell word }
     requires ready { Ready (view p.old) who (StoreCell claim cell word value) }
-    ensures fits { Fits t.now.shared.table_id p.new }
-    ensures told { (found : ℕ) × Told (view p.old) who (StoreCell claim cell word value) found (view p.new) }
+    ensures fits { Fits t.now.words.shared.table_id p.new }
+    ensures told { (found : ℕ) × ToldUnder L.law (view p.old) who (StoreCell claim cell word value) found (view p.new) }
 {
     let kind = Kind::StoreCell {
         claim,
@@ -38,12 +38,12 @@ pub fn store_own(
 }
 
 /// Loads a counter.
-pub fn load_counter(t: &Table, p: &mut Pass, who: Seat, counter: Counter) -> u64
-    requires fits { Fits t.now.shared.table_id p.old }
+pub fn load_counter<L: RowLaw>(t: &Table<L>, p: &mut Pass, who: Seat, counter: Counter) -> u64
+    requires fits { Fits t.now.words.shared.table_id p.old }
     requires held { IsSome (part_in (view p.old) who) }
     requires ready { Ready (view p.old) who (LoadCounter counter) }
-    ensures fits { Fits t.now.shared.table_id p.new }
-    ensures told { Told (view p.old) who (LoadCounter counter) result (view p.new) }
+    ensures fits { Fits t.now.words.shared.table_id p.new }
+    ensures told { ToldUnder L.law (view p.old) who (LoadCounter counter) result (view p.new) }
 {
     load(
         t,
@@ -55,12 +55,12 @@ pub fn load_counter(t: &Table, p: &mut Pass, who: Seat, counter: Counter) -> u64
 }
 
 /// Raises a counter by one. The answer is the number found.
-pub fn add_counter(t: &Table, p: &mut Pass, who: Seat, counter: Counter) -> u64
-    requires fits { Fits t.now.shared.table_id p.old }
+pub fn add_counter<L: RowLaw>(t: &Table<L>, p: &mut Pass, who: Seat, counter: Counter) -> u64
+    requires fits { Fits t.now.words.shared.table_id p.old }
     requires held { IsSome (part_in (view p.old) who) }
     requires ready { Ready (view p.old) who (AddCounter counter) }
-    ensures fits { Fits t.now.shared.table_id p.new }
-    ensures told { Told (view p.old) who (AddCounter counter) result (view p.new) }
+    ensures fits { Fits t.now.words.shared.table_id p.new }
+    ensures told { ToldUnder L.law (view p.old) who (AddCounter counter) result (view p.new) }
 {
     add(
         t,

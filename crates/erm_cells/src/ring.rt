@@ -1,81 +1,81 @@
 //! Steps on the ring of the log's last words and on the place flushed.
 ghost use Rattle.std.specs.Prelude.{◌≡◌, ℕ, IsSome};
 ghost use Rattle.erm_machine.specs.declared.event.Kind.TheVariants.{StoreRing, Decide, LoadRing, ClearRing, StoreFlushed, LoadFlushed};
-ghost use Rattle.erm_rule.specs.Steps.{Fits, Ready, Told};
+ghost use Rattle.erm_rule.specs.Steps.{Fits, Ready, ToldUnder};
 ghost use Rattle.erm_rule.specs.Views.{view, part_in};
 
 use erm_layout::Word;
 use erm_machine::{Kind, RING_WORDS};
-use erm_model::{Seat, Stamp};
+use erm_model::{RowLaw, Seat, Stamp};
 use erm_rule::{Pass, Table, load, store};
 
 /// Stores a word of the own block behind its header.
-pub fn store_ring(t: &Table, p: &mut Pass, who: Seat, at: Stamp, value: u64)
-    requires fits { Fits t.now.shared.table_id p.old }
+pub fn store_ring<L: RowLaw>(t: &Table<L>, p: &mut Pass, who: Seat, at: Stamp, value: u64)
+    requires fits { Fits t.now.words.shared.table_id p.old }
     requires held { IsSome (part_in (view p.old) who) }
     requires ready { Ready (view p.old) who (StoreRing at value) }
-    ensures fits { Fits t.now.shared.table_id p.new }
-    ensures told { (found : ℕ) × Told (view p.old) who (StoreRing at value) found (view p.new) }
+    ensures fits { Fits t.now.words.shared.table_id p.new }
+    ensures told { (found : ℕ) × ToldUnder L.law (view p.old) who (StoreRing at value) found (view p.new) }
 {
     let kind = Kind::StoreRing { at, value };
     store(t, p, who, kind, Word::Ring(at % RING_WORDS), value);
 }
 
 /// Stores the header of the own block: the decision.
-pub fn decide(t: &Table, p: &mut Pass, who: Seat, at: Stamp, header: u64)
-    requires fits { Fits t.now.shared.table_id p.old }
+pub fn decide<L: RowLaw>(t: &Table<L>, p: &mut Pass, who: Seat, at: Stamp, header: u64)
+    requires fits { Fits t.now.words.shared.table_id p.old }
     requires held { IsSome (part_in (view p.old) who) }
     requires ready { Ready (view p.old) who (Decide at header) }
-    ensures fits { Fits t.now.shared.table_id p.new }
-    ensures told { (found : ℕ) × Told (view p.old) who (Decide at header) found (view p.new) }
+    ensures fits { Fits t.now.words.shared.table_id p.new }
+    ensures told { (found : ℕ) × ToldUnder L.law (view p.old) who (Decide at header) found (view p.new) }
 {
     let kind = Kind::Decide { at, header };
     store(t, p, who, kind, Word::Ring(at % RING_WORDS), header);
 }
 
 /// Loads a word of the ring.
-pub fn load_ring(t: &Table, p: &mut Pass, who: Seat, at: Stamp) -> u64
-    requires fits { Fits t.now.shared.table_id p.old }
+pub fn load_ring<L: RowLaw>(t: &Table<L>, p: &mut Pass, who: Seat, at: Stamp) -> u64
+    requires fits { Fits t.now.words.shared.table_id p.old }
     requires held { IsSome (part_in (view p.old) who) }
     requires ready { Ready (view p.old) who (LoadRing at) }
-    ensures fits { Fits t.now.shared.table_id p.new }
-    ensures told { Told (view p.old) who (LoadRing at) result (view p.new) }
+    ensures fits { Fits t.now.words.shared.table_id p.new }
+    ensures told { ToldUnder L.law (view p.old) who (LoadRing at) result (view p.new) }
 {
     let kind = Kind::LoadRing { at };
     load(t, p, who, kind, Word::Ring(at % RING_WORDS))
 }
 
 /// Clears a word of the ring.
-pub fn clear_ring(t: &Table, p: &mut Pass, who: Seat, at: Stamp)
-    requires fits { Fits t.now.shared.table_id p.old }
+pub fn clear_ring<L: RowLaw>(t: &Table<L>, p: &mut Pass, who: Seat, at: Stamp)
+    requires fits { Fits t.now.words.shared.table_id p.old }
     requires held { IsSome (part_in (view p.old) who) }
     requires ready { Ready (view p.old) who (ClearRing at) }
-    ensures fits { Fits t.now.shared.table_id p.new }
-    ensures told { (found : ℕ) × Told (view p.old) who (ClearRing at) found (view p.new) }
+    ensures fits { Fits t.now.words.shared.table_id p.new }
+    ensures told { (found : ℕ) × ToldUnder L.law (view p.old) who (ClearRing at) found (view p.new) }
 {
     let kind = Kind::ClearRing { at };
     store(t, p, who, kind, Word::Ring(at % RING_WORDS), 0);
 }
 
 /// Stores the place flushed.
-pub fn store_flushed(t: &Table, p: &mut Pass, who: Seat, value: Stamp)
-    requires fits { Fits t.now.shared.table_id p.old }
+pub fn store_flushed<L: RowLaw>(t: &Table<L>, p: &mut Pass, who: Seat, value: Stamp)
+    requires fits { Fits t.now.words.shared.table_id p.old }
     requires held { IsSome (part_in (view p.old) who) }
     requires ready { Ready (view p.old) who (StoreFlushed value) }
-    ensures fits { Fits t.now.shared.table_id p.new }
-    ensures told { (found : ℕ) × Told (view p.old) who (StoreFlushed value) found (view p.new) }
+    ensures fits { Fits t.now.words.shared.table_id p.new }
+    ensures told { (found : ℕ) × ToldUnder L.law (view p.old) who (StoreFlushed value) found (view p.new) }
 {
     let kind = Kind::StoreFlushed { value };
     store(t, p, who, kind, Word::Flushed, value);
 }
 
 /// Loads the place flushed.
-pub fn load_flushed(t: &Table, p: &mut Pass, who: Seat) -> Stamp
-    requires fits { Fits t.now.shared.table_id p.old }
+pub fn load_flushed<L: RowLaw>(t: &Table<L>, p: &mut Pass, who: Seat) -> Stamp
+    requires fits { Fits t.now.words.shared.table_id p.old }
     requires held { IsSome (part_in (view p.old) who) }
     requires ready { Ready (view p.old) who LoadFlushed }
-    ensures fits { Fits t.now.shared.table_id p.new }
-    ensures told { Told (view p.old) who LoadFlushed result (view p.new) }
+    ensures fits { Fits t.now.words.shared.table_id p.new }
+    ensures told { ToldUnder L.law (view p.old) who LoadFlushed result (view p.new) }
 {
     load(t, p, who, Kind::LoadFlushed, Word::Flushed)
 }

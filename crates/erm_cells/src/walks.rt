@@ -1,81 +1,116 @@
 //! Steps on words of versions. The version is the one in hand of the seat's call, or one of its transaction's: its place is for
 //! the proof alone.
 ghost use Rattle.std.specs.Prelude.{◌≡◌, ◌^◌, ◌<◌, ℕ, true, IsSome};
-ghost use Rattle.erm_cells.specs.Hands.{next_raised, newest_claimed, rated_kind, raise_kind, reader_kind, swap_kind};
+ghost use Rattle.erm_cells.specs.Hands.{copied_kind, detached_kind, next_raised, newest_claimed, rated_kind, raise_kind, reader_kind, swap_kind};
 ghost use Rattle.erm_machine.specs.Step.{has_word};
 ghost use Rattle.erm_machine.specs.Words.{is_session};
-ghost use Rattle.erm_rule.specs.Cells.{IsTold};
 ghost use Rattle.erm_rule.specs.Hands.{IsKnown, in_hand, walk_kind};
-ghost use Rattle.erm_rule.specs.Steps.{Fits, Ready, Told};
+ghost use Rattle.erm_rule.specs.Steps.{Fits, Ready, ToldUnder};
 ghost use Rattle.erm_rule.specs.Views.{view, part_in, part_of};
 
 use erm_layout::Word;
 use erm_machine::{CellWord, OBJECT_LIMIT};
-use erm_model::{Seat, Stamp};
+use erm_model::{ROW_WORDS, RowLaw, Seat, Stamp};
 use erm_rule::{Pass, Table, load_as, or_as, raise_as, swap_as};
 use std::marker::Brand;
 
 /// Loads a word of the version in hand, which is in this cell.
-pub fn load_walked(t: &Table, p: &mut Pass, who: Seat, cell: u32, word: CellWord) -> u64
-    requires fits { Fits t.now.shared.table_id p.old }
+pub fn load_walked<L: RowLaw>(
+    t: &Table<L>,
+    p: &mut Pass,
+    who: Seat,
+    cell: u32,
+    word: CellWord,
+) -> u64
+    requires fits { Fits t.now.words.shared.table_id p.old }
     requires held { IsSome (part_in (view p.old) who) }
     requires known { IsKnown (view p.old) }
     requires object { (in_hand (part_of (view p.old) who).task).oid < OBJECT_LIMIT }
     requires cell { (in_hand (part_of (view p.old) who).task).cell ≡ cell }
     requires word { has_word word ≡ true }
-    requires told { IsTold (walk_kind (part_of (view p.old) who) word) }
     requires ready { Ready (view p.old) who (walk_kind (part_of (view p.old) who) word) }
-    ensures fits { Fits t.now.shared.table_id p.new }
-    ensures told { Told (view p.old) who (walk_kind (part_of (view p.old) who) word) result (view p.new) }
+    ensures fits { Fits t.now.words.shared.table_id p.new }
+    ensures told { ToldUnder L.law (view p.old) who (walk_kind (part_of (view p.old) who) word) result (view p.new) }
 {
-    load_as::<Brand>(t, p, who, Word::Cell { cell, word })
+    load_as::<L, Brand>(t, p, who, Word::Cell { cell, word })
 }
 
 /// Loads the reader stamp of the version that the newest claim overwrites, which is in this cell. Where the seat has a spare cell
 /// the claim gets it.
-pub fn load_rated(t: &Table, p: &mut Pass, who: Seat, cell: u32) -> Stamp
-    requires fits { Fits t.now.shared.table_id p.old }
+pub fn load_rated<L: RowLaw>(t: &Table<L>, p: &mut Pass, who: Seat, cell: u32) -> Stamp
+    requires fits { Fits t.now.words.shared.table_id p.old }
     requires held { IsSome (part_in (view p.old) who) }
     requires known { IsKnown (view p.old) }
     requires object { (newest_claimed (part_of (view p.old) who)).oid < OBJECT_LIMIT }
     requires cell { (newest_claimed (part_of (view p.old) who)).cell ≡ cell }
     requires ready { Ready (view p.old) who (rated_kind (part_of (view p.old) who)) }
-    ensures fits { Fits t.now.shared.table_id p.new }
-    ensures told { Told (view p.old) who (rated_kind (part_of (view p.old) who)) result (view p.new) }
+    ensures fits { Fits t.now.words.shared.table_id p.new }
+    ensures told { ToldUnder L.law (view p.old) who (rated_kind (part_of (view p.old) who)) result (view p.new) }
 {
     let word = CellWord::ReaderStamp;
-    load_as::<Brand>(t, p, who, Word::Cell { cell, word })
+    load_as::<L, Brand>(t, p, who, Word::Cell { cell, word })
+}
+
+/// Loads the word at a place of the row of the version that the newest claim overwrites, which is in this cell.
+pub fn load_copied<L: RowLaw>(t: &Table<L>, p: &mut Pass, who: Seat, cell: u32, place: u8) -> u64
+    requires fits { Fits t.now.words.shared.table_id p.old }
+    requires held { IsSome (part_in (view p.old) who) }
+    requires known { IsKnown (view p.old) }
+    requires object { (newest_claimed (part_of (view p.old) who)).oid < OBJECT_LIMIT }
+    requires cell { (newest_claimed (part_of (view p.old) who)).cell ≡ cell }
+    requires place { place < ROW_WORDS }
+    requires ready { Ready (view p.old) who (copied_kind (part_of (view p.old) who) place) }
+    ensures fits { Fits t.now.words.shared.table_id p.new }
+    ensures told { ToldUnder L.law (view p.old) who (copied_kind (part_of (view p.old) who) place) result (view p.new) }
+{
+    let word = CellWord::Row(place);
+    load_as::<L, Brand>(t, p, who, Word::Cell { cell, word })
 }
 
 /// Swaps the link of the version in hand, which is in this cell, with 0: cuts the chain behind it. The answer is the link.
-pub fn swap_link(t: &Table, p: &mut Pass, who: Seat, cell: u32) -> u64
-    requires fits { Fits t.now.shared.table_id p.old }
+pub fn swap_link<L: RowLaw>(t: &Table<L>, p: &mut Pass, who: Seat, cell: u32) -> u64
+    requires fits { Fits t.now.words.shared.table_id p.old }
     requires held { IsSome (part_in (view p.old) who) }
     requires known { IsKnown (view p.old) }
     requires object { (in_hand (part_of (view p.old) who).task).oid < OBJECT_LIMIT }
     requires cell { (in_hand (part_of (view p.old) who).task).cell ≡ cell }
     requires ready { Ready (view p.old) who (swap_kind (part_of (view p.old) who)) }
-    ensures fits { Fits t.now.shared.table_id p.new }
-    ensures told { Told (view p.old) who (swap_kind (part_of (view p.old) who)) result (view p.new) }
+    ensures fits { Fits t.now.words.shared.table_id p.new }
+    ensures told { ToldUnder L.law (view p.old) who (swap_kind (part_of (view p.old) who)) result (view p.new) }
 {
     let word = CellWord::Link;
-    swap_as::<Brand>(t, p, who, Word::Cell { cell, word }, 0)
+    swap_as::<L, Brand>(t, p, who, Word::Cell { cell, word }, 0)
+}
+
+/// Loads the link of the version in hand, which was cut off: its cell, this one, is a spare one.
+pub fn load_detached<L: RowLaw>(t: &Table<L>, p: &mut Pass, who: Seat, cell: u32) -> u64
+    requires fits { Fits t.now.words.shared.table_id p.old }
+    requires held { IsSome (part_in (view p.old) who) }
+    requires known { IsKnown (view p.old) }
+    requires object { (in_hand (part_of (view p.old) who).task).oid < OBJECT_LIMIT }
+    requires cell { (in_hand (part_of (view p.old) who).task).cell ≡ cell }
+    requires ready { Ready (view p.old) who (detached_kind (part_of (view p.old) who)) }
+    ensures fits { Fits t.now.words.shared.table_id p.new }
+    ensures told { ToldUnder L.law (view p.old) who (detached_kind (part_of (view p.old) who)) result (view p.new) }
+{
+    let link = CellWord::Link;
+    load_as::<L, Brand>(t, p, who, Word::Cell { cell, word: link })
 }
 
 /// Sets the own bit among the readers of the version in hand, which is in this cell: the version counts as read.
-pub fn set_reader(t: &Table, p: &mut Pass, who: Seat, cell: u32)
-    requires fits { Fits t.now.shared.table_id p.old }
+pub fn set_reader<L: RowLaw>(t: &Table<L>, p: &mut Pass, who: Seat, cell: u32)
+    requires fits { Fits t.now.words.shared.table_id p.old }
     requires held { IsSome (part_in (view p.old) who) }
     requires session { is_session who ≡ true }
     requires known { IsKnown (view p.old) }
     requires object { (in_hand (part_of (view p.old) who).task).oid < OBJECT_LIMIT }
     requires cell { (in_hand (part_of (view p.old) who).task).cell ≡ cell }
     requires ready { Ready (view p.old) who (reader_kind (part_of (view p.old) who)) }
-    ensures fits { Fits t.now.shared.table_id p.new }
-    ensures told { (found : ℕ) × Told (view p.old) who (reader_kind (part_of (view p.old) who)) found (view p.new) }
+    ensures fits { Fits t.now.words.shared.table_id p.new }
+    ensures told { (found : ℕ) × ToldUnder L.law (view p.old) who (reader_kind (part_of (view p.old) who)) found (view p.new) }
 {
     let word = CellWord::Readers;
-    or_as::<Brand>(t, p, who, Word::Cell { cell, word }, bit(who));
+    or_as::<L, Brand>(t, p, who, Word::Cell { cell, word }, bit(who));
 }
 
 // The bit of a session.
@@ -87,16 +122,16 @@ fn bit(who: Seat) -> u64
 }
 
 /// Raises the reader stamp of the next version read, which is in this cell, to the own stamp.
-pub fn raise_reader(t: &Table, p: &mut Pass, who: Seat, cell: u32, value: Stamp)
-    requires fits { Fits t.now.shared.table_id p.old }
+pub fn raise_reader<L: RowLaw>(t: &Table<L>, p: &mut Pass, who: Seat, cell: u32, value: Stamp)
+    requires fits { Fits t.now.words.shared.table_id p.old }
     requires held { IsSome (part_in (view p.old) who) }
     requires known { IsKnown (view p.old) }
     requires object { (next_raised (part_of (view p.old) who)).oid < OBJECT_LIMIT }
     requires cell { (next_raised (part_of (view p.old) who)).cell ≡ cell }
     requires ready { Ready (view p.old) who (raise_kind (part_of (view p.old) who) value) }
-    ensures fits { Fits t.now.shared.table_id p.new }
-    ensures told { (found : ℕ) × Told (view p.old) who (raise_kind (part_of (view p.old) who) value) found (view p.new) }
+    ensures fits { Fits t.now.words.shared.table_id p.new }
+    ensures told { (found : ℕ) × ToldUnder L.law (view p.old) who (raise_kind (part_of (view p.old) who) value) found (view p.new) }
 {
     let word = CellWord::ReaderStamp;
-    raise_as::<Brand>(t, p, who, Word::Cell { cell, word }, value);
+    raise_as::<L, Brand>(t, p, who, Word::Cell { cell, word }, value);
 }

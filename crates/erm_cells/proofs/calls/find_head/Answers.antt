@@ -4,28 +4,28 @@ use Rattle.erm_cells.proofs.Heads.{has, ready_entry, did_enter, has_walks, objec
 use Rattle.erm_cells.proofs.calls.find_head.Goals as goal
 
 pub load_entry-entry-requires-clause-held : goal.load_entry-entry-requires-clause-held
-load_entry-entry-requires-clause-held c = is_held c.args.p.now.me.0 c.args.who _ (has c.args.p.now.me.0 c.args.who c.requires.active)
+load_entry-entry-requires-clause-held g c = is_held c.args.p.now.me.0 c.args.who _ (has c.args.p.now.me.0 c.args.who c.requires.active)
 
 pub load_entry-entry-requires-clause-ready : goal.load_entry-entry-requires-clause-ready
-load_entry-entry-requires-clause-ready c = ready_entry c.args.p.now.me.0 c.args.who c.requires.active c.args.oid c.requires.starts
+load_entry-entry-requires-clause-ready g c = ready_entry c.args.p.now.me.0 c.args.who c.requires.active c.args.oid c.requires.starts
 
 pub returns-then-owner_of-ne0-clause-found : goal.returns-then-owner_of-ne0-clause-found
-returns-then-owner_of-ne0-clause-found c = ((λ e. c.if-owner_of-ne0.true (c.owner_of.ensures ∙ e)), did_enter c.args.p.now.me.0 c.args.who c.requires.active c.args.oid c.load_entry-entry.result _ c.requires.starts c.load_entry-entry.ensures.told)
+returns-then-owner_of-ne0-clause-found g c = ((λ e. c.if-owner_of-ne0.true (c.owner_of.ensures ∙ e)), did_enter c.args.p.now.me.0 c.args.who c.requires.active c.args.oid c.load_entry-entry.result _ c.requires.object c.requires.starts c.load_entry-entry.ensures.told.told)
 
 pub load_walked-stamp-requires-clause-held : goal.load_walked-stamp-requires-clause-held
-load_walked-stamp-requires-clause-held c = is_held _ c.args.who _ (has_walks c.args.p.now.me.0 c.args.who c.requires.active c.args.oid c.load_entry-entry.result _ (did_enter c.args.p.now.me.0 c.args.who c.requires.active c.args.oid c.load_entry-entry.result _ c.requires.starts c.load_entry-entry.ensures.told) (sym c.owner_of.ensures ∙ c.if-owner_of-ne0.false))
+load_walked-stamp-requires-clause-held g c = is_held _ c.args.who _ (has_walks c.args.p.now.me.0 c.args.who c.requires.active c.args.oid c.load_entry-entry.result _ (did_enter c.args.p.now.me.0 c.args.who c.requires.active c.args.oid c.load_entry-entry.result _ c.requires.object c.requires.starts c.load_entry-entry.ensures.told.told) (sym c.owner_of.ensures ∙ c.if-owner_of-ne0.false))
 
 pub load_walked-stamp-requires-clause-known : goal.load_walked-stamp-requires-clause-known
-load_walked-stamp-requires-clause-known c = (did_enter c.args.p.now.me.0 c.args.who c.requires.active c.args.oid c.load_entry-entry.result _ c.requires.starts c.load_entry-entry.ensures.told).known
+load_walked-stamp-requires-clause-known g c = (did_enter c.args.p.now.me.0 c.args.who c.requires.active c.args.oid c.load_entry-entry.result _ c.requires.object c.requires.starts c.load_entry-entry.ensures.told.told).known
 
 pub load_walked-stamp-requires-clause-object : goal.load_walked-stamp-requires-clause-object
-load_walked-stamp-requires-clause-object c = object_in_hand c.args.p.now.me.0 c.args.who c.requires.active c.args.oid c.load_entry-entry.result _ (did_enter c.args.p.now.me.0 c.args.who c.requires.active c.args.oid c.load_entry-entry.result _ c.requires.starts c.load_entry-entry.ensures.told) (sym c.owner_of.ensures ∙ c.if-owner_of-ne0.false) c.requires.object
+load_walked-stamp-requires-clause-object g c = object_in_hand c.args.p.now.me.0 c.args.who c.requires.active c.args.oid c.load_entry-entry.result _ (did_enter c.args.p.now.me.0 c.args.who c.requires.active c.args.oid c.load_entry-entry.result _ c.requires.object c.requires.starts c.load_entry-entry.ensures.told.told) (sym c.owner_of.ensures ∙ c.if-owner_of-ne0.false) c.requires.object
 
 pub load_walked-stamp-requires-clause-cell : goal.load_walked-stamp-requires-clause-cell
-load_walked-stamp-requires-clause-cell c = cell_in_hand c.args.p.now.me.0 c.args.who c.requires.active c.args.oid c.load_entry-entry.result _ (did_enter c.args.p.now.me.0 c.args.who c.requires.active c.args.oid c.load_entry-entry.result _ c.requires.starts c.load_entry-entry.ensures.told) (sym c.owner_of.ensures ∙ c.if-owner_of-ne0.false) c.head_of.result c.head_of.ensures
+load_walked-stamp-requires-clause-cell g c = cell_in_hand c.args.p.now.me.0 c.args.who c.requires.active c.args.oid c.load_entry-entry.result _ (did_enter c.args.p.now.me.0 c.args.who c.requires.active c.args.oid c.load_entry-entry.result _ c.requires.object c.requires.starts c.load_entry-entry.ensures.told.told) (sym c.owner_of.ensures ∙ c.if-owner_of-ne0.false) c.head_of.result c.head_of.ensures
 
 pub load_walked-stamp-requires-clause-ready : goal.load_walked-stamp-requires-clause-ready
-load_walked-stamp-requires-clause-ready c = ready_walk c.args.p.now.me.0 c.args.who c.requires.active c.args.oid c.load_entry-entry.result _ (did_enter c.args.p.now.me.0 c.args.who c.requires.active c.args.oid c.load_entry-entry.result _ c.requires.starts c.load_entry-entry.ensures.told) (sym c.owner_of.ensures ∙ c.if-owner_of-ne0.false)
+load_walked-stamp-requires-clause-ready g c = ready_walk c.args.p.now.me.0 c.args.who c.requires.active c.args.oid c.load_entry-entry.result _ (did_enter c.args.p.now.me.0 c.args.who c.requires.active c.args.oid c.load_entry-entry.result _ c.requires.object c.requires.starts c.load_entry-entry.ensures.told.told) (sym c.owner_of.ensures ∙ c.if-owner_of-ne0.false)
 
 pub returns-clause-found : goal.returns-clause-found
-returns-clause-found c = did_walk c.args.p.now.me.0 c.args.who c.requires.active c.args.oid c.load_entry-entry.result _ (did_enter c.args.p.now.me.0 c.args.who c.requires.active c.args.oid c.load_entry-entry.result _ c.requires.starts c.load_entry-entry.ensures.told) (sym c.owner_of.ensures ∙ c.if-owner_of-ne0.false) c.load_walked-stamp.result _ c.load_walked-stamp.ensures.told
+returns-clause-found g c = did_walk c.args.p.now.me.0 c.args.who c.requires.active c.args.oid c.load_entry-entry.result _ (did_enter c.args.p.now.me.0 c.args.who c.requires.active c.args.oid c.load_entry-entry.result _ c.requires.object c.requires.starts c.load_entry-entry.ensures.told.told) (sym c.owner_of.ensures ∙ c.if-owner_of-ne0.false) c.load_walked-stamp.result _ c.requires.object c.load_walked-stamp.ensures.told.told

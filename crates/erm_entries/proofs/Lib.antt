@@ -1,0 +1,9 @@
+pub mod Installs
+pub mod Loads
+pub mod Owners
+pub mod Reaching
+pub mod Releases
+pub mod Sessions
+pub mod Spelled
+pub mod Stores
+pub mod Unclaims

@@ -1,0 +1,20 @@
+//! The end of a claim where the transaction commits.
+ghost use Rattle.std.specs.Prelude.{◌≡◌, ◌<◌};
+ghost use Rattle.erm_rule.specs.Steps.{Fits};
+ghost use Rattle.erm_rule.specs.Views.{view, part_of};
+ghost use Rattle.erm_entries.specs.Ends.{DidInstall, IsNextInstall};
+
+use erm_machine::OBJECT_LIMIT;
+use erm_model::{Oid, RowLaw, Seat};
+use erm_rule::{Pass, Table};
+
+/// Installs the own cell of the next claim of a committed transaction as the head of the object's chain, without owner.
+pub fn install<L: RowLaw>(t: &Table<L>, p: &mut Pass, who: Seat, oid: Oid, head: u32)
+    requires fits { Fits t.now.words.shared.table_id p.old }
+    requires object { oid < OBJECT_LIMIT }
+    requires next { IsNextInstall (part_of (view p.old) who) oid head }
+    ensures fits { Fits t.now.words.shared.table_id p.new }
+    ensures installed { DidInstall (view p.old) who oid head (view p.new) }
+{
+    erm_cells::install(t, p, who, oid, head);
+}

@@ -1,0 +1,9 @@
+pub mod Clearing
+pub mod Ending
+pub mod Loads
+pub mod Rating
+pub mod Registering
+pub mod Seats
+pub mod Seen
+pub mod Settling
+pub mod Walked

@@ -1,0 +1,43 @@
+//! A read's walk down a chain, to the version that it reads.
+ghost use Rattle.std.specs.Prelude.{◌≡◌, ◌-◌, ◌%◌, ◌^◌, ◌<◌, true};
+ghost use Rattle.erm_machine.specs.Seat.{is_active};
+ghost use Rattle.erm_readers.specs.Walk.{DidReach, IsWalking};
+ghost use Rattle.erm_rule.specs.Hands.{IsKnown};
+ghost use Rattle.erm_rule.specs.Steps.{Fits};
+ghost use Rattle.erm_rule.specs.Views.{view, part_of};
+
+use crate::answer::Reached;
+use erm_cells::load_walked;
+use erm_machine::CellWord;
+use erm_model::{RowLaw, Seat, Stamp};
+use erm_rule::{Pass, Table};
+
+/// Walks from the version in hand, which is in this cell, to the newest one below the begin stamp, which is this one: loads stamps, and
+/// links to the next older versions. The answer is that version.
+pub fn walk<L: RowLaw>(t: &Table<L>, p: &mut Pass, who: Seat, cell: u32, begin: Stamp) -> Reached
+    requires fits { Fits t.now.words.shared.table_id p.old }
+    requires known { IsKnown (view p.old) }
+    requires active { is_active (part_of (view p.old) who).place ≡ true }
+    requires walks { IsWalking (part_of (view p.old) who).task cell }
+    requires begin { (part_of (view p.old) who).current.begin ≡ begin }
+    ensures fits { Fits t.now.words.shared.table_id p.new }
+    ensures found { DidReach (view p.old) who result.cell result.stamp (view p.new) }
+{
+    let mut at = cell;
+    loop {
+        let stamp = load_walked(t, p, who, at, CellWord::Stamp);
+        if stamp < begin {
+            return Reached { cell: at, stamp };
+        }
+        let link = load_walked(t, p, who, at, CellWord::Link);
+        at = linked(link);
+    }
+}
+
+// The cell that a link names.
+fn linked(link: u64) -> u32
+    requires { 0 < link }
+    ensures { result ≡ (link - 1) % 2 ^ 32 }
+{
+    ((link - 1) % (1 << 32)) as u32
+}
