@@ -1,0 +1,239 @@
+-- All claims of a commit are installed, and its end.
+use Rattle.std.proofs.Common.{◌≡◌, ℕ, add-one, ◌+◌, ◌<◌, ◌≤◌, ⊎_elim, List, length, get_or, Option, Some, None, refl, sym, ap, ◌∙◌, subst, arith}
+use Rattle.std.proofs.lemmas.Bool.{cases_lt}
+use Rattle.erm_machine.specs.declared.attempt.Attempt.{Attempt}
+use Rattle.erm_machine.specs.declared.attempt.Claim.{Claim}
+use Rattle.erm_machine.specs.declared.attempt.Decision.{Decision}
+use Rattle.erm_machine.specs.declared.attempt.Decision.TheVariants.{Commit}
+use Rattle.erm_machine.specs.declared.attempt.OwnCell.{OwnCell}
+use Rattle.erm_machine.specs.declared.part.Part.{Part}
+use Rattle.erm_machine.specs.declared.task.Task.{Task}
+use Rattle.erm_machine.specs.declared.task.Task.TheVariants as task
+use Rattle.erm_machine.specs.Core.{claim_at, own_words}
+use Rattle.erm_machine.specs.Seat.{is_decided, with_task}
+use Rattle.erm_rule.specs.declared.view.View.{View}
+use Rattle.erm_rule.specs.Hands.{IsKnown}
+use Rattle.erm_rule.specs.Views.{part_in, part_of, with_part, IsView}
+use Rattle.erm_rule.proofs.Parts.{with_part-again, with_part-same}
+use Rattle.erm_rule.proofs.Telling.{changed_here, held_part, part_of-changed}
+use Rattle.erm_cells.specs.Heads.{with_own_head}
+use Rattle.erm_entries.specs.Ends.{HasFreeHead, installed_part, newest_version, next_install}
+use Rattle.erm_precommit.specs.declared.pre.KeptClaim.{KeptClaim}
+use Rattle.erm_precommit.specs.declared.pre.Pre.{Pre}
+use Rattle.erm_precommit.specs.Pre.{IsClaimKept, IsPre, no_claim_kept}
+use Rattle.erm_ends.specs.Commits.{DidCommit, DidInstallClaim, DidInstallClaims, DidRaiseReads, installed_all, installed_to, IsNextCommit, MayCommit, MayInstallClaims, MayRaiseReads, WasInstalled}
+use Rattle.erm_ends.specs.Ends.{claims_over, DidClearReads, DidLeave, left_part, MayClearReads, MayLeave}
+use Rattle.erm_ends.proofs.Going.{chain, ending_taken}
+use Rattle.erm_ends.proofs.Leaves.{decided_ends}
+use Rattle.erm_ends.proofs.Over.{over_length, over_more, over_next}
+
+same_head : (t u : Attempt) (w : Claim) (o : Option OwnCell) → u.stamp ≡ t.stamp → own_words (with_own_head u w o) ≡ own_words (with_own_head t w o)
+same_head t u w None e = refl
+same_head t u w (Some own) e =
+    ap (λ (n : ℕ). record own.words { stamp = n; link = w.version.cell + 1; readers = 0; reader_stamp = n; overwriter = 0; overwriter_succ = 0 }) e
+
+-- so many claims are installed
+abbrev pub come_to : ℕ → Part → Part
+come_to n x = with_task (task.Ends (length x.current.reads) n 0 0) (installed_to n x)
+
+pub record InstallLoop (v : View) (who n : ℕ) (u : View) : Type 0 where
+  pub view_is : u ≡ with_part who (come_to n (part_of v who)) v
+  pub known : IsKnown u
+  pub installed : (k : ℕ) → k < n → WasInstalled v who (part_of v who).current (claim_at (part_of v who).current k)
+
+module _ (v : View) (who : ℕ) (kept : List KeptClaim) (stamp succ : ℕ) (known : IsKnown v) (may : MayInstallClaims kept stamp succ (part_of v who)) where
+  abbrev x : Part
+  x = part_of v who
+
+  has : part_in v who ≡ Some x
+  has = held_part v who (ending_taken x.place (decided_ends x.place may.decided))
+
+  pub installs_start : (u : View) → u ≡ v → InstallLoop v who 0 u
+  installs_start u same = record {
+    view_is = same ∙ sym (ap (λ (t : Task). with_part who (with_task t x) v) (sym may.ends) ∙ with_part-same who x v known.in_order has);
+    known = subst IsKnown (sym same) known;
+    installed = λ k less. absurd (omega (arith, less));
+  }
+
+  module _ (u : View) (n : ℕ) (low : n < length kept) (loop : InstallLoop v who n u) where
+    abbrev y : Part
+    y = come_to n x
+
+    abbrev claim : KeptClaim
+    claim = get_or kept n no_claim_kept
+
+    within : n < length x.current.writes
+    within = let count = may.claims.count in omega (arith, count, low)
+
+    here : part_of u who ≡ y
+    here = part_of-changed v who u y x has loop.view_is
+
+    next_claim : claim_at y.current n ≡ claim_at x.current n
+    next_claim = over_next n x.current.writes
+
+    is_kept : IsClaimKept claim (claim_at x.current n)
+    is_kept = may.claims.each n within
+
+    pub install_next_claim : IsNextCommit claim stamp succ (part_of u who)
+    install_next_claim =
+        subst (IsNextCommit claim stamp succ) (sym here)
+        (record {
+          ended = n;
+          cleared = 0;
+          decided = may.decided;
+          committed = may.committed;
+          ends = refl;
+          within = let more = over_length n x.current.writes in let w = within in omega (arith, more, w);
+          claim = subst (IsClaimKept claim) (sym next_claim) is_kept;
+          stamp_is = may.stamp_is;
+          succ_is = may.succ_is;
+        })
+
+    goes : installed_part y ≡ come_to (n + 1) x
+    goes =
+        ap (λ (ws : List Claim). record x { task = task.Ends (length x.current.reads) (n + 1) 0 0; current = record x.current { writes = ws } }) (over_more n x.current.writes within)
+        ∙ ap (λ (m : ℕ). record x { task = task.Ends (length x.current.reads) (n + 1) 0 0; current = record x.current { writes = claims_over m x.current.writes } }) (sym (add-one n))
+
+    pub installs_go_on : (w : View) → DidInstallClaim u who claim.oid claim.own w → InstallLoop v who (n + 1) w
+    installs_go_on w did =
+        let is : w ≡ with_part who (come_to (n + 1) x) v = chain v who u w x y installed_part has loop.view_is did.view_is ∙ ap (λ (z : Part). with_part who z v) goes in
+        let words : (newest_version did.known.core claim.oid).words ≡ own_words (with_own_head x.current (claim_at x.current n) (claim_at x.current n).own) =
+        did.words ∙ ap (λ (z : Part). own_words (with_own_head z.current (next_install z) (next_install z).own)) here
+        ∙ ap (λ (w : Claim). own_words (with_own_head y.current w w.own)) next_claim ∙ same_head x.current y.current (claim_at x.current n) (claim_at x.current n).own refl
+        in
+        record {
+          view_is = is;
+          known = did.known;
+          installed = λ k less.
+              ⊎_elim
+              (λ (before : k < n). loop.installed k before)
+              (λ (not_before : n ≤ k).
+              let same : n ≡ k = omega (arith, less, not_before) in
+              subst (λ (m : ℕ). WasInstalled v who x.current (claim_at x.current m)) same
+              (record {
+                own = claim.own;
+                own_is = is_kept.own;
+                part = come_to (n + 1) x;
+                core = did.known.core;
+                sound = did.known.sound;
+                is_view = subst (λ (t : View). IsView t did.known.core) is did.known.is_view;
+                is_head = subst (λ (m : ℕ). HasFreeHead did.known.core m claim.own) is_kept.oid did.is_head;
+                words = subst (λ (m : ℕ). (newest_version did.known.core m).words ≡ own_words (with_own_head x.current (claim_at x.current n) (claim_at x.current n).own)) is_kept.oid words;
+              }))
+              (cases_lt k n);
+        }
+
+  pub did_install_all : (u : View) (n : ℕ) → n ≡ length kept → InstallLoop v who n u → DidInstallClaims v who u
+  did_install_all u n all loop =
+      let same : n ≡ length x.current.writes = all ∙ may.claims.count in
+      record {
+        view_is = subst (λ (m : ℕ). u ≡ with_part who (come_to m x) v) same loop.view_is;
+        known = loop.known;
+        installed = λ k less. loop.installed k (omega (arith, same, less));
+      }
+
+-- THE END
+pub may_raise : (pre : Pre) (x : Part) → IsPre pre x → MayCommit x → MayRaiseReads pre.reads.items pre.stamp x
+may_raise pre x kept may = record {
+  decided = may.decided;
+  committed = may.committed;
+  ends = may.ends;
+  reads = record { count = kept.read_count; each = kept.reads };
+  stamp_is = sym kept.stamp;
+}
+
+module _ (v : View) (who : ℕ) (pre : Pre) (kept : IsPre pre (part_of v who)) (may : MayCommit (part_of v who)) (u : View) (raised : DidRaiseReads v who u) where
+  abbrev z : Part
+  z = part_of v who
+
+  has_z : part_in v who ≡ Some z
+  has_z = held_part v who (ending_taken z.place (decided_ends z.place may.decided))
+
+  abbrev after_raise : Part
+  after_raise = with_task (task.Ends (length z.current.reads) 0 0 0) z
+
+  in_u : part_of u who ≡ after_raise
+  in_u = part_of-changed v who u after_raise z has_z raised.view_is
+
+  pub may_install : MayInstallClaims pre.claims.items pre.stamp pre.succ (part_of u who)
+  may_install =
+      subst (MayInstallClaims pre.claims.items pre.stamp pre.succ) (sym in_u)
+      (record {
+        decided = may.decided;
+        committed = may.committed;
+        ends = refl;
+        claims = record { count = kept.claim_count; each = kept.claims };
+        stamp_is = sym kept.stamp;
+        succ_is = sym kept.succ;
+      })
+
+  module _ (w : View) (installed : DidInstallClaims u who w) where
+    abbrev after_install : Part
+    after_install = come_to (length z.current.writes) z
+
+    install_view : w ≡ with_part who after_install v
+    install_view = chain v who u w z after_raise (λ y. come_to (length y.current.writes) y) has_z raised.view_is installed.view_is
+
+    in_w : part_of w who ≡ after_install
+    in_w = part_of-changed v who w after_install z has_z install_view
+
+    pub may_clear_committed : MayClearReads pre.reads.items (part_of w who)
+    may_clear_committed =
+        subst (MayClearReads pre.reads.items) (sym in_w)
+        (record {
+          raised = length z.current.reads;
+          step = 0;
+          place = decided_ends z.place may.decided;
+          ends = ap (λ (m : ℕ). Some (length z.current.reads, m, 0, 0)) (sym (over_length (length z.current.writes) z.current.writes));
+          all_raised = λ e. refl;
+          reads = record { count = kept.read_count; each = kept.reads };
+        })
+
+    module _ (t : View) (cleared : DidClearReads w who t) where
+      has_w : part_in w who ≡ Some after_install
+      has_w = changed_here v who w after_install z has_z install_view
+
+      has_here : part_in w who ≡ Some (part_of w who)
+      has_here = has_w ∙ ap (λ (y : Part). Some y) (sym in_w)
+
+      part_t : part_of t who ≡ with_task cleared.come.task (part_of w who)
+      part_t = part_of-changed w who t (with_task cleared.come.task (part_of w who)) (part_of w who) has_here cleared.come.view_is
+
+      pub may_leave_committed : MayLeave (part_of t who)
+      may_leave_committed =
+          subst MayLeave (sym part_t)
+          (record {
+            raised = cleared.raised;
+            step = cleared.step;
+            decided = ap (λ (y : Part). is_decided y.place) in_w ∙ may.decided;
+            ends = cleared.come.ends;
+          })
+
+      module _ (s : View) (left : DidLeave t who s) where
+        from_w : s ≡ with_part who (left_part (part_of w who).current.decision (part_of w who)) w
+        from_w = chain w who t s (part_of w who) (with_task cleared.come.task (part_of w who)) (λ y. left_part y.current.decision y) has_here cleared.come.view_is left.view_is
+
+        committed_view : s ≡ with_part who (left_part Commit (installed_all z)) v
+        committed_view =
+            chain v who w s z after_install (λ y. left_part y.current.decision y) has_z install_view from_w
+            ∙ ap (λ (d : Decision). with_part who (left_part d (installed_all z)) v) may.committed
+
+        since : (k : ℕ) → WasInstalled u who (part_of u who).current (claim_at (part_of u who).current k) → WasInstalled v who z.current (claim_at z.current k)
+        since k was = subst (λ (y : Part). WasInstalled v who y.current (claim_at y.current k)) in_u (record {
+          own = was.own;
+          own_is = was.own_is;
+          part = was.part;
+          core = was.core;
+          sound = was.sound;
+          is_view = subst (λ (q : View). IsView q was.core) (ap (λ (q : View). with_part who was.part q) raised.view_is ∙ with_part-again who after_raise was.part v) was.is_view;
+          is_head = was.is_head;
+          words = was.words;
+        })
+
+        pub did_commit : DidCommit v who s
+        did_commit = record {
+          view_is = committed_view;
+          known = left.known;
+          raised = raised.raised;
+          installed = λ k less. since k (installed.installed k (subst (λ (y : Part). k < length y.current.writes) (sym in_u) less));
+        }

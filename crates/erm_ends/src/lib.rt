@@ -1,0 +1,16 @@
+//! The ends of a session's transaction on the words that threads share: an active one aborts, one that is committed
+//! installs what it has claimed, and one that was excluded leaves all as it was. None of the calls waits or takes memory.
+#![tactic(auto)]
+
+mod aborting;
+mod clearing;
+mod committing;
+mod installing;
+mod leaving;
+mod raising;
+mod releasing;
+mod skipping;
+
+pub use aborting::abort;
+pub use committing::commit_end;
+pub use skipping::skip_end;

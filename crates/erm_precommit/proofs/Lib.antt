@@ -1,0 +1,11 @@
+pub mod Choices
+pub mod Standing
+pub mod Steps
+pub mod Read
+pub mod Overwritten
+pub mod Looks
+pub mod Loops
+pub mod Starts
+pub mod Bare
+pub mod Causes
+pub mod Windows

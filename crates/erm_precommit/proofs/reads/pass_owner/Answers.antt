@@ -1,0 +1,13 @@
+use Rattle.std.proofs.lemmas.Result.{IfErr-weaker}
+use Rattle.erm_precommit.proofs.Causes.{stopped_by_owner}
+use Rattle.erm_precommit.proofs.Standing.{then_on}
+use Rattle.erm_precommit.proofs.reads.pass_owner.Goals as goal
+
+pub returns-in-Some-clause-went : goal.returns-in-Some-clause-went
+returns-in-Some-clause-went g c = then_on c.args.p.now.me.0 c.args.who c.requires.stands.sealed _ _ c.load_head.ensures.went c.look_at_owner.ensures.went
+
+pub returns-in-Some-clause-waits : goal.returns-in-Some-clause-waits
+returns-in-Some-clause-waits g c =
+    IfErr-weaker c.look_at_owner.result _ _
+    (λ wait stop. stopped_by_owner c.args.p.now.me.0 c.args.who c.requires.stands.sealed _ c.load_head.ensures.went c.args.place c.in-Some.owner wait _ c.in-Some.ensures.owner c.in-Some.ensures.owned stop)
+    c.look_at_owner.ensures.stops

@@ -1,0 +1,11 @@
+use Rattle.std.proofs.lemmas.Result.{err_from_is_err_and}
+use Rattle.erm_precommit.proofs.Standing.{then_on}
+use Rattle.erm_precommit.proofs.writes.pass_write.Goals as goal
+
+pub returns-in_err-pass_readers-clause-waits : goal.returns-in_err-pass_readers-clause-waits
+returns-in_err-pass_readers-clause-waits g c = let p = err_from_is_err_and c.from_residual.result c.from_residual.ensures.1 in rw (p.1, p.2) c.in_err-pass_readers.ensures.waits
+
+pub returns-clause-went : goal.returns-clause-went
+returns-clause-went g c =
+    then_on c.args.p.now.me.0 c.args.who c.requires.stands.sealed _ _ c.pass_readers.ensures.went
+    (then_on _ c.args.who c.pass_readers.ensures.stands.sealed _ _ c.rate_creator.ensures.went c.rate_readers.ensures.went)

@@ -1,0 +1,2 @@
+pub mod Pre
+pub mod Settle

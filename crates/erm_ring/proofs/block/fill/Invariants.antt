@@ -1,0 +1,6 @@
+use Rattle.erm_rule.specs.Steps.{Fits}
+use Rattle.erm_ring.proofs.Filling.{FillLoop}
+use Rattle.erm_ring.proofs.block.fill.Given as goal
+
+abbrev pub invariant-loop-k : goal.invariant-loop-k
+invariant-loop-k g l = Fits l.t.words.shared.table_id l.p × FillLoop l.fn.p.me.0 l.who l.words l.k l.p.me.0

@@ -1,0 +1,9 @@
+pub mod Barred
+pub mod Chain
+pub mod Closed
+pub mod Filling
+pub mod FromHead
+pub mod Kept
+pub mod Reached
+pub mod Taken
+pub mod Whole
