@@ -101,7 +101,7 @@ follow() {
 }
 
 # The program is built before anything is measured: without words it does nothing else.
-"$program" </dev/null >/dev/null || true
+"$program" </dev/null >/dev/null || [ $? = 2 ] || { echo "$program can't be run: nothing is measured" >&2; exit 1; }
 printf '%-11s %12s %9s %9s %7s %10s %11s\n' kind transactions seconds MiB status log checkpoints
 for count in 1000 10000; do
     run_script run-1 "$count" 5000 1 0

@@ -155,7 +155,7 @@ PYTHON
 }
 
 # The program is built before anything is measured: without words it does nothing else.
-"$program" </dev/null >/dev/null || true
+"$program" </dev/null >/dev/null || [ $? = 2 ] || { echo "$program can't be run: nothing is measured" >&2; exit 1; }
 kinds="erm"
 if python3 -c 'import sqlite3' 2>/dev/null; then kinds="$kinds sqlite"; else echo "sqlite is skipped: not installed"; fi
 if start_postgres; then kinds="$kinds postgres"; else echo "postgres is skipped: not installed, or it didn't start"; fi

@@ -9,8 +9,9 @@ program=${1:-}
 if [ -z "$program" ]; then
     folder=$top/crates/erm_plain_bench
     program=$folder/out/erm_plain_bench
-    (cd "$folder" && rt run -- 0 >/dev/null 2>&1)
+    (cd "$folder" && rt run -- 0 >/dev/null 2>&1) || { echo "$program wasn't built: 'rt run -- 0' in $folder says why" >&2; exit 1; }
 fi
+[ -x "$program" ] || { echo "$program can't be run: nothing is measured" >&2; exit 1; }
 python3 - "$(readlink -f "$program")" <<'PYTHON'
 import os
 import subprocess

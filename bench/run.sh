@@ -137,7 +137,7 @@ PYTHON
 }
 
 # The program is built before anything is measured: without words it does nothing else.
-"$program" </dev/null >/dev/null || true
+"$program" </dev/null >/dev/null || [ $? = 2 ] || { echo "$program can't be run: nothing is measured" >&2; exit 1; }
 printf '%-11s %9s %9s %9s %9s %7s %9s\n' kind lines bytes seconds MiB status refused
 for kind in puts few-keys gets 4-sessions 48-sessions old-reader; do
     for count in 10000 100000 1000000; do
