@@ -15,7 +15,7 @@ use Rattle.erm_machine.specs.declared.version.CellWord.TheVariants as word
 use Rattle.erm_machine.specs.declared.version.VersionAt.{VersionAt}
 use Rattle.erm_machine.specs.Bounds.{IsBounded, OwnBounds}
 use Rattle.erm_machine.specs.Core.{Object}
-use Rattle.erm_machine.specs.Reading.{head_version, entered, after_cut, detached, load_entry, claim, set_reader, load_walked_stamp, load_walked_link, load_cell, swap_link, load_detached, load_counter, add_counter, load_active_stamp, start_row, store_row_word}
+use Rattle.erm_machine.specs.Reading.{head_version, entered, lost, after_cut, detached, load_entry, claim, set_reader, load_walked_stamp, load_walked_link, load_cell, swap_link, load_detached, load_counter, add_counter, load_active_stamp, start_row, store_row_word}
 use Rattle.erm_machine.specs.Seat.{is_active}
 use Rattle.erm_machine.specs.Settling.{store_active_word, unclaim}
 use Rattle.erm_machine.specs.Tasks.{OwnTask}
@@ -38,8 +38,10 @@ entered_bound p oid entry o t words =
 
 -- an entry exchanged, or another one found
 claimed_bound : (p oid found : ℕ) (b : Bool) (v : VersionAt) (o : Object) (t : Attempt) → (0 < owner_of found → is_seat (owner_of found) ≡ true) →
-    Bound p t (if b then task.Claimed v else entered p oid found o)
-claimed_bound p oid found b v o t words = either_way (Bound p t) b (task.Claimed v) (entered p oid found o) (λ _. search (bound_from)) (λ _. entered_bound p oid found o t words)
+    Bound p t (if b then task.Claimed v else lost p oid found v o)
+claimed_bound p oid found b v o t words =
+    either_way (Bound p t) b (task.Claimed v) (lost p oid found v o) (λ _. search (bound_from))
+    (λ _. either_way (Bound p t) _ (task.Passed (head_version oid found o)) (entered p oid found o) (λ _. search (bound_from)) (λ _. entered_bound p oid found o t words))
 
 module _ (p : ℕ) (x : Part) (own : OwnBounds p x) (fits : OwnTask x) where
   -- one that is active has stored no word
@@ -66,6 +68,7 @@ module _ (p : ℕ) (x : Part) (own : OwnBounds p x) (fits : OwnTask x) where
   b_walked_stamp : (found : ℕ) (v : VersionAt) (t : Task) (y : Part) → is_active x.place ≡ true → load_walked_stamp found v x t ≡ Some y → OwnBounds p y
   b_walked_stamp found v (task.Walks version head) y at e = when_then (OwnBounds p) _ _ y e (λ _. task_on p x _ (active at) (search (bound_if, bound_from)))
   b_walked_stamp found v (task.CutWalks version horizon) y at e = when_then (OwnBounds p) _ _ y e (λ _. task_on p x _ (active at) (search (bound_if, bound_from)))
+  b_walked_stamp found v (task.Passed version) y at e = when_then (OwnBounds p) _ _ y e (λ _. task_on p x _ (active at) (search (bound_from)))
   b_walked_stamp found v _ y at e = absurd (cc)
 
   b_walked_link : (found : ℕ) (v : VersionAt) (t : Task) (y : Part) → is_active x.place ≡ true → load_walked_link found v x t ≡ Some y → OwnBounds p y

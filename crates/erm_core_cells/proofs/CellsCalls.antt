@@ -132,6 +132,7 @@ walked_stamp_leaves : (found : ℕ) (v : VersionAt) (x : Part) (t : Task) (y : P
 walked_stamp_leaves found v x (task.Walks version head) y e = when_then (Leaves x _) _ _ y e (λ _. leaves_plain x _ _ (search (plain_if, plain_from)) (λ h. h))
 walked_stamp_leaves found v x (task.CutWalks version horizon) y e =
     when_then (Leaves x _) _ _ y e (λ _. leaves_want x _ _ (search (plain_if, plain_from)) (either_way MayWant (ltb found horizon) (task.CutFound version horizon) (task.CutPassed version horizon) (λ _. tt) (λ _. tt)))
+walked_stamp_leaves found v x (task.Passed version) y e = when_then (Leaves x _) _ _ y e (λ _. leaves_plain x _ _ (plain_from _ tt) (λ h. h))
 walked_stamp_leaves found v x _ y e = absurd (cc)
 
 walked_link_leaves : (found : ℕ) (v : VersionAt) (x : Part) (t : Task) (y : Part) → Cutting x t → load_walked_link found v x t ≡ Some y → Leaves x t y

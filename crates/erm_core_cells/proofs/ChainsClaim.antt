@@ -13,7 +13,7 @@ use Rattle.erm_machine.specs.declared.version.VersionAt.{VersionAt}
 use Rattle.erm_machine.specs.Chains.{IsNamed, OwnChains}
 use Rattle.erm_machine.specs.Core.{Core, Object, Shared, claim_at, no_claim, version_at}
 use Rattle.erm_machine.specs.Facts.{Holds}
-use Rattle.erm_machine.specs.Reading.{entered, new_claim, claim, set_reader}
+use Rattle.erm_machine.specs.Reading.{lost, new_claim, claim, set_reader}
 use Rattle.erm_machine.specs.Sound.{Sound}
 use Rattle.erm_machine.specs.Step.{with_object}
 use Rattle.erm_machine.specs.Words.{claimed, is_session}
@@ -21,7 +21,7 @@ use Rattle.erm_machine.proofs.Guards.{when_then}
 use Rattle.erm_machine.proofs.Holders.{stands_in}
 use Rattle.erm_machine.proofs.Objects.{Extends, extends_refl}
 use Rattle.erm_core_cells.proofs.ChainsFrames.{Grows, grows_refl, SameHead, same_head, put_object, name_kept, named_kept, cut_kept, head_kept, same_name}
-use Rattle.erm_core_cells.proofs.ChainsRead.{Hand, hand_of, entered_hand}
+use Rattle.erm_core_cells.proofs.ChainsRead.{Hand, hand_of, lost_hand}
 
 -- what is shared, with another entry
 abbrev pub with_entry : ℕ → ℕ → Shared → Shared
@@ -100,15 +100,15 @@ module _ (c : Core) (p oid seen number : ℕ) (sound : Sound c) (known : oid < O
       }
 
   -- an entry that is another by now
-  entered_after : (version : VersionAt) (w : Claim) →
+  lost_after : (version : VersionAt) (w : Claim) →
       OwnChains (with_entry oid (c.shared.objects oid).entry c.shared)
-      (exchanged (c.seats p) false version w (entered p oid (c.shared.objects oid).entry (c.shared.objects oid)))
-  entered_after version w =
+      (exchanged (c.seats p) false version w (lost p oid (c.shared.objects oid).entry version (c.shared.objects oid)))
+  lost_after version w =
       let x = c.seats p in
-      let u = entered p oid (c.shared.objects oid).entry (c.shared.objects oid) in
+      let u = lost p oid (c.shared.objects oid).entry version (c.shared.objects oid) in
       let y = exchanged x false version w u in
       let t = with_entry oid (c.shared.objects oid).entry c.shared in
-      let h = entered_hand c p sound oid known in
+      let h = lost_hand c p sound oid version known in
       record {
         named = named_kept c.shared t (entry_extends oid (c.shared.objects oid).entry c.shared) u h.named;
         cut = cut_kept c.shared t x y (λ _ g. g) (λ _ m. m) (λ k _. entry_grows oid (c.shared.objects oid).entry c.shared k) u h.named h.cut;
@@ -122,11 +122,11 @@ module _ (c : Core) (p oid seen number : ℕ) (sound : Sound c) (known : oid < O
       let oid_is : oid ≡ version.oid = eqb-true _ _ (and_parts _ _ (and_parts _ _ (and_parts _ _ (and_parts _ _ g).0).0).0).1 in
       let seen_is : seen ≡ entry = eqb-true _ _ (and_parts _ _ (and_parts _ _ (and_parts _ _ g).0).0).1 in
       let w = new_claim version stamp (version_at (c.shared.objects oid) version.place).words.row in
-      by_choice (λ b. OwnChains (with_entry oid (entry_after b) c.shared) (exchanged (c.seats p) b version w (entered p oid (c.shared.objects oid).entry (c.shared.objects oid))))
+      by_choice (λ b. OwnChains (with_entry oid (entry_after b) c.shared) (exchanged (c.seats p) b version w (lost p oid (c.shared.objects oid).entry version (c.shared.objects oid))))
       ((c.shared.objects oid).entry == seen)
-      (λ found. claimed_hand version stamp entry (claimed seen p number) w (entered p oid (c.shared.objects oid).entry (c.shared.objects oid)) at
+      (λ found. claimed_hand version stamp entry (claimed seen p number) w (lost p oid (c.shared.objects oid).entry version (c.shared.objects oid)) at
       (ap (λ n. (c.shared.objects n).entry) (sym oid_is) ∙ eqb-true _ _ found ∙ seen_is) refl refl)
-      (λ _. entered_after version w))
+      (λ _. lost_after version w))
   claim_hand _ y at e = absurd (cc)
 
 -- only a session claims

@@ -16,7 +16,7 @@ use Rattle.erm_machine.specs.Chains.{IsNamed, NamedInHand, IsAttached, IsDetache
 use Rattle.erm_machine.specs.Core.{Core, Object, Shared, spot_of, word_at, version_at}
 use Rattle.erm_machine.specs.Facts.{Holds, HasBegun}
 use Rattle.erm_machine.specs.Life.{load_tail_for_horizon, after_begin_word, load_begin, after_clear, load_state}
-use Rattle.erm_machine.specs.Reading.{head_version, older, entered, after_cut, detached, load_entry, load_walked_stamp, load_walked_link, load_cell, load_detached, load_active_stamp}
+use Rattle.erm_machine.specs.Reading.{head_version, older, entered, lost, after_cut, detached, load_entry, load_walked_stamp, load_walked_link, load_cell, load_detached, load_active_stamp}
 use Rattle.erm_machine.specs.Seat.{is_active, is_sealed}
 use Rattle.erm_machine.specs.Settling.{load_settled_stamp, load_stamp}
 use Rattle.erm_machine.specs.Snapshot.{InHand}
@@ -175,6 +175,12 @@ module _ (c : Core) (p : ℕ) (sound : Sound c) where
       positive : (p owner : ℕ) → owner ≡ p → owner ≢ 0 → 0 < p
       positive p owner is ne = omega (arith, is, ne)
 
+  pub lost_hand : (oid : ℕ) (v : VersionAt) → oid < OBJECT_LIMIT → Hand c.shared (c.seats p) (lost p oid (c.shared.objects oid).entry v (c.shared.objects oid))
+  lost_hand oid v known =
+      let o = c.shared.objects oid in
+      hand_if c.shared (c.seats p) _ (task.Passed (head_version oid o.entry o)) (entered p oid o.entry o)
+      (λ _. record { named = head_named oid known; cut = tt; head = tt }) (λ _. entered_hand oid known)
+
   pub load_entry_hand : (oid : ℕ) (t : Task) (y : Part) → oid < OBJECT_LIMIT → load_entry p oid (c.shared.objects oid).entry (c.shared.objects oid) (c.seats p) t ≡ Some y → OwnChains c.shared y
   load_entry_hand oid (task.Cleared cleared) y known e =
       when_then (OwnChains c.shared) _ _ y e (λ _. with_hand c.shared (c.seats p) _
@@ -201,6 +207,9 @@ module _ (c : Core) (p : ℕ) (sound : Sound c) where
       (hand_if c.shared (c.seats p) _ (task.CutFound version horizon) (task.CutPassed version horizon)
       (λ below. record { named = h.named; cut = (h.cut, subst (λ n. stamp_of n < horizon) (same_name v version g) (ltb-true _ _ below)); head = tt })
       (λ _. record { named = h.named; cut = h.cut; head = tt })))
+  walked_stamp_hand v (task.Passed version) y at e =
+      let h = hand_of c.shared (c.seats p) (task.Passed version) at (sound.own p).chains in
+      when_then (OwnChains c.shared) _ _ y e (λ _. with_hand c.shared (c.seats p) (task.Passed version) (record { named = h.named; cut = tt; head = tt }))
   walked_stamp_hand v _ y at e = absurd (cc)
 
   -- a version that a read has passed isn't the oldest one attached

@@ -100,6 +100,7 @@ l_set_reader seat v o x _ y e = absurd (cc)
 l_walked_stamp : (found : ℕ) (v : VersionAt) (x : Part) (t : Task) (y : Part) → load_walked_stamp found v x t ≡ Some y → Lasting x y
 l_walked_stamp found v x (task.Walks version head) y e = when_then (Lasting x) _ _ y e (λ _. lasts x _ refl refl refl)
 l_walked_stamp found v x (task.CutWalks version horizon) y e = when_then (Lasting x) _ _ y e (λ _. lasts x _ refl refl refl)
+l_walked_stamp found v x (task.Passed version) y e = when_then (Lasting x) _ _ y e (λ _. lasts x _ refl refl refl)
 l_walked_stamp found v x _ y e = absurd (cc)
 
 l_walked_link : (found : ℕ) (v : VersionAt) (x : Part) (t : Task) (y : Part) → load_walked_link found v x t ≡ Some y → Lasting x y

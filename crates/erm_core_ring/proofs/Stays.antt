@@ -108,6 +108,7 @@ s_set_reader seat v o x _ y e = absurd (cc)
 s_walked_stamp : (found : ℕ) (v : VersionAt) (x : Part) (t : Task) (y : Part) → load_walked_stamp found v x t ≡ Some y → Stays x t y
 s_walked_stamp found v x (task.Walks version head) y e = when_then (Stays x _) _ _ y e (λ _. past x _ _ refl refl refl refl refl tt)
 s_walked_stamp found v x (task.CutWalks version horizon) y e = when_then (Stays x _) _ _ y e (λ _. past x _ _ refl refl refl refl refl tt)
+s_walked_stamp found v x (task.Passed version) y e = when_then (Stays x _) _ _ y e (λ _. past x _ _ refl refl refl refl refl tt)
 s_walked_stamp found v x _ y e = absurd (cc)
 
 s_walked_link : (found : ℕ) (v : VersionAt) (x : Part) (t : Task) (y : Part) → load_walked_link found v x t ≡ Some y → Stays x t y

@@ -22,7 +22,7 @@ use Rattle.erm_machine.specs.Core.{Object}
 use Rattle.erm_machine.specs.Facts.{over_of}
 use Rattle.erm_machine.specs.Flushing.{load_flushed, gathered_word, load_ring, clear_ring, store_flushed}
 use Rattle.erm_machine.specs.Life.{load_tail_for_horizon, load_tail_to_gather, load_begin, after_clear, load_state}
-use Rattle.erm_machine.specs.Reading.{entered, after_cut, detached, load_entry, set_reader, load_walked_stamp, load_walked_link, load_cell, swap_link, load_detached, load_counter}
+use Rattle.erm_machine.specs.Reading.{entered, lost, after_cut, detached, load_entry, set_reader, load_walked_stamp, load_walked_link, load_cell, swap_link, load_detached, load_counter}
 use Rattle.erm_machine.specs.Seat.{end_of, is_active, may_start}
 use Rattle.erm_machine.specs.Settling.{may_settle, load_flushed_to_settle, load_read_entry, load_readers, load_settled_stamp, store_ring, filled, raise_reader, clear_reader}
 use Rattle.erm_machine.proofs.Guards.{when_then, some_then, if_then, either_way}
@@ -150,6 +150,9 @@ gentle_flushing x f to seen = record { place = refl; number = refl; begin = refl
 pub entered_no_end : (seat oid entry : ℕ) (o : Object) → NoEnd (entered seat oid entry o)
 entered_no_end seat oid entry o = search (no_end_if, no_end)
 
+pub lost_no_end : (seat oid entry : ℕ) (v : VersionAt) (o : Object) → NoEnd (lost seat oid entry v o)
+lost_no_end seat oid entry v o = search (no_end_if, no_end, entered_no_end)
+
 after_cut_no_end : (x : Part) → NoEnd (after_cut x)
 after_cut_no_end x = search (no_end_if, no_end)
 
@@ -196,6 +199,7 @@ g_walked_stamp found v x (task.Walks version head) y e =
     when_then (Gentle x _) _ _ y e (λ _. plain_task x _ _ (no_end _ tt) (search (no_end_if, no_end)))
 g_walked_stamp found v x (task.CutWalks version horizon) y e =
     when_then (Gentle x _) _ _ y e (λ _. plain_task x _ _ (no_end _ tt) (search (no_end_if, no_end)))
+g_walked_stamp found v x (task.Passed version) y e = when_then (Gentle x _) _ _ y e (λ _. plain_task x _ _ (no_end _ tt) (no_end _ tt))
 g_walked_stamp found v x _ y e = absurd (cc)
 
 g_walked_link : (found : ℕ) (v : VersionAt) (x : Part) (t : Task) (y : Part) → load_walked_link found v x t ≡ Some y → Gentle x t y

@@ -16,7 +16,7 @@ use Rattle.erm_machine.specs.Chains.{NamedInHand, IsNamed, HeadInHand, IsHead}
 use Rattle.erm_machine.specs.Claims.{ObjectFits, ClaimFits, OwnClaims, claims_over, step_of}
 use Rattle.erm_machine.specs.Core.{Core, Shared, Object, blank, claim_at, no_claim, version_at}
 use Rattle.erm_machine.specs.Facts.{Holds, IsCurrent}
-use Rattle.erm_machine.specs.Reading.{entered, new_claim, claim}
+use Rattle.erm_machine.specs.Reading.{lost, new_claim, claim}
 use Rattle.erm_machine.specs.Snapshot.{InHand, IsNewestAt}
 use Rattle.erm_machine.specs.Sound.{Sound}
 use Rattle.erm_machine.specs.Step.{with_object}
@@ -27,7 +27,7 @@ use Rattle.erm_machine.proofs.Holders.{owner_holds}
 use Rattle.erm_machine.proofs.QuietKinds.{Moves}
 use Rattle.erm_core_si.proofs.ClaimsObjects.{Alike, alike_same, alike_refl, alike_put, install_waits, claimed_head, claimed_owner, claimed_number, object_claimed}
 use Rattle.erm_core_si.proofs.ClaimsOwn.{ClaimOk, ok_at, own_from, ok_goes, held_at, holds_of, holds_claim, Kept, kept_alike, kept_changed, stands_own}
-use Rattle.erm_core_si.proofs.ClaimsGentle.{NoEnd, no_end, NotLeaving, over_known, Gentle, gentle_stands, gentle_current, entered_no_end}
+use Rattle.erm_core_si.proofs.ClaimsGentle.{NoEnd, no_end, NotLeaving, over_known, Gentle, gentle_stands, gentle_current, lost_no_end}
 use Rattle.erm_core_si.proofs.ClaimsRefilled.{active_stays}
 
 -- a seat gains one claim, of an object that it doesn't hold
@@ -260,7 +260,7 @@ exchange_kept c p oid seen number d (task.Found v stamp (Some entry)) y sound at
         → record {
           shared = with_object oid (record (c.shared.objects oid) { entry = if b then claimed seen p number else (c.shared.objects oid).entry }) c.shared;
           seats = put c.seats p (record (c.seats p) {
-            task = if b then task.Claimed v else entered p oid (c.shared.objects oid).entry (c.shared.objects oid);
+            task = if b then task.Claimed v else lost p oid (c.shared.objects oid).entry v (c.shared.objects oid);
             current = record (c.seats p).current {
               writes = if b then (c.seats p).current.writes ++ new_claim v stamp (version_at (c.shared.objects oid) v.place).words.row ∷ [] else (c.seats p).current.writes;
             };
@@ -287,13 +287,13 @@ exchange_kept c p oid seen number d (task.Found v stamp (Some entry)) y sound at
         is
     by_test false test stays positive low is_oid is_seen is_number is =
         let alike = alike_put c.shared.objects oid (record (c.shared.objects oid) { entry = (c.shared.objects oid).entry }) (alike_refl (c.shared.objects oid)) in
-        let none : NoEnd (entered p oid (c.shared.objects oid).entry (c.shared.objects oid)) = entered_no_end p oid (c.shared.objects oid).entry (c.shared.objects oid) in
+        let none : NoEnd (lost p oid (c.shared.objects oid).entry v (c.shared.objects oid)) = lost_no_end p oid (c.shared.objects oid).entry v (c.shared.objects oid) in
         let z : Part = record (c.seats p) {
-          task = entered p oid (c.shared.objects oid).entry (c.shared.objects oid);
+          task = lost p oid (c.shared.objects oid).entry v (c.shared.objects oid);
           current = record (c.seats p).current { writes = (c.seats p).current.writes };
         } in
         let gentle : Gentle (c.seats p) (task.Found v stamp (Some entry)) z =
-        gentle_current (c.seats p) (task.Found v stamp (Some entry)) (entered p oid (c.shared.objects oid).entry (c.shared.objects oid)) (c.seats p).current (c.seats p).spare (no_end _ tt) none
+        gentle_current (c.seats p) (task.Found v stamp (Some entry)) (lost p oid (c.shared.objects oid).entry v (c.shared.objects oid)) (c.seats p).current (c.seats p).spare (no_end _ tt) none
         (record { number = refl; begin = refl; stamp = refl; writes = refl }) in
         kept_alike c p z (with_object oid (record (c.shared.objects oid) { entry = (c.shared.objects oid).entry }) c.shared) d sound (omega arith) alike
         (stands_own c.shared (with_object oid (record (c.shared.objects oid) { entry = (c.shared.objects oid).entry }) c.shared) p (c.seats p) z alike

@@ -1,6 +1,6 @@
 -- What a step leaves, and who holds an object.
-use Rattle.std.proofs.Common.{◌≡◌, ℕ, ⊎_elim, true, eqb, Some, refl, sym, ap, ◌∙◌, subst, arith}
-use Rattle.std.specs.Prelude.{if◌then◌else◌}
+use Rattle.std.proofs.Common.{◌≡◌, ℕ, ⊎_elim, true, ◌&&◌, eqb, Some, refl, sym, ap, ◌∙◌, subst, arith}
+use Rattle.std.specs.Prelude.{if◌then◌else◌, not}
 use Rattle.std.proofs.lemmas.Bool.{and_parts, eqb-true}
 use Rattle.erm_model.specs.Member.{◌∈◌}
 use Rattle.erm_model.proofs.Members.{none_in_nil}
@@ -14,11 +14,11 @@ use Rattle.erm_machine.specs.declared.task.Task.TheVariants as task
 use Rattle.erm_machine.specs.declared.version.VersionAt.{VersionAt}
 use Rattle.erm_machine.specs.Core.{Core, Object, spot_of, word_at, blank}
 use Rattle.erm_machine.specs.Facts.{Holds, IsCurrent}
-use Rattle.erm_machine.specs.Reading.{entered, head_version}
+use Rattle.erm_machine.specs.Reading.{entered, head_version, lost}
 use Rattle.erm_machine.specs.Seat.{same_version}
 use Rattle.erm_machine.specs.Sound.{Sound}
 use Rattle.erm_machine.specs.Step.{shared_after}
-use Rattle.erm_machine.specs.Words.{owner_of, is_seat}
+use Rattle.erm_machine.specs.Words.{head_of, owner_of, is_seat}
 use Rattle.erm_machine.proofs.Guards.{either_way}
 use Rattle.erm_machine.proofs.Holders.{owner_holds}
 use Rattle.erm_machine.proofs.QuietKinds.{Moves}
@@ -103,3 +103,7 @@ hand_entered c p begin oid sound =
 
 pub unsettled_entered : (p oid entry : ℕ) (o : Object) → Unsettled (entered p oid entry o)
 unsettled_entered p oid entry o = entered_at Unsettled p oid entry o (λ _. tt) tt tt
+
+pub unsettled_lost : (p oid entry : ℕ) (v : VersionAt) (o : Object) → Unsettled (lost p oid entry v o)
+unsettled_lost p oid entry v o =
+    either_way Unsettled (eqb (owner_of entry) 0 && not (eqb (head_of entry) v.cell)) (task.Passed (head_version oid entry o)) (entered p oid entry o) (λ _. tt) (λ _. unsettled_entered p oid entry o)

@@ -1,7 +1,8 @@
 -- Steps of a read and of a claim.
-use Rattle.std.proofs.Common.{◌≡◌, ◌≢◌, ℕ, ◌<◌, ◌≤◌, ⊎_elim, Bool, true, false, ◌&&◌, eqb, ltb, List, [], ◌∷◌, ◌++◌, Option, Some, None, refl, sym, subst, arith}
-use Rattle.std.specs.Prelude.{if◌then◌else◌}
-use Rattle.std.proofs.lemmas.Bool.{and_parts, cases_eq, eqb-true, ltb-true, ltb-false}
+use Rattle.std.proofs.Common.{◌≡◌, ◌≢◌, ℕ, ◌<◌, ◌≤◌, ⊎_elim, Bool, true, false, ◌&&◌, eqb, ltb, List, [], ◌∷◌, ◌++◌, Option, Some, None, length, refl, sym, ap, ◌∙◌, subst, arith}
+use Rattle.std.specs.Prelude.{if◌then◌else◌, not}
+use Rattle.std.proofs.lemmas.Bool.{and_parts, cases_eq, eqb-false, eqb-true, ltb-true, ltb-false, not-true}
+use Rattle.erm_machine.specs.declared.limits.TheConstants.{OBJECT_LIMIT}
 use Rattle.erm_model.specs.Member.{◌∈◌}
 use Rattle.erm_model.proofs.Members.{∈-push}
 use Rattle.erm_machine.specs.declared.attempt.Claim.{Claim}
@@ -12,19 +13,19 @@ use Rattle.erm_machine.specs.declared.version.CellWord.{CellWord}
 use Rattle.erm_machine.specs.declared.version.CellWord.TheVariants as word
 use Rattle.erm_machine.specs.declared.version.VersionAt.{VersionAt}
 use Rattle.erm_machine.specs.Chains.{NamedInHand}
-use Rattle.erm_machine.specs.Core.{Core, version_at}
+use Rattle.erm_machine.specs.Core.{Core, newest, version_at}
 use Rattle.erm_machine.specs.Facts.{HoldsBelow}
-use Rattle.erm_machine.specs.Reading.{head_version, older, entered, load_entry, new_claim, claim, load_walked_stamp, load_walked_link, load_cell}
+use Rattle.erm_machine.specs.Reading.{head_version, older, entered, lost, load_entry, new_claim, claim, load_walked_stamp, load_walked_link, load_cell}
 use Rattle.erm_machine.specs.Seat.{is_active, same_version}
-use Rattle.erm_machine.specs.Snapshot.{InHand, NoneInHand}
+use Rattle.erm_machine.specs.Snapshot.{InHand, NewerFrom, NoneInHand}
 use Rattle.erm_machine.specs.Sound.{Sound}
-use Rattle.erm_machine.specs.Words.{cell_word}
+use Rattle.erm_machine.specs.Words.{cell_word, head_of, owner_of}
 use Rattle.erm_machine.proofs.Guards.{when_then, if_then, either_way}
 use Rattle.erm_core_si.proofs.SnapshotSteps.{Hand, Stays}
 use Rattle.erm_core_si.proofs.SnapshotClaims.{claimed_in, stays_now, claiming_now}
 use Rattle.erm_core_si.proofs.SnapshotSame.{free_if, free_from, covers_none, active_unsealed, recalls_stay, Unsettled, unsettled, free_hand}
 use Rattle.erm_core_si.proofs.SnapshotCalm.{calm_task, calm_stay, after_cut_free}
-use Rattle.erm_core_si.proofs.SnapshotLeft.{Left, left_calm, left_task, same_place, hand_entered, unsettled_entered}
+use Rattle.erm_core_si.proofs.SnapshotLeft.{Left, left_calm, left_task, same_place, hand_entered, unowned, unsettled_entered, unsettled_lost}
 
 first : (a b : Bool) → (a && b) ≡ true → a ≡ true
 first a b h = (and_parts a b h).0
@@ -96,6 +97,12 @@ module _ (c : Core) (p : ℕ) (sound : Sound c) where
       (λ high. left_task c p _ sound (hand_passed version head found at (sym (same_stamp v version g)) (ltb-false found (c.seats p).current.begin high)) tt))
   walked_stamp_left v (task.CutWalks version horizon) y at e =
       when_then (Left c p) _ _ y e (λ _. left_calm c p _ sound (calm_task (c.seats p) (c.seats p).task _ (search (free_if, free_from))))
+  walked_stamp_left v (task.Passed version) y at e =
+      when_then (Left c p) _ _ y e (λ _. left_task c p _ sound (record {
+        in_hand = in_hand (task.Passed version) at;
+        within = (named (task.Passed version) at).within;
+        none = none_in_hand (task.Passed version) at;
+      }) tt)
   walked_stamp_left v _ y at e = absurd (cc)
 
   -- the link of a version that was passed
@@ -137,6 +144,39 @@ module _ (c : Core) (p : ℕ) (sound : Sound c) where
     apart = none_in_hand (task.Found version stamp head) at;
   }
 
+  -- another version is the head by now: it is newer than the one in hand
+  became_newer : (version : VersionAt) (stamp oid : ℕ) (head : Option ℕ) → (c.seats p).task ≡ task.Found version stamp head → oid ≡ version.oid →
+      head_of (c.shared.objects oid).entry ≢ version.cell → (newest (c.shared.objects oid) < length (c.shared.objects oid).versions)
+      × ((c.seats p).current.begin ≤ (version_at (c.shared.objects oid) (newest (c.shared.objects oid))).words.stamp)
+  became_newer version stamp oid head at is other =
+      let o = c.shared.objects oid in
+      let n = named (task.Found version stamp head) at in
+      let known : oid < OBJECT_LIMIT = subst (λ (k : ℕ). k < OBJECT_LIMIT) (sym is) n.object in
+      let some = (sound.common.claims.objects oid known).some in
+      let within : version.place < length o.versions = subst (λ (k : ℕ). version.place < length (c.shared.objects k).versions) (sym is) n.within in
+      let later : version.place ≢ newest o = λ same. other
+      ((sound.common.claims.objects oid known).head ∙ ap (λ (k : ℕ). (version_at o k).cell) (sym same)
+      ∙ ap (λ (k : ℕ). (version_at (c.shared.objects k) version.place).cell) is ∙ n.cell) in
+      let newer : NewerFrom o version.place (c.seats p).current.begin =
+      subst (λ (k : ℕ). NewerFrom (c.shared.objects k) version.place (c.seats p).current.begin) (sym is) (in_hand (task.Found version stamp head) at).newer in
+      let low : newest o < length o.versions = omega (arith, some) in
+      (low, newer (newest o) (omega (arith, within, later, some)) low)
+
+  hand_lost : (version : VersionAt) (stamp oid : ℕ) (head : Option ℕ) → (c.seats p).task ≡ task.Found version stamp head → oid ≡ version.oid →
+      Hand c p (c.seats p).current.begin (lost p oid (c.shared.objects oid).entry version (c.shared.objects oid))
+  hand_lost version stamp oid head at is =
+      let o = c.shared.objects oid in
+      either_way (Hand c p (c.seats p).current.begin) (eqb (owner_of o.entry) 0 && not (eqb (head_of o.entry) version.cell)) (task.Passed (head_version oid o.entry o)) (entered p oid o.entry o)
+      (λ g.
+      let none = eqb-true (owner_of o.entry) 0 (and_parts _ _ g).0 in
+      let newer = became_newer version stamp oid head at is (eqb-false (head_of o.entry) version.cell (not-true _ (and_parts _ _ g).1)) in
+      record {
+        in_hand = (λ k above within. absurd (omega (arith, above, within)), newer.1);
+        within = newer.0;
+        none = λ q _ h. unowned c q oid sound none h.2;
+      })
+      (λ _. hand_entered c p (c.seats p).current.begin oid sound)
+
   -- one claim more, or none
   stays_gained : (b : Bool) (new : Claim) → Stays c p (c.seats p).current.begin new → (w : Claim) →
       w ∈ (if b then (c.seats p).current.writes ++ new ∷ [] else (c.seats p).current.writes) → Stays c p (c.seats p).current.begin w
@@ -157,9 +197,10 @@ module _ (c : Core) (p : ℕ) (sound : Sound c) where
         recalls = recalls_stay c p _ sound refl refl refl refl;
         claims = claiming_now c p _ sound refl refl
             (stays_gained (eqb (c.shared.objects oid).entry seen) _ (may_claim version stamp (Some entry) (version_at (c.shared.objects oid) version.place).words.row at));
-        hand = either_way (Hand c p (c.seats p).current.begin) (eqb (c.shared.objects oid).entry seen) (task.Claimed version) (entered p oid (c.shared.objects oid).entry (c.shared.objects oid))
-            (λ _. free_hand c p (c.seats p).current.begin _ (free_from _ tt tt)) (λ _. hand_entered c p (c.seats p).current.begin oid sound);
-        settle = unsettled c p _ (either_way Unsettled (eqb (c.shared.objects oid).entry seen) (task.Claimed version) (entered p oid (c.shared.objects oid).entry (c.shared.objects oid))
-            (λ _. tt) (λ _. unsettled_entered p oid (c.shared.objects oid).entry (c.shared.objects oid)));
+        hand = either_way (Hand c p (c.seats p).current.begin) (eqb (c.shared.objects oid).entry seen) (task.Claimed version) (lost p oid (c.shared.objects oid).entry version (c.shared.objects oid))
+            (λ _. free_hand c p (c.seats p).current.begin _ (free_from _ tt tt))
+            (λ _. hand_lost version stamp oid (Some entry) at (eqb-true _ _ (and_parts _ _ (first _ _ (first _ _ (first _ _ g)))).1));
+        settle = unsettled c p _ (either_way Unsettled (eqb (c.shared.objects oid).entry seen) (task.Claimed version) (lost p oid (c.shared.objects oid).entry version (c.shared.objects oid))
+            (λ _. tt) (λ _. unsettled_lost p oid (c.shared.objects oid).entry version (c.shared.objects oid)));
       })
   claim_left oid seen number _ y at e = absurd (cc)

@@ -117,6 +117,7 @@ t_set_reader seat v o x _ y e = absurd (cc)
 t_walked_stamp : (found : ℕ) (v : VersionAt) (x : Part) (t : Task) (y : Part) → is_active x.place ≡ true → load_walked_stamp found v x t ≡ Some y → OwnTask y
 t_walked_stamp found v x (task.Walks version head) y at e = when_then OwnTask _ _ y e (λ _. working _ at (search (works_if, works_from)))
 t_walked_stamp found v x (task.CutWalks version horizon) y at e = when_then OwnTask _ _ y e (λ _. working _ at (search (works_if, works_from)))
+t_walked_stamp found v x (task.Passed version) y at e = when_then OwnTask _ _ y e (λ _. working _ at (works_from _ tt))
 t_walked_stamp found v x _ y at e = absurd (cc)
 
 t_walked_link : (found : ℕ) (v : VersionAt) (x : Part) (t : Task) (y : Part) → is_active x.place ≡ true → load_walked_link found v x t ≡ Some y → OwnTask y

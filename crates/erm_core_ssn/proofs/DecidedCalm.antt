@@ -120,6 +120,7 @@ module _ (c : Core) (p : ℕ) (sound : Sound c) where
   walked_stamp_leaves : (found : ℕ) (v : VersionAt) (t : Task) (y : Part) → (c.seats p).task ≡ t → load_walked_stamp found v (c.seats p) t ≡ Some y → Leaves c p y
   walked_stamp_leaves found v (task.Walks version head) y at e = when_then (Leaves c p) _ _ y e (λ _. free_step _ refl refl refl (on_from _ at tt) (search (free_if, free_from)))
   walked_stamp_leaves found v (task.CutWalks version horizon) y at e = when_then (Leaves c p) _ _ y e (λ _. free_step _ refl refl refl (on_from _ at tt) (search (free_if, free_from)))
+  walked_stamp_leaves found v (task.Passed version) y at e = when_then (Leaves c p) _ _ y e (λ _. free_step _ refl refl refl (on_from _ at tt) (free_from _ tt))
   walked_stamp_leaves found v _ y at e = absurd (cc)
 
   walked_link_leaves : (found : ℕ) (v : VersionAt) (t : Task) (y : Part) → (c.seats p).task ≡ t → load_walked_link found v (c.seats p) t ≡ Some y → Leaves c p y

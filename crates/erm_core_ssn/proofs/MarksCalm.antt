@@ -67,6 +67,7 @@ s_set_reader seat v o x _ y e = absurd (cc)
 s_walked_stamp : (found : ℕ) (v : VersionAt) (x : Part) (t : Task) (y : Part) → load_walked_stamp found v x t ≡ Some y → Same x y
 s_walked_stamp found v x (task.Walks version head) y e = when_then (Same x) _ _ y e (λ _. still x _ refl refl)
 s_walked_stamp found v x (task.CutWalks version horizon) y e = when_then (Same x) _ _ y e (λ _. still x _ refl refl)
+s_walked_stamp found v x (task.Passed version) y e = when_then (Same x) _ _ y e (λ _. still x _ refl refl)
 s_walked_stamp found v x _ y e = absurd (cc)
 
 s_walked_link : (found : ℕ) (v : VersionAt) (x : Part) (t : Task) (y : Part) → load_walked_link found v x t ≡ Some y → Same x y

@@ -130,6 +130,8 @@ calm_walked_stamp found v x (task.Walks version head) y e =
     when_then (Calm x _) _ _ y e (λ _. calm_to x _ _ refl (still_from _ refl refl) (search (still_if, still_from)))
 calm_walked_stamp found v x (task.CutWalks version horizon) y e =
     when_then (Calm x _) _ _ y e (λ _. calm_to x _ _ refl (still_from _ refl refl) (search (still_if, still_from)))
+calm_walked_stamp found v x (task.Passed version) y e =
+    when_then (Calm x _) _ _ y e (λ _. calm_to x _ _ refl (still_from _ refl refl) (still_from _ refl refl))
 calm_walked_stamp found v x _ y e = absurd (cc)
 
 calm_walked_link : (found : ℕ) (v : VersionAt) (x : Part) (t : Task) (y : Part) → load_walked_link found v x t ≡ Some y → Calm x t y

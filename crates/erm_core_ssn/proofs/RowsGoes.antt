@@ -20,7 +20,7 @@ use Rattle.erm_machine.specs.declared.version.VersionAt.{VersionAt}
 use Rattle.erm_machine.specs.Core.{Object}
 use Rattle.erm_machine.specs.Flushing.{load_flushed, gathered_word, load_ring, clear_ring, store_flushed}
 use Rattle.erm_machine.specs.Life.{load_tail_to_gather, load_tail_for_horizon, load_begin, after_clear, load_state, join}
-use Rattle.erm_machine.specs.Reading.{entered, load_entry, set_reader, after_cut, load_walked_stamp, load_walked_link, load_cell, detached, load_detached, load_counter}
+use Rattle.erm_machine.specs.Reading.{entered, lost, load_entry, set_reader, after_cut, load_walked_stamp, load_walked_link, load_cell, detached, load_detached, load_counter}
 use Rattle.erm_machine.specs.Seat.{is_active, is_decided, may_start}
 use Rattle.erm_machine.specs.Settling.{may_settle, load_flushed_to_settle, load_read_entry, load_readers, load_settled_stamp, filled, store_ring, raise_reader, mark_overwritten, store_succ, store_overwriter, clear_reader}
 use Rattle.erm_machine.specs.Tasks.{TaskFits}
@@ -164,6 +164,9 @@ goes_join x other y e = when_then (Goes x x.task) _ _ y e (λ _. goes_stay x x.t
 pub entered_full : (seat oid entry : ℕ) (o : Object) → IsFull (entered seat oid entry o)
 entered_full seat oid entry o = search (full_if, full_from)
 
+pub lost_full : (seat oid entry : ℕ) (v : VersionAt) (o : Object) → IsFull (lost seat oid entry v o)
+lost_full seat oid entry v o = search (full_if, full_from, entered_full)
+
 pub goes_load_entry : (seat oid found : ℕ) (o : Object) (x : Part) (t : Task) (y : Part) → load_entry seat oid found o x t ≡ Some y → Goes x t y
 goes_load_entry seat oid found o x (task.Cleared cleared) y e =
     when_then (Goes x _) _ _ y e (λ _. goes_full x _ _ tt (search (full_if, full_from, entered_full)))
@@ -184,6 +187,7 @@ detached_full found v x = search (full_if, full_from, after_cut_full)
 goes_walked_stamp : (found : ℕ) (v : VersionAt) (x : Part) (t : Task) (y : Part) → load_walked_stamp found v x t ≡ Some y → Goes x t y
 goes_walked_stamp found v x (task.Walks version head) y e = when_then (Goes x _) _ _ y e (λ _. goes_full x _ _ tt (search (full_if, full_from)))
 goes_walked_stamp found v x (task.CutWalks version horizon) y e = when_then (Goes x _) _ _ y e (λ _. goes_full x _ _ tt (search (full_if, full_from)))
+goes_walked_stamp found v x (task.Passed version) y e = when_then (Goes x _) _ _ y e (λ _. goes_full x _ _ tt (full_from _ tt))
 goes_walked_stamp found v x _ y e = absurd (cc)
 
 goes_walked_link : (found : ℕ) (v : VersionAt) (x : Part) (t : Task) (y : Part) → load_walked_link found v x t ≡ Some y → Goes x t y

@@ -20,7 +20,7 @@ use Rattle.erm_machine.specs.declared.version.VersionAt.{VersionAt}
 use Rattle.erm_machine.specs.Claims.{ClaimFits, claims_over}
 use Rattle.erm_machine.specs.Core.{Core, Object, Shared, claim_at, no_claim, no_version, own_words, version_at}
 use Rattle.erm_machine.specs.Facts.{IsCurrent, over_of}
-use Rattle.erm_machine.specs.Reading.{entered, new_claim, claim, cut_off, detached, swap_link}
+use Rattle.erm_machine.specs.Reading.{lost, new_claim, claim, cut_off, detached, swap_link}
 use Rattle.erm_machine.specs.Seat.{is_active, is_decided, is_commit, is_own, last_claim, cells_of, end_of}
 use Rattle.erm_machine.specs.Settling.{installs, adds_version, install_new, release_old, install_claim, unclaim, install}
 use Rattle.erm_machine.specs.Snapshot.{IsNewestAt, InHand}
@@ -37,7 +37,7 @@ use Rattle.erm_machine.proofs.Listed.{∈-either, ∈-map}
 use Rattle.erm_core_ssn.proofs.MarksLists.{∈-last, ∈-take}
 use Rattle.erm_core_ssn.proofs.RowsLists.{∈-drop, front_whole}
 use Rattle.erm_core_ssn.proofs.RowsSteps.{Left, ClaimOk, ok_at, over_at, ok_less, own_from, adds_own}
-use Rattle.erm_core_ssn.proofs.RowsGoes.{full_from, copied_full, step_full, step_end, detached_full, entered_full, goes_current}
+use Rattle.erm_core_ssn.proofs.RowsGoes.{full_from, copied_full, step_full, step_end, detached_full, lost_full, goes_current}
 use Rattle.erm_core_ssn.proofs.RowsStored.{Given, active_undecided, goes_at, set_ends}
 use Rattle.erm_core_ssn.proofs.RowsMoved.{decided_full}
 
@@ -252,7 +252,7 @@ module _ (c : Core) (p : ℕ) (r : Shared) (sound : Sound c) (extends : (oid : �
 
   claimed_own : (oid : ℕ) (version : VersionAt) (stamp : ℕ) (entry : Option ℕ) (b : Bool) → (c.seats p).task ≡ task.Found version stamp entry → is_active (c.seats p).place ≡ true → oid ≡ version.oid
       → OwnWritten r (c.seats p) → OwnWritten r (record (c.seats p) {
-        task = if b then task.Claimed version else entered p oid (c.shared.objects oid).entry (c.shared.objects oid);
+        task = if b then task.Claimed version else lost p oid (c.shared.objects oid).entry version (c.shared.objects oid);
         current = record (c.seats p).current {
           writes = if b then (c.seats p).current.writes ++ new_claim version stamp (version_at (c.shared.objects oid) version.place).words.row ∷ [] else (c.seats p).current.writes;
         };
@@ -274,7 +274,7 @@ module _ (c : Core) (p : ℕ) (r : Shared) (sound : Sound c) (extends : (oid : �
   claimed_own oid version stamp entry false at active oid_is old =
       goes_at r (c.seats p) (task.Found version stamp entry) _ at
       (goes_current (c.seats p) (task.Found version stamp entry) _ (c.seats p).current refl refl refl refl
-      (step_full (c.seats p).place (task.Found version stamp entry) _ (full_from _ tt) (entered_full p oid (c.shared.objects oid).entry (c.shared.objects oid)))) old
+      (step_full (c.seats p).place (task.Found version stamp entry) _ (full_from _ tt) (lost_full p oid (c.shared.objects oid).entry version (c.shared.objects oid)))) old
 
   pub claim_own : (oid seen number : ℕ) (t : Task) (y : Part) → (c.seats p).task ≡ t →
       claim p oid seen number (c.shared.objects oid).entry (c.shared.objects oid) (c.seats p) t ≡ Some y → OwnWritten r (c.seats p) → OwnWritten r y

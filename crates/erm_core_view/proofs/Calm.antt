@@ -79,6 +79,7 @@ s_load_entry seat oid found o x _ y e = when_then (Same x) _ _ y e (λ _. record
 s_walked_stamp : (found : ℕ) (v : VersionAt) (x : Part) (t : Task) (y : Part) → load_walked_stamp found v x t ≡ Some y → Same x y
 s_walked_stamp found v x (task.Walks version head) y e = when_then (Same x) _ _ y e (λ _. record { same = refl })
 s_walked_stamp found v x (task.CutWalks version horizon) y e = when_then (Same x) _ _ y e (λ _. record { same = refl })
+s_walked_stamp found v x (task.Passed version) y e = when_then (Same x) _ _ y e (λ _. record { same = refl })
 s_walked_stamp found v x _ y e = absurd (cc)
 
 s_walked_link : (found : ℕ) (v : VersionAt) (x : Part) (t : Task) (y : Part) → load_walked_link found v x t ≡ Some y → Same x y

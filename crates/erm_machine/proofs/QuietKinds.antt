@@ -148,6 +148,7 @@ q_walked_stamp found v x (task.Walks version head) y e =
     when_then (Quiet x _) _ _ y e (λ _. to_plain x _ _ (search (plain_if, plain_from)))
 q_walked_stamp found v x (task.CutWalks version horizon) y e =
     when_then (Quiet x _) _ _ y e (λ _. quiet_task x _ _ (search (keeps_if, keeps_from)))
+q_walked_stamp found v x (task.Passed version) y e = when_then (Quiet x _) _ _ y e (λ _. plain_task x _ _ refl)
 q_walked_stamp found v x _ y e = absurd (cc)
 
 q_walked_link : (found : ℕ) (v : VersionAt) (x : Part) (t : Task) (y : Part) → load_walked_link found v x t ≡ Some y → Quiet x t y

@@ -44,13 +44,19 @@ load_entry seat oid found o x t = when (is_active x.place && may_start t) (with_
 abbrev pub new_claim : VersionAt → ℕ → List ℕ → Claim
 new_claim version stamp base = record { version = version; stamp = stamp; base = base; row = base; own = None; is_set = false; held = true }
 
--- CLAIM: the exchange. An entry that is another by now is as if loaded.
+-- An exchange met another entry than that of the version seen. A version in another cell, whose entry has no owner, became the head
+-- since then, so its stamp isn't below the begin stamp: it is passed. Else the entry is as if loaded.
+abbrev pub lost : ℕ → ℕ → ℕ → VersionAt → Object → Task
+lost seat oid entry v o =
+    if owner_of entry == 0 && not (head_of entry == v.cell) then task.Passed (head_version oid entry o) else entered seat oid entry o
+
+-- CLAIM: the exchange, where the entry still is the one seen
 abbrev pub claim : ℕ → ℕ → ℕ → ℕ → ℕ → Object → Part → Task → Option Part
 claim seat oid seen number found o x (task.Found version stamp (Some entry)) =
     when
     (is_active x.place && is_session seat && (oid == version.oid) && (seen == entry) && (number == x.current.number) && nat_lt (length x.current.writes) WRITE_LIMIT)
     (record x {
-      task = if found == seen then task.Claimed version else entered seat oid found o;
+      task = if found == seen then task.Claimed version else lost seat oid found version o;
       current = record x.current {
         writes = if found == seen then x.current.writes ++ new_claim version stamp (version_at o version.place).words.row ∷ [] else x.current.writes;
       };
@@ -91,12 +97,14 @@ abbrev pub may_copy_row : VersionAt → Part → Task → Bool
 may_copy_row v x (task.Copies w) = same_version v (claim_at x.current (last_claim x.current)).version
 may_copy_row v x _ = false
 
--- READ, CUT: the stamp of the version in hand. The walk ends at the newest version below its bound.
+-- READ, CUT: the stamp of the version in hand. The walk ends at the newest version below its bound. That of a version that was passed may
+-- be loaded again.
 abbrev pub load_walked_stamp : ℕ → VersionAt → Part → Task → Option Part
 load_walked_stamp found v x (task.Walks version head) =
     when (same_version v version) (with_task (if nat_lt found x.current.begin then task.Found version found head else task.Passed version) x)
 load_walked_stamp found v x (task.CutWalks version horizon) =
     when (same_version v version) (with_task (if nat_lt found horizon then task.CutFound version horizon else task.CutPassed version horizon) x)
+load_walked_stamp found v x (task.Passed version) = when (same_version v version) (with_task (task.Passed version) x)
 load_walked_stamp found v x _ = None
 
 -- READ, CUT: the link of a version that was passed. A cut whose chain ends there cuts nothing.

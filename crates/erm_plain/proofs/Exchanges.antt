@@ -19,7 +19,7 @@ use Rattle.erm_machine.specs.declared.version.VersionAt.{VersionAt}
 use Rattle.erm_machine.specs.Chains.{HeadInHand, IsHead, IsNamed, NamedInHand}
 use Rattle.erm_machine.specs.Core.{Core, Object, Shared, spot_of, version_at, word_at}
 use Rattle.erm_machine.specs.Decided.{written_of}
-use Rattle.erm_machine.specs.Reading.{claim, entered, head_version, load_cell, load_entry, load_walked_stamp, new_claim}
+use Rattle.erm_machine.specs.Reading.{claim, entered, head_version, load_cell, load_entry, load_walked_stamp, lost, new_claim}
 use Rattle.erm_machine.specs.Seat.{is_active, may_start}
 use Rattle.erm_machine.specs.Snapshot.{InHand, IsNewestAt}
 use Rattle.erm_machine.specs.Sound.{Sound}
@@ -171,7 +171,7 @@ free_current sessions seat oid entry c sound active f =
 -- THE EXCHANGE
 abbrev exchanged : ℕ → ℕ → ℕ → VersionAt → ℕ → ℕ → Object → Part → Part
 exchanged seat oid seen v stamp found o x = record x {
-  task = if eqb found seen then task.Claimed v else entered seat oid found o;
+  task = if eqb found seen then task.Claimed v else lost seat oid found v o;
   current = record x.current {
     writes = if eqb found seen then x.current.writes ++ new_claim v stamp (version_at o v.place).words.row ∷ [] else x.current.writes;
   };

@@ -11,7 +11,7 @@ ghost use Rattle.erm_machine.specs.declared.event.Counter.TheVariants.{Objects, 
 ghost use Rattle.erm_machine.specs.declared.version.CellWord.TheVariants.{Overwriter};
 
 use crate::SeatState;
-use crate::reading::{entered, older};
+use crate::reading::{lost, older};
 use erm_kept::words::{blank_cell, is_active, is_session, may_start, same_version};
 use erm_kept::{ObjectState, is_own};
 use erm_machine::{CellWord, Claim, Counter, OBJECT_LIMIT, OwnCell, Task, VersionAt, WRITE_LIMIT};
@@ -100,7 +100,7 @@ impl SeatState {
             return false;
         }
         if found != seen {
-            self.task = entered(seat, oid, found, object);
+            self.task = lost(seat, oid, found, version, object);
             return true;
         }
         let base = object.version_at(version.place).words.row;

@@ -56,6 +56,20 @@ pub fn entered(seat: Seat, oid: Oid, entry: u64, object: &ObjectState) -> Task
     }
 }
 
+/// What an exchange leads to that met another entry than that of the version seen.
+pub fn lost(seat: Seat, oid: Oid, entry: u64, seen: VersionAt, object: &ObjectState) -> Task
+    ensures task { result ≡ reading_specs.lost seat oid entry seen (object_of object.now) }
+    ensures fresh { IsFresh result }
+{
+    if owner_of(entry) == 0 && head_of(entry) != seen.cell {
+        Task::Passed {
+            version: head_version(oid, entry, object),
+        }
+    } else {
+        entered(seat, oid, entry, object)
+    }
+}
+
 // What a load of an entry leads to once its owner was found clear.
 fn entered_again(seat: Seat, oid: Oid, cleared: Oid, entry: u64, object: &ObjectState) -> Task
     ensures fresh { IsFresh result }
@@ -180,6 +194,7 @@ impl SeatState {
                 version: in_hand,
                 horizon,
             } => self.load_cut_stamp(found, version, in_hand, horizon),
+            Task::Passed { version: in_hand } => same_version(version, in_hand),
             _ => false,
         }
     }
