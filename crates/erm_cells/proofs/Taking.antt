@@ -8,16 +8,17 @@ use Rattle.erm_machine.specs.declared.part.Part.{Part}
 use Rattle.erm_machine.specs.declared.task.Task.{Task}
 use Rattle.erm_machine.specs.declared.task.Task.TheVariants as task
 use Rattle.erm_machine.specs.declared.version.VersionAt.{VersionAt}
+use Rattle.erm_machine.specs.Chains.{HeadInHand, IsHead}
 use Rattle.erm_machine.specs.Core.{Core, Object, Shared, version_at}
-use Rattle.erm_machine.specs.Reading.{entered, new_claim, claim}
+use Rattle.erm_machine.specs.Reading.{lost, new_claim, claim}
 use Rattle.erm_machine.specs.Seat.{is_active}
 use Rattle.erm_machine.specs.Step.{part_after, stored}
-use Rattle.erm_machine.specs.Words.{claimed, is_session}
+use Rattle.erm_machine.specs.Words.{claimed, head_of, is_session}
 use Rattle.erm_machine.proofs.Frames.{put_same}
 use Rattle.erm_rule.specs.declared.view.View.{View}
 use Rattle.erm_rule.specs.Steps.{Ready, Told}
 use Rattle.erm_rule.specs.Views.{part_of, with_part}
-use Rattle.erm_cells.specs.Calls.{IsFoundHead, DidEnter, DidTake}
+use Rattle.erm_cells.specs.Calls.{IsFoundHead, DidLose, DidTake}
 use Rattle.erm_cells.proofs.After.{after_known, after_is}
 use Rattle.erm_cells.proofs.Heads.{has}
 use Rattle.erm_cells.proofs.Views.{when_true, both, ready_at, told_is}
@@ -36,7 +37,7 @@ found_head _ oid seen h = absurd h
 -- the part after the exchange, which found the entry seen or another
 abbrev exchanged : ℕ → ℕ → ℕ → Object → VersionAt → ℕ → Bool → Part → Part
 exchanged who oid found o version stamp same x = record x {
-  task = if same then task.Claimed version else entered who oid found o;
+  task = if same then task.Claimed version else lost who oid found version o;
   current = record x.current { writes = if same then x.current.writes ++ new_claim version stamp (version_at o version.place).words.row ∷ [] else x.current.writes };
 }
 
@@ -95,9 +96,20 @@ module _ (v : View) (who : ℕ) (active : is_active (part_of v who).place ≡ tr
       entry = entry_after known same;
     }
 
-    pub did_lose : oid < OBJECT_LIMIT → entry ≢ seen → DidEnter v who oid entry w
+    head_is : head.version.cell ≡ head_of seen
+    head_is =
+        let here : told.before.seats who ≡ x = told.is_view who x (has v who active) in
+        let hand : HeadInHand told.before.shared x.task = subst (λ (z : Part). HeadInHand told.before.shared z.task) here (told.sound.own who).chains.head in
+        let is : IsHead (told.before.shared.objects head.version.oid) head.version (Some seen) = subst (HeadInHand told.before.shared) head.is hand in
+        is.1
+
+    pub did_lose : oid < OBJECT_LIMIT → entry ≢ seen → DidLose v who oid seen entry w
     did_lose known other = record {
+      version = head.version;
+      stamp = head.stamp;
       object = o;
+      found = head.is;
+      cell_is = head_is;
       view_is = exchanged_is ∙ ap (λ (b : Bool). with_part who (exchanged who oid entry o head.version head.stamp b x) v) (ne_eqb entry seen other);
       known = after_known v who (kind.Claim oid seen number) entry w told;
       met = entry_left known other;

@@ -8,7 +8,7 @@ use Rattle.erm_machine.specs.declared.task.Task.{Task}
 use Rattle.erm_machine.specs.declared.task.Task.TheVariants as task
 use Rattle.erm_machine.specs.declared.version.VersionAt.{VersionAt}
 use Rattle.erm_machine.specs.Core.{Core, Object, version_at, claim_at}
-use Rattle.erm_machine.specs.Reading.{entered, new_claim}
+use Rattle.erm_machine.specs.Reading.{entered, lost, new_claim}
 use Rattle.erm_machine.specs.Seat.{with_task, may_start}
 use Rattle.erm_machine.specs.Words.{head_of, owner_of, claimed}
 use Rattle.erm_rule.specs.declared.view.View.{View}
@@ -73,6 +73,18 @@ pub record DidTake (v : View) (who oid seen : ℕ) (w : View) : Type 0 where
   pub view_is : w ≡ with_part who (taken_part version stamp base (part_of v who)) v
   pub known : IsKnown w
   pub entry : (known.core.shared.objects oid).entry ≡ claimed seen who (part_of v who).current.number
+
+-- An exchange met another entry than the one seen, and left it as it is: the head of one without owner, where it is in another cell,
+-- is passed, and any other is as if loaded.
+pub record DidLose (v : View) (who oid seen entry : ℕ) (w : View) : Type 0 where
+  pub version : VersionAt
+  pub stamp : ℕ
+  pub object : Object
+  pub found : (part_of v who).task ≡ task.Found version stamp (Some seen)
+  pub cell_is : version.cell ≡ head_of seen
+  pub view_is : w ≡ with_part who (with_task (lost who oid entry version object) (part_of v who)) v
+  pub known : IsKnown w
+  pub met : (known.core.shared.objects oid).entry ≡ entry
 
 -- the cell is in no chain
 abbrev pub IsUnchained : Core → ℕ → Type 0

@@ -1,6 +1,6 @@
 //! Calls of several steps: find the head of an object's chain, and take its entry.
 ghost use Rattle.std.specs.Prelude.{◌≡◌, ◌≢◌, ◌<◌, true, length};
-ghost use Rattle.erm_cells.specs.Calls.{DidEnter, DidFind, DidTake, IsFoundHead, starts_anew};
+ghost use Rattle.erm_cells.specs.Calls.{DidFind, DidLose, DidTake, IsFoundHead, starts_anew};
 ghost use Rattle.erm_machine.specs.Seat.{is_active};
 ghost use Rattle.erm_machine.specs.Words.{is_session};
 ghost use Rattle.erm_rule.specs.Steps.{Fits};
@@ -31,8 +31,8 @@ pub fn find_head<L: RowLaw>(t: &Table<L>, p: &mut Pass, who: Seat, oid: Oid) -> 
     Head::Walked { entry, stamp }
 }
 
-/// Takes an entry whose head was found, by an exchange. The answer is the entry found: where it isn't the one seen, that one is
-/// as if loaded.
+/// Takes an entry whose head was found, by an exchange. The answer is the entry found: where it isn't the one seen, its head, which
+/// became that since, is passed where nobody owns it, and else it is as if loaded.
 pub fn take<L: RowLaw>(
     t: &Table<L>,
     p: &mut Pass,
@@ -50,7 +50,7 @@ pub fn take<L: RowLaw>(
     requires head { IsFoundHead (part_of (view p.old) who).task oid seen }
     ensures fits { Fits t.now.words.shared.table_id p.new }
     ensures taken { result ≡ seen → DidTake (view p.old) who oid seen (view p.new) }
-    ensures lost { result ≢ seen → DidEnter (view p.old) who oid result (view p.new) }
+    ensures lost { result ≢ seen → DidLose (view p.old) who oid seen result (view p.new) }
 {
     claim_entry(t, p, who, oid, seen, number)
 }

@@ -1,8 +1,9 @@
 //! Steps on the ring of the log's last words and on the place flushed.
 ghost use Rattle.std.specs.Prelude.{◌≡◌, ℕ, IsSome};
 ghost use Rattle.erm_machine.specs.declared.event.Kind.TheVariants.{StoreRing, Decide, LoadRing, ClearRing, StoreFlushed, LoadFlushed};
+ghost use Rattle.erm_core_blocks.specs.Spelled.{IsSpelled, decided_by};
 ghost use Rattle.erm_rule.specs.Steps.{Fits, Ready, ToldUnder};
-ghost use Rattle.erm_rule.specs.Views.{view, part_in};
+ghost use Rattle.erm_rule.specs.Views.{view, part_in, part_of};
 
 use erm_layout::Word;
 use erm_machine::{Kind, RING_WORDS};
@@ -21,11 +22,12 @@ pub fn store_ring<L: RowLaw>(t: &Table<L>, p: &mut Pass, who: Seat, at: Stamp, v
     store(t, p, who, kind, Word::Ring(at % RING_WORDS), value);
 }
 
-/// Stores the header of the own block: the decision.
+/// Stores the header of the own block: the decision. The transaction that is decided is spelled.
 pub fn decide<L: RowLaw>(t: &Table<L>, p: &mut Pass, who: Seat, at: Stamp, header: u64)
     requires fits { Fits t.now.words.shared.table_id p.old }
     requires held { IsSome (part_in (view p.old) who) }
     requires ready { Ready (view p.old) who (Decide at header) }
+    requires spelled { IsSpelled (part_of (view p.old) who).run who (decided_by header (part_of (view p.old) who).current) }
     ensures fits { Fits t.now.words.shared.table_id p.new }
     ensures told { (found : ℕ) × ToldUnder L.law (view p.old) who (Decide at header) found (view p.new) }
 {

@@ -1,7 +1,7 @@
 //! Rows: loaded from a version's cell, and stored into a claim's own.
 ghost use Rattle.std.specs.Prelude.{◌≡◌, true};
 ghost use Rattle.erm_cells.specs.Hands.{newest_claimed};
-ghost use Rattle.erm_cells.specs.Rows.{DidCopyRow, DidLoadBase, DidLoadRow, DidStoreRow, MayLoadRow, MayStoreRow};
+ghost use Rattle.erm_cells.specs.Rows.{DidCopyRow, DidLoadBase, DidLoadRow, DidStoreRow, MayLoadRow, MayStoreRow, newest_base};
 ghost use Rattle.erm_cells.specs.Spare.{NewestOwns};
 ghost use Rattle.erm_machine.specs.declared.task.Task.TheVariants.{Copies};
 ghost use Rattle.erm_machine.specs.Seat.{is_active};
@@ -63,8 +63,9 @@ pub fn store_row<L: RowLaw>(t: &Table<L>, p: &mut Pass, who: Seat, cell: u32, ro
     }
 }
 
-/// Copies the row of the version that the newest claim overwrites, which is in one cell, into the claim's own cell.
-pub fn copy_row<L: RowLaw>(t: &Table<L>, p: &mut Pass, who: Seat, base: u32, own: u32)
+/// Copies the row of the version that the newest claim overwrites, which is in one cell, into the claim's own cell. The answer is that
+/// row.
+pub fn copy_row<L: RowLaw>(t: &Table<L>, p: &mut Pass, who: Seat, base: u32, own: u32) -> Row
     requires fits { Fits t.now.words.shared.table_id p.old }
     requires known { IsKnown (view p.old) }
     requires active { is_active (part_of (view p.old) who).place ≡ true }
@@ -73,7 +74,9 @@ pub fn copy_row<L: RowLaw>(t: &Table<L>, p: &mut Pass, who: Seat, base: u32, own
     requires own { NewestOwns own (part_of (view p.old) who) }
     ensures fits { Fits t.now.words.shared.table_id p.new }
     ensures copied { DidCopyRow (view p.old) who own (view p.new) }
+    ensures row { result ≡ newest_base (part_of (view p.old) who) }
 {
     let row = load_base(t, p, who, base);
     store_row(t, p, who, own, &row);
+    row
 }

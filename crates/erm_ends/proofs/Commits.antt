@@ -14,7 +14,7 @@ use Rattle.erm_machine.specs.Seat.{is_decided, with_task}
 use Rattle.erm_rule.specs.declared.view.View.{View}
 use Rattle.erm_rule.specs.Hands.{IsKnown}
 use Rattle.erm_rule.specs.Views.{part_in, part_of, with_part, IsView}
-use Rattle.erm_rule.proofs.Parts.{with_part-again, with_part-same}
+use Rattle.erm_rule.proofs.Parts.{with_part-same}
 use Rattle.erm_rule.proofs.Telling.{changed_here, held_part, part_of-changed}
 use Rattle.erm_cells.specs.Heads.{with_own_head}
 use Rattle.erm_entries.specs.Ends.{HasFreeHead, installed_part, newest_version, next_install}
@@ -39,7 +39,7 @@ come_to n x = with_task (task.Ends (length x.current.reads) n 0 0) (installed_to
 pub record InstallLoop (v : View) (who n : ℕ) (u : View) : Type 0 where
   pub view_is : u ≡ with_part who (come_to n (part_of v who)) v
   pub known : IsKnown u
-  pub installed : (k : ℕ) → k < n → WasInstalled v who (part_of v who).current (claim_at (part_of v who).current k)
+  pub installed : (k : ℕ) → k < n → WasInstalled v who k (part_of v who).current (claim_at (part_of v who).current k)
 
 module _ (v : View) (who : ℕ) (kept : List KeptClaim) (stamp succ : ℕ) (known : IsKnown v) (may : MayInstallClaims kept stamp succ (part_of v who)) where
   abbrev x : Part
@@ -109,11 +109,10 @@ module _ (v : View) (who : ℕ) (kept : List KeptClaim) (stamp succ : ℕ) (know
               (λ (before : k < n). loop.installed k before)
               (λ (not_before : n ≤ k).
               let same : n ≡ k = omega (arith, less, not_before) in
-              subst (λ (m : ℕ). WasInstalled v who x.current (claim_at x.current m)) same
+              subst (λ (m : ℕ). WasInstalled v who m x.current (claim_at x.current m)) same
               (record {
                 own = claim.own;
                 own_is = is_kept.own;
-                part = come_to (n + 1) x;
                 core = did.known.core;
                 sound = did.known.sound;
                 is_view = subst (λ (t : View). IsView t did.known.core) is did.known.is_view;
@@ -218,14 +217,13 @@ module _ (v : View) (who : ℕ) (pre : Pre) (kept : IsPre pre (part_of v who)) (
             chain v who w s z after_install (λ y. left_part y.current.decision y) has_z install_view from_w
             ∙ ap (λ (d : Decision). with_part who (left_part d (installed_all z)) v) may.committed
 
-        since : (k : ℕ) → WasInstalled u who (part_of u who).current (claim_at (part_of u who).current k) → WasInstalled v who z.current (claim_at z.current k)
-        since k was = subst (λ (y : Part). WasInstalled v who y.current (claim_at y.current k)) in_u (record {
+        since : (k : ℕ) → WasInstalled u who k (part_of u who).current (claim_at (part_of u who).current k) → WasInstalled v who k z.current (claim_at z.current k)
+        since k was = subst (λ (y : Part). WasInstalled v who k y.current (claim_at y.current k)) in_u (record {
           own = was.own;
           own_is = was.own_is;
-          part = was.part;
           core = was.core;
           sound = was.sound;
-          is_view = subst (λ (q : View). IsView q was.core) (ap (λ (q : View). with_part who was.part q) raised.view_is ∙ with_part-again who after_raise was.part v) was.is_view;
+          is_view = subst (λ (q : View). IsView q was.core) (chain v who u (with_part who (come_to (k + 1) (part_of u who)) u) z after_raise (come_to (k + 1)) has_z raised.view_is refl) was.is_view;
           is_head = was.is_head;
           words = was.words;
         })

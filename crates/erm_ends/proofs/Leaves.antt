@@ -1,15 +1,13 @@
 -- The last steps of an end.
 use Rattle.std.proofs.Common.{◌≡◌, ℕ, ◌≤◌, leb, ltb, true, false, ◌&&◌, ◌||◌, List, length, Option, Some, refl, sym, ap, ◌∙◌, subst, arith}
-use Rattle.std.specs.Prelude.{if◌then◌else◌, IsSome}
+use Rattle.std.specs.Prelude.{IsSome}
 use Rattle.std.proofs.lemmas.Bool.{and_parts, eq-eqb, leb-true, ne_eqb}
 use Rattle.erm_machine.specs.declared.attempt.Attempt.{Attempt}
-use Rattle.erm_machine.specs.declared.attempt.Decision.{Decision}
 use Rattle.erm_machine.specs.declared.attempt.Decision.TheVariants.{Abort, Commit, Undecided}
 use Rattle.erm_machine.specs.declared.event.Kind.TheVariants as kind
 use Rattle.erm_machine.specs.declared.part.Part.{Part}
 use Rattle.erm_machine.specs.declared.place.Place.{Place}
 use Rattle.erm_machine.specs.declared.place.Place.TheVariants.{Active, Decided, Idle, Leaving}
-use Rattle.erm_machine.specs.declared.task.Task.{Task}
 use Rattle.erm_machine.specs.declared.task.Task.TheVariants as task
 use Rattle.erm_machine.specs.Core.{blank}
 use Rattle.erm_machine.specs.Facts.{IsCurrent}

@@ -26,7 +26,7 @@ raised_to n x = with_task (task.Ends n 0 0 0) x
 pub record RaiseLoop (v : View) (who n : ℕ) (u : View) : Type 0 where
   pub view_is : u ≡ with_part who (raised_to n (part_of v who)) v
   pub known : IsKnown u
-  pub raised : (k : ℕ) → k < n → WasRaised v who (read_at (part_of v who).current k).version (part_of v who).current.stamp
+  pub raised : (k : ℕ) → k < n → WasRaised v who k (read_at (part_of v who).current k).version (part_of v who).current.stamp
 
 module _ (v : View) (who : ℕ) (kept : List KeptRead) (stamp : ℕ) (known : IsKnown v) (may : MayRaiseReads kept stamp (part_of v who)) where
   abbrev x : Part
@@ -76,9 +76,8 @@ module _ (v : View) (who : ℕ) (kept : List KeptRead) (stamp : ℕ) (known : Is
               (λ (before : k < n). loop.raised k before)
               (λ (not_before : n ≤ k).
               let same : n ≡ k = omega (arith, less, not_before) in
-              subst (λ (m : ℕ). WasRaised v who (read_at x.current m).version x.current.stamp) same
+              subst (λ (m : ℕ). WasRaised v who m (read_at x.current m).version x.current.stamp) same
               (record {
-                part = raised_to (n + 1) x;
                 core = did.known.core;
                 sound = did.known.sound;
                 is_view = subst (λ (t : View). IsView t did.known.core) is did.known.is_view;

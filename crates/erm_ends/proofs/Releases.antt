@@ -6,7 +6,6 @@ use Rattle.erm_machine.specs.declared.attempt.Claim.{Claim}
 use Rattle.erm_machine.specs.declared.attempt.OwnCell.{OwnCell}
 use Rattle.erm_machine.specs.declared.limits.TheConstants.{OBJECT_LIMIT}
 use Rattle.erm_machine.specs.declared.part.Part.{Part}
-use Rattle.erm_machine.specs.declared.task.Task.{Task}
 use Rattle.erm_machine.specs.declared.task.Task.TheVariants as task
 use Rattle.erm_machine.specs.Core.{claim_at}
 use Rattle.erm_machine.specs.Seat.{cells_of, is_own, with_task}
@@ -55,7 +54,7 @@ module _ (v : View) (who oid head : ℕ) (next : IsNextRelease (part_of v who) o
 pub record ReleaseLoop (v : View) (who n : ℕ) (spare : List ℕ) (u : View) : Type 0 where
   pub come : HasCome v who (released_to n (part_of v who)) (0, n, 0, 0) u
   pub spare_is : SpareIs spare (part_of u who)
-  pub freed : (k : ℕ) → k < n → WasFreed v who (claim_at (part_of v who).current k).version
+  pub freed : (k : ℕ) → k < n → WasFreed v who k (claim_at (part_of v who).current k).version
 
 append_none : (xs : List OwnCell) → xs ++ [] ≡ xs
 append_none [] = refl
@@ -143,14 +142,14 @@ module _ (v : View) (who : ℕ) (kept : List KeptClaim) (known : IsKnown v) (may
               ⊎_elim
               (λ (before : k < n). loop.freed k before)
               (λ (not_before : n ≤ k).
-              let same : k ≡ n = omega (arith, less, not_before) in
-              record {
-                part = with_task (task.Ends 0 (n + 1) 0 0) (released_to (n + 1) x);
+              let same : n ≡ k = omega (arith, less, not_before) in
+              subst (λ (m : ℕ). WasFreed v who m (claim_at x.current m).version) same
+              (record {
                 core = did.known.core;
                 sound = did.known.sound;
                 is_view = subst (λ (t : View). IsView t did.known.core) is did.known.is_view;
-                is_head = rw (same, sym is_kept.oid, sym is_kept.overwritten) did.is_head;
-              })
+                is_head = rw (sym is_kept.oid, sym is_kept.overwritten) did.is_head;
+              }))
               (cases_lt k n);
         }
 

@@ -1,5 +1,5 @@
 -- What the end of a commit asks of a seat's part, and what it leaves of a pass's view.
-use Rattle.std.specs.Prelude.{◌≡◌, ℕ, ◌<◌, ◌≤◌, true, List, length}
+use Rattle.std.specs.Prelude.{◌≡◌, ℕ, ◌+◌, ◌<◌, ◌≤◌, true, List, length}
 use Rattle.erm_machine.specs.declared.attempt.Attempt.{Attempt}
 use Rattle.erm_machine.specs.declared.attempt.Claim.{Claim}
 use Rattle.erm_machine.specs.declared.attempt.Decision.TheVariants.{Commit}
@@ -28,19 +28,19 @@ pub record MayRaiseReads (kept : List KeptRead) (stamp : ℕ) (x : Part) : Type 
   pub reads : AreReads kept x.current
   pub stamp_is : x.current.stamp ≡ stamp
 
--- in some sound state that the end came through, the version's reader stamp was at least this stamp
-pub record WasRaised (v : View) (who : ℕ) (u : VersionAt) (stamp : ℕ) : Type 0 where
-  pub part : Part
+-- In some sound state with the seat's part as the raise at its read at this place left it, the version's reader stamp was at least this
+-- stamp.
+pub record WasRaised (v : View) (who k : ℕ) (u : VersionAt) (stamp : ℕ) : Type 0 where
   pub core : Core
   pub sound : Sound core
-  pub is_view : IsView (with_part who part v) core
+  pub is_view : IsView (with_part who (with_task (task.Ends (k + 1) 0 0 0) (part_of v who)) v) core
   pub raised : stamp ≤ (words_of core u).reader_stamp
 
 -- all reader stamps are raised
 pub record DidRaiseReads (v : View) (who : ℕ) (w : View) : Type 0 where
   pub view_is : w ≡ with_part who (with_task (task.Ends (length (part_of v who).current.reads) 0 0 0) (part_of v who)) v
   pub known : IsKnown w
-  pub raised : (k : ℕ) → k < length (part_of v who).current.reads → WasRaised v who (read_at (part_of v who).current k).version (part_of v who).current.stamp
+  pub raised : (k : ℕ) → k < length (part_of v who).current.reads → WasRaised v who k (read_at (part_of v who).current k).version (part_of v who).current.stamp
 
 -- The transaction is committed with this stamp and this successor stamp, all reader stamps are raised, and this is the next claim to be
 -- installed.
@@ -80,15 +80,14 @@ installed_to n x = record x { current = record x.current { writes = claims_over 
 abbrev pub installed_all : Part → Part
 installed_all x = installed_to (length x.current.writes) x
 
--- In some sound state that the end came through, the claim's own cell was the entry of its object, without owner, and the newest
--- version's, with the claim's row, and the other words of a new version of the transaction.
-pub record WasInstalled (v : View) (who : ℕ) (t : Attempt) (w : Claim) : Type 0 where
+-- In some sound state with the seat's part as the install of its claim at this place left it, the claim's own cell was the entry of its
+-- object, without owner, and the newest version's, with the claim's row, and the other words of a new version of the transaction.
+pub record WasInstalled (v : View) (who k : ℕ) (t : Attempt) (w : Claim) : Type 0 where
   pub own : ℕ
   pub own_is : is_own own w.own ≡ true
-  pub part : Part
   pub core : Core
   pub sound : Sound core
-  pub is_view : IsView (with_part who part v) core
+  pub is_view : IsView (with_part who (with_task (task.Ends (length (part_of v who).current.reads) (k + 1) 0 0) (installed_to (k + 1) (part_of v who))) v) core
   pub is_head : HasFreeHead core w.version.oid own
   pub words : (newest_version core w.version.oid).words ≡ own_words (with_own_head t w w.own)
 
@@ -96,7 +95,7 @@ pub record WasInstalled (v : View) (who : ℕ) (t : Attempt) (w : Claim) : Type 
 pub record DidInstallClaims (v : View) (who : ℕ) (w : View) : Type 0 where
   pub view_is : w ≡ with_part who (with_task (task.Ends (length (part_of v who).current.reads) (length (part_of v who).current.writes) 0 0) (installed_all (part_of v who))) v
   pub known : IsKnown w
-  pub installed : (k : ℕ) → k < length (part_of v who).current.writes → WasInstalled v who (part_of v who).current (claim_at (part_of v who).current k)
+  pub installed : (k : ℕ) → k < length (part_of v who).current.writes → WasInstalled v who k (part_of v who).current (claim_at (part_of v who).current k)
 
 -- END. The transaction was decided as a commit, and its end may begin.
 pub record MayCommit (x : Part) : Type 0 where
@@ -104,10 +103,10 @@ pub record MayCommit (x : Part) : Type 0 where
   pub committed : x.current.decision ≡ Commit
   pub ends : x.task ≡ task.Ends 0 0 0 0
 
--- The transaction is over, as a commit: the reader stamp of each version that it read was raised to its stamp, and each of its claims
--- installed.
+-- The transaction is over, as a commit: the reader stamp of each version that it read was raised to at least its stamp, and each of its
+-- claims installed.
 pub record DidCommit (v : View) (who : ℕ) (w : View) : Type 0 where
   pub view_is : w ≡ with_part who (left_part Commit (installed_all (part_of v who))) v
   pub known : IsKnown w
-  pub raised : (k : ℕ) → k < length (part_of v who).current.reads → WasRaised v who (read_at (part_of v who).current k).version (part_of v who).current.stamp
-  pub installed : (k : ℕ) → k < length (part_of v who).current.writes → WasInstalled v who (part_of v who).current (claim_at (part_of v who).current k)
+  pub raised : (k : ℕ) → k < length (part_of v who).current.reads → WasRaised v who k (read_at (part_of v who).current k).version (part_of v who).current.stamp
+  pub installed : (k : ℕ) → k < length (part_of v who).current.writes → WasInstalled v who k (part_of v who).current (claim_at (part_of v who).current k)

@@ -1,6 +1,6 @@
 -- What a load of an entry, a read's way to a head and a claim leave of a pass's view.
 use Rattle.std.specs.Prelude.{◌≡◌, ◌≢◌, ℕ, true, false, List, Option, Some, None}
-use Rattle.erm_cells.specs.Calls.{DidEnter}
+use Rattle.erm_cells.specs.Calls.{DidLose}
 use Rattle.erm_machine.specs.declared.part.Part.{Part}
 use Rattle.erm_machine.specs.declared.task.Task.{Task}
 use Rattle.erm_machine.specs.declared.task.Task.TheVariants as task
@@ -88,8 +88,8 @@ pub record DidWait (v : View) (who oid : ℕ) (wait : SeatWait) (w : View) : Typ
   pub view_is : w ≡ with_part who (with_task (task.Owned oid wait.seat) (part_of v who)) v
   pub known : IsKnown w
 
--- An exchange met another entry than the one seen, which is as if loaded.
-pub record DidLose (v : View) (who oid seen : ℕ) (entry : Entry) (w : View) : Type 0 where
+-- an exchange met another entry than the one seen
+pub record DidMeet (v : View) (who oid seen : ℕ) (entry : Entry) (w : View) : Type 0 where
   pub spelled : entry_of (word_of entry) ≡ entry
   pub other : word_of entry ≢ seen
-  pub enters : DidEnter v who oid (word_of entry) w
+  pub loses : DidLose v who oid seen (word_of entry) w

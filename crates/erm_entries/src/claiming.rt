@@ -5,7 +5,7 @@ ghost use Rattle.erm_machine.specs.Seat.{is_active};
 ghost use Rattle.erm_machine.specs.Words.{is_session};
 ghost use Rattle.erm_rule.specs.Steps.{Fits};
 ghost use Rattle.erm_rule.specs.Views.{view, part_of};
-ghost use Rattle.erm_entries.specs.Calls.{DidLose};
+ghost use Rattle.erm_entries.specs.Calls.{DidMeet};
 ghost use Rattle.erm_entries.specs.Ends.{DidUnclaim, IsRefused};
 ghost use Rattle.erm_entries.specs.Spelling.{word_of};
 
@@ -16,7 +16,7 @@ use erm_model::{Oid, RowLaw, Seat};
 use erm_rule::{Pass, Table};
 
 /// Claims an object whose head was found, for the own transaction of this number: by an exchange of the entry seen.
-/// Err: the entry was another by then, which is as if loaded.
+/// Err: the entry was another by then; its head is passed where nobody owns it, and else it is as if loaded.
 pub fn claim<L: RowLaw>(
     t: &Table<L>,
     p: &mut Pass,
@@ -34,7 +34,7 @@ pub fn claim<L: RowLaw>(
     requires head { IsFoundHead (part_of (view p.old) who).task oid (word_of seen.now) }
     ensures fits { Fits t.now.words.shared.table_id p.new }
     ensures claimed { IfOk result (λ _. DidTake (view p.old) who oid (word_of seen.now) (view p.new)) }
-    ensures lost { IfErr result (λ entry. DidLose (view p.old) who oid (word_of seen.now) entry (view p.new)) }
+    ensures lost { IfErr result (λ entry. DidMeet (view p.old) who oid (word_of seen.now) entry (view p.new)) }
 {
     let word = seen.word();
     let found = take(t, p, who, oid, word, number);

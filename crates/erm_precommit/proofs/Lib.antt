@@ -9,3 +9,4 @@ pub mod Starts
 pub mod Bare
 pub mod Causes
 pub mod Windows
+pub mod Skews

@@ -24,7 +24,7 @@ use Rattle.erm_precommit.specs.declared.pre.Pre.{Pre}
 use Rattle.erm_precommit.specs.Settle.{task_of, HasWindow, IsReady, Stands}
 use Rattle.erm_precommit.proofs.Standing.{has}
 
-sealed_commits : (pl : Place) (t : Task) → is_sealed pl ≡ true → MayCommit pl t
+pub sealed_commits : (pl : Place) (t : Task) → is_sealed pl ≡ true → MayCommit pl t
 sealed_commits (Sealed tail stamp) t e = tt
 sealed_commits _ t e = absurd (cc)
 

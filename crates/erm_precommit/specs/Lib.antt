@@ -1,2 +1,3 @@
 pub mod Pre
 pub mod Settle
+pub mod Skew

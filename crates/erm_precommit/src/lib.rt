@@ -3,6 +3,7 @@
 #![tactic(auto)]
 
 pub mod answer;
+mod laws;
 mod pre;
 mod reads;
 mod settling;
@@ -11,5 +12,9 @@ mod tests;
 mod writes;
 
 pub use answer::{Settled, Wait};
+pub use laws::{
+    one_of_two_is_ready, ready_beside_a_commit_is_closed, skewed_commits_exclude_one_another,
+    snapshots_of_one_begin_agree,
+};
 pub use pre::{KeptClaim, KeptRead, Pre};
 pub use settling::settle;

@@ -14,7 +14,8 @@ mod walking;
 pub use ends::{mark_overwritten, raise, unregister};
 pub use laws::{
     bits_are_of_readers, bits_of_two_readers, committed_readers_leave_a_bit_or_a_stamp,
-    readers_below_are_looked_at, readers_have_their_bits, readers_passed_are_later,
+    committed_readers_over_leave_a_stamp, readers_below_are_looked_at, readers_have_their_bits,
+    readers_passed_are_later,
 };
 pub use reads::{rate_read, register};
 pub use settles::{readers, stamps};

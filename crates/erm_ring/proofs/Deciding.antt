@@ -93,7 +93,7 @@ module _ (c : Core) (who words : ℕ) (sound : Sound c) (sealed : is_sealed (c.s
   not_flusher : FLUSH_SEAT ≢ who
   not_flusher e = sealed_not_pin (c.seats who).place sealed ((sound.own who).lives.pinned (eq-eqb who FLUSH_SEAT (sym e)))
 
-module _ (v : View) (who at header : ℕ) (may : MayDecide at header (part_of v who)) where
+module _ (v : View) (who at header : ℕ) (may : MayDecide who at header (part_of v who)) where
   abbrev x : Part
   x = part_of v who
 

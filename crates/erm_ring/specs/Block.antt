@@ -8,6 +8,7 @@ use Rattle.erm_machine.specs.declared.task.Task.TheVariants as task
 use Rattle.erm_machine.specs.Life.{is_header}
 use Rattle.erm_machine.specs.Log.{block_word, ring_at}
 use Rattle.erm_machine.specs.Seat.{decision_of, is_sealed}
+use Rattle.erm_core_blocks.specs.Spelled.{IsSpelled, decided_by}
 use Rattle.erm_rule.specs.declared.view.View.{View}
 use Rattle.erm_rule.specs.Hands.{IsKnown}
 use Rattle.erm_rule.specs.Views.{part_of, with_part}
@@ -30,14 +31,15 @@ pub record DidFill (v : View) (who : ℕ) (words : List ℕ) (w : View) : Type 0
   pub known : IsKnown w
 
 -- The seat's transaction is sealed, with this stamp, all words of its block behind the header are stored, and this is its header:
--- of a commit where the exclusion window is open, else of one that is skipped.
-pub record MayDecide (at header : ℕ) (x : Part) : Type 0 where
+-- of a commit where the exclusion window is open, else of one that is skipped. As this header decides it, the transaction is spelled.
+pub record MayDecide (who at header : ℕ) (x : Part) : Type 0 where
   pub words : ℕ
   pub sealed : is_sealed x.place ≡ true
   pub filled : x.task ≡ task.Fills words
   pub all : words + 1 ≡ x.current.size
   pub stamp_is : at ≡ x.current.stamp
   pub header_is : is_header x.current x.run header ≡ true
+  pub spelled : IsSpelled x.run who (decided_by header x.current)
 
 -- where a sealed seat is once it is decided
 abbrev pub decided_place : Place → Place

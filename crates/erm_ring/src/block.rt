@@ -26,7 +26,7 @@ pub fn fill<L: RowLaw>(t: &Table<L>, p: &mut Pass, who: Seat, at: Stamp, words: 
 /// exclusion window is open, and the ring has its whole block.
 pub fn decide<L: RowLaw>(t: &Table<L>, p: &mut Pass, who: Seat, at: Stamp, header: u64)
     requires fits { Fits t.now.words.shared.table_id p.old }
-    requires may { MayDecide at header (part_of (view p.old) who) }
+    requires may { MayDecide who at header (part_of (view p.old) who) }
     ensures fits { Fits t.now.words.shared.table_id p.new }
     ensures decided { DidDecide (view p.old) who header (view p.new) }
 {

@@ -1,5 +1,5 @@
 -- The early test after a claim: where the exclusion window known so far is closed, its ends are of committed transactions.
-use Rattle.std.proofs.Common.{◌≡◌, ℕ, true, Option, Some, sym, ap, ◌∙◌, subst}
+use Rattle.std.proofs.Common.{◌≡◌, ℕ, true, List, Option, Some, sym, ap, ◌∙◌, subst}
 use Rattle.erm_machine.specs.declared.part.Part.{Part}
 use Rattle.erm_machine.specs.declared.place.Place.{Place}
 use Rattle.erm_machine.specs.declared.place.Place.TheVariants as place
@@ -20,7 +20,7 @@ rest_commits : (pl : Place) → is_active pl ≡ true → MayCommit pl task.Rest
 rest_commits (place.Active tail) e = tt
 rest_commits _ e = absurd (cc)
 
-module _ (v : View) (who oid : ℕ) (active : is_active (part_of v who).place ≡ true) (w : View) (did : DidClaim v who oid w) where
+module _ (v : View) (who oid : ℕ) (active : is_active (part_of v who).place ≡ true) (row : List ℕ) (w : View) (did : DidClaim v who oid row w) where
   abbrev x : Part
   x = part_of v who
 
@@ -43,6 +43,7 @@ module _ (v : View) (who oid : ℕ) (active : is_active (part_of v who).place �
   excludes t is succ pred e =
       let closed = has_closed t succ pred e in
       record {
+        row = row;
         claim = did;
         window = is_closed did.known.core who did.known.sound active_there may_there succ pred closed.positive closed.closed
             (ap (λ (z : Part). z.current.succ) there ∙ sym (ap (λ (z : Part). z.current.succ) here) ∙ sym is.succ ∙ closed.succ_is)

@@ -198,8 +198,16 @@ module _ (v : View) (who : ℕ) (active : is_active (part_of v who).place ≡ tr
             ∙ ap (λ (t : View). with_part who (filled_part gives.own gives.spare readers x) t) u_there
             ∙ with_part-again who y (filled_part gives.own gives.spare readers x) v
 
-        pub did_fill : DidFill v who (record { own = cell; readers = readers }) w
-        did_fill = record { own = gives.own; spare = gives.spare; cell_is = cell_is; small = drew.small; view_is = filled_is; known = copy.known }
+        pub did_fill : (row : List ℕ) → row ≡ newest_base (part_of u who) → DidFill v who (record { own = cell; readers = readers; row = row }) w
+        did_fill row is = record {
+          own = gives.own;
+          spare = gives.spare;
+          cell_is = cell_is;
+          small = drew.small;
+          row_is = is ∙ ap newest_base y_is ∙ row_is;
+          view_is = filled_is;
+          known = copy.known;
+        }
 
         pub spare_filled : SpareIs cells (part_of w who)
         spare_filled =

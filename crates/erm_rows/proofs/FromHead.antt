@@ -1,5 +1,5 @@
 -- A read from the head on: the version found is registered and rated, and its row is loaded.
-use Rattle.std.proofs.Common.{◌≡◌, ℕ, ◌<◌, Bool, true, false, List, [], ◌∷◌, length, Option, refl, sym, ap, ◌∙◌, subst, eqb, arith}
+use Rattle.std.proofs.Common.{◌≡◌, ℕ, ◌<◌, Bool, true, false, List, [], ◌∷◌, length, Option, inl, refl, sym, ap, ◌∙◌, subst, eqb}
 use Rattle.std.specs.Prelude.{if◌then◌else◌}
 use Rattle.erm_model.specs.Member.{◌∈◌}
 use Rattle.erm_model.specs.declared.limits.TheConstants.{READ_LIMIT}
@@ -148,9 +148,12 @@ module _ (v : View) (who oid : ℕ) (active : is_active (part_of v who).place �
           known = rate.known;
           fits = fits;
           notes = x.clear;
-          noted = λ q. omega arith;
+          noted_by = inl refl;
           view_is = y_there;
         })
+
+        pub unnoted : (part_of w who).clear ≡ x.clear
+        unnoted = ap (λ (t : View). (part_of t who).clear) load.view_is ∙ ap (λ (z : Part). z.clear) y_is
 
         pub keeps : (old new : Active) → IsActive old x → Adds old (record { oid = oid; cell = cell }) stamp succ new → IsActive new (part_of w who)
         keeps old new is adds =

@@ -4,6 +4,7 @@ pub mod Closed
 pub mod Filling
 pub mod FromHead
 pub mod Kept
+pub mod Missed
 pub mod Reached
 pub mod Taken
 pub mod Whole

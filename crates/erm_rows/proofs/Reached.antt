@@ -1,10 +1,7 @@
 -- A read's way to the head, and then from it on; and a read that waits.
-use Rattle.std.proofs.Common.{◌≡◌, ℕ, ◌<◌, ◌≤◌, ⊎_elim, true, false, List, length, get_or, max, Option, Some, None, refl, sym, ap, ◌∙◌, subst, arith, get_or-set_same, get_or-set_other}
-use Rattle.std.proofs.lemmas.Bool.{cases_eq, cases_lt}
-use Rattle.std.proofs.lemmas.List.{get_or_past}
+use Rattle.std.proofs.Common.{◌≡◌, ℕ, inl, inr, true, false, List, Option, Some, None, refl, sym, ap, ◌∙◌, subst}
 use Rattle.erm_machine.specs.declared.part.Part.{Part}
 use Rattle.erm_machine.specs.declared.task.Task.TheVariants as task
-use Rattle.erm_machine.specs.Life.{noted}
 use Rattle.erm_machine.specs.Reading.{has_read}
 use Rattle.erm_machine.specs.Seat.{is_active, with_task}
 use Rattle.erm_rule.specs.declared.view.View.{View}
@@ -22,27 +19,13 @@ use Rattle.erm_readers.specs.Calls.{words_of}
 use Rattle.erm_readers.specs.Walk.{IsWalking}
 use Rattle.erm_rows.specs.declared.active.Active.{Active}
 use Rattle.erm_rows.specs.Active.{IsActive}
-use Rattle.erm_rows.specs.Reads.{read_part, DidRead}
+use Rattle.erm_rows.specs.Reads.{read_part, DidRead, IsNotedBy}
 use Rattle.erm_rows.proofs.Kept.{kept_same}
 
--- a bound that is noted is at least the old one
-noted_more : (other bound q : ℕ) (l : List ℕ) → get_or l q 0 ≤ get_or (noted other bound l) q 0
-noted_more other bound q l =
-    ⊎_elim
-    (λ (same : q ≡ other).
-    ⊎_elim
-    (λ (within : other < length l).
-    let is : get_or (noted other bound l) other 0 ≡ max (get_or l other 0) bound = get_or-set_same l other (max (get_or l other 0) bound) 0 within in
-    subst (λ (n : ℕ). get_or l n 0 ≤ get_or (noted other bound l) n 0) (sym same) (omega (arith, is)))
-    (λ (past : length l ≤ other). let none : get_or l q 0 ≡ 0 = get_or_past l q 0 (omega (arith, past, same)) in omega (arith, none))
-    (cases_lt other (length l)))
-    (λ (ne : q ≡ other → ⊥). let is : get_or (noted other bound l) q 0 ≡ get_or l q 0 = get_or-set_other l other q (max (get_or l other 0) bound) 0 ne in omega (arith, is))
-    (cases_eq q other)
-
-way_notes : (who entry : ℕ) (x : Part) (head : Option ℕ) (notes : List ℕ) → IsWay who entry x head notes → (q : ℕ) → get_or x.clear q 0 ≤ get_or notes q 0
-way_notes who entry x (Some seen) notes way q = let is : get_or notes q 0 ≡ get_or x.clear q 0 = ap (λ (l : List ℕ). get_or l q 0) way.2 in omega (arith, is)
-way_notes who entry x None notes way q =
-    subst (λ (l : List ℕ). get_or x.clear q 0 ≤ get_or l q 0) (sym way.2) (noted_more way.0 x.current.begin q x.clear)
+-- what was noted on the way to the head
+way_notes : (who entry : ℕ) (x : Part) (head : Option ℕ) (notes : List ℕ) → IsWay who entry x head notes → IsNotedBy who x notes
+way_notes who entry x (Some seen) notes way = inl way.2
+way_notes who entry x None notes way = inr way
 
 module _ (v : View) (who oid : ℕ) (active : is_active (part_of v who).place ≡ true) where
   abbrev x : Part
@@ -77,9 +60,11 @@ module _ (v : View) (who oid : ℕ) (active : is_active (part_of v who).place �
     pub kept_there : (t : Active) → IsActive t x → IsActive t (part_of u who)
     kept_there t is = subst (λ (z : Part). IsActive t z) (sym a_is) (kept_same t x a refl is)
 
-    pub read_from : (row : List ℕ) (w : View) → DidRead u who oid row w → DidRead v who oid row w
-    read_from row w did =
+    pub read_from : (row : List ℕ) (w : View) → DidRead u who oid row w → (part_of w who).clear ≡ (part_of u who).clear → DidRead v who oid row w
+    read_from row w did unnoted =
         let y : Part → Part = λ (z : Part). read_part did.read (words_of did.known.core did.read.version) did.notes z in
+        let there : part_of w who ≡ y (part_of u who) = part_of-changed u who w (y (part_of u who)) (part_of u who) (has u who active_there) did.view_is in
+        let notes_are : did.notes ≡ reach.notes = sym (ap (λ (z : Part). z.clear) there) ∙ unnoted ∙ ap (λ (z : Part). z.clear) a_is in
         record {
           read = did.read;
           oid_is = did.oid_is;
@@ -87,10 +72,7 @@ module _ (v : View) (who oid : ℕ) (active : is_active (part_of v who).place �
           known = did.known;
           fits = subst (λ (z : Part). ReadFits did.known.core.shared z.current.begin did.read) a_is did.fits;
           notes = did.notes;
-          noted = λ q.
-              let first = way_notes who (word_of entry) x reach.head reach.notes reach.way q in
-              let second : get_or reach.notes q 0 ≤ get_or did.notes q 0 = subst (λ (z : Part). get_or z.clear q 0 ≤ get_or did.notes q 0) a_is (did.noted q) in
-              omega (arith, first, second);
+          noted_by = subst (λ (l : List ℕ). IsNotedBy who x l) (sym notes_are) (way_notes who (word_of entry) x reach.head reach.notes reach.way);
           view_is = did.view_is
               ∙ ap (λ (z : Part). with_part who (y z) u) a_is
               ∙ ap (λ (t : View). with_part who (y a) t) reach.view_is

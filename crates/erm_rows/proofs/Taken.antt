@@ -134,25 +134,13 @@ module _ (v : View) (who oid : ℕ) (active : is_active (part_of v who).place �
       met = did.met;
     }
     misses (stop.Newer stamp) w did =
-        let walk = did.walk in
         inr (record {
           seen = entry;
           first = u;
           found = found;
-          lost = record {
-            entry = did.entry;
-            other = did.other;
-            walk = record {
-              version = walk.version;
-              oid_is = walk.oid_is;
-              cell_is = walk.cell_is;
-              unowned = walk.unowned;
-              plain = walk.plain;
-              view_is = set_again (λ z. walked walk.version did.entry stamp z) w (ap (λ (z : Part). walked walk.version did.entry stamp z) a_is) walk.view_is;
-              known = walk.known;
-              stamp_is = walk.stamp_is;
-            };
-          };
+          lost = did;
+          view_is = set_again (λ z. task.Passed did.version) w refl did.view_is;
+          newer = subst (λ (z : Part). z.current.begin ≤ stamp) a_is did.newer;
         })
     misses _ w did = absurd did
 
@@ -170,7 +158,7 @@ module _ (v : View) (who oid : ℕ) (active : is_active (part_of v who).place �
   part_stopped (stop.Owned seat number) w did = changed_task (task.Owned oid seat) w did.view_is
   part_stopped (stop.Newer stamp) w did =
       ⊎_elim (λ (newer : DidMeetNewer v who oid stamp w). changed_task (walked newer.walk.version newer.entry stamp x) w newer.walk.view_is)
-      (λ (missed : DidMissHead v who oid stamp w). changed_task (walked missed.lost.walk.version missed.lost.entry stamp x) w missed.lost.walk.view_is) did
+      (λ (missed : DidMissHead v who oid stamp w). changed_task (task.Passed missed.lost.version) w missed.view_is) did
   part_stopped _ w did = absurd did
 
   pub kept_stopped : (t : Active) → IsActive t (part_of v who) → (why : RowStop) (w : View) → DidNotTake v who oid why w → IsActive t (part_of w who)

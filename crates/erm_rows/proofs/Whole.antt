@@ -20,6 +20,7 @@ use Rattle.erm_rule.proofs.Parts.{with_part-again}
 use Rattle.erm_rule.proofs.Telling.{part_of-changed}
 use Rattle.erm_cells.specs.Calls.{taken_part}
 use Rattle.erm_cells.specs.Hands.{newest_claimed}
+use Rattle.erm_cells.specs.Rows.{newest_base}
 use Rattle.erm_cells.specs.Spare.{SpareIs}
 use Rattle.erm_cells.proofs.Heads.{has}
 use Rattle.erm_entries.specs.Ends.{unclaimed_part}
@@ -177,8 +178,20 @@ module _ (v : View) (who oid : ℕ) (active : is_active (part_of v who).place �
           ∙ ap (λ (s : View). with_part who y s) d_there
           ∙ with_part-again who d y v
 
-      pub did_claim : DidClaim v who oid w
-      did_claim = record { head = head; taken = a; took = took; count = count; tidied = b; cut = cut; filled = filled; fill = fill; view_is = y_there; known = fill.known }
+      pub did_claim : DidClaim v who oid filled.row w
+      did_claim = record {
+        head = head;
+        taken = a;
+        took = took;
+        count = count;
+        tidied = b;
+        cut = cut;
+        filled = filled;
+        fill = fill;
+        row_is = fill.row_is ∙ ap newest_base d_is ∙ ap (λ (z : Claim). z.base) newest;
+        view_is = y_there;
+        known = fill.known;
+      }
 
       pub kept_claimed : (old new : Active) → IsActive old x → AddsClaim old (record { oid = oid; overwritten = head; own = filled.own }) filled.readers new → IsActive new (part_of w who)
       kept_claimed old new is adds =

@@ -10,14 +10,15 @@ use Rattle.erm_machine.specs.declared.task.Task.{Task}
 use Rattle.erm_machine.specs.declared.task.Task.TheVariants as task
 use Rattle.erm_machine.specs.declared.version.VersionAt.{VersionAt}
 use Rattle.erm_machine.specs.Bounds.{IsOther}
-use Rattle.erm_machine.specs.Core.{claim_at}
+use Rattle.erm_machine.specs.Core.{claim_at, version_at}
 use Rattle.erm_machine.specs.Reading.{after_cut, new_claim}
 use Rattle.erm_machine.specs.Seat.{last_claim, with_claim, with_pred, with_task}
-use Rattle.erm_machine.specs.Words.{claimed, number_of, owner_of}
+use Rattle.erm_machine.specs.Words.{claimed, head_of, number_of, owner_of}
 use Rattle.erm_rule.specs.declared.view.View.{View}
 use Rattle.erm_rule.specs.Hands.{IsKnown}
 use Rattle.erm_rule.specs.Views.{part_of, with_part}
-use Rattle.erm_cells.specs.Calls.{DidWalk, taken_part}
+use Rattle.erm_cells.specs.Calls.{DidLose, DidWalk, taken_part}
+use Rattle.erm_cells.specs.Rows.{newest_base}
 use Rattle.erm_cells.specs.Spare.{DidRefuse}
 use Rattle.erm_entries.specs.Calls.{IsEntry}
 use Rattle.erm_entries.specs.Ends.{HasFreeHead, unclaimed_part}
@@ -47,18 +48,31 @@ pub record DidMeetNewer (v : View) (who oid stamp : ℕ) (w : View) : Type 0 whe
   pub walk : DidWalk v who oid entry stamp w
   pub newer : (part_of v who).current.begin ≤ stamp
 
--- An entry with another head than the one seen, which nobody owns, was met by the exchange: that head's stamp is told.
+-- An entry with another head than the one seen, which nobody owns, was met by the exchange: that head's stamp is told, which isn't below
+-- the begin stamp.
 pub record DidMeetOtherHead (v : View) (who oid seen stamp : ℕ) (w : View) : Type 0 where
+  pub between : View
   pub entry : ℕ
+  pub lost : DidLose v who oid seen entry between
   pub other : entry ≢ seen
-  pub walk : DidWalk v who oid entry stamp w
+  pub unowned : owner_of entry ≡ 0
+  pub plain : entry ≡ head_of entry
+  pub version : VersionAt
+  pub oid_is : version.oid ≡ oid
+  pub cell_is : version.cell ≡ head_of entry
+  pub view_is : w ≡ with_part who (with_task (task.Passed version) (part_of v who)) v
+  pub known : IsKnown w
+  pub stamp_is : (version_at (known.core.shared.objects version.oid) version.place).words.stamp ≡ stamp
+  pub newer : (part_of v who).current.begin ≤ stamp
 
 -- A head that might be claimed was found, and then the exchange met another one.
 pub record DidMissHead (v : View) (who oid stamp : ℕ) (w : View) : Type 0 where
   pub seen : ℕ
   pub first : View
   pub found : DidFindFree v who oid seen first
-  pub lost : DidMeetOtherHead v who oid seen stamp w
+  pub lost : DidMeetOtherHead first who oid seen stamp w
+  pub view_is : w ≡ with_part who (with_task (task.Passed lost.version) (part_of v who)) v
+  pub newer : (part_of v who).current.begin ≤ stamp
 
 -- why no head is found that may be claimed
 abbrev pub DidNotFind : View → ℕ → ℕ → RowStop → View → Type 0
@@ -89,8 +103,8 @@ pub record DidTakeEntry (v : View) (who oid head : ℕ) (w : View) : Type 0 wher
 abbrev pub AreWritesFull : View → ℕ → View → Type 0
 AreWritesFull v who w = (length (part_of v who).current.writes ≡ WRITE_LIMIT) × (w ≡ v)
 
--- Why an entry isn't taken: the claims are full, another seat owns the entry, or the head isn't below the begin stamp or became another
--- one. There is no other cause.
+-- Why an entry isn't taken: the claims are full, another seat owns the entry, or the head's stamp isn't below the begin stamp, be it the
+-- head found or the one that the exchange met. There is no other cause.
 abbrev pub DidNotTake : View → ℕ → ℕ → RowStop → View → Type 0
 DidNotTake v who oid stop.WritesFull w = AreWritesFull v who w
 DidNotTake v who oid (stop.Owned seat number) w = DidMeetOwner v who oid seat number w
@@ -134,6 +148,7 @@ pub record DidFill (v : View) (who : ℕ) (filled : Filled) (w : View) : Type 0 
   pub spare : List OwnCell
   pub cell_is : own.cell ≡ filled.own
   pub small : filled.own < TABLE_CELLS
+  pub row_is : filled.row ≡ newest_base (part_of v who)
   pub view_is : w ≡ with_part who (filled_part own spare filled.readers (part_of v who)) v
   pub known : IsKnown w
 
@@ -154,9 +169,9 @@ claimed_part claim spare tail readers x = record x {
   current = record (with_pred readers x.current) { writes = x.current.writes ++ claim ∷ [] };
 }
 
--- An object was claimed: its entry was taken, its chain cut, and the claim has a cell of its own with the row of the version that it
--- overwrites, whose reader stamp counts for the predecessor stamp. All else of the transaction is as before.
-pub record DidClaim (v : View) (who oid : ℕ) (w : View) : Type 0 where
+-- An object was claimed: its entry was taken, its chain cut, and the claim has a cell of its own with the row, this one, of the version
+-- that it overwrites, whose reader stamp counts for the predecessor stamp. All else of the transaction is as before.
+pub record DidClaim (v : View) (who oid : ℕ) (row : List ℕ) (w : View) : Type 0 where
   pub head : ℕ
   pub taken : View
   pub took : DidTakeEntry v who oid head taken
@@ -165,6 +180,7 @@ pub record DidClaim (v : View) (who oid : ℕ) (w : View) : Type 0 where
   pub cut : DidCutChain taken who count tidied
   pub filled : Filled
   pub fill : DidFill tidied who filled w
+  pub row_is : row ≡ took.base
   pub view_is : w ≡ with_part who
       (claimed_part (filled_claim fill.own (new_claim took.version took.stamp took.base)) fill.spare cut.found.tail filled.readers (part_of v who)) v
   pub known : IsKnown w
@@ -186,7 +202,8 @@ pub record DidLackCell (v : View) (who oid drawn : ℕ) (w : View) : Type 0 wher
 
 -- the object was claimed, and then the exclusion window known so far was closed
 pub record DidClaimExcluded (v : View) (who oid succ pred : ℕ) (w : View) : Type 0 where
-  pub claim : DidClaim v who oid w
+  pub row : List ℕ
+  pub claim : DidClaim v who oid row w
   pub window : IsClosed claim.known.core who succ pred
 
 -- Why a claim is refused: its entry isn't taken, there is no cell, or the window is closed. There is no other cause.

@@ -1,5 +1,5 @@
 -- What a read leaves of a pass's view, and why it is refused.
-use Rattle.std.specs.Prelude.{◌≡◌, ◌⊎◌, ℕ, ◌<◌, ◌≤◌, List, [], ◌∷◌, ◌++◌, length, slice_index}
+use Rattle.std.specs.Prelude.{◌≡◌, ◌⊎◌, ℕ, ◌<◌, ◌≤◌, List, [], ◌∷◌, ◌++◌, length}
 use Rattle.erm_model.specs.declared.history.TransactionRecord.{TransactionRecord}
 use Rattle.erm_model.specs.declared.limits.TheConstants.{READ_LIMIT}
 use Rattle.erm_model.specs.declared.row_stop.RowStop.{RowStop}
@@ -10,8 +10,10 @@ use Rattle.erm_machine.specs.declared.attempt.Read.{Read}
 use Rattle.erm_machine.specs.declared.part.Part.{Part}
 use Rattle.erm_machine.specs.declared.task.Task.TheVariants as task
 use Rattle.erm_machine.specs.declared.version.Cell.{Cell}
+use Rattle.erm_machine.specs.Bounds.{IsOther}
 use Rattle.erm_machine.specs.Core.{Core}
 use Rattle.erm_machine.specs.Decided.{counted, history_of, record_of}
+use Rattle.erm_machine.specs.Life.{noted}
 use Rattle.erm_machine.specs.Seat.{with_pred}
 use Rattle.erm_machine.specs.Snapshot.{ReadFits}
 use Rattle.erm_rule.specs.declared.view.View.{View}
@@ -29,9 +31,13 @@ read_part r words notes x = record x {
   current = rated words (record (with_pred r.stamp x.current) { reads = x.current.reads ++ r ∷ [] });
 }
 
+-- what a read has noted: nothing, or that a seat which owned the entry was clear for the begin stamp
+abbrev pub IsNotedBy : ℕ → Part → List ℕ → Type 0
+IsNotedBy who x notes = (notes ≡ x.clear) ⊎ ((owner : ℕ) × IsOther who owner × (notes ≡ noted owner x.current.begin x.clear))
+
 -- A version of the object was read, whose row is the answer: in the state that is known it is the newest one below the begin stamp,
--- and has that row. The seat's part is the old one with one more read, with the running numbers that follow from it, and with what
--- a look has noted besides.
+-- and has that row. The seat's part is the old one with one more read, with the running numbers that follow from it, and with the
+-- begin stamp noted of one other seat at most.
 pub record DidRead (v : View) (who oid : ℕ) (row : List ℕ) (w : View) : Type 0 where
   pub read : Read
   pub oid_is : read.version.oid ≡ oid
@@ -39,7 +45,7 @@ pub record DidRead (v : View) (who oid : ℕ) (row : List ℕ) (w : View) : Type
   pub known : IsKnown w
   pub fits : ReadFits known.core.shared (part_of v who).current.begin read
   pub notes : List ℕ
-  pub noted : (q : ℕ) → slice_index (part_of v who).clear q ≤ slice_index notes q
+  pub noted_by : IsNotedBy who (part_of v who) notes
   pub view_is : w ≡ with_part who (read_part read (words_of known.core read.version) notes (part_of v who)) v
 
 -- A successor stamp is that of a committed transaction, which has overwritten a version that the seat's transaction has read.

@@ -19,7 +19,7 @@ use erm_cells::{Spare, copy_row, draw, rate};
 use erm_cut::{cut, horizon};
 use erm_entries::unclaim;
 use erm_machine::OBJECT_LIMIT;
-use erm_model::{Oid, RowLaw, RowStop, Seat, Stamp};
+use erm_model::{Oid, Row, RowLaw, RowStop, Seat, Stamp};
 use erm_precommit::KeptClaim;
 use erm_rule::{Pass, Table};
 
@@ -30,6 +30,8 @@ pub struct Filled {
     pub own: u32,
     /// The reader stamp of the version that it overwrites.
     pub readers: Stamp,
+    /// The row of that version, which is copied into the cell.
+    pub row: Row,
 }
 
 /// Cuts the chain of an object whose entry the transaction owns and whose head, in this cell, is in hand: behind the newest version
@@ -84,11 +86,11 @@ pub fn fill_claim<L: RowLaw>(
         }
     };
     let readers = rate(t, p, who, base);
-    copy_row(t, p, who, base, own);
-    Ok(Filled { own, readers })
+    let row = copy_row(t, p, who, base, own);
+    Ok(Filled { own, readers, row })
 }
 
-// Claims an object, before the early test.
+// Claims an object, before the early test. The answer is the row of the version overwritten.
 fn claim_object<L: RowLaw>(
     txn: &mut Active,
     spare: &mut Spare,
@@ -96,7 +98,7 @@ fn claim_object<L: RowLaw>(
     p: &mut Pass,
     who: Seat,
     oid: Oid,
-) -> Result<(), RowStop>
+) -> Result<Row, RowStop>
     requires fits { Fits t.now.words.shared.table_id p.old }
     requires session { is_session who ≡ true }
     requires active { is_active (part_of (view p.old) who).place ≡ true }
@@ -108,7 +110,7 @@ fn claim_object<L: RowLaw>(
     ensures fits { Fits t.now.words.shared.table_id p.new }
     ensures kept { IsActive txn.new (part_of (view p.new) who) }
     ensures spare { SpareIs spare.new (part_of (view p.new) who) }
-    ensures claimed { IfOk result (λ _. DidClaim (view p.old) who oid (view p.new)) }
+    ensures claimed { IfOk result (λ row. DidClaim (view p.old) who oid row (view p.new)) }
     ensures refused { IfErr result (λ stop. DidNotClaim (view p.old) who oid stop (view p.new)) }
 {
     let head = match take_entry(txn, t, p, who, oid) {
@@ -126,13 +128,13 @@ fn claim_object<L: RowLaw>(
         own: filled.own,
     };
     txn.add_claim(claim, filled.readers);
-    Ok(())
+    Ok(filled.row)
 }
 
 /// Claims an object that the transaction hasn't claimed yet: takes its entry, cuts its chain, and gives the claim a cell of its own,
-/// whose row is that of the version overwritten, until a write sets it. The caller keeps what it claims: it may not be asked for again.
+/// whose row is that of the version overwritten, the answer, until a write sets it. The caller keeps what it claims: it may not be asked for again.
 /// A claim is refused where as many objects are claimed as may be, where another transaction owns the entry, where the newest version
-/// isn't below the begin stamp or became another one since, where no cell is left, and, once the claim is made, where the exclusion
+/// isn't below the begin stamp, where no cell is left, and, once the claim is made, where the exclusion
 /// window known so far is closed: then, and for another owner or a newer version, the transaction is to end.
 pub fn claim<L: RowLaw>(
     txn: &mut Active,
@@ -141,7 +143,7 @@ pub fn claim<L: RowLaw>(
     p: &mut Pass,
     who: Seat,
     oid: Oid,
-) -> Result<(), RowStop>
+) -> Result<Row, RowStop>
     requires fits { Fits t.now.words.shared.table_id p.old }
     requires session { is_session who ≡ true }
     requires active { is_active (part_of (view p.old) who).place ≡ true }
@@ -153,15 +155,15 @@ pub fn claim<L: RowLaw>(
     ensures fits { Fits t.now.words.shared.table_id p.new }
     ensures kept { IsActive txn.new (part_of (view p.new) who) }
     ensures spare { SpareIs spare.new (part_of (view p.new) who) }
-    ensures claimed { IfOk result (λ _. DidClaim (view p.old) who oid (view p.new)) }
+    ensures claimed { IfOk result (λ row. DidClaim (view p.old) who oid row (view p.new)) }
     ensures open { IfOk result (λ _. closed_window txn.new ≡ None) }
     ensures refused { IfErr result (λ stop. DidNotClaim (view p.old) who oid stop (view p.new)) }
 {
     match claim_object(txn, spare, t, p, who, oid) {
         Err(why) => Err(why),
-        Ok(()) => match txn.closed_window() {
+        Ok(row) => match txn.closed_window() {
             Some((succ, pred)) => Err(RowStop::Excluded { succ, pred }),
-            None => Ok(()),
+            None => Ok(row),
         },
     }
 }

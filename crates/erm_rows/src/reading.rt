@@ -24,7 +24,7 @@ use erm_readers::{rate_read, register, walk};
 use erm_rule::{Pass, Table};
 
 // Reads the version of an object that the transaction is to see, from its head on, which is in hand, in this cell: finds it,
-// registers and rates it, and loads its row.
+// registers and rates it, and loads its row. Nothing is noted of other seats.
 fn read_version<L: RowLaw>(
     txn: &mut Active,
     t: &Table<L>,
@@ -44,6 +44,7 @@ fn read_version<L: RowLaw>(
     requires unread { has_read oid (part_of (view p.old) who).current ≡ false }
     ensures fits { Fits t.now.words.shared.table_id p.new }
     ensures read { DidRead (view p.old) who oid result (view p.new) }
+    ensures unnoted { (part_of (view p.new) who).clear ≡ (part_of (view p.old) who).clear }
     ensures kept { IsActive txn.new (part_of (view p.new) who) }
 {
     let found = walk(t, p, who, head, txn.begin);

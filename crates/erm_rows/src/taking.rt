@@ -4,7 +4,7 @@ ghost use Rattle.erm_cells.specs.Calls.{DidTake, IsFoundHead, starts_anew};
 ghost use Rattle.erm_entries.specs.Spelling.{entry_of, word_of};
 ghost use Rattle.erm_machine.specs.Facts.{Holds};
 ghost use Rattle.erm_machine.specs.Seat.{is_active};
-ghost use Rattle.erm_machine.specs.Words.{is_session};
+ghost use Rattle.erm_machine.specs.Words.{head_of, is_session};
 ghost use Rattle.erm_model.specs.declared.row_stop.RowStop.TheVariants.{Owned};
 ghost use Rattle.erm_rows.specs.Active.{IsActive};
 ghost use Rattle.erm_rows.specs.Claims.{DidFindFree, DidNotExchange, DidNotFind, DidNotTake, DidTakeEntry};
@@ -59,7 +59,7 @@ fn owned(entry: &Entry) -> RowStop
     }
 }
 
-// Exchanges the entry of the head that was found, for one that the own transaction of this number owns.
+// Exchanges the entry of the head that was found, which nobody owned, for one that the own transaction of this number owns.
 fn exchange<L: RowLaw>(
     t: &Table<L>,
     p: &mut Pass,
@@ -75,6 +75,7 @@ fn exchange<L: RowLaw>(
     requires room { length (part_of (view p.old) who).current.writes < WRITE_LIMIT }
     requires object { oid < OBJECT_LIMIT }
     requires head { IsFoundHead (part_of (view p.old) who).task oid (word_of seen.now) }
+    requires plain { word_of seen.now ≡ head_of (word_of seen.now) }
     requires unclaimed { Holds (part_of (view p.old) who) oid → ⊥ }
     ensures fits { Fits t.now.words.shared.table_id p.new }
     ensures taken { IfOk result (λ _. DidTake (view p.old) who oid (word_of seen.now) (view p.new)) }
@@ -93,8 +94,8 @@ fn exchange<L: RowLaw>(
 
 /// Takes the entry of an object that the transaction hasn't claimed: claims the object by its newest version, whose cell is the answer
 /// and whose stamp is below the begin stamp. The claim has no cell of its own yet. It is refused where as many objects are claimed as
-/// may be, where another transaction owns the entry, and where the newest version isn't below the begin stamp, or became another one
-/// since its stamp was loaded; after the last two the transaction is to end.
+/// may be, where another transaction owns the entry, and where the newest version isn't below the begin stamp; after the last two the
+/// transaction is to end.
 pub fn take_entry<L: RowLaw>(
     txn: &Active,
     t: &Table<L>,

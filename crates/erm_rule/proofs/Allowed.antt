@@ -24,6 +24,7 @@ use Rattle.erm_machine.specs.Sound.{Sound}
 use Rattle.erm_machine.specs.Step.{part_after, stored, shared_after, is_known, after_event}
 use Rattle.erm_machine.specs.Words.{put, is_seat}
 use Rattle.erm_machine.proofs.Frames.{put_other}
+use Rattle.erm_core_blocks.specs.Spelled.{AreSpelled, DecidesSpelled, IsSpelled, decided_by}
 use Rattle.erm_model.specs.declared.limits.TheConstants.{TABLE_CELLS}
 use Rattle.erm_model.specs.Lawful.{IsLawfulRecord}
 use Rattle.erm_model.specs.Member.{◌∈◌}
@@ -43,7 +44,8 @@ use Rattle.erm_rule.proofs.Newest.{newest_kept}
 use Rattle.erm_rule.proofs.Opened.{stays_opened}
 use Rattle.erm_rule.proofs.Parts.{order_after, in_map, map_in, found_among}
 
--- the laws on which the rule stands: two words have two numbers, and each event keeps the state sound, and the law of rows
+-- the laws on which the rule stands: two words have two numbers, and each event keeps the state sound, the law of rows, and the
+-- blocks spelled
 abbrev pub OneNumber : Type 0
 OneNumber = (v w : Word) → HasNumber v → HasNumber w → index_of v ≡ index_of w → v ≡ w
 
@@ -55,6 +57,9 @@ KeepsSound = (c d : Core) (seat : ℕ) (k : Kind) → Sound c → after_event c 
 
 abbrev pub KeepsLaw : Law → Type 0
 KeepsLaw law = (c d : Core) (seat : ℕ) (k : Kind) → Sound c → Lawful law c.shared c.seats → DrawsLawfully law c seat k → after_event c seat k ≡ Some d → Lawful law d.shared d.seats
+
+abbrev pub KeepsSpelled : Type 0
+KeepsSpelled = (c d : Core) (seat : ℕ) (k : Kind) → Sound c → AreSpelled c → DecidesSpelled c seat k → after_event c seat k ≡ Some d → AreSpelled d
 
 -- a view that stands is one of the state
 pub standing_view : (words : List ℕ) (views : List View) (c : Core) (cells : ℕ → Cell) (holder : ℕ → ℕ) (id : ℕ) (v : View) → Stands words views c cells holder → get_elem? views id ≡ some v → IsView v c
@@ -166,16 +171,27 @@ same_limit p (kind.AddCounter Objects) found x s = refl
 same_limit p (kind.AddCounter Cells) found x s = refl
 same_limit p k found x s = refl
 
+-- the part that a view has of a seat
+part_held : (v : View) (who : ℕ) (x : Part) → part_in v who ≡ Some x → part_of v who ≡ x
+part_held v who x has = ap (λ (o : Option Part). unwrap_or o (fresh_part Vacant 0 0)) has
+
 -- what the caller promises of the view is so of each state of the view
 promised : (law : Law) (c : Core) (v : View) (who : ℕ) (k : Kind) (x : Part) → part_in v who ≡ Some x → IsView v c → Promises law v who k → DrawsLawfully law c who k
 promised law c v who (kind.AddTail size) x has sees lawful =
-    let own : part_of v who ≡ x = ap (λ (o : Option Part). unwrap_or o (fresh_part Vacant 0 0)) has in
-    subst (λ (z : Part). IsLawfulRecord law (record_of who z.current)) (own ∙ sym (sees who x has)) lawful
+    subst (λ (z : Part). IsLawfulRecord law (record_of who z.current)) (part_held v who x has ∙ sym (sees who x has)) lawful
 promised law c v who k x has sees lawful = tt
+
+-- and so is what it promises of a decision: a seat writes the state's run
+promised_spelled : (law : Law) (c : Core) (v : View) (who : ℕ) (k : Kind) (x : Part) → Sound c → part_in v who ≡ Some x → IsView v c → Promises law v who k → DecidesSpelled c who k
+promised_spelled law c v who (kind.Decide at header) x sound has sees spelled =
+    let here : IsSpelled (c.seats who).run who (decided_by header (c.seats who).current) =
+    subst (λ (z : Part). IsSpelled z.run who (decided_by header z.current)) (part_held v who x has ∙ sym (sees who x has)) spelled in
+    subst (λ (r : ℕ). IsSpelled r who (decided_by header (c.seats who).current)) (sound.own who).lives.run here
+promised_spelled law c v who k x sound has sees spelled = tt
 
 -- ONE PROOF FOR ALL KINDS. A step that the machine takes whatever the view leaves open, on the word that it meets, which
 -- becomes what the step stores, is allowed, and tells what the play wants of it.
-module _ (law : Law) (one_number : OneNumber) (below : Below) (keeps_sound : KeepsSound) (keeps_law : KeepsLaw law)
+module _ (law : Law) (one_number : OneNumber) (below : Below) (keeps_sound : KeepsSound) (keeps_law : KeepsLaw law) (keeps_spelled : KeepsSpelled)
     (opening : Opening) (slots id : ℕ) (me : Me (Unit {0}) View) (who : ℕ) (k : Kind) (w : Word) (f : ℕ → ℕ)
     (has : IsSome (part_in me.0 who)) (ready : Ready me.0 who k) (promises : Promises law me.0 who k) (known : is_known k ≡ true)
     (told : IsTold k) (met : word_of_spot (spot_of who k) ≡ Some w) (numbered : HasNumber w) (agrees : Agrees me.0 who k f) where
@@ -228,6 +244,8 @@ module _ (law : Law) (one_number : OneNumber) (below : Below) (keeps_sound : Kee
       let event = event_is c who k y.0 known y.1 in
       let after : Lawful law (next c who k y.0).shared (next c who k y.0).seats =
       keeps_law c (next c who k y.0) who k kept.sound under.lawful (promised law c me.0 who k x.0 x.1 sees promises) event in
+      let spelled : AreSpelled (next c who k y.0) =
+      keeps_spelled c (next c who k y.0) who k kept.sound under.spelled (promised_spelled law c me.0 who k x.0 kept.sound x.1 sees promises) event in
       let agreed : f found ≡ stored who k (word_at c (spot_of who k)) = ap f is ∙ agrees c kept.sound sees guard in (
         with_part who y.0 me.0,
         keeps,
@@ -247,11 +265,14 @@ module _ (law : Law) (one_number : OneNumber) (below : Below) (keeps_sound : Kee
             limit = same_limit who k (word_at c (spot_of who k)) (c.seats who) c.shared ∙ kept.limit;
           };
           lawful = after;
+          spelled = spelled;
         },
         telling found (with_part who y.0 me.0) (record {
           told = told_by s.words s.views c kept.cells kept.holder y.0 found stands kept.sound kept.cuts kept.limit at is y.1 (f found) agreed;
           lawful = under.lawful;
           lawful_after = after;
+          spelled = under.spelled;
+          spelled_after = spelled;
         }),
       )
 

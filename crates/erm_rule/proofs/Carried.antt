@@ -221,6 +221,7 @@ c_set_reader seat v o x _ y e = absurd (cc)
 c_walked_stamp : (found : ℕ) (v : VersionAt) (x : Part) (t : Task) (y : Part) → load_walked_stamp found v x t ≡ Some y → Carries x y
 c_walked_stamp found v x (task.Walks version head) y e = when_then (Carries x) _ _ y e (λ _. carry x _ refl refl)
 c_walked_stamp found v x (task.CutWalks version horizon) y e = when_then (Carries x) _ _ y e (λ _. carry x _ refl refl)
+c_walked_stamp found v x (task.Passed version) y e = when_then (Carries x) _ _ y e (λ _. carry x _ refl refl)
 c_walked_stamp found v x _ y e = absurd (cc)
 
 c_walked_link : (found : ℕ) (v : VersionAt) (x : Part) (t : Task) (y : Part) → load_walked_link found v x t ≡ Some y → Carries x y

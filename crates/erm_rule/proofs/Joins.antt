@@ -31,7 +31,7 @@ use Rattle.erm_rule.specs.Cells.{word_in, SeatCells, CellsAre}
 use Rattle.erm_rule.specs.Rule.{Stands, HeldByNone, KeptUnder}
 use Rattle.erm_rule.specs.Steps.{EndsUnder}
 use Rattle.erm_rule.specs.Views.{of_seats, EachOnce, no_held, first_held, last_held, left_of, taken, right_of, joined, held_after, IsInOrder}
-use Rattle.erm_rule.proofs.Allowed.{KeepsLaw, KeepsSound, standing_view, set_there}
+use Rattle.erm_rule.proofs.Allowed.{KeepsLaw, KeepsSound, KeepsSpelled, standing_view, set_there}
 use Rattle.erm_rule.proofs.Carried.{Carries, carry}
 use Rattle.erm_rule.proofs.Newest.{newest_kept}
 use Rattle.erm_rule.proofs.Parts.{order_after, in_map, map_in, here, in_either, in_one, in_other, in_front, last_or_front, split_at, none_there, once_front, once_both, last_apart}
@@ -218,9 +218,9 @@ module _ (words : List ℕ) (views : List View) (c : Core) (cells : ℕ → Cell
         put_other c.seats l.seat split_part q (λ (same : q ≡ l.seat). old id v l at l_in (sym same)) ∙ others q old
 
 -- the first seat hands out the last one, which is vacant
-pub splits : (law : Law) → KeepsSound → KeepsLaw law → (o : Opening) (id : ℕ) (v : View) → 2 ≤ length v.held → is_vacant (first_held v).part.place ≡ false → is_vacant (last_held v).part.place ≡ true →
+pub splits : (law : Law) → KeepsSound → KeepsLaw law → KeepsSpelled → (o : Opening) (id : ℕ) (v : View) → 2 ≤ length v.held → is_vacant (first_held v).part.place ≡ false → is_vacant (last_held v).part.place ≡ true →
     Splits (KeptUnder law o) id v (left_of v) (right_of v)
-splits law keeps_sound keeps_law o id v several giver given s under at =
+splits law keeps_sound keeps_law keeps_spelled o id v several giver given s under at =
     let kept = under.kept in
     let c = kept.core in
     let stands = kept.stands in
@@ -251,6 +251,7 @@ splits law keeps_sound keeps_law o id v several giver given s under at =
         limit = kept.limit;
       };
       lawful = keeps_law c next (first_held v).seat (kind.Split (last_held v).seat) kept.sound under.lawful tt event;
+      spelled = keeps_spelled c next (first_held v).seat (kind.Split (last_held v).seat) kept.sound under.spelled tt event;
     }
 
 -- JOIN
@@ -374,9 +375,9 @@ other_view : (views : List View) (id other : ℕ) (u w : View) → other ≢ id 
 other_view views id other u w ne e = ⊎_elim (λ (t : (other ≡ id) × (u ≡ w)). absurd (ne t.0)) (λ (t : (other ≢ id) × (get_elem? views other ≡ some w)). t.1) (at_set views id other u w e)
 
 -- the first seat takes in the first of another pass, and the pass all of its seats
-pub joins : (law : Law) → KeepsSound → KeepsLaw law → (o : Opening) (id : ℕ) (v : View) (other : ℕ) (w : View) → 0 < length v.held → 0 < length w.held →
+pub joins : (law : Law) → KeepsSound → KeepsLaw law → KeepsSpelled → (o : Opening) (id : ℕ) (v : View) (other : ℕ) (w : View) → 0 < length v.held → 0 < length w.held →
     is_vacant (first_held v).part.place ≡ false → is_vacant (first_held w).part.place ≡ false → Joins (KeptUnder law o) id v other w (joined v w) (of_seats [])
-joins law keeps_sound keeps_law o id v other w some_held some_too taker taken_one s under at ne is =
+joins law keeps_sound keeps_law keeps_spelled o id v other w some_held some_too taker taken_one s under at ne is =
     let kept = under.kept in
     let c = kept.core in
     let stands = kept.stands in
@@ -402,6 +403,7 @@ joins law keeps_sound keeps_law o id v other w some_held some_too taker taken_on
         limit = kept.limit;
       };
       lawful = keeps_law c next (first_held v).seat (kind.Join (first_held w).seat) kept.sound under.lawful tt event;
+      spelled = keeps_spelled c next (first_held v).seat (kind.Join (first_held w).seat) kept.sound under.spelled tt event;
     }
 
 -- CLOSE
@@ -426,4 +428,5 @@ ends law o id v ws xs tail final is =
         tail_is = sym (kept.stands.words_are word.Tail tt) ∙ ap (λ (l : List ℕ). get_or l 0 0) words ∙ first_word ws tail is;
       };
       lawful = under.lawful;
+      spelled = under.spelled;
     }

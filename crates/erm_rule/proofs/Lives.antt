@@ -165,6 +165,8 @@ module _ (c : Core) (p : ℕ) (sound : Sound c) where
       when_then (λ _. IsLive s v) _ _ y e (λ g. live_as s v version g (live_newer version named begun hand))
   walked_stamp_live found v (task.CutWalks version horizon) y begun named cut hand e =
       when_then (λ _. IsLive s v) _ _ y e (λ g. live_as s v version g (live_attached version named cut.attached))
+  walked_stamp_live found v (task.Passed version) y begun named cut hand e =
+      when_then (λ _. IsLive s v) _ _ y e (λ g. live_as s v version g (live_newer version named begun hand.0))
   walked_stamp_live found v _ y begun named cut hand e = absurd (cc)
 
   walked_link_live : (found : ℕ) (v : VersionAt) (t : Task) (y : Part) → HasBegun x.place → NamedInHand s t → CutInHand s x t → InHand s x.current.begin t

@@ -20,7 +20,7 @@ use Rattle.erm_machine.specs.Chains.{CutInHand, HeadInHand}
 use Rattle.erm_machine.specs.Core.{Core, Object, Shared, no_version, claim_at, spot_of, word_at, version_at, newest}
 use Rattle.erm_machine.specs.Facts.{Holds}
 use Rattle.erm_machine.specs.Life.{load_tail_for_horizon, lower, load_begin, after_clear, load_state, split, join}
-use Rattle.erm_machine.specs.Reading.{after_cut, head_version, older, entered, load_entry, claim, set_reader, load_walked_stamp, load_walked_link, load_cell, swap_link, detached, load_detached, load_active_stamp}
+use Rattle.erm_machine.specs.Reading.{after_cut, head_version, older, entered, lost, load_entry, claim, set_reader, load_walked_stamp, load_walked_link, load_cell, swap_link, detached, load_detached, load_active_stamp}
 use Rattle.erm_machine.specs.Seat.{end_of, is_active, is_sealed}
 use Rattle.erm_machine.specs.Settling.{load_read_entry, load_settled_stamp, load_stamp}
 use Rattle.erm_machine.specs.Snapshot.{NewerFrom}
@@ -152,6 +152,9 @@ n_entered s seat oid entry =
     (if owner_of entry == seat then task.Claimed (head_version oid entry (s.objects oid)) else task.Owned oid (owner_of entry)) (λ _. tt)
     (λ _. newest_if s (owner_of entry == seat) (task.Claimed (head_version oid entry (s.objects oid))) (task.Owned oid (owner_of entry)) (λ _. refl) (λ _. tt))
 
+n_lost : (s : Shared) (seat oid entry : ℕ) (v : VersionAt) → NewestInHand s (lost seat oid entry v (s.objects oid))
+n_lost s seat oid entry v = newest_if s _ (task.Passed (head_version oid entry (s.objects oid))) (entered seat oid entry (s.objects oid)) (λ _. tt) (λ _. n_entered s seat oid entry)
+
 n_load_entry : (s : Shared) (seat oid found : ℕ) (x : Part) (t : Task) (y : Part) → load_entry seat oid found (s.objects oid) x t ≡ Some y → After s y
 n_load_entry s seat oid found x (task.Cleared cleared) y e =
     when_then (After s) _ _ y e (λ _. newest_if s (oid == cleared) (task.Walks (head_version oid found (s.objects oid)) None) (entered seat oid found (s.objects oid)) (λ _. tt) (λ _. n_entered s seat oid found))
@@ -162,9 +165,9 @@ n_claim s seat oid seen number x (task.Found version stamp (Some entry)) y head 
     when_then (After s) _ _ y e (λ g.
     let oid_is : oid ≡ version.oid = eqb-true _ _ (and_parts _ _ (and_parts _ _ (and_parts _ _ (and_parts _ _ g).0).0).0).1 in
     let seen_is : seen ≡ entry = eqb-true _ _ (and_parts _ _ (and_parts _ _ (and_parts _ _ g).0).0).1 in
-    newest_if s ((s.objects oid).entry == seen) (task.Claimed version) (entered seat oid (s.objects oid).entry (s.objects oid))
+    newest_if s ((s.objects oid).entry == seen) (task.Claimed version) (lost seat oid (s.objects oid).entry version (s.objects oid))
     (λ same. head.2 (ap (λ n. (s.objects n).entry) (sym oid_is) ∙ eqb-true _ _ same ∙ seen_is))
-    (λ _. n_entered s seat oid (s.objects oid).entry))
+    (λ _. n_lost s seat oid (s.objects oid).entry version))
 n_claim s seat oid seen number x _ y head e = absurd (cc)
 
 n_set_reader : (s : Shared) (seat : ℕ) (v : VersionAt) (o : Object) (x : Part) (t : Task) (y : Part) → set_reader seat v o x t ≡ Some y → After s y
@@ -198,6 +201,7 @@ n_walked_stamp s v x (task.CutWalks version horizon) y h e =
     when_then (After s) _ _ y e (λ g.
     newest_if s _ (task.CutFound version horizon) (task.CutPassed version horizon) (λ _. h)
     (λ high. (h, subst (λ n. horizon ≤ stamp_of s n) (same_name v version g) (ltb-false (stamp_of s v) horizon high))))
+n_walked_stamp s v x (task.Passed version) y h e = when_then (After s) _ _ y e (λ _. tt)
 n_walked_stamp s v x _ y h e = absurd (cc)
 
 n_walked_link : (s : Shared) (found : ℕ) (v : VersionAt) (x : Part) (t : Task) (y : Part) → NewestInHand s t → load_walked_link found v x t ≡ Some y → After s y

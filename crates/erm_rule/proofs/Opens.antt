@@ -18,6 +18,7 @@ use Rattle.erm_machine.specs.Core.{blank, version_at, no_object, opened_object, 
 use Rattle.erm_machine.specs.Lawful.{Lawful, opening_rows}
 use Rattle.erm_machine.specs.Sound.{Sound}
 use Rattle.erm_machine.specs.Words.{blank_cell, is_seat}
+use Rattle.erm_core_blocks.specs.Spelled.{AreSpelled}
 use Rattle.erm_model.specs.declared.limits.TheConstants.{TABLE_CELLS}
 use Rattle.erm_model.specs.Member.{◌∈◌}
 use Rattle.erm_model.specs.RowTransaction.{Law, RespectsRows, SameRows}
@@ -37,6 +38,10 @@ abbrev pub OpensSound : Type 0
 OpensSound =
     (sessions : ℕ) (rows : Rows) (tail run first cells : ℕ) → sessions ≤ SESSIONS → 0 < tail → tail ≤ STOP + 4 → first ≤ OBJECT_LIMIT
     → OBJECT_LIMIT ≤ cells → cells ≤ MOST_CELLS → ((oid : ℕ) → oid < OBJECT_LIMIT → length (rows oid) ≡ 16) → Sound (opening_state sessions rows tail run first cells)
+
+-- the law that an opening's blocks are spelled
+abbrev pub OpensSpelled : Type 0
+OpensSpelled = (sessions : ℕ) (rows : Rows) (tail run first cells : ℕ) → AreSpelled (opening_state sessions rows tail run first cells)
 
 -- THE WORDS, stored one after another
 -- The words below a number are those of the opening's state.
@@ -194,9 +199,9 @@ module _ (o : Opening) where
             absurd (omega (arith, none, drawn));
       }
 
-  pub first_kept : (law : Law) → RespectsRows law → law.meets (rows_of o.rows.items) → ((oid : ℕ) → o.first ≤ oid → law.reach (rows_of o.rows.items) oid ≡ 0) → OpensSound → 0 < o.tail → o.tail ≤ STOP + 4 → o.first ≤ OBJECT_LIMIT → length o.rows.items ≡ OBJECT_LIMIT →
+  pub first_kept : (law : Law) → RespectsRows law → law.meets (rows_of o.rows.items) → ((oid : ℕ) → o.first ≤ oid → law.reach (rows_of o.rows.items) oid ≡ 0) → OpensSound → OpensSpelled → 0 < o.tail → o.tail ≤ STOP + 4 → o.first ≤ OBJECT_LIMIT → length o.rows.items ≡ OBJECT_LIMIT →
       ((oid : ℕ) → oid < length o.rows.items → length (get_or o.rows.items oid []) ≡ 16) → (words : List ℕ) → IsFirst o words → KeptUnder law o (table.opening words [] (first_view o))
-  first_kept law respects meets unreached opens positive low first count wide words is = record {
+  first_kept law respects meets unreached opens spelled positive low first count wide words is = record {
     kept = record {
       core = first_core o;
       cells = first_cells o;
@@ -209,4 +214,5 @@ module _ (o : Opening) where
       limit = refl;
     };
     lawful = first_lawful law respects meets unreached count;
+    spelled = spelled 0 (first_rows o) o.tail o.run o.first TABLE_CELLS;
   }

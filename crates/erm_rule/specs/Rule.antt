@@ -17,6 +17,7 @@ use Rattle.erm_machine.specs.Core.{Core, Shared, fresh_part, opening_state}
 use Rattle.erm_machine.specs.Lawful.{Lawful, opening_rows}
 use Rattle.erm_machine.specs.Sound.{Sound}
 use Rattle.erm_machine.specs.Words.{blank_cell}
+use Rattle.erm_core_blocks.specs.Spelled.{AreSpelled}
 use Rattle.erm_rule.specs.Cells.{word_in, CellsAre}
 use Rattle.erm_rule.specs.Newest.{CutsAtNewest}
 use Rattle.erm_rule.specs.declared.view.Held.{Held}
@@ -60,10 +61,11 @@ pub record Kept (opening : Opening) (s : State (Unit {0}) View) : Type 0 where
   pub opened : IsOpened opening core.shared
   pub limit : core.shared.cell_limit ≡ TABLE_CELLS
 
--- the same, and the state's rows keep the law
+-- the same, and the state's rows keep the law, and the words of each decided block are the spelling of its transaction
 pub record KeptUnder (law : Law) (opening : Opening) (s : State (Unit {0}) View) : Type 0 where
   pub kept : Kept opening s
   pub lawful : Lawful law kept.core.shared kept.core.seats
+  pub spelled : AreSpelled kept.core
 
 -- the sessions from a number down to 1, all vacant
 abbrev pub vacant_from : Opening → ℕ → List Held

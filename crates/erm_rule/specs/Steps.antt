@@ -16,6 +16,7 @@ use Rattle.erm_machine.specs.Lawful.{Lawful}
 use Rattle.erm_machine.specs.Sound.{Sound}
 use Rattle.erm_machine.specs.Step.{part_after, stored, after_event}
 use Rattle.erm_machine.specs.Words.{is_seat}
+use Rattle.erm_core_blocks.specs.Spelled.{AreSpelled, IsSpelled, decided_by}
 use Rattle.erm_rule.specs.declared.view.Opening.{Opening}
 use Rattle.erm_rule.specs.declared.view.View.{View}
 use Rattle.erm_rule.specs.Newest.{CutsAtNewest}
@@ -39,9 +40,11 @@ Agrees v who kind f =
     (c : Core) → Sound c → IsView v c → IsSome (part_after who kind (word_at c (spot_of who kind)) c.shared (c.seats who))
     → f (word_at c (spot_of who kind)) ≡ stored who kind (word_at c (spot_of who kind))
 
--- The caller's promise: a step that draws a range of the log draws it for a lawful transaction.
+-- The caller's promise: a step that draws a range of the log draws it for a lawful transaction, and one that decides a
+-- transaction decides a spelled one.
 abbrev pub Promises : Law → View → ℕ → Kind → Type 0
 Promises law v who (kind.AddTail size) = IsLawfulRecord law (record_of who (part_of v who).current)
+Promises law v who (kind.Decide at header) = IsSpelled (part_of v who).run who (decided_by header (part_of v who).current)
 Promises law v who _ = Unit {0}
 
 -- A step of a seat, from a sound state with the parts of the view before to one with those of the view after: the word
@@ -64,11 +67,13 @@ pub record Told (v : View) (who : ℕ) (kind : Kind) (found : ℕ) (w : View) : 
   pub is_view_after : IsView w after
   pub limit_after : after.shared.cell_limit ≡ TABLE_CELLS
 
--- A step that is told, between states whose rows keep the law.
+-- A step that is told, between states whose rows keep the law, and whose decided blocks are spelled.
 pub record ToldUnder (law : Law) (v : View) (who : ℕ) (kind : Kind) (found : ℕ) (w : View) : Type 0 where
   pub told : Told v who kind found w
   pub lawful : Lawful law told.before.shared told.before.seats
   pub lawful_after : Lawful law told.after.shared told.after.seats
+  pub spelled : AreSpelled told.before
+  pub spelled_after : AreSpelled told.after
 
 -- The table's last state: a sound one of its opening, in which the seats of the view have its parts, with this tail. A seat
 -- without words, which no view can have, is one that has done nothing.
@@ -80,7 +85,8 @@ pub record Ends (o : Opening) (v : View) (tail : ℕ) : Type 0 where
   pub tail_is : core.shared.tail ≡ tail
   pub others : (q : ℕ) → is_seat q ≡ false → core.seats q ≡ fresh_part Vacant o.run o.tail
 
--- the table's last state, whose rows keep the law
+-- the table's last state, whose rows keep the law, and whose decided blocks are spelled
 pub record EndsUnder (law : Law) (o : Opening) (v : View) (tail : ℕ) : Type 0 where
   pub ends : Ends o v tail
   pub lawful : Lawful law ends.core.shared ends.core.seats
+  pub spelled : AreSpelled ends.core

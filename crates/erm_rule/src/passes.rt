@@ -30,6 +30,7 @@ pub fn open<L: RowLaw>(alloc: Global, opening: &Opening) -> Result<(Table<L>, Pa
 {
     erm_sound::openings_are_sound();
     L::respects_rows();
+    erm_core_blocks::openings_are_spelled();
     rows_are_whole(opening.rows.as_slice());
     let words = first_words(alloc, opening)?;
     let (words, pass) = atomic_table::Table::of_words(alloc, &words, opening)?;
@@ -47,6 +48,7 @@ pub fn split<L: RowLaw>(t: &Table<L>, p: &mut Pass) -> Pass
 {
     erm_sound::events_keep_sound();
     erm_core_lives::law_is_kept::<L>();
+    erm_core_blocks::blocks_stay_spelled();
     t.words.shared.split_seat::<Cut>(p)
 }
 
@@ -60,6 +62,7 @@ pub fn join<L: RowLaw>(t: &Table<L>, p: &mut Pass, other: Pass)
 {
     erm_sound::events_keep_sound();
     erm_core_lives::law_is_kept::<L>();
+    erm_core_blocks::blocks_stay_spelled();
     t.words.shared.join_seat::<Glue>(p, other);
 }
 

@@ -5,7 +5,8 @@ use erm_model::RowLaw;
 use std::alloc::Global;
 use std::marker::PhantomData;
 
-/// The words and the views of all passes stand for a sound state of the machine, whose rows keep the law `L`.
+/// The words and the views of all passes stand for a sound state of the machine, whose rows keep the law `L`, and whose decided
+/// blocks are spelled.
 pub struct Standing<L> {
     law: PhantomData<L>,
 }

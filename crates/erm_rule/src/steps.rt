@@ -1,6 +1,6 @@
 //! Steps of seats on words: one function for each way to change a word. A step is to be one that the machine takes, whatever the
-//! pass leaves open, and a range of the log is to be drawn for a lawful transaction. Each comes in two forms: the kind of step is
-//! passed, or it is for the proof alone, as a caller on words need not know it.
+//! pass leaves open, a range of the log is to be drawn for a lawful transaction, and a transaction that is decided is to be spelled.
+//! Each comes in two forms: the kind of step is passed, or it is for the proof alone, as a caller on words need not know it.
 ghost use Rattle.std.specs.Prelude.{◌≡◌, ℕ, ◌+◌, ◌%◌, ◌^◌, ◌==◌, true, if◌then◌else◌, max, bit_and, bit_or, IsSome};
 ghost use Rattle.erm_layout.specs.Layout.{HasNumber};
 ghost use Rattle.erm_layout.specs.Spots.{word_of_spot};
@@ -75,6 +75,7 @@ pub fn load_as<L: RowLaw, M: Deed>(t: &Table<L>, p: &mut Pass, who: Seat, word: 
 {
     erm_sound::events_keep_sound();
     erm_core_lives::law_is_kept::<L>();
+    erm_core_blocks::blocks_stay_spelled();
     erm_layout::one_number();
     erm_layout::numbers_below();
     t.words
@@ -141,6 +142,7 @@ pub fn store_as<L: RowLaw, M: Deed>(t: &Table<L>, p: &mut Pass, who: Seat, word:
 {
     erm_sound::events_keep_sound();
     erm_core_lives::law_is_kept::<L>();
+    erm_core_blocks::blocks_stay_spelled();
     erm_layout::one_number();
     erm_layout::numbers_below();
     t.words
@@ -220,6 +222,7 @@ pub fn add_as<L: RowLaw, M: Deed>(
 {
     erm_sound::events_keep_sound();
     erm_core_lives::law_is_kept::<L>();
+    erm_core_blocks::blocks_stay_spelled();
     erm_layout::one_number();
     erm_layout::numbers_below();
     t.words
@@ -302,6 +305,7 @@ pub fn exchange_as<L: RowLaw, M: Deed>(
 {
     erm_sound::events_keep_sound();
     erm_core_lives::law_is_kept::<L>();
+    erm_core_blocks::blocks_stay_spelled();
     erm_layout::one_number();
     erm_layout::numbers_below();
     t.words
@@ -381,6 +385,7 @@ pub fn swap_as<L: RowLaw, M: Deed>(
 {
     erm_sound::events_keep_sound();
     erm_core_lives::law_is_kept::<L>();
+    erm_core_blocks::blocks_stay_spelled();
     erm_layout::one_number();
     erm_layout::numbers_below();
     t.words
@@ -460,6 +465,7 @@ pub fn or_as<L: RowLaw, M: Deed>(
 {
     erm_sound::events_keep_sound();
     erm_core_lives::law_is_kept::<L>();
+    erm_core_blocks::blocks_stay_spelled();
     erm_layout::one_number();
     erm_layout::numbers_below();
     t.words
@@ -539,6 +545,7 @@ pub fn and_as<L: RowLaw, M: Deed>(
 {
     erm_sound::events_keep_sound();
     erm_core_lives::law_is_kept::<L>();
+    erm_core_blocks::blocks_stay_spelled();
     erm_layout::one_number();
     erm_layout::numbers_below();
     t.words
@@ -618,6 +625,7 @@ pub fn raise_as<L: RowLaw, M: Deed>(
 {
     erm_sound::events_keep_sound();
     erm_core_lives::law_is_kept::<L>();
+    erm_core_blocks::blocks_stay_spelled();
     erm_layout::one_number();
     erm_layout::numbers_below();
     t.words

@@ -13,3 +13,6 @@ store_row-requires-clause-may g c = copy_may c.args.p.now.me.0 c.args.who c.args
 pub returns-clause-copied : goal.returns-clause-copied
 returns-clause-copied g c =
     did_copy c.args.p.now.me.0 c.args.who c.args.own c.requires.copies c.load_base-row.result c.load_base-row.new.p.me.0 c.load_base-row.ensures.loaded c.store_row.new.p.me.0 c.store_row.ensures.stored
+
+pub returns-clause-row : goal.returns-clause-row
+returns-clause-row g c = c.load_base-row.ensures.loaded.row_is

@@ -1,6 +1,7 @@
 use Rattle.std.proofs.Common.{ℕ, sym, subst, ◌∙◌}
-use Rattle.erm_cells.specs.Calls.{DidEnter, DidTake, IsFoundHead}
+use Rattle.erm_cells.specs.Calls.{DidLose, DidTake, IsFoundHead}
 use Rattle.erm_rule.specs.Views.{part_of}
+use Rattle.erm_entries.specs.Spelling.{word_of}
 use Rattle.erm_entries.proofs.Spelled.{entry_again}
 use Rattle.erm_entries.proofs.claiming.claim.Goals as goal
 
@@ -15,5 +16,7 @@ pub returns-else-found-word-clause-lost : goal.returns-else-found-word-clause-lo
 returns-else-found-word-clause-lost g c = record {
   spelled = entry_again c.of.result c.take-found.result c.of.ensures.entry;
   other = λ same. c.if-found-word.false (sym c.of.ensures.spelled ∙ same ∙ sym c.word-word.ensures.word);
-  enters = subst (λ (n : ℕ). DidEnter c.args.p.now.me.0 c.args.who c.args.oid n c.take-found.new.p.me.0) (sym c.of.ensures.spelled) (c.take-found.ensures.lost c.if-found-word.false);
+  loses =
+      subst (λ (n : ℕ). DidLose c.args.p.now.me.0 c.args.who c.args.oid n (word_of c.of.result) c.take-found.new.p.me.0) c.word-word.ensures.word
+      (subst (λ (n : ℕ). DidLose c.args.p.now.me.0 c.args.who c.args.oid c.word-word.result n c.take-found.new.p.me.0) (sym c.of.ensures.spelled) (c.take-found.ensures.lost c.if-found-word.false));
 }

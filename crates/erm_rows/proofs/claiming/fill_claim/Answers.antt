@@ -22,20 +22,20 @@ rate-readers-requires-clause-cell g c = base_drawn c.args.p.now.me.0 c.args.who 
 pub rate-readers-requires-clause-drawn : goal.rate-readers-requires-clause-drawn
 rate-readers-requires-clause-drawn g c = may_rate c.args.p.now.me.0 c.args.who c.requires.active c.requires.known c.requires.draws c.args.oid c.args.base c.requires.claimed c.requires.base c.draw.new.spare c.in-Ok.own _ c.in-Ok.ensures.drawn
 
-pub copy_row-requires-clause-active : goal.copy_row-requires-clause-active
-copy_row-requires-clause-active g c = active_given c.args.p.now.me.0 c.args.who c.requires.active c.requires.known c.requires.draws c.args.oid c.args.base c.requires.claimed c.requires.base c.draw.new.spare c.in-Ok.own _ c.in-Ok.ensures.drawn c.rate-readers.result _ c.rate-readers.ensures.rated
+pub copy_row-row-requires-clause-active : goal.copy_row-row-requires-clause-active
+copy_row-row-requires-clause-active g c = active_given c.args.p.now.me.0 c.args.who c.requires.active c.requires.known c.requires.draws c.args.oid c.args.base c.requires.claimed c.requires.base c.draw.new.spare c.in-Ok.own _ c.in-Ok.ensures.drawn c.rate-readers.result _ c.rate-readers.ensures.rated
 
-pub copy_row-requires-clause-copies : goal.copy_row-requires-clause-copies
-copy_row-requires-clause-copies g c = copies_given c.args.p.now.me.0 c.args.who c.requires.active c.requires.known c.requires.draws c.args.oid c.args.base c.requires.claimed c.requires.base c.draw.new.spare c.in-Ok.own _ c.in-Ok.ensures.drawn c.rate-readers.result _ c.rate-readers.ensures.rated
+pub copy_row-row-requires-clause-copies : goal.copy_row-row-requires-clause-copies
+copy_row-row-requires-clause-copies g c = copies_given c.args.p.now.me.0 c.args.who c.requires.active c.requires.known c.requires.draws c.args.oid c.args.base c.requires.claimed c.requires.base c.draw.new.spare c.in-Ok.own _ c.in-Ok.ensures.drawn c.rate-readers.result _ c.rate-readers.ensures.rated
 
-pub copy_row-requires-clause-base : goal.copy_row-requires-clause-base
-copy_row-requires-clause-base g c = base_given c.args.p.now.me.0 c.args.who c.requires.active c.requires.known c.requires.draws c.args.oid c.args.base c.requires.claimed c.requires.base c.draw.new.spare c.in-Ok.own _ c.in-Ok.ensures.drawn c.rate-readers.result _ c.rate-readers.ensures.rated
+pub copy_row-row-requires-clause-base : goal.copy_row-row-requires-clause-base
+copy_row-row-requires-clause-base g c = base_given c.args.p.now.me.0 c.args.who c.requires.active c.requires.known c.requires.draws c.args.oid c.args.base c.requires.claimed c.requires.base c.draw.new.spare c.in-Ok.own _ c.in-Ok.ensures.drawn c.rate-readers.result _ c.rate-readers.ensures.rated
 
-pub copy_row-requires-clause-own : goal.copy_row-requires-clause-own
-copy_row-requires-clause-own g c = owns_given c.args.p.now.me.0 c.args.who c.requires.active c.requires.known c.requires.draws c.args.oid c.args.base c.requires.claimed c.requires.base c.draw.new.spare c.in-Ok.own _ c.in-Ok.ensures.drawn c.rate-readers.result _ c.rate-readers.ensures.rated
+pub copy_row-row-requires-clause-own : goal.copy_row-row-requires-clause-own
+copy_row-row-requires-clause-own g c = owns_given c.args.p.now.me.0 c.args.who c.requires.active c.requires.known c.requires.draws c.args.oid c.args.base c.requires.claimed c.requires.base c.draw.new.spare c.in-Ok.own _ c.in-Ok.ensures.drawn c.rate-readers.result _ c.rate-readers.ensures.rated
 
 pub returns-clause-filled : goal.returns-clause-filled
-returns-clause-filled g c = did_fill c.args.p.now.me.0 c.args.who c.requires.active c.requires.known c.requires.draws c.args.oid c.args.base c.requires.claimed c.requires.base c.draw.new.spare c.in-Ok.own _ c.in-Ok.ensures.drawn c.rate-readers.result _ c.rate-readers.ensures.rated _ c.copy_row.ensures.copied
+returns-clause-filled g c = did_fill c.args.p.now.me.0 c.args.who c.requires.active c.requires.known c.requires.draws c.args.oid c.args.base c.requires.claimed c.requires.base c.draw.new.spare c.in-Ok.own _ c.in-Ok.ensures.drawn c.rate-readers.result _ c.rate-readers.ensures.rated _ c.copy_row-row.ensures.copied c.copy_row-row.result c.copy_row-row.ensures.row
 
 pub returns-clause-spare : goal.returns-clause-spare
-returns-clause-spare g c = spare_filled c.args.p.now.me.0 c.args.who c.requires.active c.requires.known c.requires.draws c.args.oid c.args.base c.requires.claimed c.requires.base c.draw.new.spare c.in-Ok.own _ c.in-Ok.ensures.drawn c.rate-readers.result _ c.rate-readers.ensures.rated _ c.copy_row.ensures.copied
+returns-clause-spare g c = spare_filled c.args.p.now.me.0 c.args.who c.requires.active c.requires.known c.requires.draws c.args.oid c.args.base c.requires.claimed c.requires.base c.draw.new.spare c.in-Ok.own _ c.in-Ok.ensures.drawn c.rate-readers.result _ c.rate-readers.ensures.rated _ c.copy_row-row.ensures.copied

@@ -20,4 +20,4 @@ pub read_version-requires-clause-unread : goal.read_version-requires-clause-unre
 read_version-requires-clause-unread g c = unread_there c.args.p.now.me.0 c.args.who c.args.oid c.requires.active c.in_ok-entry.entry _ c.in_ok-entry.ensures.spelled c.in_ok-entry.ensures.reached c.requires.unread
 
 pub returns-clause-read : goal.returns-clause-read
-returns-clause-read g c = read_from c.args.p.now.me.0 c.args.who c.args.oid c.requires.active c.in_ok-entry.entry _ c.in_ok-entry.ensures.spelled c.in_ok-entry.ensures.reached c.read_version.result _ c.read_version.ensures.read
+returns-clause-read g c = read_from c.args.p.now.me.0 c.args.who c.args.oid c.requires.active c.in_ok-entry.entry _ c.in_ok-entry.ensures.spelled c.in_ok-entry.ensures.reached c.read_version.result _ c.read_version.ensures.read c.read_version.ensures.unnoted

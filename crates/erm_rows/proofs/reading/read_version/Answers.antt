@@ -1,4 +1,4 @@
-use Rattle.erm_rows.proofs.FromHead.{active_found, active_rated, active_registered, cell_rated, did_read, is_registered, keeps, may_load, room_found, to_be_read}
+use Rattle.erm_rows.proofs.FromHead.{active_found, active_rated, active_registered, cell_rated, did_read, is_registered, keeps, may_load, room_found, to_be_read, unnoted}
 use Rattle.erm_rows.proofs.reading.read_version.Goals as goal
 
 pub register-requires-clause-active : goal.register-requires-clause-active
@@ -27,6 +27,9 @@ load_row-row-requires-clause-cell g c = cell_rated c.args.p.now.me.0 c.args.who 
 
 pub returns-clause-read : goal.returns-clause-read
 returns-clause-read g c = did_read c.args.p.now.me.0 c.args.who c.args.oid c.requires.active c.requires.object c.requires.unread c.walk-found.result.cell c.walk-found.result.stamp _ c.walk-found.ensures.found _ c.register.ensures.registered c.rate_read-succ.result _ c.rate_read-succ.ensures.rated c.load_row-row.result _ c.load_row-row.ensures.loaded
+
+pub returns-clause-unnoted : goal.returns-clause-unnoted
+returns-clause-unnoted g c = unnoted c.args.p.now.me.0 c.args.who c.args.oid c.requires.active c.requires.object c.requires.unread c.walk-found.result.cell c.walk-found.result.stamp _ c.walk-found.ensures.found _ c.register.ensures.registered c.rate_read-succ.result _ c.rate_read-succ.ensures.rated c.load_row-row.result _ c.load_row-row.ensures.loaded
 
 pub returns-clause-kept : goal.returns-clause-kept
 returns-clause-kept g c = keeps c.args.p.now.me.0 c.args.who c.args.oid c.requires.active c.requires.object c.requires.unread c.walk-found.result.cell c.walk-found.result.stamp _ c.walk-found.ensures.found _ c.register.ensures.registered c.rate_read-succ.result _ c.rate_read-succ.ensures.rated c.load_row-row.result _ c.load_row-row.ensures.loaded c.args.txn.now _ c.requires.kept c.add_read.ensures

@@ -38,3 +38,6 @@ pub returns-in-Err-exchange-clause-kept : goal.returns-in-Err-exchange-clause-ke
 returns-in-Err-exchange-clause-kept g c =
     kept_stopped c.args.p.now.me.0 c.args.who c.args.oid c.requires.active c.requires.object c.requires.unclaimed c.args.txn.now c.requires.kept c.in-Err-exchange.why _
     (misses c.args.p.now.me.0 c.args.who c.args.oid c.requires.active c.requires.object c.requires.unclaimed _ _ c.in-Ok.ensures.found c.in-Err-exchange.why _ c.in-Err-exchange.ensures.lost)
+
+pub exchange-requires-clause-plain : goal.exchange-requires-clause-plain
+exchange-requires-clause-plain g c = c.in-Ok.ensures.found.walk.plain

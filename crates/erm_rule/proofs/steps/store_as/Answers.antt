@@ -6,6 +6,6 @@ pub store-requires : goal.store-requires
 store-requires g c = (
   c.requires.fits.same,
   (let low = c.index.ensures.below in let all = c.requires.fits.words in omega (arith, low, all)),
-  allows_storing g.L.RowLaw.law c.one_number.ensures c.numbers_below.ensures c.events_keep_sound.ensures c.law_is_kept.ensures c.args.t.now.words.shared.key _ c.args.p.now.id c.args.p.now.me c.args.who g.M.Deed.kind c.args.word (λ _. c.args.new)
+  allows_storing g.L.RowLaw.law c.one_number.ensures c.numbers_below.ensures c.events_keep_sound.ensures c.law_is_kept.ensures c.blocks_stay_spelled.ensures c.args.t.now.words.shared.key _ c.args.p.now.id c.args.p.now.me c.args.who g.M.Deed.kind c.args.word (λ _. c.args.new)
       c.requires.held c.requires.ready c.requires.lawful c.requires.known c.requires.told c.requires.met c.requires.numbered c.requires.agrees c.index.result c.index.ensures.number _ c.requires.seat,
 )
