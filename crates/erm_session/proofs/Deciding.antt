@@ -1,0 +1,195 @@
+-- A sealed transaction that has passed all versions is decided, and ends.
+use Rattle.std.proofs.Common.{◌≡◌, ℕ, ◌≤◌, ◌+◌, Bool, true, false, ltb, List, [], length, sym, ap, ◌∙◌, subst, arith}
+use Rattle.std.specs.Prelude.{if◌then◌else◌, vec_capacity}
+use Rattle.erm_block.specs.declared.block.TheConstants.{BLOCK_WORDS}
+use Rattle.erm_cells.specs.Spare.{SpareIs}
+use Rattle.erm_machine.specs.declared.attempt.Decision.{Decision}
+use Rattle.erm_machine.specs.declared.attempt.Decision.TheVariants.{Commit, Skip}
+use Rattle.erm_machine.specs.declared.part.Part.{Part}
+use Rattle.erm_machine.specs.Seat.{is_sealed}
+use Rattle.erm_machine.specs.Settling.{may_settle}
+use Rattle.erm_machine.specs.Words.{is_session}
+use Rattle.erm_model.specs.declared.limits.TheConstants.{LOG_END}
+use Rattle.erm_model.specs.declared.outcome.Outcome.{Outcome}
+use Rattle.erm_model.specs.declared.outcome.Outcome.TheVariants.{Committed, Excluded}
+use Rattle.erm_model.specs.declared.outcome.Phase.TheVariants as phase
+use Rattle.erm_precommit.specs.declared.pre.Pre.{Pre}
+use Rattle.erm_precommit.specs.Pre.{IsPre}
+use Rattle.erm_precommit.specs.Settle.{IsReady, Stands, WentOn, reached_part}
+use Rattle.erm_ring.specs.Block.{decided_part, filled_part}
+use Rattle.erm_ring.proofs.Filling.{sealed_taken}
+use Rattle.erm_rule.specs.declared.view.View.{View}
+use Rattle.erm_rule.specs.Hands.{IsKnown}
+use Rattle.erm_rule.specs.Views.{part_of}
+use Rattle.erm_rule.proofs.Telling.{held_part, part_of-changed}
+use Rattle.erm_session.specs.declared.session.Session.{Session}
+use Rattle.erm_session.specs.declared.session.Stage.{Stage}
+use Rattle.erm_session.specs.declared.session.Stage.TheVariants as stage
+use Rattle.erm_session.specs.Session.{IsSession, StageIs, phase_of}
+use Rattle.erm_session.specs.Settle.{EndsAs, Finishes, MayBeDecided, MayEnd, StoresBlock}
+use Rattle.erm_session.proofs.Ending.{HasLeft, Leaves, leaves, left_session}
+use Rattle.erm_session.proofs.Storing.{decided_is, ends_low, may_end}
+
+-- the ends of the exclusion window are those of the part
+window_is : (v : View) (who succ pred : ℕ) (known : IsKnown v) → is_sealed (part_of v who).place ≡ true → IsReady v who succ pred
+    → ltb pred succ ≡ ltb (part_of v who).current.pred (part_of v who).current.succ
+window_is v who succ pred known sealed ready =
+    let x = part_of v who in
+    let there : known.core.seats who ≡ x = known.is_view who x (held_part v who (sealed_taken x.place sealed)) in
+    let window = ready.window known.core known.sound known.is_view in
+    let low : x.current.pred ≡ pred = ap (λ (z : Part). z.current.pred) (sym there) ∙ window.pred_is in
+    let high : x.current.succ ≡ succ = ap (λ (z : Part). z.current.succ) (sym there) ∙ window.succ_is in
+    sym (ap (λ (n : ℕ). ltb n x.current.succ) low ∙ ap (λ (n : ℕ). ltb pred n) high)
+
+-- the stage kept is that of the seat's part
+pub sealed_stage : (s : Session) (t : Pre) (x : Part) → IsSession s x → s.stage ≡ stage.Sealed t → StageIs (stage.Sealed t) x
+sealed_stage s t x stands at = subst (λ st. StageIs st x) at stands.kept.stage
+
+-- so it may be decided
+pub may_be_decided : (s : Session) (t : Pre) (v : View) (succ pred : ℕ) (known : IsKnown v) → IsSession s (part_of v s.seat) → s.stage ≡ stage.Sealed t → IsReady v s.seat succ pred
+    → MayBeDecided s.seat s.run s.number t s.rows_claimed.items (ltb pred succ) (part_of v s.seat)
+may_be_decided s t v succ pred known stands at ready =
+    let x = part_of v s.seat in
+    let here = sealed_stage s t x stands at in
+    record {
+      session = stands.kept.session;
+      run_is = stands.kept.run;
+      low = stands.kept.low;
+      number_is = stands.kept.number ∙ sym here.3;
+      sealed = here.0;
+      passed = ready.task_is;
+      kept = here.2;
+      rows_are = stands.rows_claimed;
+      sized = here.4;
+      commits_is = window_is v s.seat succ pred known here.0 ready;
+    }
+
+-- what becomes of it
+outcome_by : (commits window : Bool) (number : ℕ) (t : Pre) (x : Part) → commits ≡ window → number ≡ x.current.number → IsPre t x
+    → ◌≡◌ {A = Outcome}
+    (if commits then Committed (record { number = number; stamp = t.stamp; end = t.stamp + t.size; succ = t.succ; pred = t.pred }) else Excluded t.stamp t.succ t.pred)
+    (if window then Committed (record { number = x.current.number; stamp = x.current.stamp; end = x.current.stamp + x.current.size; succ = x.current.succ; pred = x.current.pred })
+    else Excluded x.current.stamp x.current.succ x.current.pred)
+outcome_by true true number t x e same kept = let a = kept.stamp in let b = kept.size in let c = kept.succ in let d = kept.pred in cc
+outcome_by false false number t x e same kept = let a = kept.stamp in let b = kept.size in let c = kept.succ in let d = kept.pred in cc
+outcome_by true false number t x e same kept = absurd (cc)
+outcome_by false true number t x e same kept = absurd (cc)
+
+-- its block was stored, and it was ended
+pub did_finish : (v : View) (who run number : ℕ) (t : Pre) (rows : List (List ℕ)) (commits : Bool) → MayBeDecided who run number t rows commits (part_of v who)
+    → (u : View) (stored : StoresBlock v who u) → (part_of u who).current.decision ≡ (if commits then Commit else Skip)
+    → (w : View) → EndsAs (if commits then Commit else Skip) u who w → (outcome : Outcome)
+    → outcome ≡ (if commits then Committed (record { number = number; stamp = t.stamp; end = t.stamp + t.size; succ = t.succ; pred = t.pred }) else Excluded t.stamp t.succ t.pred)
+    → Finishes v who outcome w
+did_finish v who run number t rows commits may u stored decision w ends outcome is = record {
+  words = stored.words;
+  filled = stored.filled;
+  fill = stored.fill;
+  header = stored.header;
+  decided = u;
+  decide = stored.decide;
+  spelled = stored.spelled;
+  ends = subst (λ (d : Decision). EndsAs d u who w) (sym decision) ends;
+  outcome_is = is ∙ outcome_by commits _ number t (part_of v who) may.commits_is may.number_is may.kept;
+}
+
+-- a settle that went on leaves what the session keeps
+pub went_session : (s : Session) (t u : Pre) (v w : View) → IsSession s (part_of v s.seat) → s.stage ≡ stage.Sealed t → WentOn v s.seat w → Stands u w s.seat
+    → IsSession (record s { stage = stage.Sealed u }) (part_of w s.seat)
+went_session s t u v w stands at went now =
+    let x = part_of v s.seat in
+    let here = sealed_stage s t x stands at in
+    let y = reached_part went.task went.succ went.from went.pred went.notes x in
+    let is : part_of w s.seat ≡ y = part_of-changed v s.seat w y x (held_part v s.seat (sealed_taken x.place here.0)) went.view_is in
+    let sealed = subst (λ (z : Part). is_sealed z.place ≡ true) is now.sealed in
+    let may = subst (λ (z : Part). may_settle z.task ≡ true) is now.may in
+    let kept = subst (IsPre u) is now.kept in
+    subst (IsSession (record s { stage = stage.Sealed u })) (sym is)
+    (record {
+      kept = record {
+        session = stands.kept.session;
+        run = stands.kept.run;
+        low = stands.kept.low;
+        number = stands.kept.number;
+        stage = (sealed, may, kept, here.3, here.4);
+        spare = stands.kept.spare;
+        room_read = stands.kept.room_read;
+        room_claimed = stands.kept.room_claimed;
+        block = stands.kept.block;
+      };
+      rows_read = stands.rows_read;
+      rows_claimed = stands.rows_claimed;
+      window = tt;
+    })
+
+-- Of a session's sealed transaction, whose settle has passed all versions.
+module _ (s : Session) (t : Pre) (v : View) (succ pred : ℕ) (known : IsKnown v) (stands : IsSession s (part_of v s.seat)) (at : s.stage ≡ stage.Sealed t) (ready : IsReady v s.seat succ pred) where
+  may : MayBeDecided s.seat s.run s.number t s.rows_claimed.items (ltb pred succ) (part_of v s.seat)
+  may = may_be_decided s t v succ pred known stands at ready
+
+  pub block_ends : t.stamp + t.size ≤ LOG_END
+  block_ends = ends_low v s.seat s.run s.number t s.rows_claimed.items (ltb pred succ) known may
+
+  -- its block was stored, and it is decided: then a is kept
+  module _ (st : Stage) (a : Session) (first : a ≡ record s { stage = st; block = a.block }) (u : View) (stored : StoresBlock v s.seat u) where
+    seat : a.seat ≡ s.seat
+    seat = ap (λ (z : Session). z.seat) first
+
+    may_leave_own : MayEnd s.seat t s.spare (ltb pred succ) (part_of u s.seat)
+    may_leave_own = may_end v s.seat s.run s.number t s.rows_claimed.items (ltb pred succ) known may u stored s.spare stands.kept.spare
+
+    pub may_leave : MayEnd a.seat t a.spare (ltb pred succ) (part_of u a.seat)
+    may_leave = subst (λ (z : Session). MayEnd z.seat t z.spare (ltb pred succ) (part_of u z.seat)) (sym first) may_leave_own
+
+    -- it was ended: then n is kept
+    module _ (w : View) (ended : EndsAs (if ltb pred succ then Commit else Skip) u a.seat w) (n : Session)
+        (last : n ≡ record a { spare = n.spare; rows_read = n.rows_read; rows_claimed = n.rows_claimed }) where
+      ends : EndsAs (if ltb pred succ then Commit else Skip) u s.seat w
+      ends = subst (λ (q : ℕ). EndsAs (if ltb pred succ then Commit else Skip) u q w) seat ended
+
+      left : Leaves u s.seat w
+      left = leaves (if ltb pred succ then Commit else Skip) u s.seat w may_leave_own.decided ends
+
+      pub known_left : IsKnown w
+      known_left = left.known
+
+      number : n.number ≡ s.number
+      number = ap (λ (z : Session). z.number) last ∙ ap (λ (z : Session). z.number) first
+
+      decided_so : part_of u s.seat ≡ decided_part stored.header (filled_part stored.words (part_of v s.seat))
+      decided_so = decided_is v s.seat s.run s.number t s.rows_claimed.items (ltb pred succ) known may u stored
+
+      pub finished : (outcome : Outcome)
+          → outcome ≡ (if ltb pred succ then Committed (record { number = n.number; stamp = t.stamp; end = t.stamp + t.size; succ = t.succ; pred = t.pred }) else Excluded t.stamp t.succ t.pred)
+          → Finishes v s.seat outcome w
+      finished outcome is =
+          did_finish v s.seat s.run n.number t s.rows_claimed.items (ltb pred succ)
+          (subst (λ (q : ℕ). MayBeDecided s.seat s.run q t s.rows_claimed.items (ltb pred succ) (part_of v s.seat)) (sym number) may)
+          u stored may_leave_own.decision w ends outcome is
+
+      pub stands_idle : st ≡ stage.Idle → SpareIs n.spare (part_of w a.seat) → vec_capacity n.rows_read ≡ vec_capacity a.rows_read
+          → vec_capacity n.rows_claimed ≡ vec_capacity a.rows_claimed → length a.block.items ≡ BLOCK_WORDS → n.rows_read.items ≡ [] → n.rows_claimed.items ≡ []
+          → IsSession n (part_of w s.seat)
+      stands_idle idle spare room_read room_claimed block no_read no_claimed =
+          let x = part_of v s.seat in
+          let y = part_of w s.seat in
+          let old = stands.kept in
+          let gone : HasLeft x y = record {
+            place = left.left.place;
+            run = left.left.run ∙ ap (λ (z : Part). z.run) decided_so;
+            number = left.left.number ∙ ap (λ (z : Part). z.number) decided_so;
+            current = left.left.current;
+          } in
+          let seat_kept : n.seat ≡ s.seat = ap (λ (z : Session). z.seat) last ∙ seat in
+          let run : n.run ≡ s.run = ap (λ (z : Session). z.run) last ∙ ap (λ (z : Session). z.run) first in
+          let phase_is : phase_of n.stage ≡ phase.Idle =
+          ap (λ (z : Session). phase_of z.stage) last ∙ ap (λ (z : Session). phase_of z.stage) first ∙ ap phase_of idle in
+          let reads : vec_capacity a.rows_read ≡ vec_capacity s.rows_read = ap (λ (z : Session). vec_capacity z.rows_read) first in
+          let writes : vec_capacity a.rows_claimed ≡ vec_capacity s.rows_claimed = ap (λ (z : Session). vec_capacity z.rows_claimed) first in
+          let words : length n.block.items ≡ BLOCK_WORDS = ap (λ (z : Session). length z.block.items) last ∙ block in
+          let low = old.low in
+          let most_read = old.room_read in
+          let most_claimed = old.room_claimed in
+          left_session n x y gone (ap is_session seat_kept ∙ old.session) (run ∙ old.run) (omega (arith, run, low)) (number ∙ old.number) phase_is
+          (subst (λ (q : ℕ). SpareIs n.spare (part_of w q)) seat spare) (omega (arith, most_read, room_read, reads)) (omega (arith, most_claimed, room_claimed, writes)) words
+          no_read no_claimed

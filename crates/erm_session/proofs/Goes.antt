@@ -1,0 +1,130 @@
+-- What a session keeps follows its seat's part through its transaction.
+use Rattle.std.proofs.Common.{◌≡◌, ℕ, ◌≤◌, Bool, true, false, ◌&&◌, length, map, leb, ltb, None, Some, refl, sym, ap, ◌∙◌, subst}
+use Rattle.std.specs.Prelude.{if◌then◌else◌, vec_capacity}
+use Rattle.erm_cells.specs.Calls.{starts_anew}
+use Rattle.erm_cells.specs.Spare.{SpareIs}
+use Rattle.erm_ends.specs.Ends.{DidAbort}
+use Rattle.erm_machine.specs.declared.attempt.Attempt.{Attempt}
+use Rattle.erm_machine.specs.declared.attempt.Claim.{Claim}
+use Rattle.erm_machine.specs.declared.attempt.Read.{Read}
+use Rattle.erm_machine.specs.declared.limits.TheConstants.{READ_LIMIT, WRITE_LIMIT}
+use Rattle.erm_machine.specs.declared.part.Part.{Part}
+use Rattle.erm_machine.specs.Seat.{is_active}
+use Rattle.erm_machine.specs.Words.{is_session}
+use Rattle.erm_model.specs.declared.limits.TheConstants.{LAST_RUN}
+use Rattle.erm_model.specs.declared.outcome.Phase.TheVariants as phase
+use Rattle.erm_rows.specs.declared.active.Active.{Active}
+use Rattle.erm_rows.specs.Active.{IsActive, closed_window}
+use Rattle.erm_rule.specs.declared.view.View.{View}
+use Rattle.erm_rule.specs.Hands.{IsKnown}
+use Rattle.erm_session.specs.declared.session.Session.{Session}
+use Rattle.erm_session.specs.declared.session.Stage.{Stage}
+use Rattle.erm_session.specs.declared.session.Stage.TheVariants as stage
+use Rattle.erm_session.specs.Calls.{EndsWhere}
+use Rattle.erm_session.specs.Session.{IsKept, IsOpen, IsSession, StageIs, has_closed, phase_of}
+
+-- the seat's part after a step in the course of its transaction: it may start a call again
+pub record Goes (x y : Part) : Type 0 where
+  pub place : y.place ≡ x.place
+  pub starts : starts_anew y.task ≡ true
+  pub number : y.number ≡ x.number
+  pub run : y.run ≡ x.run
+  pub current : y.current.number ≡ x.current.number
+
+-- nothing was done
+pub goes_same : (x : Part) → starts_anew x.task ≡ true → Goes x x
+goes_same x starts = record { place = refl; starts = starts; number = refl; run = refl; current = refl }
+
+-- the transaction kept follows
+pub stage_on : (t u : Active) (x y : Part) → StageIs (stage.Active t) x → Goes x y → IsActive u y → StageIs (stage.Active u) y
+stage_on t u x y is goes acts = (ap is_active goes.place ∙ is.0, goes.starts, acts, goes.current ∙ is.3 ∙ sym goes.number)
+
+-- an active stage
+module _ (g : Stage) (x : Part) (is : StageIs g x) (t : Active) (at : g ≡ stage.Active t) where
+  pub active_so : StageIs (stage.Active t) x
+  active_so = subst (λ (h : Stage). StageIs h x) at is
+
+  pub active_at : is_active x.place ≡ true
+  active_at = active_so.0
+
+  pub starts_at : starts_anew x.task ≡ true
+  starts_at = active_so.1
+
+-- an active session
+module _ (s : Session) (x : Part) (is : IsKept s x) (t : Active) (at : s.stage ≡ stage.Active t) where
+  stands : StageIs (stage.Active t) x
+  stands = subst (λ (g : Stage). StageIs g x) at is.stage
+
+  pub active : is_active x.place ≡ true
+  active = stands.0
+
+  pub starts : starts_anew x.task ≡ true
+  starts = stands.1
+
+  pub kept : IsActive t x
+  kept = stands.2
+
+  -- its seat went on, and what is kept of its transaction stays
+  pub stage_goes : (y : Part) → Goes x y → IsActive t y → StageIs s.stage y
+  stage_goes y goes acts = subst (λ (g : Stage). StageIs g y) (sym at) (stage_on t t x y stands goes acts)
+
+-- what a session keeps, where its seat went on and its transaction kept follows
+pub goes_on : (s new : Session) (x y : Part) → IsKept s x → Goes x y → StageIs new.stage y → SpareIs new.spare y → new.seat ≡ s.seat → new.run ≡ s.run → new.number ≡ s.number
+    → READ_LIMIT ≤ vec_capacity new.rows_read → WRITE_LIMIT ≤ vec_capacity new.rows_claimed → length new.block.items ≡ length s.block.items → IsKept new y
+goes_on s new x y is goes stage_is spare seat run number room_read room_claimed block = record {
+  session = ap is_session seat ∙ is.session;
+  run = run ∙ is.run ∙ sym goes.run;
+  low = subst (λ (n : ℕ). n ≤ LAST_RUN) (sym run) is.low;
+  number = number ∙ is.number ∙ sym goes.number;
+  stage = stage_is;
+  spare = spare;
+  room_read = room_read;
+  room_claimed = room_claimed;
+  block = block ∙ is.block;
+}
+
+-- a window that isn't told as closed is open
+not_told : {X : Type 0} (b : Bool) (z : X) → (if b then Some z else None) ≡ None → b ≡ false
+not_told true z e = absurd (cc)
+not_told false z e = refl
+
+pub open_now : (t : Active) (y : Part) → IsActive t y → closed_window t ≡ None → has_closed y.current ≡ false
+open_now t y is none = rw (sym is.succ, sym is.pred) (not_told (ltb 0 t.succ && leb t.succ t.pred) (t.succ, t.pred) none)
+
+-- it stays so where the transaction, and so its running numbers, are as before
+pub open_still : (g h : Stage) (x y : Part) → phase_of g ≡ phase.Active → IsOpen g x → y.current.succ ≡ x.current.succ → y.current.pred ≡ x.current.pred → IsOpen h y
+open_still (stage.Active t) (stage.Active u) x y at window succ pred = rw (succ, pred) window
+open_still (stage.Active t) stage.Idle x y at window succ pred = tt
+open_still (stage.Active t) (stage.Sealed u) x y at window succ pred = tt
+open_still stage.Idle h x y at window succ pred = absurd (cc)
+open_still (stage.Sealed u) h x y at window succ pred = absurd (cc)
+
+-- an idle session has none
+pub open_idle : (s : Stage) (x : Part) → phase_of s ≡ phase.Idle → IsOpen s x
+open_idle stage.Idle x e = tt
+open_idle (stage.Active t) x e = absurd (cc)
+open_idle (stage.Sealed t) x e = absurd (cc)
+
+-- a session with these rows
+pub with_rows : (s : Session) (x : Part) → IsKept s x → s.rows_read.items ≡ map (λ (r : Read). r.row) x.current.reads
+    → s.rows_claimed.items ≡ map (λ (w : Claim). w.row) x.current.writes → IsOpen s.stage x → IsSession s x
+with_rows s x is rows_read rows_claimed window = record { kept = is; rows_read = rows_read; rows_claimed = rows_claimed; window = window }
+
+-- a session whose transaction is as before
+pub same_rows : (s new : Session) (x y : Part) → IsSession s x → phase_of s.stage ≡ phase.Active → IsKept new y → y.current ≡ x.current → new.rows_read.items ≡ s.rows_read.items
+    → new.rows_claimed.items ≡ s.rows_claimed.items → IsSession new y
+same_rows s new x y is active_is kept same rows_read rows_claimed = record {
+  kept = kept;
+  window = open_still s.stage new.stage x y active_is is.window (ap (λ (n : Attempt). n.succ) same) (ap (λ (n : Attempt). n.pred) same);
+  rows_read = rows_read ∙ is.rows_read ∙ ap (λ (n : Attempt). map (λ (r : Read). r.row) n.reads) (sym same);
+  rows_claimed = rows_claimed ∙ is.rows_claimed ∙ ap (λ (n : Attempt). map (λ (w : Claim). w.row) n.writes) (sym same);
+}
+
+-- a call was refused, and the transaction goes on or was aborted
+pub ends_where : (b : Bool) (cause : View → Type 0) (who : ℕ) (between w : View) → cause between → (b ≡ true → DidAbort between who w) → (b ≡ false → w ≡ between) → EndsWhere b cause who w
+ends_where true cause who between w did ended stays = record { between = between; refused = did; aborted = ended refl }
+ends_where false cause who between w did ended stays = subst cause (sym (stays refl)) did
+
+pub known_where : (b : Bool) (who : ℕ) (between w : View) → IsKnown between → (b ≡ true → DidAbort between who w) → (b ≡ false → w ≡ between) → IsKnown w
+known_where true who between w known ended stays = (ended refl).known
+known_where false who between w known ended stays = subst IsKnown (sym (stays refl)) known

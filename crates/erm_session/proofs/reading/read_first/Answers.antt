@@ -1,0 +1,36 @@
+use Rattle.std.proofs.Common.{◌≡◌, List, ℕ, false, None}
+use Rattle.std.specs.Prelude.{IfOk, Result, Ok, Err}
+use Rattle.erm_model.specs.declared.row_stop.RowStop.{RowStop}
+use Rattle.erm_rows.specs.Active.{IsActive, closed_window}
+use Rattle.erm_rule.specs.Views.{part_of}
+use Rattle.erm_session.specs.Session.{has_closed}
+use Rattle.erm_session.proofs.Goes.{active_at, active_so, open_now, stage_on, starts_at}
+use Rattle.erm_session.proofs.RowsRead.{goes_either}
+use Rattle.erm_session.proofs.Sought.{not_held, not_read}
+use Rattle.erm_session.proofs.reading.read_first.Goals as goal
+
+pub read-requires-clause-unread : goal.read-requires-clause-unread
+read-requires-clause-unread g c = not_read (part_of c.args.p.now.me.0 c.args.who) c.args.oid c.requires.unread
+
+pub read-requires-clause-unclaimed : goal.read-requires-clause-unclaimed
+read-requires-clause-unclaimed g c = not_held (part_of c.args.p.now.me.0 c.args.who) c.args.oid c.requires.unclaimed
+
+pub returns-clause-stands : goal.returns-clause-stands
+returns-clause-stands g c =
+    let v = c.args.p.now.me.0 in
+    let x = part_of v c.args.who in
+    let t = c.in-Active.txn in
+    let goes =
+    goes_either v c.args.who c.args.oid (active_at _ x c.requires.stands t c.in-Active.is) (starts_at _ x c.requires.stands t c.in-Active.is) c.read.result _ c.read.ensures.read
+    c.read.ensures.refused
+    in
+    stage_on t _ x _ (active_so _ x c.requires.stands t c.in-Active.is) goes c.read.ensures.kept
+
+pub returns-clause-window : goal.returns-clause-window
+returns-clause-window g c =
+    told c.read.result c.read.ensures.«open» c.read.ensures.kept
+  where
+    told : (r : Result (List ℕ) RowStop) → IfOk r (λ row. closed_window c.read.new.txn ≡ None) → IsActive c.read.new.txn (part_of c.read.new.p.me.0 c.args.who)
+        → IfOk r (λ row. has_closed (part_of c.read.new.p.me.0 c.args.who).current ≡ false)
+    told (Ok row) none is = open_now _ _ is none
+    told (Err why) none is = tt

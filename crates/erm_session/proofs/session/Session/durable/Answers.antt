@@ -1,0 +1,32 @@
+use Rattle.erm_session.proofs.Looks.{finds, held_there, known_looked, looked_session, looks, ready_flushed}
+use Rattle.erm_session.proofs.session.Session.durable.Goals as goal
+
+pub load_flushed-flushed-requires-clause-held : goal.load_flushed-flushed-requires-clause-held
+load_flushed-flushed-requires-clause-held g c = held_there c.args.self.now _ c.requires.stands
+
+pub load_flushed-flushed-requires-clause-ready : goal.load_flushed-flushed-requires-clause-ready
+load_flushed-flushed-requires-clause-ready g c = ready_flushed c.args.self.now _ c.requires.stands
+
+pub returns-then-receipt-flushed-clause-known : goal.returns-then-receipt-flushed-clause-known
+returns-then-receipt-flushed-clause-known g c = known_looked c.args.self.now _ c.requires.stands c.load_flushed-flushed.result _ c.load_flushed-flushed.ensures.told.told
+
+pub returns-then-receipt-flushed-clause-stands : goal.returns-then-receipt-flushed-clause-stands
+returns-then-receipt-flushed-clause-stands g c = looked_session c.args.self.now _ c.requires.stands c.load_flushed-flushed.result _ c.load_flushed-flushed.ensures.told.told
+
+pub returns-then-receipt-flushed-clause-looked : goal.returns-then-receipt-flushed-clause-looked
+returns-then-receipt-flushed-clause-looked g c = looks c.args.self.now _ c.requires.stands c.load_flushed-flushed.result _ c.load_flushed-flushed.ensures.told.told
+
+pub returns-then-receipt-flushed-clause-synced : goal.returns-then-receipt-flushed-clause-synced
+returns-then-receipt-flushed-clause-synced g c = (c.load_flushed-flushed.result, finds c.args.self.now _ c.requires.stands c.load_flushed-flushed.result _ c.load_flushed-flushed.ensures.told.told, c.if-receipt-flushed.true)
+
+pub returns-else-receipt-flushed-clause-known : goal.returns-else-receipt-flushed-clause-known
+returns-else-receipt-flushed-clause-known g c = known_looked c.args.self.now _ c.requires.stands c.load_flushed-flushed.result _ c.load_flushed-flushed.ensures.told.told
+
+pub returns-else-receipt-flushed-clause-stands : goal.returns-else-receipt-flushed-clause-stands
+returns-else-receipt-flushed-clause-stands g c = looked_session c.args.self.now _ c.requires.stands c.load_flushed-flushed.result _ c.load_flushed-flushed.ensures.told.told
+
+pub returns-else-receipt-flushed-clause-looked : goal.returns-else-receipt-flushed-clause-looked
+returns-else-receipt-flushed-clause-looked g c = looks c.args.self.now _ c.requires.stands c.load_flushed-flushed.result _ c.load_flushed-flushed.ensures.told.told
+
+pub returns-else-receipt-flushed-clause-unsynced : goal.returns-else-receipt-flushed-clause-unsynced
+returns-else-receipt-flushed-clause-unsynced g c = (finds c.args.self.now _ c.requires.stands c.load_flushed-flushed.result _ c.load_flushed-flushed.ensures.told.told, c.if-receipt-flushed.false)

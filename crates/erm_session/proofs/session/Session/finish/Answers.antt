@@ -1,0 +1,39 @@
+use Rattle.std.proofs.Common.{sym, arith}
+use Rattle.erm_rule.specs.Views.{view}
+use Rattle.erm_session.proofs.Deciding.{block_ends, finished, known_left, may_be_decided, may_leave, stands_idle}
+use Rattle.erm_session.proofs.session.Session.finish.Goals as goal
+
+pub store_block-requires-clause-may : goal.store_block-requires-clause-may
+store_block-requires-clause-may g c =
+    may_be_decided c.args.self.now c.in-Sealed.pre (view c.args.p.now) c.args.succ c.args.pred c.requires.known c.requires.stands (sym c.in-Sealed.ensures.value) c.requires.ready
+
+pub leave-requires-clause-may : goal.leave-requires-clause-may
+leave-requires-clause-may g c =
+    may_leave c.args.self.now c.in-Sealed.pre (view c.args.p.now) c.args.succ c.args.pred c.requires.known c.requires.stands (sym c.in-Sealed.ensures.value) c.requires.ready
+    c.replace.new.dest c.store_block.new.self c.store_block.ensures.same (view c.store_block.new.p) c.store_block.ensures.stored
+
+pub outcome_of-requires : goal.outcome_of-requires
+outcome_of-requires g c =
+    let low = block_ends c.args.self.now c.in-Sealed.pre (view c.args.p.now) c.args.succ c.args.pred c.requires.known c.requires.stands (sym c.in-Sealed.ensures.value) c.requires.ready in
+    record { end = omega (arith, low) }
+
+pub returns-clause-known : goal.returns-clause-known
+returns-clause-known g c =
+    known_left c.args.self.now c.in-Sealed.pre (view c.args.p.now) c.args.succ c.args.pred c.requires.known c.requires.stands (sym c.in-Sealed.ensures.value) c.requires.ready
+    c.replace.new.dest c.store_block.new.self c.store_block.ensures.same (view c.store_block.new.p) c.store_block.ensures.stored
+    (view c.leave.new.p) c.leave.ensures.ends c.leave.new.self c.leave.ensures.same
+
+pub returns-clause-finished : goal.returns-clause-finished
+returns-clause-finished g c =
+    finished c.args.self.now c.in-Sealed.pre (view c.args.p.now) c.args.succ c.args.pred c.requires.known c.requires.stands (sym c.in-Sealed.ensures.value) c.requires.ready
+    c.replace.new.dest c.store_block.new.self c.store_block.ensures.same (view c.store_block.new.p) c.store_block.ensures.stored
+    (view c.leave.new.p) c.leave.ensures.ends c.leave.new.self c.leave.ensures.same
+    c.outcome_of.result c.outcome_of.ensures
+
+pub returns-clause-stands : goal.returns-clause-stands
+returns-clause-stands g c =
+    stands_idle c.args.self.now c.in-Sealed.pre (view c.args.p.now) c.args.succ c.args.pred c.requires.known c.requires.stands (sym c.in-Sealed.ensures.value) c.requires.ready
+    c.replace.new.dest c.store_block.new.self c.store_block.ensures.same (view c.store_block.new.p) c.store_block.ensures.stored
+    (view c.leave.new.p) c.leave.ensures.ends c.leave.new.self c.leave.ensures.same
+    c.replace.ensures.after c.leave.ensures.spare c.leave.ensures.room_read c.leave.ensures.room_claimed c.store_block.ensures.room c.leave.ensures.no_read
+    c.leave.ensures.no_claimed

@@ -1,0 +1,116 @@
+-- The end of a settle: the block that is written, the decision, and the end of the transaction.
+use Rattle.std.specs.Prelude.{◌≡◌, ℕ, ◌+◌, ◌≤◌, Bool, true, if◌then◌else◌, nat_lt, List, [], length, map}
+use Rattle.std.specs.List.{zip}
+use Rattle.erm_block.specs.declared.block.Block.{Block}
+use Rattle.erm_block.specs.declared.block.Kind.TheVariants as block_kind
+use Rattle.erm_block.specs.Block.{Entry}
+use Rattle.erm_cells.specs.Spare.{SpareIs}
+use Rattle.erm_core_blocks.specs.Spelled.{IsSpelled}
+use Rattle.erm_ends.specs.Commits.{DidCommit}
+use Rattle.erm_ends.specs.Ends.{DidSkip}
+use Rattle.erm_machine.specs.declared.attempt.Attempt.{Attempt}
+use Rattle.erm_machine.specs.declared.attempt.Claim.{Claim}
+use Rattle.erm_machine.specs.declared.attempt.Decision.{Decision}
+use Rattle.erm_machine.specs.declared.attempt.Decision.TheVariants.{Commit, Skip}
+use Rattle.erm_machine.specs.declared.part.Part.{Part}
+use Rattle.erm_machine.specs.declared.task.Task.TheVariants as task
+use Rattle.erm_machine.specs.Seat.{is_decided, is_sealed}
+use Rattle.erm_machine.specs.Words.{is_session}
+use Rattle.erm_model.specs.declared.limits.TheConstants.{LAST_RUN}
+use Rattle.erm_model.specs.declared.outcome.Outcome.{Outcome}
+use Rattle.erm_model.specs.declared.outcome.Outcome.TheVariants.{Committed, Excluded}
+use Rattle.erm_precommit.specs.declared.pre.KeptClaim.{KeptClaim}
+use Rattle.erm_precommit.specs.declared.pre.Pre.{Pre}
+use Rattle.erm_precommit.specs.Pre.{IsPre}
+use Rattle.erm_precommit.specs.Settle.{IsReady, WentOn}
+use Rattle.erm_record.specs.Stored.{block_words}
+use Rattle.erm_ring.specs.Block.{DidDecide, DidFill}
+use Rattle.erm_rule.specs.declared.view.View.{View}
+use Rattle.erm_rule.specs.Hands.{IsKnown}
+use Rattle.erm_rule.specs.Views.{part_of}
+
+-- what becomes of a transaction by the Serial Safety Net: it commits where its exclusion window is open
+abbrev pub outcome_of : Attempt → Outcome
+outcome_of t =
+    if nat_lt t.pred t.succ
+    then Committed (record { number = t.number; stamp = t.stamp; end = t.stamp + t.size; succ = t.succ; pred = t.pred })
+    else Excluded t.stamp t.succ t.pred
+
+-- the end of a transaction that was decided so
+abbrev pub EndsAs : Decision → View → ℕ → View → Type 0
+EndsAs Commit v who w = DidCommit v who w
+EndsAs Skip v who w = DidSkip v who w
+EndsAs d v who w = ⊥
+
+-- The words of its block were stored, then its header, which decides it, and then it came to its end. The words are the spelling of its
+-- block.
+pub record Finishes (v : View) (who : ℕ) (outcome : Outcome) (w : View) : Type 0 where
+  pub words : List ℕ
+  pub filled : View
+  pub fill : DidFill v who words filled
+  pub header : ℕ
+  pub decided : View
+  pub decide : DidDecide filled who header decided
+  pub spelled : IsSpelled (part_of v who).run who (part_of decided who).current
+  pub ends : EndsAs (part_of decided who).current.decision decided who w
+  pub outcome_is : outcome ≡ outcome_of (part_of v who).current
+
+-- SETTLE. All versions are passed, with these ends of the exclusion window, and then the transaction is decided by them.
+pub record Settles (v : View) (who : ℕ) (outcome : Outcome) (w : View) : Type 0 where
+  pub succ : ℕ
+  pub pred : ℕ
+  pub passed : View
+  pub went : WentOn v who passed
+  pub known : IsKnown passed
+  pub ready : IsReady passed who succ pred
+  pub finishes : Finishes passed who outcome w
+
+-- the entries of claims that are kept so, with these rows
+abbrev pub entries_kept : List KeptClaim → List (List ℕ) → List Entry
+entries_kept claims rows = zip (map (λ (claim : KeptClaim). claim.oid) claims) rows
+
+-- the block of a transaction that is kept so, with the rows of its claims, as it is decided
+abbrev pub own_block : (seat run number : ℕ) → Pre → List (List ℕ) → Bool → Block
+own_block seat run number t rows commits = record {
+  kind = if commits then block_kind.Commit else block_kind.Skip;
+  run = run;
+  stamp = t.stamp;
+  succ = t.succ;
+  seat = seat;
+  number = number;
+  n = length t.claims.items;
+  size = t.size;
+  rows = record { items = if commits then entries_kept t.claims.items rows else [] };
+}
+
+-- What a session keeps is its seat's sealed transaction, with the rows of its claims. Its settle has passed all versions, and it commits
+-- where its exclusion window is open.
+pub record MayBeDecided (seat run number : ℕ) (t : Pre) (rows : List (List ℕ)) (commits : Bool) (x : Part) : Type 0 where
+  pub session : is_session seat ≡ true
+  pub run_is : run ≡ x.run
+  pub low : run ≤ LAST_RUN
+  pub number_is : number ≡ x.current.number
+  pub sealed : is_sealed x.place ≡ true
+  pub passed : x.task ≡ task.Settles (length x.current.reads) (length x.current.writes)
+  pub kept : IsPre t x
+  pub rows_are : rows ≡ map (λ (w : Claim). w.row) x.current.writes
+  pub sized : x.current.size ≡ block_words (map (λ (w : Claim). w.row) x.current.writes)
+  pub commits_is : commits ≡ nat_lt x.current.pred x.current.succ
+
+-- The words of the transaction's block were stored, which are its spelling, and then its header, which decides it.
+pub record StoresBlock (v : View) (who : ℕ) (w : View) : Type 0 where
+  pub words : List ℕ
+  pub filled : View
+  pub fill : DidFill v who words filled
+  pub header : ℕ
+  pub decide : DidDecide filled who header w
+  pub spelled : IsSpelled (part_of v who).run who (part_of w who).current
+
+-- What a session keeps is its seat's decided transaction, whose end may begin, with its spare cells.
+pub record MayEnd (seat : ℕ) (t : Pre) (spare : List ℕ) (commits : Bool) (x : Part) : Type 0 where
+  pub session : is_session seat ≡ true
+  pub decided : is_decided x.place ≡ true
+  pub decision : x.current.decision ≡ (if commits then Commit else Skip)
+  pub ends : x.task ≡ task.Ends 0 0 0 0
+  pub kept : IsPre t x
+  pub spare_is : SpareIs spare x

@@ -1,0 +1,164 @@
+//! The end of a sealed transaction whose settle has passed all versions: its block, the decision, and what follows from it.
+ghost use Rattle.std.specs.Prelude.{◌≡◌, ◌≤◌, ◌<◌, ◌+◌, ◌^◌, ℕ, [], length, if◌then◌else◌, vec_capacity};
+ghost use Rattle.erm_block.specs.declared.block.TheConstants.{BLOCK_WORDS};
+ghost use Rattle.erm_cells.specs.Spare.{SpareIs};
+ghost use Rattle.erm_machine.specs.declared.attempt.Decision.TheVariants.{Commit, Skip};
+ghost use Rattle.erm_machine.specs.declared.limits.TheConstants.{GREATEST_BLOCK, WRITE_LIMIT};
+ghost use Rattle.erm_model.specs.declared.outcome.Outcome.TheVariants.{Committed, Excluded};
+ghost use Rattle.erm_model.specs.declared.outcome.Phase.TheVariants.{Idle, Sealed};
+ghost use Rattle.erm_precommit.specs.Settle.{IsReady};
+ghost use Rattle.erm_rule.specs.Hands.{IsKnown};
+ghost use Rattle.erm_rule.specs.Steps.{Fits};
+ghost use Rattle.erm_rule.specs.Views.{view, part_of};
+ghost use Rattle.erm_session.specs.Settle.{EndsAs, Finishes, MayBeDecided, MayEnd, StoresBlock, entries_kept, own_block};
+ghost use Rattle.erm_session.specs.Session.{IsSession, phase_of};
+
+use crate::session::{Session, Stage};
+use arrayvec::ArrayVec;
+use erm_block::{BLOCK_ROWS, Block, Kind, encode_into};
+use erm_ends::{commit_end, skip_end};
+use erm_model::{Oid, Outcome, Receipt, Row, RowLaw, Seat, Stamp};
+use erm_precommit::{KeptClaim, Pre};
+use erm_ring::{decide, fill};
+use erm_rule::{Pass, Table};
+use std::mem;
+
+// Adds the entries of claims to none: the objects claimed, with their rows.
+fn add_entries(claims: &[KeptClaim], rows: &[Row], entries: &mut ArrayVec<(Oid, Row), BLOCK_ROWS>)
+    requires few { length claims.now ≤ WRITE_LIMIT }
+    requires each { length rows.now ≡ length claims.now }
+    requires none { entries.old.items ≡ [] }
+    ensures { entries.new.items ≡ entries_kept claims.now rows.now }
+{
+    for k in 0..claims.len() {
+        entries.push((claims[k].oid, rows[k]));
+    }
+}
+
+// The block of the transaction, as it is decided.
+fn block_of(seat: Seat, run: u64, number: u32, pre: &Pre, rows: &[Row], commits: bool) -> Block
+    requires size { pre.now.size ≤ GREATEST_BLOCK }
+    requires few { length pre.now.claims.items ≤ WRITE_LIMIT }
+    requires each { length rows.now ≡ length pre.now.claims.items }
+    ensures is { result ≡ own_block seat run number pre.now rows.now commits }
+    ensures number { result.number < 2 ^ 32 }
+{
+    let mut block = Block {
+        kind: Kind::Skip,
+        run,
+        stamp: pre.stamp,
+        succ: pre.succ,
+        seat,
+        number,
+        n: pre.claims.len() as u16,
+        size: pre.size as u16,
+        rows: ArrayVec::new(),
+    };
+    if commits {
+        block.kind = Kind::Commit;
+        add_entries(pre.claims.as_slice(), rows, &mut block.rows);
+    }
+    block
+}
+
+// What becomes of the transaction.
+fn outcome_of(number: u32, pre: &Pre, commits: bool) -> Outcome
+    requires end { pre.now.stamp + pre.now.size < 2 ^ 64 }
+    ensures { result ≡ (if commits
+        then Committed (record { number = number; stamp = pre.now.stamp; end = pre.now.stamp + pre.now.size; succ = pre.now.succ; pred = pre.now.pred })
+        else Excluded pre.now.stamp pre.now.succ pre.now.pred) }
+{
+    if commits {
+        Outcome::Committed(Receipt {
+            number,
+            stamp: pre.stamp,
+            end: pre.stamp + pre.size,
+            succ: pre.succ,
+            pred: pre.pred,
+        })
+    } else {
+        Outcome::Excluded {
+            stamp: pre.stamp,
+            succ: pre.succ,
+            pred: pre.pred,
+        }
+    }
+}
+
+impl Session {
+    /// Decides the sealed transaction, whose settle has passed all versions, by the ends of its exclusion window, and ends it.
+    pub(crate) fn finish<L: RowLaw>(
+        &mut self,
+        t: &Table<L>,
+        p: &mut Pass,
+        succ: Stamp,
+        pred: Stamp,
+    ) -> Outcome
+        requires fits { Fits t.now.words.shared.table_id p.old }
+        requires known { IsKnown (view p.old) }
+        requires stands { IsSession self.old (part_of (view p.old) self.old.seat) }
+        requires sealed { phase_of self.old.stage ≡ Sealed }
+        requires ready { IsReady (view p.old) self.old.seat succ pred }
+        ensures fits { Fits t.now.words.shared.table_id p.new }
+        ensures known { IsKnown (view p.new) }
+        ensures seat { self.new.seat ≡ self.old.seat }
+        ensures stands { IsSession self.new (part_of (view p.new) self.old.seat) }
+        ensures finished { Finishes (view p.old) self.old.seat result (view p.new) }
+        ensures idle { phase_of self.new.stage ≡ Idle }
+    {
+        let Stage::Sealed(pre) = mem::replace(&mut self.stage, Stage::Idle) else {
+            unreachable!()
+        };
+        let commits = pred < succ;
+        self.store_block(t, p, &pre, commits);
+        self.leave(t, p, &pre, commits);
+        outcome_of(self.number, &pre, commits)
+    }
+
+    // Stores the words of the transaction's block, and then its header, which decides it.
+    fn store_block<L: RowLaw>(&mut self, t: &Table<L>, p: &mut Pass, pre: &Pre, commits: bool)
+        requires fits { Fits t.now.words.shared.table_id p.old }
+        requires known { IsKnown (view p.old) }
+        requires may { MayBeDecided self.old.seat self.old.run self.old.number pre.now self.old.rows_claimed.items commits
+            (part_of (view p.old) self.old.seat) }
+        requires room { length self.old.block.items ≡ BLOCK_WORDS }
+        ensures fits { Fits t.now.words.shared.table_id p.new }
+        ensures same { self.new ≡ record self.old { block = self.new.block } }
+        ensures room { length self.new.block.items ≡ BLOCK_WORDS }
+        ensures stored { StoresBlock (view p.old) self.old.seat (view p.new) }
+    {
+        let rows = self.rows_claimed.as_slice();
+        let block = block_of(self.seat, self.run, self.number, pre, rows, commits);
+        let size = encode_into(&mut self.block, &block);
+        let words = self.block.as_slice();
+        fill(t, p, self.seat, pre.stamp, &words[1..size]);
+        decide(t, p, self.seat, pre.stamp, words[0]);
+    }
+
+    // Ends the transaction as it was decided.
+    fn leave<L: RowLaw>(&mut self, t: &Table<L>, p: &mut Pass, pre: &Pre, commits: bool)
+        requires fits { Fits t.now.words.shared.table_id p.old }
+        requires known { IsKnown (view p.old) }
+        requires may { MayEnd self.old.seat pre.now self.old.spare commits (part_of (view p.old) self.old.seat) }
+        ensures fits { Fits t.now.words.shared.table_id p.new }
+        ensures ends { EndsAs (if commits then Commit else Skip) (view p.old) self.old.seat (view p.new) }
+        ensures same { self.new ≡ record self.old {
+          spare = self.new.spare;
+          rows_read = self.new.rows_read;
+          rows_claimed = self.new.rows_claimed;
+        } }
+        ensures spare { SpareIs self.new.spare (part_of (view p.new) self.old.seat) }
+        ensures no_read { self.new.rows_read.items ≡ [] }
+        ensures no_claimed { self.new.rows_claimed.items ≡ [] }
+        ensures room_read { vec_capacity self.new.rows_read ≡ vec_capacity self.old.rows_read }
+        ensures room_claimed { vec_capacity self.new.rows_claimed ≡ vec_capacity self.old.rows_claimed }
+    {
+        self.rows_read.clear();
+        self.rows_claimed.clear();
+        if commits {
+            commit_end(pre, t, p, self.seat);
+        } else {
+            skip_end(pre, t, p, self.seat, &mut self.spare);
+        }
+    }
+}

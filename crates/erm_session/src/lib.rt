@@ -1,0 +1,17 @@
+//! The calls of a session on the words that threads share: begin, read, claim, write, seal, settle and abort, each whole, over what the
+//! session keeps beside its pass. None of the calls waits, and none takes memory once the session is made.
+#![tactic(auto)]
+
+mod finding;
+mod finishing;
+mod life;
+mod making;
+mod reading;
+mod sealing;
+mod session;
+mod settling;
+#[cfg(test)]
+mod tests;
+mod writing;
+
+pub use session::{Session, Stage};

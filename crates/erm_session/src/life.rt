@@ -1,0 +1,144 @@
+//! A transaction's begin, and its end by an abort.
+ghost use Rattle.std.specs.Prelude.{◌≡◌, ℕ, true, false, [], IfErr, IfOk};
+ghost use Rattle.erm_ends.specs.Ends.{DidAbort};
+ghost use Rattle.erm_model.specs.declared.outcome.Phase.TheVariants as phase;
+ghost use Rattle.erm_rule.specs.declared.view.View.{View};
+ghost use Rattle.erm_rule.specs.Hands.{IsKnown};
+ghost use Rattle.erm_rule.specs.Steps.{Fits};
+ghost use Rattle.erm_rule.specs.Views.{view, part_of};
+ghost use Rattle.erm_seats.specs.Calls.{DidBegin, DidStop};
+ghost use Rattle.erm_session.specs.Calls.{IsRefusedPhase, MayNotBegin, is_end};
+ghost use Rattle.erm_session.specs.Session.{IsKept, IsSession, phase_of};
+
+use crate::session::{Session, Stage};
+use arrayvec::ArrayVec;
+use erm_machine::LAST_NUMBER;
+use erm_model::{RowLaw, RowStop, Stamp};
+use erm_rows::Active;
+use erm_rule::{Pass, Table};
+use erm_seats::{answer, begin_steps};
+use erm_world::BeginStop;
+use std::mem;
+
+impl Session {
+    /// Begins a transaction: the begin stamp, which is the end of the log, in words. It doesn't begin where the session has no number
+    /// left, or where the log is at its end.
+    pub fn begin<L: RowLaw>(&mut self, t: &Table<L>, p: &mut Pass) -> Result<Stamp, BeginStop>
+        requires fits { Fits t.now.words.shared.table_id p.old }
+        requires stands { IsSession self.old (part_of (view p.old) self.old.seat) }
+        requires idle { phase_of self.old.stage ≡ phase.Idle }
+        ensures fits { Fits t.now.words.shared.table_id p.new }
+        ensures seat { self.new.seat ≡ self.old.seat }
+        ensures stands { IsSession self.new (part_of (view p.new) self.old.seat) }
+        ensures begun { IfOk result (λ begin. DidBegin (view p.old) self.old.seat begin (view p.new)) }
+        ensures active { IfOk result (λ begin. phase_of self.new.stage ≡ phase.Active) }
+        ensures refused { IfErr result (λ stop. MayNotBegin (view p.old) self.old.seat stop (view p.new)) }
+        ensures idle { IfErr result (λ stop. phase_of self.new.stage ≡ phase.Idle) }
+    {
+        if self.number == LAST_NUMBER {
+            return Err(BeginStop::NumbersEnd);
+        }
+        let begin = match begin_steps(t, p, self.seat) {
+            Ok(begin) => begin,
+            Err(stop) => return Err(begin_stop(stop)),
+        };
+        self.number += 1;
+        self.rows_read.clear();
+        self.rows_claimed.clear();
+        self.stage = Stage::Active(new_transaction(begin, self.number));
+        Ok(begin)
+    }
+
+    /// Ends the active transaction: nothing that it wrote stays, and its cells are spare ones.
+    pub fn abort<L: RowLaw>(&mut self, t: &Table<L>, p: &mut Pass)
+        requires fits { Fits t.now.words.shared.table_id p.old }
+        requires known { IsKnown (view p.old) }
+        requires stands { IsSession self.old (part_of (view p.old) self.old.seat) }
+        requires active { phase_of self.old.stage ≡ phase.Active }
+        ensures fits { Fits t.now.words.shared.table_id p.new }
+        ensures seat { self.new.seat ≡ self.old.seat }
+        ensures stands { IsSession self.new (part_of (view p.new) self.old.seat) }
+        ensures aborted { DidAbort (view p.old) self.old.seat (view p.new) }
+        ensures idle { phase_of self.new.stage ≡ phase.Idle }
+    {
+        self.end(t, p);
+    }
+
+    // The same, where the rows kept aren't those of the transaction any more.
+    fn end<L: RowLaw>(&mut self, t: &Table<L>, p: &mut Pass)
+        requires fits { Fits t.now.words.shared.table_id p.old }
+        requires known { IsKnown (view p.old) }
+        requires kept { IsKept self.old (part_of (view p.old) self.old.seat) }
+        requires active { phase_of self.old.stage ≡ phase.Active }
+        ensures fits { Fits t.now.words.shared.table_id p.new }
+        ensures seat { self.new.seat ≡ self.old.seat }
+        ensures stands { IsSession self.new (part_of (view p.new) self.old.seat) }
+        ensures aborted { DidAbort (view p.old) self.old.seat (view p.new) }
+        ensures idle { phase_of self.new.stage ≡ phase.Idle }
+    {
+        let Stage::Active(txn) = mem::replace(&mut self.stage, Stage::Idle) else {
+            unreachable!()
+        };
+        let reads = txn.reads.as_slice();
+        let claims = txn.claims.as_slice();
+        erm_ends::abort(t, p, self.seat, &mut self.spare, reads, claims);
+        self.rows_read.clear();
+        self.rows_claimed.clear();
+    }
+
+    /// Ends the active transaction where it may not go on after this refusal.
+    pub(crate) fn end_where<L: RowLaw>(&mut self, t: &Table<L>, p: &mut Pass, why: RowStop)
+        requires fits { Fits t.now.words.shared.table_id p.old }
+        requires known { IsKnown (view p.old) }
+        requires kept { IsKept self.old (part_of (view p.old) self.old.seat) }
+        requires active { phase_of self.old.stage ≡ phase.Active }
+        requires stands { is_end why ≡ false → IsSession self.old (part_of (view p.old) self.old.seat) }
+        ensures fits { Fits t.now.words.shared.table_id p.new }
+        ensures seat { self.new.seat ≡ self.old.seat }
+        ensures stands { IsSession self.new (part_of (view p.new) self.old.seat) }
+        ensures ended { is_end why ≡ true → DidAbort (view p.old) self.old.seat (view p.new) }
+        ensures stays { is_end why ≡ false → view p.new ≡ view p.old }
+        ensures phase { IsRefusedPhase why (phase_of self.new.stage) }
+    {
+        if is_end(why) {
+            self.end(t, p);
+        }
+    }
+}
+
+// Why a transaction doesn't begin, as a begin answers it.
+fn begin_stop(stop: answer::BeginStop) -> BeginStop
+    ensures { (v w : View) (who : ℕ) → DidStop v who stop w → MayNotBegin v who result w }
+{
+    let answer::BeginStop::LogEnd { tail } = stop;
+    BeginStop::LogEnd { tail }
+}
+
+// Whether a transaction may not go on after this refusal.
+fn is_end(why: RowStop) -> bool
+    ensures { result ≡ is_end why }
+{
+    match why {
+        RowStop::Owned { .. } | RowStop::Newer { .. } | RowStop::Excluded { .. } => true,
+        _ => false,
+    }
+}
+
+// A transaction that has done nothing yet.
+fn new_transaction(begin: Stamp, number: u32) -> Active
+    ensures begin { result.begin ≡ begin }
+    ensures number { result.number ≡ number }
+    ensures reads { result.reads.items ≡ [] }
+    ensures claims { result.claims.items ≡ [] }
+    ensures succ { result.succ ≡ 0 }
+    ensures pred { result.pred ≡ 0 }
+{
+    Active {
+        begin,
+        number,
+        reads: ArrayVec::new(),
+        claims: ArrayVec::new(),
+        succ: 0,
+        pred: 0,
+    }
+}

@@ -1,0 +1,67 @@
+//! A session's new objects, and its look at the place flushed.
+ghost use Rattle.std.specs.Prelude.{◌≡◌, ◌<◌, ◌≤◌, ℕ, IfErr, IfOk, OnOk};
+ghost use Rattle.erm_machine.specs.declared.limits.TheConstants.{OBJECT_LIMIT};
+ghost use Rattle.erm_model.specs.declared.outcome.Phase.TheVariants as phase;
+ghost use Rattle.erm_rule.specs.Hands.{IsKnown};
+ghost use Rattle.erm_rule.specs.Steps.{Fits};
+ghost use Rattle.erm_rule.specs.Views.{view, part_of};
+ghost use Rattle.erm_session.specs.Making.{FindsFlushed, LooksAtFlushed, MakesObject, RefusesObject};
+ghost use Rattle.erm_session.specs.Session.{IsSession, phase_of};
+
+use crate::session::Session;
+use erm_cells::{add_counter, load_counter, load_flushed};
+use erm_machine::{Counter, OBJECT_LIMIT};
+use erm_model::{Oid, Receipt, RowLaw, RowStop};
+use erm_rule::{Pass, Table};
+use erm_world::NotFlushed;
+
+impl Session {
+    /// A new object, which nobody else gets. It is refused where all objects that there may be are drawn.
+    pub fn fresh<L: RowLaw>(&mut self, t: &Table<L>, p: &mut Pass) -> Result<Oid, RowStop>
+        requires fits { Fits t.now.words.shared.table_id p.old }
+        requires stands { IsSession self.old (part_of (view p.old) self.old.seat) }
+        requires active { phase_of self.old.stage ≡ phase.Active }
+        ensures fits { Fits t.now.words.shared.table_id p.new }
+        ensures known { IsKnown (view p.new) }
+        ensures seat { self.new.seat ≡ self.old.seat }
+        ensures stands { IsSession self.new (part_of (view p.new) self.old.seat) }
+        ensures active { phase_of self.new.stage ≡ phase.Active }
+        ensures object { IfOk result (λ oid. oid < OBJECT_LIMIT) }
+        ensures made { IfOk result (λ oid. MakesObject (view p.old) self.old.seat oid (view p.new)) }
+        ensures refused { IfErr result (λ stop. RefusesObject (view p.old) self.old.seat stop (view p.new)) }
+    {
+        let seen = load_counter(t, p, self.seat, Counter::Objects);
+        if seen >= u64::from(OBJECT_LIMIT) {
+            return Err(RowStop::OidsFull { drawn: seen });
+        }
+        let found = add_counter(t, p, self.seat, Counter::Objects);
+        if found >= u64::from(OBJECT_LIMIT) {
+            return Err(RowStop::OidsFull { drawn: found });
+        }
+        Ok(found as Oid)
+    }
+
+    /// Whether a commit is on the disk: all words of the log below the receipt's end are synced.
+    pub fn durable<L: RowLaw>(
+        &self,
+        t: &Table<L>,
+        p: &mut Pass,
+        receipt: &Receipt,
+    ) -> Result<(), NotFlushed>
+        requires fits { Fits t.now.words.shared.table_id p.old }
+        requires stands { IsSession self.now (part_of (view p.old) self.now.seat) }
+        ensures fits { Fits t.now.words.shared.table_id p.new }
+        ensures known { IsKnown (view p.new) }
+        ensures stands { IsSession self.now (part_of (view p.new) self.now.seat) }
+        ensures looked { LooksAtFlushed (view p.old) self.now.seat (view p.new) }
+        ensures synced { OnOk result ((flushed : ℕ) × FindsFlushed (view p.old) flushed × (receipt.now.end ≤ flushed)) }
+        ensures unsynced { IfErr result (λ stop. FindsFlushed (view p.old) stop.flushed × (stop.flushed < receipt.now.end)) }
+    {
+        let flushed = load_flushed(t, p, self.seat);
+        if receipt.end <= flushed {
+            Ok(())
+        } else {
+            Err(NotFlushed { flushed })
+        }
+    }
+}

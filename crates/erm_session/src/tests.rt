@@ -1,0 +1,6 @@
+//! Tests of a session's calls, side by side and one after the other.
+mod claims;
+mod opening;
+mod readers;
+mod skew;
+mod worked;
