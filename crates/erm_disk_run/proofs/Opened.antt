@@ -13,6 +13,8 @@ use Rattle.erm_block.specs.declared.block.TheConstants.{RUN_END}
 use Rattle.erm_block.specs.LogList.{IsChain}
 use Rattle.erm_block.specs.Spelling.{spelling}
 use Rattle.erm_outside.specs.Disk.{Image, IsSettled, Step, Tells, contents}
+use Rattle.erm_log_disk.specs.Writes.{AllWriteWords, OnlyWrites}
+use Rattle.erm_log_run.proofs.Held.{tells_weaker}
 use Rattle.erm_log_words.specs.Kept.{MayOpen}
 use Rattle.erm_log_words.specs.Tears.{IsFresh}
 use Rattle.erm_log_words.specs.Words.{word_at}
@@ -36,7 +38,9 @@ use Rattle.erm_world.specs.Log.{Log}
 use Rattle.erm_disk_run.specs.Crashes.{KeepsCommits, RecoversBelow}
 use Rattle.erm_disk_run.specs.Found.{IsFound, IsKept, ReadsAs}
 use Rattle.erm_disk_run.specs.Opened.{OpensLog, stop_of_opening}
-use Rattle.erm_disk_run.specs.Stops.{StopsFor}
+use Rattle.erm_disk_run.specs.declared.stops.DiskStop.{DiskStop}
+use Rattle.erm_disk_run.specs.declared.stops.DiskStop.TheVariants as stop
+use Rattle.erm_disk_run.specs.Stops.{KeepsMap, OnlyOpens, StopsFor, StopsRun}
 
 -- ---- what was recovered
 
@@ -145,11 +149,23 @@ module _ (laws : OpeningLaws) (r : Recovered) (found_sound : IsSound (rows_of r.
   keeps_at old new pair kept is opens = laws.keep (state_recovered r) pair old new kept.settled (recovers_to old r pair kept is) found_sound room less opens
 
   -- each image at each moment recovers to the map found
-  pub commits_told : (before after : Option (List Step)) (pair : Pair) → IfSome before IsKept → IfSome before (λ steps. IsRecovered sound_law.meets steps r pair)
+  commits_told : (before after : Option (List Step)) (pair : Pair) → IfSome before IsKept → IfSome before (λ steps. IsRecovered sound_law.meets steps r pair)
       → OpensDisk sound_law.meets (state_recovered r) pair before after → Tells (KeepsCommits [] (state_recovered r) r.stamp) before after
   commits_told None after pair kept is opens = opens
   commits_told (Some old) after pair kept is (new, told, opens) =
       (new, told, opening_commits laws.opens [] (state_recovered r) pair old new refl refl (keeps_at old new pair kept is opens))
+
+  -- where no more was done than to open the log
+  pub only_opens : (before after : Option (List Step)) → IfSome before IsKept → RecoveredTold sound_law.meets before r → IsFound before (state_recovered r)
+      → ((pair : Pair) → IfSome before (λ steps. IsRecovered sound_law.meets steps r pair) → OpensDisk sound_law.meets (state_recovered r) pair before after) → OnlyOpens before after
+  only_opens before after kept is found any_moment =
+      let p = pair_told before r is in
+      let opens = any_moment p.0 p.1 in
+      let writes : OnlyWrites r.stamp (spelling (open_block r.stamp r.run)) before after =
+      tells_weaker (Opens sound_law.meets (state_recovered r) p.0) (λ old new. (more : List Step) × (new ≡ more ++ old) × AllWriteWords r.stamp (spelling (open_block r.stamp r.run)) more) before after
+      (λ old new o. (o.more, o.steps, o.writes)) opens
+      in
+      inr (state_recovered r, found, writes, commits_told before after p.0 kept p.1 opens)
 
   -- and then the disk holds the log opened, behind the blocks found
   meets_at : LOG_START ≤ r.stamp → (old new : List Step) (pair : Pair) (log : Log) → IsKept old → IsRecovered sound_law.meets old r pair → Opens sound_law.meets (state_recovered r) pair old new
@@ -217,7 +233,7 @@ module _ (laws : OpeningLaws) (r : Recovered) (before after : Option (List Step)
     | inr full ↦ absurd (other r.stamp (let e = (s.log_end less).1 full in cc))
   ]
 
-  pub opening_stops : (cause : OpenStop) → Stopped r cause before after → StopsFor (stop_of_opening cause) before after
+  pub opening_stops : (cause : OpenStop) → Stopped r cause before after → StopsRun (stop_of_opening cause) before after
   opening_stops (opening.RunsEnd run) s =
       let same = s.stops.0 in
       let last = s.runs_end.0 (ap (λ (n : ℕ). let e : Result ℕ OpenStop = Err (opening.RunsEnd n) in e) same) in
@@ -230,5 +246,19 @@ module _ (laws : OpeningLaws) (r : Recovered) (before after : Option (List Step)
   opening_stops opening.DiskFault s =
       let less = below_last opening.DiskFault s (λ run e. absurd (cc)) in
       let low = below_stop opening.DiskFault s less (λ tail e. absurd (cc)) in
-      let p = pair_told before r is in
-      inr (state_recovered r, found, commits_told laws r found.are_sound low less before after p.0 kept p.1 (s.any_moment p.0 p.1))
+      only_opens laws r found.are_sound low less before after kept is found s.any_moment
+
+-- ---- what is weaker
+
+-- what only opens a log keeps the map found
+pub map_kept : (before after : Option (List Step)) → OnlyOpens before after → KeepsMap before after
+map_kept before after (inl same) = inl same
+map_kept before after (inr (state, found, writes, keeps)) = inr (state, found, keeps)
+
+-- and so where nothing was run no checkpoint was taken
+pub stops_for : (cause : DiskStop) (before after : Option (List Step)) → StopsRun cause before after → StopsFor cause before after
+stops_for stop.DiskFault before after why = map_kept before after why
+stops_for stop.Memory before after why = map_kept before after why
+stops_for stop.NoBase before after why = why
+stops_for (stop.RunsEnd run) before after why = why
+stops_for (stop.LogEnd tail) before after why = why

@@ -24,7 +24,7 @@ use Rattle.erm_good_report.specs.Phases.{Closed, Closes, phase_of}
 use Rattle.erm_good_report.specs.Transactions.{history_of, said_of, table_of, transactions_of}
 use Rattle.erm_disk_run.specs.Crashes.{KeepsCommits, Leaves, Outlives}
 use Rattle.erm_disk_run.specs.Found.{IsFound, StartsFrom}
-use Rattle.erm_disk_run.specs.Stops.{CountsStop, StopsFor}
+use Rattle.erm_disk_run.specs.Stops.{CountsStop, StopsRun}
 use Rattle.erm_disk_run.specs.declared.stops.RunStop.{RunStop}
 use Rattle.erm_disk_run.specs.declared.stops.RunStop.TheVariants as run
 
@@ -107,7 +107,7 @@ pub record WasStarvedOn (before after : Option (List Step)) (state : State) (nam
 abbrev pub EndsRun : Result (Vec Line Global) RunStop → Option (List Step) → Option (List Step) → List (List ℕ) → List ScriptLine → Type 0
 EndsRun (Ok lines) before after names script = All FitsTypes lines.items → (state : State) × IsFound before state × WasRunOn before after state names script lines.items
 EndsRun (Err (run.DiskFault lines)) before after names script = All FitsTypes lines.items → (state : State) × IsFound before state × WasCutOn before after state names script lines.items
-EndsRun (Err (run.Unopened stop)) before after names script = StopsFor stop before after
+EndsRun (Err (run.Unopened stop)) before after names script = StopsRun stop before after
 EndsRun (Err run.Memory) before after names script = (state : State) × IsFound before state × WasStarvedOn before after state names script
 
 -- what is left by a run that was begun, where nothing is told of it

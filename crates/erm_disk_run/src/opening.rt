@@ -7,7 +7,7 @@ ghost use Rattle.erm_recover.specs.Recovering.{RecoveredTold, state_recovered};
 ghost use Rattle.erm_disk_run.specs.Found.{IsFound, IsKept};
 ghost use Rattle.erm_model.specs.Rows.{rows_of};
 ghost use Rattle.erm_disk_run.specs.Opened.{IsOpenedWorld, IsRoomFor, OpensTold, WasOpened};
-ghost use Rattle.erm_disk_run.specs.Stops.{CountsStop, StopsFor};
+ghost use Rattle.erm_disk_run.specs.Stops.{CountsStop, StopsRun};
 
 use crate::DiskStop;
 use erm_checkpoint::Checkpointer;
@@ -90,7 +90,7 @@ impl From<AllocError> for DiskStop {
 }
 
 /// Recovers a disk, opens its log for the next run, and a world of so many sessions behind the block that opens it. Where it stops it
-/// says why, and leaves a disk that recovers to the map found, if anything was found.
+/// says why, and has done no more to the disk than to open its log, so that it recovers to the map found, if anything was found.
 pub(crate) fn open_disk<D: Disk>(
     alloc: Global,
     disk: &mut D,
@@ -101,7 +101,7 @@ pub(crate) fn open_disk<D: Disk>(
     requires kept { IfSome (D.told disk.old) IsKept }
     ensures opened { IfOk result (λ o. (state : State) × WasOpened (D.told disk.old) (D.told disk.new) state sessions o) }
     ensures stands { IfOk result (λ o. ⟦<Plain<SoundRows> as RowWorld>⟧.stands o.world) }
-    ensures stops { IfErr result (λ stop. StopsFor stop (D.told disk.old) (D.told disk.new)) }
+    ensures stops { IfErr result (λ stop. StopsRun stop (D.told disk.old) (D.told disk.new)) }
 
     // The disk's count of faults rises exactly where a fault is why it stops.
     ensures counts { IfErr result (λ stop. CountsStop stop (D.faults disk.old) (D.faults disk.new)) }
@@ -152,7 +152,7 @@ fn open_on<D: Disk>(
     ensures opened { IfOk result (λ world. IsOpenedWorld (state_recovered recovered.now) sessions world) }
     ensures disk { IfOk result (λ world. OpensTold (state_recovered recovered.now) world recovered.now.slots (D.told disk.old) (D.told disk.new)) }
     ensures stands { IfOk result ⟦<Plain<SoundRows> as RowWorld>⟧.stands }
-    ensures stops { IfErr result (λ stop. StopsFor stop (D.told disk.old) (D.told disk.new)) }
+    ensures stops { IfErr result (λ stop. StopsRun stop (D.told disk.old) (D.told disk.new)) }
     ensures counts { IfErr result (λ stop. CountsStop stop (D.faults disk.old) (D.faults disk.new)) }
     ensures sound { OnOk result (D.faults disk.new ≡ D.faults disk.old) }
 {

@@ -9,7 +9,8 @@ use Rattle.erm_disk_run.specs.declared.stops.DiskStop.{DiskStop}
 use Rattle.erm_disk_run.specs.declared.stops.DiskStop.TheVariants as disk
 use Rattle.erm_disk_run.specs.Saved.{CountsCheckpoint, EndsCheckpoint}
 use Rattle.erm_disk_run.specs.Stops.{StopsFor}
-use Rattle.erm_top.specs.Stopped.{NotOpened, TellsSaved}
+use Rattle.erm_disk_run.proofs.Opened.{map_kept}
+use Rattle.erm_top.specs.Stopped.{NotOpened, NotSaved, TellsSaved}
 use Rattle.erm_top.specs.declared.printing.Stop.{Stop}
 use Rattle.erm_top.specs.declared.printing.Stop.TheVariants as stop
 
@@ -25,6 +26,12 @@ module _ (told : Stop) (before after : Option (List Step)) (faults now : ℕ) (s
   pub tells_log_end : (tail : ℕ) → (told ≡ stop.AtEnd (line_text (line.LogEnd tail))) ⊎ (told ≡ stop.Memory) → StopsFor (disk.LogEnd tail) before after → Tells told
   tells_log_end tail (inl is) stops = subst Tells (sym is) (inr (tail, refl, stops), same)
   tells_log_end tail (inr is) stops = subst Tells (sym is) (inl stops.2, same)
+
+-- where nothing was run no checkpoint is told
+pub not_saved : (told : Stop) (before after : Option (List Step)) (faults now : ℕ) → NotOpened told before after faults now → NotSaved told before after faults now
+not_saved stop.DiskFault before after faults now why = (map_kept before after why.0, why.1)
+not_saved stop.Memory before after faults now why = (map_kept before after why.0, why.1)
+not_saved told before after faults now why = why
 
 -- a checkpoint that was taken keeps the map found
 pub saved_untold : (ended : Result (Vec Line Global) DiskStop) (lines : Vec Line Global) → ended ≡ Ok lines → (before after : Option (List Step)) (faults now : ℕ)

@@ -13,7 +13,7 @@ use Rattle.erm_disk_run.specs.declared.stops.DiskStop.{DiskStop}
 use Rattle.erm_disk_run.specs.declared.stops.RunStop.{RunStop}
 use Rattle.erm_disk_run.specs.declared.stops.RunStop.TheVariants as run
 use Rattle.erm_disk_run.specs.Runs.{AreInTables, CountsRun, EndsRun, LeavesUntold}
-use Rattle.erm_disk_run.specs.Stops.{CountsStop, StopsFor}
+use Rattle.erm_disk_run.specs.Stops.{CountsStop, StopsRun}
 use Rattle.erm_top.specs.Makes.{lines_of}
 use Rattle.erm_top.specs.Stopped.{LeavesScript, NotOpened, TellsCounted, TellsCounts, TellsCut, TellsMaking, TellsRan, TellsRun}
 use Rattle.erm_top.specs.declared.printing.Stop.{Stop}
@@ -92,7 +92,7 @@ module _ (ended : Result (Vec Line Global) RunStop) (tables : AreInTables ended)
 
   -- nothing was run
   module _ (opened : DiskStop) (is : ended ≡ Err (run.Unopened opened)) (told : Stop)
-      (tells : StopsFor opened before after → CountsStop opened faults now → NotOpened told before after faults now) (counts : CountsRun ended faults now) where
+      (tells : StopsRun opened before after → CountsStop opened faults now → NotOpened told before after faults now) (counts : CountsRun ended faults now) where
     stopped : (names : List (List ℕ)) (script : List ScriptLine) → EndsRun ended before after names script → NotOpened told before after faults now
     stopped names script ends =
         tells (subst (λ (r : Result (Vec Line Global) RunStop). EndsRun r before after names script) is ends) (subst (λ (r : Result (Vec Line Global) RunStop). CountsRun r faults now) is counts)

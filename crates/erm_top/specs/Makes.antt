@@ -13,7 +13,7 @@ use Rattle.erm_made.specs.Counts.{count, is_commit, is_exclusion, is_pair, leave
 use Rattle.erm_disk_run.specs.declared.stops.DiskStop.TheVariants as disk
 use Rattle.erm_disk_run.specs.Found.{IsFound}
 use Rattle.erm_disk_run.specs.Runs.{WasCutOn, WasRunOn, WasStarvedOn}
-use Rattle.erm_disk_run.specs.Stops.{KeepsMap, StopsFor}
+use Rattle.erm_disk_run.specs.Stops.{OnlyOpens, StopsFor}
 use Rattle.erm_top.specs.Around.{Around, LeavesDisk, LeavesSource, PrintsLine, PutsCut, PutsWhole}
 use Rattle.erm_top.specs.Runs.{HasRoom, IsAtEnd, NothingFailed}
 
@@ -40,16 +40,15 @@ pub record TellsMade (transactions sessions : ℕ) (a : Around) (text : List ℕ
   pub adds_up : count (tells leaves_open) lines ≡ 0 → made.committed + made.excluded + made.owned ≡ 16 + transactions
   pub text_is : text ≡ text_of (made_lines transactions sessions made)
 
--- the disk failed before the workload was run, or while it was
+-- the disk failed before the workload was run, with no more done than to open its log, or while it was run
 abbrev pub FailsMaking : ℕ → ℕ → Around → Type 0
-FailsMaking transactions sessions a = StopsFor disk.DiskFault a.told_before a.told_after
+FailsMaking transactions sessions a = OnlyOpens a.told_before a.told_after
     ⊎ ((state : State) × IsFound a.told_before state
     × ((lines : List Line) × WasCutOn a.told_before a.told_after state (names_of transactions sessions) (lines_of transactions sessions) lines))
 
--- What is left on the disk where memory ran out: it is as it was, or each image at each moment recovers to the map found, or the workload was run up to
--- some line.
+-- What is left on the disk where memory ran out: it is as it was, or no more was done than to open its log, or the workload was run up to some line.
 abbrev pub LeftByMaking : ℕ → ℕ → Around → Type 0
-LeftByMaking transactions sessions a = KeepsMap a.told_before a.told_after
+LeftByMaking transactions sessions a = OnlyOpens a.told_before a.told_after
     ⊎ ((state : State) × IsFound a.told_before state × WasStarvedOn a.told_before a.told_after state (names_of transactions sessions) (lines_of transactions sessions))
 
 -- what each status means of `make` where the workload is run

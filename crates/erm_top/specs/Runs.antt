@@ -14,7 +14,7 @@ use Rattle.erm_script.specs.Script.{IsScript}
 use Rattle.erm_disk_run.specs.declared.stops.DiskStop.TheVariants as disk
 use Rattle.erm_disk_run.specs.Found.{IsFound, ReadsAs}
 use Rattle.erm_disk_run.specs.Runs.{WasCutOn, WasRunOn, WasStarvedOn}
-use Rattle.erm_disk_run.specs.Stops.{KeepsMap, StopsFor}
+use Rattle.erm_disk_run.specs.Stops.{OnlyOpens, StopsFor}
 use Rattle.erm_top.specs.Around.{Around, LeavesDisk, PrintsLine, PrintsText, PutsCut, PutsWhole, TakesAtMost, TakesMore, WasReadWith}
 use Rattle.erm_top.specs.Scripts.{run_grammar}
 use Rattle.erm_top.specs.declared.reading.TheConstants.{SCRIPT_BYTES}
@@ -50,10 +50,9 @@ pub record Starved (a : Around) (bytes : List ℕ) : Type 0 where
   pub found : IsFound a.told_before state
   pub was : WasStarvedOn a.told_before a.told_after state names script
 
--- What is left on the disk where memory ran out: it is as it was, or each image at each moment recovers to the map found, or a script was run up to
--- some line.
+-- What is left on the disk where memory ran out: it is as it was, or no more was done than to open its log, or a script was run up to some line.
 abbrev pub LeftByMemory : Around → Type 0
-LeftByMemory a = KeepsMap a.told_before a.told_after ⊎ WasReadWith (Starved a) a
+LeftByMemory a = OnlyOpens a.told_before a.told_after ⊎ WasReadWith (Starved a) a
 
 -- bytes spell a script
 abbrev pub SpellScript : List ℕ → Type 0
@@ -66,9 +65,10 @@ pub record Refused (a : Around) : Type 0 where
   pub read : WasReadWith (λ bytes. IsFirstBadLine run_grammar bytes number kind) a
   pub printed : PrintsLine (line.BadLine number kind) a
 
--- The disk failed: before anything was run, which is printed alone, or while the script was run, and the report up to then was printed.
+-- The disk failed: before anything was run, with no more done than to open its log, which is printed alone; or while the script was run, and the report
+-- up to then was printed.
 abbrev pub FailsOnDisk : Around → Type 0
-FailsOnDisk a = (WasReadWith SpellScript a × PrintsLine line.DiskFault a × StopsFor disk.DiskFault a.told_before a.told_after)
+FailsOnDisk a = (WasReadWith SpellScript a × PrintsLine line.DiskFault a × OnlyOpens a.told_before a.told_after)
     ⊎ ((text : List ℕ) × WasReadWith (λ bytes. ReportsCut a bytes text) a × PrintsText text a)
 
 -- nothing comes behind what the disk holds: no run, or no place in the log, which was printed

@@ -19,7 +19,7 @@ use Rattle.erm_disk_run.specs.declared.stops.DiskStop.TheVariants as disk
 use Rattle.erm_disk_run.specs.Found.{IsFound}
 use Rattle.erm_disk_run.specs.Runs.{WasCutOn, WasRunOn, WasStarvedOn}
 use Rattle.erm_disk_run.specs.Saved.{WasCheckpointed}
-use Rattle.erm_disk_run.specs.Stops.{KeepsMap, StopsFor}
+use Rattle.erm_disk_run.specs.Stops.{KeepsMap, OnlyOpens, StopsFor}
 use Rattle.erm_top.specs.Makes.{AreCountsOf, lines_of}
 use Rattle.erm_top.specs.Scripts.{run_grammar}
 use Rattle.erm_top.specs.Told.{TookMore, WasRead}
@@ -46,13 +46,19 @@ abbrev pub TellsEnd : List ℕ → Option (List Step) → Option (List Step) →
 TellsEnd text before after = ((run : ℕ) × (text ≡ line_text (line.RunsEnd run)) × StopsFor (disk.RunsEnd run) before after)
     ⊎ ((tail : ℕ) × (text ≡ line_text (line.LogEnd tail)) × StopsFor (disk.LogEnd tail) before after)
 
--- Why nothing was done on a disk. Where memory ran out, its log may have been opened, and each image at each moment recovers to the map found.
+-- Why nothing was run on a disk. Where it failed or memory ran out, no more was done to it than to open its log.
 abbrev pub NotOpened : Stop → Option (List Step) → Option (List Step) → ℕ → ℕ → Type 0
 NotOpened stop.NoBase before after faults now = StopsFor disk.NoBase before after × (now ≡ faults)
-NotOpened stop.DiskFault before after faults now = StopsFor disk.DiskFault before after × Rose faults now
+NotOpened stop.DiskFault before after faults now = OnlyOpens before after × Rose faults now
 NotOpened (stop.AtEnd text) before after faults now = TellsEnd text before after × (now ≡ faults)
-NotOpened stop.Memory before after faults now = KeepsMap before after × (now ≡ faults)
+NotOpened stop.Memory before after faults now = OnlyOpens before after × (now ≡ faults)
 NotOpened stop before after faults now = ⊥
+
+-- Why no checkpoint of a disk is told. Where it failed or memory ran out, each image at each moment recovers to the map found.
+abbrev pub NotSaved : Stop → Option (List Step) → Option (List Step) → ℕ → ℕ → Type 0
+NotSaved stop.DiskFault before after faults now = KeepsMap before after × Rose faults now
+NotSaved stop.Memory before after faults now = KeepsMap before after × (now ≡ faults)
+NotSaved stop before after faults now = NotOpened stop before after faults now
 
 -- a script was run on a disk, to its end or until the disk failed, and a text is that of its report
 pub record TellsRun (before after : Option (List Step)) (names : List (List ℕ)) (script : List ScriptLine) (text : List ℕ) : Type 0 where
@@ -69,9 +75,9 @@ pub record TellsCut (before after : Option (List Step)) (names : List (List ℕ)
   pub cut : WasCutOn before after state names script lines
   pub text_is : text ≡ text_of lines
 
--- no memory was left to tell of a script: nothing was run of it, and each image at each moment recovers to the map found, or it was run up to some line
+-- no memory was left to tell of a script: nothing was run of it, and no more was done to the disk than to open its log, or it was run up to some line
 abbrev pub LeavesScript : List (List ℕ) → List ScriptLine → Option (List Step) → Option (List Step) → Type 0
-LeavesScript names script before after = KeepsMap before after ⊎ ((state : State) × IsFound before state × WasStarvedOn before after state names script)
+LeavesScript names script before after = OnlyOpens before after ⊎ ((state : State) × IsFound before state × WasStarvedOn before after state names script)
 
 -- What there is to tell of a script's run. Where memory runs out, the disk may have failed before.
 abbrev pub TellsRan : Result (List ℕ) Stop → List (List ℕ) → List ScriptLine → Option (List Step) → Option (List Step) → ℕ → ℕ → Type 0
@@ -91,7 +97,7 @@ TellsFound (Err inspect.Memory) told = told ≡ Err stop.Memory
 abbrev pub TellsSaved : Result (List ℕ) Stop → Option (List Step) → Option (List Step) → ℕ → ℕ → Type 0
 TellsSaved (Ok text) before after faults now = ((state : State) × IsFound before state × (lines : List Line)
     × WasCheckpointed before after state lines × (text ≡ text_of lines)) × (now ≡ faults)
-TellsSaved (Err stop) before after faults now = NotOpened stop before after faults now
+TellsSaved (Err stop) before after faults now = NotSaved stop before after faults now
 
 -- a text tells the counts of a report's lines
 pub record TellsCounted (transactions sessions : ℕ) (lines : List Line) (text : List ℕ) : Type 0 where
@@ -110,7 +116,7 @@ pub record TellsCounts (transactions sessions : ℕ) (before after : Option (Lis
 -- What there is to tell of a workload's run. Where memory runs out, the disk may have failed before.
 abbrev pub TellsMaking : ℕ → ℕ → Result (List ℕ) Stop → Option (List Step) → Option (List Step) → ℕ → ℕ → Type 0
 TellsMaking transactions sessions (Ok text) before after faults now = TellsCounts transactions sessions before after text × (now ≡ faults)
-TellsMaking transactions sessions (Err stop.DiskFault) before after faults now = (StopsFor disk.DiskFault before after
+TellsMaking transactions sessions (Err stop.DiskFault) before after faults now = (OnlyOpens before after
     ⊎ ((state : State) × IsFound before state × (lines : List Line) × WasCutOn before after state (names_of transactions sessions) (lines_of transactions sessions) lines))
     × Rose faults now
 TellsMaking transactions sessions (Err stop.Memory) before after faults now = LeavesScript (names_of transactions sessions) (lines_of transactions sessions) before after

@@ -4,8 +4,8 @@ ghost use Rattle.std.specs.List.{All};
 ghost use Rattle.erm_outside.specs.Disk.{Step};
 ghost use Rattle.erm_report.specs.Printable.{FitsTypes, IsInTables};
 ghost use Rattle.erm_report.specs.Texts.{line_text, text_of};
-ghost use Rattle.erm_disk_run.specs.Stops.{CountsStop, StopsFor};
-ghost use Rattle.erm_top.specs.Stopped.{NotOpened};
+ghost use Rattle.erm_disk_run.specs.Stops.{CountsStop, StopsFor, StopsRun};
+ghost use Rattle.erm_top.specs.Stopped.{NotOpened, NotSaved};
 ghost use Rattle.erm_top.specs.declared.printing.Stop.TheVariants as stop;
 
 use crate::printing::Stop;
@@ -55,9 +55,10 @@ fn at_end(alloc: Global, line: &Line) -> Stop
     }
 }
 
-/// What is to be told where nothing was done on a disk.
+/// What is to be told where nothing was run on a disk, or no checkpoint was taken.
 pub fn not_opened(alloc: Global, stop: DiskStop) -> Stop
-    ensures { (before after : Option (List Step)) (faults now : ℕ) → StopsFor stop before after → CountsStop stop faults now → NotOpened result before after faults now }
+    ensures run { (before after : Option (List Step)) (faults now : ℕ) → StopsRun stop before after → CountsStop stop faults now → NotOpened result before after faults now }
+    ensures checkpoint { (before after : Option (List Step)) (faults now : ℕ) → StopsFor stop before after → CountsStop stop faults now → NotSaved result before after faults now }
 {
     match stop {
         DiskStop::DiskFault => Stop::DiskFault,

@@ -1,4 +1,5 @@
 use Rattle.std.proofs.Common.{◌≡◌, ℕ, ◌+◌, [], ◌∷◌, Err, sym, ap, ◌∙◌, subst, inr}
+use Rattle.std.proofs.lemmas.Result.{err_from_is_err_and}
 use Rattle.erm_checkpoint.specs.declared.stops.CheckpointStop.{CheckpointStop}
 use Rattle.erm_checkpoint.specs.Taken.{Counts, HoldsLog}
 use Rattle.erm_log_run.proofs.Held.{told_after}
@@ -8,6 +9,7 @@ use Rattle.erm_plain.specs.Logs.{plain_log}
 use Rattle.erm_plain.specs.Stands.{plain_view}
 use Rattle.erm_report.specs.declared.line.Line.TheVariants as line
 use Rattle.erm_disk_run.specs.Opened.{OpensLog}
+use Rattle.erm_disk_run.proofs.Opened.{stops_for}
 use Rattle.erm_disk_run.proofs.SavedAt.{commits_told, goes_on, only_faults, saved_told, tail_is, turned_world}
 use Rattle.erm_disk_run.proofs.checkpoint.open_and_save.Goals as goal
 
@@ -17,6 +19,11 @@ checkpoint_turn-requires-clause-holds g c = λ well.
     let was = c.in_ok-world.ensures.opened.1 in
     told_after (HoldsLog sound_law.meets (plain_log o.world) o.slots) (OpensLog c.in_ok-world.ensures.opened.0 (plain_log o.world) o.slots) (g.D.Disk.told c.args.disk.now) (g.D.Disk.told c.open_disk.new.disk)
     (λ old new opens. opens.holds) was.disk
+
+pub returns-in_err-world-clause-ended : goal.returns-in_err-world-clause-ended
+returns-in_err-world-clause-ended g c =
+    let p = err_from_is_err_and c.from_residual-in_err-world.result c.from_residual-in_err-world.ensures.1 in
+    rw (p.1, p.2) (stops_for c.in_err-world.field-0.0 (g.D.Disk.told c.args.disk.now) (g.D.Disk.told c.open_disk.new.disk) c.in_err-world.ensures.stops)
 
 pub returns-in-Ok-clause-ended : goal.returns-in-Ok-clause-ended
 returns-in-Ok-clause-ended g c =

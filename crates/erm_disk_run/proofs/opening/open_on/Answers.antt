@@ -1,10 +1,9 @@
-use Rattle.std.proofs.Common.{ℕ, ◌+◌, List, subst, inr}
+use Rattle.std.proofs.Common.{ℕ, ◌+◌, List, subst}
 use Rattle.std.proofs.lemmas.Result.{err_from_is_err_and}
 use Rattle.erm_model.specs.Rows.{rows_of}
 use Rattle.erm_plain.specs.Logs.{plain_log}
-use Rattle.erm_recover.specs.Recovering.{state_recovered}
 use Rattle.erm_start.specs.Recovered.{IsOpenedLog}
-use Rattle.erm_disk_run.proofs.Opened.{OpeningLaws, commits_told, fresh_told, opening_stops, opens_told, pair_told, room_of}
+use Rattle.erm_disk_run.proofs.Opened.{OpeningLaws, fresh_told, only_opens, opening_stops, opens_told, pair_told, room_of}
 use Rattle.erm_disk_run.proofs.opening.open_on.Goals as goal
 
 pub open_log-requires-clause-fresh : goal.open_log-requires-clause-fresh
@@ -28,15 +27,10 @@ returns-in_err-world-clause-stops g c =
     let r = c.args.recovered.now in
     let laws : OpeningLaws = record { keep = c.openings_keep.ensures; opens = c.kept_images_may_open.ensures; meet = c.opened_logs_meet_the_blocks_found.ensures } in
     let room = room_of r c.in_ok-tail.tail c.in_ok-tail.ensures.runs_end c.in_ok-tail.ensures.log_end in
-    let from = pair_told (g.D.Disk.told c.args.disk.now) r c.requires.told in
     let p = err_from_is_err_and c.from_residual-in_err-world.result c.from_residual-in_err-world.ensures.1 in
     rw (p.1, p.2)
-    (inr (
-      state_recovered r,
-      c.requires.found,
-      commits_told laws r c.requires.found.are_sound room.1 room.0 (g.D.Disk.told c.args.disk.now) (g.D.Disk.told c.open_log.new.disk) from.0 c.requires.kept from.1
-          (c.in_ok-tail.ensures.any_moment from.0 from.1),
-    ))
+    (only_opens laws r c.requires.found.are_sound room.1 room.0 (g.D.Disk.told c.args.disk.now) (g.D.Disk.told c.open_log.new.disk) c.requires.kept c.requires.told c.requires.found
+    c.in_ok-tail.ensures.any_moment)
 
 pub returns-clause-disk : goal.returns-clause-disk
 returns-clause-disk g c =

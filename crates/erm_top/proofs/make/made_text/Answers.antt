@@ -14,7 +14,7 @@ returns-in_ok-counts_text-in-Ok c = λ before after faults now ends left counts.
 pub returns-in-Err-Unopened : goal.returns-in-Err-Unopened
 returns-in-Err-Unopened c = λ before after faults now ends left counts.
     tells_unmade c.args.ended c.requires before after faults now c.in-Err-Unopened.stop (c.in-Err-Unopened.is ∙ ap (λ s. Err s) c.in-Err-Unopened.field-0-is) c.not_opened.result
-    (c.not_opened.ensures before after faults now) counts c.args.count c.args.sessions ends
+    (c.not_opened.ensures.run before after faults now) counts c.args.count c.args.sessions ends
 
 pub returns-in_ok-try_each_text-in-Err-DiskFault : goal.returns-in_ok-try_each_text-in-Err-DiskFault
 returns-in_ok-try_each_text-in-Err-DiskFault c = λ before after faults now ends left counts.

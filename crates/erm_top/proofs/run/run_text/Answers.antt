@@ -12,7 +12,7 @@ returns-in_ok-lines_text-in-Ok c = λ names script before after faults now ends 
 pub returns-in-Err-Unopened : goal.returns-in-Err-Unopened
 returns-in-Err-Unopened c = λ names script before after faults now ends left counts.
     tells_stop c.args.ended c.requires before after faults now c.in-Err-Unopened.stop (c.in-Err-Unopened.is ∙ ap (λ s. Err s) c.in-Err-Unopened.field-0-is) c.not_opened.result
-    (c.not_opened.ensures before after faults now) counts names script ends
+    (c.not_opened.ensures.run before after faults now) counts names script ends
 
 pub returns-in_ok-lines_text-in-Err-DiskFault : goal.returns-in_ok-lines_text-in-Err-DiskFault
 returns-in_ok-lines_text-in-Err-DiskFault c = λ names script before after faults now ends left counts.
