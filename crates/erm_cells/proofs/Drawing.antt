@@ -65,6 +65,7 @@ module _ (v : View) (who : ℕ) (active : is_active (part_of v who).place ≡ tr
       limit = told.limit;
       counted = told.met;
       all_drawn = ltb-false found TABLE_CELLS high;
+      bare = bare;
     }
       where
         unchanged : with_part who (with_task task.Draws x) v ≡ with_part who x v
@@ -104,6 +105,7 @@ module _ (v : View) (who : ℕ) (active : is_active (part_of v who).place ≡ tr
           limit = told.limit;
           counted = told.met;
           all_drawn = ltb-false found TABLE_CELLS high;
+          bare = bare;
         }
 
         pub did_count : nat_lt found TABLE_CELLS ≡ true → DidCount v who found w

@@ -1,5 +1,5 @@
 -- The words of a new version before its row, stored one after another.
-use Rattle.std.proofs.Common.{◌≡◌, ℕ, zero, suc, ◌+◌, ◌-◌, ◌<◌, true, false, ◌&&◌, List, length, Some, None, Option, refl, sym, ap, ◌∙◌, subst, arith, eqb, ltb, add-one}
+use Rattle.std.proofs.Common.{◌≡◌, ℕ, zero, suc, ◌+◌, ◌<◌, true, false, ◌&&◌, List, length, Some, None, Option, refl, sym, ap, ◌∙◌, subst, arith, eqb, ltb, add-one}
 use Rattle.std.proofs.lemmas.Bool.{and_parts, eq-eqb, lt-ltb}
 use Rattle.std.proofs.lemmas.List.{set-get_or}
 use Rattle.erm_layout.specs.Layout.{IsInCell}

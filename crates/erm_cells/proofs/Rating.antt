@@ -1,5 +1,5 @@
 -- Drawing a cell, and the load of the reader stamp that gives it to the claim.
-use Rattle.std.proofs.Common.{◌≡◌, ℕ, ◌-◌, ◌<◌, ◌≤◌, true, [], ◌∷◌, ◌++◌, ◌&&◌, List, length, map, get_or, Some, Option, refl, sym, ap, ◌∙◌, subst, arith, eqb, ltb}
+use Rattle.std.proofs.Common.{◌≡◌, ⊎_elim, ℕ, ◌-◌, ◌<◌, ◌≤◌, true, [], ◌∷◌, ◌++◌, ◌&&◌, List, length, map, get_or, Some, Option, refl, sym, ap, ◌∙◌, subst, arith, eqb, ltb}
 use Rattle.std.specs.Prelude.{IfErr, IfOk, Result, Ok, Err}
 use Rattle.std.proofs.lemmas.Bool.{eq-eqb, lt-ltb, ne_eqb}
 use Rattle.std.proofs.lemmas.List.{length-append, length-map}
@@ -7,6 +7,8 @@ use Rattle.erm_model.specs.declared.limits.TheConstants.{TABLE_CELLS}
 use Rattle.erm_model.specs.Member.{◌∈◌}
 use Rattle.erm_model.proofs.Members.{∈-at}
 use Rattle.erm_machine.specs.declared.attempt.OwnCell.{OwnCell}
+use Rattle.erm_machine.specs.declared.event.Counter.TheVariants.{Cells}
+use Rattle.erm_machine.specs.declared.event.Kind.TheVariants as kind
 use Rattle.erm_machine.specs.declared.limits.TheConstants.{ANNOUNCERS, OBJECT_LIMIT}
 use Rattle.erm_machine.specs.declared.part.Part.{Part}
 use Rattle.erm_machine.specs.declared.task.Task.{Task}
@@ -20,7 +22,10 @@ use Rattle.erm_machine.specs.Seat.{is_active, is_own, last_claim, same_version, 
 use Rattle.erm_machine.specs.Sound.{Sound}
 use Rattle.erm_machine.specs.Step.{part_after}
 use Rattle.erm_machine.specs.Words.{blank_cell}
+use Rattle.erm_rule.specs.declared.view.Book.{Book}
 use Rattle.erm_rule.specs.declared.view.View.{View}
+use Rattle.erm_rule.specs.Books.{LastFound, WasSeen}
+use Rattle.erm_rule.proofs.Courses.{seen_last}
 use Rattle.erm_rule.specs.Hands.{IsKnown}
 use Rattle.erm_rule.specs.Steps.{Ready, Told}
 use Rattle.erm_rule.specs.Views.{part_in, part_of, with_part}
@@ -29,7 +34,7 @@ use Rattle.erm_rule.proofs.OnePlace.{own_drawn, spare_counts}
 use Rattle.erm_rule.proofs.Parts.{with_part-same}
 use Rattle.erm_rule.proofs.Telling.{part_of-changed}
 use Rattle.erm_cells.specs.Hands.{newest_claimed, rated_kind}
-use Rattle.erm_cells.specs.Spare.{DidCount, DidDraw, DidRate, DidRefuse, HasDrawn, MayRate, NewestOwns, SpareIs, drawn_part, part_drawn, rated_part, spare_cells, with_drawn}
+use Rattle.erm_cells.specs.Spare.{DidCount, DidDraw, DidRate, DidRefuse, HasDrawn, MayRate, NewestOwns, SpareIs, WasCount, drawn_part, part_drawn, rated_part, spare_cells, with_drawn}
 use Rattle.erm_cells.proofs.Claimed.{newest_owns, seat_below}
 use Rattle.erm_cells.proofs.Heads.{has, same_self}
 use Rattle.erm_cells.proofs.Spares.{front_is, last_is, some, spares_fit}
@@ -185,3 +190,16 @@ room v who x cells cell known here left =
     let more = length-append cells (cell ∷ []) in
     let size = length-map x.spare (λ (own : OwnCell). own.cell) in
     omega (arith, fits, same, all, more, size)
+
+-- a list with one at its end isn't empty
+pub not_bare : (cells : List ℕ) (cell : ℕ) → cells ++ cell ∷ [] ≡ [] → ⊥
+not_bare [] cell e = cc
+not_bare (x ∷ xs) cell e = cc
+
+-- the count that was found was met
+pub count_seen : (b : Book) (who seen : ℕ) (e : Book) → WasCount b who seen e → WasSeen b (λ s. s.shared.cells_drawn ≡ seen) e
+count_seen b who seen e last =
+    ⊎_elim
+    (λ (t : LastFound b who (kind.LoadCounter Cells) seen e). seen_last b (λ s. s.shared.cells_drawn ≡ seen) who (kind.LoadCounter Cells) seen e t (λ c met. met))
+    (λ (t : LastFound b who (kind.AddCounter Cells) seen e). seen_last b (λ s. s.shared.cells_drawn ≡ seen) who (kind.AddCounter Cells) seen e t (λ c met. met))
+    last

@@ -1,11 +1,14 @@
 //! Cells for claims: drawn from the spare ones or from the counter, and given back.
 ghost use Rattle.std.specs.Prelude.{◌≡◌, [], ◌∷◌, ◌++◌, true, nat_lt, IfErr, IfOk, IsSome};
 ghost use Rattle.erm_cells.specs.Hands.{newest_claimed, rated_kind};
-ghost use Rattle.erm_cells.specs.Spare.{DidCount, DidDraw, DidRate, DidRefuse, MayRate, SpareIs, spare_cells};
+ghost use Rattle.erm_cells.specs.Spare.{DidCount, DidDraw, DidRate, DidRefuse, IsCounted, MayRate, SpareIs, WasCount, spare_cells};
 ghost use Rattle.erm_machine.specs.declared.task.Task.TheVariants.{Draws};
 ghost use Rattle.erm_machine.specs.Seat.{is_active};
+ghost use Rattle.erm_machine.specs.declared.event.Counter.TheVariants.{Cells};
+ghost use Rattle.erm_machine.specs.declared.event.Kind.TheVariants.{AddCounter};
+ghost use Rattle.erm_rule.specs.Books.{HasState, IsAfter, LastFound, book};
 ghost use Rattle.erm_rule.specs.Hands.{IsKnown};
-ghost use Rattle.erm_rule.specs.Steps.{Fits, ToldUnder};
+ghost use Rattle.erm_rule.specs.Steps.{Fits, ToldUnder, Booked};
 ghost use Rattle.erm_rule.specs.Views.{view, part_in, part_of};
 
 use crate::own::{add_counter, load_counter};
@@ -16,7 +19,7 @@ use erm_model::{RowLaw, Seat, Stamp, TABLE_CELLS};
 use erm_rule::{Pass, Table};
 
 /// Draws a cell for the newest claim: the last spare one, without a step, or one from the counter, while there is one. An error has the
-/// counter seen.
+/// counter seen, which is the number of the table's cells, or above it where others met its end at the same time.
 pub fn draw<L: RowLaw>(t: &Table<L>, p: &mut Pass, who: Seat, spare: &mut Spare) -> Result<u32, u64>
     requires fits { Fits t.now.words.shared.table_id p.old }
     requires known { IsKnown (view p.old) }
@@ -26,6 +29,9 @@ pub fn draw<L: RowLaw>(t: &Table<L>, p: &mut Pass, who: Seat, spare: &mut Spare)
     ensures fits { Fits t.now.words.shared.table_id p.new }
     ensures drawn { IfOk result (λ cell. DidDraw (view p.old) who spare.new cell (view p.new)) }
     ensures refused { IfErr result (λ seen. DidRefuse (view p.old) who seen (view p.new) × SpareIs spare.new (part_of (view p.new) who)) }
+    ensures from { IfOk result (λ cell. IsCounted spare.old (book p.old) who cell (book p.new)) }
+    ensures counted { IfErr result (λ seen. WasCount (book p.old) who seen (book p.new) × HasState (book p.new)) }
+    ensures goes { IsAfter (book p.old) (book p.new) }
 {
     match spare.pop() {
         Some(cell) => Ok(cell),
@@ -42,6 +48,9 @@ fn draw_counted<L: RowLaw>(t: &Table<L>, p: &mut Pass, who: Seat) -> Result<u32,
     ensures fits { Fits t.now.words.shared.table_id p.new }
     ensures counted { IfOk result (λ cell. DidCount (view p.old) who cell (view p.new)) }
     ensures refused { IfErr result (λ seen. DidRefuse (view p.old) who seen (view p.new)) }
+    ensures last { IfOk result (λ cell. LastFound (book p.old) who (AddCounter Cells) cell (book p.new)) }
+    ensures seen { IfErr result (λ seen. WasCount (book p.old) who seen (book p.new) × HasState (book p.new)) }
+    ensures goes { IsAfter (book p.old) (book p.new) }
 {
     let seen = load_counter(t, p, who, Counter::Cells);
     if !is_cell(seen) {
@@ -71,6 +80,7 @@ pub fn rate<L: RowLaw>(t: &Table<L>, p: &mut Pass, who: Seat, cell: u32) -> Stam
     requires drawn { MayRate (part_of (view p.old) who) (part_of (view p.old) who).task }
     ensures fits { Fits t.now.words.shared.table_id p.new }
     ensures told { ToldUnder L.law (view p.old) who (rated_kind (part_of (view p.old) who)) result (view p.new) }
+    ensures booked { Booked L.law (book p.old) who (rated_kind (part_of (view p.old) who)) result (book p.new) }
     ensures rated { DidRate (view p.old) who result (view p.new) }
 {
     load_rated(t, p, who, cell)

@@ -1,7 +1,8 @@
 //! Steps on entries.
 ghost use Rattle.std.specs.Prelude.{◌≡◌, ◌<◌, ℕ, IsSome};
 ghost use Rattle.erm_machine.specs.declared.event.Kind.TheVariants.{LoadEntry, Claim, Install};
-ghost use Rattle.erm_rule.specs.Steps.{Fits, Ready, ToldUnder};
+ghost use Rattle.erm_rule.specs.Books.{book};
+ghost use Rattle.erm_rule.specs.Steps.{Fits, Ready, ToldUnder, Booked};
 ghost use Rattle.erm_rule.specs.Views.{view, part_in};
 
 use erm_kept::words::claimed;
@@ -18,6 +19,7 @@ pub fn load_entry<L: RowLaw>(t: &Table<L>, p: &mut Pass, who: Seat, oid: Oid) ->
     requires ready { Ready (view p.old) who (LoadEntry oid) }
     ensures fits { Fits t.now.words.shared.table_id p.new }
     ensures told { ToldUnder L.law (view p.old) who (LoadEntry oid) result (view p.new) }
+    ensures booked { Booked L.law (book p.old) who (LoadEntry oid) result (book p.new) }
 {
     load(t, p, who, Kind::LoadEntry { oid }, Word::Entry(oid))
 }
@@ -38,6 +40,7 @@ pub fn claim_entry<L: RowLaw>(
     requires ready { Ready (view p.old) who (Claim oid seen number) }
     ensures fits { Fits t.now.words.shared.table_id p.new }
     ensures told { ToldUnder L.law (view p.old) who (Claim oid seen number) result (view p.new) }
+    ensures booked { Booked L.law (book p.old) who (Claim oid seen number) result (book p.new) }
 {
     let kind = Kind::Claim { oid, seen, number };
     let owned = claimed(seen, who, number);
@@ -52,6 +55,7 @@ pub fn install<L: RowLaw>(t: &Table<L>, p: &mut Pass, who: Seat, oid: Oid, head:
     requires ready { Ready (view p.old) who (Install oid head) }
     ensures fits { Fits t.now.words.shared.table_id p.new }
     ensures told { (found : ℕ) × ToldUnder L.law (view p.old) who (Install oid head) found (view p.new) }
+    ensures booked { (found : ℕ) × Booked L.law (book p.old) who (Install oid head) found (book p.new) }
 {
     let kind = Kind::Install { oid, head };
     store(t, p, who, kind, Word::Entry(oid), u64::from(head));

@@ -2,7 +2,8 @@
 ghost use Rattle.std.specs.Prelude.{◌≡◌, ◌<◌, ℕ, true, IsSome};
 ghost use Rattle.erm_layout.specs.Layout.{IsInCell};
 ghost use Rattle.erm_machine.specs.declared.event.Kind.TheVariants.{StoreCell, LoadCounter, AddCounter};
-ghost use Rattle.erm_rule.specs.Steps.{Fits, Ready, ToldUnder};
+ghost use Rattle.erm_rule.specs.Books.{book};
+ghost use Rattle.erm_rule.specs.Steps.{Fits, Ready, ToldUnder, Booked};
 ghost use Rattle.erm_rule.specs.Views.{view, part_in};
 
 use erm_layout::Word;
@@ -27,6 +28,7 @@ pub fn store_own<L: RowLaw>(
     requires ready { Ready (view p.old) who (StoreCell claim cell word value) }
     ensures fits { Fits t.now.words.shared.table_id p.new }
     ensures told { (found : ℕ) × ToldUnder L.law (view p.old) who (StoreCell claim cell word value) found (view p.new) }
+    ensures booked { (found : ℕ) × Booked L.law (book p.old) who (StoreCell claim cell word value) found (book p.new) }
 {
     let kind = Kind::StoreCell {
         claim,
@@ -44,6 +46,7 @@ pub fn load_counter<L: RowLaw>(t: &Table<L>, p: &mut Pass, who: Seat, counter: C
     requires ready { Ready (view p.old) who (LoadCounter counter) }
     ensures fits { Fits t.now.words.shared.table_id p.new }
     ensures told { ToldUnder L.law (view p.old) who (LoadCounter counter) result (view p.new) }
+    ensures booked { Booked L.law (book p.old) who (LoadCounter counter) result (book p.new) }
 {
     load(
         t,
@@ -61,6 +64,7 @@ pub fn add_counter<L: RowLaw>(t: &Table<L>, p: &mut Pass, who: Seat, counter: Co
     requires ready { Ready (view p.old) who (AddCounter counter) }
     ensures fits { Fits t.now.words.shared.table_id p.new }
     ensures told { ToldUnder L.law (view p.old) who (AddCounter counter) result (view p.new) }
+    ensures booked { Booked L.law (book p.old) who (AddCounter counter) result (book p.new) }
 {
     add(
         t,

@@ -3,7 +3,8 @@ ghost use Rattle.std.specs.Prelude.{ℕ, IsSome};
 ghost use Rattle.erm_cells.specs.Placed.{Owns, own_kind};
 ghost use Rattle.erm_layout.specs.Layout.{IsInCell};
 ghost use Rattle.erm_rule.specs.Hands.{IsKnown};
-ghost use Rattle.erm_rule.specs.Steps.{Fits, Ready, ToldUnder};
+ghost use Rattle.erm_rule.specs.Books.{book};
+ghost use Rattle.erm_rule.specs.Steps.{Fits, Ready, ToldUnder, Booked};
 ghost use Rattle.erm_rule.specs.Views.{view, part_in, part_of};
 
 use erm_layout::Word;
@@ -29,6 +30,7 @@ pub fn store_placed<L: RowLaw>(
     requires ready { Ready (view p.old) who (own_kind (part_of (view p.old) who) cell word value) }
     ensures fits { Fits t.now.words.shared.table_id p.new }
     ensures told { (found : ℕ) × ToldUnder L.law (view p.old) who (own_kind (part_of (view p.old) who) cell word value) found (view p.new) }
+    ensures booked { (found : ℕ) × Booked L.law (book p.old) who (own_kind (part_of (view p.old) who) cell word value) found (book p.new) }
 {
     store_as::<L, Brand>(t, p, who, Word::Cell { cell, word }, value);
 }

@@ -2,7 +2,8 @@
 ghost use Rattle.std.specs.Prelude.{◌≡◌, ℕ, IsSome};
 ghost use Rattle.erm_machine.specs.declared.event.Kind.TheVariants.{StoreRing, Decide, LoadRing, ClearRing, StoreFlushed, LoadFlushed};
 ghost use Rattle.erm_core_blocks.specs.Spelled.{IsSpelled, decided_by};
-ghost use Rattle.erm_rule.specs.Steps.{Fits, Ready, ToldUnder};
+ghost use Rattle.erm_rule.specs.Books.{book};
+ghost use Rattle.erm_rule.specs.Steps.{Fits, Ready, ToldUnder, Booked};
 ghost use Rattle.erm_rule.specs.Views.{view, part_in, part_of};
 
 use erm_layout::Word;
@@ -17,6 +18,7 @@ pub fn store_ring<L: RowLaw>(t: &Table<L>, p: &mut Pass, who: Seat, at: Stamp, v
     requires ready { Ready (view p.old) who (StoreRing at value) }
     ensures fits { Fits t.now.words.shared.table_id p.new }
     ensures told { (found : ℕ) × ToldUnder L.law (view p.old) who (StoreRing at value) found (view p.new) }
+    ensures booked { (found : ℕ) × Booked L.law (book p.old) who (StoreRing at value) found (book p.new) }
 {
     let kind = Kind::StoreRing { at, value };
     store(t, p, who, kind, Word::Ring(at % RING_WORDS), value);
@@ -30,6 +32,7 @@ pub fn decide<L: RowLaw>(t: &Table<L>, p: &mut Pass, who: Seat, at: Stamp, heade
     requires spelled { IsSpelled (part_of (view p.old) who).run who (decided_by header (part_of (view p.old) who).current) }
     ensures fits { Fits t.now.words.shared.table_id p.new }
     ensures told { (found : ℕ) × ToldUnder L.law (view p.old) who (Decide at header) found (view p.new) }
+    ensures booked { (found : ℕ) × Booked L.law (book p.old) who (Decide at header) found (book p.new) }
 {
     let kind = Kind::Decide { at, header };
     store(t, p, who, kind, Word::Ring(at % RING_WORDS), header);
@@ -42,6 +45,7 @@ pub fn load_ring<L: RowLaw>(t: &Table<L>, p: &mut Pass, who: Seat, at: Stamp) ->
     requires ready { Ready (view p.old) who (LoadRing at) }
     ensures fits { Fits t.now.words.shared.table_id p.new }
     ensures told { ToldUnder L.law (view p.old) who (LoadRing at) result (view p.new) }
+    ensures booked { Booked L.law (book p.old) who (LoadRing at) result (book p.new) }
 {
     let kind = Kind::LoadRing { at };
     load(t, p, who, kind, Word::Ring(at % RING_WORDS))
@@ -54,6 +58,7 @@ pub fn clear_ring<L: RowLaw>(t: &Table<L>, p: &mut Pass, who: Seat, at: Stamp)
     requires ready { Ready (view p.old) who (ClearRing at) }
     ensures fits { Fits t.now.words.shared.table_id p.new }
     ensures told { (found : ℕ) × ToldUnder L.law (view p.old) who (ClearRing at) found (view p.new) }
+    ensures booked { (found : ℕ) × Booked L.law (book p.old) who (ClearRing at) found (book p.new) }
 {
     let kind = Kind::ClearRing { at };
     store(t, p, who, kind, Word::Ring(at % RING_WORDS), 0);
@@ -66,6 +71,7 @@ pub fn store_flushed<L: RowLaw>(t: &Table<L>, p: &mut Pass, who: Seat, value: St
     requires ready { Ready (view p.old) who (StoreFlushed value) }
     ensures fits { Fits t.now.words.shared.table_id p.new }
     ensures told { (found : ℕ) × ToldUnder L.law (view p.old) who (StoreFlushed value) found (view p.new) }
+    ensures booked { (found : ℕ) × Booked L.law (book p.old) who (StoreFlushed value) found (book p.new) }
 {
     let kind = Kind::StoreFlushed { value };
     store(t, p, who, kind, Word::Flushed, value);
@@ -78,6 +84,7 @@ pub fn load_flushed<L: RowLaw>(t: &Table<L>, p: &mut Pass, who: Seat) -> Stamp
     requires ready { Ready (view p.old) who LoadFlushed }
     ensures fits { Fits t.now.words.shared.table_id p.new }
     ensures told { ToldUnder L.law (view p.old) who LoadFlushed result (view p.new) }
+    ensures booked { Booked L.law (book p.old) who LoadFlushed result (book p.new) }
 {
     load(t, p, who, Kind::LoadFlushed, Word::Flushed)
 }

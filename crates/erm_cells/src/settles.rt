@@ -5,7 +5,8 @@ ghost use Rattle.erm_cells.specs.Hands.{clear_kind, ended_claim, mark_kind, next
 ghost use Rattle.erm_machine.specs.Step.{has_word};
 ghost use Rattle.erm_machine.specs.Words.{is_session};
 ghost use Rattle.erm_rule.specs.Hands.{IsKnown};
-ghost use Rattle.erm_rule.specs.Steps.{Fits, Ready, ToldUnder};
+ghost use Rattle.erm_rule.specs.Books.{book};
+ghost use Rattle.erm_rule.specs.Steps.{Fits, Ready, ToldUnder, Booked};
 ghost use Rattle.erm_rule.specs.Views.{view, part_in, part_of};
 
 use erm_layout::Word;
@@ -31,6 +32,7 @@ pub fn load_stamp<L: RowLaw>(
     requires ready { Ready (view p.old) who (stamp_kind (part_of (view p.old) who) word) }
     ensures fits { Fits t.now.words.shared.table_id p.new }
     ensures told { ToldUnder L.law (view p.old) who (stamp_kind (part_of (view p.old) who) word) result (view p.new) }
+    ensures booked { Booked L.law (book p.old) who (stamp_kind (part_of (view p.old) who) word) result (book p.new) }
 {
     load_as::<L, Brand>(t, p, who, Word::Cell { cell, word })
 }
@@ -45,6 +47,7 @@ pub fn load_readers<L: RowLaw>(t: &Table<L>, p: &mut Pass, who: Seat, cell: u32)
     requires ready { Ready (view p.old) who (readers_kind (part_of (view p.old) who)) }
     ensures fits { Fits t.now.words.shared.table_id p.new }
     ensures told { ToldUnder L.law (view p.old) who (readers_kind (part_of (view p.old) who)) result (view p.new) }
+    ensures booked { Booked L.law (book p.old) who (readers_kind (part_of (view p.old) who)) result (book p.new) }
 {
     let word = CellWord::Readers;
     load_as::<L, Brand>(t, p, who, Word::Cell { cell, word })
@@ -60,6 +63,7 @@ pub fn store_succ<L: RowLaw>(t: &Table<L>, p: &mut Pass, who: Seat, cell: u32, v
     requires ready { Ready (view p.old) who (succ_kind (part_of (view p.old) who) value) }
     ensures fits { Fits t.now.words.shared.table_id p.new }
     ensures told { (found : ℕ) × ToldUnder L.law (view p.old) who (succ_kind (part_of (view p.old) who) value) found (view p.new) }
+    ensures booked { (found : ℕ) × Booked L.law (book p.old) who (succ_kind (part_of (view p.old) who) value) found (book p.new) }
 {
     let word = CellWord::OverwriterSucc;
     store_as::<L, Brand>(t, p, who, Word::Cell { cell, word }, value);
@@ -75,6 +79,7 @@ pub fn store_overwriter<L: RowLaw>(t: &Table<L>, p: &mut Pass, who: Seat, cell: 
     requires ready { Ready (view p.old) who (mark_kind (part_of (view p.old) who) value) }
     ensures fits { Fits t.now.words.shared.table_id p.new }
     ensures told { (found : ℕ) × ToldUnder L.law (view p.old) who (mark_kind (part_of (view p.old) who) value) found (view p.new) }
+    ensures booked { (found : ℕ) × Booked L.law (book p.old) who (mark_kind (part_of (view p.old) who) value) found (book p.new) }
 {
     let word = CellWord::Overwriter;
     store_as::<L, Brand>(t, p, who, Word::Cell { cell, word }, value);
@@ -91,6 +96,7 @@ pub fn clear_reader<L: RowLaw>(t: &Table<L>, p: &mut Pass, who: Seat, cell: u32)
     requires ready { Ready (view p.old) who (clear_kind (part_of (view p.old) who)) }
     ensures fits { Fits t.now.words.shared.table_id p.new }
     ensures told { (found : ℕ) × ToldUnder L.law (view p.old) who (clear_kind (part_of (view p.old) who)) found (view p.new) }
+    ensures booked { (found : ℕ) × Booked L.law (book p.old) who (clear_kind (part_of (view p.old) who)) found (book p.new) }
 {
     let word = CellWord::Readers;
     and_as::<L, Brand>(t, p, who, Word::Cell { cell, word }, other_bits(who));

@@ -5,7 +5,8 @@ ghost use Rattle.erm_cells.specs.Hands.{copied_kind, detached_kind, next_raised,
 ghost use Rattle.erm_machine.specs.Step.{has_word};
 ghost use Rattle.erm_machine.specs.Words.{is_session};
 ghost use Rattle.erm_rule.specs.Hands.{IsKnown, in_hand, walk_kind};
-ghost use Rattle.erm_rule.specs.Steps.{Fits, Ready, ToldUnder};
+ghost use Rattle.erm_rule.specs.Books.{book};
+ghost use Rattle.erm_rule.specs.Steps.{Fits, Ready, ToldUnder, Booked};
 ghost use Rattle.erm_rule.specs.Views.{view, part_in, part_of};
 
 use erm_layout::Word;
@@ -31,6 +32,7 @@ pub fn load_walked<L: RowLaw>(
     requires ready { Ready (view p.old) who (walk_kind (part_of (view p.old) who) word) }
     ensures fits { Fits t.now.words.shared.table_id p.new }
     ensures told { ToldUnder L.law (view p.old) who (walk_kind (part_of (view p.old) who) word) result (view p.new) }
+    ensures booked { Booked L.law (book p.old) who (walk_kind (part_of (view p.old) who) word) result (book p.new) }
 {
     load_as::<L, Brand>(t, p, who, Word::Cell { cell, word })
 }
@@ -46,6 +48,7 @@ pub fn load_rated<L: RowLaw>(t: &Table<L>, p: &mut Pass, who: Seat, cell: u32) -
     requires ready { Ready (view p.old) who (rated_kind (part_of (view p.old) who)) }
     ensures fits { Fits t.now.words.shared.table_id p.new }
     ensures told { ToldUnder L.law (view p.old) who (rated_kind (part_of (view p.old) who)) result (view p.new) }
+    ensures booked { Booked L.law (book p.old) who (rated_kind (part_of (view p.old) who)) result (book p.new) }
 {
     let word = CellWord::ReaderStamp;
     load_as::<L, Brand>(t, p, who, Word::Cell { cell, word })
@@ -62,6 +65,7 @@ pub fn load_copied<L: RowLaw>(t: &Table<L>, p: &mut Pass, who: Seat, cell: u32, 
     requires ready { Ready (view p.old) who (copied_kind (part_of (view p.old) who) place) }
     ensures fits { Fits t.now.words.shared.table_id p.new }
     ensures told { ToldUnder L.law (view p.old) who (copied_kind (part_of (view p.old) who) place) result (view p.new) }
+    ensures booked { Booked L.law (book p.old) who (copied_kind (part_of (view p.old) who) place) result (book p.new) }
 {
     let word = CellWord::Row(place);
     load_as::<L, Brand>(t, p, who, Word::Cell { cell, word })
@@ -77,6 +81,7 @@ pub fn swap_link<L: RowLaw>(t: &Table<L>, p: &mut Pass, who: Seat, cell: u32) ->
     requires ready { Ready (view p.old) who (swap_kind (part_of (view p.old) who)) }
     ensures fits { Fits t.now.words.shared.table_id p.new }
     ensures told { ToldUnder L.law (view p.old) who (swap_kind (part_of (view p.old) who)) result (view p.new) }
+    ensures booked { Booked L.law (book p.old) who (swap_kind (part_of (view p.old) who)) result (book p.new) }
 {
     let word = CellWord::Link;
     swap_as::<L, Brand>(t, p, who, Word::Cell { cell, word }, 0)
@@ -92,6 +97,7 @@ pub fn load_detached<L: RowLaw>(t: &Table<L>, p: &mut Pass, who: Seat, cell: u32
     requires ready { Ready (view p.old) who (detached_kind (part_of (view p.old) who)) }
     ensures fits { Fits t.now.words.shared.table_id p.new }
     ensures told { ToldUnder L.law (view p.old) who (detached_kind (part_of (view p.old) who)) result (view p.new) }
+    ensures booked { Booked L.law (book p.old) who (detached_kind (part_of (view p.old) who)) result (book p.new) }
 {
     let link = CellWord::Link;
     load_as::<L, Brand>(t, p, who, Word::Cell { cell, word: link })
@@ -108,6 +114,7 @@ pub fn set_reader<L: RowLaw>(t: &Table<L>, p: &mut Pass, who: Seat, cell: u32)
     requires ready { Ready (view p.old) who (reader_kind (part_of (view p.old) who)) }
     ensures fits { Fits t.now.words.shared.table_id p.new }
     ensures told { (found : ℕ) × ToldUnder L.law (view p.old) who (reader_kind (part_of (view p.old) who)) found (view p.new) }
+    ensures booked { (found : ℕ) × Booked L.law (book p.old) who (reader_kind (part_of (view p.old) who)) found (book p.new) }
 {
     let word = CellWord::Readers;
     or_as::<L, Brand>(t, p, who, Word::Cell { cell, word }, bit(who));
@@ -131,6 +138,7 @@ pub fn raise_reader<L: RowLaw>(t: &Table<L>, p: &mut Pass, who: Seat, cell: u32,
     requires ready { Ready (view p.old) who (raise_kind (part_of (view p.old) who) value) }
     ensures fits { Fits t.now.words.shared.table_id p.new }
     ensures told { (found : ℕ) × ToldUnder L.law (view p.old) who (raise_kind (part_of (view p.old) who) value) found (view p.new) }
+    ensures booked { (found : ℕ) × Booked L.law (book p.old) who (raise_kind (part_of (view p.old) who) value) found (book p.new) }
 {
     let word = CellWord::ReaderStamp;
     raise_as::<L, Brand>(t, p, who, Word::Cell { cell, word }, value);

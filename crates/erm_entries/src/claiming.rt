@@ -3,6 +3,7 @@ ghost use Rattle.std.specs.Prelude.{◌≡◌, ◌<◌, true, length, IfOk, IfEr
 ghost use Rattle.erm_cells.specs.Calls.{DidTake, IsFoundHead};
 ghost use Rattle.erm_machine.specs.Seat.{is_active};
 ghost use Rattle.erm_machine.specs.Words.{is_session};
+ghost use Rattle.erm_rule.specs.Books.{IsAfter, book};
 ghost use Rattle.erm_rule.specs.Steps.{Fits};
 ghost use Rattle.erm_rule.specs.Views.{view, part_of};
 ghost use Rattle.erm_entries.specs.Calls.{DidMeet};
@@ -35,6 +36,7 @@ pub fn claim<L: RowLaw>(
     ensures fits { Fits t.now.words.shared.table_id p.new }
     ensures claimed { IfOk result (λ _. DidTake (view p.old) who oid (word_of seen.now) (view p.new)) }
     ensures lost { IfErr result (λ entry. DidMeet (view p.old) who oid (word_of seen.now) entry (view p.new)) }
+    ensures goes { IsAfter (book p.old) (book p.new) }
 {
     let word = seen.word();
     let found = take(t, p, who, oid, word, number);
@@ -53,6 +55,7 @@ pub fn unclaim<L: RowLaw>(t: &Table<L>, p: &mut Pass, who: Seat, oid: Oid, head:
     requires refused { IsRefused (part_of (view p.old) who) oid head }
     ensures fits { Fits t.now.words.shared.table_id p.new }
     ensures unclaimed { DidUnclaim (view p.old) who oid head (view p.new) }
+    ensures goes { IsAfter (book p.old) (book p.new) }
 {
     erm_cells::install(t, p, who, oid, head);
 }

@@ -4,6 +4,7 @@ ghost use Rattle.erm_cells.specs.Calls.{DidEnter, starts_anew};
 ghost use Rattle.erm_machine.specs.declared.task.Task.TheVariants.{Cleared};
 ghost use Rattle.erm_machine.specs.Facts.{Holds};
 ghost use Rattle.erm_machine.specs.Seat.{is_active};
+ghost use Rattle.erm_rule.specs.Books.{book, IsAfter, WasState};
 ghost use Rattle.erm_rule.specs.Steps.{Fits};
 ghost use Rattle.erm_rule.specs.Views.{view, part_of};
 ghost use Rattle.erm_entries.specs.Calls.{DidReach, DidReload, DidWait, MayLoad};
@@ -30,6 +31,7 @@ pub fn load<L: RowLaw>(t: &Table<L>, p: &mut Pass, who: Seat, oid: Oid) -> Entry
         → DidEnter (view p.old) who oid (word_of result) (view p.new) }
     ensures reloaded { (part_of (view p.old) who).task ≡ Cleared oid
         → DidReload (view p.old) who oid (word_of result) (view p.new) }
+    ensures goes { IsAfter (book p.old) (book p.new) }
 {
     let word = load_entry(t, p, who, oid);
     Entry::of(word)
@@ -55,6 +57,7 @@ pub fn enter<L: RowLaw>(
     ensures reached { IfOk result (λ entry. DidReach (view p.old) who oid (word_of entry) (view p.new)) }
     ensures spelled { IfOk result (λ entry. entry_of (word_of entry) ≡ entry) }
     ensures waits { IfErr result (λ wait. DidWait (view p.old) who oid wait (view p.new)) }
+    ensures met { IfErr result (λ wait. WasState (book p.old) wait.seat wait.seen (book p.new)) }
 {
     let first = load(t, p, who, oid);
     if first.owner == 0 {

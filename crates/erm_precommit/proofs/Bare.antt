@@ -1,5 +1,5 @@
 -- A transaction that has read and claimed nothing begins and seals: it may settle.
-use Rattle.std.proofs.Common.{◌≡◌, ℕ, ◌<◌, true, false, [], length, refl, sym, ap, ◌∙◌, subst, arith}
+use Rattle.std.proofs.Common.{◌≡◌, ℕ, ◌<◌, true, [], length, refl, sym, ap, ◌∙◌, subst, arith}
 use Rattle.erm_machine.specs.declared.part.Part.{Part}
 use Rattle.erm_machine.specs.declared.place.Place.TheVariants.{Idle}
 use Rattle.erm_machine.specs.Seat.{is_sealed, is_vacant}
@@ -8,8 +8,6 @@ use Rattle.erm_rule.specs.declared.view.View.{View}
 use Rattle.erm_rule.specs.Views.{part_of}
 use Rattle.erm_rule.proofs.Telling.{held_part, part_of-changed}
 use Rattle.erm_seats.specs.Calls.{begun_part, sealed_part, DidBegin, DidSeal}
-use Rattle.erm_precommit.specs.declared.pre.KeptClaim.{KeptClaim}
-use Rattle.erm_precommit.specs.declared.pre.KeptRead.{KeptRead}
 use Rattle.erm_precommit.specs.declared.pre.Pre.{Pre}
 use Rattle.erm_precommit.specs.Pre.{IsPre}
 

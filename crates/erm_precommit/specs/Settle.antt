@@ -12,7 +12,9 @@ use Rattle.erm_machine.specs.Seat.{is_sealed, read_at}
 use Rattle.erm_machine.specs.Settling.{has_room, may_settle}
 use Rattle.erm_machine.specs.Sound.{Sound}
 use Rattle.erm_machine.specs.Words.{head_of, is_clear, owner_of}
+use Rattle.erm_rule.specs.declared.view.Book.{Book}
 use Rattle.erm_rule.specs.declared.view.View.{View}
+use Rattle.erm_rule.specs.Books.{WasFlushed, WasState}
 use Rattle.erm_rule.specs.Hands.{IsKnown}
 use Rattle.erm_rule.specs.Views.{part_of, with_part, IsView}
 use Rattle.erm_seats.specs.Calls.{FindsState}
@@ -129,6 +131,16 @@ pub record WaitsForRing (v : View) (who flushed : ℕ) (w : View) : Type 0 where
 abbrev pub WaitsFor : View → ℕ → Wait → View → Type 0
 WaitsFor v who (wait.Ring flushed) w = WaitsForRing v who flushed w
 WaitsFor v who (wait.Seat seat seen) w = WaitsForSeat v who seat seen w
+
+-- What a settle waits for was met between two books: the place flushed, or the seat's state word.
+abbrev pub WasWait : Book → Wait → Book → Type 0
+WasWait b (wait.Ring flushed) e = WasFlushed b flushed e
+WasWait b (wait.Seat seat seen) e = WasState b seat seen e
+
+-- the same, where a settle waits
+abbrev pub WasMetWhereItWaits : Book → Settled → Book → Type 0
+WasMetWhereItWaits b (settled.Ready succ pred) e = Unit {0}
+WasMetWhereItWaits b (settled.Wait reason) e = WasWait b reason e
 
 -- a look at this seat found it sealing, or sealed below the own stamp
 abbrev pub StopsAt : View → ℕ → ℕ → SeatWait → View → Type 0

@@ -2,6 +2,7 @@
 ghost use Rattle.std.specs.Prelude.{◌≡◌, ◌<◌, ◌+◌, ◌&&◌, ℕ, true, false, length, nat_lt, IfErr, IfSome, IfNone, OnOk, MatchOption};
 ghost use Rattle.erm_machine.specs.declared.task.Task.TheVariants.{ReadClear, ReadOvertaken, ReadOwned, Settles};
 ghost use Rattle.erm_machine.specs.Words.{owner_of};
+ghost use Rattle.erm_rule.specs.Books.{book, IsAfter, WasState};
 ghost use Rattle.erm_rule.specs.Steps.{Fits};
 ghost use Rattle.erm_rule.specs.Views.{view};
 ghost use Rattle.erm_precommit.specs.Settle.{has_other_owner, task_of, OwnsRead, Stands, StopsAt, WaitsForSeat, WentOn};
@@ -47,6 +48,7 @@ fn load_head<L: RowLaw>(
     ensures owned { IfSome result (λ owner. task_of (view p.new) who ≡ ReadOwned place owner) }
     ensures owner { IfSome result (λ owner. OwnsRead (view p.old) who place owner) }
     ensures clear { IfNone result (task_of (view p.new) who ≡ ReadClear place) }
+    ensures goes { IsAfter (book p.old) (book p.new) }
 {
     let read = pre.read_at(place);
     let entry = load_entry(t, p, who, read.oid);
@@ -70,6 +72,8 @@ fn look_at_owner<L: RowLaw>(
     ensures stands { Stands pre.now (view p.new) who }
     ensures clear { OnOk result (task_of (view p.new) who ≡ ReadClear place) }
     ensures stops { IfErr result (λ wait. StopsAt (view p.old) who owner wait (view p.new)) }
+    ensures goes { IsAfter (book p.old) (book p.new) }
+    ensures met { IfErr result (λ wait. WasState (book p.old) wait.seat wait.seen (book p.new)) }
 {
     match look(t, p, who, owner, pre.stamp) {
         Look::Clear => Ok(()),
@@ -94,6 +98,8 @@ fn pass_owner<L: RowLaw>(
     ensures stands { Stands pre.now (view p.new) who }
     ensures clear { OnOk result (task_of (view p.new) who ≡ ReadClear place) }
     ensures waits { IfErr result (λ wait. WaitsForSeat (view p.old) who wait.seat wait.seen (view p.new)) }
+    ensures goes { IsAfter (book p.old) (book p.new) }
+    ensures met { IfErr result (λ wait. WasState (book p.old) wait.seat wait.seen (book p.new)) }
 {
     match load_head(pre, t, p, who, place) {
         Some(owner) => look_at_owner(pre, t, p, who, place, owner),
@@ -124,6 +130,7 @@ fn load_overwriter<L: RowLaw>(
     ensures stands { Stands pre.now (view p.new) who }
     ensures counts { result ≡ true → (overwriter : ℕ) × (task_of (view p.new) who ≡ ReadOvertaken place overwriter) }
     ensures none { result ≡ false → task_of (view p.new) who ≡ Settles (place + 1) 0 }
+    ensures goes { IsAfter (book p.old) (book p.new) }
 {
     let read = pre.read_at(place);
     let overwriter = load_stamp(t, p, who, read.cell, CellWord::Overwriter);
@@ -139,6 +146,7 @@ fn load_succ<L: RowLaw>(pre: &mut Pre, t: &Table<L>, p: &mut Pass, who: Seat, pl
     ensures went { WentOn (view p.old) who (view p.new) }
     ensures stands { Stands pre.new (view p.new) who }
     ensures passed { task_of (view p.new) who ≡ Settles (place + 1) 0 }
+    ensures goes { IsAfter (book p.old) (book p.new) }
 {
     let read = pre.read_at(place);
     let succ = load_stamp(t, p, who, read.cell, CellWord::OverwriterSucc);
@@ -154,6 +162,7 @@ fn rate_read<L: RowLaw>(pre: &mut Pre, t: &Table<L>, p: &mut Pass, who: Seat, pl
     ensures went { WentOn (view p.old) who (view p.new) }
     ensures stands { Stands pre.new (view p.new) who }
     ensures passed { task_of (view p.new) who ≡ Settles (place + 1) 0 }
+    ensures goes { IsAfter (book p.old) (book p.new) }
 {
     if load_overwriter(pre, t, p, who, place) {
         load_succ(pre, t, p, who, place);
@@ -177,6 +186,8 @@ fn pass_read<L: RowLaw>(
     ensures stands { Stands pre.new (view p.new) who }
     ensures passed { OnOk result (task_of (view p.new) who ≡ Settles (place + 1) 0) }
     ensures waits { IfErr result (λ wait. WaitsForSeat (view p.old) who wait.seat wait.seen (view p.new)) }
+    ensures goes { IsAfter (book p.old) (book p.new) }
+    ensures met { IfErr result (λ wait. WasState (book p.old) wait.seat wait.seen (book p.new)) }
 {
     pass_owner(pre, t, p, who, place)?;
     rate_read(pre, t, p, who, place);
@@ -198,6 +209,8 @@ pub(crate) fn pass_reads<L: RowLaw>(
     ensures stands { Stands pre.new (view p.new) who }
     ensures passed { OnOk result (task_of (view p.new) who ≡ Settles (length pre.new.reads.items) 0) }
     ensures waits { IfErr result (λ wait. WaitsForSeat (view p.old) who wait.seat wait.seen (view p.new)) }
+    ensures goes { IsAfter (book p.old) (book p.new) }
+    ensures met { IfErr result (λ wait. WasState (book p.old) wait.seat wait.seen (book p.new)) }
 {
     for place in 0..pre.reads.len() {
         pass_read(pre, t, p, who, place)?;

@@ -1,2 +1,5 @@
 pub mod Deciding
 pub mod Filling
+pub mod Gathering
+pub mod Clearing
+pub mod Turning

@@ -14,6 +14,7 @@ use Rattle.erm_machine.specs.declared.task.Task.TheVariants as task
 use Rattle.erm_machine.specs.Core.{claim_at, no_claim}
 use Rattle.erm_machine.specs.Reading.{new_claim}
 use Rattle.erm_machine.specs.Seat.{is_active, last_claim, read_at, with_pred}
+use Rattle.erm_rule.specs.declared.view.Book.{Book}
 use Rattle.erm_rule.specs.declared.view.View.{View}
 use Rattle.erm_rule.specs.Views.{part_of, with_part}
 use Rattle.erm_rule.proofs.Parts.{with_part-again}
@@ -30,7 +31,7 @@ use Rattle.erm_precommit.specs.Pre.{IsClaimKept, IsReadKept, no_claim_kept, no_r
 use Rattle.erm_rows.specs.declared.active.Active.{Active}
 use Rattle.erm_rows.specs.declared.claiming.Filled.{Filled}
 use Rattle.erm_rows.specs.Active.{AddsClaim, IsActive}
-use Rattle.erm_rows.specs.Claims.{claimed_part, filled_claim, filled_part, given_up_part, tidied_part, DidClaim, DidCutChain, DidFill, DidFindNoCell, DidLackCell, DidNotClaim, DidNotTake, DidTakeEntry, IsClaimedHead}
+use Rattle.erm_rows.specs.Claims.{claimed_part, filled_claim, filled_part, given_up_part, tidied_part, DidClaim, DidCutChain, DidFill, DidFindNoCell, DidLackCell, DidNotClaim, DidNotTake, DidTakeEntry, IsClaimedHead, TellsCount}
 use Rattle.erm_rows.proofs.Kept.{kept_same}
 
 -- an entry that isn't taken
@@ -39,6 +40,11 @@ untaken v who oid stop.WritesFull w did = did
 untaken v who oid (stop.Owned seat number) w did = did
 untaken v who oid (stop.Newer stamp) w did = did
 untaken v who oid _ w did = absurd did
+
+-- and then no count is told
+pub tells_nothing : (v : View) (who oid : ℕ) (w : View) (b e : Book) (why : RowStop) → DidNotTake v who oid why w → TellsCount b why e
+tells_nothing v who oid w b e (stop.CellsFull drawn) did = absurd did
+tells_nothing v who oid w b e _ did = tt
 
 -- the last of a list to which one was added
 last_place : (xs : List Claim) (c : Claim) → length xs ≡ length (xs ++ c ∷ []) - 1

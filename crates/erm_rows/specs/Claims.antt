@@ -14,6 +14,8 @@ use Rattle.erm_machine.specs.Core.{claim_at, version_at}
 use Rattle.erm_machine.specs.Reading.{after_cut, new_claim}
 use Rattle.erm_machine.specs.Seat.{last_claim, with_claim, with_pred, with_task}
 use Rattle.erm_machine.specs.Words.{claimed, head_of, number_of, owner_of}
+use Rattle.erm_rule.specs.declared.view.Book.{Book}
+use Rattle.erm_rule.specs.Books.{WasSeen}
 use Rattle.erm_rule.specs.declared.view.View.{View}
 use Rattle.erm_rule.specs.Hands.{IsKnown}
 use Rattle.erm_rule.specs.Views.{part_of, with_part}
@@ -211,3 +213,12 @@ abbrev pub DidNotClaim : View → ℕ → ℕ → RowStop → View → Type 0
 DidNotClaim v who oid (stop.CellsFull drawn) w = DidLackCell v who oid drawn w
 DidNotClaim v who oid (stop.Excluded succ pred) w = DidClaimExcluded v who oid succ pred w
 DidNotClaim v who oid why w = DidNotTake v who oid why w
+
+-- between two books so many cells were drawn
+abbrev pub WasCells : Book → ℕ → Book → Type 0
+WasCells b drawn e = WasSeen b (λ s. s.shared.cells_drawn ≡ drawn) e
+
+-- a claim for which no cell was left tells how many were drawn
+abbrev pub TellsCount : Book → RowStop → Book → Type 0
+TellsCount b (stop.CellsFull drawn) e = WasCells b drawn e
+TellsCount b why e = Unit {0}

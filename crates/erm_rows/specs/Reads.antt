@@ -16,7 +16,9 @@ use Rattle.erm_machine.specs.Decided.{counted, history_of, record_of}
 use Rattle.erm_machine.specs.Life.{noted}
 use Rattle.erm_machine.specs.Seat.{with_pred}
 use Rattle.erm_machine.specs.Snapshot.{ReadFits}
+use Rattle.erm_rule.specs.declared.view.Book.{Book}
 use Rattle.erm_rule.specs.declared.view.View.{View}
+use Rattle.erm_rule.specs.Books.{WasState}
 use Rattle.erm_rule.specs.Hands.{IsKnown}
 use Rattle.erm_rule.specs.Views.{part_of, with_part}
 use Rattle.erm_entries.specs.Calls.{DidWait}
@@ -87,3 +89,8 @@ DidNotRead v who oid (stop.NotYet seat seen) w = DidWait v who oid (record { sea
 DidNotRead v who oid stop.ReadsFull w = IsFull v who w
 DidNotRead v who oid (stop.Excluded succ pred) w = DidExclude v who oid succ pred w
 DidNotRead v who oid _ w = ⊥
+
+-- Where an owner isn't clear: between the book before the read and the one after it, that seat's state word was the one told.
+abbrev pub WasOwnerMet : Book → RowStop → Book → Type 0
+WasOwnerMet b (stop.NotYet seat seen) e = WasState b seat seen e
+WasOwnerMet b _ e = Unit {0}

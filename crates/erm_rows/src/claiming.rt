@@ -8,7 +8,8 @@ ghost use Rattle.erm_machine.specs.Facts.{Holds};
 ghost use Rattle.erm_machine.specs.Seat.{is_active};
 ghost use Rattle.erm_machine.specs.Words.{is_session};
 ghost use Rattle.erm_rows.specs.Active.{IsActive, closed_window};
-ghost use Rattle.erm_rows.specs.Claims.{DidClaim, DidCutChain, DidFill, DidFindNoCell, DidNotClaim, IsClaimedHead};
+ghost use Rattle.erm_rows.specs.Claims.{DidClaim, DidCutChain, DidFill, DidFindNoCell, DidNotClaim, IsClaimedHead, TellsCount, WasCells};
+ghost use Rattle.erm_rule.specs.Books.{IsAfter, book};
 ghost use Rattle.erm_rule.specs.Hands.{IsKnown};
 ghost use Rattle.erm_rule.specs.Steps.{Fits};
 ghost use Rattle.erm_rule.specs.Views.{view, part_of};
@@ -50,6 +51,7 @@ pub fn cut_chain<L: RowLaw>(
     ensures fits { Fits t.now.words.shared.table_id p.new }
     ensures cut { DidCutChain (view p.old) who result (view p.new) }
     ensures spare { SpareIs spare.new (part_of (view p.new) who) }
+    ensures goes { IsAfter (book p.old) (book p.new) }
 {
     let bound = horizon(t, p, who);
     cut(t, p, who, head, bound, spare)
@@ -77,6 +79,7 @@ pub fn fill_claim<L: RowLaw>(
     ensures filled { IfOk result (λ filled. DidFill (view p.old) who filled (view p.new)) }
     ensures refused { IfErr result (λ drawn. DidFindNoCell (view p.old) who oid base drawn (view p.new)) }
     ensures spare { SpareIs spare.new (part_of (view p.new) who) }
+    ensures counted { IfErr result (λ drawn. WasCells (book p.old) drawn (book p.new)) }
 {
     let own = match draw(t, p, who, spare) {
         Ok(own) => own,
@@ -112,6 +115,7 @@ fn claim_object<L: RowLaw>(
     ensures spare { SpareIs spare.new (part_of (view p.new) who) }
     ensures claimed { IfOk result (λ row. DidClaim (view p.old) who oid row (view p.new)) }
     ensures refused { IfErr result (λ stop. DidNotClaim (view p.old) who oid stop (view p.new)) }
+    ensures counted { IfErr result (λ stop. TellsCount (book p.old) stop (book p.new)) }
 {
     let head = match take_entry(txn, t, p, who, oid) {
         Ok(head) => head,
@@ -158,6 +162,7 @@ pub fn claim<L: RowLaw>(
     ensures claimed { IfOk result (λ row. DidClaim (view p.old) who oid row (view p.new)) }
     ensures open { IfOk result (λ _. closed_window txn.new ≡ None) }
     ensures refused { IfErr result (λ stop. DidNotClaim (view p.old) who oid stop (view p.new)) }
+    ensures counted { IfErr result (λ stop. TellsCount (book p.old) stop (book p.new)) }
 {
     match claim_object(txn, spare, t, p, who, oid) {
         Err(why) => Err(why),

@@ -8,7 +8,8 @@ ghost use Rattle.erm_machine.specs.Seat.{is_active};
 ghost use Rattle.erm_machine.specs.Words.{is_session};
 ghost use Rattle.erm_readers.specs.Walk.{IsWalking};
 ghost use Rattle.erm_rows.specs.Active.{IsActive, closed_window};
-ghost use Rattle.erm_rows.specs.Reads.{DidNotRead, DidRead};
+ghost use Rattle.erm_rows.specs.Reads.{DidNotRead, DidRead, WasOwnerMet};
+ghost use Rattle.erm_rule.specs.Books.{book, WasState};
 ghost use Rattle.erm_rule.specs.Hands.{IsKnown, in_hand};
 ghost use Rattle.erm_rule.specs.Steps.{Fits};
 ghost use Rattle.erm_rule.specs.Views.{view, part_of};
@@ -77,6 +78,7 @@ fn read_object<L: RowLaw>(
     ensures kept { IsActive txn.new (part_of (view p.new) who) }
     ensures read { IfOk result (λ row. DidRead (view p.old) who oid row (view p.new)) }
     ensures waits { IfErr result (λ wait. DidWait (view p.old) who oid wait (view p.new)) }
+    ensures met { IfErr result (λ wait. WasState (book p.old) wait.seat wait.seen (book p.new)) }
 {
     let entry = enter(t, p, who, oid, txn.begin)?;
     Ok(read_version(txn, t, p, who, oid, entry.head))
@@ -107,6 +109,7 @@ pub fn read<L: RowLaw>(
     ensures read { IfOk result (λ row. DidRead (view p.old) who oid row (view p.new)) }
     ensures open { IfOk result (λ row. closed_window txn.new ≡ None) }
     ensures refused { IfErr result (λ stop. DidNotRead (view p.old) who oid stop (view p.new)) }
+    ensures met { IfErr result (λ stop. WasOwnerMet (book p.old) stop (book p.new)) }
 {
     if txn.reads.len() == READ_LIMIT {
         return Err(RowStop::ReadsFull);

@@ -8,6 +8,7 @@ ghost use Rattle.erm_machine.specs.Words.{head_of, is_session};
 ghost use Rattle.erm_model.specs.declared.row_stop.RowStop.TheVariants.{Owned};
 ghost use Rattle.erm_rows.specs.Active.{IsActive};
 ghost use Rattle.erm_rows.specs.Claims.{DidFindFree, DidNotExchange, DidNotFind, DidNotTake, DidTakeEntry};
+ghost use Rattle.erm_rule.specs.Books.{IsAfter, book};
 ghost use Rattle.erm_rule.specs.Steps.{Fits};
 ghost use Rattle.erm_rule.specs.Views.{view, part_of};
 
@@ -37,6 +38,7 @@ fn find_free<L: RowLaw>(
     ensures found { IfOk result (λ entry. DidFindFree (view p.old) who oid (word_of entry) (view p.new)) }
     ensures spelled { IfOk result (λ entry. entry_of (word_of entry) ≡ entry) }
     ensures refused { IfErr result (λ stop. DidNotFind (view p.old) who oid stop (view p.new)) }
+    ensures goes { IsAfter (book p.old) (book p.new) }
 {
     match find_head(t, p, who, oid) {
         Head::Owned { entry } => Err(owned(&Entry::of(entry))),
@@ -80,6 +82,7 @@ fn exchange<L: RowLaw>(
     ensures fits { Fits t.now.words.shared.table_id p.new }
     ensures taken { IfOk result (λ _. DidTake (view p.old) who oid (word_of seen.now) (view p.new)) }
     ensures lost { IfErr result (λ stop. DidNotExchange (view p.old) who oid (word_of seen.now) stop (view p.new)) }
+    ensures goes { IsAfter (book p.old) (book p.new) }
 {
     let found = match claim(t, p, who, oid, seen, number) {
         Ok(()) => return Ok(()),
@@ -115,6 +118,7 @@ pub fn take_entry<L: RowLaw>(
     ensures room { IfOk result (λ head. length txn.now.claims.items < WRITE_LIMIT) }
     ensures refused { IfErr result (λ stop. DidNotTake (view p.old) who oid stop (view p.new)) }
     ensures kept { IfErr result (λ stop. IsActive txn.now (part_of (view p.new) who)) }
+    ensures goes { IsAfter (book p.old) (book p.new) }
 {
     if txn.claims.len() == WRITE_LIMIT {
         return Err(RowStop::WritesFull);

@@ -29,14 +29,17 @@ use Rattle.erm_model.specs.declared.limits.TheConstants.{TABLE_CELLS}
 use Rattle.erm_model.specs.Lawful.{IsLawfulRecord}
 use Rattle.erm_model.specs.Member.{◌∈◌}
 use Rattle.erm_model.specs.RowTransaction.{Law}
+use Rattle.erm_rule.specs.declared.view.Book.{Book}
 use Rattle.erm_rule.specs.declared.view.Held.{Held}
 use Rattle.erm_rule.specs.declared.view.Opening.{Opening}
 use Rattle.erm_rule.specs.declared.view.View.{View}
+use Rattle.erm_rule.specs.Books.{view_in, noted, Passes, Course}
 use Rattle.erm_rule.specs.Cells.{word_in, cells_after, IsTold}
 use Rattle.erm_rule.specs.Newest.{CutsAtNewest}
 use Rattle.erm_rule.specs.Rule.{Stands, HeldByNone, KeptUnder}
-use Rattle.erm_rule.specs.Steps.{Ready, Agrees, Promises, Told, ToldUnder}
+use Rattle.erm_rule.specs.Steps.{Ready, Agrees, Promises, Told, Booked}
 use Rattle.erm_rule.specs.Views.{part_in, part_of, held_after, with_part, IsView, IsInOrder}
+use Rattle.erm_rule.proofs.Courses.{views_at, views_set, course_more, AreViews, courses_stay, courses_set}
 use Rattle.erm_rule.proofs.Filled.{cells_next}
 use Rattle.erm_rule.proofs.Found.{next, event_is, met_after, unmet_after, from_some}
 use Rattle.erm_rule.proofs.Lives.{Meets, is_as_met, lives}
@@ -192,21 +195,21 @@ promised_spelled law c v who k x sound has sees spelled = tt
 -- ONE PROOF FOR ALL KINDS. A step that the machine takes whatever the view leaves open, on the word that it meets, which
 -- becomes what the step stores, is allowed, and tells what the play wants of it.
 module _ (law : Law) (one_number : OneNumber) (below : Below) (keeps_sound : KeepsSound) (keeps_law : KeepsLaw law) (keeps_spelled : KeepsSpelled)
-    (opening : Opening) (slots id : ℕ) (me : Me (Unit {0}) View) (who : ℕ) (k : Kind) (w : Word) (f : ℕ → ℕ)
-    (has : IsSome (part_in me.0 who)) (ready : Ready me.0 who k) (promises : Promises law me.0 who k) (known : is_known k ≡ true)
-    (told : IsTold k) (met : word_of_spot (spot_of who k) ≡ Some w) (numbered : HasNumber w) (agrees : Agrees me.0 who k f) where
+    (opening : Opening) (slots id : ℕ) (me : Me (Unit {0}) Book) (who : ℕ) (k : Kind) (w : Word) (f : ℕ → ℕ)
+    (has : IsSome (part_in me.0.view who)) (ready : Ready me.0.view who k) (promises : Promises law me.0.view who k) (known : is_known k ≡ true)
+    (told : IsTold k) (met : word_of_spot (spot_of who k) ≡ Some w) (numbered : HasNumber w) (agrees : Agrees me.0.view who k f) where
   told_by : (words : List ℕ) (views : List View) (c : Core) (cells : ℕ → Cell) (holder : ℕ → ℕ) (y : Part) (found : ℕ) → Stands words views c cells holder → Sound c → CutsAtNewest c → c.shared.cell_limit ≡ TABLE_CELLS →
-      get_elem? views id ≡ some me.0 → found ≡ word_at c (spot_of who k) → part_after who k (word_at c (spot_of who k)) c.shared (c.seats who) ≡ Some y →
-      (n : ℕ) → n ≡ stored who k (word_at c (spot_of who k)) → Told me.0 who k found (with_part who y me.0)
+      get_elem? views id ≡ some me.0.view → found ≡ word_at c (spot_of who k) → part_after who k (word_at c (spot_of who k)) c.shared (c.seats who) ≡ Some y →
+      (n : ℕ) → n ≡ stored who k (word_at c (spot_of who k)) → Told me.0.view who k found (with_part who y me.0.view)
   told_by words views c cells holder y found stands sound cuts limit at is after n agreed =
-      let x = some_of (part_in me.0 who) has in
+      let x = some_of (part_in me.0.view who) has in
       let event = event_is c who k y known after in
       record {
         before = c;
         sound = sound;
         cuts = cuts;
-        is_view = standing_view words views c cells holder id me.0 stands at;
-        in_order = stands.in_order id me.0 at;
+        is_view = standing_view words views c cells holder id me.0.view stands at;
+        in_order = stands.in_order id me.0.view at;
         limit = limit;
         met = sym is;
         part = y;
@@ -217,37 +220,46 @@ module _ (law : Law) (one_number : OneNumber) (below : Below) (keeps_sound : Kee
         sound_after = keeps_sound c (next c who k y) who k sound event;
         cuts_after = newest_kept c who k (next c who k y) sound cuts event;
         is_view_after =
-            standing_view (set words (index_of w) n) (set views id (with_part who y me.0)) (next c who k y) (map_after words views c cells holder stands sound one_number below id me.0 at who x.0 y x.1 k told known after w numbered met n agreed)
-            holder id (with_part who y me.0)
-            (stands_after words views c cells holder stands sound one_number below id me.0 at who x.0 y x.1 k told known after w numbered met n agreed)
-            (set_there views id me.0 (with_part who y me.0) at);
+            standing_view (set words (index_of w) n) (set views id (with_part who y me.0.view)) (next c who k y) (map_after words views c cells holder stands sound one_number below id me.0.view at who x.0 y x.1 k told known after w numbered met n agreed)
+            holder id (with_part who y me.0.view)
+            (stands_after words views c cells holder stands sound one_number below id me.0.view at who x.0 y x.1 k told known after w numbered met n agreed)
+            (set_there views id me.0.view (with_part who y me.0.view) at);
         limit_after = same_limit who k (word_at c (spot_of who k)) (c.seats who) c.shared ∙ limit;
       }
 
-  pub allowed : (tells_of : ℕ → Me (Unit {0}) View → Type 0) → ((found : ℕ) (u : View) → ToldUnder law me.0 who k found u → tells_of found (u, me.1)) →
+  pub allowed : (tells_of : ℕ → Me (Unit {0}) Book → Type 0) → ((found : ℕ) (u : Book) → Booked law me.0 who k found u → tells_of found (u, me.1)) →
       Allows (KeptUnder law opening) slots id me (index_of w) f tells_of
   unfolding told_by
-  allowed tells_of telling s under homes at small =
+  allowed tells_of telling s under homes there small =
       let kept = under.kept in
       let c = kept.core in
       let stands = kept.stands in
-      let sees = standing_view s.words s.views c kept.cells kept.holder id me.0 stands at in
+      let views : List View = map view_in s.views in
+      let at : get_elem? views id ≡ some me.0.view = views_at s.views id me.0 there in
+      let sees = standing_view s.words views c kept.cells kept.holder id me.0.view stands at in
       let guard = ready c kept.sound sees in
       let y = some_of (part_after who k (word_at c (spot_of who k)) c.shared (c.seats who)) guard in
-      let x = some_of (part_in me.0 who) has in
+      let x = some_of (part_in me.0.view who) has in
       let found : ℕ = get_or s.words (index_of w) 0 in
       let stored_is : stored who k (word_at c (spot_of who k)) ≡ stored who k (word_at c (spot_of who k)) = refl in
-      let live = alive s.words s.views c kept.cells kept.holder stands kept.sound one_number below id me.0 at who x.0 y.0 x.1 k told known y.1 w numbered met _ stored_is in
+      let live = alive s.words views c kept.cells kept.holder stands kept.sound one_number below id me.0.view at who x.0 y.0 x.1 k told known y.1 w numbered met _ stored_is in
       let is : found ≡ word_at c (spot_of who k) =
       stands.words_are w numbered
       ∙ from_some (word_of_spot (spot_of who k)) (λ u. word_in c kept.cells u ≡ word_at c (spot_of who k)) w met (is_as_met c who kept.cells stands.cells_are k live) in
       let event = event_is c who k y.0 known y.1 in
+      let passes : Passes c (next c who k y.0) = (kept.sound, (who, k, event)) in
+      let are : AreViews s.views c = λ j b e. standing_view s.words views c kept.cells kept.holder j b.view stands (views_at s.views j b e) in
+      let own : Course me.0.view me.0.taken c = kept.courses id me.0 there in
+      let more : Course (with_part who y.0 me.0.view) (noted me.0 who k found (with_part who y.0 me.0.view)).taken (next c who k y.0) =
+      course_more me.0.taken c (next c who k y.0) who k found me.0.view (with_part who y.0 me.0.view) kept.sound sees (sym is) event own in
+      let set_is : map view_in (set s.views id (noted me.0 who k found (with_part who y.0 me.0.view))) ≡ set views id (with_part who y.0 me.0.view) =
+      views_set s.views id (noted me.0 who k found (with_part who y.0 me.0.view)) in
       let after : Lawful law (next c who k y.0).shared (next c who k y.0).seats =
-      keeps_law c (next c who k y.0) who k kept.sound under.lawful (promised law c me.0 who k x.0 x.1 sees promises) event in
+      keeps_law c (next c who k y.0) who k kept.sound under.lawful (promised law c me.0.view who k x.0 x.1 sees promises) event in
       let spelled : AreSpelled (next c who k y.0) =
-      keeps_spelled c (next c who k y.0) who k kept.sound under.spelled (promised_spelled law c me.0 who k x.0 kept.sound x.1 sees promises) event in
+      keeps_spelled c (next c who k y.0) who k kept.sound under.spelled (promised_spelled law c me.0.view who k x.0 kept.sound x.1 sees promises) event in
       let agreed : f found ≡ stored who k (word_at c (spot_of who k)) = ap f is ∙ agrees c kept.sound sees guard in (
-        with_part who y.0 me.0,
+        noted me.0 who k found (with_part who y.0 me.0.view),
         keeps,
         tt,
         record {
@@ -255,38 +267,45 @@ module _ (law : Law) (one_number : OneNumber) (below : Below) (keeps_sound : Kee
             core = next c who k y.0;
             cells = cells_after k (stored who k (word_at c (spot_of who k))) kept.cells;
             holder = kept.holder;
-            stands = stands_after s.words s.views c kept.cells kept.holder stands kept.sound one_number below id me.0 at who x.0 y.0 x.1 k told known y.1 w numbered met (f found) agreed;
-            others =
-                others_after s.words s.views c kept.cells kept.holder stands kept.sound one_number below id me.0 at who x.0 y.0 x.1 k told known y.1 w numbered met (f found) agreed
-                (fresh_part Vacant opening.run opening.tail) kept.others;
+            stands = subst (λ (l : List View). Stands (set s.words (index_of w) (f found)) l (next c who k y.0) (cells_after k (stored who k (word_at c (spot_of who k))) kept.cells) kept.holder) (sym set_is)
+                (stands_after s.words views c kept.cells kept.holder stands kept.sound one_number below id me.0.view at who x.0 y.0 x.1 k told known y.1 w numbered met (f found) agreed);
+            others = subst (λ (l : List View). (q : ℕ) → HeldByNone l q → put c.seats who y.0 q ≡ fresh_part Vacant opening.run opening.tail) (sym set_is)
+                (others_after s.words views c kept.cells kept.holder stands kept.sound one_number below id me.0.view at who x.0 y.0 x.1 k told known y.1 w numbered met (f found) agreed
+                (fresh_part Vacant opening.run opening.tail) kept.others);
             sound = keeps_sound c (next c who k y.0) who k kept.sound event;
             cuts = newest_kept c who k (next c who k y.0) kept.sound kept.cuts event;
+            courses = courses_set s.views (next c who k y.0) id (noted me.0 who k found (with_part who y.0 me.0.view)) more (courses_stay s.views c (next c who k y.0) are passes kept.courses);
             opened = stays_opened opening c who k (word_at c (spot_of who k)) (c.seats who) (next c who k y.0) kept.sound event kept.opened;
             limit = same_limit who k (word_at c (spot_of who k)) (c.seats who) c.shared ∙ kept.limit;
           };
           lawful = after;
           spelled = spelled;
         },
-        telling found (with_part who y.0 me.0) (record {
-          told = told_by s.words s.views c kept.cells kept.holder y.0 found stands kept.sound kept.cuts kept.limit at is y.1 (f found) agreed;
-          lawful = under.lawful;
-          lawful_after = after;
-          spelled = under.spelled;
-          spelled_after = spelled;
+        telling found (noted me.0 who k found (with_part who y.0 me.0.view)) (record {
+          under = record {
+            told = told_by s.words views c kept.cells kept.holder y.0 found stands kept.sound kept.cuts kept.limit at is y.1 (f found) agreed;
+            lawful = under.lawful;
+            lawful_after = after;
+            spelled = under.spelled;
+            spelled_after = spelled;
+          };
+          book_is = refl;
+          course = own;
+          course_after = more;
         }),
       )
 
   -- the same at the word's number, for the plays that tell the word found, and those that don't
   module _ (i : ℕ) (is : i ≡ index_of w) (seat : ℕ) (same_seat : seat ≡ who) where
-    told_as : (found : ℕ) (u : View) → ToldUnder law me.0 who k found u → ToldUnder law me.0 seat k found u
-    told_as found u t = subst (λ (p : ℕ). ToldUnder law me.0 p k found u) (sym same_seat) t
+    told_as : (found : ℕ) (u : Book) → Booked law me.0 who k found u → Booked law me.0 seat k found u
+    told_as found u t = subst (λ (p : ℕ). Booked law me.0 p k found u) (sym same_seat) t
 
-    at_number : (tells_of : ℕ → Me (Unit {0}) View → Type 0) → ((found : ℕ) (u : View) → ToldUnder law me.0 who k found u → tells_of found (u, me.1)) →
+    at_number : (tells_of : ℕ → Me (Unit {0}) Book → Type 0) → ((found : ℕ) (u : Book) → Booked law me.0 who k found u → tells_of found (u, me.1)) →
         Allows (KeptUnder law opening) slots id me i f tells_of
     at_number tells_of telling = subst (λ (j : ℕ). Allows (KeptUnder law opening) slots id me j f tells_of) (sym is) (allowed tells_of telling)
 
-    pub allows_finding : Allows (KeptUnder law opening) slots id me i f (λ found m. ToldUnder law me.0 seat k found m.0 × (m.1 ≡ me.1))
-    allows_finding = at_number (λ found m. ToldUnder law me.0 seat k found m.0 × (m.1 ≡ me.1)) (λ found u t. (told_as found u t, refl))
+    pub allows_finding : Allows (KeptUnder law opening) slots id me i f (λ found m. Booked law me.0 seat k found m.0 × (m.1 ≡ me.1))
+    allows_finding = at_number (λ found m. Booked law me.0 seat k found m.0 × (m.1 ≡ me.1)) (λ found u t. (told_as found u t, refl))
 
-    pub allows_storing : Allows (KeptUnder law opening) slots id me i f (λ _ m. ((found : ℕ) × ToldUnder law me.0 seat k found m.0) × (m.1 ≡ me.1))
-    allows_storing = at_number (λ _ m. ((found : ℕ) × ToldUnder law me.0 seat k found m.0) × (m.1 ≡ me.1)) (λ found u t. ((found, told_as found u t), refl))
+    pub allows_storing : Allows (KeptUnder law opening) slots id me i f (λ _ m. ((found : ℕ) × Booked law me.0 seat k found m.0) × (m.1 ≡ me.1))
+    allows_storing = at_number (λ _ m. ((found : ℕ) × Booked law me.0 seat k found m.0) × (m.1 ≡ me.1)) (λ found u t. ((found, told_as found u t), refl))

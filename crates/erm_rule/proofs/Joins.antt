@@ -24,15 +24,18 @@ use Rattle.erm_machine.proofs.Frames.{at_cases, put_same, put_other}
 use Rattle.erm_model.specs.Member.{◌∈◌}
 use Rattle.erm_model.specs.RowTransaction.{Law}
 use Rattle.erm_model.proofs.Members.{∈-at}
+use Rattle.erm_rule.specs.declared.view.Book.{Book}
 use Rattle.erm_rule.specs.declared.view.Held.{Held}
 use Rattle.erm_rule.specs.declared.view.Opening.{Opening}
 use Rattle.erm_rule.specs.declared.view.View.{View}
+use Rattle.erm_rule.specs.Books.{view_in, Passes, left_book, right_book, both_books, spent_book}
 use Rattle.erm_rule.specs.Cells.{word_in, SeatCells, CellsAre}
 use Rattle.erm_rule.specs.Rule.{Stands, HeldByNone, KeptUnder}
 use Rattle.erm_rule.specs.Steps.{EndsUnder}
 use Rattle.erm_rule.specs.Views.{of_seats, EachOnce, no_held, first_held, last_held, left_of, taken, right_of, joined, held_after, IsInOrder}
 use Rattle.erm_rule.proofs.Allowed.{KeepsLaw, KeepsSound, KeepsSpelled, standing_view, set_there}
 use Rattle.erm_rule.proofs.Carried.{Carries, carry}
+use Rattle.erm_rule.proofs.Courses.{views_at, views_set, views_more, AreViews, course_more, courses_stay, courses_set, courses_push}
 use Rattle.erm_rule.proofs.Newest.{newest_kept}
 use Rattle.erm_rule.proofs.Parts.{order_after, in_map, map_in, here, in_either, in_one, in_other, in_front, last_or_front, split_at, none_there, once_front, once_both, last_apart}
 
@@ -218,12 +221,15 @@ module _ (words : List ℕ) (views : List View) (c : Core) (cells : ℕ → Cell
         put_other c.seats l.seat split_part q (λ (same : q ≡ l.seat). old id v l at l_in (sym same)) ∙ others q old
 
 -- the first seat hands out the last one, which is vacant
-pub splits : (law : Law) → KeepsSound → KeepsLaw law → KeepsSpelled → (o : Opening) (id : ℕ) (v : View) → 2 ≤ length v.held → is_vacant (first_held v).part.place ≡ false → is_vacant (last_held v).part.place ≡ true →
-    Splits (KeptUnder law o) id v (left_of v) (right_of v)
-splits law keeps_sound keeps_law keeps_spelled o id v several giver given s under at =
+pub splits : (law : Law) → KeepsSound → KeepsLaw law → KeepsSpelled → (o : Opening) (id : ℕ) (b : Book) → 2 ≤ length b.view.held → is_vacant (first_held b.view).part.place ≡ false → is_vacant (last_held b.view).part.place ≡ true →
+    Splits (KeptUnder law o) id b (left_book b) (right_book b)
+splits law keeps_sound keeps_law keeps_spelled o id b several giver given s under there =
     let kept = under.kept in
     let c = kept.core in
     let stands = kept.stands in
+    let v : View = b.view in
+    let views : List View = map view_in s.views in
+    let at : get_elem? views id ≡ some v = views_at s.views id b there in
     let some_held : 0 < length v.held = omega (arith, several) in
     let front : List Held = take (length v.held - 1) v.held in
     let front_in : (h : Held) → h ∈ front → h ∈ v.held = in_front (length v.held - 1) v.held in
@@ -236,17 +242,27 @@ splits law keeps_sound keeps_law keeps_spelled o id v several giver given s unde
     let event : after_event c (first_held v).seat (kind.Split (last_held v).seat) ≡ Some next =
     split_event c (first_held v).seat (last_held v).seat (first_held v).part (last_held v).part (stands.parts_are id v (first_held v) at (front_in (first_held v) g_in))
     (stands.parts_are id v (last_held v) at l_in) (λ same. apart (first_held v) g_in (sym same)) ((stands.in_order id v at).seats (last_held v) l_in) giver given in
+    let are : AreViews s.views c = λ j e m. standing_view s.words views c kept.cells kept.holder j e.view stands (views_at s.views j e m) in
+    let passes : Passes c next = (kept.sound, ((first_held v).seat, kind.Split (last_held v).seat, event)) in
+    let views_are : map view_in (set s.views id (left_book b) ++ right_book b ∷ []) ≡ set views id (left_of v) ++ right_of v ∷ [] =
+    views_more (set s.views id (left_book b)) (right_book b) ∙ ap (λ (l : List View). l ++ right_of v ∷ []) (views_set s.views id (left_book b)) in
     record {
       kept = record {
         core = next;
         cells = kept.cells;
-        holder = put kept.holder (last_held v).seat (length s.views);
-        stands = split_stands s.words s.views c kept.cells kept.holder stands id v at (first_held v) (last_held v) front l_in front_in (once_front (length v.held - 1) v.held once) apart vacant;
-        others =
-            split_others s.words s.views c kept.cells kept.holder stands id v at (first_held v) (last_held v) front l_in front_in (once_front (length v.held - 1) v.held once) apart vacant
-            (λ h m. last_or_front (length v.held - 1) v.held no_held h (omega (arith, some_held)) m) (fresh_part Vacant o.run o.tail) kept.others;
+        holder = put kept.holder (last_held v).seat (length views);
+        stands = subst (λ (l : List View). Stands s.words l next kept.cells (put kept.holder (last_held v).seat (length views))) (sym views_are)
+            (split_stands s.words views c kept.cells kept.holder stands id v at (first_held v) (last_held v) front l_in front_in (once_front (length v.held - 1) v.held once) apart vacant);
+        others = subst (λ (l : List View). (q : ℕ) → HeldByNone l q → next.seats q ≡ fresh_part Vacant o.run o.tail) (sym views_are)
+            (split_others s.words views c kept.cells kept.holder stands id v at (first_held v) (last_held v) front l_in front_in (once_front (length v.held - 1) v.held once) apart vacant
+            (λ h m. last_or_front (length v.held - 1) v.held no_held h (omega (arith, some_held)) m) (fresh_part Vacant o.run o.tail) kept.others);
         sound = keeps_sound c next (first_held v).seat (kind.Split (last_held v).seat) kept.sound event;
         cuts = newest_kept c (first_held v).seat (kind.Split (last_held v).seat) next kept.sound kept.cuts event;
+        courses = courses_push (set s.views id (left_book b)) next (right_book b)
+            (course_more b.taken c next (first_held v).seat (kind.Split (last_held v).seat) 0 v (right_of v) kept.sound (are id b there) refl event (kept.courses id b there))
+            (courses_set s.views next id (left_book b)
+            (course_more b.taken c next (first_held v).seat (kind.Split (last_held v).seat) 0 v (left_of v) kept.sound (are id b there) refl event (kept.courses id b there))
+            (courses_stay s.views c next are passes kept.courses));
         opened = kept.opened;
         limit = kept.limit;
       };
@@ -371,17 +387,21 @@ module _ (words : List ℕ) (views : List View) (c : Core) (cells : ℕ → Cell
       let old : HeldByNone views q = join_stay q none in
       put_other c.seats a.seat join_part q (λ (same : q ≡ a.seat). old id v a at a_in (sym same)) ∙ others q old
 
-other_view : (views : List View) (id other : ℕ) (u w : View) → other ≢ id → get_elem? (set views id u) other ≡ some w → get_elem? views other ≡ some w
-other_view views id other u w ne e = ⊎_elim (λ (t : (other ≡ id) × (u ≡ w)). absurd (ne t.0)) (λ (t : (other ≢ id) × (get_elem? views other ≡ some w)). t.1) (at_set views id other u w e)
+other_book : (books : List Book) (id other : ℕ) (a b : Book) → other ≢ id → get_elem? (set books id a) other ≡ some b → get_elem? books other ≡ some b
+other_book books id other a b ne e = ⊎_elim (λ (t : (other ≡ id) × (a ≡ b)). absurd (ne t.0)) (λ (t : (other ≢ id) × (get_elem? books other ≡ some b)). t.1) (at_set books id other a b e)
 
 -- the first seat takes in the first of another pass, and the pass all of its seats
-pub joins : (law : Law) → KeepsSound → KeepsLaw law → KeepsSpelled → (o : Opening) (id : ℕ) (v : View) (other : ℕ) (w : View) → 0 < length v.held → 0 < length w.held →
-    is_vacant (first_held v).part.place ≡ false → is_vacant (first_held w).part.place ≡ false → Joins (KeptUnder law o) id v other w (joined v w) (of_seats [])
-joins law keeps_sound keeps_law keeps_spelled o id v other w some_held some_too taker taken_one s under at ne is =
+pub joins : (law : Law) → KeepsSound → KeepsLaw law → KeepsSpelled → (o : Opening) (id : ℕ) (a : Book) (other : ℕ) (b : Book) → 0 < length a.view.held → 0 < length b.view.held →
+    is_vacant (first_held a.view).part.place ≡ false → is_vacant (first_held b.view).part.place ≡ false → Joins (KeptUnder law o) id a other b (both_books a b) spent_book
+joins law keeps_sound keeps_law keeps_spelled o id a other b some_held some_too taker taken_one s under own_there ne is =
     let kept = under.kept in
     let c = kept.core in
     let stands = kept.stands in
-    let there : get_elem? s.views other ≡ some w = other_view s.views id other (joined v w) w ne is in
+    let v : View = a.view in
+    let w : View = b.view in
+    let views : List View = map view_in s.views in
+    let at : get_elem? views id ≡ some v = views_at s.views id a own_there in
+    let there : get_elem? views other ≡ some w = views_at s.views other b (other_book s.views id other (both_books a b) b ne is) in
     let a_in : first_held v ∈ v.held = first_there v some_held in
     let b_in : first_held w ∈ w.held = first_there w some_too in
     let m : ℕ = max (first_held v).part.seen (first_held w).part.seen in
@@ -389,16 +409,26 @@ joins law keeps_sound keeps_law keeps_spelled o id v other w some_held some_too 
     let event : after_event c (first_held v).seat (kind.Join (first_held w).seat) ≡ Some next =
     join_event c (first_held v).seat (first_held w).seat (first_held v).part (first_held w).part (stands.parts_are id v (first_held v) at a_in)
     (stands.parts_are other w (first_held w) there b_in)
-    (not_first s.words s.views c kept.cells kept.holder stands id v at other ne w there (first_held v) a_in m other w ne there (first_held w) b_in) taker taken_one in
+    (not_first s.words views c kept.cells kept.holder stands id v at other ne w there (first_held v) a_in m other w ne there (first_held w) b_in) taker taken_one in
+    let are : AreViews s.views c = λ j e m. standing_view s.words views c kept.cells kept.holder j e.view stands (views_at s.views j e m) in
+    let passes : Passes c next = (kept.sound, ((first_held v).seat, kind.Join (first_held w).seat, event)) in
+    let views_are : map view_in (set (set s.views id (both_books a b)) other spent_book) ≡ set (set views id (joined v w)) other (of_seats []) =
+    views_set (set s.views id (both_books a b)) other spent_book ∙ ap (λ (l : List View). set l other (of_seats [])) (views_set s.views id (both_books a b)) in
     record {
       kept = record {
         core = next;
         cells = kept.cells;
         holder = λ q. if kept.holder q == other then id else kept.holder q;
-        stands = join_stands s.words s.views c kept.cells kept.holder stands id v at other ne w there (first_held v) a_in m;
-        others = join_others s.words s.views c kept.cells kept.holder stands id v at other ne w there (first_held v) a_in m (fresh_part Vacant o.run o.tail) kept.others;
+        stands = subst (λ (l : List View). Stands s.words l next kept.cells (λ q. if kept.holder q == other then id else kept.holder q)) (sym views_are)
+            (join_stands s.words views c kept.cells kept.holder stands id v at other ne w there (first_held v) a_in m);
+        others = subst (λ (l : List View). (q : ℕ) → HeldByNone l q → next.seats q ≡ fresh_part Vacant o.run o.tail) (sym views_are)
+            (join_others s.words views c kept.cells kept.holder stands id v at other ne w there (first_held v) a_in m (fresh_part Vacant o.run o.tail) kept.others);
         sound = keeps_sound c next (first_held v).seat (kind.Join (first_held w).seat) kept.sound event;
         cuts = newest_kept c (first_held v).seat (kind.Join (first_held w).seat) next kept.sound kept.cuts event;
+        courses = courses_set (set s.views id (both_books a b)) next other spent_book tt
+            (courses_set s.views next id (both_books a b)
+            (course_more a.taken c next (first_held v).seat (kind.Join (first_held w).seat) 0 v (joined v w) kept.sound (are id a own_there) refl event (kept.courses id a own_there))
+            (courses_stay s.views c next are passes kept.courses));
         opened = kept.opened;
         limit = kept.limit;
       };
@@ -412,8 +442,8 @@ first_word [] n e = absurd (some-ne-none n (sym e))
 first_word (x ∷ xs) n e = some-injective x n e
 
 -- the tail in the last state
-pub ends : (law : Law) (o : Opening) (id : ℕ) (v : View) (ws : List ℕ) (xs : List (Unit {0})) (tail : ℕ) → Final (Seen (KeptUnder law o) id v) ws xs → get_elem? ws 0 ≡ some tail → EndsUnder law o v tail
-ends law o id v ws xs tail final is =
+pub ends : (law : Law) (o : Opening) (id : ℕ) (b : Book) (ws : List ℕ) (xs : List (Unit {0})) (tail : ℕ) → Final (Seen (KeptUnder law o) id b) ws xs → get_elem? ws 0 ≡ some tail → EndsUnder law o b tail
+ends law o id b ws xs tail final is =
     let s = final.0 in
     let under = final.1.0 in
     let kept = under.kept in
@@ -422,7 +452,8 @@ ends law o id v ws xs tail final is =
       ends = record {
         core = kept.core;
         sound = kept.sound;
-        is_view = standing_view s.words s.views kept.core kept.cells kept.holder id v kept.stands final.1.1;
+        is_view = standing_view s.words (map view_in s.views) kept.core kept.cells kept.holder id b.view kept.stands (views_at s.views id b final.1.1);
+        course = kept.courses id b final.1.1;
         opened = kept.opened;
         others = λ q wordless. kept.others q (λ j u h there m same. absurd (let seat : is_seat h.seat ≡ true = (kept.stands.in_order j u there).seats h m in cc));
         tail_is = sym (kept.stands.words_are word.Tail tt) ∙ ap (λ (l : List ℕ). get_or l 0 0) words ∙ first_word ws tail is;

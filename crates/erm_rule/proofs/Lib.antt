@@ -1,5 +1,6 @@
 pub mod Allowed
 pub mod Carried
+pub mod Courses
 pub mod CutOff
 pub mod Draws
 pub mod Filled

@@ -24,11 +24,13 @@ use Rattle.erm_model.specs.Member.{◌∈◌}
 use Rattle.erm_model.specs.RowTransaction.{Law, RespectsRows, SameRows}
 use Rattle.erm_model.specs.Rows.{Rows, rows_of}
 use Rattle.erm_model.proofs.Members.{none_in_nil, ∈-push}
+use Rattle.erm_rule.specs.declared.view.Book.{Book}
 use Rattle.erm_rule.specs.declared.view.Held.{Held}
 use Rattle.erm_rule.specs.declared.view.Opening.{Opening}
 use Rattle.erm_rule.specs.declared.view.View.{View}
+use Rattle.erm_rule.specs.Books.{Course}
 use Rattle.erm_rule.specs.Cells.{word_in, ObjectCells, SeatCells, CellsAre}
-use Rattle.erm_rule.specs.Rule.{Stands, HeldByNone, KeptUnder, IsFirst, first_cells, first_core, first_rows, vacant_from, first_view}
+use Rattle.erm_rule.specs.Rule.{Stands, HeldByNone, KeptUnder, IsFirst, first_cells, first_core, first_rows, vacant_from, first_view, first_book}
 use Rattle.erm_rule.specs.Views.{EachOnce, IsInOrder}
 use Rattle.erm_rule.proofs.Allowed.{Below, OneNumber}
 use Rattle.erm_rule.proofs.Parts.{here, split_at, none_there}
@@ -199,8 +201,12 @@ module _ (o : Opening) where
             absurd (omega (arith, none, drawn));
       }
 
+  one_book : (id : ℕ) (b : Book) → get_elem? (first_book o ∷ []) id ≡ some b → Course b.view b.taken (first_core o)
+  one_book zero b e = subst (λ (z : Book). Course z.view z.taken (first_core o)) (some-injective (first_book o) b e) tt
+  one_book (suc id) b e = absurd (some-ne-none b (sym e))
+
   pub first_kept : (law : Law) → RespectsRows law → law.meets (rows_of o.rows.items) → ((oid : ℕ) → o.first ≤ oid → law.reach (rows_of o.rows.items) oid ≡ 0) → OpensSound → OpensSpelled → 0 < o.tail → o.tail ≤ STOP + 4 → o.first ≤ OBJECT_LIMIT → length o.rows.items ≡ OBJECT_LIMIT →
-      ((oid : ℕ) → oid < length o.rows.items → length (get_or o.rows.items oid []) ≡ 16) → (words : List ℕ) → IsFirst o words → KeptUnder law o (table.opening words [] (first_view o))
+      ((oid : ℕ) → oid < length o.rows.items → length (get_or o.rows.items oid []) ≡ 16) → (words : List ℕ) → IsFirst o words → KeptUnder law o (table.opening words [] (first_book o))
   first_kept law respects meets unreached opens spelled positive low first count wide words is = record {
     kept = record {
       core = first_core o;
@@ -210,6 +216,7 @@ module _ (o : Opening) where
       others = first_others;
       sound = opens 0 (first_rows o) o.tail o.run o.first TABLE_CELLS (omega arith) positive low first (omega arith) (omega arith) (λ oid known. row_wide count wide oid);
       cuts = λ q. tt;
+      courses = λ id b there. one_book id b there;
       opened = record { tail = refl; run = refl; first = refl; rows = rows_there count };
       limit = refl;
     };

@@ -1,3 +1,4 @@
+pub mod Books
 pub mod Cells
 pub mod Hands
 pub mod Newest

@@ -1,5 +1,5 @@
 -- The rule: the words and the views of all passes stand for a sound state of the machine.
-use Rattle.std.specs.Prelude.{◌≡◌, ◌≢◌, ℕ, ◌+◌, ◌-◌, take, zero, suc, List, [], ◌∷◌, length, replicate, slice_index, slice_index_or}
+use Rattle.std.specs.Prelude.{◌≡◌, ◌≢◌, ℕ, ◌+◌, ◌-◌, take, zero, suc, List, [], ◌∷◌, length, map, replicate, slice_index, slice_index_or}
 use mathlib.Core.Option.{some}
 use lib.ListN.{get_elem?}
 use Rattle.atomic_table.specs.Table.{State}
@@ -18,8 +18,10 @@ use Rattle.erm_machine.specs.Lawful.{Lawful, opening_rows}
 use Rattle.erm_machine.specs.Sound.{Sound}
 use Rattle.erm_machine.specs.Words.{blank_cell}
 use Rattle.erm_core_blocks.specs.Spelled.{AreSpelled}
+use Rattle.erm_rule.specs.Books.{Course, new_book, view_in}
 use Rattle.erm_rule.specs.Cells.{word_in, CellsAre}
 use Rattle.erm_rule.specs.Newest.{CutsAtNewest}
+use Rattle.erm_rule.specs.declared.view.Book.{Book}
 use Rattle.erm_rule.specs.declared.view.Held.{Held}
 use Rattle.erm_rule.specs.declared.view.Opening.{Opening}
 use Rattle.erm_rule.specs.declared.view.View.{View}
@@ -49,20 +51,22 @@ pub record IsOpened (opening : Opening) (s : Shared) : Type 0 where
   pub rows : SameRows (rows_of opening.rows.items) (opening_rows s)
 
 -- Some sound state of this opening, with the table's cells, for which the table stands, and in which each cut in progress cuts
--- behind the newest version below its horizon. A seat that no view has is one that has done nothing.
-pub record Kept (opening : Opening) (s : State (Unit {0}) View) : Type 0 where
+-- behind the newest version below its horizon. A seat that no view has is one that has done nothing. The steps that each pass has taken
+-- lead to this state.
+pub record Kept (opening : Opening) (s : State (Unit {0}) Book) : Type 0 where
   pub core : Core
   pub cells : ℕ → Cell
   pub holder : ℕ → ℕ
-  pub stands : Stands s.words s.views core cells holder
-  pub others : (q : ℕ) → HeldByNone s.views q → core.seats q ≡ fresh_part Vacant opening.run opening.tail
+  pub stands : Stands s.words (map view_in s.views) core cells holder
+  pub others : (q : ℕ) → HeldByNone (map view_in s.views) q → core.seats q ≡ fresh_part Vacant opening.run opening.tail
   pub sound : Sound core
   pub cuts : CutsAtNewest core
+  pub courses : (id : ℕ) (b : Book) → get_elem? s.views id ≡ some b → Course b.view b.taken core
   pub opened : IsOpened opening core.shared
   pub limit : core.shared.cell_limit ≡ TABLE_CELLS
 
 -- the same, and the state's rows keep the law, and the words of each decided block are the spelling of its transaction
-pub record KeptUnder (law : Law) (opening : Opening) (s : State (Unit {0}) View) : Type 0 where
+pub record KeptUnder (law : Law) (opening : Opening) (s : State (Unit {0}) Book) : Type 0 where
   pub kept : Kept opening s
   pub lawful : Lawful law kept.core.shared kept.core.seats
   pub spelled : AreSpelled kept.core
@@ -75,6 +79,10 @@ vacant_from opening (suc n) = record { seat = suc n; part = fresh_part Vacant op
 -- the view of the first pass: the flush seat, which is idle, and all sessions, the first of them last
 unfoldable pub first_view : Opening → View
 first_view opening = of_seats (record { seat = FLUSH_SEAT; part = fresh_part Idle opening.run opening.tail } ∷ vacant_from opening SESSIONS)
+
+-- the book of the first pass
+abbrev pub first_book : Opening → Book
+first_book opening = new_book (first_view opening)
 
 -- the view of the first pass once it has handed out so many sessions
 unfoldable pub rest_view : Opening → ℕ → View

@@ -17,14 +17,16 @@ use Rattle.erm_machine.specs.Sound.{Sound}
 use Rattle.erm_machine.specs.Step.{part_after, stored, after_event}
 use Rattle.erm_machine.specs.Words.{is_seat}
 use Rattle.erm_core_blocks.specs.Spelled.{AreSpelled, IsSpelled, decided_by}
+use Rattle.erm_rule.specs.declared.view.Book.{Book}
 use Rattle.erm_rule.specs.declared.view.Opening.{Opening}
 use Rattle.erm_rule.specs.declared.view.View.{View}
+use Rattle.erm_rule.specs.Books.{Course, noted}
 use Rattle.erm_rule.specs.Newest.{CutsAtNewest}
 use Rattle.erm_rule.specs.Rule.{IsOpened}
 use Rattle.erm_rule.specs.Views.{part_of, with_part, IsView, IsInOrder}
 
 -- the pass is one of this table, which has all words and no slots
-pub record Fits (table : TableId) (p : Seat (Unit {0}) View) : Type 0 where
+pub record Fits (table : TableId) (p : Seat (Unit {0}) Book) : Type 0 where
   pub words : table.words ≡ WORDS
   pub slots : table.slots ≡ 0
   pub same : p.table_id ≡ table
@@ -75,18 +77,27 @@ pub record ToldUnder (law : Law) (v : View) (who : ℕ) (kind : Kind) (found : �
   pub spelled : AreSpelled told.before
   pub spelled_after : AreSpelled told.after
 
--- The table's last state: a sound one of its opening, in which the seats of the view have its parts, with this tail. A seat
--- without words, which no view can have, is one that has done nothing.
-pub record Ends (o : Opening) (v : View) (tail : ℕ) : Type 0 where
+-- A step that is told, with the steps that the pass had taken before it: these led to the state before, and all of them lead to the
+-- state after.
+pub record Booked (law : Law) (b : Book) (who : ℕ) (kind : Kind) (found : ℕ) (e : Book) : Type 0 where
+  pub under : ToldUnder law b.view who kind found e.view
+  pub book_is : e ≡ noted b who kind found e.view
+  pub course : Course b.view b.taken under.told.before
+  pub course_after : Course e.view e.taken under.told.after
+
+-- The table's last state: a sound one of its opening, in which the seats of the view have its parts, with this tail, and to which the
+-- steps of the book lead. A seat without words, which no view can have, is one that has done nothing.
+pub record Ends (o : Opening) (b : Book) (tail : ℕ) : Type 0 where
   pub core : Core
   pub sound : Sound core
-  pub is_view : IsView v core
+  pub is_view : IsView b.view core
+  pub course : Course b.view b.taken core
   pub opened : IsOpened o core.shared
   pub tail_is : core.shared.tail ≡ tail
   pub others : (q : ℕ) → is_seat q ≡ false → core.seats q ≡ fresh_part Vacant o.run o.tail
 
 -- the table's last state, whose rows keep the law, and whose decided blocks are spelled
-pub record EndsUnder (law : Law) (o : Opening) (v : View) (tail : ℕ) : Type 0 where
-  pub ends : Ends o v tail
+pub record EndsUnder (law : Law) (o : Opening) (b : Book) (tail : ℕ) : Type 0 where
+  pub ends : Ends o b tail
   pub lawful : Lawful law ends.core.shared ends.core.seats
   pub spelled : AreSpelled ends.core

@@ -7,12 +7,13 @@ use Rattle.erm_machine.specs.declared.place.Place.TheVariants.{Vacant, Idle}
 use Rattle.erm_machine.specs.Core.{Core, fresh_part}
 use Rattle.erm_machine.specs.Seat.{saw, is_vacant}
 use Rattle.erm_machine.specs.Words.{is_seat}
+use Rattle.erm_rule.specs.declared.view.Book.{Book}
 use Rattle.erm_rule.specs.declared.view.Held.{Held}
 use Rattle.erm_rule.specs.declared.view.View.{View}
 
 -- what the pass knows
-abbrev pub view : Seat (Unit {0}) View → View
-view p = p.me.0
+abbrev pub view : Seat (Unit {0}) Book → View
+view p = p.me.0.view
 
 -- the view with these seats
 abbrev pub of_seats : List Held → View

@@ -20,4 +20,4 @@ pub use steps::{
     add, add_as, and, and_as, exchange, exchange_as, load, load_as, or, or_as, raise, raise_as,
     store, store_as, swap, swap_as,
 };
-pub use view::{Held, Opening, View};
+pub use view::{Book, Held, Opening, Taken, View};

@@ -4,7 +4,8 @@ ghost use Rattle.erm_machine.specs.declared.event.Kind.TheVariants.{LoadTail, Ad
 ghost use Rattle.erm_machine.specs.Decided.{record_of};
 ghost use Rattle.erm_machine.specs.Words.{is_seat};
 ghost use Rattle.erm_model.specs.Lawful.{IsLawfulRecord};
-ghost use Rattle.erm_rule.specs.Steps.{Fits, Ready, ToldUnder};
+ghost use Rattle.erm_rule.specs.Books.{book};
+ghost use Rattle.erm_rule.specs.Steps.{Fits, Ready, ToldUnder, Booked};
 ghost use Rattle.erm_rule.specs.Views.{view, part_in, part_of};
 
 use crate::rule::{Pass, Table};
@@ -20,6 +21,7 @@ pub fn load_tail<L: RowLaw>(t: &Table<L>, p: &mut Pass, who: Seat, purpose: Tail
     requires ready { Ready (view p.old) who (LoadTail purpose) }
     ensures fits { Fits t.now.words.shared.table_id p.new }
     ensures told { ToldUnder L.law (view p.old) who (LoadTail purpose) result (view p.new) }
+    ensures booked { Booked L.law (book p.old) who (LoadTail purpose) result (book p.new) }
 {
     load(t, p, who, Kind::LoadTail { purpose }, Word::Tail)
 }
@@ -32,6 +34,7 @@ pub fn add_tail<L: RowLaw>(t: &Table<L>, p: &mut Pass, who: Seat, size: u64) -> 
     requires ready { Ready (view p.old) who (AddTail size) }
     ensures fits { Fits t.now.words.shared.table_id p.new }
     ensures told { ToldUnder L.law (view p.old) who (AddTail size) result (view p.new) }
+    ensures booked { Booked L.law (book p.old) who (AddTail size) result (book p.new) }
 {
     add(t, p, who, Kind::AddTail { size }, Word::Tail, size)
 }
@@ -44,6 +47,7 @@ pub fn store_begin<L: RowLaw>(t: &Table<L>, p: &mut Pass, who: Seat, value: Stam
     requires ready { Ready (view p.old) who (StoreBegin value) }
     ensures fits { Fits t.now.words.shared.table_id p.new }
     ensures told { (found : ℕ) × ToldUnder L.law (view p.old) who (StoreBegin value) found (view p.new) }
+    ensures booked { (found : ℕ) × Booked L.law (book p.old) who (StoreBegin value) found (book p.new) }
 {
     store(
         t,
@@ -63,6 +67,7 @@ pub fn store_state<L: RowLaw>(t: &Table<L>, p: &mut Pass, who: Seat, value: Stam
     requires ready { Ready (view p.old) who (StoreState value) }
     ensures fits { Fits t.now.words.shared.table_id p.new }
     ensures told { (found : ℕ) × ToldUnder L.law (view p.old) who (StoreState value) found (view p.new) }
+    ensures booked { (found : ℕ) × Booked L.law (book p.old) who (StoreState value) found (book p.new) }
 {
     store(
         t,
@@ -82,6 +87,7 @@ pub fn load_begin<L: RowLaw>(t: &Table<L>, p: &mut Pass, who: Seat, seat: Seat) 
     requires ready { Ready (view p.old) who (LoadBegin seat) }
     ensures fits { Fits t.now.words.shared.table_id p.new }
     ensures told { ToldUnder L.law (view p.old) who (LoadBegin seat) result (view p.new) }
+    ensures booked { Booked L.law (book p.old) who (LoadBegin seat) result (book p.new) }
 {
     load(t, p, who, Kind::LoadBegin { seat }, Word::Begin(seat))
 }
@@ -100,6 +106,7 @@ pub fn load_state<L: RowLaw>(
     requires ready { Ready (view p.old) who (LoadState seat bound) }
     ensures fits { Fits t.now.words.shared.table_id p.new }
     ensures told { ToldUnder L.law (view p.old) who (LoadState seat bound) result (view p.new) }
+    ensures booked { Booked L.law (book p.old) who (LoadState seat bound) result (book p.new) }
 {
     load(
         t,

@@ -1,5 +1,5 @@
 //! What a step on a word tells a pass.
-use crate::view::View;
+use crate::view::Book;
 use atomic_table::{Join, Play, Split};
 use erm_machine::Kind;
 use erm_model::RowLaw;
@@ -28,11 +28,11 @@ pub(crate) struct Finds<L, M> {
     of: PhantomData<(L, M)>,
 }
 
-impl<L: RowLaw, M: Deed> Play<(), View> for Finds<L, M> {
+impl<L: RowLaw, M: Deed> Play<(), Book> for Finds<L, M> {
     ghost use Rattle.std.specs.Prelude.{◌≡◌};
-    ghost use Rattle.erm_rule.specs.Steps.{ToldUnder};
+    ghost use Rattle.erm_rule.specs.Steps.{Booked};
 
-    ghost then = { λ _ me found after. ToldUnder L.law me.0 M.seat M.kind found after.0 × (after.1 ≡ me.1) };
+    ghost then = { λ _ me found after. Booked L.law me.0 M.seat M.kind found after.0 × (after.1 ≡ me.1) };
 }
 
 /// The step is one of the machine. The word that it met isn't told.
@@ -40,32 +40,31 @@ pub(crate) struct Stores<L, M> {
     of: PhantomData<(L, M)>,
 }
 
-impl<L: RowLaw, M: Deed> Play<(), View> for Stores<L, M> {
+impl<L: RowLaw, M: Deed> Play<(), Book> for Stores<L, M> {
     ghost use Rattle.std.specs.Prelude.{◌≡◌, ℕ};
-    ghost use Rattle.erm_rule.specs.Steps.{ToldUnder};
+    ghost use Rattle.erm_rule.specs.Steps.{Booked};
 
-    ghost then = { λ _ me _ after. ((found : ℕ) × ToldUnder L.law me.0 M.seat M.kind found after.0) × (after.1 ≡ me.1) };
+    ghost then = { λ _ me _ after. ((found : ℕ) × Booked L.law me.0 M.seat M.kind found after.0) × (after.1 ≡ me.1) };
 }
 
-/// A pass hands out its last seat.
+/// A pass hands out its last seat. Both passes have its steps.
 pub(crate) struct Cut;
 
-impl Split<View> for Cut {
-    ghost use Rattle.erm_rule.specs.Views.{left_of, right_of};
+impl Split<Book> for Cut {
+    ghost use Rattle.erm_rule.specs.Books.{left_book, right_book};
 
-    ghost left = { left_of };
+    ghost left = { left_book };
 
-    ghost right = { right_of };
+    ghost right = { right_book };
 }
 
-/// A pass takes in the seats of another.
+/// A pass takes in the seats of another, but not its steps.
 pub(crate) struct Glue;
 
-impl Join<View> for Glue {
-    ghost use Rattle.std.specs.Prelude.{[]};
-    ghost use Rattle.erm_rule.specs.Views.{of_seats, joined};
+impl Join<Book> for Glue {
+    ghost use Rattle.erm_rule.specs.Books.{both_books, spent_book};
 
-    ghost both = { joined };
+    ghost both = { both_books };
 
-    ghost spent = { of_seats [] };
+    ghost spent = { spent_book };
 }

@@ -7,7 +7,8 @@ ghost use Rattle.erm_layout.specs.Spots.{word_of_spot};
 ghost use Rattle.erm_machine.specs.Core.{spot_of};
 ghost use Rattle.erm_machine.specs.Step.{is_known};
 ghost use Rattle.erm_rule.specs.Cells.{IsTold};
-ghost use Rattle.erm_rule.specs.Steps.{Fits, Ready, Agrees, Promises, ToldUnder};
+ghost use Rattle.erm_rule.specs.Steps.{Fits, Ready, Agrees, Promises, ToldUnder, Booked};
+ghost use Rattle.erm_rule.specs.Books.{book};
 ghost use Rattle.erm_rule.specs.Views.{view, part_in};
 
 use crate::plays::{Deed, Finds, Stores};
@@ -30,6 +31,7 @@ pub fn load<L: RowLaw>(t: &Table<L>, p: &mut Pass, who: Seat, kind: Kind, word: 
     requires agrees { Agrees (view p.old) who kind (λ n. n) }
     ensures fits { Fits t.now.words.shared.table_id p.new }
     ensures told { ToldUnder L.law (view p.old) who kind result (view p.new) }
+    ensures booked { Booked L.law (book p.old) who kind result (book p.new) }
 {
     load_by::<L, Brand>(t, p, who, kind, word)
 }
@@ -54,6 +56,7 @@ fn load_by<L: RowLaw, M: Deed>(
     requires agrees { Agrees (view p.old) who M.kind (λ n. n) }
     ensures fits { Fits t.now.words.shared.table_id p.new }
     ensures told { ToldUnder L.law (view p.old) who M.kind result (view p.new) }
+    ensures booked { Booked L.law (book p.old) who M.kind result (book p.new) }
 {
     load_as::<L, M>(t, p, who, word)
 }
@@ -72,6 +75,7 @@ pub fn load_as<L: RowLaw, M: Deed>(t: &Table<L>, p: &mut Pass, who: Seat, word: 
     requires agrees { Agrees (view p.old) who M.kind (λ n. n) }
     ensures fits { Fits t.now.words.shared.table_id p.new }
     ensures told { ToldUnder L.law (view p.old) who M.kind result (view p.new) }
+    ensures booked { Booked L.law (book p.old) who M.kind result (book p.new) }
 {
     erm_sound::events_keep_sound();
     erm_core_lives::law_is_kept::<L>();
@@ -96,6 +100,7 @@ pub fn store<L: RowLaw>(t: &Table<L>, p: &mut Pass, who: Seat, kind: Kind, word:
     requires agrees { Agrees (view p.old) who kind (λ _. new) }
     ensures fits { Fits t.now.words.shared.table_id p.new }
     ensures told { (found : ℕ) × ToldUnder L.law (view p.old) who kind found (view p.new) }
+    ensures booked { (found : ℕ) × Booked L.law (book p.old) who kind found (book p.new) }
 {
     store_by::<L, Brand>(t, p, who, kind, word, new);
 }
@@ -121,6 +126,7 @@ fn store_by<L: RowLaw, M: Deed>(
     requires agrees { Agrees (view p.old) who M.kind (λ _. new) }
     ensures fits { Fits t.now.words.shared.table_id p.new }
     ensures told { (found : ℕ) × ToldUnder L.law (view p.old) who M.kind found (view p.new) }
+    ensures booked { (found : ℕ) × Booked L.law (book p.old) who M.kind found (book p.new) }
 {
     store_as::<L, M>(t, p, who, word, new);
 }
@@ -139,6 +145,7 @@ pub fn store_as<L: RowLaw, M: Deed>(t: &Table<L>, p: &mut Pass, who: Seat, word:
     requires agrees { Agrees (view p.old) who M.kind (λ _. new) }
     ensures fits { Fits t.now.words.shared.table_id p.new }
     ensures told { (found : ℕ) × ToldUnder L.law (view p.old) who M.kind found (view p.new) }
+    ensures booked { (found : ℕ) × Booked L.law (book p.old) who M.kind found (book p.new) }
 {
     erm_sound::events_keep_sound();
     erm_core_lives::law_is_kept::<L>();
@@ -170,6 +177,7 @@ pub fn add<L: RowLaw>(
     requires agrees { Agrees (view p.old) who kind (λ n. (n + more) % 2 ^ 64) }
     ensures fits { Fits t.now.words.shared.table_id p.new }
     ensures told { ToldUnder L.law (view p.old) who kind result (view p.new) }
+    ensures booked { Booked L.law (book p.old) who kind result (book p.new) }
 {
     add_by::<L, Brand>(t, p, who, kind, word, more)
 }
@@ -195,6 +203,7 @@ fn add_by<L: RowLaw, M: Deed>(
     requires agrees { Agrees (view p.old) who M.kind (λ n. (n + more) % 2 ^ 64) }
     ensures fits { Fits t.now.words.shared.table_id p.new }
     ensures told { ToldUnder L.law (view p.old) who M.kind result (view p.new) }
+    ensures booked { Booked L.law (book p.old) who M.kind result (book p.new) }
 {
     add_as::<L, M>(t, p, who, word, more)
 }
@@ -219,6 +228,7 @@ pub fn add_as<L: RowLaw, M: Deed>(
     requires agrees { Agrees (view p.old) who M.kind (λ n. (n + more) % 2 ^ 64) }
     ensures fits { Fits t.now.words.shared.table_id p.new }
     ensures told { ToldUnder L.law (view p.old) who M.kind result (view p.new) }
+    ensures booked { Booked L.law (book p.old) who M.kind result (book p.new) }
 {
     erm_sound::events_keep_sound();
     erm_core_lives::law_is_kept::<L>();
@@ -251,6 +261,7 @@ pub fn exchange<L: RowLaw>(
     requires agrees { Agrees (view p.old) who kind (λ n. if n == old then new else n) }
     ensures fits { Fits t.now.words.shared.table_id p.new }
     ensures told { ToldUnder L.law (view p.old) who kind result (view p.new) }
+    ensures booked { Booked L.law (book p.old) who kind result (book p.new) }
 {
     exchange_by::<L, Brand>(t, p, who, kind, word, old, new)
 }
@@ -277,6 +288,7 @@ fn exchange_by<L: RowLaw, M: Deed>(
     requires agrees { Agrees (view p.old) who M.kind (λ n. if n == old then new else n) }
     ensures fits { Fits t.now.words.shared.table_id p.new }
     ensures told { ToldUnder L.law (view p.old) who M.kind result (view p.new) }
+    ensures booked { Booked L.law (book p.old) who M.kind result (book p.new) }
 {
     exchange_as::<L, M>(t, p, who, word, old, new)
 }
@@ -302,6 +314,7 @@ pub fn exchange_as<L: RowLaw, M: Deed>(
     requires agrees { Agrees (view p.old) who M.kind (λ n. if n == old then new else n) }
     ensures fits { Fits t.now.words.shared.table_id p.new }
     ensures told { ToldUnder L.law (view p.old) who M.kind result (view p.new) }
+    ensures booked { Booked L.law (book p.old) who M.kind result (book p.new) }
 {
     erm_sound::events_keep_sound();
     erm_core_lives::law_is_kept::<L>();
@@ -333,6 +346,7 @@ pub fn swap<L: RowLaw>(
     requires agrees { Agrees (view p.old) who kind (λ _. new) }
     ensures fits { Fits t.now.words.shared.table_id p.new }
     ensures told { ToldUnder L.law (view p.old) who kind result (view p.new) }
+    ensures booked { Booked L.law (book p.old) who kind result (book p.new) }
 {
     swap_by::<L, Brand>(t, p, who, kind, word, new)
 }
@@ -358,6 +372,7 @@ fn swap_by<L: RowLaw, M: Deed>(
     requires agrees { Agrees (view p.old) who M.kind (λ _. new) }
     ensures fits { Fits t.now.words.shared.table_id p.new }
     ensures told { ToldUnder L.law (view p.old) who M.kind result (view p.new) }
+    ensures booked { Booked L.law (book p.old) who M.kind result (book p.new) }
 {
     swap_as::<L, M>(t, p, who, word, new)
 }
@@ -382,6 +397,7 @@ pub fn swap_as<L: RowLaw, M: Deed>(
     requires agrees { Agrees (view p.old) who M.kind (λ _. new) }
     ensures fits { Fits t.now.words.shared.table_id p.new }
     ensures told { ToldUnder L.law (view p.old) who M.kind result (view p.new) }
+    ensures booked { Booked L.law (book p.old) who M.kind result (book p.new) }
 {
     erm_sound::events_keep_sound();
     erm_core_lives::law_is_kept::<L>();
@@ -413,6 +429,7 @@ pub fn or<L: RowLaw>(
     requires agrees { Agrees (view p.old) who kind (λ n. bit_or n bits) }
     ensures fits { Fits t.now.words.shared.table_id p.new }
     ensures told { ToldUnder L.law (view p.old) who kind result (view p.new) }
+    ensures booked { Booked L.law (book p.old) who kind result (book p.new) }
 {
     or_by::<L, Brand>(t, p, who, kind, word, bits)
 }
@@ -438,6 +455,7 @@ fn or_by<L: RowLaw, M: Deed>(
     requires agrees { Agrees (view p.old) who M.kind (λ n. bit_or n bits) }
     ensures fits { Fits t.now.words.shared.table_id p.new }
     ensures told { ToldUnder L.law (view p.old) who M.kind result (view p.new) }
+    ensures booked { Booked L.law (book p.old) who M.kind result (book p.new) }
 {
     or_as::<L, M>(t, p, who, word, bits)
 }
@@ -462,6 +480,7 @@ pub fn or_as<L: RowLaw, M: Deed>(
     requires agrees { Agrees (view p.old) who M.kind (λ n. bit_or n bits) }
     ensures fits { Fits t.now.words.shared.table_id p.new }
     ensures told { ToldUnder L.law (view p.old) who M.kind result (view p.new) }
+    ensures booked { Booked L.law (book p.old) who M.kind result (book p.new) }
 {
     erm_sound::events_keep_sound();
     erm_core_lives::law_is_kept::<L>();
@@ -493,6 +512,7 @@ pub fn and<L: RowLaw>(
     requires agrees { Agrees (view p.old) who kind (λ n. bit_and n bits) }
     ensures fits { Fits t.now.words.shared.table_id p.new }
     ensures told { ToldUnder L.law (view p.old) who kind result (view p.new) }
+    ensures booked { Booked L.law (book p.old) who kind result (book p.new) }
 {
     and_by::<L, Brand>(t, p, who, kind, word, bits)
 }
@@ -518,6 +538,7 @@ fn and_by<L: RowLaw, M: Deed>(
     requires agrees { Agrees (view p.old) who M.kind (λ n. bit_and n bits) }
     ensures fits { Fits t.now.words.shared.table_id p.new }
     ensures told { ToldUnder L.law (view p.old) who M.kind result (view p.new) }
+    ensures booked { Booked L.law (book p.old) who M.kind result (book p.new) }
 {
     and_as::<L, M>(t, p, who, word, bits)
 }
@@ -542,6 +563,7 @@ pub fn and_as<L: RowLaw, M: Deed>(
     requires agrees { Agrees (view p.old) who M.kind (λ n. bit_and n bits) }
     ensures fits { Fits t.now.words.shared.table_id p.new }
     ensures told { ToldUnder L.law (view p.old) who M.kind result (view p.new) }
+    ensures booked { Booked L.law (book p.old) who M.kind result (book p.new) }
 {
     erm_sound::events_keep_sound();
     erm_core_lives::law_is_kept::<L>();
@@ -573,6 +595,7 @@ pub fn raise<L: RowLaw>(
     requires agrees { Agrees (view p.old) who kind (λ n. max n least) }
     ensures fits { Fits t.now.words.shared.table_id p.new }
     ensures told { ToldUnder L.law (view p.old) who kind result (view p.new) }
+    ensures booked { Booked L.law (book p.old) who kind result (book p.new) }
 {
     raise_by::<L, Brand>(t, p, who, kind, word, least)
 }
@@ -598,6 +621,7 @@ fn raise_by<L: RowLaw, M: Deed>(
     requires agrees { Agrees (view p.old) who M.kind (λ n. max n least) }
     ensures fits { Fits t.now.words.shared.table_id p.new }
     ensures told { ToldUnder L.law (view p.old) who M.kind result (view p.new) }
+    ensures booked { Booked L.law (book p.old) who M.kind result (book p.new) }
 {
     raise_as::<L, M>(t, p, who, word, least)
 }
@@ -622,6 +646,7 @@ pub fn raise_as<L: RowLaw, M: Deed>(
     requires agrees { Agrees (view p.old) who M.kind (λ n. max n least) }
     ensures fits { Fits t.now.words.shared.table_id p.new }
     ensures told { ToldUnder L.law (view p.old) who M.kind result (view p.new) }
+    ensures booked { Booked L.law (book p.old) who M.kind result (book p.new) }
 {
     erm_sound::events_keep_sound();
     erm_core_lives::law_is_kept::<L>();

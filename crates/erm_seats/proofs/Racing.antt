@@ -18,6 +18,7 @@ use Rattle.erm_model.specs.RowTransaction.{any_law}
 use Rattle.erm_rule.specs.declared.view.Opening.{Opening}
 use Rattle.erm_rule.specs.declared.view.View.{View}
 use Rattle.erm_rule.specs.Rule.{first_view, rest_view, HandsOut}
+use Rattle.erm_rule.specs.declared.view.Book.{Book}
 use Rattle.erm_rule.specs.Steps.{Ends}
 use Rattle.erm_rule.specs.Views.{part_in, part_of, with_part, one_seat, left_of, right_of, joined, IsView, MayGive, MayJoin}
 use Rattle.erm_rule.proofs.Parts.{in_other}
@@ -190,19 +191,19 @@ ran_positive : (o : Opening) (who other size begin stamp : ℕ) (answer : Look) 
 ran_positive o who other size begin stamp answer v run = let a = run.in_order.0 in let b = run.in_order.1 in let c = run.in_order.2 in omega (arith, a, b, c)
 
 -- the race, from its runs and the table's last state
-pub have_raced : (o : Opening) (size tail begin stamp : ℕ) (answer : Look) (begin_too stamp_too : ℕ) (answer_too : Look) (v w u all : View) →
-    HasRun o 1 2 size begin stamp answer v → HasRun o 2 1 size begin_too stamp_too answer_too w → u ≡ rest_view o 2 → all ≡ joined (joined u v) w → Ends o all tail →
+pub have_raced : (o : Opening) (size tail begin stamp : ℕ) (answer : Look) (begin_too stamp_too : ℕ) (answer_too : Look) (v w u : View) (all : Book) →
+    HasRun o 1 2 size begin stamp answer v → HasRun o 2 1 size begin_too stamp_too answer_too w → u ≡ rest_view o 2 → all.view ≡ joined (joined u v) w → Ends o all tail →
     HaveRaced o size tail begin stamp answer begin_too stamp_too answer_too
 have_raced o size tail begin stamp answer begin_too stamp_too answer_too v w u all one two rest is ends =
     let x = ran_part o 1 2 size one.announced begin stamp answer in
     let y = ran_part o 2 1 size two.announced begin_too stamp_too answer_too in
-    let whole : all ≡ joined (joined (rest_view o 2) (one_seat 1 x)) (one_seat 2 y) =
+    let whole : all.view ≡ joined (joined (rest_view o 2) (one_seat 1 x)) (one_seat 2 y) =
     is
     ∙ ap (λ (t : View). joined (joined t v) w) rest
     ∙ ap (λ (t : View). joined (joined (rest_view o 2) t) w) one.view_is
     ∙ ap (λ (t : View). joined (joined (rest_view o 2) (one_seat 1 x)) t) two.view_is in
-    let has_first : part_in all 1 ≡ Some x = ap (λ (t : View). part_in t 1) whole ∙ joined_first o x y in
-    let has_second : part_in all 2 ≡ Some y = ap (λ (t : View). part_in t 2) whole ∙ joined_second o x y in
+    let has_first : part_in all.view 1 ≡ Some x = ap (λ (t : View). part_in t 1) whole ∙ joined_first o x y in
+    let has_second : part_in all.view 2 ≡ Some y = ap (λ (t : View). part_in t 2) whole ∙ joined_second o x y in
     let first : ends.core.seats 1 ≡ x = ends.is_view 1 x has_first in
     let second : ends.core.seats 2 ≡ y = ends.is_view 2 y has_second in
     let stamp_is : (ends.core.seats 1).current.stamp ≡ stamp = ap (λ (z : Part). z.current.stamp) first ∙ ran_stamp o 1 2 size one.announced begin stamp answer in
@@ -226,9 +227,9 @@ have_raced o size tail begin stamp answer begin_too stamp_too answer_too v w u a
       looked = one.looked;
       looked_too = two.looked;
       apart = apart;
-      lower = λ clear. below_by stamp stamp_too (clear_below ends.core all v 1 2 stamp stamp_too answer x ends.sound ends.is_view has_first own one.stays stamp_too_is positive_too clear) apart;
+      lower = λ clear. below_by stamp stamp_too (clear_below ends.core all.view v 1 2 stamp stamp_too answer x ends.sound ends.is_view has_first own one.stays stamp_too_is positive_too clear) apart;
       lower_too = λ clear.
-          below_by stamp_too stamp (clear_below ends.core all w 2 1 stamp_too stamp answer_too y ends.sound ends.is_view has_second own_too two.stays stamp_is positive clear) (λ same. apart (sym same));
+          below_by stamp_too stamp (clear_below ends.core all.view w 2 1 stamp_too stamp answer_too y ends.sound ends.is_view has_second own_too two.stays stamp_is positive clear) (λ same. apart (sym same));
     }
 
 -- what an answer that is Ok says

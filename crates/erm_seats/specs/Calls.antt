@@ -11,7 +11,9 @@ use Rattle.erm_machine.specs.Life.{next_number, after_clear, noted}
 use Rattle.erm_machine.specs.Seat.{saw, with_range}
 use Rattle.erm_machine.specs.Sound.{Sound}
 use Rattle.erm_machine.specs.Words.{begin_of, state_of, is_clear, is_flusher, refuses}
+use Rattle.erm_rule.specs.declared.view.Book.{Book}
 use Rattle.erm_rule.specs.declared.view.View.{View}
+use Rattle.erm_rule.specs.Books.{WasState}
 use Rattle.erm_rule.specs.Hands.{IsKnown}
 use Rattle.erm_rule.specs.Views.{part_in, part_of, with_part, IsView}
 use Rattle.erm_seats.specs.declared.answer.BeginStop.{BeginStop}
@@ -82,6 +84,11 @@ abbrev pub DidLook : View → ℕ → ℕ → ℕ → Look → View → Type 0
 DidLook v who seat bound Clear w =
     ((found : ℕ) × FindsState v seat found × (is_clear found bound ≡ true)) × (w ≡ with_part who (clear_part seat bound (part_of v who)) v) × IsKnown w
 DidLook v who seat bound (NotYet q seen) w = (q ≡ seat) × FindsState v seat seen × (is_clear seen bound ≡ false) × (w ≡ v) × IsKnown w
+
+-- Not yet: between the book before the look and the one after it, the seat's state word was the one told.
+abbrev pub WasNotYet : Book → Look → Book → Type 0
+WasNotYet b Clear e = Unit {0}
+WasNotYet b (NotYet seat seen) e = WasState b seat seen e
 
 -- a fact where the answer is Clear
 abbrev pub OnClear : Look → Type 0 → Type 0

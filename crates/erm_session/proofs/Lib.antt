@@ -17,4 +17,6 @@ pub mod Seals
 pub mod Skewing
 pub mod Sought
 pub mod Storing
+pub mod Syncs
+pub mod Turns
 pub mod Worked

@@ -25,7 +25,7 @@ use Rattle.erm_precommit.proofs.Standing.{pre_same, sealed_taken}
 use Rattle.erm_session.specs.declared.session.Session.{Session}
 use Rattle.erm_session.specs.declared.session.Stage.{Stage}
 use Rattle.erm_session.specs.declared.session.Stage.TheVariants as stage
-use Rattle.erm_session.specs.Making.{FindsFlushed, LooksAtFlushed}
+use Rattle.erm_session.specs.Making.{LooksAtFlushed}
 use Rattle.erm_session.specs.Session.{IsSession, StageIs}
 use Rattle.erm_session.proofs.Keeps.{made_session}
 
@@ -91,9 +91,6 @@ module _ (s : Session) (v : View) (is : IsSession s (part_of v s.seat)) where
 
     pub looks : LooksAtFlushed v s.seat w
     looks = record { found = found; view_is = looked_is }
-
-    pub finds : FindsFlushed v found
-    finds = record { core = told.before; sound = told.sound; is_view = told.is_view; flushed_is = told.met }
 
     pub looked_session : IsSession s (part_of w s.seat)
     looked_session =

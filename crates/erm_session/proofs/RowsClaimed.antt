@@ -17,7 +17,8 @@ use Rattle.erm_machine.specs.Reading.{new_claim}
 use Rattle.erm_machine.specs.Seat.{is_active, with_task}
 use Rattle.erm_model.specs.declared.row_stop.RowStop.{RowStop}
 use Rattle.erm_model.specs.declared.row_stop.RowStop.TheVariants as stop
-use Rattle.erm_rows.specs.Claims.{claimed_part, filled_claim, given_up_part, DidClaim, DidLackCell, DidMeetNewer, DidMissHead, DidNotClaim}
+use Rattle.erm_rows.specs.Claims.{claimed_part, filled_claim, given_up_part, DidClaim, DidLackCell, DidMeetNewer, DidMissHead, DidNotClaim, TellsCount, WasCells}
+use Rattle.erm_rule.specs.declared.view.Book.{Book}
 use Rattle.erm_rule.specs.declared.view.View.{View}
 use Rattle.erm_rule.specs.Hands.{IsKnown}
 use Rattle.erm_rule.specs.Views.{part_of, with_part}
@@ -136,3 +137,8 @@ module _ (v : View) (who oid : ℕ) (active : is_active (part_of v who).place �
     unclaimed = unclaimed;
     refused = ends_where (is_end why) (λ (u : View). DidNotClaim v who oid why u) who between w did ended stays;
   }
+
+-- a refusal after which the transaction goes on leaves the book
+pub count_told : (b m e : Book) (why : RowStop) → TellsCount b why m → (is_end why ≡ false → e ≡ m) → TellsCount b why e
+count_told b m e (stop.CellsFull drawn) told same = subst (λ (z : Book). WasCells b drawn z) (sym (same refl)) told
+count_told b m e _ told same = tt

@@ -17,13 +17,20 @@ use Rattle.erm_machine.specs.Seat.{is_active, with_pred, with_succ, with_task}
 use Rattle.erm_model.specs.declared.row_stop.RowStop.{RowStop}
 use Rattle.erm_model.specs.declared.row_stop.RowStop.TheVariants as stop
 use Rattle.erm_readers.specs.Calls.{rated, words_of}
-use Rattle.erm_rows.specs.Reads.{read_part, DidNotRead, DidRead}
+use Rattle.erm_rows.specs.Reads.{read_part, DidNotRead, DidRead, WasOwnerMet}
+use Rattle.erm_rule.specs.declared.view.Book.{Book}
 use Rattle.erm_rule.specs.declared.view.View.{View}
+use Rattle.erm_rule.specs.Books.{WasState}
 use Rattle.erm_rule.specs.Hands.{IsKnown}
 use Rattle.erm_rule.specs.Views.{part_of}
 use Rattle.erm_rule.proofs.Telling.{changed_here, part_of-changed}
 use Rattle.erm_session.specs.Calls.{is_end, IsUnclaimed, IsUnread, RefusesRead}
 use Rattle.erm_session.proofs.Goes.{ends_where, goes_same, Goes}
+
+-- a refusal after which the transaction goes on leaves the book
+pub owner_met : (b m e : Book) (why : RowStop) → WasOwnerMet b why m → (is_end why ≡ false → e ≡ m) → WasOwnerMet b why e
+owner_met b m e (stop.NotYet seat seen) met same = subst (λ (z : Book). WasState b seat seen z) (sym (same refl)) met
+owner_met b m e _ met same = tt
 
 -- what a transaction has read and claimed, once a version is rated
 module _ (words : Cell) (t : Attempt) where

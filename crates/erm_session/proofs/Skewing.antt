@@ -17,6 +17,7 @@ use Rattle.erm_model.specs.declared.outcome.Phase.TheVariants.{Sealed}
 use Rattle.erm_model.specs.Member.{◌∈◌}
 use Rattle.erm_precommit.specs.Settle.{WentOn}
 use Rattle.erm_precommit.specs.Skew.{IsSkewed, ReadsUnder}
+use Rattle.erm_rule.specs.declared.view.Book.{Book}
 use Rattle.erm_rule.specs.declared.view.Opening.{Opening}
 use Rattle.erm_rule.specs.declared.view.View.{View}
 use Rattle.erm_rule.specs.Hands.{IsKnown}
@@ -216,12 +217,12 @@ module _
       })
       commit commit_too
 
-  pub never_both : (o : Opening) (tail begin : ℕ) (t u : Attempt) (outcome also : Outcome) (v w rest all : View) → HasReadBoth begin t → HasReadBoth begin u
-      → HasRaced t 5 1 outcome v → HasRaced u 6 2 also w → rest ≡ rest_view o 3 → all ≡ joined (joined rest v) w → Ends o all tail → NeverBoth outcome also
+  pub never_both : (o : Opening) (tail begin : ℕ) (t u : Attempt) (outcome also : Outcome) (v w rest : View) (all : Book) → HasReadBoth begin t → HasReadBoth begin u
+      → HasRaced t 5 1 outcome v → HasRaced u 6 2 also w → rest ≡ rest_view o 3 → all.view ≡ joined (joined rest v) w → Ends o all tail → NeverBoth outcome also
   never_both o tail begin t u outcome also v w rest all read read_too raced raced_too left is ends commit commit_too =
       let x = raced.part in
       let y = raced_too.part in
-      let whole : all ≡ joined (joined (rest_view o 3) (one_seat 1 x)) (one_seat 2 y) =
+      let whole : all.view ≡ joined (joined (rest_view o 3) (one_seat 1 x)) (one_seat 2 y) =
       is
       ∙ ap (λ (z : View). joined (joined z v) w) left
       ∙ ap (λ (z : View). joined (joined (rest_view o 3) z) w) raced.view_is

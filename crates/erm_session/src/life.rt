@@ -3,6 +3,7 @@ ghost use Rattle.std.specs.Prelude.{◌≡◌, ℕ, true, false, [], IfErr, IfOk
 ghost use Rattle.erm_ends.specs.Ends.{DidAbort};
 ghost use Rattle.erm_model.specs.declared.outcome.Phase.TheVariants as phase;
 ghost use Rattle.erm_rule.specs.declared.view.View.{View};
+ghost use Rattle.erm_rule.specs.Books.{book};
 ghost use Rattle.erm_rule.specs.Hands.{IsKnown};
 ghost use Rattle.erm_rule.specs.Steps.{Fits};
 ghost use Rattle.erm_rule.specs.Views.{view, part_of};
@@ -98,6 +99,7 @@ impl Session {
         ensures stands { IsSession self.new (part_of (view p.new) self.old.seat) }
         ensures ended { is_end why ≡ true → DidAbort (view p.old) self.old.seat (view p.new) }
         ensures stays { is_end why ≡ false → view p.new ≡ view p.old }
+        ensures same { is_end why ≡ false → book p.new ≡ book p.old }
         ensures phase { IsRefusedPhase why (phase_of self.new.stage) }
     {
         if is_end(why) {

@@ -1,11 +1,12 @@
 //! A session's new objects, and its look at the place flushed.
-ghost use Rattle.std.specs.Prelude.{◌≡◌, ◌<◌, ◌≤◌, ℕ, IfErr, IfOk, OnOk};
+ghost use Rattle.std.specs.Prelude.{◌≡◌, ◌<◌, IfErr, IfOk, OnOk};
 ghost use Rattle.erm_machine.specs.declared.limits.TheConstants.{OBJECT_LIMIT};
 ghost use Rattle.erm_model.specs.declared.outcome.Phase.TheVariants as phase;
+ghost use Rattle.erm_rule.specs.Books.{HasState, IsAfter, WasFlushed, book};
 ghost use Rattle.erm_rule.specs.Hands.{IsKnown};
 ghost use Rattle.erm_rule.specs.Steps.{Fits};
 ghost use Rattle.erm_rule.specs.Views.{view, part_of};
-ghost use Rattle.erm_session.specs.Making.{FindsFlushed, LooksAtFlushed, MakesObject, RefusesObject};
+ghost use Rattle.erm_session.specs.Making.{IsFlushedTo, LooksAtFlushed, MakesObject, RefusesObject, WasObjectCount};
 ghost use Rattle.erm_session.specs.Session.{IsSession, phase_of};
 
 use crate::session::Session;
@@ -29,6 +30,8 @@ impl Session {
         ensures object { IfOk result (λ oid. oid < OBJECT_LIMIT) }
         ensures made { IfOk result (λ oid. MakesObject (view p.old) self.old.seat oid (view p.new)) }
         ensures refused { IfErr result (λ stop. RefusesObject (view p.old) self.old.seat stop (view p.new)) }
+        ensures counted { IfErr result (λ stop. WasObjectCount (book p.old) self.old.seat stop (book p.new)) }
+        ensures goes { IsAfter (book p.old) (book p.new) × HasState (book p.new) }
     {
         let seen = load_counter(t, p, self.seat, Counter::Objects);
         if seen >= u64::from(OBJECT_LIMIT) {
@@ -41,7 +44,7 @@ impl Session {
         Ok(found as Oid)
     }
 
-    /// Whether a commit is on the disk: all words of the log below the receipt's end are synced.
+    /// Whether a commit is on the disk: the place flushed lies behind its block, or at its end. From then on it stays so.
     pub fn durable<L: RowLaw>(
         &self,
         t: &Table<L>,
@@ -54,8 +57,9 @@ impl Session {
         ensures known { IsKnown (view p.new) }
         ensures stands { IsSession self.now (part_of (view p.new) self.now.seat) }
         ensures looked { LooksAtFlushed (view p.old) self.now.seat (view p.new) }
-        ensures synced { OnOk result ((flushed : ℕ) × FindsFlushed (view p.old) flushed × (receipt.now.end ≤ flushed)) }
-        ensures unsynced { IfErr result (λ stop. FindsFlushed (view p.old) stop.flushed × (stop.flushed < receipt.now.end)) }
+        ensures synced { OnOk result (IsFlushedTo receipt.now.end (book p.new)) }
+        ensures goes { IsAfter (book p.old) (book p.new) × HasState (book p.new) }
+        ensures unsynced { IfErr result (λ stop. WasFlushed (book p.old) stop.flushed (book p.new) × (stop.flushed < receipt.now.end)) }
     {
         let flushed = load_flushed(t, p, self.seat);
         if receipt.end <= flushed {

@@ -3,7 +3,8 @@ ghost use Rattle.std.specs.Prelude.{◌≡◌, ◌<◌, true, IfErr, IfOk};
 ghost use Rattle.erm_machine.specs.declared.limits.TheConstants.{OBJECT_LIMIT};
 ghost use Rattle.erm_machine.specs.Words.{is_session};
 ghost use Rattle.erm_model.specs.declared.outcome.Phase.TheVariants.{Active};
-ghost use Rattle.erm_rows.specs.Reads.{DidNotRead, DidRead};
+ghost use Rattle.erm_rows.specs.Reads.{DidNotRead, DidRead, WasOwnerMet};
+ghost use Rattle.erm_rule.specs.Books.{book};
 ghost use Rattle.erm_rule.specs.Hands.{IsKnown};
 ghost use Rattle.erm_rule.specs.Steps.{Fits};
 ghost use Rattle.erm_rule.specs.Views.{view, part_of};
@@ -36,6 +37,7 @@ fn read_first<L: RowLaw>(
     ensures window { IfOk result (λ row. IsOpen stage.new (part_of (view p.new) who)) }
     ensures read { IfOk result (λ row. DidRead (view p.old) who oid row (view p.new)) }
     ensures refused { IfErr result (λ stop. DidNotRead (view p.old) who oid stop (view p.new)) }
+    ensures met { IfErr result (λ stop. WasOwnerMet (book p.old) stop (book p.new)) }
 {
     match stage {
         Stage::Active(txn) => erm_rows::read(txn, t, p, who, oid),
@@ -61,6 +63,7 @@ impl Session {
         ensures active { IfOk result (λ row. phase_of self.new.stage ≡ Active) }
         ensures refused { IfErr result (λ stop. RefusesRead (view p.old) self.old.seat oid stop (view p.new)) }
         ensures phase { IfErr result (λ stop. IsRefusedPhase stop (phase_of self.new.stage)) }
+        ensures met { IfErr result (λ stop. WasOwnerMet (book p.old) stop (book p.new)) }
     {
         let Stage::Active(txn) = &self.stage else {
             unreachable!()

@@ -1,7 +1,8 @@
 //! A session's settle.
 ghost use Rattle.std.specs.Prelude.{◌≡◌, IfErr, IfOk};
 ghost use Rattle.erm_model.specs.declared.outcome.Phase.TheVariants.{Idle, Sealed};
-ghost use Rattle.erm_precommit.specs.Settle.{WaitsFor, WentOn};
+ghost use Rattle.erm_precommit.specs.Settle.{WaitsFor, WasWait, WentOn};
+ghost use Rattle.erm_rule.specs.Books.{book};
 ghost use Rattle.erm_rule.specs.Hands.{IsKnown};
 ghost use Rattle.erm_rule.specs.Steps.{Fits};
 ghost use Rattle.erm_rule.specs.Views.{view, part_of};
@@ -29,6 +30,7 @@ impl Session {
         ensures went { IfErr result (λ wait. WentOn (view p.old) self.old.seat (view p.new)) }
         ensures waits { IfErr result (λ wait. WaitsFor (view p.old) self.old.seat wait (view p.new)) }
         ensures sealed { IfErr result (λ wait. phase_of self.new.stage ≡ Sealed) }
+        ensures met { IfErr result (λ wait. WasWait (book p.old) wait (book p.new)) }
     {
         let Stage::Sealed(pre) = &mut self.stage else {
             unreachable!()

@@ -1,5 +1,6 @@
 //! Tests of a session's calls, side by side and one after the other.
 mod claims;
+mod full;
 mod opening;
 mod readers;
 mod skew;

@@ -4,7 +4,8 @@ ghost use Rattle.erm_cells.specs.Spare.{SpareIs};
 ghost use Rattle.erm_machine.specs.declared.limits.TheConstants.{OBJECT_LIMIT};
 ghost use Rattle.erm_machine.specs.Words.{is_session};
 ghost use Rattle.erm_model.specs.declared.outcome.Phase.TheVariants.{Active};
-ghost use Rattle.erm_rows.specs.Claims.{DidClaim, DidNotClaim};
+ghost use Rattle.erm_rows.specs.Claims.{DidClaim, DidNotClaim, TellsCount};
+ghost use Rattle.erm_rule.specs.Books.{book};
 ghost use Rattle.erm_rule.specs.Hands.{IsKnown};
 ghost use Rattle.erm_rule.specs.Steps.{Fits};
 ghost use Rattle.erm_rule.specs.Views.{view, part_of};
@@ -40,6 +41,7 @@ fn claim_first<L: RowLaw>(
     ensures window { IfOk result (λ row. IsOpen stage.new (part_of (view p.new) who)) }
     ensures claimed { IfOk result (λ row. DidClaim (view p.old) who oid row (view p.new)) }
     ensures refused { IfErr result (λ stop. DidNotClaim (view p.old) who oid stop (view p.new)) }
+    ensures counted { IfErr result (λ stop. TellsCount (book p.old) stop (book p.new)) }
 {
     match stage {
         Stage::Active(txn) => erm_rows::claim(txn, spare, t, p, who, oid),
@@ -69,6 +71,7 @@ impl Session {
         ensures active { OnOk result (phase_of self.new.stage ≡ Active) }
         ensures refused { IfErr result (λ stop. RefusesClaim (view p.old) self.old.seat oid stop (view p.new)) }
         ensures phase { IfErr result (λ stop. IsRefusedPhase stop (phase_of self.new.stage)) }
+        ensures counted { IfErr result (λ stop. TellsCount (book p.old) stop (book p.new)) }
     {
         let Stage::Active(txn) = &self.stage else {
             unreachable!()
@@ -105,6 +108,7 @@ impl Session {
         ensures active { OnOk result (phase_of self.new.stage ≡ Active) }
         ensures refused { IfErr result (λ stop. RefusesClaim (view p.old) self.old.seat oid stop (view p.new)) }
         ensures phase { IfErr result (λ stop. IsRefusedPhase stop (phase_of self.new.stage)) }
+        ensures counted { IfErr result (λ stop. TellsCount (book p.old) stop (book p.new)) }
     {
         match self.claim_at(t, p, oid) {
             Ok(_) => Ok(()),
@@ -154,6 +158,7 @@ impl Session {
         ensures active { OnOk result (phase_of self.new.stage ≡ Active) }
         ensures refused { IfErr result (λ stop. RefusesClaim (view p.old) self.old.seat oid stop (view p.new)) }
         ensures phase { IfErr result (λ stop. IsRefusedPhase stop (phase_of self.new.stage)) }
+        ensures counted { IfErr result (λ stop. TellsCount (book p.old) stop (book p.new)) }
     {
         let place = match self.claim_at(t, p, oid) {
             Ok(place) => place,

@@ -1,21 +1,31 @@
 use Rattle.std.proofs.Common.{sym, ◌∙◌}
 use Rattle.erm_rule.specs.Views.{part_of}
-use Rattle.erm_cells.proofs.Rating.{bare_list, draw_counted, draw_refused, draw_spare, err_then, ok_then}
+use Rattle.erm_rule.proofs.Courses.{seen_nothing}
+use Rattle.erm_cells.proofs.Rating.{not_bare, bare_list, draw_counted, draw_refused, draw_spare, err_then, ok_then}
 use Rattle.erm_cells.proofs.draws.draw.Goals as goal
 
 pub draw_counted-requires-clause-bare : goal.draw_counted-requires-clause-bare
-draw_counted-requires-clause-bare g c = bare_list c.args.spare.now (part_of c.args.p.now.me.0 c.args.who) c.requires.spare c.in-None.ensures.0
+draw_counted-requires-clause-bare g c = bare_list c.args.spare.now (part_of c.args.p.now.me.0.view c.args.who) c.requires.spare c.in-None.ensures.0
 
 pub returns-in-Some-clause-drawn : goal.returns-in-Some-clause-drawn
 returns-in-Some-clause-drawn g c =
-    draw_spare c.args.p.now.me.0 c.args.who c.requires.active c.requires.known c.requires.draws c.pop.new.self c.in-Some.cell (sym c.in-Some.ensures ∙ c.requires.spare)
+    draw_spare c.args.p.now.me.0.view c.args.who c.requires.active c.requires.known c.requires.draws c.pop.new.self c.in-Some.cell (sym c.in-Some.ensures ∙ c.requires.spare)
 
 pub returns-in-None-clause-drawn : goal.returns-in-None-clause-drawn
 returns-in-None-clause-drawn g c =
     ok_then c.draw_counted.result c.draw_counted.ensures.counted
-    (λ cell did. draw_counted c.args.p.now.me.0 c.args.who c.requires.active c.requires.known c.requires.draws c.pop.new.self cell _ (bare_list c.args.spare.now (part_of c.args.p.now.me.0 c.args.who) c.requires.spare c.in-None.ensures.0) c.in-None.ensures.1 did)
+    (λ cell did. draw_counted c.args.p.now.me.0.view c.args.who c.requires.active c.requires.known c.requires.draws c.pop.new.self cell _ (bare_list c.args.spare.now (part_of c.args.p.now.me.0.view c.args.who) c.requires.spare c.in-None.ensures.0) c.in-None.ensures.1 did)
 
 pub returns-in-None-clause-refused : goal.returns-in-None-clause-refused
 returns-in-None-clause-refused g c =
     err_then c.draw_counted.result c.draw_counted.ensures.refused
-    (λ seen did. draw_refused c.args.p.now.me.0 c.args.who c.requires.active c.requires.known c.requires.draws c.pop.new.self seen _ (bare_list c.args.spare.now (part_of c.args.p.now.me.0 c.args.who) c.requires.spare c.in-None.ensures.0) c.in-None.ensures.1 did)
+    (λ seen did. draw_refused c.args.p.now.me.0.view c.args.who c.requires.active c.requires.known c.requires.draws c.pop.new.self seen _ (bare_list c.args.spare.now (part_of c.args.p.now.me.0.view c.args.who) c.requires.spare c.in-None.ensures.0) c.in-None.ensures.1 did)
+
+pub returns-in-Some-clause-from : goal.returns-in-Some-clause-from
+returns-in-Some-clause-from g c none = absurd (not_bare c.pop.new.self c.in-Some.cell (sym c.in-Some.ensures ∙ none))
+
+pub returns-in-Some-clause-goes : goal.returns-in-Some-clause-goes
+returns-in-Some-clause-goes g c = seen_nothing c.args.p.now.me.0
+
+pub returns-in-None-clause-from : goal.returns-in-None-clause-from
+returns-in-None-clause-from g c = ok_then c.draw_counted.result c.draw_counted.ensures.last (λ cell last none. last)

@@ -7,4 +7,4 @@ use Rattle.erm_cells.proofs.head_words.store_head.Given as goal
 abbrev pub invariant-loop-step : goal.invariant-loop-step
 invariant-loop-step g l =
     Fits l.t.words.shared.table_id l.p
-    × HeadLoop l.fn.p.me.0 l.who (heading (place_of l.cell (part_of l.fn.p.me.0 l.who)) l.stamp l.older l.step (part_of l.fn.p.me.0 l.who)) l.p.me.0
+    × HeadLoop l.fn.p.me.0.view l.who (heading (place_of l.cell (part_of l.fn.p.me.0.view l.who)) l.stamp l.older l.step (part_of l.fn.p.me.0.view l.who)) l.p.me.0.view

@@ -4,4 +4,4 @@ use Rattle.erm_cells.specs.Placed.{cell_of, own_kind}
 use Rattle.erm_cells.proofs.placed.store_placed.Given as goal
 
 abbrev pub ghosts-store_as : goal.ghosts-store_as
-ghosts-store_as g a = record { seat = a.who; kind = own_kind (part_of a.p.now.me.0 a.who) (cell_of a.word) (cell_word_of a.word) a.new }
+ghosts-store_as g a = record { seat = a.who; kind = own_kind (part_of a.p.now.me.0.view a.who) (cell_of a.word) (cell_word_of a.word) a.new }

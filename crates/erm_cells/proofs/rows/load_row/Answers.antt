@@ -7,25 +7,25 @@ use Rattle.erm_cells.proofs.Loading.{did_load, load_goes_on, load_held, load_obj
 use Rattle.erm_cells.proofs.rows.load_row.Goals as goal
 
 pub loop-k-init : goal.loop-k-init
-loop-k-init g c = (c.requires.fits, load_starts c.args.p.now.me.0 _ _ refl)
+loop-k-init g c = (c.requires.fits, load_starts c.args.p.now.me.0.view _ _ refl)
 
 pub load_walked-requires-clause-held : goal.load_walked-requires-clause-held
-load_walked-requires-clause-held g c = is_held c.loop-k.p.me.0 c.args.who _ (load_held c.args.p.now.me.0 c.args.who c.requires.active c.requires.known c.requires.registered c.loop-k.p.me.0 c.loop-k.k c.loop-k-test.true c.loop-k.row c.loop-k.invariant.1)
+load_walked-requires-clause-held g c = is_held c.loop-k.p.me.0.view c.args.who _ (load_held c.args.p.now.me.0.view c.args.who c.requires.active c.requires.known c.requires.registered c.loop-k.p.me.0.view c.loop-k.k c.loop-k-test.true c.loop-k.row c.loop-k.invariant.1)
 
 pub load_walked-requires-clause-known : goal.load_walked-requires-clause-known
 load_walked-requires-clause-known g c = subst IsKnown (sym c.loop-k.invariant.1.same) c.requires.known
 
 pub load_walked-requires-clause-object : goal.load_walked-requires-clause-object
-load_walked-requires-clause-object g c = load_object c.args.p.now.me.0 c.args.who c.requires.active c.requires.known c.requires.registered c.loop-k.p.me.0 c.loop-k.k c.loop-k-test.true c.loop-k.row c.loop-k.invariant.1
+load_walked-requires-clause-object g c = load_object c.args.p.now.me.0.view c.args.who c.requires.active c.requires.known c.requires.registered c.loop-k.p.me.0.view c.loop-k.k c.loop-k-test.true c.loop-k.row c.loop-k.invariant.1
 
 pub load_walked-requires-clause-cell : goal.load_walked-requires-clause-cell
 load_walked-requires-clause-cell g c = ap (λ (u : View). (in_hand (part_of u c.args.who).task).cell) c.loop-k.invariant.1.same ∙ c.requires.cell
 
 pub load_walked-requires-clause-ready : goal.load_walked-requires-clause-ready
-load_walked-requires-clause-ready g c = load_ready c.args.p.now.me.0 c.args.who c.requires.active c.requires.known c.requires.registered c.loop-k.p.me.0 c.loop-k.k c.loop-k-test.true c.loop-k.row c.loop-k.invariant.1
+load_walked-requires-clause-ready g c = load_ready c.args.p.now.me.0.view c.args.who c.requires.active c.requires.known c.requires.registered c.loop-k.p.me.0.view c.loop-k.k c.loop-k-test.true c.loop-k.row c.loop-k.invariant.1
 
 pub loop-k-preserved : goal.loop-k-preserved
-loop-k-preserved g c = (c.load_walked.ensures.fits, load_goes_on c.args.p.now.me.0 c.args.who c.requires.active c.requires.known c.requires.registered c.loop-k.p.me.0 c.loop-k.k c.loop-k-test.true c.loop-k.row c.loop-k.invariant.1 c.load_walked.result c.load_walked.new.p.me.0 c.load_walked.ensures.told.told)
+loop-k-preserved g c = (c.load_walked.ensures.fits, load_goes_on c.args.p.now.me.0.view c.args.who c.requires.active c.requires.known c.requires.registered c.loop-k.p.me.0.view c.loop-k.k c.loop-k-test.true c.loop-k.row c.loop-k.invariant.1 c.load_walked.result c.load_walked.new.p.me.0.view c.load_walked.ensures.told.told)
 
 pub returns-clause-loaded : goal.returns-clause-loaded
-returns-clause-loaded g c = did_load c.args.p.now.me.0 c.args.who c.requires.active c.requires.known c.requires.registered c.loop-k.p.me.0 c.loop-k.row c.loop-k.k c.loop-k-test.false c.loop-k.invariant.1
+returns-clause-loaded g c = did_load c.args.p.now.me.0.view c.args.who c.requires.active c.requires.known c.requires.registered c.loop-k.p.me.0.view c.loop-k.row c.loop-k.k c.loop-k-test.false c.loop-k.invariant.1

@@ -4,4 +4,4 @@ use Rattle.erm_cells.proofs.Loading.{LoadLoop, RowOfRead}
 use Rattle.erm_cells.proofs.rows.load_row.Given as goal
 
 abbrev pub invariant-loop-k : goal.invariant-loop-k
-invariant-loop-k g l = Fits l.t.words.shared.table_id l.p × LoadLoop l.fn.p.me.0 l.k (RowOfRead (part_of l.fn.p.me.0 l.who)) l.row l.p.me.0
+invariant-loop-k g l = Fits l.t.words.shared.table_id l.p × LoadLoop l.fn.p.me.0.view l.k (RowOfRead (part_of l.fn.p.me.0.view l.who)) l.row l.p.me.0.view

@@ -3,4 +3,4 @@ use Rattle.erm_cells.proofs.Storing.{RowLoop}
 use Rattle.erm_cells.proofs.rows.store_row.Given as goal
 
 abbrev pub invariant-loop-k : goal.invariant-loop-k
-invariant-loop-k g l = Fits l.t.words.shared.table_id l.p × RowLoop l.fn.p.me.0 l.who l.cell l.k l.row l.p.me.0
+invariant-loop-k g l = Fits l.t.words.shared.table_id l.p × RowLoop l.fn.p.me.0.view l.who l.cell l.k l.row l.p.me.0.view

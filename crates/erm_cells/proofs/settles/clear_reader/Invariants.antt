@@ -3,4 +3,4 @@ use Rattle.erm_rule.specs.Views.{part_of}
 use Rattle.erm_cells.proofs.settles.clear_reader.Given as goal
 
 abbrev pub ghosts-and_as : goal.ghosts-and_as
-ghosts-and_as g a = record { seat = a.who; kind = clear_kind (part_of a.p.now.me.0 a.who) }
+ghosts-and_as g a = record { seat = a.who; kind = clear_kind (part_of a.p.now.me.0.view a.who) }

@@ -6,11 +6,11 @@ use Rattle.erm_cells.proofs.Walking.{known_object, met_at, number_at}
 use Rattle.erm_cells.proofs.settles.load_readers.Goals as goal
 
 pub load_as-requires-clause-known : goal.load_as-requires-clause-known
-load_as-requires-clause-known g c = known_object (settled_claim (part_of c.args.p.now.me.0 c.args.who)).oid c.requires.object
+load_as-requires-clause-known g c = known_object (settled_claim (part_of c.args.p.now.me.0.view c.args.who)).oid c.requires.object
 
 pub load_as-requires-clause-met : goal.load_as-requires-clause-met
-load_as-requires-clause-met g c = met_at (settled_claim (part_of c.args.p.now.me.0 c.args.who)) word.Readers c.args.cell c.requires.cell
+load_as-requires-clause-met g c = met_at (settled_claim (part_of c.args.p.now.me.0.view c.args.who)) word.Readers c.args.cell c.requires.cell
 
 pub load_as-requires-clause-numbered : goal.load_as-requires-clause-numbered
 load_as-requires-clause-numbered g c =
-    number_at c.args.p.now.me.0 c.args.who (readers_kind (part_of c.args.p.now.me.0 c.args.who)) (settled_claim (part_of c.args.p.now.me.0 c.args.who)) word.Readers c.args.cell c.requires.known c.requires.held tt c.requires.ready refl tt c.requires.cell
+    number_at c.args.p.now.me.0.view c.args.who (readers_kind (part_of c.args.p.now.me.0.view c.args.who)) (settled_claim (part_of c.args.p.now.me.0.view c.args.who)) word.Readers c.args.cell c.requires.known c.requires.held tt c.requires.ready refl tt c.requires.cell

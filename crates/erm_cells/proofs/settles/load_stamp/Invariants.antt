@@ -3,4 +3,4 @@ use Rattle.erm_rule.specs.Views.{part_of}
 use Rattle.erm_cells.proofs.settles.load_stamp.Given as goal
 
 abbrev pub ghosts-load_as : goal.ghosts-load_as
-ghosts-load_as g a = record { seat = a.who; kind = stamp_kind (part_of a.p.now.me.0 a.who) (cell_word_of a.word) }
+ghosts-load_as g a = record { seat = a.who; kind = stamp_kind (part_of a.p.now.me.0.view a.who) (cell_word_of a.word) }

@@ -3,4 +3,4 @@ use Rattle.erm_rule.specs.Views.{part_of}
 use Rattle.erm_cells.proofs.settles.store_overwriter.Given as goal
 
 abbrev pub ghosts-store_as : goal.ghosts-store_as
-ghosts-store_as g a = record { seat = a.who; kind = mark_kind (part_of a.p.now.me.0 a.who) a.new }
+ghosts-store_as g a = record { seat = a.who; kind = mark_kind (part_of a.p.now.me.0.view a.who) a.new }

@@ -3,4 +3,4 @@ use Rattle.erm_rule.specs.Views.{part_of}
 use Rattle.erm_cells.proofs.walks.raise_reader.Given as goal
 
 abbrev pub ghosts-raise_as : goal.ghosts-raise_as
-ghosts-raise_as g a = record { seat = a.who; kind = raise_kind (part_of a.p.now.me.0 a.who) a.least }
+ghosts-raise_as g a = record { seat = a.who; kind = raise_kind (part_of a.p.now.me.0.view a.who) a.least }

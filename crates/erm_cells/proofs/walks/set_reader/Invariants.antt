@@ -3,4 +3,4 @@ use Rattle.erm_rule.specs.Views.{part_of}
 use Rattle.erm_cells.proofs.walks.set_reader.Given as goal
 
 abbrev pub ghosts-or_as : goal.ghosts-or_as
-ghosts-or_as g a = record { seat = a.who; kind = reader_kind (part_of a.p.now.me.0 a.who) }
+ghosts-or_as g a = record { seat = a.who; kind = reader_kind (part_of a.p.now.me.0.view a.who) }

@@ -9,12 +9,12 @@ clear_reads-requires-clause-known g c = c.release_claims.ensures.released.come.k
 
 pub clear_reads-requires-clause-may : goal.clear_reads-requires-clause-may
 clear_reads-requires-clause-may g c =
-    may_clear c.args.p.now.me.0 c.args.who (active_ends _ c.requires.may.active).0 (active_excluded c.args.p.now.me.0 c.args.who c.requires.known c.requires.may.active) _ c.release_claims.ensures.released
+    may_clear c.args.p.now.me.0.view c.args.who (active_ends _ c.requires.may.active).0 (active_excluded c.args.p.now.me.0.view c.args.who c.requires.known c.requires.may.active) _ c.release_claims.ensures.released
     c.args.reads.now c.requires.may.reads_kept
 
 pub store_begin-requires-clause-held : goal.store_begin-requires-clause-held
 store_begin-requires-clause-held g c =
-    abort_held c.args.p.now.me.0 c.args.who (active_ends _ c.requires.may.active).0 (active_excluded c.args.p.now.me.0 c.args.who c.requires.known c.requires.may.active) _ c.release_claims.ensures.released _
+    abort_held c.args.p.now.me.0.view c.args.who (active_ends _ c.requires.may.active).0 (active_excluded c.args.p.now.me.0.view c.args.who c.requires.known c.requires.may.active) _ c.release_claims.ensures.released _
     c.clear_reads.ensures.cleared
 
 pub store_begin-requires-clause-seat : goal.store_begin-requires-clause-seat
@@ -22,15 +22,15 @@ store_begin-requires-clause-seat g c = session_seat c.args.who c.requires.sessio
 
 pub store_begin-requires-clause-ready : goal.store_begin-requires-clause-ready
 store_begin-requires-clause-ready g c =
-    abort_ready c.args.p.now.me.0 c.args.who (active_ends _ c.requires.may.active).0 (active_excluded c.args.p.now.me.0 c.args.who c.requires.known c.requires.may.active) _ c.release_claims.ensures.released _
+    abort_ready c.args.p.now.me.0.view c.args.who (active_ends _ c.requires.may.active).0 (active_excluded c.args.p.now.me.0.view c.args.who c.requires.known c.requires.may.active) _ c.release_claims.ensures.released _
     c.clear_reads.ensures.cleared c.requires.may.active (session_not_flusher c.args.who c.requires.session)
 
 pub returns-clause-aborted : goal.returns-clause-aborted
 returns-clause-aborted g c =
-    did_abort c.args.p.now.me.0 c.args.who (active_ends _ c.requires.may.active).0 (active_excluded c.args.p.now.me.0 c.args.who c.requires.known c.requires.may.active) _ c.release_claims.ensures.released _
+    did_abort c.args.p.now.me.0.view c.args.who (active_ends _ c.requires.may.active).0 (active_excluded c.args.p.now.me.0.view c.args.who c.requires.known c.requires.may.active) _ c.release_claims.ensures.released _
     c.clear_reads.ensures.cleared c.requires.may.active (session_not_flusher c.args.who c.requires.session) c.store_begin.ensures.told.0 _ c.store_begin.ensures.told.1.told
 
 pub returns-clause-spare : goal.returns-clause-spare
 returns-clause-spare g c =
-    abort_spare c.args.p.now.me.0 c.args.who (active_ends _ c.requires.may.active).0 (active_excluded c.args.p.now.me.0 c.args.who c.requires.known c.requires.may.active) _ c.release_claims.ensures.released _
+    abort_spare c.args.p.now.me.0.view c.args.who (active_ends _ c.requires.may.active).0 (active_excluded c.args.p.now.me.0.view c.args.who c.requires.known c.requires.may.active) _ c.release_claims.ensures.released _
     c.clear_reads.ensures.cleared c.requires.may.active (session_not_flusher c.args.who c.requires.session) c.store_begin.ensures.told.0 _ c.store_begin.ensures.told.1.told _ c.release_claims.ensures.spare

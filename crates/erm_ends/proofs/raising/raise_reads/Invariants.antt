@@ -3,4 +3,4 @@ use Rattle.erm_ends.proofs.Raises.{RaiseLoop}
 use Rattle.erm_ends.proofs.raising.raise_reads.Given as goal
 
 abbrev pub invariant-loop-k : goal.invariant-loop-k
-invariant-loop-k g l = Fits l.t.words.shared.table_id l.p × RaiseLoop l.fn.p.me.0 l.who l.k l.p.me.0
+invariant-loop-k g l = Fits l.t.words.shared.table_id l.p × RaiseLoop l.fn.p.me.0.view l.who l.k l.p.me.0.view

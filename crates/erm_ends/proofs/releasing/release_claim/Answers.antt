@@ -2,14 +2,14 @@ use Rattle.erm_ends.proofs.Releases.{cell_last, release_object, released_held}
 use Rattle.erm_ends.proofs.releasing.release_claim.Goals as goal
 
 pub release-requires-clause-object : goal.release-requires-clause-object
-release-requires-clause-object g c = release_object c.args.p.now.me.0 c.args.who c.args.claim.oid c.args.claim.overwritten c.requires.next c.requires.known
+release-requires-clause-object g c = release_object c.args.p.now.me.0.view c.args.who c.args.claim.oid c.args.claim.overwritten c.requires.next c.requires.known
 
 pub give_back-requires-clause-known : goal.give_back-requires-clause-known
 give_back-requires-clause-known g c = c.release.ensures.released.known
 
 pub give_back-requires-clause-held : goal.give_back-requires-clause-held
-give_back-requires-clause-held g c = released_held c.args.p.now.me.0 c.args.who c.args.claim.oid c.args.claim.overwritten c.requires.next _ c.release.ensures.released
+give_back-requires-clause-held g c = released_held c.args.p.now.me.0.view c.args.who c.args.claim.oid c.args.claim.overwritten c.requires.next _ c.release.ensures.released
 
 pub give_back-requires-clause-released : goal.give_back-requires-clause-released
 give_back-requires-clause-released g c =
-    cell_last c.args.p.now.me.0 c.args.who c.args.claim.oid c.args.claim.overwritten c.requires.next _ c.release.ensures.released _ c.args.claim.own c.requires.own c.requires.spare
+    cell_last c.args.p.now.me.0.view c.args.who c.args.claim.oid c.args.claim.overwritten c.requires.next _ c.release.ensures.released _ c.args.claim.own c.requires.own c.requires.spare

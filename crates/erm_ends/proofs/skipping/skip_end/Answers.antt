@@ -3,7 +3,7 @@ use Rattle.erm_ends.proofs.Leaves.{decided_ends, did_skip, may_clear, may_leave,
 use Rattle.erm_ends.proofs.skipping.skip_end.Goals as goal
 
 pub release_claims-requires-clause-may : goal.release_claims-requires-clause-may
-release_claims-requires-clause-may g c = rw c.as_slice.ensures.value (skip_claims c.args.pre.now (part_of c.args.p.now.me.0 c.args.who) c.requires.kept c.requires.may)
+release_claims-requires-clause-may g c = rw c.as_slice.ensures.value (skip_claims c.args.pre.now (part_of c.args.p.now.me.0.view c.args.who) c.requires.kept c.requires.may)
 
 pub clear_reads-requires-clause-known : goal.clear_reads-requires-clause-known
 clear_reads-requires-clause-known g c = c.release_claims.ensures.released.come.known
@@ -11,20 +11,20 @@ clear_reads-requires-clause-known g c = c.release_claims.ensures.released.come.k
 pub clear_reads-requires-clause-may : goal.clear_reads-requires-clause-may
 clear_reads-requires-clause-may g c =
     rw c.as_slice-2.ensures.value
-    (may_clear c.args.p.now.me.0 c.args.who (decided_ends _ c.requires.may.decided) (skip_excluded (part_of c.args.p.now.me.0 c.args.who) c.requires.may.decided c.requires.may.excluded) _ c.release_claims.ensures.released
-    c.args.pre.now.reads.items (skip_reads c.args.pre.now (part_of c.args.p.now.me.0 c.args.who) c.requires.kept))
+    (may_clear c.args.p.now.me.0.view c.args.who (decided_ends _ c.requires.may.decided) (skip_excluded (part_of c.args.p.now.me.0.view c.args.who) c.requires.may.decided c.requires.may.excluded) _ c.release_claims.ensures.released
+    c.args.pre.now.reads.items (skip_reads c.args.pre.now (part_of c.args.p.now.me.0.view c.args.who) c.requires.kept))
 
 pub leave-requires-clause-may : goal.leave-requires-clause-may
 leave-requires-clause-may g c =
-    may_leave c.args.p.now.me.0 c.args.who (decided_ends _ c.requires.may.decided) (skip_excluded (part_of c.args.p.now.me.0 c.args.who) c.requires.may.decided c.requires.may.excluded) _ c.release_claims.ensures.released
+    may_leave c.args.p.now.me.0.view c.args.who (decided_ends _ c.requires.may.decided) (skip_excluded (part_of c.args.p.now.me.0.view c.args.who) c.requires.may.decided c.requires.may.excluded) _ c.release_claims.ensures.released
     _ c.clear_reads.ensures.cleared c.requires.may.decided
 
 pub returns-clause-skipped : goal.returns-clause-skipped
 returns-clause-skipped g c =
-    did_skip c.args.p.now.me.0 c.args.who (decided_ends _ c.requires.may.decided) (skip_excluded (part_of c.args.p.now.me.0 c.args.who) c.requires.may.decided c.requires.may.excluded) _ c.release_claims.ensures.released
+    did_skip c.args.p.now.me.0.view c.args.who (decided_ends _ c.requires.may.decided) (skip_excluded (part_of c.args.p.now.me.0.view c.args.who) c.requires.may.decided c.requires.may.excluded) _ c.release_claims.ensures.released
     _ c.clear_reads.ensures.cleared _ c.leave.ensures.left
 
 pub returns-clause-spare : goal.returns-clause-spare
 returns-clause-spare g c =
-    skip_spare c.args.p.now.me.0 c.args.who (decided_ends _ c.requires.may.decided) (skip_excluded (part_of c.args.p.now.me.0 c.args.who) c.requires.may.decided c.requires.may.excluded) _ c.release_claims.ensures.released
+    skip_spare c.args.p.now.me.0.view c.args.who (decided_ends _ c.requires.may.decided) (skip_excluded (part_of c.args.p.now.me.0.view c.args.who) c.requires.may.decided c.requires.may.excluded) _ c.release_claims.ensures.released
     _ c.clear_reads.ensures.cleared _ c.leave.ensures.left _ c.release_claims.ensures.spare

@@ -3,10 +3,10 @@ use Rattle.erm_entries.proofs.Installs.{has_install, ready_install, did_install}
 use Rattle.erm_entries.proofs.installing.install.Goals as goal
 
 pub install-requires-clause-held : goal.install-requires-clause-held
-install-requires-clause-held g c = is_held c.args.p.now.me.0 c.args.who _ (has_install c.args.p.now.me.0 c.args.who c.args.oid c.args.head c.requires.next)
+install-requires-clause-held g c = is_held c.args.p.now.me.0.view c.args.who _ (has_install c.args.p.now.me.0.view c.args.who c.args.oid c.args.head c.requires.next)
 
 pub install-requires-clause-ready : goal.install-requires-clause-ready
-install-requires-clause-ready g c = ready_install c.args.p.now.me.0 c.args.who c.args.oid c.args.head c.requires.next
+install-requires-clause-ready g c = ready_install c.args.p.now.me.0.view c.args.who c.args.oid c.args.head c.requires.next
 
 pub returns-clause-installed : goal.returns-clause-installed
-returns-clause-installed g c = did_install c.args.p.now.me.0 c.args.who c.args.oid c.args.head c.requires.next c.requires.object _ _ c.install.ensures.told.1.told
+returns-clause-installed g c = did_install c.args.p.now.me.0.view c.args.who c.args.oid c.args.head c.requires.next c.requires.object _ _ c.install.ensures.told.1.told

@@ -1,4 +1,5 @@
 use Rattle.std.proofs.Common.{ℕ, sym, subst}
+use Rattle.erm_rule.proofs.Courses.{goes_step}
 use Rattle.erm_rule.proofs.Telling.{is_held}
 use Rattle.erm_cells.specs.Calls.{DidEnter}
 use Rattle.erm_cells.proofs.Heads.{has}
@@ -8,20 +9,23 @@ use Rattle.erm_entries.proofs.Spelled.{entry_again}
 use Rattle.erm_entries.proofs.loading.load.Goals as goal
 
 pub load_entry-word-requires-clause-held : goal.load_entry-word-requires-clause-held
-load_entry-word-requires-clause-held g c = is_held c.args.p.now.me.0 c.args.who _ (has c.args.p.now.me.0 c.args.who c.requires.active)
+load_entry-word-requires-clause-held g c = is_held c.args.p.now.me.0.view c.args.who _ (has c.args.p.now.me.0.view c.args.who c.requires.active)
 
 pub load_entry-word-requires-clause-ready : goal.load_entry-word-requires-clause-ready
-load_entry-word-requires-clause-ready g c = ready_load c.args.p.now.me.0 c.args.who c.requires.active c.args.oid c.requires.starts
+load_entry-word-requires-clause-ready g c = ready_load c.args.p.now.me.0.view c.args.who c.requires.active c.args.oid c.requires.starts
 
 pub returns-clause-spelled : goal.returns-clause-spelled
 returns-clause-spelled g c = entry_again c.of.result c.load_entry-word.result c.of.ensures.entry
 
 pub returns-clause-loaded : goal.returns-clause-loaded
 returns-clause-loaded g c starts =
-    subst (λ (n : ℕ). DidEnter c.args.p.now.me.0 c.args.who c.args.oid n c.load_entry-word.new.p.me.0) (sym c.of.ensures.spelled)
-    (did_load c.args.p.now.me.0 c.args.who c.requires.active c.args.oid c.requires.starts c.requires.object c.load_entry-word.result _ c.load_entry-word.ensures.told.told starts)
+    subst (λ (n : ℕ). DidEnter c.args.p.now.me.0.view c.args.who c.args.oid n c.load_entry-word.new.p.me.0.view) (sym c.of.ensures.spelled)
+    (did_load c.args.p.now.me.0.view c.args.who c.requires.active c.args.oid c.requires.starts c.requires.object c.load_entry-word.result _ c.load_entry-word.ensures.told.told starts)
 
 pub returns-clause-reloaded : goal.returns-clause-reloaded
 returns-clause-reloaded g c cleared =
-    subst (λ (n : ℕ). DidReload c.args.p.now.me.0 c.args.who c.args.oid n c.load_entry-word.new.p.me.0) (sym c.of.ensures.spelled)
-    (did_reload c.args.p.now.me.0 c.args.who c.requires.active c.args.oid c.requires.starts c.requires.object c.load_entry-word.result _ c.load_entry-word.ensures.told.told cleared)
+    subst (λ (n : ℕ). DidReload c.args.p.now.me.0.view c.args.who c.args.oid n c.load_entry-word.new.p.me.0.view) (sym c.of.ensures.spelled)
+    (did_reload c.args.p.now.me.0.view c.args.who c.requires.active c.args.oid c.requires.starts c.requires.object c.load_entry-word.result _ c.load_entry-word.ensures.told.told cleared)
+
+pub returns-clause-goes : goal.returns-clause-goes
+returns-clause-goes g c = goes_step _ c.args.p.now.me.0 _ _ _ _ c.load_entry-word.ensures.booked

@@ -7,13 +7,13 @@ use Rattle.erm_entries.proofs.Sessions.{found_head}
 use Rattle.erm_entries.proofs.tests.claim_first.Goals as goal
 
 pub begin_steps-requires-clause-idle : goal.begin_steps-requires-clause-idle
-begin_steps-requires-clause-idle c = ap (λ (z : Part). z.place) (alone_there c.args.opening.now 1 c.args.pass.me.0 c.requires.idle)
+begin_steps-requires-clause-idle c = ap (λ (z : Part). z.place) (alone_there c.args.opening.now 1 c.args.pass.me.0.view c.requires.idle)
 
 pub begin_steps-requires-clause-number : goal.begin_steps-requires-clause-number
-begin_steps-requires-clause-number c = number_left c.args.opening.now 1 c.args.pass.me.0 c.requires.idle
+begin_steps-requires-clause-number c = number_left c.args.opening.now 1 c.args.pass.me.0.view c.requires.idle
 
 pub claim-requires-clause-head : goal.claim-requires-clause-head
 claim-requires-clause-head c =
-    found_head c.args.opening.now 1 c.args.pass.me.0 c.requires.idle c.in_ok-begin.begin c.begin_steps.new.p.me.0
-    (ok_says (λ (begin : ℕ). DidBegin c.args.pass.me.0 1 begin c.begin_steps.new.p.me.0) c.begin_steps.result c.in_ok-begin.begin c.in_ok-begin.ensures.value c.begin_steps.ensures.begun)
-    5 c.in-Walked.entry c.in-Walked.stamp c.find_head.new.p.me.0 c.in-Walked.ensures.found c.if-stamp-begin.false (word_of c.of.result) c.of.ensures.spelled
+    found_head c.args.opening.now 1 c.args.pass.me.0.view c.requires.idle c.in_ok-begin.begin c.begin_steps.new.p.me.0.view
+    (ok_says (λ (begin : ℕ). DidBegin c.args.pass.me.0.view 1 begin c.begin_steps.new.p.me.0.view) c.begin_steps.result c.in_ok-begin.begin c.in_ok-begin.ensures.value c.begin_steps.ensures.begun)
+    5 c.in-Walked.entry c.in-Walked.stamp c.find_head.new.p.me.0.view c.in-Walked.ensures.found c.if-stamp-begin.false (word_of c.of.result) c.of.ensures.spelled

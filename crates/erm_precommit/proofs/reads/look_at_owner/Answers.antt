@@ -3,36 +3,36 @@ use Rattle.erm_precommit.proofs.Looks.{look_taken, look_bound, look_went, look_c
 use Rattle.erm_precommit.proofs.reads.look_at_owner.Goals as goal
 
 pub look-requires-clause-taken : goal.look-requires-clause-taken
-look-requires-clause-taken g c = look_taken c.args.pre.now c.args.p.now.me.0 c.args.who c.requires.stands
+look-requires-clause-taken g c = look_taken c.args.pre.now c.args.p.now.me.0.view c.args.who c.requires.stands
 
 pub look-requires-clause-other : goal.look-requires-clause-other
-look-requires-clause-other g c = (owner_other c.args.pre.now c.args.p.now.me.0 c.args.who c.requires.stands c.args.place c.args.owner c.requires.task).another
+look-requires-clause-other g c = (owner_other c.args.pre.now c.args.p.now.me.0.view c.args.who c.requires.stands c.args.place c.args.owner c.requires.task).another
 
 pub look-requires-clause-seat : goal.look-requires-clause-seat
-look-requires-clause-seat g c = (owner_other c.args.pre.now c.args.p.now.me.0 c.args.who c.requires.stands c.args.place c.args.owner c.requires.task).has_words
+look-requires-clause-seat g c = (owner_other c.args.pre.now c.args.p.now.me.0.view c.args.who c.requires.stands c.args.place c.args.owner c.requires.task).has_words
 
 pub look-requires-clause-bound : goal.look-requires-clause-bound
-look-requires-clause-bound g c = look_bound c.args.pre.now c.args.p.now.me.0 c.args.who c.requires.stands
+look-requires-clause-bound g c = look_bound c.args.pre.now c.args.p.now.me.0.view c.args.who c.requires.stands
 
 pub returns-in-Clear-clause-went : goal.returns-in-Clear-clause-went
 returns-in-Clear-clause-went g c =
-    look_went c.args.pre.now c.args.p.now.me.0 c.args.who c.requires.stands c.args.owner _ c.in-Clear.ensures.looked _ (owner_next c.args.pre.now c.args.p.now.me.0 c.args.who c.requires.stands c.args.place c.args.owner c.requires.task)
+    look_went c.args.pre.now c.args.p.now.me.0.view c.args.who c.requires.stands c.args.owner _ c.in-Clear.ensures.looked _ (owner_next c.args.pre.now c.args.p.now.me.0.view c.args.who c.requires.stands c.args.place c.args.owner c.requires.task)
 
 pub returns-in-Clear-clause-stands : goal.returns-in-Clear-clause-stands
 returns-in-Clear-clause-stands g c =
-    look_stands c.args.pre.now c.args.p.now.me.0 c.args.who c.requires.stands c.args.owner _ c.in-Clear.ensures.looked _ (owner_next c.args.pre.now c.args.p.now.me.0 c.args.who c.requires.stands c.args.place c.args.owner c.requires.task) refl
+    look_stands c.args.pre.now c.args.p.now.me.0.view c.args.who c.requires.stands c.args.owner _ c.in-Clear.ensures.looked _ (owner_next c.args.pre.now c.args.p.now.me.0.view c.args.who c.requires.stands c.args.place c.args.owner c.requires.task) refl
 
 pub returns-in-Clear-clause-clear : goal.returns-in-Clear-clause-clear
 returns-in-Clear-clause-clear g c =
-    look_comes c.args.pre.now c.args.p.now.me.0 c.args.who c.requires.stands c.args.owner _ c.in-Clear.ensures.looked _ (owner_next c.args.pre.now c.args.p.now.me.0 c.args.who c.requires.stands c.args.place c.args.owner c.requires.task)
+    look_comes c.args.pre.now c.args.p.now.me.0.view c.args.who c.requires.stands c.args.owner _ c.in-Clear.ensures.looked _ (owner_next c.args.pre.now c.args.p.now.me.0.view c.args.who c.requires.stands c.args.place c.args.owner c.requires.task)
 
 pub returns-in-NotYet-clause-went : goal.returns-in-NotYet-clause-went
-returns-in-NotYet-clause-went g c = wait_went c.args.pre.now c.args.p.now.me.0 c.args.who c.requires.stands c.args.owner c.in-NotYet.seat c.in-NotYet.seen _ c.in-NotYet.ensures.looked
+returns-in-NotYet-clause-went g c = wait_went c.args.pre.now c.args.p.now.me.0.view c.args.who c.requires.stands c.args.owner c.in-NotYet.seat c.in-NotYet.seen _ c.in-NotYet.ensures.looked
 
 pub returns-in-NotYet-clause-stands : goal.returns-in-NotYet-clause-stands
-returns-in-NotYet-clause-stands g c = wait_stands c.args.pre.now c.args.p.now.me.0 c.args.who c.requires.stands c.args.owner c.in-NotYet.seat c.in-NotYet.seen _ c.in-NotYet.ensures.looked
+returns-in-NotYet-clause-stands g c = wait_stands c.args.pre.now c.args.p.now.me.0.view c.args.who c.requires.stands c.args.owner c.in-NotYet.seat c.in-NotYet.seen _ c.in-NotYet.ensures.looked
 
 pub returns-in-NotYet-clause-stops : goal.returns-in-NotYet-clause-stops
 returns-in-NotYet-clause-stops g c =
-    wait_stops c.args.pre.now c.args.p.now.me.0 c.args.who c.requires.stands c.args.owner c.in-NotYet.seat c.in-NotYet.seen _ c.in-NotYet.ensures.looked
-    (owner_other c.args.pre.now c.args.p.now.me.0 c.args.who c.requires.stands c.args.place c.args.owner c.requires.task).another
+    wait_stops c.args.pre.now c.args.p.now.me.0.view c.args.who c.requires.stands c.args.owner c.in-NotYet.seat c.in-NotYet.seen _ c.in-NotYet.ensures.looked
+    (owner_other c.args.pre.now c.args.p.now.me.0.view c.args.who c.requires.stands c.args.place c.args.owner c.requires.task).another

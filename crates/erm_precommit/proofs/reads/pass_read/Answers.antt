@@ -1,4 +1,5 @@
 use Rattle.std.proofs.lemmas.Result.{err_from_is_err_and}
+use Rattle.erm_rule.proofs.Courses.{goes_both}
 use Rattle.erm_precommit.proofs.Standing.{then_on}
 use Rattle.erm_precommit.proofs.reads.pass_read.Goals as goal
 
@@ -6,4 +7,7 @@ pub returns-in_err-pass_owner-clause-waits : goal.returns-in_err-pass_owner-clau
 returns-in_err-pass_owner-clause-waits g c = let p = err_from_is_err_and c.from_residual.result c.from_residual.ensures.1 in rw (p.1, p.2) c.in_err-pass_owner.ensures.waits
 
 pub returns-clause-went : goal.returns-clause-went
-returns-clause-went g c = then_on c.args.p.now.me.0 c.args.who c.requires.stands.sealed _ _ c.pass_owner.ensures.went c.rate_read.ensures.went
+returns-clause-went g c = then_on c.args.p.now.me.0.view c.args.who c.requires.stands.sealed _ _ c.pass_owner.ensures.went c.rate_read.ensures.went
+
+pub returns-clause-goes : goal.returns-clause-goes
+returns-clause-goes g c = goes_both c.args.p.now.me.0 _ _ c.pass_owner.ensures.goes c.rate_read.ensures.goes

@@ -1,6 +1,7 @@
 use Rattle.std.proofs.Common.{◌≡◌, ℕ, length, arith, ap, ◌∙◌}
 use Rattle.erm_machine.specs.declared.task.Task.TheVariants as task
 use Rattle.std.proofs.lemmas.Result.{err_from_is_err_and}
+use Rattle.erm_rule.proofs.Courses.{goes_both, seen_after, seen_nothing}
 use Rattle.erm_precommit.proofs.Causes.{waits_since}
 use Rattle.erm_precommit.proofs.Loops.{reads_same}
 use Rattle.erm_precommit.proofs.Standing.{stays, then_on}
@@ -8,12 +9,12 @@ use Rattle.erm_precommit.proofs.reads.pass_reads.Goals as goal
 
 pub loop-place-init : goal.loop-place-init
 loop-place-init g c =
-    (c.requires.fits, record { went = stays c.args.p.now.me.0 c.args.who c.requires.stands.sealed c.requires.stands.known; stands = c.requires.stands; task = c.requires.task })
+    (c.requires.fits, record { went = stays c.args.p.now.me.0.view c.args.who c.requires.stands.sealed c.requires.stands.known; stands = c.requires.stands; task = c.requires.task }, seen_nothing c.args.p.now.me.0)
 
 pub pass_read-requires-clause-place : goal.pass_read-requires-clause-place
 pass_read-requires-clause-place g c =
     let i = c.loop-place.invariant.1 in
-    let same = reads_same c.args.pre.now c.loop-place.pre c.args.p.now.me.0 c.loop-place.p.me.0 c.args.who c.requires.stands i.went i.stands in
+    let same = reads_same c.args.pre.now c.loop-place.pre c.args.p.now.me.0.view c.loop-place.p.me.0.view c.args.who c.requires.stands i.went i.stands in
     omega (arith, same)
 
 pub loop-place-preserved : goal.loop-place-preserved
@@ -21,23 +22,32 @@ loop-place-preserved g c =
     let i = c.loop-place.invariant.1 in (
       c.pass_read.ensures.fits,
       record {
-        went = then_on c.args.p.now.me.0 c.args.who c.requires.stands.sealed _ _ i.went c.pass_read.ensures.went;
+        went = then_on c.args.p.now.me.0.view c.args.who c.requires.stands.sealed _ _ i.went c.pass_read.ensures.went;
         stands = c.pass_read.ensures.stands;
         task = c.in_ok-pass_read.ensures.passed;
       },
+      goes_both c.args.p.now.me.0 _ _ c.loop-place.invariant.2 c.pass_read.ensures.goes,
     )
 
 pub returns-in_err-pass_read-clause-went : goal.returns-in_err-pass_read-clause-went
-returns-in_err-pass_read-clause-went g c = then_on c.args.p.now.me.0 c.args.who c.requires.stands.sealed _ _ c.loop-place.invariant.1.went c.pass_read.ensures.went
+returns-in_err-pass_read-clause-went g c = then_on c.args.p.now.me.0.view c.args.who c.requires.stands.sealed _ _ c.loop-place.invariant.1.went c.pass_read.ensures.went
 
 pub returns-in_err-pass_read-clause-waits : goal.returns-in_err-pass_read-clause-waits
 returns-in_err-pass_read-clause-waits g c =
     let p = err_from_is_err_and c.from_residual.result c.from_residual.ensures.1 in
-    rw (p.1, p.2) (waits_since c.args.p.now.me.0 c.args.who c.requires.stands.sealed _ c.loop-place.invariant.1.went _ _ _ c.in_err-pass_read.ensures.waits)
+    rw (p.1, p.2) (waits_since c.args.p.now.me.0.view c.args.who c.requires.stands.sealed _ c.loop-place.invariant.1.went _ _ _ c.in_err-pass_read.ensures.waits)
 
 pub returns-clause-passed : goal.returns-clause-passed
 returns-clause-passed g c =
     let i = c.loop-place.invariant.1 in
-    let same = reads_same c.args.pre.now c.loop-place.pre c.args.p.now.me.0 c.loop-place.p.me.0 c.args.who c.requires.stands i.went i.stands in
+    let same = reads_same c.args.pre.now c.loop-place.pre c.args.p.now.me.0.view c.loop-place.p.me.0.view c.args.who c.requires.stands i.went i.stands in
     let all : c.loop-place.place ≡ length c.loop-place.pre.reads.items = omega (arith, same) in
     i.task ∙ ap (λ (n : ℕ). task.Settles n 0) all
+
+pub returns-in_err-pass_read-clause-goes : goal.returns-in_err-pass_read-clause-goes
+returns-in_err-pass_read-clause-goes g c = goes_both c.args.p.now.me.0 _ _ c.loop-place.invariant.2 c.pass_read.ensures.goes
+
+pub returns-in_err-pass_read-clause-met : goal.returns-in_err-pass_read-clause-met
+returns-in_err-pass_read-clause-met g c =
+    let p = err_from_is_err_and c.from_residual.result c.from_residual.ensures.1 in
+    rw (p.1, p.2) (seen_after c.args.p.now.me.0 _ _ _ c.loop-place.invariant.2 c.in_err-pass_read.ensures.met)

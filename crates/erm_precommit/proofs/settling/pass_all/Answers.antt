@@ -1,4 +1,5 @@
 use Rattle.std.proofs.lemmas.Result.{err_from_is_err_and, IfErr-weaker}
+use Rattle.erm_rule.proofs.Courses.{goes_both, seen_after}
 use Rattle.erm_precommit.proofs.Causes.{waits_since}
 use Rattle.erm_precommit.proofs.Standing.{then_on}
 use Rattle.erm_precommit.proofs.settling.pass_all.Goals as goal
@@ -7,8 +8,14 @@ pub returns-in_err-pass_reads-clause-waits : goal.returns-in_err-pass_reads-clau
 returns-in_err-pass_reads-clause-waits g c = let p = err_from_is_err_and c.from_residual.result c.from_residual.ensures.1 in rw (p.1, p.2) c.in_err-pass_reads.ensures.waits
 
 pub returns-clause-went : goal.returns-clause-went
-returns-clause-went g c = then_on c.args.p.now.me.0 c.args.who c.requires.stands.sealed _ _ c.pass_reads.ensures.went c.pass_writes.ensures.went
+returns-clause-went g c = then_on c.args.p.now.me.0.view c.args.who c.requires.stands.sealed _ _ c.pass_reads.ensures.went c.pass_writes.ensures.went
 
 pub returns-clause-waits : goal.returns-clause-waits
 returns-clause-waits g c =
-    IfErr-weaker c.pass_writes.result _ _ (λ wait h. waits_since c.args.p.now.me.0 c.args.who c.requires.stands.sealed _ c.pass_reads.ensures.went wait.seat wait.seen _ h) c.pass_writes.ensures.waits
+    IfErr-weaker c.pass_writes.result _ _ (λ wait h. waits_since c.args.p.now.me.0.view c.args.who c.requires.stands.sealed _ c.pass_reads.ensures.went wait.seat wait.seen _ h) c.pass_writes.ensures.waits
+
+pub returns-clause-goes : goal.returns-clause-goes
+returns-clause-goes g c = goes_both c.args.p.now.me.0 _ _ c.pass_reads.ensures.goes c.pass_writes.ensures.goes
+
+pub returns-clause-met : goal.returns-clause-met
+returns-clause-met g c = IfErr-weaker c.pass_writes.result _ _ (λ wait met. seen_after c.args.p.now.me.0 _ _ _ c.pass_reads.ensures.goes met) c.pass_writes.ensures.met

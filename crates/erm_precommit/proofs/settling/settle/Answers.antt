@@ -1,16 +1,26 @@
+use Rattle.erm_rule.proofs.Courses.{goes_both, seen_after}
 use Rattle.erm_precommit.proofs.Causes.{waits_since}
 use Rattle.erm_precommit.proofs.Standing.{then_on}
 use Rattle.erm_precommit.proofs.Windows.{is_ready}
 use Rattle.erm_precommit.proofs.settling.settle.Goals as goal
 
 pub returns-in-Ok-clause-went : goal.returns-in-Ok-clause-went
-returns-in-Ok-clause-went g c = then_on c.args.p.now.me.0 c.args.who c.requires.sealed _ _ c.start.ensures.went c.pass_all.ensures.went
+returns-in-Ok-clause-went g c = then_on c.args.p.now.me.0.view c.args.who c.requires.sealed _ _ c.start.ensures.went c.pass_all.ensures.went
 
 pub returns-in-Ok-clause-settled : goal.returns-in-Ok-clause-settled
 returns-in-Ok-clause-settled g c = is_ready _ _ c.args.who c.pass_all.ensures.stands c.in-Ok.ensures.passed
 
 pub returns-in-Err-pass_all-clause-went : goal.returns-in-Err-pass_all-clause-went
-returns-in-Err-pass_all-clause-went g c = then_on c.args.p.now.me.0 c.args.who c.requires.sealed _ _ c.start.ensures.went c.pass_all.ensures.went
+returns-in-Err-pass_all-clause-went g c = then_on c.args.p.now.me.0.view c.args.who c.requires.sealed _ _ c.start.ensures.went c.pass_all.ensures.went
 
 pub returns-in-Err-pass_all-clause-settled : goal.returns-in-Err-pass_all-clause-settled
-returns-in-Err-pass_all-clause-settled g c = waits_since c.args.p.now.me.0 c.args.who c.requires.sealed _ c.start.ensures.went _ _ _ c.in-Err-pass_all.ensures.waits
+returns-in-Err-pass_all-clause-settled g c = waits_since c.args.p.now.me.0.view c.args.who c.requires.sealed _ c.start.ensures.went _ _ _ c.in-Err-pass_all.ensures.waits
+
+pub returns-in-Ok-clause-goes : goal.returns-in-Ok-clause-goes
+returns-in-Ok-clause-goes g c = goes_both c.args.p.now.me.0 _ _ c.start.ensures.goes c.pass_all.ensures.goes
+
+pub returns-in-Err-pass_all-clause-goes : goal.returns-in-Err-pass_all-clause-goes
+returns-in-Err-pass_all-clause-goes g c = goes_both c.args.p.now.me.0 _ _ c.start.ensures.goes c.pass_all.ensures.goes
+
+pub returns-in-Err-pass_all-clause-met : goal.returns-in-Err-pass_all-clause-met
+returns-in-Err-pass_all-clause-met g c = seen_after c.args.p.now.me.0 _ _ _ c.start.ensures.goes c.in-Err-pass_all.ensures.met

@@ -5,52 +5,52 @@ use Rattle.erm_precommit.proofs.Looks.{look_taken, look_bound, look_went, look_c
 use Rattle.erm_precommit.proofs.writes.look_at_least.Goals as goal
 
 pub look-requires-clause-taken : goal.look-requires-clause-taken
-look-requires-clause-taken g c = look_taken c.args.pre.now c.args.p.now.me.0 c.args.who c.requires.stands
+look-requires-clause-taken g c = look_taken c.args.pre.now c.args.p.now.me.0.view c.args.who c.requires.stands
 
 pub look-requires-clause-other : goal.look-requires-clause-other
-look-requires-clause-other g c = (least_other c.args.pre.now c.args.p.now.me.0 c.args.who c.requires.stands c.args.place c.args.bits c.requires.task).another
+look-requires-clause-other g c = (least_other c.args.pre.now c.args.p.now.me.0.view c.args.who c.requires.stands c.args.place c.args.bits c.requires.task).another
 
 pub look-requires-clause-seat : goal.look-requires-clause-seat
-look-requires-clause-seat g c = (least_other c.args.pre.now c.args.p.now.me.0 c.args.who c.requires.stands c.args.place c.args.bits c.requires.task).has_words
+look-requires-clause-seat g c = (least_other c.args.pre.now c.args.p.now.me.0.view c.args.who c.requires.stands c.args.place c.args.bits c.requires.task).has_words
 
 pub look-requires-clause-bound : goal.look-requires-clause-bound
-look-requires-clause-bound g c = look_bound c.args.pre.now c.args.p.now.me.0 c.args.who c.requires.stands
+look-requires-clause-bound g c = look_bound c.args.pre.now c.args.p.now.me.0.view c.args.who c.requires.stands
 
 pub without_bit-requires : goal.without_bit-requires
-without_bit-requires g c = let low = least_low c.args.pre.now c.args.p.now.me.0 c.args.who c.requires.stands c.args.place c.args.bits c.requires.task in omega (arith, low)
+without_bit-requires g c = let low = least_low c.args.pre.now c.args.p.now.me.0.view c.args.who c.requires.stands c.args.place c.args.bits c.requires.task in omega (arith, low)
 
 pub returns-in-Clear-clause-went : goal.returns-in-Clear-clause-went
 returns-in-Clear-clause-went g c =
-    look_went c.args.pre.now c.args.p.now.me.0 c.args.who c.requires.stands _ _ c.in-Clear.ensures.looked _ (least_next c.args.pre.now c.args.p.now.me.0 c.args.who c.requires.stands c.args.place c.args.bits c.requires.task)
+    look_went c.args.pre.now c.args.p.now.me.0.view c.args.who c.requires.stands _ _ c.in-Clear.ensures.looked _ (least_next c.args.pre.now c.args.p.now.me.0.view c.args.who c.requires.stands c.args.place c.args.bits c.requires.task)
 
 pub returns-in-Clear-clause-stands : goal.returns-in-Clear-clause-stands
 returns-in-Clear-clause-stands g c =
-    look_stands c.args.pre.now c.args.p.now.me.0 c.args.who c.requires.stands _ _ c.in-Clear.ensures.looked _ (least_next c.args.pre.now c.args.p.now.me.0 c.args.who c.requires.stands c.args.place c.args.bits c.requires.task) (may_readers c.args.place _)
+    look_stands c.args.pre.now c.args.p.now.me.0.view c.args.who c.requires.stands _ _ c.in-Clear.ensures.looked _ (least_next c.args.pre.now c.args.p.now.me.0.view c.args.who c.requires.stands c.args.place c.args.bits c.requires.task) (may_readers c.args.place _)
 
 pub returns-in-Clear-clause-left : goal.returns-in-Clear-clause-left
 returns-in-Clear-clause-left g c =
-    look_comes c.args.pre.now c.args.p.now.me.0 c.args.who c.requires.stands _ _ c.in-Clear.ensures.looked _ (least_next c.args.pre.now c.args.p.now.me.0 c.args.who c.requires.stands c.args.place c.args.bits c.requires.task)
+    look_comes c.args.pre.now c.args.p.now.me.0.view c.args.who c.requires.stands _ _ c.in-Clear.ensures.looked _ (least_next c.args.pre.now c.args.p.now.me.0.view c.args.who c.requires.stands c.args.place c.args.bits c.requires.task)
     ∙ ap (λ (n : ℕ). readers_task c.args.place n) (sym c.without_bit.ensures)
 
 pub returns-in-Clear-clause-fewer : goal.returns-in-Clear-clause-fewer
-returns-in-Clear-clause-fewer g c = subst (λ (n : ℕ). n < c.args.bits) (sym c.without_bit.ensures) (least_fewer c.args.pre.now c.args.p.now.me.0 c.args.who c.requires.stands c.args.place c.args.bits c.requires.task)
+returns-in-Clear-clause-fewer g c = subst (λ (n : ℕ). n < c.args.bits) (sym c.without_bit.ensures) (least_fewer c.args.pre.now c.args.p.now.me.0.view c.args.who c.requires.stands c.args.place c.args.bits c.requires.task)
 
 pub returns-in-Clear-clause-among : goal.returns-in-Clear-clause-among
-returns-in-Clear-clause-among g c q one = least_among c.args.pre.now c.args.p.now.me.0 c.args.who c.requires.stands c.args.place c.args.bits c.requires.task q (ap (λ (n : ℕ). bit_at n q) (sym c.without_bit.ensures) ∙ one)
+returns-in-Clear-clause-among g c q one = least_among c.args.pre.now c.args.p.now.me.0.view c.args.who c.requires.stands c.args.place c.args.bits c.requires.task q (ap (λ (n : ℕ). bit_at n q) (sym c.without_bit.ensures) ∙ one)
 
 pub returns-in-Clear-clause-set : goal.returns-in-Clear-clause-set
-returns-in-Clear-clause-set g c = least_set c.args.pre.now c.args.p.now.me.0 c.args.who c.requires.stands c.args.place c.args.bits c.requires.task
+returns-in-Clear-clause-set g c = least_set c.args.pre.now c.args.p.now.me.0.view c.args.who c.requires.stands c.args.place c.args.bits c.requires.task
 
 pub returns-in-NotYet-clause-set : goal.returns-in-NotYet-clause-set
-returns-in-NotYet-clause-set g c = least_set c.args.pre.now c.args.p.now.me.0 c.args.who c.requires.stands c.args.place c.args.bits c.requires.task
+returns-in-NotYet-clause-set g c = least_set c.args.pre.now c.args.p.now.me.0.view c.args.who c.requires.stands c.args.place c.args.bits c.requires.task
 
 pub returns-in-NotYet-clause-went : goal.returns-in-NotYet-clause-went
-returns-in-NotYet-clause-went g c = wait_went c.args.pre.now c.args.p.now.me.0 c.args.who c.requires.stands _ c.in-NotYet.seat c.in-NotYet.seen _ c.in-NotYet.ensures.looked
+returns-in-NotYet-clause-went g c = wait_went c.args.pre.now c.args.p.now.me.0.view c.args.who c.requires.stands _ c.in-NotYet.seat c.in-NotYet.seen _ c.in-NotYet.ensures.looked
 
 pub returns-in-NotYet-clause-stands : goal.returns-in-NotYet-clause-stands
-returns-in-NotYet-clause-stands g c = wait_stands c.args.pre.now c.args.p.now.me.0 c.args.who c.requires.stands _ c.in-NotYet.seat c.in-NotYet.seen _ c.in-NotYet.ensures.looked
+returns-in-NotYet-clause-stands g c = wait_stands c.args.pre.now c.args.p.now.me.0.view c.args.who c.requires.stands _ c.in-NotYet.seat c.in-NotYet.seen _ c.in-NotYet.ensures.looked
 
 pub returns-in-NotYet-clause-stops : goal.returns-in-NotYet-clause-stops
 returns-in-NotYet-clause-stops g c =
-    wait_stops c.args.pre.now c.args.p.now.me.0 c.args.who c.requires.stands _ c.in-NotYet.seat c.in-NotYet.seen _ c.in-NotYet.ensures.looked
-    (least_other c.args.pre.now c.args.p.now.me.0 c.args.who c.requires.stands c.args.place c.args.bits c.requires.task).another
+    wait_stops c.args.pre.now c.args.p.now.me.0.view c.args.who c.requires.stands _ c.in-NotYet.seat c.in-NotYet.seen _ c.in-NotYet.ensures.looked
+    (least_other c.args.pre.now c.args.p.now.me.0.view c.args.who c.requires.stands c.args.place c.args.bits c.requires.task).another

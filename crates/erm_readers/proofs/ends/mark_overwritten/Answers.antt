@@ -3,28 +3,28 @@ use Rattle.erm_readers.proofs.Ending.{cell_of_stepped, did_mark, has_decided, ha
 use Rattle.erm_readers.proofs.ends.mark_overwritten.Goals as goal
 
 pub store_succ-requires-clause-held : goal.store_succ-requires-clause-held
-store_succ-requires-clause-held g c = is_held c.args.p.now.me.0 c.args.who _ (has_decided c.args.p.now.me.0 c.args.who c.requires.known c.requires.decided c.requires.committed)
+store_succ-requires-clause-held g c = is_held c.args.p.now.me.0.view c.args.who _ (has_decided c.args.p.now.me.0.view c.args.who c.requires.known c.requires.decided c.requires.committed)
 
 pub store_succ-requires-clause-object : goal.store_succ-requires-clause-object
-store_succ-requires-clause-object g c = object_of_ended c.args.p.now.me.0 c.args.who c.requires.known c.requires.decided c.requires.committed c.requires.marking c.args.stamp c.args.succ c.requires.stamp c.requires.succ
+store_succ-requires-clause-object g c = object_of_ended c.args.p.now.me.0.view c.args.who c.requires.known c.requires.decided c.requires.committed c.requires.marking c.args.stamp c.args.succ c.requires.stamp c.requires.succ
 
 pub store_succ-requires-clause-ready : goal.store_succ-requires-clause-ready
-store_succ-requires-clause-ready g c = ready_succ c.args.p.now.me.0 c.args.who c.requires.known c.requires.decided c.requires.committed c.requires.marking c.args.stamp c.args.succ c.requires.stamp c.requires.succ
+store_succ-requires-clause-ready g c = ready_succ c.args.p.now.me.0.view c.args.who c.requires.known c.requires.decided c.requires.committed c.requires.marking c.args.stamp c.args.succ c.requires.stamp c.requires.succ
 
 pub store_overwriter-requires-clause-held : goal.store_overwriter-requires-clause-held
-store_overwriter-requires-clause-held g c = is_held _ c.args.who _ (has_stepped c.args.p.now.me.0 c.args.who c.requires.known c.requires.decided c.requires.committed c.requires.marking c.args.stamp c.args.succ c.requires.stamp c.requires.succ c.args.cell c.store_succ.ensures.told.0 c.requires.cell _ c.store_succ.ensures.told.1.told)
+store_overwriter-requires-clause-held g c = is_held _ c.args.who _ (has_stepped c.args.p.now.me.0.view c.args.who c.requires.known c.requires.decided c.requires.committed c.requires.marking c.args.stamp c.args.succ c.requires.stamp c.requires.succ c.args.cell c.store_succ.ensures.told.0 c.requires.cell _ c.store_succ.ensures.told.1.told)
 
 pub store_overwriter-requires-clause-known : goal.store_overwriter-requires-clause-known
-store_overwriter-requires-clause-known g c = known_stepped c.args.p.now.me.0 c.args.who c.requires.known c.requires.decided c.requires.committed c.requires.marking c.args.stamp c.args.succ c.requires.stamp c.requires.succ c.args.cell c.store_succ.ensures.told.0 c.requires.cell _ c.store_succ.ensures.told.1.told
+store_overwriter-requires-clause-known g c = known_stepped c.args.p.now.me.0.view c.args.who c.requires.known c.requires.decided c.requires.committed c.requires.marking c.args.stamp c.args.succ c.requires.stamp c.requires.succ c.args.cell c.store_succ.ensures.told.0 c.requires.cell _ c.store_succ.ensures.told.1.told
 
 pub store_overwriter-requires-clause-object : goal.store_overwriter-requires-clause-object
-store_overwriter-requires-clause-object g c = object_of_stepped c.args.p.now.me.0 c.args.who c.requires.known c.requires.decided c.requires.committed c.requires.marking c.args.stamp c.args.succ c.requires.stamp c.requires.succ c.args.cell c.store_succ.ensures.told.0 c.requires.cell _ c.store_succ.ensures.told.1.told
+store_overwriter-requires-clause-object g c = object_of_stepped c.args.p.now.me.0.view c.args.who c.requires.known c.requires.decided c.requires.committed c.requires.marking c.args.stamp c.args.succ c.requires.stamp c.requires.succ c.args.cell c.store_succ.ensures.told.0 c.requires.cell _ c.store_succ.ensures.told.1.told
 
 pub store_overwriter-requires-clause-cell : goal.store_overwriter-requires-clause-cell
-store_overwriter-requires-clause-cell g c = cell_of_stepped c.args.p.now.me.0 c.args.who c.requires.known c.requires.decided c.requires.committed c.requires.marking c.args.stamp c.args.succ c.requires.stamp c.requires.succ c.args.cell c.store_succ.ensures.told.0 c.requires.cell _ c.store_succ.ensures.told.1.told
+store_overwriter-requires-clause-cell g c = cell_of_stepped c.args.p.now.me.0.view c.args.who c.requires.known c.requires.decided c.requires.committed c.requires.marking c.args.stamp c.args.succ c.requires.stamp c.requires.succ c.args.cell c.store_succ.ensures.told.0 c.requires.cell _ c.store_succ.ensures.told.1.told
 
 pub store_overwriter-requires-clause-ready : goal.store_overwriter-requires-clause-ready
-store_overwriter-requires-clause-ready g c = ready_mark c.args.p.now.me.0 c.args.who c.requires.known c.requires.decided c.requires.committed c.requires.marking c.args.stamp c.args.succ c.requires.stamp c.requires.succ c.args.cell c.store_succ.ensures.told.0 c.requires.cell _ c.store_succ.ensures.told.1.told
+store_overwriter-requires-clause-ready g c = ready_mark c.args.p.now.me.0.view c.args.who c.requires.known c.requires.decided c.requires.committed c.requires.marking c.args.stamp c.args.succ c.requires.stamp c.requires.succ c.args.cell c.store_succ.ensures.told.0 c.requires.cell _ c.store_succ.ensures.told.1.told
 
 pub returns-clause-marked : goal.returns-clause-marked
-returns-clause-marked g c = did_mark c.args.p.now.me.0 c.args.who c.requires.known c.requires.decided c.requires.committed c.requires.marking c.args.stamp c.args.succ c.requires.stamp c.requires.succ c.args.cell c.store_succ.ensures.told.0 c.requires.cell _ c.store_succ.ensures.told.1.told c.store_overwriter.ensures.told.0 _ c.store_overwriter.ensures.told.1.told
+returns-clause-marked g c = did_mark c.args.p.now.me.0.view c.args.who c.requires.known c.requires.decided c.requires.committed c.requires.marking c.args.stamp c.args.succ c.requires.stamp c.requires.succ c.args.cell c.store_succ.ensures.told.0 c.requires.cell _ c.store_succ.ensures.told.1.told c.store_overwriter.ensures.told.0 _ c.store_overwriter.ensures.told.1.told

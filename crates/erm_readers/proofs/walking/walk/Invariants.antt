@@ -5,7 +5,7 @@ use Rattle.erm_readers.proofs.Walked.{WalksOn}
 use Rattle.erm_readers.proofs.walking.walk.Given as goal
 
 abbrev pub invariant-loop-who : goal.invariant-loop-who
-invariant-loop-who g l = Fits l.t.words.shared.table_id l.p × WalksOn l.fn.p.me.0 l.who l.at l.p.me.0
+invariant-loop-who g l = Fits l.t.words.shared.table_id l.p × WalksOn l.fn.p.me.0.view l.who l.at l.p.me.0.view
 
 abbrev pub decreases-loop-who : goal.decreases-loop-who
-decreases-loop-who g l = (in_hand (part_of l.p.me.0 l.who).task).place
+decreases-loop-who g l = (in_hand (part_of l.p.me.0.view l.who).task).place

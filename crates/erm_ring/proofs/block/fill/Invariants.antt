@@ -3,4 +3,4 @@ use Rattle.erm_ring.proofs.Filling.{FillLoop}
 use Rattle.erm_ring.proofs.block.fill.Given as goal
 
 abbrev pub invariant-loop-k : goal.invariant-loop-k
-invariant-loop-k g l = Fits l.t.words.shared.table_id l.p × FillLoop l.fn.p.me.0 l.who l.words l.k l.p.me.0
+invariant-loop-k g l = Fits l.t.words.shared.table_id l.p × FillLoop l.fn.p.me.0.view l.who l.words l.k l.p.me.0.view

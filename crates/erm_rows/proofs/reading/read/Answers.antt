@@ -3,4 +3,4 @@ use Rattle.erm_rows.proofs.reading.read.Goals as goal
 
 pub returns-in-Some-clause-refused : goal.returns-in-Some-clause-refused
 returns-in-Some-clause-refused g c =
-    excludes c.args.p.now.me.0 c.args.who c.args.oid c.requires.active c.in-Ok.row _ c.in-Ok.ensures.read _ c.in-Ok.ensures.kept c.in-Some.succ c.in-Some.pred c.in-Some.ensures
+    excludes c.args.p.now.me.0.view c.args.who c.args.oid c.requires.active c.in-Ok.row _ c.in-Ok.ensures.read _ c.in-Ok.ensures.kept c.in-Some.succ c.in-Some.pred c.in-Some.ensures

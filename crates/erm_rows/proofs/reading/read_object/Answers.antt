@@ -2,22 +2,22 @@ use Rattle.erm_rows.proofs.Reached.{active_there, kept_there, kept_waiting, obje
 use Rattle.erm_rows.proofs.reading.read_object.Goals as goal
 
 pub returns-in_err-entry-clause-kept : goal.returns-in_err-entry-clause-kept
-returns-in_err-entry-clause-kept g c = kept_waiting c.args.p.now.me.0 c.args.who c.args.oid c.requires.active c.args.txn.now _ _ c.requires.kept c.in_err-entry.ensures.waits
+returns-in_err-entry-clause-kept g c = kept_waiting c.args.p.now.me.0.view c.args.who c.args.oid c.requires.active c.args.txn.now _ _ c.requires.kept c.in_err-entry.ensures.waits
 
 pub read_version-requires-clause-active : goal.read_version-requires-clause-active
-read_version-requires-clause-active g c = active_there c.args.p.now.me.0 c.args.who c.args.oid c.requires.active c.in_ok-entry.entry _ c.in_ok-entry.ensures.spelled c.in_ok-entry.ensures.reached
+read_version-requires-clause-active g c = active_there c.args.p.now.me.0.view c.args.who c.args.oid c.requires.active c.in_ok-entry.entry _ c.in_ok-entry.ensures.spelled c.in_ok-entry.ensures.reached
 
 pub read_version-requires-clause-kept : goal.read_version-requires-clause-kept
-read_version-requires-clause-kept g c = kept_there c.args.p.now.me.0 c.args.who c.args.oid c.requires.active c.in_ok-entry.entry _ c.in_ok-entry.ensures.spelled c.in_ok-entry.ensures.reached c.args.txn.now c.requires.kept
+read_version-requires-clause-kept g c = kept_there c.args.p.now.me.0.view c.args.who c.args.oid c.requires.active c.in_ok-entry.entry _ c.in_ok-entry.ensures.spelled c.in_ok-entry.ensures.reached c.args.txn.now c.requires.kept
 
 pub read_version-requires-clause-walks : goal.read_version-requires-clause-walks
-read_version-requires-clause-walks g c = walks_there c.args.p.now.me.0 c.args.who c.args.oid c.requires.active c.in_ok-entry.entry _ c.in_ok-entry.ensures.spelled c.in_ok-entry.ensures.reached
+read_version-requires-clause-walks g c = walks_there c.args.p.now.me.0.view c.args.who c.args.oid c.requires.active c.in_ok-entry.entry _ c.in_ok-entry.ensures.spelled c.in_ok-entry.ensures.reached
 
 pub read_version-requires-clause-object : goal.read_version-requires-clause-object
-read_version-requires-clause-object g c = object_there c.args.p.now.me.0 c.args.who c.args.oid c.requires.active c.in_ok-entry.entry _ c.in_ok-entry.ensures.spelled c.in_ok-entry.ensures.reached
+read_version-requires-clause-object g c = object_there c.args.p.now.me.0.view c.args.who c.args.oid c.requires.active c.in_ok-entry.entry _ c.in_ok-entry.ensures.spelled c.in_ok-entry.ensures.reached
 
 pub read_version-requires-clause-unread : goal.read_version-requires-clause-unread
-read_version-requires-clause-unread g c = unread_there c.args.p.now.me.0 c.args.who c.args.oid c.requires.active c.in_ok-entry.entry _ c.in_ok-entry.ensures.spelled c.in_ok-entry.ensures.reached c.requires.unread
+read_version-requires-clause-unread g c = unread_there c.args.p.now.me.0.view c.args.who c.args.oid c.requires.active c.in_ok-entry.entry _ c.in_ok-entry.ensures.spelled c.in_ok-entry.ensures.reached c.requires.unread
 
 pub returns-clause-read : goal.returns-clause-read
-returns-clause-read g c = read_from c.args.p.now.me.0 c.args.who c.args.oid c.requires.active c.in_ok-entry.entry _ c.in_ok-entry.ensures.spelled c.in_ok-entry.ensures.reached c.read_version.result _ c.read_version.ensures.read c.read_version.ensures.unnoted
+returns-clause-read g c = read_from c.args.p.now.me.0.view c.args.who c.args.oid c.requires.active c.in_ok-entry.entry _ c.in_ok-entry.ensures.spelled c.in_ok-entry.ensures.reached c.read_version.result _ c.read_version.ensures.read c.read_version.ensures.unnoted

@@ -1,3 +1,4 @@
+use Rattle.erm_rule.proofs.Courses.{goes_both, goes_step}
 use Rattle.std.proofs.Common.{ap, sym, subst, ◌∙◌}
 use Rattle.erm_model.specs.declared.row_stop.RowStop.{RowStop}
 use Rattle.erm_rule.proofs.Telling.{is_held}
@@ -10,35 +11,38 @@ use Rattle.erm_rows.proofs.taking.exchange.Goals as goal
 
 pub returns-then-found-ne0-clause-lost : goal.returns-then-found-ne0-clause-lost
 returns-then-found-ne0-clause-lost g c =
-    subst (λ (s : RowStop). DidNotExchange c.args.p.now.me.0 c.args.who c.args.oid (word_of c.args.seen.now) s c.claim.new.p.me.0) (sym c.owned.ensures)
-    (meets_owner c.args.p.now.me.0 c.args.who c.args.oid c.requires.active c.requires.object c.requires.unclaimed (word_of c.in-Err.found) _
-    (enters_lost c.args.p.now.me.0 c.args.who c.args.oid (word_of c.args.seen.now) (word_of c.in-Err.found) _
+    subst (λ (s : RowStop). DidNotExchange c.args.p.now.me.0.view c.args.who c.args.oid (word_of c.args.seen.now) s c.claim.new.p.me.0.view) (sym c.owned.ensures)
+    (meets_owner c.args.p.now.me.0.view c.args.who c.args.oid c.requires.active c.requires.object c.requires.unclaimed (word_of c.in-Err.found) _
+    (enters_lost c.args.p.now.me.0.view c.args.who c.args.oid (word_of c.args.seen.now) (word_of c.in-Err.found) _
     (λ none. c.if-found-ne0.true (sym (ap (λ (e : Entry). e.owner) c.in-Err.ensures.lost.spelled) ∙ none)) c.in-Err.ensures.lost.loses)
     c.in-Err.found c.in-Err.ensures.lost.spelled c.if-found-ne0.true)
 
 pub load_walked-stamp-requires-clause-held : goal.load_walked-stamp-requires-clause-held
 load_walked-stamp-requires-clause-held g c =
     is_held _ c.args.who _
-    (has_passes c.args.p.now.me.0 c.args.who c.requires.active c.args.oid (word_of c.args.seen.now) (word_of c.in-Err.found) c.requires.object c.claim.new.p.me.0 c.in-Err.ensures.lost.loses
+    (has_passes c.args.p.now.me.0.view c.args.who c.requires.active c.args.oid (word_of c.args.seen.now) (word_of c.in-Err.found) c.requires.object c.claim.new.p.me.0.view c.in-Err.ensures.lost.loses
     (ap (λ (e : Entry). e.owner) c.in-Err.ensures.lost.spelled ∙ c.if-found-ne0.false) c.in-Err.ensures.lost.other c.requires.plain)
 
 pub load_walked-stamp-requires-clause-object : goal.load_walked-stamp-requires-clause-object
 load_walked-stamp-requires-clause-object g c =
-    object_passed c.args.p.now.me.0 c.args.who c.requires.active c.args.oid (word_of c.args.seen.now) (word_of c.in-Err.found) c.requires.object c.claim.new.p.me.0 c.in-Err.ensures.lost.loses
+    object_passed c.args.p.now.me.0.view c.args.who c.requires.active c.args.oid (word_of c.args.seen.now) (word_of c.in-Err.found) c.requires.object c.claim.new.p.me.0.view c.in-Err.ensures.lost.loses
     (ap (λ (e : Entry). e.owner) c.in-Err.ensures.lost.spelled ∙ c.if-found-ne0.false) c.in-Err.ensures.lost.other c.requires.plain
 
 pub load_walked-stamp-requires-clause-cell : goal.load_walked-stamp-requires-clause-cell
 load_walked-stamp-requires-clause-cell g c =
-    cell_passed c.args.p.now.me.0 c.args.who c.requires.active c.args.oid (word_of c.args.seen.now) (word_of c.in-Err.found) c.requires.object c.claim.new.p.me.0 c.in-Err.ensures.lost.loses
+    cell_passed c.args.p.now.me.0.view c.args.who c.requires.active c.args.oid (word_of c.args.seen.now) (word_of c.in-Err.found) c.requires.object c.claim.new.p.me.0.view c.in-Err.ensures.lost.loses
     (ap (λ (e : Entry). e.owner) c.in-Err.ensures.lost.spelled ∙ c.if-found-ne0.false) c.in-Err.ensures.lost.other c.requires.plain c.in-Err.found.head (sym (ap (λ (e : Entry). e.head) c.in-Err.ensures.lost.spelled))
 
 pub load_walked-stamp-requires-clause-ready : goal.load_walked-stamp-requires-clause-ready
 load_walked-stamp-requires-clause-ready g c =
-    ready_passed c.args.p.now.me.0 c.args.who c.requires.active c.args.oid (word_of c.args.seen.now) (word_of c.in-Err.found) c.requires.object c.claim.new.p.me.0 c.in-Err.ensures.lost.loses
+    ready_passed c.args.p.now.me.0.view c.args.who c.requires.active c.args.oid (word_of c.args.seen.now) (word_of c.in-Err.found) c.requires.object c.claim.new.p.me.0.view c.in-Err.ensures.lost.loses
     (ap (λ (e : Entry). e.owner) c.in-Err.ensures.lost.spelled ∙ c.if-found-ne0.false) c.in-Err.ensures.lost.other c.requires.plain
 
 pub returns-clause-lost : goal.returns-clause-lost
 returns-clause-lost g c =
-    did_meet c.args.p.now.me.0 c.args.who c.requires.active c.args.oid (word_of c.args.seen.now) (word_of c.in-Err.found) c.requires.object c.claim.new.p.me.0 c.in-Err.ensures.lost.loses
+    did_meet c.args.p.now.me.0.view c.args.who c.requires.active c.args.oid (word_of c.args.seen.now) (word_of c.in-Err.found) c.requires.object c.claim.new.p.me.0.view c.in-Err.ensures.lost.loses
     (ap (λ (e : Entry). e.owner) c.in-Err.ensures.lost.spelled ∙ c.if-found-ne0.false) c.in-Err.ensures.lost.other c.requires.plain
     c.load_walked-stamp.result _ c.load_walked-stamp.ensures.told.told
+
+pub returns-clause-goes : goal.returns-clause-goes
+returns-clause-goes g c = goes_both c.args.p.now.me.0 c.claim.new.p.me.0 c.load_walked-stamp.new.p.me.0 c.claim.ensures.goes (goes_step _ _ _ _ _ _ c.load_walked-stamp.ensures.booked)

@@ -1,5 +1,6 @@
 use Rattle.std.proofs.Common.{arith}
 use Rattle.erm_rule.proofs.Allowed.{allows_storing}
+use Rattle.erm_rule.proofs.Courses.{told_of}
 use Rattle.erm_rule.proofs.steps.store_as.Goals as goal
 
 pub store-requires : goal.store-requires
@@ -9,3 +10,6 @@ store-requires g c = (
   allows_storing g.L.RowLaw.law c.one_number.ensures c.numbers_below.ensures c.events_keep_sound.ensures c.law_is_kept.ensures c.blocks_stay_spelled.ensures c.args.t.now.words.shared.key _ c.args.p.now.id c.args.p.now.me c.args.who g.M.Deed.kind c.args.word (λ _. c.args.new)
       c.requires.held c.requires.ready c.requires.lawful c.requires.known c.requires.told c.requires.met c.requires.numbered c.requires.agrees c.index.result c.index.ensures.number _ c.requires.seat,
 )
+
+pub returns-clause-told : goal.returns-clause-told
+returns-clause-told g c = (c.store.ensures.2.0.0, told_of g.L.RowLaw.law c.args.p.now.me.0 _ _ g.M.Deed.kind _ c.store.new.seat.me.0 c.requires.seat c.store.ensures.2.0.1)

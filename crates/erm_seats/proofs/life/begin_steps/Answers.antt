@@ -7,11 +7,11 @@ use Rattle.erm_seats.proofs.life.begin_steps.Goals as goal
 
 pub load_tail-tail-requires-clause-ready : goal.load_tail-tail-requires-clause-ready
 load_tail-tail-requires-clause-ready g c =
-    ready_first c.args.p.now.me.0 c.args.who _ (held_part c.args.p.now.me.0 c.args.who (ap is_vacant c.requires.idle)) c.requires.number c.requires.idle
+    ready_first c.args.p.now.me.0.view c.args.who _ (held_part c.args.p.now.me.0.view c.args.who (ap is_vacant c.requires.idle)) c.requires.number c.requires.idle
 
 pub returns-then-is_refused-clause-stopped : goal.returns-then-is_refused-clause-stopped
 returns-then-is_refused-clause-stopped g c =
-    let v = c.args.p.now.me.0 in
+    let v = c.args.p.now.me.0.view in
     let refused = sym c.is_refused.ensures ∙ c.if-is_refused.true in (
       (stopped_tail c.args.who c.load_tail-tail.result refused).0,
       (stopped_tail c.args.who c.load_tail-tail.result refused).1,
@@ -22,21 +22,21 @@ returns-then-is_refused-clause-stopped g c =
 
 pub store_begin-requires-clause-held : goal.store_begin-requires-clause-held
 store_begin-requires-clause-held g c =
-    let v = c.args.p.now.me.0 in
+    let v = c.args.p.now.me.0.view in
     let has = held_part v c.args.who (ap is_vacant c.requires.idle) in
     let is = loaded_view v c.args.who _ has c.requires.number c.requires.idle c.load_tail-tail.result _ c.load_tail-tail.ensures.told.told (sym c.is_refused.ensures ∙ c.if-is_refused.false) in
     is_held _ c.args.who _ (changed_here v c.args.who _ _ _ has is)
 
 pub store_begin-requires-clause-ready : goal.store_begin-requires-clause-ready
 store_begin-requires-clause-ready g c =
-    let v = c.args.p.now.me.0 in
+    let v = c.args.p.now.me.0.view in
     let has = held_part v c.args.who (ap is_vacant c.requires.idle) in
     ready_announce v c.args.who _ has c.requires.number c.load_tail-tail.result _
     (loaded_view v c.args.who _ has c.requires.number c.requires.idle c.load_tail-tail.result _ c.load_tail-tail.ensures.told.told (sym c.is_refused.ensures ∙ c.if-is_refused.false))
 
 pub load_tail-requires-clause-held : goal.load_tail-requires-clause-held
 load_tail-requires-clause-held g c =
-    let v = c.args.p.now.me.0 in
+    let v = c.args.p.now.me.0.view in
     let has = held_part v c.args.who (ap is_vacant c.requires.idle) in
     let loaded = loaded_view v c.args.who _ has c.requires.number c.requires.idle c.load_tail-tail.result _ c.load_tail-tail.ensures.told.told (sym c.is_refused.ensures ∙ c.if-is_refused.false) in
     is_held _ c.args.who _
@@ -44,7 +44,7 @@ load_tail-requires-clause-held g c =
 
 pub load_tail-requires-clause-ready : goal.load_tail-requires-clause-ready
 load_tail-requires-clause-ready g c =
-    let v = c.args.p.now.me.0 in
+    let v = c.args.p.now.me.0.view in
     let has = held_part v c.args.who (ap is_vacant c.requires.idle) in
     let loaded = loaded_view v c.args.who _ has c.requires.number c.requires.idle c.load_tail-tail.result _ c.load_tail-tail.ensures.told.told (sym c.is_refused.ensures ∙ c.if-is_refused.false) in
     ready_second v c.args.who _ has c.requires.number c.load_tail-tail.result _
@@ -52,7 +52,7 @@ load_tail-requires-clause-ready g c =
 
 pub returns-clause-begun : goal.returns-clause-begun
 returns-clause-begun g c =
-    let v = c.args.p.now.me.0 in
+    let v = c.args.p.now.me.0.view in
     let has = held_part v c.args.who (ap is_vacant c.requires.idle) in
     let low = sym c.is_refused.ensures ∙ c.if-is_refused.false in
     let loaded = loaded_view v c.args.who _ has c.requires.number c.requires.idle c.load_tail-tail.result _ c.load_tail-tail.ensures.told.told low in

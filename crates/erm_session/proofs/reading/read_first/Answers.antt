@@ -10,14 +10,14 @@ use Rattle.erm_session.proofs.Sought.{not_held, not_read}
 use Rattle.erm_session.proofs.reading.read_first.Goals as goal
 
 pub read-requires-clause-unread : goal.read-requires-clause-unread
-read-requires-clause-unread g c = not_read (part_of c.args.p.now.me.0 c.args.who) c.args.oid c.requires.unread
+read-requires-clause-unread g c = not_read (part_of c.args.p.now.me.0.view c.args.who) c.args.oid c.requires.unread
 
 pub read-requires-clause-unclaimed : goal.read-requires-clause-unclaimed
-read-requires-clause-unclaimed g c = not_held (part_of c.args.p.now.me.0 c.args.who) c.args.oid c.requires.unclaimed
+read-requires-clause-unclaimed g c = not_held (part_of c.args.p.now.me.0.view c.args.who) c.args.oid c.requires.unclaimed
 
 pub returns-clause-stands : goal.returns-clause-stands
 returns-clause-stands g c =
-    let v = c.args.p.now.me.0 in
+    let v = c.args.p.now.me.0.view in
     let x = part_of v c.args.who in
     let t = c.in-Active.txn in
     let goes =
@@ -30,7 +30,7 @@ pub returns-clause-window : goal.returns-clause-window
 returns-clause-window g c =
     told c.read.result c.read.ensures.«open» c.read.ensures.kept
   where
-    told : (r : Result (List ℕ) RowStop) → IfOk r (λ row. closed_window c.read.new.txn ≡ None) → IsActive c.read.new.txn (part_of c.read.new.p.me.0 c.args.who)
-        → IfOk r (λ row. has_closed (part_of c.read.new.p.me.0 c.args.who).current ≡ false)
+    told : (r : Result (List ℕ) RowStop) → IfOk r (λ row. closed_window c.read.new.txn ≡ None) → IsActive c.read.new.txn (part_of c.read.new.p.me.0.view c.args.who)
+        → IfOk r (λ row. has_closed (part_of c.read.new.p.me.0.view c.args.who).current ≡ false)
     told (Ok row) none is = open_now _ _ is none
     told (Err why) none is = tt

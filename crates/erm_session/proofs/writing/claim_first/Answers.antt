@@ -10,11 +10,11 @@ use Rattle.erm_session.proofs.Sought.{not_held}
 use Rattle.erm_session.proofs.writing.claim_first.Goals as goal
 
 pub claim-requires-clause-unclaimed : goal.claim-requires-clause-unclaimed
-claim-requires-clause-unclaimed g c = not_held (part_of c.args.p.now.me.0 c.args.who) c.args.oid c.requires.unclaimed
+claim-requires-clause-unclaimed g c = not_held (part_of c.args.p.now.me.0.view c.args.who) c.args.oid c.requires.unclaimed
 
 pub returns-clause-stands : goal.returns-clause-stands
 returns-clause-stands g c =
-    let v = c.args.p.now.me.0 in
+    let v = c.args.p.now.me.0.view in
     let x = part_of v c.args.who in
     let t = c.in-Active.txn in
     let goes =
@@ -27,7 +27,7 @@ pub returns-clause-window : goal.returns-clause-window
 returns-clause-window g c =
     told c.claim.result c.claim.ensures.«open» c.claim.ensures.kept
   where
-    told : (r : Result (List ℕ) RowStop) → IfOk r (λ row. closed_window c.claim.new.txn ≡ None) → IsActive c.claim.new.txn (part_of c.claim.new.p.me.0 c.args.who)
-        → IfOk r (λ row. has_closed (part_of c.claim.new.p.me.0 c.args.who).current ≡ false)
+    told : (r : Result (List ℕ) RowStop) → IfOk r (λ row. closed_window c.claim.new.txn ≡ None) → IsActive c.claim.new.txn (part_of c.claim.new.p.me.0.view c.args.who)
+        → IfOk r (λ row. has_closed (part_of c.claim.new.p.me.0.view c.args.who).current ≡ false)
     told (Ok row) none is = open_now _ _ is none
     told (Err why) none is = tt

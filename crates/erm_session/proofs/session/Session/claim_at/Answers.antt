@@ -3,20 +3,20 @@ use Rattle.erm_machine.specs.declared.limits.TheConstants.{WRITE_LIMIT}
 use Rattle.erm_rule.specs.Views.{part_of}
 use Rattle.erm_session.specs.Calls.{before, now}
 use Rattle.erm_session.proofs.Goes.{active, goes_on, kept, known_where, same_rows, starts, with_rows}
-use Rattle.erm_session.proofs.RowsClaimed.{claimed_last, goes_claimed, goes_unclaimed, known_unclaimed, refuses_claim, room_claimed, rows_claimed, rows_stay, same_unclaimed}
+use Rattle.erm_session.proofs.RowsClaimed.{claimed_last, count_told, goes_claimed, goes_unclaimed, known_unclaimed, refuses_claim, room_claimed, rows_claimed, rows_stay, same_unclaimed}
 use Rattle.erm_session.proofs.Sought.{claimed, has_row, unclaimed}
 use Rattle.erm_session.proofs.session.Session.claim_at.Goals as goal
 
 pub claim_first-requires-clause-unclaimed : goal.claim_first-requires-clause-unclaimed
 claim_first-requires-clause-unclaimed g c =
     let s = c.args.self.now in
-    let x = part_of c.args.p.now.me.0 s.seat in
+    let x = part_of c.args.p.now.me.0.view s.seat in
     unclaimed c.in-Active.txn x (kept s x c.requires.stands.kept c.in-Active.txn c.in-Active.is) c.args.oid _ c.as_slice.ensures.value c.in_default-find_claim.ensures.none
 
 pub push_reserved-requires : goal.push_reserved-requires
 push_reserved-requires g c =
     let s = c.args.self.now in
-    let v = c.args.p.now.me.0 in
+    let v = c.args.p.now.me.0.view in
     let on = active s (part_of v s.seat) c.requires.stands.kept c.in-Active.txn c.in-Active.is in
     let few =
     room_claimed v s.seat c.args.oid on c.in-Ok.row _ c.in-Ok.ensures.claimed s.rows_claimed.items s.rows_claimed.cap c.requires.stands.rows_claimed c.requires.stands.kept.room_claimed
@@ -27,14 +27,14 @@ push_reserved-requires g c =
 pub end_where-requires-clause-known : goal.end_where-requires-clause-known
 end_where-requires-clause-known g c =
     let s = c.args.self.now in
-    let v = c.args.p.now.me.0 in
+    let v = c.args.p.now.me.0.view in
     let on = active s (part_of v s.seat) c.requires.stands.kept c.in-Active.txn c.in-Active.is in
     known_unclaimed v s.seat c.args.oid on c.requires.known c.in-Err.why _ c.in-Err.ensures.refused
 
 pub end_where-requires-clause-kept : goal.end_where-requires-clause-kept
 end_where-requires-clause-kept g c =
     let s = c.args.self.now in
-    let v = c.args.p.now.me.0 in
+    let v = c.args.p.now.me.0.view in
     let x = part_of v s.seat in
     let is = c.requires.stands.kept in
     let on = active s x is c.in-Active.txn c.in-Active.is in
@@ -44,7 +44,7 @@ end_where-requires-clause-kept g c =
 pub end_where-requires-clause-stands : goal.end_where-requires-clause-stands
 end_where-requires-clause-stands g c = λ goes.
     let s = c.args.self.now in
-    let v = c.args.p.now.me.0 in
+    let v = c.args.p.now.me.0.view in
     let x = part_of v s.seat in
     let is = c.requires.stands.kept in
     let on = active s x is c.in-Active.txn c.in-Active.is in
@@ -53,19 +53,19 @@ end_where-requires-clause-stands g c = λ goes.
 pub returns-in-Some-clause-place : goal.returns-in-Some-clause-place
 returns-in-Some-clause-place g c =
     let s = c.args.self.now in
-    let x = part_of c.args.p.now.me.0 s.seat in
+    let x = part_of c.args.p.now.me.0.view s.seat in
     claimed c.in-Active.txn x (kept s x c.requires.stands.kept c.in-Active.txn c.in-Active.is) c.args.oid _ c.as_slice.ensures.value c.in-Some.place c.in-Some.ensures.found.0
     c.in-Some.ensures.found.1
 
 pub returns-in-Some-clause-claimed : goal.returns-in-Some-clause-claimed
 returns-in-Some-clause-claimed g c =
-    let x = part_of c.args.p.now.me.0 c.args.self.now.seat in
+    let x = part_of c.args.p.now.me.0.view c.args.self.now.seat in
     before refl _ (has_row x c.args.oid c.in-Some.place (returns-in-Some-clause-place g c))
 
 pub returns-in-Ok-clause-stands : goal.returns-in-Ok-clause-stands
 returns-in-Ok-clause-stands g c =
     let s = c.args.self.now in
-    let v = c.args.p.now.me.0 in
+    let v = c.args.p.now.me.0.view in
     let x = part_of v s.seat in
     let is = c.requires.stands.kept in
     let on = active s x is c.in-Active.txn c.in-Active.is in
@@ -79,14 +79,14 @@ returns-in-Ok-clause-stands g c =
 pub returns-in-Ok-clause-claimed : goal.returns-in-Ok-clause-claimed
 returns-in-Ok-clause-claimed g c =
     let s = c.args.self.now in
-    let x = part_of c.args.p.now.me.0 s.seat in
+    let x = part_of c.args.p.now.me.0.view s.seat in
     let acts = kept s x c.requires.stands.kept c.in-Active.txn c.in-Active.is in
     now (unclaimed c.in-Active.txn x acts c.args.oid _ c.as_slice.ensures.value c.in_default-find_claim.ensures.none) c.in-Ok.row c.in-Ok.ensures.claimed
 
 pub returns-in-Ok-clause-place : goal.returns-in-Ok-clause-place
 returns-in-Ok-clause-place g c =
     let s = c.args.self.now in
-    let v = c.args.p.now.me.0 in
+    let v = c.args.p.now.me.0.view in
     let on = active s (part_of v s.seat) c.requires.stands.kept c.in-Active.txn c.in-Active.is in
     let all = c.len.ensures in
     let more = c.push_reserved.ensures.len in
@@ -96,16 +96,19 @@ returns-in-Ok-clause-place g c =
 pub returns-in-Err-clause-known : goal.returns-in-Err-clause-known
 returns-in-Err-clause-known g c =
     let s = c.args.self.now in
-    let v = c.args.p.now.me.0 in
+    let v = c.args.p.now.me.0.view in
     let on = active s (part_of v s.seat) c.requires.stands.kept c.in-Active.txn c.in-Active.is in
     known_where _ s.seat _ _ (known_unclaimed v s.seat c.args.oid on c.requires.known c.in-Err.why _ c.in-Err.ensures.refused) c.end_where.ensures.ended c.end_where.ensures.stays
 
 pub returns-in-Err-clause-refused : goal.returns-in-Err-clause-refused
 returns-in-Err-clause-refused g c =
     let s = c.args.self.now in
-    let v = c.args.p.now.me.0 in
+    let v = c.args.p.now.me.0.view in
     let x = part_of v s.seat in
     let on = active s x c.requires.stands.kept c.in-Active.txn c.in-Active.is in
     let acts = kept s x c.requires.stands.kept c.in-Active.txn c.in-Active.is in
     refuses_claim v s.seat c.args.oid on (unclaimed c.in-Active.txn x acts c.args.oid _ c.as_slice.ensures.value c.in_default-find_claim.ensures.none) c.in-Err.why _ _
     c.in-Err.ensures.refused c.end_where.ensures.ended c.end_where.ensures.stays
+
+pub returns-in-Err-clause-counted : goal.returns-in-Err-clause-counted
+returns-in-Err-clause-counted g c = count_told c.args.p.now.me.0 _ _ c.in-Err.why c.in-Err.ensures.counted c.end_where.ensures.same

@@ -1,4 +1,5 @@
-use Rattle.erm_session.proofs.Looks.{finds, held_there, known_looked, looked_session, looks, ready_flushed}
+use Rattle.erm_session.proofs.Looks.{held_there, known_looked, looked_session, looks, ready_flushed}
+use Rattle.erm_session.proofs.Syncs.{goes_once, is_flushed_to, was_flushed}
 use Rattle.erm_session.proofs.session.Session.durable.Goals as goal
 
 pub load_flushed-flushed-requires-clause-held : goal.load_flushed-flushed-requires-clause-held
@@ -17,7 +18,8 @@ pub returns-then-receipt-flushed-clause-looked : goal.returns-then-receipt-flush
 returns-then-receipt-flushed-clause-looked g c = looks c.args.self.now _ c.requires.stands c.load_flushed-flushed.result _ c.load_flushed-flushed.ensures.told.told
 
 pub returns-then-receipt-flushed-clause-synced : goal.returns-then-receipt-flushed-clause-synced
-returns-then-receipt-flushed-clause-synced g c = (c.load_flushed-flushed.result, finds c.args.self.now _ c.requires.stands c.load_flushed-flushed.result _ c.load_flushed-flushed.ensures.told.told, c.if-receipt-flushed.true)
+returns-then-receipt-flushed-clause-synced g c =
+    is_flushed_to g.L.RowLaw.law c.args.p.now.me.0 c.args.self.now.seat c.load_flushed-flushed.result c.load_flushed-flushed.new.p.me.0 c.load_flushed-flushed.ensures.booked c.args.receipt.now.end c.if-receipt-flushed.true
 
 pub returns-else-receipt-flushed-clause-known : goal.returns-else-receipt-flushed-clause-known
 returns-else-receipt-flushed-clause-known g c = known_looked c.args.self.now _ c.requires.stands c.load_flushed-flushed.result _ c.load_flushed-flushed.ensures.told.told
@@ -29,4 +31,13 @@ pub returns-else-receipt-flushed-clause-looked : goal.returns-else-receipt-flush
 returns-else-receipt-flushed-clause-looked g c = looks c.args.self.now _ c.requires.stands c.load_flushed-flushed.result _ c.load_flushed-flushed.ensures.told.told
 
 pub returns-else-receipt-flushed-clause-unsynced : goal.returns-else-receipt-flushed-clause-unsynced
-returns-else-receipt-flushed-clause-unsynced g c = (finds c.args.self.now _ c.requires.stands c.load_flushed-flushed.result _ c.load_flushed-flushed.ensures.told.told, c.if-receipt-flushed.false)
+returns-else-receipt-flushed-clause-unsynced g c = (
+  was_flushed g.L.RowLaw.law c.args.p.now.me.0 c.args.self.now.seat c.load_flushed-flushed.result c.load_flushed-flushed.new.p.me.0 c.load_flushed-flushed.ensures.booked,
+  c.if-receipt-flushed.false,
+)
+
+pub returns-then-receipt-flushed-clause-goes : goal.returns-then-receipt-flushed-clause-goes
+returns-then-receipt-flushed-clause-goes g c = goes_once _ _ _ _ _ _ c.load_flushed-flushed.ensures.booked
+
+pub returns-else-receipt-flushed-clause-goes : goal.returns-else-receipt-flushed-clause-goes
+returns-else-receipt-flushed-clause-goes g c = goes_once _ _ _ _ _ _ c.load_flushed-flushed.ensures.booked

@@ -3,14 +3,14 @@ use Rattle.erm_machine.specs.declared.limits.TheConstants.{READ_LIMIT}
 use Rattle.erm_rule.specs.Views.{part_of}
 use Rattle.erm_session.specs.Calls.{again, first, own}
 use Rattle.erm_session.proofs.Goes.{active, goes_on, kept, known_where, same_rows, starts, with_rows}
-use Rattle.erm_session.proofs.RowsRead.{goes_read, goes_unread, known_unread, refuses_read, room_read, rows_read, rows_stay, same_unread, spare_read, spare_unread}
+use Rattle.erm_session.proofs.RowsRead.{goes_read, goes_unread, known_unread, owner_met, refuses_read, room_read, rows_read, rows_stay, same_unread, spare_read, spare_unread}
 use Rattle.erm_session.proofs.Sought.{has_claimed, has_read_row, unclaimed, unread}
 use Rattle.erm_session.proofs.session.Session.read.Goals as goal
 
 pub returns-in-Some-clause-read : goal.returns-in-Some-clause-read
 returns-in-Some-clause-read g c =
     let s = c.args.self.now in
-    let x = part_of c.args.p.now.me.0 s.seat in
+    let x = part_of c.args.p.now.me.0.view s.seat in
     own refl
     (has_claimed c.in-Active.txn x (kept s x c.requires.stands.kept c.in-Active.txn c.in-Active.is) c.args.oid _ c.as_slice.ensures.value c.in-Some.place c.in-Some.ensures.found.0
     c.in-Some.ensures.found.1 s.rows_claimed.items _ c.index.ensures c.requires.stands.rows_claimed)
@@ -18,7 +18,7 @@ returns-in-Some-clause-read g c =
 pub returns-in-Some-find_read-clause-read : goal.returns-in-Some-find_read-clause-read
 returns-in-Some-find_read-clause-read g c =
     let s = c.args.self.now in
-    let x = part_of c.args.p.now.me.0 s.seat in
+    let x = part_of c.args.p.now.me.0.view s.seat in
     let acts = kept s x c.requires.stands.kept c.in-Active.txn c.in-Active.is in
     again refl (unclaimed c.in-Active.txn x acts c.args.oid _ c.as_slice.ensures.value c.in_default-find_claim.ensures.none)
     (has_read_row c.in-Active.txn x acts c.args.oid _ c.as_slice-2.ensures.value c.in-Some-find_read.place c.in-Some-find_read.ensures.found.0 c.in-Some-find_read.ensures.found.1
@@ -27,19 +27,19 @@ returns-in-Some-find_read-clause-read g c =
 pub read_first-requires-clause-unread : goal.read_first-requires-clause-unread
 read_first-requires-clause-unread g c =
     let s = c.args.self.now in
-    let x = part_of c.args.p.now.me.0 s.seat in
+    let x = part_of c.args.p.now.me.0.view s.seat in
     unread c.in-Active.txn x (kept s x c.requires.stands.kept c.in-Active.txn c.in-Active.is) c.args.oid _ c.as_slice-2.ensures.value c.in_default-find_read.ensures.none
 
 pub read_first-requires-clause-unclaimed : goal.read_first-requires-clause-unclaimed
 read_first-requires-clause-unclaimed g c =
     let s = c.args.self.now in
-    let x = part_of c.args.p.now.me.0 s.seat in
+    let x = part_of c.args.p.now.me.0.view s.seat in
     unclaimed c.in-Active.txn x (kept s x c.requires.stands.kept c.in-Active.txn c.in-Active.is) c.args.oid _ c.as_slice.ensures.value c.in_default-find_claim.ensures.none
 
 pub push_reserved-requires : goal.push_reserved-requires
 push_reserved-requires g c =
     let s = c.args.self.now in
-    let v = c.args.p.now.me.0 in
+    let v = c.args.p.now.me.0.view in
     let on = active s (part_of v s.seat) c.requires.stands.kept c.in-Active.txn c.in-Active.is in
     let few = room_read v s.seat c.args.oid on c.in-Ok.row _ c.in-Ok.ensures.read s.rows_read.items s.rows_read.cap c.requires.stands.rows_read c.requires.stands.kept.room_read in
     let count = s.rows_read.ok.0 in
@@ -48,14 +48,14 @@ push_reserved-requires g c =
 pub end_where-requires-clause-known : goal.end_where-requires-clause-known
 end_where-requires-clause-known g c =
     let s = c.args.self.now in
-    let v = c.args.p.now.me.0 in
+    let v = c.args.p.now.me.0.view in
     let on = active s (part_of v s.seat) c.requires.stands.kept c.in-Active.txn c.in-Active.is in
     known_unread v s.seat c.args.oid on c.requires.known c.in-Err.why _ c.in-Err.ensures.refused
 
 pub end_where-requires-clause-kept : goal.end_where-requires-clause-kept
 end_where-requires-clause-kept g c =
     let s = c.args.self.now in
-    let v = c.args.p.now.me.0 in
+    let v = c.args.p.now.me.0.view in
     let x = part_of v s.seat in
     let is = c.requires.stands.kept in
     let on = active s x is c.in-Active.txn c.in-Active.is in
@@ -65,7 +65,7 @@ end_where-requires-clause-kept g c =
 pub end_where-requires-clause-stands : goal.end_where-requires-clause-stands
 end_where-requires-clause-stands g c = λ goes.
     let s = c.args.self.now in
-    let v = c.args.p.now.me.0 in
+    let v = c.args.p.now.me.0.view in
     let x = part_of v s.seat in
     let is = c.requires.stands.kept in
     let on = active s x is c.in-Active.txn c.in-Active.is in
@@ -74,7 +74,7 @@ end_where-requires-clause-stands g c = λ goes.
 pub returns-in-Ok-clause-stands : goal.returns-in-Ok-clause-stands
 returns-in-Ok-clause-stands g c =
     let s = c.args.self.now in
-    let v = c.args.p.now.me.0 in
+    let v = c.args.p.now.me.0.view in
     let x = part_of v s.seat in
     let is = c.requires.stands.kept in
     let on = active s x is c.in-Active.txn c.in-Active.is in
@@ -88,7 +88,7 @@ returns-in-Ok-clause-stands g c =
 pub returns-in-Ok-clause-read : goal.returns-in-Ok-clause-read
 returns-in-Ok-clause-read g c =
     let s = c.args.self.now in
-    let x = part_of c.args.p.now.me.0 s.seat in
+    let x = part_of c.args.p.now.me.0.view s.seat in
     let acts = kept s x c.requires.stands.kept c.in-Active.txn c.in-Active.is in
     first (unclaimed c.in-Active.txn x acts c.args.oid _ c.as_slice.ensures.value c.in_default-find_claim.ensures.none)
     (unread c.in-Active.txn x acts c.args.oid _ c.as_slice-2.ensures.value c.in_default-find_read.ensures.none) c.in-Ok.ensures.read
@@ -96,14 +96,14 @@ returns-in-Ok-clause-read g c =
 pub returns-in-Err-clause-known : goal.returns-in-Err-clause-known
 returns-in-Err-clause-known g c =
     let s = c.args.self.now in
-    let v = c.args.p.now.me.0 in
+    let v = c.args.p.now.me.0.view in
     let on = active s (part_of v s.seat) c.requires.stands.kept c.in-Active.txn c.in-Active.is in
     known_where _ s.seat _ _ (known_unread v s.seat c.args.oid on c.requires.known c.in-Err.why _ c.in-Err.ensures.refused) c.end_where.ensures.ended c.end_where.ensures.stays
 
 pub returns-in-Err-clause-refused : goal.returns-in-Err-clause-refused
 returns-in-Err-clause-refused g c =
     let s = c.args.self.now in
-    let v = c.args.p.now.me.0 in
+    let v = c.args.p.now.me.0.view in
     let x = part_of v s.seat in
     let on = active s x c.requires.stands.kept c.in-Active.txn c.in-Active.is in
     let acts = kept s x c.requires.stands.kept c.in-Active.txn c.in-Active.is in
@@ -111,3 +111,6 @@ returns-in-Err-clause-refused g c =
     (unclaimed c.in-Active.txn x acts c.args.oid _ c.as_slice.ensures.value c.in_default-find_claim.ensures.none)
     (unread c.in-Active.txn x acts c.args.oid _ c.as_slice-2.ensures.value c.in_default-find_read.ensures.none) c.in-Err.why _ _ c.in-Err.ensures.refused
     c.end_where.ensures.ended c.end_where.ensures.stays
+
+pub returns-in-Err-clause-met : goal.returns-in-Err-clause-met
+returns-in-Err-clause-met g c = owner_met c.args.p.now.me.0 _ _ c.in-Err.why c.in-Err.ensures.met c.end_where.ensures.same

@@ -9,7 +9,7 @@ use Rattle.erm_session.proofs.session.Session.set_row.Goals as goal
 pub store_row-requires-clause-may : goal.store_row-requires-clause-may
 store_row-requires-clause-may g c =
     let s = c.args.self.now in
-    let v = c.args.p.now.me.0 in
+    let v = c.args.p.now.me.0.view in
     let x = part_of v s.seat in
     let is = c.requires.stands.kept in
     let t = c.in-Active.txn in
@@ -20,7 +20,7 @@ store_row-requires-clause-may g c =
 pub returns-clause-stands : goal.returns-clause-stands
 returns-clause-stands g c =
     let s = c.args.self.now in
-    let v = c.args.p.now.me.0 in
+    let v = c.args.p.now.me.0.view in
     let x = part_of v s.seat in
     let is = c.requires.stands.kept in
     let t = c.in-Active.txn in
@@ -42,7 +42,7 @@ returns-clause-stands g c =
 pub returns-clause-set : goal.returns-clause-set
 returns-clause-set g c =
     let s = c.args.self.now in
-    let v = c.args.p.now.me.0 in
+    let v = c.args.p.now.me.0.view in
     let x = part_of v s.seat in
     let is = c.requires.stands.kept in
     let t = c.in-Active.txn in

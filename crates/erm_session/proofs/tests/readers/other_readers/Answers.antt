@@ -5,23 +5,23 @@ use Rattle.erm_session.proofs.tests.readers.other_readers.Goals as goal
 
 pub readers-requires-clause-known : goal.readers-requires-clause-known
 readers-requires-clause-known c =
-    (begun_stands c.in-Sealed.pre c.args.s.now c.args.p.now.me.0 _ c.load_flushed-flushed.result c.in-Sealed.is c.requires.stands.0
+    (begun_stands c.in-Sealed.pre c.args.s.now c.args.p.now.me.0.view _ c.load_flushed-flushed.result c.in-Sealed.is c.requires.stands.0
     c.load_flushed-flushed.ensures.told.told (sym c.fits_ring.ensures ∙ c.if-not-fits_ring.false)).known
 
 pub readers-requires-clause-sealed : goal.readers-requires-clause-sealed
 readers-requires-clause-sealed c =
-    (begun_stands c.in-Sealed.pre c.args.s.now c.args.p.now.me.0 _ c.load_flushed-flushed.result c.in-Sealed.is c.requires.stands.0
+    (begun_stands c.in-Sealed.pre c.args.s.now c.args.p.now.me.0.view _ c.load_flushed-flushed.result c.in-Sealed.is c.requires.stands.0
     c.load_flushed-flushed.ensures.told.told (sym c.fits_ring.ensures ∙ c.if-not-fits_ring.false)).sealed
 
 pub readers-requires-clause-at : goal.readers-requires-clause-at
 readers-requires-clause-at c =
-    at_readers c.in-Sealed.pre c.args.s.now c.args.p.now.me.0 _ c.load_flushed-flushed.result c.in-Sealed.is c.requires.stands.0
+    at_readers c.in-Sealed.pre c.args.s.now c.args.p.now.me.0.view _ c.load_flushed-flushed.result c.in-Sealed.is c.requires.stands.0
     c.load_flushed-flushed.ensures.told.told (sym c.fits_ring.ensures ∙ c.if-not-fits_ring.false)
     (eqb-true (length c.in-Sealed.pre.reads.items) 0 (sym c.is_empty.ensures ∙ c.if-not-is_empty.false)) c.deref.result.now c.deref.ensures.0 c.in_ok-claim.ensures.item.3.0
 
 pub readers-requires-clause-cell : goal.readers-requires-clause-cell
 readers-requires-clause-cell c =
-    first_cell c.in-Sealed.pre c.args.s.now c.args.p.now.me.0 _ c.load_flushed-flushed.result c.in-Sealed.is c.requires.stands.0
+    first_cell c.in-Sealed.pre c.args.s.now c.args.p.now.me.0.view _ c.load_flushed-flushed.result c.in-Sealed.is c.requires.stands.0
     c.load_flushed-flushed.ensures.told.told (sym c.fits_ring.ensures ∙ c.if-not-fits_ring.false)
     (eqb-true (length c.in-Sealed.pre.reads.items) 0 (sym c.is_empty.ensures ∙ c.if-not-is_empty.false)) c.deref.result.now c.deref.ensures.0 c.in_ok-claim.ensures.item.3.0
     c.in_ok-claim.claim.now (c.in_ok-claim.ensures.item.3.1 no_claim_kept)

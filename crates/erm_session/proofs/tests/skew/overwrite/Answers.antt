@@ -7,10 +7,10 @@ use Rattle.erm_session.proofs.tests.skew.overwrite.Goals as goal
 pub returns-clause-raced : goal.returns-clause-raced
 returns-clause-raced c =
     let who : ℕ = c.args.session.seat in
-    let v = c.args.pass.me.0 in
+    let v = c.args.pass.me.0.view in
     let may = c.requires.may in
     has_raced v who c.args.oid may.known (session_held v who c.args.session may.stands.0) may.alone
-    _ c.write.new.p.me.0 (on_ok_says _ c.write.result c.in_ok-ok.field-0 c.in_ok-ok.ensures.value c.write.ensures.written)
-    c.seal.result c.seal.new.p.me.0 (subst (λ (q : ℕ). SealsRows c.write.new.p.me.0 q c.seal.result c.seal.new.p.me.0) c.write.ensures.seat c.seal.ensures.sealed)
-    c.in_ok-outcome.outcome c.settle_within.new.p.me.0
-    (subst (λ (q : ℕ). IsOver c.seal.new.p.me.0 q c.in_ok-outcome.outcome c.settle_within.new.p.me.0) (c.seal.ensures.seat ∙ c.write.ensures.seat) c.in_ok-outcome.ensures.over)
+    _ c.write.new.p.me.0.view (on_ok_says _ c.write.result c.in_ok-ok.field-0 c.in_ok-ok.ensures.value c.write.ensures.written)
+    c.seal.result c.seal.new.p.me.0.view (subst (λ (q : ℕ). SealsRows c.write.new.p.me.0.view q c.seal.result c.seal.new.p.me.0.view) c.write.ensures.seat c.seal.ensures.sealed)
+    c.in_ok-outcome.outcome c.settle_within.new.p.me.0.view
+    (subst (λ (q : ℕ). IsOver c.seal.new.p.me.0.view q c.in_ok-outcome.outcome c.settle_within.new.p.me.0.view) (c.seal.ensures.seat ∙ c.write.ensures.seat) c.in_ok-outcome.ensures.over)
