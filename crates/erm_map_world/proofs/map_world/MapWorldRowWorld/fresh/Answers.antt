@@ -16,4 +16,4 @@ returns-clause-stands g c =
 pub returns-then-oid-eq-OID_LIMIT-clause-err : goal.returns-then-oid-eq-OID_LIMIT-clause-err
 returns-then-oid-eq-OID_LIMIT-clause-err g c =
     let full = c.if-oid-eq-OID_LIMIT.true in
-    (refl, omega (arith, c.from.ensures, full), map_all_made g.L.RowLaw.law (map_of c.args.self.now) c.requires.stands.is full)
+    (refl, (omega (arith, c.from.ensures, full), omega (arith, c.from.ensures, full)), map_all_made g.L.RowLaw.law (map_of c.args.self.now) c.requires.stands.is full)
