@@ -15,3 +15,4 @@ pub mod Storing
 pub mod Taking
 pub mod Views
 pub mod Walking
+pub mod Took

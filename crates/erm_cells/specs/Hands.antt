@@ -12,12 +12,20 @@ use Rattle.erm_machine.specs.declared.version.CellWord.TheVariants as word
 use Rattle.erm_machine.specs.declared.version.VersionAt.{VersionAt}
 use Rattle.erm_machine.specs.Core.{claim_at}
 use Rattle.erm_machine.specs.Seat.{last_claim, read_at}
+use Rattle.erm_rule.specs.declared.change.Change.{Change}
+use Rattle.erm_rule.specs.declared.change.Change.TheVariants as change
 use Rattle.erm_rule.specs.Hands.{in_hand}
 
 -- the word of a cell, if it is one
 abbrev pub cell_word_of : Word → CellWord
 cell_word_of (table.Cell cell w) = w
 cell_word_of w = word.Stamp
+
+-- the number that a change brings
+abbrev pub amount : Change → ℕ
+amount (change.Set n) = n
+amount (change.Raise n) = n
+amount c = 0
 
 -- the place in its row of a cell's word, if it is one of the row
 abbrev pub row_place_of : Word → ℕ

@@ -6,3 +6,4 @@ pub mod Placed
 pub mod Reads
 pub mod Rows
 pub mod Spare
+pub mod Took

@@ -4,8 +4,10 @@ ghost use Rattle.erm_cells.specs.Calls.{DidFind, DidLose, DidTake, IsFoundHead, 
 ghost use Rattle.erm_machine.specs.Seat.{is_active};
 ghost use Rattle.erm_machine.specs.Words.{is_session};
 ghost use Rattle.erm_rule.specs.Books.{IsAfter, book};
-ghost use Rattle.erm_rule.specs.Steps.{Fits};
+ghost use Rattle.erm_rule.specs.Steps.{Fits, Booked};
 ghost use Rattle.erm_rule.specs.Views.{view, part_of};
+ghost use Rattle.erm_cells.specs.Took.{TookFind};
+ghost use Rattle.erm_machine.specs.declared.event.Kind.TheVariants.{Claim};
 
 use crate::answer::Head;
 use crate::entries::{claim_entry, load_entry};
@@ -24,6 +26,7 @@ pub fn find_head<L: RowLaw>(t: &Table<L>, p: &mut Pass, who: Seat, oid: Oid) -> 
     ensures fits { Fits t.now.words.shared.table_id p.new }
     ensures found { DidFind (view p.old) who oid result (view p.new) }
     ensures goes { IsAfter (book p.old) (book p.new) }
+    ensures took { TookFind L.law who oid result (book p.old) (book p.new) }
 {
     let entry = load_entry(t, p, who, oid);
     if owner_of(entry) != 0 {
@@ -54,6 +57,7 @@ pub fn take<L: RowLaw>(
     ensures taken { result ≡ seen → DidTake (view p.old) who oid seen (view p.new) }
     ensures lost { result ≢ seen → DidLose (view p.old) who oid seen result (view p.new) }
     ensures goes { IsAfter (book p.old) (book p.new) }
+    ensures booked { Booked L.law (book p.old) who (Claim oid seen number) result (book p.new) }
 {
     claim_entry(t, p, who, oid, seen, number)
 }

@@ -10,6 +10,7 @@ ghost use Rattle.erm_rule.specs.Books.{HasState, IsAfter, LastFound, book};
 ghost use Rattle.erm_rule.specs.Hands.{IsKnown};
 ghost use Rattle.erm_rule.specs.Steps.{Fits, ToldUnder, Booked};
 ghost use Rattle.erm_rule.specs.Views.{view, part_in, part_of};
+ghost use Rattle.erm_cells.specs.Took.{TookCount, TookDraw, TookNoCount};
 
 use crate::own::{add_counter, load_counter};
 use crate::spare::Spare;
@@ -32,6 +33,8 @@ pub fn draw<L: RowLaw>(t: &Table<L>, p: &mut Pass, who: Seat, spare: &mut Spare)
     ensures from { IfOk result (λ cell. IsCounted spare.old (book p.old) who cell (book p.new)) }
     ensures counted { IfErr result (λ seen. WasCount (book p.old) who seen (book p.new) × HasState (book p.new)) }
     ensures goes { IsAfter (book p.old) (book p.new) }
+    ensures took { IfOk result (λ cell. TookDraw L.law who spare.old cell (book p.old) (book p.new)) }
+    ensures took_none { IfErr result (λ seen. TookNoCount L.law who seen (book p.old) (book p.new)) }
 {
     match spare.pop() {
         Some(cell) => Ok(cell),
@@ -51,6 +54,8 @@ fn draw_counted<L: RowLaw>(t: &Table<L>, p: &mut Pass, who: Seat) -> Result<u32,
     ensures last { IfOk result (λ cell. LastFound (book p.old) who (AddCounter Cells) cell (book p.new)) }
     ensures seen { IfErr result (λ seen. WasCount (book p.old) who seen (book p.new) × HasState (book p.new)) }
     ensures goes { IsAfter (book p.old) (book p.new) }
+    ensures took { IfOk result (λ cell. TookCount L.law who cell (book p.old) (book p.new)) }
+    ensures took_none { IfErr result (λ seen. TookNoCount L.law who seen (book p.old) (book p.new)) }
 {
     let seen = load_counter(t, p, who, Counter::Cells);
     if !is_cell(seen) {

@@ -9,7 +9,7 @@ use erm_kept::words::claimed;
 use erm_layout::Word;
 use erm_machine::{Kind, OBJECT_LIMIT};
 use erm_model::{Oid, RowLaw, Seat};
-use erm_rule::{Pass, Table, exchange, load, store};
+use erm_rule::{Change, Pass, Table, step};
 
 /// Loads an object's entry.
 pub fn load_entry<L: RowLaw>(t: &Table<L>, p: &mut Pass, who: Seat, oid: Oid) -> u64
@@ -21,7 +21,14 @@ pub fn load_entry<L: RowLaw>(t: &Table<L>, p: &mut Pass, who: Seat, oid: Oid) ->
     ensures told { ToldUnder L.law (view p.old) who (LoadEntry oid) result (view p.new) }
     ensures booked { Booked L.law (book p.old) who (LoadEntry oid) result (book p.new) }
 {
-    load(t, p, who, Kind::LoadEntry { oid }, Word::Entry(oid))
+    step(
+        t,
+        p,
+        who,
+        Kind::LoadEntry { oid },
+        Word::Entry(oid),
+        Change::Keep,
+    )
 }
 
 /// Exchanges an entry for one with the same head that the seat's transaction of this number owns, where it still is the one
@@ -44,7 +51,17 @@ pub fn claim_entry<L: RowLaw>(
 {
     let kind = Kind::Claim { oid, seen, number };
     let owned = claimed(seen, who, number);
-    exchange(t, p, who, kind, Word::Entry(oid), seen, owned)
+    step(
+        t,
+        p,
+        who,
+        kind,
+        Word::Entry(oid),
+        Change::Exchange {
+            old: seen,
+            new: owned,
+        },
+    )
 }
 
 /// Stores an entry without owner, whose head is this cell: installs a version, or releases the entry with its old head.
@@ -58,5 +75,12 @@ pub fn install<L: RowLaw>(t: &Table<L>, p: &mut Pass, who: Seat, oid: Oid, head:
     ensures booked { (found : ℕ) × Booked L.law (book p.old) who (Install oid head) found (book p.new) }
 {
     let kind = Kind::Install { oid, head };
-    store(t, p, who, kind, Word::Entry(oid), u64::from(head));
+    step(
+        t,
+        p,
+        who,
+        kind,
+        Word::Entry(oid),
+        Change::Set(u64::from(head)),
+    );
 }

@@ -1,10 +1,12 @@
 //! The link of a version that was passed.
-ghost use Rattle.std.specs.Prelude.{◌≡◌, true};
+ghost use Rattle.std.specs.Prelude.{◌≡◌, true, ℕ};
 ghost use Rattle.erm_cells.specs.Links.{DidLink, HasPassed};
 ghost use Rattle.erm_machine.specs.Seat.{is_active};
-ghost use Rattle.erm_rule.specs.Hands.{IsKnown, in_hand};
-ghost use Rattle.erm_rule.specs.Steps.{Fits};
+ghost use Rattle.erm_rule.specs.Hands.{IsKnown, in_hand, walk_kind};
+ghost use Rattle.erm_rule.specs.Steps.{Fits, Booked};
 ghost use Rattle.erm_rule.specs.Views.{view, part_of};
+ghost use Rattle.erm_machine.specs.declared.version.CellWord.TheVariants.{Link};
+ghost use Rattle.erm_rule.specs.Books.{book};
 
 use crate::walks::load_walked;
 use erm_machine::CellWord;
@@ -21,6 +23,7 @@ pub fn link<L: RowLaw>(t: &Table<L>, p: &mut Pass, who: Seat, cell: u32) -> Opti
     requires cell { (in_hand (part_of (view p.old) who).task).cell ≡ cell }
     ensures fits { Fits t.now.words.shared.table_id p.new }
     ensures linked { DidLink (view p.old) who result (view p.new) }
+    ensures booked { (found : ℕ) × Booked L.law (book p.old) who (walk_kind (part_of (view p.old) who) Link) found (book p.new) }
 {
     let link = load_walked(t, p, who, cell, CellWord::Link);
     if link == 0 {

@@ -9,7 +9,7 @@ ghost use Rattle.erm_rule.specs.Views.{view, part_in};
 use erm_layout::Word;
 use erm_machine::{CellWord, Counter, Kind};
 use erm_model::{RowLaw, Seat, TABLE_CELLS};
-use erm_rule::{Pass, Table, add, load, store};
+use erm_rule::{Change, Pass, Table, step};
 
 /// Stores a word of the own cell of the claim at a place.
 pub fn store_own<L: RowLaw>(
@@ -36,7 +36,14 @@ pub fn store_own<L: RowLaw>(
         word,
         value,
     };
-    store(t, p, who, kind, Word::Cell { cell, word }, value);
+    step(
+        t,
+        p,
+        who,
+        kind,
+        Word::Cell { cell, word },
+        Change::Set(value),
+    );
 }
 
 /// Loads a counter.
@@ -48,12 +55,13 @@ pub fn load_counter<L: RowLaw>(t: &Table<L>, p: &mut Pass, who: Seat, counter: C
     ensures told { ToldUnder L.law (view p.old) who (LoadCounter counter) result (view p.new) }
     ensures booked { Booked L.law (book p.old) who (LoadCounter counter) result (book p.new) }
 {
-    load(
+    step(
         t,
         p,
         who,
         Kind::LoadCounter { counter },
         Word::Counter(counter),
+        Change::Keep,
     )
 }
 
@@ -66,12 +74,12 @@ pub fn add_counter<L: RowLaw>(t: &Table<L>, p: &mut Pass, who: Seat, counter: Co
     ensures told { ToldUnder L.law (view p.old) who (AddCounter counter) result (view p.new) }
     ensures booked { Booked L.law (book p.old) who (AddCounter counter) result (book p.new) }
 {
-    add(
+    step(
         t,
         p,
         who,
         Kind::AddCounter { counter },
         Word::Counter(counter),
-        1,
+        Change::Add(1),
     )
 }

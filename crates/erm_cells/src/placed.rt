@@ -10,7 +10,7 @@ ghost use Rattle.erm_rule.specs.Views.{view, part_in, part_of};
 use erm_layout::Word;
 use erm_machine::CellWord;
 use erm_model::{RowLaw, Seat};
-use erm_rule::{Pass, Table, store_as};
+use erm_rule::{Change, Pass, Table, step_as};
 use std::marker::Brand;
 
 /// Stores a word of this cell, which is a claim's own.
@@ -32,5 +32,5 @@ pub fn store_placed<L: RowLaw>(
     ensures told { (found : ℕ) × ToldUnder L.law (view p.old) who (own_kind (part_of (view p.old) who) cell word value) found (view p.new) }
     ensures booked { (found : ℕ) × Booked L.law (book p.old) who (own_kind (part_of (view p.old) who) cell word value) found (book p.new) }
 {
-    store_as::<L, Brand>(t, p, who, Word::Cell { cell, word }, value);
+    step_as::<L, Brand>(t, p, who, Word::Cell { cell, word }, Change::Set(value));
 }

@@ -9,7 +9,7 @@ ghost use Rattle.erm_rule.specs.Views.{view, part_in, part_of};
 use erm_layout::Word;
 use erm_machine::{Kind, RING_WORDS};
 use erm_model::{RowLaw, Seat, Stamp};
-use erm_rule::{Pass, Table, load, store};
+use erm_rule::{Change, Pass, Table, step};
 
 /// Stores a word of the own block behind its header.
 pub fn store_ring<L: RowLaw>(t: &Table<L>, p: &mut Pass, who: Seat, at: Stamp, value: u64)
@@ -21,7 +21,14 @@ pub fn store_ring<L: RowLaw>(t: &Table<L>, p: &mut Pass, who: Seat, at: Stamp, v
     ensures booked { (found : ℕ) × Booked L.law (book p.old) who (StoreRing at value) found (book p.new) }
 {
     let kind = Kind::StoreRing { at, value };
-    store(t, p, who, kind, Word::Ring(at % RING_WORDS), value);
+    step(
+        t,
+        p,
+        who,
+        kind,
+        Word::Ring(at % RING_WORDS),
+        Change::Set(value),
+    );
 }
 
 /// Stores the header of the own block: the decision. The transaction that is decided is spelled.
@@ -35,7 +42,14 @@ pub fn decide<L: RowLaw>(t: &Table<L>, p: &mut Pass, who: Seat, at: Stamp, heade
     ensures booked { (found : ℕ) × Booked L.law (book p.old) who (Decide at header) found (book p.new) }
 {
     let kind = Kind::Decide { at, header };
-    store(t, p, who, kind, Word::Ring(at % RING_WORDS), header);
+    step(
+        t,
+        p,
+        who,
+        kind,
+        Word::Ring(at % RING_WORDS),
+        Change::Set(header),
+    );
 }
 
 /// Loads a word of the ring.
@@ -48,7 +62,7 @@ pub fn load_ring<L: RowLaw>(t: &Table<L>, p: &mut Pass, who: Seat, at: Stamp) ->
     ensures booked { Booked L.law (book p.old) who (LoadRing at) result (book p.new) }
 {
     let kind = Kind::LoadRing { at };
-    load(t, p, who, kind, Word::Ring(at % RING_WORDS))
+    step(t, p, who, kind, Word::Ring(at % RING_WORDS), Change::Keep)
 }
 
 /// Clears a word of the ring.
@@ -61,7 +75,7 @@ pub fn clear_ring<L: RowLaw>(t: &Table<L>, p: &mut Pass, who: Seat, at: Stamp)
     ensures booked { (found : ℕ) × Booked L.law (book p.old) who (ClearRing at) found (book p.new) }
 {
     let kind = Kind::ClearRing { at };
-    store(t, p, who, kind, Word::Ring(at % RING_WORDS), 0);
+    step(t, p, who, kind, Word::Ring(at % RING_WORDS), Change::Set(0));
 }
 
 /// Stores the place flushed.
@@ -74,7 +88,7 @@ pub fn store_flushed<L: RowLaw>(t: &Table<L>, p: &mut Pass, who: Seat, value: St
     ensures booked { (found : ℕ) × Booked L.law (book p.old) who (StoreFlushed value) found (book p.new) }
 {
     let kind = Kind::StoreFlushed { value };
-    store(t, p, who, kind, Word::Flushed, value);
+    step(t, p, who, kind, Word::Flushed, Change::Set(value));
 }
 
 /// Loads the place flushed.
@@ -86,5 +100,5 @@ pub fn load_flushed<L: RowLaw>(t: &Table<L>, p: &mut Pass, who: Seat) -> Stamp
     ensures told { ToldUnder L.law (view p.old) who LoadFlushed result (view p.new) }
     ensures booked { Booked L.law (book p.old) who LoadFlushed result (book p.new) }
 {
-    load(t, p, who, Kind::LoadFlushed, Word::Flushed)
+    step(t, p, who, Kind::LoadFlushed, Word::Flushed, Change::Keep)
 }

@@ -12,7 +12,7 @@ ghost use Rattle.erm_rule.specs.Views.{view, part_in, part_of};
 use erm_layout::Word;
 use erm_machine::{CellWord, OBJECT_LIMIT};
 use erm_model::{RowLaw, Seat, Stamp};
-use erm_rule::{Pass, Table, and_as, load_as, store_as};
+use erm_rule::{Change, Pass, Table, step_as};
 use std::marker::Brand;
 
 /// Loads a stamp of the version that a read or a settle has come to, which is in this cell.
@@ -34,7 +34,7 @@ pub fn load_stamp<L: RowLaw>(
     ensures told { ToldUnder L.law (view p.old) who (stamp_kind (part_of (view p.old) who) word) result (view p.new) }
     ensures booked { Booked L.law (book p.old) who (stamp_kind (part_of (view p.old) who) word) result (book p.new) }
 {
-    load_as::<L, Brand>(t, p, who, Word::Cell { cell, word })
+    step_as::<L, Brand>(t, p, who, Word::Cell { cell, word }, Change::Keep)
 }
 
 /// Loads the reader bits of the version overwritten that a settle has come to, which is in this cell.
@@ -50,7 +50,7 @@ pub fn load_readers<L: RowLaw>(t: &Table<L>, p: &mut Pass, who: Seat, cell: u32)
     ensures booked { Booked L.law (book p.old) who (readers_kind (part_of (view p.old) who)) result (book p.new) }
 {
     let word = CellWord::Readers;
-    load_as::<L, Brand>(t, p, who, Word::Cell { cell, word })
+    step_as::<L, Brand>(t, p, who, Word::Cell { cell, word }, Change::Keep)
 }
 
 /// Stores the own successor stamp into the version that the next claim to be installed overwrites, which is in this cell.
@@ -66,7 +66,7 @@ pub fn store_succ<L: RowLaw>(t: &Table<L>, p: &mut Pass, who: Seat, cell: u32, v
     ensures booked { (found : ℕ) × Booked L.law (book p.old) who (succ_kind (part_of (view p.old) who) value) found (book p.new) }
 {
     let word = CellWord::OverwriterSucc;
-    store_as::<L, Brand>(t, p, who, Word::Cell { cell, word }, value);
+    step_as::<L, Brand>(t, p, who, Word::Cell { cell, word }, Change::Set(value));
 }
 
 /// Stores the own stamp as that version's overwriter's.
@@ -82,7 +82,7 @@ pub fn store_overwriter<L: RowLaw>(t: &Table<L>, p: &mut Pass, who: Seat, cell: 
     ensures booked { (found : ℕ) × Booked L.law (book p.old) who (mark_kind (part_of (view p.old) who) value) found (book p.new) }
 {
     let word = CellWord::Overwriter;
-    store_as::<L, Brand>(t, p, who, Word::Cell { cell, word }, value);
+    step_as::<L, Brand>(t, p, who, Word::Cell { cell, word }, Change::Set(value));
 }
 
 /// Clears the own bit among the readers of the next version read, which is in this cell.
@@ -99,7 +99,13 @@ pub fn clear_reader<L: RowLaw>(t: &Table<L>, p: &mut Pass, who: Seat, cell: u32)
     ensures booked { (found : ℕ) × Booked L.law (book p.old) who (clear_kind (part_of (view p.old) who)) found (book p.new) }
 {
     let word = CellWord::Readers;
-    and_as::<L, Brand>(t, p, who, Word::Cell { cell, word }, other_bits(who));
+    step_as::<L, Brand>(
+        t,
+        p,
+        who,
+        Word::Cell { cell, word },
+        Change::And(other_bits(who)),
+    );
 }
 
 // All bits but that of a session.

@@ -12,7 +12,7 @@ ghost use Rattle.erm_rule.specs.Views.{view, part_in, part_of};
 use erm_layout::Word;
 use erm_machine::{CellWord, OBJECT_LIMIT};
 use erm_model::{ROW_WORDS, RowLaw, Seat, Stamp};
-use erm_rule::{Pass, Table, load_as, or_as, raise_as, swap_as};
+use erm_rule::{Change, Pass, Table, step_as};
 use std::marker::Brand;
 
 /// Loads a word of the version in hand, which is in this cell.
@@ -34,7 +34,7 @@ pub fn load_walked<L: RowLaw>(
     ensures told { ToldUnder L.law (view p.old) who (walk_kind (part_of (view p.old) who) word) result (view p.new) }
     ensures booked { Booked L.law (book p.old) who (walk_kind (part_of (view p.old) who) word) result (book p.new) }
 {
-    load_as::<L, Brand>(t, p, who, Word::Cell { cell, word })
+    step_as::<L, Brand>(t, p, who, Word::Cell { cell, word }, Change::Keep)
 }
 
 /// Loads the reader stamp of the version that the newest claim overwrites, which is in this cell. Where the seat has a spare cell
@@ -51,7 +51,7 @@ pub fn load_rated<L: RowLaw>(t: &Table<L>, p: &mut Pass, who: Seat, cell: u32) -
     ensures booked { Booked L.law (book p.old) who (rated_kind (part_of (view p.old) who)) result (book p.new) }
 {
     let word = CellWord::ReaderStamp;
-    load_as::<L, Brand>(t, p, who, Word::Cell { cell, word })
+    step_as::<L, Brand>(t, p, who, Word::Cell { cell, word }, Change::Keep)
 }
 
 /// Loads the word at a place of the row of the version that the newest claim overwrites, which is in this cell.
@@ -68,7 +68,7 @@ pub fn load_copied<L: RowLaw>(t: &Table<L>, p: &mut Pass, who: Seat, cell: u32, 
     ensures booked { Booked L.law (book p.old) who (copied_kind (part_of (view p.old) who) place) result (book p.new) }
 {
     let word = CellWord::Row(place);
-    load_as::<L, Brand>(t, p, who, Word::Cell { cell, word })
+    step_as::<L, Brand>(t, p, who, Word::Cell { cell, word }, Change::Keep)
 }
 
 /// Swaps the link of the version in hand, which is in this cell, with 0: cuts the chain behind it. The answer is the link.
@@ -84,7 +84,7 @@ pub fn swap_link<L: RowLaw>(t: &Table<L>, p: &mut Pass, who: Seat, cell: u32) ->
     ensures booked { Booked L.law (book p.old) who (swap_kind (part_of (view p.old) who)) result (book p.new) }
 {
     let word = CellWord::Link;
-    swap_as::<L, Brand>(t, p, who, Word::Cell { cell, word }, 0)
+    step_as::<L, Brand>(t, p, who, Word::Cell { cell, word }, Change::Set(0))
 }
 
 /// Loads the link of the version in hand, which was cut off: its cell, this one, is a spare one.
@@ -100,7 +100,7 @@ pub fn load_detached<L: RowLaw>(t: &Table<L>, p: &mut Pass, who: Seat, cell: u32
     ensures booked { Booked L.law (book p.old) who (detached_kind (part_of (view p.old) who)) result (book p.new) }
 {
     let link = CellWord::Link;
-    load_as::<L, Brand>(t, p, who, Word::Cell { cell, word: link })
+    step_as::<L, Brand>(t, p, who, Word::Cell { cell, word: link }, Change::Keep)
 }
 
 /// Sets the own bit among the readers of the version in hand, which is in this cell: the version counts as read.
@@ -117,7 +117,7 @@ pub fn set_reader<L: RowLaw>(t: &Table<L>, p: &mut Pass, who: Seat, cell: u32)
     ensures booked { (found : ℕ) × Booked L.law (book p.old) who (reader_kind (part_of (view p.old) who)) found (book p.new) }
 {
     let word = CellWord::Readers;
-    or_as::<L, Brand>(t, p, who, Word::Cell { cell, word }, bit(who));
+    step_as::<L, Brand>(t, p, who, Word::Cell { cell, word }, Change::Or(bit(who)));
 }
 
 // The bit of a session.
@@ -141,5 +141,5 @@ pub fn raise_reader<L: RowLaw>(t: &Table<L>, p: &mut Pass, who: Seat, cell: u32,
     ensures booked { (found : ℕ) × Booked L.law (book p.old) who (raise_kind (part_of (view p.old) who) value) found (book p.new) }
 {
     let word = CellWord::ReaderStamp;
-    raise_as::<L, Brand>(t, p, who, Word::Cell { cell, word }, value);
+    step_as::<L, Brand>(t, p, who, Word::Cell { cell, word }, Change::Raise(value));
 }

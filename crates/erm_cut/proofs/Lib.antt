@@ -5,3 +5,4 @@ pub mod Newest
 pub mod OffChain
 pub mod SpareCells
 pub mod Walk
+pub mod Took

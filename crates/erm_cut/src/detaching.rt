@@ -7,6 +7,7 @@ ghost use Rattle.erm_rule.specs.Books.{IsAfter, book};
 ghost use Rattle.erm_rule.specs.Hands.{IsKnown};
 ghost use Rattle.erm_rule.specs.Steps.{Fits};
 ghost use Rattle.erm_rule.specs.Views.{view, part_of};
+ghost use Rattle.erm_cut.specs.Took.{TookCut, TookDetach};
 
 use crate::finding::{find_cut, linked_cell};
 use erm_cells::{Spare, load_detached, swap_link};
@@ -25,6 +26,7 @@ pub fn detach<L: RowLaw>(t: &Table<L>, p: &mut Pass, who: Seat, cell: u32, spare
     ensures detached { DidDetach (view p.old) who result (view p.new) }
     ensures spare { SpareIs spare.new (part_of (view p.new) who) }
     ensures goes { IsAfter (book p.old) (book p.new) }
+    ensures took { TookDetach L.law who (book p.old) (book p.new) }
 {
     let mut link = swap_link(t, p, who, cell);
     let mut count = 0_u32;
@@ -57,6 +59,7 @@ pub fn cut<L: RowLaw>(
     ensures cut { DidCut (view p.old) who horizon result (view p.new) }
     ensures spare { SpareIs spare.new (part_of (view p.new) who) }
     ensures goes { IsAfter (book p.old) (book p.new) }
+    ensures took { TookCut L.law who (book p.old) (book p.new) }
 {
     match find_cut(t, p, who, head, horizon) {
         Some(cell) => detach(t, p, who, cell, spare),

@@ -6,6 +6,7 @@ ghost use Rattle.erm_rule.specs.Books.{IsAfter, book};
 ghost use Rattle.erm_rule.specs.Hands.{IsKnown};
 ghost use Rattle.erm_rule.specs.Steps.{Fits};
 ghost use Rattle.erm_rule.specs.Views.{view, part_of};
+ghost use Rattle.erm_rule.specs.Went.{IsLoadStep, Went};
 
 use erm_cells::load_walked;
 use erm_machine::CellWord;
@@ -28,6 +29,7 @@ pub fn find_cut<L: RowLaw>(
     ensures fits { Fits t.now.words.shared.table_id p.new }
     ensures found { MatchOption result (DidFindNone (view p.old) who horizon (view p.new)) (λ cell. DidFindCut (view p.old) who horizon cell (view p.new)) }
     ensures goes { IsAfter (book p.old) (book p.new) }
+    ensures loads { Went L.law who IsLoadStep (book p.old) (book p.new) }
 {
     let mut cell = head;
     'walk: loop {

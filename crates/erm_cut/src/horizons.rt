@@ -6,6 +6,8 @@ ghost use Rattle.erm_machine.specs.Seat.{is_active};
 ghost use Rattle.erm_rule.specs.Books.{IsAfter, book};
 ghost use Rattle.erm_rule.specs.Steps.{Fits};
 ghost use Rattle.erm_rule.specs.Views.{view, part_of};
+ghost use Rattle.erm_cut.specs.Took.{TookHorizon};
+ghost use Rattle.erm_machine.specs.declared.limits.TheConstants.{ANNOUNCERS};
 
 use erm_machine::{ANNOUNCERS, TailUse};
 use erm_model::{RowLaw, Seat, Stamp};
@@ -20,6 +22,7 @@ pub fn horizon<L: RowLaw>(t: &Table<L>, p: &mut Pass, who: Seat) -> Stamp
     ensures fits { Fits t.now.words.shared.table_id p.new }
     ensures found { DidHorizon (view p.old) who result (view p.new) }
     ensures goes { IsAfter (book p.old) (book p.new) }
+    ensures took { TookHorizon L.law who ANNOUNCERS result (book p.old) (book p.new) }
 {
     let mut least = load_tail(t, p, who, TailUse::Horizon);
     for seat in 1..ANNOUNCERS {

@@ -6,6 +6,9 @@ ghost use Rattle.erm_machine.specs.Words.{is_session};
 ghost use Rattle.erm_rule.specs.Hands.{IsKnown};
 ghost use Rattle.erm_rule.specs.Steps.{Fits};
 ghost use Rattle.erm_rule.specs.Views.{view, part_of};
+ghost use Rattle.erm_cells.specs.Took.{IsEndStep};
+ghost use Rattle.erm_rule.specs.Books.{book};
+ghost use Rattle.erm_rule.specs.Went.{Went};
 
 use crate::clearing::clear_reads;
 use crate::releasing::release_claims;
@@ -32,6 +35,7 @@ pub fn abort<L: RowLaw>(
     ensures fits { Fits t.now.words.shared.table_id p.new }
     ensures aborted { DidAbort (view p.old) who (view p.new) }
     ensures spare { SpareIs spare.new (part_of (view p.new) who) }
+    ensures ends { Went L.law who IsEndStep (book p.old) (book p.new) }
 {
     release_claims(t, p, who, spare, claims);
     clear_reads(t, p, who, reads);

@@ -6,6 +6,9 @@ ghost use Rattle.erm_precommit.specs.Pre.{IsPre};
 ghost use Rattle.erm_rule.specs.Hands.{IsKnown};
 ghost use Rattle.erm_rule.specs.Steps.{Fits};
 ghost use Rattle.erm_rule.specs.Views.{view, part_of};
+ghost use Rattle.erm_cells.specs.Took.{IsEndStep};
+ghost use Rattle.erm_rule.specs.Books.{book};
+ghost use Rattle.erm_rule.specs.Went.{Went};
 
 use crate::clearing::clear_reads;
 use crate::installing::install_claims;
@@ -25,6 +28,7 @@ pub fn commit_end<L: RowLaw>(pre: &Pre, t: &Table<L>, p: &mut Pass, who: Seat)
     requires may { MayCommit (part_of (view p.old) who) }
     ensures fits { Fits t.now.words.shared.table_id p.new }
     ensures committed { DidCommit (view p.old) who (view p.new) }
+    ensures ends { Went L.law who IsEndStep (book p.old) (book p.new) }
 {
     raise_reads(t, p, who, pre.reads.as_slice(), pre.stamp);
     install_claims(t, p, who, pre.claims.as_slice(), pre.stamp, pre.succ);

@@ -3,6 +3,9 @@ ghost use Rattle.erm_ends.specs.Commits.{DidInstallClaim, DidInstallClaims, IsNe
 ghost use Rattle.erm_rule.specs.Hands.{IsKnown};
 ghost use Rattle.erm_rule.specs.Steps.{Fits};
 ghost use Rattle.erm_rule.specs.Views.{view, part_of};
+ghost use Rattle.erm_cells.specs.Took.{IsEndStep};
+ghost use Rattle.erm_rule.specs.Books.{book};
+ghost use Rattle.erm_rule.specs.Went.{Went};
 
 use erm_cells::store_head;
 use erm_entries::install;
@@ -25,6 +28,7 @@ fn install_claim<L: RowLaw>(
     requires next { IsNextCommit claim stamp succ (part_of (view p.old) who) }
     ensures fits { Fits t.now.words.shared.table_id p.new }
     ensures installed { DidInstallClaim (view p.old) who claim.oid claim.own (view p.new) }
+    ensures ends { Went L.law who IsEndStep (book p.old) (book p.new) }
 {
     store_head(t, p, who, claim.own, stamp, Some(claim.overwritten));
     mark_overwritten(t, p, who, claim.overwritten, stamp, succ);
@@ -45,6 +49,7 @@ pub(crate) fn install_claims<L: RowLaw>(
     requires may { MayInstallClaims claims.now stamp succ (part_of (view p.old) who) }
     ensures fits { Fits t.now.words.shared.table_id p.new }
     ensures installed { DidInstallClaims (view p.old) who (view p.new) }
+    ensures ends { Went L.law who IsEndStep (book p.old) (book p.new) }
 {
     for k in 0..claims.len() {
         install_claim(t, p, who, claims[k], stamp, succ);

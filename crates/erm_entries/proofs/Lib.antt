@@ -7,3 +7,4 @@ pub mod Sessions
 pub mod Spelled
 pub mod Stores
 pub mod Unclaims
+pub mod Took

@@ -1,5 +1,5 @@
 -- A session that begins first of all, and then finds a head.
-use Rattle.std.proofs.Common.{◌≡◌, ℕ, ◌<◌, Bool, true, Some, None, refl, sym, ap, ◌∙◌, subst}
+use Rattle.std.proofs.Common.{◌≡◌, ℕ, ◌<◌, Bool, true, Some, None, refl, sym, ap, ◌∙◌, subst, length}
 use Rattle.std.specs.Prelude.{if◌then◌else◌}
 use Rattle.std.proofs.lemmas.Bool.{eq-eqb, lt-ltb}
 use Rattle.erm_machine.specs.declared.part.Part.{Part}
@@ -14,6 +14,7 @@ use Rattle.erm_rule.proofs.Telling.{part_of-changed, changed_here}
 use Rattle.erm_cells.specs.Calls.{starts_anew, walked, DidWalk, IsFoundHead}
 use Rattle.erm_seats.specs.Calls.{begun_part, DidBegin}
 use Rattle.erm_seats.specs.Race.{idle_part}
+use Rattle.erm_machine.specs.Life.{next_number}
 
 one_in : (who : ℕ) (x : Part) → part_in (one_seat who x) who ≡ Some x
 one_in who x = ap (λ (b : Bool). if b then Some x else None) (eq-eqb who who refl)
@@ -58,3 +59,12 @@ module _ (o : Opening) (who : ℕ) (v : View) (is : v ≡ one_seat who (idle_par
 
     pub found_head : (seen : ℕ) → seen ≡ entry → IsFoundHead (part_of u who).task oid seen
     found_head seen same = subst (λ (z : Part). IsFoundHead z.task oid seen) (sym head) (walk.oid_is, sym same)
+
+    pub active_found : is_active (part_of u who).place ≡ true
+    active_found = ap (λ (z : Part). is_active z.place) head
+
+    pub number_found : (part_of u who).current.number ≡ next_number who (part_of v who).number
+    number_found = ap (λ (z : Part). z.current.number) head
+
+    pub claims_found : length (part_of u who).current.writes ≡ 0
+    claims_found = ap (λ (z : Part). length z.current.writes) head

@@ -1,8 +1,10 @@
 //! The end of a claim where the transaction commits.
-ghost use Rattle.std.specs.Prelude.{◌≡◌, ◌<◌};
-ghost use Rattle.erm_rule.specs.Steps.{Fits};
+ghost use Rattle.std.specs.Prelude.{◌≡◌, ◌<◌, ℕ};
+ghost use Rattle.erm_rule.specs.Steps.{Fits, Booked};
 ghost use Rattle.erm_rule.specs.Views.{view, part_of};
 ghost use Rattle.erm_entries.specs.Ends.{DidInstall, IsNextInstall};
+ghost use Rattle.erm_machine.specs.declared.event.Kind.TheVariants.{Install};
+ghost use Rattle.erm_rule.specs.Books.{book};
 
 use erm_machine::OBJECT_LIMIT;
 use erm_model::{Oid, RowLaw, Seat};
@@ -15,6 +17,7 @@ pub fn install<L: RowLaw>(t: &Table<L>, p: &mut Pass, who: Seat, oid: Oid, head:
     requires next { IsNextInstall (part_of (view p.old) who) oid head }
     ensures fits { Fits t.now.words.shared.table_id p.new }
     ensures installed { DidInstall (view p.old) who oid head (view p.new) }
+    ensures booked { (found : ℕ) × Booked L.law (book p.old) who (Install oid head) found (book p.new) }
 {
     erm_cells::install(t, p, who, oid, head);
 }

@@ -5,10 +5,12 @@ ghost use Rattle.erm_machine.specs.declared.task.Task.TheVariants.{Cleared};
 ghost use Rattle.erm_machine.specs.Facts.{Holds};
 ghost use Rattle.erm_machine.specs.Seat.{is_active};
 ghost use Rattle.erm_rule.specs.Books.{book, IsAfter, WasState};
-ghost use Rattle.erm_rule.specs.Steps.{Fits};
+ghost use Rattle.erm_rule.specs.Steps.{Fits, Booked};
 ghost use Rattle.erm_rule.specs.Views.{view, part_of};
 ghost use Rattle.erm_entries.specs.Calls.{DidReach, DidReload, DidWait, MayLoad};
 ghost use Rattle.erm_entries.specs.Spelling.{entry_of, word_of};
+ghost use Rattle.erm_entries.specs.Took.{TookReach, TookWait};
+ghost use Rattle.erm_machine.specs.declared.event.Kind.TheVariants.{LoadEntry};
 
 use crate::answer::SeatWait;
 use crate::entries::Entry;
@@ -32,6 +34,7 @@ pub fn load<L: RowLaw>(t: &Table<L>, p: &mut Pass, who: Seat, oid: Oid) -> Entry
     ensures reloaded { (part_of (view p.old) who).task ≡ Cleared oid
         → DidReload (view p.old) who oid (word_of result) (view p.new) }
     ensures goes { IsAfter (book p.old) (book p.new) }
+    ensures booked { Booked L.law (book p.old) who (LoadEntry oid) (word_of result) (book p.new) }
 {
     let word = load_entry(t, p, who, oid);
     Entry::of(word)
@@ -58,6 +61,8 @@ pub fn enter<L: RowLaw>(
     ensures spelled { IfOk result (λ entry. entry_of (word_of entry) ≡ entry) }
     ensures waits { IfErr result (λ wait. DidWait (view p.old) who oid wait (view p.new)) }
     ensures met { IfErr result (λ wait. WasState (book p.old) wait.seat wait.seen (book p.new)) }
+    ensures took { IfOk result (λ entry. TookReach L.law who oid begin (word_of entry) (book p.old) (book p.new)) }
+    ensures took_wait { IfErr result (λ wait. TookWait L.law who oid begin wait (book p.old) (book p.new)) }
 {
     let first = load(t, p, who, oid);
     if first.owner == 0 {

@@ -31,12 +31,14 @@ type Table = erm_rule::Table<AnyRows>;
 
 // An opening on rows of zeros, whose log begins at 13.
 fn opening_of_zeros(alloc: Global) -> Result<Opening, AllocError>
+    ensures none { IfOk result (λ o. o.sessions ≡ 0) }
     ensures tail { IfOk result (λ o. o.tail ≡ 13) }
     ensures first { IfOk result (λ o. o.first ≤ OBJECT_LIMIT) }
     ensures rows { IfOk result (λ o. vec_len o.rows ≡ OBJECT_LIMIT) }
 {
     let rows = vec![in alloc; [0; ROW_WORDS]; OBJECT_LIMIT as usize]?;
     Ok(Opening {
+        sessions: 0,
         tail: 13,
         run: 1,
         first: 16,
@@ -46,6 +48,7 @@ fn opening_of_zeros(alloc: Global) -> Result<Opening, AllocError>
 
 // A table, and the passes of sessions 1 and 2.
 fn open_two(alloc: Global, opening: &Opening) -> Result<(Table, Pass, Pass), AllocError>
+    requires none { opening.now.sessions ≡ 0 }
     requires tail { opening.now.tail ≡ 13 }
     requires first { opening.now.first ≤ OBJECT_LIMIT }
     requires rows { vec_len opening.now.rows ≡ OBJECT_LIMIT }

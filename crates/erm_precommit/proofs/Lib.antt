@@ -10,3 +10,4 @@ pub mod Bare
 pub mod Causes
 pub mod Windows
 pub mod Skews
+pub mod Took

@@ -40,6 +40,9 @@ module _ (pre : Pre) (v : View) (who : ℕ) (sealed : is_sealed (part_of v who).
 
     -- there is room
     module _ (room : fits_ring pre flushed ≡ true) where
+      pub start_room : has_room flushed x.current ≡ true
+      start_room = sym (room_is flushed) ∙ room
+
       leads : Leads v who (task.Settles 0 0) x.current.succ x.current.succ_from x.current.pred x.clear w
       leads = step_leads v who sealed kind.LoadFlushed flushed w (task.Settles 0 0) x.current.succ x.current.succ_from x.current.pred told (after true room)
 

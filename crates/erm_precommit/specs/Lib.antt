@@ -1,3 +1,4 @@
 pub mod Pre
 pub mod Settle
 pub mod Skew
+pub mod Took

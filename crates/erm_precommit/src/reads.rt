@@ -6,6 +6,8 @@ ghost use Rattle.erm_rule.specs.Books.{book, IsAfter, WasState};
 ghost use Rattle.erm_rule.specs.Steps.{Fits};
 ghost use Rattle.erm_rule.specs.Views.{view};
 ghost use Rattle.erm_precommit.specs.Settle.{has_other_owner, task_of, OwnsRead, Stands, StopsAt, WaitsForSeat, WentOn};
+ghost use Rattle.erm_rule.specs.Went.{IsLoadStep, Went};
+ghost use Rattle.erm_precommit.specs.Took.{TookSeatWait};
 
 use crate::answer::SeatWait;
 use crate::pre::Pre;
@@ -49,6 +51,7 @@ fn load_head<L: RowLaw>(
     ensures owner { IfSome result (λ owner. OwnsRead (view p.old) who place owner) }
     ensures clear { IfNone result (task_of (view p.new) who ≡ ReadClear place) }
     ensures goes { IsAfter (book p.old) (book p.new) }
+    ensures loads { Went L.law who IsLoadStep (book p.old) (book p.new) }
 {
     let read = pre.read_at(place);
     let entry = load_entry(t, p, who, read.oid);
@@ -74,6 +77,8 @@ fn look_at_owner<L: RowLaw>(
     ensures stops { IfErr result (λ wait. StopsAt (view p.old) who owner wait (view p.new)) }
     ensures goes { IsAfter (book p.old) (book p.new) }
     ensures met { IfErr result (λ wait. WasState (book p.old) wait.seat wait.seen (book p.new)) }
+    ensures loads { Went L.law who IsLoadStep (book p.old) (book p.new) }
+    ensures took_wait { IfErr result (λ wait. TookSeatWait L.law who wait.seat wait.seen (book p.old) (book p.new)) }
 {
     match look(t, p, who, owner, pre.stamp) {
         Look::Clear => Ok(()),
@@ -100,6 +105,8 @@ fn pass_owner<L: RowLaw>(
     ensures waits { IfErr result (λ wait. WaitsForSeat (view p.old) who wait.seat wait.seen (view p.new)) }
     ensures goes { IsAfter (book p.old) (book p.new) }
     ensures met { IfErr result (λ wait. WasState (book p.old) wait.seat wait.seen (book p.new)) }
+    ensures loads { Went L.law who IsLoadStep (book p.old) (book p.new) }
+    ensures took_wait { IfErr result (λ wait. TookSeatWait L.law who wait.seat wait.seen (book p.old) (book p.new)) }
 {
     match load_head(pre, t, p, who, place) {
         Some(owner) => look_at_owner(pre, t, p, who, place, owner),
@@ -131,6 +138,7 @@ fn load_overwriter<L: RowLaw>(
     ensures counts { result ≡ true → (overwriter : ℕ) × (task_of (view p.new) who ≡ ReadOvertaken place overwriter) }
     ensures none { result ≡ false → task_of (view p.new) who ≡ Settles (place + 1) 0 }
     ensures goes { IsAfter (book p.old) (book p.new) }
+    ensures loads { Went L.law who IsLoadStep (book p.old) (book p.new) }
 {
     let read = pre.read_at(place);
     let overwriter = load_stamp(t, p, who, read.cell, CellWord::Overwriter);
@@ -147,6 +155,7 @@ fn load_succ<L: RowLaw>(pre: &mut Pre, t: &Table<L>, p: &mut Pass, who: Seat, pl
     ensures stands { Stands pre.new (view p.new) who }
     ensures passed { task_of (view p.new) who ≡ Settles (place + 1) 0 }
     ensures goes { IsAfter (book p.old) (book p.new) }
+    ensures loads { Went L.law who IsLoadStep (book p.old) (book p.new) }
 {
     let read = pre.read_at(place);
     let succ = load_stamp(t, p, who, read.cell, CellWord::OverwriterSucc);
@@ -163,6 +172,7 @@ fn rate_read<L: RowLaw>(pre: &mut Pre, t: &Table<L>, p: &mut Pass, who: Seat, pl
     ensures stands { Stands pre.new (view p.new) who }
     ensures passed { task_of (view p.new) who ≡ Settles (place + 1) 0 }
     ensures goes { IsAfter (book p.old) (book p.new) }
+    ensures loads { Went L.law who IsLoadStep (book p.old) (book p.new) }
 {
     if load_overwriter(pre, t, p, who, place) {
         load_succ(pre, t, p, who, place);
@@ -188,6 +198,8 @@ fn pass_read<L: RowLaw>(
     ensures waits { IfErr result (λ wait. WaitsForSeat (view p.old) who wait.seat wait.seen (view p.new)) }
     ensures goes { IsAfter (book p.old) (book p.new) }
     ensures met { IfErr result (λ wait. WasState (book p.old) wait.seat wait.seen (book p.new)) }
+    ensures loads { Went L.law who IsLoadStep (book p.old) (book p.new) }
+    ensures took_wait { IfErr result (λ wait. TookSeatWait L.law who wait.seat wait.seen (book p.old) (book p.new)) }
 {
     pass_owner(pre, t, p, who, place)?;
     rate_read(pre, t, p, who, place);
@@ -211,6 +223,8 @@ pub(crate) fn pass_reads<L: RowLaw>(
     ensures waits { IfErr result (λ wait. WaitsForSeat (view p.old) who wait.seat wait.seen (view p.new)) }
     ensures goes { IsAfter (book p.old) (book p.new) }
     ensures met { IfErr result (λ wait. WasState (book p.old) wait.seat wait.seen (book p.new)) }
+    ensures loads { Went L.law who IsLoadStep (book p.old) (book p.new) }
+    ensures took_wait { IfErr result (λ wait. TookSeatWait L.law who wait.seat wait.seen (book p.old) (book p.new)) }
 {
     for place in 0..pre.reads.len() {
         pass_read(pre, t, p, who, place)?;

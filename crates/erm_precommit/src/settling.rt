@@ -8,6 +8,8 @@ ghost use Rattle.erm_rule.specs.Steps.{Fits};
 ghost use Rattle.erm_rule.specs.Views.{view, part_of};
 ghost use Rattle.erm_precommit.specs.Pre.{IsPre};
 ghost use Rattle.erm_precommit.specs.Settle.{task_of, DidSettle, Stands, WaitsForRing, WaitsForSeat, WasMetWhereItWaits, WentOn};
+ghost use Rattle.erm_rule.specs.Went.{IsLoadStep, Went};
+ghost use Rattle.erm_precommit.specs.Took.{TookRingWait, TookSeatWait, TookSettle, TookStart};
 
 use crate::answer::{SeatWait, Settled, Wait};
 use crate::pre::Pre;
@@ -30,6 +32,9 @@ fn start<L: RowLaw>(pre: &Pre, t: &Table<L>, p: &mut Pass, who: Seat) -> Result<
     ensures full { IfErr result (λ flushed. WaitsForRing (view p.old) who flushed (view p.new)) }
     ensures goes { IsAfter (book p.old) (book p.new) }
     ensures met { IfErr result (λ flushed. WasFlushed (book p.old) flushed (book p.new)) }
+    ensures loads { Went L.law who IsLoadStep (book p.old) (book p.new) }
+    ensures took { OnOk result (TookStart L.law who (book p.old) (book p.new)) }
+    ensures took_full { IfErr result (λ flushed. TookRingWait L.law who flushed (book p.old) (book p.new)) }
 {
     let flushed = load_flushed(t, p, who);
     if pre.fits_ring(flushed) {
@@ -51,6 +56,8 @@ fn pass_all<L: RowLaw>(pre: &mut Pre, t: &Table<L>, p: &mut Pass, who: Seat) -> 
     ensures waits { IfErr result (λ wait. WaitsForSeat (view p.old) who wait.seat wait.seen (view p.new)) }
     ensures goes { IsAfter (book p.old) (book p.new) }
     ensures met { IfErr result (λ wait. WasState (book p.old) wait.seat wait.seen (book p.new)) }
+    ensures loads { Went L.law who IsLoadStep (book p.old) (book p.new) }
+    ensures took_wait { IfErr result (λ wait. TookSeatWait L.law who wait.seat wait.seen (book p.old) (book p.new)) }
 {
     pass_reads(pre, t, p, who)?;
     pass_writes(pre, t, p, who)
@@ -69,6 +76,7 @@ pub fn settle<L: RowLaw>(pre: &mut Pre, t: &Table<L>, p: &mut Pass, who: Seat) -
     ensures settled { DidSettle (view p.old) who result (view p.new) }
     ensures goes { IsAfter (book p.old) (book p.new) }
     ensures met { WasMetWhereItWaits (book p.old) result (book p.new) }
+    ensures took { TookSettle L.law who result (book p.old) (book p.new) }
 {
     if let Err(flushed) = start(pre, t, p, who) {
         return Settled::Wait(Wait::Ring { flushed });

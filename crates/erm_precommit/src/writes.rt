@@ -7,6 +7,8 @@ ghost use Rattle.erm_rule.specs.Books.{book, IsAfter, WasState};
 ghost use Rattle.erm_rule.specs.Steps.{Fits};
 ghost use Rattle.erm_rule.specs.Views.{view};
 ghost use Rattle.erm_precommit.specs.Settle.{readers_task, task_of, HasRead, Stands, StopsAt, WaitsForSeat, WentOn};
+ghost use Rattle.erm_rule.specs.Went.{IsLoadStep, Went};
+ghost use Rattle.erm_precommit.specs.Took.{TookSeatWait};
 
 use crate::answer::SeatWait;
 use crate::pre::Pre;
@@ -30,6 +32,7 @@ fn load_others<L: RowLaw>(pre: &Pre, t: &Table<L>, p: &mut Pass, who: Seat, plac
     ensures task { task_of (view p.new) who ≡ readers_task place result }
     ensures readers { (q : ℕ) → bit_at result q ≡ 1 → HasRead (view p.old) who place q }
     ensures goes { IsAfter (book p.old) (book p.new) }
+    ensures loads { Went L.law who IsLoadStep (book p.old) (book p.new) }
 {
     let claim = pre.claim_at(place);
     let readers = load_readers(t, p, who, claim.overwritten);
@@ -58,6 +61,8 @@ fn look_at_least<L: RowLaw>(
     ensures stops { IfErr result (λ wait. StopsAt (view p.old) who (trailing_zeros w64 bits) wait (view p.new)) }
     ensures goes { IsAfter (book p.old) (book p.new) }
     ensures met { IfErr result (λ wait. WasState (book p.old) wait.seat wait.seen (book p.new)) }
+    ensures loads { Went L.law who IsLoadStep (book p.old) (book p.new) }
+    ensures took_wait { IfErr result (λ wait. TookSeatWait L.law who wait.seat wait.seen (book p.old) (book p.new)) }
 {
     let seat = bits.trailing_zeros() as Seat;
     match look(t, p, who, seat, pre.stamp) {
@@ -85,6 +90,8 @@ fn pass_readers<L: RowLaw>(
     ensures waits { IfErr result (λ wait. WaitsForSeat (view p.old) who wait.seat wait.seen (view p.new)) }
     ensures goes { IsAfter (book p.old) (book p.new) }
     ensures met { IfErr result (λ wait. WasState (book p.old) wait.seat wait.seen (book p.new)) }
+    ensures loads { Went L.law who IsLoadStep (book p.old) (book p.new) }
+    ensures took_wait { IfErr result (λ wait. TookSeatWait L.law who wait.seat wait.seen (book p.old) (book p.new)) }
 {
     let mut bits = load_others(pre, t, p, who, place);
     while bits != 0 {
@@ -103,6 +110,7 @@ fn rate_creator<L: RowLaw>(pre: &mut Pre, t: &Table<L>, p: &mut Pass, who: Seat,
     ensures stands { Stands pre.new (view p.new) who }
     ensures made { task_of (view p.new) who ≡ WriteMade place }
     ensures goes { IsAfter (book p.old) (book p.new) }
+    ensures loads { Went L.law who IsLoadStep (book p.old) (book p.new) }
 {
     let claim = pre.claim_at(place);
     let creator = load_stamp(t, p, who, claim.overwritten, CellWord::Stamp);
@@ -119,6 +127,7 @@ fn rate_readers<L: RowLaw>(pre: &mut Pre, t: &Table<L>, p: &mut Pass, who: Seat,
     ensures stands { Stands pre.new (view p.new) who }
     ensures passed { task_of (view p.new) who ≡ Settles (length pre.new.reads.items) (place + 1) }
     ensures goes { IsAfter (book p.old) (book p.new) }
+    ensures loads { Went L.law who IsLoadStep (book p.old) (book p.new) }
 {
     let claim = pre.claim_at(place);
     let reader = load_stamp(t, p, who, claim.overwritten, CellWord::ReaderStamp);
@@ -144,6 +153,8 @@ fn pass_write<L: RowLaw>(
     ensures waits { IfErr result (λ wait. WaitsForSeat (view p.old) who wait.seat wait.seen (view p.new)) }
     ensures goes { IsAfter (book p.old) (book p.new) }
     ensures met { IfErr result (λ wait. WasState (book p.old) wait.seat wait.seen (book p.new)) }
+    ensures loads { Went L.law who IsLoadStep (book p.old) (book p.new) }
+    ensures took_wait { IfErr result (λ wait. TookSeatWait L.law who wait.seat wait.seen (book p.old) (book p.new)) }
 {
     pass_readers(pre, t, p, who, place)?;
     rate_creator(pre, t, p, who, place);
@@ -168,6 +179,8 @@ pub(crate) fn pass_writes<L: RowLaw>(
     ensures waits { IfErr result (λ wait. WaitsForSeat (view p.old) who wait.seat wait.seen (view p.new)) }
     ensures goes { IsAfter (book p.old) (book p.new) }
     ensures met { IfErr result (λ wait. WasState (book p.old) wait.seat wait.seen (book p.new)) }
+    ensures loads { Went L.law who IsLoadStep (book p.old) (book p.new) }
+    ensures took_wait { IfErr result (λ wait. TookSeatWait L.law who wait.seat wait.seen (book p.old) (book p.new)) }
 {
     for place in 0..pre.claims.len() {
         pass_write(pre, t, p, who, place)?;

@@ -7,3 +7,4 @@ pub mod Seats
 pub mod Seen
 pub mod Settling
 pub mod Walked
+pub mod Players

@@ -1,13 +1,16 @@
 //! What an end leaves at the versions read and overwritten.
-ghost use Rattle.std.specs.Prelude.{◌≡◌, ◌||◌, true};
-ghost use Rattle.erm_cells.specs.Hands.{ended_claim, next_cleared, next_raised};
+ghost use Rattle.std.specs.Prelude.{◌≡◌, ◌||◌, true, ℕ};
+ghost use Rattle.erm_cells.specs.Hands.{ended_claim, next_cleared, next_raised, clear_kind, raise_kind};
 ghost use Rattle.erm_machine.specs.declared.attempt.Decision.TheVariants.{Commit};
 ghost use Rattle.erm_machine.specs.Seat.{end_of, is_active, is_decided};
 ghost use Rattle.erm_machine.specs.Words.{is_session};
 ghost use Rattle.erm_readers.specs.Calls.{DidMark, DidRaise, DidUnregister, IsClearing, IsMarking, IsRaising};
 ghost use Rattle.erm_rule.specs.Hands.{IsKnown};
-ghost use Rattle.erm_rule.specs.Steps.{Fits};
+ghost use Rattle.erm_rule.specs.Steps.{Fits, Booked};
 ghost use Rattle.erm_rule.specs.Views.{view, part_of};
+ghost use Rattle.erm_cells.specs.Took.{IsEndStep};
+ghost use Rattle.erm_rule.specs.Books.{book};
+ghost use Rattle.erm_rule.specs.Went.{Went};
 
 use erm_cells::{clear_reader, raise_reader, store_overwriter, store_succ};
 use erm_model::{RowLaw, Seat, Stamp};
@@ -24,6 +27,7 @@ pub fn raise<L: RowLaw>(t: &Table<L>, p: &mut Pass, who: Seat, cell: u32, stamp:
     requires stamp { (part_of (view p.old) who).current.stamp ≡ stamp }
     ensures fits { Fits t.now.words.shared.table_id p.new }
     ensures raised { DidRaise (view p.old) who (view p.new) }
+    ensures booked { (found : ℕ) × Booked L.law (book p.old) who (raise_kind (part_of (view p.old) who) stamp) found (book p.new) }
 {
     raise_reader(t, p, who, cell, stamp);
 }
@@ -48,6 +52,7 @@ pub fn mark_overwritten<L: RowLaw>(
     requires succ { (part_of (view p.old) who).current.succ ≡ succ }
     ensures fits { Fits t.now.words.shared.table_id p.new }
     ensures marked { DidMark (view p.old) who (view p.new) }
+    ensures ends { Went L.law who IsEndStep (book p.old) (book p.new) }
 {
     store_succ(t, p, who, cell, succ);
     store_overwriter(t, p, who, cell, stamp);
@@ -63,6 +68,7 @@ pub fn unregister<L: RowLaw>(t: &Table<L>, p: &mut Pass, who: Seat, cell: u32)
     requires cell { (next_cleared (part_of (view p.old) who)).cell ≡ cell }
     ensures fits { Fits t.now.words.shared.table_id p.new }
     ensures cleared { DidUnregister (view p.old) who (view p.new) }
+    ensures booked { (found : ℕ) × Booked L.law (book p.old) who (clear_kind (part_of (view p.old) who)) found (book p.new) }
 {
     clear_reader(t, p, who, cell);
 }

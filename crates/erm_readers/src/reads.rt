@@ -1,11 +1,14 @@
 //! A read of the version found: the own bit is set, and then its overwriter counts.
-ghost use Rattle.std.specs.Prelude.{◌≡◌, ◌<◌, true, length};
+ghost use Rattle.std.specs.Prelude.{◌≡◌, ◌<◌, true, length, ℕ};
 ghost use Rattle.erm_machine.specs.Seat.{is_active};
 ghost use Rattle.erm_machine.specs.Words.{is_session};
 ghost use Rattle.erm_readers.specs.Calls.{DidRateRead, DidRegister, IsRegistered, IsToBeRead};
 ghost use Rattle.erm_rule.specs.Hands.{IsKnown};
-ghost use Rattle.erm_rule.specs.Steps.{Fits};
+ghost use Rattle.erm_rule.specs.Steps.{Fits, Booked};
 ghost use Rattle.erm_rule.specs.Views.{view, part_of};
+ghost use Rattle.erm_cells.specs.Hands.{reader_kind};
+ghost use Rattle.erm_rule.specs.Books.{book};
+ghost use Rattle.erm_rule.specs.Went.{IsLoadStep, Went};
 
 use erm_cells::{load_stamp, set_reader};
 use erm_machine::{CellWord, READ_LIMIT};
@@ -22,6 +25,7 @@ pub fn register<L: RowLaw>(t: &Table<L>, p: &mut Pass, who: Seat, cell: u32)
     requires found { IsToBeRead (part_of (view p.old) who).current (part_of (view p.old) who).task cell }
     ensures fits { Fits t.now.words.shared.table_id p.new }
     ensures registered { DidRegister (view p.old) who (view p.new) }
+    ensures booked { (found : ℕ) × Booked L.law (book p.old) who (reader_kind (part_of (view p.old) who)) found (book p.new) }
 {
     set_reader(t, p, who, cell);
 }
@@ -35,6 +39,7 @@ pub fn rate_read<L: RowLaw>(t: &Table<L>, p: &mut Pass, who: Seat, cell: u32) ->
     requires registered { IsRegistered (part_of (view p.old) who).task cell }
     ensures fits { Fits t.now.words.shared.table_id p.new }
     ensures rated { DidRateRead (view p.old) who result (view p.new) }
+    ensures loads { Went L.law who IsLoadStep (book p.old) (book p.new) }
 {
     let overwriter = load_stamp(t, p, who, cell, CellWord::Overwriter);
     if overwriter == 0 {

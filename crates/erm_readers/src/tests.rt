@@ -19,12 +19,14 @@ type Table = erm_rule::Table<AnyRows>;
 
 // An opening on rows of zeros, whose log begins at 13.
 fn opening_of_zeros(alloc: Global) -> Result<Opening, AllocError>
+    ensures none { IfOk result (λ o. o.sessions ≡ 0) }
     ensures tail { IfOk result (λ o. o.tail ≡ 13) }
     ensures first { IfOk result (λ o. o.first ≤ OBJECT_LIMIT) }
     ensures rows { IfOk result (λ o. vec_len o.rows ≡ OBJECT_LIMIT) }
 {
     let rows = vec![in alloc; [0; ROW_WORDS]; OBJECT_LIMIT as usize]?;
     Ok(Opening {
+        sessions: 0,
         tail: 13,
         run: 1,
         first: 16,

@@ -5,6 +5,8 @@ ghost use Rattle.erm_readers.specs.Walk.{DidReach, IsWalking};
 ghost use Rattle.erm_rule.specs.Hands.{IsKnown};
 ghost use Rattle.erm_rule.specs.Steps.{Fits};
 ghost use Rattle.erm_rule.specs.Views.{view, part_of};
+ghost use Rattle.erm_rule.specs.Books.{book};
+ghost use Rattle.erm_rule.specs.Went.{IsLoadStep, Went};
 
 use crate::answer::Reached;
 use erm_cells::load_walked;
@@ -22,6 +24,7 @@ pub fn walk<L: RowLaw>(t: &Table<L>, p: &mut Pass, who: Seat, cell: u32, begin: 
     requires begin { (part_of (view p.old) who).current.begin ≡ begin }
     ensures fits { Fits t.now.words.shared.table_id p.new }
     ensures found { DidReach (view p.old) who result.cell result.stamp (view p.new) }
+    ensures loads { Went L.law who IsLoadStep (book p.old) (book p.new) }
 {
     let mut at = cell;
     loop {

@@ -3,3 +3,4 @@ pub mod Filling
 pub mod Gathering
 pub mod Clearing
 pub mod Turning
+pub mod Took

@@ -1,8 +1,13 @@
 //! The words of the own block.
+ghost use Rattle.std.specs.Prelude.{ℕ};
+ghost use Rattle.erm_machine.specs.declared.event.Kind.TheVariants.{Decide};
 ghost use Rattle.erm_ring.specs.Block.{DidDecide, DidFill, MayDecide, MayFill};
 ghost use Rattle.erm_rule.specs.Hands.{IsKnown};
-ghost use Rattle.erm_rule.specs.Steps.{Fits};
+ghost use Rattle.erm_rule.specs.Steps.{Fits, Booked};
 ghost use Rattle.erm_rule.specs.Views.{view, part_of};
+ghost use Rattle.erm_ring.specs.Took.{IsFillStep};
+ghost use Rattle.erm_rule.specs.Books.{book};
+ghost use Rattle.erm_rule.specs.Went.{Went};
 
 use erm_cells::store_ring;
 use erm_model::{RowLaw, Seat, Stamp};
@@ -16,6 +21,7 @@ pub fn fill<L: RowLaw>(t: &Table<L>, p: &mut Pass, who: Seat, at: Stamp, words: 
     requires may { MayFill at words.now (part_of (view p.old) who) }
     ensures fits { Fits t.now.words.shared.table_id p.new }
     ensures filled { DidFill (view p.old) who words.now (view p.new) }
+    ensures fills { Went L.law who IsFillStep (book p.old) (book p.new) }
 {
     for k in 0..words.len() {
         store_ring(t, p, who, at + 1 + k as u64, words[k]);
@@ -29,6 +35,7 @@ pub fn decide<L: RowLaw>(t: &Table<L>, p: &mut Pass, who: Seat, at: Stamp, heade
     requires may { MayDecide who at header (part_of (view p.old) who) }
     ensures fits { Fits t.now.words.shared.table_id p.new }
     ensures decided { DidDecide (view p.old) who header (view p.new) }
+    ensures booked { (found : ℕ) × Booked L.law (book p.old) who (Decide at header) found (book p.new) }
 {
     erm_cells::decide(t, p, who, at, header);
 }

@@ -8,6 +8,8 @@ ghost use Rattle.erm_world.specs.declared.gathered.Gathered.TheVariants.{Empty, 
 ghost use Rattle.erm_rule.specs.Books.{book};
 ghost use Rattle.erm_rule.specs.Steps.{Booked, Fits, Ready};
 ghost use Rattle.erm_rule.specs.Views.{view, part_in};
+ghost use Rattle.erm_ring.specs.Took.{TookClear};
+ghost use Rattle.erm_rule.specs.Went.{IsLoadStep, Went};
 
 use erm_cells::{clear_ring, load_flushed, load_ring, store_flushed};
 use erm_machine::{FLUSH_SEAT, TailUse};
@@ -39,6 +41,7 @@ fn next_word<L: RowLaw>(
     ensures fits { Fits t.now.words.shared.table_id p.new }
     ensures some { IfSome result (λ r. Booked L.law (book p.old) FLUSH_SEAT (LoadRing at) r.0 (book p.new) × NextIs at end r.0 r.1 × ((at < end) ⊎ (at < tail))) }
     ensures none { result ≡ None → (end ≤ at) × (((tail ≤ at) × (book p.new ≡ book p.old)) ⊎ ((at < tail) × Booked L.law (book p.old) FLUSH_SEAT (LoadRing at) 0 (book p.new))) }
+    ensures loads { Went L.law FLUSH_SEAT IsLoadStep (book p.old) (book p.new) }
 {
     if end <= at && tail <= at {
         return None;
@@ -82,6 +85,7 @@ pub fn gather<L: RowLaw>(t: &Table<L>, p: &mut Pass, words: &mut [u64]) -> Gathe
     ensures fits { Fits t.now.words.shared.table_id p.new }
     ensures room { length words.new ≡ RING_WORDS }
     ensures gathers { Gathers result (book p.old) words.new (book p.new) }
+    ensures loads { Went L.law FLUSH_SEAT IsLoadStep (book p.old) (book p.new) }
 {
     let tail = load_tail(t, p, FLUSH_SEAT, TailUse::Gather);
     let from = load_flushed(t, p, FLUSH_SEAT);
@@ -103,6 +107,7 @@ pub fn clear<L: RowLaw>(t: &Table<L>, p: &mut Pass, to: Stamp)
     requires may { MayClear to (view p.old) }
     ensures fits { Fits t.now.words.shared.table_id p.new }
     ensures cleared { DidClear (book p.old) to (book p.new) }
+    ensures took { TookClear L.law to (book p.old) (book p.new) }
 {
     let from = load_flushed(t, p, FLUSH_SEAT);
     for at in from..to {

@@ -15,6 +15,7 @@ use Rattle.erm_rows.specs.declared.active.Active.{Active}
 use Rattle.erm_rows.specs.Active.{closed_window, IsActive}
 use Rattle.erm_rows.specs.Claims.{claimed_part, filled_claim, DidClaim, DidClaimExcluded}
 use Rattle.erm_rows.proofs.Closed.{has_closed, is_closed}
+use Rattle.erm_rows.specs.Took.{IsClosedIn}
 
 rest_commits : (pl : Place) → is_active pl ≡ true → MayCommit pl task.Rest
 rest_commits (place.Active tail) e = tt
@@ -49,3 +50,12 @@ module _ (v : View) (who oid : ℕ) (active : is_active (part_of v who).place �
             (ap (λ (z : Part). z.current.succ) there ∙ sym (ap (λ (z : Part). z.current.succ) here) ∙ sym is.succ ∙ closed.succ_is)
             (ap (λ (z : Part). z.current.pred) there ∙ sym (ap (λ (z : Part). z.current.pred) here) ∙ sym is.pred ∙ closed.pred_is);
       }
+
+  -- and in every sound state with the view's parts
+  pub closed_in : (t : Active) → IsActive t (part_of w who) → (succ pred : ℕ) → ◌≡◌ {A = Option (ℕ × ℕ)} (Some (succ, pred)) (closed_window t) → IsClosedIn w who succ pred
+  closed_in t is succ pred e d sound sees =
+      let closed = has_closed t succ pred e in
+      let there : d.seats who ≡ y = sees who y (changed_here v who w y x (has v who active) did.view_is) in
+      is_closed d who sound (ap (λ (z : Part). is_active z.place) there ∙ active) (subst (λ (z : Part). MayCommit z.place z.task) (sym there) (rest_commits x.place active)) succ pred closed.positive closed.closed
+      (ap (λ (z : Part). z.current.succ) there ∙ sym (ap (λ (z : Part). z.current.succ) here) ∙ sym is.succ ∙ closed.succ_is)
+      (ap (λ (z : Part). z.current.pred) there ∙ sym (ap (λ (z : Part). z.current.pred) here) ∙ sym is.pred ∙ closed.pred_is)

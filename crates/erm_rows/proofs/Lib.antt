@@ -8,3 +8,5 @@ pub mod Missed
 pub mod Reached
 pub mod Taken
 pub mod Whole
+pub mod Took
+pub mod Tidied

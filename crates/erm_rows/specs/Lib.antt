@@ -1,3 +1,5 @@
 pub mod Active
 pub mod Claims
 pub mod Reads
+pub mod Took
+pub mod Tidies

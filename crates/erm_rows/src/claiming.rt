@@ -13,6 +13,8 @@ ghost use Rattle.erm_rule.specs.Books.{IsAfter, book};
 ghost use Rattle.erm_rule.specs.Hands.{IsKnown};
 ghost use Rattle.erm_rule.specs.Steps.{Fits};
 ghost use Rattle.erm_rule.specs.Views.{view, part_of};
+ghost use Rattle.erm_rows.specs.Took.{TookClaim, TookCutChain, TookNoCell, TookNoClaim};
+ghost use Rattle.erm_rule.specs.Went.{IsStillStep, Went};
 
 use crate::active::Active;
 use crate::taking::take_entry;
@@ -35,6 +37,15 @@ pub struct Filled {
     pub row: Row,
 }
 
+/// What a claim answers.
+#[derive(Clone, Copy, Debug)]
+pub struct Claimed {
+    /// The row of the version that it overwrites.
+    pub row: Row,
+    /// How many cells its cut made spare ones: those of the versions behind the newest one that any seat may still read.
+    pub cut: u32,
+}
+
 /// Cuts the chain of an object whose entry the transaction owns and whose head, in this cell, is in hand: behind the newest version
 /// below the least stamp that any seat may still read at. The cells cut off become spare ones: the answer is how many they are.
 pub fn cut_chain<L: RowLaw>(
@@ -52,6 +63,7 @@ pub fn cut_chain<L: RowLaw>(
     ensures cut { DidCutChain (view p.old) who result (view p.new) }
     ensures spare { SpareIs spare.new (part_of (view p.new) who) }
     ensures goes { IsAfter (book p.old) (book p.new) }
+    ensures took { TookCutChain L.law who result (book p.old) (book p.new) }
 {
     let bound = horizon(t, p, who);
     cut(t, p, who, head, bound, spare)
@@ -80,6 +92,8 @@ pub fn fill_claim<L: RowLaw>(
     ensures refused { IfErr result (λ drawn. DidFindNoCell (view p.old) who oid base drawn (view p.new)) }
     ensures spare { SpareIs spare.new (part_of (view p.new) who) }
     ensures counted { IfErr result (λ drawn. WasCells (book p.old) drawn (book p.new)) }
+    ensures still { IfOk result (λ _. Went L.law who IsStillStep (book p.old) (book p.new)) }
+    ensures took_none { IfErr result (λ drawn. TookNoCell L.law who oid base drawn (book p.old) (book p.new)) }
 {
     let own = match draw(t, p, who, spare) {
         Ok(own) => own,
@@ -93,7 +107,7 @@ pub fn fill_claim<L: RowLaw>(
     Ok(Filled { own, readers, row })
 }
 
-// Claims an object, before the early test. The answer is the row of the version overwritten.
+// Claims an object, before the early test.
 fn claim_object<L: RowLaw>(
     txn: &mut Active,
     spare: &mut Spare,
@@ -101,7 +115,7 @@ fn claim_object<L: RowLaw>(
     p: &mut Pass,
     who: Seat,
     oid: Oid,
-) -> Result<Row, RowStop>
+) -> Result<Claimed, RowStop>
     requires fits { Fits t.now.words.shared.table_id p.old }
     requires session { is_session who ≡ true }
     requires active { is_active (part_of (view p.old) who).place ≡ true }
@@ -113,15 +127,17 @@ fn claim_object<L: RowLaw>(
     ensures fits { Fits t.now.words.shared.table_id p.new }
     ensures kept { IsActive txn.new (part_of (view p.new) who) }
     ensures spare { SpareIs spare.new (part_of (view p.new) who) }
-    ensures claimed { IfOk result (λ row. DidClaim (view p.old) who oid row (view p.new)) }
+    ensures claimed { IfOk result (λ claimed. DidClaim (view p.old) who oid claimed.row (view p.new)) }
     ensures refused { IfErr result (λ stop. DidNotClaim (view p.old) who oid stop (view p.new)) }
     ensures counted { IfErr result (λ stop. TellsCount (book p.old) stop (book p.new)) }
+    ensures took { IfOk result (λ claimed. TookClaim L.law who oid claimed.cut (book p.old) (book p.new)) }
+    ensures took_none { IfErr result (λ stop. TookNoClaim L.law who oid stop (book p.old) (book p.new)) }
 {
     let head = match take_entry(txn, t, p, who, oid) {
         Ok(head) => head,
         Err(why) => return Err(why),
     };
-    cut_chain(t, p, who, head, spare);
+    let cut = cut_chain(t, p, who, head, spare);
     let filled = match fill_claim(t, p, who, oid, head, spare) {
         Ok(filled) => filled,
         Err(drawn) => return Err(RowStop::CellsFull { drawn }),
@@ -132,11 +148,13 @@ fn claim_object<L: RowLaw>(
         own: filled.own,
     };
     txn.add_claim(claim, filled.readers);
-    Ok(filled.row)
+    let row = filled.row;
+    Ok(Claimed { row, cut })
 }
 
 /// Claims an object that the transaction hasn't claimed yet: takes its entry, cuts its chain, and gives the claim a cell of its own,
-/// whose row is that of the version overwritten, the answer, until a write sets it. The caller keeps what it claims: it may not be asked for again.
+/// whose row is that of the version overwritten, until a write sets it. The answer has that row, and how many cells the cut made spare ones. The
+/// caller keeps what it claims: it may not be asked for again.
 /// A claim is refused where as many objects are claimed as may be, where another transaction owns the entry, where the newest version
 /// isn't below the begin stamp, where no cell is left, and, once the claim is made, where the exclusion
 /// window known so far is closed: then, and for another owner or a newer version, the transaction is to end.
@@ -147,7 +165,7 @@ pub fn claim<L: RowLaw>(
     p: &mut Pass,
     who: Seat,
     oid: Oid,
-) -> Result<Row, RowStop>
+) -> Result<Claimed, RowStop>
     requires fits { Fits t.now.words.shared.table_id p.old }
     requires session { is_session who ≡ true }
     requires active { is_active (part_of (view p.old) who).place ≡ true }
@@ -159,16 +177,19 @@ pub fn claim<L: RowLaw>(
     ensures fits { Fits t.now.words.shared.table_id p.new }
     ensures kept { IsActive txn.new (part_of (view p.new) who) }
     ensures spare { SpareIs spare.new (part_of (view p.new) who) }
-    ensures claimed { IfOk result (λ row. DidClaim (view p.old) who oid row (view p.new)) }
+    ensures claimed { IfOk result (λ claimed. DidClaim (view p.old) who oid claimed.row (view p.new)) }
     ensures open { IfOk result (λ _. closed_window txn.new ≡ None) }
     ensures refused { IfErr result (λ stop. DidNotClaim (view p.old) who oid stop (view p.new)) }
     ensures counted { IfErr result (λ stop. TellsCount (book p.old) stop (book p.new)) }
+    ensures took { IfOk result (λ claimed. TookClaim L.law who oid claimed.cut (book p.old) (book p.new)) }
+    ensures took_none { IfErr result (λ stop. TookNoClaim L.law who oid stop (book p.old) (book p.new)) }
+    ensures still { Went L.law who IsStillStep (book p.old) (book p.new) }
 {
     match claim_object(txn, spare, t, p, who, oid) {
         Err(why) => Err(why),
-        Ok(row) => match txn.closed_window() {
+        Ok(claimed) => match txn.closed_window() {
             Some((succ, pred)) => Err(RowStop::Excluded { succ, pred }),
-            None => Ok(row),
+            None => Ok(claimed),
         },
     }
 }

@@ -6,8 +6,10 @@ mod active;
 mod claiming;
 mod reading;
 mod taking;
+mod tidying;
 
 pub use active::Active;
-pub use claiming::{Filled, claim, cut_chain, fill_claim};
+pub use claiming::{Claimed, Filled, claim, cut_chain, fill_claim};
 pub use reading::read;
 pub use taking::take_entry;
+pub use tidying::tidy_claimed;

@@ -13,6 +13,9 @@ ghost use Rattle.erm_rule.specs.Books.{book, WasState};
 ghost use Rattle.erm_rule.specs.Hands.{IsKnown, in_hand};
 ghost use Rattle.erm_rule.specs.Steps.{Fits};
 ghost use Rattle.erm_rule.specs.Views.{view, part_of};
+ghost use Rattle.erm_entries.specs.Took.{TookWait};
+ghost use Rattle.erm_rows.specs.Took.{begin_in, TookNotRead, TookRead, TookVersion};
+ghost use Rattle.erm_rule.specs.Went.{IsStillStep, Went};
 
 use crate::active::Active;
 use erm_cells::load_row;
@@ -47,6 +50,7 @@ fn read_version<L: RowLaw>(
     ensures read { DidRead (view p.old) who oid result (view p.new) }
     ensures unnoted { (part_of (view p.new) who).clear ≡ (part_of (view p.old) who).clear }
     ensures kept { IsActive txn.new (part_of (view p.new) who) }
+    ensures took { TookVersion L.law who (book p.old) (book p.new) }
 {
     let found = walk(t, p, who, head, txn.begin);
     let cell = found.cell;
@@ -79,6 +83,8 @@ fn read_object<L: RowLaw>(
     ensures read { IfOk result (λ row. DidRead (view p.old) who oid row (view p.new)) }
     ensures waits { IfErr result (λ wait. DidWait (view p.old) who oid wait (view p.new)) }
     ensures met { IfErr result (λ wait. WasState (book p.old) wait.seat wait.seen (book p.new)) }
+    ensures took { IfOk result (λ row. TookRead L.law who oid (book p.old) (book p.new)) }
+    ensures took_wait { IfErr result (λ wait. TookWait L.law who oid (begin_in (book p.old) who) wait (book p.old) (book p.new)) }
 {
     let entry = enter(t, p, who, oid, txn.begin)?;
     Ok(read_version(txn, t, p, who, oid, entry.head))
@@ -110,6 +116,9 @@ pub fn read<L: RowLaw>(
     ensures open { IfOk result (λ row. closed_window txn.new ≡ None) }
     ensures refused { IfErr result (λ stop. DidNotRead (view p.old) who oid stop (view p.new)) }
     ensures met { IfErr result (λ stop. WasOwnerMet (book p.old) stop (book p.new)) }
+    ensures took { IfOk result (λ row. TookRead L.law who oid (book p.old) (book p.new)) }
+    ensures took_none { IfErr result (λ stop. TookNotRead L.law who oid stop (book p.old) (book p.new)) }
+    ensures still { Went L.law who IsStillStep (book p.old) (book p.new) }
 {
     if txn.reads.len() == READ_LIMIT {
         return Err(RowStop::ReadsFull);

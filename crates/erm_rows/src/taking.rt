@@ -9,8 +9,10 @@ ghost use Rattle.erm_model.specs.declared.row_stop.RowStop.TheVariants.{Owned};
 ghost use Rattle.erm_rows.specs.Active.{IsActive};
 ghost use Rattle.erm_rows.specs.Claims.{DidFindFree, DidNotExchange, DidNotFind, DidNotTake, DidTakeEntry};
 ghost use Rattle.erm_rule.specs.Books.{IsAfter, book};
-ghost use Rattle.erm_rule.specs.Steps.{Fits};
+ghost use Rattle.erm_rule.specs.Steps.{Fits, Booked};
 ghost use Rattle.erm_rule.specs.Views.{view, part_of};
+ghost use Rattle.erm_machine.specs.declared.event.Kind.TheVariants.{Claim};
+ghost use Rattle.erm_rows.specs.Took.{TookEntry, TookFree, TookNoEntry, TookNotFree, TookOther};
 
 use crate::active::Active;
 use erm_cells::answer::Head;
@@ -39,6 +41,8 @@ fn find_free<L: RowLaw>(
     ensures spelled { IfOk result (λ entry. entry_of (word_of entry) ≡ entry) }
     ensures refused { IfErr result (λ stop. DidNotFind (view p.old) who oid stop (view p.new)) }
     ensures goes { IsAfter (book p.old) (book p.new) }
+    ensures took { IfOk result (λ entry. TookFree L.law who oid (word_of entry) (book p.old) (book p.new)) }
+    ensures took_none { IfErr result (λ stop. TookNotFree L.law who oid stop (book p.old) (book p.new)) }
 {
     match find_head(t, p, who, oid) {
         Head::Owned { entry } => Err(owned(&Entry::of(entry))),
@@ -83,6 +87,8 @@ fn exchange<L: RowLaw>(
     ensures taken { IfOk result (λ _. DidTake (view p.old) who oid (word_of seen.now) (view p.new)) }
     ensures lost { IfErr result (λ stop. DidNotExchange (view p.old) who oid (word_of seen.now) stop (view p.new)) }
     ensures goes { IsAfter (book p.old) (book p.new) }
+    ensures took { IfOk result (λ _. Booked L.law (book p.old) who (Claim oid (word_of seen.now) number) (word_of seen.now) (book p.new)) }
+    ensures took_other { IfErr result (λ stop. TookOther L.law who oid (word_of seen.now) number stop (book p.old) (book p.new)) }
 {
     let found = match claim(t, p, who, oid, seen, number) {
         Ok(()) => return Ok(()),
@@ -119,6 +125,8 @@ pub fn take_entry<L: RowLaw>(
     ensures refused { IfErr result (λ stop. DidNotTake (view p.old) who oid stop (view p.new)) }
     ensures kept { IfErr result (λ stop. IsActive txn.now (part_of (view p.new) who)) }
     ensures goes { IsAfter (book p.old) (book p.new) }
+    ensures took { IfOk result (λ head. TookEntry L.law who oid head (book p.old) (book p.new)) }
+    ensures took_none { IfErr result (λ stop. TookNoEntry L.law who oid stop (book p.old) (book p.new)) }
 {
     if txn.claims.len() == WRITE_LIMIT {
         return Err(RowStop::WritesFull);

@@ -33,13 +33,14 @@ use Rattle.erm_rule.specs.declared.view.Book.{Book}
 use Rattle.erm_rule.specs.declared.view.Held.{Held}
 use Rattle.erm_rule.specs.declared.view.Opening.{Opening}
 use Rattle.erm_rule.specs.declared.view.View.{View}
-use Rattle.erm_rule.specs.Books.{view_in, noted, Passes, Course}
+use Rattle.erm_rule.specs.Books.{view_in, noted, Passes, Course, HasSeats}
 use Rattle.erm_rule.specs.Cells.{word_in, cells_after, IsTold}
 use Rattle.erm_rule.specs.Newest.{CutsAtNewest}
 use Rattle.erm_rule.specs.Rule.{Stands, HeldByNone, KeptUnder}
 use Rattle.erm_rule.specs.Steps.{Ready, Agrees, Promises, Told, Booked}
 use Rattle.erm_rule.specs.Views.{part_in, part_of, held_after, with_part, IsView, IsInOrder}
-use Rattle.erm_rule.proofs.Courses.{views_at, views_set, course_more, AreViews, courses_stay, courses_set}
+use Rattle.erm_rule.specs.Openings.{start_core, start_of}
+use Rattle.erm_rule.proofs.Courses.{views_at, views_set, course_more, AreViews, IsOnCourse, PassesOthers, courses_stay, courses_own, took_in_stays, pasts_stay, pasts_set}
 use Rattle.erm_rule.proofs.Filled.{cells_next}
 use Rattle.erm_rule.proofs.Found.{next, event_is, met_after, unmet_after, from_some}
 use Rattle.erm_rule.proofs.Lives.{Meets, is_as_met, lives}
@@ -70,6 +71,14 @@ standing_view words views c cells holder id v stands at q x e =
     let h = found_among q v.held x e in
     let is : c.seats h.0.seat ≡ h.0.part = stands.parts_are id v h.0 at h.1 in
     subst (λ n. c.seats n ≡ x) h.2 (is ∙ h.3)
+
+-- an event of a seat of one view is, for each other, one of a seat that it doesn't have
+pub passes_others : (words : List ℕ) (books : List Book) (c : Core) (cells : ℕ → Cell) (holder : ℕ → ℕ) → Stands words (map view_in books) c cells holder → (own : ℕ) (b : Book) → get_elem? books own ≡ some b →
+    (h : Held) → h ∈ b.view.held → (k : Kind) (d : Core) → Sound c → after_event c h.seat k ≡ Some d → PassesOthers books own c d
+passes_others words books c cells holder stands own b at h m k d sound event id e ne there =
+    let here : get_elem? (map view_in books) own ≡ some b.view = views_at books own b at in
+    let held_by : holder h.seat ≡ own = stands.holders own b.view h here m in
+    (sound, (h.seat, k, (stands.in_order own b.view here).seats h m, (λ g within same. ne (sym (stands.holders id e.view g (views_at books id e there) within) ∙ ap holder same ∙ held_by)), event))
 
 -- the changed view stands in its place
 pub set_there : (views : List View) (id : ℕ) (v w : View) → get_elem? views id ≡ some v → get_elem? (set views id w) id ≡ some w
@@ -249,9 +258,13 @@ module _ (law : Law) (one_number : OneNumber) (below : Below) (keeps_sound : Kee
       let event = event_is c who k y.0 known y.1 in
       let passes : Passes c (next c who k y.0) = (kept.sound, (who, k, event)) in
       let are : AreViews s.views c = λ j b e. standing_view s.words views c kept.cells kept.holder j b.view stands (views_at s.views j b e) in
-      let own : Course me.0.view me.0.taken c = kept.courses id me.0 there in
-      let more : Course (with_part who y.0 me.0.view) (noted me.0 who k found (with_part who y.0 me.0.view)).taken (next c who k y.0) =
-      course_more me.0.taken c (next c who k y.0) who k found me.0.view (with_part who y.0 me.0.view) kept.sound sees (sym is) event own in
+      let h = found_among who me.0.view.held x.0 x.1 in
+      let by : PassesOthers s.views id c (next c who k y.0) =
+      passes_others s.words s.views c kept.cells kept.holder stands id me.0 there h.0 h.1 k (next c who k y.0) kept.sound (subst (λ (q : ℕ). after_event c q k ≡ Some (next c who k y.0)) (sym h.2) event) in
+      let on : IsOnCourse (start_of opening) me.0 c = kept.courses id me.0 there (h.0, h.1) in
+      let own : Course me.0 c = on.1 in
+      let more : Course (noted me.0 who k found (with_part who y.0 me.0.view)) (next c who k y.0) =
+      course_more (start_core me.0.start) me.0.taken c (next c who k y.0) who k found me.0.view (with_part who y.0 me.0.view) kept.sound sees (sym is) event own in
       let set_is : map view_in (set s.views id (noted me.0 who k found (with_part who y.0 me.0.view))) ≡ set views id (with_part who y.0 me.0.view) =
       views_set s.views id (noted me.0 who k found (with_part who y.0 me.0.view)) in
       let after : Lawful law (next c who k y.0).shared (next c who k y.0).seats =
@@ -274,7 +287,10 @@ module _ (law : Law) (one_number : OneNumber) (below : Below) (keeps_sound : Kee
                 (fresh_part Vacant opening.run opening.tail) kept.others);
             sound = keeps_sound c (next c who k y.0) who k kept.sound event;
             cuts = newest_kept c who k (next c who k y.0) kept.sound kept.cuts event;
-            courses = courses_set s.views (next c who k y.0) id (noted me.0 who k found (with_part who y.0 me.0.view)) more (courses_stay s.views c (next c who k y.0) are passes kept.courses);
+            courses = courses_own (start_of opening) s.views id (noted me.0 who k found (with_part who y.0 me.0.view)) (next c who k y.0) (λ _. (on.0, more))
+                (courses_stay (start_of opening) s.views id c (next c who k y.0) are by kept.courses);
+            pasts = pasts_set s.views id (noted me.0 who k found (with_part who y.0 me.0.view)) (next c who k y.0) (took_in_stays me.0.past c (next c who k y.0) passes (kept.pasts id me.0 there))
+                (pasts_stay s.views c (next c who k y.0) passes kept.pasts);
             opened = stays_opened opening c who k (word_at c (spot_of who k)) (c.seats who) (next c who k y.0) kept.sound event kept.opened;
             limit = same_limit who k (word_at c (spot_of who k)) (c.seats who) c.shared ∙ kept.limit;
           };
@@ -295,7 +311,7 @@ module _ (law : Law) (one_number : OneNumber) (below : Below) (keeps_sound : Kee
         }),
       )
 
-  -- the same at the word's number, for the plays that tell the word found, and those that don't
+  -- the same at the word's number, for the play that tells the word found
   module _ (i : ℕ) (is : i ≡ index_of w) (seat : ℕ) (same_seat : seat ≡ who) where
     told_as : (found : ℕ) (u : Book) → Booked law me.0 who k found u → Booked law me.0 seat k found u
     told_as found u t = subst (λ (p : ℕ). Booked law me.0 p k found u) (sym same_seat) t
@@ -306,6 +322,3 @@ module _ (law : Law) (one_number : OneNumber) (below : Below) (keeps_sound : Kee
 
     pub allows_finding : Allows (KeptUnder law opening) slots id me i f (λ found m. Booked law me.0 seat k found m.0 × (m.1 ≡ me.1))
     allows_finding = at_number (λ found m. Booked law me.0 seat k found m.0 × (m.1 ≡ me.1)) (λ found u t. (told_as found u t, refl))
-
-    pub allows_storing : Allows (KeptUnder law opening) slots id me i f (λ _ m. ((found : ℕ) × Booked law me.0 seat k found m.0) × (m.1 ≡ me.1))
-    allows_storing = at_number (λ _ m. ((found : ℕ) × Booked law me.0 seat k found m.0) × (m.1 ≡ me.1)) (λ found u t. ((found, told_as found u t), refl))

@@ -28,14 +28,15 @@ use Rattle.erm_rule.specs.declared.view.Book.{Book}
 use Rattle.erm_rule.specs.declared.view.Held.{Held}
 use Rattle.erm_rule.specs.declared.view.Opening.{Opening}
 use Rattle.erm_rule.specs.declared.view.View.{View}
-use Rattle.erm_rule.specs.Books.{view_in, Passes, left_book, right_book, both_books, spent_book}
+use Rattle.erm_rule.specs.Books.{view_in, Passes, WasBook, past_of, left_book, right_book, both_books, spent_book}
+use Rattle.erm_rule.specs.Openings.{start_core, start_of}
 use Rattle.erm_rule.specs.Cells.{word_in, SeatCells, CellsAre}
 use Rattle.erm_rule.specs.Rule.{Stands, HeldByNone, KeptUnder}
 use Rattle.erm_rule.specs.Steps.{EndsUnder}
 use Rattle.erm_rule.specs.Views.{of_seats, EachOnce, no_held, first_held, last_held, left_of, taken, right_of, joined, held_after, IsInOrder}
-use Rattle.erm_rule.proofs.Allowed.{KeepsLaw, KeepsSound, KeepsSpelled, standing_view, set_there}
+use Rattle.erm_rule.proofs.Allowed.{KeepsLaw, KeepsSound, KeepsSpelled, passes_others, standing_view, set_there}
 use Rattle.erm_rule.proofs.Carried.{Carries, carry}
-use Rattle.erm_rule.proofs.Courses.{views_at, views_set, views_more, AreViews, course_more, courses_stay, courses_set, courses_push}
+use Rattle.erm_rule.proofs.Courses.{views_at, views_set, views_more, AreViews, IsOnCourse, PassesOthers, course_more, courses_stay, courses_own, courses_set, courses_push, took_in_stays, took_in_more, pasts_stay, pasts_set, pasts_push}
 use Rattle.erm_rule.proofs.Newest.{newest_kept}
 use Rattle.erm_rule.proofs.Parts.{order_after, in_map, map_in, here, in_either, in_one, in_other, in_front, last_or_front, split_at, none_there, once_front, once_both, last_apart}
 
@@ -244,6 +245,10 @@ splits law keeps_sound keeps_law keeps_spelled o id b several giver given s unde
     (stands.parts_are id v (last_held v) at l_in) (λ same. apart (first_held v) g_in (sym same)) ((stands.in_order id v at).seats (last_held v) l_in) giver given in
     let are : AreViews s.views c = λ j e m. standing_view s.words views c kept.cells kept.holder j e.view stands (views_at s.views j e m) in
     let passes : Passes c next = (kept.sound, ((first_held v).seat, kind.Split (last_held v).seat, event)) in
+    let giver_in : first_held v ∈ v.held = front_in (first_held v) g_in in
+    let by : PassesOthers s.views id c next = passes_others s.words s.views c kept.cells kept.holder stands id b there (first_held v) giver_in (kind.Split (last_held v).seat) next kept.sound event in
+    let on : IsOnCourse (start_of o) b c = kept.courses id b there (first_held v, giver_in) in
+    let past = took_in_stays b.past c next passes (kept.pasts id b there) in
     let views_are : map view_in (set s.views id (left_book b) ++ right_book b ∷ []) ≡ set views id (left_of v) ++ right_of v ∷ [] =
     views_more (set s.views id (left_book b)) (right_book b) ∙ ap (λ (l : List View). l ++ right_of v ∷ []) (views_set s.views id (left_book b)) in
     record {
@@ -258,11 +263,12 @@ splits law keeps_sound keeps_law keeps_spelled o id b several giver given s unde
             (λ h m. last_or_front (length v.held - 1) v.held no_held h (omega (arith, some_held)) m) (fresh_part Vacant o.run o.tail) kept.others);
         sound = keeps_sound c next (first_held v).seat (kind.Split (last_held v).seat) kept.sound event;
         cuts = newest_kept c (first_held v).seat (kind.Split (last_held v).seat) next kept.sound kept.cuts event;
-        courses = courses_push (set s.views id (left_book b)) next (right_book b)
-            (course_more b.taken c next (first_held v).seat (kind.Split (last_held v).seat) 0 v (right_of v) kept.sound (are id b there) refl event (kept.courses id b there))
-            (courses_set s.views next id (left_book b)
-            (course_more b.taken c next (first_held v).seat (kind.Split (last_held v).seat) 0 v (left_of v) kept.sound (are id b there) refl event (kept.courses id b there))
-            (courses_stay s.views c next are passes kept.courses));
+        courses = courses_push (start_of o) (set s.views id (left_book b)) (right_book b) next
+            (λ _. (on.0, course_more (start_core b.start) b.taken c next (first_held v).seat (kind.Split (last_held v).seat) 0 v (right_of v) kept.sound (are id b there) refl event on.1))
+            (courses_own (start_of o) s.views id (left_book b) next
+            (λ _. (on.0, course_more (start_core b.start) b.taken c next (first_held v).seat (kind.Split (last_held v).seat) 0 v (left_of v) kept.sound (are id b there) refl event on.1))
+            (courses_stay (start_of o) s.views id c next are by kept.courses));
+        pasts = pasts_push (set s.views id (left_book b)) (right_book b) next past (pasts_set s.views id (left_book b) next past (pasts_stay s.views c next passes kept.pasts));
         opened = kept.opened;
         limit = kept.limit;
       };
@@ -412,6 +418,15 @@ joins law keeps_sound keeps_law keeps_spelled o id a other b some_held some_too 
     (not_first s.words views c kept.cells kept.holder stands id v at other ne w there (first_held v) a_in m other w ne there (first_held w) b_in) taker taken_one in
     let are : AreViews s.views c = λ j e m. standing_view s.words views c kept.cells kept.holder j e.view stands (views_at s.views j e m) in
     let passes : Passes c next = (kept.sound, ((first_held v).seat, kind.Join (first_held w).seat, event)) in
+    let other_there : get_elem? s.views other ≡ some b = other_book s.views id other (both_books a b) b ne is in
+    let by : PassesOthers s.views id c next = passes_others s.words s.views c kept.cells kept.holder stands id a own_there (first_held v) a_in (kind.Join (first_held w).seat) next kept.sound event in
+    let on : IsOnCourse (start_of o) a c = kept.courses id a own_there (first_held v, a_in) in
+    let other_on : IsOnCourse (start_of o) b c = kept.courses other b other_there (first_held w, b_in) in
+    let was : WasBook (past_of b) next = record {
+      state = c;
+      is = record { sound = kept.sound; is_view = are other b other_there; course = other_on.1 };
+      later = (1, (c, refl, passes));
+    } in
     let views_are : map view_in (set (set s.views id (both_books a b)) other spent_book) ≡ set (set views id (joined v w)) other (of_seats []) =
     views_set (set s.views id (both_books a b)) other spent_book ∙ ap (λ (l : List View). set l other (of_seats [])) (views_set s.views id (both_books a b)) in
     record {
@@ -425,10 +440,14 @@ joins law keeps_sound keeps_law keeps_spelled o id a other b some_held some_too 
             (join_others s.words views c kept.cells kept.holder stands id v at other ne w there (first_held v) a_in m (fresh_part Vacant o.run o.tail) kept.others);
         sound = keeps_sound c next (first_held v).seat (kind.Join (first_held w).seat) kept.sound event;
         cuts = newest_kept c (first_held v).seat (kind.Join (first_held w).seat) next kept.sound kept.cuts event;
-        courses = courses_set (set s.views id (both_books a b)) next other spent_book tt
-            (courses_set s.views next id (both_books a b)
-            (course_more a.taken c next (first_held v).seat (kind.Join (first_held w).seat) 0 v (joined v w) kept.sound (are id a own_there) refl event (kept.courses id a own_there))
-            (courses_stay s.views c next are passes kept.courses));
+        courses = courses_set (start_of o) (set s.views id (both_books a b)) other spent_book next (λ seats. absurd (none_there seats.0 seats.1))
+            (courses_own (start_of o) s.views id (both_books a b) next
+            (λ _. (on.0, course_more (start_core a.start) a.taken c next (first_held v).seat (kind.Join (first_held w).seat) 0 v (joined v w) kept.sound (are id a own_there) refl event on.1))
+            (courses_stay (start_of o) s.views id c next are by kept.courses));
+        pasts = pasts_set (set s.views id (both_books a b)) other spent_book next (λ m within. absurd (none_there m within))
+            (pasts_set s.views id (both_books a b) next
+            (took_in_more a.past b.past (past_of b) next (took_in_stays a.past c next passes (kept.pasts id a own_there)) (took_in_stays b.past c next passes (kept.pasts other b other_there)) was)
+            (pasts_stay s.views c next passes kept.pasts));
         opened = kept.opened;
         limit = kept.limit;
       };
@@ -453,7 +472,10 @@ ends law o id b ws xs tail final is =
         core = kept.core;
         sound = kept.sound;
         is_view = standing_view s.words (map view_in s.views) kept.core kept.cells kept.holder id b.view kept.stands (views_at s.views id b final.1.1);
-        course = kept.courses id b final.1.1;
+        in_order = kept.stands.in_order id b.view (views_at s.views id b final.1.1);
+        start = λ seats. (kept.courses id b final.1.1 seats).0;
+        course = λ seats. (kept.courses id b final.1.1 seats).1;
+        past = kept.pasts id b final.1.1;
         opened = kept.opened;
         others = λ q wordless. kept.others q (λ j u h there m same. absurd (let seat : is_seat h.seat ≡ true = (kept.stands.in_order j u there).seats h m in cc));
         tail_is = sym (kept.stands.words_are word.Tail tt) ∙ ap (λ (l : List ℕ). get_or l 0 0) words ∙ first_word ws tail is;

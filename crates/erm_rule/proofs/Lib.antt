@@ -17,3 +17,5 @@ pub mod Opens
 pub mod Parts
 pub mod Stored
 pub mod Telling
+pub mod Wents
+pub mod Whole

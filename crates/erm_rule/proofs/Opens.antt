@@ -2,7 +2,7 @@
 use Rattle.std.proofs.Common.{◌≡◌, ◌≢◌, ℕ, zero, suc, ◌+◌, ◌<◌, ◌≤◌, ⊎_elim, Bool, true, false, List, [], ◌∷◌, ◌++◌, length, get_or, replicate, refl, sym, ap, ◌∙◌, subst, arith}
 use Rattle.std.specs.Prelude.{if◌then◌else◌}
 use Rattle.std.proofs.lemmas.List.{get_or_append_left, get_or_default, get_or_past, get_or_push, length-append, length-replicate}
-use Rattle.std.proofs.lemmas.Bool.{cases_lt, lt-ltb}
+use Rattle.std.proofs.lemmas.Bool.{cases_eq, cases_lt, lt-ltb}
 use mathlib.Core.Option.{some, some-injective, some-ne-none}
 use lib.ListN.{get_elem?}
 use Rattle.atomic_table.specs.Table.{State}
@@ -28,12 +28,14 @@ use Rattle.erm_rule.specs.declared.view.Book.{Book}
 use Rattle.erm_rule.specs.declared.view.Held.{Held}
 use Rattle.erm_rule.specs.declared.view.Opening.{Opening}
 use Rattle.erm_rule.specs.declared.view.View.{View}
-use Rattle.erm_rule.specs.Books.{Course}
+use Rattle.erm_rule.specs.Books.{Course, HasSeats, TookIn}
+use Rattle.erm_rule.specs.Openings.{start_of}
 use Rattle.erm_rule.specs.Cells.{word_in, ObjectCells, SeatCells, CellsAre}
-use Rattle.erm_rule.specs.Rule.{Stands, HeldByNone, KeptUnder, IsFirst, first_cells, first_core, first_rows, vacant_from, first_view, first_book}
+use Rattle.erm_rule.specs.Rule.{Stands, HeldByNone, KeptUnder, IsFirst, first_cells, first_core, first_place, first_rows, sessions_from, first_view, first_book}
 use Rattle.erm_rule.specs.Views.{EachOnce, IsInOrder}
+use Rattle.erm_rule.specs.Went.{HasAll}
 use Rattle.erm_rule.proofs.Allowed.{Below, OneNumber}
-use Rattle.erm_rule.proofs.Parts.{here, split_at, none_there}
+use Rattle.erm_rule.proofs.Parts.{here, behind, split_at, none_there}
 
 -- the law that an opening's state is sound
 abbrev pub OpensSound : Type 0
@@ -74,43 +76,71 @@ one_more one_number o words number n w has at value is =
 pub all_words : Below → (o : Opening) (words : List ℕ) → IsFirstUpTo o WORDS words → IsFirst o words
 all_words below o words is = record { count = is.count; words_are = λ w has. is.words_are w has (below w has) }
 
--- the vacant sessions
-pub vacant_in : (o : Opening) (n : ℕ) (h : Held) → h ∈ vacant_from o n → (1 ≤ h.seat) × (h.seat ≤ n) × (h.part ≡ fresh_part Vacant o.run o.tail)
-vacant_in o zero h m = absurd (none_there h m)
-vacant_in o (suc n) h m =
+-- the sessions of the first view
+pub session_in : (o : Opening) (n : ℕ) (h : Held) → h ∈ sessions_from o n → (1 ≤ h.seat) × (h.seat ≤ n) × (h.part ≡ fresh_part (first_place o h.seat) o.run o.tail)
+session_in o zero h m = absurd (none_there h m)
+session_in o (suc n) h m =
     ⊎_elim
-    (λ (same : record { seat = suc n; part = fresh_part Vacant o.run o.tail } ≡ h).
+    (λ (same : record { seat = suc n; part = fresh_part (first_place o (suc n)) o.run o.tail } ≡ h).
     let s : suc n ≡ h.seat = ap (λ (z : Held). z.seat) same in
-    let q : fresh_part Vacant o.run o.tail ≡ h.part = ap (λ (z : Held). z.part) same in
-    (omega (arith, s), omega (arith, s), sym q))
-    (λ later. let old = vacant_in o n h later in let low = old.0 in let high = old.1 in (low, omega (arith, high), old.2))
-    (split_at _ h (vacant_from o n) m)
+    let q : fresh_part (first_place o (suc n)) o.run o.tail ≡ h.part = ap (λ (z : Held). z.part) same in
+    (omega (arith, s), omega (arith, s), sym q ∙ ap (λ (i : ℕ). fresh_part (first_place o i) o.run o.tail) s))
+    (λ later. let old = session_in o n h later in let low = old.0 in let high = old.1 in (low, omega (arith, high), old.2))
+    (split_at _ h (sessions_from o n) m)
 
-once_vacant : (o : Opening) (n : ℕ) → EachOnce (vacant_from o n)
-once_vacant o zero = tt
-once_vacant o (suc n) = ((λ h m. λ same. let high = (vacant_in o n h m).1 in omega (arith, high, same)), once_vacant o n)
+-- each session up to that number is among them
+session_there : (o : Opening) (n q : ℕ) → 1 ≤ q → q ≤ n → (h : Held) × (h ∈ sessions_from o n) × (h.seat ≡ q)
+session_there o zero q low high = absurd (omega (arith, low, high))
+session_there o (suc n) q low high =
+    ⊎_elim
+    (λ (below : q < suc n). let old = session_there o n q low (omega (arith, below)) in (old.0, behind _ old.0 (sessions_from o n) old.1, old.2))
+    (λ (above : suc n ≤ q).
+    let first : Held = record { seat = suc n; part = fresh_part (first_place o (suc n)) o.run o.tail } in
+    (first, here first first (sessions_from o n) refl, omega (arith, above, high)))
+    (cases_lt q (suc n))
+
+once_sessions : (o : Opening) (n : ℕ) → EachOnce (sessions_from o n)
+once_sessions o zero = tt
+once_sessions o (suc n) = ((λ h m. λ same. let high = (session_in o n h m).1 in omega (arith, high, same)), once_sessions o n)
+
+-- which seats are taken at an opening: the flush seat, and no other that isn't a session
+flusher_taken : (n q : ℕ) → q ≡ FLUSH_SEAT → is_taken n q ≡ true
+flusher_taken n q same = grind arith
+
+-- a seat that isn't the flush seat is a session
+session_bounds : (q : ℕ) → is_seat q ≡ true → q ≢ FLUSH_SEAT → (1 ≤ q) × (q ≤ SESSIONS)
+session_bounds q seat ne = (grind (arith, seat, ne), grind (arith, seat, ne))
+
+untaken : (n q : ℕ) → n ≤ SESSIONS → q ≢ FLUSH_SEAT → (1 ≤ q → q ≤ SESSIONS → ⊥) → is_taken n q ≡ false
+untaken n q few ne no_session =
+    ⊎_elim
+    (λ (none : q < 1). grind (arith, none))
+    (λ (some_number : 1 ≤ q).
+    ⊎_elim
+    (λ (above : SESSIONS < q). grind (arith, few, above, ne))
+    (λ (within : q ≤ SESSIONS). absurd (no_session some_number within))
+    (cases_lt SESSIONS q))
+    (cases_lt q 1)
 
 module _ (o : Opening) where
-  -- what is so of the flush seat and of each vacant session is so of each seat of the first view
+  -- what is so of the flush seat and of each session is so of each seat of the first view
   each_first : (P : Held → Type 0) → P (record { seat = FLUSH_SEAT; part = fresh_part Idle o.run o.tail }) →
-      ((q : ℕ) → 1 ≤ q → q ≤ SESSIONS → P (record { seat = q; part = fresh_part Vacant o.run o.tail })) → (h : Held) → h ∈ (first_view o).held → P h
+      ((q : ℕ) → 1 ≤ q → q ≤ SESSIONS → P (record { seat = q; part = fresh_part (first_place o q) o.run o.tail })) → (h : Held) → h ∈ (first_view o).held → P h
   unfolding first_view
   each_first P flush session h m =
       ⊎_elim (λ (same : record { seat = FLUSH_SEAT; part = fresh_part Idle o.run o.tail } ≡ h). subst P same flush)
       (λ later.
-      let is = vacant_in o SESSIONS h later in
+      let is = session_in o SESSIONS h later in
       subst (λ x. P (record { seat = h.seat; part = x })) (sym is.2) (session h.seat is.0 is.1))
-      (split_at _ h (vacant_from o SESSIONS) m)
-
-  not_taken : (q : ℕ) → 1 ≤ q → q ≤ SESSIONS → is_taken 0 q ≡ false
-  not_taken q low high = grind arith
+      (split_at _ h (sessions_from o SESSIONS) m)
 
   a_session : (q : ℕ) → 1 ≤ q → q ≤ SESSIONS → is_seat q ≡ true
   a_session q low high = grind arith
 
   first_parts : (h : Held) → h ∈ (first_view o).held → (first_core o).seats h.seat ≡ h.part
-  first_parts = each_first (λ h. (first_core o).seats h.seat ≡ h.part) refl
-      (λ q low high. ap (λ (b : Bool). fresh_part (if b then Idle else Vacant) o.run o.tail) (not_taken q low high))
+  first_parts = each_first (λ h. (first_core o).seats h.seat ≡ h.part)
+      (ap (λ (b : Bool). fresh_part (if b then Idle else Vacant) o.run o.tail) (flusher_taken o.sessions FLUSH_SEAT refl))
+      (λ q low high. refl)
 
   first_seats : (h : Held) → h ∈ (first_view o).held → is_seat h.seat ≡ true
   first_seats = each_first (λ h. is_seat h.seat ≡ true) refl a_session
@@ -160,7 +190,7 @@ module _ (o : Opening) where
         rows = row_wide;
         objects = λ oid known.
             subst (λ (b : Bool). ObjectCells (first_cells o) (if b then opened_object (first_rows o) oid else no_object)) (sym (lt-ltb oid OBJECT_LIMIT known)) (opened_cells oid);
-        seats = λ q below. no_own (if is_taken 0 q then Idle else Vacant);
+        seats = λ q below. no_own (if is_taken o.sessions q then Idle else Vacant);
         undrawn = λ cell late. ap (λ (row : List ℕ). record blank_cell { row = row }) (no_row cell late);
       }
 
@@ -173,21 +203,32 @@ module _ (o : Opening) where
     parts_are = λ id v h e m. one_view (λ (u : View). (h : Held) → h ∈ u.held → (first_core o).seats h.seat ≡ h.part) first_parts id v e h m;
     holders = λ id v h e m. one_number id v e;
     in_order = one_view IsInOrder (record {
-      once = ((λ h m same. let high = (vacant_in o SESSIONS h m).1 in omega (arith, high, same)), once_vacant o SESSIONS);
+      once = ((λ h m same. let high = (session_in o SESSIONS h m).1 in omega (arith, high, same)), once_sessions o SESSIONS);
       seats = first_seats;
     });
   }
 
-  -- a seat that the first view doesn't have isn't the flush seat, and no session is taken
-  untaken : (q : ℕ) → q ≢ FLUSH_SEAT → is_taken 0 q ≡ false
-  untaken q ne = grind arith
-
-  first_others : (q : ℕ) → HeldByNone (first_view o ∷ []) q → (first_core o).seats q ≡ fresh_part Vacant o.run o.tail
+  -- a seat that the first view doesn't have isn't the flush seat, and no session
+  first_others : o.sessions ≤ SESSIONS → (q : ℕ) → HeldByNone (first_view o ∷ []) q → (first_core o).seats q ≡ fresh_part Vacant o.run o.tail
   unfolding first_view
-  first_others q none =
+  first_others few q none =
       let flush : Held = record { seat = FLUSH_SEAT; part = fresh_part Idle o.run o.tail } in
-      let ne : FLUSH_SEAT ≢ q = none 0 (first_view o) flush refl (here flush flush (vacant_from o SESSIONS) refl) in
-      ap (λ (b : Bool). fresh_part (if b then Idle else Vacant) o.run o.tail) (untaken q (λ same. ne (sym same)))
+      let ne : FLUSH_SEAT ≢ q = none 0 (first_view o) flush refl (here flush flush (sessions_from o SESSIONS) refl) in
+      let no_session : 1 ≤ q → q ≤ SESSIONS → ⊥ = λ low high. (let h = session_there o SESSIONS q low high in none 0 (first_view o) h.0 refl (behind flush h.0 (sessions_from o SESSIONS) h.1) h.2) in
+      ap (λ (b : Bool). fresh_part (if b then Idle else Vacant) o.run o.tail) (untaken o.sessions q few (λ same. ne (sym same)) no_session)
+
+  -- the first view has all seats
+  pub first_all : HasAll (first_view o)
+  unfolding first_view
+  first_all q seat none =
+      let flush : Held = record { seat = FLUSH_SEAT; part = fresh_part Idle o.run o.tail } in
+      ⊎_elim
+      (λ (same : q ≡ FLUSH_SEAT). none flush (here flush flush (sessions_from o SESSIONS) refl) (sym same))
+      (λ (ne : q ≡ FLUSH_SEAT → ⊥).
+      let bounds = session_bounds q seat ne in
+      let h = session_there o SESSIONS q bounds.0 bounds.1 in
+      none h.0 (behind flush h.0 (sessions_from o SESSIONS) h.1) h.2)
+      (cases_eq q FLUSH_SEAT)
 
   first_lawful : (law : Law) → RespectsRows law → law.meets (rows_of o.rows.items) → ((oid : ℕ) → o.first ≤ oid → law.reach (rows_of o.rows.items) oid ≡ 0) → length o.rows.items ≡ OBJECT_LIMIT →
       Lawful law (first_core o).shared (first_core o).seats
@@ -201,25 +242,26 @@ module _ (o : Opening) where
             absurd (omega (arith, none, drawn));
       }
 
-  one_book : (id : ℕ) (b : Book) → get_elem? (first_book o ∷ []) id ≡ some b → Course b.view b.taken (first_core o)
-  one_book zero b e = subst (λ (z : Book). Course z.view z.taken (first_core o)) (some-injective (first_book o) b e) tt
-  one_book (suc id) b e = absurd (some-ne-none b (sym e))
+  one_book : (P : Book → Type 0) → P (first_book o) → (id : ℕ) (b : Book) → get_elem? (first_book o ∷ []) id ≡ some b → P b
+  one_book P first zero b e = subst P (some-injective (first_book o) b e) first
+  one_book P first (suc id) b e = absurd (some-ne-none b (sym e))
 
-  pub first_kept : (law : Law) → RespectsRows law → law.meets (rows_of o.rows.items) → ((oid : ℕ) → o.first ≤ oid → law.reach (rows_of o.rows.items) oid ≡ 0) → OpensSound → OpensSpelled → 0 < o.tail → o.tail ≤ STOP + 4 → o.first ≤ OBJECT_LIMIT → length o.rows.items ≡ OBJECT_LIMIT →
+  pub first_kept : (law : Law) → RespectsRows law → law.meets (rows_of o.rows.items) → ((oid : ℕ) → o.first ≤ oid → law.reach (rows_of o.rows.items) oid ≡ 0) → OpensSound → OpensSpelled → o.sessions ≤ SESSIONS → 0 < o.tail → o.tail ≤ STOP + 4 → o.first ≤ OBJECT_LIMIT → length o.rows.items ≡ OBJECT_LIMIT →
       ((oid : ℕ) → oid < length o.rows.items → length (get_or o.rows.items oid []) ≡ 16) → (words : List ℕ) → IsFirst o words → KeptUnder law o (table.opening words [] (first_book o))
-  first_kept law respects meets unreached opens spelled positive low first count wide words is = record {
+  first_kept law respects meets unreached opens spelled few positive low first count wide words is = record {
     kept = record {
       core = first_core o;
       cells = first_cells o;
       holder = λ _. 0;
       stands = first_stands (cells_there count wide) words is;
-      others = first_others;
-      sound = opens 0 (first_rows o) o.tail o.run o.first TABLE_CELLS (omega arith) positive low first (omega arith) (omega arith) (λ oid known. row_wide count wide oid);
+      others = first_others few;
+      sound = opens o.sessions (first_rows o) o.tail o.run o.first TABLE_CELLS few positive low first (omega arith) (omega arith) (λ oid known. row_wide count wide oid);
       cuts = λ q. tt;
-      courses = λ id b there. one_book id b there;
+      courses = one_book (λ b. HasSeats b.view → (b.start ≡ start_of o) × Course b (first_core o)) (λ _. (refl, (0, refl)));
+      pasts = one_book (λ b. TookIn b.past (first_core o)) (λ m within. absurd (none_there m within));
       opened = record { tail = refl; run = refl; first = refl; rows = rows_there count };
       limit = refl;
     };
     lawful = first_lawful law respects meets unreached count;
-    spelled = spelled 0 (first_rows o) o.tail o.run o.first TABLE_CELLS;
+    spelled = spelled o.sessions (first_rows o) o.tail o.run o.first TABLE_CELLS;
   }

@@ -1,7 +1,10 @@
 pub mod Books
 pub mod Cells
+pub mod Changes
 pub mod Hands
 pub mod Newest
+pub mod Openings
 pub mod Rule
 pub mod Steps
 pub mod Views
+pub mod Went

@@ -1,5 +1,5 @@
 -- The rule: the words and the views of all passes stand for a sound state of the machine.
-use Rattle.std.specs.Prelude.{◌≡◌, ◌≢◌, ℕ, ◌+◌, ◌-◌, take, zero, suc, List, [], ◌∷◌, length, map, replicate, slice_index, slice_index_or}
+use Rattle.std.specs.Prelude.{◌≡◌, ◌≢◌, ℕ, ◌+◌, ◌-◌, take, zero, suc, if◌then◌else◌, List, [], ◌∷◌, length, map, slice_index}
 use mathlib.Core.Option.{some}
 use lib.ListN.{get_elem?}
 use Rattle.atomic_table.specs.Table.{State}
@@ -11,20 +11,22 @@ use Rattle.erm_layout.specs.declared.limits.TheConstants.{WORDS}
 use Rattle.erm_layout.specs.declared.word.Word.{Word}
 use Rattle.erm_layout.specs.Layout.{HasNumber, index_of}
 use Rattle.erm_machine.specs.declared.limits.TheConstants.{FLUSH_SEAT, SESSIONS}
+use Rattle.erm_machine.specs.declared.place.Place.{Place}
 use Rattle.erm_machine.specs.declared.place.Place.TheVariants.{Vacant, Idle}
 use Rattle.erm_machine.specs.declared.version.Cell.{Cell}
-use Rattle.erm_machine.specs.Core.{Core, Shared, fresh_part, opening_state}
+use Rattle.erm_machine.specs.Core.{Core, Shared, fresh_part, is_taken}
 use Rattle.erm_machine.specs.Lawful.{Lawful, opening_rows}
 use Rattle.erm_machine.specs.Sound.{Sound}
 use Rattle.erm_machine.specs.Words.{blank_cell}
 use Rattle.erm_core_blocks.specs.Spelled.{AreSpelled}
-use Rattle.erm_rule.specs.Books.{Course, new_book, view_in}
+use Rattle.erm_rule.specs.Books.{Course, HasSeats, TookIn, new_book, view_in}
 use Rattle.erm_rule.specs.Cells.{word_in, CellsAre}
 use Rattle.erm_rule.specs.Newest.{CutsAtNewest}
 use Rattle.erm_rule.specs.declared.view.Book.{Book}
 use Rattle.erm_rule.specs.declared.view.Held.{Held}
 use Rattle.erm_rule.specs.declared.view.Opening.{Opening}
 use Rattle.erm_rule.specs.declared.view.View.{View}
+use Rattle.erm_rule.specs.Openings.{start_core, start_of, start_rows}
 use Rattle.erm_rule.specs.Views.{of_seats, one_seat, left_of, right_of, IsInOrder, MayGive}
 
 -- The words and the views stand for the state: each word of the table is as the state says, where a cell's words are those
@@ -51,8 +53,8 @@ pub record IsOpened (opening : Opening) (s : Shared) : Type 0 where
   pub rows : SameRows (rows_of opening.rows.items) (opening_rows s)
 
 -- Some sound state of this opening, with the table's cells, for which the table stands, and in which each cut in progress cuts
--- behind the newest version below its horizon. A seat that no view has is one that has done nothing. The steps that each pass has taken
--- lead to this state.
+-- behind the newest version below its horizon. A seat that no view has is one that has done nothing. The steps of each pass that has
+-- seats lead from the opening's state to this one, and so do those of each book that was taken in, as far as they go.
 pub record Kept (opening : Opening) (s : State (Unit {0}) Book) : Type 0 where
   pub core : Core
   pub cells : ℕ → Cell
@@ -61,7 +63,8 @@ pub record Kept (opening : Opening) (s : State (Unit {0}) Book) : Type 0 where
   pub others : (q : ℕ) → HeldByNone (map view_in s.views) q → core.seats q ≡ fresh_part Vacant opening.run opening.tail
   pub sound : Sound core
   pub cuts : CutsAtNewest core
-  pub courses : (id : ℕ) (b : Book) → get_elem? s.views id ≡ some b → Course b.view b.taken core
+  pub courses : (id : ℕ) (b : Book) → get_elem? s.views id ≡ some b → HasSeats b.view → (b.start ≡ start_of opening) × Course b core
+  pub pasts : (id : ℕ) (b : Book) → get_elem? s.views id ≡ some b → TookIn b.past core
   pub opened : IsOpened opening core.shared
   pub limit : core.shared.cell_limit ≡ TABLE_CELLS
 
@@ -71,18 +74,22 @@ pub record KeptUnder (law : Law) (opening : Opening) (s : State (Unit {0}) Book)
   pub lawful : Lawful law kept.core.shared kept.core.seats
   pub spelled : AreSpelled kept.core
 
--- the sessions from a number down to 1, all vacant
-abbrev pub vacant_from : Opening → ℕ → List Held
-vacant_from opening zero = []
-vacant_from opening (suc n) = record { seat = suc n; part = fresh_part Vacant opening.run opening.tail } ∷ vacant_from opening n
+-- where a session stands in the first pass: so many are idle, the others vacant
+abbrev pub first_place : Opening → ℕ → Place
+first_place opening q = if is_taken opening.sessions q then Idle else Vacant
+
+-- the sessions from a number down to 1
+abbrev pub sessions_from : Opening → ℕ → List Held
+sessions_from opening zero = []
+sessions_from opening (suc n) = record { seat = suc n; part = fresh_part (first_place opening (suc n)) opening.run opening.tail } ∷ sessions_from opening n
 
 -- the view of the first pass: the flush seat, which is idle, and all sessions, the first of them last
 unfoldable pub first_view : Opening → View
-first_view opening = of_seats (record { seat = FLUSH_SEAT; part = fresh_part Idle opening.run opening.tail } ∷ vacant_from opening SESSIONS)
+first_view opening = of_seats (record { seat = FLUSH_SEAT; part = fresh_part Idle opening.run opening.tail } ∷ sessions_from opening SESSIONS)
 
 -- the book of the first pass
 abbrev pub first_book : Opening → Book
-first_book opening = new_book (first_view opening)
+first_book opening = new_book (start_of opening) (first_view opening)
 
 -- the view of the first pass once it has handed out so many sessions
 unfoldable pub rest_view : Opening → ℕ → View
@@ -100,11 +107,11 @@ pub record HandsOut (opening : Opening) (given : ℕ) : Type 0 where
 
 -- the rows of an opening, and zeros for numbers above those of its objects
 abbrev pub first_rows : Opening → Rows
-first_rows opening oid = slice_index_or opening.rows.items oid (replicate 16 0)
+first_rows opening = start_rows opening.rows.items
 
--- the state of an opening, with the table's cells: no session is taken
+-- the state of an opening
 abbrev pub first_core : Opening → Core
-first_core opening = opening_state 0 (first_rows opening) opening.tail opening.run opening.first TABLE_CELLS
+first_core opening = start_core (start_of opening)
 
 -- what each cell holds then: those of the objects have their rows
 abbrev pub first_cells : Opening → ℕ → Cell

@@ -20,8 +20,9 @@ use Rattle.erm_core_blocks.specs.Spelled.{AreSpelled, IsSpelled, decided_by}
 use Rattle.erm_rule.specs.declared.view.Book.{Book}
 use Rattle.erm_rule.specs.declared.view.Opening.{Opening}
 use Rattle.erm_rule.specs.declared.view.View.{View}
-use Rattle.erm_rule.specs.Books.{Course, noted}
+use Rattle.erm_rule.specs.Books.{Course, HasSeats, TookIn, noted}
 use Rattle.erm_rule.specs.Newest.{CutsAtNewest}
+use Rattle.erm_rule.specs.Openings.{start_of}
 use Rattle.erm_rule.specs.Rule.{IsOpened}
 use Rattle.erm_rule.specs.Views.{part_of, with_part, IsView, IsInOrder}
 
@@ -82,16 +83,20 @@ pub record ToldUnder (law : Law) (v : View) (who : ℕ) (kind : Kind) (found : �
 pub record Booked (law : Law) (b : Book) (who : ℕ) (kind : Kind) (found : ℕ) (e : Book) : Type 0 where
   pub under : ToldUnder law b.view who kind found e.view
   pub book_is : e ≡ noted b who kind found e.view
-  pub course : Course b.view b.taken under.told.before
-  pub course_after : Course e.view e.taken under.told.after
+  pub course : Course b under.told.before
+  pub course_after : Course e under.told.after
 
--- The table's last state: a sound one of its opening, in which the seats of the view have its parts, with this tail, and to which the
--- steps of the book lead. A seat without words, which no view can have, is one that has done nothing.
+-- The table's last state: a sound one of its opening, in which the seats of the view, each of which stands once and has words, have its
+-- parts, with this tail. The steps of the book, if it has seats, lead from the opening's state to this one, and a state of each book that
+-- was taken in was met on the way. A seat without words, which no view can have, is one that has done nothing.
 pub record Ends (o : Opening) (b : Book) (tail : ℕ) : Type 0 where
   pub core : Core
   pub sound : Sound core
   pub is_view : IsView b.view core
-  pub course : Course b.view b.taken core
+  pub in_order : IsInOrder b.view
+  pub start : HasSeats b.view → b.start ≡ start_of o
+  pub course : HasSeats b.view → Course b core
+  pub past : TookIn b.past core
   pub opened : IsOpened o core.shared
   pub tail_is : core.shared.tail ≡ tail
   pub others : (q : ℕ) → is_seat q ≡ false → core.seats q ≡ fresh_part Vacant o.run o.tail

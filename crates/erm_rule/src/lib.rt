@@ -2,22 +2,21 @@
 //! state of the core machine, and a step on a word is a step of that machine.
 #![tactic(auto)]
 
+mod change;
 mod laws;
 mod life;
 mod passes;
 mod plays;
 mod rule;
-mod steps;
+mod stepping;
 mod view;
 mod words;
 
-pub use laws::{notes_are_kept, notes_hold, sessions_are_handed_out};
+pub use change::Change;
+pub use laws::{notes_are_kept, notes_hold, sessions_are_handed_out, whole_books_have_one_state};
 pub use life::{add_tail, load_begin, load_state, load_tail, store_begin, store_state};
 pub use passes::{close, join, open, split};
 pub use plays::Deed;
 pub use rule::{Pass, Standing, Table};
-pub use steps::{
-    add, add_as, and, and_as, exchange, exchange_as, load, load_as, or, or_as, raise, raise_as,
-    store, store_as, swap, swap_as,
-};
-pub use view::{Book, Held, Opening, Taken, View};
+pub use stepping::{step, step_as};
+pub use view::{Book, Held, Opening, Past, Start, Taken, View};

@@ -8,8 +8,9 @@ ghost use Rattle.erm_rule.specs.Books.{book};
 ghost use Rattle.erm_rule.specs.Steps.{Fits, Ready, ToldUnder, Booked};
 ghost use Rattle.erm_rule.specs.Views.{view, part_in, part_of};
 
+use crate::change::Change;
 use crate::rule::{Pass, Table};
-use crate::steps::{add, load, store};
+use crate::stepping::step;
 use erm_layout::Word;
 use erm_machine::{Kind, TailUse};
 use erm_model::{RowLaw, Seat, Stamp};
@@ -23,7 +24,8 @@ pub fn load_tail<L: RowLaw>(t: &Table<L>, p: &mut Pass, who: Seat, purpose: Tail
     ensures told { ToldUnder L.law (view p.old) who (LoadTail purpose) result (view p.new) }
     ensures booked { Booked L.law (book p.old) who (LoadTail purpose) result (book p.new) }
 {
-    load(t, p, who, Kind::LoadTail { purpose }, Word::Tail)
+    let kind = Kind::LoadTail { purpose };
+    step(t, p, who, kind, Word::Tail, Change::Keep)
 }
 
 /// Adds to the tail: draws a range of the log for the seat's transaction, which is lawful. The range begins at the answer.
@@ -36,7 +38,8 @@ pub fn add_tail<L: RowLaw>(t: &Table<L>, p: &mut Pass, who: Seat, size: u64) -> 
     ensures told { ToldUnder L.law (view p.old) who (AddTail size) result (view p.new) }
     ensures booked { Booked L.law (book p.old) who (AddTail size) result (book p.new) }
 {
-    add(t, p, who, Kind::AddTail { size }, Word::Tail, size)
+    let kind = Kind::AddTail { size };
+    step(t, p, who, kind, Word::Tail, Change::Add(size))
 }
 
 /// Stores the own begin word.
@@ -49,14 +52,8 @@ pub fn store_begin<L: RowLaw>(t: &Table<L>, p: &mut Pass, who: Seat, value: Stam
     ensures told { (found : ℕ) × ToldUnder L.law (view p.old) who (StoreBegin value) found (view p.new) }
     ensures booked { (found : ℕ) × Booked L.law (book p.old) who (StoreBegin value) found (book p.new) }
 {
-    store(
-        t,
-        p,
-        who,
-        Kind::StoreBegin { value },
-        Word::Begin(who),
-        value,
-    );
+    let kind = Kind::StoreBegin { value };
+    step(t, p, who, kind, Word::Begin(who), Change::Set(value));
 }
 
 /// Stores the own state word.
@@ -69,14 +66,8 @@ pub fn store_state<L: RowLaw>(t: &Table<L>, p: &mut Pass, who: Seat, value: Stam
     ensures told { (found : ℕ) × ToldUnder L.law (view p.old) who (StoreState value) found (view p.new) }
     ensures booked { (found : ℕ) × Booked L.law (book p.old) who (StoreState value) found (book p.new) }
 {
-    store(
-        t,
-        p,
-        who,
-        Kind::StoreState { value },
-        Word::State(who),
-        value,
-    );
+    let kind = Kind::StoreState { value };
+    step(t, p, who, kind, Word::State(who), Change::Set(value));
 }
 
 /// Loads the begin word of a seat.
@@ -89,7 +80,8 @@ pub fn load_begin<L: RowLaw>(t: &Table<L>, p: &mut Pass, who: Seat, seat: Seat) 
     ensures told { ToldUnder L.law (view p.old) who (LoadBegin seat) result (view p.new) }
     ensures booked { Booked L.law (book p.old) who (LoadBegin seat) result (book p.new) }
 {
-    load(t, p, who, Kind::LoadBegin { seat }, Word::Begin(seat))
+    let kind = Kind::LoadBegin { seat };
+    step(t, p, who, kind, Word::Begin(seat), Change::Keep)
 }
 
 /// Loads the state word of a seat, to compare it with a bound.
@@ -108,11 +100,6 @@ pub fn load_state<L: RowLaw>(
     ensures told { ToldUnder L.law (view p.old) who (LoadState seat bound) result (view p.new) }
     ensures booked { Booked L.law (book p.old) who (LoadState seat bound) result (book p.new) }
 {
-    load(
-        t,
-        p,
-        who,
-        Kind::LoadState { seat, bound },
-        Word::State(seat),
-    )
+    let kind = Kind::LoadState { seat, bound };
+    step(t, p, who, kind, Word::State(seat), Change::Keep)
 }

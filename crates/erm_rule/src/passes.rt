@@ -11,14 +11,16 @@ use crate::rule::{Pass, Table};
 use crate::view::Opening;
 use crate::words::{first_words, rows_are_whole};
 use erm_layout::{Word, index};
-use erm_machine::{OBJECT_LIMIT, STOP};
+use erm_machine::{OBJECT_LIMIT, SESSIONS, STOP};
 use erm_model::{RowLaw, Stamp};
 use std::alloc::{AllocError, Global};
 
-/// The table of a new opening, and the pass that has all seats: the flush seat, which is idle, and the sessions, which are vacant.
+/// The table of a new opening, and the pass that has all seats: the flush seat, which is idle, and the sessions, of which the opening says
+/// how many are idle, from the first on; the others are vacant.
 /// The log of the opening begins at its tail, each object has its row of the opening, and objects are made from the first number on.
 /// The rows meet the law, and reach no object from that number on.
 pub fn open<L: RowLaw>(alloc: Global, opening: &Opening) -> Result<(Table<L>, Pass), AllocError>
+    requires few { opening.now.sessions ≤ SESSIONS }
     requires positive { 0 < opening.now.tail }
     requires low { opening.now.tail ≤ STOP + 4 }
     requires first { opening.now.first ≤ OBJECT_LIMIT }
@@ -55,8 +57,8 @@ pub fn split<L: RowLaw>(t: &Table<L>, p: &mut Pass) -> Pass
     t.words.shared.split_seat::<Cut>(p)
 }
 
-/// Takes in another pass, with all of its seats. The first seat of this one has then seen what the first of the other had seen. The steps
-/// of the other are kept no more.
+/// Takes in another pass, with all of its seats. The first seat of this one has then seen what the first of the other had seen. The book
+/// of the other is kept as it was.
 pub fn join<L: RowLaw>(t: &Table<L>, p: &mut Pass, other: Pass)
     requires fits { Fits t.now.words.shared.table_id p.old × Fits t.now.words.shared.table_id other }
     requires takes { MayJoin (view p.old) }
@@ -71,8 +73,8 @@ pub fn join<L: RowLaw>(t: &Table<L>, p: &mut Pass, other: Pass)
     t.words.shared.join_seat::<Glue>(p, other);
 }
 
-/// The table's end. The answer is the tail of the last state, in which the pass's seats have the parts that it says, and to which the
-/// steps that it has taken lead.
+/// The table's end. The answer is the tail of the last state, in which the pass's seats have the parts that it says, to which the steps
+/// that it has taken lead, and before which a state of each book was met that it took in.
 pub fn close<L: RowLaw>(t: Table<L>, p: Pass) -> Stamp
     requires fits { Fits t.words.shared.table_id p }
     ensures ends { EndsUnder L.law t.words.shared.key (book p) result }

@@ -35,18 +35,6 @@ impl<L: RowLaw, M: Deed> Play<(), Book> for Finds<L, M> {
     ghost then = { λ _ me found after. Booked L.law me.0 M.seat M.kind found after.0 × (after.1 ≡ me.1) };
 }
 
-/// The step is one of the machine. The word that it met isn't told.
-pub(crate) struct Stores<L, M> {
-    of: PhantomData<(L, M)>,
-}
-
-impl<L: RowLaw, M: Deed> Play<(), Book> for Stores<L, M> {
-    ghost use Rattle.std.specs.Prelude.{◌≡◌, ℕ};
-    ghost use Rattle.erm_rule.specs.Steps.{Booked};
-
-    ghost then = { λ _ me _ after. ((found : ℕ) × Booked L.law me.0 M.seat M.kind found after.0) × (after.1 ≡ me.1) };
-}
-
 /// A pass hands out its last seat. Both passes have its steps.
 pub(crate) struct Cut;
 
@@ -58,7 +46,7 @@ impl Split<Book> for Cut {
     ghost right = { right_book };
 }
 
-/// A pass takes in the seats of another, but not its steps.
+/// A pass takes in the seats of another, and its book as it was.
 pub(crate) struct Glue;
 
 impl Join<Book> for Glue {

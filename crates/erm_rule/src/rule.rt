@@ -6,7 +6,7 @@ use std::alloc::Global;
 use std::marker::PhantomData;
 
 /// The words and the views of all passes stand for a sound state of the machine, whose rows keep the law `L`, and whose decided
-/// blocks are spelled. The steps that each pass has taken lead to that state.
+/// blocks are spelled. The steps that each pass has taken lead from the opening's state to that one.
 pub struct Standing<L> {
     law: PhantomData<L>,
 }

@@ -22,16 +22,37 @@ pub struct Taken {
     pub before: View,
 }
 
-/// What a pass knows, and the steps by which it came to know it, the last one first. No value of it is made.
-pub struct Book {
+/// What the table was told when it was made, as an `Opening` says it. No value of it is made.
+pub struct Start {
+    pub sessions: Seat,
+    pub tail: Stamp,
+    pub run: u64,
+    pub first: Oid,
+    pub rows: LinkedList<Row>,
+}
+
+/// A book that another has taken in, as it was then. No value of it is made.
+pub struct Past {
+    pub start: Start,
     pub view: View,
     pub taken: LinkedList<Taken>,
 }
 
-/// What the table is told when it is made: where the log of this opening begins, which run of the log it is, the number of the
-/// first object to make, and the rows of all objects.
+/// What a pass knows; the table's start, and the steps by which the pass came to know it, the last one first; and the books that it
+/// has taken in. No value of it is made.
+pub struct Book {
+    pub start: Start,
+    pub view: View,
+    pub taken: LinkedList<Taken>,
+    pub past: LinkedList<Past>,
+}
+
+/// What the table is told when it is made: how many sessions, from the first on, are idle in the first pass (at most 48; the others
+/// are vacant, and become idle as they are handed out), where the log of this opening begins, which run of the log it is, the number of
+/// the first object to make, and the rows of all objects.
 #[derive(Drop)]
 pub struct Opening {
+    pub sessions: Seat,
     pub tail: Stamp,
     pub run: u64,
     pub first: Oid,

@@ -3,3 +3,4 @@ pub mod Looks
 pub mod Racing
 pub mod Sealing
 pub mod Stamps
+pub mod Took

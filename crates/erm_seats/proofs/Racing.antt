@@ -256,28 +256,29 @@ unfolding rest_view first_view
 flush_idle o = refl
 
 -- the first two sessions handed out
-module _ (first : (o : Opening) → rest_view o 0 ≡ first_view o) (more : (o : Opening) (given : ℕ) → given < SESSIONS → HandsOut o given) (o : Opening) (v : View) (is : v ≡ first_view o) where
+module _ (first : (o : Opening) → rest_view o 0 ≡ first_view o) (more : (o : Opening) (given : ℕ) → o.sessions ≡ 0 → given < SESSIONS → HandsOut o given) (o : Opening) (v : View) (is : v ≡ first_view o)
+    (none : o.sessions ≡ 0) where
   from_none : v ≡ rest_view o 0
   from_none = is ∙ sym (first o)
 
   pub gives_one : MayGive v
-  gives_one = subst MayGive (sym from_none) (more o 0 (omega arith)).may
+  gives_one = subst MayGive (sym from_none) (more o 0 none (omega arith)).may
 
   pub one_given : (u : View) → u ≡ right_of v → u ≡ one_seat 1 (idle_part o)
-  one_given u e = e ∙ ap right_of from_none ∙ (more o 0 (omega arith)).right
+  one_given u e = e ∙ ap right_of from_none ∙ (more o 0 none (omega arith)).right
 
   module _ (w : View) (left : w ≡ left_of v) where
     from_one : w ≡ rest_view o 1
-    from_one = left ∙ ap left_of from_none ∙ (more o 0 (omega arith)).left
+    from_one = left ∙ ap left_of from_none ∙ (more o 0 none (omega arith)).left
 
     pub gives_two : MayGive w
-    gives_two = subst MayGive (sym from_one) (more o 1 (omega arith)).may
+    gives_two = subst MayGive (sym from_one) (more o 1 none (omega arith)).may
 
     pub two_given : (u : View) → u ≡ right_of w → u ≡ one_seat 2 (idle_part o)
-    two_given u e = e ∙ ap right_of from_one ∙ (more o 1 (omega arith)).right
+    two_given u e = e ∙ ap right_of from_one ∙ (more o 1 none (omega arith)).right
 
     pub rest_given : (u : View) → u ≡ left_of w → u ≡ rest_view o 2
-    rest_given u e = e ∙ ap left_of from_one ∙ (more o 1 (omega arith)).left
+    rest_given u e = e ∙ ap left_of from_one ∙ (more o 1 none (omega arith)).left
 
 -- every transaction keeps the law that all rows meet
 pub any_lawful : (t : TransactionRecord) → IsLawfulRecord any_law t

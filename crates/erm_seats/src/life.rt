@@ -8,6 +8,8 @@ ghost use Rattle.erm_model.specs.Lawful.{IsLawfulRecord};
 ghost use Rattle.erm_rule.specs.Steps.{Fits};
 ghost use Rattle.erm_rule.specs.Views.{view, part_of};
 ghost use Rattle.erm_seats.specs.Calls.{DidBegin, DidStop, DidSeal};
+ghost use Rattle.erm_seats.specs.Took.{TookBegin, TookSeal, TookStop};
+ghost use Rattle.erm_rule.specs.Books.{book};
 
 use crate::answer::BeginStop;
 use erm_machine::{FLUSH_SEAT, GREATEST_BLOCK, LEAST_BLOCK, STOP, TailUse};
@@ -23,6 +25,8 @@ pub fn begin_steps<L: RowLaw>(t: &Table<L>, p: &mut Pass, who: Seat) -> Result<S
     ensures fits { Fits t.now.words.shared.table_id p.new }
     ensures begun { IfOk result (λ begin. DidBegin (view p.old) who begin (view p.new)) }
     ensures stopped { IfErr result (λ stop. DidStop (view p.old) who stop (view p.new)) }
+    ensures took { IfOk result (λ begin. TookBegin L.law who begin (book p.old) (book p.new)) }
+    ensures took_stop { IfErr result (λ stop. TookStop L.law who stop (book p.old) (book p.new)) }
 {
     let tail = load_tail(t, p, who, TailUse::Begin);
     if is_refused(who, tail) {
@@ -51,6 +55,7 @@ pub fn seal_steps<L: RowLaw>(t: &Table<L>, p: &mut Pass, who: Seat, size: u64) -
     requires greatest { size ≤ GREATEST_BLOCK }
     ensures fits { Fits t.now.words.shared.table_id p.new }
     ensures sealed { DidSeal (view p.old) who size result (view p.new) }
+    ensures took { TookSeal L.law who size result (book p.old) (book p.new) }
 {
     store_state(t, p, who, 1);
     let stamp = add_tail(t, p, who, size);

@@ -6,6 +6,7 @@ ghost use Rattle.erm_rule.specs.Books.{book, IsAfter};
 ghost use Rattle.erm_rule.specs.Steps.{Fits};
 ghost use Rattle.erm_rule.specs.Views.{view, part_of};
 ghost use Rattle.erm_seats.specs.Calls.{DidLook, OnClear, StaysClear, WasNotYet};
+ghost use Rattle.erm_seats.specs.Took.{TookLook};
 
 use crate::answer::Look;
 use erm_model::{RowLaw, Seat, Stamp};
@@ -23,6 +24,7 @@ pub fn look<L: RowLaw>(t: &Table<L>, p: &mut Pass, who: Seat, seat: Seat, bound:
     ensures stays { OnClear result (StaysClear who seat bound (part_of (view p.new) who).clear) }
     ensures goes { IsAfter (book p.old) (book p.new) }
     ensures met { WasNotYet (book p.old) result (book p.new) }
+    ensures took { TookLook L.law who seat bound result (book p.old) (book p.new) }
 {
     erm_rule::notes_hold();
     let seen = load_state(t, p, who, seat, bound);

@@ -20,12 +20,14 @@ type Table = erm_rule::Table<AnyRows>;
 
 // An opening on rows of zeros, whose log begins at this tail.
 fn opening_at(alloc: Global, tail: Stamp) -> Result<Opening, AllocError>
+    ensures none { IfOk result (λ o. o.sessions ≡ 0) }
     ensures tail { IfOk result (λ o. o.tail ≡ tail) }
     ensures first { IfOk result (λ o. o.first ≤ OBJECT_LIMIT) }
     ensures rows { IfOk result (λ o. vec_len o.rows ≡ OBJECT_LIMIT) }
 {
     let rows = vec![in alloc; [0; ROW_WORDS]; OBJECT_LIMIT as usize]?;
     Ok(Opening {
+        sessions: 0,
         tail,
         run: 1,
         first: 16,
@@ -35,6 +37,7 @@ fn opening_at(alloc: Global, tail: Stamp) -> Result<Opening, AllocError>
 
 // A table, the pass that is left, and the passes of sessions 1 and 2.
 fn open_two(alloc: Global, opening: &Opening) -> Result<(Table, Pass, Pass, Pass), AllocError>
+    requires none { opening.now.sessions ≡ 0 }
     requires positive { 0 < opening.now.tail }
     requires low { opening.now.tail ≤ STOP + 4 }
     requires first { opening.now.first ≤ OBJECT_LIMIT }
@@ -89,6 +92,7 @@ fn race<R: Threads + Sync>(
     opening: &Opening,
     size: u64,
 ) -> Result<Option<Raced>, AllocError>
+    requires none { opening.now.sessions ≡ 0 }
     requires positive { 0 < opening.now.tail }
     requires low { opening.now.tail ≤ STOP + 4 }
     requires first { opening.now.first ≤ OBJECT_LIMIT }

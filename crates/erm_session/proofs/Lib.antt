@@ -20,3 +20,5 @@ pub mod Storing
 pub mod Syncs
 pub mod Turns
 pub mod Worked
+pub mod Took
+pub mod Tidied

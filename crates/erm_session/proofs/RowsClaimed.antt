@@ -25,6 +25,7 @@ use Rattle.erm_rule.specs.Views.{part_of, with_part}
 use Rattle.erm_rule.proofs.Telling.{changed_here, part_of-changed}
 use Rattle.erm_session.specs.Calls.{is_end, IsClaimedAt, IsUnclaimed, RefusesClaim}
 use Rattle.erm_session.proofs.Goes.{ends_where, goes_same, Goes}
+use Rattle.erm_rows.specs.declared.claiming.Claimed.{Claimed}
 
 -- a call may start where a head's stamp is loaded
 starts_walked : (version : VersionAt) (entry stamp : ℕ) (x : Part) → starts_anew (walked version entry stamp x) ≡ true
@@ -118,9 +119,9 @@ module _ (v : View) (who oid : ℕ) (active : is_active (part_of v who).place �
   goes_unclaimed starts _ w did = absurd did
 
   -- it is claimed or refused
-  pub goes_either : starts_anew x.task ≡ true → (result : Result (List ℕ) RowStop) (w : View) → IfOk result (λ row. DidClaim v who oid row w) → IfErr result (λ why. DidNotClaim v who oid why w)
+  pub goes_either : starts_anew x.task ≡ true → (result : Result Claimed RowStop) (w : View) → IfOk result (λ claimed. DidClaim v who oid claimed.row w) → IfErr result (λ why. DidNotClaim v who oid why w)
       → Goes x (part_of w who)
-  goes_either starts (Ok row) w did stopped = goes_claimed row w did
+  goes_either starts (Ok claimed) w did stopped = goes_claimed claimed.row w did
   goes_either starts (Err why) w did stopped = goes_unclaimed starts why w stopped
 
   pub same_unclaimed : (why : RowStop) (w : View) → DidNotClaim v who oid why w → is_end why ≡ false → (part_of w who).current ≡ x.current

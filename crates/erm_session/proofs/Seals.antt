@@ -30,7 +30,7 @@ module _ (s : Session) (t : Active) (v : View) (is : IsSession s (part_of v s.se
     abbrev y : Part
     y = sealed_part size stamp x
 
-    size_there : size ≡ block_words rows
+    pub size_there : size ≡ block_words rows
     size_there = size_is ∙ ap (λ (l : List (List ℕ)). block_words l) (rows_are ∙ is.rows_claimed)
 
     pub seals_rows : SealsRows v s.seat stamp w

@@ -21,6 +21,7 @@ use Rattle.erm_seats.specs.declared.answer.BeginStop.TheVariants as seats
 use Rattle.erm_seats.specs.Calls.{DidSeal, DidStop}
 use Rattle.erm_world.specs.declared.stops.BeginStop.{BeginStop}
 use Rattle.erm_world.specs.declared.stops.BeginStop.TheVariants as begin
+use Rattle.erm_rows.specs.Tidies.{DidTidy, HasClaim}
 
 -- BEGIN. The session has no number left, and nothing is changed; or the log is at its end.
 abbrev pub MayNotBegin : View → ℕ → BeginStop → View → Type 0
@@ -91,6 +92,11 @@ pub record RefusesRead (v : View) (who oid : ℕ) (why : RowStop) (w : View) : T
 pub data ClaimsObject (v : View) (who oid : ℕ) (w : View) : Type 0 where
   before : w ≡ v → (row : List ℕ) → HasClaimed (part_of v who) oid row → ClaimsObject v who oid w
   now : IsUnclaimed (part_of v who) oid → (row : List ℕ) → DidClaim v who oid row w → ClaimsObject v who oid w
+
+-- TIDY. An object that was claimed before has its chain cut, by which so many cells became spare ones; another one is claimed.
+pub data TidiesObject (v : View) (who oid count : ℕ) (w : View) : Type 0 where
+  again_tidied : HasClaim (part_of v who) oid → DidTidy v who count w → TidiesObject v who oid count w
+  now_claimed : IsUnclaimed (part_of v who) oid → ClaimsObject v who oid w → TidiesObject v who oid count w
 
 -- A claim is refused, of an object that isn't claimed.
 pub record RefusesClaim (v : View) (who oid : ℕ) (why : RowStop) (w : View) : Type 0 where

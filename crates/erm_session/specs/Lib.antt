@@ -5,3 +5,4 @@ pub mod Opening
 pub mod Session
 pub mod Settle
 pub mod Skew
+pub mod Took

@@ -8,10 +8,17 @@ ghost use Rattle.erm_model.specs.declared.outcome.Outcome.TheVariants.{Committed
 ghost use Rattle.erm_model.specs.declared.outcome.Phase.TheVariants.{Idle, Sealed};
 ghost use Rattle.erm_precommit.specs.Settle.{IsReady};
 ghost use Rattle.erm_rule.specs.Hands.{IsKnown};
-ghost use Rattle.erm_rule.specs.Steps.{Fits};
+ghost use Rattle.erm_rule.specs.Steps.{Fits, Booked};
 ghost use Rattle.erm_rule.specs.Views.{view, part_of};
 ghost use Rattle.erm_session.specs.Settle.{EndsAs, Finishes, MayBeDecided, MayEnd, StoresBlock, entries_kept, own_block};
 ghost use Rattle.erm_session.specs.Session.{IsSession, phase_of};
+ghost use Rattle.erm_cells.specs.Took.{IsEndStep};
+ghost use Rattle.erm_machine.specs.declared.event.Kind.TheVariants.{Decide};
+ghost use Rattle.erm_ring.specs.Took.{IsFillStep};
+ghost use Rattle.erm_rule.specs.declared.view.Book.{Book};
+ghost use Rattle.erm_rule.specs.Books.{book};
+ghost use Rattle.erm_rule.specs.Went.{Went};
+ghost use Rattle.erm_session.specs.Took.{TookFinish};
 
 use crate::session::{Session, Stage};
 use arrayvec::ArrayVec;
@@ -105,6 +112,7 @@ impl Session {
         ensures stands { IsSession self.new (part_of (view p.new) self.old.seat) }
         ensures finished { Finishes (view p.old) self.old.seat result (view p.new) }
         ensures idle { phase_of self.new.stage ≡ Idle }
+        ensures took { TookFinish L.law self.old.seat (book p.old) (book p.new) }
     {
         let Stage::Sealed(pre) = mem::replace(&mut self.stage, Stage::Idle) else {
             unreachable!()
@@ -126,6 +134,7 @@ impl Session {
         ensures same { self.new ≡ record self.old { block = self.new.block } }
         ensures room { length self.new.block.items ≡ BLOCK_WORDS }
         ensures stored { StoresBlock (view p.old) self.old.seat (view p.new) }
+        ensures took { (filled : Book) × Went L.law self.old.seat IsFillStep (book p.old) filled × (header : ℕ) × (word : ℕ) × Booked L.law filled self.old.seat (Decide pre.now.stamp header) word (book p.new) }
     {
         let rows = self.rows_claimed.as_slice();
         let block = block_of(self.seat, self.run, self.number, pre, rows, commits);
@@ -152,6 +161,7 @@ impl Session {
         ensures no_claimed { self.new.rows_claimed.items ≡ [] }
         ensures room_read { vec_capacity self.new.rows_read ≡ vec_capacity self.old.rows_read }
         ensures room_claimed { vec_capacity self.new.rows_claimed ≡ vec_capacity self.old.rows_claimed }
+        ensures ended { Went L.law self.old.seat IsEndStep (book p.old) (book p.new) }
     {
         self.rows_read.clear();
         self.rows_claimed.clear();

@@ -1,4 +1,4 @@
-//! The calls of a session on the words that threads share: begin, read, claim, write, seal, settle and abort, each whole, over what the
+//! The calls of a session on the words that threads share: begin, read, claim, write, tidy, seal, settle and abort, each whole, over what the
 //! session keeps beside its pass. None of the calls waits, and none takes memory once the session is made.
 #![tactic(auto)]
 
@@ -12,6 +12,7 @@ mod session;
 mod settling;
 #[cfg(test)]
 mod tests;
+mod tidying;
 mod writing;
 
 pub use session::{Session, Stage};

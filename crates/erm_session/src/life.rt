@@ -10,6 +10,10 @@ ghost use Rattle.erm_rule.specs.Views.{view, part_of};
 ghost use Rattle.erm_seats.specs.Calls.{DidBegin, DidStop};
 ghost use Rattle.erm_session.specs.Calls.{IsRefusedPhase, MayNotBegin, is_end};
 ghost use Rattle.erm_session.specs.Session.{IsKept, IsSession, phase_of};
+ghost use Rattle.erm_cells.specs.Took.{IsEndStep};
+ghost use Rattle.erm_rule.specs.Went.{Went};
+ghost use Rattle.erm_seats.specs.Took.{TookBegin};
+ghost use Rattle.erm_session.specs.Took.{stop_of, TookNoBegin};
 
 use crate::session::{Session, Stage};
 use arrayvec::ArrayVec;
@@ -35,6 +39,8 @@ impl Session {
         ensures active { IfOk result (λ begin. phase_of self.new.stage ≡ phase.Active) }
         ensures refused { IfErr result (λ stop. MayNotBegin (view p.old) self.old.seat stop (view p.new)) }
         ensures idle { IfErr result (λ stop. phase_of self.new.stage ≡ phase.Idle) }
+        ensures took { IfOk result (λ begin. TookBegin L.law self.old.seat begin (book p.old) (book p.new)) }
+        ensures took_none { IfErr result (λ stop. TookNoBegin L.law self.old.seat stop (book p.old) (book p.new)) }
     {
         if self.number == LAST_NUMBER {
             return Err(BeginStop::NumbersEnd);
@@ -61,6 +67,7 @@ impl Session {
         ensures stands { IsSession self.new (part_of (view p.new) self.old.seat) }
         ensures aborted { DidAbort (view p.old) self.old.seat (view p.new) }
         ensures idle { phase_of self.new.stage ≡ phase.Idle }
+        ensures ends { Went L.law self.old.seat IsEndStep (book p.old) (book p.new) }
     {
         self.end(t, p);
     }
@@ -76,6 +83,7 @@ impl Session {
         ensures stands { IsSession self.new (part_of (view p.new) self.old.seat) }
         ensures aborted { DidAbort (view p.old) self.old.seat (view p.new) }
         ensures idle { phase_of self.new.stage ≡ phase.Idle }
+        ensures ends { Went L.law self.old.seat IsEndStep (book p.old) (book p.new) }
     {
         let Stage::Active(txn) = mem::replace(&mut self.stage, Stage::Idle) else {
             unreachable!()
@@ -101,6 +109,7 @@ impl Session {
         ensures stays { is_end why ≡ false → view p.new ≡ view p.old }
         ensures same { is_end why ≡ false → book p.new ≡ book p.old }
         ensures phase { IsRefusedPhase why (phase_of self.new.stage) }
+        ensures ends { is_end why ≡ true → Went L.law self.old.seat IsEndStep (book p.old) (book p.new) }
     {
         if is_end(why) {
             self.end(t, p);
@@ -110,7 +119,8 @@ impl Session {
 
 // Why a transaction doesn't begin, as a begin answers it.
 fn begin_stop(stop: answer::BeginStop) -> BeginStop
-    ensures { (v w : View) (who : ℕ) → DidStop v who stop w → MayNotBegin v who result w }
+    ensures refused { (v w : View) (who : ℕ) → DidStop v who stop w → MayNotBegin v who result w }
+    ensures is { result ≡ stop_of stop }
 {
     let answer::BeginStop::LogEnd { tail } = stop;
     BeginStop::LogEnd { tail }

@@ -1,5 +1,5 @@
 //! A session's new objects, and its look at the place flushed.
-ghost use Rattle.std.specs.Prelude.{◌≡◌, ◌<◌, IfErr, IfOk, OnOk};
+ghost use Rattle.std.specs.Prelude.{◌≡◌, ◌<◌, IfErr, IfOk, OnOk, ◌≤◌, ℕ, [], ◌∷◌};
 ghost use Rattle.erm_machine.specs.declared.limits.TheConstants.{OBJECT_LIMIT};
 ghost use Rattle.erm_model.specs.declared.outcome.Phase.TheVariants as phase;
 ghost use Rattle.erm_rule.specs.Books.{HasState, IsAfter, WasFlushed, book};
@@ -8,6 +8,9 @@ ghost use Rattle.erm_rule.specs.Steps.{Fits};
 ghost use Rattle.erm_rule.specs.Views.{view, part_of};
 ghost use Rattle.erm_session.specs.Making.{IsFlushedTo, LooksAtFlushed, MakesObject, RefusesObject, WasObjectCount};
 ghost use Rattle.erm_session.specs.Session.{IsSession, phase_of};
+ghost use Rattle.erm_machine.specs.declared.event.Kind.TheVariants.{LoadFlushed};
+ghost use Rattle.erm_rule.specs.Went.{IsStillStep, Took, Went};
+ghost use Rattle.erm_session.specs.Took.{TookNoObject, TookObject};
 
 use crate::session::Session;
 use erm_cells::{add_counter, load_counter, load_flushed};
@@ -32,6 +35,9 @@ impl Session {
         ensures refused { IfErr result (λ stop. RefusesObject (view p.old) self.old.seat stop (view p.new)) }
         ensures counted { IfErr result (λ stop. WasObjectCount (book p.old) self.old.seat stop (book p.new)) }
         ensures goes { IsAfter (book p.old) (book p.new) × HasState (book p.new) }
+        ensures took { IfOk result (λ oid. TookObject L.law self.old.seat oid (book p.old) (book p.new)) }
+        ensures took_none { IfErr result (λ stop. TookNoObject L.law self.old.seat stop (book p.old) (book p.new)) }
+        ensures still { Went L.law self.old.seat IsStillStep (book p.old) (book p.new) }
     {
         let seen = load_counter(t, p, self.seat, Counter::Objects);
         if seen >= u64::from(OBJECT_LIMIT) {
@@ -60,6 +66,8 @@ impl Session {
         ensures synced { OnOk result (IsFlushedTo receipt.now.end (book p.new)) }
         ensures goes { IsAfter (book p.old) (book p.new) × HasState (book p.new) }
         ensures unsynced { IfErr result (λ stop. WasFlushed (book p.old) stop.flushed (book p.new) × (stop.flushed < receipt.now.end)) }
+        ensures took { OnOk result ((flushed : ℕ) × (receipt.now.end ≤ flushed) × Took L.law self.now.seat ((LoadFlushed, flushed) ∷ []) (book p.old) (book p.new)) }
+        ensures took_none { IfErr result (λ stop. Took L.law self.now.seat ((LoadFlushed, stop.flushed) ∷ []) (book p.old) (book p.new)) }
     {
         let flushed = load_flushed(t, p, self.seat);
         if receipt.end <= flushed {

@@ -10,6 +10,9 @@ ghost use Rattle.erm_rule.specs.Steps.{Fits};
 ghost use Rattle.erm_rule.specs.Views.{view, part_of};
 ghost use Rattle.erm_session.specs.Calls.{IsRefusedPhase, IsUnclaimed, IsUnread, ReadsRow, RefusesRead};
 ghost use Rattle.erm_session.specs.Session.{IsOpen, IsSession, StageIs, phase_of};
+ghost use Rattle.erm_rows.specs.Took.{TookNotRead, TookRead};
+ghost use Rattle.erm_rule.specs.Went.{IsStillStep, Went};
+ghost use Rattle.erm_session.specs.Took.{TookAnyRead, TookReadStop};
 
 use crate::finding::{find_claim, find_read};
 use crate::session::{Session, Stage};
@@ -38,6 +41,9 @@ fn read_first<L: RowLaw>(
     ensures read { IfOk result (λ row. DidRead (view p.old) who oid row (view p.new)) }
     ensures refused { IfErr result (λ stop. DidNotRead (view p.old) who oid stop (view p.new)) }
     ensures met { IfErr result (λ stop. WasOwnerMet (book p.old) stop (book p.new)) }
+    ensures took { IfOk result (λ row. TookRead L.law who oid (book p.old) (book p.new)) }
+    ensures took_none { IfErr result (λ stop. TookNotRead L.law who oid stop (book p.old) (book p.new)) }
+    ensures still { Went L.law who IsStillStep (book p.old) (book p.new) }
 {
     match stage {
         Stage::Active(txn) => erm_rows::read(txn, t, p, who, oid),
@@ -64,6 +70,9 @@ impl Session {
         ensures refused { IfErr result (λ stop. RefusesRead (view p.old) self.old.seat oid stop (view p.new)) }
         ensures phase { IfErr result (λ stop. IsRefusedPhase stop (phase_of self.new.stage)) }
         ensures met { IfErr result (λ stop. WasOwnerMet (book p.old) stop (book p.new)) }
+        ensures took { IfOk result (λ row. TookAnyRead L.law self.old.seat oid (book p.old) (book p.new)) }
+        ensures took_none { IfErr result (λ stop. TookReadStop L.law self.old.seat oid stop (book p.old) (book p.new)) }
+        ensures still { Went L.law self.old.seat IsStillStep (book p.old) (book p.new) }
     {
         let Stage::Active(txn) = &self.stage else {
             unreachable!()

@@ -1,5 +1,5 @@
 //! A session's seal.
-ghost use Rattle.std.specs.Prelude.{◌≡◌, ◌≤◌, length};
+ghost use Rattle.std.specs.Prelude.{◌≡◌, ◌≤◌, length, map};
 ghost use Rattle.erm_machine.specs.declared.limits.TheConstants.{GREATEST_BLOCK, LEAST_BLOCK, WRITE_LIMIT};
 ghost use Rattle.erm_machine.specs.Decided.{record_of};
 ghost use Rattle.erm_model.specs.declared.outcome.Phase.TheVariants.{Active, Sealed};
@@ -10,6 +10,9 @@ ghost use Rattle.erm_rule.specs.Steps.{Fits};
 ghost use Rattle.erm_rule.specs.Views.{view, part_of};
 ghost use Rattle.erm_session.specs.Calls.{SealsRows};
 ghost use Rattle.erm_session.specs.Session.{IsSession, phase_of};
+ghost use Rattle.erm_machine.specs.declared.attempt.Claim.{Claim};
+ghost use Rattle.erm_rule.specs.Books.{book};
+ghost use Rattle.erm_seats.specs.Took.{TookSeal};
 
 use crate::session::{Session, Stage};
 use erm_machine::LEAST_BLOCK;
@@ -46,6 +49,7 @@ impl Session {
         ensures stands { IsSession self.new (part_of (view p.new) self.old.seat) }
         ensures sealed { SealsRows (view p.old) self.old.seat result (view p.new) }
         ensures phase { phase_of self.new.stage ≡ Sealed }
+        ensures took { TookSeal L.law self.old.seat (block_words (map (λ (c : Claim). c.row) (part_of (view p.old) self.old.seat).current.writes)) result (book p.old) (book p.new) }
     {
         let Stage::Active(txn) = mem::replace(&mut self.stage, Stage::Idle) else {
             unreachable!()

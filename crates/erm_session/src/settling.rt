@@ -8,6 +8,9 @@ ghost use Rattle.erm_rule.specs.Steps.{Fits};
 ghost use Rattle.erm_rule.specs.Views.{view, part_of};
 ghost use Rattle.erm_session.specs.Settle.{Settles};
 ghost use Rattle.erm_session.specs.Session.{IsSession, phase_of};
+ghost use Rattle.erm_precommit.specs.Took.{TookWait};
+ghost use Rattle.erm_rule.specs.Went.{IsStillStep, Went};
+ghost use Rattle.erm_session.specs.Took.{TookDecision};
 
 use crate::session::{Session, Stage};
 use erm_model::{Outcome, RowLaw};
@@ -31,6 +34,9 @@ impl Session {
         ensures waits { IfErr result (λ wait. WaitsFor (view p.old) self.old.seat wait (view p.new)) }
         ensures sealed { IfErr result (λ wait. phase_of self.new.stage ≡ Sealed) }
         ensures met { IfErr result (λ wait. WasWait (book p.old) wait (book p.new)) }
+        ensures took { IfOk result (λ outcome. TookDecision L.law self.old.seat outcome (book p.old) (book p.new)) }
+        ensures took_wait { IfErr result (λ wait. TookWait L.law self.old.seat wait (book p.old) (book p.new)) }
+        ensures still { Went L.law self.old.seat IsStillStep (book p.old) (book p.new) }
     {
         let Stage::Sealed(pre) = &mut self.stage else {
             unreachable!()

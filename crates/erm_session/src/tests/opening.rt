@@ -30,6 +30,7 @@ pub(crate) fn opening_on(
     first: Oid,
     given: &[(Oid, Row)],
 ) -> Result<Opening, AllocError>
+    ensures none { IfOk result (λ o. o.sessions ≡ 0) }
     ensures tail { IfOk result (λ o. o.tail ≡ tail) }
     ensures run { IfOk result (λ o. o.run ≡ 1) }
     ensures first { IfOk result (λ o. o.first ≡ first) }
@@ -43,6 +44,7 @@ pub(crate) fn opening_on(
         }
     }
     Ok(Opening {
+        sessions: 0,
         tail,
         run: 1,
         first,
@@ -58,6 +60,7 @@ fn hand_out(
     opening: &Opening,
     given: Seat,
 ) -> Result<Player, AllocError>
+    requires none { opening.now.sessions ≡ 0 }
     requires run { opening.now.run ≤ LAST_RUN }
     requires given { given < SESSIONS }
     requires fits { Fits t.now.words.shared.table_id rest.old }
@@ -76,6 +79,7 @@ fn hand_out(
 
 /// A table of this opening, the pass that is left, and sessions 1, 2 and 3, which have done nothing yet.
 pub(crate) fn open_three(alloc: Global, opening: &Opening) -> Result<Opened, AllocError>
+    requires none { opening.now.sessions ≡ 0 }
     requires positive { 0 < opening.now.tail }
     requires low { opening.now.tail ≤ STOP + 4 }
     requires run { opening.now.run ≤ LAST_RUN }

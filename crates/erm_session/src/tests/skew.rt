@@ -75,6 +75,7 @@ fn skew_race<R: Threads + Sync>(
     alloc: Global,
     opening: &Opening,
 ) -> Result<Option<(Outcome, Outcome)>, AllocError>
+    requires none { opening.now.sessions ≡ 0 }
     requires positive { 0 < opening.now.tail }
     requires low { opening.now.tail ≤ STOP + 4 }
     requires run { opening.now.run ≤ LAST_RUN }

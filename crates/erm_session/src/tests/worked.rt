@@ -26,6 +26,7 @@ fn row_of_byte(byte: u8) -> Option<Row> {
 
 // Object 0 is a leaf with keys 10 and 20, whose records are objects 16 and 17. The log begins at 38.
 fn opening_of_leaf(alloc: Global, first: Row, second: Row) -> Result<Opening, AllocError>
+    ensures none { IfOk result (λ o. o.sessions ≡ 0) }
     ensures tail { IfOk result (λ o. o.tail ≡ 38) }
     ensures run { IfOk result (λ o. o.run ≡ 1) }
     ensures first { IfOk result (λ o. o.first ≡ 18) }

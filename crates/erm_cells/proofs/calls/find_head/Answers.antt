@@ -1,8 +1,10 @@
-use Rattle.std.proofs.Common.{sym, ◌∙◌}
+use Rattle.std.proofs.Common.{sym, ◌∙◌, refl}
 use Rattle.erm_rule.proofs.Courses.{goes_both, goes_step}
 use Rattle.erm_rule.proofs.Telling.{is_held}
 use Rattle.erm_cells.proofs.Heads.{has, ready_entry, did_enter, has_walks, object_in_hand, cell_in_hand, ready_walk, did_walk}
 use Rattle.erm_cells.proofs.calls.find_head.Goals as goal
+use Rattle.erm_rule.specs.Hands.{in_hand}
+use Rattle.erm_rule.specs.Views.{part_of}
 
 pub load_entry-entry-requires-clause-held : goal.load_entry-entry-requires-clause-held
 load_entry-entry-requires-clause-held g c = is_held c.args.p.now.me.0.view c.args.who _ (has c.args.p.now.me.0.view c.args.who c.requires.active)
@@ -37,3 +39,12 @@ returns-then-owner_of-ne0-clause-goes g c = goes_step _ _ _ _ _ _ c.load_entry-e
 pub returns-clause-goes : goal.returns-clause-goes
 returns-clause-goes g c =
     goes_both c.args.p.now.me.0 c.load_entry-entry.new.p.me.0 c.load_walked-stamp.new.p.me.0 (goes_step _ _ _ _ _ _ c.load_entry-entry.ensures.booked) (goes_step _ _ _ _ _ _ c.load_walked-stamp.ensures.booked)
+
+pub returns-then-owner_of-ne0-clause-took : goal.returns-then-owner_of-ne0-clause-took
+returns-then-owner_of-ne0-clause-took g c = (c.args.p.now.me.0, refl, c.load_entry-entry.ensures.booked)
+
+pub returns-clause-took : goal.returns-clause-took
+returns-clause-took g c = (
+  in_hand (part_of c.load_entry-entry.new.p.me.0.view c.args.who).task,
+  (c.load_entry-entry.new.p.me.0, (c.args.p.now.me.0, refl, c.load_entry-entry.ensures.booked), c.load_walked-stamp.ensures.booked),
+)

@@ -1,4 +1,4 @@
-use Rattle.std.proofs.Common.{sym, ◌∙◌, inl, inr}
+use Rattle.std.proofs.Common.{sym, ◌∙◌, inl, inr, refl}
 use Rattle.erm_machine.specs.declared.event.Counter.TheVariants.{Cells}
 use Rattle.erm_machine.specs.declared.event.Kind.TheVariants.{LoadCounter, AddCounter}
 use Rattle.erm_rule.proofs.Courses.{goes_both, goes_step, last_of, seen_nothing, state_of_book}
@@ -51,3 +51,12 @@ returns-clause-last g c = last_of g.L.RowLaw.law c.args.p.now.me.0 c.load_counte
 
 pub returns-clause-goes : goal.returns-clause-goes
 returns-clause-goes g c = goes_both c.args.p.now.me.0 c.load_counter-seen.new.p.me.0 c.add_counter-found.new.p.me.0 (goes_step _ _ _ _ _ _ c.load_counter-seen.ensures.booked) (goes_step _ _ _ _ _ _ c.add_counter-found.ensures.booked)
+
+pub returns-then-not-is_cell-clause-took_none : goal.returns-then-not-is_cell-clause-took_none
+returns-then-not-is_cell-clause-took_none g c = inl (c.args.p.now.me.0, refl, c.load_counter-seen.ensures.booked)
+
+pub returns-then-not-is_cell-2-clause-took_none : goal.returns-then-not-is_cell-2-clause-took_none
+returns-then-not-is_cell-2-clause-took_none g c = inr (c.load_counter-seen.result, (c.load_counter-seen.new.p.me.0, (c.args.p.now.me.0, refl, c.load_counter-seen.ensures.booked), c.add_counter-found.ensures.booked))
+
+pub returns-clause-took : goal.returns-clause-took
+returns-clause-took g c = (c.load_counter-seen.result, (c.load_counter-seen.new.p.me.0, (c.args.p.now.me.0, refl, c.load_counter-seen.ensures.booked), c.add_counter-found.ensures.booked))

@@ -21,3 +21,9 @@ pub returns-clause-linked : goal.returns-clause-linked
 returns-clause-linked g c =
     subst (λ (o : Option ℕ). DidLink c.args.p.now.me.0.view c.args.who o c.load_walked-link.new.p.me.0.view) (cell_is c.load_walked-link.result c.if-link-eq0.false)
     (did_link c.args.p.now.me.0.view c.args.who c.requires.active c.requires.passed c.load_walked-link.result _ c.load_walked-link.ensures.told.told)
+
+pub returns-then-link-eq0-clause-booked : goal.returns-then-link-eq0-clause-booked
+returns-then-link-eq0-clause-booked g c = (c.load_walked-link.result, c.load_walked-link.ensures.booked)
+
+pub returns-clause-booked : goal.returns-clause-booked
+returns-clause-booked g c = (c.load_walked-link.result, c.load_walked-link.ensures.booked)

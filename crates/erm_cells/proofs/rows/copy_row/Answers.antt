@@ -16,3 +16,6 @@ returns-clause-copied g c =
 
 pub returns-clause-row : goal.returns-clause-row
 returns-clause-row g c = c.load_base-row.ensures.loaded.row_is
+
+pub returns-clause-took : goal.returns-clause-took
+returns-clause-took g c = (c.load_base-row.new.p.me.0, c.load_base-row.ensures.loads, c.store_row.ensures.stores)

@@ -5,12 +5,12 @@ use Rattle.erm_cells.specs.Hands.{clear_kind, next_cleared}
 use Rattle.erm_cells.proofs.Walking.{known_object, met_at, number_at}
 use Rattle.erm_cells.proofs.settles.clear_reader.Goals as goal
 
-pub and_as-requires-clause-known : goal.and_as-requires-clause-known
-and_as-requires-clause-known g c = known_object (next_cleared (part_of c.args.p.now.me.0.view c.args.who)).oid c.requires.object
+pub step_as-requires-clause-known : goal.step_as-requires-clause-known
+step_as-requires-clause-known g c = known_object (next_cleared (part_of c.args.p.now.me.0.view c.args.who)).oid c.requires.object
 
-pub and_as-requires-clause-met : goal.and_as-requires-clause-met
-and_as-requires-clause-met g c = met_at (next_cleared (part_of c.args.p.now.me.0.view c.args.who)) word.Readers c.args.cell c.requires.cell
+pub step_as-requires-clause-met : goal.step_as-requires-clause-met
+step_as-requires-clause-met g c = met_at (next_cleared (part_of c.args.p.now.me.0.view c.args.who)) word.Readers c.args.cell c.requires.cell
 
-pub and_as-requires-clause-numbered : goal.and_as-requires-clause-numbered
-and_as-requires-clause-numbered g c =
+pub step_as-requires-clause-numbered : goal.step_as-requires-clause-numbered
+step_as-requires-clause-numbered g c =
     number_at c.args.p.now.me.0.view c.args.who (clear_kind (part_of c.args.p.now.me.0.view c.args.who)) (next_cleared (part_of c.args.p.now.me.0.view c.args.who)) word.Readers c.args.cell c.requires.known c.requires.held tt c.requires.ready refl tt c.requires.cell

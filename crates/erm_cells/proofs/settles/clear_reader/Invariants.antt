@@ -2,5 +2,5 @@ use Rattle.erm_cells.specs.Hands.{clear_kind}
 use Rattle.erm_rule.specs.Views.{part_of}
 use Rattle.erm_cells.proofs.settles.clear_reader.Given as goal
 
-abbrev pub ghosts-and_as : goal.ghosts-and_as
-ghosts-and_as g a = record { seat = a.who; kind = clear_kind (part_of a.p.now.me.0.view a.who) }
+abbrev pub ghosts-step_as : goal.ghosts-step_as
+ghosts-step_as g a = record { seat = a.who; kind = clear_kind (part_of a.p.now.me.0.view a.who) }

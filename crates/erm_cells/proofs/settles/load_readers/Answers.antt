@@ -5,12 +5,12 @@ use Rattle.erm_cells.specs.Hands.{readers_kind, settled_claim}
 use Rattle.erm_cells.proofs.Walking.{known_object, met_at, number_at}
 use Rattle.erm_cells.proofs.settles.load_readers.Goals as goal
 
-pub load_as-requires-clause-known : goal.load_as-requires-clause-known
-load_as-requires-clause-known g c = known_object (settled_claim (part_of c.args.p.now.me.0.view c.args.who)).oid c.requires.object
+pub step_as-requires-clause-known : goal.step_as-requires-clause-known
+step_as-requires-clause-known g c = known_object (settled_claim (part_of c.args.p.now.me.0.view c.args.who)).oid c.requires.object
 
-pub load_as-requires-clause-met : goal.load_as-requires-clause-met
-load_as-requires-clause-met g c = met_at (settled_claim (part_of c.args.p.now.me.0.view c.args.who)) word.Readers c.args.cell c.requires.cell
+pub step_as-requires-clause-met : goal.step_as-requires-clause-met
+step_as-requires-clause-met g c = met_at (settled_claim (part_of c.args.p.now.me.0.view c.args.who)) word.Readers c.args.cell c.requires.cell
 
-pub load_as-requires-clause-numbered : goal.load_as-requires-clause-numbered
-load_as-requires-clause-numbered g c =
+pub step_as-requires-clause-numbered : goal.step_as-requires-clause-numbered
+step_as-requires-clause-numbered g c =
     number_at c.args.p.now.me.0.view c.args.who (readers_kind (part_of c.args.p.now.me.0.view c.args.who)) (settled_claim (part_of c.args.p.now.me.0.view c.args.who)) word.Readers c.args.cell c.requires.known c.requires.held tt c.requires.ready refl tt c.requires.cell

@@ -5,12 +5,12 @@ use Rattle.erm_cells.specs.Hands.{stamp_kind, rated_version}
 use Rattle.erm_cells.proofs.Walking.{known_object, met_at, number_at}
 use Rattle.erm_cells.proofs.settles.load_stamp.Goals as goal
 
-pub load_as-requires-clause-known : goal.load_as-requires-clause-known
-load_as-requires-clause-known g c = known_object (rated_version (part_of c.args.p.now.me.0.view c.args.who)).oid c.requires.object
+pub step_as-requires-clause-known : goal.step_as-requires-clause-known
+step_as-requires-clause-known g c = known_object (rated_version (part_of c.args.p.now.me.0.view c.args.who)).oid c.requires.object
 
-pub load_as-requires-clause-met : goal.load_as-requires-clause-met
-load_as-requires-clause-met g c = met_at (rated_version (part_of c.args.p.now.me.0.view c.args.who)) c.args.word c.args.cell c.requires.cell
+pub step_as-requires-clause-met : goal.step_as-requires-clause-met
+step_as-requires-clause-met g c = met_at (rated_version (part_of c.args.p.now.me.0.view c.args.who)) c.args.word c.args.cell c.requires.cell
 
-pub load_as-requires-clause-numbered : goal.load_as-requires-clause-numbered
-load_as-requires-clause-numbered g c =
+pub step_as-requires-clause-numbered : goal.step_as-requires-clause-numbered
+step_as-requires-clause-numbered g c =
     number_at c.args.p.now.me.0.view c.args.who (stamp_kind (part_of c.args.p.now.me.0.view c.args.who) c.args.word) (rated_version (part_of c.args.p.now.me.0.view c.args.who)) c.args.word c.args.cell c.requires.known c.requires.held tt c.requires.ready refl (has_place c.args.word c.requires.word) c.requires.cell

@@ -1,6 +1,6 @@
-use Rattle.erm_cells.specs.Hands.{mark_kind}
+use Rattle.erm_cells.specs.Hands.{amount, mark_kind}
 use Rattle.erm_rule.specs.Views.{part_of}
 use Rattle.erm_cells.proofs.settles.store_overwriter.Given as goal
 
-abbrev pub ghosts-store_as : goal.ghosts-store_as
-ghosts-store_as g a = record { seat = a.who; kind = mark_kind (part_of a.p.now.me.0.view a.who) a.new }
+abbrev pub ghosts-step_as : goal.ghosts-step_as
+ghosts-step_as g a = record { seat = a.who; kind = mark_kind (part_of a.p.now.me.0.view a.who) (amount a.change) }

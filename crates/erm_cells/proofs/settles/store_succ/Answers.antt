@@ -5,12 +5,12 @@ use Rattle.erm_cells.specs.Hands.{succ_kind, ended_claim}
 use Rattle.erm_cells.proofs.Walking.{known_object, met_at, number_at}
 use Rattle.erm_cells.proofs.settles.store_succ.Goals as goal
 
-pub store_as-requires-clause-known : goal.store_as-requires-clause-known
-store_as-requires-clause-known g c = known_object (ended_claim (part_of c.args.p.now.me.0.view c.args.who)).oid c.requires.object
+pub step_as-requires-clause-known : goal.step_as-requires-clause-known
+step_as-requires-clause-known g c = known_object (ended_claim (part_of c.args.p.now.me.0.view c.args.who)).oid c.requires.object
 
-pub store_as-requires-clause-met : goal.store_as-requires-clause-met
-store_as-requires-clause-met g c = met_at (ended_claim (part_of c.args.p.now.me.0.view c.args.who)) word.OverwriterSucc c.args.cell c.requires.cell
+pub step_as-requires-clause-met : goal.step_as-requires-clause-met
+step_as-requires-clause-met g c = met_at (ended_claim (part_of c.args.p.now.me.0.view c.args.who)) word.OverwriterSucc c.args.cell c.requires.cell
 
-pub store_as-requires-clause-numbered : goal.store_as-requires-clause-numbered
-store_as-requires-clause-numbered g c =
+pub step_as-requires-clause-numbered : goal.step_as-requires-clause-numbered
+step_as-requires-clause-numbered g c =
     number_at c.args.p.now.me.0.view c.args.who (succ_kind (part_of c.args.p.now.me.0.view c.args.who) c.args.value) (ended_claim (part_of c.args.p.now.me.0.view c.args.who)) word.OverwriterSucc c.args.cell c.requires.known c.requires.held tt c.requires.ready refl tt c.requires.cell

@@ -2,5 +2,5 @@ use Rattle.erm_cells.specs.Hands.{copied_kind, row_place_of}
 use Rattle.erm_rule.specs.Views.{part_of}
 use Rattle.erm_cells.proofs.walks.load_copied.Given as goal
 
-abbrev pub ghosts-load_as : goal.ghosts-load_as
-ghosts-load_as g a = record { seat = a.who; kind = copied_kind (part_of a.p.now.me.0.view a.who) (row_place_of a.word) }
+abbrev pub ghosts-step_as : goal.ghosts-step_as
+ghosts-step_as g a = record { seat = a.who; kind = copied_kind (part_of a.p.now.me.0.view a.who) (row_place_of a.word) }

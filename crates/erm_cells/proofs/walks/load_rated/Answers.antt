@@ -5,12 +5,12 @@ use Rattle.erm_rule.specs.Views.{part_of}
 use Rattle.erm_cells.proofs.Walking.{known_object, met_at, number_at}
 use Rattle.erm_cells.proofs.walks.load_rated.Goals as goal
 
-pub load_as-requires-clause-met : goal.load_as-requires-clause-met
-load_as-requires-clause-met g c = met_at (newest_claimed (part_of c.args.p.now.me.0.view c.args.who)) word.ReaderStamp c.args.cell c.requires.cell
+pub step_as-requires-clause-met : goal.step_as-requires-clause-met
+step_as-requires-clause-met g c = met_at (newest_claimed (part_of c.args.p.now.me.0.view c.args.who)) word.ReaderStamp c.args.cell c.requires.cell
 
-pub load_as-requires-clause-numbered : goal.load_as-requires-clause-numbered
-load_as-requires-clause-numbered g c =
+pub step_as-requires-clause-numbered : goal.step_as-requires-clause-numbered
+step_as-requires-clause-numbered g c =
     number_at c.args.p.now.me.0.view c.args.who (rated_kind (part_of c.args.p.now.me.0.view c.args.who)) (newest_claimed (part_of c.args.p.now.me.0.view c.args.who)) word.ReaderStamp c.args.cell c.requires.known c.requires.held tt c.requires.ready refl tt c.requires.cell
 
-pub load_as-requires-clause-known : goal.load_as-requires-clause-known
-load_as-requires-clause-known g c = known_object (newest_claimed (part_of c.args.p.now.me.0.view c.args.who)).oid c.requires.object
+pub step_as-requires-clause-known : goal.step_as-requires-clause-known
+step_as-requires-clause-known g c = known_object (newest_claimed (part_of c.args.p.now.me.0.view c.args.who)).oid c.requires.object

@@ -3,5 +3,5 @@ use Rattle.erm_rule.specs.Hands.{walk_kind}
 use Rattle.erm_rule.specs.Views.{part_of}
 use Rattle.erm_cells.proofs.walks.load_walked.Given as goal
 
-abbrev pub ghosts-load_as : goal.ghosts-load_as
-ghosts-load_as g a = record { seat = a.who; kind = walk_kind (part_of a.p.now.me.0.view a.who) (cell_word_of a.word) }
+abbrev pub ghosts-step_as : goal.ghosts-step_as
+ghosts-step_as g a = record { seat = a.who; kind = walk_kind (part_of a.p.now.me.0.view a.who) (cell_word_of a.word) }

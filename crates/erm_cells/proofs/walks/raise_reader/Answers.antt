@@ -5,12 +5,12 @@ use Rattle.erm_rule.specs.Views.{part_of}
 use Rattle.erm_cells.proofs.Walking.{known_object, met_at, number_at}
 use Rattle.erm_cells.proofs.walks.raise_reader.Goals as goal
 
-pub raise_as-requires-clause-met : goal.raise_as-requires-clause-met
-raise_as-requires-clause-met g c = met_at (next_raised (part_of c.args.p.now.me.0.view c.args.who)) word.ReaderStamp c.args.cell c.requires.cell
+pub step_as-requires-clause-met : goal.step_as-requires-clause-met
+step_as-requires-clause-met g c = met_at (next_raised (part_of c.args.p.now.me.0.view c.args.who)) word.ReaderStamp c.args.cell c.requires.cell
 
-pub raise_as-requires-clause-numbered : goal.raise_as-requires-clause-numbered
-raise_as-requires-clause-numbered g c =
+pub step_as-requires-clause-numbered : goal.step_as-requires-clause-numbered
+step_as-requires-clause-numbered g c =
     number_at c.args.p.now.me.0.view c.args.who (raise_kind (part_of c.args.p.now.me.0.view c.args.who) c.args.value) (next_raised (part_of c.args.p.now.me.0.view c.args.who)) word.ReaderStamp c.args.cell c.requires.known c.requires.held tt c.requires.ready refl tt c.requires.cell
 
-pub raise_as-requires-clause-known : goal.raise_as-requires-clause-known
-raise_as-requires-clause-known g c = known_object (next_raised (part_of c.args.p.now.me.0.view c.args.who)).oid c.requires.object
+pub step_as-requires-clause-known : goal.step_as-requires-clause-known
+step_as-requires-clause-known g c = known_object (next_raised (part_of c.args.p.now.me.0.view c.args.who)).oid c.requires.object

@@ -6,12 +6,12 @@ use Rattle.erm_rule.specs.Views.{part_of}
 use Rattle.erm_cells.proofs.Walking.{known_object, met_at, number_at}
 use Rattle.erm_cells.proofs.walks.set_reader.Goals as goal
 
-pub or_as-requires-clause-met : goal.or_as-requires-clause-met
-or_as-requires-clause-met g c = met_at (in_hand (part_of c.args.p.now.me.0.view c.args.who).task) word.Readers c.args.cell c.requires.cell
+pub step_as-requires-clause-met : goal.step_as-requires-clause-met
+step_as-requires-clause-met g c = met_at (in_hand (part_of c.args.p.now.me.0.view c.args.who).task) word.Readers c.args.cell c.requires.cell
 
-pub or_as-requires-clause-numbered : goal.or_as-requires-clause-numbered
-or_as-requires-clause-numbered g c =
+pub step_as-requires-clause-numbered : goal.step_as-requires-clause-numbered
+step_as-requires-clause-numbered g c =
     number_at c.args.p.now.me.0.view c.args.who (reader_kind (part_of c.args.p.now.me.0.view c.args.who)) (in_hand (part_of c.args.p.now.me.0.view c.args.who).task) word.Readers c.args.cell c.requires.known c.requires.held tt c.requires.ready refl tt c.requires.cell
 
-pub or_as-requires-clause-known : goal.or_as-requires-clause-known
-or_as-requires-clause-known g c = known_object (in_hand (part_of c.args.p.now.me.0.view c.args.who).task).oid c.requires.object
+pub step_as-requires-clause-known : goal.step_as-requires-clause-known
+step_as-requires-clause-known g c = known_object (in_hand (part_of c.args.p.now.me.0.view c.args.who).task).oid c.requires.object

@@ -2,5 +2,5 @@ use Rattle.erm_cells.specs.Hands.{swap_kind}
 use Rattle.erm_rule.specs.Views.{part_of}
 use Rattle.erm_cells.proofs.walks.swap_link.Given as goal
 
-abbrev pub ghosts-swap_as : goal.ghosts-swap_as
-ghosts-swap_as g a = record { seat = a.who; kind = swap_kind (part_of a.p.now.me.0.view a.who) }
+abbrev pub ghosts-step_as : goal.ghosts-step_as
+ghosts-step_as g a = record { seat = a.who; kind = swap_kind (part_of a.p.now.me.0.view a.who) }

@@ -1,3 +1,4 @@
+use Rattle.std.proofs.Common.{inl, inr}
 use Rattle.erm_rule.proofs.Courses.{goes_both}
 use Rattle.erm_cut.proofs.Cutting.{active_found, at_found, spare_found, did_cut, cut_none, spare_none}
 use Rattle.erm_cut.proofs.detaching.cut.Goals as goal
@@ -30,3 +31,9 @@ returns-in-None-clause-spare g c = spare_none c.args.p.now.me.0.view c.args.who 
 
 pub returns-in-Some-clause-goes : goal.returns-in-Some-clause-goes
 returns-in-Some-clause-goes g c = goes_both c.args.p.now.me.0 c.find_cut.new.p.me.0 c.detach.new.p.me.0 c.find_cut.ensures.goes c.detach.ensures.goes
+
+pub returns-in-Some-clause-took : goal.returns-in-Some-clause-took
+returns-in-Some-clause-took g c = inr (c.find_cut.new.p.me.0, c.find_cut.ensures.loads, c.detach.ensures.took)
+
+pub returns-in-None-clause-took : goal.returns-in-None-clause-took
+returns-in-None-clause-took g c = inl c.find_cut.ensures.loads

@@ -4,6 +4,7 @@ use Rattle.erm_rule.proofs.Telling.{is_held}
 use Rattle.erm_cut.specs.Calls.{HasLoaded}
 use Rattle.erm_cut.proofs.Loads.{seat_here, ready_tail, tail_loaded, has_looking, ready_begin, begin_loaded}
 use Rattle.erm_cut.proofs.horizons.horizon.Goals as goal
+use Rattle.erm_cut.proofs.Took.{horizon_goes_on, horizon_starts}
 
 pub load_tail-least-requires-clause-ready : goal.load_tail-least-requires-clause-ready
 load_tail-least-requires-clause-ready g c = ready_tail c.args.p.now.me.0.view c.args.who c.requires.active c.requires.claimed
@@ -13,6 +14,7 @@ loop-seat-init g c = record {
   fits = c.load_tail-least.ensures.fits;
   loaded = tail_loaded c.args.p.now.me.0.view c.args.who c.requires.active c.requires.claimed c.load_tail-least.result _ c.load_tail-least.ensures.told.told;
   goes = goes_step _ _ _ _ _ _ c.load_tail-least.ensures.booked;
+  took = horizon_starts g.L.RowLaw.law c.args.who c.load_tail-least.result c.args.p.now.me.0 c.load_tail-least.new.p.me.0 c.load_tail-least.ensures.booked;
 }
 
 pub load_begin-requires-clause-held : goal.load_begin-requires-clause-held
@@ -34,4 +36,7 @@ loop-seat-preserved g c = record {
       subst (λ (n : ℕ). HasLoaded c.args.p.now.me.0.view c.args.who (c.loop-seat.seat + 1) n c.load_begin.new.p.me.0.view) (sym c.lower-least.ensures)
       (begin_loaded c.args.p.now.me.0.view c.args.who c.requires.active c.requires.claimed c.loop-seat.seat c.loop-seat.least c.loop-seat.p.me.0.view c.loop-seat.invariant.loaded c.loop-seat-test.true c.load_begin.result c.load_begin.new.p.me.0.view c.load_begin.ensures.told.told);
   goes = goes_both c.args.p.now.me.0 c.loop-seat.p.me.0 c.load_begin.new.p.me.0 c.loop-seat.invariant.goes (goes_step _ _ _ _ _ _ c.load_begin.ensures.booked);
+  took =
+      horizon_goes_on g.L.RowLaw.law c.args.who c.loop-seat.seat c.loop-seat.least c.load_begin.result c.lower-least.result c.args.p.now.me.0 c.loop-seat.p.me.0 c.load_begin.new.p.me.0
+      c.loop-seat.invariant.took c.load_begin.ensures.booked c.lower-least.ensures;
 }

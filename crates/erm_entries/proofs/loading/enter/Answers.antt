@@ -1,4 +1,4 @@
-use Rattle.std.proofs.Common.{ap, ◌∙◌}
+use Rattle.std.proofs.Common.{ap, ◌∙◌, refl, sym, inl, inr}
 use Rattle.erm_rule.proofs.Courses.{seen_after}
 use Rattle.erm_entries.specs.declared.entries.Entry.{Entry}
 use Rattle.erm_entries.specs.Spelling.{word_of}
@@ -64,3 +64,24 @@ returns-in-NotYet-clause-waits g c =
 
 pub returns-in-NotYet-clause-met : goal.returns-in-NotYet-clause-met
 returns-in-NotYet-clause-met g c = seen_after c.args.p.now.me.0 _ _ _ c.load-first.ensures.goes c.in-NotYet.ensures.met
+
+pub returns-then-first-eq0-clause-took : goal.returns-then-first-eq0-clause-took
+returns-then-first-eq0-clause-took g c = inl (ap (λ (e : Entry). e.owner) c.load-first.ensures.spelled ∙ c.if-first-eq0.true, (c.args.p.now.me.0, refl, c.load-first.ensures.booked))
+
+pub returns-in-Clear-clause-took : goal.returns-in-Clear-clause-took
+returns-in-Clear-clause-took g c = inr (record {
+  first = word_of c.load-first.result;
+  owner = c.load-first.result.owner;
+  state = c.in-Clear.ensures.took.0;
+  owner_is = ap (λ (e : Entry). e.owner) c.load-first.ensures.spelled;
+  clear = c.in-Clear.ensures.took.1;
+  took = (c.look-found.new.p.me.0, (c.load-first.new.p.me.0, (c.args.p.now.me.0, refl, c.load-first.ensures.booked), c.in-Clear.ensures.took.2), c.load.ensures.booked);
+})
+
+pub returns-in-NotYet-clause-took_wait : goal.returns-in-NotYet-clause-took_wait
+returns-in-NotYet-clause-took_wait g c = record {
+  entry = word_of c.load-first.result;
+  owner_is = ap (λ (e : Entry). e.owner) c.load-first.ensures.spelled ∙ sym c.in-NotYet.ensures.took.0;
+  unclear = c.in-NotYet.ensures.took.1;
+  took = (c.load-first.new.p.me.0, (c.args.p.now.me.0, refl, c.load-first.ensures.booked), c.in-NotYet.ensures.took.2);
+}

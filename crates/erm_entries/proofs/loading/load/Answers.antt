@@ -7,6 +7,8 @@ use Rattle.erm_entries.specs.Calls.{DidReload}
 use Rattle.erm_entries.proofs.Loads.{ready_load, did_load, did_reload}
 use Rattle.erm_entries.proofs.Spelled.{entry_again}
 use Rattle.erm_entries.proofs.loading.load.Goals as goal
+use Rattle.erm_machine.specs.declared.event.Kind.TheVariants.{LoadEntry}
+use Rattle.erm_rule.specs.Steps.{Booked}
 
 pub load_entry-word-requires-clause-held : goal.load_entry-word-requires-clause-held
 load_entry-word-requires-clause-held g c = is_held c.args.p.now.me.0.view c.args.who _ (has c.args.p.now.me.0.view c.args.who c.requires.active)
@@ -29,3 +31,7 @@ returns-clause-reloaded g c cleared =
 
 pub returns-clause-goes : goal.returns-clause-goes
 returns-clause-goes g c = goes_step _ c.args.p.now.me.0 _ _ _ _ c.load_entry-word.ensures.booked
+
+pub returns-clause-booked : goal.returns-clause-booked
+returns-clause-booked g c =
+    subst (λ (n : ℕ). Booked g.L.RowLaw.law c.args.p.now.me.0 c.args.who (LoadEntry c.args.oid) n c.load_entry-word.new.p.me.0) (sym c.of.ensures.spelled) c.load_entry-word.ensures.booked

@@ -3,6 +3,7 @@ use Rattle.erm_precommit.proofs.Choices.{some_then, none_then}
 use Rattle.erm_precommit.proofs.Read.{head_object, head_ready, head_went, head_stands, head_owned, head_owner, head_clear}
 use Rattle.erm_precommit.proofs.Standing.{held}
 use Rattle.erm_precommit.proofs.reads.load_head.Goals as goal
+use Rattle.erm_rule.proofs.Wents.{went_one}
 
 pub load_entry-entry-requires-clause-held : goal.load_entry-entry-requires-clause-held
 load_entry-entry-requires-clause-held g c = held c.args.p.now.me.0.view c.args.who c.requires.stands.sealed
@@ -40,3 +41,6 @@ returns-clause-clear g c =
 
 pub returns-clause-goes : goal.returns-clause-goes
 returns-clause-goes g c = goes_step _ c.args.p.now.me.0 _ _ _ _ c.load_entry-entry.ensures.booked
+
+pub returns-clause-loads : goal.returns-clause-loads
+returns-clause-loads g c = went_one _ _ _ _ _ _ _ tt c.load_entry-entry.ensures.booked

@@ -3,6 +3,7 @@ use Rattle.erm_rule.proofs.Courses.{goes_step}
 use Rattle.erm_precommit.proofs.Read.{clear_object, clear_cell, clear_ready, clear_went, clear_stands, clear_counts, clear_passed}
 use Rattle.erm_precommit.proofs.Standing.{held}
 use Rattle.erm_precommit.proofs.reads.load_overwriter.Goals as goal
+use Rattle.erm_rule.proofs.Wents.{went_one}
 
 pub load_stamp-overwriter-requires-clause-held : goal.load_stamp-overwriter-requires-clause-held
 load_stamp-overwriter-requires-clause-held g c = held c.args.p.now.me.0.view c.args.who c.requires.stands.sealed
@@ -37,3 +38,6 @@ returns-clause-none g c e =
 
 pub returns-clause-goes : goal.returns-clause-goes
 returns-clause-goes g c = goes_step _ c.args.p.now.me.0 _ _ _ _ c.load_stamp-overwriter.ensures.booked
+
+pub returns-clause-loads : goal.returns-clause-loads
+returns-clause-loads g c = went_one _ _ _ _ _ _ _ tt c.load_stamp-overwriter.ensures.booked

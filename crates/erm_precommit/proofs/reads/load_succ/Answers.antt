@@ -2,6 +2,7 @@ use Rattle.erm_rule.proofs.Courses.{goes_step}
 use Rattle.erm_precommit.proofs.Read.{succ_object, succ_cell, succ_ready, succ_went, succ_stands, succ_passed}
 use Rattle.erm_precommit.proofs.Standing.{held}
 use Rattle.erm_precommit.proofs.reads.load_succ.Goals as goal
+use Rattle.erm_rule.proofs.Wents.{went_one}
 
 pub load_stamp-succ-requires-clause-held : goal.load_stamp-succ-requires-clause-held
 load_stamp-succ-requires-clause-held g c = held c.args.p.now.me.0.view c.args.who c.requires.stands.sealed
@@ -33,3 +34,6 @@ returns-clause-passed g c =
 
 pub returns-clause-goes : goal.returns-clause-goes
 returns-clause-goes g c = goes_step _ c.args.p.now.me.0 _ _ _ _ c.load_stamp-succ.ensures.booked
+
+pub returns-clause-loads : goal.returns-clause-loads
+returns-clause-loads g c = went_one _ _ _ _ _ _ _ tt c.load_stamp-succ.ensures.booked

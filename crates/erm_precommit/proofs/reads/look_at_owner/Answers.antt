@@ -1,6 +1,11 @@
-use Rattle.std.proofs.Common.{refl}
+use Rattle.std.proofs.Common.{refl, subst, sym}
 use Rattle.erm_precommit.proofs.Looks.{look_taken, look_bound, look_went, look_comes, look_stands, wait_went, wait_stands, wait_stops, owner_other, owner_next}
 use Rattle.erm_precommit.proofs.reads.look_at_owner.Goals as goal
+use Rattle.erm_precommit.proofs.Took.{stopped}
+use Rattle.erm_seats.proofs.Took.{look_loads}
+use Rattle.erm_seats.specs.declared.answer.Look.TheVariants.{Clear, NotYet}
+use Rattle.erm_machine.specs.declared.task.Task.{Task}
+use Rattle.erm_precommit.specs.Took.{LooksAt}
 
 pub look-requires-clause-taken : goal.look-requires-clause-taken
 look-requires-clause-taken g c = look_taken c.args.pre.now c.args.p.now.me.0.view c.args.who c.requires.stands
@@ -36,3 +41,14 @@ pub returns-in-NotYet-clause-stops : goal.returns-in-NotYet-clause-stops
 returns-in-NotYet-clause-stops g c =
     wait_stops c.args.pre.now c.args.p.now.me.0.view c.args.who c.requires.stands c.args.owner c.in-NotYet.seat c.in-NotYet.seen _ c.in-NotYet.ensures.looked
     (owner_other c.args.pre.now c.args.p.now.me.0.view c.args.who c.requires.stands c.args.place c.args.owner c.requires.task).another
+
+pub returns-in-Clear-clause-loads : goal.returns-in-Clear-clause-loads
+returns-in-Clear-clause-loads g c = look_loads g.L.RowLaw.law c.args.who c.args.owner c.args.pre.now.stamp Clear c.args.p.now.me.0 c.look.new.p.me.0 c.in-Clear.ensures.took
+
+pub returns-in-NotYet-clause-loads : goal.returns-in-NotYet-clause-loads
+returns-in-NotYet-clause-loads g c = look_loads g.L.RowLaw.law c.args.who c.args.owner c.args.pre.now.stamp (NotYet c.in-NotYet.seat c.in-NotYet.seen) c.args.p.now.me.0 c.look.new.p.me.0 c.in-NotYet.ensures.took
+
+pub returns-in-NotYet-clause-took_wait : goal.returns-in-NotYet-clause-took_wait
+returns-in-NotYet-clause-took_wait g c =
+    stopped g.L.RowLaw.law c.args.pre.now c.args.who c.in-NotYet.seat c.in-NotYet.seen c.args.p.now.me.0 c.look.new.p.me.0 c.requires.stands
+    (subst (λ (t : Task). LooksAt t c.in-NotYet.seat) (sym c.requires.task) c.in-NotYet.ensures.took.0) c.in-NotYet.ensures.took.1 c.in-NotYet.ensures.took.2

@@ -3,6 +3,8 @@ use Rattle.erm_rule.proofs.Courses.{goes_both, seen_after}
 use Rattle.erm_precommit.proofs.Causes.{stopped_by_owner}
 use Rattle.erm_precommit.proofs.Standing.{then_on}
 use Rattle.erm_precommit.proofs.reads.pass_owner.Goals as goal
+use Rattle.erm_rule.proofs.Wents.{went_more}
+use Rattle.erm_precommit.proofs.Took.{wait_after}
 
 pub returns-in-Some-clause-went : goal.returns-in-Some-clause-went
 returns-in-Some-clause-went g c = then_on c.args.p.now.me.0.view c.args.who c.requires.stands.sealed _ _ c.load_head.ensures.went c.look_at_owner.ensures.went
@@ -18,3 +20,9 @@ returns-in-Some-clause-goes g c = goes_both c.args.p.now.me.0 _ _ c.load_head.en
 
 pub returns-in-Some-clause-met : goal.returns-in-Some-clause-met
 returns-in-Some-clause-met g c = IfErr-weaker c.look_at_owner.result _ _ (λ wait met. seen_after c.args.p.now.me.0 _ _ _ c.load_head.ensures.goes met) c.look_at_owner.ensures.met
+
+pub returns-in-Some-clause-loads : goal.returns-in-Some-clause-loads
+returns-in-Some-clause-loads g c = went_more _ _ _ _ _ _ c.load_head.ensures.loads c.look_at_owner.ensures.loads
+
+pub returns-in-Some-clause-took_wait : goal.returns-in-Some-clause-took_wait
+returns-in-Some-clause-took_wait g c = IfErr-weaker c.look_at_owner.result _ _ (λ wait took. wait_after _ _ _ _ _ _ _ c.load_head.ensures.loads took) c.look_at_owner.ensures.took_wait

@@ -1,6 +1,7 @@
 use Rattle.erm_rule.proofs.Courses.{goes_both}
 use Rattle.erm_precommit.proofs.Standing.{then_on}
 use Rattle.erm_precommit.proofs.reads.rate_read.Goals as goal
+use Rattle.erm_rule.proofs.Wents.{went_more}
 
 pub returns-then-load_overwriter-clause-went : goal.returns-then-load_overwriter-clause-went
 returns-then-load_overwriter-clause-went g c = then_on c.args.p.now.me.0.view c.args.who c.requires.stands.sealed _ _ c.load_overwriter.ensures.went c.load_succ.ensures.went
@@ -10,3 +11,6 @@ returns-else-load_overwriter-clause-passed g c = c.load_overwriter.ensures.none 
 
 pub returns-then-load_overwriter-clause-goes : goal.returns-then-load_overwriter-clause-goes
 returns-then-load_overwriter-clause-goes g c = goes_both c.args.p.now.me.0 _ _ c.load_overwriter.ensures.goes c.load_succ.ensures.goes
+
+pub returns-then-load_overwriter-clause-loads : goal.returns-then-load_overwriter-clause-loads
+returns-then-load_overwriter-clause-loads g c = went_more _ _ _ _ _ _ c.load_overwriter.ensures.loads c.load_succ.ensures.loads

@@ -3,6 +3,7 @@ use Rattle.erm_precommit.proofs.Causes.{waits_since}
 use Rattle.erm_precommit.proofs.Standing.{then_on}
 use Rattle.erm_precommit.proofs.Windows.{is_ready}
 use Rattle.erm_precommit.proofs.settling.settle.Goals as goal
+use Rattle.erm_rule.proofs.Wents.{went_more}
 
 pub returns-in-Ok-clause-went : goal.returns-in-Ok-clause-went
 returns-in-Ok-clause-went g c = then_on c.args.p.now.me.0.view c.args.who c.requires.sealed _ _ c.start.ensures.went c.pass_all.ensures.went
@@ -24,3 +25,9 @@ returns-in-Err-pass_all-clause-goes g c = goes_both c.args.p.now.me.0 _ _ c.star
 
 pub returns-in-Err-pass_all-clause-met : goal.returns-in-Err-pass_all-clause-met
 returns-in-Err-pass_all-clause-met g c = seen_after c.args.p.now.me.0 _ _ _ c.start.ensures.goes c.in-Err-pass_all.ensures.met
+
+pub returns-in-Ok-clause-took : goal.returns-in-Ok-clause-took
+returns-in-Ok-clause-took g c = went_more _ _ _ _ _ _ c.start.ensures.loads c.pass_all.ensures.loads
+
+pub returns-in-Err-pass_all-clause-took : goal.returns-in-Err-pass_all-clause-took
+returns-in-Err-pass_all-clause-took g c = record { first = c.start.new.p.me.0; start = c.in_default.ensures.took; waits = c.in-Err-pass_all.ensures.took_wait }

@@ -2,6 +2,7 @@ use Rattle.erm_rule.proofs.Courses.{goes_step}
 use Rattle.erm_precommit.proofs.Overwritten.{readers_object, readers_cell, readers_ready, readers_went, readers_stands, readers_left, readers_are}
 use Rattle.erm_precommit.proofs.Standing.{held, seat_fits}
 use Rattle.erm_precommit.proofs.writes.load_others.Goals as goal
+use Rattle.erm_rule.proofs.Wents.{went_one}
 
 pub load_readers-readers-requires-clause-held : goal.load_readers-readers-requires-clause-held
 load_readers-readers-requires-clause-held g c = held c.args.p.now.me.0.view c.args.who c.requires.stands.sealed
@@ -44,3 +45,6 @@ returns-clause-readers g c =
 
 pub returns-clause-goes : goal.returns-clause-goes
 returns-clause-goes g c = goes_step _ c.args.p.now.me.0 _ _ _ _ c.load_readers-readers.ensures.booked
+
+pub returns-clause-loads : goal.returns-clause-loads
+returns-clause-loads g c = went_one _ _ _ _ _ _ _ tt c.load_readers-readers.ensures.booked

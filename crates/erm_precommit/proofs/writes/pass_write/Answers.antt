@@ -2,6 +2,7 @@ use Rattle.std.proofs.lemmas.Result.{err_from_is_err_and}
 use Rattle.erm_rule.proofs.Courses.{goes_both}
 use Rattle.erm_precommit.proofs.Standing.{then_on}
 use Rattle.erm_precommit.proofs.writes.pass_write.Goals as goal
+use Rattle.erm_rule.proofs.Wents.{went_more}
 
 pub returns-in_err-pass_readers-clause-waits : goal.returns-in_err-pass_readers-clause-waits
 returns-in_err-pass_readers-clause-waits g c = let p = err_from_is_err_and c.from_residual.result c.from_residual.ensures.1 in rw (p.1, p.2) c.in_err-pass_readers.ensures.waits
@@ -13,3 +14,6 @@ returns-clause-went g c =
 
 pub returns-clause-goes : goal.returns-clause-goes
 returns-clause-goes g c = goes_both c.args.p.now.me.0 _ _ c.pass_readers.ensures.goes (goes_both _ _ _ c.rate_creator.ensures.goes c.rate_readers.ensures.goes)
+
+pub returns-clause-loads : goal.returns-clause-loads
+returns-clause-loads g c = went_more _ _ _ _ _ _ c.pass_readers.ensures.loads (went_more _ _ _ _ _ _ c.rate_creator.ensures.loads c.rate_readers.ensures.loads)

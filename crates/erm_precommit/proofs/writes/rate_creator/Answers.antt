@@ -2,6 +2,7 @@ use Rattle.erm_rule.proofs.Courses.{goes_step}
 use Rattle.erm_precommit.proofs.Overwritten.{creator_object, creator_cell, creator_ready, creator_went, creator_stands, creator_made}
 use Rattle.erm_precommit.proofs.Standing.{held}
 use Rattle.erm_precommit.proofs.writes.rate_creator.Goals as goal
+use Rattle.erm_rule.proofs.Wents.{went_one}
 
 pub load_stamp-creator-requires-clause-held : goal.load_stamp-creator-requires-clause-held
 load_stamp-creator-requires-clause-held g c = held c.args.p.now.me.0.view c.args.who c.requires.stands.sealed
@@ -29,3 +30,6 @@ returns-clause-made g c = creator_made c.args.pre.now c.args.p.now.me.0.view c.a
 
 pub returns-clause-goes : goal.returns-clause-goes
 returns-clause-goes g c = goes_step _ c.args.p.now.me.0 _ _ _ _ c.load_stamp-creator.ensures.booked
+
+pub returns-clause-loads : goal.returns-clause-loads
+returns-clause-loads g c = went_one _ _ _ _ _ _ _ tt c.load_stamp-creator.ensures.booked

@@ -2,6 +2,7 @@ use Rattle.erm_rule.proofs.Courses.{goes_step}
 use Rattle.erm_precommit.proofs.Overwritten.{made_object, made_cell, made_ready, made_went, made_stands, made_passed}
 use Rattle.erm_precommit.proofs.Standing.{held}
 use Rattle.erm_precommit.proofs.writes.rate_readers.Goals as goal
+use Rattle.erm_rule.proofs.Wents.{went_one}
 
 pub load_stamp-reader-requires-clause-held : goal.load_stamp-reader-requires-clause-held
 load_stamp-reader-requires-clause-held g c = held c.args.p.now.me.0.view c.args.who c.requires.stands.sealed
@@ -29,3 +30,6 @@ returns-clause-passed g c = made_passed c.args.pre.now c.args.p.now.me.0.view c.
 
 pub returns-clause-goes : goal.returns-clause-goes
 returns-clause-goes g c = goes_step _ c.args.p.now.me.0 _ _ _ _ c.load_stamp-reader.ensures.booked
+
+pub returns-clause-loads : goal.returns-clause-loads
+returns-clause-loads g c = went_one _ _ _ _ _ _ _ tt c.load_stamp-reader.ensures.booked

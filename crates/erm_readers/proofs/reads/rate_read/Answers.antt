@@ -2,6 +2,7 @@ use Rattle.erm_rule.proofs.Telling.{is_held}
 use Rattle.erm_cells.proofs.Heads.{has}
 use Rattle.erm_readers.proofs.Rating.{cell_of_overtaken, cell_of_rated, did_rate, did_rate_none, has_overtaken, known_overtaken, object_of_overtaken, object_of_rated, ready_mark, ready_succ}
 use Rattle.erm_readers.proofs.reads.rate_read.Goals as goal
+use Rattle.erm_rule.proofs.Wents.{went_one, went_step}
 
 pub load_stamp-overwriter-requires-clause-held : goal.load_stamp-overwriter-requires-clause-held
 load_stamp-overwriter-requires-clause-held g c = is_held c.args.p.now.me.0.view c.args.who _ (has c.args.p.now.me.0.view c.args.who c.requires.active)
@@ -35,3 +36,9 @@ load_stamp-succ-requires-clause-ready g c = ready_succ c.args.p.now.me.0.view c.
 
 pub returns-clause-rated : goal.returns-clause-rated
 returns-clause-rated g c = did_rate c.args.p.now.me.0.view c.args.who c.args.cell c.requires.active c.requires.registered c.requires.known c.load_stamp-overwriter.result _ c.load_stamp-overwriter.ensures.told.told c.if-overwriter-eq0.false c.load_stamp-succ.result _ c.load_stamp-succ.ensures.told.told
+
+pub returns-then-overwriter-eq0-clause-loads : goal.returns-then-overwriter-eq0-clause-loads
+returns-then-overwriter-eq0-clause-loads g c = went_one _ _ _ _ _ _ _ tt c.load_stamp-overwriter.ensures.booked
+
+pub returns-clause-loads : goal.returns-clause-loads
+returns-clause-loads g c = went_step _ _ _ _ _ _ _ _ (went_one _ _ _ _ _ _ _ tt c.load_stamp-overwriter.ensures.booked) tt c.load_stamp-succ.ensures.booked

@@ -13,3 +13,6 @@ load_readers-bits-requires-clause-ready g c = ready_readers c.args.p.now.me.0.vi
 
 pub returns-clause-loaded : goal.returns-clause-loaded
 returns-clause-loaded g c = did_load_readers c.args.p.now.me.0.view c.args.who c.requires.known c.requires.sealed c.requires.at c.load_readers-bits.result c.without_bit.result _ c.without_bit.ensures c.load_readers-bits.ensures.told.told
+
+pub returns-clause-booked : goal.returns-clause-booked
+returns-clause-booked g c = (c.load_readers-bits.result, c.without_bit.ensures, c.load_readers-bits.ensures.booked)

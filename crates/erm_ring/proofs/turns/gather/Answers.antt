@@ -1,6 +1,7 @@
 use Rattle.std.proofs.Common.{◌∙◌, arith, length-set}
 use Rattle.erm_ring.proofs.Gathering.{at_low, gather_full, gather_stops, flushed_held, flushed_ready, gather_goes_on, gather_starts, has, loop_held, tail_ready, word_ready}
 use Rattle.erm_ring.proofs.turns.gather.Goals as goal
+use Rattle.erm_rule.proofs.Wents.{went_more, went_one, went_step}
 
 pub load_tail-tail-requires-clause-ready : goal.load_tail-tail-requires-clause-ready
 load_tail-tail-requires-clause-ready g c = tail_ready c.args.p.now.me.0.view c.requires.may
@@ -16,6 +17,7 @@ loop-count-init g c = (
   c.load_flushed-from.ensures.fits,
   c.requires.room,
   gather_starts c.args.p.now.me.0 c.requires.may g.L.RowLaw.law c.load_tail-tail.result c.load_flushed-from.result c.load_tail-tail.new.p.me.0 c.load_flushed-from.new.p.me.0 c.load_tail-tail.ensures.booked c.load_flushed-from.ensures.booked c.args.words.now,
+  went_step _ _ _ _ _ _ _ _ (went_one _ _ _ _ _ _ _ tt c.load_tail-tail.ensures.booked) tt c.load_flushed-from.ensures.booked,
 )
 
 pub next_word-requires-clause-fits : goal.next_word-requires-clause-fits
@@ -50,6 +52,7 @@ loop-count-preserved g c =
       length-set c.loop-count.words c.loop-count.count c.in-Some.word ∙ c.loop-count.invariant.1,
       gather_goes_on c.args.p.now.me.0 (has c.args.p.now.me.0 c.requires.may) c.load_tail-tail.result c.load_flushed-from.result c.loop-count.count c.loop-count.end c.loop-count.words c.loop-count.p.me.0 c.loop-count.invariant.2
           g.L.RowLaw.law c.in-Some.word c.in-Some.to c.next_word.new.p.me.0 next.0 next.1 (omega (arith, less, room, own)) (omega (arith, less, room)) next.2,
+      went_more _ _ _ _ _ _ c.loop-count.invariant.3 c.next_word.ensures.loads,
     )
 
 pub returns-clause-fits : goal.returns-clause-fits
@@ -60,3 +63,9 @@ returns-clause-gathers g c =
     gather_full c.args.p.now.me.0 (has c.args.p.now.me.0 c.requires.may) c.load_tail-tail.result c.load_flushed-from.result c.loop-count.count c.loop-count.end c.loop-count.words c.loop-count.p.me.0 c.loop-count.invariant.2
     (let less = c.loop-count-test.false in let most = c.loop-count.auto.count-end in let room = c.requires.room in omega (arith, less, most, room)) c.loop-count.invariant.1
     c.gathered-2.result c.gathered-2.ensures.words c.gathered-2.ensures.empty c.gathered-2.ensures.unfilled
+
+pub returns-in_default-clause-loads : goal.returns-in_default-clause-loads
+returns-in_default-clause-loads g c = went_more _ _ _ _ _ _ c.loop-count.invariant.3 c.next_word.ensures.loads
+
+pub returns-clause-loads : goal.returns-clause-loads
+returns-clause-loads g c = c.loop-count.invariant.3

@@ -3,6 +3,7 @@ use Rattle.erm_machine.specs.declared.event.Kind.TheVariants.{LoadRing}
 use Rattle.erm_machine.specs.declared.limits.TheConstants.{FLUSH_SEAT}
 use Rattle.erm_rule.specs.Steps.{Booked}
 use Rattle.erm_ring.proofs.turns.next_word.Goals as goal
+use Rattle.erm_rule.proofs.Wents.{went_one}
 
 pub returns-then-word-eq0-clause-none : goal.returns-then-word-eq0-clause-none
 returns-then-word-eq0-clause-none g c none =
@@ -11,3 +12,12 @@ returns-then-word-eq0-clause-none g c none =
     ⊎_elim (λ (t : (c.args.end ≤ c.args.at) × (c.args.at < c.args.tail)). t.1) (λ (t : c.args.at < c.args.end). absurd (omega (arith, t, outside))) c.else-end-at.either
     in
     (outside, inr (below, subst (λ (n : ℕ). Booked g.L.RowLaw.law c.args.p.now.me.0 FLUSH_SEAT (LoadRing c.args.at) n c.load_ring-word.new.p.me.0) c.if-word-eq0.true c.load_ring-word.ensures.booked))
+
+pub returns-then-at-end-clause-loads : goal.returns-then-at-end-clause-loads
+returns-then-at-end-clause-loads g c = went_one _ _ _ _ _ _ _ tt c.load_ring-word.ensures.booked
+
+pub returns-then-word-eq0-clause-loads : goal.returns-then-word-eq0-clause-loads
+returns-then-word-eq0-clause-loads g c = went_one _ _ _ _ _ _ _ tt c.load_ring-word.ensures.booked
+
+pub returns-clause-loads : goal.returns-clause-loads
+returns-clause-loads g c = went_one _ _ _ _ _ _ _ tt c.load_ring-word.ensures.booked

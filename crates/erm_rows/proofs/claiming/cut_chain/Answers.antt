@@ -19,3 +19,6 @@ returns-clause-cut g c = did_cut_chain c.args.p.now.me.0.view c.args.who c.args.
 
 pub returns-clause-goes : goal.returns-clause-goes
 returns-clause-goes g c = goes_both c.args.p.now.me.0 c.horizon-bound.new.p.me.0 c.cut.new.p.me.0 c.horizon-bound.ensures.goes c.cut.ensures.goes
+
+pub returns-clause-took : goal.returns-clause-took
+returns-clause-took g c = record { horizon = c.horizon-bound.result; at = c.horizon-bound.new.p.me.0; found = c.horizon-bound.ensures.took; cut = c.cut.ensures.took; did = returns-clause-cut g c }

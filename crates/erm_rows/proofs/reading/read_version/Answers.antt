@@ -1,5 +1,8 @@
 use Rattle.erm_rows.proofs.FromHead.{active_found, active_rated, active_registered, cell_rated, did_read, is_registered, keeps, may_load, room_found, to_be_read, unnoted}
 use Rattle.erm_rows.proofs.reading.read_version.Goals as goal
+use Rattle.erm_rule.specs.Hands.{in_hand}
+use Rattle.erm_rule.specs.Views.{part_of}
+use Rattle.erm_rule.proofs.Wents.{went_more}
 
 pub register-requires-clause-active : goal.register-requires-clause-active
 register-requires-clause-active g c = active_found c.args.p.now.me.0.view c.args.who c.args.oid c.requires.active c.requires.object c.requires.unread c.walk-found.result.cell c.walk-found.result.stamp _ c.walk-found.ensures.found
@@ -33,3 +36,14 @@ returns-clause-unnoted g c = unnoted c.args.p.now.me.0.view c.args.who c.args.oi
 
 pub returns-clause-kept : goal.returns-clause-kept
 returns-clause-kept g c = keeps c.args.p.now.me.0.view c.args.who c.args.oid c.requires.active c.requires.object c.requires.unread c.walk-found.result.cell c.walk-found.result.stamp _ c.walk-found.ensures.found _ c.register.ensures.registered c.rate_read-succ.result _ c.rate_read-succ.ensures.rated c.load_row-row.result _ c.load_row-row.ensures.loaded c.args.txn.now _ c.requires.kept c.add_read.ensures
+
+pub returns-clause-took : goal.returns-clause-took
+returns-clause-took g c = record {
+  found = c.walk-found.new.p.me.0;
+  walk = c.walk-found.ensures.loads;
+  version = in_hand (part_of c.walk-found.new.p.me.0.view c.args.who).task;
+  word = c.register.ensures.booked.0;
+  registered = c.register.new.p.me.0;
+  step = c.register.ensures.booked.1;
+  rest = went_more _ _ _ _ _ _ c.rate_read-succ.ensures.loads c.load_row-row.ensures.loads;
+}

@@ -1,5 +1,5 @@
 use Rattle.erm_rule.proofs.Courses.{goes_both, goes_step}
-use Rattle.std.proofs.Common.{ap, sym, subst, ◌∙◌}
+use Rattle.std.proofs.Common.{ap, sym, subst, ◌∙◌, refl}
 use Rattle.erm_model.specs.declared.row_stop.RowStop.{RowStop}
 use Rattle.erm_rule.proofs.Telling.{is_held}
 use Rattle.erm_entries.specs.declared.entries.Entry.{Entry}
@@ -8,6 +8,9 @@ use Rattle.erm_rows.specs.Claims.{DidNotExchange}
 use Rattle.erm_rows.proofs.Missed.{cell_passed, did_meet, enters_lost, has_passes, object_passed, ready_passed}
 use Rattle.erm_rows.proofs.Taken.{meets_owner}
 use Rattle.erm_rows.proofs.taking.exchange.Goals as goal
+use Rattle.erm_rule.specs.Hands.{in_hand}
+use Rattle.erm_rule.specs.Views.{part_of}
+use Rattle.erm_rows.specs.Took.{TookOther}
 
 pub returns-then-found-ne0-clause-lost : goal.returns-then-found-ne0-clause-lost
 returns-then-found-ne0-clause-lost g c =
@@ -46,3 +49,21 @@ returns-clause-lost g c =
 
 pub returns-clause-goes : goal.returns-clause-goes
 returns-clause-goes g c = goes_both c.args.p.now.me.0 c.claim.new.p.me.0 c.load_walked-stamp.new.p.me.0 c.claim.ensures.goes (goes_step _ _ _ _ _ _ c.load_walked-stamp.ensures.booked)
+
+pub returns-then-found-ne0-clause-took_other : goal.returns-then-found-ne0-clause-took_other
+returns-then-found-ne0-clause-took_other g c =
+    subst (λ (s : RowStop). TookOther g.L.RowLaw.law c.args.who c.args.oid (word_of c.args.seen.now) c.args.number s c.args.p.now.me.0 c.claim.new.p.me.0) (sym c.owned.ensures) (
+      word_of c.in-Err.found,
+      c.in-Err.ensures.lost.other,
+      record { seat_is = ap (λ (e : Entry). e.owner) c.in-Err.ensures.lost.spelled; number_is = ap (λ (e : Entry). e.number) c.in-Err.ensures.lost.spelled },
+      (c.args.p.now.me.0, refl, c.in-Err.ensures.took_other),
+    )
+
+pub returns-clause-took_other : goal.returns-clause-took_other
+returns-clause-took_other g c = (
+  word_of c.in-Err.found,
+  c.in-Err.ensures.lost.other,
+  ap (λ (e : Entry). e.owner) c.in-Err.ensures.lost.spelled ∙ c.if-found-ne0.false,
+  in_hand (part_of c.claim.new.p.me.0.view c.args.who).task,
+  (c.claim.new.p.me.0, (c.args.p.now.me.0, refl, c.in-Err.ensures.took_other), c.load_walked-stamp.ensures.booked),
+)

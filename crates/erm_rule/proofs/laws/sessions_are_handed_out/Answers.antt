@@ -5,4 +5,4 @@ pub returns-clause-first : goal.returns-clause-first
 returns-clause-first c = none_given
 
 pub returns-clause-more : goal.returns-clause-more
-returns-clause-more c = hands_out
+returns-clause-more c o given none low = hands_out o given none low

@@ -1,4 +1,4 @@
-use Rattle.std.proofs.Common.{sym, ap, ◌∙◌}
+use Rattle.std.proofs.Common.{sym, ap, ◌∙◌, refl}
 use Rattle.erm_machine.specs.Seat.{is_vacant}
 use Rattle.erm_rule.proofs.Numbered.{known_after}
 use Rattle.erm_rule.proofs.Telling.{held_part, is_held, changed_here}
@@ -58,3 +58,14 @@ returns-clause-begun g c =
     let loaded = loaded_view v c.args.who _ has c.requires.number c.requires.idle c.load_tail-tail.result _ c.load_tail-tail.ensures.told.told low in
     did_begin v c.args.who c.requires.idle c.requires.number c.load_tail-tail.result c.load_tail.result low _ _ _ c.load_tail-tail.ensures.told.told
     (announced_view v c.args.who _ has c.requires.number c.load_tail-tail.result _ _ _ loaded c.store_begin.ensures.told.1.told) c.load_tail.ensures.told.told
+
+pub returns-then-is_refused-clause-took_stop : goal.returns-then-is_refused-clause-took_stop
+returns-then-is_refused-clause-took_stop g c = (sym c.is_refused.ensures ∙ c.if-is_refused.true, (c.args.p.now.me.0, refl, c.load_tail-tail.ensures.booked))
+
+pub returns-clause-took : goal.returns-clause-took
+returns-clause-took g c = record {
+  announced = c.load_tail-tail.result;
+  word = c.store_begin.ensures.booked.0;
+  low = sym c.is_refused.ensures ∙ c.if-is_refused.false;
+  took = (c.store_begin.new.p.me.0, (c.load_tail-tail.new.p.me.0, (c.args.p.now.me.0, refl, c.load_tail-tail.ensures.booked), c.store_begin.ensures.booked.1), c.load_tail.ensures.booked);
+}

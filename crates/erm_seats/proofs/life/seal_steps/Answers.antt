@@ -1,3 +1,4 @@
+use Rattle.std.proofs.Common.{refl}
 use Rattle.erm_rule.proofs.Telling.{held_part, is_held, changed_here}
 use Rattle.erm_seats.proofs.Sealing.{not_vacant, ready_seal, sealing_view, still_lawful, ready_draw, drawn_view, ready_store, did_seal}
 use Rattle.erm_seats.proofs.life.seal_steps.Goals as goal
@@ -50,3 +51,10 @@ returns-clause-sealed g c =
     let has = held_part v c.args.who (not_vacant _ c.requires.active) in
     did_seal v c.args.who c.requires.session c.requires.active c.args.size c.requires.least c.requires.greatest c.add_tail-stamp.result _ _ _ _
     (sealing_view v c.args.who _ has c.requires.session c.requires.active c.requires.rests _ _ c.store_state.ensures.told.1.told) c.add_tail-stamp.ensures.told.told c.store_state-2.ensures.told.1.told
+
+pub returns-clause-took : goal.returns-clause-took
+returns-clause-took g c = record {
+  first = c.store_state.ensures.booked.0;
+  last = c.store_state-2.ensures.booked.0;
+  took = (c.add_tail-stamp.new.p.me.0, (c.store_state.new.p.me.0, (c.args.p.now.me.0, refl, c.store_state.ensures.booked.1), c.add_tail-stamp.ensures.booked), c.store_state-2.ensures.booked.1);
+}

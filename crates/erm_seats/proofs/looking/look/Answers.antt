@@ -1,4 +1,4 @@
-use Rattle.std.proofs.Common.{sym, ◌∙◌}
+use Rattle.std.proofs.Common.{sym, ◌∙◌, refl}
 use Rattle.erm_rule.proofs.Courses.{goes_step, seen_once}
 use Rattle.erm_rule.proofs.Telling.{held_part}
 use Rattle.erm_seats.proofs.Looks.{ready_look, did_wait, did_clear, stays_clear}
@@ -31,3 +31,9 @@ returns-else-is_clear_for-clause-goes g c = goes_step _ c.args.p.now.me.0 _ _ _ 
 
 pub returns-else-is_clear_for-clause-met : goal.returns-else-is_clear_for-clause-met
 returns-else-is_clear_for-clause-met g c = seen_once _ c.args.p.now.me.0 _ _ _ _ _ c.load_state-seen.ensures.booked (λ core is met. met)
+
+pub returns-then-is_clear_for-clause-took : goal.returns-then-is_clear_for-clause-took
+returns-then-is_clear_for-clause-took g c = (c.load_state-seen.result, sym c.is_clear_for.ensures ∙ c.if-is_clear_for.true, c.load_state-seen.ensures.booked)
+
+pub returns-else-is_clear_for-clause-took : goal.returns-else-is_clear_for-clause-took
+returns-else-is_clear_for-clause-took g c = (refl, sym c.is_clear_for.ensures ∙ c.if-is_clear_for.false, c.load_state-seen.ensures.booked)

@@ -8,6 +8,7 @@ use Rattle.erm_session.proofs.Goes.{active_at, active_so, open_now, stage_on, st
 use Rattle.erm_session.proofs.RowsClaimed.{goes_either}
 use Rattle.erm_session.proofs.Sought.{not_held}
 use Rattle.erm_session.proofs.writing.claim_first.Goals as goal
+use Rattle.erm_rows.specs.declared.claiming.Claimed.{Claimed}
 
 pub claim-requires-clause-unclaimed : goal.claim-requires-clause-unclaimed
 claim-requires-clause-unclaimed g c = not_held (part_of c.args.p.now.me.0.view c.args.who) c.args.oid c.requires.unclaimed
@@ -27,7 +28,7 @@ pub returns-clause-window : goal.returns-clause-window
 returns-clause-window g c =
     told c.claim.result c.claim.ensures.«open» c.claim.ensures.kept
   where
-    told : (r : Result (List ℕ) RowStop) → IfOk r (λ row. closed_window c.claim.new.txn ≡ None) → IsActive c.claim.new.txn (part_of c.claim.new.p.me.0.view c.args.who)
+    told : (r : Result Claimed RowStop) → IfOk r (λ row. closed_window c.claim.new.txn ≡ None) → IsActive c.claim.new.txn (part_of c.claim.new.p.me.0.view c.args.who)
         → IfOk r (λ row. has_closed (part_of c.claim.new.p.me.0.view c.args.who).current ≡ false)
-    told (Ok row) none is = open_now _ _ is none
+    told (Ok claimed) none is = open_now _ _ is none
     told (Err why) none is = tt

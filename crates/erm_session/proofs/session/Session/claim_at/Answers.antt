@@ -1,11 +1,16 @@
-use Rattle.std.proofs.Common.{◌≤◌, refl, arith, sym, subst}
+use Rattle.std.proofs.Common.{◌≤◌, refl, arith, sym, subst, inl, inr}
 use Rattle.erm_machine.specs.declared.limits.TheConstants.{WRITE_LIMIT}
 use Rattle.erm_rule.specs.Views.{part_of}
-use Rattle.erm_session.specs.Calls.{before, now}
+use Rattle.erm_session.specs.Calls.{before, now, is_end}
 use Rattle.erm_session.proofs.Goes.{active, goes_on, kept, known_where, same_rows, starts, with_rows}
 use Rattle.erm_session.proofs.RowsClaimed.{claimed_last, count_told, goes_claimed, goes_unclaimed, known_unclaimed, refuses_claim, room_claimed, rows_claimed, rows_stay, same_unclaimed}
 use Rattle.erm_session.proofs.Sought.{claimed, has_row, unclaimed}
 use Rattle.erm_session.proofs.session.Session.claim_at.Goals as goal
+use Rattle.erm_rows.specs.Claims.{DidNotClaim}
+use Rattle.erm_rows.specs.Took.{TookNoClaim}
+use Rattle.erm_rule.specs.declared.view.Book.{Book}
+use Rattle.erm_rule.proofs.Wents.{went_none}
+use Rattle.erm_session.proofs.Took.{refused_then, where_still}
 
 pub claim_first-requires-clause-unclaimed : goal.claim_first-requires-clause-unclaimed
 claim_first-requires-clause-unclaimed g c =
@@ -19,7 +24,7 @@ push_reserved-requires g c =
     let v = c.args.p.now.me.0.view in
     let on = active s (part_of v s.seat) c.requires.stands.kept c.in-Active.txn c.in-Active.is in
     let few =
-    room_claimed v s.seat c.args.oid on c.in-Ok.row _ c.in-Ok.ensures.claimed s.rows_claimed.items s.rows_claimed.cap c.requires.stands.rows_claimed c.requires.stands.kept.room_claimed
+    room_claimed v s.seat c.args.oid on c.in-Ok.claimed.row _ c.in-Ok.ensures.claimed s.rows_claimed.items s.rows_claimed.cap c.requires.stands.rows_claimed c.requires.stands.kept.room_claimed
     in
     let count = s.rows_claimed.ok.0 in
     omega (arith, few, count)
@@ -71,17 +76,17 @@ returns-in-Ok-clause-stands g c =
     let on = active s x is c.in-Active.txn c.in-Active.is in
     let did = c.in-Ok.ensures.claimed in
     with_rows _ _
-    (goes_on s _ x _ is (goes_claimed v s.seat c.args.oid on c.in-Ok.row _ did) c.claim_first.ensures.stands c.claim_first.ensures.spare refl refl refl is.room_read
+    (goes_on s _ x _ is (goes_claimed v s.seat c.args.oid on c.in-Ok.claimed.row _ did) c.claim_first.ensures.stands c.claim_first.ensures.spare refl refl refl is.room_read
     (subst (λ n. WRITE_LIMIT ≤ n) (sym c.push_reserved.ensures.capacity) is.room_claimed) refl)
-    (rows_stay v s.seat c.args.oid on c.in-Ok.row _ did s.rows_read.items c.requires.stands.rows_read)
-    (rows_claimed v s.seat c.args.oid on c.in-Ok.row _ did s.rows_claimed.items _ c.requires.stands.rows_claimed c.push_reserved.ensures.items) c.in-Ok.ensures.window
+    (rows_stay v s.seat c.args.oid on c.in-Ok.claimed.row _ did s.rows_read.items c.requires.stands.rows_read)
+    (rows_claimed v s.seat c.args.oid on c.in-Ok.claimed.row _ did s.rows_claimed.items _ c.requires.stands.rows_claimed c.push_reserved.ensures.items) c.in-Ok.ensures.window
 
 pub returns-in-Ok-clause-claimed : goal.returns-in-Ok-clause-claimed
 returns-in-Ok-clause-claimed g c =
     let s = c.args.self.now in
     let x = part_of c.args.p.now.me.0.view s.seat in
     let acts = kept s x c.requires.stands.kept c.in-Active.txn c.in-Active.is in
-    now (unclaimed c.in-Active.txn x acts c.args.oid _ c.as_slice.ensures.value c.in_default-find_claim.ensures.none) c.in-Ok.row c.in-Ok.ensures.claimed
+    now (unclaimed c.in-Active.txn x acts c.args.oid _ c.as_slice.ensures.value c.in_default-find_claim.ensures.none) c.in-Ok.claimed.row c.in-Ok.ensures.claimed
 
 pub returns-in-Ok-clause-place : goal.returns-in-Ok-clause-place
 returns-in-Ok-clause-place g c =
@@ -91,7 +96,7 @@ returns-in-Ok-clause-place g c =
     let all = c.len.ensures in
     let more = c.push_reserved.ensures.len in
     let count = s.rows_claimed.ok.0 in
-    claimed_last v s.seat c.args.oid on c.in-Ok.row _ c.in-Ok.ensures.claimed s.rows_claimed.items _ c.requires.stands.rows_claimed (omega (arith, all, more, count))
+    claimed_last v s.seat c.args.oid on c.in-Ok.claimed.row _ c.in-Ok.ensures.claimed s.rows_claimed.items _ c.requires.stands.rows_claimed (omega (arith, all, more, count))
 
 pub returns-in-Err-clause-known : goal.returns-in-Err-clause-known
 returns-in-Err-clause-known g c =
@@ -112,3 +117,22 @@ returns-in-Err-clause-refused g c =
 
 pub returns-in-Err-clause-counted : goal.returns-in-Err-clause-counted
 returns-in-Err-clause-counted g c = count_told c.args.p.now.me.0 _ _ c.in-Err.why c.in-Err.ensures.counted c.end_where.ensures.same
+
+pub returns-in-Some-clause-took : goal.returns-in-Some-clause-took
+returns-in-Some-clause-took g c = inl (refl, refl)
+
+pub returns-in-Some-clause-still : goal.returns-in-Some-clause-still
+returns-in-Some-clause-still g c = went_none _ _ _ _
+
+pub returns-in-Ok-clause-took : goal.returns-in-Ok-clause-took
+returns-in-Ok-clause-took g c = inr c.in-Ok.ensures.took
+
+pub returns-in-Err-clause-took_none : goal.returns-in-Err-clause-took_none
+returns-in-Err-clause-took_none g c =
+    refused_then g.L.RowLaw.law c.args.self.now.seat (is_end c.in-Err.why)
+    (λ (m : Book). TookNoClaim g.L.RowLaw.law c.args.self.now.seat c.args.oid c.in-Err.why c.args.p.now.me.0 m × DidNotClaim c.args.p.now.me.0.view c.args.self.now.seat c.args.oid c.in-Err.why m.view)
+    c.claim_first.new.p.me.0 c.end_where.new.p.me.0 (c.in-Err.ensures.took_none, c.in-Err.ensures.refused) c.end_where.ensures.ends c.end_where.ensures.ended c.end_where.ensures.same
+
+pub returns-in-Err-clause-still : goal.returns-in-Err-clause-still
+returns-in-Err-clause-still g c =
+    where_still g.L.RowLaw.law c.args.self.now.seat (is_end c.in-Err.why) c.args.p.now.me.0 c.claim_first.new.p.me.0 c.end_where.new.p.me.0 c.claim_first.ensures.still c.end_where.ensures.ends c.end_where.ensures.same

@@ -1,3 +1,4 @@
+use Rattle.std.proofs.Common.{refl}
 use Rattle.erm_session.proofs.Looks.{held_there, known_looked, looked_session, looks, ready_flushed}
 use Rattle.erm_session.proofs.Syncs.{goes_once, is_flushed_to, was_flushed}
 use Rattle.erm_session.proofs.session.Session.durable.Goals as goal
@@ -41,3 +42,9 @@ returns-then-receipt-flushed-clause-goes g c = goes_once _ _ _ _ _ _ c.load_flus
 
 pub returns-else-receipt-flushed-clause-goes : goal.returns-else-receipt-flushed-clause-goes
 returns-else-receipt-flushed-clause-goes g c = goes_once _ _ _ _ _ _ c.load_flushed-flushed.ensures.booked
+
+pub returns-then-receipt-flushed-clause-took : goal.returns-then-receipt-flushed-clause-took
+returns-then-receipt-flushed-clause-took g c = (c.load_flushed-flushed.result, c.if-receipt-flushed.true, (c.args.p.now.me.0, refl, c.load_flushed-flushed.ensures.booked))
+
+pub returns-else-receipt-flushed-clause-took_none : goal.returns-else-receipt-flushed-clause-took_none
+returns-else-receipt-flushed-clause-took_none g c = (c.args.p.now.me.0, refl, c.load_flushed-flushed.ensures.booked)

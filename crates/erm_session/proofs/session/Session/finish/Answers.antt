@@ -1,7 +1,10 @@
-use Rattle.std.proofs.Common.{sym, arith}
+use Rattle.std.proofs.Common.{sym, arith, ℕ, ap, subst}
 use Rattle.erm_rule.specs.Views.{view}
 use Rattle.erm_session.proofs.Deciding.{block_ends, finished, known_left, may_be_decided, may_leave, stands_idle}
 use Rattle.erm_session.proofs.session.Session.finish.Goals as goal
+use Rattle.erm_cells.specs.Took.{IsEndStep}
+use Rattle.erm_rule.specs.Went.{Went}
+use Rattle.erm_session.specs.declared.session.Session.{Session}
 
 pub store_block-requires-clause-may : goal.store_block-requires-clause-may
 store_block-requires-clause-may g c =
@@ -37,3 +40,15 @@ returns-clause-stands g c =
     (view c.leave.new.p) c.leave.ensures.ends c.leave.new.self c.leave.ensures.same
     c.replace.ensures.after c.leave.ensures.spare c.leave.ensures.room_read c.leave.ensures.room_claimed c.store_block.ensures.room c.leave.ensures.no_read
     c.leave.ensures.no_claimed
+
+pub returns-clause-took : goal.returns-clause-took
+returns-clause-took g c = record {
+  filled = c.store_block.ensures.took.0;
+  fills = c.store_block.ensures.took.1;
+  at = c.in-Sealed.pre.stamp;
+  header = c.store_block.ensures.took.2;
+  word = c.store_block.ensures.took.3;
+  decided = c.store_block.new.p.me.0;
+  step = c.store_block.ensures.took.4;
+  ends = subst (λ (n : ℕ). Went g.L.RowLaw.law n IsEndStep c.store_block.new.p.me.0 c.leave.new.p.me.0) (ap (λ (s : Session). s.seat) c.store_block.ensures.same) c.leave.ensures.ended;
+}

@@ -1,9 +1,11 @@
-use Rattle.std.proofs.Common.{arith, inl, inr}
+use Rattle.std.proofs.Common.{arith, inl, inr, refl}
 use Rattle.erm_rule.proofs.Telling.{is_held}
 use Rattle.erm_session.proofs.Looks.{held_there}
 use Rattle.erm_session.proofs.Makes.{has_numbers, known_first, known_then, makes_object, ready_add, ready_load, refused_first, refused_then, session_first, session_then}
 use Rattle.erm_session.proofs.Syncs.{drawn_first, drawn_then, goes_once, goes_then}
 use Rattle.erm_session.proofs.session.Session.fresh.Goals as goal
+use Rattle.erm_session.proofs.Took.{object_still}
+use Rattle.erm_rule.proofs.Wents.{went_one}
 
 pub load_counter-seen-requires-clause-held : goal.load_counter-seen-requires-clause-held
 load_counter-seen-requires-clause-held g c = held_there c.args.self.now _ c.requires.stands
@@ -72,3 +74,23 @@ returns-then-found-from-clause-goes g c = goes_then _ _ _ _ _ c.load_counter-see
 
 pub returns-clause-goes : goal.returns-clause-goes
 returns-clause-goes g c = goes_then _ _ _ _ _ c.load_counter-seen.ensures.booked _ _ c.add_counter-found.ensures.booked
+
+pub returns-then-seen-from-clause-took_none : goal.returns-then-seen-from-clause-took_none
+returns-then-seen-from-clause-took_none g c = inl (c.args.p.now.me.0, refl, c.load_counter-seen.ensures.booked)
+
+pub returns-then-seen-from-clause-still : goal.returns-then-seen-from-clause-still
+returns-then-seen-from-clause-still g c = went_one _ _ _ _ _ _ _ tt c.load_counter-seen.ensures.booked
+
+pub returns-then-found-from-clause-took_none : goal.returns-then-found-from-clause-took_none
+returns-then-found-from-clause-took_none g c = inr (c.load_counter-seen.result, (c.load_counter-seen.new.p.me.0, (c.args.p.now.me.0, refl, c.load_counter-seen.ensures.booked), c.add_counter-found.ensures.booked))
+
+pub returns-then-found-from-clause-still : goal.returns-then-found-from-clause-still
+returns-then-found-from-clause-still g c =
+    object_still g.L.RowLaw.law c.args.self.now.seat c.add_counter-found.result c.args.p.now.me.0 c.add_counter-found.new.p.me.0
+    (c.load_counter-seen.result, (c.load_counter-seen.new.p.me.0, (c.args.p.now.me.0, refl, c.load_counter-seen.ensures.booked), c.add_counter-found.ensures.booked))
+
+pub returns-clause-took : goal.returns-clause-took
+returns-clause-took g c = (c.load_counter-seen.result, (c.load_counter-seen.new.p.me.0, (c.args.p.now.me.0, refl, c.load_counter-seen.ensures.booked), c.add_counter-found.ensures.booked))
+
+pub returns-clause-still : goal.returns-clause-still
+returns-clause-still g c = object_still g.L.RowLaw.law c.args.self.now.seat c.add_counter-found.result c.args.p.now.me.0 c.add_counter-found.new.p.me.0 (returns-clause-took g c)

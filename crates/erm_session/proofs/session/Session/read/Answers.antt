@@ -1,11 +1,16 @@
-use Rattle.std.proofs.Common.{◌≤◌, refl, arith, sym, subst}
+use Rattle.std.proofs.Common.{◌≤◌, refl, arith, sym, subst, inl, inr}
 use Rattle.erm_machine.specs.declared.limits.TheConstants.{READ_LIMIT}
 use Rattle.erm_rule.specs.Views.{part_of}
-use Rattle.erm_session.specs.Calls.{again, first, own}
+use Rattle.erm_session.specs.Calls.{again, first, own, is_end}
 use Rattle.erm_session.proofs.Goes.{active, goes_on, kept, known_where, same_rows, starts, with_rows}
 use Rattle.erm_session.proofs.RowsRead.{goes_read, goes_unread, known_unread, owner_met, refuses_read, room_read, rows_read, rows_stay, same_unread, spare_read, spare_unread}
 use Rattle.erm_session.proofs.Sought.{has_claimed, has_read_row, unclaimed, unread}
 use Rattle.erm_session.proofs.session.Session.read.Goals as goal
+use Rattle.erm_rows.specs.Reads.{DidNotRead}
+use Rattle.erm_rows.specs.Took.{TookNotRead}
+use Rattle.erm_rule.specs.declared.view.Book.{Book}
+use Rattle.erm_rule.proofs.Wents.{went_none}
+use Rattle.erm_session.proofs.Took.{refused_then, where_still}
 
 pub returns-in-Some-clause-read : goal.returns-in-Some-clause-read
 returns-in-Some-clause-read g c =
@@ -114,3 +119,28 @@ returns-in-Err-clause-refused g c =
 
 pub returns-in-Err-clause-met : goal.returns-in-Err-clause-met
 returns-in-Err-clause-met g c = owner_met c.args.p.now.me.0 _ _ c.in-Err.why c.in-Err.ensures.met c.end_where.ensures.same
+
+pub returns-in-Some-clause-took : goal.returns-in-Some-clause-took
+returns-in-Some-clause-took g c = inl refl
+
+pub returns-in-Some-clause-still : goal.returns-in-Some-clause-still
+returns-in-Some-clause-still g c = went_none _ _ _ _
+
+pub returns-in-Some-find_read-clause-took : goal.returns-in-Some-find_read-clause-took
+returns-in-Some-find_read-clause-took g c = inl refl
+
+pub returns-in-Some-find_read-clause-still : goal.returns-in-Some-find_read-clause-still
+returns-in-Some-find_read-clause-still g c = went_none _ _ _ _
+
+pub returns-in-Ok-clause-took : goal.returns-in-Ok-clause-took
+returns-in-Ok-clause-took g c = inr c.in-Ok.ensures.took
+
+pub returns-in-Err-clause-took_none : goal.returns-in-Err-clause-took_none
+returns-in-Err-clause-took_none g c =
+    refused_then g.L.RowLaw.law c.args.self.now.seat (is_end c.in-Err.why)
+    (λ (m : Book). TookNotRead g.L.RowLaw.law c.args.self.now.seat c.args.oid c.in-Err.why c.args.p.now.me.0 m × DidNotRead c.args.p.now.me.0.view c.args.self.now.seat c.args.oid c.in-Err.why m.view)
+    c.read_first.new.p.me.0 c.end_where.new.p.me.0 (c.in-Err.ensures.took_none, c.in-Err.ensures.refused) c.end_where.ensures.ends c.end_where.ensures.ended c.end_where.ensures.same
+
+pub returns-in-Err-clause-still : goal.returns-in-Err-clause-still
+returns-in-Err-clause-still g c =
+    where_still g.L.RowLaw.law c.args.self.now.seat (is_end c.in-Err.why) c.args.p.now.me.0 c.read_first.new.p.me.0 c.end_where.new.p.me.0 c.read_first.ensures.still c.end_where.ensures.ends c.end_where.ensures.same

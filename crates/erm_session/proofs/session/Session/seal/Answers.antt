@@ -1,6 +1,7 @@
-use Rattle.std.proofs.Common.{sym, ◌∙◌}
-use Rattle.erm_session.proofs.Seals.{sealed_session, seals_rows}
+use Rattle.std.proofs.Common.{ℕ, subst, sym, ◌∙◌}
+use Rattle.erm_session.proofs.Seals.{sealed_session, seals_rows, size_there}
 use Rattle.erm_session.proofs.session.Session.seal.Goals as goal
+use Rattle.erm_seats.specs.Took.{TookSeal}
 
 pub returns-clause-stands : goal.returns-clause-stands
 returns-clause-stands g c =
@@ -11,3 +12,9 @@ pub returns-clause-sealed : goal.returns-clause-sealed
 returns-clause-sealed g c =
     seals_rows c.args.self.now c.in-Active.txn _ c.requires.stands (sym c.replace.ensures.value ∙ c.in-Active.is) c.block_size-size.result c.seal_steps-stamp.result _ c.as_slice.ensures.value
     c.block_size-size.ensures.size _ c.seal_steps-stamp.ensures.sealed
+
+pub returns-clause-took : goal.returns-clause-took
+returns-clause-took g c =
+    subst (λ (n : ℕ). TookSeal g.L.RowLaw.law c.args.self.now.seat n c.seal_steps-stamp.result c.args.p.now.me.0 c.seal_steps-stamp.new.p.me.0)
+    (size_there c.args.self.now c.in-Active.txn c.args.p.now.me.0.view c.requires.stands (sym c.replace.ensures.value ∙ c.in-Active.is) c.block_size-size.result c.seal_steps-stamp.result _ c.as_slice.ensures.value
+    c.block_size-size.ensures.size _ c.seal_steps-stamp.ensures.sealed) c.seal_steps-stamp.ensures.took

@@ -66,3 +66,6 @@ returns-clause-stored g c =
     s.block.items c.deref_mut.result.now c.encode_into-size.new.out c.as_slice-words.result.now _ c.encode_into-size.result c.deref_mut.ensures.value c.requires.room
     c.deref_mut.ensures.len c.encode_into-size.auto.out c.as_slice-words.ensures.value c.encode_into-size.ensures.size c.encode_into-size.ensures.spelled
     (view c.fill.new.p) c.fill.ensures.filled (view c.decide.new.p) c.decide.ensures.decided
+
+pub returns-clause-took : goal.returns-clause-took
+returns-clause-took g c = (c.fill.new.p.me.0, c.fill.ensures.fills, _, c.decide.ensures.booked.0, c.decide.ensures.booked.1)

@@ -30,3 +30,7 @@ returns-clause-read c =
       },
       both.1,
     )
+
+pub read-requires-clause-known : goal.read-requires-clause-known
+read-requires-clause-known c =
+    (ok_says (λ (begin : ℕ). DidBegin c.args.p.now.me.0.view c.args.s.now.seat begin c.begin.new.p.me.0.view) c.begin.result c.in_ok-begin.begin c.in_ok-begin.ensures.value c.begin.ensures.begun).known

@@ -1,0 +1,17 @@
+use Rattle.std.proofs.Common.{◌≡◌, ℕ, List, sym, subst}
+use Rattle.erm_model.specs.declared.outcome.Phase.TheVariants.{Active}
+use Rattle.erm_rule.specs.Views.{part_of}
+use Rattle.erm_seats.specs.Calls.{DidBegin}
+use Rattle.erm_session.specs.Session.{phase_of, IsSession}
+use Rattle.erm_session.proofs.Skewing.{ok_says}
+use Rattle.erm_session.proofs.tests.worked.begin_and_read.Goals as goal
+
+pub read-requires-clause-known : goal.read-requires-clause-known
+read-requires-clause-known c =
+    (ok_says (λ (begin : ℕ). DidBegin c.args.p.now.me.0.view c.args.s.now.seat begin c.begin.new.p.me.0.view) c.begin.result c.in_ok-begin.begin c.in_ok-begin.ensures.value c.begin.ensures.begun).known
+
+pub returns-clause-stands : goal.returns-clause-stands
+returns-clause-stands c = (
+  subst (λ (q : ℕ). IsSession c.read-3.new.self (part_of c.read-3.new.p.me.0.view q)) (sym c.read-3.ensures.seat) c.read-3.ensures.stands,
+  ok_says (λ (row : List ℕ). phase_of c.read-3.new.self.stage ≡ Active) c.read-3.result c.in_ok-ok-3.field-0 c.in_ok-ok-3.ensures.value c.read-3.ensures.active,
+)
