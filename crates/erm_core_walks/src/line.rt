@@ -8,6 +8,7 @@
 //!     over SEAT                          the numbers of its last transaction that is over
 //!     spare SEAT                         its spare cells
 //!     gathered SEAT                      the end of the last block that it has gathered
+//!     ready                              the seat whose next event isn't a wait
 ghost use Rattle.erm_core.specs.Ready.{IsReady};
 
 use crate::kinds::kind;
@@ -15,6 +16,7 @@ use crate::numbers::{Numbers, seat, sum};
 use crate::opening::open;
 use crate::told::{Answers, Told};
 use erm_core::State;
+use erm_core_ready::ready;
 use erm_machine::Event;
 use erm_model::Seat;
 use erm_seat::SeatState;
@@ -37,6 +39,7 @@ pub fn walk(alloc: Global, state: &mut State, line: &str) -> Result<Told, AllocE
             Ok(Told::Nothing)
         }
         "see" => Ok(see(state, words)),
+        "ready" => Ok(Told::Ready(ready(state))),
         "task" | "over" | "spare" | "gathered" => Ok(look(state, first, number(words, 1))),
         _ => step(state, words),
     }

@@ -1,6 +1,6 @@
 //! What a line of a walk tells.
 use erm_machine::{Answer, Decision, Task};
-use erm_model::Stamp;
+use erm_model::{Seat, Stamp};
 use std::fmt;
 
 /// The answers of steps that differ in one number.
@@ -43,6 +43,8 @@ pub enum Told {
     Spare(usize),
     /// The end of the last block gathered.
     Gathered(Stamp),
+    /// The seat whose next event isn't a wait, if a transaction isn't over.
+    Ready(Option<Seat>),
 }
 
 impl fmt::Display for Told {
@@ -64,6 +66,8 @@ impl fmt::Display for Told {
             ),
             Told::Spare(cells) => write!(f, " -> {cells} cells"),
             Told::Gathered(to) => write!(f, " -> up to {to}"),
+            Told::Ready(Some(seat)) => write!(f, " -> seat {seat}"),
+            Told::Ready(None) => write!(f, " -> nobody"),
         }
     }
 }
