@@ -17,9 +17,9 @@ use Rattle.erm_world.specs.Log.{IsRowAsPinned}
 use Rattle.erm_world.specs.World.{Opening, history_of}
 use Rattle.erm_plain.specs.declared.plain.Plain.{Plain}
 use Rattle.erm_plain.specs.Logs.{KeepsSessions, plain_log, view_kept}
-use Rattle.erm_plain.specs.Pinned.{IsNewestRow}
+use Rattle.erm_core_steps.specs.Pinned.{IsNewestRow}
 use Rattle.erm_plain.specs.Stands.{Stands, plain_view}
-use Rattle.erm_plain.proofs.Histories.{history_kept}
+use Rattle.erm_core_steps.proofs.Histories.{history_kept}
 
 -- a sound state's view is serializable
 abbrev pub Serials : Law → Type 0

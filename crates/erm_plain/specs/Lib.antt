@@ -1,9 +1,3 @@
-pub mod Claiming
-pub mod Ends
-pub mod Finishes
 pub mod Logs
-pub mod Pinned
-pub mod Reads
-pub mod Settles
+pub mod Rooms
 pub mod Stands
-pub mod Steps

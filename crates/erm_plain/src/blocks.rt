@@ -8,7 +8,7 @@ ghost use Rattle.erm_machine.specs.declared.limits.TheConstants.{GREATEST_BLOCK,
 ghost use Rattle.erm_machine.specs.Decided.{written_of};
 ghost use Rattle.erm_machine.specs.Words.{is_session};
 ghost use Rattle.erm_sound.specs.Kept.{SoundUnder};
-ghost use Rattle.erm_plain.specs.Ends.{HasDecided, IsSpelledBy, MayDecide};
+ghost use Rattle.erm_core_steps.specs.Ends.{HasDecided, IsSpelledBy, MayDecide};
 
 use crate::Plain;
 use arrayvec::ArrayVec;

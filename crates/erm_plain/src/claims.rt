@@ -12,8 +12,9 @@ ghost use Rattle.erm_model.specs.declared.row_stop.RowStop.TheVariants.{CellsFul
 ghost use Rattle.erm_core.specs.Cores.{core_of};
 ghost use Rattle.erm_core.specs.Rooms.{HasCallRoom, HasSwapRoom};
 ghost use Rattle.erm_core.specs.declared.need.Need.TheVariants as need;
-ghost use Rattle.erm_plain.specs.Claiming.{HasExchanged, HasFreeHead, HasHead, is_cleared};
-ghost use Rattle.erm_plain.specs.Reads.{GoesOn, HasOpenWindow, IsAtWork, KeepsRoom};
+ghost use Rattle.erm_core_steps.specs.Claiming.{HasExchanged, HasFreeHead, HasHead, is_cleared};
+ghost use Rattle.erm_core_steps.specs.Reads.{GoesOn, IsAtWork};
+ghost use Rattle.erm_plain.specs.Rooms.{HasOpenWindow, KeepsRoom};
 ghost use Rattle.erm_plain.specs.Stands.{Stands, plain_view};
 ghost use Rattle.erm_world.specs.Calls.{DidClaim, DidNotClaim, MayClaim};
 ghost use Rattle.erm_world.specs.World.{IsSession, phase_at, work_at};

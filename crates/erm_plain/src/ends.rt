@@ -6,9 +6,9 @@ ghost use Rattle.erm_sound.specs.Kept.{SoundUnder};
 ghost use Rattle.erm_machine.specs.Words.{is_session};
 ghost use Rattle.erm_model.specs.declared.outcome.Phase.TheVariants.{Active};
 ghost use Rattle.erm_core.specs.Cores.{core_of};
-ghost use Rattle.erm_plain.specs.Reads as reads_specs;
+ghost use Rattle.erm_core_steps.specs.Reads as reads_specs;
 ghost use Rattle.erm_plain.specs.Stands.{Stands, plain_view};
-ghost use Rattle.erm_plain.specs.Steps.{HasCleared, HasReleased, IsUnseen, MayEnd};
+ghost use Rattle.erm_core_steps.specs.Steps.{HasCleared, HasReleased, IsUnseen, MayEnd};
 ghost use Rattle.erm_world.specs.Calls.{DidAbort};
 ghost use Rattle.erm_world.specs.World.{IsSession, phase_at};
 

@@ -4,7 +4,7 @@ ghost use Rattle.erm_machine.specs.Core.{no_version};
 ghost use Rattle.erm_model.specs.History.{History, rank_of, rows_after};
 ghost use Rattle.erm_model.specs.SerialOrder.{IsSerialOrder};
 ghost use Rattle.erm_model.specs.declared.limits.TheConstants.{OID_LIMIT};
-ghost use Rattle.erm_plain.specs.Pinned.{IsNewestRow};
+ghost use Rattle.erm_core_steps.specs.Pinned.{IsNewestRow};
 ghost use Rattle.erm_plain.specs.Stands.{Stands, plain_view};
 ghost use Rattle.erm_world.specs.World.{history_of};
 

@@ -10,10 +10,11 @@ ghost use Rattle.erm_kept.specs.Attempts.{attempt_of};
 ghost use Rattle.erm_seat.specs.Parts.{part_of};
 ghost use Rattle.erm_core.specs.Cores.{core_of};
 ghost use Rattle.erm_core_calls.specs.Going as going_specs;
-ghost use Rattle.erm_plain.specs.Finishes as finishes_specs;
-ghost use Rattle.erm_plain.specs.Finishes.{is_finishing, IsDropped, MayFinish};
-ghost use Rattle.erm_plain.specs.Reads.{GoesOn, IsAtWork};
-ghost use Rattle.erm_plain.specs.Steps.{IsUnseen};
+ghost use Rattle.erm_core_steps.specs.Finishes as finishes_specs;
+ghost use Rattle.erm_core_steps.specs.Finishes.{is_finishing, IsDropped};
+ghost use Rattle.erm_plain.specs.Rooms.{MayFinish};
+ghost use Rattle.erm_core_steps.specs.Reads.{GoesOn, IsAtWork};
+ghost use Rattle.erm_core_steps.specs.Steps.{IsUnseen};
 
 use crate::Plain;
 use crate::ends::no_version;

@@ -9,7 +9,7 @@ ghost use Rattle.erm_machine.specs.declared.version.CellWord.TheVariants.{Stamp}
 ghost use Rattle.erm_machine.specs.Seat.{is_decided};
 ghost use Rattle.erm_sound.specs.Kept.{SoundUnder};
 ghost use Rattle.erm_machine.specs.Words.{is_session};
-ghost use Rattle.erm_plain.specs.Ends.{HasLeft, IsLeaving, is_ending};
+ghost use Rattle.erm_core_steps.specs.Ends.{HasLeft, IsLeaving, is_ending};
 
 use crate::Plain;
 use erm_kept::AttemptState;

@@ -6,8 +6,8 @@ ghost use Rattle.erm_machine.specs.declared.event.Kind.TheVariants as kind;
 ghost use Rattle.erm_machine.specs.declared.task.Task.TheVariants as task_specs;
 ghost use Rattle.erm_sound.specs.Kept.{SoundUnder};
 ghost use Rattle.erm_machine.specs.Words.{is_session};
-ghost use Rattle.erm_plain.specs.Settles.{AreAllBehind, HasPassed, IsClearFor, IsPassing, IsWaiting, PassesBy, StopsAt, is_passing};
-ghost use Rattle.erm_plain.specs.Steps.{IsUnseen};
+ghost use Rattle.erm_core_steps.specs.Settles.{AreAllBehind, HasPassed, IsClearFor, IsPassing, IsWaiting, PassesBy, StopsAt, is_passing};
+ghost use Rattle.erm_core_steps.specs.Steps.{IsUnseen};
 
 use crate::Plain;
 use crate::steps::found;

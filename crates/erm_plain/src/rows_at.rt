@@ -4,7 +4,7 @@ ghost use Rattle.erm_core.specs.Cores.{core_of};
 ghost use Rattle.erm_machine.specs.declared.limits.TheConstants.{FLUSH_SEAT};
 ghost use Rattle.erm_model.specs.declared.limits.TheConstants.{OID_LIMIT};
 ghost use Rattle.erm_plain.specs.Logs.{KeepsSessions, plain_log};
-ghost use Rattle.erm_plain.specs.Pinned.{IsNewestRow, owner_below, row_below};
+ghost use Rattle.erm_core_steps.specs.Pinned.{IsNewestRow, owner_below, row_below};
 ghost use Rattle.erm_plain.specs.Stands.{Stands, plain_view};
 ghost use Rattle.erm_world.specs.Log.{IsRowAsPinned, IsRowAt, IsUnwaited, IsWait};
 

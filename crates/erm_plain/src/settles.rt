@@ -5,7 +5,7 @@ ghost use Rattle.erm_kept.specs.Attempts.{attempt_of};
 ghost use Rattle.erm_machine.specs.Settling.{has_room};
 ghost use Rattle.erm_machine.specs.Words.{is_session};
 ghost use Rattle.erm_model.specs.declared.outcome.Phase.TheVariants.{Sealed};
-ghost use Rattle.erm_plain.specs.Ends.{outcome_of};
+ghost use Rattle.erm_core_steps.specs.Ends.{outcome_of};
 ghost use Rattle.erm_plain.specs.Stands.{Stands, plain_view};
 ghost use Rattle.erm_world.specs.Calls.{DidNotSettle, DidSettle};
 ghost use Rattle.erm_world.specs.World.{IsSession, phase_at};

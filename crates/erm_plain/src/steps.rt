@@ -6,7 +6,7 @@ ghost use Rattle.erm_core.specs.Cores.{core_of};
 ghost use Rattle.erm_core.specs.Rooms.{HasCallRoom, HasRoom, LeavesRoom};
 ghost use Rattle.erm_sound.specs.Kept.{Keeps, SoundUnder};
 ghost use Rattle.erm_plain.specs.Stands.{Stands, plain_view};
-ghost use Rattle.erm_plain.specs.Steps.{IsFree, IsTaken, found_in};
+ghost use Rattle.erm_core_steps.specs.Steps.{IsFree, IsTaken, found_in};
 
 use crate::Plain;
 use erm_core::Need;

@@ -9,9 +9,10 @@ ghost use Rattle.erm_machine.specs.declared.task.Task.TheVariants as task;
 ghost use Rattle.erm_model.specs.declared.limits.TheConstants.{OID_LIMIT, READ_LIMIT};
 ghost use Rattle.erm_model.specs.declared.outcome.Phase.TheVariants as phase;
 ghost use Rattle.erm_core.specs.Cores.{core_of};
-ghost use Rattle.erm_plain.specs.Reads.{finds, in_hand, read_step, stage_of, GoesOn, IsAtWork, IsLoad, IsWaiting, KeepsRoom};
+ghost use Rattle.erm_core_steps.specs.Reads.{finds, in_hand, read_step, stage_of, GoesOn, IsAtWork, IsLoad, IsWaiting};
+ghost use Rattle.erm_plain.specs.Rooms.{KeepsRoom};
 ghost use Rattle.erm_plain.specs.Stands.{Stands, plain_view};
-ghost use Rattle.erm_plain.specs.Steps.{IsTaken};
+ghost use Rattle.erm_core_steps.specs.Steps.{IsTaken};
 ghost use Rattle.erm_world.specs.Calls.{DidNotRead, IsNew};
 ghost use Rattle.erm_world.specs.World.{IsSession, phase_at, work_at};
 

@@ -1,5 +1,5 @@
 use Rattle.std.proofs.Common.{sym}
-use Rattle.erm_plain.proofs.Stored.{claimed_from, unclaimed_more}
+use Rattle.erm_core_steps.proofs.Stored.{claimed_from, unclaimed_more}
 use Rattle.erm_plain.proofs.claims.claims_object.Goals as goal
 
 pub returns-then-c-oid : goal.returns-then-c-oid

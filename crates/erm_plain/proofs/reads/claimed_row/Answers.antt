@@ -1,4 +1,4 @@
-use Rattle.erm_plain.proofs.Rows.{row_more}
+use Rattle.erm_core_steps.proofs.Rows.{row_more}
 use Rattle.erm_plain.proofs.reads.claimed_row.Goals as goal
 
 pub loop-c-preserved : goal.loop-c-preserved

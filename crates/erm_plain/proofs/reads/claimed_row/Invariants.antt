@@ -1,6 +1,6 @@
 use Rattle.std.proofs.Common.{map, take}
 use Rattle.erm_machine.specs.Decided.{written_of}
-use Rattle.erm_plain.proofs.Rows.{IsRowOf}
+use Rattle.erm_core_steps.proofs.Rows.{IsRowOf}
 use Rattle.erm_plain.proofs.reads.claimed_row.Given as goal
 
 abbrev pub invariant-loop-c : goal.invariant-loop-c

@@ -1,5 +1,5 @@
 use Rattle.std.proofs.Common.{sym}
-use Rattle.erm_plain.proofs.Rows.{first_at, none_more}
+use Rattle.erm_core_steps.proofs.Rows.{first_at, none_more}
 use Rattle.erm_plain.proofs.reads.first_row.Goals as goal
 
 pub returns-then-r-oid : goal.returns-then-r-oid

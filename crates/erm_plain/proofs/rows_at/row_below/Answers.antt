@@ -1,4 +1,4 @@
-use Rattle.erm_plain.proofs.Pinned.{below_more}
+use Rattle.erm_core_steps.proofs.Pinned.{below_more}
 use Rattle.erm_plain.proofs.rows_at.row_below.Goals as goal
 
 pub loop-v-preserved : goal.loop-v-preserved

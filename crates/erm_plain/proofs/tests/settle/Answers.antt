@@ -1,6 +1,6 @@
 use Rattle.std.proofs.Common.{ap, ◌∙◌}
 use Rattle.erm_world.specs.World.{Opening}
-use Rattle.erm_plain.proofs.Kept.{settle_keeps}
+use Rattle.erm_core_steps.proofs.Kept.{settle_keeps}
 use Rattle.erm_plain.specs.Stands.{plain_view}
 use Rattle.erm_plain.proofs.tests.settle.Goals as goal
 

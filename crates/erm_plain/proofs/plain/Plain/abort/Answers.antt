@@ -2,9 +2,9 @@ use Rattle.std.proofs.Common.{◌≡◌, ℕ, sym, subst, ◌∙◌}
 use Rattle.erm_core.specs.Cores.{core_of}
 use Rattle.erm_core_view.specs.Views.{IsQuiet, view_of}
 use Rattle.erm_world.specs.Calls.{DidAbort}
-use Rattle.erm_plain.specs.Steps.{IsUnseen}
-use Rattle.erm_plain.proofs.Aborts.{abort_done, leave_taken, may_end}
-use Rattle.erm_plain.proofs.Unseen.{unseen_both}
+use Rattle.erm_core_steps.specs.Steps.{IsUnseen}
+use Rattle.erm_core_steps.proofs.Aborts.{abort_done, leave_taken, may_end}
+use Rattle.erm_core_steps.proofs.Unseen.{unseen_both}
 use Rattle.erm_plain.proofs.plain.Plain.abort.Goals as goal
 
 pub release_claims-requires-clause-ends : goal.release_claims-requires-clause-ends

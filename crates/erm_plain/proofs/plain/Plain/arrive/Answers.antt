@@ -2,11 +2,11 @@ use Rattle.std.proofs.Common.{◌≡◌, ap, ◌∙◌, sym, subst}
 use Rattle.erm_core.specs.Cores.{core_of}
 use Rattle.erm_core_view.specs.Views.{view_of}
 use Rattle.erm_world.specs.Calls.{DidNotRead}
-use Rattle.erm_plain.specs.Reads.{GoesOn, IsWaiting}
+use Rattle.erm_core_steps.specs.Reads.{GoesOn, IsWaiting}
 use Rattle.erm_plain.specs.Stands.{plain_view}
-use Rattle.erm_plain.proofs.Owners.{err_to, not_yet, owner_other}
-use Rattle.erm_plain.proofs.Quiet.{active_seat}
-use Rattle.erm_plain.proofs.Ways.{arrived_owner, arrived_walks, begin_stays, entry_arrives, entry_taken, goes_both}
+use Rattle.erm_core_steps.proofs.Owners.{err_to, not_yet, owner_other}
+use Rattle.erm_core_steps.proofs.Quiet.{active_seat}
+use Rattle.erm_core_steps.proofs.Ways.{arrived_owner, arrived_walks, begin_stays, entry_arrives, entry_taken, goes_both}
 use Rattle.erm_plain.proofs.plain.Plain.arrive.Goals as goal
 
 pub load-requires-clause-at : goal.load-requires-clause-at

@@ -11,8 +11,8 @@ use Rattle.erm_core_view.specs.Views.{IsQuiet, session_of, view_of}
 use Rattle.erm_world.specs.Calls.{DidBegin}
 use Rattle.erm_world.specs.World.{IsSession, View, phase_at}
 use Rattle.erm_plain.specs.Stands.{plain_view}
-use Rattle.erm_plain.specs.Steps.{IsTaken, found_in}
-use Rattle.erm_plain.proofs.Beginnings.{announce_taken, begin_done, begun_at, first_taken, idle_seat, is_announced, log_ends, not_idle, numbers_over, second_taken}
+use Rattle.erm_core_steps.specs.Steps.{IsTaken, found_in}
+use Rattle.erm_core_steps.proofs.Beginnings.{announce_taken, begin_done, begun_at, first_taken, idle_seat, is_announced, log_ends, not_idle, numbers_over, second_taken}
 use Rattle.erm_plain.proofs.plain.Plain.begin.Goals as goal
 
 pub number-requires : goal.number-requires

@@ -7,9 +7,9 @@ use Rattle.erm_world.specs.Calls.{DidClaim, DidNotClaim, MayClaim, before}
 use Rattle.erm_world.specs.World.{IsSession, View, phase_at, work_at}
 use Rattle.erm_world.specs.Works.{is_claimed}
 use Rattle.erm_plain.specs.Stands.{plain_view}
-use Rattle.erm_plain.proofs.Exchanges.{claims_count, claims_shown}
-use Rattle.erm_plain.proofs.Quiet.{active_seat}
-use Rattle.erm_plain.proofs.Readings.{where_ok_too}
+use Rattle.erm_core_steps.proofs.Exchanges.{claims_count, claims_shown}
+use Rattle.erm_core_steps.proofs.Quiet.{active_seat}
+use Rattle.erm_core_steps.proofs.Readings.{where_ok_too}
 use Rattle.erm_plain.proofs.plain.Plain.claim.Goals as goal
 
 pub has_claimed-requires : goal.has_claimed-requires

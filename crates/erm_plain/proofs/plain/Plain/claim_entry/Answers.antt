@@ -7,14 +7,14 @@ use Rattle.erm_world.specs.Calls.{IsDone, IsOwned, MayClaim}
 use Rattle.erm_world.specs.World.{IsSession, View, phase_at, work_at}
 use Rattle.erm_world.specs.World as world
 use Rattle.erm_world.specs.Works.{is_claimed}
-use Rattle.erm_plain.specs.Reads.{GoesOn}
+use Rattle.erm_core_steps.specs.Reads.{GoesOn}
 use Rattle.erm_plain.specs.Stands.{plain_view}
-use Rattle.erm_plain.specs.Steps.{found_in}
-use Rattle.erm_plain.proofs.Early.{quiet_goes}
-use Rattle.erm_plain.proofs.Exchanges.{arrives_starts, has_head}
-use Rattle.erm_plain.proofs.Owners.{owner_other}
-use Rattle.erm_plain.proofs.Unowned.{owner_owned}
-use Rattle.erm_plain.proofs.Ways.{entry_arrives, entry_taken, goes_both}
+use Rattle.erm_core_steps.specs.Steps.{found_in}
+use Rattle.erm_core_steps.proofs.Early.{quiet_goes}
+use Rattle.erm_core_steps.proofs.Exchanges.{arrives_starts, has_head}
+use Rattle.erm_core_steps.proofs.Owners.{owner_other}
+use Rattle.erm_core_steps.proofs.Unowned.{owner_owned}
+use Rattle.erm_core_steps.proofs.Ways.{entry_arrives, entry_taken, goes_both}
 use Rattle.erm_plain.proofs.plain.Plain.claim_entry.Goals as goal
 
 pub load-requires-clause-taken : goal.load-requires-clause-taken

@@ -6,14 +6,14 @@ use Rattle.erm_core.specs.Cores.{core_of}
 use Rattle.erm_core.specs.Rooms.{HasSwapRoom}
 use Rattle.erm_core_view.specs.Views.{IsQuiet, view_of}
 use Rattle.erm_world.specs.World.{IsSession, phase_at}
-use Rattle.erm_plain.specs.Finishes.{IsDropped}
-use Rattle.erm_plain.specs.Reads.{IsExcluded}
+use Rattle.erm_core_steps.specs.Finishes.{IsDropped}
+use Rattle.erm_core_steps.specs.Reads.{IsExcluded}
 use Rattle.erm_plain.specs.Stands.{plain_view}
-use Rattle.erm_plain.specs.Steps.{IsUnseen}
-use Rattle.erm_plain.proofs.Exchanges.{claim_done, claim_excluded, dropped_same, excluded_cells, free_current, quiet_claimed, quiet_dropped}
-use Rattle.erm_plain.proofs.Quiet.{active_seat}
-use Rattle.erm_plain.proofs.Readings.{still_active, still_session}
-use Rattle.erm_plain.proofs.Unowned.{unowned}
+use Rattle.erm_core_steps.specs.Steps.{IsUnseen}
+use Rattle.erm_core_steps.proofs.Exchanges.{claim_done, claim_excluded, dropped_same, excluded_cells, free_current, quiet_claimed, quiet_dropped}
+use Rattle.erm_core_steps.proofs.Quiet.{active_seat}
+use Rattle.erm_core_steps.proofs.Readings.{still_active, still_session}
+use Rattle.erm_core_steps.proofs.Unowned.{unowned}
 use Rattle.erm_plain.proofs.plain.Plain.claim_found.Goals as goal
 
 pub exchange-requires-clause-at : goal.exchange-requires-clause-at

@@ -8,11 +8,11 @@ use Rattle.erm_world.specs.Calls.{IsDone, MayClaim}
 use Rattle.erm_world.specs.World.{View, Work, work_at}
 use Rattle.erm_world.specs.World as world
 use Rattle.erm_plain.specs.Stands.{plain_view}
-use Rattle.erm_plain.specs.Steps.{found_in}
-use Rattle.erm_plain.proofs.Early.{quiet_goes}
-use Rattle.erm_plain.proofs.Exchanges.{head_free, head_newer, head_starts, head_taken, head_unowned}
-use Rattle.erm_plain.proofs.Quiet.{active_seat}
-use Rattle.erm_plain.proofs.Ways.{begin_stays}
+use Rattle.erm_core_steps.specs.Steps.{found_in}
+use Rattle.erm_core_steps.proofs.Early.{quiet_goes}
+use Rattle.erm_core_steps.proofs.Exchanges.{head_free, head_newer, head_starts, head_taken, head_unowned}
+use Rattle.erm_core_steps.proofs.Quiet.{active_seat}
+use Rattle.erm_core_steps.proofs.Ways.{begin_stays}
 use Rattle.erm_plain.proofs.plain.Plain.claim_head.Goals as goal
 
 pub version-version-requires : goal.version-version-requires

@@ -1,7 +1,7 @@
 use Rattle.std.proofs.Common.{◌≡◌, ◌≤◌}
 use Rattle.erm_sound.specs.Kept.{SoundUnder}
 use Rattle.erm_core.specs.Cores.{core_of}
-use Rattle.erm_plain.specs.Steps.{IsEnding, IsUnseen, claims_in, reads_in}
+use Rattle.erm_core_steps.specs.Steps.{IsEnding, IsUnseen, claims_in, reads_in}
 use Rattle.erm_plain.proofs.plain.Plain.clear_readers.Given as goal
 
 abbrev pub invariant-loop-place : goal.invariant-loop-place

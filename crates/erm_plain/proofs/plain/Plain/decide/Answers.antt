@@ -2,7 +2,7 @@ use Rattle.std.proofs.Common.{ap, arith}
 use Rattle.erm_machine.specs.declared.part.Part.{Part}
 use Rattle.erm_core.specs.Cores.{core_of}
 use Rattle.erm_kept.specs.Attempts.{attempt_of}
-use Rattle.erm_plain.proofs.Deciding.{is_spelled, may_encode, sizes}
+use Rattle.erm_core_steps.proofs.Deciding.{is_spelled, may_encode, sizes}
 use Rattle.erm_plain.proofs.plain.Plain.decide.Goals as goal
 
 pub block_of-block-requires-clause-least : goal.block_of-block-requires-clause-least

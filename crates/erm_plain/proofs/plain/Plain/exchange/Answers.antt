@@ -1,5 +1,5 @@
 use Rattle.erm_core.specs.Cores.{core_of}
-use Rattle.erm_plain.proofs.Exchanges.{exchange_shows, exchange_taken}
+use Rattle.erm_core_steps.proofs.Exchanges.{exchange_shows, exchange_taken}
 use Rattle.erm_plain.proofs.plain.Plain.exchange.Goals as goal
 
 pub take-requires-clause-taken : goal.take-requires-clause-taken

@@ -1,6 +1,6 @@
 use Rattle.std.proofs.Common.{rules, sym, ◌∙◌}
 use Rattle.erm_core.specs.Cores.{core_of}
-use Rattle.erm_plain.proofs.Finishing.{drop_rests, drop_shows, drop_taken, finish_rests}
+use Rattle.erm_core_steps.proofs.Finishing.{drop_rests, drop_shows, drop_taken, finish_rests}
 use Rattle.erm_plain.proofs.plain.Plain.finish_claim.Goals as goal
 
 pub go-requires-clause-taken : goal.go-requires-clause-taken

@@ -1,8 +1,9 @@
 use Rattle.std.proofs.Common.{◌∙◌, refl}
 use Rattle.erm_core.specs.Cores.{core_of}
-use Rattle.erm_plain.proofs.Finishing.{finish_begins, finish_goes, finish_lasts, finish_serves, finish_unseen}
-use Rattle.erm_plain.proofs.Taken.{keeps_free}
-use Rattle.erm_plain.proofs.Ways.{goes_both, goes_none}
+use Rattle.erm_core_steps.proofs.Finishing.{finish_goes, finish_unseen}
+use Rattle.erm_plain.proofs.Room.{finish_begins, finish_lasts, finish_serves}
+use Rattle.erm_core_steps.proofs.Taken.{keeps_free}
+use Rattle.erm_core_steps.proofs.Ways.{goes_both, goes_none}
 use Rattle.erm_plain.proofs.plain.Plain.finish_steps.Goals as goal
 
 pub loop-kind-init : goal.loop-kind-init

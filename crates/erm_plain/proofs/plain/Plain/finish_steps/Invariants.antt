@@ -1,9 +1,10 @@
 use Rattle.std.proofs.Common.{◌≡◌, true}
 use Rattle.erm_sound.specs.Kept.{SoundUnder}
 use Rattle.erm_core.specs.Cores.{core_of}
-use Rattle.erm_plain.specs.Finishes.{is_finishing}
-use Rattle.erm_plain.specs.Reads.{GoesOn}
-use Rattle.erm_plain.proofs.Finishing.{KeepsCutRoom, finish_left}
+use Rattle.erm_core_steps.specs.Finishes.{is_finishing}
+use Rattle.erm_core_steps.specs.Reads.{GoesOn}
+use Rattle.erm_core_steps.proofs.Finishing.{finish_left}
+use Rattle.erm_plain.proofs.Room.{KeepsCutRoom}
 use Rattle.erm_plain.proofs.plain.Plain.finish_steps.Given as goal
 
 abbrev pub invariant-loop-kind : goal.invariant-loop-kind

@@ -11,9 +11,9 @@ use Rattle.erm_core_view.specs.Views.{IsQuiet, view_of}
 use Rattle.erm_world.specs.Calls.{AreAllMade, DidMake}
 use Rattle.erm_world.specs.World.{IsSession, View, phase_at}
 use Rattle.erm_plain.specs.Stands.{plain_view}
-use Rattle.erm_plain.specs.Steps.{found_in}
-use Rattle.erm_plain.proofs.Numbers.{counter_looked, counter_taken, number_made, number_taken}
-use Rattle.erm_plain.proofs.Quiet.{active_seat}
+use Rattle.erm_core_steps.specs.Steps.{found_in}
+use Rattle.erm_core_steps.proofs.Numbers.{counter_looked, counter_taken, number_made, number_taken}
+use Rattle.erm_core_steps.proofs.Quiet.{active_seat}
 use Rattle.erm_plain.proofs.plain.Plain.fresh.Goals as goal
 
 pub go-requires-clause-taken : goal.go-requires-clause-taken
@@ -56,7 +56,7 @@ returns-then-drawn-clause-err g c =
     let made : AreAllMade (view_of sessions before) =
     λ x from known. c.drawn_objects_are_made.ensures sessions x before stands.sound.sound stands.quiet from (omega (arith, known, many, drawn)) (omega (arith, known)) in (
       subst (λ (n : ℕ). view_of n between ≡ plain_view c.args.self.now) (sym c.go.ensures.sessions) (looked.unseen.view ∙ c.has_room.ensures.view),
-      omega (arith, many),
+      (omega (arith, many), omega (arith, drawn, stands.sound.sound.common.counters.objects)),
       subst AreAllMade c.has_room.ensures.view made,
     )
 

@@ -2,7 +2,7 @@ use Rattle.std.proofs.Common.{◌≡◌, ap, refl, ◌∙◌, arith}
 use Rattle.erm_machine.specs.declared.limits.TheConstants.{FLUSH_SEAT}
 use Rattle.erm_core.specs.Cores.{core_of}
 use Rattle.erm_core_turns.proofs.Gathers.{from_steps, tail_at, tail_steps}
-use Rattle.erm_plain.specs.Steps.{found_in}
+use Rattle.erm_core_steps.specs.Steps.{found_in}
 use Rattle.erm_plain.proofs.GatherCall.{begun, called}
 use Rattle.erm_plain.proofs.plain.Plain.gather.Goals as goal
 

@@ -1,5 +1,5 @@
 use Rattle.erm_core.specs.Cores.{core_of}
-use Rattle.erm_plain.proofs.Taken.{keeps_free}
+use Rattle.erm_core_steps.proofs.Taken.{keeps_free}
 use Rattle.erm_plain.proofs.plain.Plain.go.Goals as goal
 
 pub take-requires : goal.take-requires

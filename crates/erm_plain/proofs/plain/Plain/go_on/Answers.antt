@@ -1,7 +1,7 @@
 use Rattle.std.proofs.Common.{◌≡◌, ap, ◌∙◌, sym, subst, refl, Some}
 use Rattle.erm_core.specs.Cores.{core_of}
-use Rattle.erm_plain.specs.Reads.{GoesOn, read_step}
-use Rattle.erm_plain.proofs.Ways.{goes_both, read_goes, read_nears}
+use Rattle.erm_core_steps.specs.Reads.{GoesOn, read_step}
+use Rattle.erm_core_steps.proofs.Ways.{goes_both, read_goes, read_nears}
 use Rattle.erm_plain.proofs.plain.Plain.go_on.Goals as goal
 
 pub load-requires-clause-loads : goal.load-requires-clause-loads

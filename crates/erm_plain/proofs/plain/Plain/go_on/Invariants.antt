@@ -1,7 +1,8 @@
 use Rattle.std.proofs.Common.{◌≡◌}
 use Rattle.erm_sound.specs.Kept.{SoundUnder}
 use Rattle.erm_core.specs.Cores.{core_of}
-use Rattle.erm_plain.specs.Reads.{GoesOn, KeepsRoom, stage_of, steps_left}
+use Rattle.erm_core_steps.specs.Reads.{GoesOn, stage_of, steps_left}
+use Rattle.erm_plain.specs.Rooms.{KeepsRoom}
 use Rattle.erm_plain.proofs.plain.Plain.go_on.Given as goal
 
 abbrev pub invariant-loop-kind : goal.invariant-loop-kind

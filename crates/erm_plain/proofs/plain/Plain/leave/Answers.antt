@@ -1,8 +1,8 @@
 use Rattle.std.proofs.Common.{◌≡◌, Some, sym, subst, ◌∙◌}
 use Rattle.erm_machine.specs.Step.{after_event}
 use Rattle.erm_core.specs.Cores.{core_of}
-use Rattle.erm_plain.specs.Steps.{IsFree, IsTaken}
-use Rattle.erm_plain.proofs.Leaving.{end_less, end_since, end_taken, ends_free, last_left, last_rests, last_taken, of_end}
+use Rattle.erm_core_steps.specs.Steps.{IsFree, IsTaken}
+use Rattle.erm_core_steps.proofs.Leaving.{end_less, end_since, end_taken, ends_free, last_left, last_rests, last_taken, of_end}
 use Rattle.erm_plain.proofs.plain.Plain.leave.Goals as goal
 
 pub go-requires-clause-free : goal.go-requires-clause-free

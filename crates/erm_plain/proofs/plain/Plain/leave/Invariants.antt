@@ -1,7 +1,7 @@
 use Rattle.std.proofs.Common.{◌≡◌}
 use Rattle.erm_sound.specs.Kept.{SoundUnder}
 use Rattle.erm_core.specs.Cores.{core_of}
-use Rattle.erm_plain.proofs.Leaving.{Since, end_weight}
+use Rattle.erm_core_steps.proofs.Leaving.{Since, end_weight}
 use Rattle.erm_plain.proofs.plain.Plain.leave.Given as goal
 
 abbrev pub invariant-loop-kind : goal.invariant-loop-kind

@@ -1,9 +1,9 @@
 use Rattle.std.proofs.Common.{◌∙◌, refl}
 use Rattle.erm_core.specs.Cores.{core_of}
-use Rattle.erm_plain.proofs.Exchanges.{arrives_left, arrives_starts, uncleared}
-use Rattle.erm_plain.proofs.Owners.{owner_other}
-use Rattle.erm_plain.proofs.Quiet.{active_seat}
-use Rattle.erm_plain.proofs.Ways.{entry_arrives, entry_taken, goes_none}
+use Rattle.erm_core_steps.proofs.Exchanges.{arrives_left, arrives_starts, uncleared}
+use Rattle.erm_core_steps.proofs.Owners.{owner_other}
+use Rattle.erm_core_steps.proofs.Quiet.{active_seat}
+use Rattle.erm_core_steps.proofs.Ways.{entry_arrives, entry_taken, goes_none}
 use Rattle.erm_plain.proofs.plain.Plain.leave_cleared.Goals as goal
 
 pub task-requires : goal.task-requires

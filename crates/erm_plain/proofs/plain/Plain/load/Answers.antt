@@ -1,5 +1,5 @@
 use Rattle.erm_core.specs.Cores.{core_of}
-use Rattle.erm_plain.proofs.Ways.{load_adds, load_free, load_goes, load_leaves}
+use Rattle.erm_core_steps.proofs.Ways.{load_adds, load_free, load_goes, load_leaves}
 use Rattle.erm_plain.proofs.plain.Plain.load.Goals as goal
 
 pub go-requires : goal.go-requires

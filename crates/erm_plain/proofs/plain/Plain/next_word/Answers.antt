@@ -5,7 +5,7 @@ use Rattle.erm_machine.specs.Log.{ring_at}
 use Rattle.erm_machine.specs.declared.limits.TheConstants.{FLUSH_SEAT}
 use Rattle.erm_core_turns.specs.Turns.{in_block}
 use Rattle.erm_core_turns.proofs.Gathers.{load_taken, stops_here, word_on, word_stops}
-use Rattle.erm_plain.specs.Steps.{found_in}
+use Rattle.erm_core_steps.specs.Steps.{found_in}
 use Rattle.erm_plain.proofs.plain.Plain.next_word.Goals as goal
 
 -- in a block there's no more to ask

@@ -2,7 +2,7 @@ use Rattle.std.proofs.Common.{arith}
 use Rattle.erm_model.specs.declared.limits.TheConstants.{MOST_CELLS}
 use Rattle.erm_core.specs.Cores.{core_of, rows_of}
 use Rattle.erm_machine.specs.Core.{opening_state}
-use Rattle.erm_plain.proofs.Quiet.{opened_stands, opening_quiet}
+use Rattle.erm_core_steps.proofs.Quiet.{opened_stands, opening_quiet}
 use Rattle.erm_plain.proofs.plain.Plain.open.Goals as goal
 
 pub returns-clause-stands : goal.returns-clause-stands

@@ -2,9 +2,9 @@ use Rattle.std.proofs.Common.{◌≡◌, ap, ◌∙◌, sym, subst, true, false,
 use Rattle.erm_machine.specs.Seat.{may_start}
 use Rattle.erm_machine.specs.Words.{is_clear, state_of}
 use Rattle.erm_core.specs.Cores.{core_of}
-use Rattle.erm_plain.specs.Reads.{GoesOn}
-use Rattle.erm_plain.specs.Steps.{found_in}
-use Rattle.erm_plain.proofs.Ways.{cleared_taken, cleared_walks, goes_both, look_clears, look_taken, look_waits}
+use Rattle.erm_core_steps.specs.Reads.{GoesOn}
+use Rattle.erm_core_steps.specs.Steps.{found_in}
+use Rattle.erm_core_steps.proofs.Ways.{cleared_taken, cleared_walks, goes_both, look_clears, look_taken, look_waits}
 use Rattle.erm_plain.proofs.plain.Plain.pass_owner.Goals as goal
 
 pub load-requires-clause-taken : goal.load-requires-clause-taken

@@ -1,9 +1,9 @@
 use Rattle.std.proofs.Common.{◌≡◌}
 use Rattle.erm_sound.specs.Kept.{SoundUnder}
 use Rattle.erm_core.specs.Cores.{core_of}
-use Rattle.erm_plain.specs.Settles.{IsPassing}
-use Rattle.erm_plain.specs.Steps.{IsUnseen}
-use Rattle.erm_plain.proofs.Weights.{weight}
+use Rattle.erm_core_steps.specs.Settles.{IsPassing}
+use Rattle.erm_core_steps.specs.Steps.{IsUnseen}
+use Rattle.erm_core_steps.proofs.Weights.{weight}
 use Rattle.erm_plain.proofs.plain.Plain.pass_versions.Given as goal
 
 abbrev pub invariant-loop-kind : goal.invariant-loop-kind

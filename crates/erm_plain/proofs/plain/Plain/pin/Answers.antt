@@ -6,7 +6,7 @@ use Rattle.erm_core.specs.Cores.{core_of}
 use Rattle.erm_core_turns.proofs.Pins.{announce_steps, announced_place, begun_place, first_steps, pin_done, second_steps, unpinned}
 use Rattle.erm_core_view.specs.Views.{IsQuiet}
 use Rattle.erm_plain.specs.Logs.{plain_log}
-use Rattle.erm_plain.specs.Steps.{IsTaken, found_in}
+use Rattle.erm_core_steps.specs.Steps.{IsTaken, found_in}
 use Rattle.erm_plain.specs.Stands.{Stands}
 use Rattle.erm_plain.proofs.Turned.{turned_keeps, turned_log}
 use Rattle.erm_plain.proofs.plain.Plain.pin.Goals as goal

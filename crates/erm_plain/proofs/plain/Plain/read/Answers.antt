@@ -1,5 +1,5 @@
 use Rattle.erm_core.specs.Cores.{core_of}
-use Rattle.erm_plain.proofs.Quiet.{active_seat}
+use Rattle.erm_core_steps.proofs.Quiet.{active_seat}
 use Rattle.erm_plain.proofs.plain.Plain.read.Goals as goal
 
 pub own_row-requires : goal.own_row-requires

@@ -5,8 +5,8 @@ use Rattle.erm_core.specs.Cores.{core_of}
 use Rattle.erm_world.specs.Calls.{DidNotRead, DidRead, IsNew}
 use Rattle.erm_world.specs.World.{IsSession, View, phase_at, work_at}
 use Rattle.erm_plain.specs.Stands.{plain_view}
-use Rattle.erm_plain.proofs.Quiet.{active_seat}
-use Rattle.erm_plain.proofs.Readings.{reads_shown}
+use Rattle.erm_core_steps.proofs.Quiet.{active_seat}
+use Rattle.erm_core_steps.proofs.Readings.{reads_shown}
 use Rattle.erm_plain.proofs.plain.Plain.read_first.Goals as goal
 
 pub reads-requires : goal.reads-requires

@@ -1,5 +1,5 @@
 use Rattle.erm_plain.specs.Stands.{plain_view}
-use Rattle.erm_plain.proofs.Readings.{read_excluded, read_goes_on}
+use Rattle.erm_core_steps.proofs.Readings.{read_excluded, read_goes_on}
 use Rattle.erm_plain.proofs.plain.Plain.read_now.Goals as goal
 
 pub returns-in-Ok-clause-ok : goal.returns-in-Ok-clause-ok

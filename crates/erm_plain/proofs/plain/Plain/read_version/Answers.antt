@@ -2,11 +2,11 @@ use Rattle.std.proofs.Common.{◌≡◌, ◌∙◌, sym, subst}
 use Rattle.erm_core.specs.Cores.{core_of}
 use Rattle.erm_core.specs.declared.need.Need.TheVariants as need
 use Rattle.erm_core_view.specs.Views.{IsQuiet, view_of}
-use Rattle.erm_plain.specs.Reads.{DidRegister, GoesOn, HasRegistered}
+use Rattle.erm_core_steps.specs.Reads.{DidRegister, GoesOn, HasRegistered}
 use Rattle.erm_plain.specs.Stands.{plain_view}
-use Rattle.erm_plain.proofs.Early.{quiet_goes}
-use Rattle.erm_plain.proofs.Registered.{did_register, quiet_registered, reads_few, reads_none}
-use Rattle.erm_plain.proofs.Ways.{goes_both}
+use Rattle.erm_core_steps.proofs.Early.{quiet_goes}
+use Rattle.erm_core_steps.proofs.Registered.{did_register, quiet_registered, reads_few, reads_none}
+use Rattle.erm_core_steps.proofs.Ways.{goes_both}
 use Rattle.erm_plain.proofs.plain.Plain.read_version.Goals as goal
 
 pub returns-in_err-arrive-clause-stands : goal.returns-in_err-arrive-clause-stands

@@ -2,7 +2,7 @@ use Rattle.erm_machine.specs.declared.event.Kind.TheVariants as kind
 use Rattle.erm_core.specs.Cores.{core_of}
 use Rattle.erm_core.specs.declared.need.Need.TheVariants as need
 use Rattle.std.proofs.Common.{refl}
-use Rattle.erm_plain.proofs.Registered.{found_of, register_shows, register_taken}
+use Rattle.erm_core_steps.proofs.Registered.{found_of, register_shows, register_taken}
 use Rattle.erm_plain.proofs.plain.Plain.register.Goals as goal
 
 pub take-requires-clause-room : goal.take-requires-clause-room

@@ -1,7 +1,7 @@
 use Rattle.std.proofs.Common.{◌∙◌, arith}
 use Rattle.erm_core.specs.Cores.{core_of}
-use Rattle.erm_plain.specs.Steps.{claims_in, reads_in}
-use Rattle.erm_plain.proofs.Aborts.{release_more, release_taken}
+use Rattle.erm_core_steps.specs.Steps.{claims_in, reads_in}
+use Rattle.erm_core_steps.proofs.Aborts.{release_more, release_taken}
 use Rattle.erm_plain.proofs.plain.Plain.release_claims.Goals as goal
 
 pub go-requires-clause-taken : goal.go-requires-clause-taken

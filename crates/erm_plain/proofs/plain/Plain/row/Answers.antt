@@ -4,10 +4,10 @@ use Rattle.erm_machine.specs.Core.{Object, newest, no_version, version_at}
 use Rattle.erm_machine.specs.declared.version.Version.{Version}
 use Rattle.erm_model.specs.History.{rows_after}
 use Rattle.erm_core.specs.Cores.{core_of}
-use Rattle.erm_plain.specs.Pinned.{IsNewestRow}
+use Rattle.erm_core_steps.specs.Pinned.{IsNewestRow}
 use Rattle.erm_plain.specs.Stands.{plain_view}
 use Rattle.erm_world.specs.World.{history_of}
-use Rattle.erm_plain.proofs.FinalRows.{commits_below, final_row}
+use Rattle.erm_core_steps.proofs.FinalRows.{commits_below, final_row}
 use Rattle.erm_plain.proofs.plain.Plain.row.Goals as goal
 
 pub returns-in-Some-clause-newest : goal.returns-in-Some-clause-newest

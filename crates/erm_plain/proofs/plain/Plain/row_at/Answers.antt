@@ -1,8 +1,8 @@
 use Rattle.std.proofs.Common.{None, ap, sym, ◌∙◌}
 use Rattle.erm_core.specs.Cores.{core_of}
-use Rattle.erm_plain.specs.Pinned.{owner_below, row_below}
+use Rattle.erm_core_steps.specs.Pinned.{owner_below, row_below}
 use Rattle.erm_plain.proofs.Lasting.{row_lasts}
-use Rattle.erm_plain.proofs.Pinned.{newest_found, row_found, some_found, unwaited_found, wait_found}
+use Rattle.erm_core_steps.proofs.Pinned.{newest_found, row_found, some_found, unwaited_found, wait_found}
 use Rattle.erm_plain.proofs.plain.Plain.row_at.Goals as goal
 
 pub returns-in-Some-clause-wait : goal.returns-in-Some-clause-wait

@@ -7,9 +7,10 @@ use Rattle.erm_core_view.specs.Views.{IsQuiet, view_of, work_of}
 use Rattle.erm_world.specs.Calls.{DidSeal}
 use Rattle.erm_world.specs.World.{size_of}
 use Rattle.erm_plain.specs.Stands.{plain_view}
-use Rattle.erm_plain.specs.Steps.{IsTaken, found_in}
-use Rattle.erm_plain.proofs.Quiet.{active_seat}
-use Rattle.erm_plain.proofs.Stamps.{draw_few, draw_taken, draws_lawfully, is_drawn, is_sealing, seal_done, sealing_taken, size_shown, stamp_taken}
+use Rattle.erm_core_steps.specs.Steps.{IsTaken, found_in}
+use Rattle.erm_core_steps.proofs.Quiet.{active_seat}
+use Rattle.erm_plain.proofs.Room.{draw_few}
+use Rattle.erm_core_steps.proofs.Stamps.{draw_taken, draws_lawfully, is_drawn, is_sealing, seal_done, sealing_taken, size_shown, stamp_taken}
 use Rattle.erm_plain.proofs.plain.Plain.seal.Goals as goal
 
 pub size-size-requires : goal.size-size-requires

@@ -10,10 +10,10 @@ use Rattle.erm_world.specs.World.{work_at}
 use Rattle.erm_model.specs.declared.history.VersionWritten.{VersionWritten}
 use Rattle.erm_world.specs.Works.{is_claimed, setting}
 use Rattle.erm_plain.specs.Stands.{plain_view}
-use Rattle.erm_plain.proofs.Exchanges.{claims_shown}
-use Rattle.erm_plain.proofs.Quiet.{active_seat}
-use Rattle.erm_plain.proofs.Stored.{may_write, quiet_stored, store_next, store_run, store_taken, store_window, stored_all, stored_shows, storing_first}
-use Rattle.erm_plain.proofs.Unseen.{others_stay}
+use Rattle.erm_core_steps.proofs.Exchanges.{claims_shown}
+use Rattle.erm_core_steps.proofs.Quiet.{active_seat}
+use Rattle.erm_core_steps.proofs.Stored.{may_write, quiet_stored, store_next, store_run, store_taken, store_window, stored_all, stored_shows, storing_first}
+use Rattle.erm_core_steps.proofs.Unseen.{others_stay}
 use Rattle.erm_plain.proofs.plain.Plain.set_row.Goals as goal
 
 pub place_claimed-claim-requires : goal.place_claimed-claim-requires

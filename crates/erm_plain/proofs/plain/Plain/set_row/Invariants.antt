@@ -3,8 +3,8 @@ use Rattle.erm_machine.specs.Step.{run_from}
 use Rattle.erm_sound.specs.Kept.{SoundUnder}
 use Rattle.erm_core.specs.Cores.{core_of}
 use Rattle.erm_core_view.specs.Steps.{stores_from}
-use Rattle.erm_plain.specs.Claiming.{IsStoring}
-use Rattle.erm_plain.specs.Reads.{closed_window}
+use Rattle.erm_core_steps.specs.Claiming.{IsStoring}
+use Rattle.erm_core_steps.specs.Reads.{closed_window}
 use Rattle.erm_plain.proofs.plain.Plain.set_row.Given as goal
 
 abbrev pub invariant-loop-k : goal.invariant-loop-k

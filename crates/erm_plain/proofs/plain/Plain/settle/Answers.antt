@@ -8,11 +8,11 @@ use Rattle.erm_core_view.specs.Views.{IsQuiet, view_of}
 use Rattle.erm_world.specs.declared.stops.Wait.{Wait}
 use Rattle.erm_world.specs.declared.stops.Wait.TheVariants as wait
 use Rattle.erm_world.specs.Calls.{DidNotSettle, DidSettle}
-use Rattle.erm_plain.specs.Ends.{HasDecided, HasLeft}
+use Rattle.erm_core_steps.specs.Ends.{HasDecided, HasLeft}
 use Rattle.erm_plain.specs.Stands.{plain_view}
-use Rattle.erm_plain.specs.Steps.{IsUnseen, found_in}
-use Rattle.erm_plain.proofs.Settling.{as_before, did_settle, flush_size, flush_taken, flush_unseen, is_full, is_one, may_decide, not_full, not_settled, passing_may, quiet_left, ring_full, room_found, settle_may, starts, still_quiet}
-use Rattle.erm_plain.proofs.Unseen.{unseen_both}
+use Rattle.erm_core_steps.specs.Steps.{IsUnseen, found_in}
+use Rattle.erm_core_steps.proofs.Settling.{as_before, did_settle, flush_size, flush_taken, flush_unseen, is_full, is_one, may_decide, not_full, not_settled, passing_may, quiet_left, ring_full, room_found, settle_may, starts, still_quiet}
+use Rattle.erm_core_steps.proofs.Unseen.{unseen_both}
 use Rattle.erm_plain.proofs.plain.Plain.settle.Goals as goal
 
 pub go-requires-clause-taken : goal.go-requires-clause-taken

@@ -4,8 +4,8 @@ use Rattle.erm_machine.specs.declared.event.Kind.TheVariants as kind
 use Rattle.erm_machine.specs.Step.{after_event}
 use Rattle.erm_core.specs.Cores.{core_of}
 use Rattle.erm_sound.specs.Kept.{Keeps}
-use Rattle.erm_plain.specs.Steps.{IsTaken}
-use Rattle.erm_plain.proofs.Deciding.{Filling, decide_keeps, decide_taken, decided, fill_more, fill_taken, filling_none}
+use Rattle.erm_core_steps.specs.Steps.{IsTaken}
+use Rattle.erm_core_steps.proofs.Deciding.{Filling, decide_keeps, decide_taken, decided, fill_more, fill_taken, filling_none}
 use Rattle.erm_plain.proofs.plain.Plain.store_words.Goals as goal
 
 pub loop-k-init : goal.loop-k-init

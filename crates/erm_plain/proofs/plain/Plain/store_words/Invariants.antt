@@ -1,7 +1,7 @@
 use Rattle.std.proofs.Common.{◌≡◌}
 use Rattle.erm_core.specs.Cores.{core_of}
 use Rattle.erm_sound.specs.Kept.{SoundUnder}
-use Rattle.erm_plain.proofs.Deciding.{Filling}
+use Rattle.erm_core_steps.proofs.Deciding.{Filling}
 use Rattle.erm_plain.proofs.plain.Plain.store_words.Given as goal
 
 abbrev pub invariant-loop-k : goal.invariant-loop-k

@@ -1,5 +1,5 @@
 use Rattle.erm_core.specs.Cores.{core_of}
-use Rattle.erm_plain.proofs.Taken.{stepped_to}
+use Rattle.erm_core_steps.proofs.Taken.{stepped_to}
 use Rattle.erm_plain.proofs.plain.Plain.take.Goals as goal
 
 pub returns-clause-sound : goal.returns-clause-sound

@@ -1,8 +1,8 @@
 use Rattle.std.proofs.Common.{◌≡◌, Some, sym}
 use Rattle.erm_core.specs.Cores.{core_of}
-use Rattle.erm_plain.specs.Reads.{closed_window}
-use Rattle.erm_plain.proofs.Early.{shut_is}
-use Rattle.erm_plain.proofs.Quiet.{active_seat}
+use Rattle.erm_core_steps.specs.Reads.{closed_window}
+use Rattle.erm_core_steps.proofs.Early.{shut_is}
+use Rattle.erm_core_steps.proofs.Quiet.{active_seat}
 use Rattle.erm_plain.proofs.plain.Plain.test_early.Goals as goal
 
 pub closed_window-requires : goal.closed_window-requires

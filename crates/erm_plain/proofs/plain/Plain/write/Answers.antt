@@ -3,7 +3,7 @@ use Rattle.erm_world.specs.Calls.{Works}
 use Rattle.erm_world.specs.World.{work_at}
 use Rattle.erm_world.specs.Works.{setting}
 use Rattle.erm_plain.specs.Stands.{plain_view}
-use Rattle.erm_plain.proofs.Stored.{claim_active, claim_claims, claim_session, claim_then_set}
+use Rattle.erm_core_steps.proofs.Stored.{claim_active, claim_claims, claim_session, claim_then_set}
 use Rattle.erm_plain.proofs.plain.Plain.write.Goals as goal
 
 pub set_row-requires-clause-session : goal.set_row-requires-clause-session

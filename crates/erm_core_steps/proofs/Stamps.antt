@@ -1,0 +1,195 @@
+-- A seal: the state word is 1, a range of the block's size is drawn, and the state word is its start.
+use Rattle.std.proofs.Common.{◌≡◌, ◌≢◌, ℕ, ◌+◌, ◌≤◌, true, List, [], ◌∷◌, map, Some, refl, sym, ap, ◌∙◌, subst, arith}
+use Rattle.std.proofs.lemmas.Bool.{and_from, eq-eqb, le-leb}
+use Rattle.erm_model.specs.declared.history.VersionWritten.{VersionWritten}
+use Rattle.erm_model.specs.RowTransaction.{Law}
+use Rattle.erm_model.specs.Lawful.{IsLawfulRecord}
+use Rattle.erm_machine.specs.declared.attempt.Attempt.{Attempt}
+use Rattle.erm_machine.specs.declared.attempt.Claim.{Claim}
+use Rattle.erm_machine.specs.declared.event.Kind.{Kind}
+use Rattle.erm_machine.specs.declared.event.Kind.TheVariants as kind
+use Rattle.erm_machine.specs.declared.limits.TheConstants.{GREATEST_BLOCK, LEAST_BLOCK}
+use Rattle.erm_machine.specs.declared.part.Part.{Part}
+use Rattle.erm_machine.specs.declared.place.Place.{Place}
+use Rattle.erm_machine.specs.declared.place.Place.TheVariants.{Active, Drawn, Sealed, Sealing}
+use Rattle.erm_machine.specs.declared.task.Task.{Task}
+use Rattle.erm_machine.specs.declared.task.Task.TheVariants as task
+use Rattle.erm_machine.specs.Core.{Core}
+use Rattle.erm_machine.specs.Decided.{record_of, written_of}
+use Rattle.erm_machine.specs.Life.{add_tail, store_state}
+use Rattle.erm_machine.specs.Seat.{is_active, saw, with_range}
+use Rattle.erm_machine.specs.Sound.{Sound}
+use Rattle.erm_machine.specs.Step.{after_event}
+use Rattle.erm_machine.specs.Words.{is_session}
+use Rattle.erm_record.specs.Stored.{block_words}
+use Rattle.erm_core_calls.proofs.Moving.{met, stepped, taken}
+use Rattle.erm_core_view.specs.Views.{IsBetween, IsQuiet, finished_of, session_of, stand_of, view_of, work_of}
+use Rattle.erm_core_view.proofs.Moved.{changes_one}
+use Rattle.erm_core_view.proofs.Shown.{work_active}
+use Rattle.erm_world.specs.Calls.{DidSeal}
+use Rattle.erm_world.specs.Laws.{IsLawfulWork}
+use Rattle.erm_world.specs.World.{Finished, IsSession, Opening, Session, View, Work, size_of, work_at}
+use Rattle.erm_world.specs.World as world
+use Rattle.erm_core_steps.specs.Steps.{IsTaken}
+use Rattle.erm_core_steps.proofs.Aborts.{no_flusher, part_stepped}
+use Rattle.erm_core_steps.proofs.Quiet.{IsActive, quiet_after}
+use Rattle.erm_core_steps.proofs.Unseen.{others_stay}
+
+-- an active place, with the tail that it announced
+pub record IsActiveAt (pl : Place) : Type 0 where
+  pub tail : ℕ
+  pub is : pl ≡ Active tail
+
+active_at : (pl : Place) → is_active pl ≡ true → IsActiveAt pl
+active_at (Active tail) e = record { tail = tail; is = refl }
+active_at _ e = absurd (cc)
+
+-- the part after each of its steps
+abbrev pub sealing : ℕ → Part → Part
+sealing tail x = record x { place = Sealing tail; task = task.Rest }
+
+abbrev pub drawn : ℕ → ℕ → ℕ → Part → Part
+drawn tail found size x = saw found (record x { place = Drawn tail found; current = with_range found size x.current })
+
+abbrev pub sealed : ℕ → ℕ → Part → Part
+sealed tail stamp x = record x { place = Sealed tail stamp }
+
+sealing_steps : (seat : ℕ) (c : Core) → IsActive seat c → (a : IsActiveAt (c.seats seat).place)
+    → after_event c seat (kind.StoreState 1) ≡ Some (stepped c seat (kind.StoreState 1) (sealing a.tail (c.seats seat)))
+sealing_steps seat c at a =
+    taken c seat (kind.StoreState 1) (sealing a.tail (c.seats seat)) tt refl
+    (met _ _ _ (ap (store_state seat 1 (c.seats seat)) a.is) (and_from _ _ (and_from _ _ refl at.session) at.starts))
+
+pub sealing_taken : (seat : ℕ) (c : Core) → IsActive seat c → IsTaken c seat (kind.StoreState 1)
+sealing_taken seat c at = (_, sealing_steps seat c at (active_at (c.seats seat).place at.active))
+
+-- what is known of a transaction that is to draw its range: its work is as it was
+pub record IsSealing (seat : ℕ) (b c : Core) : Type 0 where
+  pub tail : ℕ
+  pub session : is_session seat ≡ true
+  pub is : c.seats seat ≡ sealing tail (b.seats seat)
+
+pub is_sealing : (seat : ℕ) (b c : Core) → IsActive seat b → after_event b seat (kind.StoreState 1) ≡ Some c → IsSealing seat b c
+is_sealing seat b c at e =
+    let a = active_at (b.seats seat).place at.active in
+    record {
+      tail = a.tail;
+      session = at.session;
+      is = part_stepped b c seat (kind.StoreState 1) (sealing a.tail (b.seats seat)) (sealing_steps seat b at a) e;
+    }
+
+draw_steps : (seat size : ℕ) (b c : Core) (at : IsSealing seat b c) → LEAST_BLOCK ≤ size → size ≤ GREATEST_BLOCK
+    → after_event c seat (kind.AddTail size) ≡ Some (stepped c seat (kind.AddTail size) (drawn at.tail c.shared.tail size (c.seats seat)))
+draw_steps seat size b c at least most =
+    let place : (c.seats seat).place ≡ Sealing at.tail = ap (λ (y : Part). y.place) at.is in
+    taken c seat (kind.AddTail size) (drawn at.tail c.shared.tail size (c.seats seat)) tt refl
+    (met _ _ _ (ap (add_tail seat size c.shared.tail (c.seats seat)) place)
+    (and_from _ _ (and_from _ _ at.session (le-leb LEAST_BLOCK size least)) (le-leb size GREATEST_BLOCK most)))
+
+pub draw_taken : (seat size : ℕ) (b c : Core) → IsSealing seat b c → LEAST_BLOCK ≤ size → size ≤ GREATEST_BLOCK → IsTaken c seat (kind.AddTail size)
+draw_taken seat size b c at least most = (_, draw_steps seat size b c at least most)
+
+-- what is known of one that has drawn its range
+pub record IsDrawn (seat size : ℕ) (b c d : Core) : Type 0 where
+  pub tail : ℕ
+  pub is : d.seats seat ≡ drawn tail c.shared.tail size (c.seats seat)
+
+pub is_drawn : (seat size : ℕ) (b c d : Core) → IsSealing seat b c → LEAST_BLOCK ≤ size → size ≤ GREATEST_BLOCK → after_event c seat (kind.AddTail size) ≡ Some d → IsDrawn seat size b c d
+is_drawn seat size b c d at least most e = record {
+  tail = at.tail;
+  is = part_stepped c d seat (kind.AddTail size) (drawn at.tail c.shared.tail size (c.seats seat)) (draw_steps seat size b c at least most) e;
+}
+
+stamp_steps : (seat size : ℕ) (b c d : Core) (at : IsDrawn seat size b c d)
+    → after_event d seat (kind.StoreState c.shared.tail) ≡ Some (stepped d seat (kind.StoreState c.shared.tail) (sealed at.tail c.shared.tail (d.seats seat)))
+stamp_steps seat size b c d at =
+    let stamp : ℕ = c.shared.tail in
+    let place : (d.seats seat).place ≡ Drawn at.tail stamp = ap (λ (y : Part). y.place) at.is in
+    taken d seat (kind.StoreState stamp) (sealed at.tail stamp (d.seats seat)) tt refl
+    (met _ _ _ (ap (store_state seat stamp (d.seats seat)) place) (eq-eqb stamp stamp refl))
+
+pub stamp_taken : (seat size : ℕ) (b c d : Core) → IsDrawn seat size b c d → IsTaken d seat (kind.StoreState c.shared.tail)
+stamp_taken seat size b c d at = (_, stamp_steps seat size b c d at)
+
+-- a transaction of a world that keeps the law keeps it in the machine
+lawful_record : (law : Law) (seat : ℕ) (t : Attempt) → IsLawfulWork law (work_of t) → IsLawfulRecord law (record_of seat t)
+lawful_record law seat t lawful = record {
+  meets = λ rows fits. lawful.meets rows (record { meets = fits.meets; reads = fits.reads; claims = fits.claims; unreached = fits.unreached });
+  reach = λ rows x fits. lawful.reach rows x (record { meets = fits.meets; reads = fits.reads; claims = fits.claims; unreached = fits.unreached });
+}
+
+pub work_is : (sessions seat : ℕ) (c : Core) → IsActive seat c → work_at (view_of sessions c) seat ≡ work_of (c.seats seat).current
+work_is sessions seat c at = work_active (c.seats seat).place (c.seats seat).current at.active
+
+pub draws_lawfully : (law : Law) (sessions seat : ℕ) (b c : Core) → IsActive seat b → IsSealing seat b c → IsLawfulWork law (work_at (view_of sessions b) seat)
+    → IsLawfulRecord law (record_of seat (c.seats seat).current)
+draws_lawfully law sessions seat b c active at lawful =
+    subst (λ (t : Attempt). IsLawfulRecord law (record_of seat t)) (sym (ap (λ (y : Part). y.current) at.is))
+    (lawful_record law seat (b.seats seat).current (subst (IsLawfulWork law) (work_is sessions seat b active) lawful))
+
+pub seal_done : (sessions seat size : ℕ) (b c d e : Core) → Sound b → Sound c → Sound d → IsQuiet sessions b → IsSession (view_of sessions b) seat → IsActive seat b
+    → (at : IsSealing seat b c) → (has : IsDrawn seat size b c d) → size ≡ size_of (work_of (b.seats seat).current) → size ≤ GREATEST_BLOCK → after_event b seat (kind.StoreState 1) ≡ Some c
+    → after_event c seat (kind.AddTail size) ≡ Some d → after_event d seat (kind.StoreState c.shared.tail) ≡ Some e
+    → IsQuiet sessions e × DidSeal (view_of sessions b) seat c.shared.tail (view_of sessions e)
+seal_done sessions seat size b c d e sound_b sound_c sound_d quiet session active at has sized greatest first second third =
+    let stamp : ℕ = c.shared.tail in
+    let k : Kind = kind.StoreState 1 in
+    let n : Kind = kind.AddTail size in
+    let m : Kind = kind.StoreState stamp in
+    let one = changes_one sessions seat b c k sound_b tt first in
+    let two = changes_one sessions seat c d n sound_c tt second in
+    let three = changes_one sessions seat d e m sound_d tt third in
+    let others : (q : ℕ) → q ≢ seat → e.seats q ≡ b.seats q =
+    λ q other. others_stay d e seat m tt third q other ∙ others_stay c d seat n tt second q other ∙ others_stay b c seat k tt first q other
+    in
+    let is : e.seats seat ≡ sealed has.tail stamp (d.seats seat) = part_stepped d e seat m (sealed has.tail stamp (d.seats seat)) (stamp_steps seat size b c d has) third in
+    let opening : (view_of sessions e).opening ≡ (view_of sessions b).opening = three.opening ∙ two.opening ∙ one.opening in
+    let flushed : e.shared.flushed ≡ b.shared.flushed = three.flushed ∙ two.flushed ∙ one.flushed in
+    let tail_one = one.tail in
+    let tail_two = two.tail in
+    let tail_three = three.tail in
+    let tail : e.shared.tail ≡ b.shared.tail + size = omega (arith, tail_one, tail_two, tail_three) in
+    let opened : e.shared.opening ≡ b.shared.opening = ap (λ (o : Opening). o.tail) opening in
+    let work : work_of (e.seats seat).current ≡ work_of (b.seats seat).current =
+    ap (λ (y : Part). work_of y.current) is ∙ ap (λ (y : Part). work_of y.current) has.is ∙ ap (λ (y : Part). work_of y.current) at.is
+    in
+    let over : map finished_of (e.seats seat).over ≡ map finished_of (b.seats seat).over =
+    ap (λ (y : Part). map finished_of y.over) is ∙ ap (λ (y : Part). map finished_of y.over) has.is ∙ ap (λ (y : Part). map finished_of y.over) at.is
+    in
+    let drawn_size : (e.seats seat).current.size ≡ size = ap (λ (y : Part). y.current.size) is ∙ ap (λ (y : Part). y.current.size) has.is in
+    let made : List Finished → Work → Session = λ fs w. record { over = fs; stand = world.sealed w stamp } in
+    let place : (e.seats seat).place ≡ Sealed has.tail stamp = ap (λ (y : Part). y.place) is in
+    let rests : (e.seats seat).task ≡ task.Rest = ap (λ (y : Part). y.task) is ∙ ap (λ (y : Part). y.task) has.is ∙ ap (λ (y : Part). y.task) at.is in
+    let whole : work_of (b.seats seat).current ≡ work_at (view_of sessions b) seat = sym (work_is sessions seat b active) in
+    let fits : e.shared.tail ≡ b.shared.tail + size_of (work_at (view_of sessions b) seat) =
+    tail ∙ ap (λ (s : ℕ). b.shared.tail + s) (sized ∙ ap size_of whole)
+    in
+    let low = quiet.flushed.0 in
+    let high = quiet.flushed.1 in (
+      quiet_after sessions seat b e quiet session others (ap (λ (o : Opening). o.tail) opening) (between (e.seats seat).place (e.seats seat).task has.tail stamp place rests)
+          (λ _. drawn_size ∙ sized ∙ ap size_of (sym work)) (omega (arith, opened, flushed, low), omega (arith, tail, flushed, high)),
+      record {
+        stamp_is = omega (arith, tail_one);
+        own =
+            ap (λ (p : Place). let s : Session = record { over = map finished_of (e.seats seat).over; stand = stand_of p (e.seats seat).current } in s) place
+            ∙ ap (λ (fs : List Finished). made fs (work_of (e.seats seat).current)) over
+            ∙ ap (λ (w : Work). made (map finished_of (b.seats seat).over) w) (work ∙ whole);
+        others = λ q other. ap session_of (others q other);
+        opening = opening;
+        tail = fits;
+        fits = subst (λ (s : ℕ). s ≤ GREATEST_BLOCK) (sized ∙ ap size_of whole) greatest;
+        flushed = flushed;
+        pinned = (let other = no_flusher seat active.session in three.pinned other ∙ two.pinned other ∙ one.pinned other);
+      },
+    )
+  where
+    between : (pl : Place) (u : Task) (tail stamp : ℕ) → pl ≡ Sealed tail stamp → u ≡ task.Rest → IsBetween pl u
+    between pl u tail stamp at rests = subst (λ (p : Place). IsBetween p u) (sym at) (subst (λ (v : Task). IsBetween (Sealed tail stamp) v) (sym rests) refl)
+
+-- the rows of claims, as the view has them
+rows_shown : (ws : List Claim) → map (λ (c : VersionWritten). c.row) (map written_of ws) ≡ map (λ (w : Claim). w.row) ws
+rows_shown [] = refl
+rows_shown (w ∷ ws) = ap (λ (rows : List (List ℕ)). w.row ∷ rows) (rows_shown ws)
+
+pub size_shown : (t : Attempt) → size_of (work_of t) ≡ block_words (map (λ (w : Claim). w.row) t.writes)
+size_shown t = ap block_words (rows_shown t.writes)

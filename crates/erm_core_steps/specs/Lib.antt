@@ -1,0 +1,7 @@
+pub mod Claiming
+pub mod Ends
+pub mod Finishes
+pub mod Pinned
+pub mod Reads
+pub mod Settles
+pub mod Steps
