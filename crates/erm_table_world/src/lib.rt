@@ -1,0 +1,15 @@
+//! The world over the word table: all sessions in one pass, over the words that threads share.
+#![tactic(auto)]
+
+mod begins;
+mod makes;
+mod reads;
+mod seals;
+mod settles;
+mod table_world;
+#[cfg(test)]
+mod tests;
+mod world;
+
+pub use table_world::TableWorld;
+pub use world::standing_worlds_have_laws;
