@@ -1,9 +1,13 @@
 pub mod OfCauses
 pub mod OfCutReports
+pub mod OfDecided
 pub mod OfFlushed
 pub mod OfLaterCommits
 pub mod OfLines
+pub mod OfLog
 pub mod OfOrder
+pub mod OfReach
+pub mod OfReaders
 pub mod OfRefusals
 pub mod OfReplies
 pub mod OfStampParts
@@ -12,3 +16,4 @@ pub mod OfStampsOfTwo
 pub mod OfWindows
 pub mod Reading
 pub mod Tests
+pub mod OfUntold

@@ -1,5 +1,5 @@
 -- Windows that lack a cause, one by one.
-use Rattle.std.proofs.Common.{◌≡◌, ◌≢◌, ℕ, ◌<◌, ◌≤◌, ◌^◌, List, [], refl, sym, ap, inl, inr, arith}
+use Rattle.std.proofs.Common.{◌≡◌, ◌≢◌, ℕ, ◌<◌, ◌≤◌, ◌^◌, List, [], Some, refl, sym, ap, inl, inr, arith}
 use Rattle.std.specs.FinMap.{empty}
 use Rattle.std.proofs.lemmas.List.Elements.{All-from_recursion}
 use Rattle.std.proofs.lemmas.List.Sorted.{IsPermutation-refl}
@@ -9,17 +9,31 @@ use Rattle.erm_model.specs.SerialOrder.{ComesBefore}
 use Rattle.erm_model.specs.declared.operation.Reply.TheVariants as reply
 use Rattle.erm_model.proofs.Keys.{value_at-empty}
 use Rattle.erm_report.specs.Printable.{FitsTypes}
+use Rattle.erm_good_report.specs.Causes.{HasNoWindow, HasWindow}
 use Rattle.erm_good_report.specs.Transactions.{Commits, Transaction, history_of, said_of, stamp_of, stamp_of_ending, steps_of}
 use Rattle.erm_good_report.specs.Stamps.{Told}
 use Rattle.std.specs.Prelude.{IfSome}
 use Rattle.erm_good_report.specs.Windows.{IsCommit}
 use Rattle.erm_good_report.proofs.Parts.{all_pairs_of_two, each_in}
+use Rattle.erm_good_report.proofs.Decided.{own_window}
 use Rattle.erm_bad_reports.specs.CauseCases.{excluded_with, successor_unknown, window_closed}
 use Rattle.erm_bad_reports.specs.Clauses.{BreaksAlone, Clause, Meets, lines_of, told_of, IsLowAt, IsHighAt, Fit, Answered, Closes, Phases, Stamps, Snapshots, Causes, Refusals, Serial, Ascending, Runs, LowEnds, HighEnds}
 use Rattle.erm_bad_reports.proofs.Reading.{owes_of}
 use Rattle.erm_bad_reports.proofs.Tests.{byte, in_one, no_pair_ascends, one_commit_ordered, stamps_agree, first_snapshot, low_ends, high_ends, phases_kept, refusals_kept}
 
 -- ---- a successor that no commit is
+its_stamp : (u : Transaction) → u ∈ told_of successor_unknown → (s p q : ℕ) → u.ending ≡ Commits s p q → s ≡ 13
+its_stamp = in_one (λ u. (s p q : ℕ) → u.ending ≡ Commits s p q → s ≡ 13) _ (λ s p q is. cc)
+
+no_successor_in : (t : Transaction) → HasWindow (told_of successor_unknown) t 13 9 0 → ⊥
+no_successor_in t window = elim window.succ_cause [
+  | inl own ↦ let e : 9 ≡ 13 = own in omega (arith, e)
+  | inr other ↦
+      let e = its_stamp other.0 other.1 other.2.own 9 other.2.pred other.2.ending in
+      let below : other.2.own < 13 = other.2.before in
+      omega (arith, e, below)
+]
+
 keeps_but_successor : (other : Clause) → other ≢ Causes → Meets other successor_unknown
 keeps_but_successor Fit not = All-from_recursion FitsTypes (lines_of successor_unknown) ((omega arith, omega arith), ((omega arith, omega arith), ((omega arith, (omega arith, omega arith, omega arith)), (omega arith, ((omega arith, omega arith, omega arith, omega arith), (omega arith, (tt, tt)))))))
 keeps_but_successor Answered not = refl
@@ -28,24 +42,15 @@ keeps_but_successor Phases not = phases_kept successor_unknown (tt, (tt, tt))
 keeps_but_successor Stamps not = stamps_agree successor_unknown.opening (told_of successor_unknown) (said_of successor_unknown.script successor_unknown.report.answers) refl refl refl refl refl refl (in_one _ _ (omega arith)) (in_one _ _ (omega arith)) (in_one _ _ tt)
 keeps_but_successor Snapshots not = in_one _ _ (first_snapshot (history_of (told_of successor_unknown)) empty 13 [] refl tt)
 keeps_but_successor Causes not = absurd (not refl)
-keeps_but_successor Refusals not = refusals_kept successor_unknown (record { own = λ t is. tt; log = tt; unfilled = tt }, (record { own = λ t is. tt; log = tt; unfilled = tt }, tt))
+keeps_but_successor Refusals not = refusals_kept successor_unknown refl (record { own = λ t is. tt; log = tt; unfilled = tt }, (record { own = λ t is. λ window. absurd (no_successor_in t window); log = tt; unfilled = tt }, tt))
 keeps_but_successor Serial not = one_commit_ordered _
 keeps_but_successor Ascending not = no_pair_ascends
 keeps_but_successor Runs not = record { run = (tt, refl) }
 keeps_but_successor LowEnds not = low_ends (told_of successor_unknown) (refl, tt)
 keeps_but_successor HighEnds not = high_ends (told_of successor_unknown) (refl, tt)
 
-its_stamp : (u : Transaction) → u ∈ told_of successor_unknown → (s p q : ℕ) → u.ending ≡ Commits s p q → s ≡ 13
-its_stamp = in_one (λ u. (s p q : ℕ) → u.ending ≡ Commits s p q → s ≡ 13) _ (λ s p q is. cc)
-
 no_successor : Meets Causes successor_unknown → ⊥
-no_successor causes = elim (causes _ (0, refl)).succ_cause [
-  | inl own ↦ let e : 9 ≡ 13 = own in omega (arith, e)
-  | inr other ↦
-      let e = its_stamp other.0 other.1 other.2.own 9 other.2.pred other.2.ending in
-      let below : other.2.own < 13 = other.2.before in
-      omega (arith, e, below)
-]
+no_successor causes = no_successor_in _ (causes _ (0, refl))
 
 pub successor_breaks : BreaksAlone Causes successor_unknown
 successor_breaks = record { breaks = no_successor; keeps = keeps_but_successor; refused = λ good. let owes = owes_of successor_unknown refl refl good in no_successor owes.causes }
@@ -71,13 +76,13 @@ keeps_but_opens Stamps not = stamps_agree window_closed.opening both (said_of wi
 keeps_but_opens Snapshots not = each_in (λ t. HasSnapshotReplies (history_of both) empty t.begin (steps_of t)) both
     (first_snapshot (history_of both) empty 13 _ refl (ap reply.Value (sym (value_at-empty 0 1)), tt), (first_snapshot (history_of both) empty 13 _ refl (refl, tt), tt))
 keeps_but_opens Causes not = absurd (not refl)
-keeps_but_opens Refusals not = refusals_kept window_closed (
+keeps_but_opens Refusals not = refusals_kept window_closed refl (
   record { own = λ t is. tt; log = tt; unfilled = tt },
   (
     record { own = λ t is. tt; log = tt; unfilled = tt },
     (
       record { own = λ t is. tt; log = tt; unfilled = tt },
-      (record { own = λ t is. tt; log = tt; unfilled = tt }, (record { own = λ t is. tt; log = tt; unfilled = tt }, (record { own = λ t is. tt; log = tt; unfilled = tt }, tt))),
+      (record { own = λ t is. own_window _ t _; log = tt; unfilled = tt }, (record { own = λ t is. tt; log = tt; unfilled = tt }, (record { own = λ t is. λ window. absurd (let opens : 13 < 13 = window.opens in omega (arith, opens)); log = tt; unfilled = tt }, tt))),
     ),
   ),
 )
@@ -100,7 +105,7 @@ pub opens_breaks : BreaksAlone Causes window_closed
 opens_breaks = record { breaks = is_closed; keeps = keeps_but_opens; refused = λ good. let owes = owes_of window_closed refl refl good in is_closed owes.causes }
 
 -- ---- an exclusion of which one end lacks its cause
-module _ (succ pred : ℕ) (low : succ < 2 ^ 64) (high : pred < 2 ^ 64) (breaks : Meets Causes (excluded_with succ pred) → ⊥) where
+module _ (succ pred : ℕ) (low : succ < 2 ^ 64) (high : pred < 2 ^ 64) (shut : (t : Transaction) → HasNoWindow (told_of (excluded_with succ pred)) t (Some 18) succ pred → ⊥) where
   above_12 : (u : Transaction) (stamp next : ℕ) → IsCommit (told_of (excluded_with succ pred)) u stamp next → 13 ≤ stamp
   above_12 u stamp next commit =
       each_in (λ u. (s p q : ℕ) → u.ending ≡ Commits s p q → 13 ≤ s) (told_of (excluded_with succ pred))
@@ -118,13 +123,13 @@ module _ (succ pred : ℕ) (low : succ < 2 ^ 64) (high : pred < 2 ^ 64) (breaks 
   keeps_but_end Snapshots not = each_in (λ t. HasSnapshotReplies (history_of (told_of (excluded_with succ pred))) empty t.begin (steps_of t)) (told_of (excluded_with succ pred))
       (first_snapshot (history_of (told_of (excluded_with succ pred))) empty 13 _ refl (ap reply.Value (sym (value_at-empty 0 1)), tt), (first_snapshot (history_of (told_of (excluded_with succ pred))) empty 13 _ refl (refl, tt), tt))
   keeps_but_end Causes not = absurd (not refl)
-  keeps_but_end Refusals not = refusals_kept (excluded_with succ pred) (
+  keeps_but_end Refusals not = refusals_kept (excluded_with succ pred) refl (
     record { own = λ t is. tt; log = tt; unfilled = tt },
     (
       record { own = λ t is. tt; log = tt; unfilled = tt },
       (
         record { own = λ t is. tt; log = tt; unfilled = tt },
-        (record { own = λ t is. tt; log = tt; unfilled = tt }, (record { own = λ t is. tt; log = tt; unfilled = tt }, (record { own = λ t is. tt; log = tt; unfilled = tt }, tt))),
+        (record { own = λ t is. own_window _ t _; log = tt; unfilled = tt }, (record { own = λ t is. tt; log = tt; unfilled = tt }, (record { own = λ t is. λ window. absurd (shut t window); log = tt; unfilled = tt }, tt))),
       ),
     ),
   )
@@ -140,6 +145,9 @@ module _ (succ pred : ℕ) (low : succ < 2 ^ 64) (high : pred < 2 ^ 64) (breaks 
     (λ table key stamp next v gets put next_writer less. absurd (omega (arith, above_12 put.by put.stamp put.succ put.commit, put.below)), tt),
   )
 
+  breaks : Meets Causes (excluded_with succ pred) → ⊥
+  breaks causes = shut _ (causes _ (0, refl))
+
   breaks_end : BreaksAlone Causes (excluded_with succ pred)
   breaks_end = record { breaks = breaks; keeps = keeps_but_end; refused = λ good. let owes = owes_of (excluded_with succ pred) refl refl good in breaks owes.causes }
 
@@ -148,13 +156,11 @@ writes_13 : (succ pred : ℕ) (u : Transaction) → u ∈ told_of (excluded_with
 writes_13 succ pred = each_in (λ u. (s p q : ℕ) → u.ending ≡ Commits s p q → (s ≡ 13) × (p ≡ 13)) (told_of (excluded_with succ pred)) (λ s p q is. absurd (cc), (λ s p q is. (cc, cc), tt))
 
 pub excluded_predecessor_breaks : BreaksAlone Causes (excluded_with 13 14)
-excluded_predecessor_breaks = breaks_end 13 14 (omega arith) (omega arith) (λ causes.
-    let window = causes _ (0, refl) in
+excluded_predecessor_breaks = breaks_end 13 14 (omega arith) (omega arith) (λ t window.
     let same = writes_13 13 14 window.before window.before_in 14 window.pred_cause.succ window.pred_cause.pred window.pred_cause.ending in
     omega (arith, same.0))
 
 pub excluded_successor_breaks : BreaksAlone Causes (excluded_with 9 13)
-excluded_successor_breaks = breaks_end 9 13 (omega arith) (omega arith) (λ causes.
-    let window = causes _ (0, refl) in
+excluded_successor_breaks = breaks_end 9 13 (omega arith) (omega arith) (λ t window.
     let same = writes_13 9 13 window.after window.after_in window.succ_cause.own 9 window.succ_cause.pred window.succ_cause.ending in
     omega (arith, same.1))

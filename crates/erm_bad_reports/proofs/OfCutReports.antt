@@ -1,10 +1,11 @@
 -- Reports cut off by the disk's fault that are not those of a run.
-use Rattle.std.proofs.Common.{◌≡◌, ◌≢◌, ℕ, zero, suc, ◌≤◌, List, [], ◌∷◌, ◌++◌, length, take, Option, Some, None, refl, sym, ap, ◌∙◌, inl, inr, subst, arith}
+use Rattle.std.proofs.Common.{◌≡◌, ◌≢◌, ℕ, zero, suc, ◌<◌, ◌≤◌, List, [], ◌∷◌, ◌++◌, length, take, Option, Some, None, refl, sym, ap, ◌∙◌, inl, inr, subst, arith}
 use Rattle.std.specs.FinMap.{empty}
 use Rattle.std.specs.Prelude.{IfSome}
 use Rattle.std.specs.List.{All, slice_get}
 use Rattle.std.proofs.lemmas.List.Elements.{All-from_recursion, All-head}
 use Rattle.erm_model.specs.declared.operation.Reply.TheVariants as reply
+use Rattle.erm_model.specs.Member.{◌∈◌}
 use Rattle.erm_report.specs.declared.answer.Answer.{Answer}
 use Rattle.erm_report.specs.declared.answer.Answer.TheVariants as answer
 use Rattle.erm_report.specs.declared.line.Line.TheVariants as line
@@ -14,11 +15,11 @@ use Rattle.erm_script.specs.declared.script.ScriptLine.{ScriptLine}
 use Rattle.erm_good_report.specs.GoodReport.{IsClosedUnseen, IsLineOfLog, answer_lines, fault_line}
 use Rattle.erm_good_report.specs.Opening.{InTurn}
 use Rattle.erm_good_report.specs.Phases.{FitsPhase, PhasesAgree, phase_of}
-use Rattle.erm_good_report.specs.Refusals.{HasCause, moment_at}
-use Rattle.erm_good_report.specs.Transactions.{history_of, said_of, stamp_of}
+use Rattle.erm_good_report.specs.Refusals.{HasCause, HasCauses, moment_at}
+use Rattle.erm_good_report.specs.Transactions.{Transaction, history_of, said_of, stamp_of}
 use Rattle.erm_good_report.proofs.Parts.{each_in, each_place}
-use Rattle.erm_bad_reports.specs.CutReports.{BreaksCutAlone, AtLog, CutClause, FaultAt, Fitting, IsNoCutReport, MeetsCut, Once, Owing, Unseen, cut_lines_of, told_of_cut, closed_too_early, closed_twice, closed_with, cut_number_too_great, cut_without_begin, fault_at_begin, fault_outside}
-use Rattle.erm_bad_reports.proofs.Tests.{ring_wait, first_snapshot, in_none, in_one, stamps_agree}
+use Rattle.erm_bad_reports.specs.CutReports.{BreaksCutAlone, AtLog, CutClause, FaultAt, Fitting, IsNoCutReport, MeetsCut, Once, OwesAllBut, Owing, Unseen, cut_lines_of, told_of_cut, closed_too_early, closed_twice, closed_with, cut_number_too_great, cut_without_begin, fault_at_begin, fault_outside, unfilled_below}
+use Rattle.erm_bad_reports.proofs.Tests.{ring_wait, first_snapshot, in_none, in_one, stamps_agree, reach_from_test}
 
 -- ---- a fault outside the lines
 keeps_but_fault : (other : CutClause) → other ≢ FaultAt → MeetsCut other fault_outside
@@ -32,7 +33,7 @@ keeps_but_fault Owing not = record {
   stamps = stamps_agree fault_outside.opening [] [] refl refl refl refl refl refl (in_none _) (in_none _) (in_none _);
   snapshots = in_none _;
   causes = in_none _;
-  refusals = record { each = λ i l a at beside. absurd (cc beside) };
+  refusals = record { each = λ i l a at beside. absurd (cc beside); reach = λ i l a at beside. absurd (cc beside) };
 }
 
 no_line_failed : MeetsCut FaultAt fault_outside → ⊥
@@ -64,7 +65,7 @@ keeps_but_log Owing not = record {
   stamps = stamps_agree fault_at_begin.opening [] [] refl refl refl refl refl refl (in_none _) (in_none _) (in_none _);
   snapshots = in_none _;
   causes = in_none _;
-  refusals = record { each = λ i l a at beside. absurd (cc beside) };
+  refusals = record { each = λ i l a at beside. absurd (cc beside); reach = λ i l a at beside. absurd (cc beside) };
 }
 
 begin_of_log : IfSome (Some (record { line = 1; session = 1; command = command.Begin })) IsLineOfLog → ⊥
@@ -96,7 +97,7 @@ keeps_but_fitting Owing not = record {
   stamps = stamps_agree cut_number_too_great.opening [] [] refl refl refl refl refl refl (in_none _) (in_none _) (in_none _);
   snapshots = in_none _;
   causes = in_none _;
-  refusals = record { each = λ i l a at. absurd (cc) };
+  refusals = record { each = λ i l a at. absurd (cc); reach = λ i l a at. absurd (cc) };
 }
 
 too_great : All FitsTypes (cut_lines_of cut_number_too_great) → ⊥
@@ -157,6 +158,7 @@ keeps_but_once Owing not = record {
         tt,
       ),
     );
+    reach = reach_from_test (moment_at InTurn closed_twice.opening closed_twice.script closed_twice.answers (told_of_cut closed_twice)) closed_twice.script closed_twice.answers refl;
   };
 }
 
@@ -183,8 +185,61 @@ keeps_but_unseen Owing not = record {
         tt,
       ),
     );
+    reach = reach_from_test (moment_at InTurn closed_too_early.opening closed_too_early.script closed_too_early.answers (told_of_cut closed_too_early)) closed_too_early.script closed_too_early.answers refl;
   };
 }
 
 pub unseen_breaks : BreaksCutAlone Unseen closed_too_early
 unseen_breaks = record { breaks = λ unseen. (unseen (closed_with 40000) (0, refl)).answered 3 _ (omega arith) refl refl; keeps = keeps_but_unseen }
+
+-- ---- a block that isn't decided below the place flushed
+keeps_but_unfilled : (other : CutClause) → other ≢ Owing → MeetsCut other unfilled_below
+keeps_but_unfilled FaultAt not = refl
+keeps_but_unfilled AtLog not = inl refl
+keeps_but_unfilled Fitting not = All-from_recursion FitsTypes (cut_lines_of unfilled_below) ((omega arith, omega arith), ((omega arith, omega arith), ((omega arith, omega arith), ((omega arith, omega arith), ((omega arith, omega arith), ((omega arith, tt), tt))))))
+keeps_but_unfilled Once not = λ i j d less within. absurd (omega arith)
+keeps_but_unfilled Unseen not = λ c (k, at). cc
+keeps_but_unfilled Owing not = absurd (not refl)
+
+is_below : HasCauses InTurn unfilled_below.opening unfilled_below.script unfilled_below.answers (told_of_cut unfilled_below) → ⊥
+is_below refusals = let cause = (refusals.each 3 _ _ refl refl).unfilled in let above : 18 ≤ 13 = cause.0 in omega (arith, above)
+
+nobody_told : (stamp : ℕ) (u : Transaction) → u ∈ told_of_cut unfilled_below → stamp_of u ≡ Some stamp → ⊥
+nobody_told stamp = in_one (λ u. stamp_of u ≡ Some stamp → ⊥) _ (λ is. cc is)
+
+pub unfilled_breaks : BreaksCutAlone Owing unfilled_below × OwesAllBut 3 unfilled_below
+unfilled_breaks = (
+  record { breaks = λ owes. is_below owes.refusals; keeps = keeps_but_unfilled },
+  record {
+    phases = record { fits = each_place (λ i l a. FitsPhase (phase_of l.session (take i (said_of unfilled_below.script unfilled_below.answers))) l.command a) unfilled_below.script unfilled_below.answers (tt, (tt, (tt, (tt, tt)))) };
+    stamps = stamps_agree unfilled_below.opening (told_of_cut unfilled_below) (said_of unfilled_below.script unfilled_below.answers) refl refl refl refl refl refl (in_one _ _ (omega arith)) (in_one _ _ tt) (in_one _ _ tt);
+    snapshots = in_one _ _ (first_snapshot (history_of (told_of_cut unfilled_below)) empty 13 [] refl tt);
+    causes = in_one _ _ tt;
+    refusals = each_place (λ i l a. i ≢ 3 → HasCause (moment_at InTurn unfilled_below.opening unfilled_below.script unfilled_below.answers (told_of_cut unfilled_below) i l) l.command a) unfilled_below.script unfilled_below.answers (
+      λ not. record { own = λ t is. tt; log = tt; unfilled = tt },
+      (
+        λ not. ring_wait _ refl refl (λ t. in_one (λ u. u.session ≡ t.session → u.number ≡ t.number → IfSome (stamp_of u) (λ told. told ≡ 40000)) _ (λ session number. tt)),
+        (
+          λ not. record {
+            own = λ t is. tt;
+            log = (
+              let above : 13 < 18 = omega arith in above,
+              inl (record {
+                session = 1;
+                transaction = _;
+                sealed = record {
+                  current = refl;
+                  sealed = refl;
+                  stamp_is = in_one (λ u. u.session ≡ 1 → u.number ≡ 1 → IfSome (stamp_of u) (λ told. told ≡ 18)) _ (λ session number. tt);
+                };
+                least = λ other undecided. absurd (nobody_told other undecided.whole undecided.of undecided.told);
+              }),
+            );
+            unfilled = tt;
+          },
+          (λ not. absurd (not refl), tt),
+        ),
+      ),
+    );
+  },
+)

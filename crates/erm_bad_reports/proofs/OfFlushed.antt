@@ -7,13 +7,15 @@ use Rattle.erm_model.specs.declared.outcome.Phase.TheVariants.{Idle, Active, Sea
 use Rattle.erm_report.specs.declared.answer.Answer.TheVariants as answer
 use Rattle.erm_report.specs.Printable.{FitsTypes}
 use Rattle.erm_script.specs.declared.script.Command.TheVariants as command
+use Rattle.erm_good_report.specs.Opening.{InTurn}
 use Rattle.erm_good_report.specs.Phases.{phase_of}
-use Rattle.erm_good_report.specs.Refusals.{HasCause, IsAboveAll, Moment}
+use Rattle.erm_good_report.specs.Refusals.{HasCause, IsAboveAll, Moment, flushed_at}
 use Rattle.erm_good_report.specs.Transactions.{Said, Transaction, history_of, progress_of, said_of}
+use Rattle.erm_good_report.proofs.Decided.{own_window}
 use Rattle.erm_bad_reports.specs.Clauses.{Clause, Meets, lines_of, told_of, Fit, Answered, Closes, Phases, Stamps, Snapshots, Causes, Refusals, Serial, Ascending, Runs, LowEnds, HighEnds}
-use Rattle.erm_bad_reports.specs.StampParts.{BreaksPartAlone, Part, MeetsPart, Differ, Least, Begun, Sealed as SealedPart, Begins, Draws, Ascends, Flushes, FlushesFirst, begun_below_the_flushed, drawn_below_the_flushed}
+use Rattle.erm_bad_reports.specs.StampParts.{BreaksPartAlone, Part, MeetsPart, Differ, Least, Begun, Sealed as SealedPart, Begins, Draws, Ascends, Flushes, FlushesFirst, BeginsAscend, Stops, UntoldAfter, UntoldBefore, begun_below_the_flushed, drawn_below_the_flushed}
 use Rattle.erm_bad_reports.proofs.Reading.{owes_of}
-use Rattle.erm_bad_reports.proofs.Tests.{begin_over, in_one, no_commit_ordered, one_commit_ordered, no_pair_ascends, first_snapshot, flushed_begin, flushed_drawn, low_ends, high_ends, phases_kept, refusals_kept, stamps_ascend, stamps_begin, stamps_differ, stamps_drawn}
+use Rattle.erm_bad_reports.proofs.Tests.{begin_over, in_one, no_commit_ordered, one_commit_ordered, no_pair_ascends, first_snapshot, flushed_begin, flushed_drawn, low_ends, high_ends, phases_kept, refusals_kept, stamps_ascend, stamps_begin, stamps_differ, stamps_drawn, begins_ascend, begins_stop, untold_after, untold_before}
 
 -- a place of a report, where one is asked for
 any_place : Said
@@ -27,9 +29,9 @@ above_none m bound none unsealed stamp (session, t, inl (within, is)) = absurd (
     nothing_in u (k, at) = cc
 above_none m bound none unsealed stamp (session, t, inr (current, sealed, told)) = absurd (unsealed session sealed)
 
-checkpointed : (m : Moment) (bound : ℕ) → ((session : ℕ) → (progress_of session m.before).over ≡ []) → ((session : ℕ) → phase_of session m.before ≢ Sealed)
+checkpointed : (m : Moment) (bound : ℕ) → flushed_at m ≤ bound → ((session : ℕ) → (progress_of session m.before).over ≡ []) → ((session : ℕ) → phase_of session m.before ≢ Sealed)
     → HasCause m command.Checkpoint (answer.Checkpointed bound)
-checkpointed m bound none unsealed = record { own = λ t is. tt; log = above_none m bound none unsealed; unfilled = tt }
+checkpointed m bound high none unsealed = record { own = λ t is. tt; log = (high, unsealed, above_none m bound none unsealed); unfilled = tt }
 
 either_open : (b : Bool) → cond b Active Idle ≢ Sealed
 either_open true is = cc is
@@ -47,8 +49,8 @@ keeps_but_flushes Phases not = phases_kept begun_below_the_flushed (tt, (tt, (tt
 keeps_but_flushes Stamps not = absurd (not refl)
 keeps_but_flushes Snapshots not = in_one _ _ (first_snapshot [] empty 13 [] refl tt)
 keeps_but_flushes Causes not = in_one _ _ tt
-keeps_but_flushes Refusals not = refusals_kept begun_below_the_flushed
-    (checkpointed _ 18 (λ session. refl) (λ session. idle_open), (record { own = λ t is. tt; log = tt; unfilled = tt }, (record { own = λ t is. tt; log = tt; unfilled = tt }, tt)))
+keeps_but_flushes Refusals not = refusals_kept begun_below_the_flushed refl
+    (checkpointed _ 18 (omega arith) (λ session. refl) (λ session. idle_open), (record { own = λ t is. tt; log = tt; unfilled = tt }, (record { own = λ t is. tt; log = tt; unfilled = tt }, tt)))
 keeps_but_flushes Serial not = no_commit_ordered
 keeps_but_flushes Ascending not = no_pair_ascends
 keeps_but_flushes Runs not = record { run = refl }
@@ -65,6 +67,10 @@ parts_but_flushes Draws not = stamps_drawn (said_of begun_below_the_flushed.scri
 parts_but_flushes Ascends not = stamps_ascend (said_of begun_below_the_flushed.script begun_below_the_flushed.report.answers) refl
 parts_but_flushes Flushes not = absurd (not refl)
 parts_but_flushes FlushesFirst not = flushed_drawn (said_of begun_below_the_flushed.script begun_below_the_flushed.report.answers) refl
+parts_but_flushes BeginsAscend not = begins_ascend (said_of begun_below_the_flushed.script begun_below_the_flushed.report.answers) refl
+parts_but_flushes Stops not = λ in_turn. begins_stop (said_of begun_below_the_flushed.script begun_below_the_flushed.report.answers) refl
+parts_but_flushes UntoldAfter not = untold_after InTurn (told_of begun_below_the_flushed) (said_of begun_below_the_flushed.script begun_below_the_flushed.report.answers) refl
+parts_but_flushes UntoldBefore not = untold_before InTurn (told_of begun_below_the_flushed) (said_of begun_below_the_flushed.script begun_below_the_flushed.report.answers) refl
 
 begins_below_it : MeetsPart Flushes begun_below_the_flushed → ⊥
 begins_below_it flushes = let above : 18 ≤ 13 = flushes 0 1 any_place (omega arith) (omega arith) refl in omega (arith, above)
@@ -88,8 +94,8 @@ keeps_but_first Phases not = phases_kept drawn_below_the_flushed (tt, (tt, (tt, 
 keeps_but_first Stamps not = absurd (not refl)
 keeps_but_first Snapshots not = in_one _ _ (first_snapshot (history_of (told_of drawn_below_the_flushed)) empty 13 [] refl tt)
 keeps_but_first Causes not = in_one _ _ (record { opens = omega arith; closes = omega arith; succ_cause = inl refl; pred_cause = inl refl })
-keeps_but_first Refusals not = refusals_kept drawn_below_the_flushed
-    (record { own = λ t is. tt; log = tt; unfilled = tt }, (checkpointed _ 18 begin_over begin_open, (record { own = λ t is. tt; log = tt; unfilled = tt }, tt)))
+keeps_but_first Refusals not = refusals_kept drawn_below_the_flushed refl
+    (record { own = λ t is. tt; log = tt; unfilled = tt }, (checkpointed _ 18 (omega arith) begin_over begin_open, (record { own = λ t is. own_window _ t _; log = tt; unfilled = tt }, tt)))
 keeps_but_first Serial not = one_commit_ordered _
 keeps_but_first Ascending not = no_pair_ascends
 keeps_but_first Runs not = record { run = (tt, refl) }
@@ -106,6 +112,10 @@ parts_but_first Draws not = stamps_drawn (said_of drawn_below_the_flushed.script
 parts_but_first Ascends not = stamps_ascend (said_of drawn_below_the_flushed.script drawn_below_the_flushed.report.answers) refl
 parts_but_first Flushes not = flushed_begin (said_of drawn_below_the_flushed.script drawn_below_the_flushed.report.answers) refl
 parts_but_first FlushesFirst not = absurd (not refl)
+parts_but_first BeginsAscend not = begins_ascend (said_of drawn_below_the_flushed.script drawn_below_the_flushed.report.answers) refl
+parts_but_first Stops not = λ in_turn. begins_stop (said_of drawn_below_the_flushed.script drawn_below_the_flushed.report.answers) refl
+parts_but_first UntoldAfter not = untold_after InTurn (told_of drawn_below_the_flushed) (said_of drawn_below_the_flushed.script drawn_below_the_flushed.report.answers) refl
+parts_but_first UntoldBefore not = untold_before InTurn (told_of drawn_below_the_flushed) (said_of drawn_below_the_flushed.script drawn_below_the_flushed.report.answers) refl
 
 drawn_below_it : MeetsPart FlushesFirst drawn_below_the_flushed → ⊥
 drawn_below_it flushes = let above : 18 ≤ 13 = flushes 1 2 any_place (omega arith) (omega arith) refl in omega (arith, above)

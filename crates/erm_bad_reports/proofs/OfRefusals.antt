@@ -1,10 +1,12 @@
 -- Answers that have no cause, one by one.
 use Rattle.std.proofs.Common.{◌≡◌, ◌≢◌, ◌+◌, ◌<◌, ◌≤◌, List, [], ◌∷◌, take, Some, None, refl, sym, subst, inl, arith}
 use Rattle.std.specs.List.{AllByRecursion}
+use Rattle.std.specs.Prelude.{IfSome}
 use Rattle.std.proofs.lemmas.List.Elements.{All-from_recursion}
 use Rattle.std.specs.FinMap.{empty}
 use Rattle.erm_model.specs.Committed.{HasSnapshotReplies, rank_of}
 use Rattle.erm_model.specs.Run.{RunsOne}
+use Rattle.erm_model.specs.declared.limits.TheConstants.{STOP}
 use Rattle.erm_model.specs.Member.{◌∈◌}
 use Rattle.erm_model.specs.SerialOrder.{IsSerialOrder}
 use Rattle.erm_model.specs.declared.outcome.Phase.TheVariants.{Idle, Active}
@@ -15,16 +17,17 @@ use Rattle.erm_script.specs.declared.script.Command.TheVariants as command
 use Rattle.erm_good_report.specs.Causes.{HasCauseOf}
 use Rattle.erm_good_report.specs.Opening.{InTurn, Opening}
 use Rattle.erm_good_report.specs.Phases.{FitsPhase, phase_of}
-use Rattle.erm_good_report.specs.Stamps.{StampsAgree}
+use Rattle.erm_good_report.specs.Stamps.{StampsAgree, begin_told}
 use Rattle.erm_good_report.specs.Transactions.{Commits, Aborts, Exchange, Said, Transaction, history_of, said_of, steps_of}
+use Rattle.erm_good_report.proofs.Parts.{each_in}
 use Rattle.erm_bad_reports.specs.Clauses.{BreaksAlone, Clause, Meets, lines_of, told_of, IsLowAt, IsHighAt, Fit, Answered, Closes, Phases, Stamps, Snapshots, Causes, Refusals, Serial, Ascending, Runs, LowEnds, HighEnds}
-use Rattle.erm_bad_reports.specs.Refused.{alone, answers_alone, before_abort, answers_before_abort, before_settle, answers_before_settle, after_commit, answers_after_commit, newer_than_nothing}
+use Rattle.erm_bad_reports.specs.Refused.{alone, answers_alone, before_abort, answers_before_abort, before_settle, answers_before_settle, after_commit, answers_after_commit, newer_than_nothing, oids_beyond, reads_alone}
 use Rattle.erm_bad_reports.proofs.Reading.{owes_of}
 use Rattle.erm_bad_reports.proofs.Tests.{in_none, in_one, no_commit_ordered, one_commit_ordered, no_pair_ascends, stamps_agree, first_snapshot, phases_kept, low_ends, high_ends}
 
 -- the stamps of no transaction, where a report has one place
-stamps_of_one_place : (opening : Opening) (s : Said) → StampsAgree InTurn opening [] (s ∷ [])
-stamps_of_one_place opening s = record {
+stamps_of_one_place : (opening : Opening) (s : Said) → begin_told s.answer ≡ None → StampsAgree InTurn opening [] (s ∷ [])
+stamps_of_one_place opening s none = record {
   differ = λ i j d less within. absurd (omega arith);
   least = in_none _;
   begun = in_none _;
@@ -34,16 +37,26 @@ stamps_of_one_place opening s = record {
   ascends = λ i j d less within. absurd (omega arith);
   flushes = λ i j d less within. absurd (omega arith);
   flushes_first = λ i j d less within. absurd (omega arith);
+  begins_ascend = λ i j d less within. absurd (omega arith);
+  stops = λ in_turn. in_place (λ t. IfSome (begin_told t.answer) (λ begin. begin < STOP)) (subst (λ o. IfSome o (λ begin. begin < STOP)) (sym none) tt);
+  untold_after = λ i j stamp x drawn. absurd (none_told drawn.whole drawn.of);
+  untold_before = λ i j stamp x drawn. absurd (none_told drawn.whole drawn.of);
 }
+  where
+    in_place : (P : Said → Type 0) → P s → (t : Said) → t ∈ s ∷ [] → P t
+    in_place P is = each_in P (s ∷ []) (is, tt)
+
+    none_told : (t : Transaction) → t ∈ [] → ⊥
+    none_told t (k, at) = cc
 
 -- ---- a line of a session that has no transaction
-module _ (r : Exchange) (fits : FitsAnswer r.answer) (phase : FitsPhase Idle r.asked r.answer) (closes : Meets Closes (alone r)) (none : told_of (alone r) ≡ []) (breaks : Meets Refusals (alone r) → ⊥) where
+module _ (r : Exchange) (fits : FitsAnswer r.answer) (phase : FitsPhase Idle r.asked r.answer) (begins : begin_told r.answer ≡ None) (closes : Meets Closes (alone r)) (none : told_of (alone r) ≡ []) (breaks : Meets Refusals (alone r) → ⊥) where
   keeps_alone : (other : Clause) → other ≢ Refusals → Meets other (alone r)
   keeps_alone Fit not = All-from_recursion FitsTypes (lines_of (alone r)) ((omega arith, omega arith), ((omega arith, fits), (omega arith, (omega arith, (tt, tt)))))
   keeps_alone Answered not = refl
   keeps_alone Closes not = closes
   keeps_alone Phases not = phases_kept (alone r) (phase, tt)
-  keeps_alone Stamps not = subst (λ (ts : List Transaction). StampsAgree InTurn (alone r).opening ts (said_of (alone r).script (alone r).report.answers)) (sym none) (stamps_of_one_place (alone r).opening (record { session = 1; asked = Some r.asked; answer = r.answer }))
+  keeps_alone Stamps not = subst (λ (ts : List Transaction). StampsAgree InTurn (alone r).opening ts (said_of (alone r).script (alone r).report.answers)) (sym none) (stamps_of_one_place (alone r).opening (record { session = 1; asked = Some r.asked; answer = r.answer }) begins)
   keeps_alone Snapshots not = subst (λ (ts : List Transaction). (t : Transaction) → t ∈ ts → HasSnapshotReplies (history_of ts) (alone r).opening.map t.begin (steps_of t)) (sym none) (in_none _)
   keeps_alone Causes not = subst (λ (ts : List Transaction). (t : Transaction) → t ∈ ts → HasCauseOf t.ending ts t) (sym none) (in_none _)
   keeps_alone Refusals not = absurd (not refl)
@@ -58,20 +71,20 @@ module _ (r : Exchange) (fits : FitsAnswer r.answer) (phase : FitsPhase Idle r.a
 
 pub alone_break : AllByRecursion (λ r. BreaksAlone Refusals (alone r)) answers_alone
 alone_break = (
-  breaks_alone _ (omega arith) tt (record { each = refl; fits = λ c (k, at). cc }) refl (λ refusals. let log = (refusals.each 0 _ _ refl refl).log in omega (arith, log.0)),
+  breaks_alone _ (omega arith) tt refl (record { each = refl; fits = λ c (k, at). cc }) refl (λ refusals. let log = (refusals.each 0 _ _ refl refl).log in omega (arith, log.0)),
   (
-    breaks_alone _ tt tt (record { each = refl; fits = λ c (k, at). cc }) refl (λ refusals. (refusals.each 0 _ _ refl refl).log),
+    breaks_alone _ tt tt refl (record { each = refl; fits = λ c (k, at). cc }) refl (λ refusals. (refusals.each 0 _ _ refl refl).log),
     (
-      breaks_alone _ (omega arith) tt (record { each = refl; fits = λ c (k, at). cc }) refl (λ refusals. let log = (refusals.each 0 _ _ refl refl).log in let last : None ≡ Some 13 = log.0 in cc),
+      breaks_alone _ (omega arith) tt refl (record { each = refl; fits = λ c (k, at). cc }) refl (λ refusals. let log = (refusals.each 0 _ _ refl refl).log in let last : None ≡ Some 13 = log.0 in cc),
       (
-        breaks_alone _ (omega arith) tt (record { each = refl; fits = λ c (k, at). cc }) refl (λ refusals. let log = (refusals.each 0 _ _ refl refl).log in let last : None ≡ Some log.2.0 = log.2.1 in cc),
+        breaks_alone _ (omega arith) tt refl (record { each = refl; fits = λ c (k, at). cc }) refl (λ refusals. let log = (refusals.each 0 _ _ refl refl).log in let last : None ≡ Some log.2.0 = log.2.1 in cc),
         (
-          breaks_alone _ (omega arith) tt (record { each = refl; fits = λ c (k, at). cc }) refl (λ refusals. let log = (refusals.each 0 _ _ refl refl).log in let above : 13 < 13 = log.0 in omega (arith, above)),
+          breaks_alone _ (omega arith) tt refl (record { each = refl; fits = λ c (k, at). cc }) refl (λ refusals. let log = (refusals.each 0 _ _ refl refl).log in let above : 13 < 13 = log.0 in omega (arith, above)),
           (
-            breaks_alone _ (omega arith) tt (record { each = refl; fits = λ c (k, at). cc }) refl (λ refusals. let log = (refusals.each 0 _ _ refl refl).log in let place : 14 ≡ 13 = log.0 in omega (arith, place)),
+            breaks_alone _ (omega arith) tt refl (record { each = refl; fits = λ c (k, at). cc }) refl (λ refusals. let log = (refusals.each 0 _ _ refl refl).log in let place : 14 ≡ 13 = log.0 in omega (arith, place)),
             (
-              breaks_alone _ (omega arith) tt (record { each = refl; fits = λ c (k, at). cc }) refl (λ refusals. let cause = (refusals.each 0 _ _ refl refl).unfilled in nobody_sealed cause.1.transaction cause.1.sealed.current),
-              (breaks_alone _ (omega arith) tt (record { each = refl; fits = λ c (k, at). cc }) refl (λ refusals. let cause = (refusals.each 0 _ _ refl refl).unfilled in nobody_sealed cause.transaction cause.sealed.current), tt),
+              breaks_alone _ (omega arith) tt refl (record { each = refl; fits = λ c (k, at). cc }) refl (λ refusals. let cause = (refusals.each 0 _ _ refl refl).unfilled in nobody_sealed cause.1.transaction cause.1.sealed.current),
+              (breaks_alone _ (omega arith) tt refl (record { each = refl; fits = λ c (k, at). cc }) refl (λ refusals. let cause = (refusals.each 0 _ _ refl refl).unfilled in nobody_sealed cause.1.transaction cause.1.sealed.current), tt),
             ),
           ),
         ),
@@ -113,12 +126,12 @@ pub before_abort_break : AllByRecursion (λ r. BreaksAlone Refusals (before_abor
 before_abort_break = (
   breaks_before_abort _ (omega arith, omega arith) tt tt (record { each = refl; fits = λ c (k, at). cc }) (stamps_agree _ _ _ refl refl refl refl refl refl (in_one _ _ (omega arith)) (in_one _ _ tt) (in_one _ _ tt)) refl refl (λ refusals. let cause = (refusals.each 1 _ _ refl refl).own _ (_, refl, refl) in let current : None ≡ Some cause.1.other = cause.1.sealed.current in cc),
   (
-    breaks_before_abort _ tt tt tt (record { each = refl; fits = λ c (k, at). cc }) (stamps_agree _ _ _ refl refl refl refl refl refl (in_one _ _ (omega arith)) (in_one _ _ tt) (in_one _ _ tt)) refl refl (λ refusals. let many : 512 < 16 = (refusals.each 1 _ _ refl refl).own _ (_, refl, refl) in omega (arith, many)),
+    breaks_before_abort _ tt tt tt (record { each = refl; fits = λ c (k, at). cc }) (stamps_agree _ _ _ refl refl refl refl refl refl (in_one _ _ (omega arith)) (in_one _ _ tt) (in_one _ _ tt)) refl refl (λ refusals. let many : (512 < 16) × (512 < 13) = (refusals.each 1 _ _ refl refl).own _ (_, refl, refl) in omega (arith, many.0)),
     (
       breaks_before_abort _ tt tt tt (record { each = refl; fits = λ c (k, at). cc }) (stamps_agree _ _ _ refl refl refl refl refl refl (in_one _ _ (omega arith)) (in_one _ _ tt) (in_one _ _ tt)) refl refl (λ refusals. let many : 128 < 26 = (refusals.each 1 _ _ refl refl).own _ (_, refl, refl) in omega (arith, many)),
       (
-        breaks_before_abort _ (omega arith) tt tt (record { each = refl; fits = λ c (k, at). cc }) (stamps_agree _ _ _ refl refl refl refl refl refl (in_one _ _ (omega arith)) (in_one _ _ tt) (in_one _ _ tt)) refl refl (λ refusals. let many : (65536 ≤ 65536) × (65536 < 16410) = (refusals.each 1 _ _ refl refl).own _ (_, refl, refl) in omega (arith, many.1)),
-        (breaks_before_abort _ (omega arith) tt tt (record { each = refl; fits = λ c (k, at). cc }) (stamps_agree _ _ _ refl refl refl refl refl refl (in_one _ _ (omega arith)) (in_one _ _ tt) (in_one _ _ tt)) refl refl (λ refusals. let many : (16384 ≤ 16384) × (16384 < 30) = (refusals.each 1 _ _ refl refl).own _ (_, refl, refl) in omega (arith, many.1)), tt),
+        breaks_before_abort _ (omega arith) tt tt (record { each = refl; fits = λ c (k, at). cc }) (stamps_agree _ _ _ refl refl refl refl refl refl (in_one _ _ (omega arith)) (in_one _ _ tt) (in_one _ _ tt)) refl refl (λ refusals. let many : ((65536 ≤ 65536) × (65536 ≤ 16777266)) × (65536 < 16410) = (refusals.each 1 _ _ refl refl).own _ (_, refl, refl) in omega (arith, many.1)),
+        (breaks_before_abort _ (omega arith) tt tt (record { each = refl; fits = λ c (k, at). cc }) (stamps_agree _ _ _ refl refl refl refl refl refl (in_one _ _ (omega arith)) (in_one _ _ tt) (in_one _ _ tt)) refl refl (λ refusals. let many : ((16384 ≤ 16384) × (16384 ≤ 16434)) × (16384 < 30) = (refusals.each 1 _ _ refl refl).own _ (_, refl, refl) in omega (arith, many.1)), tt),
       ),
     ),
   ),
@@ -188,7 +201,7 @@ after_commit_break = (
   breaks_after_commit _ tt tt (record { each = refl; fits = λ c (k, at). cc }) (stamps_agree _ _ _ refl refl refl refl refl refl (in_one _ _ (omega arith)) (in_one _ _ (omega arith)) (in_one _ _ tt)) refl (λ refusals. let last : Some 13 ≡ None = (refusals.each 2 _ _ refl refl).log in cc),
   (
     breaks_after_commit _ (omega arith) tt (record { each = refl; fits = λ c (k, at). cc }) (stamps_agree _ _ _ refl refl refl refl refl refl (in_one _ _ (omega arith)) (in_one _ _ (omega arith)) (in_one _ _ tt)) refl (λ refusals. let log = (refusals.each 2 _ _ refl refl).log in let below : 13 < 13 = log.1 refl in omega (arith, below)),
-    (breaks_after_commit _ (omega arith) tt (record { each = refl; fits = λ c (k, at). cc }) (stamps_agree _ _ _ refl refl refl refl refl refl (in_one _ _ (omega arith)) (in_one _ _ (omega arith)) (in_one _ _ tt)) refl (λ refusals. let below : 13 < 13 = (refusals.each 2 _ _ refl refl).log 13 (1, committed, inl ((0, refl), refl)) in omega (arith, below)), tt),
+    (breaks_after_commit _ (omega arith) tt (record { each = refl; fits = λ c (k, at). cc }) (stamps_agree _ _ _ refl refl refl refl refl refl (in_one _ _ (omega arith)) (in_one _ _ (omega arith)) (in_one _ _ tt)) refl (λ refusals. let log = (refusals.each 2 _ _ refl refl).log in let below : 13 < 13 = log.2 13 (1, committed, inl ((0, refl), refl)) in omega (arith, below)), tt),
   ),
 )
 
@@ -216,3 +229,47 @@ nobody_newer refusals = let cause = (refusals.each 1 _ _ refl refl).own _ (_, re
 
 pub newer_breaks : BreaksAlone Refusals newer_than_nothing
 newer_breaks = record { breaks = nobody_newer; keeps = keeps_but_newer; refused = λ good. let owes = owes_of newer_than_nothing refl refl good in nobody_newer owes.refusals }
+
+-- ---- reads that are full behind one line
+keeps_but_reads : (other : Clause) → other ≢ Refusals → Meets other reads_alone
+keeps_but_reads Fit not = All-from_recursion FitsTypes (lines_of reads_alone) ((omega arith, omega arith), ((omega arith, omega arith), ((omega arith, tt), ((omega arith, tt), (omega arith, (omega arith, (tt, tt)))))))
+keeps_but_reads Answered not = refl
+keeps_but_reads Closes not = record { each = refl; fits = λ c (k, at). cc }
+keeps_but_reads Phases not = phases_kept reads_alone (tt, (tt, (tt, tt)))
+keeps_but_reads Stamps not = stamps_agree reads_alone.opening (told_of reads_alone) (said_of reads_alone.script reads_alone.report.answers) refl refl refl refl refl refl (in_one _ _ (omega arith)) (in_one _ _ tt) (in_one _ _ tt)
+keeps_but_reads Snapshots not = in_one _ _ (first_snapshot [] empty 13 [] refl tt)
+keeps_but_reads Causes not = in_one _ _ tt
+keeps_but_reads Refusals not = absurd (not refl)
+keeps_but_reads Serial not = no_commit_ordered
+keeps_but_reads Ascending not = no_pair_ascends
+keeps_but_reads Runs not = record { run = refl }
+keeps_but_reads LowEnds not = in_one _ _ tt
+keeps_but_reads HighEnds not = in_one _ _ tt
+
+are_few : Meets Refusals reads_alone → ⊥
+are_few refusals = let many : (512 < 616) × (512 < 13) = (refusals.each 1 _ _ refl refl).own _ (_, refl, refl) in omega (arith, many.1)
+
+pub reads_alone_breaks : BreaksAlone Refusals reads_alone
+reads_alone_breaks = record { breaks = are_few; keeps = keeps_but_reads; refused = λ good. let owes = owes_of reads_alone refl refl good in are_few owes.refusals }
+
+-- ---- a counter that was found too far above its limit
+keeps_but_counted : (other : Clause) → other ≢ Refusals → Meets other oids_beyond
+keeps_but_counted Fit not = All-from_recursion FitsTypes (lines_of oids_beyond) ((omega arith, omega arith), ((omega arith, omega arith), ((omega arith, omega arith), ((omega arith, tt), (omega arith, (omega arith, (tt, tt)))))))
+keeps_but_counted Answered not = refl
+keeps_but_counted Closes not = record { each = refl; fits = λ c (k, at). cc }
+keeps_but_counted Phases not = phases_kept oids_beyond (tt, (tt, (tt, tt)))
+keeps_but_counted Stamps not = stamps_agree oids_beyond.opening (told_of oids_beyond) (said_of oids_beyond.script oids_beyond.report.answers) refl refl refl refl refl refl (in_one _ _ (omega arith)) (in_one _ _ tt) (in_one _ _ tt)
+keeps_but_counted Snapshots not = in_one _ _ (first_snapshot [] empty 13 [] refl tt)
+keeps_but_counted Causes not = in_one _ _ tt
+keeps_but_counted Refusals not = absurd (not refl)
+keeps_but_counted Serial not = no_commit_ordered
+keeps_but_counted Ascending not = no_pair_ascends
+keeps_but_counted Runs not = record { run = refl }
+keeps_but_counted LowEnds not = in_one _ _ tt
+keeps_but_counted HighEnds not = in_one _ _ tt
+
+is_beyond : Meets Refusals oids_beyond → ⊥
+is_beyond refusals = let many : ((16384 ≤ 20000) × (20000 ≤ 16434)) × (16384 < 16394) = (refusals.each 1 _ _ refl refl).own _ (_, refl, refl) in omega (arith, many.0.1)
+
+pub beyond_breaks : BreaksAlone Refusals oids_beyond
+beyond_breaks = record { breaks = is_beyond; keeps = keeps_but_counted; refused = λ good. let owes = owes_of oids_beyond refl refl good in is_beyond owes.refusals }

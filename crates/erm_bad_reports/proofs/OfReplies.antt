@@ -11,6 +11,7 @@ use Rattle.erm_model.proofs.Keys.{value_at-empty}
 use Rattle.std.specs.FinMap.{empty}
 use Rattle.erm_model.specs.Member.{◌∈◌}
 use Rattle.erm_report.specs.Printable.{FitsTypes}
+use Rattle.erm_good_report.specs.Causes.{HasWindow}
 use Rattle.erm_good_report.specs.Opening.{InTurn}
 use Rattle.erm_good_report.specs.Phases.{FitsPhase, phase_of}
 use Rattle.erm_good_report.specs.Refusals.{HasCause, moment_at}
@@ -19,7 +20,7 @@ use Rattle.erm_good_report.proofs.Parts.{each_place}
 use Rattle.erm_bad_reports.specs.Clauses.{BreaksAlone, Clause, Meets, lines_of, told_of, Fit, Answered, Closes, Phases, Stamps, Snapshots, Causes, Refusals, Serial, Ascending, Runs, LowEnds, HighEnds}
 use Rattle.erm_bad_reports.specs.Cases.{value_from_nowhere, predecessor_unknown, excluded_alone, owned_by_nobody}
 use Rattle.erm_bad_reports.proofs.Reading.{owes_of}
-use Rattle.erm_bad_reports.proofs.Tests.{in_one, no_commit_ordered, one_commit_ordered, no_pair_ascends, stamps_agree, first_snapshot, low_ends, high_ends}
+use Rattle.erm_bad_reports.proofs.Tests.{in_one, no_commit_ordered, one_commit_ordered, no_pair_ascends, stamps_agree, first_snapshot, low_ends, high_ends, reach_from_test}
 
 -- ---- a value that no commit put
 keeps_but_snapshots : (other : Clause) → other ≢ Snapshots → Meets other value_from_nowhere
@@ -30,7 +31,7 @@ keeps_but_snapshots Phases not = record { fits = each_place (λ i l a. FitsPhase
 keeps_but_snapshots Stamps not = stamps_agree value_from_nowhere.opening (told_of value_from_nowhere) (said_of value_from_nowhere.script value_from_nowhere.report.answers) refl refl refl refl refl refl (in_one _ _ (omega arith)) (in_one _ _ tt) (in_one _ _ tt)
 keeps_but_snapshots Snapshots not = absurd (not refl)
 keeps_but_snapshots Causes not = in_one _ _ tt
-keeps_but_snapshots Refusals not = record { each = each_place (λ i l a. HasCause (moment_at InTurn value_from_nowhere.opening value_from_nowhere.script value_from_nowhere.report.answers (told_of value_from_nowhere) i l) l.command a) value_from_nowhere.script value_from_nowhere.report.answers (record { own = λ t is. tt; log = tt; unfilled = tt }, (record { own = λ t is. tt; log = tt; unfilled = tt }, (record { own = λ t is. tt; log = tt; unfilled = tt }, tt))) }
+keeps_but_snapshots Refusals not = record { each = each_place (λ i l a. HasCause (moment_at InTurn value_from_nowhere.opening value_from_nowhere.script value_from_nowhere.report.answers (told_of value_from_nowhere) i l) l.command a) value_from_nowhere.script value_from_nowhere.report.answers (record { own = λ t is. tt; log = tt; unfilled = tt }, (record { own = λ t is. tt; log = tt; unfilled = tt }, (record { own = λ t is. tt; log = tt; unfilled = tt }, tt))); reach = reach_from_test (moment_at InTurn value_from_nowhere.opening value_from_nowhere.script value_from_nowhere.report.answers (told_of value_from_nowhere)) value_from_nowhere.script value_from_nowhere.report.answers refl }
 keeps_but_snapshots Serial not = no_commit_ordered
 keeps_but_snapshots Ascending not = no_pair_ascends
 keeps_but_snapshots Runs not = record { run = refl }
@@ -56,6 +57,15 @@ pub snapshot_breaks : BreaksAlone Snapshots value_from_nowhere
 snapshot_breaks = record { breaks = nobody_put; keeps = keeps_but_snapshots; refused = λ good. let owes = owes_of value_from_nowhere refl refl good in nobody_put owes.snapshots }
 
 -- ---- a predecessor that no commit is
+only_commit : (u : Transaction) → u ∈ told_of predecessor_unknown → (s p q : ℕ) → u.ending ≡ Commits s p q → s ≡ 13
+only_commit = in_one (λ u. (s p q : ℕ) → u.ending ≡ Commits s p q → s ≡ 13) _ (λ s p q is. cc)
+
+no_predecessor_in : (t : Transaction) → HasWindow (told_of predecessor_unknown) t 13 13 7 → ⊥
+no_predecessor_in t window = elim window.pred_cause [
+  | inl none ↦ let e : 7 ≡ 0 = none in omega (arith, e)
+  | inr other ↦ let e = only_commit other.0 other.1 7 other.3.succ other.3.pred other.3.ending in omega (arith, e)
+]
+
 keeps_but_commit : (other : Clause) → other ≢ Causes → Meets other predecessor_unknown
 keeps_but_commit Fit not = All-from_recursion FitsTypes (lines_of predecessor_unknown) ((omega arith, omega arith), ((omega arith, omega arith), ((omega arith, (omega arith, omega arith, omega arith)), (omega arith, ((omega arith, omega arith, omega arith, omega arith), (omega arith, (tt, tt)))))))
 keeps_but_commit Answered not = refl
@@ -64,26 +74,23 @@ keeps_but_commit Phases not = record { fits = each_place (λ i l a. FitsPhase (p
 keeps_but_commit Stamps not = stamps_agree predecessor_unknown.opening (told_of predecessor_unknown) (said_of predecessor_unknown.script predecessor_unknown.report.answers) refl refl refl refl refl refl (in_one _ _ (omega arith)) (in_one _ _ (omega arith)) (in_one _ _ tt)
 keeps_but_commit Snapshots not = in_one _ _ (first_snapshot (history_of (told_of predecessor_unknown)) predecessor_unknown.opening.map 13 [] refl tt)
 keeps_but_commit Causes not = absurd (not refl)
-keeps_but_commit Refusals not = record { each = each_place (λ i l a. HasCause (moment_at InTurn predecessor_unknown.opening predecessor_unknown.script predecessor_unknown.report.answers (told_of predecessor_unknown) i l) l.command a) predecessor_unknown.script predecessor_unknown.report.answers (record { own = λ t is. tt; log = tt; unfilled = tt }, (record { own = λ t is. tt; log = tt; unfilled = tt }, tt)) }
+keeps_but_commit Refusals not = record { each = each_place (λ i l a. HasCause (moment_at InTurn predecessor_unknown.opening predecessor_unknown.script predecessor_unknown.report.answers (told_of predecessor_unknown) i l) l.command a) predecessor_unknown.script predecessor_unknown.report.answers (record { own = λ t is. tt; log = tt; unfilled = tt }, (record { own = λ t is. λ window. absurd (no_predecessor_in t window); log = tt; unfilled = tt }, tt)); reach = reach_from_test (moment_at InTurn predecessor_unknown.opening predecessor_unknown.script predecessor_unknown.report.answers (told_of predecessor_unknown)) predecessor_unknown.script predecessor_unknown.report.answers refl }
 keeps_but_commit Serial not = one_commit_ordered _
 keeps_but_commit Ascending not = no_pair_ascends
 keeps_but_commit Runs not = record { run = (tt, refl) }
 keeps_but_commit LowEnds not = low_ends (told_of predecessor_unknown) (refl, tt)
 keeps_but_commit HighEnds not = high_ends (told_of predecessor_unknown) (refl, tt)
 
-only_commit : (u : Transaction) → u ∈ told_of predecessor_unknown → (s p q : ℕ) → u.ending ≡ Commits s p q → s ≡ 13
-only_commit = in_one (λ u. (s p q : ℕ) → u.ending ≡ Commits s p q → s ≡ 13) _ (λ s p q is. cc)
-
 no_predecessor : Meets Causes predecessor_unknown → ⊥
-no_predecessor causes = elim (causes _ (0, refl)).pred_cause [
-  | inl none ↦ let e : 7 ≡ 0 = none in omega (arith, e)
-  | inr other ↦ let e = only_commit other.0 other.1 7 other.3.succ other.3.pred other.3.ending in omega (arith, e)
-]
+no_predecessor causes = no_predecessor_in _ (causes _ (0, refl))
 
 pub commit_breaks : BreaksAlone Causes predecessor_unknown
 commit_breaks = record { breaks = no_predecessor; keeps = keeps_but_commit; refused = λ good. let owes = owes_of predecessor_unknown refl refl good in no_predecessor owes.causes }
 
 -- ---- an exclusion without a commit
+no_commit : (u : Transaction) → u ∈ told_of excluded_alone → (s p q : ℕ) → u.ending ≡ Commits s p q → ⊥
+no_commit = in_one (λ u. (s p q : ℕ) → u.ending ≡ Commits s p q → ⊥) _ (λ s p q is. cc)
+
 keeps_but_exclusion : (other : Clause) → other ≢ Causes → Meets other excluded_alone
 keeps_but_exclusion Fit not = All-from_recursion FitsTypes (lines_of excluded_alone) ((omega arith, omega arith), ((omega arith, omega arith), ((omega arith, (omega arith, omega arith, omega arith)), (omega arith, (omega arith, (tt, tt))))))
 keeps_but_exclusion Answered not = refl
@@ -92,15 +99,12 @@ keeps_but_exclusion Phases not = record { fits = each_place (λ i l a. FitsPhase
 keeps_but_exclusion Stamps not = stamps_agree excluded_alone.opening (told_of excluded_alone) (said_of excluded_alone.script excluded_alone.report.answers) refl refl refl refl refl refl (in_one _ _ (omega arith)) (in_one _ _ (omega arith)) (in_one _ _ tt)
 keeps_but_exclusion Snapshots not = in_one _ _ (first_snapshot [] excluded_alone.opening.map 13 [] refl tt)
 keeps_but_exclusion Causes not = absurd (not refl)
-keeps_but_exclusion Refusals not = record { each = each_place (λ i l a. HasCause (moment_at InTurn excluded_alone.opening excluded_alone.script excluded_alone.report.answers (told_of excluded_alone) i l) l.command a) excluded_alone.script excluded_alone.report.answers (record { own = λ t is. tt; log = tt; unfilled = tt }, (record { own = λ t is. tt; log = tt; unfilled = tt }, tt)) }
+keeps_but_exclusion Refusals not = record { each = each_place (λ i l a. HasCause (moment_at InTurn excluded_alone.opening excluded_alone.script excluded_alone.report.answers (told_of excluded_alone) i l) l.command a) excluded_alone.script excluded_alone.report.answers (record { own = λ t is. tt; log = tt; unfilled = tt }, (record { own = λ t is. λ window. absurd (no_commit window.after window.after_in window.succ_cause.own 13 window.succ_cause.pred window.succ_cause.ending); log = tt; unfilled = tt }, tt)); reach = reach_from_test (moment_at InTurn excluded_alone.opening excluded_alone.script excluded_alone.report.answers (told_of excluded_alone)) excluded_alone.script excluded_alone.report.answers refl }
 keeps_but_exclusion Serial not = no_commit_ordered
 keeps_but_exclusion Ascending not = no_pair_ascends
 keeps_but_exclusion Runs not = record { run = refl }
 keeps_but_exclusion LowEnds not = low_ends (told_of excluded_alone) (refl, tt)
 keeps_but_exclusion HighEnds not = high_ends (told_of excluded_alone) (refl, tt)
-
-no_commit : (u : Transaction) → u ∈ told_of excluded_alone → (s p q : ℕ) → u.ending ≡ Commits s p q → ⊥
-no_commit = in_one (λ u. (s p q : ℕ) → u.ending ≡ Commits s p q → ⊥) _ (λ s p q is. cc)
 
 no_overwriter : Meets Causes excluded_alone → ⊥
 no_overwriter causes =

@@ -1,24 +1,26 @@
 -- One stamp of two transactions.
-use Rattle.std.proofs.Common.{◌≡◌, ◌≢◌, ℕ, ◌<◌, ◌≤◌, ◌==◌, Bool, true, List, [], Option, None, refl, sym, ap, inl, subst, arith}
+use Rattle.std.proofs.Common.{◌≡◌, ◌≢◌, ℕ, ◌+◌, ◌<◌, ◌≤◌, ◌==◌, Bool, true, List, [], Option, None, refl, sym, ap, inl, subst, arith}
 use Rattle.std.specs.Prelude.{IfSome, if◌then◌else◌, nat_le, nat_lt}
 use Rattle.std.specs.FinMap.{empty}
 use Rattle.std.proofs.lemmas.List.Elements.{All-from_recursion}
 use Rattle.std.proofs.lemmas.List.Sorted.{IsPermutation-refl}
+use Rattle.erm_model.specs.declared.limits.TheConstants.{LEAST_BLOCK}
 use Rattle.erm_model.specs.Committed.{HasSnapshotReplies, rank_of}
 use Rattle.erm_model.specs.SerialOrder.{ComesBefore}
 use Rattle.erm_model.specs.declared.operation.Reply.TheVariants as reply
 use Rattle.erm_model.proofs.Keys.{value_at-empty}
 use Rattle.erm_report.specs.Printable.{FitsTypes}
 use Rattle.erm_good_report.specs.Causes.{HasCauseOf}
-use Rattle.erm_good_report.specs.Opening.{AtOnce, is_before}
-use Rattle.erm_good_report.specs.Stamps.{AllInTime, Told, begin_told, place_told, stamp_drawn, stamp_told}
+use Rattle.erm_good_report.specs.Opening.{AtOnce, InTurn, is_before}
+use Rattle.erm_good_report.specs.Stamps.{AllInTime, Told, begin_told, place_told, stamp_drawn, stamp_printed}
 use Rattle.erm_good_report.specs.Transactions.{Commits, Said, Transaction, history_of, said_of, stamp_of, stamp_of_ending, steps_of}
 use Rattle.erm_good_report.specs.Windows.{IsCommit}
 use Rattle.erm_good_report.proofs.Parts.{all_pairs_from_test, all_pairs_of_two, each_in, pairs_pass, told_from_test, told_pass}
+use Rattle.erm_good_report.proofs.Decided.{own_window}
 use Rattle.erm_bad_reports.specs.Clauses.{Clause, Meets, lines_of, told_of, IsLowAt, IsHighAt, Fit, Answered, Closes, Phases, Stamps, Snapshots, Causes, Refusals, Serial, Ascending, Runs, LowEnds, HighEnds}
-use Rattle.erm_bad_reports.specs.StampParts.{BreaksPartAlone, Part, MeetsPart, Differ, Least, Begun, Sealed, Begins, Draws, Ascends, Flushes, FlushesFirst, stamp_of_two}
+use Rattle.erm_bad_reports.specs.StampParts.{BreaksPartAlone, Part, MeetsPart, Differ, Least, Begun, Sealed, Begins, Draws, Ascends, Flushes, FlushesFirst, BeginsAscend, Stops, UntoldAfter, UntoldBefore, stamp_of_two}
 use Rattle.erm_bad_reports.proofs.Reading.{owes_of}
-use Rattle.erm_bad_reports.proofs.Tests.{byte, first_snapshot, less_from, most_from, phases_kept, refusals_kept}
+use Rattle.erm_bad_reports.proofs.Tests.{byte, first_snapshot, less_from, most_from, phases_kept, refusals_kept, begins_stop, untold_after, untold_before}
 
 -- what is so of each two lines of one session, by a test
 in_time : (P : ℕ → ℕ → Type 0) (test : ℕ → ℕ → Bool) → ((m n : ℕ) → test m n ≡ true → P m n) → (first later : Said → Option ℕ) → (said : List Said)
@@ -73,25 +75,26 @@ keeps_but_differ Causes not = each_in (λ t. HasCauseOf t.ending told t) told (
         table = 0;
         line = record { line = _; of = (0, refl); names = refl };
         other = record { line = _; of = (0, refl); names = refl };
+        writes = inl (record { line = _; of = (0, refl); names = refl; writes = refl });
       };
       below = omega arith;
     },
     (record { opens = omega arith; closes = omega arith; succ_cause = inl refl; pred_cause = inl refl }, tt),
   ),
 )
-keeps_but_differ Refusals not = refusals_kept stamp_of_two (
+keeps_but_differ Refusals not = refusals_kept stamp_of_two refl (
   record { own = λ t is. tt; log = tt; unfilled = tt },
   (
     record { own = λ t is. tt; log = tt; unfilled = tt },
     (
-      record { own = λ t is. tt; log = tt; unfilled = tt },
+      record { own = λ t is. own_window _ t _; log = tt; unfilled = tt },
       (
         record { own = λ t is. tt; log = tt; unfilled = tt },
         (
           record { own = λ t is. tt; log = tt; unfilled = tt },
           (
-            record { own = λ t is. tt; log = tt; unfilled = tt },
-            (record { own = λ t is. tt; log = tt; unfilled = tt }, (record { own = λ t is. tt; log = tt; unfilled = tt }, tt)),
+            record { own = λ t is. λ shut. (shut, (λ turn. let no : AtOnce ≡ InTurn = turn in cc), (λ turn. let no : AtOnce ≡ InTurn = turn in cc)); log = tt; unfilled = tt },
+            (record { own = λ t is. tt; log = tt; unfilled = tt }, (record { own = λ t is. own_window _ t _; log = tt; unfilled = tt }, tt)),
           ),
         ),
       ),
@@ -121,11 +124,15 @@ parts_but_differ Differ not = absurd (not refl)
 parts_but_differ Least not = each_in (λ t. 13 ≤ t.begin) told (omega arith, (omega arith, (omega arith, tt)))
 parts_but_differ Begun not = each_in (λ t. IfSome (stamp_of t) (λ stamp. t.begin ≤ stamp)) told (omega arith, (omega arith, (omega arith, tt)))
 parts_but_differ Sealed not = each_in (λ t. Told (λ a b. a ≡ b) t.sealed (stamp_of_ending t.ending)) told (tt, (tt, (tt, tt)))
-parts_but_differ Begins not = in_time (λ stamp begin. stamp < begin) nat_lt less_from (λ a. stamp_told a.answer) (λ b. begin_told b.answer) said refl
+parts_but_differ Begins not = in_time (λ stamp begin. stamp < begin) nat_lt less_from (λ a. stamp_printed a.answer) (λ b. begin_told b.answer) said refl
 parts_but_differ Draws not = in_time (λ begin stamp. begin ≤ stamp) nat_le most_from (λ a. begin_told a.answer) (λ b. stamp_drawn b.asked b.answer) said refl
-parts_but_differ Ascends not = in_time (λ first later. first < later) nat_lt less_from (λ a. stamp_drawn a.asked a.answer) (λ b. stamp_drawn b.asked b.answer) said refl
+parts_but_differ Ascends not = in_time (λ first later. first + LEAST_BLOCK ≤ later) (λ m n. nat_le (m + LEAST_BLOCK) n) (λ m n. most_from (m + LEAST_BLOCK) n) (λ a. stamp_drawn a.asked a.answer) (λ b. stamp_drawn b.asked b.answer) said refl
 parts_but_differ Flushes not = in_time (λ place begin. place ≤ begin) nat_le most_from (λ a. place_told a.answer) (λ b. begin_told b.answer) said refl
 parts_but_differ FlushesFirst not = in_time (λ place stamp. place ≤ stamp) nat_le most_from (λ a. place_told a.answer) (λ b. stamp_drawn b.asked b.answer) said refl
+parts_but_differ BeginsAscend not = in_time (λ first later. first ≤ later) nat_le most_from (λ a. begin_told a.answer) (λ b. begin_told b.answer) said refl
+parts_but_differ Stops not = λ in_turn. begins_stop said refl
+parts_but_differ UntoldAfter not = untold_after AtOnce told said refl
+parts_but_differ UntoldBefore not = untold_before AtOnce told said refl
 
 -- a transaction, where one is asked for
 any_transaction : Transaction

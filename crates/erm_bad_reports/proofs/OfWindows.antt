@@ -1,5 +1,5 @@
 -- Windows whose ends are not tight.
-use Rattle.std.proofs.Common.{◌≡◌, ◌≢◌, ◌==◌, ◌&&◌, nat_lt, Bool, true, false, cond, Option, ℕ, ◌≤◌, List, [], ◌∷◌, take, Some, None, refl, sym, ap, ◌∙◌, inl, inr, arith}
+use Rattle.std.proofs.Common.{◌≡◌, ◌≢◌, ◌==◌, ◌&&◌, nat_lt, Bool, true, false, cond, Option, ℕ, ◌<◌, ◌≤◌, List, [], ◌∷◌, take, Some, None, refl, sym, ap, ◌∙◌, inl, inr, arith}
 use Rattle.std.proofs.lemmas.List.Elements.{All-from_recursion}
 use Rattle.std.proofs.lemmas.List.Sorted.{IsPermutation-refl}
 use Rattle.erm_model.specs.Committed.{HasSnapshotReplies, below, rank_of}
@@ -15,16 +15,18 @@ use Rattle.erm_good_report.specs.Causes.{HasCauseOf}
 use Rattle.erm_good_report.specs.GoodReport.{HaveTightWindows}
 use Rattle.erm_good_report.specs.Opening.{InTurn}
 use Rattle.erm_good_report.specs.Phases.{FitsPhase, phase_of}
-use Rattle.erm_good_report.specs.Refusals.{HasCause, moment_at}
+use Rattle.erm_script.specs.declared.script.Command.TheVariants as command
+use Rattle.erm_good_report.specs.Refusals.{HasCause, Moment, WasOver, moment_at}
 use Rattle.erm_good_report.specs.Transactions.{said_of, Transaction, history_of, stamp_of, stamp_of_ending, steps_of, Ending, Unfinished, Commits, Excludes, Aborts}
 use Rattle.erm_good_report.specs.Windows.{IsCommit, IsTightAt}
 use Rattle.erm_model.specs.declared.operation.Reply.TheVariants as reply
 use Rattle.std.specs.Prelude.{◌⊎◌}
 use Rattle.erm_good_report.proofs.Parts.{all_pairs_from_test, all_pairs_of_two, each_in, each_place}
+use Rattle.erm_good_report.proofs.Decided.{AreOverBelow, own_window, window_over}
 use Rattle.erm_bad_reports.specs.Clauses.{BreaksAlone, Clause, Meets, lines_of, told_of, IsLowAt, IsHighAt, Fit, Answered, Closes, Phases, Stamps, Snapshots, Causes, Refusals, Serial, Ascending, Runs, LowEnds, HighEnds}
 use Rattle.erm_bad_reports.specs.Cases.{predecessor_too_low, successor_too_high}
 use Rattle.erm_bad_reports.proofs.Reading.{told_read}
-use Rattle.erm_bad_reports.proofs.Tests.{byte, less_from, one_commit_ordered, stamps_agree, first_snapshot}
+use Rattle.erm_bad_reports.proofs.Tests.{byte, less_from, one_commit_ordered, stamps_agree, first_snapshot, reach_from_test}
 
 abbrev one_key : Database
 one_key = insert empty (at 0 1) (1 ∷ [])
@@ -83,7 +85,7 @@ keeps_but_low Snapshots not = each_in (λ t. HasSnapshotReplies (history_of low_
   ),
 )
 keeps_but_low Causes not = each_in (λ t. HasCauseOf t.ending low_told t) low_told (record { opens = omega arith; closes = omega arith; succ_cause = inl refl; pred_cause = inl refl }, (record { opens = omega arith; closes = omega arith; succ_cause = inl refl; pred_cause = inl refl }, tt))
-keeps_but_low Refusals not = record { each = each_place (λ i l a. HasCause (moment_at InTurn predecessor_too_low.opening predecessor_too_low.script predecessor_too_low.report.answers low_told i l) l.command a) predecessor_too_low.script predecessor_too_low.report.answers (record { own = λ t is. tt; log = tt; unfilled = tt }, (record { own = λ t is. tt; log = tt; unfilled = tt }, (record { own = λ t is. tt; log = tt; unfilled = tt }, (record { own = λ t is. tt; log = tt; unfilled = tt }, (record { own = λ t is. tt; log = tt; unfilled = tt }, (record { own = λ t is. tt; log = tt; unfilled = tt }, tt)))))) }
+keeps_but_low Refusals not = record { each = each_place (λ i l a. HasCause (moment_at InTurn predecessor_too_low.opening predecessor_too_low.script predecessor_too_low.report.answers low_told i l) l.command a) predecessor_too_low.script predecessor_too_low.report.answers (record { own = λ t is. tt; log = tt; unfilled = tt }, (record { own = λ t is. tt; log = tt; unfilled = tt }, (record { own = λ t is. own_window _ t _; log = tt; unfilled = tt }, (record { own = λ t is. tt; log = tt; unfilled = tt }, (record { own = λ t is. tt; log = tt; unfilled = tt }, (record { own = λ t is. own_window _ t _; log = tt; unfilled = tt }, tt)))))); reach = reach_from_test (moment_at InTurn predecessor_too_low.opening predecessor_too_low.script predecessor_too_low.report.answers low_told) predecessor_too_low.script predecessor_too_low.report.answers refl }
 keeps_but_low Serial not = record { same = IsPermutation-refl (history_of low_told); ascends = all_pairs_of_two (λ a b. ComesBefore (rank_of a) (rank_of b)) _ _ (inl (omega arith)) }
 keeps_but_low Ascending not = λ i j d less within. absurd (omega arith)
 keeps_but_low Runs not = record { run = ((refl, tt), ((ap reply.Value (sym there), tt), refl)) }
@@ -124,6 +126,18 @@ ends = same_database one_key (insert one_key (at 0 1) (1 ∷ [])) (λ table key.
     once ∙ twice ((table == 0) && (key == 1)) (1 ∷ []) (value_at empty table key)
     ∙ sym (value_at-insert one_key 0 1 (1 ∷ []) table key ∙ ap (λ (o : Option (List ℕ)). cond ((table == 0) && (key == 1)) (Some (1 ∷ [])) o) once))
 
+-- the first commit was over before the second one's line, and both were before the last line
+abbrev at_commit : ℕ → ℕ → ℕ → Moment
+at_commit i number session = moment_at InTurn successor_too_high.opening successor_too_high.script successor_too_high.report.answers high_told i (record { line = number; session = session; command = command.Commit })
+
+high_first_over : AreOverBelow (at_commit 7 8 1) 33
+high_first_over = each_in (λ u. (s p q : ℕ) → u.ending ≡ Commits s p q → s < 33 → WasOver (at_commit 7 8 1) u) high_told
+    (λ s p q is less turn. (0, refl), (λ s p q is less. absurd (let same : 33 ≡ s = cc in omega (arith, same, less)), (λ s p q is less. absurd (let same : 42 ≡ s = cc in omega (arith, same, less)), tt)))
+
+high_both_over : AreOverBelow (at_commit 8 9 2) 42
+high_both_over = each_in (λ u. (s p q : ℕ) → u.ending ≡ Commits s p q → s < 42 → WasOver (at_commit 8 9 2) u) high_told
+    (λ s p q is less turn. (0, refl), (λ s p q is less turn. (1, refl), (λ s p q is less. absurd (let same : 42 ≡ s = cc in omega (arith, same, less)), tt)))
+
 keeps_but_high : (other : Clause) → other ≢ HighEnds → Meets other successor_too_high
 keeps_but_high Fit not = All-from_recursion FitsTypes (lines_of successor_too_high) ((omega arith, omega arith), ((omega arith, omega arith), ((omega arith, tt), ((omega arith, (omega arith, omega arith, omega arith)), ((omega arith, omega arith), ((omega arith, byte 1 (omega arith)), ((omega arith, omega arith), ((omega arith, tt), ((omega arith, (omega arith, omega arith, omega arith)), ((omega arith, (omega arith, omega arith, omega arith)), (omega arith, ((omega arith, omega arith, omega arith, omega arith), ((omega arith, omega arith, omega arith, omega arith), ((omega arith, omega arith, omega arith, omega arith), (omega arith, ((omega arith, omega arith, byte 1 (omega arith)), (tt, tt)))))))))))))))))
 keeps_but_high Answered not = refl
@@ -146,11 +160,11 @@ keeps_but_high Snapshots not = each_in (λ t. HasSnapshotReplies (history_of hig
 keeps_but_high Causes not = each_in (λ t. HasCauseOf t.ending high_told t) high_told (
   record { opens = omega arith; closes = omega arith; succ_cause = inl refl; pred_cause = inl refl },
   (
-    record { opens = omega arith; closes = omega arith; succ_cause = inl refl; pred_cause = inr (_, (0, refl), omega arith, record { succ = 13; pred = 0; ending = refl; table = 0; line = record { line = _; of = (0, refl); names = refl }; other = record { line = _; of = (0, refl); names = refl } }) },
-    (record { opens = omega arith; closes = omega arith; succ_cause = inl refl; pred_cause = inr (_, (0, refl), omega arith, record { succ = 13; pred = 0; ending = refl; table = 0; line = record { line = _; of = (0, refl); names = refl }; other = record { line = _; of = (0, refl); names = refl } }) }, tt),
+    record { opens = omega arith; closes = omega arith; succ_cause = inl refl; pred_cause = inr (_, (0, refl), omega arith, record { succ = 13; pred = 0; ending = refl; table = 0; line = record { line = _; of = (0, refl); names = refl }; other = record { line = _; of = (0, refl); names = refl }; writes = inl (record { line = _; of = (0, refl); names = refl; writes = refl }) }) },
+    (record { opens = omega arith; closes = omega arith; succ_cause = inl refl; pred_cause = inr (_, (0, refl), omega arith, record { succ = 13; pred = 0; ending = refl; table = 0; line = record { line = _; of = (0, refl); names = refl }; other = record { line = _; of = (0, refl); names = refl }; writes = inl (record { line = _; of = (0, refl); names = refl; writes = refl }) }) }, tt),
   ),
 )
-keeps_but_high Refusals not = record { each = each_place (λ i l a. HasCause (moment_at InTurn successor_too_high.opening successor_too_high.script successor_too_high.report.answers high_told i l) l.command a) successor_too_high.script successor_too_high.report.answers (record { own = λ t is. tt; log = tt; unfilled = tt }, (record { own = λ t is. tt; log = tt; unfilled = tt }, (record { own = λ t is. tt; log = tt; unfilled = tt }, (record { own = λ t is. tt; log = tt; unfilled = tt }, (record { own = λ t is. tt; log = tt; unfilled = tt }, (record { own = λ t is. tt; log = tt; unfilled = tt }, (record { own = λ t is. tt; log = tt; unfilled = tt }, (record { own = λ t is. tt; log = tt; unfilled = tt }, (record { own = λ t is. tt; log = tt; unfilled = tt }, tt))))))))) }
+keeps_but_high Refusals not = record { each = each_place (λ i l a. HasCause (moment_at InTurn successor_too_high.opening successor_too_high.script successor_too_high.report.answers high_told i l) l.command a) successor_too_high.script successor_too_high.report.answers (record { own = λ t is. tt; log = tt; unfilled = tt }, (record { own = λ t is. tt; log = tt; unfilled = tt }, (record { own = λ t is. own_window _ t _; log = tt; unfilled = tt }, (record { own = λ t is. tt; log = tt; unfilled = tt }, (record { own = λ t is. tt; log = tt; unfilled = tt }, (record { own = λ t is. tt; log = tt; unfilled = tt }, (record { own = λ t is. tt; log = tt; unfilled = tt }, (record { own = λ t is. window_over (at_commit 7 8 1) t 33 33 13 high_first_over; log = tt; unfilled = tt }, (record { own = λ t is. window_over (at_commit 8 9 2) t 42 42 13 high_both_over; log = tt; unfilled = tt }, tt))))))))); reach = reach_from_test (moment_at InTurn successor_too_high.opening successor_too_high.script successor_too_high.report.answers high_told) successor_too_high.script successor_too_high.report.answers refl }
 keeps_but_high Serial not = record { same = IsPermutation-refl (history_of high_told); ascends = all_pairs_from_test (λ a b. ComesBefore (rank_of a) (rank_of b)) (λ a b. nat_lt a.succ b.succ) (λ a b pass. inl (less_from a.succ b.succ pass)) (history_of high_told) refl }
 keeps_but_high Ascending not = λ i j d less within. absurd (omega arith)
 keeps_but_high Runs not = record { run = ((refl, tt), ((refl, tt), ((ap reply.Value (sym again), tt), ends))) }

@@ -1,5 +1,5 @@
 -- Stamps that agree by a test, and what is so of transactions without lines.
-use Rattle.std.proofs.Common.{◌≡◌, ◌≢◌, ℕ, ◌<◌, ◌≤◌, Bool, true, false, cond, not, ◌==◌, nat_lt, nat_le, List, [], ◌∷◌, ◌++◌, Some, None, refl, sym, subst, take, ◌∙◌, ◌+◌, arith}
+use Rattle.std.proofs.Common.{◌≡◌, ◌≢◌, ℕ, ◌<◌, ◌≤◌, Bool, true, false, cond, not, ◌==◌, ◌&&◌, nat_lt, nat_le, List, [], ◌∷◌, ◌++◌, Some, None, refl, sym, subst, take, ◌∙◌, ◌+◌, arith}
 use Rattle.std.specs.Prelude.{IfSome}
 use Rattle.std.specs.List.{AllByRecursion, AllPairs}
 use Rattle.std.proofs.lemmas.Bool.Decides.{nat_tests}
@@ -15,16 +15,17 @@ use Rattle.erm_report.specs.declared.answer.Answer.TheVariants as answer
 use Rattle.erm_script.specs.Script.{IsValue}
 use Rattle.erm_script.specs.declared.script.Command.{Command}
 use Rattle.erm_script.specs.declared.script.Command.TheVariants as command
-use Rattle.erm_model.specs.declared.limits.TheConstants.{RING_WORDS}
+use Rattle.erm_model.specs.declared.limits.TheConstants.{LEAST_BLOCK, RING_WORDS, STOP}
 use Rattle.std.proofs.lemmas.List.Elements.{All-cons, All-nil}
 use Rattle.erm_good_report.specs.Phases.{FitsPhase, phase_of}
 use Rattle.erm_good_report.specs.Refusals.{HasCause, HasLogCause, HasRefusalCause, HasUnfilledCause, MayHaveStamp, Moment, flushed_at, moment_at, most_words}
 use Rattle.erm_good_report.specs.Opening.{InTurn, Opening, is_before}
-use Rattle.erm_good_report.specs.Stamps.{Told, StampsAgree, begin_told, place_told, stamp_told, stamp_drawn}
+use Rattle.erm_good_report.specs.Stamps.{Told, StampsAgree, begin_told, place_told, stamp_drawn, stamp_printed}
 use Rattle.erm_good_report.specs.Transactions.{Exchange, Ending, Unfinished, Commits, Excludes, Aborts, Progress, Said, Transaction, heard, nothing, progress_of, said_of, stamp_of, stamp_of_ending}
 use Rattle.erm_good_report.specs.Windows.{HasLine, IsHighEnd, IsLowEnd}
 use Rattle.erm_bad_reports.specs.Clauses.{Case, Meets, Phases, Refusals, told_of, IsLowAt, IsHighAt}
-use Rattle.erm_good_report.proofs.Parts.{EachPlace, each_in, each_place, all_pairs_from_test, all_pairs_of_none, told_pass, told_from_test, pairs_pass}
+pub use Rattle.erm_good_report.proofs.StampTests.{after_side, before_side, begins_ascend, begins_stop, first_true, places_pass, reach_from_test, reach_pass, second_true, some_pass, stamps_ascend, stamps_begin, untold_after, untold_before, untold_pass}
+use Rattle.erm_good_report.proofs.Parts.{EachPlace, each_in, each_place, all_pairs_from_test, all_pairs_of_none, all_pass, told_pass, told_from_test, pairs_pass}
 
 pub less_from : (m n : ℕ) → nat_lt m n ≡ true → m < n
 less_from m n pass = grind (arith, nat_tests)
@@ -40,23 +41,11 @@ pub stamps_differ : (told : List Transaction) → pairs_pass (λ t u. told_pass 
 stamps_differ told pass = all_pairs_from_test (λ t u. Told (λ a b. a ≢ b) (stamp_of t) (stamp_of u)) (λ t u. told_pass (λ m n. not (m == n)) (stamp_of t) (stamp_of u))
     (λ t u pass. told_from_test (λ a b. a ≢ b) (λ m n. not (m == n)) other_from (stamp_of t) (stamp_of u) pass) told pass
 
-pub stamps_begin : (said : List Said) → pairs_pass (λ a b. told_pass nat_lt (stamp_told a.answer) (begin_told b.answer)) said ≡ true
-    → AllPairs (λ a b. is_before InTurn a.session b.session ≡ true → Told (λ stamp begin. stamp < begin) (stamp_told a.answer) (begin_told b.answer)) said
-stamps_begin said pass = all_pairs_from_test (λ a b. is_before InTurn a.session b.session ≡ true → Told (λ stamp begin. stamp < begin) (stamp_told a.answer) (begin_told b.answer))
-    (λ a b. told_pass nat_lt (stamp_told a.answer) (begin_told b.answer))
-    (λ a b pass before. told_from_test (λ m n. m < n) nat_lt less_from (stamp_told a.answer) (begin_told b.answer) pass) said pass
-
 pub stamps_drawn : (said : List Said) → pairs_pass (λ a b. told_pass nat_le (begin_told a.answer) (stamp_drawn b.asked b.answer)) said ≡ true
     → AllPairs (λ a b. is_before InTurn a.session b.session ≡ true → Told (λ begin stamp. begin ≤ stamp) (begin_told a.answer) (stamp_drawn b.asked b.answer)) said
 stamps_drawn said pass = all_pairs_from_test (λ a b. is_before InTurn a.session b.session ≡ true → Told (λ begin stamp. begin ≤ stamp) (begin_told a.answer) (stamp_drawn b.asked b.answer))
     (λ a b. told_pass nat_le (begin_told a.answer) (stamp_drawn b.asked b.answer))
     (λ a b pass before. told_from_test (λ m n. m ≤ n) nat_le most_from (begin_told a.answer) (stamp_drawn b.asked b.answer) pass) said pass
-
-pub stamps_ascend : (said : List Said) → pairs_pass (λ a b. told_pass nat_lt (stamp_drawn a.asked a.answer) (stamp_drawn b.asked b.answer)) said ≡ true
-    → AllPairs (λ a b. is_before InTurn a.session b.session ≡ true → Told (λ first later. first < later) (stamp_drawn a.asked a.answer) (stamp_drawn b.asked b.answer)) said
-stamps_ascend said pass = all_pairs_from_test (λ a b. is_before InTurn a.session b.session ≡ true → Told (λ first later. first < later) (stamp_drawn a.asked a.answer) (stamp_drawn b.asked b.answer))
-    (λ a b. told_pass nat_lt (stamp_drawn a.asked a.answer) (stamp_drawn b.asked b.answer))
-    (λ a b pass before. told_from_test (λ m n. m < n) nat_lt less_from (stamp_drawn a.asked a.answer) (stamp_drawn b.asked b.answer) pass) said pass
 
 pub flushed_begin : (said : List Said) → pairs_pass (λ a b. told_pass nat_le (place_told a.answer) (begin_told b.answer)) said ≡ true
     → AllPairs (λ a b. is_before InTurn a.session b.session ≡ true → Told (λ place begin. place ≤ begin) (place_told a.answer) (begin_told b.answer)) said
@@ -70,29 +59,50 @@ flushed_drawn said pass = all_pairs_from_test (λ a b. is_before InTurn a.sessio
     (λ a b. told_pass nat_le (place_told a.answer) (stamp_drawn b.asked b.answer))
     (λ a b pass before. told_from_test (λ m n. m ≤ n) nat_le most_from (place_told a.answer) (stamp_drawn b.asked b.answer) pass) said pass
 
+-- begins lie above the stamps printed before, ascend, and stop in time; and commits that wait draw their stamps between their places
+abbrev pub begins_alone_pass : List Said → Bool
+begins_alone_pass said =
+    pairs_pass (λ a b. told_pass nat_lt (stamp_printed a.answer) (begin_told b.answer)) said
+    && (pairs_pass (λ a b. told_pass nat_le (begin_told a.answer) (begin_told b.answer)) said && all_pass (λ s. some_pass (λ begin. nat_lt begin STOP) (begin_told s.answer)) said)
+
+abbrev pub begins_pass : List Transaction → List Said → Bool
+begins_pass told said = begins_alone_pass said && (untold_pass after_side told said && untold_pass before_side told said)
+
 -- stamps agree, where each transaction's own do
 pub stamps_agree : (opening : Opening) (told : List Transaction) (said : List Said)
     → pairs_pass (λ t u. told_pass (λ m n. not (m == n)) (stamp_of t) (stamp_of u)) told ≡ true
-    → pairs_pass (λ a b. told_pass nat_lt (stamp_told a.answer) (begin_told b.answer)) said ≡ true
+    → begins_pass told said ≡ true
     → pairs_pass (λ a b. told_pass nat_le (begin_told a.answer) (stamp_drawn b.asked b.answer)) said ≡ true
-    → pairs_pass (λ a b. told_pass nat_lt (stamp_drawn a.asked a.answer) (stamp_drawn b.asked b.answer)) said ≡ true
+    → pairs_pass (λ a b. told_pass (λ m n. nat_le (m + LEAST_BLOCK) n) (stamp_drawn a.asked a.answer) (stamp_drawn b.asked b.answer)) said ≡ true
     → pairs_pass (λ a b. told_pass nat_le (place_told a.answer) (begin_told b.answer)) said ≡ true
     → pairs_pass (λ a b. told_pass nat_le (place_told a.answer) (stamp_drawn b.asked b.answer)) said ≡ true
     → ((t : Transaction) → t ∈ told → opening.stamp + 5 ≤ t.begin)
     → ((t : Transaction) → t ∈ told → IfSome (stamp_of t) (λ stamp. t.begin ≤ stamp))
     → ((t : Transaction) → t ∈ told → Told (λ a b. a ≡ b) t.sealed (stamp_of_ending t.ending))
     → StampsAgree InTurn opening told said
-stamps_agree opening told said differ begins draws ascends flushes flushes_first least begun sealed = record {
-  differ = stamps_differ told differ;
-  least = least;
-  begun = begun;
-  sealed = sealed;
-  begins = stamps_begin said begins;
-  draws = stamps_drawn said draws;
-  ascends = stamps_ascend said ascends;
-  flushes = flushed_begin said flushes;
-  flushes_first = flushed_drawn said flushes_first;
-}
+stamps_agree opening told said differ begins draws ascends flushes flushes_first least begun sealed =
+    let printed = pairs_pass (λ a b. told_pass nat_lt (stamp_printed a.answer) (begin_told b.answer)) said in
+    let ascending = pairs_pass (λ a b. told_pass nat_le (begin_told a.answer) (begin_told b.answer)) said in
+    let stopped = all_pass (λ s. some_pass (λ begin. nat_lt begin STOP) (begin_told s.answer)) said in
+    let after = untold_pass after_side told said in
+    let before = untold_pass before_side told said in
+    let alone = first_true (begins_alone_pass said) (after && before) begins in
+    let others = second_true printed (ascending && stopped) alone in
+    let untold = second_true (begins_alone_pass said) (after && before) begins in record {
+      differ = stamps_differ told differ;
+      least = least;
+      begun = begun;
+      sealed = sealed;
+      begins = stamps_begin said (first_true printed (ascending && stopped) alone);
+      draws = stamps_drawn said draws;
+      ascends = stamps_ascend said ascends;
+      flushes = flushed_begin said flushes;
+      flushes_first = flushed_drawn said flushes_first;
+      begins_ascend = begins_ascend said (first_true ascending stopped others);
+      stops = λ in_turn. begins_stop said (second_true ascending stopped others);
+      untold_after = untold_after InTurn told said (first_true after before untold);
+      untold_before = untold_before InTurn told said (second_true after before untold);
+    }
 
 -- ---- a transaction without lines has any window
 no_line : (t : Transaction) (P : Exchange → Type 0) → t.lines ≡ [] → HasLine P t → ⊥
@@ -170,14 +180,31 @@ begin_over session = either_over (1 == session) (heard session (Some command.Beg
     either_over true p q first second = first
     either_over false p q first second = second
 
+-- nor behind those of two
+abbrev pub said_begun : ℕ → Said
+said_begun session = record { session = session; asked = Some command.Begin; answer = answer.Began 13 }
+
+pub begins_over : (session : ℕ) → (progress_of session (said_begun 1 ∷ said_begun 2 ∷ [])).over ≡ []
+begins_over session = then (2 == session) (cond (1 == session) (heard session (Some command.Begin) (answer.Began 13) nothing) nothing) (begin_over session)
+  where
+    then : (b : Bool) (p : Progress) → p.over ≡ [] → (cond b (heard session (Some command.Begin) (answer.Began 13) p) p).over ≡ []
+    then true p none = none
+    then false p none = none
+
 -- ---- phases and causes, place by place
 pub phases_kept : (k : Case) → EachPlace (λ i l a. FitsPhase (phase_of l.session (take i (said_of k.script k.report.answers))) l.command a) 0 k.script k.report.answers → Meets Phases k
 phases_kept k each =
     record { fits = each_place (λ i l a. FitsPhase (phase_of l.session (take i (said_of k.script k.report.answers))) l.command a) k.script k.report.answers each }
 
-pub refusals_kept : (k : Case) → EachPlace (λ i l a. HasCause (moment_at k.mode k.opening k.script k.report.answers (told_of k) i l) l.command a) 0 k.script k.report.answers → Meets Refusals k
-refusals_kept k each =
-    record { each = each_place (λ i l a. HasCause (moment_at k.mode k.opening k.script k.report.answers (told_of k) i l) l.command a) k.script k.report.answers each }
+-- no stamp is out of reach
+abbrev pub reaches : Case → Bool
+reaches k = places_pass (λ i l a. reach_pass (moment_at k.mode k.opening k.script k.report.answers (told_of k) i l) l.command a) 0 k.script k.report.answers
+
+pub refusals_kept : (k : Case) → reaches k ≡ true → EachPlace (λ i l a. HasCause (moment_at k.mode k.opening k.script k.report.answers (told_of k) i l) l.command a) 0 k.script k.report.answers → Meets Refusals k
+refusals_kept k pass each = record {
+  each = each_place (λ i l a. HasCause (moment_at k.mode k.opening k.script k.report.answers (told_of k) i l) l.command a) k.script k.report.answers each;
+  reach = reach_from_test (moment_at k.mode k.opening k.script k.report.answers (told_of k)) k.script k.report.answers pass;
+}
 
 -- a wait for the ring of a transaction whose stamp may be 40000
 pub ring_wait : (m : Moment) → m.mode ≡ InTurn → 13 ≡ flushed_at m → ((t : Transaction) → MayHaveStamp m t 40000) → HasCause m command.Commit (answer.WaitRing 13)

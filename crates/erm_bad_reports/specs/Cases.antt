@@ -84,10 +84,20 @@ begun_too_early = case_of one_name (a_line command.Begin ∷ a_line command.Abor
 -- a stamp is drawn below a begin that an earlier line told: the transaction that began there, though it aborts, reads from its future
 abbrev pub future_was_read : Case
 future_was_read = case_of two_names
-    (a_line command.Begin ∷ b_line command.Begin ∷ b_line (command.Put 0 1 (1 ∷ [])) ∷ b_line command.Commit ∷ a_line (command.Get 0 1) ∷ a_line command.Abort ∷ [])
-    (answer.Began 18 ∷ answer.Began 13 ∷ answer.Replied reply.Done ∷ answer.Committed 13 13 0 ∷ answer.Replied (reply.Value (Some (1 ∷ []))) ∷ answer.Aborted ∷ [])
-    (commit_by 2 1 13 13 13 0 (record { op = op.Put 0 1 (1 ∷ []); reply = reply.Done } ∷ []) ∷ [])
+    (b_line command.Begin ∷ b_line command.Commit ∷ b_line command.Begin ∷ a_line command.Begin ∷ b_line (command.Put 0 1 (1 ∷ [])) ∷ b_line command.Commit
+    ∷ a_line (command.Get 0 1) ∷ a_line command.Abort ∷ [])
+    (answer.Began 13 ∷ answer.Committed 13 13 0 ∷ answer.Began 18 ∷ answer.Began 23 ∷ answer.Replied reply.Done ∷ answer.Committed 18 18 0
+    ∷ answer.Replied (reply.Value (Some (1 ∷ []))) ∷ answer.Aborted ∷ [])
+    (commit_by 2 1 13 13 13 0 [] ∷ commit_by 2 2 18 18 18 0 (record { op = op.Put 0 1 (1 ∷ []); reply = reply.Done } ∷ []) ∷ [])
     (record { key = at 0 1; value = 1 ∷ [] } ∷ [])
+
+-- ---- reach
+-- a transaction begins, and a commit draws its stamp, further on than one block may have moved the log
+abbrev pub begun_out_of_reach : Case
+begun_out_of_reach = case_of one_name (a_line command.Begin ∷ a_line command.Abort ∷ []) (answer.Began 5000 ∷ answer.Aborted ∷ []) [] []
+
+abbrev pub drawn_out_of_reach : Case
+drawn_out_of_reach = case_of one_name (a_line command.Begin ∷ a_line command.Commit ∷ []) (answer.Began 13 ∷ answer.Committed 18 18 0 ∷ []) (commit_by 1 1 13 18 18 0 [] ∷ []) []
 
 -- ---- replies
 -- a transaction that aborts gets a value that no commit put

@@ -32,3 +32,19 @@ window_closed = put_beside (answer.Committed 18 13 13) (commit_by 1 1 13 18 13 1
 -- it is excluded with these ends of its window
 abbrev pub excluded_with : ℕ → ℕ → Case
 excluded_with succ pred = put_beside (answer.Excluded 18 succ pred) (writer ∷ [])
+
+-- The second session has sealed its put of the key when the first one gets it, and is decided only afterwards; this is the outcome of the first
+-- one, and this the order.
+abbrev pub sealed_beside : Answer → List Committed → Case
+sealed_beside outcome order = case_of two_names
+    (a_line command.Begin ∷ b_line command.Begin ∷ b_line (command.Put 0 1 (1 ∷ [])) ∷ b_line command.Seal ∷ a_line (command.Get 0 1) ∷ a_line command.Commit ∷ b_line command.Settle ∷ [])
+    (answer.Began 13 ∷ answer.Began 13 ∷ answer.Replied reply.Done ∷ answer.Sealed 13 ∷ answer.Replied (reply.Value None) ∷ outcome ∷ answer.Committed 13 13 0 ∷ [])
+    order (record { key = at 0 1; value = 1 ∷ [] } ∷ [])
+
+-- it commits with that put's stamp for its successor stamp
+abbrev pub decided_later : Case
+decided_later = sealed_beside (answer.Committed 18 13 0) (commit_by 1 1 13 18 13 0 (record { op = op.Get 0 1; reply = reply.Value None } ∷ []) ∷ writer ∷ [])
+
+-- it is excluded by that put
+abbrev pub excluded_later : Case
+excluded_later = sealed_beside (answer.Excluded 18 13 13) (writer ∷ [])

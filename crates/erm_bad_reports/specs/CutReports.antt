@@ -1,6 +1,7 @@
 -- The clauses of a report that the disk's fault cut off, and small reports of which each breaks one of them.
 use Rattle.std.specs.Prelude.{◌≡◌, ◌≢◌, ℕ, ◌^◌, List, [], ◌∷◌, ◌++◌, length, Option, Some, None, IfSome}
 use Rattle.std.specs.List.{All, AllPairs, slice_get}
+use Rattle.erm_model.specs.Committed.{HasSnapshotReplies}
 use Rattle.erm_model.specs.Member.{◌∈◌}
 use Rattle.erm_model.specs.declared.operation.Reply.TheVariants as reply
 use Rattle.erm_report.specs.declared.answer.Answer.{Answer}
@@ -10,10 +11,13 @@ use Rattle.erm_report.specs.declared.line.Line.TheVariants as line
 use Rattle.erm_report.specs.Printable.{FitsTypes}
 use Rattle.erm_script.specs.declared.script.Command.TheVariants as command
 use Rattle.erm_script.specs.declared.script.ScriptLine.{ScriptLine}
+use Rattle.erm_good_report.specs.Causes.{HasCauseOf}
 use Rattle.erm_good_report.specs.GoodReport.{IsClosedUnseen, IsCutReport, IsLineOfLog, OwesToAnswers, answer_lines, fault_line, places_of}
 use Rattle.erm_good_report.specs.Opening.{InTurn, Opening}
-use Rattle.erm_good_report.specs.Phases.{Closed}
-use Rattle.erm_good_report.specs.Transactions.{Transaction, transactions_of}
+use Rattle.erm_good_report.specs.Phases.{Closed, PhasesAgree}
+use Rattle.erm_good_report.specs.Refusals.{HasCause, moment_at}
+use Rattle.erm_good_report.specs.Stamps.{StampsAgree}
+use Rattle.erm_good_report.specs.Transactions.{Transaction, history_of, said_of, steps_of, transactions_of}
 use Rattle.erm_bad_reports.specs.Cases.{a_line, asked_from, of_log, one_name, opening_at}
 
 -- a script that was run in turn until the disk failed, the answers so far, the line at which it failed, if it was one, and the sessions closed
@@ -54,6 +58,15 @@ MeetsCut Owing k = OwesToAnswers InTurn k.opening k.script k.answers (told_of_cu
 pub record BreaksCutAlone (clause : CutClause) (k : CutCase) : Type 0 where
   pub breaks : MeetsCut clause k → ⊥
   pub keeps : (other : CutClause) → other ≢ clause → MeetsCut other k
+
+-- it has all that it owes to its answers but the cause of the answer at one place
+pub record OwesAllBut (place : ℕ) (k : CutCase) : Type 0 where
+  pub phases : PhasesAgree k.script k.answers
+  pub stamps : StampsAgree InTurn k.opening (told_of_cut k) (said_of k.script k.answers)
+  pub snapshots : (t : Transaction) → t ∈ told_of_cut k → HasSnapshotReplies (history_of (told_of_cut k)) k.opening.map t.begin (steps_of t)
+  pub causes : (t : Transaction) → t ∈ told_of_cut k → HasCauseOf t.ending (told_of_cut k) t
+  pub refusals : (i : ℕ) (l : ScriptLine) (a : Answer) → slice_get k.script i ≡ Some l → slice_get k.answers i ≡ Some a → i ≢ place
+      → HasCause (moment_at InTurn k.opening k.script k.answers (told_of_cut k) i l) l.command a
 
 -- its lines are no report that was cut off, whatever parts they are read as
 abbrev pub IsNoCutReport : CutCase → Type 0
@@ -112,4 +125,16 @@ closed_too_early = record {
   answers = answer.Began 13 ∷ answer.WaitRing 13 ∷ [];
   fault = Some (record { line = 3; session = 0; command = command.Flush });
   closed = closed_with 40000 ∷ [];
+}
+
+-- A commit waits for the ring, with a stamp that no line tells. A flush tells a place, and a checkpoint behind it that the block there isn't
+-- decided, at a place below.
+abbrev pub unfilled_below : CutCase
+unfilled_below = record {
+  opening = opening_at 8;
+  names = one_name;
+  script = asked_from 1 (a_line command.Begin ∷ a_line command.Commit ∷ of_log command.Flush ∷ of_log command.Checkpoint ∷ of_log command.Flush ∷ []);
+  answers = answer.Began 13 ∷ answer.WaitRing 13 ∷ answer.Flushed 18 ∷ answer.Unfilled 13 ∷ [];
+  fault = Some (record { line = 5; session = 0; command = command.Flush });
+  closed = [];
 }

@@ -8,7 +8,7 @@ use Rattle.erm_report.specs.declared.answer.Answer.TheVariants as answer
 use Rattle.erm_script.specs.declared.script.Command.TheVariants as command
 use Rattle.erm_good_report.specs.Transactions.{Exchange}
 use Rattle.erm_bad_reports.specs.Clauses.{Case}
-use Rattle.erm_bad_reports.specs.Cases.{a_line, b_line, case_of, commit_by, one_name, two_names}
+use Rattle.erm_bad_reports.specs.Cases.{a_line, b_line, case_of, commit_by, one_name, opening_at, two_names}
 
 -- a line of a session that has no transaction
 abbrev pub alone : Exchange → Case
@@ -71,7 +71,15 @@ newer_than_nothing = case_of one_name (a_line command.Begin ∷ a_line (command.
 -- the first session's put is refused so, and the second one puts the key afterwards, and commits
 abbrev pub refused_first : Answer → Case
 refused_first refusal = case_of two_names
-    (a_line command.Begin ∷ a_line (command.Put 0 1 (2 ∷ [])) ∷ b_line command.Begin ∷ b_line (command.Put 0 1 (1 ∷ [])) ∷ b_line command.Commit ∷ [])
-    (answer.Began 13 ∷ refusal ∷ answer.Began 18 ∷ answer.Replied reply.Done ∷ answer.Committed 18 18 0 ∷ [])
-    (commit_by 2 1 18 18 18 0 (record { op = op.Put 0 1 (1 ∷ []); reply = reply.Done } ∷ []) ∷ [])
+    (a_line command.Begin ∷ b_line command.Begin ∷ a_line (command.Put 0 1 (2 ∷ [])) ∷ b_line (command.Put 0 1 (1 ∷ [])) ∷ b_line command.Commit ∷ [])
+    (answer.Began 13 ∷ answer.Began 13 ∷ refusal ∷ answer.Replied reply.Done ∷ answer.Committed 13 13 0 ∷ [])
+    (commit_by 2 1 13 13 13 0 (record { op = op.Put 0 1 (1 ∷ []); reply = reply.Done } ∷ []) ∷ [])
     (record { key = at 0 1; value = 1 ∷ [] } ∷ [])
+
+-- a get has read all that it may, where there are rows enough for it, but its transaction has no line besides
+abbrev pub reads_alone : Case
+reads_alone = record (before_abort (record { asked = command.Get 0 1; answer = answer.ReadsFull })) { opening = record (opening_at 8) { rows = 600 } }
+
+-- objects may be full, but not so far above their limit
+abbrev pub oids_beyond : Case
+oids_beyond = record (before_abort (record { asked = command.Put 0 1 (1 ∷ []); answer = answer.OidsFull 20000 })) { opening = record (opening_at 8) { first = 16380 } }

@@ -70,14 +70,17 @@ module _ (table : ℕ → ℕ) (told : List Transaction) (t : Transaction) (w : 
   -- one that made what was read or overwritten, or read what was overwritten
   pub commits_beside : (u : TransactionRecord) (commit : ToldCommit table told u) → ReadsFrom (bare w) u ⊎ OverwritesFrom (bare w) u ⊎ OverwritesReadOf (bare w) u
       → CommitsBeside commit.by t u.stamp
-  commits_beside u commit (inl (r, read, stamp, (c, wrote, at))) = record {
-    succ = u.succ;
-    pred = u.pred;
-    ending = commit.ending;
-    table = table r.oid;
-    line = writes_name commit.by (table r.oid) (subst (λ (k : ℕ). WritesTable commit.by k) (ap table at) (commit.touches.claims c.oid (claimed_at u.writes wrote.0 c wrote.1)));
-    other = reads_name r read;
-  }
+  commits_beside u commit (inl (r, read, stamp, (c, wrote, at))) =
+      let made : WritesTable commit.by (table r.oid) = subst (λ (k : ℕ). WritesTable commit.by k) (ap table at) (commit.touches.claims c.oid (claimed_at u.writes wrote.0 c wrote.1)) in
+      record {
+        succ = u.succ;
+        pred = u.pred;
+        ending = commit.ending;
+        table = table r.oid;
+        line = writes_name commit.by (table r.oid) made;
+        other = reads_name r read;
+        writes = inl made;
+      }
   commits_beside u commit (inr (inl (d, wrote, stamp, (c, made, at)))) = record {
     succ = u.succ;
     pred = u.pred;
@@ -85,15 +88,19 @@ module _ (table : ℕ → ℕ) (told : List Transaction) (t : Transaction) (w : 
     table = table d.oid;
     line = writes_name commit.by (table d.oid) (subst (λ (k : ℕ). WritesTable commit.by k) (ap table at) (commit.touches.claims c.oid (claimed_at u.writes made.0 c made.1)));
     other = writes_name t (table d.oid) (claims_write d wrote);
+    writes = inr (claims_write d wrote);
   }
-  commits_beside u commit (inr (inr (r, read, (d, wrote, at, stamp)))) = record {
-    succ = u.succ;
-    pred = u.pred;
-    ending = commit.ending;
-    table = table r.oid;
-    line = commit.touches.reads r.oid (read_at u.reads read.0 r read.1);
-    other = writes_name t (table r.oid) (subst (λ (k : ℕ). WritesTable t k) (ap table at) (claims_write d wrote));
-  }
+  commits_beside u commit (inr (inr (r, read, (d, wrote, at, stamp)))) =
+      let over : WritesTable t (table r.oid) = subst (λ (k : ℕ). WritesTable t k) (ap table at) (claims_write d wrote) in
+      record {
+        succ = u.succ;
+        pred = u.pred;
+        ending = commit.ending;
+        table = table r.oid;
+        line = commit.touches.reads r.oid (read_at u.reads read.0 r read.1);
+        other = writes_name t (table r.oid) over;
+        writes = inr over;
+      }
 
   -- a commit that overwrote what a transaction read lies at or above its begin
   module _ (h : History) (opening : Rows) (snapshots : IsSnapshot h opening) (reads : (r : VersionRead) → r ∈ w.reads → IsNewestBelow h opening r.oid w.begin r.stamp r.row) where

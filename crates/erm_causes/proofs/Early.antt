@@ -11,7 +11,7 @@ use Rattle.erm_report.specs.declared.answer.Answer.TheVariants as answer
 use Rattle.erm_script.specs.declared.script.Command.{Command}
 use Rattle.erm_script.specs.declared.script.ScriptLine.{ScriptLine}
 use Rattle.erm_world.specs.Laws.{IsCommitOf}
-use Rattle.erm_world.specs.World.{Finished, Session, View, Work, history_of}
+use Rattle.erm_world.specs.World.{Fate, Finished, Session, View, Work, history_of}
 use Rattle.erm_world.specs.World as world
 use Rattle.erm_world.proofs.Commits.{tells_commits}
 use Rattle.erm_good_report.specs.GoodReport.{places_of}
@@ -60,33 +60,37 @@ over_later seat script answers closed i t within =
     (subst (λ (said : List Said). t ∈ (progress_of seat said).over) (take-append-drop i (said_of script answers))
     (over_more seat (take i (said_of script answers)) (drop i (said_of script answers)) t within))
 
--- OF THE WORLD. Where one session's transaction was aborted, all that is committed then was so before.
-module _ (v t : View) (seat : ℕ) (w : Work) (others : (q : ℕ) → q ≢ seat → t.session q ≡ v.session q) (opening : t.opening ≡ v.opening)
-    (over : (t.session seat).over ≡ (v.session seat).over ++ record { work = w; fate = world.aborts } ∷ []) where
-  abbrev aborted : Finished
-  aborted = record { work = w; fate = world.aborts }
+-- OF THE WORLD. Where one session's transaction ended so, all that is committed then was so before, but what it committed itself.
+module _ (v t : View) (seat : ℕ) (w : Work) (fate : Fate) (others : (q : ℕ) → q ≢ seat → t.session q ≡ v.session q) (opening : t.opening ≡ v.opening)
+    (over : (t.session seat).over ≡ (v.session seat).over ++ record { work = w; fate = fate } ∷ []) where
+  abbrev last_one : Finished
+  last_one = record { work = w; fate = fate }
 
-  not_aborted : (f : Finished) (stamp succ pred : ℕ) → f.fate ≡ world.commits stamp succ pred → f ∈ (aborted ∷ []) → ⊥
-  not_aborted f stamp succ pred is (zero, at) =
-      let same : aborted ≡ f = cc in
-      let fates : world.aborts ≡ world.commits stamp succ pred = ap (λ (g : Finished). g.fate) same ∙ is in cc fates
-  not_aborted f stamp succ pred is (suc k, at) = cc
+  -- a commit with another stamp than its own
+  abbrev IsAnother : ℕ → Type 0
+  IsAnother stamp = (own succ pred : ℕ) → fate ≡ world.commits own succ pred → own ≡ stamp → ⊥
 
-  over_before : (q : ℕ) (f : Finished) (stamp succ pred : ℕ) → f.fate ≡ world.commits stamp succ pred → f ∈ (t.session q).over → f ∈ (v.session q).over
-  over_before q f stamp succ pred is within = elim (cases_eq q seat) [
+  not_last : (f : Finished) (stamp succ pred : ℕ) → IsAnother stamp → f.fate ≡ world.commits stamp succ pred → f ∈ (last_one ∷ []) → ⊥
+  not_last f stamp succ pred another is (zero, at) =
+      let same : last_one ≡ f = cc in another stamp succ pred (ap (λ (g : Finished). g.fate) same ∙ is) refl
+  not_last f stamp succ pred another is (suc k, at) = cc
+
+  over_before : (q : ℕ) (f : Finished) (stamp succ pred : ℕ) → IsAnother stamp → f.fate ≡ world.commits stamp succ pred → f ∈ (t.session q).over → f ∈ (v.session q).over
+  over_before q f stamp succ pred apart is within = elim (cases_eq q seat) [
     | inl same ↦
         let here : f ∈ (t.session seat).over = subst (λ (n : ℕ). f ∈ (t.session n).over) same within in
-        let both : f ∈ ((v.session seat).over ++ aborted ∷ []) = subst (λ (fs : List Finished). f ∈ fs) over here in
-        elim (∈-either (v.session seat).over (aborted ∷ []) f both) as (λ _. f ∈ (v.session q).over) [
+        let both : f ∈ ((v.session seat).over ++ last_one ∷ []) = subst (λ (fs : List Finished). f ∈ fs) over here in
+        elim (∈-either (v.session seat).over (last_one ∷ []) f both) as (λ _. f ∈ (v.session q).over) [
           | inl before ↦ subst (λ (n : ℕ). f ∈ (v.session n).over) (sym same) before
-          | inr last ↦ absurd (not_aborted f stamp succ pred is last)
+          | inr last ↦ absurd (not_last f stamp succ pred apart is last)
         ]
     | inr another ↦ subst (λ (s : Session). f ∈ s.over) (others q another) within
   ]
 
-  pub committed_before : (r : TransactionRecord) → r ∈ history_of t → r ∈ history_of v
-  committed_before r within =
+  pub committed_but : (r : TransactionRecord) → IsAnother r.stamp → r ∈ history_of t → r ∈ history_of v
+  committed_but r another within =
       let of : IsCommitOf t r = (tells_commits t).only r within in
+      let stamp_is : of.stamp ≡ r.stamp = sym (ap (λ (x : TransactionRecord). x.stamp) of.is) in
       (tells_commits v).each r (record {
         seat = of.seat;
         session = still_session t v of.seat (sym opening) of.session;
@@ -94,6 +98,12 @@ module _ (v t : View) (seat : ℕ) (w : Work) (others : (q : ℕ) → q ≢ seat
         stamp = of.stamp;
         succ = of.succ;
         pred = of.pred;
-        over = over_before of.seat (record { work = of.work; fate = world.commits of.stamp of.succ of.pred }) of.stamp of.succ of.pred refl of.over;
+        over = over_before of.seat (record { work = of.work; fate = world.commits of.stamp of.succ of.pred }) of.stamp of.succ of.pred
+            (λ own succ pred is same. another own succ pred is (same ∙ stamp_is)) refl of.over;
         is = of.is;
       })
+
+-- so it is of all that is committed where it was aborted
+pub committed_before : (v t : View) (seat : ℕ) (w : Work) → ((q : ℕ) → q ≢ seat → t.session q ≡ v.session q) → t.opening ≡ v.opening
+    → (t.session seat).over ≡ (v.session seat).over ++ record { work = w; fate = world.aborts } ∷ [] → (r : TransactionRecord) → r ∈ history_of t → r ∈ history_of v
+committed_before v t seat w others opening over r = committed_but v t seat w world.aborts others opening over r (λ own succ pred is same. cc)

@@ -3,6 +3,7 @@ pub mod Begun
 pub mod Beside
 pub mod Causes
 pub mod Coloured
+pub mod Decided
 pub mod Early
 pub mod Ended
 pub mod Fine

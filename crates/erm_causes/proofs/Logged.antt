@@ -41,7 +41,7 @@ use Rattle.erm_causes.proofs.Tables.{run_opening}
 use Rattle.erm_causes.proofs.Waits.{allowed}
 
 -- THE LAST COMMIT. The report's fold over the transactions that are over.
-abbrev last_in : Option ℕ → List Transaction → Option ℕ
+abbrev pub last_in : Option ℕ → List Transaction → Option ℕ
 last_in last ts = fold (λ (at : Option ℕ) (t : Transaction). option_map_or (λ stamp. Some stamp) (stamp_committed t.ending) at) last ts
 
 uncommitted : (ending : Ending) (fate : Fate) → EndsAs ending fate → (IsCommitted fate → ⊥) → stamp_committed ending ≡ None
@@ -62,14 +62,14 @@ committed ending fate stamp succ pred ends is = by ending (subst (λ (f : Fate).
     by (Excludes (Some s) u p) same = absurd same
     by Aborts same = absurd same
 
-last_none : (seat : ℕ) (ts : List Transaction) (fs : List Finished) (last : Option ℕ) → TellsOver seat ts fs → ((f : Finished) → f ∈ fs → IsCommitted f.fate → ⊥) → last_in last ts ≡ last
+pub last_none : (seat : ℕ) (ts : List Transaction) (fs : List Finished) (last : Option ℕ) → TellsOver seat ts fs → ((f : Finished) → f ∈ fs → IsCommitted f.fate → ⊥) → last_in last ts ≡ last
 last_none seat [] fs last tells none = refl
 last_none seat (t ∷ ts) [] last tells none = absurd tells
 last_none seat (t ∷ ts) (f ∷ fs) last tells none =
     ap (λ (o : Option ℕ). last_in (option_map_or (λ stamp. Some stamp) o last) ts) (uncommitted t.ending f.fate tells.0.ends (none f (∈-head f fs)))
     ∙ last_none seat ts fs last tells.1 (λ g m. none g (∈-behind f fs g m))
 
-last_some : (seat : ℕ) (front : List Finished) (ts : List Transaction) (f : Finished) (rest : List Finished) (last : Option ℕ) (stamp succ pred : ℕ) → TellsOver seat ts (front ++ f ∷ rest)
+pub last_some : (seat : ℕ) (front : List Finished) (ts : List Transaction) (f : Finished) (rest : List Finished) (last : Option ℕ) (stamp succ pred : ℕ) → TellsOver seat ts (front ++ f ∷ rest)
     → f.fate ≡ world.commits stamp succ pred → ((g : Finished) → g ∈ rest → IsCommitted g.fate → ⊥) → last_in last ts ≡ Some stamp
 last_some seat [] [] f rest last stamp succ pred tells is none = absurd tells
 last_some seat [] (t ∷ ts) f rest last stamp succ pred tells is none =
@@ -289,8 +289,11 @@ module _ (tell : ExecutionsTell) (go : ExecutionsGoOn) (v t : View) (script : Li
   logged command.Flush (answer.Flushed place) did = ((omega (arith, did.1, flushed_there), flushes_cause place did.2), tt)
   logged command.Flush (answer.Empty place) did = ((did.1 ∙ flushed_there, subst (IsAboveAll m) (sym did.2) above_all), tt)
   logged command.Flush (answer.Unfilled place) did = (tt, (did.1 ∙ flushed_there, least_undecided place did.2 did.3.least))
-  logged command.Checkpoint (answer.Checkpointed place) did = (subst (IsAboveAll m) (sym did.1) above_all, tt)
-  logged command.Checkpoint (answer.Unfilled place) did = (tt, least_undecided place did.1 did.2.least)
+  logged command.Checkpoint (answer.Checkpointed place) did =
+      let low = placed.low in
+      ((omega (arith, did.1, low, flushed_there), none_sealed (λ s pending. omega (arith, did.1, did.2.least s pending)), subst (IsAboveAll m) (sym did.1) above_all), tt)
+  logged command.Checkpoint (answer.Unfilled place) did =
+      let low = placed.pending place did.1 in (tt, (omega (arith, low, flushed_there), least_undecided place did.1 did.2.least))
   logged c d did = absurd did
 
   -- A LINE OF A SESSION.

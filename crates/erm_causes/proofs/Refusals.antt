@@ -3,6 +3,8 @@ use Rattle.std.proofs.Common.{◌≡◌, ◌≢◌, ℕ, ◌+◌, ◌*◌, ◌<�
 use Rattle.erm_model.specs.declared.history.TransactionRecord.{TransactionRecord}
 use Rattle.erm_model.specs.declared.limits.TheConstants.{LEAST_BLOCK, RING_WORDS, WRITE_LIMIT}
 use Rattle.erm_model.specs.declared.outcome.Phase.TheVariants.{Active}
+use Rattle.erm_model.specs.declared.outcome.Outcome.TheVariants as outcome
+use Rattle.erm_model.specs.declared.outcome.Receipt.{Receipt}
 use Rattle.erm_model.specs.declared.row_stop.RowStop.{RowStop}
 use Rattle.erm_model.specs.declared.row_stop.RowStop.TheVariants as stop
 use Rattle.erm_model.specs.Member.{◌∈◌}
@@ -14,24 +16,24 @@ use Rattle.erm_script.specs.declared.script.Command.{Command}
 use Rattle.erm_script.specs.declared.script.Command.TheVariants as command
 use Rattle.erm_script.specs.Script.{IsInRange}
 use Rattle.erm_world.specs.declared.stops.Wait.TheVariants as wait
-use Rattle.erm_world.specs.Calls.{DidSeal, IsAhead, IsDone, IsInTheWay, IsNewer, IsOwned}
+use Rattle.erm_world.specs.Calls.{DidSeal, Settled, IsAhead, IsDone, IsInTheWay, IsNewer, IsOwned}
 use Rattle.erm_world.specs.Face.{WasRefused}
 use Rattle.erm_world.specs.Laws.{IsSerializable}
 use Rattle.erm_world.specs.World.{Finished, IsCurrent, IsSession, Session, Stand, View, Work, history_of, made_by_all, phase_at, phase_of, size_of, work_at, work_of}
 use Rattle.erm_world.specs.World as world
 use Rattle.erm_world.proofs.Lists.{∈-last}
-use Rattle.erm_good_report.specs.Causes.{HasNoWindow}
 use Rattle.erm_good_report.specs.Opening.{InTurn}
 use Rattle.erm_good_report.specs.Phases.{refusal_of}
-use Rattle.erm_good_report.specs.Refusals.{HasWaitCause, IsNewerBy, IsOwnedBy, MayHaveStamp, Moment, WaitsForRing, WaitsToRead, WaitsToSettle, WasOver, claims_of, current_of, flushed_at, most_words}
+use Rattle.erm_good_report.specs.Refusals.{HasNoWindowBefore, HasRefusalCause, HasWaitCause, HasWindowBefore, IsNewerBy, IsOwnedBy, MayHaveStamp, Moment, WaitsForRing, WaitsToRead, WaitsToSettle, WasOver, claims_of, current_of, flushed_at, most_words}
 use Rattle.erm_good_report.specs.Transactions.{Excludes, Exchange, Transaction, progress_of, table_of, with_line}
-use Rattle.erm_lines.specs.Answers.{DidCommand, WasRefusedAs, stop_told}
+use Rattle.erm_lines.specs.Answers.{DidCommand, DidDecide, WasRefusedAs, stop_told}
 use Rattle.erm_lines.specs.Operations.{AsksOf, FrontOf, WereCutOff}
 use Rattle.erm_causes.specs.Touched.{AreOfTables, IsClosedBy, Touches}
 use Rattle.erm_causes.proofs.Answered.{done_turned, last_touches, now_active, out_fine, shut_closed, stayed_fine}
 use Rattle.erm_causes.proofs.Begun.{HistoryLaws}
 use Rattle.erm_causes.proofs.Beside.{shows_closed_by}
 use Rattle.erm_causes.proofs.Coloured.{AskedOf}
+use Rattle.erm_causes.proofs.Decided.{no_window_before, window_before}
 use Rattle.erm_causes.proofs.Early.{EarlyCommit, committed_before}
 use Rattle.erm_causes.proofs.Fine.{history_grows, still_session}
 use Rattle.erm_causes.proofs.Lines.{CutFine}
@@ -42,7 +44,7 @@ use Rattle.erm_causes.proofs.Operated as operated
 use Rattle.erm_causes.proofs.Own.{TreeLaws}
 use Rattle.erm_causes.proofs.Quiet.{same_line, wants_active}
 use Rattle.erm_told_limits.proofs.Ran.{Stays, active_with, ran}
-use Rattle.erm_causes.proofs.Waits.{Waited, excluded_named, named_active, newer_named, none_for_ring, owned_named, waited_ring, waited_seat}
+use Rattle.erm_causes.proofs.Waits.{Decides, IsDecision, Waited, excluded_named, named_active, newer_named, none_for_ring, owned_named, waited_ring, waited_seat}
 use Rattle.erm_causes.proofs.Waits as waits
 use Rattle.erm_causes.proofs.Refused.{Known, KnowsStamps, newer_by, owned_by, waits_to_read, waits_to_settle}
 
@@ -137,7 +139,7 @@ work_begin asked w u (operated.claimed c asks is) = ap (λ (x : Work). x.begin) 
 
 -- its window was closed before its seal, by commits that were over
 abbrev pub WasShut : Moment → Transaction → ℕ → ℕ → Type 0
-WasShut m t succ pred = (shut : HasNoWindow m.all t None succ pred) × WasOver m shut.after × WasOver m shut.before
+WasShut m t succ pred = HasNoWindowBefore m t None succ pred
 
 -- one sealed transaction is another's
 sealed_work : (stand : Stand) (w u : Work) (stamp : ℕ) → stand ≡ world.sealed w stamp → work_of stand ≡ u → w ≡ u
@@ -324,6 +326,40 @@ module _ (tree : TreeLaws) (laws : HistoryLaws) (table : ℕ → ℕ) (m : Momen
         let active = named_active (phase_at before m.session) c it.table it.names free in
         as_told (λ t. IsNewerBy m c (with_line (Some c) (answer.Newer stamp) t) stamp) (work_at before m.session) (own it.table it.names active (answer.Newer stamp))
         (named_newer it.table it.names active (answer.Newer stamp) stamp it.refused)
+
+    -- the outcome that decided its transaction, which stood sealed in this world
+    module _ (a : Answer) (at : View) (in_at : IsSession at m.session) (others : (q : ℕ) → q ≢ m.session → at.session q ≡ before.session q) (opening : at.opening ≡ before.opening)
+        (over : (at.session m.session).over ≡ (before.session m.session).over) (w : Work) (now : NowTold table m.session (current_of m m.session) w) (own : ℕ) where
+      committed_so : (stamp succ pred : ℕ) (r : Receipt) → r.stamp ≡ stamp → r.succ ≡ succ → r.pred ≡ pred → Settled at m.session w own (outcome.Committed r) after
+          → HasWindowBefore m (with_line (Some c) a u) stamp succ pred
+      committed_so stamp succ pred r stamp_is succ_is pred_is settled =
+          let window = window_before table m before at after c a in_at holds commits others opening over w now own r.succ r.pred settled.0 settled.4 settled.5 in
+          as_told (λ t. HasWindowBefore m (with_line (Some c) a t) stamp succ pred) w now
+          (subst (λ (n : ℕ). HasWindowBefore m (with_line (Some c) a now.told) n succ pred) (sym settled.2 ∙ stamp_is)
+          (subst (λ (n : ℕ). HasWindowBefore m (with_line (Some c) a now.told) own n pred) succ_is
+          (subst (λ (n : ℕ). HasWindowBefore m (with_line (Some c) a now.told) own r.succ n) pred_is window)))
+
+      excluded_so : (stamp succ pred : ℕ) → Settled at m.session w own (outcome.Excluded stamp succ pred) after → HasNoWindowBefore m (with_line (Some c) a u) (Some stamp) succ pred
+      excluded_so stamp succ pred settled =
+          as_told (λ t. HasNoWindowBefore m (with_line (Some c) a t) (Some stamp) succ pred) w now
+          (subst (λ (n : ℕ). HasNoWindowBefore m (with_line (Some c) a now.told) (Some n) succ pred) (sym settled.1)
+          (no_window_before table m before at after c a in_at holds commits others opening over w now own succ pred settled.0 settled.2 settled.3 settled.4))
+
+    decides_so : (a : Answer) (at : View) → IsSession at m.session → ((q : ℕ) → q ≢ m.session → at.session q ≡ before.session q) → at.opening ≡ before.opening
+        → (at.session m.session).over ≡ (before.session m.session).over
+        → ((w : Work) (own : ℕ) → (at.session m.session).stand ≡ world.sealed w own → NowTold table m.session (current_of m m.session) w)
+        → IsDecision a → DidDecide at m.session a after → HasRefusalCause m c (with_line (Some c) a u) a
+    decides_so (answer.Committed stamp succ pred) at in_at others opening over now is (r, stamp_is, succ_is, pred_is, (w, own, stand, ready, settled)) =
+        λ window. committed_so (answer.Committed stamp succ pred) at in_at others opening over w (now w own stand) own stamp succ pred r stamp_is succ_is pred_is settled
+    decides_so (answer.Excluded stamp succ pred) at in_at others opening over now is (w, own, stand, ready, settled) =
+        λ window. excluded_so (answer.Excluded stamp succ pred) at in_at others opening over w (now w own stand) own stamp succ pred settled
+    decides_so a at in_at others opening over now is did = absurd is
+
+    pub outcome_cause : (a : Answer) → IsDecision a → Decides before m.session c a after → HasRefusalCause m c (with_line (Some c) a u) a
+    outcome_cause a is (waits.settles named did) = decides_so a before session (λ q another. refl) refl refl decided_now is did
+    outcome_cause a is (waits.commits named stamp between sealed did) =
+        decides_so a between (still_session before between m.session sealed.opening session) sealed.others sealed.opening (ap (λ (s : Session). s.over) sealed.own)
+        (λ w own stand. sealed_now between stamp named sealed w own stand) is did
 
     pub excluded_cause : (succ pred : ℕ) → DidCommand before m.session c (answer.ExcludedEarly succ pred) after
         → WasShut m (with_line (Some c) (answer.ExcludedEarly succ pred) u) succ pred

@@ -1,5 +1,5 @@
 -- Refusals for what other sessions do have their causes.
-use Rattle.std.proofs.Common.{◌≡◌, ◌≢◌, ℕ, zero, ◌<◌, ◌≤◌, true, List, ◌∷◌, Some, refl, sym, ap, ◌∙◌, subst, arith}
+use Rattle.std.proofs.Common.{◌≡◌, ◌≢◌, ℕ, zero, ◌<◌, ◌≤◌, true, List, ◌∷◌, Some, inl, inr, refl, sym, ap, ◌∙◌, subst, arith}
 use Rattle.erm_model.specs.declared.history.TransactionRecord.{TransactionRecord}
 use Rattle.erm_model.specs.declared.history.VersionRead.{VersionRead}
 use Rattle.erm_model.specs.declared.history.VersionWritten.{VersionWritten}
@@ -21,7 +21,7 @@ use Rattle.erm_lines.specs.Told.{TellsNow}
 use Rattle.erm_causes.specs.Touched.{Touches}
 use Rattle.erm_causes.proofs.Beside.{claimed_at, read_at, writes_name}
 use Rattle.erm_causes.proofs.Early.{EarlyCommit}
-use Rattle.erm_causes.proofs.Fine.{FineNow, names_more}
+use Rattle.erm_causes.proofs.Fine.{FineNow, names_more, writes_more}
 use Rattle.erm_causes.proofs.Lines.{lines_before}
 use Rattle.erm_causes.proofs.Moments.{NowTold, current_of_sealed, now_told}
 use Rattle.erm_told_limits.proofs.Ran.{Stays}
@@ -126,6 +126,9 @@ module _ (table : ℕ → ℕ) (m : Moment) (v : View) (known : Known table m v)
     names_own : (n : ℕ) → NamesTable t n → NamesTable (with_line (Some c) a t) n
     names_own n names = names_more t (with_line (Some c) a t) n (lines_before c a t) names
 
+    writes_own : (n : ℕ) → WritesTable t n → WritesTable (with_line (Some c) a t) n
+    writes_own n writes = writes_more t (with_line (Some c) a t) n (lines_before c a t) writes
+
     the_other : (other seen : ℕ) (work : Work) → IsSealedBelow at m.session own other seen work → OtherSealed table m other seen work
     the_other other seen work below =
         let session = session_back at other opening below.session in
@@ -135,6 +138,7 @@ module _ (table : ℕ → ℕ) (m : Moment) (v : View) (known : Known table m v)
     waits_to_settle other seen (calls.overwrites before after r reads ready may) =
         let there = the_other other seen may.work may.is in
         let here : r ∈ w.reads = subst (λ (rs : List VersionRead). r ∈ rs) (sym reads) (∈-second before (r ∷ after) r (zero, refl)) in
+        let over : WritesTable there.told (table r.oid) = subst (λ (n : ℕ). WritesTable there.told n) (ap table may.oid) (there.touches.claims may.claim.oid (claimed_at may.work.claims may.claimed.0 may.claim may.claimed.1)) in
         record {
           another = may.is.another;
           other = there.told;
@@ -143,13 +147,14 @@ module _ (table : ℕ → ℕ) (m : Moment) (v : View) (known : Known table m v)
           own_is = own_is;
           below = may.is.below;
           table = table r.oid;
-          line = writes_name there.told (table r.oid)
-              (subst (λ (n : ℕ). WritesTable there.told n) (ap table may.oid) (there.touches.claims may.claim.oid (claimed_at may.work.claims may.claimed.0 may.claim may.claimed.1)));
+          line = writes_name there.told (table r.oid) over;
           mine = names_own (table r.oid) (touches.reads r.oid (read_at w.reads here.0 r here.1));
+          writes = inl over;
         }
     waits_to_settle other seen (calls.has_read before after d claims ready claims_ready first may) =
         let there = the_other other seen may.work may.is in
         let here : d ∈ w.claims = subst (λ (ds : List VersionWritten). d ∈ ds) (sym claims) (∈-second before (d ∷ after) d (zero, refl)) in
+        let over : WritesTable t (table d.oid) = touches.claims d.oid (claimed_at w.claims here.0 d here.1) in
         record {
           another = may.is.another;
           other = there.told;
@@ -159,5 +164,6 @@ module _ (table : ℕ → ℕ) (m : Moment) (v : View) (known : Known table m v)
           below = may.is.below;
           table = table d.oid;
           line = subst (λ (n : ℕ). NamesTable there.told n) (ap table may.oid) (there.touches.reads may.read.oid (read_at may.work.reads may.reads.0 may.read may.reads.1));
-          mine = names_own (table d.oid) (writes_name t (table d.oid) (touches.claims d.oid (claimed_at w.claims here.0 d here.1)));
+          mine = names_own (table d.oid) (writes_name t (table d.oid) over);
+          writes = inr (writes_own (table d.oid) over);
         }

@@ -29,22 +29,22 @@ use Rattle.erm_lines.specs.Laws.{ExecutionsGoOn, ExecutionsTell, OfCourses}
 use Rattle.erm_lines.specs.Told.{Tells}
 use Rattle.erm_told.proofs.Ended.{stamp_later}
 use Rattle.erm_told.proofs.Runs.{said_first, said_lines, serializable_then}
-use Rattle.erm_told_limits.specs.Limits.{ClaimsAreFew, EndHasCause, FullHasCause, IsEnd, IsFull}
+use Rattle.erm_told_limits.specs.Limits.{ClaimsAreFew, EndHasCause, FullHasCause, IsEnd, IsFull, StampsAreInReach}
 use Rattle.erm_causes.specs.Laws.{IsForOthers, IsOfLog, RefusesForOthers, RunsRefuseForOthers, RunsTellLog}
 use Rattle.erm_causes.specs.Touched.{AreOfTables}
 use Rattle.erm_causes.proofs.Begun.{HistoryLaws}
 use Rattle.erm_causes.proofs.Causes.{commit_over, over_told}
 use Rattle.erm_causes.proofs.Early.{EarlyCommit, over_later}
 use Rattle.erm_causes.proofs.Fine.{IsFine, fine_touches, still_session}
-use Rattle.erm_causes.proofs.Flushed.{lines_told}
+use Rattle.erm_causes.proofs.Flushed.{answers_to, lines_told}
 use Rattle.erm_causes.proofs.Moments.{AtMoment, at_moment}
 use Rattle.erm_causes.proofs.Moves.{AllFine, move_opening, move_range, session_before}
 use Rattle.erm_causes.proofs.Own.{TreeLaws}
-use Rattle.erm_causes.proofs.Refusals.{excluded_cause, newer_cause, owned_cause, wait_ring, wait_seat}
+use Rattle.erm_causes.proofs.Refusals.{excluded_cause, newer_cause, outcome_cause, owned_cause, wait_ring, wait_seat}
 use Rattle.erm_causes.proofs.Refused.{Known, KnowsStamps}
 use Rattle.erm_causes.proofs.Runs.{AreInRange, table_at, whole_run}
 use Rattle.erm_causes.proofs.Tables.{AreMovesInRange, TableOf, heard_said, opened_fine, run_fine, run_opening}
-use Rattle.erm_causes.proofs.Waits.{Allowed, allowed}
+use Rattle.erm_causes.proofs.Waits.{Allowed, allowed, committed_by, excluded_by}
 
 -- the first lines are in range
 first_range : (script : List ScriptLine) (answers : List Answer) (i : ℕ) → AreInRange script → AreMovesInRange (line_moves (take i script) (take i answers))
@@ -216,6 +216,22 @@ module _ (tree : TreeLaws) (laws : HistoryLaws) (begun : (number begin : ℕ) �
       let there = here i l (answer.ExcludedEarly succ pred) at answered in
       excluded_cause tree laws of.table (moment_at InTurn opening script answers all i l) there.before there.after l.command it.session it.range it.holds it.opened it.fine it.made it.known
       it.stamps it.stamps_after it.commits it.allows.free u current succ pred it.allows.did
+  cause_of i l (answer.Committed stamp succ pred) at answered for u current =
+      let a = answer.Committed stamp succ pred in
+      let did = of_session i l a at answered for in
+      let it = ready i l a at answered did refl in
+      let there = here i l a at answered in
+      outcome_cause tree laws of.table (moment_at InTurn opening script answers all i l) there.before there.after l.command it.session it.range it.holds it.opened it.fine it.made it.known
+      it.stamps it.stamps_after it.commits it.allows.free u current a tt
+      (committed_by there.before there.after l.session l.command stamp succ pred (answers_to there.before l a there.after did it.allows.free) it.allows.did)
+  cause_of i l (answer.Excluded stamp succ pred) at answered for u current =
+      let a = answer.Excluded stamp succ pred in
+      let did = of_session i l a at answered for in
+      let it = ready i l a at answered did refl in
+      let there = here i l a at answered in
+      outcome_cause tree laws of.table (moment_at InTurn opening script answers all i l) there.before there.after l.command it.session it.range it.holds it.opened it.fine it.made it.known
+      it.stamps it.stamps_after it.commits it.allows.free u current a tt
+      (excluded_by there.before there.after l.session l.command stamp succ pred (answers_to there.before l a there.after did it.allows.free) it.allows.did)
   cause_of i l a at answered for u current = absurd for
 
   pub refuses_for_others : RefusesForOthers opening script answers all
@@ -233,6 +249,8 @@ any_cause m l (answer.WaitRing flushed) t others full = others tt
 any_cause m l (answer.Owned seat number) t others full = others tt
 any_cause m l (answer.Newer stamp) t others full = others tt
 any_cause m l (answer.ExcludedEarly succ pred) t others full = others tt
+any_cause m l (answer.Committed stamp succ pred) t others full = others tt
+any_cause m l (answer.Excluded stamp succ pred) t others full = others tt
 any_cause m l answer.ReadsFull t others full = full tt
 any_cause m l answer.WritesFull t others full = full tt
 any_cause m l (answer.CellsFull drawn) t others full = full tt
@@ -256,8 +274,8 @@ any_unfilled m command.Flush (answer.Unfilled place) log = log tt
 any_unfilled m command.Checkpoint (answer.Unfilled place) log = log tt
 any_unfilled m c a log = tt
 
-pub with_cause : RunsRefuseForOthers → FullHasCause → EndHasCause → RunsTellLog → OfCourses (λ opening script answers closed told. HasCauses InTurn opening script answers told)
-with_cause others full end log v t script answers run closed opening are starts = record {
+pub with_cause : RunsRefuseForOthers → FullHasCause → EndHasCause → RunsTellLog → StampsAreInReach → OfCourses (λ opening script answers closed told. HasCauses InTurn opening script answers told)
+with_cause others full end log reach v t script answers run closed opening are starts = record {
   each = λ i l a at answered.
       let all = transactions_of v.opening.sessions (places_of script answers closed) in
       let of_log = log v t script answers run closed opening are starts i l a at answered in
@@ -268,4 +286,5 @@ with_cause others full end log v t script answers run closed opening are starts 
         log = any_log (moment_at InTurn opening script answers all i l) a (λ is. end v t script answers run opening starts all i l a at answered is) (λ is. (of_log is).0);
         unfilled = any_unfilled (moment_at InTurn opening script answers all i l) l.command a (λ is. (of_log is).1);
       };
+  reach = λ i l a at answered. reach v t script answers run opening starts (transactions_of v.opening.sessions (places_of script answers closed)) i l a at answered tt;
 }

@@ -13,9 +13,9 @@ use Rattle.erm_world.specs.declared.stops.Wait.{Wait}
 use Rattle.erm_world.specs.declared.stops.Wait.TheVariants as wait
 use Rattle.erm_world.specs.Calls.{DidNotSettle, DidSeal}
 use Rattle.erm_world.specs.World.{View, phase_at}
-use Rattle.erm_good_report.specs.Phases.{FitsRefusal, refusal_for, refusal_in, refusal_of, phase_asked}
+use Rattle.erm_good_report.specs.Phases.{FitsRefusal, IsAnswerTo, refusal_for, refusal_in, refusal_of, phase_asked}
 use Rattle.erm_good_report.specs.Transactions.{table_of}
-use Rattle.erm_lines.specs.Answers.{DidAsked, DidCommand, DidLine, WasRefusedAs, stop_told}
+use Rattle.erm_lines.specs.Answers.{DidAsked, DidCommand, DidDecide, DidLine, WasRefusedAs, stop_told}
 use Rattle.erm_causes.proofs.Quiet.{wants_active}
 
 -- a line that names a table is allowed in an active session alone
@@ -55,6 +55,28 @@ waited_ring v t seat (command.Next n from) flushed did = named n refl did
 waited_ring v t seat (command.Scan n low high) flushed did = named n refl did
 waited_ring v t seat (command.Tidy n key) flushed did = named n refl did
 waited_ring v t seat c flushed did = absurd did
+
+-- An outcome: that of a line that decides the transaction, which it may have sealed first.
+abbrev pub IsDecision : Answer → Type 0
+IsDecision (answer.Committed stamp succ pred) = Unit {0}
+IsDecision (answer.Excluded stamp succ pred) = Unit {0}
+IsDecision a = ⊥
+
+pub data Decides (v : View) (seat : ℕ) (c : Command) (a : Answer) (t : View) : Type 0 where
+  settles : c ≡ command.Settle → DidDecide v seat a t → Decides v seat c a t
+  commits : c ≡ command.Commit → (stamp : ℕ) (between : View) → DidSeal v seat stamp between → DidDecide between seat a t → Decides v seat c a t
+
+pub committed_by : (v t : View) (seat : ℕ) (c : Command) (stamp succ pred : ℕ) → IsAnswerTo c (answer.Committed stamp succ pred) → DidCommand v seat c (answer.Committed stamp succ pred) t
+    → Decides v seat c (answer.Committed stamp succ pred) t
+committed_by v t seat command.Settle stamp succ pred fits did = settles refl did
+committed_by v t seat command.Commit stamp succ pred fits did = commits refl did.stamp did.between did.sealed did.decided
+committed_by v t seat c stamp succ pred fits did = absurd fits
+
+pub excluded_by : (v t : View) (seat : ℕ) (c : Command) (stamp succ pred : ℕ) → IsAnswerTo c (answer.Excluded stamp succ pred) → DidCommand v seat c (answer.Excluded stamp succ pred) t
+    → Decides v seat c (answer.Excluded stamp succ pred) t
+excluded_by v t seat command.Settle stamp succ pred fits did = settles refl did
+excluded_by v t seat command.Commit stamp succ pred fits did = commits refl did.stamp did.between did.sealed did.decided
+excluded_by v t seat c stamp succ pred fits did = absurd fits
 
 -- no refusal of a call waits for the ring
 pub none_for_ring : (why : RowStop) (flushed : ℕ) → stop_told why ≡ Some (answer.WaitRing flushed) → ⊥

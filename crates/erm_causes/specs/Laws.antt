@@ -22,13 +22,15 @@ RunsTouchTables = (v t : View) (script : List ScriptLine) (answers : List Answer
     → (table : ℕ → ℕ) × AreOfTables table v.opening.rows
     × ((seat : ℕ) → IsSession v seat → TouchesAll table (history_of t) (progress_of seat (places_of script answers closed)) (t.session seat))
 
--- an answer that what others did caused: a session's transaction, or the log's words that are not flushed
+-- an answer that what others did caused: a session's transaction, or the log's words that are not flushed; or an outcome, whose window has its causes
 abbrev pub IsForOthers : Answer → Type 0
 IsForOthers (answer.WaitSeat seat seen) = Unit {0}
 IsForOthers (answer.WaitRing flushed) = Unit {0}
 IsForOthers (answer.Owned seat number) = Unit {0}
 IsForOthers (answer.Newer stamp) = Unit {0}
 IsForOthers (answer.ExcludedEarly succ pred) = Unit {0}
+IsForOthers (answer.Committed stamp succ pred) = Unit {0}
+IsForOthers (answer.Excluded stamp succ pred) = Unit {0}
 IsForOthers a = ⊥
 
 -- each such answer to a line of a transaction has its cause

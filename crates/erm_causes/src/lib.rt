@@ -69,6 +69,7 @@ pub fn runs_refuse_with_cause()
     erm_told_limits::full_has_cause();
     erm_told_limits::end_has_cause();
     runs_tell_log();
+    erm_told_limits::stamps_are_in_reach();
 }
 
 /// The same of a run that was cut off.
@@ -79,4 +80,5 @@ pub fn parts_refuse_with_cause()
     erm_told_limits::full_has_cause();
     erm_told_limits::end_has_cause();
     runs_tell_log();
+    erm_told_limits::stamps_are_in_reach();
 }

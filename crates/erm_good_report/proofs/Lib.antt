@@ -1,5 +1,7 @@
+pub mod Decided
 pub mod Determining
 pub mod Names
 pub mod OneWindow
 pub mod Parts
+pub mod StampTests
 pub mod WriteSkew

@@ -1,5 +1,5 @@
 -- The worked report of write skew is good.
-use Rattle.std.proofs.Common.{◌≡◌, ◌≢◌, ℕ, ◌<◌, ◌≤◌, Bool, true, false, cond, not, ◌==◌, ◌&&◌, nat_lt, nat_le, List, [], ◌∷◌, take, Some, None, refl, sym, ap, ◌∙◌, inl, inr, arith}
+use Rattle.std.proofs.Common.{◌≡◌, ◌≢◌, ℕ, ◌<◌, ◌≤◌, Bool, true, false, cond, not, ◌==◌, ◌&&◌, nat_le, List, [], ◌∷◌, take, Some, None, refl, sym, ap, ◌∙◌, inl, inr, arith}
 use Rattle.std.specs.Prelude.{◌⊎◌, IfSome}
 use Rattle.std.specs.declared.cmp.Ordering.TheVariants.{Less}
 use Rattle.std.specs.List.{All, slice_get}
@@ -17,17 +17,20 @@ use Rattle.erm_report.specs.declared.answer.Answer.{Answer}
 use Rattle.erm_report.specs.declared.answer.Answer.TheVariants as answer
 use Rattle.erm_report.specs.Printable.{FitsTypes}
 use Rattle.erm_script.specs.Script.{IsValue}
+use Rattle.erm_script.specs.declared.script.Command.TheVariants as command
 use Rattle.erm_script.specs.declared.script.ScriptLine.{ScriptLine}
 use Rattle.erm_good_report.specs.Causes.{HasCauseOf}
 use Rattle.erm_good_report.specs.GoodReport.{IsGoodReport, OrderAgrees, Report, places_of}
 use Rattle.erm_good_report.specs.Opening.{InTurn, is_before}
 use Rattle.erm_good_report.specs.Phases.{FitsPhase, phase_of}
-use Rattle.erm_good_report.specs.Refusals.{HasCause, moment_at}
-use Rattle.erm_good_report.specs.Stamps.{Told, StampsAgree, begin_told, place_told, stamp_told, stamp_drawn}
+use Rattle.erm_good_report.specs.Refusals.{HasCause, Moment, WasOver, moment_at}
+use Rattle.erm_good_report.specs.Stamps.{Told, StampsAgree, begin_told, place_told, stamp_drawn}
 use Rattle.erm_good_report.specs.Transactions.{Said, said_of, Transaction, transactions_of, history_of, stamp_of, stamp_of_ending, steps_of, Commits}
 use Rattle.erm_good_report.specs.Windows.{IsCommit, IsTightAt}
 use Rattle.erm_good_report.specs.WriteSkew.{first_opening, names, script, answers, report_with, WriteSkewIsExcluded}
+use Rattle.erm_good_report.proofs.Decided.{AreOverBelow, no_window_over, own_window, window_over}
 use Rattle.erm_good_report.proofs.Parts.{each_in, each_place, all_pairs_from_test, all_pairs_of_two, all_pairs_of_none, told_pass, told_from_test}
+use Rattle.erm_good_report.proofs.StampTests.{begins_ascend, begins_stop, reach_from_test, stamps_ascend, stamps_begin, untold_after, untold_before}
 
 abbrev all_answers : List Answer
 all_answers = answers (answer.Excluded 47 38 38)
@@ -53,9 +56,6 @@ phases : (i : ℕ) (l : ScriptLine) (a : Answer) → slice_get script i ≡ Some
 phases = each_place (λ i l a. FitsPhase (phase_of l.session (take i said)) l.command a) script all_answers (tt, (tt, (tt, (tt, (tt, (tt, (tt, (tt, (tt, (tt, (tt, (tt, (tt, (tt, tt))))))))))))))
 
 -- ---- stamps
-less_from : (m n : ℕ) → nat_lt m n ≡ true → m < n
-less_from m n pass = grind (arith, nat_tests)
-
 most_from : (m n : ℕ) → nat_le m n ≡ true → m ≤ n
 most_from m n pass = grind (arith, nat_tests)
 
@@ -69,21 +69,21 @@ stamps = record {
   least = each_in (λ t. 13 ≤ t.begin) told (omega arith, (omega arith, (omega arith, tt)));
   begun = each_in (λ t. IfSome (stamp_of t) (λ stamp. t.begin ≤ stamp)) told (omega arith, (omega arith, (omega arith, tt)));
   sealed = each_in (λ t. Told (λ a b. a ≡ b) t.sealed (stamp_of_ending t.ending)) told (tt, (tt, (tt, tt)));
-  begins = all_pairs_from_test (λ a b. is_before InTurn a.session b.session ≡ true → Told (λ stamp begin. stamp < begin) (stamp_told a.answer) (begin_told b.answer))
-      (λ a b. told_pass nat_lt (stamp_told a.answer) (begin_told b.answer))
-      (λ a b pass before. told_from_test (λ m n. m < n) nat_lt less_from (stamp_told a.answer) (begin_told b.answer) pass) said refl;
+  begins = stamps_begin said refl;
   draws = all_pairs_from_test (λ a b. is_before InTurn a.session b.session ≡ true → Told (λ begin stamp. begin ≤ stamp) (begin_told a.answer) (stamp_drawn b.asked b.answer))
       (λ a b. told_pass nat_le (begin_told a.answer) (stamp_drawn b.asked b.answer))
       (λ a b pass before. told_from_test (λ m n. m ≤ n) nat_le most_from (begin_told a.answer) (stamp_drawn b.asked b.answer) pass) said refl;
-  ascends = all_pairs_from_test (λ a b. is_before InTurn a.session b.session ≡ true → Told (λ first later. first < later) (stamp_drawn a.asked a.answer) (stamp_drawn b.asked b.answer))
-      (λ a b. told_pass nat_lt (stamp_drawn a.asked a.answer) (stamp_drawn b.asked b.answer))
-      (λ a b pass before. told_from_test (λ m n. m < n) nat_lt less_from (stamp_drawn a.asked a.answer) (stamp_drawn b.asked b.answer) pass) said refl;
+  ascends = stamps_ascend said refl;
   flushes = all_pairs_from_test (λ a b. is_before InTurn a.session b.session ≡ true → Told (λ place begin. place ≤ begin) (place_told a.answer) (begin_told b.answer))
       (λ a b. told_pass nat_le (place_told a.answer) (begin_told b.answer))
       (λ a b pass before. told_from_test (λ m n. m ≤ n) nat_le most_from (place_told a.answer) (begin_told b.answer) pass) said refl;
   flushes_first = all_pairs_from_test (λ a b. is_before InTurn a.session b.session ≡ true → Told (λ place stamp. place ≤ stamp) (place_told a.answer) (stamp_drawn b.asked b.answer))
       (λ a b. told_pass nat_le (place_told a.answer) (stamp_drawn b.asked b.answer))
       (λ a b pass before. told_from_test (λ m n. m ≤ n) nat_le most_from (place_told a.answer) (stamp_drawn b.asked b.answer) pass) said refl;
+  begins_ascend = begins_ascend said refl;
+  stops = λ in_turn. begins_stop said refl;
+  untold_after = untold_after InTurn told said refl;
+  untold_before = untold_before InTurn told said refl;
 }
 
 -- ---- snapshot replies
@@ -129,7 +129,20 @@ causes = each_in (λ t. HasCauseOf t.ending told t) told (
       opens = omega arith;
       closes = omega arith;
       succ_cause = inl refl;
-      pred_cause = inr (_, (0, refl), omega arith, record { succ = 13; pred = 0; ending = refl; table = 0; line = record { line = _; of = (0, refl); names = refl }; other = record { line = _; of = (0, refl); names = refl } });
+      pred_cause = inr (
+        _,
+        (0, refl),
+        omega arith,
+        record {
+          succ = 13;
+          pred = 0;
+          ending = refl;
+          table = 0;
+          line = record { line = _; of = (0, refl); names = refl };
+          other = record { line = _; of = (0, refl); names = refl };
+          writes = inl (record { line = _; of = (0, refl); names = refl; writes = refl });
+        },
+      );
     },
     (
       record {
@@ -148,7 +161,15 @@ causes = each_in (λ t. HasCauseOf t.ending told t) told (
         };
         before = _;
         before_in = (1, refl);
-        pred_cause = record { succ = 38; pred = 13; ending = refl; table = 0; line = record { line = _; of = (0, refl); names = refl }; other = record { line = _; of = (0, refl); names = refl } };
+        pred_cause = record {
+          succ = 38;
+          pred = 13;
+          ending = refl;
+          table = 0;
+          line = record { line = _; of = (0, refl); names = refl };
+          other = record { line = _; of = (0, refl); names = refl };
+          writes = inl (record { line = _; of = (2, refl); names = refl; writes = refl });
+        };
         below = omega arith;
       },
       tt,
@@ -183,8 +204,20 @@ tight = each_in (λ t. IsTightAt t.ending told t) told (
 )
 
 -- ---- refusals
+-- the first commit was over before the second one's line, and both were before the last line
+abbrev at_commit : ℕ → ℕ → ℕ → Moment
+at_commit i number session = moment_at InTurn first_opening script all_answers told i (record { line = number; session = session; command = command.Commit })
+
+first_over : AreOverBelow (at_commit 12 13 1) 38
+first_over = each_in (λ u. (s p q : ℕ) → u.ending ≡ Commits s p q → s < 38 → WasOver (at_commit 12 13 1) u) told
+    (λ s p q is less turn. (0, refl), (λ s p q is less. absurd (let same : 38 ≡ s = cc in omega (arith, same, less)), (λ s p q is less. cc, tt)))
+
+both_over : AreOverBelow (at_commit 13 14 2) 47
+both_over = each_in (λ u. (s p q : ℕ) → u.ending ≡ Commits s p q → s < 47 → WasOver (at_commit 13 14 2) u) told
+    (λ s p q is less turn. (0, refl), (λ s p q is less turn. (1, refl), (λ s p q is less. cc, tt)))
+
 refusals : (i : ℕ) (l : ScriptLine) (a : Answer) → slice_get script i ≡ Some l → slice_get all_answers i ≡ Some a → HasCause (moment_at InTurn first_opening script all_answers told i l) l.command a
-refusals = each_place (λ i l a. HasCause (moment_at InTurn first_opening script all_answers told i l) l.command a) script all_answers (record { own = λ t is. tt; log = tt; unfilled = tt }, (record { own = λ t is. tt; log = tt; unfilled = tt }, (record { own = λ t is. tt; log = tt; unfilled = tt }, (record { own = λ t is. tt; log = tt; unfilled = tt }, (record { own = λ t is. tt; log = tt; unfilled = tt }, (record { own = λ t is. tt; log = tt; unfilled = tt }, (record { own = λ t is. tt; log = tt; unfilled = tt }, (record { own = λ t is. tt; log = tt; unfilled = tt }, (record { own = λ t is. tt; log = tt; unfilled = tt }, (record { own = λ t is. tt; log = tt; unfilled = tt }, (record { own = λ t is. tt; log = tt; unfilled = tt }, (record { own = λ t is. tt; log = tt; unfilled = tt }, (record { own = λ t is. tt; log = tt; unfilled = tt }, (record { own = λ t is. tt; log = tt; unfilled = tt }, tt))))))))))))))
+refusals = each_place (λ i l a. HasCause (moment_at InTurn first_opening script all_answers told i l) l.command a) script all_answers (record { own = λ t is. tt; log = tt; unfilled = tt }, (record { own = λ t is. tt; log = tt; unfilled = tt }, (record { own = λ t is. tt; log = tt; unfilled = tt }, (record { own = λ t is. own_window _ t _; log = tt; unfilled = tt }, (record { own = λ t is. tt; log = tt; unfilled = tt }, (record { own = λ t is. tt; log = tt; unfilled = tt }, (record { own = λ t is. tt; log = tt; unfilled = tt }, (record { own = λ t is. tt; log = tt; unfilled = tt }, (record { own = λ t is. tt; log = tt; unfilled = tt }, (record { own = λ t is. tt; log = tt; unfilled = tt }, (record { own = λ t is. tt; log = tt; unfilled = tt }, (record { own = λ t is. tt; log = tt; unfilled = tt }, (record { own = λ t is. window_over (at_commit 12 13 1) t 38 38 13 first_over; log = tt; unfilled = tt }, (record { own = λ t is. no_window_over (at_commit 13 14 2) t 47 38 38 both_over; log = tt; unfilled = tt }, tt))))))))))))))
 
 -- ---- the serial order
 abbrev report : Report
@@ -227,7 +260,7 @@ it_is_good = record {
     stamps = stamps;
     snapshots = snapshots;
     causes = causes;
-    refusals = record { each = refusals };
+    refusals = record { each = refusals; reach = reach_from_test (moment_at InTurn first_opening script all_answers told) script all_answers refl };
   };
   order = order;
 }

@@ -16,7 +16,11 @@ pub record WritesTable (t : Transaction) (table : ℕ) : Type 0 where
   pub names : table_of line.asked ≡ Some table
   pub writes : is_writer line.asked ≡ true
 
--- one transaction committed with this stamp, and has a line of a table in which the other one has a line
+-- one of two transactions has a line that writes in this table
+abbrev pub EitherWrites : Transaction → Transaction → ℕ → Type 0
+EitherWrites u t table = WritesTable u table ⊎ WritesTable t table
+
+-- one transaction committed with this stamp, and has a line of a table in which the other one has a line; one of the two writes there
 pub record CommitsBeside (u t : Transaction) (stamp : ℕ) : Type 0 where
   pub succ : ℕ
   pub pred : ℕ
@@ -24,6 +28,7 @@ pub record CommitsBeside (u t : Transaction) (stamp : ℕ) : Type 0 where
   pub table : ℕ
   pub line : NamesTable u table
   pub other : NamesTable t table
+  pub writes : EitherWrites u t table
 
 -- One transaction committed at or above the begin of the other one, and below its stamp where it has one, with this successor stamp,
 -- and has a line that writes in a table in which the other one has a line.

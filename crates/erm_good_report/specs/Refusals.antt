@@ -2,7 +2,7 @@
 use Rattle.std.specs.Prelude.{◌≡◌, ◌≢◌, ℕ, ◌+◌, ◌*◌, ◌<◌, ◌≤◌, ◌⊎◌, min, List, sum_by, take, Option, Some, None, IfSome}
 use Rattle.std.specs.List.{fold, slice_get}
 use Rattle.std.specs.Option.{option_map_or}
-use Rattle.erm_model.specs.declared.limits.TheConstants.{GREATEST_BLOCK, LEAST_BLOCK, OID_LIMIT, PUT_OBJECTS, PUT_ROWS, READ_LIMIT, RING_WORDS, STOP, TABLES, TABLE_CELLS, WRITE_LIMIT}
+use Rattle.erm_model.specs.declared.limits.TheConstants.{GREATEST_BLOCK, LEAST_BLOCK, MOST_CELLS, OID_LIMIT, PUT_OBJECTS, PUT_ROWS, READ_LIMIT, RING_WORDS, SESSIONS, STOP, TABLES, TABLE_CELLS, WRITE_LIMIT}
 use Rattle.erm_model.specs.declared.outcome.Phase.TheVariants.{Sealed}
 use Rattle.erm_model.specs.Member.{◌∈◌}
 use Rattle.erm_report.specs.declared.answer.Answer.{Answer}
@@ -10,9 +10,10 @@ use Rattle.erm_report.specs.declared.answer.Answer.TheVariants as answer
 use Rattle.erm_script.specs.declared.script.Command.{Command}
 use Rattle.erm_script.specs.declared.script.Command.TheVariants as command
 use Rattle.erm_script.specs.declared.script.ScriptLine.{ScriptLine}
-use Rattle.erm_good_report.specs.Causes.{HasNoWindow, NamesTable, WritesTable}
+use Rattle.erm_good_report.specs.Causes.{CommitsBeside, EitherWrites, HasNoWindow, HasWindow, NamesTable, OverwritesBeside, WritesTable}
 use Rattle.erm_good_report.specs.Opening.{Mode, InTurn, AtOnce, Opening}
 use Rattle.erm_good_report.specs.Phases.{phase_of}
+use Rattle.erm_good_report.specs.Stamps.{begin_told, stamp_drawn}
 use Rattle.erm_good_report.specs.Transactions.{Said, said_of, Ending, Commits, Transaction, progress_of, stamp_of, stamp_of_ending, table_of, with_line}
 
 -- how many objects a command makes at most, and how many it claims at most
@@ -25,6 +26,26 @@ claims_of (command.Put table key value) = PUT_ROWS
 claims_of (command.Del table key) = 1
 claims_of (command.Tidy table key) = 1
 claims_of c = 0
+
+-- the levels of nodes that a tree has at most
+abbrev pub tree_levels : ℕ
+tree_levels = 12
+
+-- How many objects a command reads at most: one that seeks a key a node of each level of its tree, and a get the key's record too. One that
+-- looks for the next key, or scans, may read all that there are.
+abbrev pub reads_of : Command → ℕ
+reads_of (command.Get table key) = tree_levels + 1
+reads_of (command.Put table key value) = tree_levels
+reads_of (command.Del table key) = tree_levels
+reads_of (command.Tidy table key) = tree_levels
+reads_of (command.Next table from) = OID_LIMIT
+reads_of (command.Scan table low high) = OID_LIMIT
+reads_of c = 0
+
+-- A counter with a limit from `least` to `most` was found at it or above it: by no more than one for each seat, which raises it once at most
+-- when it has found it below. The seats are those of the sessions and two more.
+abbrev pub IsCounted : (least most found : ℕ) → Type 0
+IsCounted least most found = (least ≤ found) × (found ≤ most + SESSIONS + 2)
 
 -- how many ranges of the log a command draws at most
 abbrev pub draws_of : Command → ℕ
@@ -119,7 +140,8 @@ pub record WaitsToRead (m : Moment) (c : Command) (t : Transaction) (seat seen :
   pub named : table_of c ≡ Some table
   pub writes : WritesTable other table
 
--- A settle or a commit waits for a session that is sealed below the own stamp, and has a line of a table in which this one has a line.
+-- A settle or a commit waits for a session that is sealed below the own stamp, and has a line of a table in which this one has a line; one
+-- of the two writes there.
 pub record WaitsToSettle (m : Moment) (t : Transaction) (seat seen : ℕ) : Type 0 where
   pub another : seat ≢ m.session
   pub other : Transaction
@@ -130,6 +152,7 @@ pub record WaitsToSettle (m : Moment) (t : Transaction) (seat seen : ℕ) : Type
   pub table : ℕ
   pub line : NamesTable other table
   pub mine : NamesTable t table
+  pub writes : EitherWrites other t table
 
 abbrev pub HasWaitCause : Moment → Command → Transaction → ℕ → ℕ → Type 0
 HasWaitCause m command.Settle t seat seen = WaitsToSettle m t seat seen
@@ -161,6 +184,15 @@ pub record IsOwnedBy (m : Moment) (c : Command) (seat number : ℕ) : Type 0 whe
 abbrev pub WasOver : Moment → Transaction → Type 0
 WasOver m t = m.mode ≡ InTurn → t ∈ (progress_of t.session m.before).over
 
+-- The window of an excluded transaction is closed, by transactions that were over before this line.
+abbrev pub HasNoWindowBefore : Moment → Transaction → Option ℕ → (succ pred : ℕ) → Type 0
+HasNoWindowBefore m t stamp succ pred = (shut : HasNoWindow m.all t stamp succ pred) × WasOver m shut.after × WasOver m shut.before
+
+-- What caused the ends of a commit's window was over before this line.
+pub record HasWindowBefore (m : Moment) (t : Transaction) (stamp succ pred : ℕ) : Type 0 where
+  pub succ_cause : (succ ≡ stamp) ⊎ ((u : Transaction) × (u ∈ m.all) × WasOver m u × OverwritesBeside u t (Some stamp) succ)
+  pub pred_cause : (pred ≡ 0) ⊎ ((u : Transaction) × (u ∈ m.all) × WasOver m u × CommitsBeside u t pred)
+
 -- another session's commit with this stamp, at or above the begin, has a line that writes in this table; in turn it was over before
 pub record IsNewerBy (m : Moment) (c : Command) (t : Transaction) (stamp : ℕ) : Type 0 where
   pub by : Transaction
@@ -183,17 +215,20 @@ stamp_committed ending = None
 abbrev pub last_commit : Moment → Option ℕ
 last_commit m = fold (λ last t. option_map_or (λ stamp. Some stamp) (stamp_committed t.ending) last) None (progress_of m.session m.before).over
 
--- The cause of an answer to a line of a transaction, which is this one with the line.
+-- The cause of an answer to a line of a transaction, which is this one with the line. A window that has its causes has some that were over before.
 abbrev pub HasRefusalCause : Moment → Command → Transaction → Answer → Type 0
 HasRefusalCause m c t (answer.WaitSeat seat seen) = (m.mode ≡ InTurn) × HasWaitCause m c t seat seen
 HasRefusalCause m c t (answer.WaitRing flushed) = (m.mode ≡ InTurn) × WaitsForRing m t flushed
 HasRefusalCause m c t (answer.Owned seat number) = IsOwnedBy m c seat number
 HasRefusalCause m c t (answer.Newer stamp) = IsNewerBy m c t stamp
-HasRefusalCause m c t (answer.ExcludedEarly succ pred) = (shut : HasNoWindow m.all t None succ pred) × WasOver m shut.after × WasOver m shut.before
-HasRefusalCause m c t answer.ReadsFull = READ_LIMIT < TABLES + m.opening.rows + total_of makes_of m.lines
+HasRefusalCause m c t (answer.Committed stamp succ pred) = HasWindow m.all t stamp succ pred → HasWindowBefore m t stamp succ pred
+HasRefusalCause m c t (answer.Excluded stamp succ pred) = HasNoWindow m.all t (Some stamp) succ pred → HasNoWindowBefore m t (Some stamp) succ pred
+HasRefusalCause m c t (answer.ExcludedEarly succ pred) = HasNoWindowBefore m t None succ pred
+HasRefusalCause m c t answer.ReadsFull =
+    (READ_LIMIT < TABLES + m.opening.rows + total_of makes_of m.lines) × (READ_LIMIT < sum_by (λ e. reads_of e.asked) t.lines)
 HasRefusalCause m c t answer.WritesFull = WRITE_LIMIT < sum_by (λ e. claims_of e.asked) t.lines
-HasRefusalCause m c t (answer.CellsFull drawn) = (TABLE_CELLS ≤ drawn) × (TABLE_CELLS < OID_LIMIT + total_of claims_of m.lines)
-HasRefusalCause m c t (answer.OidsFull drawn) = (OID_LIMIT ≤ drawn) × (OID_LIMIT < m.opening.first + total_of makes_of m.lines)
+HasRefusalCause m c t (answer.CellsFull drawn) = IsCounted TABLE_CELLS MOST_CELLS drawn × (TABLE_CELLS < OID_LIMIT + total_of claims_of m.lines)
+HasRefusalCause m c t (answer.OidsFull drawn) = IsCounted OID_LIMIT OID_LIMIT drawn × (OID_LIMIT < m.opening.first + total_of makes_of m.lines)
 HasRefusalCause m c t a = Unit {0}
 
 -- The cause of an answer to a line that needs no transaction.
@@ -205,13 +240,13 @@ HasLogCause m (answer.NotFlushed flushed) = (m.mode ≡ InTurn) × (flushed ≡ 
 HasLogCause m answer.NoReceipt = last_commit m ≡ None
 HasLogCause m (answer.Flushed place) = (flushed_at m < place) × (IsLeastUndecided m place ⊎ (NoneIsSealed m × IsAboveAll m place))
 HasLogCause m (answer.Empty place) = (place ≡ flushed_at m) × IsAboveAll m place
-HasLogCause m (answer.Checkpointed place) = IsAboveAll m place
+HasLogCause m (answer.Checkpointed place) = (flushed_at m ≤ place) × NoneIsSealed m × IsAboveAll m place
 HasLogCause m a = Unit {0}
 
 -- a flush or a checkpoint that comes to a block that isn't decided
 abbrev pub HasUnfilledCause : Moment → Command → Answer → Type 0
 HasUnfilledCause m command.Flush (answer.Unfilled place) = (place ≡ flushed_at m) × IsLeastUndecided m place
-HasUnfilledCause m command.Checkpoint (answer.Unfilled place) = IsLeastUndecided m place
+HasUnfilledCause m command.Checkpoint (answer.Unfilled place) = (flushed_at m ≤ place) × IsLeastUndecided m place
 HasUnfilledCause m c a = Unit {0}
 
 -- the cause of an answer
@@ -235,7 +270,18 @@ moment_at mode opening script answers all i l = record {
   session = l.session;
 }
 
--- Refusal causes: each answer has its cause.
+-- the furthest end of the log that the lines so far may have moved it to: each draws a block of the most words
+abbrev pub most_end : Moment → ℕ
+most_end m = m.opening.stamp + LEAST_BLOCK + GREATEST_BLOCK * total_of draws_of m.lines
+
+-- the begin that an answer tells, and the stamp that its line draws, lie within it, with a block of the most words behind the stamp
+pub record IsInReach (m : Moment) (c : Command) (a : Answer) : Type 0 where
+  pub begin : IfSome (begin_told a) (λ begin. begin ≤ most_end m)
+  pub drawn : IfSome (stamp_drawn (Some c) a) (λ stamp. stamp + GREATEST_BLOCK ≤ most_end m)
+
+-- Refusal causes: each answer has its cause. And no stamp is further on than the lines so far can have moved the log.
 pub record HasCauses (mode : Mode) (opening : Opening) (script : List ScriptLine) (answers : List Answer) (all : List Transaction) : Type 0 where
   pub each : (i : ℕ) (l : ScriptLine) (a : Answer) → slice_get script i ≡ Some l → slice_get answers i ≡ Some a
       → HasCause (moment_at mode opening script answers all i l) l.command a
+  pub reach : (i : ℕ) (l : ScriptLine) (a : Answer) → slice_get script i ≡ Some l → slice_get answers i ≡ Some a
+      → IsInReach (moment_at mode opening script answers all i l) l.command a

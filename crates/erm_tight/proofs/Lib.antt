@@ -9,6 +9,9 @@ pub mod Low
 pub mod Marks
 pub mod Moves
 pub mod Newest
+pub mod NewKeys
+pub mod NewLines
+pub mod NewRuns
 pub mod Objects
 pub mod Orderly
 pub mod Quiet

@@ -100,7 +100,7 @@ pub record IsGoing (current : Option Transaction) (w : Work) : Type 0 where
   pub steps : List Step
   pub run : IsRunOf w steps
 
-now_active : (current : Option Transaction) (stand : Stand) → MarkedNow current stand → phase_of stand ≡ Active → IsGoing current (work_of stand)
+pub now_active : (current : Option Transaction) (stand : Stand) → MarkedNow current stand → phase_of stand ≡ Active → IsGoing current (work_of stand)
 now_active None world.idle now active = cc
 now_active None (world.active w) now active = absurd now
 now_active None (world.sealed w stamp) now active = absurd now

@@ -1,5 +1,7 @@
--- The stamps that a line tells lie between the ends of the log before and after it, and a place that it tells to be flushed is not above the latter.
+-- The stamps that a line tells lie between the ends of the log before and after it, those that it prints of others and a place that it tells to be
+-- flushed below the latter.
 use Rattle.std.proofs.Common.{◌≡◌, ℕ, ◌+◌, ◌<◌, ◌≤◌, List, Bool, true, false, cond, [], ◌∷◌, Option, Some, None, refl, sym, ap, ◌∙◌, subst, inl, inr, ⊎_elim, arith}
+use Rattle.erm_model.specs.declared.limits.TheConstants.{LEAST_BLOCK, STOP}
 use Rattle.erm_model.specs.declared.row_stop.RowStop.{RowStop}
 use Rattle.erm_model.specs.declared.row_stop.RowStop.TheVariants as stop
 use Rattle.erm_model.specs.Member.{◌∈◌}
@@ -12,21 +14,22 @@ use Rattle.erm_script.specs.declared.script.Command.TheVariants as command
 use Rattle.erm_script.specs.declared.script.ScriptLine.{ScriptLine}
 use Rattle.erm_world.specs.Calls.{DidBegin, DidSeal, IsDone}
 use Rattle.erm_world.specs.Laws.{IsSerializable}
-use Rattle.erm_world.specs.World.{Fate, Finished, HasStamp, IsSession, Session, Stand, View, Work, phase_at, stamp_of, work_at}
+use Rattle.erm_world.specs.World.{Fate, Finished, HasStamp, IsSession, Session, Stand, View, Work, phase_at, size_of, stamp_of, work_at}
 use Rattle.erm_world.specs.World as world
 use Rattle.erm_good_report.specs.Phases.{FitsRefusal, asks_commit, phase_asked, refusal_in, refusal_of}
-use Rattle.erm_good_report.specs.Stamps.{begin_told, place_told, stamp_drawn, stamp_told}
+use Rattle.erm_good_report.specs.Stamps.{begin_told, place_told, stamp_drawn, stamp_printed, stamp_told}
 use Rattle.erm_lines.specs.Answers.{DidAskDurable, DidAsked, DidCommand, DidCommit, DidDecide, DidLine, DidOperation, WasRefusedAs, stop_told}
 use Rattle.erm_lines.specs.Executions.{DidLog, DidLogLine, DidMove, FlushesTo, move_of}
 use Rattle.erm_lines.proofs.Moved.{moved}
 use Rattle.erm_told.proofs.Executed.{still_session}
 use Rattle.erm_told.proofs.Lines.{phase_refuses}
+use Rattle.erm_told.proofs.Printing.{refusal_below, wait_below}
 
 -- the stamps that an answer tells, and the place that it tells to be flushed, beside the ends of the log before and after it
 pub record Draws (m n : ℕ) (asked : Option Command) (a : Answer) : Type 0 where
-  pub begin : (stamp : ℕ) → begin_told a ≡ Some stamp → (m ≤ stamp) × (stamp ≤ n)
-  pub told : (stamp : ℕ) → stamp_told a ≡ Some stamp → stamp < n
-  pub drawn : (stamp : ℕ) → stamp_drawn asked a ≡ Some stamp → (m ≤ stamp) × (stamp < n)
+  pub begin : (stamp : ℕ) → begin_told a ≡ Some stamp → (m ≤ stamp) × (stamp ≤ n) × (stamp < STOP)
+  pub printed : (stamp : ℕ) → stamp_printed a ≡ Some stamp → stamp < n
+  pub drawn : (stamp : ℕ) → stamp_drawn asked a ≡ Some stamp → (m ≤ stamp) × (stamp + LEAST_BLOCK ≤ n)
   pub placed : (place : ℕ) → place_told a ≡ Some place → place ≤ n
 
 -- some number is one, and none is none
@@ -46,15 +49,27 @@ drawn_none : (asked : Option Command) (a : Answer) → stamp_told a ≡ None →
 drawn_none asked (answer.Sealed stamp) is = absurd (cc)
 drawn_none asked a is = decided_none (asks_commit asked) (stamp_told a) is
 
-stampless : (m n : ℕ) (asked : Option Command) (a : Answer) → begin_told a ≡ None → stamp_told a ≡ None → ((place : ℕ) → place_told a ≡ Some place → place ≤ n) → Draws m n asked a
-stampless m n asked a no_begin no_stamp placed = record {
-  begin = λ stamp is. no_number (begin_told a) stamp ((m ≤ stamp) × (stamp ≤ n)) no_begin is;
-  told = λ stamp is. no_number (stamp_told a) stamp (stamp < n) no_stamp is;
-  drawn = λ stamp is. no_number (stamp_drawn asked a) stamp ((m ≤ stamp) × (stamp < n)) (drawn_none asked a no_stamp) is;
+-- it prints stamps of others alone
+undrawn : (m n : ℕ) (asked : Option Command) (a : Answer) → begin_told a ≡ None → stamp_told a ≡ None → ((stamp : ℕ) → stamp_printed a ≡ Some stamp → stamp < n)
+    → ((place : ℕ) → place_told a ≡ Some place → place ≤ n) → Draws m n asked a
+undrawn m n asked a no_begin no_stamp printed placed = record {
+  begin = λ stamp is. no_number (begin_told a) stamp ((m ≤ stamp) × (stamp ≤ n) × (stamp < STOP)) no_begin is;
+  printed = printed;
+  drawn = λ stamp is. no_number (stamp_drawn asked a) stamp ((m ≤ stamp) × (stamp + LEAST_BLOCK ≤ n)) (drawn_none asked a no_stamp) is;
   placed = placed;
 }
 
-silent : (m n : ℕ) (asked : Option Command) (a : Answer) → begin_told a ≡ None → stamp_told a ≡ None → place_told a ≡ None → Draws m n asked a
+told_none : (a : Answer) → stamp_printed a ≡ None → stamp_told a ≡ None
+told_none (answer.WaitSeat seat seen) is = absurd (cc)
+told_none (answer.Newer stamp) is = absurd (cc)
+told_none (answer.Durable stamp) is = absurd (cc)
+told_none a is = is
+
+stampless : (m n : ℕ) (asked : Option Command) (a : Answer) → begin_told a ≡ None → stamp_printed a ≡ None → ((place : ℕ) → place_told a ≡ Some place → place ≤ n) → Draws m n asked a
+stampless m n asked a no_begin no_stamp placed =
+    undrawn m n asked a no_begin (told_none a no_stamp) (λ stamp is. no_number (stamp_printed a) stamp (stamp < n) no_stamp is) placed
+
+silent : (m n : ℕ) (asked : Option Command) (a : Answer) → begin_told a ≡ None → stamp_printed a ≡ None → place_told a ≡ None → Draws m n asked a
 silent m n asked a no_begin no_stamp no_place = stampless m n asked a no_begin no_stamp (λ place is. no_number (place_told a) place (place ≤ n) no_place is)
 
 -- REFUSALS tell no stamps.
@@ -80,37 +95,39 @@ stop_silent (stop.OidsFull drawn) = (refl, refl, refl)
 stop_silent (stop.Excluded succ pred) = (refl, refl, refl)
 stop_silent stop.Memory = tt
 
-cut_silent : (m n : ℕ) (v : View) (seat : ℕ) (c : Command) (a : Answer) (t : View) → WasRefusedAs v seat c a t → Draws m n (Some c) a
-cut_silent m n v seat c a t (why, told, cut) =
-    let none : IsSilent (Some a) = subst IsSilent told (stop_silent why) in silent m n (Some c) a none.0 none.1 none.2
+cut_draws : (m : ℕ) (v : View) (seat : ℕ) (c : Command) (a : Answer) (t : View) → IsSerializable sound_law t → WasRefusedAs v seat c a t → Draws m t.tail (Some c) a
+cut_draws m v seat c a t lawful (why, told, cut) =
+    let none : IsSilent (Some a) = subst IsSilent told (stop_silent why) in
+    undrawn m t.tail (Some c) a none.0 none.1 (refusal_below cut.at t seat lawful cut.asked why a told cut.refused)
+    (λ place is. no_number (place_told a) place (place ≤ t.tail) none.2 is)
 
-operation_silent : (m n : ℕ) (v : View) (seat : ℕ) (c : Command) (a : Answer) (t : View) → DidOperation v seat c a t → Draws m n (Some c) a
-operation_silent m n v seat c (answer.Replied r) t did = silent m n (Some c) (answer.Replied r) refl refl refl
-operation_silent m n v seat c (answer.Cut cells) t did = silent m n (Some c) (answer.Cut cells) refl refl refl
-operation_silent m n v seat c a t did = cut_silent m n v seat c a t did
+operation_draws : (m : ℕ) (v : View) (seat : ℕ) (c : Command) (a : Answer) (t : View) → IsSerializable sound_law t → DidOperation v seat c a t → Draws m t.tail (Some c) a
+operation_draws m v seat c (answer.Replied r) t lawful did = silent m t.tail (Some c) (answer.Replied r) refl refl refl
+operation_draws m v seat c (answer.Cut cells) t lawful did = silent m t.tail (Some c) (answer.Cut cells) refl refl refl
+operation_draws m v seat c a t lawful did = cut_draws m v seat c a t lawful did
 
 -- A BEGIN draws the end of the log.
 begin_draws : (v : View) (seat begin : ℕ) (asked : Option Command) (t : View) → DidBegin v seat begin t → Draws v.tail t.tail asked (answer.Began begin)
 begin_draws v seat begin asked t (few, room, is, now) = record {
   begin = λ stamp told.
-      let same = the_number begin stamp told in (omega (arith, is, same), omega (arith, is, same, now.tail));
-  told = λ stamp told. no_number None stamp (stamp < t.tail) refl told;
-  drawn = λ stamp told. no_number (stamp_drawn asked (answer.Began begin)) stamp ((v.tail ≤ stamp) × (stamp < t.tail)) (drawn_none asked (answer.Began begin) refl) told;
+      let same = the_number begin stamp told in (omega (arith, is, same), omega (arith, is, same, now.tail), omega (arith, is, same, room));
+  printed = λ stamp told. no_number None stamp (stamp < t.tail) refl told;
+  drawn = λ stamp told. no_number (stamp_drawn asked (answer.Began begin)) stamp ((v.tail ≤ stamp) × (stamp + LEAST_BLOCK ≤ t.tail)) (drawn_none asked (answer.Began begin) refl) told;
   placed = λ place told. no_number None place (place ≤ t.tail) refl told;
 }
 
 -- A SEAL draws it too, and the block goes behind it.
-seal_below : (v : View) (seat stamp : ℕ) (t : View) → IsSession t seat → IsSerializable sound_law t → DidSeal v seat stamp t → stamp < t.tail
-seal_below v seat stamp t session lawful did =
-    (lawful.stamps seat (work_at v seat) stamp session (inr (ap (λ (s : Session). s.stand) did.own))).1
+block_fits : (v : View) (seat stamp : ℕ) (t : View) → DidSeal v seat stamp t → stamp + LEAST_BLOCK ≤ t.tail
+block_fits v seat stamp t did =
+    let enough : LEAST_BLOCK ≤ size_of (work_at v seat) = omega arith in
+    omega (arith, enough, did.stamp_is, did.tail)
 
-seal_draws : (v : View) (seat stamp : ℕ) (asked : Option Command) (t : View) → IsSession t seat → IsSerializable sound_law t → DidSeal v seat stamp t
-    → Draws v.tail t.tail asked (answer.Sealed stamp)
-seal_draws v seat stamp asked t session lawful did =
-    let below : stamp < t.tail = seal_below v seat stamp t session lawful did in record {
-      begin = λ other told. no_number None other ((v.tail ≤ other) × (other ≤ t.tail)) refl told;
-      told = λ other told. let same = the_number stamp other told in omega (arith, below, same);
-      drawn = λ other told. let same = the_number stamp other told in (omega (arith, same, did.stamp_is), omega (arith, below, same));
+seal_draws : (v : View) (seat stamp : ℕ) (asked : Option Command) (t : View) → DidSeal v seat stamp t → Draws v.tail t.tail asked (answer.Sealed stamp)
+seal_draws v seat stamp asked t did =
+    let fits = block_fits v seat stamp t did in record {
+      begin = λ other told. no_number None other ((v.tail ≤ other) × (other ≤ t.tail) × (other < STOP)) refl told;
+      printed = λ other told. let same = the_number stamp other told in omega (arith, fits, same);
+      drawn = λ other told. let same = the_number stamp other told in (omega (arith, same, did.stamp_is), omega (arith, fits, same));
       placed = λ place told. no_number None place (place ≤ t.tail) refl told;
     }
 
@@ -168,11 +185,22 @@ commits_told v seat (answer.WaitSeat other seen) t did = refl
 commits_told v seat (answer.WaitRing flushed) t did = refl
 commits_told v seat a t did = absurd did
 
+-- A stamp that it prints, its own or that of one it waits for, is below the end.
+decided_printed : (v : View) (seat : ℕ) (a : Answer) (t : View) → IsSession t seat → IsSerializable sound_law t → DidDecide v seat a t → (stamp : ℕ) → stamp_printed a ≡ Some stamp → stamp < t.tail
+decided_printed v seat (answer.Committed at succ pred) t session lawful did stamp told = decided_below v seat stamp t session lawful (decides v seat (answer.Committed at succ pred) t stamp did told)
+decided_printed v seat (answer.Excluded at succ pred) t session lawful did stamp told = decided_below v seat stamp t session lawful (decides v seat (answer.Excluded at succ pred) t stamp did told)
+decided_printed v seat (answer.WaitSeat other seen) t session lawful did stamp told =
+    let same = the_number seen stamp told in
+    let below = wait_below v t seat lawful other seen did in
+    omega (arith, below, same)
+decided_printed v seat (answer.WaitRing flushed) t session lawful did stamp told = no_number None stamp (stamp < t.tail) refl told
+decided_printed v seat a t session lawful did stamp told = absurd did
+
 settle_draws : (v : View) (seat : ℕ) (a : Answer) (t : View) → IsSession t seat → IsSerializable sound_law t → DidDecide v seat a t → Draws v.tail t.tail (Some command.Settle) a
 settle_draws v seat a t session lawful did = record {
-  begin = λ stamp told. no_number (begin_told a) stamp ((v.tail ≤ stamp) × (stamp ≤ t.tail)) (no_begin v seat a t did) told;
-  told = λ stamp told. decided_below v seat stamp t session lawful (decides v seat a t stamp did told);
-  drawn = λ stamp told. no_number (stamp_drawn (Some command.Settle) a) stamp ((v.tail ≤ stamp) × (stamp < t.tail)) (settles_none v seat a t did) told;
+  begin = λ stamp told. no_number (begin_told a) stamp ((v.tail ≤ stamp) × (stamp ≤ t.tail) × (stamp < STOP)) (no_begin v seat a t did) told;
+  printed = decided_printed v seat a t session lawful did;
+  drawn = λ stamp told. no_number (stamp_drawn (Some command.Settle) a) stamp ((v.tail ≤ stamp) × (stamp + LEAST_BLOCK ≤ t.tail)) (settles_none v seat a t did) told;
   placed = λ place told. no_number (place_told a) place (place ≤ t.tail) (no_place v seat a t did) told;
 }
 
@@ -181,24 +209,31 @@ stamp_at world.idle = 0
 stamp_at (world.active w) = 0
 stamp_at (world.sealed w stamp) = stamp
 
+decided_tail : (v : View) (seat : ℕ) (a : Answer) (t : View) → DidDecide v seat a t → t.tail ≡ v.tail
+decided_tail v seat (answer.Committed at succ pred) t (r, at_is, after, before, (w, own, stand, ready, settled)) = settled.0.tail
+decided_tail v seat (answer.Excluded at succ pred) t (w, own, stand, ready, settled) = settled.0.tail
+decided_tail v seat (answer.WaitSeat other seen) t did = ap (λ (x : View). x.tail) did.0
+decided_tail v seat (answer.WaitRing flushed) t did = ap (λ (x : View). x.tail) did.0
+decided_tail v seat a t did = absurd did
+
+-- A COMMIT seals, at the end of the log, and its block goes behind it.
+pub commit_fits : (v : View) (seat : ℕ) (a : Answer) (t : View) → (did : DidCommit v seat a t) → did.stamp + LEAST_BLOCK ≤ t.tail
+commit_fits v seat a t did = omega (arith, block_fits v seat did.stamp did.between did.sealed, decided_tail did.between seat a t did.decided)
+
 commit_draws : (v : View) (seat : ℕ) (a : Answer) (t : View) → IsSession t seat → IsSerializable sound_law t → DidCommit v seat a t → Draws v.tail t.tail (Some command.Commit) a
 commit_draws v seat a t session lawful did = record {
-  begin = λ stamp told. no_number (begin_told a) stamp ((v.tail ≤ stamp) × (stamp ≤ t.tail)) (no_begin did.between seat a t did.decided) told;
-  told = below;
+  begin = λ stamp told. no_number (begin_told a) stamp ((v.tail ≤ stamp) × (stamp ≤ t.tail) × (stamp < STOP)) (no_begin did.between seat a t did.decided) told;
+  printed = decided_printed did.between seat a t session lawful did.decided;
   drawn = λ stamp told.
-      let tells : stamp_told a ≡ Some stamp = sym (commits_told did.between seat a t did.decided) ∙ told in
-      (drawn_at stamp tells, below stamp tells);
+      let same = drawn_at stamp (sym (commits_told did.between seat a t did.decided) ∙ told) in
+      (omega (arith, same, did.sealed.stamp_is), omega (arith, same, commit_fits v seat a t did));
   placed = λ place told. no_number (place_told a) place (place ≤ t.tail) (no_place did.between seat a t did.decided) told;
 }
   where
-    below : (stamp : ℕ) → stamp_told a ≡ Some stamp → stamp < t.tail
-    below stamp told = decided_below did.between seat stamp t session lawful (decides did.between seat a t stamp did.decided told)
-
-    drawn_at : (stamp : ℕ) → stamp_told a ≡ Some stamp → v.tail ≤ stamp
+    drawn_at : (stamp : ℕ) → stamp_told a ≡ Some stamp → did.stamp ≡ stamp
     drawn_at stamp told =
         let decided = decides did.between seat a t stamp did.decided told in
-        let same : did.stamp ≡ stamp = ap stamp_at (sym (ap (λ (s : Session). s.stand) did.sealed.own) ∙ decided.stand) in
-        omega (arith, same, did.sealed.stamp_is)
+        ap stamp_at (sym (ap (λ (s : Session). s.stand) did.sealed.own) ∙ decided.stand)
 
 -- A DURABLE commit lies below the end of the log.
 durable_draws : (v : View) (seat stamp : ℕ) (asked : Option Command) (t : View) → IsSession t seat → IsSerializable sound_law t → DidAskDurable v seat (answer.Durable stamp) t
@@ -209,24 +244,25 @@ durable_draws v seat stamp asked t session lawful (same, (end, last, flushed)) =
     subst (λ (fs : List Finished). f ∈ fs) (sym last.split) (∈-second last.front (f ∷ last.rest) f (∈-head f last.rest)) in
     let over : f ∈ (t.session seat).over = subst (λ (u : View). f ∈ (u.session seat).over) (sym same) before in
     let below : stamp < t.tail = (lawful.stamps seat f.work stamp session (inl (f, over, refl, ap stamp_of last.commits.2))).1 in
-    stampless v.tail t.tail asked (answer.Durable stamp) refl refl (λ place told.
-    let is = the_number (stamp + 1) place told in omega (arith, below, is))
+    undrawn v.tail t.tail asked (answer.Durable stamp) refl refl
+    (λ other told. let is = the_number stamp other told in omega (arith, below, is))
+    (λ place told. let is = the_number (stamp + 1) place told in omega (arith, below, is))
 
 -- THE LINES.
 command_draws : (v : View) (seat : ℕ) (c : Command) (a : Answer) (t : View) → IsSession t seat → IsSerializable sound_law t → DidCommand v seat c a t → Draws v.tail t.tail (Some c) a
 command_draws v seat command.Begin (answer.Began stamp) t session lawful did = begin_draws v seat stamp (Some command.Begin) t did
 command_draws v seat command.Begin (answer.LogEnd tail) t session lawful did = silent v.tail t.tail (Some command.Begin) (answer.LogEnd tail) refl refl refl
 command_draws v seat command.Begin answer.NumbersEnd t session lawful did = silent v.tail t.tail (Some command.Begin) answer.NumbersEnd refl refl refl
-command_draws v seat command.Seal (answer.Sealed stamp) t session lawful did = seal_draws v seat stamp (Some command.Seal) t session lawful did
+command_draws v seat command.Seal (answer.Sealed stamp) t session lawful did = seal_draws v seat stamp (Some command.Seal) t did
 command_draws v seat command.Settle a t session lawful did = settle_draws v seat a t session lawful did
 command_draws v seat command.Commit a t session lawful did = commit_draws v seat a t session lawful did
 command_draws v seat command.Abort answer.Aborted t session lawful did = silent v.tail t.tail (Some command.Abort) answer.Aborted refl refl refl
-command_draws v seat (command.Get table key) a t session lawful did = operation_silent v.tail t.tail v seat (command.Get table key) a t did
-command_draws v seat (command.Put table key value) a t session lawful did = operation_silent v.tail t.tail v seat (command.Put table key value) a t did
-command_draws v seat (command.Del table key) a t session lawful did = operation_silent v.tail t.tail v seat (command.Del table key) a t did
-command_draws v seat (command.Next table from) a t session lawful did = operation_silent v.tail t.tail v seat (command.Next table from) a t did
-command_draws v seat (command.Scan table low high) a t session lawful did = operation_silent v.tail t.tail v seat (command.Scan table low high) a t did
-command_draws v seat (command.Tidy table key) a t session lawful did = operation_silent v.tail t.tail v seat (command.Tidy table key) a t did
+command_draws v seat (command.Get table key) a t session lawful did = operation_draws v.tail v seat (command.Get table key) a t lawful did
+command_draws v seat (command.Put table key value) a t session lawful did = operation_draws v.tail v seat (command.Put table key value) a t lawful did
+command_draws v seat (command.Del table key) a t session lawful did = operation_draws v.tail v seat (command.Del table key) a t lawful did
+command_draws v seat (command.Next table from) a t session lawful did = operation_draws v.tail v seat (command.Next table from) a t lawful did
+command_draws v seat (command.Scan table low high) a t session lawful did = operation_draws v.tail v seat (command.Scan table low high) a t lawful did
+command_draws v seat (command.Tidy table key) a t session lawful did = operation_draws v.tail v seat (command.Tidy table key) a t lawful did
 command_draws v seat command.Durable (answer.Durable stamp) t session lawful did = durable_draws v seat stamp (Some command.Durable) t session lawful did
 command_draws v seat command.Durable (answer.NotFlushed flushed) t session lawful did = silent v.tail t.tail (Some command.Durable) (answer.NotFlushed flushed) refl refl refl
 command_draws v seat command.Durable answer.NoReceipt t session lawful did = silent v.tail t.tail (Some command.Durable) answer.NoReceipt refl refl refl
@@ -244,7 +280,7 @@ line_draws v l a t session lawful did =
 
 -- A line of the log tells a place within it, up to which it is synced then.
 log_placed : (m : ℕ) (v t : View) (asked : Option Command) (a : Answer) (place : ℕ) → IsSerializable sound_law t → FlushesTo v place t
-    → begin_told a ≡ None → stamp_told a ≡ None → place_told a ≡ Some place → Draws m t.tail asked a
+    → begin_told a ≡ None → stamp_printed a ≡ None → place_told a ≡ Some place → Draws m t.tail asked a
 log_placed m v t asked a place lawful did no_begin no_stamp is =
     stampless m t.tail asked a no_begin no_stamp (λ other told.
     let same = the_number place other (sym is ∙ told) in omega (arith, did.up, same, lawful.flushed.1))

@@ -9,6 +9,7 @@ pub mod Going
 pub mod Lines
 pub mod Operations
 pub mod Pairs
+pub mod Printing
 pub mod Ranges
 pub mod Reported
 pub mod Running
@@ -17,4 +18,6 @@ pub mod Sealing
 pub mod Sessions
 pub mod Stamping
 pub mod Steps
+pub mod Timing
 pub mod Turns
+pub mod Untold

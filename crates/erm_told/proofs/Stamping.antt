@@ -1,8 +1,7 @@
 -- The stamps that the report of a run tells agree.
-use Rattle.std.proofs.Common.{◌≡◌, ◌≢◌, ℕ, ◌<◌, ◌≤◌, List, [], ◌∷◌, IfSome, Some, refl, sym, ap, ◌∙◌, subst, ⊎_elim, arith, le_trans}
+use Rattle.std.proofs.Common.{◌≡◌, ◌≢◌, ℕ, ◌+◌, ◌<◌, ◌≤◌, List, IfSome, Some, sym, ap, ◌∙◌, arith}
+use Rattle.erm_model.specs.declared.limits.TheConstants.{LEAST_BLOCK, STOP}
 use Rattle.erm_model.specs.Member.{◌∈◌}
-use Rattle.erm_model.proofs.Members.{none_in_nil}
-use Rattle.erm_machine.proofs.Listed.{∈-cons}
 use Rattle.erm_node.specs.Sound.{sound_law}
 use Rattle.erm_report.specs.declared.answer.Answer.{Answer}
 use Rattle.erm_script.specs.declared.script.ScriptLine.{ScriptLine}
@@ -12,79 +11,16 @@ use Rattle.erm_world.specs.World as world
 use Rattle.erm_good_report.specs.GoodReport.{places_of}
 use Rattle.erm_good_report.specs.Opening.{InTurn, Opening}
 use Rattle.erm_good_report.specs.Phases.{Closed}
-use Rattle.erm_good_report.specs.Stamps.{AllInTime, StampsAgree, Told, begin_told, place_told, stamp_drawn, stamp_told}
+use Rattle.erm_good_report.specs.Stamps.{StampsAgree, Told, begin_told, place_told, stamp_drawn, stamp_printed}
 use Rattle.erm_good_report.specs.Transactions.{Said, Transaction, said_of, stamp_of, transactions_of}
-use Rattle.erm_lines.specs.Executions.{AreClosed, DidMove, IsCourse, IsExecution, IsOpeningOf, line_moves, move_of}
+use Rattle.erm_lines.specs.Executions.{AreClosed, IsCourse, IsOpeningOf}
 use Rattle.erm_lines.specs.Laws.{ExecutionsGoOn, ExecutionsTell, OfCourses}
-use Rattle.erm_told.proofs.Drawing.{Draws, move_draws}
 use Rattle.erm_told.proofs.Ended.{at_end, opening_is, report}
 use Rattle.erm_told.proofs.Endings.{if_told, told_from}
-use Rattle.erm_told.proofs.Pairs.{Pairs, all_pairs, pairs_from}
+use Rattle.erm_told.proofs.Pairs.{all_pairs, pairs_from}
 use Rattle.erm_told.proofs.Reported.{Differ, IsTold}
-
--- IN TIME. What a place tells lies at or above a bound.
-record Later (m : ℕ) (s : Said) : Type 0 where
-  begin : (stamp : ℕ) → begin_told s.answer ≡ Some stamp → m ≤ stamp
-  drawn : (stamp : ℕ) → stamp_drawn s.asked s.answer ≡ Some stamp → m ≤ stamp
-
--- of two places the one is before the other
-record Before (a b : Said) : Type 0 where
-  begins : (stamp begin : ℕ) → stamp_told a.answer ≡ Some stamp → begin_told b.answer ≡ Some begin → stamp < begin
-  draws : (begin stamp : ℕ) → begin_told a.answer ≡ Some begin → stamp_drawn b.asked b.answer ≡ Some stamp → begin ≤ stamp
-  ascends : (first later : ℕ) → stamp_drawn a.asked a.answer ≡ Some first → stamp_drawn b.asked b.answer ≡ Some later → first < later
-  flushes : (place begin : ℕ) → place_told a.answer ≡ Some place → begin_told b.answer ≡ Some begin → place ≤ begin
-  flushes_first : (place stamp : ℕ) → place_told a.answer ≡ Some place → stamp_drawn b.asked b.answer ≡ Some stamp → place ≤ stamp
-
-before_of : (m n : ℕ) (a b : Said) → Draws m n a.asked a.answer → Later n b → Before a b
-before_of m n a b draws later = record {
-  begins = λ stamp begin told then_told. omega (arith, draws.told stamp told, later.begin begin then_told);
-  draws = λ begin stamp told then_told. omega (arith, (draws.begin begin told).1, later.drawn stamp then_told);
-  ascends = λ first last told then_told. omega (arith, (draws.drawn first told).1, later.drawn last then_told);
-  flushes = λ place begin told then_told. le_trans (draws.placed place told) (later.begin begin then_told);
-  flushes_first = λ place stamp told then_told. le_trans (draws.placed place told) (later.drawn stamp then_told);
-}
-
-later_still : (m n : ℕ) (s : Said) → m ≤ n → Later n s → Later m s
-later_still m n s less later = record {
-  begin = λ stamp told. le_trans less (later.begin stamp told);
-  drawn = λ stamp told. le_trans less (later.drawn stamp told);
-}
-
-later_of : (m n : ℕ) (s : Said) → Draws m n s.asked s.answer → Later m s
-later_of m n s draws = record { begin = λ stamp told. (draws.begin stamp told).0; drawn = λ stamp told. (draws.drawn stamp told).0 }
-
-module _ (go : ExecutionsGoOn) where
-  -- one line
-  line_goes : (v : View) (l : ScriptLine) (a : Answer) (u : View) → DidMove v (move_of l a) u → IsSerializable sound_law u
-      → Draws v.tail u.tail (Some l.command) a × (v.tail ≤ u.tail)
-  line_goes v l a u did lawful =
-      let goes = go v u (move_of l a ∷ []) (u, did, lawful, refl) in
-      (move_draws v l a u goes.0 lawful did, goes.1)
-
-  all_later : (script : List ScriptLine) (answers : List Answer) (v t : View) → IsExecution v (line_moves script answers) t
-      → (s : Said) → s ∈ said_of script answers → Later v.tail s
-  all_later [] answers v t executed s m = absurd (none_in_nil s m)
-  all_later (l ∷ script) [] v t executed s m = absurd (none_in_nil s m)
-  all_later (l ∷ script) (a ∷ answers) v t (u, did, lawful, rest) s m =
-      let first : Said = record { session = l.session; asked = Some l.command; answer = a } in
-      let here = line_goes v l a u did lawful in
-      ⊎_elim (λ (same : first ≡ s). subst (λ (x : Said). Later v.tail x) same (later_of v.tail u.tail first here.0))
-      (λ (later : s ∈ said_of script answers). later_still v.tail u.tail s here.1 (all_later script answers u t rest s later))
-      (∈-cons s first (said_of script answers) m)
-
-  all_before : (script : List ScriptLine) (answers : List Answer) (v t : View) → IsExecution v (line_moves script answers) t → Pairs Before (said_of script answers)
-  all_before [] answers v t executed = tt
-  all_before (l ∷ script) [] v t executed = tt
-  all_before (l ∷ script) (a ∷ answers) v t (u, did, lawful, rest) =
-      let first : Said = record { session = l.session; asked = Some l.command; answer = a } in (
-        λ s m. before_of v.tail u.tail first s (line_goes v l a u did lawful).0 (all_later script answers u t rest s m),
-        all_before script answers u t rest,
-      )
-
--- so is what is so of each two in time
-in_time : (P : Said → Said → Type 0) (said : List Said) → Pairs Before said → ((a b : Said) → Before a b → P a b) → AllInTime InTurn P said
-in_time P said before gives =
-    let pairs = pairs_from Before P said before (λ a b m n is. gives a b is) in λ i j d first in_it earlier. all_pairs P said pairs i j d first in_it
+use Rattle.erm_told.proofs.Timing.{all_before, all_stop, in_time}
+use Rattle.erm_told.proofs.Untold.{untold_above, untold_below}
 
 module _ (v : View) (lawful : IsSerializable sound_law v) where
   stamps_differ : (t u : Transaction) → IsTold v t → IsTold v u → Differ t u → Told (λ a b. a ≢ b) (stamp_of t) (stamp_of u)
@@ -124,16 +60,21 @@ module _ (tell : ExecutionsTell) (go : ExecutionsGoOn) where
           least = λ u m. omega (arith, begin_above t lawful u (of_world u m), ap (λ (o : world.Opening). o.tail) (opening_is tell go v t script answers run closed are), of.stamp);
           begun = λ u m. stamp_above t lawful u (of_world u m);
           sealed = λ u m. (of_world u m).own.agrees;
-          begins = in_time (λ a b. Told (λ stamp begin. stamp < begin) (stamp_told a.answer) (begin_told b.answer)) (said_of script answers) before
-              (λ a b is. told_from (stamp_told a.answer) (begin_told b.answer) (λ stamp begin. stamp < begin) is.begins);
+          begins = in_time (λ a b. Told (λ stamp begin. stamp < begin) (stamp_printed a.answer) (begin_told b.answer)) (said_of script answers) before
+              (λ a b is. told_from (stamp_printed a.answer) (begin_told b.answer) (λ stamp begin. stamp < begin) is.begins);
           draws = in_time (λ a b. Told (λ begin stamp. begin ≤ stamp) (begin_told a.answer) (stamp_drawn b.asked b.answer)) (said_of script answers) before
               (λ a b is. told_from (begin_told a.answer) (stamp_drawn b.asked b.answer) (λ begin stamp. begin ≤ stamp) is.draws);
-          ascends = in_time (λ a b. Told (λ first later. first < later) (stamp_drawn a.asked a.answer) (stamp_drawn b.asked b.answer)) (said_of script answers) before
-              (λ a b is. told_from (stamp_drawn a.asked a.answer) (stamp_drawn b.asked b.answer) (λ first later. first < later) is.ascends);
+          ascends = in_time (λ a b. Told (λ first later. first + LEAST_BLOCK ≤ later) (stamp_drawn a.asked a.answer) (stamp_drawn b.asked b.answer)) (said_of script answers) before
+              (λ a b is. told_from (stamp_drawn a.asked a.answer) (stamp_drawn b.asked b.answer) (λ first later. first + LEAST_BLOCK ≤ later) is.ascends);
           flushes = in_time (λ a b. Told (λ place begin. place ≤ begin) (place_told a.answer) (begin_told b.answer)) (said_of script answers) before
               (λ a b is. told_from (place_told a.answer) (begin_told b.answer) (λ place begin. place ≤ begin) is.flushes);
           flushes_first = in_time (λ a b. Told (λ place stamp. place ≤ stamp) (place_told a.answer) (stamp_drawn b.asked b.answer)) (said_of script answers) before
               (λ a b is. told_from (place_told a.answer) (stamp_drawn b.asked b.answer) (λ place stamp. place ≤ stamp) is.flushes_first);
+          begins_ascend = in_time (λ a b. Told (λ first later. first ≤ later) (begin_told a.answer) (begin_told b.answer)) (said_of script answers) before
+              (λ a b is. told_from (begin_told a.answer) (begin_told b.answer) (λ first later. first ≤ later) is.begins_ascend);
+          stops = λ in_turn s m. all_stop go script answers v run.between run.lines s m;
+          untold_after = λ i j stamp s drawn before at mode other. untold_below tell go v t script answers run closed are i stamp drawn j s before at;
+          untold_before = λ i j stamp s drawn behind at mode. untold_above tell go v t script answers run closed are i stamp drawn j s behind at;
         }
 
   pub stamps : OfCourses (λ opening script answers closed told. StampsAgree InTurn opening told (said_of script answers))

@@ -1,5 +1,5 @@
 -- A line of a run: what is so before it.
-use Rattle.std.proofs.Common.{◌≡◌, ℕ, zero, suc, ◌+◌, ◌≤◌, true, List, [], ◌∷◌, ◌++◌, Some, length, take, slice_get, is_some, min, append-nil, append_assoc, refl, sym, ap, ◌∙◌, subst, ⊎_elim, arith}
+use Rattle.std.proofs.Common.{◌≡◌, ℕ, zero, suc, ◌+◌, ◌≤◌, true, List, [], ◌∷◌, ◌++◌, Some, length, take, slice_get, is_some, min, append-nil, append_assoc, refl, sym, ap, ◌∙◌, subst, inl, ⊎_elim, arith}
 use Rattle.erm_model.specs.declared.limits.TheConstants.{WRITE_LIMIT}
 use Rattle.erm_model.specs.declared.outcome.Phase.TheVariants.{Active}
 use Rattle.erm_node.specs.Sound.{sound_law}
@@ -36,6 +36,7 @@ module _ (v : View) (opened : IsOpened v) where
     few = λ seat session. by_idle (λ s. length (work_of s.stand).claims ≤ WRITE_LIMIT) (omega arith) seat session;
     own = λ seat t session e. let none = by_idle (λ s. length (work_of s.stand).claims ≡ 0) refl seat session in omega (arith, none);
     apart = λ seat session. by_idle (λ s. Apart (work_of s.stand).reads) nothing_apart seat session;
+    seeks = λ range seat t session e. let none = by_idle (λ s. length (work_of s.stand).reads ≡ 0) refl seat session in inl (omega (arith, none));
     known = λ range seat x session read.
         let no = by_idle (λ s. is_some (row_read (work_of s.stand).reads x) ≡ true → ⊥) (λ e. cc) seat session in
         absurd (no read);

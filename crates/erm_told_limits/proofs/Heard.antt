@@ -1,4 +1,4 @@
--- The lines of a transaction that is told: what its claims come from.
+-- The lines of a transaction that is told: what its claims and its reads come from.
 use Rattle.std.proofs.Common.{◌≡◌, ℕ, ◌+◌, ◌≤◌, ◌⊎◌, List, Option, Some, None, length, sum_by, option_map, refl, ap, subst, inl, inr, arith}
 use Rattle.std.proofs.lemmas.List.Sums.{sum_by-append}
 use Rattle.std.specs.Option.{option_to_list}
@@ -6,19 +6,25 @@ use Rattle.erm_model.specs.declared.outcome.Phase.{Phase}
 use Rattle.erm_model.specs.declared.outcome.Phase.TheVariants.{Active, Idle, Sealed}
 use Rattle.erm_model.specs.declared.row_stop.RowStop.{RowStop}
 use Rattle.erm_model.specs.declared.row_stop.RowStop.TheVariants as stop
-use Rattle.erm_world.specs.World.{Session, View, work_at, work_of}
+use Rattle.erm_world.specs.World.{Session, View, begun, work_at, work_of}
 use Rattle.erm_report.specs.declared.answer.Answer.{Answer}
 use Rattle.erm_report.specs.declared.answer.Answer.TheVariants as answer
 use Rattle.erm_script.specs.declared.script.Command.{Command}
 use Rattle.erm_script.specs.declared.script.Command.TheVariants as command
 use Rattle.erm_good_report.specs.Phases.{refusal_for}
-use Rattle.erm_good_report.specs.Refusals.{claims_of}
+use Rattle.erm_good_report.specs.Refusals.{claims_of, reads_of}
 use Rattle.erm_good_report.specs.Transactions.{Exchange, Progress, Transaction, heard, table_of, with_line}
 use Rattle.erm_lines.specs.Answers.{DidCommand, DidOperation, stop_told}
 
--- how many objects the lines of a transaction may claim
+-- what the lines of a transaction add up to: how many objects they may claim, and how many they may read
+abbrev pub tally : (Command → ℕ) → Transaction → ℕ
+tally count t = sum_by (λ (e : Exchange). count e.asked) t.lines
+
 abbrev pub may_claim : Transaction → ℕ
-may_claim t = sum_by (λ (e : Exchange). claims_of e.asked) t.lines
+may_claim t = tally claims_of t
+
+abbrev pub may_read : Transaction → ℕ
+may_read t = tally reads_of t
 
 -- the answers to a line that names a table
 abbrev pub IsOperated : Answer → Type 0
@@ -51,54 +57,55 @@ is_operated v seat c (answer.Cut cells) t did = tt
 is_operated v seat c a t did = told_operated did.0 a did.1
 
 -- a transaction that was there, with its lines or more
-pub record Was (current : Option Transaction) (t : Transaction) (more : ℕ) : Type 0 where
+pub record Was (count : Command → ℕ) (current : Option Transaction) (t : Transaction) (more : ℕ) : Type 0 where
   pub before : Transaction
   pub is : current ≡ Some before
-  pub lines : may_claim before + more ≤ may_claim t
+  pub lines : tally count before + more ≤ tally count t
 
-was_same : (current : Option Transaction) (t : Transaction) → current ≡ Some t → Was current t 0
-was_same current t e = record { before = t; is = e; lines = omega arith }
+was_same : (count : Command → ℕ) (current : Option Transaction) (t : Transaction) → current ≡ Some t → Was count current t 0
+was_same count current t e = record { before = t; is = e; lines = omega arith }
 
-was_mapped : (current : Option Transaction) (change : Transaction → Transaction) (more : ℕ) → ((u : Transaction) → may_claim u + more ≤ may_claim (change u)) → (t : Transaction) → option_map change current ≡ Some t → Was current t more
-was_mapped None change more grows t e = absurd (cc)
-was_mapped (Some u) change more grows t e =
+was_mapped : (count : Command → ℕ) (current : Option Transaction) (change : Transaction → Transaction) (more : ℕ) → ((u : Transaction) → tally count u + more ≤ tally count (change u)) → (t : Transaction)
+    → option_map change current ≡ Some t → Was count current t more
+was_mapped count None change more grows t e = absurd (cc)
+was_mapped count (Some u) change more grows t e =
     let is : change u ≡ t = cc in
-    record { before = u; is = refl; lines = subst (λ (x : Transaction). may_claim u + more ≤ may_claim x) is (grows u) }
+    record { before = u; is = refl; lines = subst (λ (x : Transaction). tally count u + more ≤ tally count x) is (grows u) }
 
-was_line : (c : Command) (a : Answer) (u : Transaction) → may_claim u + 0 ≤ may_claim (with_line (Some c) a u)
-was_line c a u =
+pub was_line : (count : Command → ℕ) (c : Command) (a : Answer) (u : Transaction) → tally count u + 0 ≤ tally count (with_line (Some c) a u)
+was_line count c a u =
     let more : List Exchange = option_to_list (option_map (λ (table : ℕ). record { asked = c; answer = a }) (table_of c)) in
-    let parts = sum_by-append (λ (e : Exchange). claims_of e.asked) u.lines more in
+    let parts = sum_by-append (λ (e : Exchange). count e.asked) u.lines more in
     omega (arith, parts)
 
 -- a line that was heard leaves a transaction that began now, or that was there
-module _ (seat : ℕ) (c : Command) (p : Progress) (t : Transaction) where
-  pub heard_was : (a : Answer) → (heard seat (Some c) a p).current ≡ Some t → ((stamp : ℕ) × (a ≡ answer.Began stamp)) ⊎ Was p.current t 0
+module _ (count : Command → ℕ) (seat : ℕ) (c : Command) (p : Progress) (t : Transaction) where
+  pub heard_was : (a : Answer) → (heard seat (Some c) a p).current ≡ Some t → ((stamp : ℕ) × (a ≡ answer.Began stamp)) ⊎ Was count p.current t 0
   heard_was (answer.Began stamp) e = inl (stamp, refl)
-  heard_was (answer.Sealed stamp) e = inr (was_mapped p.current _ 0 (λ u. omega arith) t e)
+  heard_was (answer.Sealed stamp) e = inr (was_mapped count p.current _ 0 (λ u. omega arith) t e)
   heard_was (answer.Committed stamp succ pred) e = absurd (cc)
   heard_was (answer.Excluded stamp succ pred) e = absurd (cc)
   heard_was (answer.ExcludedEarly succ pred) e = absurd (cc)
   heard_was (answer.Owned other number) e = absurd (cc)
   heard_was (answer.Newer stamp) e = absurd (cc)
   heard_was answer.Aborted e = absurd (cc)
-  heard_was answer.NotIdle e = inr (was_same p.current t e)
-  heard_was answer.NoTransaction e = inr (was_same p.current t e)
-  heard_was answer.IsSealed e = inr (was_same p.current t e)
-  heard_was answer.NotSealed e = inr (was_same p.current t e)
-  heard_was a e = inr (was_mapped p.current (with_line (Some c) a) 0 (was_line c a) t e)
+  heard_was answer.NotIdle e = inr (was_same count p.current t e)
+  heard_was answer.NoTransaction e = inr (was_same count p.current t e)
+  heard_was answer.IsSealed e = inr (was_same count p.current t e)
+  heard_was answer.NotSealed e = inr (was_same count p.current t e)
+  heard_was a e = inr (was_mapped count p.current (with_line (Some c) a) 0 (was_line count c a) t e)
 
   -- an operation's line counts
-  pub heard_line : (a : Answer) → IsOperated a → ((u : Transaction) → may_claim u + claims_of c ≤ may_claim (with_line (Some c) a u)) → (heard seat (Some c) a p).current ≡ Some t → Was p.current t (claims_of c)
-  heard_line (answer.Replied r) is grows e = was_mapped p.current _ (claims_of c) grows t e
-  heard_line (answer.Cut cells) is grows e = was_mapped p.current _ (claims_of c) grows t e
-  heard_line (answer.WaitSeat other seen) is grows e = was_mapped p.current _ (claims_of c) grows t e
-  heard_line answer.ReadsFull is grows e = was_mapped p.current _ (claims_of c) grows t e
+  pub heard_line : (a : Answer) → IsOperated a → ((u : Transaction) → tally count u + count c ≤ tally count (with_line (Some c) a u)) → (heard seat (Some c) a p).current ≡ Some t → Was count p.current t (count c)
+  heard_line (answer.Replied r) is grows e = was_mapped count p.current _ (count c) grows t e
+  heard_line (answer.Cut cells) is grows e = was_mapped count p.current _ (count c) grows t e
+  heard_line (answer.WaitSeat other seen) is grows e = was_mapped count p.current _ (count c) grows t e
+  heard_line answer.ReadsFull is grows e = was_mapped count p.current _ (count c) grows t e
   heard_line (answer.Owned other number) is grows e = absurd (cc)
   heard_line (answer.Newer stamp) is grows e = absurd (cc)
-  heard_line answer.WritesFull is grows e = was_mapped p.current _ (claims_of c) grows t e
-  heard_line (answer.CellsFull drawn) is grows e = was_mapped p.current _ (claims_of c) grows t e
-  heard_line (answer.OidsFull drawn) is grows e = was_mapped p.current _ (claims_of c) grows t e
+  heard_line answer.WritesFull is grows e = was_mapped count p.current _ (count c) grows t e
+  heard_line (answer.CellsFull drawn) is grows e = was_mapped count p.current _ (count c) grows t e
+  heard_line (answer.OidsFull drawn) is grows e = was_mapped count p.current _ (count c) grows t e
   heard_line (answer.ExcludedEarly succ pred) is grows e = absurd (cc)
   heard_line a is grows e = absurd is
 
@@ -115,13 +122,13 @@ heard_refusal seat asked p (Some Idle) Idle r e = absurd (cc)
 heard_refusal seat asked p (Some Active) Active r e = absurd (cc)
 heard_refusal seat asked p (Some Sealed) Sealed r e = absurd (cc)
 
--- a transaction that begins has claimed nothing
+-- a transaction that begins has done nothing
 module _ (v : View) (seat : ℕ) (t : View) (stamp : ℕ) where
   no_operation : (c : Command) → DidOperation v seat c (answer.Began stamp) t → ⊥
   no_operation c did = is_operated v seat c (answer.Began stamp) t did
 
-  pub began_none : (c : Command) → DidCommand v seat c (answer.Began stamp) t → length (work_at t seat).claims ≡ 0
-  began_none command.Begin did = ap (λ (s : Session). length (work_of s.stand).claims) did.3.own
+  pub began_none : (c : Command) → DidCommand v seat c (answer.Began stamp) t → (number : ℕ) × (work_at t seat ≡ begun number stamp)
+  began_none command.Begin did = (length (v.session seat).over + 1, ap (λ (s : Session). work_of s.stand) did.3.own)
   began_none (command.Get table key) did = absurd (no_operation (command.Get table key) did)
   began_none (command.Put table key value) did = absurd (no_operation (command.Put table key value) did)
   began_none (command.Del table key) did = absurd (no_operation (command.Del table key) did)

@@ -11,7 +11,7 @@ use Rattle.erm_machine.proofs.Listed.{∈-first}
 use Rattle.erm_node.specs.Sound.{reached, sound_law}
 use Rattle.erm_world.specs.Laws.{IsSerializable}
 use Rattle.erm_world.specs.Works.{row_read}
-use Rattle.erm_world.specs.World.{IsSession, Session, View, claims_by_all, made_by_all, phase_at, phase_of, work_at, work_of}
+use Rattle.erm_world.specs.World.{IsSession, Session, View, Work, claims_by_all, made_by_all, phase_at, phase_of, work_at, work_of}
 use Rattle.erm_world.specs.World as world
 use Rattle.erm_world.proofs.Lists.{∈-last}
 use Rattle.erm_maps.specs.Runs.{IsRunOf}
@@ -30,6 +30,7 @@ use Rattle.erm_told_limits.proofs.Arrays.{HaveRowsBelow}
 use Rattle.erm_told_limits.proofs.Grown.{Apart}
 use Rattle.erm_told_limits.proofs.Heard.{Was, began_none, heard_line, heard_refusal, heard_was, is_operated, may_claim}
 use Rattle.erm_told_limits.proofs.Lines.{HasRun, Known}
+use Rattle.erm_told_limits.proofs.Looks.{MayHaveRead, command_looks, own_reads}
 use Rattle.erm_told_limits.proofs.Moved.{Turned}
 use Rattle.erm_told_limits.proofs.Reached.{Ways}
 use Rattle.erm_told_limits.proofs.Tails.{line_tail}
@@ -45,11 +46,12 @@ pub record Holds (ls : List ScriptLine) (said : List Said) (v : View) : Type 0 w
   pub over : (seat : ℕ) → IsSession v seat → length (v.session seat).over ≤ length ls
   -- the log went on by no more than the lines may draw
   pub tail : v.tail ≤ v.opening.tail + GREATEST_BLOCK * total_of draws_of ls
-  -- one in progress has claimed few objects, and no more than its lines may; it has read none twice
+  -- one in progress has claimed few objects, and no more than its lines may; it has read none twice, and no more than its lines may read
   pub few : (seat : ℕ) → IsSession v seat → length (work_at v seat).claims ≤ WRITE_LIMIT
   pub own : (seat : ℕ) (t : Transaction) → IsSession v seat → (progress_of seat said).current ≡ Some t → length (work_at v seat).claims ≤ may_claim t
   pub apart : (seat : ℕ) → IsSession v seat → Apart (work_at v seat).reads
   -- and each that it has read the opening's rows reach, or it was made
+  pub seeks : AreInRange ls → (seat : ℕ) (t : Transaction) → IsSession v seat → (progress_of seat said).current ≡ Some t → MayHaveRead (work_at v seat) t
   pub known : AreInRange ls → (seat : ℕ) (x : ℕ) → IsSession v seat → is_some (row_read (work_at v seat).reads x) ≡ true → 0 < reached v.opening.rows x + made_by_all v x
 
 -- what the laws below say
@@ -68,21 +70,21 @@ progress_then seat said l a = fold-append (λ (p : Progress) (s : Said). cond (s
 -- a transaction has claimed no more than its lines may
 module _ (c : Command) (a : Answer) (p : Progress) (v : View) (seat : ℕ) (t : View) (u : Transaction) (grown : length (work_at t seat).claims ≤ length (work_at v seat).claims + claims_of c)
     (before : (w : Transaction) → p.current ≡ Some w → length (work_at v seat).claims ≤ may_claim w) where
-  from_before : (more : ℕ) → Was p.current u more → claims_of c ≤ more → length (work_at t seat).claims ≤ may_claim u
+  from_before : (more : ℕ) → Was claims_of p.current u more → claims_of c ≤ more → length (work_at t seat).claims ≤ may_claim u
   from_before more was most =
       let old = before was.before was.is in
       omega (arith, grown, old, was.lines, most)
 
   unwritten : claims_of c ≡ 0 → DidCommand v seat c a t → (heard seat (Some c) a p).current ≡ Some u → length (work_at t seat).claims ≤ may_claim u
-  unwritten none by e = elim (heard_was seat c p u a e) as (λ _. length (work_at t seat).claims ≤ may_claim u) [
+  unwritten none by e = elim (heard_was claims_of seat c p u a e) as (λ _. length (work_at t seat).claims ≤ may_claim u) [
     | inl began ↦
-        let no_claims : length (work_at t seat).claims ≡ 0 = began_none v seat t began.0 c (subst (λ (x : Answer). DidCommand v seat c x t) began.1 by) in
-        omega (arith, no_claims)
+        let new = began_none v seat t began.0 c (subst (λ (x : Answer). DidCommand v seat c x t) began.1 by) in
+        omega (arith, ap (λ (w : Work). length w.claims) new.1)
     | inr was ↦ from_before 0 was (omega (arith, none))
   ]
 
   written : DidOperation v seat c a t → ((w : Transaction) → may_claim w + claims_of c ≤ may_claim (with_line (Some c) a w)) → (heard seat (Some c) a p).current ≡ Some u → length (work_at t seat).claims ≤ may_claim u
-  written by grows e = from_before (claims_of c) (heard_line seat c p u a (is_operated v seat c a t by) grows e) (omega arith)
+  written by grows e = from_before (claims_of c) (heard_line claims_of seat c p u a (is_operated v seat c a t by) grows e) (omega arith)
 
 pub own_command : (c : Command) (a : Answer) (p : Progress) (v : View) (seat : ℕ) (t : View) (u : Transaction) → length (work_at t seat).claims ≤ length (work_at v seat).claims + claims_of c
     → ((w : Transaction) → p.current ≡ Some w → length (work_at v seat).claims ≤ may_claim w) → DidCommand v seat c a t → (heard seat (Some c) a p).current ≡ Some u → length (work_at t seat).claims ≤ may_claim u
@@ -178,6 +180,41 @@ module _ (laws : Laws) (ls : List ScriptLine) (said : List Said) (v : View) (bef
             (before.own seat u (there seat session) (sym (ap (λ (q : Progress). q.current) told) ∙ e))
       ]
 
+  -- what it has read
+  module _ (range : AreInRange (ls ++ l ∷ [])) where
+    ranged : AreInRange ls
+    ranged k m = range k (∈-first ls (l ∷ []) k m)
+
+    refusal_reads : (u : Transaction) (refusal : Option Answer) → refusal_of (phase_at v l.session) l.command ≡ refusal → FitsRefusal refusal l.command a → DidAsked refusal v l.session l.command a t
+        → (heard l.session (Some l.command) a (progress_of l.session said)).current ≡ Some u → MayHaveRead (work_at t l.session) u
+    refusal_reads u (Some r) is fits same e =
+        let p = progress_of l.session said in
+        let nothing_heard : heard l.session (Some l.command) a p ≡ p =
+        subst (λ (x : Answer). heard l.session (Some l.command) x p ≡ p) (sym fits) (heard_refusal l.session (Some l.command) p (phase_asked l.command) (phase_at v l.session) r is) in
+        subst (λ (x : View). MayHaveRead (work_at x l.session) u) (sym same) (before.seeks ranged l.session u did.session (sym (ap (λ (q : Progress). q.current) nothing_heard) ∙ e))
+    refusal_reads u None is fits by e =
+        own_reads l.command a (progress_of l.session said) v l.session t u (turned.own.now.apart (before.apart l.session did.session))
+        (command_looks laws.rows_below laws.ways v l.session t did.session holds (before.runs l.session did.session) l.command a is (range l (∈-last ls l)) by)
+        (λ w there. before.seeks ranged l.session w did.session there) by e
+
+    seeks_then : (seat : ℕ) (u : Transaction) → IsSession t seat → (progress_of seat (said ++ said_by l a ∷ [])).current ≡ Some u → MayHaveRead (work_at t seat) u
+    seeks_then seat u session e =
+        elim (eqb_tells l.session seat) as (λ _. MayHaveRead (work_at t seat) u) [
+          | inl here ↦
+              let p = progress_of seat said in
+              let told : progress_of seat (said ++ said_by l a ∷ []) ≡ heard seat (Some l.command) a p =
+              progress_then seat said l a ∙ ap (λ (b : Bool). cond b (heard seat (Some l.command) a p) p) here.0 in
+              subst (λ q. (heard q (Some l.command) a (progress_of q said)).current ≡ Some u → MayHaveRead (work_at t q) u) here.1
+              (λ heard_so. refusal_reads u (refusal_of (phase_at v l.session) l.command) refl did.fits did.did heard_so)
+              (sym (ap (λ (q : Progress). q.current) told) ∙ e)
+          | inr another ↦
+              let p = progress_of seat said in
+              let told : progress_of seat (said ++ said_by l a ∷ []) ≡ p =
+              progress_then seat said l a ∙ ap (λ (b : Bool). cond b (heard seat (Some l.command) a p) p) another.0 in
+              subst (λ (s : Session). MayHaveRead (work_of s.stand) u) (sym (turned.others seat (λ is. another.1 (sym is))))
+              (before.seeks ranged seat u (there seat session) (sym (ap (λ (q : Progress). q.current) told) ∙ e))
+        ]
+
 holds_then : (laws : Laws) (ls : List ScriptLine) (said : List Said) (v : View) → Holds ls said v → (l : ScriptLine) (a : Answer) (t : View) → DidLine v l a t → IsSerializable sound_law t
     → Holds (ls ++ l ∷ []) (said ++ said_by l a ∷ []) t
 holds_then laws ls said v before l a t did holds =
@@ -199,6 +236,7 @@ holds_then laws ls said v before l a t did holds =
       few = few_then laws ls said v before l a t did holds;
       own = own_then laws ls said v before l a t did holds;
       apart = apart_then laws ls said v before l a t did holds;
+      seeks = seeks_then laws ls said v before l a t did holds;
       known = known_then laws ls said v before l a t did holds;
     }
 
@@ -220,6 +258,14 @@ module _ (ls : List ScriptLine) (said : List Said) (v : View) (before : Holds ls
       progress_then seat said l a ∙ ap (λ (b : Bool). cond b (heard seat (Some l.command) a p) p) (ne_eqb l.session seat (log_of_none v t l a seat did session.0)) in
       by_same (λ s. length (work_of s.stand).claims ≤ may_claim u) seat session
       (before.own seat u (was_there seat session) (sym (ap (λ (q : Progress). q.current) told) ∙ e))
+
+  seeks_logged : AreInRange (ls ++ l ∷ []) → (seat : ℕ) (u : Transaction) → IsSession t seat → (progress_of seat (said ++ said_by l a ∷ [])).current ≡ Some u → MayHaveRead (work_at t seat) u
+  seeks_logged range seat u session e =
+      let p = progress_of seat said in
+      let told : progress_of seat (said ++ said_by l a ∷ []) ≡ p =
+      progress_then seat said l a ∙ ap (λ (b : Bool). cond b (heard seat (Some l.command) a p) p) (ne_eqb l.session seat (log_of_none v t l a seat did session.0)) in
+      by_same (λ s. MayHaveRead (work_of s.stand) u) seat session
+      (before.seeks (λ k m. range k (∈-first ls (l ∷ []) k m)) seat u (was_there seat session) (sym (ap (λ (q : Progress). q.current) told) ∙ e))
 
   known_logged : AreInRange (ls ++ l ∷ []) → (seat : ℕ) (x : ℕ) → IsSession t seat → is_some (row_read (work_at t seat).reads x) ≡ true → 0 < reached t.opening.rows x + made_by_all t x
   known_logged range seat x session =
@@ -243,6 +289,7 @@ module _ (ls : List ScriptLine) (said : List Said) (v : View) (before : Holds ls
     few = λ seat session. by_same (λ s. length (work_of s.stand).claims ≤ WRITE_LIMIT) seat session (before.few seat (was_there seat session));
     own = own_logged;
     apart = λ seat session. by_same (λ s. Apart (work_of s.stand).reads) seat session (before.apart seat (was_there seat session));
+    seeks = seeks_logged;
     known = known_logged;
   }
 

@@ -1,11 +1,14 @@
 pub mod Ran
 pub mod Grown
 pub mod Bounds
+pub mod Reach
 pub mod Reached
+pub mod Sought
 pub mod Arrays
 pub mod Moved
 pub mod Lines
 pub mod Turns
+pub mod Looks
 pub mod Totals
 pub mod Heard
 pub mod Tails

@@ -1,18 +1,18 @@
 -- The causes of refusals for want of reads, claims, cells and objects, at a line of a run.
 use Rattle.std.proofs.Common.{◌≡◌, ℕ, zero, suc, ◌+◌, ◌<◌, ◌≤◌, ◌⊎◌, ◌||◌, ◌==◌, Bool, true, false, cond, List, [], ◌∷◌, ◌++◌, Option, Some, None, is_some, length, replicate, refl, sym, ap, ◌∙◌, subst, inl, inr, arith}
 use Rattle.std.specs.List.{list_any}
-use Rattle.std.proofs.lemmas.List.{length-append}
+use Rattle.std.proofs.lemmas.List.{length-append, length-map}
 use Rattle.std.proofs.lemmas.Bool.Decides.{eqb_tells}
 use Rattle.std.proofs.lemmas.List.Sums.{sum_by_push}
 use Rattle.erm_model.specs.declared.history.VersionRead.{VersionRead}
-use Rattle.erm_model.specs.declared.limits.TheConstants.{OID_LIMIT, READ_LIMIT, TABLES, TABLE_CELLS, WRITE_LIMIT}
+use Rattle.erm_model.specs.declared.limits.TheConstants.{OID_LIMIT, READ_LIMIT, TABLES, WRITE_LIMIT}
 use Rattle.erm_model.specs.declared.TheConstants.{ROW_WORDS}
 use Rattle.erm_model.specs.declared.row_stop.RowStop.{RowStop}
 use Rattle.erm_model.specs.declared.row_stop.RowStop.TheVariants as stop
 use Rattle.erm_model.specs.RowTransaction.{Asked, asked_claim, asked_make, asked_read}
 use Rattle.erm_model.specs.Rows.{Rows}
 use Rattle.erm_node.specs.Sound.{IsSound, reached}
-use Rattle.erm_world.specs.Calls.{AreAllMade}
+use Rattle.erm_world.specs.Calls.{AreAllMade, IsJustAbove}
 use Rattle.erm_world.specs.Face.{WasRefused}
 use Rattle.erm_world.specs.Works.{row_read}
 use Rattle.erm_world.specs.World.{View, claims_by_all, made_by_all, work_at}
@@ -28,10 +28,11 @@ use Rattle.erm_tree.specs.Change.{count_claims, count_makes}
 use Rattle.erm_lines.specs.Executions.{count_rows}
 use Rattle.erm_told_limits.specs.Limits.{AreInRange}
 use Rattle.erm_told_limits.proofs.At.{At}
-use Rattle.erm_told_limits.proofs.Heard.{may_claim}
+use Rattle.erm_told_limits.proofs.Heard.{may_claim, may_read}
 use Rattle.erm_told_limits.proofs.Holds.{Laws}
 use Rattle.erm_told_limits.proofs.Lines.{Cut, Known, cut_of}
-use Rattle.erm_told_limits.proofs.Pigeons.{Has, has_first, has_made, has_reached, has_second, filled, length_filled, length_roots, made_few, oids_read, read_few, roots, turned_same}
+use Rattle.erm_told_limits.proofs.Looks.{reads_line}
+use Rattle.erm_told_limits.proofs.Pigeons.{Has, has_first, has_made, has_reached, has_read, has_second, filled, length_filled, length_roots, made_few, oids_read, read_before, read_few, roots}
 use Rattle.erm_told_limits.proofs.Refused.{Full, was_full}
 use Rattle.erm_told_limits.proofs.Totals.{all_made, claims_turned, length_all, made_turned, mades_turned, times_all}
 use Rattle.erm_machine.proofs.Listed.{∈-first}
@@ -44,12 +45,12 @@ module _ (v : View) (seat : ℕ) (t : View) where
   writes_at (asked_claim oid) did = (oid, refl, did.2)
   writes_at asked_make did = absurd did
 
-  cells_at : (drawn : ℕ) (asked : Asked) → WasRefused v seat asked (stop.CellsFull drawn) t → (oid : ℕ) × (asked ≡ asked_claim oid) × (v.opening.cells ≤ drawn) × (v.opening.cells ≤ OID_LIMIT + claims_by_all v)
+  cells_at : (drawn : ℕ) (asked : Asked) → WasRefused v seat asked (stop.CellsFull drawn) t → (oid : ℕ) × (asked ≡ asked_claim oid) × IsJustAbove v.opening.cells drawn × (v.opening.cells ≤ OID_LIMIT + claims_by_all v)
   cells_at drawn (asked_read oid) did = absurd did
   cells_at drawn (asked_claim oid) did = (oid, refl, did.4, did.5)
   cells_at drawn asked_make did = absurd did
 
-  oids_at : (drawn : ℕ) (asked : Asked) → WasRefused v seat asked (stop.OidsFull drawn) t → (asked ≡ asked_make) × (OID_LIMIT ≤ drawn) × AreAllMade v
+  oids_at : (drawn : ℕ) (asked : Asked) → WasRefused v seat asked (stop.OidsFull drawn) t → (asked ≡ asked_make) × IsJustAbove OID_LIMIT drawn × AreAllMade v
   oids_at drawn (asked_read oid) did = absurd did
   oids_at drawn (asked_claim oid) did = absurd did
   oids_at drawn asked_make did = (refl, did.1, did.2)
@@ -70,14 +71,6 @@ claims_line c a u some = absurd (omega (arith, some))
 is_read : (o : Option (List ℕ)) → (is_some o ≡ true) ⊎ (o ≡ None)
 is_read None = inr refl
 is_read (Some row) = inl refl
-
-read_step : (r : VersionRead) (rs : List VersionRead) (q : ℕ) (b : Bool) → (r.oid == q) ≡ b → Has (oids_read (r ∷ rs)) q → (Has (oids_read rs) q → is_some (row_read rs q) ≡ true) → is_some (cond b (Some r.row) (row_read rs q)) ≡ true
-read_step r rs q true e has later = refl
-read_step r rs q false e has later = later (sym (ap (λ (here : Bool). here || list_any (λ x. q == x) (oids_read rs)) (turned_same q r.oid ∙ e)) ∙ has)
-
-read_before : (rs : List VersionRead) (q : ℕ) → Has (oids_read rs) q → is_some (row_read rs q) ≡ true
-read_before [] q has = cc
-read_before (r ∷ rs) q has = read_step r rs q (r.oid == q) refl has (λ later. read_before rs q later)
 
 module _ (laws : Laws) (first : View) (ls : List ScriptLine) (said : List Said) (l : ScriptLine) (a : Answer) (at : At first ls said l a) where
   cut : (why : RowStop) → Full a why → Cut (Known l.command at.t) l.command at.v l.session why at.t
@@ -102,17 +95,17 @@ module _ (laws : Laws) (first : View) (ls : List ScriptLine) (said : List Said) 
       omega (arith, what.2, line.turned.own.now.claimed, less, own, counts)
 
   -- cells
-  pub cells_cause : (drawn : ℕ) → Full a (stop.CellsFull drawn) → TABLE_CELLS ≤ first.opening.cells → (TABLE_CELLS ≤ drawn) × (TABLE_CELLS < OID_LIMIT + total_of claims_of (ls ++ l ∷ []))
-  cells_cause drawn full many =
+  pub cells_cause : (drawn : ℕ) → Full a (stop.CellsFull drawn) → IsJustAbove first.opening.cells drawn × (first.opening.cells < OID_LIMIT + total_of claims_of (ls ++ l ∷ []))
+  cells_cause drawn full =
       let line = cut (stop.CellsFull drawn) full in
       let what = cells_at line.at l.session at.t drawn line.asked line.refused in
       let less = line.less_claims what.0 what.1 in
       let opening : line.at.opening.cells ≡ first.opening.cells = ap (λ (o : world.Opening). o.cells) (line.turned.opening ∙ at.opening) in
       let grown = claims_turned (Known l.command at.t) (count_makes line.events) (count_claims line.events) 0 at.v l.session line.at at.did.session line.turned in
-      (omega (arith, many, opening, what.2), omega (arith, many, opening, what.3, grown, less, at.holds.claims, claims_next))
+      (subst (λ (limit : ℕ). IsJustAbove limit drawn) opening what.2, omega (arith, opening, what.3, grown, less, at.holds.claims, claims_next))
 
   -- objects
-  pub oids_cause : (drawn : ℕ) → Full a (stop.OidsFull drawn) → (OID_LIMIT ≤ drawn) × (OID_LIMIT < first.opening.first + total_of makes_of (ls ++ l ∷ []))
+  pub oids_cause : (drawn : ℕ) → Full a (stop.OidsFull drawn) → IsJustAbove OID_LIMIT drawn × (OID_LIMIT < first.opening.first + total_of makes_of (ls ++ l ∷ []))
   oids_cause drawn full =
       let line = cut (stop.OidsFull drawn) full in
       let what = oids_at line.at l.session at.t drawn line.asked line.refused in
@@ -184,3 +177,36 @@ module _ (laws : Laws) (first : View) (ls : List ScriptLine) (said : List Said) 
         let parts = length-append (roots ++ filled first.opening.rows) (all_made line.at) in
         let front = length-append roots (filled first.opening.rows) in
         omega (arith, most, what.4, parts, front, length_roots, length_filled first.opening.rows, length_all line.at, grown, line.few_makes, at.holds.mades, makes_next)
+
+    -- the own lines may read so many
+    pub own_cause : (u : Transaction) → (progress_of l.session said).current ≡ Some u → READ_LIMIT < may_read (with_line (Some l.command) a u)
+    own_cause u current =
+        let rs = (work_at line.at l.session).reads in
+        let old = (work_at at.v l.session).reads in
+        let what = reads_at line.at l.session at.t line.asked line.refused in
+        let counts = reads_line l.command a u in
+        elim (at.holds.seeks earlier l.session u at.did.session current) as (λ _. READ_LIMIT < may_read (with_line (Some l.command) a u)) [
+          | inr many ↦ omega (arith, many, counts)
+          | inl few ↦ elim line.kind as (λ _. READ_LIMIT < may_read (with_line (Some l.command) a u)) [
+            | inr walks ↦ omega (arith, walks, counts)
+            | inl seeks ↦
+                let looked = line.looked own_range seeks in
+                let ys = oids_read old ++ looked.looked.more in
+                let wanted : Has looked.looked.more what.0 = looked.asks what.0 what.1 in
+                let most : length rs + 1 ≤ length ys =
+                read_few rs what.0 ys (line.turned.own.now.apart (at.holds.apart l.session at.did.session)) what.3
+                (λ q has. elim (eqb_tells q what.0) as (λ _. Has ys q) [
+                  | inl here ↦ has_second (oids_read old) looked.looked.more q (subst (λ (x : ℕ). Has looked.looked.more x) (sym here.1) wanted)
+                  | inr there ↦
+                      let read = read_before rs q (sym (ap (λ (b : Bool). b || list_any (λ x. q == x) (oids_read rs)) there.0) ∙ has) in
+                      elim (looked.looked.reads q read) as (λ _. Has ys q) [
+                        | inl before ↦ has_first (oids_read old) looked.looked.more q (has_read old q before)
+                        | inr new ↦ has_second (oids_read old) looked.looked.more q new
+                      ]
+                ])
+                in
+                let parts = length-append (oids_read old) looked.looked.more in
+                let same = length-map old (λ (r : VersionRead). r.oid) in
+                omega (arith, most, what.4, parts, same, few, looked.looked.few, counts)
+          ]
+        ]

@@ -1,5 +1,5 @@
 -- A line that was answered: how its session has gone on.
-use Rattle.std.proofs.Common.{◌≡◌, ◌≢◌, ℕ, ◌+◌, ◌-◌, ◌<◌, ◌≤◌, true, false, List, [], ◌∷◌, length, is_some, refl, sym, ap, ◌∙◌, subst, inl, inr, arith}
+use Rattle.std.proofs.Common.{◌≡◌, ◌≢◌, ℕ, ◌+◌, ◌-◌, ◌<◌, ◌≤◌, ◌⊎◌, true, false, List, [], ◌∷◌, length, is_some, refl, sym, ap, ◌∙◌, subst, inl, inr, arith}
 use Rattle.std.proofs.lemmas.List.{length-append}
 use Rattle.erm_model.specs.declared.outcome.Phase.TheVariants.{Active}
 use Rattle.erm_model.specs.declared.row_stop.RowStop.{RowStop}
@@ -24,14 +24,16 @@ use Rattle.erm_maps.specs.Runs.{IsRunOf}
 use Rattle.erm_report.specs.declared.answer.Answer.{Answer}
 use Rattle.erm_script.specs.declared.script.Command.{Command}
 use Rattle.erm_script.specs.Script.{IsInRange}
-use Rattle.erm_good_report.specs.Refusals.{claims_of, makes_of}
-use Rattle.erm_lines.specs.Operations.{AsksOf, DidCalls, FrontOf, WereCutOff, WholeOf}
+use Rattle.erm_good_report.specs.Refusals.{claims_of, makes_of, reads_of}
+use Rattle.erm_lines.specs.Operations.{AsksOf, DidCalls, FrontOf, Ran, WereCutOff, WholeOf}
 use Rattle.erm_told_limits.proofs.Arrays.{HaveRowsBelow, Stood, stood}
 use Rattle.erm_told_limits.proofs.Bounds.{front_claims, front_counts, front_makes, counted_grows, whole_grows}
 use Rattle.erm_told_limits.proofs.Grown.{Grew, all_active, grew_nothing, no_writes, nothing_apart}
 use Rattle.erm_told_limits.proofs.Moved.{Turned, moved_on, moved_out, turned_nothing, turned_then, turned_within}
+use Rattle.erm_told_limits.proofs.Pigeons as pigeons
 use Rattle.erm_told_limits.proofs.Ran.{AreReading, MovesAll, Stays, ran, same_work}
 use Rattle.erm_told_limits.proofs.Reached.{Ways, asks_reached, front_reads, whole_reads}
+use Rattle.erm_told_limits.proofs.Sought.{SeeksKey, SeeksOrWalks, are_sought, asks_sought, front_kind, front_sought, whole_kind, whole_sought}
 
 -- an object that a line in range may read: the opening's rows reach it, or it was made
 abbrev pub Known : Command → View → ℕ → Type 0
@@ -111,6 +113,17 @@ later_of s t seat w stands (face.ends x u begins over then more) =
 still_session : (v t : View) (seat : ℕ) → t.opening ≡ v.opening → IsSession v seat → IsSession t seat
 still_session v t seat same session = subst (λ (o : world.Opening). (0 < seat) × (seat ≤ o.sessions)) (sym same) session
 
+-- A session's transaction has read no more than so many objects more.
+pub record Looked (most : ℕ) (v : View) (seat : ℕ) (t : View) : Type 0 where
+  pub more : List ℕ
+  pub few : length more ≤ most
+  pub reads : (x : ℕ) → is_some (row_read (work_at t seat).reads x) ≡ true → (is_some (row_read (work_at v seat).reads x) ≡ true) ⊎ pigeons.Has more x
+
+-- and what was asked then is one of them, if it was to read
+pub record LookedSo (most : ℕ) (v : View) (seat : ℕ) (t : View) (asked : Asked) : Type 0 where
+  pub looked : Looked most v seat t
+  pub asks : (oid : ℕ) → asked ≡ asked_read oid → pigeons.Has looked.more oid
+
 -- a line that was cut off
 pub record Cut (P : ℕ → Type 0) (c : Command) (v : View) (seat : ℕ) (why : RowStop) (t : View) : Type 0 where
   pub events : List Event
@@ -124,19 +137,40 @@ pub record Cut (P : ℕ → Type 0) (c : Command) (v : View) (seat : ℕ) (why :
   pub less_claims : (oid : ℕ) → asked ≡ asked_claim oid → count_claims events + 1 ≤ claims_of c
   pub less_makes : asked ≡ asked_make → count_makes events + 1 ≤ makes_of c
   pub known : (oid : ℕ) → asked ≡ asked_read oid → P oid
+  pub kind : SeeksOrWalks c
+  pub looked : IsInRange c → SeeksKey c → LookedSo (reads_of c) v seat at asked
 
 module _ (rows_below : HaveRowsBelow) (ways : Ways) (c : Command) (v : View) (seat : ℕ) (t : View) (session : IsSession v seat) (holds : IsSerializable sound_law t) (active : phase_at v seat ≡ Active) (has_run : HasRun v seat) where
+  -- the array on which an answered line's calls ran
+  whole_stood : (events : List Event) → Ran v seat events t → Stood t events
+  whole_stood events did =
+      let both = ran sound_law events v t seat active did in
+      let has : Has t seat (work_at t seat) = inr (subst (λ (at : Stand). IsCurrent at (work_at t seat)) (sym both.0.stand) refl) in
+      stood rows_below t holds seat (work_at t seat) (still_session v t seat both.0.opening session) has (work_at v seat) (work_at t seat) events has_run.1.lawful both.1 (same_work (work_at t seat))
+
   -- an answered line
   pub whole_turned : (a : Answer) (steps : List Step) → DidCalls v seat steps (WholeOf c a) t → Turned (Known c t) (makes_of c) (claims_of c) 0 v seat t
   whole_turned a steps did =
       let both = ran sound_law did.events v t seat active did.ran in
-      let has : Has t seat (work_at t seat) = inr (subst (λ (at : Stand). IsCurrent at (work_at t seat)) (sym both.0.stand) refl) in
-      let on : Stood t did.events =
-      stood rows_below t holds seat (work_at t seat) (still_session v t seat both.0.opening session) has (work_at v seat) (work_at t seat) did.events has_run.1.lawful both.1 (same_work (work_at t seat))
-      in
+      let on = whole_stood did.events did.ran in
       let kind : WholeOf c a on.array did.events = (did.of on.array on.sound on.agrees).0 in
       stays_turned (Known c t) v seat t did.events (makes_of c) (claims_of c) both.0 both.1 (whole_grows v seat t active c a on.array did.events kind did.ran)
       (λ x by range. let some = whole_reads ways c a on.array did.events range kind x by in let most = on.reach x in omega (arith, some, most))
+
+  -- what it read, if it seeks one key
+  pub whole_looked : (a : Answer) (steps : List Step) → DidCalls v seat steps (WholeOf c a) t → SeeksOrWalks c × (IsInRange c → SeeksKey c → Looked (reads_of c) v seat t)
+  whole_looked a steps did =
+      let moves = (ran sound_law did.events v t seat active did.ran).1 in
+      let on = whole_stood did.events did.ran in
+      let kind : WholeOf c a on.array did.events = (did.of on.array on.sound on.agrees).0 in (
+        whole_kind c a on.array did.events kind,
+        λ range seeks.
+            let some = are_sought c on.array on.sound range seeks in record {
+              more = some.all;
+              few = some.few;
+              reads = λ x read. elim (moves.reads x read) [ inl before ↦ inl before | inr new ↦ inr (some.has x (whole_sought c a on.array did.events seeks kind x new)) ];
+            },
+      )
 
   -- one that was cut off
   pub cut_of : (why : RowStop) → WereCutOff v seat (FrontOf c) (AsksOf c) why t → Cut (Known c t) c v seat why t
@@ -164,6 +198,16 @@ module _ (rows_below : HaveRowsBelow) (ways : Ways) (c : Command) (v : View) (se
         few_claims = counts.1;
         less_claims = λ oid is. front_claims c on.array cut.events oid front (subst (AsksOf c cut.events on.array) is asks);
         less_makes = λ is. front_makes c on.array cut.events front (subst (AsksOf c cut.events on.array) is asks);
+        kind = front_kind c on.array cut.events front;
+        looked = λ range seeks.
+            let some = are_sought c on.array on.sound range seeks in record {
+              looked = record {
+                more = some.all;
+                few = some.few;
+                reads = λ x read. elim (both.1.reads x read) [ inl before ↦ inl before | inr new ↦ inr (some.has x (front_sought c on.array cut.events seeks front x new)) ];
+              };
+              asks = λ oid is. some.has oid (asks_sought c on.array cut.events oid seeks (subst (AsksOf c cut.events on.array) is asks));
+            };
         known = λ oid is range. let some = asks_reached ways c on.array cut.events oid range (subst (AsksOf c cut.events on.array) is asks) in let most = on.reach oid in omega (arith, some, most);
       }
 
@@ -221,3 +265,14 @@ cut_turned P c v seat why t cut =
   where
     rest_of : (a b : ℕ) → a ≤ b → (n : ℕ) × (a + n ≡ b)
     rest_of a b less = (b - a, omega (arith, less))
+
+-- and what it read, if it seeks one key
+pub cut_looked : (P : ℕ → Type 0) (c : Command) (v : View) (seat : ℕ) (why : RowStop) (t : View) → Cut P c v seat why t → IsInRange c → SeeksKey c → Looked (reads_of c) v seat t
+cut_looked P c v seat why t cut range seeks =
+    let looked = (cut.looked range seeks).looked in
+    let end = ends_so (λ x. ⊥) seat cut.at t cut.asked why 1 (λ oid is. omega arith) cut.refused in
+    record {
+      more = looked.more;
+      few = looked.few;
+      reads = λ x read. elim (end.turned.own.reads x read) [ inl before ↦ looked.reads x before | inr never ↦ absurd never ];
+    }

@@ -1,5 +1,5 @@
 -- Objects that differ are no more than a list that has each of them.
-use Rattle.std.proofs.Common.{◌≡◌, ℕ, zero, suc, ◌+◌, ◌<◌, ◌≤◌, ◌⊎◌, ◌||◌, ◌==◌, Bool, true, false, cond, not, List, [], ◌∷◌, ◌++◌, map, Option, Some, None, length, replicate, filter, eq-eqb, eqb, refl, sym, ap, ◌∙◌, subst, inl, inr, arith}
+use Rattle.std.proofs.Common.{◌≡◌, ℕ, zero, suc, ◌+◌, ◌<◌, ◌≤◌, ◌⊎◌, ◌||◌, ◌==◌, Bool, true, false, cond, not, List, [], ◌∷◌, ◌++◌, map, Option, Some, None, is_some, length, replicate, filter, eq-eqb, eqb, refl, sym, ap, ◌∙◌, subst, inl, inr, arith}
 use Rattle.std.specs.Cmp.Lexicographic.{same_text}
 use Rattle.std.specs.List.{AllByRecursion, IsDistinct, list_any, range_with_len}
 use Rattle.std.proofs.lemmas.Bool.{cases_lt}
@@ -26,11 +26,11 @@ use Rattle.erm_told_limits.proofs.Grown.{Apart}
 abbrev pub Has : List ℕ → ℕ → Type 0
 Has xs q = list_any (λ x. q == x) xs ≡ true
 
-or_left : (a b : Bool) → a ≡ true → (a || b) ≡ true
+pub or_left : (a b : Bool) → a ≡ true → (a || b) ≡ true
 or_left true b e = refl
 or_left false b e = cc
 
-or_right : (a b : Bool) → b ≡ true → (a || b) ≡ true
+pub or_right : (a b : Bool) → b ≡ true → (a || b) ≡ true
 or_right true b e = refl
 or_right false b e = e
 
@@ -99,6 +99,35 @@ distinct_reads : (rs : List VersionRead) → Apart rs → IsDistinct eqb (oids_r
 unfolding Apart
 distinct_reads [] apart = IsDistinct-from_AllPairs Decides-eqb [] (λ i j d less within. absurd (omega (arith, within)))
 distinct_reads (r ∷ rs) apart = IsDistinct-cons eqb r.oid (oids_read rs) (unread_none rs r.oid apart.0) (distinct_reads rs apart.1)
+
+-- one was read where it stands among them
+read_step : (r : VersionRead) (rs : List VersionRead) (q : ℕ) (b : Bool) → (r.oid == q) ≡ b → Has (oids_read (r ∷ rs)) q → (Has (oids_read rs) q → is_some (row_read rs q) ≡ true) → is_some (cond b (Some r.row) (row_read rs q)) ≡ true
+read_step r rs q true e has later = refl
+read_step r rs q false e has later = later (sym (ap (λ (here : Bool). here || list_any (λ x. q == x) (oids_read rs)) (turned_same q r.oid ∙ e)) ∙ has)
+
+pub read_before : (rs : List VersionRead) (q : ℕ) → Has (oids_read rs) q → is_some (row_read rs q) ≡ true
+read_before [] q has = cc
+read_before (r ∷ rs) q has = read_step r rs q (r.oid == q) refl has (λ later. read_before rs q later)
+
+has_step : (r : VersionRead) (rs : List VersionRead) (q : ℕ) (b : Bool) → (r.oid == q) ≡ b → is_some (cond b (Some r.row) (row_read rs q)) ≡ true → (is_some (row_read rs q) ≡ true → Has (oids_read rs) q) → Has (oids_read (r ∷ rs)) q
+has_step r rs q true e read later = or_left (q == r.oid) _ (turned_same q r.oid ∙ e)
+has_step r rs q false e read later = or_right (q == r.oid) _ (later read)
+
+pub has_read : (rs : List VersionRead) (q : ℕ) → is_some (row_read rs q) ≡ true → Has (oids_read rs) q
+has_read [] q read = cc
+has_read (r ∷ rs) q read = has_step r rs q (r.oid == q) refl read (λ later. has_read rs q later)
+
+-- Objects read, each of which was read before or stands in a list, are no more than those and the list.
+pub reads_grow : (rs old : List VersionRead) (more : List ℕ) → Apart rs → ((q : ℕ) → is_some (row_read rs q) ≡ true → (is_some (row_read old q) ≡ true) ⊎ Has more q) → length rs ≤ length old + length more
+reads_grow rs old more apart all =
+    let ys = oids_read old ++ more in
+    let most = length-le_from_is_member nat_eq_equiv (oids_read rs) ys (distinct_reads rs apart)
+    (λ q has. elim (all q (read_before rs q has)) as (λ _. Has ys q) [
+      | inl before ↦ has_first (oids_read old) more q (has_read old q before)
+      | inr new ↦ has_second (oids_read old) more q new
+    ])
+    in
+    omega (arith, most, length-append (oids_read old) more, length-map rs (λ (r : VersionRead). r.oid), length-map old (λ (r : VersionRead). r.oid))
 
 -- objects read, and one that was not, are no more than a list that has them all
 pub read_few : (rs : List VersionRead) (oid : ℕ) (ys : List ℕ) → Apart rs → row_read rs oid ≡ None → ((q : ℕ) → Has (oid ∷ oids_read rs) q → Has ys q) → length rs + 1 ≤ length ys

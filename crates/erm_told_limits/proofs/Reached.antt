@@ -42,7 +42,7 @@ unfolding reached
 reached_all rows table x less some = omega (arith, reached_among rows TABLES table x less, some)
 
 -- reads of some objects
-reads_are : (P : ℕ → Type 0) (events : List Event) → ReadsAre P events → (x : ℕ) → AreReading events x → P x
+pub reads_are : (P : ℕ → Type 0) (events : List Event) → ReadsAre P events → (x : ℕ) → AreReading events x → P x
 reads_are P [] of x by = absurd by
 reads_are P (did_read oid row ∷ events) of x by = elim by as (λ _. P x) [ inl here ↦ subst P (sym here) of.0 | inr later ↦ reads_are P events of.1 x later ]
 reads_are P (did_claim oid ∷ events) of x by = reads_are P events of x by
@@ -87,17 +87,17 @@ then_reads P others events is x none by =
       | inr second ↦ absurd (none second)
     ]
 
-put_reads : (rows : Rows) (table key : ℕ) (row : List ℕ) (events : List Event) (found : Option ℕ)
+pub put_reads : (rows : Rows) (table key : ℕ) (row : List ℕ) (events : List Event) (found : Option ℕ)
     → MatchOption found (IsPutOfNew rows table key row events) (λ oid. AreReadsThen (IsOnWay table key rows) (did_write oid row ∷ []) events) → (x : ℕ) → AreReading events x → IsOnWay table key rows x
 put_reads rows table key row events None put x by = then_reads (IsOnWay table key rows) _ events put.then_all x (change_reads_nothing put.made _ x) by
 put_reads rows table key row events (Some oid) put x by = then_reads (IsOnWay table key rows) (did_write oid row ∷ []) events put x (λ none. none) by
 
-del_reads : (rows : Rows) (table key : ℕ) (row : List ℕ) (events : List Event) (found : Option ℕ)
+pub del_reads : (rows : Rows) (table key : ℕ) (row : List ℕ) (events : List Event) (found : Option ℕ)
     → MatchOption found (AreReadsThen (IsOnWay table key rows) [] events) (λ oid. AreReadsThen (IsOnWay table key rows) (did_write oid row ∷ []) events) → (x : ℕ) → AreReading events x → IsOnWay table key rows x
 del_reads rows table key row events None del x by = then_reads (IsOnWay table key rows) [] events del x (λ none. none) by
 del_reads rows table key row events (Some oid) del x by = then_reads (IsOnWay table key rows) (did_write oid row ∷ []) events del x (λ none. none) by
 
-tidy_reads : (rows : Rows) (table key : ℕ) (events : List Event) (found : Option ℕ)
+pub tidy_reads : (rows : Rows) (table key : ℕ) (events : List Event) (found : Option ℕ)
     → MatchOption found (AreReadsThen (IsOnWay table key rows) [] events) (λ oid. AreReadsThen (IsOnWay table key rows) (did_claim oid ∷ []) events) → (x : ℕ) → AreReading events x → IsOnWay table key rows x
 tidy_reads rows table key events None tidy x by = then_reads (IsOnWay table key rows) [] events tidy x (λ none. none) by
 tidy_reads rows table key events (Some oid) tidy x by = then_reads (IsOnWay table key rows) (did_claim oid ∷ []) events tidy x (λ none. none) by

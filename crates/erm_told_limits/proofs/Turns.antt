@@ -42,7 +42,7 @@ wanted Active Sealed e = absurd (cc)
 wanted Sealed Idle e = absurd (cc)
 wanted Sealed Active e = absurd (cc)
 
-idle_stand : (stand : Stand) → phase_of stand ≡ Idle → stand ≡ world.idle
+pub idle_stand : (stand : Stand) → phase_of stand ≡ Idle → stand ≡ world.idle
 idle_stand world.idle e = refl
 idle_stand (world.active w) e = absurd (cc)
 idle_stand (world.sealed w stamp) e = absurd (cc)
@@ -55,7 +55,7 @@ module _ (P : ℕ → Type 0) (v : View) (seat : ℕ) (t : View) where
   settled w stamp fate stands done = done_as_was P v seat t w fate (sym (ap work_of stands)) done
 
   -- a sealed one was decided, or waits
-  decided : (a : Answer) → DidDecide v seat a t → Turned P 0 0 1 v seat t
+  pub decided : (a : Answer) → DidDecide v seat a t → Turned P 0 0 1 v seat t
   decided (answer.Committed stamp succ pred) did =
       let settle = did.4 in settled settle.0 settle.1 (world.commits settle.1 did.0.succ did.0.pred) settle.2 settle.4.0
   decided (answer.Excluded stamp succ pred) did = settled did.0 did.1 (world.excluded did.1 succ pred) did.2 did.4.0
@@ -63,7 +63,7 @@ module _ (P : ℕ → Type 0) (v : View) (seat : ℕ) (t : View) where
   decided (answer.WaitRing flushed) did = within_one 0 0 0 (omega arith) (turned_nothing P v seat t did.0)
   decided a did = absurd did
 
-  sealed : (stamp : ℕ) → DidSeal v seat stamp t → Turned P 0 0 0 v seat t
+  pub sealed : (stamp : ℕ) → DidSeal v seat stamp t → Turned P 0 0 0 v seat t
   sealed stamp did = same_turned P v seat t (ap (λ (s : Session). s.over) did.own) (ap (λ (s : Session). work_of s.stand) did.own) did.others did.opening
 
 module _ (rows_below : HaveRowsBelow) (ways : Ways) (v : View) (seat : ℕ) (t : View) (session : IsSession v seat) (holds : IsSerializable sound_law t) where

@@ -1,7 +1,7 @@
 -- What a report owes of the limits, as statements on runs of scripts.
-use Rattle.std.specs.Prelude.{◌≡◌, ℕ, ◌≤◌, min, List, length, sum_by, Some}
+use Rattle.std.specs.Prelude.{◌≡◌, ℕ, ◌+◌, ◌<◌, ◌≤◌, min, List, length, sum_by, Some}
 use Rattle.std.specs.List.{slice_get}
-use Rattle.erm_model.specs.declared.limits.TheConstants.{WRITE_LIMIT}
+use Rattle.erm_model.specs.declared.limits.TheConstants.{OID_LIMIT, WRITE_LIMIT}
 use Rattle.erm_model.specs.Member.{◌∈◌}
 use Rattle.erm_report.specs.declared.answer.Answer.{Answer}
 use Rattle.erm_report.specs.declared.answer.Answer.TheVariants as answer
@@ -9,7 +9,7 @@ use Rattle.erm_script.specs.declared.script.ScriptLine.{ScriptLine}
 use Rattle.erm_script.specs.Script.{IsInRange}
 use Rattle.erm_world.specs.World.{IsSession, View, work_at}
 use Rattle.erm_good_report.specs.Opening.{Opening, InTurn}
-use Rattle.erm_good_report.specs.Refusals.{HasLogCause, HasRefusalCause, IsOwn, Moment, claims_of, moment_at}
+use Rattle.erm_good_report.specs.Refusals.{HasLogCause, HasRefusalCause, IsInReach, IsOwn, Moment, claims_of, moment_at, total_of}
 use Rattle.erm_good_report.specs.Transactions.{Transaction, progress_of, said_of}
 use Rattle.erm_lines.specs.Executions.{IsCourse, IsExecution, IsOpened, IsOpeningOf, line_moves}
 
@@ -34,6 +34,12 @@ IsFull a = ⊥
 abbrev pub FullHasCause : Type 0
 FullHasCause = OfLines IsFull (λ m l a. (t : Transaction) → IsOwn m l.command a t → HasRefusalCause m l.command t a)
 
+-- Where an answer of a run so far tells that cells are full, all of its world's were drawn, and the script's lines may claim as many as they are
+-- beside those of the objects.
+abbrev pub CellsAreFull : Type 0
+CellsAreFull = (v t : View) (script : List ScriptLine) (answers : List Answer) → IsCourse v script answers t → (drawn : ℕ) → answer.CellsFull drawn ∈ answers
+    → (v.opening.cells ≤ drawn) × (v.opening.cells < OID_LIMIT + total_of claims_of script)
+
 -- the answers that tell that the log is at its end, or a session's numbers
 abbrev pub IsEnd : Answer → Type 0
 IsEnd (answer.LogEnd tail) = Unit {0}
@@ -43,6 +49,10 @@ IsEnd a = ⊥
 -- each of these has its cause
 abbrev pub EndHasCause : Type 0
 EndHasCause = OfLines IsEnd (λ m l a. HasLogCause m a)
+
+-- the begin and the stamp that a line tells are no further on than the lines so far may have moved the log
+abbrev pub StampsAreInReach : Type 0
+StampsAreInReach = OfLines (λ a. Unit {0}) (λ m l a. IsInReach m l.command a)
 
 -- After some lines of an execution a session's transaction that isn't over has claimed few objects, and no more than its lines so far may.
 abbrev pub ClaimsAreFew : Type 0

@@ -2,7 +2,7 @@
 //! a function that does nothing.
 #![tactic(auto)]
 
-ghost use Rattle.erm_told_limits.specs.Limits.{ClaimsAreFew, EndHasCause, FullHasCause};
+ghost use Rattle.erm_told_limits.specs.Limits.{CellsAreFull, ClaimsAreFew, EndHasCause, FullHasCause, StampsAreInReach};
 
 /// Each answer to a line that had no room has its cause in the lines so far: reads in the objects that there may be, claims in the
 /// transaction's own lines, cells and objects in those of all sessions.
@@ -18,10 +18,34 @@ pub fn full_has_cause()
     erm_maps::begun_transactions_are_runs();
 }
 
+/// An answer that tells of cells counts those of the run's own world: all of them were drawn, and the script's lines may claim so many.
+pub fn cells_are_full()
+    ensures { CellsAreFull }
+{
+    erm_core_ssn::rows_run_serially();
+    erm_core_ssn::serial_order_is_unique();
+    erm_core_ssn::versions_are_unique();
+    erm_core_ssn::prefixes_stand_alone();
+    erm_tree::calls_stay_in_their_table();
+    erm_maps::begun_transactions_are_runs();
+}
+
 /// Each answer that tells of the end of the log, or of numbers, has its cause: the log's end is no further on than the lines so far may
 /// have moved it, and numbers are never at their end.
 pub fn end_has_cause()
     ensures { EndHasCause }
+{
+    erm_core_ssn::rows_run_serially();
+    erm_core_ssn::serial_order_is_unique();
+    erm_core_ssn::versions_are_unique();
+    erm_core_ssn::prefixes_stand_alone();
+    erm_tree::calls_stay_in_their_table();
+    erm_maps::begun_transactions_are_runs();
+}
+
+/// No line begins, or draws a stamp, further on than the lines so far may have moved the log: each of them that draws moves it by a block at most.
+pub fn stamps_are_in_reach()
+    ensures { StampsAreInReach }
 {
     erm_core_ssn::rows_run_serially();
     erm_core_ssn::serial_order_is_unique();

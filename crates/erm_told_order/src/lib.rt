@@ -3,6 +3,22 @@
 #![tactic(auto)]
 
 ghost use Rattle.erm_lines.specs.Laws.{PartsHaveSnapshots, RunsAreSerial, RunsHaveSnapshots};
+ghost use Rattle.erm_told_order.specs.Told.{ToldAreSerial, ToldHaveSnapshots};
+
+/// Where what was said tells a world, each transaction of it was answered as its operations are on the state below its begin stamp.
+pub fn told_worlds_have_snapshots()
+    ensures { ToldHaveSnapshots }
+{
+    erm_maps::histories_run_as_operations();
+}
+
+/// And its commits, run in the serial order, give their replies.
+pub fn told_worlds_are_serial()
+    ensures { ToldAreSerial }
+{
+    erm_core_ssn::serial_order_is_unique();
+    erm_maps::histories_run_as_operations();
+}
 
 /// Each transaction that a report tells was answered as its operations are on the state below its begin stamp.
 pub fn runs_have_snapshots()
@@ -10,7 +26,7 @@ pub fn runs_have_snapshots()
 {
     erm_told::executions_tell_sessions();
     erm_told::executions_go_on();
-    erm_maps::histories_run_as_operations();
+    told_worlds_have_snapshots();
 }
 
 /// The same of a run that was cut off, whose transactions may not be over.
@@ -19,7 +35,7 @@ pub fn parts_have_snapshots()
 {
     erm_told::executions_tell_sessions();
     erm_told::executions_go_on();
-    erm_maps::histories_run_as_operations();
+    told_worlds_have_snapshots();
 }
 
 /// Run in the serial order, the commits that a report tells give their replies.
@@ -28,6 +44,5 @@ pub fn runs_are_serial()
 {
     erm_told::executions_tell_sessions();
     erm_told::executions_go_on();
-    erm_core_ssn::serial_order_is_unique();
-    erm_maps::histories_run_as_operations();
+    told_worlds_are_serial();
 }

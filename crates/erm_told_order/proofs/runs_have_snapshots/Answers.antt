@@ -7,4 +7,4 @@ use Rattle.erm_told_order.proofs.runs_have_snapshots.Goals as goal
 
 pub returns : goal.returns
 returns c = of_runs (λ opening script answers closed told. (t : Transaction) → t ∈ told → HasSnapshotReplies (history_of told) opening.map t.begin (steps_of t))
-    (snapshots c.executions_tell_sessions.ensures c.executions_go_on.ensures c.histories_run_as_operations.ensures.snapshots)
+    (snapshots c.executions_tell_sessions.ensures c.executions_go_on.ensures c.told_worlds_have_snapshots.ensures)

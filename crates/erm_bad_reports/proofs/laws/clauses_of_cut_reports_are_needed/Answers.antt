@@ -1,4 +1,4 @@
-use Rattle.erm_bad_reports.proofs.OfCutReports.{fault_breaks, fitting_breaks, log_breaks, once_breaks, owing_breaks, unseen_breaks}
+use Rattle.erm_bad_reports.proofs.OfCutReports.{fault_breaks, fitting_breaks, log_breaks, once_breaks, owing_breaks, unfilled_breaks, unseen_breaks}
 use Rattle.erm_bad_reports.proofs.laws.clauses_of_cut_reports_are_needed.Goals as goal
 
 pub returns-clause-fault : goal.returns-clause-fault
@@ -18,3 +18,6 @@ returns-clause-once c = once_breaks
 
 pub returns-clause-unseen : goal.returns-clause-unseen
 returns-clause-unseen c = unseen_breaks
+
+pub returns-clause-unfilled : goal.returns-clause-unfilled
+returns-clause-unfilled c = unfilled_breaks

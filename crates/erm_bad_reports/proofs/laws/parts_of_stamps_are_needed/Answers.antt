@@ -1,6 +1,7 @@
 use Rattle.erm_bad_reports.proofs.OfFlushed.{flushes_alone, flushes_first_alone}
-use Rattle.erm_bad_reports.proofs.OfStampParts.{ascends_alone, begins_alone, begun_alone, draws_alone, least_alone, sealed_alone}
+use Rattle.erm_bad_reports.proofs.OfStampParts.{ascends_alone, begins_alone, draws_alone, fall_alone, least_alone, sealed_alone, stops_alone}
 use Rattle.erm_bad_reports.proofs.OfStampsOfTwo.{differ_alone}
+use Rattle.erm_bad_reports.proofs.OfUntold.{begun_alone, untold_after_alone, untold_before_alone}
 use Rattle.erm_bad_reports.proofs.laws.parts_of_stamps_are_needed.Goals as goal
 
 pub returns-clause-least : goal.returns-clause-least
@@ -29,3 +30,15 @@ returns-clause-flushes_first c = flushes_first_alone
 
 pub returns-clause-differ : goal.returns-clause-differ
 returns-clause-differ c = differ_alone
+
+pub returns-clause-begins_ascend : goal.returns-clause-begins_ascend
+returns-clause-begins_ascend c = fall_alone
+
+pub returns-clause-stops : goal.returns-clause-stops
+returns-clause-stops c = stops_alone
+
+pub returns-clause-untold_after : goal.returns-clause-untold_after
+returns-clause-untold_after c = untold_after_alone
+
+pub returns-clause-untold_before : goal.returns-clause-untold_before
+returns-clause-untold_before c = untold_before_alone
