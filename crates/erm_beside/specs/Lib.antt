@@ -1,0 +1,6 @@
+pub mod Calls
+pub mod Ends
+pub mod Face
+pub mod Later
+pub mod Laws
+pub mod Onward

@@ -1,0 +1,22 @@
+-- What the answers of executions at once owe of their causes: the laws, as statements.
+use Rattle.std.specs.Prelude.{◌≡◌, ℕ, List, Some}
+use Rattle.std.specs.List.{slice_get}
+use Rattle.erm_report.specs.declared.answer.Answer.{Answer}
+use Rattle.erm_script.specs.declared.script.ScriptLine.{ScriptLine}
+use Rattle.erm_good_report.specs.Opening.{AtOnce, Opening}
+use Rattle.erm_good_report.specs.Refusals.{HasLogCause, HasUnfilledCause, IsInReach, moment_at}
+use Rattle.erm_good_report.specs.Transactions.{Transaction}
+use Rattle.erm_lines_at_once.specs.Laws.{OfRunsAtOnce}
+
+-- each answer that needs no transaction has its cause: of the log's end, of a session's last commit, and of where the log is flushed
+abbrev pub TellsLog : Opening → List ScriptLine → List Answer → List Transaction → Type 0
+TellsLog opening script answers told = (i : ℕ) (l : ScriptLine) (a : Answer) → slice_get script i ≡ Some l → slice_get answers i ≡ Some a
+    → HasLogCause (moment_at AtOnce opening script answers told i l) a × HasUnfilledCause (moment_at AtOnce opening script answers told i l) l.command a
+
+abbrev pub RunsAtOnceTellLog : Type 0
+RunsAtOnceTellLog = OfRunsAtOnce (λ opening script answers closed told. TellsLog opening script answers told)
+
+-- no begin that a line tells, and no stamp that it draws, is further on than the script's lines may have moved the log
+abbrev pub RunsAtOnceAreInReach : Type 0
+RunsAtOnceAreInReach = OfRunsAtOnce (λ opening script answers closed told. (i : ℕ) (l : ScriptLine) (a : Answer) → slice_get script i ≡ Some l → slice_get answers i ≡ Some a
+    → IsInReach (moment_at AtOnce opening script answers told i l) l.command a)

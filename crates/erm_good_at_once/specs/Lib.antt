@@ -1,0 +1,4 @@
+pub mod Cases
+pub mod CutReports
+pub mod GoodAtOnce
+pub mod Rising

@@ -1,0 +1,14 @@
+//! Laws of the definitions. Each holds as it stands, and its function does nothing.
+ghost use Rattle.erm_good_at_once.specs.Cases.{BegunAtOneMet, BegunBelowItsOwner, GapIsAllowed};
+
+/// What was met says more than the good report's clause on begins and the stamps printed: of two small reports the one begins at the stamp of a commit that closed
+/// its window, and the other below the begin of a transaction that kept it out; of the stamps that answers print both agree.
+pub fn clauses_at_once_are_needed()
+    ensures met { BegunAtOneMet }
+    ensures named { BegunBelowItsOwner }
+{}
+
+/// A report whose lines have a gap may be one of sessions at once that were cut off, and isn't one of lines in turn.
+pub fn gaps_are_allowed()
+    ensures { GapIsAllowed }
+{}

@@ -1,0 +1,7 @@
+//! What a report owes beside the good report where sessions run at once: what a session met of others lies below its later begins; and
+//! the report of sessions that the disk's fault cut off, each behind a line of its own.
+#![tactic(auto)]
+
+mod laws;
+
+pub use laws::{clauses_at_once_are_needed, gaps_are_allowed};

@@ -1,0 +1,4 @@
+pub mod Alone
+pub mod Bridged
+pub mod Opened
+pub mod Receipts

@@ -1,0 +1,5 @@
+pub mod Answers
+pub mod Ends
+pub mod Executions
+pub mod Laws
+pub mod Operations

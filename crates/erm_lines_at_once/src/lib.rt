@@ -1,0 +1,11 @@
+//! The lines of a script whose sessions run at once: what an answer says of the session's own part, and of the world in which all end; what an
+//! execution is; and what a line calls, each in one try.
+#![tactic(auto)]
+
+mod calls;
+mod laws;
+mod operations;
+
+pub use calls::{abort, begin, decide, seal, try_durable};
+pub use laws::empty_scripts_run_at_once;
+pub use operations::{del, get, next, put, scan, tidy};

@@ -1,0 +1,17 @@
+-- A world after calls of its sessions: in which worlds its sessions may end.
+use Rattle.std.specs.Prelude.{◌≡◌, ℕ, ◌≤◌}
+use Rattle.erm_model.specs.RowTransaction.{Law}
+use Rattle.erm_world.specs.Laws.{IsSerializable}
+use Rattle.erm_world.specs.World.{IsSession, View}
+use Rattle.erm_beside.specs.Later.{IsLater}
+
+-- the world was opened so, its log has come as far at least, and each session is in a later state
+pub record IsLaterWorld (v f : View) : Type 0 where
+  pub opening : f.opening ≡ v.opening
+  pub tail : v.tail ≤ f.tail
+  pub flushed : v.flushed ≤ f.flushed
+  pub session : (q : ℕ) → IsLater (v.session q) (f.session q)
+
+-- as far as a session of this seat knows, all may end in a later state of its world, whose transactions are serializable
+abbrev pub EndsIn : Law → View → ℕ → View → Type 0
+EndsIn law v seat f = IsSession v seat × IsLaterWorld v f × IsSerializable law f

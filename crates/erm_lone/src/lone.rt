@@ -1,0 +1,82 @@
+//! A session of a world that nobody else calls meanwhile.
+ghost use Rattle.erm_world.specs.World.{IsSession};
+ghost use Rattle.erm_lone.specs.Later.{EndsIn};
+ghost use Rattle.erm_lone.specs.Within.{ends_itself, is_sound, is_within};
+
+use erm_beside::SharedSession;
+use erm_model::{Oid, Outcome, Phase, Receipt, Row, RowStop, Seat, Stamp};
+use erm_world::{BeginStop, NotFlushed, RowWorld, Wait};
+
+/// A world and the seat of one of its sessions. It shares nothing besides, so that the others may go on between its calls only where the world
+/// is handed to them.
+#[derive(Drop)]
+pub struct LoneSession<'a, W> {
+    pub world: &'a mut W,
+    pub seat: Seat,
+}
+
+impl<'a, W: RowWorld> SharedSession for LoneSession<'a, W> {
+    type Shared = ();
+
+    ghost law = { W.law };
+
+    ghost own = { λ s. W.view s.world.now };
+
+    ghost seat = { λ s. s.seat };
+
+    ghost stands = { λ shared s. W.stands s.world.now × IsSession (W.view s.world.now) s.seat };
+
+    ghost ends = { λ s f. EndsIn W.law (W.view s.world.now) s.seat f };
+
+    fn begin(&mut self, _shared: &()) -> Result<Stamp, BeginStop> {
+        self.world.begin(self.seat)
+    }
+
+    fn phase(&self, _shared: &()) -> Phase {
+        self.world.phase(self.seat)
+    }
+
+    fn read(&mut self, _shared: &(), oid: Oid) -> Result<Row, RowStop> {
+        self.world.read(self.seat, oid)
+    }
+
+    fn claim(&mut self, _shared: &(), oid: Oid) -> Result<(), RowStop> {
+        self.world.claim(self.seat, oid)
+    }
+
+    fn write(&mut self, _shared: &(), oid: Oid, row: &Row) -> Result<(), RowStop> {
+        self.world.write(self.seat, oid, row)
+    }
+
+    fn fresh(&mut self, _shared: &()) -> Result<Oid, RowStop> {
+        self.world.fresh(self.seat)
+    }
+
+    fn tidy(&mut self, _shared: &(), oid: Oid) -> Result<u32, RowStop> {
+        self.world.tidy(self.seat, oid)
+    }
+
+    fn seal(&mut self, _shared: &()) -> Stamp {
+        self.world.seal(self.seat)
+    }
+
+    fn settle(&mut self, _shared: &()) -> Result<Outcome, Wait> {
+        self.world.settle(self.seat)
+    }
+
+    fn durable(&mut self, _shared: &(), receipt: &Receipt) -> Result<(), NotFlushed> {
+        self.world.durable(self.seat, receipt)
+    }
+
+    fn abort(&mut self, _shared: &()) {
+        self.world.abort(self.seat)
+    }
+
+    ghost sound = { λ shared s standing. is_sound W.law (W.view s.world.now) s.seat standing.1 (W.serializable s.world.now standing.0) (W.possible s.world.now standing.0) };
+
+    ghost within = { λ s f end. is_within W.law (W.view s.world.now) s.seat f end };
+
+    ghost some = { λ shared s standing. (W.view s.world.now, ends_itself W.law (W.view s.world.now) s.seat standing.1 (W.serializable s.world.now standing.0)) };
+
+    ghost lasting = { λ s f end. end.2 };
+}

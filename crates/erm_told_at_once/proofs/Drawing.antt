@@ -1,0 +1,499 @@
+-- The stamps that an own line tells lie between the ends of the log that the session knows before and after it, and what it met of others below the
+-- latter.
+use Rattle.std.proofs.Common.{◌≡◌, ◌⊎◌, ℕ, zero, suc, ◌+◌, ◌<◌, ◌≤◌, Bool, true, false, cond, List, [], ◌∷◌, ◌++◌, Option, Some, None, refl, sym, ap, ◌∙◌, subst, inl, inr, ⊎_elim, arith, le_trans}
+use Rattle.erm_model.specs.declared.limits.TheConstants.{LEAST_BLOCK}
+use Rattle.erm_model.specs.declared.outcome.Phase.{Phase}
+use Rattle.erm_model.specs.declared.outcome.Phase.TheVariants.{Idle, Active, Sealed}
+use Rattle.erm_model.specs.declared.row_stop.RowStop.{RowStop}
+use Rattle.erm_model.specs.declared.row_stop.RowStop.TheVariants as stop
+use Rattle.erm_model.specs.Member.{◌∈◌}
+use Rattle.erm_model.specs.RowTransaction.{Asked, Event, asked_claim, asked_make, asked_read}
+use Rattle.erm_model.specs.Rows.{Rows}
+use Rattle.erm_model.specs.Run.{Step}
+use Rattle.erm_model.proofs.Members.{∈-push}
+use Rattle.erm_machine.proofs.Listed.{∈-head, ∈-second}
+use Rattle.erm_report.specs.declared.answer.Answer.{Answer}
+use Rattle.erm_report.specs.declared.answer.Answer.TheVariants as answer
+use Rattle.erm_script.specs.declared.script.Command.{Command}
+use Rattle.erm_script.specs.declared.script.Command.TheVariants as command
+use Rattle.erm_script.specs.declared.script.ScriptLine.{ScriptLine}
+use Rattle.erm_world.specs.Calls.{DidSeal, IsDone}
+use Rattle.erm_world.specs.Face.{Grows, ends, same, works}
+use Rattle.erm_world.specs.Onward.{grows_then}
+use Rattle.erm_world.specs.World.{Fate, Finished, Has, IsSession, Session, Stand, View, Work, phase_at, phase_of, size_of, stamp_of, work_at}
+use Rattle.erm_world.specs.World as world
+use Rattle.erm_good_report.specs.Phases.{FitsRefusal, asks_commit, phase_asked, refusal_in, refusal_of}
+use Rattle.erm_good_report.specs.Stamps.{IsWait, begin_told, place_told, stamp_drawn, stamp_printed, stamp_told}
+use Rattle.erm_good_at_once.specs.Rising.{stamp_met}
+use Rattle.erm_lines.specs.Answers.{IsLastCommit}
+use Rattle.erm_lines.specs.Operations.{AsksOf, DidCalls, FrontOf, WholeOf}
+use Rattle.erm_beside.specs.Calls.{After, DidBeginBeside, Passes, RefusedBeside}
+use Rattle.erm_beside.specs.Ends.{MetBeside}
+use Rattle.erm_beside.proofs.Txns.{stopped_after}
+use Rattle.erm_told.proofs.Drawing.{no_number, stamp_at, the_number}
+use Rattle.erm_told.proofs.Lines.{phase_refuses}
+use Rattle.erm_told.proofs.Operations.{the_answer}
+use Rattle.erm_lines_at_once.specs.Answers.{DidAskedBeside, DidCommandBeside, DidCommitBeside, DidDecideBeside, DidLineBeside}
+use Rattle.erm_lines_at_once.specs.Operations.{Beside, DidOnce, DidOperationBeside, WasTried, WereCutBeside, told_at_once}
+use Rattle.erm_told_at_once.proofs.Operated.{Reached, holds_cut, reached}
+
+-- a session's transaction was sealed with this stamp
+abbrev pub HasDrawn : Session → ℕ → Type 0
+HasDrawn s stamp = ((f : Finished) × (f ∈ s.over) × (stamp_of f.fate ≡ Some stamp)) ⊎ ((w : Work) × (s.stand ≡ world.sealed w stamp))
+
+-- each such stamp lies below the end of the log that the session knows
+abbrev pub LieBelow : ℕ → View → Type 0
+LieBelow seat v = (stamp : ℕ) → HasDrawn (v.session seat) stamp → stamp < v.tail
+
+-- a transaction that has claimed what the line asked for
+pub record IsOwner (f : View) (other number place : ℕ) : Type 0 where
+  pub session : IsSession f other
+  pub work : Work
+  pub has : Has f other work
+  pub number_is : work.number ≡ number
+  pub begun : work.begin ≤ place
+
+-- the stamps that an answer tells, the place that it tells to be flushed, and what it met of others, beside the ends of the log before and after
+pub record DrawsBeside (f : View) (m n : ℕ) (asked : Option Command) (a : Answer) : Type 0 where
+  pub begin : (stamp : ℕ) → begin_told a ≡ Some stamp → (m ≤ stamp) × (stamp ≤ n)
+  pub printed : (stamp : ℕ) → stamp_printed a ≡ Some stamp → stamp < n
+  pub drawn : (stamp : ℕ) → stamp_drawn asked a ≡ Some stamp → (m ≤ stamp) × (stamp + LEAST_BLOCK ≤ n)
+  pub placed : (place : ℕ) → place_told a ≡ Some place → place ≤ n
+  pub met : (stamp : ℕ) → stamp_met a ≡ Some stamp → stamp < n
+  pub owned : (other number : ℕ) → a ≡ answer.Owned other number → IsOwner f other number n
+  pub waits : IsWait a → ⊥
+
+-- what tells no stamp draws none
+decided_none : (b : Bool) (o : Option ℕ) → o ≡ None → cond b o None ≡ None
+decided_none true o is = is
+decided_none false o is = refl
+
+drawn_none : (asked : Option Command) (a : Answer) → stamp_told a ≡ None → stamp_drawn asked a ≡ None
+drawn_none asked (answer.Sealed stamp) is = absurd (cc)
+drawn_none asked a is = decided_none (asks_commit asked) (stamp_told a) is
+
+-- it tells nothing, or what it met of others alone
+module _ (f : View) (m n : ℕ) (asked : Option Command) (a : Answer) where
+  meets : begin_told a ≡ None → stamp_told a ≡ None → place_told a ≡ None → (IsWait a → ⊥) → ((stamp : ℕ) → stamp_printed a ≡ Some stamp → stamp < n)
+      → ((stamp : ℕ) → stamp_met a ≡ Some stamp → stamp < n) → ((other number : ℕ) → a ≡ answer.Owned other number → IsOwner f other number n) → DrawsBeside f m n asked a
+  meets no_begin no_stamp no_place waits printed met owned = record {
+    begin = λ stamp is. no_number (begin_told a) stamp ((m ≤ stamp) × (stamp ≤ n)) no_begin is;
+    printed = printed;
+    drawn = λ stamp is. no_number (stamp_drawn asked a) stamp ((m ≤ stamp) × (stamp + LEAST_BLOCK ≤ n)) (drawn_none asked a no_stamp) is;
+    placed = λ place is. no_number (place_told a) place (place ≤ n) no_place is;
+    met = met;
+    owned = owned;
+    waits = waits;
+  }
+
+  silent : begin_told a ≡ None → stamp_told a ≡ None → place_told a ≡ None → (IsWait a → ⊥) → stamp_printed a ≡ None → stamp_met a ≡ None
+      → ((other number : ℕ) → a ≡ answer.Owned other number → ⊥) → DrawsBeside f m n asked a
+  silent no_begin no_stamp no_place waits no_print no_met no_owner =
+      meets no_begin no_stamp no_place waits (λ stamp is. no_number (stamp_printed a) stamp (stamp < n) no_print is) (λ stamp is. no_number (stamp_met a) stamp (stamp < n) no_met is)
+      (λ other number is. absurd (no_owner other number is))
+
+-- further ends
+pub wider : (f : View) (m n x y : ℕ) (asked : Option Command) (a : Answer) → x ≤ m → n ≤ y → DrawsBeside f m n asked a → DrawsBeside f x y asked a
+wider f m n x y asked a low high draws = record {
+  begin = λ stamp is. let r = draws.begin stamp is in (le_trans low r.0, le_trans r.1 high);
+  printed = λ stamp is. omega (arith, draws.printed stamp is, high);
+  drawn = λ stamp is. let r = draws.drawn stamp is in (le_trans low r.0, le_trans r.1 high);
+  placed = λ place is. le_trans (draws.placed place is) high;
+  met = λ stamp is. omega (arith, draws.met stamp is, high);
+  owned = λ other number is. let r = draws.owned other number is in record { session = r.session; work = r.work; has = r.has; number_is = r.number_is; begun = le_trans r.begun high };
+  waits = draws.waits;
+}
+
+phase_silent : (f : View) (m n : ℕ) (asked : Option Command) (a : Answer) → refusal_in a ≡ Some a → DrawsBeside f m n asked a
+phase_silent f m n asked answer.NotIdle is = silent f m n asked answer.NotIdle refl refl refl (λ none. none) refl refl (λ other number is. cc)
+phase_silent f m n asked answer.NoTransaction is = silent f m n asked answer.NoTransaction refl refl refl (λ none. none) refl refl (λ other number is. cc)
+phase_silent f m n asked answer.IsSealed is = silent f m n asked answer.IsSealed refl refl refl (λ none. none) refl refl (λ other number is. cc)
+phase_silent f m n asked answer.NotSealed is = silent f m n asked answer.NotSealed refl refl refl (λ none. none) refl refl (λ other number is. cc)
+phase_silent f m n asked a is = absurd (cc)
+
+-- WHAT WAS MET.
+owner_met : (f : View) (seat : ℕ) (asked : Asked) (other number : ℕ) (v t : View) → After seat (RefusedBeside seat asked (stop.Owned other number)) v t
+    → MetBeside f seat asked (stop.Owned other number) v t → IsOwner f other number t.tail
+owner_met f seat (asked_read oid) other number v t (u, passes, did) met = absurd did
+owner_met f seat (asked_claim oid) other number v t did met = record { session = met.session; work = met.work; has = met.has; number_is = met.number_is; begun = met.begun }
+owner_met f seat asked_make other number v t (u, passes, did) met = absurd did
+
+newer_met : (f : View) (seat : ℕ) (asked : Asked) (stamp : ℕ) (v t : View) → After seat (RefusedBeside seat asked (stop.Newer stamp)) v t
+    → MetBeside f seat asked (stop.Newer stamp) v t → stamp < t.tail
+newer_met f seat (asked_read oid) stamp v t (u, passes, did) met = absurd did
+newer_met f seat (asked_claim oid) stamp v t did met = met.1
+newer_met f seat asked_make stamp v t (u, passes, did) met = absurd did
+
+shut_met : (f : View) (seat : ℕ) (asked : Asked) (succ pred : ℕ) (v t : View) → After seat (RefusedBeside seat asked (stop.Excluded succ pred)) v t
+    → MetBeside f seat asked (stop.Excluded succ pred) v t → pred < t.tail
+shut_met f seat (asked_read oid) succ pred v t did met = met.0
+shut_met f seat (asked_claim oid) succ pred v t did met = met.0
+shut_met f seat asked_make succ pred v t (u, passes, did) met = absurd did
+
+one_owner : (a b c d : ℕ) → answer.Owned a b ≡ answer.Owned c d → (a ≡ c) × (b ≡ d)
+one_owner a b c d is = (cc, cc)
+
+module _ (f : View) (seat : ℕ) (c : Command) (v t : View) (m : ℕ) where
+  abbrev At : Answer → Type 0
+  At a = DrawsBeside f m t.tail (Some c) a
+
+  cut_draws : (a : Answer) (why : RowStop) → told_at_once why ≡ Some a → WereCutBeside f seat (FrontOf c) (AsksOf c) why v t → At a
+  cut_draws a (stop.NotYet other seen) told cut = cc
+  cut_draws a stop.ReadsFull told cut =
+      subst At (the_answer answer.ReadsFull a told) (silent f m t.tail (Some c) answer.ReadsFull refl refl refl (λ none. none) refl refl (λ other number is. cc))
+  cut_draws a (stop.Owned other number) told cut =
+      subst At (the_answer (answer.Owned other number) a told)
+      (meets f m t.tail (Some c) (answer.Owned other number) refl refl refl (λ none. none) (λ stamp is. cc) (λ stamp is. cc)
+      (λ x y is. let names = one_owner other number x y is in
+      subst (λ (q : ℕ). IsOwner f q y t.tail) names.0 (subst (λ (k : ℕ). IsOwner f other k t.tail) names.1 (owner_met f seat cut.asked other number cut.at t cut.refused cut.met))))
+  cut_draws a (stop.Newer stamp) told cut =
+      subst At (the_answer (answer.Newer stamp) a told)
+      (meets f m t.tail (Some c) (answer.Newer stamp) refl refl refl (λ none. none)
+      (λ other is. omega (arith, newer_met f seat cut.asked stamp cut.at t cut.refused cut.met, the_number stamp other is)) (λ other is. cc) (λ other number is. cc))
+  cut_draws a stop.WritesFull told cut =
+      subst At (the_answer answer.WritesFull a told) (silent f m t.tail (Some c) answer.WritesFull refl refl refl (λ none. none) refl refl (λ other number is. cc))
+  cut_draws a (stop.CellsFull drawn) told cut =
+      subst At (the_answer (answer.CellsFull drawn) a told) (silent f m t.tail (Some c) (answer.CellsFull drawn) refl refl refl (λ none. none) refl refl (λ other number is. cc))
+  cut_draws a (stop.OidsFull drawn) told cut =
+      subst At (the_answer (answer.OidsFull drawn) a told) (silent f m t.tail (Some c) (answer.OidsFull drawn) refl refl refl (λ none. none) refl refl (λ other number is. cc))
+  cut_draws a (stop.Excluded succ pred) told cut =
+      subst At (the_answer (answer.ExcludedEarly succ pred) a told)
+      (meets f m t.tail (Some c) (answer.ExcludedEarly succ pred) refl refl refl (λ none. none) (λ other is. cc)
+      (λ other is. omega (arith, shut_met f seat cut.asked succ pred cut.at t cut.refused cut.met, the_number pred other is)) (λ other number is. cc))
+  cut_draws a stop.Memory told cut = cc
+
+  cut_draws_as : (a : Answer) → (why : RowStop) × (told_at_once why ≡ Some a) × WereCutBeside f seat (FrontOf c) (AsksOf c) why v t → At a
+  cut_draws_as a (why, told, cut) = cut_draws a why told cut
+
+  once_draws : (a : Answer) → DidOnce f seat c a v t → At a
+  once_draws (answer.Replied r) did = silent f m t.tail (Some c) (answer.Replied r) refl refl refl (λ none. none) refl refl (λ other number is. cc)
+  once_draws (answer.Cut cells) did = silent f m t.tail (Some c) (answer.Cut cells) refl refl refl (λ none. none) refl refl (λ other number is. cc)
+  once_draws a did = cut_draws_as a did
+
+-- A SESSION'S STAMPS. By calls of its transaction it draws none.
+not_sealed : (stand : Stand) (w : Work) (stamp : ℕ) (P : Type 0) → phase_of stand ≡ Active → stand ≡ world.sealed w stamp → P
+not_sealed stand w stamp P active sealed = let at : Active ≡ Sealed = sym active ∙ ap phase_of sealed in absurd (cc)
+
+idle_not_sealed : (stand : Stand) (w : Work) (stamp : ℕ) (P : Type 0) → stand ≡ world.idle → stand ≡ world.sealed w stamp → P
+idle_not_sealed stand w stamp P idle sealed = let at : Idle ≡ Sealed = sym (ap phase_of idle) ∙ ap phase_of sealed in absurd (cc)
+
+-- one more is over, with no stamp, or with one that the session had
+over_more : (s : Session) (g : Finished) (over : List Finished) (stamp : ℕ) → over ≡ s.over ++ g ∷ [] → ((other : ℕ) → stamp_of g.fate ≡ Some other → HasDrawn s other)
+    → (f : Finished) → f ∈ over → stamp_of f.fate ≡ Some stamp → HasDrawn s stamp
+over_more s g over stamp is had f m stamped =
+    ⊎_elim (λ (before : f ∈ s.over). inl (f, before, stamped))
+    (λ (last : f ≡ g). had stamp (ap (λ (x : Finished). stamp_of x.fate) (sym last) ∙ stamped))
+    (∈-push s.over g f (subst (λ (fs : List Finished). f ∈ fs) is m))
+
+no_fate : (stamp : ℕ) (P : Type 0) → stamp_of world.aborts ≡ Some stamp → P
+no_fate stamp P is = no_number None stamp P refl is
+
+pub grows_draws : (s t : Session) → Grows s t → (stamp : ℕ) → HasDrawn t stamp → HasDrawn s stamp
+grows_draws s t (same is) stamp has = subst (λ (r : Session). HasDrawn r stamp) is has
+grows_draws s t (works w u before over stand more) stamp (inl (f, m, stamped)) = inl (f, subst (λ (fs : List Finished). f ∈ fs) over m, stamped)
+grows_draws s t (works w u before over stand more) stamp (inr (x, sealed)) = not_sealed t.stand x stamp (HasDrawn s stamp) (ap phase_of stand) sealed
+grows_draws s t (ends w u before over stand more) stamp (inl (f, m, stamped)) =
+    over_more s (record { work = u; fate = world.aborts }) t.over stamp over (λ other is. no_fate other (HasDrawn s other) is) f m stamped
+grows_draws s t (ends w u before over stand more) stamp (inr (x, sealed)) = idle_not_sealed t.stand x stamp (HasDrawn s stamp) stand sealed
+
+lie_still : (seat : ℕ) (v t : View) → ((stamp : ℕ) → HasDrawn (t.session seat) stamp → HasDrawn (v.session seat) stamp) → v.tail ≤ t.tail → LieBelow seat v → LieBelow seat t
+lie_still seat v t had up below stamp has = omega (arith, below stamp (had stamp has), up)
+
+pub lie_passes : (seat : ℕ) (v t : View) → Passes seat v t → LieBelow seat v → LieBelow seat t
+lie_passes seat v t passes below = lie_still seat v t (λ stamp has. subst (λ (s : Session). HasDrawn s stamp) passes.own has) passes.tail below
+
+-- an operation, after its tries
+abbrev Grew : ℕ → View → View → Type 0
+Grew seat v t = Grows (v.session seat) (t.session seat) × (v.tail ≤ t.tail)
+
+grew_then : (seat : ℕ) (v u t : View) → Grew seat v u → Grew seat u t → Grew seat v t
+grew_then seat v u t first second = (grows_then (v.session seat) (u.session seat) (t.session seat) first.0 second.0, le_trans first.1 second.1)
+
+cut_grew : (f : View) (seat : ℕ) (front : Rows → List Event → Type 0) (asks : List Event → Rows → Asked → Type 0) (why : RowStop) (v t : View) → phase_at v seat ≡ Active
+    → WereCutBeside f seat front asks why v t → Grew seat v t
+cut_grew f seat front asks why v t active cut =
+    let before : Reached seat v cut.at = reached seat cut.events v cut.at active cut.ran in
+    let last = stopped_after seat cut.asked why cut.at t (ap phase_of before.stand) cut.refused in
+    (grows_then (v.session seat) (cut.at.session seat) (t.session seat) before.grows last.goes.own, le_trans before.onward.tail last.goes.tail)
+
+tried_grew : (f : View) (seat : ℕ) (c : Command) (n : ℕ) (v t : View) → phase_at v seat ≡ Active → WasTried f seat c n v t → Grew seat v t × (phase_at t seat ≡ Active)
+tried_grew f seat c zero v t active passes = ((same passes.own, passes.tail), ap (λ (s : Session). phase_of s.stand) passes.own ∙ active)
+tried_grew f seat c (suc n) v t active (u, (other, seen, cut), rest) =
+    let first = cut_grew f seat (FrontOf c) (AsksOf c) (stop.NotYet other seen) v u active cut in
+    let held = holds_cut f seat (FrontOf c) (AsksOf c) (stop.NotYet other seen) v u active cut refl in
+    let later = tried_grew f seat c n u t (held.phase ∙ active) rest in
+    (grew_then seat v u t first later.0, later.1)
+
+called_grew : (seat : ℕ) (steps : List Step) (kind : Rows → List Event → Type 0) (v t : View) → phase_at v seat ≡ Active
+    → Beside seat (λ u w. DidCalls u seat steps kind w) v t → Grew seat v t
+called_grew seat steps kind v t active beside =
+    let before : Reached seat v t = reached seat beside.did.events v t active
+    (record { from = beside.from; to = beside.to; starts = beside.starts; did = beside.did.ran; stops = beside.stops; opening = beside.opening; tail = beside.tail; flushed = beside.flushed }) in
+    (before.grows, before.onward.tail)
+
+module _ (f : View) (seat : ℕ) (c : Command) (v t : View) (active : phase_at v seat ≡ Active) where
+  cut_grew_as : (a : Answer) → (why : RowStop) × (told_at_once why ≡ Some a) × WereCutBeside f seat (FrontOf c) (AsksOf c) why v t → Grew seat v t
+  cut_grew_as a (why, told, cut) = cut_grew f seat (FrontOf c) (AsksOf c) why v t active cut
+
+  once_grew : (a : Answer) → DidOnce f seat c a v t → Grew seat v t
+  once_grew (answer.Replied r) (op, is, beside) = called_grew seat (record { op = op; reply = r } ∷ []) (WholeOf c (answer.Replied r)) v t active beside
+  once_grew (answer.Cut cells) (is, few, beside) = called_grew seat [] (WholeOf c (answer.Cut cells)) v t active beside
+  once_grew a did = cut_grew_as a did
+
+-- THE LINE. What it tells lies between, and the session's stamps lie below still.
+pub record Drew (f : View) (seat : ℕ) (asked : Option Command) (a : Answer) (v t : View) : Type 0 where
+  pub draws : DrawsBeside f v.tail t.tail asked a
+  pub below : LieBelow seat t
+  pub up : v.tail ≤ t.tail
+
+operation_drew : (f : View) (seat : ℕ) (c : Command) (a : Answer) (v t : View) → phase_at v seat ≡ Active → LieBelow seat v → DidOperationBeside f seat c a v t → Drew f seat (Some c) a v t
+operation_drew f seat c a v t active below did =
+    let tried = tried_grew f seat c did.times v did.at active did.tried in
+    let grew = grew_then seat v did.at t tried.0 (once_grew f seat c did.at t tried.1 a did.once) in record {
+      draws = once_draws f seat c did.at t v.tail a did.once;
+      below = lie_still seat v t (grows_draws (v.session seat) (t.session seat) grew.0) grew.1 below;
+      up = grew.1;
+    }
+
+-- nothing happened but that others went on
+still_drew : (f : View) (seat : ℕ) (asked : Option Command) (a : Answer) (v u t : View) → Passes seat v u → t ≡ u → LieBelow seat v → ((m n : ℕ) → n ≡ t.tail → LieBelow seat t → DrawsBeside f m n asked a) → Drew f seat asked a v t
+still_drew f seat asked a v u t passes is below draws =
+    let there : LieBelow seat t = subst (λ (w : View). LieBelow seat w) (sym is) (lie_passes seat v u passes below) in record {
+      draws = draws v.tail t.tail refl there;
+      below = there;
+      up = omega (arith, passes.tail, ap (λ (w : View). w.tail) is);
+    }
+
+begin_drew : (f : View) (seat begin : ℕ) (asked : Option Command) (v u t : View) → Passes seat v u → DidBeginBeside seat begin u t → LieBelow seat v → Drew f seat asked (answer.Began begin) v t
+begin_drew f seat begin asked v u t passes (few, is, now) below = record {
+  draws = record {
+    begin = λ stamp told.
+        let one = the_number begin stamp told in (omega (arith, is, one, passes.tail), omega (arith, is, one, now.tail));
+    printed = λ stamp told. no_number None stamp (stamp < t.tail) refl told;
+    drawn = λ stamp told. no_number (stamp_drawn asked (answer.Began begin)) stamp ((v.tail ≤ stamp) × (stamp + LEAST_BLOCK ≤ t.tail)) (drawn_none asked (answer.Began begin) refl) told;
+    placed = λ place told. no_number None place (place ≤ t.tail) refl told;
+    met = λ stamp told. no_number None stamp (stamp < t.tail) refl told;
+    owned = λ other number told. cc;
+    waits = λ none. none;
+  };
+  below = lie_still seat v t (λ stamp has. subst (λ (s : Session). HasDrawn s stamp) passes.own (had stamp has)) (omega (arith, passes.tail, now.tail)) below;
+  up = omega (arith, passes.tail, now.tail);
+}
+  where
+    had : (stamp : ℕ) → HasDrawn (t.session seat) stamp → HasDrawn (u.session seat) stamp
+    had stamp (inl (g, m, stamped)) = inl (g, subst (λ (s : Session). g ∈ s.over) now.own m, stamped)
+    had stamp (inr (w, sealed)) = not_sealed (t.session seat).stand w stamp (HasDrawn (u.session seat) stamp) (ap (λ (s : Session). phase_of s.stand) now.own) sealed
+
+-- a seal draws the end of the log, and the block goes behind it
+block_fits : (v : View) (seat stamp : ℕ) (t : View) → DidSeal v seat stamp t → stamp + LEAST_BLOCK ≤ t.tail
+block_fits v seat stamp t did =
+    let enough : LEAST_BLOCK ≤ size_of (work_at v seat) = omega arith in
+    omega (arith, enough, did.stamp_is, did.tail)
+
+sealed_below : (seat stamp : ℕ) (v u t : View) → Passes seat v u → DidSeal u seat stamp t → LieBelow seat v → LieBelow seat t
+sealed_below seat stamp v u t passes did below other has = from has
+  where
+    fits : stamp + LEAST_BLOCK ≤ t.tail
+    fits = block_fits u seat stamp t did
+
+    from : HasDrawn (t.session seat) other → other < t.tail
+    from (inl (g, m, stamped)) =
+        let before : HasDrawn (v.session seat) other = subst (λ (s : Session). HasDrawn s other) passes.own (inl (g, subst (λ (s : Session). g ∈ s.over) did.own m, stamped)) in
+        omega (arith, below other before, passes.tail, did.stamp_is, fits)
+    from (inr (w, sealed)) =
+        let one : stamp ≡ other = ap stamp_at (sym (ap (λ (s : Session). s.stand) did.own) ∙ sealed) in
+        omega (arith, fits, one)
+
+seal_drew : (f : View) (seat stamp : ℕ) (asked : Option Command) (v u t : View) → Passes seat v u → DidSeal u seat stamp t → LieBelow seat v → Drew f seat asked (answer.Sealed stamp) v t
+seal_drew f seat stamp asked v u t passes did below =
+    let fits = block_fits u seat stamp t did in record {
+      draws = record {
+        begin = λ other told. no_number None other ((v.tail ≤ other) × (other ≤ t.tail)) refl told;
+        printed = λ other told. let one = the_number stamp other told in omega (arith, fits, one);
+        drawn = λ other told. let one = the_number stamp other told in (omega (arith, one, did.stamp_is, passes.tail), omega (arith, fits, one));
+        placed = λ place told. no_number None place (place ≤ t.tail) refl told;
+        met = λ other told. no_number None other (other < t.tail) refl told;
+        owned = λ other number told. cc;
+        waits = λ none. none;
+      };
+      below = sealed_below seat stamp v u t passes did below;
+      up = omega (arith, passes.tail, did.stamp_is, fits);
+    }
+
+-- A DECISION tells the stamp of the transaction decided, which the session had.
+pub record DecidesBeside (seat : ℕ) (a : Answer) (stamp : ℕ) (v t : View) : Type 0 where
+  pub told : stamp_told a ≡ Some stamp
+  pub printed : stamp_printed a ≡ Some stamp
+  pub stand : (w : Work) × ((v.session seat).stand ≡ world.sealed w stamp)
+  pub had : (other : ℕ) → HasDrawn (t.session seat) other → HasDrawn (v.session seat) other
+  pub tail : v.tail ≤ t.tail
+  pub begins : begin_told a ≡ None
+  pub places : place_told a ≡ None
+  pub met : stamp_met a ≡ None
+  pub owned : (x y : ℕ) → a ≡ answer.Owned x y → ⊥
+  pub waits : IsWait a → ⊥
+  pub settled : stamp_drawn (Some command.Settle) a ≡ None
+  pub committed : stamp_drawn (Some command.Commit) a ≡ Some stamp
+
+done_had : (seat : ℕ) (v u t : View) (w : Work) (stamp : ℕ) (fate : Fate) → Passes seat v u → (u.session seat).stand ≡ world.sealed w stamp → IsDone u seat w fate t → stamp_of fate ≡ Some stamp
+    → (other : ℕ) → HasDrawn (t.session seat) other → HasDrawn (v.session seat) other
+done_had seat v u t w stamp fate passes stand done stamped other has = subst (λ (s : Session). HasDrawn s other) passes.own (from has)
+  where
+    from : HasDrawn (t.session seat) other → HasDrawn (u.session seat) other
+    from (inl (g, m, is)) =
+        over_more (u.session seat) (record { work = w; fate = fate }) (t.session seat).over other (ap (λ (s : Session). s.over) done.own)
+        (λ x told. inr (w, stand ∙ ap (λ (n : ℕ). world.sealed w n) (the_number stamp x (sym stamped ∙ told)))) g m is
+    from (inr (x, sealed)) = idle_not_sealed (t.session seat).stand x other (HasDrawn (u.session seat) other) (ap (λ (s : Session). s.stand) done.own) sealed
+
+stand_before : (seat : ℕ) (v u : View) (w : Work) (own stamp : ℕ) → Passes seat v u → (u.session seat).stand ≡ world.sealed w own → own ≡ stamp → (x : Work) × ((v.session seat).stand ≡ world.sealed x stamp)
+stand_before seat v u w own stamp passes stand is = (w, sym (ap (λ (s : Session). s.stand) passes.own) ∙ stand ∙ ap (λ (n : ℕ). world.sealed w n) is)
+
+decides_beside : (seat : ℕ) (a : Answer) (v t : View) → DidDecideBeside seat a v t → (stamp : ℕ) × DecidesBeside seat a stamp v t
+decides_beside seat (answer.Committed at succ pred) v t (r, at_is, after, before, (u, passes, (w, own, stand, settled))) =
+    let is : own ≡ at = sym settled.2 ∙ at_is in (
+      at,
+      record {
+        told = refl;
+        printed = refl;
+        stand = stand_before seat v u w own at passes stand is;
+        had = done_had seat v u t w own (world.commits own r.succ r.pred) passes stand settled.0 refl;
+        tail = omega (arith, passes.tail, settled.0.tail);
+        begins = refl;
+        places = refl;
+        met = refl;
+        owned = λ x y e. cc;
+        waits = λ none. none;
+        settled = refl;
+        committed = refl;
+      },
+    )
+decides_beside seat (answer.Excluded at succ pred) v t (u, passes, (w, own, stand, settled)) =
+    let is : own ≡ at = sym settled.1 in (
+      at,
+      record {
+        told = refl;
+        printed = refl;
+        stand = stand_before seat v u w own at passes stand is;
+        had = done_had seat v u t w own (world.excluded own succ pred) passes stand settled.0 refl;
+        tail = omega (arith, passes.tail, settled.0.tail);
+        begins = refl;
+        places = refl;
+        met = refl;
+        owned = λ x y e. cc;
+        waits = λ none. none;
+        settled = refl;
+        committed = refl;
+      },
+    )
+decides_beside seat a v t did = absurd did
+
+settle_drew : (f : View) (seat : ℕ) (a : Answer) (v t : View) → LieBelow seat v → DidDecideBeside seat a v t → Drew f seat (Some command.Settle) a v t
+settle_drew f seat a v t below did =
+    let (stamp, decided) = decides_beside seat a v t did in
+    let own : stamp < v.tail = below stamp (inr decided.stand) in record {
+      draws = record {
+        begin = λ x told. no_number (begin_told a) x ((v.tail ≤ x) × (x ≤ t.tail)) decided.begins told;
+        printed = λ x told. omega (arith, own, decided.tail, the_number stamp x (sym decided.printed ∙ told));
+        drawn = λ x told. no_number (stamp_drawn (Some command.Settle) a) x ((v.tail ≤ x) × (x + LEAST_BLOCK ≤ t.tail)) decided.settled told;
+        placed = λ place told. no_number (place_told a) place (place ≤ t.tail) decided.places told;
+        met = λ x told. no_number (stamp_met a) x (x < t.tail) decided.met told;
+        owned = λ x y told. absurd (decided.owned x y told);
+        waits = decided.waits;
+      };
+      below = lie_still seat v t decided.had decided.tail below;
+      up = decided.tail;
+    }
+
+commit_drew : (f : View) (seat : ℕ) (a : Answer) (v t : View) → LieBelow seat v → DidCommitBeside seat a v t → Drew f seat (Some command.Commit) a v t
+commit_drew f seat a v t below did =
+    let (u, passes, sealed) = did.sealed in
+    let m = did.between in
+    let (stamp, decided) = decides_beside seat a m t did.decided in
+    let first : LieBelow seat m = sealed_below seat did.stamp v u m passes sealed below in
+    let is : did.stamp ≡ stamp = ap stamp_at (sym (ap (λ (s : Session). s.stand) sealed.own) ∙ decided.stand.1) in
+    let fits : did.stamp + LEAST_BLOCK ≤ m.tail = block_fits u seat did.stamp m sealed in record {
+      draws = record {
+        begin = λ x told. no_number (begin_told a) x ((v.tail ≤ x) × (x ≤ t.tail)) decided.begins told;
+        printed = λ x told. omega (arith, fits, is, decided.tail, the_number stamp x (sym decided.printed ∙ told));
+        drawn = λ x told.
+            let one = the_number stamp x (sym decided.committed ∙ told) in
+            (omega (arith, passes.tail, sealed.stamp_is, is, one), omega (arith, fits, is, one, decided.tail));
+        placed = λ place told. no_number (place_told a) place (place ≤ t.tail) decided.places told;
+        met = λ x told. no_number (stamp_met a) x (x < t.tail) decided.met told;
+        owned = λ x y told. absurd (decided.owned x y told);
+        waits = decided.waits;
+      };
+      below = lie_still seat m t decided.had decided.tail first;
+      up = omega (arith, passes.tail, sealed.stamp_is, fits, decided.tail);
+    }
+
+-- a durable commit is one of the session's
+durable_draws : (f : View) (seat stamp : ℕ) (asked : Option Command) (u t : View) → t ≡ u → (end : ℕ) → IsLastCommit (u.session seat).over stamp end → (m n : ℕ) → n ≡ t.tail → LieBelow seat t
+    → DrawsBeside f m n asked (answer.Durable stamp)
+durable_draws f seat stamp asked u t is end last m n at below =
+    let g : Finished = last.last in
+    let over : g ∈ (u.session seat).over = subst (λ (fs : List Finished). g ∈ fs) (sym last.split) (∈-second last.front (g ∷ last.rest) g (∈-head g last.rest)) in
+    let has : HasDrawn (t.session seat) stamp = subst (λ (w : View). HasDrawn (w.session seat) stamp) (sym is) (inl (g, over, ap stamp_of last.commits.2)) in
+    let under : stamp < t.tail = below stamp has in record {
+      begin = λ x told. no_number None x ((m ≤ x) × (x ≤ n)) refl told;
+      printed = λ x told. omega (arith, under, at, the_number stamp x told);
+      drawn = λ x told. no_number (stamp_drawn asked (answer.Durable stamp)) x ((m ≤ x) × (x + LEAST_BLOCK ≤ n)) (drawn_none asked (answer.Durable stamp) refl) told;
+      placed = λ place told. omega (arith, under, at, the_number (stamp + 1) place told);
+      met = λ x told. no_number None x (x < n) refl told;
+      owned = λ x y told. cc;
+      waits = λ none. none;
+    }
+
+-- an abort
+aborted_drew : (f : View) (seat : ℕ) (asked : Option Command) (v u t : View) (w : Work) → Passes seat v u → IsDone u seat w world.aborts t → LieBelow seat v → Drew f seat asked answer.Aborted v t
+aborted_drew f seat asked v u t w passes done below = record {
+  draws = silent f v.tail t.tail asked answer.Aborted refl refl refl (λ none. none) refl refl (λ other number is. cc);
+  below = lie_still seat v t (λ stamp has. subst (λ (s : Session). HasDrawn s stamp) passes.own (from stamp has)) (omega (arith, passes.tail, done.tail)) below;
+  up = omega (arith, passes.tail, done.tail);
+}
+  where
+    from : (stamp : ℕ) → HasDrawn (t.session seat) stamp → HasDrawn (u.session seat) stamp
+    from stamp (inl (g, m, stamped)) =
+        over_more (u.session seat) (record { work = w; fate = world.aborts }) (t.session seat).over stamp (ap (λ (s : Session). s.over) done.own) (λ x told. no_fate x (HasDrawn (u.session seat) x) told) g m stamped
+    from stamp (inr (x, sealed)) = idle_not_sealed (t.session seat).stand x stamp (HasDrawn (u.session seat) stamp) (ap (λ (s : Session). s.stand) done.own) sealed
+
+-- the phase that isn't refused
+is_active_at : (phase : Phase) → refusal_of phase command.Abort ≡ None → phase ≡ Active
+is_active_at Idle none = cc
+is_active_at Active none = refl
+is_active_at Sealed none = cc
+
+command_drew : (f : View) (seat : ℕ) (c : Command) (a : Answer) (v t : View) → refusal_of (phase_at v seat) c ≡ None → LieBelow seat v → DidCommandBeside f seat c a v t → Drew f seat (Some c) a v t
+command_drew f seat command.Begin (answer.Began stamp) v t none below (u, passes, did) = begin_drew f seat stamp (Some command.Begin) v u t passes did below
+command_drew f seat command.Begin (answer.LogEnd tail) v t none below (u, passes, did) =
+    still_drew f seat (Some command.Begin) (answer.LogEnd tail) v u t passes did.0 below
+    (λ m n is there. silent f m n (Some command.Begin) (answer.LogEnd tail) refl refl refl (λ none. none) refl refl (λ other number e. cc))
+command_drew f seat command.Begin answer.NumbersEnd v t none below (u, passes, did) =
+    still_drew f seat (Some command.Begin) answer.NumbersEnd v u t passes did.0 below
+    (λ m n is there. silent f m n (Some command.Begin) answer.NumbersEnd refl refl refl (λ none. none) refl refl (λ other number e. cc))
+command_drew f seat command.Seal (answer.Sealed stamp) v t none below (u, passes, did) = seal_drew f seat stamp (Some command.Seal) v u t passes did below
+command_drew f seat command.Settle a v t none below did = settle_drew f seat a v t below did
+command_drew f seat command.Commit a v t none below did = commit_drew f seat a v t below did
+command_drew f seat command.Abort answer.Aborted v t none below (u, passes, did) = aborted_drew f seat (Some command.Abort) v u t (work_at u seat) passes did below
+command_drew f seat (command.Get table key) a v t none below did = operation_drew f seat (command.Get table key) a v t (is_active_at (phase_at v seat) none) below did
+command_drew f seat (command.Put table key value) a v t none below did = operation_drew f seat (command.Put table key value) a v t (is_active_at (phase_at v seat) none) below did
+command_drew f seat (command.Del table key) a v t none below did = operation_drew f seat (command.Del table key) a v t (is_active_at (phase_at v seat) none) below did
+command_drew f seat (command.Next table from) a v t none below did = operation_drew f seat (command.Next table from) a v t (is_active_at (phase_at v seat) none) below did
+command_drew f seat (command.Scan table low high) a v t none below did = operation_drew f seat (command.Scan table low high) a v t (is_active_at (phase_at v seat) none) below did
+command_drew f seat (command.Tidy table key) a v t none below did = operation_drew f seat (command.Tidy table key) a v t (is_active_at (phase_at v seat) none) below did
+command_drew f seat command.Durable (answer.Durable stamp) v t none below (u, passes, did) =
+    still_drew f seat (Some command.Durable) (answer.Durable stamp) v u t passes did.0 below (durable_draws f seat stamp (Some command.Durable) u t did.0 did.1.0 did.1.1)
+command_drew f seat command.Durable answer.NoReceipt v t none below (u, passes, did) =
+    still_drew f seat (Some command.Durable) answer.NoReceipt v u t passes did.0 below
+    (λ m n is there. silent f m n (Some command.Durable) answer.NoReceipt refl refl refl (λ none. none) refl refl (λ other number e. cc))
+command_drew f seat c a v t none below did = absurd did
+
+asked_drew : (f : View) (seat : ℕ) (c : Command) (a : Answer) (v t : View) (refusal : Option Answer) → refusal_of (phase_at v seat) c ≡ refusal → FitsRefusal refusal c a
+    → LieBelow seat v → DidAskedBeside refusal f seat c a v t → Drew f seat (Some c) a v t
+asked_drew f seat c a v t None is fits below did = command_drew f seat c a v t is below did
+asked_drew f seat c a v t (Some r) is fits below passes =
+    still_drew f seat (Some c) a v t t passes refl below
+    (λ m n at there. phase_silent f m n (Some c) a (subst (λ (x : Answer). refusal_in x ≡ Some x) (sym fits) (phase_refuses (phase_asked c) (phase_at v seat) r is)))
+
+pub line_drew : (f : View) (l : ScriptLine) (a : Answer) (v t : View) → LieBelow l.session v → DidLineBeside f l a v t → Drew f l.session (Some l.command) a v t
+line_drew f l a v t below did = asked_drew f l.session l.command a v t (refusal_of (phase_at v l.session) l.command) refl did.fits below did.did

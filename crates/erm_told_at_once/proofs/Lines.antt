@@ -1,0 +1,161 @@
+-- Each own line of a session that was answered, and its close, is a turn of it.
+use Rattle.std.proofs.Common.{◌≡◌, ℕ, List, [], length, append-nil, Option, Some, None, refl, sym, ap, ◌∙◌, subst, arith, ◌+◌}
+use Rattle.erm_model.specs.declared.outcome.Phase.{Phase}
+use Rattle.erm_model.specs.declared.outcome.Phase.TheVariants.{Idle, Active, Sealed}
+use Rattle.erm_model.specs.Run.{Step}
+use Rattle.erm_report.specs.declared.answer.Answer.{Answer}
+use Rattle.erm_report.specs.declared.answer.Answer.TheVariants as answer
+use Rattle.erm_script.specs.declared.script.Command.{Command}
+use Rattle.erm_script.specs.declared.script.Command.TheVariants as command
+use Rattle.erm_script.specs.declared.script.ScriptLine.{ScriptLine}
+use Rattle.erm_world.specs.Going.{Extends}
+use Rattle.erm_world.specs.World.{Session, View, Work, phase_at, phase_of}
+use Rattle.erm_world.specs.World as world
+use Rattle.erm_maps.specs.Runs.{IsAnswered, IsRunOf}
+use Rattle.erm_good_report.specs.Phases.{Closes, FitsRefusal, phase_after, phase_asked, refusal_in, refusal_of}
+use Rattle.erm_good_report.specs.Transactions.{Commits, Excludes, Progress, heard}
+use Rattle.erm_lines.specs.Told.{Tells}
+use Rattle.erm_beside.specs.Calls.{DidBeginBeside, Passes}
+use Rattle.erm_told.proofs.Going.{continues_from, continues_then}
+use Rattle.erm_told.proofs.Lines.{phase_refuses}
+use Rattle.erm_told.proofs.Sessions.{begun_told}
+use Rattle.erm_told.proofs.Turns.{idle_in, told_sealed, told_still, turn_aborted, turn_decided, turn_sealed, turn_still}
+use Rattle.erm_lines_at_once.specs.Answers.{DidAskedBeside, DidCloseBeside, DidCommandBeside, DidCommitBeside, DidDecideBeside, DidEndBeside, DidLineBeside}
+use Rattle.erm_told_at_once.proofs.Operated.{turns_operation}
+use Rattle.erm_told_at_once.proofs.Turns.{Turns, onward_passes, onward_then, took_as, turns_after}
+
+-- what the phase refuses is told as that
+quiet_phase : (asked : Option Command) (r : Answer) (phase : Phase) → refusal_in r ≡ Some r → phase_after asked r phase ≡ phase
+quiet_phase asked answer.NotIdle phase is = refl
+quiet_phase asked answer.NoTransaction phase is = refl
+quiet_phase asked answer.IsSealed phase is = refl
+quiet_phase asked answer.NotSealed phase is = refl
+quiet_phase asked r phase is = absurd (cc)
+
+quiet_heard : (seat : ℕ) (asked : Option Command) (r : Answer) (p : Progress) → refusal_in r ≡ Some r → heard seat asked r p ≡ p
+quiet_heard seat asked answer.NotIdle p is = refl
+quiet_heard seat asked answer.NoTransaction p is = refl
+quiet_heard seat asked answer.IsSealed p is = refl
+quiet_heard seat asked answer.NotSealed p is = refl
+quiet_heard seat asked r p is = absurd (cc)
+
+-- nothing happened but that others went on
+turns_still : (seat : ℕ) (asked : Option Command) (a : Answer) (v u t : View) → Passes seat v u → t ≡ u → ((phase : Phase) → phase_after asked a phase ≡ phase)
+    → ((p : Progress) (s : Session) → Tells seat p s → Tells seat (heard seat asked a p) s) → Turns seat asked a v t
+turns_still seat asked a v u t passes is phase tells =
+    turns_after seat asked a v u t passes (turn_still u seat asked a t is (phase (phase_at u seat)) (λ p told. tells p (u.session seat) told))
+
+turns_refused : (seat : ℕ) (c : Command) (a r : Answer) (v t : View) → refusal_in r ≡ Some r → a ≡ r → Passes seat v t → Turns seat (Some c) a v t
+turns_refused seat c a r v t refusal is passes =
+    subst (λ (b : Answer). Turns seat (Some c) b v t) (sym is)
+    (turns_still seat (Some c) r v t t passes refl (λ phase. quiet_phase (Some c) r phase refusal)
+    (λ p s told. subst (λ (q : Progress). Tells seat q s) (sym (quiet_heard seat (Some c) r p refusal)) told))
+
+-- a begin
+turns_begun : ((number begin : ℕ) → IsRunOf (world.begun number begin) []) → (seat begin : ℕ) (asked : Option Command) (v u t : View) → Passes seat v u → phase_at u seat ≡ Idle
+    → DidBeginBeside seat begin u t → Turns seat asked (answer.Began begin) v t
+turns_begun runs seat begin asked v u t passes idle (few, is, now) =
+    let over = (u.session seat).over in
+    let s : Session = record { over = over; stand = world.active (world.begun (length over + 1) begin) } in record {
+      took = took_as seat asked (answer.Began begin) (v.session seat) (t.session seat) (u.session seat) s passes.own now.own (record {
+        goes = continues_from (u.session seat) s world.idle (idle_in (u.session seat).stand idle) [] (sym (append-nil over)) tt;
+        phase = refl;
+        tells = λ p told. begun_told seat begin asked p over (runs (length over + 1) begin) told.over;
+      });
+      onward = onward_then v u t (onward_passes seat v u passes) (record { opening = now.opening; tail = omega (arith, now.tail) });
+    }
+
+-- THE DECISION.
+turns_decides : (seat : ℕ) (asked : Option Command) (a : Answer) (v t : View) → DidDecideBeside seat a v t → Turns seat asked a v t
+turns_decides seat asked (answer.Committed stamp succ pred) v t (r, at, after, before, (u, passes, (w, own, stand, settled))) =
+    turns_after seat asked (answer.Committed stamp succ pred) v u t passes
+    (turn_decided u seat asked (answer.Committed stamp succ pred) t w own (Commits stamp succ pred) (world.commits own r.succ r.pred) stand settled.0 refl (λ p. refl)
+    (sym at ∙ settled.2, sym after, sym before) refl (λ steps run. run))
+turns_decides seat asked (answer.Excluded stamp succ pred) v t (u, passes, (w, own, stand, settled)) =
+    turns_after seat asked (answer.Excluded stamp succ pred) v u t passes
+    (turn_decided u seat asked (answer.Excluded stamp succ pred) t w own (Excludes (Some stamp) succ pred) (world.excluded own succ pred) stand settled.0 refl (λ p. refl)
+    (settled.1, refl, refl) refl (λ steps run. run))
+turns_decides seat asked a v t did = absurd did
+
+decide_leaves : (seat : ℕ) (asked : Option Command) (a : Answer) (v t : View) (x y : Phase) → DidDecideBeside seat a v t → phase_after asked a x ≡ phase_after asked a y
+decide_leaves seat asked (answer.Committed stamp succ pred) v t x y did = refl
+decide_leaves seat asked (answer.Excluded stamp succ pred) v t x y did = refl
+decide_leaves seat asked a v t x y did = absurd did
+
+turns_commit : (seat : ℕ) (a : Answer) (v t : View) → phase_at v seat ≡ Active → DidCommitBeside seat a v t → Turns seat (Some command.Commit) a v t
+turns_commit seat a v t active did =
+    let (u, passes, sealed) = did.sealed in
+    let m = did.between in
+    let now : phase_at u seat ≡ Active = ap (λ (s : Session). phase_of s.stand) passes.own ∙ active in
+    let second = turns_decides seat (Some command.Commit) a m t did.decided in
+    let first : Turns seat (Some command.Seal) (answer.Sealed did.stamp) v m =
+    turns_after seat (Some command.Seal) (answer.Sealed did.stamp) v u m passes (turn_sealed u seat did.stamp (Some command.Seal) m now sealed) in record {
+      took = record {
+        goes = continues_then (v.session seat) (m.session seat) (t.session seat) first.took.goes second.took.goes;
+        phase = decide_leaves seat (Some command.Commit) a m t (phase_at v seat) (phase_at m seat) did.decided ∙ second.took.phase;
+        tells = λ p told. second.took.tells p (told_sealed u seat did.stamp m p now sealed (subst (λ (s : Session). Tells seat p s) (sym passes.own) told));
+      };
+      onward = onward_then v m t first.onward second.onward;
+    }
+
+-- THE PHASE that isn't refused
+is_idle_at : (phase : Phase) → refusal_of phase command.Begin ≡ None → phase ≡ Idle
+is_idle_at Idle none = refl
+is_idle_at Active none = cc
+is_idle_at Sealed none = cc
+
+is_active_at : (phase : Phase) → refusal_of phase command.Abort ≡ None → phase ≡ Active
+is_active_at Idle none = cc
+is_active_at Active none = refl
+is_active_at Sealed none = cc
+
+-- THE LINES.
+module _ (runs : (number begin : ℕ) → IsRunOf (world.begun number begin) []) (stay : (w u : Work) (steps : List Step) → Extends w u → IsAnswered w steps → IsAnswered u steps) where
+  turns_command : (f : View) (seat : ℕ) (c : Command) (a : Answer) (v t : View) → refusal_of (phase_at v seat) c ≡ None → DidCommandBeside f seat c a v t → Turns seat (Some c) a v t
+  turns_command f seat command.Begin (answer.Began stamp) v t none (u, passes, did) =
+      turns_begun runs seat stamp (Some command.Begin) v u t passes (ap (λ (s : Session). phase_of s.stand) passes.own ∙ is_idle_at (phase_at v seat) none) did
+  turns_command f seat command.Begin (answer.LogEnd tail) v t none (u, passes, did) =
+      turns_still seat (Some command.Begin) (answer.LogEnd tail) v u t passes did.0 (λ phase. refl) (λ p s told. told_still seat (Some command.Begin) (answer.LogEnd tail) p s refl told)
+  turns_command f seat command.Begin answer.NumbersEnd v t none (u, passes, did) =
+      turns_still seat (Some command.Begin) answer.NumbersEnd v u t passes did.0 (λ phase. refl) (λ p s told. told_still seat (Some command.Begin) answer.NumbersEnd p s refl told)
+  turns_command f seat command.Seal (answer.Sealed stamp) v t none (u, passes, did) =
+      turns_after seat (Some command.Seal) (answer.Sealed stamp) v u t passes
+      (turn_sealed u seat stamp (Some command.Seal) t (ap (λ (s : Session). phase_of s.stand) passes.own ∙ is_active_at (phase_at v seat) none) did)
+  turns_command f seat command.Settle a v t none did = turns_decides seat (Some command.Settle) a v t did
+  turns_command f seat command.Commit a v t none did = turns_commit seat a v t (is_active_at (phase_at v seat) none) did
+  turns_command f seat command.Abort answer.Aborted v t none (u, passes, did) =
+      turns_after seat (Some command.Abort) answer.Aborted v u t passes
+      (turn_aborted u seat (Some command.Abort) t (ap (λ (s : Session). phase_of s.stand) passes.own ∙ is_active_at (phase_at v seat) none) did)
+  turns_command f seat (command.Get table key) a v t none did = turns_operation stay f seat (command.Get table key) a v t (is_active_at (phase_at v seat) none) did
+  turns_command f seat (command.Put table key value) a v t none did = turns_operation stay f seat (command.Put table key value) a v t (is_active_at (phase_at v seat) none) did
+  turns_command f seat (command.Del table key) a v t none did = turns_operation stay f seat (command.Del table key) a v t (is_active_at (phase_at v seat) none) did
+  turns_command f seat (command.Next table from) a v t none did = turns_operation stay f seat (command.Next table from) a v t (is_active_at (phase_at v seat) none) did
+  turns_command f seat (command.Scan table low high) a v t none did = turns_operation stay f seat (command.Scan table low high) a v t (is_active_at (phase_at v seat) none) did
+  turns_command f seat (command.Tidy table key) a v t none did = turns_operation stay f seat (command.Tidy table key) a v t (is_active_at (phase_at v seat) none) did
+  turns_command f seat command.Durable (answer.Durable stamp) v t none (u, passes, did) =
+      turns_still seat (Some command.Durable) (answer.Durable stamp) v u t passes did.0 (λ phase. refl) (λ p s told. told_still seat (Some command.Durable) (answer.Durable stamp) p s refl told)
+  turns_command f seat command.Durable answer.NoReceipt v t none (u, passes, did) =
+      turns_still seat (Some command.Durable) answer.NoReceipt v u t passes did.0 (λ phase. refl) (λ p s told. told_still seat (Some command.Durable) answer.NoReceipt p s refl told)
+  turns_command f seat c a v t none did = absurd did
+
+  turns_asked : (f : View) (seat : ℕ) (c : Command) (a : Answer) (v t : View) (refusal : Option Answer) → refusal_of (phase_at v seat) c ≡ refusal
+      → FitsRefusal refusal c a → DidAskedBeside refusal f seat c a v t → Turns seat (Some c) a v t
+  turns_asked f seat c a v t None is fits did = turns_command f seat c a v t is did
+  turns_asked f seat c a v t (Some r) is fits did = turns_refused seat c a r v t (phase_refuses (phase_asked c) (phase_at v seat) r is) fits did
+
+  pub turns_line : (f : View) (l : ScriptLine) (a : Answer) (v t : View) → DidLineBeside f l a v t → Turns l.session (Some l.command) a v t
+  turns_line f l a v t did = turns_asked f l.session l.command a v t (refusal_of (phase_at v l.session) l.command) refl did.fits did.did
+
+-- THE END.
+closes_active : (seat : ℕ) (a : Answer) (v t : View) → phase_at v seat ≡ Active → Closes Active a → DidCloseBeside Active seat a v t → Turns seat None a v t
+closes_active seat answer.Aborted v t active fits (u, passes, did) =
+    turns_after seat None answer.Aborted v u t passes (turn_aborted u seat None t (ap (λ (s : Session). phase_of s.stand) passes.own ∙ active) did)
+closes_active seat a v t active fits did = absurd fits
+
+closes : (seat : ℕ) (a : Answer) (v t : View) (phase : Phase) → phase_at v seat ≡ phase → Closes phase a → DidCloseBeside phase seat a v t → Turns seat None a v t
+closes seat a v t Idle is fits did = absurd did
+closes seat a v t Active is fits did = closes_active seat a v t is fits did
+closes seat a v t Sealed is fits did = turns_decides seat None a v t did
+
+pub turns_end : (seat : ℕ) (a : Answer) (v t : View) → DidEndBeside seat a v t → Turns seat None a v t
+turns_end seat a v t did = closes seat a v t (phase_at v seat) refl did.fits did.did

@@ -1,0 +1,252 @@
+-- Turns of an active session: operations that were answered, after tries, and those that were cut off by a refusal.
+use Rattle.std.proofs.Common.{◌≡◌, ℕ, zero, suc, true, false, List, [], ◌∷◌, ◌++◌, append-nil, Option, Some, None, refl, sym, ap, ◌∙◌, subst, inl, inr}
+use Rattle.erm_model.specs.declared.outcome.Phase.{Phase}
+use Rattle.erm_model.specs.declared.outcome.Phase.TheVariants.{Idle, Active}
+use Rattle.erm_model.specs.declared.row_stop.RowStop.{RowStop}
+use Rattle.erm_model.specs.declared.row_stop.RowStop.TheVariants as stop
+use Rattle.erm_model.specs.RowTransaction.{Asked, Event}
+use Rattle.erm_model.specs.RowTransaction as rows
+use Rattle.erm_model.specs.Rows.{Rows}
+use Rattle.erm_model.specs.Run.{Step}
+use Rattle.erm_report.specs.declared.answer.Answer.{Answer}
+use Rattle.erm_report.specs.declared.answer.Answer.TheVariants as answer
+use Rattle.erm_script.specs.declared.script.Command.{Command}
+use Rattle.erm_world.specs.Face.{Grows}
+use Rattle.erm_world.specs.Going.{Extends}
+use Rattle.erm_world.specs.Onward.{grows_then}
+use Rattle.erm_world.specs.World.{Finished, Session, Stand, View, Work, phase_at, phase_of, work_at, work_of}
+use Rattle.erm_world.specs.World as world
+use Rattle.erm_world.proofs.Txns.{MayStop}
+use Rattle.erm_maps.specs.Runs.{IsAnswered, IsRunOf}
+use Rattle.erm_good_report.specs.Phases.{phase_after}
+use Rattle.erm_good_report.specs.Transactions.{Aborts, Ending, Excludes, Progress, Transaction, ended, goes_on, heard, reply_in, steps_of}
+use Rattle.erm_lines.specs.Operations.{AsksOf, DidCalls, FrontOf, Ran, WholeOf}
+use Rattle.erm_lines.specs.Told.{Continues, EndsAs, Tells, TellsNow, TellsOver}
+use Rattle.erm_beside.specs.Calls.{Passes}
+use Rattle.erm_beside.proofs.Txns.{Stopped, stopped_after}
+use Rattle.erm_told.proofs.Going.{continues_from, continues_itself, continues_then}
+use Rattle.erm_told.proofs.Operations.{the_answer, turn_ran}
+use Rattle.erm_told.proofs.Running.{GoesOn, active_in, over_still, over_then, ran_on}
+use Rattle.erm_told.proofs.Sessions.{aborted_told, active_told, unchanged_told}
+use Rattle.erm_told.proofs.Steps.{added, none_asked, none_replied, one_replied}
+use Rattle.erm_lines_at_once.specs.Operations.{Beside, DidOnce, DidOperationBeside, WasTried, WereCutBeside, told_at_once}
+use Rattle.erm_told_at_once.proofs.Turns.{Onward, Took, Turns, onward_passes, onward_then, turns_beside}
+
+-- THE CALLS BEFORE. The session is active still, with a work that has gone on.
+pub record Reached (seat : ℕ) (v t : View) : Type 0 where
+  pub work : Work
+  pub stand : (t.session seat).stand ≡ world.active work
+  pub more : Extends (work_at v seat) work
+  pub grows : Grows (v.session seat) (t.session seat)
+  pub onward : Onward v t
+
+pub reached : (seat : ℕ) (events : List Event) (v t : View) → phase_at v seat ≡ Active → Beside seat (λ u w. Ran u seat events w) v t → Reached seat v t
+reached seat events v t active beside =
+    let on : GoesOn beside.from seat beside.to =
+    ran_on beside.from seat events beside.to (ap (λ (s : Session). phase_of s.stand) beside.starts ∙ active) beside.did in record {
+      work = on.work;
+      stand = ap (λ (s : Session). s.stand) beside.stops ∙ on.stand;
+      more = subst (λ (s : Session). Extends (work_of s.stand) on.work) beside.starts on.more;
+      grows = subst (λ (s : Session). Grows s (t.session seat)) beside.starts (subst (λ (s : Session). Grows (beside.from.session seat) s) (sym beside.stops) on.goes.own);
+      onward = record { opening = beside.opening; tail = beside.tail };
+    }
+
+-- THE SESSION goes on with its transaction.
+abbrev GoesFrom : Session → Session → Type 0
+GoesFrom s t = (u : Work) × (t.stand ≡ world.active u) × Extends (work_of s.stand) u × (t.over ≡ s.over)
+
+went_from : (s t : Session) → phase_of s.stand ≡ Active → GoesFrom s t → Continues s t
+went_from s t active (u, stand, more, over) =
+    continues_from s t (world.active (work_of s.stand)) (active_in s.stand active) [] (over ∙ sym (append-nil s.over)) (u, more, inl stand)
+
+now_active : (seat : ℕ) (p : Progress) (s : Session) → phase_of s.stand ≡ Active → Tells seat p s → TellsNow seat p.current (world.active (work_of s.stand))
+now_active seat p s active told = subst (λ (stand : Stand). TellsNow seat p.current stand) (active_in s.stand active) told.now
+
+took_on : (seat : ℕ) (asked : Option Command) (a : Answer) (s t : Session) → phase_of s.stand ≡ Active → GoesFrom s t
+    → ((before : List Step) → IsRunOf (work_of s.stand) before → IsRunOf (work_of t.stand) (before ++ added asked a))
+    → phase_after asked a (phase_of s.stand) ≡ phase_of s.stand → ((p : Progress) → heard seat asked a p ≡ goes_on asked a p) → Took seat asked a s t
+took_on seat asked a s t active (u, stand, more, over) run phase hears = record {
+  goes = went_from s t active (u, stand, more, over);
+  phase = phase ∙ active ∙ sym (ap phase_of stand);
+  tells = λ p told. subst (λ (q : Progress). Tells seat q t) (sym (hears p)) (record {
+    over = subst (λ (fs : List Finished). TellsOver seat p.over fs) (sym over) told.over;
+    now = subst (λ (at : Stand). TellsNow seat (goes_on asked a p).current at) (sym stand)
+        (active_told seat asked a p.current (work_of s.stand) u more.number more.begin
+        (λ before was. subst (λ (w : Work). IsRunOf w (before ++ added asked a)) (ap work_of stand) (run before was))
+        (now_active seat p s active told));
+  });
+}
+
+took_ended : (seat : ℕ) (c : Command) (a : Answer) (ending : Ending) (s t : Session) → ((w u : Work) (steps : List Step) → Extends w u → IsAnswered w steps → IsAnswered u steps)
+    → phase_of s.stand ≡ Active → Grows s t → t.stand ≡ world.idle → reply_in a ≡ None → EndsAs ending world.aborts → phase_after (Some c) a (phase_of s.stand) ≡ Idle
+    → ((p : Progress) → heard seat (Some c) a p ≡ ended ending (goes_on (Some c) a p)) → Took seat (Some c) a s t
+took_ended seat c a ending s t stay active grows idle none aborts phase hears =
+    let w = work_of s.stand in
+    let stand : s.stand ≡ world.active w = active_in s.stand active in
+    let done = over_then s t w grows stand idle in
+    let f : Finished = record { work = done.0; fate = world.aborts } in record {
+      goes = continues_from s t (world.active w) stand (f ∷ []) done.2 (done.0, done.1, inr (inr (f, [], s.over, done.2, refl)));
+      phase = phase ∙ sym (ap phase_of idle);
+      tells = λ p told. subst (λ (q : Progress). Tells seat q t) (sym (hears p)) (record {
+        over = subst (λ (fs : List Finished). TellsOver seat (ended ending (goes_on (Some c) a p)).over fs) (sym done.2)
+            (aborted_told seat ending p.over (goes_on (Some c) a p).current s.over w done.0 aborts done.1.number done.1.begin
+            (λ steps. stay w done.0 steps done.1) told.over
+            (unchanged_told seat (Some c) a p.current (world.active w) (none_replied c a none) (now_active seat p s active told)));
+        now = subst (λ (at : Stand). TellsNow seat None at) (sym idle) tt;
+      });
+    }
+
+-- A CALL THAT WAS CUT OFF. What it leaves, where the transaction goes on, and where it ends.
+module _ (f : View) (seat : ℕ) (front : Rows → List Event → Type 0) (asks : List Event → Rows → Asked → Type 0) (why : RowStop) (v t : View) (active : phase_at v seat ≡ Active)
+    (cut : WereCutBeside f seat front asks why v t) where
+  before : Reached seat v cut.at
+  before = reached seat cut.events v cut.at active cut.ran
+
+  last : Stopped seat (MayStop cut.asked) why cut.at t
+  last = stopped_after seat cut.asked why cut.at t (ap phase_of before.stand) cut.refused
+
+  pub cut_onward : Onward v t
+  cut_onward = onward_then v cut.at t before.onward (record { opening = last.goes.opening; tail = last.goes.tail })
+
+  pub cut_goes : rows.ends why ≡ false → GoesFrom (v.session seat) (t.session seat)
+  cut_goes stays = (
+    before.work,
+    ap (λ (s : Session). s.stand) (last.stays stays) ∙ before.stand,
+    before.more,
+    ap (λ (s : Session). s.over) (last.stays stays) ∙ over_still (v.session seat) (cut.at.session seat) before.work before.grows before.stand,
+  )
+
+  pub cut_ends : rows.ends why ≡ true → Grows (v.session seat) (t.session seat) × ((t.session seat).stand ≡ world.idle)
+  cut_ends ends = (grows_then (v.session seat) (cut.at.session seat) (t.session seat) before.grows last.goes.own, last.ended ends)
+
+-- TRIES. The session waits, and what was told is told still.
+pub record Holds (seat : ℕ) (v t : View) : Type 0 where
+  pub phase : phase_at t seat ≡ phase_at v seat
+  pub goes : Continues (v.session seat) (t.session seat)
+  pub tells : (p : Progress) → Tells seat p (v.session seat) → Tells seat p (t.session seat)
+  pub onward : Onward v t
+
+held_now : (seat : ℕ) (current : Option Transaction) (w u : Work) → u.number ≡ w.number → u.begin ≡ w.begin
+    → ((steps : List Step) → IsRunOf w steps → IsRunOf u steps) → TellsNow seat current (world.active w) → TellsNow seat current (world.active u)
+held_now seat None w u number begin run told = absurd told
+held_now seat (Some t) w u number begin run told = (
+  record {
+    work = record { session = told.0.work.session; number = told.0.work.number ∙ sym number; begin = told.0.work.begin ∙ sym begin };
+    unfinished = told.0.unfinished;
+    ran = run (steps_of t) told.0.ran;
+  },
+  told.1,
+)
+
+pub holds_passes : (seat : ℕ) (v t : View) → Passes seat v t → Holds seat v t
+holds_passes seat v t passes = record {
+  phase = ap (λ (s : Session). phase_of s.stand) passes.own;
+  goes = continues_itself (v.session seat) (t.session seat) passes.own;
+  tells = λ p told. subst (λ (s : Session). Tells seat p s) (sym passes.own) told;
+  onward = onward_passes seat v t passes;
+}
+
+pub holds_then : (seat : ℕ) (v u t : View) → Holds seat v u → Holds seat u t → Holds seat v t
+holds_then seat v u t first second = record {
+  phase = second.phase ∙ first.phase;
+  goes = continues_then (v.session seat) (u.session seat) (t.session seat) first.goes second.goes;
+  tells = λ p told. second.tells p (first.tells p told);
+  onward = onward_then v u t first.onward second.onward;
+}
+
+pub holds_cut : (f : View) (seat : ℕ) (front : Rows → List Event → Type 0) (asks : List Event → Rows → Asked → Type 0) (why : RowStop) (v t : View)
+    → phase_at v seat ≡ Active → WereCutBeside f seat front asks why v t → rows.ends why ≡ false → Holds seat v t
+holds_cut f seat front asks why v t active cut stays =
+    let (u, stand, more, over) = cut_goes f seat front asks why v t active cut stays in record {
+      phase = ap phase_of stand ∙ sym active;
+      goes = went_from (v.session seat) (t.session seat) active (u, stand, more, over);
+      tells = λ p told. record {
+        over = subst (λ (fs : List Finished). TellsOver seat p.over fs) (sym over) told.over;
+        now = subst (λ (at : Stand). TellsNow seat p.current at) (sym stand)
+            (held_now seat p.current (work_at v seat) u more.number more.begin
+            (λ steps was. subst (λ (w : Work). IsRunOf w steps) (ap work_of stand) (cut.run stays steps was))
+            (now_active seat p (v.session seat) active told));
+      };
+      onward = cut_onward f seat front asks why v t active cut;
+    }
+
+pub holds_tried : (f : View) (seat : ℕ) (c : Command) (n : ℕ) (v t : View) → phase_at v seat ≡ Active → WasTried f seat c n v t → Holds seat v t
+holds_tried f seat c zero v t active tried = holds_passes seat v t tried
+holds_tried f seat c (suc n) v t active (u, (other, seen, cut), rest) =
+    let first = holds_cut f seat (FrontOf c) (AsksOf c) (stop.NotYet other seen) v u active cut refl in
+    holds_then seat v u t first (holds_tried f seat c n u t (first.phase ∙ active) rest)
+
+-- a turn after the session held
+pub turns_held : (seat : ℕ) (asked : Option Command) (a : Answer) (v u t : View) → Holds seat v u → Turns seat asked a u t → Turns seat asked a v t
+turns_held seat asked a v u t holds turns = record {
+  took = record {
+    goes = continues_then (v.session seat) (u.session seat) (t.session seat) holds.goes turns.took.goes;
+    phase = ap (λ (x : Phase). phase_after asked a x) (sym holds.phase) ∙ turns.took.phase;
+    tells = λ p told. turns.took.tells p (holds.tells p told);
+  };
+  onward = onward_then v u t holds.onward turns.onward;
+}
+
+-- THE LAST TRY.
+module _ (stay : (w u : Work) (steps : List Step) → Extends w u → IsAnswered w steps → IsAnswered u steps) where
+  module _ (f : View) (seat : ℕ) (c : Command) (v t : View) (active : phase_at v seat ≡ Active) where
+    abbrev Cut : RowStop → Type 0
+    Cut why = WereCutBeside f seat (FrontOf c) (AsksOf c) why v t
+
+    abbrev At : Answer → Type 0
+    At a = Turns seat (Some c) a v t
+
+    stays_so : (a : Answer) (why : RowStop) → Cut why → rows.ends why ≡ false → reply_in a ≡ None → phase_after (Some c) a (phase_at v seat) ≡ phase_at v seat
+        → ((p : Progress) → heard seat (Some c) a p ≡ goes_on (Some c) a p) → At a
+    stays_so a why cut stays none phase hears = record {
+      took = took_on seat (Some c) a (v.session seat) (t.session seat) active (cut_goes f seat (FrontOf c) (AsksOf c) why v t active cut stays)
+          (λ steps was. subst (λ (list : List Step). IsRunOf (work_at t seat) list)
+          (sym (ap (λ (list : List Step). steps ++ list) (none_replied c a none) ∙ append-nil steps)) (cut.run stays steps was)) phase hears;
+      onward = cut_onward f seat (FrontOf c) (AsksOf c) why v t active cut;
+    }
+
+    ends_so : (a : Answer) (why : RowStop) (ending : Ending) → Cut why → rows.ends why ≡ true → reply_in a ≡ None → EndsAs ending world.aborts
+        → phase_after (Some c) a (phase_at v seat) ≡ Idle → ((p : Progress) → heard seat (Some c) a p ≡ ended ending (goes_on (Some c) a p)) → At a
+    ends_so a why ending cut ends none aborts phase hears =
+        let out = cut_ends f seat (FrontOf c) (AsksOf c) why v t active cut ends in record {
+          took = took_ended seat c a ending (v.session seat) (t.session seat) stay active out.0 out.1 none aborts phase hears;
+          onward = cut_onward f seat (FrontOf c) (AsksOf c) why v t active cut;
+        }
+
+    refused_so : (a : Answer) (why : RowStop) → told_at_once why ≡ Some a → Cut why → At a
+    refused_so a (stop.NotYet other seen) told cut = cc
+    refused_so a stop.ReadsFull told cut = subst At (the_answer answer.ReadsFull a told) (stays_so answer.ReadsFull stop.ReadsFull cut refl refl refl (λ p. refl))
+    refused_so a (stop.Owned other number) told cut =
+        subst At (the_answer (answer.Owned other number) a told)
+        (ends_so (answer.Owned other number) (stop.Owned other number) Aborts cut refl refl tt refl (λ p. refl))
+    refused_so a (stop.Newer stamp) told cut =
+        subst At (the_answer (answer.Newer stamp) a told) (ends_so (answer.Newer stamp) (stop.Newer stamp) Aborts cut refl refl tt refl (λ p. refl))
+    refused_so a stop.WritesFull told cut = subst At (the_answer answer.WritesFull a told) (stays_so answer.WritesFull stop.WritesFull cut refl refl refl (λ p. refl))
+    refused_so a (stop.CellsFull drawn) told cut =
+        subst At (the_answer (answer.CellsFull drawn) a told) (stays_so (answer.CellsFull drawn) (stop.CellsFull drawn) cut refl refl refl (λ p. refl))
+    refused_so a (stop.OidsFull drawn) told cut =
+        subst At (the_answer (answer.OidsFull drawn) a told) (stays_so (answer.OidsFull drawn) (stop.OidsFull drawn) cut refl refl refl (λ p. refl))
+    refused_so a (stop.Excluded succ pred) told cut =
+        subst At (the_answer (answer.ExcludedEarly succ pred) a told)
+        (ends_so (answer.ExcludedEarly succ pred) (stop.Excluded succ pred) (Excludes None succ pred) cut refl refl tt refl (λ p. refl))
+    refused_so a stop.Memory told cut = cc
+
+    refused_as : (a : Answer) → (why : RowStop) × (told_at_once why ≡ Some a) × Cut why → At a
+    refused_as a (why, told, cut) = refused_so a why told cut
+
+    once : (a : Answer) → DidOnce f seat c a v t → At a
+    once (answer.Replied r) (op, is, beside) =
+        turns_beside seat (Some c) (answer.Replied r) (λ u w. DidCalls u seat (record { op = op; reply = r } ∷ []) (WholeOf c (answer.Replied r)) w) v t beside
+        (turn_ran beside.from seat (Some c) (answer.Replied r) beside.to (record { op = op; reply = r } ∷ []) (WholeOf c (answer.Replied r))
+        (ap (λ (s : Session). phase_of s.stand) beside.starts ∙ active) beside.did (one_replied c op r is) refl (λ p. refl))
+    once (answer.Cut cells) (is, few, beside) =
+        turns_beside seat (Some c) (answer.Cut cells) (λ u w. DidCalls u seat [] (WholeOf c (answer.Cut cells)) w) v t beside
+        (turn_ran beside.from seat (Some c) (answer.Cut cells) beside.to [] (WholeOf c (answer.Cut cells))
+        (ap (λ (s : Session). phase_of s.stand) beside.starts ∙ active) beside.did (none_asked c (answer.Cut cells) is) refl (λ p. refl))
+    once a did = refused_as a did
+
+  -- an operation that was answered, or cut off, after its tries
+  pub turns_operation : (f : View) (seat : ℕ) (c : Command) (a : Answer) (v t : View) → phase_at v seat ≡ Active → DidOperationBeside f seat c a v t → Turns seat (Some c) a v t
+  turns_operation f seat c a v t active did =
+      let held = holds_tried f seat c did.times v did.at active did.tried in
+      turns_held seat (Some c) a v did.at t held (once f seat c did.at t (held.phase ∙ active) a did.once)
