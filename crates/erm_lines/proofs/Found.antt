@@ -1,5 +1,5 @@
 -- What looks for the next key find one after another, on a database map.
-use Rattle.std.proofs.Common.{◌≡◌, ℕ, zero, suc, ◌+◌, ◌-◌, ◌^◌, ◌<◌, ◌≤◌, List, [], ◌∷◌, ◌++◌, Option, Some, None, refl, sym, ap, ◌∙◌, subst, inl, inr, arith}
+use Rattle.std.proofs.Common.{◌≡◌, ℕ, zero, suc, ◌+◌, ◌-◌, ◌^◌, ◌<◌, ◌≤◌, max, List, [], ◌∷◌, ◌++◌, Option, Some, None, refl, sym, ap, ◌∙◌, subst, inl, inr, arith}
 use Rattle.std.specs.List.{All, AllPairs}
 use Rattle.std.proofs.lemmas.Bool.{cases_eq, cases_lt}
 use Rattle.std.proofs.lemmas.List.Elements.{All-head, All-push, All-tail, All-weaker}
@@ -73,21 +73,13 @@ found_more m table low from found pair above before next =
       ];
     }
 
--- there is none where no key is in the range
-pub found_empty : (m : Database) (table low high : ℕ) → high < low → AreFound m table low high []
-found_empty m table low high none = record {
-  ascend = λ i j d less inside. absurd (omega arith);
-  within = λ k d inside. absurd (omega arith);
-  all = λ key value above below few is. absurd (omega arith);
-}
-
 -- none is left up to the greatest key asked for
-pub found_all : (m : Database) (table low from high : ℕ) (found : List (ℕ × List ℕ)) → from ≤ high + 1 → ((k : ℕ) → from ≤ k → k ≤ high → k < 2 ^ 64 → value_at m table k ≡ None)
+pub found_all : (m : Database) (table low from high : ℕ) (found : List (ℕ × List ℕ)) → from ≤ max low (high + 1) → ((k : ℕ) → from ≤ k → k ≤ high → k < 2 ^ 64 → value_at m table k ≡ None)
     → AreFoundBelow m table low from found → AreFound m table low high found
 found_all m table low from high found top none before = record {
   ascend = before.ascend;
   within = All-weaker (λ a. (low ≤ a.0) × (a.0 < from) × (a.0 < 2 ^ 64) × (value_at m table a.0 ≡ Some a.1)) (λ a. (low ≤ a.0) × (a.0 ≤ high) × (a.0 < 2 ^ 64) × (value_at m table a.0 ≡ Some a.1))
-      (λ a is. let under = is.1 in (is.0, omega arith, is.2, is.3)) found before.within;
+      (λ a is. let under = is.1 in let over = is.0 in (is.0, omega (arith, over, under, top), is.2, is.3)) found before.within;
   all = λ key value over under few is. elim (cases_lt key from) as (λ _. (key, value) ∈ found) [
     | inl less ↦ before.all key value over less few is
     | inr more ↦ absurd (none_is_some (sym (none key more under few) ∙ is))

@@ -39,7 +39,7 @@ module _ (over : List Finished) (f : Finished) (never : IsCommitted f.fate → �
       (λ (new : g ∈ (f ∷ [])). never (subst (λ (h : Finished). IsCommitted h.fate) (sym (only_one g f new)) commits))
       (∈-parts more (f ∷ []) g m)
 
-  one_more : (r : Option Receipt) → IsReceiptOf over r → IsReceiptOf (over ++ f ∷ []) r
+  pub one_more : (r : Option Receipt) → IsReceiptOf over r → IsReceiptOf (over ++ f ∷ []) r
   one_more None none = none_more over none
   one_more (Some r) is = record {
     front = is.front;

@@ -1,5 +1,5 @@
 -- A scan as a walk of looks for the next key.
-use Rattle.std.proofs.Common.{◌≡◌, ℕ, ◌+◌, ◌^◌, ◌<◌, ◌≤◌, List, [], ◌∷◌, ◌++◌, Option, Some, None, arith}
+use Rattle.std.proofs.Common.{◌≡◌, ℕ, ◌+◌, ◌^◌, ◌<◌, ◌≤◌, max, List, [], ◌∷◌, ◌++◌, Option, Some, None, arith}
 use Rattle.erm_model.specs.declared.row_stop.RowStop.{RowStop}
 use Rattle.erm_model.specs.Database.{AreFound, IsNextAt, value_at}
 use Rattle.erm_model.specs.Rows.{Rows}
@@ -11,12 +11,12 @@ use Rattle.erm_tree.specs.Walk.{IsMetByNext, last_sought}
 use Rattle.erm_tree.proofs.Calls.{IsStopped-both, SawIn-both, SawIn-possible, SawIn-ready, SawIn-start, SawIn-weaker}
 use Rattle.erm_tree.proofs.Meetings.{IsMetIn-wider}
 use Rattle.erm_lines.specs.Operations.{IsMetByScan}
-use Rattle.erm_lines.proofs.Found.{AreFoundBelow, found_all, found_empty, found_more, found_none, next_from, no_further}
+use Rattle.erm_lines.proofs.Found.{AreFoundBelow, found_all, found_more, found_none, next_from, no_further}
 
 -- a scan has found all up to below this key
 pub record Scans {S : Type 0} (face : Face S) (s t : S) (table low high from : ℕ) (found : List (ℕ × List ℕ)) : Type 0 where
   pub above : low ≤ from
-  pub top : from ≤ high + 1
+  pub top : from ≤ max low (high + 1)
   pub seen : SawIn face (IsMetByScan table low high) s t (λ rows. AreFoundBelow (map_of_rows rows) table low from found)
 
 -- a look for the next key found this
@@ -28,13 +28,13 @@ abbrev pub Scanned : {S : Type 0} → Face S → ℕ → ℕ → ℕ → S → S
 Scanned {S} face table low high s t found = SawIn face (IsMetByScan table low high) s t (λ rows. AreFound (map_of_rows rows) table low high found)
 
 -- what a look from some key in the range on meets, the scan meets
-met_by : (rows : Rows) (table low high from : ℕ) (next : Option (ℕ × List ℕ)) (x : ℕ) → high < 2 ^ 64 → low ≤ from → from ≤ high + 1 → IsNextAt (map_of_rows rows) table from next
+met_by : (rows : Rows) (table low high from : ℕ) (next : Option (ℕ × List ℕ)) (x : ℕ) → low < 2 ^ 64 → high < 2 ^ 64 → low ≤ from → from ≤ max low (high + 1) → IsNextAt (map_of_rows rows) table from next
     → IsMetIn rows table from (last_sought (2 ^ 64) next) x → IsMetByScan table low high rows x
-met_by rows table low high from next x few above top is on =
-    let (later, then_is) = next_from (map_of_rows rows) table (high + 1) (omega arith) in
-    (later, then_is, IsMetIn-wider rows table from (last_sought (2 ^ 64) next) low (last_sought (2 ^ 64) later) x above (no_further (map_of_rows rows) table from (high + 1) next later top is then_is) on)
+met_by rows table low high from next x small few above top is on =
+    let (later, then_is) = next_from (map_of_rows rows) table (max low (high + 1)) (omega (arith, small, few)) in
+    (later, then_is, IsMetIn-wider rows table from (last_sought (2 ^ 64) next) low (last_sought (2 ^ 64) later) x above (no_further (map_of_rows rows) table from (max low (high + 1)) next later top is then_is) on)
 
-module _ {S : Type 0} (face : Face S) (goes_on : (a b c : S) → face.follows a b → face.follows b c → face.follows a c) (table low high : ℕ) (few : high < 2 ^ 64) where
+module _ {S : Type 0} (face : Face S) (goes_on : (a b c : S) → face.follows a b → face.follows b c → face.follows a c) (table low high : ℕ) (small : low < 2 ^ 64) (few : high < 2 ^ 64) where
   abbrev ByScan : Rows → ℕ → Type 0
   ByScan = IsMetByScan table low high
 
@@ -51,18 +51,12 @@ module _ {S : Type 0} (face : Face S) (goes_on : (a b c : S) → face.follows a 
   Whole found rows = AreFound (map_of_rows rows) table low high found
 
   -- it begins
-  pub scan_start : (s : S) → low ≤ high → IsReady face s → face.follows s s → Scans face s s table low high low []
-  scan_start s range ready stands = record {
+  pub scan_start : (s : S) → IsReady face s → face.follows s s → Scans face s s table low high low []
+  scan_start s ready stands = record {
     above = omega arith;
     top = omega arith;
     seen = SawIn-start face goes_on ByScan s (Below low []) ready stands (λ array meets. found_none (map_of_rows array) table low low (omega arith));
   }
-
-  -- no key is in the range
-  pub scan_nothing : (s : S) → high < low → IsReady face s → face.follows s s → SawIn face ByScan s s (Whole [])
-  scan_nothing s none ready stands =
-      SawIn-start face goes_on ByScan s (Whole []) ready stands
-      (λ array meets. found_empty (map_of_rows array) table low high none)
 
   -- the transaction may be called on
   pub scan_ready : (s t : S) (from : ℕ) (found : List (ℕ × List ℕ)) → IsLawful face s → Scans face s t table low high from found → IsReady face t
@@ -73,7 +67,7 @@ module _ {S : Type 0} (face : Face S) (goes_on : (a b c : S) → face.follows a 
     both next look =
         SawIn-both face goes_on ByScan (ByNext from next) ByScan s t u (Below from found) (Next from next) scans.seen look
         (λ array meets is then_is x on. on)
-        (λ array meets is then_is x on. met_by array table low high from next x few scans.above scans.top then_is on)
+        (λ array meets is then_is x on. met_by array table low high from next x small few scans.above scans.top then_is on)
 
     -- it found one more
     pub scan_more : (pair : ℕ × List ℕ) → IsLawful face s → SawIn face (ByNext from (Some pair)) t u (Next from (Some pair)) → pair.0 ≤ high
@@ -85,7 +79,7 @@ module _ {S : Type 0} (face : Face S) (goes_on : (a b c : S) → face.follows a 
         let above = scans.above in (
           record {
             above = omega arith;
-            top = omega arith;
+            top = omega (arith, under);
             seen = SawIn-weaker face goes_on ByScan ByScan s u (λ rows. Below from found rows × Next from (Some pair) rows) (Below (pair.0 + 1) (found ++ pair ∷ []))
                 (λ array meets is. found_more (map_of_rows array) table low from found pair scans.above is.0 is.1) (λ array meets is x on. on) seen;
           },
@@ -111,7 +105,7 @@ module _ {S : Type 0} (face : Face S) (goes_on : (a b c : S) → face.follows a 
     scan_stopped may stop stopped =
         IsStopped-both face goes_on ByScan (IsMetByNext table from) ByScan may s t u stop (Below from found) scans.seen stopped
         (λ array meets is x on. on)
-        (λ array meets is x on. met_by array table low high from on.0 x few scans.above scans.top on.1 on.2)
+        (λ array meets is x on. met_by array table low high from on.0 x small few scans.above scans.top on.1 on.2)
 
   -- it found the greatest key that there may be
   pub scan_whole : (s t : S) (from : ℕ) (found : List (ℕ × List ℕ)) → from ≡ high + 1 → Scans face s t table low high from found → SawIn face ByScan s t (Whole found)

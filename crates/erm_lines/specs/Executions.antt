@@ -2,7 +2,7 @@
 use Rattle.std.specs.Prelude.{◌≡◌, ℕ, ◌+◌, ◌<◌, ◌≤◌, ◌⊎◌, Bool, not, nat_eq, List, [], ◌∷◌, length, replicate, Some, None}
 use Rattle.std.specs.Cmp.Lexicographic.{pointwise}
 use Rattle.std.specs.List.{All, AllPairs, filter, range_with_len}
-use Rattle.erm_model.specs.declared.limits.TheConstants.{LAST_NUMBER, LEAST_BLOCK, OID_LIMIT, TABLE_CELLS}
+use Rattle.erm_model.specs.declared.limits.TheConstants.{LAST_NUMBER, LEAST_BLOCK, MOST_CELLS, OID_LIMIT, TABLE_CELLS}
 use Rattle.erm_model.specs.declared.TheConstants.{ROW_WORDS}
 use Rattle.erm_model.specs.declared.outcome.Phase.TheVariants.{Idle}
 use Rattle.erm_model.specs.Member.{◌∈◌}
@@ -180,10 +180,10 @@ is_zero row = pointwise nat_eq row (replicate ROW_WORDS 0)
 abbrev pub count_rows : Rows → ℕ
 count_rows rows = length (filter (λ oid. not (is_zero (rows oid))) (range_with_len 0 OID_LIMIT))
 
--- what a report starts from is how the world was opened, which has cells enough
+-- what a report starts from is how the world was opened, which has cells enough, and no more than there may be
 pub record IsOpeningOf (v : View) (opening : Opening) : Type 0 where
   pub map : opening.map ≡ map_of_rows v.opening.rows
   pub stamp : v.opening.tail ≡ opening.stamp + LEAST_BLOCK
   pub rows : opening.rows ≡ count_rows v.opening.rows
   pub first : opening.first ≡ v.opening.first
-  pub cells : TABLE_CELLS ≤ v.opening.cells
+  pub cells : (TABLE_CELLS ≤ v.opening.cells) × (v.opening.cells ≤ MOST_CELLS)

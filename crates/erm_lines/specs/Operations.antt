@@ -1,5 +1,5 @@
 -- What the calls behind a line of a script are: which events an operation on a table has, whole or cut off.
-use Rattle.std.specs.Prelude.{◌≡◌, ℕ, ◌+◌, ◌^◌, false, List, [], ◌∷◌, ◌++◌, Option, MatchOption}
+use Rattle.std.specs.Prelude.{◌≡◌, ℕ, ◌+◌, ◌^◌, max, false, List, [], ◌∷◌, ◌++◌, Option, MatchOption}
 use Rattle.erm_model.specs.declared.operation.Reply.TheVariants as reply
 use Rattle.erm_model.specs.declared.row_stop.RowStop.{RowStop}
 use Rattle.erm_model.specs.Database.{IsNextAt}
@@ -25,10 +25,11 @@ use Rattle.erm_script.specs.declared.script.Command.TheVariants as command
 abbrev pub ReadsOnly : (ℕ → Type 0) → List Event → Type 0
 ReadsOnly objects events = OnlyReads events × ReadsAre objects events
 
--- x is met in a table from the key `low` up to the first key above `high` that has a value, or to the greatest key where there is none
+-- x is met in a table from the key `low` up to the first key above `high`, and not below `low`, that has a value, or to the greatest key where there
+-- is none
 abbrev pub IsMetByScan : ℕ → ℕ → ℕ → Rows → ℕ → Type 0
 IsMetByScan table low high rows x =
-    (found : Option (ℕ × List ℕ)) × IsNextAt (map_of_rows rows) table (high + 1) found × IsMetIn rows table low (last_sought (2 ^ 64) found) x
+    (found : Option (ℕ × List ℕ)) × IsNextAt (map_of_rows rows) table (max low (high + 1)) found × IsMetIn rows table low (last_sought (2 ^ 64) found) x
 
 -- A key was tidied: where it has an entry, its record was claimed alone.
 abbrev pub IsTidy : Rows → ℕ → ℕ → List Event → Type 0

@@ -8,7 +8,7 @@ mod laws;
 mod line;
 mod operations;
 mod phases;
-mod scan;
+mod scans;
 mod stops;
 mod tidy;
 
@@ -16,3 +16,5 @@ pub use durable::answer_durable;
 pub use ends::close_session;
 pub use laws::{lines_keep_runs, lines_leave_the_log};
 pub use line::answer_line;
+pub use phases::refusal_of;
+pub use scans::scan;

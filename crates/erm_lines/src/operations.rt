@@ -125,7 +125,7 @@ pub fn scan<'a, W: RowWorld>(
 {
     erm_maps::runs_are_ready::<W>();
     erm_maps::calls_are_runs::<W>();
-    match crate::scan::scan(alloc, txn, table, low, high)? {
+    match crate::scans::scan(alloc, txn, table, low, high)? {
         Ok(found) => Ok(Answer::Replied(Reply::Found(found))),
         Err(stop) => refusal(stop),
     }

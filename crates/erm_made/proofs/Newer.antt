@@ -17,7 +17,7 @@ use Rattle.erm_good_report.specs.GoodReport.{places_of}
 use Rattle.erm_good_report.specs.Opening.{InTurn, Opening}
 use Rattle.erm_good_report.specs.Phases.{FitsPhase, FitsRefusal, IsAnswerTo, phase_of, refusal_of}
 use Rattle.erm_good_report.specs.Refusals.{HasRefusalCause, Moment, moment_at, stamp_committed}
-use Rattle.erm_good_report.specs.Stamps.{AllInTime, Told, begin_told, stamp_told}
+use Rattle.erm_good_report.specs.Stamps.{AllInTime, Told, begin_told, stamp_printed, stamp_told}
 use Rattle.erm_good_report.specs.Transactions.{Progress, Said, Transaction, heard, progress_of, said_of, transactions_of, with_line}
 use Rattle.erm_make.specs.Workload.{Request, names_of, numbered, workload}
 use Rattle.erm_made.specs.Counts.{count, is_commit, is_exclusion, meets_newer, meets_owner, tells}
@@ -312,16 +312,24 @@ begin_above : (before : List Said) (a : Answer) → ((x : Said) → x ∈ before
 begin_above before (answer.Began begin) each = each
 begin_above before a each = tt
 
-begins_above : (said : List Said) (i : ℕ) (y : Said) → AllInTime InTurn (λ x z. Told (λ stamp begin. stamp < begin) (stamp_told x.answer) (begin_told z.answer)) said
+-- a stamp that an answer tells it prints
+told_of_printed : (a : Answer) (P : ℕ → Type 0) → IfSome (stamp_printed a) P → IfSome (stamp_told a) P
+told_of_printed (answer.WaitSeat seat seen) P is = tt
+told_of_printed (answer.Newer stamp) P is = tt
+told_of_printed (answer.Durable stamp) P is = tt
+told_of_printed a P is = is
+
+begins_above : (said : List Said) (i : ℕ) (y : Said) → AllInTime InTurn (λ x z. Told (λ stamp begin. stamp < begin) (stamp_printed x.answer) (begin_told z.answer)) said
     → slice_get said i ≡ Some y → IfSome (begin_told y.answer) (λ begin. IsAbove (take i said) begin)
 begins_above said i y all at =
     begin_above (take i said) y.answer
     (λ x m.
     let front = in_front i said m.0 x m.1 in
-    let P : Said → Said → Type 0 = λ u z. Told (λ stamp begin. stamp < begin) (stamp_told u.answer) (begin_told z.answer) in
+    let P : Said → Said → Type 0 = λ u z. Told (λ stamp begin. stamp < begin) (stamp_printed u.answer) (begin_told z.answer) in
     let pair : P (get_or said m.0 y) (get_or said i y) = all m.0 i y front.0 (slice_get_within said i y at) refl in
     let first : P x (get_or said i y) = subst (λ u. P u (get_or said i y)) (get_or_from_slice_get said m.0 x y front.1) pair in
-    subst (λ z. P x z) (get_or_from_slice_get said i y y at) first)
+    let both : P x y = subst (λ z. P x z) (get_or_from_slice_get said i y y at) first in
+    told_of_printed x.answer (λ stamp. IfSome (begin_told y.answer) (λ begin. stamp < begin)) both)
 
 -- what is newer is over
 meets_over : (m : Moment) (c : Command) (t : Transaction) (a : Answer) → m.mode ≡ InTurn → HasRefusalCause m c (with_line (Some c) a t) a → MeetsOver m.before t.begin a

@@ -5,6 +5,7 @@ use Rattle.erm_script.specs.declared.script.ScriptLine.{ScriptLine}
 use Rattle.erm_script.specs.declared.script.TheConstants.{NO_SESSION}
 use Rattle.erm_script.specs.declared.parser.line.Asked.{Asked}
 use Rattle.erm_script.specs.declared.parser.line.Asked.TheVariants.{OfSession, Alone}
+use Rattle.erm_model.specs.Member.{◌∈◌}
 use Rattle.erm_script.specs.Script.{Spells, SpellsAlone}
 use Rattle.erm_script.specs.Seats.{IsSeatOf}
 
@@ -17,6 +18,11 @@ Asks g line names (Alone command) = SpellsAlone g line command
 pub record AddsName (name : List ℕ) (seat : ℕ) (names after : List (List ℕ)) : Type 0 where
   pub next : length names < seat → after ≡ names ++ name ∷ []
   pub known : seat ≤ length names → after ≡ names
+
+-- where the seat of the session that a line names is behind those of the names, its name is none of them
+abbrev pub IsNewWhereAdded : Asked → List (List ℕ) → Type 0
+IsNewWhereAdded (OfSession name seat command) names = length names < seat → name ∈ names → ⊥
+IsNewWhereAdded (Alone command) names = Unit {0}
 
 -- what a line asks for is added to a script's names and lines
 abbrev pub Adds : ℕ → Asked → List (List ℕ) → List ScriptLine → List (List ℕ) → List ScriptLine → Type 0

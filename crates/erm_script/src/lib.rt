@@ -7,6 +7,7 @@ mod keyword;
 mod laws;
 mod parser;
 mod script;
+mod sessions;
 
 pub use fault::{FaultKind, ScriptFault};
 pub use grammar::Grammar;

@@ -2,14 +2,15 @@
 ghost use Rattle.std.specs.Prelude.{◌≡◌, ◌≢◌, ℕ, ◌+◌, ◌-◌, ◌<◌, ◌≤◌, ◌^◌, List, [], ◌∷◌, ◌++◌, ◌⊎◌, length, vec_len, IfOk, OnOk};
 ghost use Rattle.erm_script.specs.declared.fault.FaultKind.{FaultKind};
 ghost use Rattle.erm_script.specs.Script.{IsScript, is_skipped};
-ghost use Rattle.erm_script.specs.Asked.{Adds, AddsName};
+ghost use Rattle.erm_script.specs.Asked.{Adds, IsNewWhereAdded};
 ghost use Rattle.erm_script.specs.Faults.{IsFirstBadLine};
 
 mod line;
 mod word;
 
+use crate::sessions::Sessions;
 use crate::{Grammar, NO_SESSION, ScriptFault, ScriptLine};
-use erm_model::{Name, Seat};
+use erm_model::Name;
 use line::Asked;
 use std::alloc::{AllocError, Global};
 
@@ -48,17 +49,20 @@ pub fn parse(alloc: Global, bytes: &[u8], grammar: Grammar) -> Result<Script, Pa
     ensures fault { (line : ℕ) (kind : FaultKind) → result ≡ Err (ParseError.Fault (record { line = line; kind = kind }))
         → IsFirstBadLine grammar bytes.now line kind }
 {
-    let mut script = Script {
-        names: Vec::new(alloc),
+    let mut read = Reading {
+        sessions: Sessions::new(alloc),
         lines: Vec::new(alloc),
     };
     for (index, line) in bytes.split(|b| *b == b'\n').enumerate() {
         if is_skipped(line) {
             continue;
         }
-        script.add(index as u32 + 1, line, grammar)?;
+        read.add(index as u32 + 1, line, grammar)?;
     }
-    Ok(script)
+    Ok(Script {
+        names: read.sessions.to_names(alloc)?,
+        lines: read.lines,
+    })
 }
 
 // whether a line is empty or begins with `#`
@@ -68,21 +72,28 @@ fn is_skipped(line: &[u8]) -> bool
     line.is_empty() || line[0] == b'#'
 }
 
-impl Script {
+/// What was read of a script so far.
+#[derive(Drop)]
+struct Reading {
+    sessions: Sessions,
+    lines: Vec<ScriptLine>,
+}
+
+impl Reading {
     ghost use Rattle.erm_script.specs.Script.{AreScript};
     ghost use Rattle.erm_script.specs.Faults.{IsFirstFault};
     ghost use Rattle.erm_script.specs.Words.{words_of};
 
     // adds a line with its number after those that are there
     fn add(&mut self, number: u32, line: &[u8], grammar: Grammar) -> Result<(), ParseError>
-        requires { vec_len self.old.names ≤ grammar.sessions }
-        ensures added { OnOk result ((kept : List (ℕ × List ℕ)) → AreScript grammar kept self.old.names.items self.old.lines.items
-            → AreScript grammar (kept ++ (number, line.now) ∷ []) self.new.names.items self.new.lines.items) }
+        requires { length self.old.sessions ≤ grammar.sessions }
+        ensures added { OnOk result ((kept : List (ℕ × List ℕ)) → AreScript grammar kept self.old.sessions self.old.lines.items
+            → AreScript grammar (kept ++ (number, line.now) ∷ []) self.new.sessions self.new.lines.items) }
         ensures fault { (line_number : ℕ) (kind : FaultKind)
             → result ≡ Err (ParseError.Fault (record { line = line_number; kind = kind }))
-            → (line_number ≡ number) × IsFirstFault grammar self.old.names.items (words_of line.now) kind }
+            → (line_number ≡ number) × IsFirstFault grammar self.old.sessions (words_of line.now) kind }
     {
-        match line::line(line, &self.names, grammar) {
+        match line::line(line, &self.sessions, grammar) {
             Ok(asked) => self.add_asked(number, asked)?,
             Err(kind) => return Err(ParseError::Fault(ScriptFault { line: number, kind })),
         }
@@ -91,7 +102,8 @@ impl Script {
 
     // adds what a line asks for
     fn add_asked(&mut self, number: u32, asked: Asked) -> Result<(), AllocError>
-        ensures { OnOk result (Adds number asked self.old.names.items self.old.lines.items self.new.names.items self.new.lines.items) }
+        requires new { IsNewWhereAdded asked self.old.sessions }
+        ensures { OnOk result (Adds number asked self.old.sessions self.old.lines.items self.new.sessions self.new.lines.items) }
     {
         let (session, command) = match asked {
             Asked::OfSession {
@@ -99,7 +111,9 @@ impl Script {
                 seat,
                 command,
             } => {
-                add_session(&mut self.names, name, seat)?;
+                if usize::from(seat) > self.sessions.len() {
+                    self.sessions.add(&name)?;
+                }
                 (seat, command)
             }
             Asked::Alone(command) => (NO_SESSION, command),
@@ -111,15 +125,4 @@ impl Script {
         })?;
         Ok(())
     }
-}
-
-// adds the name of a session whose seat is the next one
-fn add_session(names: &mut Vec<Name>, name: Name, session: Seat) -> Result<(), AllocError>
-    ensures { OnOk result (AddsName name session names.old.items names.new.items) }
-{
-    if usize::from(session) <= names.len() {
-        return Ok(());
-    }
-    names.push(name)?;
-    Ok(())
 }

@@ -1,6 +1,6 @@
 -- A world on rows that were recovered.
 use Rattle.std.specs.Prelude.{◌≡◌, ℕ, ◌+◌, ◌-◌, ◌<◌, ◌≤◌, true, false, [], None}
-use Rattle.erm_model.specs.declared.limits.TheConstants.{OID_LIMIT, TABLE_CELLS, TABLES}
+use Rattle.erm_model.specs.declared.limits.TheConstants.{MOST_CELLS, OID_LIMIT, TABLES}
 use Rattle.erm_model.specs.Rows.{Rows}
 use Rattle.erm_model.specs.RowTransaction.{SameRows}
 use Rattle.erm_node.specs.Sound.{reached}
@@ -21,7 +21,7 @@ abbrev pub IsFirstObject : Rows → ℕ → Type 0
 IsFirstObject rows first = IsFirstBelow rows OID_LIMIT first
 
 -- A world of so many sessions that was just opened on these rows, whose log goes on at this place, and is written as this run. The
--- rows reach none of the objects that it makes, and it cuts off no versions.
+-- rows reach none of the objects that it makes, it has as many cells as there may be, and it cuts off no versions.
 pub record IsOpenedOn (found : Rows) (place number many : ℕ) (v : View) : Type 0 where
   pub opened : IsOpened v
   pub rows : SameRows v.opening.rows found
@@ -29,7 +29,7 @@ pub record IsOpenedOn (found : Rows) (place number many : ℕ) (v : View) : Type
   pub run : v.opening.run ≡ number
   pub sessions : v.opening.sessions ≡ many
   pub first : IsFirstObject found v.opening.first
-  pub cells : TABLE_CELLS ≤ v.opening.cells
+  pub cells : v.opening.cells ≡ MOST_CELLS
   pub cuts : v.opening.cuts ≡ 0
   pub unreached : (oid : ℕ) → v.opening.first ≤ oid → reached v.opening.rows oid ≡ 0
 

@@ -3,7 +3,7 @@ use Rattle.std.specs.Prelude.{◌≡◌, ◌≢◌, ℕ, ◌+◌, ◌*◌, ◌<�
 use Rattle.erm_model.specs.declared.history.TransactionRecord.{TransactionRecord}
 use Rattle.erm_model.specs.declared.history.VersionRead.{VersionRead}
 use Rattle.erm_model.specs.declared.history.VersionWritten.{VersionWritten}
-use Rattle.erm_model.specs.declared.limits.TheConstants.{GREATEST_BLOCK, LAST_NUMBER, LEAST_BLOCK, OID_LIMIT, READ_LIMIT, RING_WORDS, STOP, WRITE_LIMIT}
+use Rattle.erm_model.specs.declared.limits.TheConstants.{GREATEST_BLOCK, LAST_NUMBER, LEAST_BLOCK, OID_LIMIT, READ_LIMIT, RING_WORDS, SESSIONS, STOP, WRITE_LIMIT}
 use Rattle.erm_model.specs.declared.outcome.Outcome.{Outcome}
 use Rattle.erm_model.specs.declared.outcome.Outcome.TheVariants.{Committed, Excluded}
 use Rattle.erm_model.specs.declared.row_stop.RowStop.{RowStop}
@@ -151,6 +151,11 @@ DidNotRead v seat oid (stop.OidsFull drawn) t = ⊥
 abbrev pub AreAllDrawn : View → Type 0
 AreAllDrawn v = v.opening.cells ≤ OID_LIMIT + claims_by_all v
 
+-- A counter that was seen at or above its limit stands above it by no more than one for each seat: each raises it once more at most, when it
+-- has seen it below. The seats are the sessions' and two more.
+abbrev pub IsJustAbove : ℕ → ℕ → Type 0
+IsJustAbove limit drawn = (limit ≤ drawn) × (drawn ≤ limit + SESSIONS + 2)
+
 -- a claim is refused only where the object isn't claimed, and but for memory only where one more claim may be made
 abbrev pub MayClaim : Work → ℕ → Type 0
 MayClaim w oid = (is_claimed w.claims oid ≡ false) × (length w.claims < WRITE_LIMIT)
@@ -163,7 +168,7 @@ DidNotClaim v seat oid (stop.Owned other number) t =
 DidNotClaim v seat oid (stop.Newer stamp) t =
     MayClaim (work_at v seat) oid × IsDone v seat (work_at v seat) world.aborts t × IsUnowned v seat oid × IsNewer v seat oid stamp
 DidNotClaim v seat oid (stop.CellsFull drawn) t =
-    MayClaim (work_at v seat) oid × (t ≡ v) × IsUnowned v seat oid × HasNoNewer v seat oid × (v.opening.cells ≤ drawn) × AreAllDrawn v
+    MayClaim (work_at v seat) oid × (t ≡ v) × IsUnowned v seat oid × HasNoNewer v seat oid × IsJustAbove v.opening.cells drawn × AreAllDrawn v
 DidNotClaim v seat oid (stop.Excluded succ pred) t = MayClaim (work_at v seat) oid × IsUnowned v seat oid × HasNoNewer v seat oid
     × ((c : VersionWritten) × (c.oid ≡ oid) × IsDone v seat (claiming c (work_at v seat)) world.aborts t × IsShut v seat (claiming c (work_at v seat)) succ pred)
 DidNotClaim v seat oid stop.Memory t = (t ≡ v) × (is_claimed (work_at v seat).claims oid ≡ false)
@@ -177,7 +182,7 @@ AreAllMade v = (x : ℕ) → v.opening.first ≤ x → x < OID_LIMIT → 0 < mad
 
 -- A new object was refused.
 abbrev pub DidNotMake : View → ℕ → RowStop → View → Type 0
-DidNotMake v seat (stop.OidsFull drawn) t = (t ≡ v) × (OID_LIMIT ≤ drawn) × AreAllMade v
+DidNotMake v seat (stop.OidsFull drawn) t = (t ≡ v) × IsJustAbove OID_LIMIT drawn × AreAllMade v
 DidNotMake v seat stop.Memory t = t ≡ v
 DidNotMake v seat (stop.NotYet other seen) t = ⊥
 DidNotMake v seat stop.ReadsFull t = ⊥

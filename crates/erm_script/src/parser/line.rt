@@ -12,6 +12,7 @@ ghost use Rattle.erm_model.specs.Spelling.{value_word};
 ghost use Rattle.erm_model.specs.Member.{◌∈◌};
 
 use super::word;
+use crate::sessions::Sessions;
 use crate::{Command, FaultKind, Grammar, Keyword};
 use erm_model::{Name, Seat, Value};
 
@@ -29,10 +30,10 @@ pub enum Asked {
 }
 
 /// What a line asks for, after lines that named some sessions, or the first kind of fault that applies to it.
-pub fn line(bytes: &[u8], names: &[Name], grammar: Grammar) -> Result<Asked, FaultKind>
-    requires { length names.now ≤ grammar.sessions }
-    ensures asked { IfOk result (λ a. Asks grammar bytes.now names.now a) }
-    ensures fault { IfErr result (λ kind. IsFirstFault grammar names.now (words_of bytes.now) kind) }
+pub fn line(bytes: &[u8], sessions: &Sessions, grammar: Grammar) -> Result<Asked, FaultKind>
+    requires { length sessions.now ≤ grammar.sessions }
+    ensures asked { IfOk result (λ a. Asks grammar bytes.now sessions.now a) }
+    ensures fault { IfErr result (λ kind. IsFirstFault grammar sessions.now (words_of bytes.now) kind) }
 {
     if let Some(keyword) = lone_keyword(bytes) {
         let command = alone(keyword, grammar)?;
@@ -42,7 +43,7 @@ pub fn line(bytes: &[u8], names: &[Name], grammar: Grammar) -> Result<Asked, Fau
     let Some(name) = word::name(word) else {
         return Err(FaultKind::Name);
     };
-    let Some(seat) = seat(&name, names, grammar.sessions) else {
+    let Some(seat) = sessions.seat(&name, grammar.sessions) else {
         return Err(FaultKind::Sessions);
     };
     match command(words, grammar) {
@@ -84,19 +85,6 @@ fn alone(keyword: Keyword, grammar: Grammar) -> Result<Command, FaultKind>
     match keyword {
         Keyword::Flush => Ok(Command::Flush),
         _ => Ok(Command::Checkpoint),
-    }
-}
-
-// the seat of a session, or `None` where it would be one too many
-fn seat(name: &Name, names: &[Name], most: Seat) -> Option<Seat>
-    requires { length names.now ≤ most }
-    ensures seat { IfSome result (λ seat. IsSeatOf most name.now names.now seat) }
-    ensures full { IfNone result ((name.now ∈ names.now → ⊥) × (most ≤ length names.now)) }
-{
-    match names.iter().position(|known| *known == *name) {
-        Some(index) => Some(index as Seat + 1),
-        None if names.len() < usize::from(most) => Some(names.len() as Seat + 1),
-        None => None,
     }
 }
 

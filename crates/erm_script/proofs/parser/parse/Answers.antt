@@ -37,16 +37,16 @@ returns-in_err-add-clause-fault c = λ line kind e.
     let same : passed.0 ≡ Fault (record { line = line; kind = kind }) = let is = passed.1 in cc in
     let told = c.in_err-add.ensures.fault line kind (ap failed (sym passed.2 ∙ same)) in
     rw (told.0, at.1)
-    (first_bad_line c.args.grammar c.args.bytes.now (length c.loop-index.yielded) c.in-Some.line.now c.loop-index.script.names.items c.loop-index.script.lines.items kind
+    (first_bad_line c.args.grammar c.args.bytes.now (length c.loop-index.yielded) c.in-Some.line.now c.loop-index.read.sessions c.loop-index.read.lines.items kind
     at.0 at.2 (sym c.is_skipped.ensures ∙ c.if-is_skipped.false) c.loop-index.invariant told.1)
 
 pub returns-clause-script : goal.returns-clause-script
 returns-clause-script c =
     let end = YieldsList-end (YieldsList-at c.into_iter-index-iterator.ensures.into_iter_gives (YieldsList-from_enumerate (YieldsList-at c.enumerate-index-items.ensures.source (YieldsList-from_slice_split _ (λ b. b == 10) c.args.bytes.now c.split.ensures.rest c.split.ensures.done c.split.ensures.closure (λ x b q k. search (rules, tests)))) c.enumerate-index-items.ensures.count)) c.loop-index.yielded _ c.loop-index.yielded_by _ _ c.in-None.is c.next.ensures.steps in
-    whole_script c.args.grammar c.args.bytes.now (length c.loop-index.yielded) c.loop-index.script.names.items c.loop-index.script.lines.items end.1 c.loop-index.invariant
+    rw c.in_ok-to_names.ensures (whole_script c.args.grammar c.args.bytes.now (length c.loop-index.yielded) c.loop-index.read.sessions c.loop-index.read.lines.items end.1 c.loop-index.invariant)
 
 pub returns-clause-short : goal.returns-clause-short
 returns-clause-short c =
     let end = YieldsList-end (YieldsList-at c.into_iter-index-iterator.ensures.into_iter_gives (YieldsList-from_enumerate (YieldsList-at c.enumerate-index-items.ensures.source (YieldsList-from_slice_split _ (λ b. b == 10) c.args.bytes.now c.split.ensures.rest c.split.ensures.done c.split.ensures.closure (λ x b q k. search (rules, tests)))) c.enumerate-index-items.ensures.count)) c.loop-index.yielded _ c.loop-index.yielded_by _ _ c.in-None.is c.next.ensures.steps in
-    length_script c.args.grammar c.args.bytes.now c.loop-index.script.names.items c.loop-index.script.lines.items
-    (whole_script c.args.grammar c.args.bytes.now (length c.loop-index.yielded) c.loop-index.script.names.items c.loop-index.script.lines.items end.1 c.loop-index.invariant)
+    length_script c.args.grammar c.args.bytes.now c.loop-index.read.sessions c.loop-index.read.lines.items
+    (whole_script c.args.grammar c.args.bytes.now (length c.loop-index.yielded) c.loop-index.read.sessions c.loop-index.read.lines.items end.1 c.loop-index.invariant)

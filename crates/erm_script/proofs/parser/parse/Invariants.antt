@@ -6,4 +6,4 @@ use Rattle.erm_script.proofs.parser.parse.Given as goal
 
 abbrev pub invariant-loop-index : goal.invariant-loop-index
 invariant-loop-index l =
-    AreScript l.grammar (kept_from 1 (take (length l.yielded) (slice_split (λ b. b == 10) l.bytes))) l.script.names.items l.script.lines.items
+    AreScript l.grammar (kept_from 1 (take (length l.yielded) (slice_split (λ b. b == 10) l.bytes))) l.read.sessions l.read.lines.items

@@ -12,7 +12,8 @@ use erm_tree::next;
 use std::alloc::{AllocError, Global};
 
 /// The keys of a table from `low` to `high`, these two too, that have a value, ascending, with their values; or why a look for one
-/// was refused. `Err` where the list has no room.
+/// was refused. It looks for the next key from `low` on, also where that is above `high`, and then from behind each key found, until
+/// there is none, or one above `high`, or the greatest key. `Err` where the list has no room.
 pub fn scan<T: RowRead>(
     alloc: Global,
     txn: &mut T,
@@ -28,9 +29,6 @@ pub fn scan<T: RowRead>(
     ensures err { IfOk result (λ told. IfErr told (λ stop. IsStopped T.face StopsRead (Reads T.face.law (IsMetByScan table low high)) (AsksReads (IsMetByScan table low high)) txn.old stop txn.new)) }
 {
     let mut found = Vec::new(alloc);
-    if low > high {
-        return Ok(Ok(Pairs::new(found)));
-    }
     let mut from = low;
     loop {
         let (key, value) = match next(txn, table, from) {
