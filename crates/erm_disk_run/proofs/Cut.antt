@@ -1,16 +1,21 @@
 -- Sessions that were closed of which no line tells, and what answers tell of versions cut off.
-use Rattle.std.proofs.Common.{◌≡◌, ℕ, ◌<◌, List, [], ◌∷◌, length, refl, subst, arith}
+use Rattle.std.proofs.Common.{◌≡◌, ℕ, ◌<◌, List, [], ◌∷◌, ◌++◌, ◌+◌, length, take, inl, inr, refl, subst, arith}
+use Rattle.erm_model.specs.declared.limits.TheConstants.{MOST_CELLS}
 use Rattle.erm_model.specs.Member.{◌∈◌}
 use Rattle.erm_model.proofs.Members.{none_in_nil}
 use Rattle.erm_machine.proofs.Listed.{∈-head}
 use Rattle.erm_report.specs.declared.answer.Answer.{Answer}
 use Rattle.erm_script.specs.declared.script.ScriptLine.{ScriptLine}
 use Rattle.erm_world.specs.World.{View}
+use Rattle.erm_good_report.specs.Opening.{Opening}
 use Rattle.erm_good_report.specs.Phases.{Closed}
-use Rattle.erm_lines.specs.Executions.{AreClosed, IsCourse, IsPart, IsRun, closed_in}
+use Rattle.erm_good_report.specs.Transactions.{Said, said_of}
+use Rattle.erm_lines.specs.Executions.{AreClosed, IsCourse, IsOpeningOf, IsPart, IsRun, closed_in}
 use Rattle.erm_lines.specs.Laws.{PartsCutFew, RunsCutFew}
 use Rattle.erm_told_crash.specs.Laws.{CoursesClose}
-use Rattle.erm_disk_run.specs.Runs.{AreUncut, AreUnseen}
+use Rattle.erm_told_limits.specs.Limits.{CellsAreFull}
+use Rattle.erm_tight.specs.NewKeys.{HaveNewKeys, OidsAreFull}
+use Rattle.erm_disk_run.specs.Runs.{AreUncut, AreUnseen, HaveManyCells, HaveManyKeys}
 
 -- a list whose elements stand in an empty one is empty
 none_listed : (xs : List Closed) → ((c : Closed) → c ∈ xs → c ∈ []) → xs ≡ []
@@ -50,6 +55,30 @@ whole_course v t script answers run = record {
   last = run.last;
   closes = run.closes;
 }
+
+-- in a world of as many cells as there may be an answer that tells of them counts so many
+pub course_celled : CellsAreFull → (v t : View) (script : List ScriptLine) (answers : List Answer) → IsCourse v script answers t → v.opening.cells ≡ MOST_CELLS → HaveManyCells script answers
+course_celled full v t script answers course many drawn m = let most = full v t script answers course drawn m in (omega (arith, most.0, many), omega (arith, most.1, many))
+
+-- and one that tells of objects counts new keys
+pub course_keyed : OidsAreFull → (v t : View) (opening : Opening) → IsOpeningOf v opening → (sessions : ℕ) → v.opening.sessions ≡ sessions → (script : List ScriptLine) (answers : List Answer) → IsCourse v script answers t
+    → HaveManyKeys opening sessions script answers
+course_keyed full v t opening of sessions many script answers course i drawn e =
+    let found = full v t script answers course i drawn e in
+    (found.0, subst (λ (s : ℕ). HaveNewKeys s [] (take (i + 1) (said_of script answers)) found.0) many found.1, omega (arith, found.2, of.first))
+
+-- where no session is named there is no commit either
+fewer_sessions : (sessions : ℕ) (before said : List Said) (n : ℕ) → HaveNewKeys sessions before said n → HaveNewKeys 0 before said n
+fewer_sessions sessions before [] n have = have
+fewer_sessions sessions before (s ∷ said) n (inl have) = inl (fewer_sessions sessions (before ++ s ∷ []) said n have)
+fewer_sessions sessions before (s ∷ said) n (inr (puts, (m, is, have))) = inr (
+  record { table = puts.table; key = puts.key; value = puts.value; asks = puts.asks; own = puts.own; current = puts.current; new = λ by stamp succ commit less line. none_in_nil by commit.of },
+  (m, is, fewer_sessions sessions (before ++ s ∷ []) said m have),
+)
+
+pub keyed_without : (opening : Opening) (sessions : ℕ) (script : List ScriptLine) (answers : List Answer) → HaveManyKeys opening sessions script answers → HaveManyKeys opening 0 script answers
+keyed_without opening sessions script answers keyed i drawn e =
+    let found = keyed i drawn e in (found.0, fewer_sessions sessions [] (take (i + 1) (said_of script answers)) found.0 found.1, found.2)
 
 -- in a world that cuts off no versions no answer tells that some were
 pub run_uncut : RunsCutFew → (v t : View) (script : List ScriptLine) (answers : List Answer) → IsRun v script answers t → v.opening.cuts ≡ 0 → AreUncut answers

@@ -8,3 +8,4 @@ pub mod Spared
 pub mod Told
 pub mod ToldEnds
 pub mod ToldRun
+pub mod TwoRuns

@@ -13,7 +13,7 @@ use Rattle.erm_block.specs.declared.block.TheConstants.{RUN_END}
 use Rattle.erm_block.specs.LogList.{IsChain}
 use Rattle.erm_block.specs.Spelling.{spelling}
 use Rattle.erm_outside.specs.Disk.{Image, IsSettled, Step, Tells, contents}
-use Rattle.erm_log_disk.specs.Writes.{AllWriteWords, OnlyWrites}
+use Rattle.erm_log_disk.specs.Writes.{OnlyWrites}
 use Rattle.erm_log_run.proofs.Held.{tells_weaker}
 use Rattle.erm_log_words.specs.Kept.{MayOpen}
 use Rattle.erm_log_words.specs.Tears.{IsFresh}
@@ -25,6 +25,7 @@ use Rattle.erm_ckpt.specs.Checkpoint.{Checkpoint}
 use Rattle.erm_ckpt.specs.Recovered.{Pair, Recovers, RecoversAt, State, base, best, end_at, slots_of, state_behind, state_of}
 use Rattle.erm_ckpt.specs.States.{HoldsAll, RecoversTo, SameState}
 use Rattle.erm_crash.specs.Kept.{IsJustOpened, KeepsOpening}
+use Rattle.erm_crash.proofs.Moments.{joined, settled_image}
 use Rattle.erm_node.specs.Sound.{IsSound, sound_law}
 use Rattle.erm_node.specs.TreeMap.{map_of_rows}
 use Rattle.erm_recover.specs.declared.recovered.Recovered.{Recovered}
@@ -32,6 +33,8 @@ use Rattle.erm_recover.specs.declared.open.OpenStop.{OpenStop}
 use Rattle.erm_recover.specs.declared.open.OpenStop.TheVariants as opening
 use Rattle.erm_recover.specs.Opening.{HoldsOpened, Opens, OpensTold as OpensDisk, StopsAs, open_block, opened}
 use Rattle.erm_recover.specs.Recovering.{IsRecovered, RecoveredTold, state_recovered}
+use Rattle.erm_recover.specs.Waiting.{IsSettledBeyond, MaySettle, OnceSettled, OnlyWaits, SinceSettled}
+use Rattle.erm_recover.proofs.Waits.{WritesSome, disk_stays, once_since, once_weaker, reads_stay, waits_before, waits_write_some, writes_behind}
 use Rattle.erm_start.specs.Recovered.{IsOpenedLog}
 use Rattle.erm_told_log.specs.Tail.{MeetsTail}
 use Rattle.erm_world.specs.Log.{Log}
@@ -49,9 +52,12 @@ pub pair_told : (told : Option (List Step)) (r : Recovered) → RecoveredTold so
 pair_told None r is = (record { slot0 = None; slot1 = None }, tt)
 pair_told (Some steps) r is = is
 
-pub settled_told : (told : Option (List Step)) → IfSome told IsKept → IfSome told IsSettled
-settled_told None kept = tt
-settled_told (Some steps) kept = kept.settled
+-- nothing is pending but of what an opening waits for
+pub beyond_told : (told : Option (List Step)) (r : Recovered) → IfSome told IsKept → RecoveredTold sound_law.meets told r → IfSome told (IsSettledBeyond r.base r.stamp)
+beyond_told None r kept is = tt
+beyond_told (Some steps) r kept (pair, is) =
+    subst (λ (from : ℕ). IsSettledBeyond from r.stamp steps) (sym is.base_is)
+    (subst (λ (place : ℕ). IsSettledBeyond (base pair).at place steps) is.state.at (kept.beyond pair is.blocks is.recovers))
 
 -- the disk recovers to it
 recovers_to : (steps : List Step) (r : Recovered) (pair : Pair) → IsKept steps → IsRecovered sound_law.meets steps r pair → RecoversTo sound_law.meets (state_recovered r) pair (contents steps)
@@ -144,16 +150,52 @@ just_opened : (state : State) (log : Log) → IsOpenedLog state.rows (state.at +
 just_opened state log is = record { at = is.at; run = is.run; rows = is.rows; flushed = is.flushed ∙ sym is.at; none = is.gathered }
 
 module _ (laws : OpeningLaws) (r : Recovered) (found_sound : IsSound (rows_of r.rows.items)) (room : r.stamp < STOP) (less : r.run < LAST_RUN) where
-  keeps_at : (old new : List Step) (pair : Pair) → IsKept old → IsRecovered sound_law.meets old r pair → Opens sound_law.meets (state_recovered r) pair old new
-      → KeepsOpening sound_law.meets (state_recovered r) pair old new
-  keeps_at old new pair kept is opens = laws.keep (state_recovered r) pair old new kept.settled (recovers_to old r pair kept is) found_sound room less opens
+  keeps_at : (mid new : List Step) (pair : Pair) → IsSettled mid → RecoversTo sound_law.meets (state_recovered r) pair (contents mid) → Opens sound_law.meets (state_recovered r) pair mid new
+      → KeepsOpening sound_law.meets (state_recovered r) pair mid new
+  keeps_at mid new pair settled there opens = laws.keep (state_recovered r) pair mid new settled there found_sound room less opens
 
-  -- each image at each moment recovers to the map found
+  -- what was recovered is so behind waits
+  there_at : (old mid : List Step) (pair : Pair) → IsKept old → IsRecovered sound_law.meets old r pair → OnlyWaits old mid → RecoversTo sound_law.meets (state_recovered r) pair (contents mid)
+  there_at old mid pair kept is waits = subst (RecoversTo sound_law.meets (state_recovered r) pair) (sym (reads_stay old mid waits)) (recovers_to old r pair kept is)
+
+  -- where nothing was pending, each image recovers to it while it is waited
+  waits_keep : (old mid : List Step) (pair : Pair) → IsKept old → IsRecovered sound_law.meets old r pair → OnlyWaits old mid → IsSettled old
+      → KeepsOpening sound_law.meets (state_recovered r) pair old mid
+  waits_keep old mid pair kept is waits settled = (
+    (waits.0, waits.1),
+    λ now m image has tears.
+        let so_far = waits_before old mid now waits m.before m.since m.after m.later in
+        inl (settled_image (RecoversTo sound_law.meets (state_recovered r) pair) now image (disk_stays old now so_far settled) has (there_at old now pair kept is so_far)),
+  )
+
+  -- each image at each moment recovers to it once nothing is pending
+  opening_kept : (old mid new : List Step) (pair : Pair) → IsKept old → IsRecovered sound_law.meets old r pair → OnlyWaits old mid → IsSettled mid
+      → Opens sound_law.meets (state_recovered r) pair mid new → SinceSettled (KeepsOpening sound_law.meets (state_recovered r) pair) old new
+  opening_kept old mid new pair kept is waits settled opens =
+      let since = keeps_at mid new pair settled (there_at old mid pair kept is waits) opens in
+      (record { mid = mid; waits = waits; settled = settled; since = since }, λ at_first. joined _ old mid new (waits_keep old mid pair kept is waits at_first) since)
+
+  opening_may_keep : (old new : List Step) (pair : Pair) → IsKept old → IsRecovered sound_law.meets old r pair → MaySettle (Opens sound_law.meets (state_recovered r) pair) old new
+      → OnceSettled (KeepsOpening sound_law.meets (state_recovered r) pair) old new
+  opening_may_keep old new pair kept is (inl waits) = (inl waits, waits_keep old new pair kept is waits)
+  opening_may_keep old new pair kept is (inr s) =
+      once_since (KeepsOpening sound_law.meets (state_recovered r) pair) old new (opening_kept old s.mid new pair kept is s.waits s.settled s.since)
+
+  -- and so to the map found
   commits_told : (before after : Option (List Step)) (pair : Pair) → IfSome before IsKept → IfSome before (λ steps. IsRecovered sound_law.meets steps r pair)
-      → OpensDisk sound_law.meets (state_recovered r) pair before after → Tells (KeepsCommits [] (state_recovered r) r.stamp) before after
+      → OpensDisk sound_law.meets (state_recovered r) pair before after → Tells (OnceSettled (KeepsCommits [] (state_recovered r) r.stamp)) before after
   commits_told None after pair kept is opens = opens
-  commits_told (Some old) after pair kept is (new, told, opens) =
-      (new, told, opening_commits laws.opens [] (state_recovered r) pair old new refl refl (keeps_at old new pair kept is opens))
+  commits_told (Some old) after pair kept is (new, told, opens) = (
+    new,
+    told,
+    once_weaker (KeepsOpening sound_law.meets (state_recovered r) pair) (KeepsCommits [] (state_recovered r) r.stamp) old new
+        (λ a b keeps. opening_commits laws.opens [] (state_recovered r) pair a b refl refl keeps) (opening_may_keep old new pair kept is opens),
+  )
+
+  -- what was done writes words of the block that opens the log, or waits
+  some_written : (pair : Pair) (old new : List Step) → MaySettle (Opens sound_law.meets (state_recovered r) pair) old new → WritesSome r.stamp (spelling (open_block r.stamp r.run)) old new
+  some_written pair old new (inl waits) = waits_write_some r.stamp (spelling (open_block r.stamp r.run)) old new waits
+  some_written pair old new (inr s) = writes_behind r.stamp (spelling (open_block r.stamp r.run)) old s.mid new s.waits (s.since.more, s.since.steps, s.since.writes)
 
   -- where no more was done than to open the log
   pub only_opens : (before after : Option (List Step)) → IfSome before IsKept → RecoveredTold sound_law.meets before r → IsFound before (state_recovered r)
@@ -162,36 +204,39 @@ module _ (laws : OpeningLaws) (r : Recovered) (found_sound : IsSound (rows_of r.
       let p = pair_told before r is in
       let opens = any_moment p.0 p.1 in
       let writes : OnlyWrites r.stamp (spelling (open_block r.stamp r.run)) before after =
-      tells_weaker (Opens sound_law.meets (state_recovered r) p.0) (λ old new. (more : List Step) × (new ≡ more ++ old) × AllWriteWords r.stamp (spelling (open_block r.stamp r.run)) more) before after
-      (λ old new o. (o.more, o.steps, o.writes)) opens
+      tells_weaker (MaySettle (Opens sound_law.meets (state_recovered r) p.0)) (WritesSome r.stamp (spelling (open_block r.stamp r.run))) before after (some_written p.0) opens
       in
       inr (state_recovered r, found, writes, commits_told before after p.0 kept p.1 opens)
 
   -- and then the disk holds the log opened, behind the blocks found
-  meets_at : LOG_START ≤ r.stamp → (old new : List Step) (pair : Pair) (log : Log) → IsKept old → IsRecovered sound_law.meets old r pair → Opens sound_law.meets (state_recovered r) pair old new
-      → IsOpenedLog (rows_of r.rows.items) (r.stamp + LEAST_BLOCK) (r.run + 1) log → HoldsAll sound_law.meets (opened (state_recovered r)) pair new
-      → (earlier : List Block) × MeetsTail sound_law.meets earlier log r.slots new
-  meets_at low old new pair log kept is opens just holds =
+  meets_at : LOG_START ≤ r.stamp → (old mid new : List Step) (pair : Pair) (log : Log) → OnlyWaits old mid → IsSettled mid → (is : IsRecovered sound_law.meets old r pair)
+      → Opens sound_law.meets (state_recovered r) pair mid new → IsOpenedLog (rows_of r.rows.items) (r.stamp + LEAST_BLOCK) (r.run + 1) log
+      → HoldsAll sound_law.meets (opened (state_recovered r)) pair new → MeetsTail sound_law.meets (is.blocks ++ open_block r.stamp r.run ∷ []) log r.slots new
+  meets_at low old mid new pair log waits settled is opens just holds =
       let earlier : List Block = is.blocks ++ open_block r.stamp r.run ∷ [] in
-      let word = first_word (contents new) (opened (state_recovered r)) pair holds.there (omega (arith, low)) in (
-        earlier,
-        subst (λ (s : Slots). MeetsTail sound_law.meets earlier log s new) (sym is.slots)
-            (laws.meet (state_recovered r) pair is.blocks log old new kept.settled is.recovers is.state opens (just_opened (state_recovered r) log just) holds word),
-      )
-
-  same_steps : (a b : List Step) (after : Option (List Step)) → after ≡ Some a → after ≡ Some b → a ≡ b
-  same_steps a b after one other = cc
+      let recovers : Recovers sound_law.meets (contents mid) pair is.blocks = subst (λ (image : Image). Recovers sound_law.meets image pair is.blocks) (sym (reads_stay old mid waits)) is.recovers in
+      let word = first_word (contents new) (opened (state_recovered r)) pair holds.there (omega (arith, low)) in
+      subst (λ (s : Slots). MeetsTail sound_law.meets earlier log s new) (sym is.slots)
+      (laws.meet (state_recovered r) pair is.blocks log mid new settled recovers is.state opens (just_opened (state_recovered r) log just) holds word)
 
   pub opens_told : LOG_START ≤ r.stamp → (before after : Option (List Step)) (pair : Pair) (log : Log) → IfSome before IsKept → IfSome before (λ steps. IsRecovered sound_law.meets steps r pair)
-      → IsOpenedLog (rows_of r.rows.items) (r.stamp + LEAST_BLOCK) (r.run + 1) log → OpensDisk sound_law.meets (state_recovered r) pair before after
-      → HoldsOpened sound_law.meets (state_recovered r) pair before after → Tells (OpensLog (state_recovered r) log r.slots) before after
-  opens_told low None after pair log kept is just opens holds = opens
-  opens_told low (Some old) after pair log kept is just (new, told, opens) (other, told_other, holds_other) =
-      let holds : HoldsAll sound_law.meets (opened (state_recovered r)) pair new =
-      subst (λ (s : List Step). HoldsAll sound_law.meets (opened (state_recovered r)) pair s) (same_steps other new after told_other told) holds_other
-      in
-      let meets = meets_at low old new pair log kept is opens just holds in
-      (new, told, record { pair = pair; found = record { pair = pair; blocks = is.blocks; recovers = is.recovers; names = is.slots }; keeps = keeps_at old new pair kept is opens; holds = meets.1.holds; tail = meets })
+      → IsOpenedLog (rows_of r.rows.items) (r.stamp + LEAST_BLOCK) (r.run + 1) log → HoldsOpened sound_law.meets (state_recovered r) pair before after
+      → Tells (OpensLog (state_recovered r) log r.slots) before after
+  opens_told low None after pair log kept is just holds = holds
+  opens_told low (Some old) after pair log kept is just (new, told, s) =
+      let meets = meets_at low old s.mid new pair log s.waits s.settled is s.since.opens just s.since.holds in (
+        new,
+        told,
+        record {
+          pair = pair;
+          found = record { pair = pair; blocks = is.blocks; recovers = is.recovers; names = is.slots };
+          keeps = opening_kept old s.mid new pair kept is s.waits s.settled s.since.opens;
+          holds = meets.holds;
+          tail = meets;
+          at = is.state.at;
+          writes = writes_behind r.stamp (spelling (open_block r.stamp r.run)) old s.mid new s.waits (s.since.opens.more, s.since.opens.steps, s.since.opens.writes);
+        },
+      )
 
 -- ---- what is opened, and why nothing is
 
@@ -249,6 +294,13 @@ module _ (laws : OpeningLaws) (r : Recovered) (before after : Option (List Step)
       only_opens laws r found.are_sound low less before after kept is found s.any_moment
 
 -- ---- what is weaker
+
+-- what keeps the map found once nothing is pending does so where it may have been stopped before
+pub once_told : (state : State) (before after : Option (List Step)) → Tells (SinceSettled (KeepsCommits [] state state.at)) before after
+    → Tells (OnceSettled (KeepsCommits [] state state.at)) before after
+once_told state before after =
+    tells_weaker (SinceSettled (KeepsCommits [] state state.at)) (OnceSettled (KeepsCommits [] state state.at)) before after
+    (λ old new since. once_since (KeepsCommits [] state state.at) old new since)
 
 -- what only opens a log keeps the map found
 pub map_kept : (before after : Option (List Step)) → OnlyOpens before after → KeepsMap before after

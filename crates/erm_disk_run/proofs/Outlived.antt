@@ -23,7 +23,9 @@ use Rattle.erm_world.specs.Log.{Log, place_behind, rows_behind}
 use Rattle.erm_world.specs.World.{View}
 use Rattle.erm_good_report.specs.Phases.{Closed}
 use Rattle.erm_log_run.specs.Acknowledged.{AllLast}
-use Rattle.erm_disk_run.specs.Crashes.{Outlives, RecoversBelow}
+use Rattle.erm_recover.specs.Waiting.{SinceSettled}
+use Rattle.erm_recover.proofs.Waits.{since_then}
+use Rattle.erm_disk_run.specs.Crashes.{KeepsCommits, Outlives, RecoversBelow}
 use Rattle.erm_disk_run.proofs.Told.{CourseLaws, RanOn, commits, next_run, none_below, stamps_within, state_told}
 use Rattle.erm_disk_run.proofs.Opened.{MayOpenAll, opening_commits}
 
@@ -34,7 +36,14 @@ rows_are state (b ∷ bs) = rows_are (record { at = state.at + b.size; run = b.r
 
 -- while a log was opened
 abbrev pub OpensAt : State → List Step → List Step → Type 0
-OpensAt state old new = (pair : Pair) × KeepsOpening sound_law.meets state pair old new
+OpensAt state old new = (pair : Pair) × SinceSettled (KeepsOpening sound_law.meets state pair) old new
+
+-- the steps of an opening
+steps_since : (state : State) (pair : Pair) (old mid : List Step) → SinceSettled (KeepsOpening sound_law.meets state pair) old mid → (more : List Step) × (mid ≡ more ++ old)
+steps_since state pair old mid (s, whole) =
+    let later = s.since.0 in
+    let waits = s.waits in
+    (later.0 ++ waits.0, later.1 ∙ ap (λ (ss : List Step). later.0 ++ ss) waits.1 ∙ sym (append_assoc later.0 waits.0 old))
 
 module _ (laws : CourseLaws) (may : MayOpenAll) (state : State) (sessions : ℕ) (v t : View) (log : Log) (script : List ScriptLine) (answers : List Answer) (closed : List Closed)
     (ran : RanOn state sessions v t log script answers closed) where
@@ -88,13 +97,16 @@ module _ (laws : CourseLaws) (may : MayOpenAll) (state : State) (sessions : ℕ)
       → KeepsBlocks sound_law.meets start log.gathered place mid new × AllLast sound_law.meets start log.gathered lines mid new → Outlives told state lines old new
   outlives lines place low old mid new (pair, opening) (keeps, last) = record {
     moments =
-        joined _ old mid new (opening_commits may told state pair old mid (none_yet state.at (omega arith)) (none_yet (state.at + LEAST_BLOCK) (omega arith)) opening)
-        (weaker _ _ mid new (λ now image is tears. below_lower state.at place image low (below_past place image (is tears))) keeps);
+        since_then (KeepsOpening sound_law.meets state pair) (KeepsCommits told state state.at) old mid new
+        (λ first opens.
+        joined _ first mid new (opening_commits may told state pair first mid (none_yet state.at (omega arith)) (none_yet (state.at + LEAST_BLOCK) (omega arith)) opens)
+        (weaker _ _ mid new (λ now image is tears. below_lower state.at place image low (below_past place image (is tears))) keeps)) opening;
     acknowledged = λ known tells.
         let since = last known tells in
+        let steps = steps_since state pair old mid opening in
         record {
           mid = since.mid;
-          moment = since_before old mid new since.mid opening.0.0 opening.0.1 since.moment;
+          moment = since_before old mid new since.mid steps.0 steps.1 since.moment;
           holds = since.holds;
           keeps = weaker _ _ since.mid new (λ now image is tears. below_past known image (is tears)) since.keeps;
         };

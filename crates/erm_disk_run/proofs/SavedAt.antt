@@ -1,43 +1,52 @@
 -- A checkpoint of a log that was just opened: nothing is gathered, and the slot has the map found.
-use Rattle.std.proofs.Common.{◌≡◌, ℕ, ◌+◌, ◌<◌, ◌≤◌, ◌++◌, false, List, [], ◌∷◌, Bool, IfSome, Option, Some, None, Err, refl, sym, ap, ◌∙◌, subst, arith, inr}
+use Rattle.std.proofs.Common.{◌≡◌, ℕ, ◌+◌, ◌/◌, ◌<◌, ◌≤◌, ◌++◌, false, List, [], ◌∷◌, Bool, IfSome, Option, Some, None, Err, refl, sym, ap, ◌∙◌, subst, arith, inr}
 use Rattle.std.specs.List.{slice_get}
 use Rattle.erm_model.specs.Member.{◌∈◌}
 use Rattle.erm_model.specs.Rows.{Rows}
 use Rattle.erm_model.specs.RowTransaction.{SameRows}
-use Rattle.erm_model.specs.declared.limits.TheConstants.{LEAST_BLOCK}
+use Rattle.erm_model.specs.declared.limits.TheConstants.{LEAST_BLOCK, SEGMENT_WORDS}
 use Rattle.erm_record.proofs.StoredRows.{stored_length-le}
 use Rattle.erm_block.specs.declared.block.Block.{Block}
 use Rattle.erm_block.specs.LogList.{IsChain, rows_after_block}
 use Rattle.erm_block.proofs.OneSpelling.{length-spelling}
+use Rattle.erm_block.specs.Spelling.{spelling}
+use Rattle.erm_outside.specs.declared.disk.File.TheVariants.{Segment}
 use Rattle.erm_outside.specs.Disk.{Image, Step, Tells, contents}
 use Rattle.erm_log_words.specs.Tears.{IsFresh}
 use Rattle.erm_ckpt.specs.declared.slot.Slots.{Slots}
 use Rattle.erm_ckpt.specs.declared.slot.TheConstants.{LOG_START}
-use Rattle.erm_ckpt.specs.Recovered.{Pair, State, base, end_at, state_behind}
+use Rattle.erm_ckpt.specs.Recovered.{Pair, Recovers, State, base, end_at, slots_of, state_behind}
+use Rattle.erm_ckpt.specs.Slots.{next_first, put_slot, removal_end}
 use Rattle.erm_ckpt.specs.States.{RecoversPast, RecoversTo, SameState}
 use Rattle.erm_ckpt.proofs.Images.{state_grows}
 use Rattle.erm_checkpoint.specs.declared.stops.CheckpointStop.{CheckpointStop}
 use Rattle.erm_checkpoint.specs.declared.stops.CheckpointStop.TheVariants as stop
-use Rattle.erm_checkpoint.specs.Taken.{Checkpoints, GoesOnTo, HoldsLog, HoldsLogFrom, Takes, slot_at_end, state_at}
-use Rattle.erm_crash.specs.Kept.{KeepsBlocks}
+use Rattle.erm_checkpoint.specs.Taken.{Checkpoints, GoesOnTo, HoldsLog, HoldsLogFrom, Takes, TakesAll, slot_at_end, state_at}
+use Rattle.erm_checkpoint.proofs.Segments.{IsOutside, below_segments, checkpoint_spares, words_spare}
+use Rattle.erm_crash.specs.Kept.{KeepsBlocks, KeepsOpening}
 use Rattle.erm_crash.specs.Moments.{TearsApart}
 use Rattle.erm_crash.proofs.Moments.{joined, weaker}
 use Rattle.erm_log_run.proofs.Held.{tells_and, tells_join, tells_weaker}
 use Rattle.erm_log_run.proofs.Logged.{none_waits}
+use Rattle.erm_log_run.specs.Saving.{TookPlace}
+use Rattle.erm_log_run.proofs.Saving.{took_place}
 use Rattle.erm_node.specs.Sound.{IsSound, sound_law}
 use Rattle.erm_node.specs.TreeMap.{map_of_rows}
 use Rattle.erm_plain.specs.Logs.{KeepsSessions as KeepsPlain, plain_log, view_kept}
 use Rattle.erm_plain.specs.Stands.{IsWorld, plain_view}
 use Rattle.erm_plain.specs.declared.plain.Plain.{Plain}
-use Rattle.erm_recover.specs.Opening.{opened}
+use Rattle.erm_recover.specs.Opening.{open_block, opened}
+use Rattle.erm_recover.specs.Waiting.{SinceSettled}
+use Rattle.erm_recover.proofs.Waits.{since_then}
 use Rattle.erm_start.specs.Recovered.{IsOpenedLog, IsOpenedOn}
 use Rattle.erm_world.specs.Log.{IsLog, Log, Start}
 use Rattle.erm_world.specs.Whole.{IsLogOf, KeepsSessions}
 use Rattle.erm_world.specs.World.{Finished, Opening, Session, View}
 use Rattle.erm_disk_run.specs.Crashes.{KeepsCommits, RecoversBelow}
-use Rattle.erm_disk_run.specs.Opened.{IsOpenedWorld, OpensLog}
+use Rattle.erm_disk_run.specs.Opened.{IsOpenedWorld, NamesFound, OpensLog}
 use Rattle.erm_disk_run.specs.Saved.{IsSaved}
 use Rattle.erm_disk_run.proofs.Opened.{MayOpenAll, below_of, opening_commits}
+use Rattle.erm_disk_run.proofs.SlotsLeft.{same_slots}
 
 -- the law of checkpoints
 abbrev pub CheckpointsKeep : Type 0
@@ -56,6 +65,18 @@ no_blocks image s (b ∷ bs) (next, others) same =
     let size = length-spelling stored_length-le b s.at s.run next.stands.is in
     let grows = state_grows (record { at = s.at + b.size; run = b.run; rows = rows_after_block b s.rows }) bs in
     absurd (omega (arith, size, grows, same))
+
+-- a checkpoint took its place behind the block that opened a log, and of the segments below that block those that the slots found don't name to be
+-- removed are as before
+pub record SparesSegments (state : State) (found later : Slots) (old steps : List Step) : Type 0 where
+  pub named : NamesFound found old
+  pub took : TookPlace sound_law.meets (state.at + LEAST_BLOCK) found later steps
+  pub kept : (n : ℕ) → IsOutside (next_first found) (removal_end found) n → n < state.at / SEGMENT_WORDS → contents steps (Segment n) ≡ contents old (Segment n)
+
+-- whatever tells the slots found
+found_by : (found : Slots) (old : List Step) → NamesFound found old → (before : Pair) (blocks : List Block) → Recovers sound_law.meets (contents old) before blocks → found ≡ slots_of before
+found_by found old n before blocks recovers =
+    n.names ∙ same_slots old n.pair before n.blocks blocks n.recovers recovers
 
 -- a log before and after calls of a flusher, and the views that it has then; it was just opened on a state's rows
 pub record Turned (state : State) (v t : View) (l m : Log) : Type 0 where
@@ -146,8 +167,9 @@ module _ (state : State) (v t : View) (l m : Log) (turned : Turned state v t l m
       below_of opens [] state (opened state) past.pair image (front_opened past.front past.rest past.pair image past.split past.there) refl (omega arith) (inr refl) refl)
 
   -- the slot is of the place behind the block that opened the log, and has the map found
-  saved_at : SameMaps → IsSound state.rows → (slots : Slots) (stamp : ℕ) (steps : List Step) → m.tail ≡ stamp → HoldsLogFrom sound_law.meets m slots stamp steps → IsSaved state steps
-  saved_at maps sound slots stamp steps ends h =
+  saved_at : SameMaps → IsSound state.rows → (found slots : Slots) (stamp : ℕ) (old steps : List Step) → m.tail ≡ stamp → SparesSegments state found slots old steps
+      → HoldsLogFrom sound_law.meets m slots stamp steps → IsSaved state old steps
+  saved_at maps sound found slots stamp old steps ends spares h =
       let pair = h.holds.pair in
       let there : RecoversTo sound_law.meets (opened state) pair (contents steps) = front_opened h.holds.front h.holds.rest pair (contents steps) h.holds.split h.holds.there in
       let place : (base pair).at ≡ state.at + LEAST_BLOCK = h.from ∙ sym ends ∙ tail_is in
@@ -161,30 +183,53 @@ module _ (state : State) (v t : View) (l m : Log) (turned : Turned state v t l m
         at = place;
         run = same.run;
         map = sym (maps state.rows (base pair).rows (λ oid less. sym (same.rows oid less)) sound);
+        took = λ before blocks recovers. subst (λ (s : Slots). TookPlace sound_law.meets (state.at + LEAST_BLOCK) s (slots_of pair) steps)
+            (found_by found old spares.named before blocks recovers) (subst (λ (s : Slots). TookPlace sound_law.meets (state.at + LEAST_BLOCK) found s steps) h.holds.names spares.took);
+        kept = λ before blocks recovers n out low. spares.kept n
+            (subst (λ (s : Slots). IsOutside (next_first s) (removal_end s) n) (sym (found_by found old spares.named before blocks recovers)) out) low;
       }
 
   -- ---- as far as the disk tells
 
   module _ (before mid after : Option (List Step)) (slots : Slots) (opens : Tells (OpensLog state l slots) before mid) where
     pub commits_told : CheckpointsKeep → MayOpenAll → LOG_START ≤ state.at → (run : ℕ) → Tells (Takes sound_law.meets l.flushed m slots (slot_at_end m run slots)) mid after
-        → Tells (KeepsCommits [] state state.at) before after
+        → Tells (SinceSettled (KeepsCommits [] state state.at)) before after
     commits_told keep may low run takes =
-        tells_join (OpensLog state l slots) (Takes sound_law.meets l.flushed m slots (slot_at_end m run slots)) (KeepsCommits [] state state.at) before mid after both opens takes
+        tells_join (OpensLog state l slots) (Takes sound_law.meets l.flushed m slots (slot_at_end m run slots)) (SinceSettled (KeepsCommits [] state state.at)) before mid after both opens takes
       where
         Keeps : List Step → Image → Type 0
         Keeps now image = TearsApart sound_law.meets now image → RecoversBelow [] state state.at image
 
-        both : (a b c : List Step) → OpensLog state l slots a b → Takes sound_law.meets l.flushed m slots (slot_at_end m run slots) b c → KeepsCommits [] state state.at a c
+        both : (a b c : List Step) → OpensLog state l slots a b → Takes sound_law.meets l.flushed m slots (slot_at_end m run slots) b c → SinceSettled (KeepsCommits [] state state.at) a c
         both a b c o takes =
-            joined Keeps a b c (opening_commits may [] state o.pair a b refl refl o.keeps)
-            (blocks_commits may l.flushed b c (keep l m slots run b c o.holds turned.goes turned.is (omega (arith, low, at_is)) takes))
+            since_then (KeepsOpening sound_law.meets state o.pair) (KeepsCommits [] state state.at) a b c
+            (λ first opened. joined Keeps first b c (opening_commits may [] state o.pair first b refl refl opened)
+            (blocks_commits may l.flushed b c (keep l m slots run b c o.holds turned.goes turned.is (omega (arith, low, at_is)) takes))) o.keeps
 
-    pub saved_told : SameMaps → IsSound state.rows → (later : Slots) (stamp : ℕ) → m.tail ≡ stamp → IfSome after (HoldsLogFrom sound_law.meets m later stamp)
-        → Tells (KeepsCommits [] state state.at) before after → Tells (λ old new. IsSaved state new) before after
-    saved_told maps sound later stamp ends holds keeps =
-        tells_weaker (λ old new. HoldsLogFrom sound_law.meets m later stamp new × KeepsCommits [] state state.at old new) (λ old new. IsSaved state new) before after
-        (λ old new both. saved_at maps sound later stamp new ends both.0)
-        (tells_and (HoldsLogFrom sound_law.meets m later stamp) (KeepsCommits [] state state.at) before after holds keeps)
+    abbrev TakenAll : ℕ → List Step → List Step → Type 0
+    TakenAll run = TakesAll sound_law.meets l.flushed m slots (slot_at_end m run slots)
+
+    -- of the segments those that the slots name are removed, and no other below the place
+    spared : (later : Slots) (run : ℕ) → later ≡ put_slot slots (slot_at_end m run slots) → Tells (TakenAll run) mid after → Tells (SparesSegments state slots later) before after
+    spared later run put takes = tells_join (OpensLog state l slots) (TakenAll run) (SparesSegments state slots later) before mid after both opens takes
+      where
+        both : (a b c : List Step) → OpensLog state l slots a b → TakenAll run b c → SparesSegments state slots later a c
+        both a b c o t = record {
+          named = o.found;
+          took = took_place sound_law.meets l.flushed m slots later run (state.at + LEAST_BLOCK) b c tail_is put t;
+          kept = λ n out low.
+              checkpoint_spares sound_law.meets l.flushed m slots (slot_at_end m run slots) b c t n out
+              (subst (λ (at : ℕ). n < at / SEGMENT_WORDS) (sym turned.log.flushed) (below_segments state.at LEAST_BLOCK n low))
+              ∙ ap (λ (steps : List Step). contents steps (Segment n)) o.writes.1
+              ∙ words_spare state.at (spelling (open_block state.at state.run)) n a o.writes.0 low o.writes.2;
+        }
+
+    pub saved_told : SameMaps → IsSound state.rows → (later : Slots) (run stamp : ℕ) → later ≡ put_slot slots (slot_at_end m run slots) → m.tail ≡ stamp → Tells (TakenAll run) mid after
+        → IfSome after (HoldsLogFrom sound_law.meets m later stamp) → Tells (IsSaved state) before after
+    saved_told maps sound later run stamp put ends takes holds =
+        tells_weaker (λ old new. HoldsLogFrom sound_law.meets m later stamp new × SparesSegments state slots later old new) (IsSaved state) before after
+        (λ old new both. saved_at maps sound slots later stamp old new ends both.1 both.0)
+        (tells_and (HoldsLogFrom sound_law.meets m later stamp) (SparesSegments state slots later) before after holds (spared later run put takes))
 
   -- nothing is undecided: only a fault stops a checkpoint
   pub only_faults : (cause : CheckpointStop) (was now : Bool) → was ≡ false → Checkpoints (Err cause) was now l m → cause ≡ stop.DiskFault

@@ -34,7 +34,7 @@ best_named slots pair place names is = by (best pair) refl
         ((λ none. let no : None ≡ Some c = sym none ∙ some in cc), ap (λ (o : Option Checkpoint). (state_of o).at) some ∙ ap (λ (s : Slot). s.stamp) same ∙ is.at)
 
 -- what an image recovers from is one
-same_slots : (steps : List Step) (p q : Pair) (xs ys : List Block) → Recovers sound_law.meets (contents steps) p xs → Recovers sound_law.meets (contents steps) q ys → slots_of p ≡ slots_of q
+pub same_slots : (steps : List Step) (p q : Pair) (xs ys : List Block) → Recovers sound_law.meets (contents steps) p xs → Recovers sound_law.meets (contents steps) q ys → slots_of p ≡ slots_of q
 same_slots steps p q xs ys one other =
     let first = same_shown sound_law.meets (contents steps Slot0) p.slot0 q.slot0 one.slot0 other.slot0 in
     let second = same_shown sound_law.meets (contents steps Slot1) p.slot1 q.slot1 one.slot1 other.slot1 in

@@ -22,8 +22,10 @@ use Rattle.erm_good_report.specs.Transactions.{Transaction, history_of, said_of,
 use Rattle.erm_told_crash.specs.Spare.{NamesNoSession, SpareNamesTellNothing}
 use Rattle.erm_told_crash.proofs.Spare.{idle, no_transactions}
 use Rattle.erm_log_run.specs.Lines.{AreLinesOf, Names}
+use Rattle.erm_recover.specs.Waiting.{SinceSettled}
 use Rattle.erm_disk_run.specs.Crashes.{KeepsCommits, Leaves, Outlives}
-use Rattle.erm_disk_run.specs.Runs.{AreUncut, AreUnseen, EndsRun, IsScriptFor, LeavesUntold, MayBeRun, NamesOneOf, WasCutOn, WasRunOn, WasStarvedOn, commits_told}
+use Rattle.erm_disk_run.specs.Runs.{AreUncut, AreUnseen, EndsRun, HaveManyCells, HaveManyKeys, IsScriptFor, LeavesUntold, MayBeRun, NamesOneOf, WasCutOn, WasRunOn, WasStarvedOn, commits_told}
+use Rattle.erm_disk_run.proofs.Cut.{keyed_without}
 use Rattle.erm_disk_run.specs.declared.stops.RunStop.{RunStop}
 use Rattle.erm_disk_run.specs.declared.stops.RunStop.TheVariants as run
 
@@ -70,6 +72,8 @@ module _ (spare : SpareNamesTellNothing) (before after : Option (List Step)) (st
         starts = was.starts;
         tight = without.0;
         uncut = subst (λ (r : Report). AreUncut r.answers) same was.uncut;
+        celled = subst (λ (r : Report). HaveManyCells script r.answers) same was.celled;
+        keyed = keyed_without was.opening 1 script without.0.good.report.answers (subst (λ (r : Report). HaveManyKeys was.opening 1 script r.answers) same was.keyed);
         outlives = subst (λ (cs : List Committed). Tells (Outlives cs state lines) before after) empty was.outlives;
         leaves = subst (λ (r : Report). Tells (λ old new. Leaves [] state r.answers (from_entries (entries_of r.pairs)) old new) before after) same
             (subst (λ (cs : List Committed). Tells (λ old new. Leaves cs state was.tight.good.report.answers (from_entries (entries_of was.tight.good.report.pairs)) old new) before after) empty was.leaves);
@@ -99,6 +103,8 @@ module _ (spare : SpareNamesTellNothing) (before after : Option (List Step)) (st
         starts = was.starts;
         cut = without.0;
         uncut = subst AreUncut same was.uncut;
+        celled = subst (HaveManyCells script) same was.celled;
+        keyed = keyed_without was.opening 1 script without.0.answers (subst (HaveManyKeys was.opening 1 script) same was.keyed);
         closed = was.closed;
         unseen = subst (λ (given : List Answer). AreUnseen [] script given was.closed) same (record { once = was.unseen.once; fits = was.unseen.fits; late = was.unseen.late });
         owes = subst (λ (given : List Answer). OwesToAnswers InTurn was.opening script given []) same
@@ -120,10 +126,12 @@ module _ (spare : SpareNamesTellNothing) (before after : Option (List Step)) (st
         answers = was.answers;
         most = was.most;
         uncut = was.uncut;
+        celled = was.celled;
+        keyed = keyed_without was.opening 1 script was.answers was.keyed;
         closed = was.closed;
         unseen = record { once = was.unseen.once; fits = was.unseen.fits; late = was.unseen.late };
         owes = subst (λ (ts : List Transaction). OwesToAnswers InTurn was.opening script was.answers ts) untold was.owes;
-        moments = subst (λ (cs : List Committed). Tells (KeepsCommits cs state state.at) before after) empty was.moments;
+        moments = subst (λ (cs : List Committed). Tells (SinceSettled (KeepsCommits cs state state.at)) before after) empty was.moments;
       }
 
 -- how a run ends that had a spare name

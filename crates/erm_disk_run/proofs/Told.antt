@@ -145,7 +145,7 @@ module _ (laws : CourseLaws) (state : State) (sessions : ℕ) (v t : View) (log 
       → IsStateBelow commits (map_of_rows state.rows) (place_behind log.opened.at front) (map_of_rows (rows_behind log.opened.rows front))
   state_told front rest split =
       let opening : Opening = record { map = map_of_rows v.opening.rows; stamp = state.at; run = state.run + 1; rows = count_rows v.opening.rows; first = v.opening.first } in
-      let of : IsOpeningOf v opening = record { map = refl; stamp = ran.opened.tail; rows = refl; first = refl; cells = ran.opened.cells } in
+      let of : IsOpeningOf v opening = record { map = refl; stamp = ran.opened.tail; rows = refl; first = refl; cells = (omega (arith, ran.opened.cells), omega (arith, ran.opened.cells)) } in
       let place = place_behind log.opened.at front in
       let rows = rows_behind log.opened.rows front in
       subst (λ (m : Database). IsStateBelow commits m place (map_of_rows rows)) (same_map laws.maps state sessions v ran.opened)

@@ -45,9 +45,10 @@ use Rattle.erm_disk_run.specs.Runs.{AreInTables, CountsRun, EndsRun, LeavesUntol
 use Rattle.erm_disk_run.specs.declared.stops.RunStop.{RunStop}
 use Rattle.erm_disk_run.specs.declared.stops.RunStop.TheVariants as run
 use Rattle.erm_disk_run.proofs.Cut.{whole_course}
+use Rattle.erm_disk_run.proofs.Left.{MeetsFound}
 use Rattle.erm_disk_run.proofs.Outlived.{OpensAt}
 use Rattle.erm_disk_run.proofs.Told.{MapsAreTold, OpensOn, same_map, starts_from}
-use Rattle.erm_disk_run.proofs.ToldRun.{DiskLaws, MeetsLog, RunsOn, meets_still, was_cut_on, was_run_on, was_starved_on}
+use Rattle.erm_disk_run.proofs.ToldRun.{DiskLaws, RunsOn, meets_still, was_cut_on, was_run_on, was_starved_on}
 
 -- the answer is told as it is
 abbrev pub ended_as : Result (Vec Line Global) LogRunStop → Result (Vec Line Global) RunStop
@@ -64,6 +65,7 @@ pub record StartsOn (state : State) (many : ℕ) (v : View) (begun : Log) (slots
   pub first : IsLogOf v begun
   pub opens : Tells (OpensAt state) before mid
   pub named : Tells (λ old new. NamesFound slots old) before mid
+  pub meets : Tells (MeetsFound state begun slots) before mid
   pub starts : StartsFrom state opening
   pub of : IsOpeningOf v opening
 
@@ -83,13 +85,15 @@ opened_on maps before mid state many o first was =
       first = first;
       opens = tells_weaker (OpensLog state (plain_log o.world) o.slots) (OpensAt state) before mid (λ a b opens. (opens.pair, opens.keeps)) was.disk;
       named = tells_weaker (OpensLog state (plain_log o.world) o.slots) (λ old new. NamesFound o.slots old) before mid (λ a b opens. opens.found) was.disk;
+      meets = tells_weaker (OpensLog state (plain_log o.world) o.slots) (MeetsFound state (plain_log o.world) o.slots) before mid
+          (λ a b opens. record { pair = opens.found.pair; blocks = opens.found.blocks; recovers = opens.found.recovers; at = opens.at; tail = opens.tail }) was.disk;
       starts = starts_from maps state many v was.world.view o.start (was.map ∙ sym (same_map maps state many v was.world.view)) was.stamp was.run;
       of = record {
         map = was.map ∙ sym (same_map maps state many v was.world.view);
         stamp = was.world.view.tail ∙ ap (λ (n : ℕ). n + LEAST_BLOCK) (sym was.stamp);
         rows = refl;
         first = refl;
-        cells = was.world.view.cells;
+        cells = (omega (arith, was.world.view.cells), omega (arith, was.world.view.cells));
       };
     }
 
@@ -140,21 +144,21 @@ module _ (laws : DiskLaws) (state : State) (names : List (List ℕ)) (v t : View
       }) opening on.starts on.of was.answers was.course was.late
 
   pub ends : (r : Result (Vec Line Global) LogRunStop) (S : Type 0) → (S → IsLogOf t log × IsLog IsSound log) → UnlessMemory r S → UnlessMemory r Moments → UnlessMemory r (Acknowledged (lines_in r))
-      → OnOk r (t.flushed ≡ t.tail) → IfSome mid (MeetsLog begun first)
+      → OnOk r (t.flushed ≡ t.tail)
       → OnOk r ((earlier : List Block) → IfSome mid (MeetsTail IsSound earlier begun first) → IfSome after (MeetsTail IsSound earlier log slots)) → IfOk r (λ lines. IsWhole lines.items) → OnFault r IsCut
       → OnMemory r (WasStarved IsSound v script begun mid after) → EndsRun (ended_as r) before after names script
-  ends (Ok lines) S of stands moments acknowledged flushed meets still ran cut starved = λ fits. (
+  ends (Ok lines) S of stands moments acknowledged flushed still ran cut starved = λ fits. (
     state,
     on.found,
     was_run_on laws state names v t begun log script lines.items before mid after (runs_on (of stands) lines.items moments acknowledged) slots flushed
-        (meets_still begun log first slots (KeepsBlocks IsSound (state_at begun []) log.gathered begun.flushed) mid after moments meets still) opening on.starts ran.0 (ran.1 fits) first on.named ran.2,
+        (meets_still state begun log first slots (KeepsBlocks IsSound (state_at begun []) log.gathered begun.flushed) before mid after on.meets moments still) opening on.starts on.of ran.0 (ran.1 fits) first on.named ran.2,
   )
-  ends (Err (log_stop.DiskFault lines)) S of stands moments acknowledged flushed meets still ran cut starved = λ fits. (
+  ends (Err (log_stop.DiskFault lines)) S of stands moments acknowledged flushed still ran cut starved = λ fits. (
     state,
     on.found,
     was_cut_on laws state names v t begun log script lines.items before mid after (runs_on (of stands) lines.items moments acknowledged) opening on.starts on.of cut.0 (cut.1 fits),
   )
-  ends (Err log_stop.Memory) S of stands moments acknowledged flushed meets still ran cut starved = (state, on.found, starved_on starved)
+  ends (Err log_stop.Memory) S of stands moments acknowledged flushed still ran cut starved = (state, on.found, starved_on starved)
 
   -- of a run of which nothing is told the lines that were run are known, as of one that starved
   pub untold : (r : Result (Vec Line Global) LogRunStop) (S : Type 0) → (S → IsLogOf t log × IsLog IsSound log) → UnlessMemory r S → UnlessMemory r Moments → UnlessMemory r (Acknowledged (lines_in r))

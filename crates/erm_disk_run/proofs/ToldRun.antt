@@ -1,5 +1,5 @@
 -- A script that was run on a disk, wholly or up to a fault.
-use Rattle.std.proofs.Common.{◌≡◌, ℕ, ◌<◌, ◌≤◌, List, [], length, Option, Some, None, IfSome, sym, ap, ◌∙◌, subst, arith}
+use Rattle.std.proofs.Common.{◌≡◌, ℕ, ◌<◌, ◌≤◌, List, [], ◌∷◌, ◌++◌, length, Option, Some, None, IfSome, sym, ap, ◌∙◌, subst, arith}
 use Rattle.std.specs.FinMap.{from_entries}
 use Rattle.erm_model.specs.Database.{Database, entries_of}
 use Rattle.erm_model.specs.declared.limits.TheConstants.{LAST_RUN, STOP}
@@ -10,6 +10,7 @@ use Rattle.erm_ckpt.specs.Recovered.{State}
 use Rattle.erm_checkpoint.specs.Taken.{state_at}
 use Rattle.erm_crash.specs.Kept.{KeepsBlocks}
 use Rattle.erm_node.specs.Sound.{sound_law}
+use Rattle.erm_recover.specs.Opening.{open_block}
 use Rattle.erm_report.specs.declared.answer.Answer.{Answer}
 use Rattle.erm_report.specs.declared.line.Line.{Line}
 use Rattle.erm_script.specs.declared.script.ScriptLine.{ScriptLine}
@@ -24,18 +25,21 @@ use Rattle.erm_good_report.specs.Transactions.{transactions_of}
 use Rattle.erm_lines.specs.Executions.{AreClosed, IsCourse, IsOpeningOf, closed_in}
 use Rattle.erm_lines.specs.Laws.{PartsCutFew, RunsCutFew}
 use Rattle.erm_told_crash.specs.Laws.{CoursesClose}
+use Rattle.erm_tight.specs.NewKeys.{OidsAreFull}
+use Rattle.erm_told_limits.specs.Limits.{CellsAreFull}
 use Rattle.erm_told_log.specs.Tail.{MeetsTail}
 use Rattle.erm_log_run.specs.Acknowledged.{AllLast}
 use Rattle.erm_log_run.specs.Runs.{IsCutReportOf, IsReportOf, WasCut, WasRun}
 use Rattle.erm_log_run.specs.Saving.{AreSaved, saved_at}
-use Rattle.erm_log_run.proofs.Held.{tells_and, tells_join, tells_weaker}
+use Rattle.erm_log_run.proofs.Held.{tells_join, tells_weaker}
+use Rattle.erm_recover.specs.Waiting.{SinceSettled}
 use Rattle.erm_disk_run.specs.Crashes.{KeepsCommits, Leaves, Outlives}
 use Rattle.erm_disk_run.specs.Found.{StartsFrom}
 use Rattle.erm_disk_run.specs.Opened.{NamesFound}
 use Rattle.erm_disk_run.specs.Owed.{CoursesOwe}
-use Rattle.erm_disk_run.specs.Runs.{AreUncut, AreUnseen, WasCutOn, WasRunOn, WasStarvedOn, commits_told}
-use Rattle.erm_disk_run.proofs.Cut.{HasUnseen, course_uncut, has_unseen, run_uncut, whole_course}
-use Rattle.erm_disk_run.proofs.Left.{AuditLaws, OrdersAreOne, leaves}
+use Rattle.erm_disk_run.specs.Runs.{AreUncut, AreUnseen, HaveManyCells, HaveManyKeys, WasCutOn, WasRunOn, WasStarvedOn, commits_told}
+use Rattle.erm_disk_run.proofs.Cut.{HasUnseen, course_celled, course_keyed, course_uncut, has_unseen, run_uncut, whole_course}
+use Rattle.erm_disk_run.proofs.Left.{AuditLaws, MeetsFound, OrdersAreOne, leaves}
 use Rattle.erm_disk_run.proofs.Opened.{MayOpenAll}
 use Rattle.erm_disk_run.proofs.Outlived.{OpensAt, outlives, tells_both}
 use Rattle.erm_disk_run.proofs.SlotsLeft.{SlotsLeft, saved_told}
@@ -49,22 +53,27 @@ pub record DiskLaws : Type 0 where
   pub audits : AuditLaws
   pub runs_few : RunsCutFew
   pub parts_few : PartsCutFew
+  pub cells : CellsAreFull
+  pub keys : OidsAreFull
   pub close : CoursesClose
   pub owe : CoursesOwe
 
--- behind some earlier blocks recovery meets the last of a log's that are flushed
-abbrev pub MeetsLog : Log → Slots → List Step → Type 0
-MeetsLog log slots steps = (earlier : List Block) × MeetsTail sound_law.meets earlier log slots steps
+-- behind whatever blocks recovery met those of a log at first, it meets them behind the same at the end
+abbrev StillMeets : Log → Log → Slots → Slots → List Step → List Step → Type 0
+StillMeets begun log first slots b c = (earlier : List Block) → MeetsTail sound_law.meets earlier begun first b → MeetsTail sound_law.meets earlier log slots c
 
--- so it does at the end of a run, where it did at first
-pub meets_still : (begun log : Log) (first slots : Slots) (P : List Step → List Step → Type 0) (mid after : Option (List Step)) → Tells P mid after → IfSome mid (MeetsLog begun first)
-    → ((earlier : List Block) → IfSome mid (MeetsTail sound_law.meets earlier begun first) → IfSome after (MeetsTail sound_law.meets earlier log slots)) → IfSome after (MeetsLog log slots)
-meets_still begun log first slots P None after told meets still = subst (λ (o : Option (List Step)). IfSome o (MeetsLog log slots)) (sym told) tt
-meets_still begun log first slots P (Some steps) after told (earlier, meets) still = some after (still earlier meets)
+-- at the end of a run recovery meets what it met before, where it did as the log was opened
+pub meets_still : (state : State) (begun log : Log) (first slots : Slots) (P : List Step → List Step → Type 0) (before mid after : Option (List Step)) → Tells (MeetsFound state begun first) before mid → Tells P mid after
+    → ((earlier : List Block) → IfSome mid (MeetsTail sound_law.meets earlier begun first) → IfSome after (MeetsTail sound_law.meets earlier log slots)) → Tells (MeetsFound state log slots) before after
+meets_still state begun log first slots P before mid after opens moments still = tells_join (MeetsFound state begun first) (StillMeets begun log first slots) (MeetsFound state log slots) before mid after both opens (at_end mid after moments still)
   where
-    some : (o : Option (List Step)) → IfSome o (MeetsTail sound_law.meets earlier log slots) → IfSome o (MeetsLog log slots)
-    some None meets = tt
-    some (Some steps) meets = (earlier, meets)
+    both : (a b c : List Step) → MeetsFound state begun first a b → StillMeets begun log first slots b c → MeetsFound state log slots a c
+    both a b c m goes = record { pair = m.pair; blocks = m.blocks; recovers = m.recovers; at = m.at; tail = goes (m.blocks ++ open_block state.at state.run ∷ []) m.tail }
+
+    at_end : (mid after : Option (List Step)) → Tells P mid after
+        → ((earlier : List Block) → IfSome mid (MeetsTail sound_law.meets earlier begun first) → IfSome after (MeetsTail sound_law.meets earlier log slots)) → Tells (StillMeets begun log first slots) mid after
+    at_end None after told still = told
+    at_end (Some old) after (new, told, p) still = (new, told, λ earlier meets. subst (λ (o : Option (List Step)). IfSome o (MeetsTail sound_law.meets earlier log slots)) told (still earlier meets))
 
 -- A disk's log was opened on a state, with a world of a session for each name, and what a report starts from. Then moves were made from one view
 -- to another, while each image at each moment recovered to what the log had gathered.
@@ -110,24 +119,25 @@ module _ (laws : DiskLaws) (state : State) (names : List (List ℕ)) (v t : View
   ran_on : (answers : List Answer) (closed : List Closed) (course : IsCourse v script answers t) → AreClosed course.closing closed → RanOn state (length names) v t log script answers closed
   ran_on answers closed course are = record { opened = on.opened; course = course; are = are; log_of = on.log_of; is = on.is }
 
-  pub was_run_on : (slots : Slots) → t.flushed ≡ t.tail → IfSome after (MeetsLog log slots) → (opening : Opening) → StartsFrom state opening
+  pub was_run_on : (slots : Slots) → t.flushed ≡ t.tail → Tells (MeetsFound state log slots) before after → (opening : Opening) → StartsFrom state opening → IsOpeningOf v opening
       → (was : WasRun v t opening names script lines) → IsReportOf opening names script was.answers was.closed lines → (first : Slots)
       → Tells (λ old new. NamesFound first old) before mid → AreSaved (saved_at was.answers) mid first slots → WasRunOn before after state names script lines
-  was_run_on slots flushed meets opening starts was report first named saved = record {
+  was_run_on slots flushed meets opening starts of was report first named saved = record {
     low = on.low;
     run_low = on.run_low;
     opening = opening;
     starts = starts;
     tight = report.tight;
     uncut = subst AreUncut (sym report.answers_are) (run_uncut laws.runs_few v t script was.answers was.run on.opened.cuts);
+    celled = subst (HaveManyCells script) (sym report.answers_are) (course_celled laws.cells v t script was.answers (whole_course v t script was.answers was.run) on.opened.cells);
+    keyed = subst (HaveManyKeys opening (length names) script) (sym report.answers_are) (course_keyed laws.keys v t opening of (length names) on.opened.sessions script was.answers (whole_course v t script was.answers was.run));
     outlives = outlived answers closed ran;
     leaves =
-        tells_weaker (λ old new. (MeetsLog log slots new × Outlives (commits_told names script answers closed) state lines old new) × SlotsLeft answers slots old new)
+        tells_weaker (λ old new. MeetsFound state log slots old new × SlotsLeft answers slots old new)
         (λ old new. Leaves (commits_told names script answers closed) state answers end old new) before after
-        (λ old new both. leaves laws.courses laws.may laws.one laws.audits state (length names) v t log script answers closed ran slots new both.0.0 ends good.report.order opening.map end starts.map
-        good.order.serial good.order.run old both.1)
-        (tells_both (λ old new. MeetsLog log slots new × Outlives (commits_told names script answers closed) state lines old new) (SlotsLeft answers slots) before after
-        (tells_and (MeetsLog log slots) (Outlives (commits_told names script answers closed) state lines) before after meets (outlived answers closed ran)) left);
+        (λ old new both. leaves laws.courses laws.may laws.one laws.audits state (length names) v t log script answers closed ran slots old new both.0 ends good.report.order opening.map end starts.map
+        good.order.serial good.order.run both.1)
+        (tells_both (MeetsFound state log slots) (SlotsLeft answers slots) before after meets left);
   }
     where
       good : IsGoodReport InTurn opening names script lines
@@ -166,6 +176,8 @@ module _ (laws : DiskLaws) (state : State) (names : List (List ℕ)) (v t : View
     starts = starts;
     cut = report.cut;
     uncut = subst AreUncut (sym report.answers_are) (course_uncut laws.parts_few v t script was.answers was.course on.opened.cuts);
+    celled = subst (HaveManyCells script) (sym report.answers_are) (course_celled laws.cells v t script was.answers was.course on.opened.cells);
+    keyed = subst (HaveManyKeys opening (length names) script) (sym report.answers_are) (course_keyed laws.keys v t opening of (length names) on.opened.sessions script was.answers was.course);
     closed = found.closed;
     unseen = subst (λ (given : List Answer). AreUnseen names script given found.closed) (sym report.answers_are) found.unseen;
     owes = subst (λ (given : List Answer). OwesToAnswers InTurn opening script given (transactions_of (length names) (places_of script given found.closed))) (sym report.answers_are)
@@ -189,11 +201,13 @@ module _ (laws : DiskLaws) (state : State) (names : List (List ℕ)) (v t : View
     answers = answers;
     most = course.most;
     uncut = course_uncut laws.parts_few v t script answers course on.opened.cuts;
+    celled = course_celled laws.cells v t script answers course on.opened.cells;
+    keyed = course_keyed laws.keys v t opening of (length names) on.opened.sessions script answers course;
     closed = found.closed;
     unseen = found.unseen;
     owes = subst (λ (n : ℕ). OwesToAnswers InTurn opening script answers (transactions_of n (places_of script answers found.closed))) on.opened.sessions
         (laws.owe v t script answers course found.closed opening found.are of);
-    moments = tells_weaker (Outlives (commits_told names script answers found.closed) state lines) (KeepsCommits (commits_told names script answers found.closed) state state.at) before after
+    moments = tells_weaker (Outlives (commits_told names script answers found.closed) state lines) (SinceSettled (KeepsCommits (commits_told names script answers found.closed) state state.at)) before after
         (λ old new outlives. outlives.moments) (outlived answers found.closed (ran_on answers found.closed course found.are));
   }
     where

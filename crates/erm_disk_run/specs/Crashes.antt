@@ -1,5 +1,5 @@
 -- What a crash leaves of a disk at any moment of a run, by the commits that the run tells.
-use Rattle.std.specs.Prelude.{◌≡◌, ◌≢◌, ℕ, ◌+◌, ◌<◌, ◌≤◌, ◌⊎◌, List, Some, None}
+use Rattle.std.specs.Prelude.{◌≡◌, ◌≢◌, ℕ, ◌+◌, ◌<◌, ◌≤◌, ◌⊎◌, ◌↔◌, List, Some, None}
 use Rattle.erm_model.specs.Committed.{Committed, IsStateBelow}
 use Rattle.erm_model.specs.Database.{Database}
 use Rattle.erm_model.specs.Member.{◌∈◌}
@@ -15,6 +15,8 @@ use Rattle.erm_log_run.specs.Saving.{saved_at}
 use Rattle.erm_log_words.specs.Kept.{MayOpen}
 use Rattle.erm_node.specs.Sound.{sound_law}
 use Rattle.erm_node.specs.TreeMap.{map_of_rows}
+use Rattle.erm_recover.specs.Opening.{open_block}
+use Rattle.erm_recover.specs.Waiting.{SinceSettled}
 use Rattle.erm_report.specs.declared.answer.Answer.{Answer}
 use Rattle.erm_report.specs.declared.line.Line.{Line}
 
@@ -41,15 +43,16 @@ pub record KeepsSince (commits : List Committed) (from : State) (a : Answer) (pl
   pub holds : HoldsTold sound_law.meets a place mid
   pub keeps : KeepsCommits commits from place mid new
 
--- Commits outlive a crash: at each moment each image recovers to those below a stamp, and from a moment on at which the disk recovered to a place
--- that one of these lines acknowledges to all below it.
+-- Commits outlive a crash: once nothing is pending of what was done before, until when nothing is done but to wait, each image at each moment
+-- recovers to those below a stamp; and from a moment on at which the disk recovered to a place that one of these lines acknowledges to all below it.
 pub record Outlives (commits : List Committed) (from : State) (lines : List Line) (old new : List Step) : Type 0 where
-  pub moments : KeepsCommits commits from from.at old new
+  pub moments : SinceSettled (KeepsCommits commits from from.at) old new
   pub acknowledged : (place : ℕ) (is : IsAcknowledged lines place) → KeepsSince commits from is.answer place old new
 
 -- At the end nothing is pending on a disk, so that a crash leaves what it reads: it recovers to this map, in the next run, behind all commits. Of
--- the commits in the blocks that recovery meets those of this run are just these, from the place on where recovery begins. The best checkpoint is
--- the last one that the answers tell, and with none the slots are those from before.
+-- the commits in the blocks that recovery meets those from the place found on are just these, from the place on where recovery begins. The best
+-- checkpoint is the last one that the answers tell, and with none the slots are those from before. Of the blocks from the place on where recovery
+-- begins it meets the one that opens the run, and of those below the place found just the ones that it met before.
 pub record Leaves (commits : List Committed) (from : State) (answers : List Answer) (m : Database) (old steps : List Step) : Type 0 where
   pub settled : IsSettled steps
   pub found : State
@@ -59,6 +62,9 @@ pub record Leaves (commits : List Committed) (from : State) (answers : List Answ
   pub low : from.at + LEAST_BLOCK ≤ found.at
   pub above : (c : Committed) → c ∈ commits → c.stamp < found.at
   pub map : map_of_rows found.rows ≡ m
-  pub logged : (best : Pair) (blocks : List Block) → Recovers sound_law.meets (contents steps) best blocks → AuditTells blocks (base best).at (from.at + LEAST_BLOCK) commits
+  pub logged : (best : Pair) (blocks : List Block) → Recovers sound_law.meets (contents steps) best blocks → AuditTells blocks (base best).at from.at commits
   pub saved : (place : ℕ) → saved_at answers ≡ Some place → (best pair ≢ None) × ((base pair).at ≡ place)
   pub spared : saved_at answers ≡ None → (before : Pair) (blocks : List Block) → Recovers sound_law.meets (contents old) before blocks → slots_of pair ≡ slots_of before
+  pub opening : (best : Pair) (blocks : List Block) → Recovers sound_law.meets (contents steps) best blocks → (base best).at ≤ from.at → open_block from.at from.run ∈ blocks
+  pub older : (before best : Pair) (found blocks : List Block) → Recovers sound_law.meets (contents old) before found → Recovers sound_law.meets (contents steps) best blocks
+      → (b : Block) → b.stamp < from.at → (b ∈ blocks) ↔ ((b ∈ found) × ((base best).at ≤ b.stamp))

@@ -7,9 +7,10 @@ use Rattle.erm_outside.specs.Disk.{Step, contents}
 use Rattle.erm_ckpt.specs.declared.slot.TheConstants.{LOG_START}
 use Rattle.erm_ckpt.specs.Recovered.{Pair, RecoversAt, Recovers, State, base, state_behind}
 use Rattle.erm_ckpt.specs.States.{SameState}
-use Rattle.erm_log_words.specs.Kept as kept
+use Rattle.erm_log_words.specs.Kept.{MayOpen}
 use Rattle.erm_node.specs.Sound.{IsSound, sound_law}
 use Rattle.erm_node.specs.TreeMap.{map_of_rows}
+use Rattle.erm_recover.specs.Waiting.{IsSettledBeyond}
 use Rattle.erm_good_report.specs.Opening.{Opening}
 use Rattle.erm_lines.specs.Executions.{count_rows}
 use Rattle.erm_start.specs.Recovered.{IsFirstObject}
@@ -29,9 +30,13 @@ pub record IsFound (disk : Option (List Step)) (state : State) : Type 0 where
   pub are_sound : IsSound state.rows
   pub told : IfSome disk (ReadsAs state)
 
--- A disk may be opened: nothing is pending on it, and behind the place that it recovers to no block of a later run reads.
-abbrev pub IsKept : List Step → Type 0
-IsKept steps = kept.IsKept (RecoversAt sound_law.meets) steps
+-- A disk may be opened: behind the place that it recovers to as it reads no block of a later run reads. What was done to it may be pending
+-- still, as a stop leaves it, but only of what an opening waits for: both slots, and the segments from the one where recovery begins up to the
+-- one behind that of the place.
+pub record IsKept (steps : List Step) : Type 0 where
+  pub beyond : (pair : Pair) (blocks : List Block) → Recovers sound_law.meets (contents steps) pair blocks
+      → IsSettledBeyond (base pair).at (state_behind (base pair) blocks).at steps
+  pub opens : MayOpen (RecoversAt sound_law.meets) (contents steps)
 
 -- a report starts from the map of a state's rows, with the log's block that opens the next run at the state's place
 pub record StartsFrom (state : State) (opening : Opening) : Type 0 where

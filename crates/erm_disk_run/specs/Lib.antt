@@ -5,3 +5,4 @@ pub mod Owed
 pub mod Runs
 pub mod Saved
 pub mod Stops
+pub mod TwoRuns

@@ -1,11 +1,13 @@
 -- A disk's log that was just opened for the next run, and why none is.
-use Rattle.std.specs.Prelude.{◌≡◌, ℕ, ◌+◌, ◌<◌, List, Option, false}
+use Rattle.std.specs.Prelude.{◌≡◌, ℕ, ◌+◌, ◌<◌, ◌++◌, List, [], ◌∷◌, Option, false}
 use Rattle.erm_model.specs.Rows.{Rows}
 use Rattle.erm_model.specs.declared.limits.TheConstants.{LAST_RUN, LEAST_BLOCK, STOP}
 use Rattle.erm_block.specs.declared.block.Block.{Block}
+use Rattle.erm_block.specs.Spelling.{spelling}
+use Rattle.erm_log_disk.specs.Writes.{AllWriteWords}
 use Rattle.erm_outside.specs.Disk.{Step, Tells, contents}
 use Rattle.erm_ckpt.specs.declared.slot.Slots.{Slots}
-use Rattle.erm_ckpt.specs.Recovered.{Pair, Recovers, State, slots_of}
+use Rattle.erm_ckpt.specs.Recovered.{Pair, Recovers, State, base, slots_of, state_behind}
 use Rattle.erm_checkpoint.specs.Taken.{HoldsLog}
 use Rattle.erm_crash.specs.Kept.{KeepsOpening}
 use Rattle.erm_node.specs.Sound.{sound_law}
@@ -13,6 +15,8 @@ use Rattle.erm_node.specs.TreeMap.{map_of_rows}
 use Rattle.erm_plain.specs.Logs.{plain_log}
 use Rattle.erm_plain.specs.Stands.{plain_view}
 use Rattle.erm_plain.specs.declared.plain.Plain.{Plain}
+use Rattle.erm_recover.specs.Opening.{open_block}
+use Rattle.erm_recover.specs.Waiting.{SinceSettled}
 use Rattle.erm_recover.specs.declared.open.OpenStop.{OpenStop}
 use Rattle.erm_recover.specs.declared.open.OpenStop.TheVariants as opening
 use Rattle.erm_recover.specs.declared.stop.RecoverStop.{RecoverStop}
@@ -33,14 +37,16 @@ pub record NamesFound (slots : Slots) (steps : List Step) : Type 0 where
   pub recovers : Recovers sound_law.meets (contents steps) pair blocks
   pub names : slots ≡ slots_of pair
 
--- The log of a state was opened on a disk. The slots are those found there. At each moment each image recovers to the state, in its run or the
--- next, and at the end the disk holds the log that was opened, behind the blocks found.
+-- The log of a state was opened on a disk. The slots are those found there. Once nothing is pending each image at each moment recovers to the
+-- state, in its run or the next, and at the end the disk holds the log that was opened, behind the blocks found and the one that opens it.
 pub record OpensLog (state : State) (log : Log) (slots : Slots) (old new : List Step) : Type 0 where
   pub pair : Pair
   pub found : NamesFound slots old
-  pub keeps : KeepsOpening sound_law.meets state pair old new
+  pub keeps : SinceSettled (KeepsOpening sound_law.meets state pair) old new
   pub holds : HoldsLog sound_law.meets log slots new
-  pub tail : (earlier : List Block) × MeetsTail sound_law.meets earlier log slots new
+  pub tail : MeetsTail sound_law.meets (found.blocks ++ open_block state.at state.run ∷ []) log slots new
+  pub at : (state_behind (base found.pair) found.blocks).at ≡ state.at
+  pub writes : (more : List Step) × (new ≡ more ++ old) × AllWriteWords state.at (spelling (open_block state.at state.run)) more
 
 -- the same of a world's log, as far as the disk tells
 abbrev pub OpensTold : {L : Type 0} → State → Plain L → Slots → Option (List Step) → Option (List Step) → Type 0

@@ -1,14 +1,15 @@
 -- A script that was run on a disk: what its report tells, and what a crash leaves.
-use Rattle.std.specs.Prelude.{◌≡◌, ℕ, ◌+◌, ◌<◌, ◌≤◌, List, [], length, Option, IfSome, Result, Ok, Err, Vec}
+use Rattle.std.specs.Prelude.{◌≡◌, ℕ, ◌+◌, ◌*◌, ◌<◌, ◌≤◌, List, [], length, take, Option, Some, IfSome, Result, Ok, Err, Vec}
 use Rattle.std.specs.FinMap.{from_entries}
-use Rattle.std.specs.List.{All, AllPairs}
+use Rattle.std.specs.List.{All, AllPairs, slice_get}
 use Rattle.std.specs.declared.alloc.Global.{Global}
 use Rattle.erm_model.specs.Committed.{Committed}
 use Rattle.erm_model.specs.Database.{entries_of}
 use Rattle.erm_model.specs.Member.{◌∈◌}
-use Rattle.erm_model.specs.declared.limits.TheConstants.{LAST_NUMBER, LAST_RUN, SESSIONS, STOP, TABLES}
+use Rattle.erm_model.specs.declared.limits.TheConstants.{LAST_NUMBER, LAST_RUN, MOST_CELLS, OID_LIMIT, PUT_OBJECTS, SESSIONS, STOP, TABLES}
 use Rattle.erm_ckpt.specs.Recovered.{State}
 use Rattle.erm_outside.specs.Disk.{Step, Tells}
+use Rattle.erm_recover.specs.Waiting.{SinceSettled}
 use Rattle.erm_report.specs.declared.answer.Answer.{Answer}
 use Rattle.erm_report.specs.declared.answer.Answer.TheVariants as answer
 use Rattle.erm_outside.specs.Faults.{Rose}
@@ -21,7 +22,9 @@ use Rattle.erm_script.specs.declared.script.ScriptLine.{ScriptLine}
 use Rattle.erm_good_report.specs.GoodReport.{IsCutReport, IsTightReport, OwesToAnswers, places_of}
 use Rattle.erm_good_report.specs.Opening.{InTurn, Opening}
 use Rattle.erm_good_report.specs.Phases.{Closed, Closes, phase_of}
+use Rattle.erm_good_report.specs.Refusals.{claims_of, total_of}
 use Rattle.erm_good_report.specs.Transactions.{history_of, said_of, table_of, transactions_of}
+use Rattle.erm_tight.specs.NewKeys.{HaveNewKeys}
 use Rattle.erm_disk_run.specs.Crashes.{KeepsCommits, Leaves, Outlives}
 use Rattle.erm_disk_run.specs.Found.{IsFound, StartsFrom}
 use Rattle.erm_disk_run.specs.Stops.{CountsStop, StopsRun}
@@ -54,6 +57,15 @@ commits_told names script answers closed = history_of (transactions_of (length n
 abbrev pub AreUncut : List Answer → Type 0
 AreUncut answers = (n : ℕ) → answer.Cut n ∈ answers → n ≡ 0
 
+-- Where an answer tells that cells are full, as many were drawn as there may be, and the script's lines may claim so many beside those of the objects.
+abbrev pub HaveManyCells : List ScriptLine → List Answer → Type 0
+HaveManyCells script answers = (drawn : ℕ) → answer.CellsFull drawn ∈ answers → (MOST_CELLS ≤ drawn) × (MOST_CELLS < OID_LIMIT + total_of claims_of script)
+
+-- Where an answer tells that objects are full, the lines up to it put new keys, as many as make all the objects that may be made.
+abbrev pub HaveManyKeys : Opening → ℕ → List ScriptLine → List Answer → Type 0
+HaveManyKeys opening sessions script answers = (i drawn : ℕ) → slice_get answers i ≡ Some (answer.OidsFull drawn)
+    → (n : ℕ) × HaveNewKeys sessions [] (take (i + 1) (said_of script answers)) n × (OID_LIMIT < opening.first + PUT_OBJECTS * n)
+
 -- A script was run on a disk from which a state was found, below the end of the log and of runs: these lines are a good report, whose windows are
 -- tight. The commits that it tells outlive a crash at any moment, and at the end the disk recovers to the map that it tells.
 pub record WasRunOn (before after : Option (List Step)) (state : State) (names : List (List ℕ)) (script : List ScriptLine) (lines : List Line) : Type 0 where
@@ -63,6 +75,8 @@ pub record WasRunOn (before after : Option (List Step)) (state : State) (names :
   pub starts : StartsFrom state opening
   pub tight : IsTightReport InTurn opening names script lines
   pub uncut : AreUncut tight.good.report.answers
+  pub celled : HaveManyCells script tight.good.report.answers
+  pub keyed : HaveManyKeys opening (length names) script tight.good.report.answers
   pub outlives : Tells (Outlives (commits_told names script tight.good.report.answers tight.good.report.closed) state lines) before after
   pub leaves : Tells (λ old new. Leaves (commits_told names script tight.good.report.answers tight.good.report.closed) state tight.good.report.answers
       (from_entries (entries_of tight.good.report.pairs)) old new) before after
@@ -83,13 +97,16 @@ pub record WasCutOn (before after : Option (List Step)) (state : State) (names :
   pub starts : StartsFrom state opening
   pub cut : IsCutReport InTurn opening names script lines
   pub uncut : AreUncut cut.answers
+  pub celled : HaveManyCells script cut.answers
+  pub keyed : HaveManyKeys opening (length names) script cut.answers
   pub closed : List Closed
   pub unseen : AreUnseen names script cut.answers closed
   pub owes : OwesToAnswers InTurn opening script cut.answers (transactions_of (length names) (places_of script cut.answers closed))
   pub outlives : Tells (Outlives (commits_told names script cut.answers closed) state lines) before after
 
 -- Memory ran out while a script was run on a disk, or was told: behind some of its lines, or behind all of them. These answers, of which no line tells,
--- are what a report owes, with the sessions that were closed behind the last line. At each moment each image recovers to the commits below a stamp that both tell.
+-- are what a report owes, with the sessions that were closed behind the last line. Once nothing is pending of what was done before, each image at each
+-- moment recovers to the commits below a stamp that both tell.
 pub record WasStarvedOn (before after : Option (List Step)) (state : State) (names : List (List ℕ)) (script : List ScriptLine) : Type 0 where
   pub low : state.at < STOP
   pub run_low : state.run < LAST_RUN
@@ -98,10 +115,12 @@ pub record WasStarvedOn (before after : Option (List Step)) (state : State) (nam
   pub answers : List Answer
   pub most : length answers ≤ length script
   pub uncut : AreUncut answers
+  pub celled : HaveManyCells script answers
+  pub keyed : HaveManyKeys opening (length names) script answers
   pub closed : List Closed
   pub unseen : AreUnseen names script answers closed
   pub owes : OwesToAnswers InTurn opening script answers (transactions_of (length names) (places_of script answers closed))
-  pub moments : Tells (KeepsCommits (commits_told names script answers closed) state state.at) before after
+  pub moments : Tells (SinceSettled (KeepsCommits (commits_told names script answers closed) state state.at)) before after
 
 -- how a run ends on a disk before and after
 abbrev pub EndsRun : Result (Vec Line Global) RunStop → Option (List Step) → Option (List Step) → List (List ℕ) → List ScriptLine → Type 0

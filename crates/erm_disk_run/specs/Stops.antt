@@ -9,20 +9,23 @@ use Rattle.erm_outside.specs.Faults.{Rose}
 use Rattle.erm_outside.specs.Disk.{Step, Tells}
 use Rattle.erm_recover.specs.Opening.{open_block}
 use Rattle.erm_recover.specs.Recovering.{NoBaseTold}
+use Rattle.erm_recover.specs.Waiting.{OnceSettled}
 use Rattle.erm_disk_run.specs.declared.stops.DiskStop.{DiskStop}
 use Rattle.erm_disk_run.specs.declared.stops.DiskStop.TheVariants.{DiskFault, LogEnd, Memory, NoBase, RunsEnd}
 use Rattle.erm_disk_run.specs.Crashes.{KeepsCommits}
 use Rattle.erm_disk_run.specs.Found.{IsFound}
 
--- nothing was done to a disk, or its log was being opened: each image at each moment recovers to the map found
+-- Nothing was done to a disk, or its log was being opened: then nothing was done but to wait until nothing was pending, and from then on each image
+-- at each moment recovers to the map found.
 abbrev pub KeepsMap : Option (List Step) → Option (List Step) → Type 0
-KeepsMap before after = (after ≡ before) ⊎ ((state : State) × IsFound before state × Tells (KeepsCommits [] state state.at) before after)
+KeepsMap before after = (after ≡ before) ⊎ ((state : State) × IsFound before state × Tells (OnceSettled (KeepsCommits [] state state.at)) before after)
 
 -- Nothing was done to a disk, or its log was being opened for the next run and no more: what came to the disk are words of the block that opens it, at
--- its place, and each image at each moment recovers to the map found.
+-- its place, and that behind nothing but waits until nothing was pending: from then on each image at each moment recovers to the map found.
 abbrev pub OnlyOpens : Option (List Step) → Option (List Step) → Type 0
 OnlyOpens before after = (after ≡ before)
-    ⊎ ((state : State) × IsFound before state × OnlyWrites state.at (spelling (open_block state.at state.run)) before after × Tells (KeepsCommits [] state state.at) before after)
+    ⊎ ((state : State) × IsFound before state × OnlyWrites state.at (spelling (open_block state.at state.run)) before after
+    × Tells (OnceSettled (KeepsCommits [] state state.at)) before after)
 
 -- Why nothing was run or no checkpoint taken, and what was done to the disk meanwhile. Where no run comes after the last one, or the log is at its end, that is found.
 abbrev pub StopsFor : DiskStop → Option (List Step) → Option (List Step) → Type 0

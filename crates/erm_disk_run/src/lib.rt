@@ -8,6 +8,7 @@ mod run;
 mod stops;
 
 pub use checkpoint::checkpoint_on_disk;
+pub use laws::next_runs_keep_what_was_acknowledged;
 pub use run::run_on_disk;
 pub use stops::{DiskStop, OnDisk, RunStop};
 

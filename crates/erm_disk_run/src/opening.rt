@@ -90,7 +90,8 @@ impl From<AllocError> for DiskStop {
 }
 
 /// Recovers a disk, opens its log for the next run, and a world of so many sessions behind the block that opens it. Where it stops it
-/// says why, and has done no more to the disk than to open its log, so that it recovers to the map found, if anything was found.
+/// says why, and has done no more to the disk than to wait for what was pending and to open its log, so that it recovers to the map found, if
+/// anything was found.
 pub(crate) fn open_disk<D: Disk>(
     alloc: Global,
     disk: &mut D,

@@ -92,11 +92,14 @@ fn run_opened<D: Disk>(
     erm_told::executions_go_on();
     erm_told::runs_cut_few();
     erm_told::parts_cut_few();
+    erm_told_limits::cells_are_full();
+    erm_tight::oids_are_full();
     erm_told_crash::logs_tell_states();
     erm_told_crash::courses_close_sessions();
     courses_owe_to_answers();
     erm_told_crash::logs_have_the_commits_told();
     erm_told_log::recovery_meets_the_run::<SoundRows>();
+    erm_told_log::recovery_meets_earlier_blocks::<SoundRows>();
     erm_told_audit::audits_tell_the_commits();
     erm_core_ssn::serial_order_is_unique();
     erm_node::same_rows_same_map();

@@ -43,8 +43,9 @@ fn checkpoints_go_on(rt: HostRuntime) -> Result<(), Fail> {
 #[test]
 fn faults_stop_checkpoints(rt: HostRuntime) -> Result<(), Fail> {
     let alloc = rt.alloc();
-    // Of an empty disk the slots are read, three lengths and the log; and then the log and the slot are written, and each is waited for.
-    for calls in 0..10 {
+    // Of an empty disk the slots are read, three lengths and the log; these files are waited for, and a segment more; and then the log
+    // and the slot are written, and each is waited for.
+    for calls in 0..14 {
         let disk = Silent {
             disk: MemDisk::new(alloc).stop_at(calls),
         };

@@ -1,4 +1,3 @@
 pub mod Audits
 pub mod Maps
 pub mod Recoveries
-pub mod Stops

@@ -6,28 +6,27 @@ ghost use Rattle.erm_outside.specs.Faults.{Rose};
 ghost use Rattle.erm_recover.specs.Recovering.{NoBaseTold, state_recovered};
 ghost use Rattle.erm_inspect.specs.Audits.{HasAuditForm, IsAudit, TellsAudit, logged, order_lines};
 
-use crate::InspectStop;
 use crate::found::find;
 use crate::map_lines::push_map;
 use erm_audit::serial_order;
 use erm_model::Commit;
 use erm_node::same_rows_same_map;
 use erm_outside::Disk;
-use erm_recover::Recovered;
+use erm_recover::{RecoverStop, Recovered};
 use erm_report::Line;
 use std::alloc::{AllocError, Global};
 
 /// The commits of a disk's log, from the place on where its recovery begins, in the serial order, and the map that it recovers to.
 /// It writes nothing.
-pub fn audited<D: Disk>(alloc: Global, disk: &mut D) -> Result<Vec<Line>, InspectStop>
+pub fn audited<D: Disk>(alloc: Global, disk: &mut D) -> Result<Vec<Line>, RecoverStop>
     ensures ok { IfOk result (λ lines. IfSome (D.told disk.old) (λ steps. IsAudit steps lines.items)) }
     ensures form { IfOk result (λ lines. HasAuditForm lines.items) }
-    ensures no_base { result ≡ Err InspectStop.NoBase → NoBaseTold sound_law.meets (D.told disk.old) }
+    ensures no_base { result ≡ Err RecoverStop.NoBase → NoBaseTold sound_law.meets (D.told disk.old) }
     ensures told { D.told disk.new ≡ D.told disk.old }
 
     // The disk's count of faults rises exactly where it failed.
-    ensures sound { result ≢ Err InspectStop.DiskFault → D.faults disk.new ≡ D.faults disk.old }
-    ensures fault { result ≡ Err InspectStop.DiskFault → Rose (D.faults disk.old) (D.faults disk.new) }
+    ensures sound { result ≢ Err RecoverStop.DiskFault → D.faults disk.new ≡ D.faults disk.old }
+    ensures fault { result ≡ Err RecoverStop.DiskFault → Rose (D.faults disk.old) (D.faults disk.new) }
 {
     same_rows_same_map();
     let found = find(alloc, disk)?;

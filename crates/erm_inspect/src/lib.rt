@@ -5,10 +5,8 @@ mod audit;
 mod found;
 mod map_lines;
 mod recovery;
-mod stop;
 #[cfg(test)]
 mod tests;
 
 pub use audit::audited;
 pub use recovery::recovered;
-pub use stop::InspectStop;

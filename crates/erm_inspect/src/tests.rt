@@ -1,7 +1,8 @@
 //! What is told of disks whose words another program worked out.
-use crate::{InspectStop, audited, recovered};
+use crate::{audited, recovered};
 use erm_outside::{Disk, Failed, File};
 use erm_outside_mem::{MemDisk, Silent};
+use erm_recover::RecoverStop;
 use erm_report::{Line, Text};
 use erm_segment::place;
 use std::alloc::{AllocError, Global};
@@ -189,12 +190,12 @@ fn nothing_is_told_of_others(rt: HostRuntime) -> Result<(), Fail> {
     let alloc = rt.alloc();
     let mut disk = empty(alloc);
     disk.write(File::Slot0, 0, b"x")?;
-    assert!(rt; matches!(recovered(alloc, &mut disk), Err(InspectStop::NoBase)));
-    assert!(rt; matches!(audited(alloc, &mut disk), Err(InspectStop::NoBase)));
+    assert!(rt; matches!(recovered(alloc, &mut disk), Err(RecoverStop::NoBase)));
+    assert!(rt; matches!(audited(alloc, &mut disk), Err(RecoverStop::NoBase)));
     let mut failing = Silent {
         disk: MemDisk::new(alloc).stop_at(0),
     };
-    assert!(rt; matches!(recovered(alloc, &mut failing), Err(InspectStop::DiskFault)));
-    assert!(rt; matches!(audited(alloc, &mut failing), Err(InspectStop::DiskFault)));
+    assert!(rt; matches!(recovered(alloc, &mut failing), Err(RecoverStop::DiskFault)));
+    assert!(rt; matches!(audited(alloc, &mut failing), Err(RecoverStop::DiskFault)));
     Ok(())
 }

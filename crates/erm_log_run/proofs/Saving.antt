@@ -15,6 +15,7 @@ use Rattle.erm_ckpt.specs.Recovered.{Pair, best, slots_of, state_of}
 use Rattle.erm_ckpt.specs.Slots.{best_of, next_first, put_slot}
 use Rattle.erm_ckpt.proofs.Choices.{best_slot}
 use Rattle.erm_checkpoint.specs.Taken.{HoldsLogFrom, TakesAll, slot_at_end}
+use Rattle.erm_checkpoint.proofs.Segments.{saving_more, saving_spares}
 use Rattle.erm_crash.specs.Kept.{KeepsSince}
 use Rattle.erm_lines.specs.Answers.{DidLine}
 use Rattle.erm_log_run.specs.Keeping.{IsHeld, Keeper, KeepsOn}
@@ -44,21 +45,34 @@ pub checkpoint_saved : (sound : Rows → Type 0) (log : Log) (slots : Slots) (pl
 checkpoint_saved sound log slots place None lasts = lasts
 checkpoint_saved sound log slots place (Some steps) lasts = named_best slots lasts.holds.pair place lasts.holds.names lasts.some lasts.from
 
+-- a checkpoint that was taken took its place
+pub took_place : (sound : Rows → Type 0) (flushed : ℕ) (log : Log) (old new : Slots) (run place : ℕ) (first steps : List Step) → log.tail ≡ place → new ≡ put_slot old (slot_at_end log run old)
+    → TakesAll sound flushed log old (slot_at_end log run old) first steps → TookPlace sound place old new steps
+took_place sound flushed log old new run place first steps tail put all = record {
+  run = run;
+  put = put ∙ ap (λ (n : ℕ). put_slot old (record { stamp = n; run = run; first = next_first old })) tail;
+  gone = all.saves.gone;
+  was = all.mid;
+  more = saving_more sound flushed log old (slot_at_end log run old) first steps all;
+  settled = all.holds.ready.settled;
+  pair = all.holds.pair;
+  blocks = all.holds.there.blocks;
+  recovers = all.holds.there.recovers;
+  names = all.holds.names;
+  kept = λ n out. saving_spares sound flushed log old (slot_at_end log run old) first steps all n out;
+}
+
 -- and what it removed
 pub checkpoint_removes : (sound : Rows → Type 0) (flushed : ℕ) (log : Log) (old new : Slots) (run place : ℕ) (before told : Option (List Step)) → log.tail ≡ place → new ≡ put_slot old (slot_at_end log run old)
-    → Tells (TakesAll sound flushed log old (slot_at_end log run old)) before told → Removes (answer.Checkpointed place) told old new
-checkpoint_removes sound flushed log old new run place None told tail put takes = subst (λ (o : Option (List Step)). IfSome o (TookPlace place old new)) (sym takes) tt
+    → Tells (TakesAll sound flushed log old (slot_at_end log run old)) before told → Removes sound (answer.Checkpointed place) told old new
+checkpoint_removes sound flushed log old new run place None told tail put takes = subst (λ (o : Option (List Step)). IfSome o (TookPlace sound place old new)) (sym takes) tt
 checkpoint_removes sound flushed log old new run place (Some first) told tail put (steps, is, all) =
-    subst (λ (o : Option (List Step)). IfSome o (TookPlace place old new)) (sym is) (record {
-      run = run;
-      put = put ∙ ap (λ (n : ℕ). put_slot old (record { stamp = n; run = run; first = next_first old })) tail;
-      gone = all.saves.gone;
-    })
+    subst (λ (o : Option (List Step)). IfSome o (TookPlace sound place old new)) (sym is) (took_place sound flushed log old new run place first steps tail put all)
 
 -- a line of a session removes nothing
-pub session_removes : (v t : View) (l : ScriptLine) (a : Answer) (told : Option (List Step)) (slots : Slots) → DidLine v l a t → Removes a told slots slots
-session_removes v t l (answer.Checkpointed place) told slots did = absurd (no_checkpoint v t l place did)
-session_removes v t l a told slots did = tt
+pub session_removes : (sound : Rows → Type 0) (v t : View) (l : ScriptLine) (a : Answer) (told : Option (List Step)) (slots : Slots) → DidLine v l a t → Removes sound a told slots slots
+session_removes sound v t l (answer.Checkpointed place) told slots did = absurd (no_checkpoint v t l place did)
+session_removes sound v t l a told slots did = tt
 
 -- a line of a session leaves the slots
 pub session_saved : (v t : View) (l : ScriptLine) (a : Answer) (told : Option (List Step)) (slots : Slots) → DidLine v l a t → AreSaved (saved_by a None) told slots slots

@@ -32,9 +32,9 @@ ends_low (answer.Durable stamp) place end low = low
 ends_low a place end is = omega (arith, is)
 
 -- the best of the slots is that of the checkpoint that an answer tells, and those before it named the segments that are gone
-abbrev pub BestFor : Answer → Slots → List Step → Type 0
-BestFor (answer.Checkpointed place) slots steps = IsBestAt slots place × ((before : Slots) × TookPlace place before slots steps)
-BestFor a slots steps = Unit {0}
+abbrev pub BestFor : (Rows → Type 0) → Answer → Slots → List Step → Type 0
+BestFor sound (answer.Checkpointed place) slots steps = IsBestAt slots place × ((before : Slots) × TookPlace sound place before slots steps)
+BestFor sound a slots steps = Unit {0}
 
 -- slots that name checkpoints name the best one
 best_there : (slots : Slots) (pair : Pair) (place : ℕ) → slots ≡ slots_of pair → IsBestAt slots place → (best pair ≢ None) × ((base pair).at ≡ place)
@@ -50,34 +50,34 @@ best_there slots pair place names is = by (best pair) refl
           ap (λ (o : Option Checkpoint). (state_of o).at) some ∙ ap (λ (s : Slot). s.stamp) (sym same) ∙ is.at,
         )
 
-saved_for : (a : Answer) (slots : Slots) (pair : Pair) (steps : List Step) → slots ≡ slots_of pair → BestFor a slots steps → IsSavedAt a pair steps
-saved_for (answer.Checkpointed place) slots pair steps names saved =
+saved_for : (sound : Rows → Type 0) (a : Answer) (slots : Slots) (pair : Pair) (steps : List Step) → slots ≡ slots_of pair → BestFor sound a slots steps → IsSavedAt sound a pair steps
+saved_for sound (answer.Checkpointed place) slots pair steps names saved =
     let best = best_there slots pair place names saved.0 in
-    (best.0, best.1, (saved.1.0, subst (λ (s : Slots). TookPlace place saved.1.0 s steps) names saved.1.1))
-saved_for a slots pair steps names saved = tt
+    (best.0, best.1, (saved.1.0, subst (λ (s : Slots). TookPlace sound place saved.1.0 s steps) names saved.1.1))
+saved_for sound a slots pair steps names saved = tt
 
 -- what a line leaves of the slots, and of the segments, tells so of its answer
-pub best_for : (a : Answer) (told : Option (List Step)) (old new : Slots) → AreSaved (saved_by a None) told old new → Removes a told old new → IfSome told (BestFor a new)
-best_for (answer.Checkpointed place) None old new saved removes = tt
-best_for (answer.Checkpointed place) (Some steps) old new saved removes = (saved, (old, removes))
-best_for a None old new saved removes = tt
-best_for a (Some steps) old new saved removes = tt
+pub best_for : (sound : Rows → Type 0) (a : Answer) (told : Option (List Step)) (old new : Slots) → AreSaved (saved_by a None) told old new → Removes sound a told old new → IfSome told (BestFor sound a new)
+best_for sound (answer.Checkpointed place) None old new saved removes = tt
+best_for sound (answer.Checkpointed place) (Some steps) old new saved removes = (saved, (old, removes))
+best_for sound a None old new saved removes = tt
+best_for sound a (Some steps) old new saved removes = tt
 
 -- where a log is flushed to the place that an answer tells, a disk that holds it recovers to that
-holds_told : (sound : Rows → Type 0) (log : Log) (slots : Slots) (a : Answer) (place : ℕ) → EndsAt a place log.flushed → (steps : List Step) → BestFor a slots steps → HoldsLog sound log slots steps → HoldsTold sound a place steps
+holds_told : (sound : Rows → Type 0) (log : Log) (slots : Slots) (a : Answer) (place : ℕ) → EndsAt a place log.flushed → (steps : List Step) → BestFor sound a slots steps → HoldsLog sound log slots steps → HoldsTold sound a place steps
 holds_told sound log slots a place ends steps saved h = record {
   settled = h.ready.settled;
   found = state_at log h.front;
   pair = h.pair;
   there = h.there;
   ends = subst (EndsAt a place) (sym h.to) ends;
-  saved = saved_for a slots h.pair steps h.names saved;
+  saved = saved_for sound a slots h.pair steps h.names saved;
 }
 
-holds_now : (sound : Rows → Type 0) (k : Keeper) (a : Answer) (place : ℕ) → IsHeld sound k → EndsAt a place k.log.flushed → IfSome k.told (BestFor a k.slots) → IfSome k.told (HoldsTold sound a place)
+holds_now : (sound : Rows → Type 0) (k : Keeper) (a : Answer) (place : ℕ) → IsHeld sound k → EndsAt a place k.log.flushed → IfSome k.told (BestFor sound a k.slots) → IfSome k.told (HoldsTold sound a place)
 holds_now sound k a place held ends saved = by k.told held.holds saved
   where
-    by : (o : Option (List Step)) → IfSome o (HoldsLog sound k.log k.slots) → IfSome o (BestFor a k.slots) → IfSome o (HoldsTold sound a place)
+    by : (o : Option (List Step)) → IfSome o (HoldsLog sound k.log k.slots) → IfSome o (BestFor sound a k.slots) → IfSome o (HoldsTold sound a place)
     by None holds saved = tt
     by (Some steps) holds saved = holds_told sound k.log k.slots a place ends steps saved holds
 
@@ -127,7 +127,7 @@ module _ (sound : Rows → Type 0) (first : Option (List Step)) where
 
 -- a place that is flushed now
 pub kept_to_now : (sound : Rows → Type 0) → LogsBegin sound → (first k : Keeper) (a : Answer) (place : ℕ) → IsHeld sound first → KeepsOn sound first k → IsHeld sound k → EndsAt a place k.log.flushed
-    → IfSome k.told (BestFor a k.slots) → IsKeptTo sound first.told k a place
+    → IfSome k.told (BestFor sound a k.slots) → IsKeptTo sound first.told k a place
 kept_to_now sound begins first k a place held on holds ends saved = record {
   start = k.told;
   later = tells_weaker (KeepsSince sound first.log.flushed k.log k.slots) GoesOnFrom first.told k.told (λ old new since. since.moments.0)
@@ -146,12 +146,12 @@ all_kept_on sound first answers k m on all place told = kept_on sound first k m 
 
 -- one answer more
 pub all_kept_more : (sound : Rows → Type 0) → LogsBegin sound → (first k m : Keeper) (answers : List Answer) (a : Answer) → IsHeld sound first → KeepsOn sound k m → KeepsOn sound first m → IsHeld sound m
-    → ((place : ℕ) → place_told a ≡ Some place → EndsAt a place m.log.flushed) → AreSaved (saved_by a None) m.told k.slots m.slots → Removes a m.told k.slots m.slots → AreKept sound first.told answers k → AreKept sound first.told (answers ++ a ∷ []) m
+    → ((place : ℕ) → place_told a ≡ Some place → EndsAt a place m.log.flushed) → AreSaved (saved_by a None) m.told k.slots m.slots → Removes sound a m.told k.slots m.slots → AreKept sound first.told answers k → AreKept sound first.told (answers ++ a ∷ []) m
 all_kept_more sound begins first k m answers a held on after holds reaches saves removes all place told = elim (∈-push answers a told.answer told.given) [
   | inl before ↦ kept_on sound first.told k m told.answer place on (all place (record { answer = told.answer; given = before; tells = told.tells }))
   | inr last ↦
       subst (λ (x : Answer). IsKeptTo sound first.told m x place) (sym last)
-      (kept_to_now sound begins first m a place held after holds (reaches place (subst (λ (x : Answer). place_told x ≡ Some place) last told.tells)) (best_for a m.told k.slots m.slots saves removes))
+      (kept_to_now sound begins first m a place held after holds (reaches place (subst (λ (x : Answer). place_told x ≡ Some place) last told.tells)) (best_for sound a m.told k.slots m.slots saves removes))
 ]
 
 -- a call wasn't answered

@@ -33,9 +33,9 @@ EndsAt (answer.Durable stamp) place end = place ≤ end
 EndsAt a place end = end ≡ place
 
 -- the checkpoint that an answer tells is there: it is the best one, of the place, in the place of the one that wasn't the best before
-abbrev pub IsSavedAt : Answer → Pair → List Step → Type 0
-IsSavedAt (answer.Checkpointed place) pair steps = (best pair ≢ None) × ((base pair).at ≡ place) × ((before : Slots) × TookPlace place before (slots_of pair) steps)
-IsSavedAt a pair steps = Unit {0}
+abbrev pub IsSavedAt : (Rows → Type 0) → Answer → Pair → List Step → Type 0
+IsSavedAt sound (answer.Checkpointed place) pair steps = (best pair ≢ None) × ((base pair).at ≡ place) × ((before : Slots) × TookPlace sound place before (slots_of pair) steps)
+IsSavedAt sound a pair steps = Unit {0}
 
 -- nothing is pending on a disk, and it recovers to the place that an answer tells, from the checkpoint that it tells, if it tells one
 pub record HoldsTold (sound : Rows → Type 0) (a : Answer) (place : ℕ) (steps : List Step) : Type 0 where
@@ -44,7 +44,7 @@ pub record HoldsTold (sound : Rows → Type 0) (a : Answer) (place : ℕ) (steps
   pub pair : Pair
   pub there : RecoversTo sound found pair (contents steps)
   pub ends : EndsAt a place found.at
-  pub saved : IsSavedAt a pair steps
+  pub saved : IsSavedAt sound a pair steps
 
 -- From a moment on at which the disk recovers to the place that an answer tells, up to the last one, each image recovers to a front of these
 -- blocks, to all below the place at least.

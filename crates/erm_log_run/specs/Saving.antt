@@ -1,11 +1,14 @@
 -- The slots that a run leaves, by the checkpoints that its answers tell.
-use Rattle.std.specs.Prelude.{◌≡◌, ◌<◌, ◌≤◌, ℕ, List, [], ◌∷◌, Option, Some, None, IfSome}
+use Rattle.std.specs.Prelude.{◌≡◌, ◌<◌, ◌≤◌, ◌⊎◌, ◌++◌, ℕ, List, [], ◌∷◌, Option, Some, None, IfSome}
+use Rattle.erm_block.specs.declared.block.Block.{Block}
+use Rattle.erm_model.specs.Rows.{Rows}
 use Rattle.erm_outside.specs.declared.disk.File.TheVariants.{Segment}
-use Rattle.erm_outside.specs.Disk.{Step, contents}
+use Rattle.erm_outside.specs.Disk.{IsSettled, Step, contents}
 use Rattle.erm_report.specs.declared.answer.Answer.{Answer}
 use Rattle.erm_report.specs.declared.answer.Answer.TheVariants as answer
 use Rattle.erm_ckpt.specs.declared.slot.Slot.{Slot}
 use Rattle.erm_ckpt.specs.declared.slot.Slots.{Slots}
+use Rattle.erm_ckpt.specs.Recovered.{Pair, Recovers, slots_of}
 use Rattle.erm_ckpt.specs.Slots.{best_of, next_first, put_slot, removal_end}
 
 -- the place of the last checkpoint, with one answer more
@@ -33,13 +36,22 @@ abbrev pub AreSaved : Option ℕ → Option (List Step) → Slots → Slots → 
 AreSaved None told old new = new ≡ old
 AreSaved (Some place) told old new = IfSome told (λ steps. IsBestAt new place)
 
--- A checkpoint of a place took the place of the slot that wasn't the best, and the segments that the slots named to be removed are gone.
-pub record TookPlace (place : ℕ) (old new : Slots) (steps : List Step) : Type 0 where
+-- A checkpoint of a place took the place of the slot that wasn't the best of those from which the disk recovered before, with nothing pending. The
+-- segments that these named to be removed are gone, and the others are as they were.
+pub record TookPlace (sound : Rows → Type 0) (place : ℕ) (old new : Slots) (steps : List Step) : Type 0 where
   pub run : ℕ
   pub put : new ≡ put_slot old (record { stamp = place; run = run; first = next_first old })
   pub gone : (n : ℕ) → next_first old ≤ n → n < removal_end old → contents steps (Segment n) ≡ []
+  pub was : List Step
+  pub more : (more : List Step) × (steps ≡ more ++ was)
+  pub settled : IsSettled was
+  pub pair : Pair
+  pub blocks : List Block
+  pub recovers : Recovers sound (contents was) pair blocks
+  pub names : old ≡ slots_of pair
+  pub kept : (n : ℕ) → (n < next_first old) ⊎ (removal_end old ≤ n) → contents steps (Segment n) ≡ contents was (Segment n)
 
 -- so it is behind an answer that tells one, as far as the disk tells
-abbrev pub Removes : Answer → Option (List Step) → Slots → Slots → Type 0
-Removes (answer.Checkpointed place) told old new = IfSome told (TookPlace place old new)
-Removes a told old new = Unit {0}
+abbrev pub Removes : (Rows → Type 0) → Answer → Option (List Step) → Slots → Slots → Type 0
+Removes sound (answer.Checkpointed place) told old new = IfSome told (TookPlace sound place old new)
+Removes sound a told old new = Unit {0}

@@ -77,7 +77,7 @@ pub fn run_line<W: ScriptWorld, D: Disk>(
     ensures receipts { OnOk result (AreReceipts (W.view world.new) receipts.new) }
     ensures keeps { Keeps W.rows_law.meets result (keeper_of (W.log world.old) store.old (D.told store.old.disk)) (keeper_of (W.log world.new) store.new (D.told store.new.disk)) }
     ensures saves { IfOk result (λ a. AreSaved (saved_by a None) (D.told store.new.disk) store.old.slots store.new.slots) }
-    ensures removes { IfOk result (λ a. Removes a (D.told store.new.disk) store.old.slots store.new.slots) }
+    ensures removes { IfOk result (λ a. Removes W.rows_law.meets a (D.told store.new.disk) store.old.slots store.new.slots) }
     ensures counts { CountsFaults result (D.faults store.old.disk) (D.faults store.new.disk) }
     ensures spared { WhereStarved result (store.new ≡ store.old) }
 {

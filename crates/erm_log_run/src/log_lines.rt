@@ -26,7 +26,7 @@ pub fn flush_line<W: ScriptWorld, D: Disk>(
     ensures flushes { FlushesOnFault result (W.view world.old) (W.view world.new) }
     ensures keeps { Keeps W.rows_law.meets result (keeper_of (W.log world.old) store.old (D.told store.old.disk)) (keeper_of (W.log world.new) store.new (D.told store.new.disk)) }
     ensures saves { IfOk result (λ a. AreSaved (saved_by a None) (D.told store.new.disk) store.old.slots store.new.slots) }
-    ensures removes { IfOk result (λ a. Removes a (D.told store.new.disk) store.old.slots store.new.slots) }
+    ensures removes { IfOk result (λ a. Removes W.rows_law.meets a (D.told store.new.disk) store.old.slots store.new.slots) }
     ensures counts { CountsFaults result (D.faults store.old.disk) (D.faults store.new.disk) }
     ensures fed { WhereStarved result ⊥ }
 {
@@ -55,7 +55,7 @@ pub fn checkpoint_line<W: ScriptWorld, D: Disk>(
     ensures flushes { FlushesOnFault result (W.view world.old) (W.view world.new) }
     ensures keeps { Keeps W.rows_law.meets result (keeper_of (W.log world.old) store.old (D.told store.old.disk)) (keeper_of (W.log world.new) store.new (D.told store.new.disk)) }
     ensures saves { IfOk result (λ a. AreSaved (saved_by a None) (D.told store.new.disk) store.old.slots store.new.slots) }
-    ensures removes { IfOk result (λ a. Removes a (D.told store.new.disk) store.old.slots store.new.slots) }
+    ensures removes { IfOk result (λ a. Removes W.rows_law.meets a (D.told store.new.disk) store.old.slots store.new.slots) }
     ensures counts { CountsFaults result (D.faults store.old.disk) (D.faults store.new.disk) }
     ensures fed { WhereStarved result ⊥ }
 {
@@ -84,7 +84,7 @@ fn checkpoint_flushed<W: ScriptWorld, D: Disk>(
     ensures flushes { FlushesOnFault result (W.view world.old) (W.view world.new) }
     ensures keeps { Keeps W.rows_law.meets result (keeper_of (W.log world.old) store.old (D.told store.old.disk)) (keeper_of (W.log world.new) store.new (D.told store.new.disk)) }
     ensures saves { IfOk result (λ a. AreSaved (saved_by a None) (D.told store.new.disk) store.old.slots store.new.slots) }
-    ensures removes { IfOk result (λ a. Removes a (D.told store.new.disk) store.old.slots store.new.slots) }
+    ensures removes { IfOk result (λ a. Removes W.rows_law.meets a (D.told store.new.disk) store.old.slots store.new.slots) }
     ensures counts { CountsFaults result (D.faults store.old.disk) (D.faults store.new.disk) }
     ensures fed { WhereStarved result ⊥ }
 {

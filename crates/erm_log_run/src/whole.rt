@@ -3,7 +3,7 @@ ghost use Rattle.std.specs.Prelude.{◌≡◌, ◌+◌, ◌<◌, ◌≤◌, fals
 ghost use Rattle.std.specs.List.{All};
 ghost use Rattle.erm_model.specs.Member.{◌∈◌};
 ghost use Rattle.erm_model.specs.RowTransaction.{SameLaw};
-ghost use Rattle.erm_model.specs.declared.limits.TheConstants.{LAST_NUMBER, LAST_RUN, LEAST_BLOCK, LOG_END, SESSIONS, TABLE_CELLS};
+ghost use Rattle.erm_model.specs.declared.limits.TheConstants.{LAST_NUMBER, LAST_RUN, LEAST_BLOCK, LOG_END, MOST_CELLS, SESSIONS, TABLE_CELLS};
 ghost use Rattle.erm_block.specs.declared.block.Block.{Block};
 ghost use Rattle.erm_node.specs.Sound.{sound_law};
 ghost use Rattle.erm_node.specs.TreeMap.{map_of_rows};
@@ -86,7 +86,7 @@ pub fn run_script<W: ScriptWorld, D: Disk>(
     requires stands { W.stands world.old }
     requires law { SameLaw W.law sound_law }
     requires opened { IsOpened (W.view world.old) }
-    requires cells { TABLE_CELLS ≤ (W.view world.old).opening.cells }
+    requires cells { (TABLE_CELLS ≤ (W.view world.old).opening.cells) × ((W.view world.old).opening.cells ≤ MOST_CELLS) }
     requires map { start.map ≡ map_of_rows (W.view world.old).opening.rows }
     requires stamp { (W.view world.old).opening.tail ≡ start.stamp + LEAST_BLOCK }
     requires sessions { (W.view world.old).opening.sessions ≡ length names.now }

@@ -6,3 +6,4 @@ pub mod Replaced
 pub mod SetRows
 pub mod SlotFiles
 pub mod ZeroRows
+pub mod Waits

@@ -28,6 +28,8 @@ use Rattle.erm_recover.specs.declared.recovered.Recovered.{Recovered}
 use Rattle.erm_recover.specs.Lists.{end_in}
 use Rattle.erm_recover.specs.Opening.{HoldsOpened, Opens, OpensTold, RecoversEither, open_block, opened}
 use Rattle.erm_recover.specs.Recovering.{IsRecovered, state_recovered}
+use Rattle.erm_recover.specs.Waiting.{OnlyWaits}
+use Rattle.erm_recover.proofs.Waits.{WaitsTold, reads_stay}
 use Rattle.erm_recover.proofs.Chains.{IsChain-append, end_of-words, state_behind-append, state_behind-low}
 
 -- ---- the first segment keeps bytes
@@ -52,6 +54,27 @@ each_moment_keeping P at words old (step ∷ more) low settled (here, others) ho
   λ image is. holds image (images_spare at words old (step ∷ more) image settled (here, others) is) (keeps_first at words old (step ∷ more) image low settled (here, others) is),
   each_moment_keeping P at words old more low settled others holds,
 )
+
+-- ---- what was only waited for
+
+-- what was recovered is so after waits too
+recovered_moved : (sound : Rows → Type 0) (r : Recovered) (pair : Pair) (old now : List Step) → OnlyWaits old now → IsRecovered sound old r pair → IsRecovered sound now r pair
+recovered_moved sound r pair old now waits is = record {
+  slots = is.slots;
+  blocks = is.blocks;
+  recovers = subst (λ (image : Image). Recovers sound image pair is.blocks) (sym (reads_stay old now waits)) is.recovers;
+  state = is.state;
+  base_is = is.base_is;
+  commits = is.commits;
+}
+
+fresh_moved : (run at : ℕ) (old now : List Step) → OnlyWaits old now → IsFresh run (contents old) at → IsFresh run (contents now) at
+fresh_moved run at old now waits fresh = subst (λ (image : Image). IsFresh run image at) (sym (reads_stay old now waits)) fresh
+
+-- it was only waited
+pub waited_told : (sound : Rows → Type 0) (state : State) (pair : Pair) (before after : Option (List Step)) → WaitsTold before after → OpensTold sound state pair before after
+waited_told sound state pair None after waits = waits
+waited_told sound state pair (Some old) after (new, told, waits) = (new, told, inl waits)
 
 module _
     (short : (row : List ℕ) → stored_length row ≤ length row) (whole : (row : List ℕ) → take (stored_length row) row ++ replicate (length row - stored_length row) 0 ≡ row)
@@ -156,27 +179,6 @@ module _
       | inr none ↦ inl (has_not_opened new spares keeps none shows.within)
     ]
 
-  -- where nothing is done, to the state before
-  still_recovers : (state : State) (pair : Pair) (xs : List Block) (old new : Image) → Recovers sound old pair xs → SameState (state_behind (base pair) xs) state
-      → IsFresh (state.run + 1) old state.at → Spares state.at (state.at + 0) old new → (old (Segment 0) ≢ [] → new (Segment 0) ≢ []) → RecoversTo sound state pair new
-  still_recovers state pair xs old new recovers same fresh spares keeps =
-      let b : State = state_behind (base pair) xs in
-      let here : Spares b.at (state.at + 0) old new = subst (λ (p : ℕ). Spares p (state.at + 0) old new) (sym same.at) spares in
-      let words : log_words new b.at ≡ log_words old b.at = log_words-behind b.at (state.at + 0) old new here b.at (let at = same.at in omega arith) in
-      let there : end_of (end_at old (base pair)) xs ≡ end_at old b =
-      Rattle.erm_log_disk.proofs.Chains.end_in short sound old (end_in [] (base pair)) xs recovers.list.chain ∙ ap (λ (e : End). log_from old e) (end_of-words [] (base pair) xs)
-      in
-      let list : IsLogList sound (end_at old b) [] = subst (λ (e : End). IsLogList sound e []) there (rest_list (end_at old (base pair)) xs recovers.list) in
-      let moved : IsLogList sound (end_at new b) [] = subst (λ (ws : List ℕ). IsLogList sound (end_in ws b) []) (sym words) list in
-      record {
-        blocks = xs ++ [];
-        recovers = recovers_on old new pair xs [] (state.at + 0) recovers here keeps moved;
-        is = subst (λ (t : State). SameState t state) (sym (state_behind-append (base pair) xs [])) same;
-        opens = λ p from c run_before later stands.
-            let same_words = log_words-behind state.at (state.at + 0) old new spares p (omega arith) in
-            fresh p from c run_before later (record { is = stands.is; spelled = (stands.spelled.0, sym same_words ∙ stands.spelled.1) });
-      }
-
   -- ---- places of the log that are recovered
 
   better_low : (test : Bool) (a b : Checkpoint) → 8 ≤ a.slot.stamp → 8 ≤ b.slot.stamp → 8 ≤ (state_of (if test then Some b else Some a)).at
@@ -208,61 +210,78 @@ module _
         let same = is.state.at in
         omega arith
 
-    -- nothing was done
-    still_opens : (old : List Step) → IsSettled old → IsRecovered sound old r pair → IsFresh (r.run + 1) (contents old) r.stamp → Opens sound (state_recovered r) pair old old
-    still_opens old settled is fresh = record {
-      more = [];
-      steps = refl;
-      writes = tt;
-      images = each_moment_keeping (RecoversEither sound (state_recovered r) pair) r.stamp [] old [] (low_place old is) settled tt
-          (λ image spares keeps shows. inl (still_recovers (state_recovered r) pair is.blocks (contents old) image is.recovers is.state fresh spares keeps));
-    }
-
-    pub nothing_told : (told : Option (List Step)) → IfSome told IsSettled → IfSome told (λ steps. IsFresh (r.run + 1) (contents steps) r.stamp)
-        → IfSome told (λ steps. IsRecovered sound steps r pair) → OpensTold sound (state_recovered r) pair told told
-    nothing_told None settled fresh is = refl
-    nothing_told (Some old) settled fresh is = (old, refl, still_opens old settled is fresh)
-
     module _ (words : List ℕ) (spelled : words ≡ spelling (open_block r.stamp r.run)) (block : IsBlock (open_block r.stamp r.run) r.stamp r.run) where
       -- words of the Open block were written
-      pub written_told : (before after : Option (List Step)) → IfSome before IsSettled → IfSome before (λ steps. IsFresh (r.run + 1) (contents steps) r.stamp)
-          → IfSome before (λ steps. IsRecovered sound steps r pair) → OnlyWrites r.stamp words before after → OpensTold sound (state_recovered r) pair before after
-      written_told None after settled fresh is only = only
-      written_told (Some old) after settled fresh is (new, told, (more, steps, writes)) =
-          let moved = subst (λ (ws : List ℕ). AllWriteWords r.stamp ws more) spelled writes in (
-            new,
-            told,
-            record {
-              more = more;
-              steps = steps;
-              writes = moved;
-              images = each_moment_keeping (RecoversEither sound (state_recovered r) pair) r.stamp (spelling (open_block r.stamp r.run)) old more (low_place old is) settled moved
-                  (λ image spares keeps. recovers_either (state_recovered r) pair is.blocks (contents old) is.recovers is.state (met_behind old is) block fresh image spares keeps);
-            },
+      written : (old new more : List Step) → IsSettled old → IsFresh (r.run + 1) (contents old) r.stamp → IsRecovered sound old r pair → new ≡ more ++ old
+          → AllWriteWords r.stamp words more → Opens sound (state_recovered r) pair old new
+      written old new more settled fresh is steps writes =
+          let moved = subst (λ (ws : List ℕ). AllWriteWords r.stamp ws more) spelled writes in
+          record {
+            more = more;
+            steps = steps;
+            writes = moved;
+            images = each_moment_keeping (RecoversEither sound (state_recovered r) pair) r.stamp (spelling (open_block r.stamp r.run)) old more (low_place old is) settled moved
+                (λ image spares keeps. recovers_either (state_recovered r) pair is.blocks (contents old) is.recovers is.state (met_behind old is) block fresh image spares keeps);
+          }
+
+      pub written_told : (before mid after : Option (List Step)) → WaitsTold before mid → IfSome mid IsSettled → IfSome before (λ steps. IsFresh (r.run + 1) (contents steps) r.stamp)
+          → IfSome before (λ steps. IsRecovered sound steps r pair) → OnlyWrites r.stamp words mid after → OpensTold sound (state_recovered r) pair before after
+      written_told None mid after waits settled fresh is only = subst (λ (x : Option (List Step)). OnlyWrites r.stamp words x after) waits only
+      written_told (Some old) mid after waits settled fresh is only =
+          let now : List Step = waits.0 in
+          let moved : OnlyWrites r.stamp words (Some now) after = subst (λ (x : Option (List Step)). OnlyWrites r.stamp words x after) waits.1 only in
+          let settled_now : IsSettled now = subst (λ (x : Option (List Step)). IfSome x IsSettled) waits.1 settled in (
+            moved.0,
+            moved.1,
+            inr (record {
+              mid = now;
+              waits = waits.2;
+              settled = settled_now;
+              since = written now moved.0 moved.2.0 settled_now (fresh_moved (r.run + 1) r.stamp old now waits.2 fresh) (recovered_moved sound r pair old now waits.2 is) moved.2.1 moved.2.2;
+            }),
           )
 
       same_steps : (a b : List Step) (after : Option (List Step)) → after ≡ Some a → after ≡ Some b → a ≡ b
       same_steps a b after one other = cc
 
       -- and all of it lasts
-      pub lasting_told : (before after : Option (List Step)) → IfSome before IsSettled → IfSome before (λ steps. IsFresh (r.run + 1) (contents steps) r.stamp)
-          → IfSome before (λ steps. IsRecovered sound steps r pair) → OnlyWrites r.stamp words before after → Lasts r.stamp words before after
-          → HoldsOpened sound (state_recovered r) pair before after
-      lasting_told None after settled fresh is only lasts = lasts
-      lasting_told (Some old) after settled fresh is (other, told_other, (more, steps, writes)) (new, told, holds) =
-          let same : new ≡ more ++ old = same_steps new other after told told_other ∙ steps in
+      lasting : (old new more : List Step) → IsSettled old → IsFresh (r.run + 1) (contents old) r.stamp → IsRecovered sound old r pair → new ≡ more ++ old
+          → AllWriteWords r.stamp words more → Holds r.stamp words old new → HoldsAll sound (opened (state_recovered r)) pair new
+      lasting old new more settled fresh is same writes holds =
           let spares = subst (λ (ws : List ℕ). Spares r.stamp (r.stamp + length ws) (contents old) (contents new)) spelled holds.others in
           let has = subst (λ (ws : List ℕ). Has (contents new) r.stamp ws) spelled holds.has in
           let image : IsImage (more ++ old) (contents (more ++ old)) = λ file. reads_may_be (changes_of file (more ++ old)) in
           let keeps : contents old (Segment 0) ≢ [] → contents new (Segment 0) ≢ [] =
           subst (λ (s : List Step). contents old (Segment 0) ≢ [] → contents s (Segment 0) ≢ []) (sym same)
           (keeps_first r.stamp words old more (contents (more ++ old)) (low_place old is) settled writes image)
-          in (
-            new,
-            told,
+          in
+          record {
+            settled = holds.settled;
+            fresh = fresh_behind (state_recovered r) pair is.blocks (contents old) is.recovers is.state (met_behind old is) block fresh (contents new) spares;
+            there = has_opened (state_recovered r) pair is.blocks (contents old) is.recovers is.state (met_behind old is) block fresh (contents new) spares keeps has;
+          }
+
+      pub lasting_told : (before mid after : Option (List Step)) → WaitsTold before mid → IfSome mid IsSettled → IfSome before (λ steps. IsFresh (r.run + 1) (contents steps) r.stamp)
+          → IfSome before (λ steps. IsRecovered sound steps r pair) → OnlyWrites r.stamp words mid after → Lasts r.stamp words mid after
+          → HoldsOpened sound (state_recovered r) pair before after
+      lasting_told None mid after waits settled fresh is only lasts = subst (λ (x : Option (List Step)). Lasts r.stamp words x after) waits lasts
+      lasting_told (Some old) mid after waits settled fresh is only lasts =
+          let now : List Step = waits.0 in
+          let moved : OnlyWrites r.stamp words (Some now) after = subst (λ (x : Option (List Step)). OnlyWrites r.stamp words x after) waits.1 only in
+          let lasting_now : Lasts r.stamp words (Some now) after = subst (λ (x : Option (List Step)). Lasts r.stamp words x after) waits.1 lasts in
+          let settled_now : IsSettled now = subst (λ (x : Option (List Step)). IfSome x IsSettled) waits.1 settled in
+          let fresh_now = fresh_moved (r.run + 1) r.stamp old now waits.2 fresh in
+          let is_now = recovered_moved sound r pair old now waits.2 is in
+          let holds : Holds r.stamp words now moved.0 = subst (λ (s : List Step). Holds r.stamp words now s) (same_steps lasting_now.0 moved.0 after lasting_now.1 moved.1) lasting_now.2 in (
+            moved.0,
+            moved.1,
             record {
-              settled = holds.settled;
-              fresh = fresh_behind (state_recovered r) pair is.blocks (contents old) is.recovers is.state (met_behind old is) block fresh (contents new) spares;
-              there = has_opened (state_recovered r) pair is.blocks (contents old) is.recovers is.state (met_behind old is) block fresh (contents new) spares keeps has;
+              mid = now;
+              waits = waits.2;
+              settled = settled_now;
+              since = record {
+                opens = written now moved.0 moved.2.0 settled_now fresh_now is_now moved.2.1 moved.2.2;
+                holds = lasting now moved.0 moved.2.0 settled_now fresh_now is_now moved.2.1 moved.2.2 holds;
+              };
             },
           )

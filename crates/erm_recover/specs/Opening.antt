@@ -13,6 +13,7 @@ use Rattle.erm_ckpt.specs.States.{HoldsAll, RecoversTo}
 use Rattle.erm_recover.specs.declared.open.OpenStop.{OpenStop}
 use Rattle.erm_recover.specs.declared.open.OpenStop.TheVariants.{LogEnd, RunsEnd}
 use Rattle.erm_recover.specs.declared.recovered.Recovered.{Recovered}
+use Rattle.erm_recover.specs.Waiting.{MaySettle, Settles}
 
 -- the Open block that the next run writes at this place, behind a block of this run
 abbrev pub open_block : ℕ → ℕ → Block
@@ -46,9 +47,10 @@ pub record Opens (sound : Rows → Type 0) (state : State) (pair : Pair) (old ne
   pub writes : AllWriteWords state.at (spelling (open_block state.at state.run)) more
   pub images : EachImage (RecoversEither sound state pair) old more
 
--- the same, as far as the disk tells
+-- It was waited for what was pending and no more was done, or it was waited for all of it, and then such a block was written; as far as the
+-- disk tells.
 abbrev pub OpensTold : (Rows → Type 0) → State → Pair → Option (List Step) → Option (List Step) → Type 0
-OpensTold sound state pair before after = Tells (Opens sound state pair) before after
+OpensTold sound state pair before after = Tells (MaySettle (Opens sound state pair)) before after
 
 -- why a log wasn't opened, but for a fault: its last run, or its next free word, is told, and nothing was done
 abbrev pub StopsAs : Result ℕ OpenStop → Recovered → Option (List Step) → Option (List Step) → Type 0
@@ -56,6 +58,11 @@ StopsAs (Err (RunsEnd run)) recovered before after = (run ≡ recovered.run) × 
 StopsAs (Err (LogEnd tail)) recovered before after = (tail ≡ recovered.stamp) × (after ≡ before)
 StopsAs result recovered before after = Unit {0}
 
--- the disk holds the state behind the Open block, as far as it tells
+-- an Open block was written so, and the disk holds the state behind it
+pub record IsOpened (sound : Rows → Type 0) (state : State) (pair : Pair) (old new : List Step) : Type 0 where
+  pub opens : Opens sound state pair old new
+  pub holds : HoldsAll sound (opened state) pair new
+
+-- it was waited for all that was pending, and then the log was opened, as far as the disk tells
 abbrev pub HoldsOpened : (Rows → Type 0) → State → Pair → Option (List Step) → Option (List Step) → Type 0
-HoldsOpened sound state pair before after = Tells (λ old new. HoldsAll sound (opened state) pair new) before after
+HoldsOpened sound state pair before after = Tells (Settles (IsOpened sound state pair)) before after

@@ -1,6 +1,7 @@
 //! What a disk recovers to, and the opening of its log.
 #![tactic(auto)]
 
+mod laws;
 mod list;
 mod open;
 mod recovered;
@@ -10,7 +11,9 @@ mod slots;
 mod sound_rows;
 mod stop;
 mod tail;
+mod waiting;
 
+pub use laws::waits_add_nothing;
 pub use list::{WINDOW_BYTES, WINDOW_WORDS, read_list};
 pub use open::{OpenStop, open_log};
 pub use recovered::Recovered;

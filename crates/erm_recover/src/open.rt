@@ -4,14 +4,16 @@ ghost use Rattle.erm_model.specs.Rows.{rows_of};
 ghost use Rattle.erm_block.specs.declared.block.TheConstants.{RUN_END};
 ghost use Rattle.erm_block.specs.Block.{IsBlock};
 ghost use Rattle.erm_block.specs.Spelling.{spelling};
-ghost use Rattle.erm_outside.specs.Disk.{IsSettled, contents};
+ghost use Rattle.erm_outside.specs.Disk.{contents};
 ghost use Rattle.erm_outside.specs.Faults.{Rose};
 ghost use Rattle.erm_log_words.specs.Tears.{IsFresh};
 ghost use Rattle.erm_ckpt.specs.Recovered.{Pair};
 ghost use Rattle.erm_recover.specs.Opening.{HoldsOpened, OpensTold, StopsAs, open_block};
 ghost use Rattle.erm_recover.specs.Recovering.{IsRecovered, state_recovered};
+ghost use Rattle.erm_recover.specs.Waiting.{IsSettledBeyond};
 
 use crate::Recovered;
+use crate::waiting::sync_pending;
 use arrayvec::ArrayVec;
 use erm_block::{Block, FRAME_WORDS, Kind, encode_into};
 use erm_bytes::WORD_BYTES;
@@ -19,24 +21,28 @@ use erm_log_disk::write_log;
 use erm_model::{LAST_RUN, LEAST_BLOCK, RowLaw, STOP, Stamp};
 use erm_outside::{Disk, Failed};
 use erm_record::stored_words_tell_the_row;
+use thiserror::Error;
 
 /// How many bytes an Open block has.
 const OPEN_BYTES: usize = WORD_BYTES * FRAME_WORDS;
 
 /// Why a log was not opened.
-#[derive(Clone, Copy, Debug, PartialEq, Eq)]
+#[derive(Clone, Copy, Debug, PartialEq, Eq, Error)]
 pub enum OpenStop {
     /// The last run was the last one that there may be.
+    #[error("no run comes after {run}")]
     RunsEnd {
         /// That run.
         run: u64,
     },
     /// The log has no room for transactions.
+    #[error("the log has no room behind {tail}")]
     LogEnd {
         /// Its next free word.
         tail: Stamp,
     },
     /// The disk failed.
+    #[error("the disk failed")]
     DiskFault,
 }
 
@@ -74,18 +80,21 @@ fn open_words(at: Stamp, run: u64) -> [u64; FRAME_WORDS]
     words
 }
 
-/// Opens the next run of a log: writes its Open block at the place recovered, and waits until it lasts. It answers the tail, the
-/// next free word behind the block. It takes no memory.
+/// Opens the next run of a log: waits until all lasts that recovery read, both slots and the segments from the one where it began up
+/// to the one behind that of the place recovered; then writes its Open block there, and waits until it lasts. It answers the tail, the next
+/// free word behind the block. It takes no memory.
 pub fn open_log<D: Disk, L: RowLaw>(disk: &mut D, recovered: &Recovered) -> Result<Stamp, OpenStop>
     requires run { recovered.now.run < RUN_END }
     requires meets { L.law.meets (rows_of recovered.now.rows.items) }
-    requires settled { IfSome (D.told disk.old) IsSettled }
+
+    // What was done before may be pending still, but only of what is waited for.
+    requires beyond { IfSome (D.told disk.old) (IsSettledBeyond recovered.now.base recovered.now.stamp) }
 
     // Behind the place no block of a later run than the last one reads.
     requires fresh { IfSome (D.told disk.old) (λ steps. IsFresh (recovered.now.run + 1) (contents steps) recovered.now.stamp) }
 
-    // Where this was recovered of the disk, each image at each moment recovers to the rows recovered, and after `Ok` to these in
-    // the raised run.
+    // Where this was recovered of the disk, nothing is done but to wait until nothing is pending, and then each image at each moment
+    // recovers to the rows recovered; after `Ok` to these in the raised run.
     ensures any_moment { (pair : Pair) → IfSome (D.told disk.old) (λ steps. IsRecovered L.law.meets steps recovered.now pair)
         → OpensTold L.law.meets (state_recovered recovered.now) pair (D.told disk.old) (D.told disk.new) }
     ensures lasts { OnOk result ((pair : Pair) → IfSome (D.told disk.old) (λ steps. IsRecovered L.law.meets steps recovered.now pair)
@@ -111,6 +120,7 @@ pub fn open_log<D: Disk, L: RowLaw>(disk: &mut D, recovered: &Recovered) -> Resu
             tail: recovered.stamp,
         });
     }
+    sync_pending(disk, recovered.base, recovered.stamp)?;
     let words = open_words(recovered.stamp, recovered.run);
     let mut bytes = [0; OPEN_BYTES];
     write_log(disk, recovered.stamp, &words, &mut bytes)?;

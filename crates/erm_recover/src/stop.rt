@@ -1,15 +1,19 @@
 //! Why a recovery stops.
 use erm_outside::Failed;
 use std::alloc::AllocError;
+use thiserror::Error;
 
 /// Why a disk was not recovered.
-#[derive(Clone, Copy, Debug, PartialEq, Eq)]
+#[derive(Clone, Copy, Debug, PartialEq, Eq, Error)]
 pub enum RecoverStop {
     /// The disk failed.
+    #[error("the disk failed")]
     DiskFault,
     /// No slot checks, a slot's file has bytes, and the log's first segment has none.
+    #[error("there are bytes on the disk, but no place to start from")]
     NoBase,
     /// Memory ran out.
+    #[error("memory ran out")]
     Memory,
 }
 

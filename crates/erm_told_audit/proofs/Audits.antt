@@ -1,5 +1,5 @@
 -- The commits that an audit tells.
-use Rattle.std.proofs.Common.{◌≡◌, ℕ, zero, suc, ◌≤◌, List, [], ◌∷◌, ◌++◌, refl, sym, ap, ◌∙◌, subst, inl, inr, arith, append-nil}
+use Rattle.std.proofs.Common.{◌≡◌, ℕ, zero, suc, ◌<◌, ◌≤◌, ◌⊎◌, List, [], ◌∷◌, ◌++◌, refl, sym, ap, ◌∙◌, subst, inl, inr, arith, append-nil}
 use Rattle.erm_model.specs.declared.history.Commit.{Commit}
 use Rattle.erm_model.specs.Committed.{Committed}
 use Rattle.erm_model.specs.Member.{◌∈◌}
@@ -91,3 +91,23 @@ audit_tells log commits from met has run ends flushed = record { only = only; al
           | inr there ↦ there
         ] in
         (told_by met b (logged c) (subst (λ (bs : List Block). b ∈ bs) (sym run.met_is) (∈-after run.older run.both b own)) (tells_it b c found.2), within.0)
+
+-- what blocks tell from a place on they tell from a lower one, where in between only blocks begin that open runs
+pub audit_from : (met : List Block) (from low start : ℕ) (commits : List Committed) → low ≤ start → ((b : Block) → b ∈ met → low ≤ b.stamp → b.stamp < start → b.kind ≡ kind.Open)
+    → AuditTells met from start commits → AuditTells met from low commits
+audit_from met from low start commits under opens tells = record { only = only; all = λ c m above. let told = tells.all c m above in (told.0, let high = told.1 in omega (arith, high, under)) }
+  where
+    either : (a b : ℕ) → (a < b) ⊎ (b ≤ a)
+    either a b = grind arith
+
+    only : (x : Commit) → x ∈ commits_of met → low ≤ x.stamp → (c : Committed) × (c ∈ commits) × (from ≤ c.stamp) × (x ≡ logged c)
+    only x m above = elim (either x.stamp start) [
+      | inl below ↦ absurd (
+          let found = has_block met x m in
+          let b : Block = found.block in
+          let stamp : x.stamp ≡ b.stamp = ap (λ (y : Commit). y.stamp) (of_kind b.kind b x found.tells) in
+          let is : b.kind ≡ kind.Open = opens b found.of (omega (arith, stamp, above)) (omega (arith, stamp, below)) in
+          none_in_nil x (subst (λ (k : Kind). x ∈ commits_in_kind k b) is found.tells)
+          )
+      | inr high ↦ tells.only x m high
+    ]

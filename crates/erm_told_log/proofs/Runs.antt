@@ -1,5 +1,5 @@
 -- Of the blocks that recovery meets those of a log.
-use Rattle.std.proofs.Common.{◌≡◌, ◌⊎◌, List, [], ◌∷◌, ◌++◌, refl, sym, ap, ◌∙◌, subst, append-nil, inl, inr}
+use Rattle.std.proofs.Common.{◌≡◌, ◌<◌, ◌≤◌, ◌⊎◌, ◌↔◌, List, [], ◌∷◌, ◌++◌, refl, sym, ap, ◌∙◌, subst, append-nil, inl, inr, arith}
 use Rattle.erm_model.specs.Member.{◌∈◌}
 use Rattle.erm_model.specs.Rows.{Rows}
 use Rattle.erm_model.proofs.Members.{none_in_nil}
@@ -17,7 +17,7 @@ use Rattle.erm_ckpt.proofs.OneRecovery.{same_recovery}
 use Rattle.erm_checkpoint.specs.Taken.{HoldsLog, state_at}
 use Rattle.erm_checkpoint.proofs.Taken.{end_state, place_is, stands_from}
 use Rattle.erm_world.specs.Log.{IsLog, Log, gathered_to, place_behind}
-use Rattle.erm_world.proofs.Lists.{∈-after}
+use Rattle.erm_world.proofs.Lists.{∈-after, ∈-before, ∈-parts}
 use Rattle.erm_told_log.specs.Tail.{BeginFrom, MeetsRun, MeetsTail}
 use Rattle.erm_told_log.proofs.Places.{log_within, met_within}
 
@@ -95,6 +95,30 @@ module _ (sound : Rows → Type 0) (earlier : List Block) (log : Log) (slots : S
     own = λ b m. from_start b (subst (λ (bs : List Block). b ∈ bs) (sym front) (∈-after mid met b m));
     above = from_base;
   }
+
+  abbrev Earlier : Pair → List Block → Block → Type 0
+  Earlier pair blocks b = (b ∈ blocks) ↔ ((b ∈ earlier) × ((base pair).at ≤ b.stamp))
+
+  -- those of the earlier blocks that aren't passed
+  earlier_met : (b : Block) → b.stamp < log.opened.at → Earlier h.pair met b
+  earlier_met b low = (there, back)
+    where
+      there : b ∈ met → (b ∈ earlier) × ((base h.pair).at ≤ b.stamp)
+      there m = elim (∈-parts earlier h.front b (subst (λ (bs : List Block). b ∈ bs) (sym t.split) (∈-after t.passed met b m))) [
+        | inl before ↦ (before, (from_base b m))
+        | inr own ↦ absurd (let start = from_start b own in omega (arith, start, low))
+      ]
+
+      back : (b ∈ earlier) × ((base h.pair).at ≤ b.stamp) → b ∈ met
+      back (m, above) = elim (∈-parts t.passed met b (subst (λ (bs : List Block). b ∈ bs) t.split (∈-before earlier h.front b m))) [
+        | inl passed ↦ absurd (let below = t.low b passed in omega (arith, below, above))
+        | inr here ↦ here
+      ]
+
+  pub meets_earlier : (pair : Pair) (blocks : List Block) → Recovers sound (contents steps) pair blocks → (b : Block) → b.stamp < log.opened.at → Earlier pair blocks b
+  meets_earlier pair blocks recovers b low =
+      let same = same_recovery sound (same_log_list stored_length-le stored_whole sound) (contents steps) h.pair pair met blocks h.there.recovers recovers in
+      subst (λ (p : Pair). Earlier p blocks b) same.0 (subst (λ (bs : List Block). Earlier h.pair bs b) same.1 (earlier_met b low))
 
   pub meets_run : (pair : Pair) (blocks : List Block) → Recovers sound (contents steps) pair blocks → MeetsRun log (base pair).at blocks
   meets_run pair blocks recovers =

@@ -2,8 +2,9 @@
 //! nothing.
 #![tactic(auto)]
 
-ghost use Rattle.std.specs.Prelude.{◌≡◌, ◌++◌, ℕ, List, [], ◌∷◌, None, Some};
+ghost use Rattle.std.specs.Prelude.{◌≡◌, ◌<◌, ◌≤◌, ◌↔◌, ◌++◌, ℕ, List, [], ◌∷◌, None, Some};
 ghost use Rattle.erm_block.specs.declared.block.Block.{Block};
+ghost use Rattle.erm_model.specs.Member.{◌∈◌};
 ghost use Rattle.erm_flush.specs.Turns.{HoldsFrom};
 ghost use Rattle.erm_outside.specs.Disk.{IsSettled, Step, contents};
 ghost use Rattle.erm_ckpt.specs.declared.slot.Slots.{Slots as DiskSlots};
@@ -58,4 +59,11 @@ pub fn met_logs_stay<L: RowLaw>()
 pub fn recovery_meets_the_run<L: RowLaw>()
     ensures { (earlier : List Block) (log : Log) (slots : DiskSlots) (steps : List Step) → IsLog L.law.meets log → MeetsTail L.law.meets earlier log slots steps
         → (pair : Pair) (blocks : List Block) → Recovers L.law.meets (contents steps) pair blocks → MeetsRun log (base pair).at blocks }
+{}
+
+/// Of the blocks behind which a log was opened recovery meets just those that it doesn't pass.
+pub fn recovery_meets_earlier_blocks<L: RowLaw>()
+    ensures { (earlier : List Block) (log : Log) (slots : DiskSlots) (steps : List Step) → IsLog L.law.meets log → MeetsTail L.law.meets earlier log slots steps
+        → (pair : Pair) (blocks : List Block) → Recovers L.law.meets (contents steps) pair blocks
+        → (b : Block) → b.stamp < log.opened.at → (b ∈ blocks) ↔ ((b ∈ earlier) × ((base pair).at ≤ b.stamp)) }
 {}

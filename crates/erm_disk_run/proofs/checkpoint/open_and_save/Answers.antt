@@ -9,7 +9,7 @@ use Rattle.erm_plain.specs.Logs.{plain_log}
 use Rattle.erm_plain.specs.Stands.{plain_view}
 use Rattle.erm_report.specs.declared.line.Line.TheVariants as line
 use Rattle.erm_disk_run.specs.Opened.{OpensLog}
-use Rattle.erm_disk_run.proofs.Opened.{stops_for}
+use Rattle.erm_disk_run.proofs.Opened.{once_told, stops_for}
 use Rattle.erm_disk_run.proofs.SavedAt.{commits_told, goes_on, only_faults, saved_told, tail_is, turned_world}
 use Rattle.erm_disk_run.proofs.checkpoint.open_and_save.Goals as goal
 
@@ -53,8 +53,8 @@ returns-in-Ok-clause-ended g c =
             ∙ ap (λ (run : ℕ). line.Open state.at run ∷ line.Checkpointed c.in-Ok.place ∷ line.End ∷ []) was.run
             ∙ ap (λ (at : ℕ). line.Open state.at (state.run + 1) ∷ line.Checkpointed at ∷ line.End ∷ []) place;
         keeps = keeps;
-        saved = saved_told state v t l m turned before mid after o.slots was.disk c.same_rows_same_map.ensures was.found.are_sound c.checkpoint_turn.new.slots c.in-Ok.place did.3
-            c.in-Ok.ensures.lasts keeps;
+        saved = saved_told state v t l m turned before mid after o.slots was.disk c.same_rows_same_map.ensures was.found.are_sound c.checkpoint_turn.new.slots o.start.run c.in-Ok.place
+            c.in-Ok.ensures.put did.3 c.in-Ok.ensures.saved c.in-Ok.ensures.lasts;
       },
     )
 
@@ -73,8 +73,9 @@ returns-in-Err-clause-ended g c =
     inr (
       state,
       was.found,
-      commits_told state v t l m turned (g.D.Disk.told c.args.disk.now) (g.D.Disk.told c.open_disk.new.disk) (g.D.Disk.told c.checkpoint_turn.new.disk) o.slots was.disk c.checkpoints_keep.ensures
-          c.kept_images_may_open.ensures was.found.low o.start.run (c.in-Err.ensures.any_moment was.well),
+      once_told state (g.D.Disk.told c.args.disk.now) (g.D.Disk.told c.checkpoint_turn.new.disk)
+          (commits_told state v t l m turned (g.D.Disk.told c.args.disk.now) (g.D.Disk.told c.open_disk.new.disk) (g.D.Disk.told c.checkpoint_turn.new.disk) o.slots was.disk c.checkpoints_keep.ensures
+          c.kept_images_may_open.ensures was.found.low o.start.run (c.in-Err.ensures.any_moment was.well)),
     )
 
 pub returns-in-Err-clause-counts : goal.returns-in-Err-clause-counts

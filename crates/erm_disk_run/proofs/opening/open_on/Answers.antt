@@ -3,8 +3,11 @@ use Rattle.std.proofs.lemmas.Result.{err_from_is_err_and}
 use Rattle.erm_model.specs.Rows.{rows_of}
 use Rattle.erm_plain.specs.Logs.{plain_log}
 use Rattle.erm_start.specs.Recovered.{IsOpenedLog}
-use Rattle.erm_disk_run.proofs.Opened.{OpeningLaws, fresh_told, only_opens, opening_stops, opens_told, pair_told, room_of}
+use Rattle.erm_disk_run.proofs.Opened.{OpeningLaws, beyond_told, fresh_told, only_opens, opening_stops, opens_told, pair_told, room_of}
 use Rattle.erm_disk_run.proofs.opening.open_on.Goals as goal
+
+pub open_log-requires-clause-beyond : goal.open_log-requires-clause-beyond
+open_log-requires-clause-beyond g c = beyond_told (g.D.Disk.told c.args.disk.now) c.args.recovered.now c.requires.kept c.requires.told
 
 pub open_log-requires-clause-fresh : goal.open_log-requires-clause-fresh
 open_log-requires-clause-fresh g c = fresh_told (g.D.Disk.told c.args.disk.now) c.args.recovered.now c.requires.kept c.requires.told
@@ -44,4 +47,4 @@ returns-clause-disk g c =
     (subst (λ (rows : List (List ℕ)). IsOpenedLog (rows_of rows) c.in_ok-tail.tail (r.run + 1) log) c.deref.ensures.value c.in_ok-world.ensures.log)
     in
     opens_told laws r c.requires.found.are_sound room.1 room.0 c.requires.found.low (g.D.Disk.told c.args.disk.now) (g.D.Disk.told c.open_log.new.disk) from.0 log c.requires.kept from.1 just
-    (c.in_ok-tail.ensures.any_moment from.0 from.1) (c.in_ok-tail.ensures.lasts from.0 from.1)
+    (c.in_ok-tail.ensures.lasts from.0 from.1)

@@ -17,7 +17,7 @@ use Rattle.erm_disk_run.specs.declared.stops.RunStop.{RunStop}
 use Rattle.erm_disk_run.proofs.Spared.{script_lines}
 use Rattle.erm_disk_run.proofs.Told.{same_map}
 use Rattle.erm_disk_run.proofs.ToldEnds.{counts, ended_as, ends, opened_on, opening_of, tables, untold}
-use Rattle.erm_disk_run.proofs.ToldRun.{DiskLaws, MeetsLog}
+use Rattle.erm_disk_run.proofs.ToldRun.{DiskLaws}
 use Rattle.erm_disk_run.proofs.run.run_opened.Goals as goal
 use Rattle.erm_disk_run.proofs.run.run_opened.Goals.{in-Ok, in-Err-DiskFault, in-Err-Memory}
 
@@ -54,9 +54,11 @@ returns g c =
       courses = record { tell = c.executions_tell_sessions.ensures; go = c.executions_go_on.ensures; states = c.logs_tell_states.ensures; maps = maps };
       may = c.kept_images_may_open.ensures;
       one = c.serial_order_is_unique.ensures.unique_for_sessions;
-      audits = record { logged = c.logs_have_the_commits_told.ensures; meet = c.recovery_meets_the_run.ensures; audit = c.audits_tell_the_commits.ensures };
+      audits = record { logged = c.logs_have_the_commits_told.ensures; meet = c.recovery_meets_the_run.ensures; audit = c.audits_tell_the_commits.ensures; earlier = c.recovery_meets_earlier_blocks.ensures };
       runs_few = c.runs_cut_few.ensures;
       parts_few = c.parts_cut_few.ensures;
+      cells = c.cells_are_full.ensures;
+      keys = c.oids_are_full.ensures;
       close = c.courses_close_sessions.ensures;
       owe = c.courses_owe_to_answers.ensures;
     } in
@@ -76,8 +78,7 @@ returns g c =
           subst (λ (e : Result (Vec Line Global) RunStop). EndsRun e before after names script) told
           (ends laws state names (plain_view o.world) t (plain_log o.world) log (opening_of o) script o.slots store.slots before mid after
           (opened_on maps before mid state (length names) o c.requires.stands.log_of_view opens) c.run_script.result (IsWorld sound_law c.run_script.new.world)
-          (λ stands. (stands.log_of_view, stands.log)) did.stands did.moments did.acknowledged did.flushed
-          (told_after (MeetsLog (plain_log o.world) o.slots) (OpensLog state (plain_log o.world) o.slots) before mid (λ a b opens. opens.tail) opens.disk) did.tail did.ran did.cut did.starved);
+          (λ stands. (stands.log_of_view, stands.log)) did.stands did.moments did.acknowledged did.flushed did.tail did.ran did.cut did.starved);
       untold = λ before state opens.
           subst (λ (e : Result (Vec Line Global) RunStop). LeavesUntold e before after names script) told
           (untold laws state names (plain_view o.world) t (plain_log o.world) log (opening_of o) script o.slots store.slots before mid after

@@ -109,7 +109,7 @@ returns-in_ok-session_line-in_default g c =
           (g.met.W.LogWorld.is_log w (g.met.W.ScriptWorld.may_flush w c.requires.stands)) (g.met.W.LogWorld.is_log new (g.met.W.ScriptWorld.may_flush new stands))
           c.requires.held refl refl refl refl;
       saves = session_saved v t l a (g.D.Disk.told s.disk) s.slots did;
-      removes = session_removes v t l a (g.D.Disk.told s.disk) s.slots did;
+      removes = session_removes law.meets v t l a (g.D.Disk.told s.disk) s.slots did;
       counts = refl;
       spared = tt;
     }
