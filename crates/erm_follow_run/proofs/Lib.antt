@@ -1,0 +1,5 @@
+pub mod Ending
+pub mod Going
+pub mod Hearing
+pub mod Puts
+pub mod Told

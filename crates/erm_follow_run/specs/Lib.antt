@@ -1,0 +1,4 @@
+pub mod Draining
+pub mod Ends
+pub mod Following
+pub mod Texts

@@ -1,0 +1,9 @@
+pub mod Bases
+pub mod Cuts
+pub mod Fed
+pub mod Finding
+pub mod Found
+pub mod Fronts
+pub mod Places
+pub mod Sizes
+pub mod Words
