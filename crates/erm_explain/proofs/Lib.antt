@@ -1,0 +1,11 @@
+pub mod Explaining
+pub mod Found
+pub mod Good
+pub mod Hearing
+pub mod Lifting
+pub mod Lists
+pub mod Moving
+pub mod Naming
+pub mod Placed
+pub mod Seeking
+pub mod Sessions

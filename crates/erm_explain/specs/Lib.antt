@@ -1,0 +1,5 @@
+pub mod Books
+pub mod ByBooks
+pub mod Good
+pub mod Links
+pub mod Named

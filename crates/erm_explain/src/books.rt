@@ -1,0 +1,155 @@
+//! Books of the transactions that a report tells of, line by line.
+ghost use Rattle.std.specs.Prelude.{ℕ, List, IfOk, OnOk};
+ghost use Rattle.erm_report.specs.declared.answer.Answer.{Answer as AnyAnswer};
+ghost use Rattle.erm_script.specs.declared.script.ScriptLine.{ScriptLine as AnyLine};
+ghost use Rattle.erm_good_report.specs.Transactions.{nothing};
+ghost use Rattle.erm_explain.specs.Books.{ArePlaced, AreSeats, Begins, Ends, HasProgress, Hears, KeepsPlaces, Notes, Seals};
+
+use crate::table_of;
+use crate::told::{Ending, Told};
+use erm_model::{Seat, Stamp};
+use erm_report::Answer;
+use erm_script::ScriptLine;
+use std::alloc::{AllocError, Global};
+
+/// How many numbers of sessions there are, with that of a line that names none.
+pub const SEATS: usize = 256;
+
+/// The transactions that a report tells of, as far as it was read.
+#[derive(Drop)]
+pub struct Books {
+    /// Those that are over, in the order of their ends.
+    pub over: Vec<Told>,
+    /// The one of each session that isn't over.
+    pub current: Vec<Option<Told>>,
+    /// How many of each session are over.
+    pub counts: Vec<u64>,
+}
+
+impl Books {
+    /// No transaction yet.
+    pub fn new(alloc: Global) -> Result<Books, AllocError>
+        ensures progress { IfOk result (λ books. (script : List AnyLine) (answers : List AnyAnswer) (session : ℕ) → HasProgress script answers books session nothing) }
+        ensures seats { IfOk result (λ books. AreSeats books) }
+        ensures placed { IfOk result (λ books. (script : List AnyLine) (answers : List AnyAnswer) → ArePlaced script answers books) }
+    {
+        let mut current = Vec::with_capacity(alloc, SEATS)?;
+        for _seat in 0..SEATS {
+            current.push(None)?;
+        }
+        Ok(Books {
+            over: Vec::new(alloc),
+            current,
+            counts: vec![in alloc; 0; SEATS]?,
+        })
+    }
+
+    /// Takes down what the line at a place was answered.
+    pub fn hear(
+        &mut self,
+        alloc: Global,
+        line: &ScriptLine,
+        place: usize,
+        answer: &Answer,
+    ) -> Result<(), AllocError>
+        requires seats { AreSeats self.old }
+        ensures seats { OnOk result (AreSeats self.new) }
+        ensures heard { OnOk result (Hears line.now place answer.now self.old self.new) }
+        ensures placed { OnOk result (KeepsPlaces line.now place answer.now self.old self.new) }
+    {
+        let session = line.session;
+        match *answer {
+            Answer::Began(begin) => self.begin(alloc, session, begin),
+            Answer::Sealed(stamp) => self.seal(session, stamp),
+            Answer::Committed { stamp, succ, pred } => {
+                self.end(session, Ending::Commits { stamp, succ, pred })?;
+            }
+            Answer::Excluded { stamp, succ, pred } => {
+                let stamp = Some(stamp);
+                self.end(session, Ending::Excludes { stamp, succ, pred })?;
+            }
+            Answer::ExcludedEarly { succ, pred } => {
+                self.note(line, place)?;
+                let stamp = None;
+                self.end(session, Ending::Excludes { stamp, succ, pred })?;
+            }
+            Answer::Owned { .. } => {
+                self.note(line, place)?;
+                self.end(session, Ending::Aborts)?;
+            }
+            Answer::Newer { .. } => {
+                self.note(line, place)?;
+                self.end(session, Ending::Aborts)?;
+            }
+            Answer::Aborted => self.end(session, Ending::Aborts)?,
+            Answer::NotIdle | Answer::NoTransaction | Answer::IsSealed | Answer::NotSealed => {}
+            _ => self.note(line, place)?,
+        }
+        Ok(())
+    }
+
+    // A transaction of a session begins.
+    fn begin(&mut self, alloc: Global, session: Seat, begin: Stamp)
+        requires { AreSeats self.old }
+        ensures seats { AreSeats self.new }
+        ensures begins { Begins session begin self.old self.new }
+        ensures placed { (script : List AnyLine) (answers : List AnyAnswer) → ArePlaced script answers self.old → ArePlaced script answers self.new }
+    {
+        let seat = usize::from(session);
+        let told = Told {
+            session,
+            number: self.counts[seat] + 1,
+            begin,
+            lines: Vec::new(alloc),
+            sealed: None,
+            ending: Ending::Unfinished,
+        };
+        self.current[seat] = Some(told);
+    }
+
+    // The line at a place is one of its session's current transaction, if it names a table.
+    fn note(&mut self, line: &ScriptLine, place: usize) -> Result<(), AllocError>
+        requires { AreSeats self.old }
+        ensures seats { OnOk result (AreSeats self.new) }
+        ensures notes { OnOk result (Notes line.now place self.old self.new) }
+        ensures placed { OnOk result ((answer : AnyAnswer) → KeepsPlaces line.now place answer self.old self.new) }
+    {
+        let seat = usize::from(line.session);
+        if table_of(&line.command).is_none() {
+            return Ok(());
+        }
+        if let Some(told) = &mut self.current[seat] {
+            told.lines.push(place)?;
+        }
+        Ok(())
+    }
+
+    // A session's current transaction is sealed.
+    fn seal(&mut self, session: Seat, stamp: Stamp)
+        requires { AreSeats self.old }
+        ensures seats { AreSeats self.new }
+        ensures seals { Seals session stamp self.old self.new }
+        ensures placed { (script : List AnyLine) (answers : List AnyAnswer) → ArePlaced script answers self.old → ArePlaced script answers self.new }
+    {
+        if let Some(told) = &mut self.current[usize::from(session)] {
+            told.sealed = Some(stamp);
+        }
+    }
+
+    // A session's current transaction is over.
+    fn end(&mut self, session: Seat, ending: Ending) -> Result<(), AllocError>
+        requires { AreSeats self.old }
+        ensures seats { OnOk result (AreSeats self.new) }
+        ensures ends { OnOk result (Ends session ending self.old self.new) }
+        ensures placed { OnOk result ((script : List AnyLine) (answers : List AnyAnswer) → ArePlaced script answers self.old → ArePlaced script answers self.new) }
+    {
+        let seat = usize::from(session);
+        let Some(mut told) = self.current[seat].take() else {
+            return Ok(());
+        };
+        told.ending = ending;
+        self.over.push(told)?;
+        self.counts[seat] += 1;
+        Ok(())
+    }
+}

@@ -1,0 +1,4 @@
+pub mod Looking
+pub mod Pushing
+pub mod Walking
+pub mod Whole
