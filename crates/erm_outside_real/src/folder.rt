@@ -1,135 +1,161 @@
 //! A folder of the system that holds the disk's files.
-ghost use Rattle.std.specs.Prelude.{◌≤◌, length, IfOk, IfSome, IsTrue};
+ghost use Rattle.std.specs.Prelude.{◌≡◌, ◌≤◌, length, false, true, IfOk, IfSome, OnOk, OnErr, IsErr, Ok};
+ghost use Rattle.erm_outside.specs.declared.disk.File.{File as DiskFile};
+ghost use Rattle.erm_outside_real.specs.Calls.{BytesLast, EntriesLast, IsMissed, Lasts};
 
-use crate::names::{FOLDER, path_of, segment_of};
+use crate::calls::{Access, FileSystem, Lock, OpenFile};
 use erm_outside::File;
-use std::collections::BTreeMap;
-use std::fs::OpenOptions;
-use std::os::unix::fs::FileExt;
-use std::rt::Files;
-use std::{fs, io};
+use std::alloc::Global;
+use std::io;
+use std::marker::Model;
 
 /// The greatest place in a file that the system knows.
 const LAST_PLACE: u64 = i64::MAX as u64;
 
 /// What is known of the folder.
 #[derive(Drop)]
-enum Place {
+pub enum Place<F> {
     /// It wasn't looked for yet.
     Unseen,
     /// It isn't there.
     Absent,
-    /// It is there and locked, as long as this handle is open.
-    Held(fs::File),
+    /// It wasn't there, and could not be made or locked then. Each call fails.
+    Lost,
+    /// It is there and locked, as long as this is held.
+    Held(F),
 }
 
 /// The folder, which is looked for and locked at the first call, or made at the first write.
 #[derive(Drop)]
-pub struct Folder<R: Files<File = fs::File>> {
-    rt: R,
-    place: Place,
-    // The files that were written since they were synced.
-    written: BTreeMap<File, fs::File>,
-    // Whether files may have been made or removed since the folder was synced.
+pub struct Folder<S: FileSystem> {
+    files: S,
+    place: Place<S::Folder>,
+    lock: Lock,
+    // The files that were written since they were synced. They stay open, since the system tells of a write that failed later
+    // only those that had the file open then.
+    written: Vec<OpenFile<S::Handle>>,
+    // Whether entries may have been made or removed since the folder was synced.
     entries_changed: bool,
     // Whether a sync failed.
     sync_failed: bool,
 }
 
-impl<R: Files<File = fs::File> + AllocGlobal + Clone + Drop> Folder<R> {
-    /// The folder of the working folder, which wasn't looked for yet. What an earlier process made or removed may not
-    /// last yet.
-    pub fn new(rt: R) -> Self {
-        let written = BTreeMap::new(rt.alloc());
+impl<S: FileSystem> Model for Folder<S> {
+    ghost use Rattle.std.specs.Prelude.{IfSome};
+    ghost use Rattle.erm_outside_real.specs.Folder.{FolderState, Knows, is_held};
+
+    ghost Value = { FolderState };
+
+    ghost view = { λ f. record { calls = S.calls f.files; held = is_held f.place; stuck = f.sync_failed } };
+
+    ghost invariant = { λ f. IfSome (S.calls f.files) (Knows f.place f.entries_changed) };
+}
+
+impl<S: FileSystem + Drop> Folder<S> {
+    /// A folder that wasn't looked for yet. What an earlier process made or removed may not last yet.
+    pub fn new(alloc: Global, files: S, lock: Lock) -> Self
+        ensures { result ≡ record { calls = S.calls files; held = false; stuck = false } }
+    {
         Folder {
-            rt,
+            files,
             place: Place::Unseen,
-            written,
+            lock,
+            written: Vec::new(alloc),
             entries_changed: true,
             sync_failed: false,
         }
     }
 
-    // Locks the folder, and holds it.
-    fn hold(&mut self, folder: fs::File) -> io::Result<()> {
-        folder.try_lock()?;
-        self.place = Place::Held(folder);
-        Ok(())
+    /// What makes the calls of the system. The folder is let go.
+    pub fn into_files(self) -> S
+        ensures { S.calls result ≡ self.calls }
+    {
+        self.files
     }
 
     // Whether the folder is there. It is looked for once.
-    fn is_there(&mut self) -> io::Result<bool> {
+    fn is_there(&mut self) -> io::Result<bool>
+        ensures held { IfOk result (λ is_there. self.new.held ≡ is_there) }
+        ensures absent { result ≡ Ok false → IfSome self.new.calls IsMissed }
+        ensures stuck { self.new.stuck ≡ self.old.stuck }
+    {
         match &self.place {
             Place::Held(_) => return Ok(true),
             Place::Absent => return Ok(false),
+            Place::Lost => return Err(io::Error::from(io::ErrorKind::Other)),
             Place::Unseen => {}
         }
-        match fs::open(&self.rt, FOLDER) {
-            Ok(folder) => {
-                self.hold(folder)?;
+        match self.files.open_folder()? {
+            Some(folder) => {
+                self.files.lock(&folder, self.lock)?;
+                self.place = Place::Held(folder);
                 Ok(true)
             }
-            Err(error) if error.kind() == io::ErrorKind::NotFound => {
+            None => {
                 self.place = Place::Absent;
                 Ok(false)
             }
-            Err(error) => Err(error),
         }
     }
 
     // Makes the folder where it isn't there. If another process has made it since it was looked for, the call fails.
-    fn make(&mut self) -> io::Result<()> {
+    fn make(&mut self) -> io::Result<()>
+        ensures held { OnOk result (self.new.held ≡ true) }
+        ensures stuck { self.new.stuck ≡ self.old.stuck }
+    {
+        if self.lock == Lock::Shared {
+            return Err(io::Error::from(io::ErrorKind::PermissionDenied));
+        }
         if self.is_there()? {
             return Ok(());
         }
+        self.place = Place::Lost;
         self.entries_changed = true;
-        fs::create_dir(&self.rt, FOLDER)?;
-        let folder = fs::open(&self.rt, FOLDER)?;
-        self.hold(folder)
-    }
-
-    // Opens a file to be read, if it is there.
-    fn find(&mut self, file: File) -> io::Result<Option<fs::File>> {
-        if !self.is_there()? {
-            return Ok(None);
-        }
-        let path = path_of(self.rt.alloc(), file)?;
-        match fs::open(&self.rt, path.as_str()) {
-            Ok(found) => Ok(Some(found)),
-            Err(error) if error.kind() == io::ErrorKind::NotFound => Ok(None),
-            Err(error) => Err(error),
+        self.files.make_folder()?;
+        match self.files.open_folder()? {
+            Some(folder) => {
+                self.files.lock(&folder, self.lock)?;
+                self.place = Place::Held(folder);
+                Ok(())
+            }
+            None => Err(io::Error::from(io::ErrorKind::NotFound)),
         }
     }
 
     // Opens a file to be written, which is made where it isn't there.
-    fn find_or_make(&mut self, file: File) -> io::Result<fs::File> {
-        self.make()?;
-        let path = path_of(self.rt.alloc(), file)?;
-        match OpenOptions::new().write(true).open(&self.rt, path.as_str()) {
-            Err(error) if error.kind() == io::ErrorKind::NotFound => {}
-            found => return found,
+    fn find_or_make(&mut self, file: File) -> io::Result<OpenFile<S::Handle>>
+        requires { self.old.held ≡ true }
+        ensures held { self.new.held ≡ true }
+        ensures stuck { self.new.stuck ≡ self.old.stuck }
+    {
+        if let Some(found) = self.files.open(file, Access::Write)? {
+            return Ok(found);
         }
         self.entries_changed = true;
-        OpenOptions::new()
-            .write(true)
-            .create_new(true)
-            .open(&self.rt, path.as_str())
+        self.files.make(file)
     }
 
     /// The length of a file, 0 where it isn't there.
-    pub fn len(&mut self, file: File) -> io::Result<u64> {
-        match self.find(file)? {
-            Some(found) => file_len(&found.metadata()?),
-            None => Ok(0),
+    pub fn len(&mut self, file: File) -> io::Result<u64>
+        ensures stuck { self.new.stuck ≡ self.old.stuck }
+    {
+        if self.is_there()? {
+            self.files.len(file)
+        } else {
+            Ok(0)
         }
     }
 
     /// Reads bytes from a place on, as many as there are and as fit.
     pub fn read(&mut self, file: File, at: u64, buf: &mut [u8]) -> io::Result<usize>
         ensures within { IfOk result (λ n. n ≤ length buf.old) }
+        ensures stuck { self.new.stuck ≡ self.old.stuck }
     {
-        match self.find(file)? {
-            Some(found) => read_from(&found, at, buf),
+        if !self.is_there()? {
+            return Ok(0);
+        }
+        match self.files.open(file, Access::Read)? {
+            Some(found) => read_from(&mut self.files, &found, at, buf),
             None => Ok(0),
         }
     }
@@ -137,40 +163,39 @@ impl<R: Files<File = fs::File> + AllocGlobal + Clone + Drop> Folder<R> {
     /// The least segment at or above a number that has bytes, if one has.
     pub fn next_segment(&mut self, from: u64) -> io::Result<Option<u64>>
         ensures above { IfOk result (λ found. IfSome found (λ n. from ≤ n)) }
+        ensures stuck { self.new.stuck ≡ self.old.stuck }
     {
-        let mut least = None;
-        if !self.is_there()? {
-            return Ok(None);
+        if self.is_there()? {
+            self.files.next_segment(from)
+        } else {
+            Ok(None)
         }
-        for entry in fs::read_dir(&self.rt, FOLDER)? {
-            let entry = entry?;
-            if let Some(number) = segment_of(entry.file_name())
-                && is_nearer(number, from, least)
-                && 0 < file_len(&entry.metadata()?)?
-            {
-                least = Some(number);
-            }
-        }
-        Ok(least)
     }
 
     /// Writes bytes from a place on; none change nothing.
-    pub fn write(&mut self, file: File, at: u64, bytes: &[u8]) -> io::Result<()> {
+    pub fn write(&mut self, file: File, at: u64, bytes: &[u8]) -> io::Result<()>
+        ensures stuck { self.new.stuck ≡ self.old.stuck }
+    {
         if bytes.is_empty() {
             return Ok(());
         }
-        if let Some(found) = self.written.get(&file) {
-            return found.write_all_at(bytes, at);
-        }
-        let found = self.find_or_make(file)?;
-        found.write_all_at(bytes, at)?;
-        self.written.insert(file, found)?;
+        self.make()?;
+        let found = match take_open(&mut self.written, file) {
+            Some(found) => found,
+            None => self.find_or_make(file)?,
+        };
+        self.files.write(&found, at, bytes)?;
+        self.written.push(found)?;
         Ok(())
     }
 
-    /// Waits until what was done to a file lasts. After a call that failed each one fails, since the system may have
-    /// dropped what was to be written.
-    pub fn sync(&mut self, file: File) -> io::Result<()> {
+    /// Waits until what was done to a file lasts, also by earlier processes. After a call that failed each one fails, since
+    /// the system may have dropped what was to be written.
+    pub fn sync(&mut self, file: File) -> io::Result<()>
+        ensures lasts { OnOk result (IfSome self.new.calls (Lasts file)) }
+        ensures stuck { OnErr result (self.new.stuck ≡ true) }
+        ensures stays { self.old.stuck ≡ true → IsErr result }
+    {
         if self.sync_failed {
             return Err(io::Error::from(io::ErrorKind::Other));
         }
@@ -180,64 +205,91 @@ impl<R: Files<File = fs::File> + AllocGlobal + Clone + Drop> Folder<R> {
     }
 
     // Syncs a file, and the folder where its entries may have changed.
-    fn sync_both(&mut self, file: File) -> io::Result<()> {
-        let found = match self.written.remove(&file) {
-            Some(written) => Some(written),
-            None => self.find(file)?,
-        };
-        if let Some(found) = found {
-            found.sync_all()?;
+    fn sync_both(&mut self, file: File) -> io::Result<()>
+        ensures lasts { OnOk result (IfSome self.new.calls (Lasts file)) }
+        ensures stuck { self.new.stuck ≡ self.old.stuck }
+    {
+        if !self.is_there()? {
+            return Ok(());
         }
-        if self.entries_changed {
-            self.sync_entries()?;
-        }
-        Ok(())
+        self.sync_bytes(file)?;
+        self.sync_entries()
     }
 
-    // Syncs the folder, and the working folder, in which it lies.
-    fn sync_entries(&mut self) -> io::Result<()> {
-        if let Place::Held(folder) = &self.place {
-            folder.sync_all()?;
-            fs::open(&self.rt, ".")?.sync_all()?;
-            self.entries_changed = false;
+    // Syncs a file, if it is there.
+    fn sync_bytes(&mut self, file: File) -> io::Result<()>
+        requires { self.old.held ≡ true }
+        ensures bytes { OnOk result (IfSome self.new.calls (BytesLast file)) }
+        ensures held { self.new.held ≡ true }
+        ensures stuck { self.new.stuck ≡ self.old.stuck }
+    {
+        if let Some(written) = take_open(&mut self.written, file) {
+            return self.files.sync(&written);
         }
+        match self.files.open(file, Access::Read)? {
+            Some(found) => self.files.sync(&found),
+            None => Ok(()),
+        }
+    }
+
+    // Syncs the folder, and the folder in which it lies, where entries may have changed.
+    fn sync_entries(&mut self) -> io::Result<()>
+        ensures entries { OnOk result (IfSome self.new.calls EntriesLast) }
+        ensures bytes { (file : DiskFile) → IfSome self.old.calls (BytesLast file) → IfSome self.new.calls (BytesLast file) }
+        ensures stuck { self.new.stuck ≡ self.old.stuck }
+    {
+        if !self.entries_changed {
+            return Ok(());
+        }
+        let Place::Held(folder) = &self.place else {
+            return Err(io::Error::from(io::ErrorKind::Other));
+        };
+        self.files.sync_folder(folder)?;
+        self.files.sync_parent()?;
+        self.entries_changed = false;
         Ok(())
     }
 
     /// Removes a file, if it is there.
-    pub fn remove(&mut self, file: File) -> io::Result<()> {
+    pub fn remove(&mut self, file: File) -> io::Result<()>
+        ensures stuck { self.new.stuck ≡ self.old.stuck }
+    {
+        if self.lock == Lock::Shared {
+            return Err(io::Error::from(io::ErrorKind::PermissionDenied));
+        }
         if !self.is_there()? {
             return Ok(());
         }
         self.entries_changed = true;
-        let path = path_of(self.rt.alloc(), file)?;
-        drop(self.written.remove(&file));
-        match fs::remove_file(&self.rt, path.as_str()) {
+        drop(take_open(&mut self.written, file));
+        match self.files.remove(file) {
             Err(error) if error.kind() != io::ErrorKind::NotFound => Err(error),
             _ => Ok(()),
         }
     }
 }
 
-// Whether a number lies at or above another and below the least found so far.
-fn is_nearer(number: u64, from: u64, least: Option<u64>) -> bool
-    ensures { IsTrue result → from ≤ number }
+// Takes an open file out of a list, if it is there.
+fn take_open<H>(written: &mut Vec<OpenFile<H>>, file: File) -> Option<OpenFile<H>>
+    ensures { IfSome result (λ it. it.file ≡ file) }
 {
-    from <= number && least.is_none_or(|least| number < least)
-}
-
-// The length of a file. What isn't a file is refused.
-fn file_len(metadata: &fs::Metadata) -> io::Result<u64> {
-    if metadata.is_file() {
-        Ok(metadata.len())
-    } else {
-        Err(io::Error::from(io::ErrorKind::Other))
+    for at in 0..written.len() {
+        if written[at].file == file {
+            return Some(written.swap_remove(at));
+        }
     }
+    None
 }
 
 // Reads bytes from a place on, as many as there are and as fit.
-fn read_from(found: &fs::File, at: u64, buf: &mut [u8]) -> io::Result<usize>
+fn read_from<S: FileSystem>(
+    files: &mut S,
+    found: &OpenFile<S::Handle>,
+    at: u64,
+    buf: &mut [u8],
+) -> io::Result<usize>
     ensures within { IfOk result (λ n. n ≤ length buf.old) }
+    ensures same { S.calls files.new ≡ S.calls files.old }
 {
     let mut count = 0;
     while count < buf.len() {
@@ -245,11 +297,30 @@ fn read_from(found: &fs::File, at: u64, buf: &mut [u8]) -> io::Result<usize>
         if LAST_PLACE < place {
             break;
         }
-        let more = found.read_at(&mut buf[count..], place)?;
+        let more = read_some(files, found, place, &mut buf[count..])?;
         if more == 0 {
             break;
         }
         count += more;
     }
     Ok(count)
+}
+
+// Reads some bytes from a place on, again where a signal interrupts it.
+fn read_some<S: FileSystem>(
+    files: &mut S,
+    found: &OpenFile<S::Handle>,
+    at: u64,
+    buf: &mut [u8],
+) -> io::Result<usize>
+    ensures within { IfOk result (λ n. n ≤ length buf.old) }
+    ensures same { S.calls files.new ≡ S.calls files.old }
+{
+    for _ in 0..u64::MAX {
+        match files.read(found, at, buf) {
+            Err(error) if error.kind() == io::ErrorKind::Interrupted => {}
+            done => return done,
+        }
+    }
+    Err(io::Error::from(io::ErrorKind::Interrupted))
 }

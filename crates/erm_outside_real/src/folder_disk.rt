@@ -1,9 +1,14 @@
 //! The disk in a folder of the system.
-ghost use Rattle.std.specs.Prelude.{◌≡◌, ◌≤◌, length, None, IfOk, IfSome};
+ghost use Rattle.std.specs.Prelude.{◌≡◌, ◌≤◌, length, None, true, IfOk, IfSome, OnOk, OnErr, IsErr, Ok};
+ghost use Rattle.erm_outside_real.specs.Calls.{Lasts};
 ghost use Rattle.erm_outside_real.specs.Faults.{CountsFault};
+ghost use Rattle.erm_outside_real.specs.FolderDisk.{opened};
 
+use crate::calls::{FileSystem, Lock};
 use crate::folder::Folder;
+use crate::host_files::HostFiles;
 use erm_outside::{Disk, Failed, File};
+use std::alloc::Global;
 use std::marker::Model;
 use std::rt::Files;
 use std::{fs, io};
@@ -13,48 +18,71 @@ use std::{fs, io};
 ///
 /// Each error of the system is a fault, and so is want of memory for a path or for a list of open files. A sync waits for
 /// the file and, where files may have been made or removed since the folder was last synced, for the folder, so that the
-/// file's entry lasts too. After a sync that failed each later one fails.
+/// file's entry lasts too. After a sync that failed each later one fails. That is proved for whatever makes the calls of the
+/// system and tells them ([`FileSystem`]); the system itself ([`HostFiles`]) tells nothing.
 ///
-/// The folder is locked from the first call that finds it until the disk is dropped. So a second disk over it, in this
-/// process or in another, fails at its first call; one that found no folder, which another disk has made since, fails at
-/// its first write.
+/// The folder is locked from the first call that finds it until the disk is dropped: beside no other, or shared by disks that
+/// only read. So a disk over a folder that another holds otherwise, in this process or in another, fails at its first call;
+/// one that found no folder, which another disk has made since, fails at its first write and then at each call. A disk that
+/// shares the folder fails at each write and removal.
 ///
-/// It tells nothing, and trusts the system: that reads give what was written; that a crash leaves what was synced, and of
-/// a write that wasn't leaves other files and the bytes before it alone; that nobody else writes in the folder, and that
-/// all who do so take the lock; that the working folder stays the same.
-///
-/// Tests write, read back, extend and remove files in an empty folder. No test shows what a crash leaves, that a sync waits
-/// for the device or that a sync fails; a folder that may not be read is shown to fail only where the system refuses it to
-/// the process of the test.
+/// It trusts the system: that reads give what was written; that a crash leaves what was synced, and of a write that wasn't
+/// leaves other files and the bytes before it alone; that nobody else writes in the folder, and that all who do so take the
+/// lock; that the working folder stays the same.
 #[derive(Drop)]
-pub struct FolderDisk<R: Files<File = fs::File>> {
-    folder: Folder<R>,
+pub struct FolderDisk<S: FileSystem> {
+    folder: Folder<S>,
     faults: u64,
 }
 
-impl<R: Files<File = fs::File>> Model for FolderDisk<R> {
-    ghost use Rattle.std.specs.Prelude.{ℕ};
+impl<S: FileSystem> Model for FolderDisk<S> {
+    ghost use Rattle.erm_outside_real.specs.FolderDisk.{FolderDiskState};
 
-    ghost Value = { ℕ };
+    ghost Value = { FolderDiskState };
 
-    ghost view = { λ d. d.faults };
+    ghost view = { λ d. record { calls = d.folder.calls; stuck = d.folder.stuck; faults = d.faults } };
 }
 
-impl<R: Files<File = fs::File> + AllocGlobal + Clone + Drop> FolderDisk<R> {
+impl<R: Files<File = fs::File> + AllocGlobal + Clone + Drop> FolderDisk<HostFiles<R>> {
     /// The disk in the working folder's folder, which no call has looked for yet.
     pub fn new(rt: R) -> Self
-        ensures { result ≡ 0 }
+        ensures { result ≡ opened None }
+    {
+        FolderDisk::over(rt.alloc(), HostFiles::new(rt), Lock::Whole)
+    }
+
+    /// The same to be read alone, beside others that only read.
+    pub fn shared(rt: R) -> Self
+        ensures { result ≡ opened None }
+    {
+        FolderDisk::over(rt.alloc(), HostFiles::new(rt), Lock::Shared)
+    }
+}
+
+impl<S: FileSystem + Drop> FolderDisk<S> {
+    /// The disk in the folder of a system, which no call has looked for yet.
+    pub fn over(alloc: Global, files: S, lock: Lock) -> Self
+        ensures { result ≡ opened (S.calls files) }
     {
         FolderDisk {
-            folder: Folder::new(rt),
+            folder: Folder::new(alloc, files, lock),
             faults: 0,
         }
     }
 
+    /// What makes the calls of the system. The folder is let go.
+    pub fn into_files(self) -> S
+        ensures { S.calls result ≡ self.calls }
+    {
+        self.folder.into_files()
+    }
+
     // An error of the system is a fault.
     fn counted<T>(&mut self, done: io::Result<T>) -> Result<T, Failed>
-        ensures counted { CountsFault self.old self.new result }
+        ensures counted { CountsFault self.old.faults self.new.faults result }
         ensures same { IfOk result (λ x. done ≡ Ok x) }
+        ensures failed { OnErr result (IsErr done) }
+        ensures others { self.new ≡ record self.old { faults = self.new.faults } }
     {
         match done {
             Ok(value) => Ok(value),
@@ -66,13 +94,14 @@ impl<R: Files<File = fs::File> + AllocGlobal + Clone + Drop> FolderDisk<R> {
     }
 }
 
-impl<R: Files<File = fs::File> + AllocGlobal + Clone + Drop> Disk for FolderDisk<R> {
-    ghost faults = { λ faults. faults };
+impl<S: FileSystem + Drop> Disk for FolderDisk<S> {
+    ghost faults = { λ d. d.faults };
 
     ghost told = { λ _. None };
 
     fn len(&mut self, file: File) -> Result<u64, Failed>
-        ensures counted { CountsFault self.old self.new result }
+        ensures counted { CountsFault self.old.faults self.new.faults result }
+        ensures stuck { self.new.stuck ≡ self.old.stuck }
     {
         let done = self.folder.len(file);
         self.counted(done)
@@ -80,7 +109,8 @@ impl<R: Files<File = fs::File> + AllocGlobal + Clone + Drop> Disk for FolderDisk
 
     fn read(&mut self, file: File, at: u64, buf: &mut [u8]) -> Result<usize, Failed>
         ensures within { IfOk result (λ n. n ≤ length buf.old) }
-        ensures counted { CountsFault self.old self.new result }
+        ensures counted { CountsFault self.old.faults self.new.faults result }
+        ensures stuck { self.new.stuck ≡ self.old.stuck }
     {
         let done = self.folder.read(file, at, buf);
         self.counted(done)
@@ -88,28 +118,38 @@ impl<R: Files<File = fs::File> + AllocGlobal + Clone + Drop> Disk for FolderDisk
 
     fn next_segment(&mut self, from: u64) -> Result<Option<u64>, Failed>
         ensures above { IfOk result (λ found. IfSome found (λ n. from ≤ n)) }
-        ensures counted { CountsFault self.old self.new result }
+        ensures counted { CountsFault self.old.faults self.new.faults result }
+        ensures stuck { self.new.stuck ≡ self.old.stuck }
     {
         let done = self.folder.next_segment(from);
         self.counted(done)
     }
 
     fn write(&mut self, file: File, at: u64, bytes: &[u8]) -> Result<(), Failed>
-        ensures counted { CountsFault self.old self.new result }
+        ensures counted { CountsFault self.old.faults self.new.faults result }
+        ensures stuck { self.new.stuck ≡ self.old.stuck }
     {
         let done = self.folder.write(file, at, bytes);
         self.counted(done)
     }
 
     fn sync(&mut self, file: File) -> Result<(), Failed>
-        ensures counted { CountsFault self.old self.new result }
+        ensures counted { CountsFault self.old.faults self.new.faults result }
+
+        // The file lasts as it is, and so do its entry and the folder's.
+        ensures lasts { OnOk result (IfSome self.new.calls (Lasts file)) }
+
+        // After one that failed each fails.
+        ensures stuck { OnErr result (self.new.stuck ≡ true) }
+        ensures stays { self.old.stuck ≡ true → IsErr result }
     {
         let done = self.folder.sync(file);
         self.counted(done)
     }
 
     fn remove(&mut self, file: File) -> Result<(), Failed>
-        ensures counted { CountsFault self.old self.new result }
+        ensures counted { CountsFault self.old.faults self.new.faults result }
+        ensures stuck { self.new.stuck ≡ self.old.stuck }
     {
         let done = self.folder.remove(file);
         self.counted(done)

@@ -1,7 +1,13 @@
+ghost use Rattle.std.specs.Prelude.{◌≡◌, IfOk};
+
+mod recorder;
+
 use super::*;
 use erm_outside::{Disk, Failed, File, Sink, Source};
+use recorder::Recorder;
+use std::alloc::{AllocError, Global};
 use std::io::{Read, Write};
-use std::os::unix::fs::PermissionsExt;
+use std::os::unix::fs::{PermissionsExt, symlink};
 use std::test::Fail;
 use std::{fs, io};
 
@@ -150,21 +156,43 @@ fn is_refused_folder(rt: &HostRuntime) -> io::Result<bool> {
     Ok(is_same)
 }
 
-// Whether each call fails at a file in whose place a folder lies, and others don't.
+// Whether each call fails at a file in whose place a folder lies, and others don't. It is no segment.
 fn is_refused_file(rt: &HostRuntime) -> io::Result<bool> {
     let segment = File::Segment(0xab);
     fs::create_dir_all(rt, LEFT[1].0)?;
     let mut disk = FolderDisk::new(rt);
     let is_refused = disk.len(segment) == Err(Failed)
         && disk.read(segment, 0, &mut [0]) == Err(Failed)
-        && disk.next_segment(0xab) == Err(Failed)
+        && disk.next_segment(0xab) == Ok(None)
         && disk.write(segment, 0, b"x") == Err(Failed)
         && disk.remove(segment) == Err(Failed)
-        && disk.next_segment(0xac) == Ok(None)
         && disk.len(File::Slot0) == Ok(0);
     drop(disk);
     fs::remove_dir_all(rt, FOLDER)?;
     Ok(is_refused)
+}
+
+// Whether disks that only read share the folder, and no other has it then; a link to a file is a segment.
+fn is_shared(rt: &HostRuntime) -> io::Result<bool> {
+    fs::create_dir(rt, FOLDER)?;
+    fs::write(rt, "erm-data/slot0", b"slot".as_slice())?;
+    symlink(rt, "slot0", LEFT[1].0)?;
+    let mut one = FolderDisk::shared(rt);
+    let mut other = FolderDisk::shared(rt);
+    let mut whole = FolderDisk::new(rt);
+    let are_read = reads(&mut one, File::Slot0, 0, b"slot")
+        && reads(&mut other, File::Slot0, 1, b"lot");
+    let is_same = are_read
+        && whole.len(File::Slot0) == Err(Failed)
+        && one.write(File::Slot0, 0, b"x") == Err(Failed)
+        && one.remove(File::Slot0) == Err(Failed)
+        && one.next_segment(0) == Ok(Some(0xab))
+        && reads(&mut one, File::Segment(0xab), 0, b"slot");
+    drop((one, other));
+    let is_free = whole.len(File::Slot0) == Ok(4);
+    drop(whole);
+    fs::remove_dir_all(rt, FOLDER)?;
+    Ok(is_same && is_free)
 }
 
 // The folder is made by the first write, and is one disk's at a time. What lies in its place and
@@ -189,6 +217,153 @@ fn a_folder_is_a_disk(rt: HostRuntime) -> Result<(), Fail> {
     let mut none = FolderDisk::new(&rt);
     assert!(rt; none.len(File::Slot1) == Err(Failed) && none.sync(File::Slot1) == Err(Failed));
     fs::remove_file(&rt, FOLDER)?;
-    assert!(rt; is_refused_folder(&rt)? && is_refused_file(&rt)?);
+    assert!(rt; is_refused_folder(&rt)? && is_refused_file(&rt)? && is_shared(&rt)?);
+    Ok(())
+}
+
+// A stream that is interrupted, then isn't ready, and then moves a byte.
+#[derive(Drop)]
+struct Busy {
+    tries: u8,
+}
+
+impl Busy {
+    fn turn(&mut self) -> io::Result<usize>
+        ensures { IfOk result (λ n. n ≡ 0) }
+    {
+        self.tries = self.tries.wrapping_add(1);
+        match self.tries % 4 {
+            1 => Err(io::Error::from(io::ErrorKind::Interrupted)),
+            2 => Err(io::Error::from(io::ErrorKind::WouldBlock)),
+            3 => Err(io::Error::from(io::ErrorKind::BrokenPipe)),
+            _ => Ok(0),
+        }
+    }
+}
+
+impl Read for Busy {
+    fn read(&mut self, _buf: &mut [u8]) -> io::Result<usize> {
+        self.turn()
+    }
+}
+
+impl Write for Busy {
+    fn write(&mut self, _buf: &[u8]) -> io::Result<usize> {
+        self.turn()
+    }
+
+    fn flush(&mut self) -> io::Result<()> {
+        Ok(())
+    }
+}
+
+// A stream that is interrupted or isn't ready is asked again, and what it answers then is handed on.
+#[test]
+fn a_stream_is_waited_for(rt: HostRuntime) -> Result<(), Fail> {
+    let mut busy = Patient::new(Busy { tries: 0 }, &rt);
+    let mut buf = [0; 4];
+    assert!(rt;
+        matches!(busy.write(b"x"), Err(error) if error.kind() == io::ErrorKind::BrokenPipe)
+    );
+    assert!(rt; matches!(busy.write(b"x"), Ok(0)));
+    assert!(rt;
+        matches!(busy.read(&mut buf), Err(error) if error.kind() == io::ErrorKind::BrokenPipe)
+    );
+    assert!(rt; matches!(busy.read(&mut buf), Ok(0)));
+    Ok(())
+}
+
+// What is done to a disk that was used before by a process that is gone: it is opened, for which what is there is waited for;
+// two segments are written; and a checkpoint is taken, behind which two segments are removed.
+fn use_disk<D: Disk>(disk: &mut D) -> Result<(), Failed> {
+    for file in [File::Slot0, File::Slot1, File::Segment(6), File::Segment(7)] {
+        disk.sync(file)?;
+    }
+    disk.write(File::Segment(7), 0, b"open")?;
+    disk.sync(File::Segment(7))?;
+
+    disk.write(File::Segment(7), 4, b"flushed")?;
+    disk.write(File::Segment(8), 0, b"flushed")?;
+    disk.sync(File::Segment(7))?;
+    disk.sync(File::Segment(8))?;
+
+    disk.write(File::Slot1, 0, b"slot")?;
+    disk.sync(File::Slot1)?;
+    for segment in [6, 7] {
+        disk.remove(File::Segment(segment))?;
+        disk.sync(File::Segment(segment))?;
+    }
+    Ok(())
+}
+
+// The calls that have to come of it, where slot 0 and segments 6 and 7 are there: each file and each entry that is new or gone
+// is waited for at its sync, and nothing is waited for twice.
+fn wanted(at: usize) -> Option<Call> {
+    Some(match at {
+        0 => Call::Synced(File::Slot0),
+        1 => Call::FolderSynced,
+        2 => Call::ParentSynced,
+        3 => Call::Missed(File::Slot1),
+        4 => Call::Synced(File::Segment(6)),
+        5 => Call::Synced(File::Segment(7)),
+        6 => Call::Wrote(File::Segment(7)),
+        7 => Call::Synced(File::Segment(7)),
+        8 => Call::Wrote(File::Segment(7)),
+        9 => Call::Missed(File::Segment(8)),
+        10 => Call::Made(File::Segment(8)),
+        11 => Call::Wrote(File::Segment(8)),
+        12 => Call::Synced(File::Segment(7)),
+        13 => Call::FolderSynced,
+        14 => Call::ParentSynced,
+        15 => Call::Synced(File::Segment(8)),
+        16 => Call::Missed(File::Slot1),
+        17 => Call::Made(File::Slot1),
+        18 => Call::Wrote(File::Slot1),
+        19 => Call::Synced(File::Slot1),
+        20 => Call::FolderSynced,
+        21 => Call::ParentSynced,
+        22 => Call::Removed(File::Segment(6)),
+        23 => Call::Missed(File::Segment(6)),
+        24 => Call::FolderSynced,
+        25 => Call::ParentSynced,
+        26 => Call::Removed(File::Segment(7)),
+        27 => Call::Missed(File::Segment(7)),
+        28 => Call::FolderSynced,
+        29 => Call::ParentSynced,
+        _ => return None,
+    })
+}
+
+// Whether calls, of which the newest is the first, are these.
+fn are_wanted(calls: &[Call]) -> bool {
+    calls
+        .iter()
+        .rev()
+        .enumerate()
+        .all(|(at, call)| wanted(at) == Some(*call))
+        && wanted(calls.len()).is_none()
+}
+
+fn used_before(alloc: Global) -> Result<Recorder, AllocError> {
+    let mut files = Vec::new(alloc);
+    for file in [File::Slot0, File::Segment(6), File::Segment(7)] {
+        files.push(file)?;
+    }
+    Ok(Recorder::new(alloc, files))
+}
+
+// A call that fails is a fault, and the disk does no more; after a sync that failed each fails.
+#[test]
+fn the_calls_are_those_that_last(rt: HostRuntime) -> Result<(), Fail> {
+    let alloc = rt.alloc();
+    let mut disk = FolderDisk::over(alloc, used_before(alloc)?, Lock::Whole);
+    assert!(rt; use_disk(&mut disk) == Ok(()));
+    let calls = disk.into_files().into_calls();
+    assert!(rt; are_wanted(calls.as_slice()));
+    for fails_at in 0..calls.len() {
+        let files = used_before(alloc)?.failing(fails_at);
+        let mut disk = FolderDisk::over(alloc, files, Lock::Whole);
+        assert!(rt; use_disk(&mut disk) == Err(Failed), "{fails_at}");
+    }
     Ok(())
 }
