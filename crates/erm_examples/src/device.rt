@@ -56,6 +56,11 @@ impl Device {
         Ok(Self::over(self.disk.image(Pick::All)?.stop_at(calls)))
     }
 
+    /// The same disk, with all that was left pending, of which no call fails any more.
+    pub fn going_on(self) -> Self {
+        Self::over(self.disk.stop_at(u64::MAX))
+    }
+
     /// Of the calls of this kind from now on the one with this number, from 1, is to fail.
     pub fn fail_at(&mut self, kind: Kind, number: u64) {
         self.failing = Some((kind, number));

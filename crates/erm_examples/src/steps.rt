@@ -3,8 +3,10 @@
 //! Each line begins with a mark. Behind `#` stands what the example shows. `$` has the words of a call behind the program's
 //! name, `<` a line that it reads, `>` a line that it is to print, or `> ...` where any lines stand, once in a report at
 //! most, and `=` the status with which it is to end; there the call is made. A line with `|` before it tells what calls say
-//! of the disk where the call was stopped on its way: `recover`, the next `run`, and `recover` again, of each the status and
-//! the first line. `!` changes the disk, and `?` tells bytes that stand on it.
+//! of the disk where the call was stopped on its way and a crash followed: `recover`, the next `run`, and `recover` again, of
+//! each the status and the first line. One with `+` tells what they say where a `run` goes on first with all that the stopped
+//! call left, also with what it had not waited for: that `run`, and `recover` behind a crash that follows it. `!` changes the
+//! disk, and `?` tells bytes that stand on it.
 use crate::changes::{change, stands};
 use crate::device::Device;
 use crate::memory::call_over;
@@ -27,8 +29,10 @@ pub struct Call {
     pub script: String,
     /// What it is to print.
     pub report: String,
-    /// What calls behind it may tell where it was stopped.
+    /// What calls behind it may tell where it was stopped and a crash followed.
     pub behind: String,
+    /// What calls behind it may tell where it was stopped and a crash followed the next run.
+    pub later: String,
 }
 
 impl Call {
@@ -39,6 +43,7 @@ impl Call {
             script: String::new(alloc),
             report: String::new(alloc),
             behind: String::new(alloc),
+            later: String::new(alloc),
         }
     }
 
@@ -49,6 +54,7 @@ impl Call {
             "<" => push_line(&mut self.script, rest)?,
             ">" => push_line(&mut self.report, rest)?,
             "|" => push_line(&mut self.behind, rest)?,
+            "+" => push_line(&mut self.later, rest)?,
             _ => return Ok(mark == "#"),
         }
         Ok(true)
@@ -110,9 +116,7 @@ impl Example {
         status: &str,
     ) -> Result<()> {
         let call = mem::replace(&mut self.call, Call::new(alloc));
-        if !call.behind.is_empty() {
-            stops::check(rt, alloc, &self.device, &call)?;
-        }
+        stops::check(rt, alloc, &self.device, &call)?;
         let device = mem::replace(&mut self.device, Device::new(alloc));
         self.device = made(rt, alloc, &call, status, device)?;
         Ok(())

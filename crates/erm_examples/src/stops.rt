@@ -30,20 +30,46 @@ const BEHIND: [(&str, &str); 3] = [
 /// What a crash may leave of what was not waited for.
 const PICKS: [Pick; 3] = [Pick::Nothing, Pick::All, Pick::Marks];
 
+/// What comes right behind a call that was stopped.
+#[derive(Clone, Copy)]
+enum Next {
+    /// A crash.
+    Crash,
+    /// A run, on all that was left, and then a crash.
+    Run,
+}
+
 /// Stops a call of the program at each call of the disk in turn, until none is left. It prints its report up to there.
 /// What calls then tell of what a crash leaves are the lines that are named, in this order: first where nothing is kept of what was not
 /// waited for, then where all of it is, then where marks of it are. Of lines that follow one another and are the same one is named.
+/// So are those of what is told where a run goes on before the crash.
 pub fn check<R: Threads + Wait + Sync>(
     rt: &R,
     alloc: Global,
     device: &Device,
     call: &Call,
 ) -> Result<()> {
+    check_next(rt, alloc, device, call, Next::Crash, &call.behind)?;
+    check_next(rt, alloc, device, call, Next::Run, &call.later)
+}
+
+// The same with what comes right behind the stop, where lines are named.
+fn check_next<R: Threads + Wait + Sync>(
+    rt: &R,
+    alloc: Global,
+    device: &Device,
+    call: &Call,
+    next: Next,
+    lines: &String,
+) -> Result<()> {
+    if lines.is_empty() {
+        return Ok(());
+    }
     let mut told = String::new(alloc);
     for pick in PICKS {
-        stop_at_each(rt, alloc, device, call, pick, &mut told)?;
+        stop_at_each(rt, alloc, device, call, next, pick, &mut told)?;
     }
-    ensure!(told.as_str() == call.behind.as_str(), "others told: {told}");
+    ensure!(told.as_str() == lines.as_str(), "others told: {told}");
     Ok(())
 }
 
@@ -53,6 +79,7 @@ fn stop_at_each<R: Threads + Wait + Sync>(
     alloc: Global,
     device: &Device,
     call: &Call,
+    next: Next,
     pick: Pick,
     told: &mut String,
 ) -> Result<()> {
@@ -62,7 +89,10 @@ fn stop_at_each<R: Threads + Wait + Sync>(
             return Ok(());
         }
         ensure!(is_cut(&call.report, ended.text()), "other bytes at {calls}");
-        let line = tell_behind(rt, alloc, ended.device.image(pick)?)?;
+        let line = match next {
+            Next::Crash => tell_behind(rt, alloc, ended.device.image(pick)?)?,
+            Next::Run => tell_later(rt, alloc, ended.device.going_on(), pick)?,
+        };
         if !is_last(told, &line) {
             told.push_str(&line)?;
         }
@@ -98,6 +128,27 @@ fn tell_behind<R: Threads + Wait + Sync>(
         device = ended.device.image(Pick::Nothing)?;
     }
     Ok(told)
+}
+
+// A line of what a run tells that goes on with a disk, and of what `recover` tells of what a crash leaves then.
+fn tell_later<R: Threads + Wait + Sync>(
+    rt: &R,
+    alloc: Global,
+    device: Device,
+    pick: Pick,
+) -> Result<String, AllocError> {
+    let ran = call_over(rt, alloc, "erm run", &[], PER_CALL, device)?;
+    let found = call_over(
+        rt,
+        alloc,
+        "erm recover",
+        &[],
+        PER_CALL,
+        ran.device.image(pick)?,
+    )?;
+    let first = ran.text().lines().next().unwrap_or("");
+    let second = found.text().lines().next().unwrap_or("");
+    format!(in alloc; "{} {first}, {} {second}\n", ran.status, found.status)
 }
 
 // Whether the last of some lines is this one.

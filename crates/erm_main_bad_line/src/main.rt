@@ -2,10 +2,15 @@
 #![tactic(auto)]
 
 use erm_outside_real::FolderDisk;
-use erm_program::program;
+use erm_program::{only_reads, program, words};
 use std::process::ExitCode;
 
 fn main(rt: HostRuntime) -> ExitCode {
-    let disk = FolderDisk::new(&rt);
-    program(&rt, disk)
+    let words = words(&rt);
+    let disk = if only_reads(rt.alloc(), &words) {
+        FolderDisk::shared(&rt)
+    } else {
+        FolderDisk::new(&rt)
+    };
+    program(&rt, &words, disk)
 }

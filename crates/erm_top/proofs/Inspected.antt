@@ -1,8 +1,8 @@
 -- How the commands end that tell what is on a disk.
 use Rattle.std.proofs.Common.{◌≡◌, ◌≢◌, ℕ, ◌⊎◌, List, IfSome, IfOk, Result, Ok, Err, Vec, refl, sym, subst, inl, inr}
 use Rattle.std.specs.declared.alloc.Global.{Global}
-use Rattle.erm_inspect.specs.declared.stop.InspectStop.{InspectStop}
-use Rattle.erm_inspect.specs.declared.stop.InspectStop.TheVariants as inspect
+use Rattle.erm_recover.specs.declared.stop.RecoverStop.{RecoverStop}
+use Rattle.erm_recover.specs.declared.stop.RecoverStop.TheVariants as recover
 use Rattle.erm_node.specs.Sound.{sound_law}
 use Rattle.erm_outside.specs.Disk.{Step}
 use Rattle.erm_outside.specs.Faults.{Rose}
@@ -25,15 +25,15 @@ module _ (Tells : List Step → List Line → Type 0) (HasForm : List Line → T
   Inspected (Err stop.Memory) = a.disk_after ≡ a.disk_before
   Inspected (Err s) = ⊥
 
-  pub inspected : (found : Result (Vec Line Global) InspectStop) → IfOk found (λ lines. IfSome a.told_before (λ steps. Tells steps lines.items)) → IfOk found (λ lines. HasForm lines.items)
-      → (found ≡ Err inspect.NoBase → NoBaseTold sound_law.meets a.told_before) → (found ≢ Err inspect.DiskFault → a.disk_after ≡ a.disk_before)
-      → (found ≡ Err inspect.DiskFault → Rose a.disk_before a.disk_after) → (told : Result (List ℕ) Stop) → TellsFound found told → Inspected told
+  pub inspected : (found : Result (Vec Line Global) RecoverStop) → IfOk found (λ lines. IfSome a.told_before (λ steps. Tells steps lines.items)) → IfOk found (λ lines. HasForm lines.items)
+      → (found ≡ Err recover.NoBase → NoBaseTold sound_law.meets a.told_before) → (found ≢ Err recover.DiskFault → a.disk_after ≡ a.disk_before)
+      → (found ≡ Err recover.DiskFault → Rose a.disk_before a.disk_after) → (told : Result (List ℕ) Stop) → TellsFound found told → Inspected told
   inspected (Ok lines) ok form none sound fault told (inl e) =
       subst Inspected (sym e) (record { lines = lines.items; tells = ok; form = form; text_is = refl }, sound (λ x. cc))
   inspected (Ok lines) ok form none sound fault told (inr e) = subst Inspected (sym e) (sound (λ x. cc))
-  inspected (Err inspect.DiskFault) ok form none sound fault told e = subst Inspected (sym e) (fault refl)
-  inspected (Err inspect.NoBase) ok form none sound fault told e = subst Inspected (sym e) (none refl, sound (λ x. cc))
-  inspected (Err inspect.Memory) ok form none sound fault told e = subst Inspected (sym e) (sound (λ x. cc))
+  inspected (Err recover.DiskFault) ok form none sound fault told e = subst Inspected (sym e) (fault refl)
+  inspected (Err recover.NoBase) ok form none sound fault told e = subst Inspected (sym e) (none refl, sound (λ x. cc))
+  inspected (Err recover.Memory) ok form none sound fault told e = subst Inspected (sym e) (sound (λ x. cc))
 
   soundly : (told : Result (List ℕ) Stop) → Inspected told → PutsAround told status a → status ≢ 6 → a.disk_after ≡ a.disk_before
   soundly (Ok text) is put other = is.1

@@ -13,8 +13,8 @@ use Rattle.erm_script.specs.Faults.{IsFirstBadLine}
 use Rattle.erm_made.specs.declared.counts.Made.{Made}
 use Rattle.erm_made.specs.Counts.{made_lines}
 use Rattle.erm_make.specs.Workload.{names_of}
-use Rattle.erm_inspect.specs.declared.stop.InspectStop.{InspectStop}
-use Rattle.erm_inspect.specs.declared.stop.InspectStop.TheVariants as inspect
+use Rattle.erm_recover.specs.declared.stop.RecoverStop.{RecoverStop}
+use Rattle.erm_recover.specs.declared.stop.RecoverStop.TheVariants as recover
 use Rattle.erm_disk_run.specs.declared.stops.DiskStop.TheVariants as disk
 use Rattle.erm_disk_run.specs.Found.{IsFound}
 use Rattle.erm_disk_run.specs.Runs.{WasCutOn, WasRunOn, WasStarvedOn}
@@ -87,11 +87,11 @@ TellsRan (Err stop.Memory) names script before after faults now = LeavesScript n
 TellsRan (Err stop) names script before after faults now = NotOpened stop before after faults now
 
 -- what there is to tell of what was found on a disk
-abbrev pub TellsFound : Result (Vec Line Global) InspectStop → Result (List ℕ) Stop → Type 0
+abbrev pub TellsFound : Result (Vec Line Global) RecoverStop → Result (List ℕ) Stop → Type 0
 TellsFound (Ok lines) told = (told ≡ Ok (text_of lines.items)) ⊎ (told ≡ Err stop.Memory)
-TellsFound (Err inspect.DiskFault) told = told ≡ Err stop.DiskFault
-TellsFound (Err inspect.NoBase) told = told ≡ Err stop.NoBase
-TellsFound (Err inspect.Memory) told = told ≡ Err stop.Memory
+TellsFound (Err recover.DiskFault) told = told ≡ Err stop.DiskFault
+TellsFound (Err recover.NoBase) told = told ≡ Err stop.NoBase
+TellsFound (Err recover.Memory) told = told ≡ Err stop.Memory
 
 -- What there is to tell of a checkpoint. Where memory runs out, it may have been taken before, which keeps the map too.
 abbrev pub TellsSaved : Result (List ℕ) Stop → Option (List Step) → Option (List Step) → ℕ → ℕ → Type 0

@@ -8,8 +8,9 @@ ghost use Rattle.erm_top.specs.Stopped.{TellsFound};
 use crate::Ended;
 use crate::printing::{Stop, put_told};
 use crate::texts::lines_text;
-use erm_inspect::{InspectStop, audited, recovered};
+use erm_inspect::{audited, recovered};
 use erm_outside::{Disk, Sink};
+use erm_recover::RecoverStop;
 use erm_report::{Line, Text};
 use std::alloc::Global;
 
@@ -62,13 +63,13 @@ pub fn audit<K: Sink, D: Disk>(alloc: Global, sink: &mut K, disk: D) -> Ended<D>
 }
 
 // What is to be told of what was found on a disk: the text of its lines, if there are any.
-fn found_text(alloc: Global, found: Result<Vec<Line>, InspectStop>) -> Result<Text, Stop>
+fn found_text(alloc: Global, found: Result<Vec<Line>, RecoverStop>) -> Result<Text, Stop>
     ensures { TellsFound found result }
 {
     match found {
         Ok(lines) => Ok(lines_text(alloc, &lines)?),
-        Err(InspectStop::DiskFault) => Err(Stop::DiskFault),
-        Err(InspectStop::NoBase) => Err(Stop::NoBase),
-        Err(InspectStop::Memory) => Err(Stop::Memory),
+        Err(RecoverStop::DiskFault) => Err(Stop::DiskFault),
+        Err(RecoverStop::NoBase) => Err(Stop::NoBase),
+        Err(RecoverStop::Memory) => Err(Stop::Memory),
     }
 }

@@ -44,8 +44,8 @@ pub struct Ended<D> {
 /// - 10 where no run, or no place of the log, comes behind what the disk holds.
 ///
 /// Each clause on content stands where source, sink and disk tell their content. A disk that tells it must be one that may be opened: nothing is
-/// pending on it, and behind what it recovers to there is no block of a later run. Every disk that a run leaves is such a one, a crash
-/// at any moment too.
+/// pending on it but of what an opening waits for, and behind what it recovers to there is no block of a later run. The disk that a whole run
+/// leaves is such a one, and so is each image that a crash leaves.
 pub fn ermia<R: Threads + Wait + Sync, S: Source, K: Sink, D: Disk + Send, G: Gate + Sync>(
     _rt: &R,
     alloc: Global,
