@@ -1,0 +1,57 @@
+//! Laws of the bank's transactions. Each holds for every value, and its function does nothing.
+ghost use Rattle.erm_accounts.specs.Accounts.{AreSolvent, CustomersStaySolvent, IsDeposit, IsOfBank, IsWithdrawal, ReportsShowSolventCustomers, SnapshotsMaySkew};
+ghost use Rattle.erm_invariant.specs.Invariant.{Keeps};
+ghost use Rattle.erm_model.specs.Run.{Step};
+ghost use Rattle.std.specs.Prelude.{List};
+
+use erm_invariant::{Invariant, invariants_last, readers_keep_invariants};
+use erm_report_invariant::good_reports_keep_invariants;
+
+/// The invariant that of each customer the sum of the two balances is at or above zero.
+pub struct Solvency;
+
+impl Invariant for Solvency {
+    ghost use Rattle.erm_accounts.specs.Accounts.{AreSolvent};
+
+    ghost holds = { λ _ m. AreSolvent m };
+}
+
+/// A withdrawal that its own reads allow leaves each customer solvent, where it is run alone.
+pub fn withdrawals_keep_solvency()
+    ensures { (steps : List Step) → IsWithdrawal steps → Keeps AreSolvent steps }
+{}
+
+/// So does a deposit.
+pub fn deposits_keep_solvency()
+    ensures { (steps : List Step) → IsDeposit steps → Keeps AreSolvent steps }
+{}
+
+/// So each transaction of the bank keeps the invariant, audits too.
+pub fn transactions_keep_solvency()
+    ensures { (steps : List Step) → IsOfBank steps → Keeps AreSolvent steps }
+{
+    withdrawals_keep_solvency();
+    deposits_keep_solvency();
+    readers_keep_invariants::<Solvency>();
+}
+
+/// In each serial run of the bank's transactions customers stay solvent, and each transaction finds them so.
+pub fn customers_stay_solvent()
+    ensures { CustomersStaySolvent }
+{
+    transactions_keep_solvency();
+    invariants_last::<Solvency>();
+}
+
+/// And whatever the interleaving, a good report's map shows them solvent, where it began so.
+pub fn reports_show_solvent_customers()
+    ensures { ReportsShowSolventCustomers }
+{
+    transactions_keep_solvency();
+    good_reports_keep_invariants::<Solvency>();
+}
+
+/// Two withdrawals that are each answered from one snapshot may leave a customer that isn't solvent.
+pub fn snapshots_may_skew()
+    ensures { SnapshotsMaySkew }
+{}
