@@ -145,7 +145,7 @@ module _ (sound : Rows → Type 0) where
     told,
     subst (λ (x : Log). Takes sound place x slots slot old new) (sym same) (record {
       mid = takes.mid;
-      flushes = record { front = takes.flushes.front; blocks = takes.flushes.blocks; split = takes.flushes.split; place_is = takes.flushes.place_is; writes = takes.flushes.writes };
+      flushes = record { front = takes.flushes.front; blocks = takes.flushes.blocks; split = takes.flushes.split; place_is = takes.flushes.place_is; writes = takes.flushes.writes; few = takes.flushes.few };
       saves = saves_other log tail pinned slots slot takes.mid new takes.saves;
     }),
   )
@@ -170,7 +170,7 @@ module _ (sound : Rows → Type 0) where
     told,
     subst (λ (x : Log). TakesAll sound place x slots slot old new) (sym same) (record {
       mid = takes.mid;
-      flushes = record { front = takes.flushes.front; blocks = takes.flushes.blocks; split = takes.flushes.split; place_is = takes.flushes.place_is; writes = takes.flushes.writes };
+      flushes = record { front = takes.flushes.front; blocks = takes.flushes.blocks; split = takes.flushes.split; place_is = takes.flushes.place_is; writes = takes.flushes.writes; few = takes.flushes.few };
       holds = holds_other log tail pinned slots takes.mid takes.holds;
       checkpoint = takes.checkpoint;
       slot_is = takes.slot_is;

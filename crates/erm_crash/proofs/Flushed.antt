@@ -1,5 +1,5 @@
 -- What each image recovers to while a log is flushed.
-use Rattle.std.proofs.Common.{◌≡◌, ◌≢◌, ℕ, ◌<◌, ◌≤◌, ◌↔◌, ◌++◌, List, [], ◌∷◌, length, refl, sym, ap, ◌∙◌, subst, arith, append_assoc}
+use Rattle.std.proofs.Common.{◌≡◌, ◌≢◌, ℕ, ◌<◌, ◌≤◌, ◌↔◌, ◌++◌, List, [], ◌∷◌, Option, length, refl, sym, ap, ◌∙◌, subst, arith, append_assoc}
 use Rattle.erm_model.specs.Rows.{Rows}
 use Rattle.erm_model.specs.RowTransaction.{SameRows}
 use Rattle.erm_record.specs.Stored.{stored_length}
@@ -15,7 +15,12 @@ use Rattle.erm_log_words.specs.Words.{log_words}
 use Rattle.erm_outside.specs.Disk.{contents, Image, IsImage, IsSettled, Step}
 use Rattle.erm_ckpt.specs.declared.slot.Slots.{Slots}
 use Rattle.erm_ckpt.specs.declared.slot.TheConstants.{LOG_START}
-use Rattle.erm_ckpt.specs.Recovered.{Pair, State, end_at, state_behind}
+use Rattle.erm_outside.specs.declared.disk.File.TheVariants.{Slot0, Slot1}
+use Rattle.erm_log_disk.proofs.Trail.{images_spare}
+use Rattle.erm_ckpt.specs.Checkpoint.{Checkpoint}
+use Rattle.erm_ckpt.specs.Recovered.{Pair, Shows, State, base, better, end_at, state_behind, state_of}
+use Rattle.erm_ckpt.proofs.Images.{state_grows}
+use Rattle.erm_ckpt.proofs.OneRecovery.{same_shown}
 use Rattle.erm_ckpt.specs.States.{RecoversPast, RecoversTo}
 use Rattle.erm_checkpoint.specs.Taken.{HoldsLog, RecoversFlushing, state_at}
 use Rattle.erm_checkpoint.proofs.Flushed.{flush_moments}
@@ -23,7 +28,9 @@ use Rattle.erm_checkpoint.proofs.Taken.{end_state, same_front, stands_from}
 use Rattle.erm_world.specs.Log.{IsLog, Log, Start, words_of}
 use Rattle.erm_crash.specs.Kept.{KeepsBlocks}
 use Rattle.erm_crash.specs.Moments.{IsMoment, TearsApart}
+use Rattle.erm_crash.specs.Stops.{MayStop}
 use Rattle.erm_crash.proofs.Moments.{from_each, last_write, parts_of, settled_image}
+use Rattle.erm_crash.proofs.Stops.{stop_wider, words_stop}
 
 module _
     (short : (row : List ℕ) → stored_length row ≤ length row) (sound : Rows → Type 0) (respects : (a b : Rows) → SameRows a b → sound a ↔ sound b) where
@@ -85,9 +92,32 @@ module _
       let shows : ShowsBlocks image end.at end.run w.blocks = subst (λ (t : State). ShowsBlocks image t.at t.run w.blocks) (sym is_end) shown in
       from_each (RecoversFlushing sound l.flushed m w.front w.blocks) old new now (flush_moments short sound respects l m slots old new h opened more is begin w) moment image is_image shows
 
+  -- what is pending then is of the segment of the place flushed and the next one
+  stops_flush : (l m : Log) (slots : Slots) (old new now : List Step) (h : HoldsLog sound l slots old) (w : WritesFrom sound l.flushed m old new) (moment : IsMoment old new now) (image : Image) → IsImage now image
+      → (from : State) (blocks : List Block) (past : RecoversPast sound from blocks l.flushed image) → MayStop (base past.pair).at (state_behind from past.front).at now
+  stops_flush l m slots old new now h w moment image is_image from blocks past =
+      let parts = parts_of old new w.writes.more now moment w.writes.steps in
+      let words : List ℕ = w.few.0 in
+      let writes : AllWriteWords l.flushed words moment.before = last_write l.flushed words moment.after moment.before (subst (AllWriteWords l.flushed words) parts w.few.2) in
+      let spares = images_spare l.flushed words old moment.before image h.ready.settled writes (subst (λ (ss : List Step). IsImage ss image) moment.since is_image) in
+      let first : past.pair.slot0 ≡ h.pair.slot0 =
+      same_shown sound (contents old Slot0) past.pair.slot0 h.pair.slot0 (subst (λ (bytes : List ℕ). Shows sound bytes past.pair.slot0) spares.slot0 past.there.recovers.slot0) h.there.recovers.slot0 in
+      let second : past.pair.slot1 ≡ h.pair.slot1 =
+      same_shown sound (contents old Slot1) past.pair.slot1 h.pair.slot1 (subst (λ (bytes : List ℕ). Shows sound bytes past.pair.slot1) spares.slot1 past.there.recovers.slot1) h.there.recovers.slot1 in
+      let bases : (base past.pair).at ≡ (base h.pair).at = ap (λ (o : Option Checkpoint). (state_of (better o past.pair.slot1)).at) first ∙ ap (λ (o : Option Checkpoint). (state_of (better h.pair.slot0 o)).at) second in
+      let grows = state_grows (base h.pair) h.there.blocks in
+      let there = h.there.is.at in
+      let to = h.to in
+      let low = past.low in
+      subst (MayStop (base past.pair).at (state_behind from past.front).at) (sym moment.since)
+      (stop_wider l.flushed (base past.pair).at l.flushed (state_behind from past.front).at (moment.before ++ old) (omega (arith, bases, grows, there, to)) low
+      (words_stop l.flushed words old moment.before w.few.1 writes h.ready.settled))
+
   pub flush_keeps : (l m : Log) (slots : Slots) (old new : List Step) → HoldsLog sound l slots old → m.opened ≡ l.opened → ((rest : List Block) × (m.gathered ≡ l.gathered ++ rest))
       → IsLog sound m → LOG_START < m.opened.at → WritesFrom sound l.flushed m old new → KeepsBlocks sound (state_at m []) m.gathered l.flushed old new
   flush_keeps l m slots old new h opened more is begin w = (
     (w.writes.more, w.writes.steps),
-    λ now moment image is_image tears. at_flush l m slots old new now h opened more is begin w moment moment.before refl image is_image tears,
+    λ now moment image is_image tears.
+        let past = at_flush l m slots old new now h opened more is begin w moment moment.before refl image is_image tears in
+        record { past = past; stops = stops_flush l m slots old new now h w moment image is_image (state_at m []) m.gathered past },
   )

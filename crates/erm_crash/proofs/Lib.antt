@@ -1,4 +1,5 @@
 pub mod Moments
+pub mod Stops
 pub mod Opened
 pub mod Flushed
 pub mod Saved

@@ -6,19 +6,18 @@ use Rattle.erm_block.specs.declared.block.Block.{Block}
 use Rattle.erm_log_disk.specs.Writes.{AllWriteWords}
 use Rattle.erm_outside.specs.Disk.{AtEachMoment, contents, EachImage, Image, IsImage, IsSettled, Step}
 use Rattle.erm_ckpt.specs.Recovered.{State}
-use Rattle.erm_ckpt.specs.States.{RecoversPast}
-use Rattle.erm_crash.specs.Kept.{KeepsBlocks}
+use Rattle.erm_crash.specs.Kept.{KeepsBlocks, RecoversStopped}
 use Rattle.erm_crash.specs.Moments.{AtMoments, IsMoment}
 
 -- ---- lists that are cut at two places
 
 -- the first list ends within the second part, or the other way round
-record CutsBefore (xs ys us vs : List Step) : Type 0 where
+pub record CutsBefore (xs ys us vs : List Step) : Type 0 where
   pub between : List Step
   pub behind : vs ≡ between ++ ys
   pub front : xs ≡ us ++ between
 
-two_cuts : (xs ys us vs : List Step) → xs ++ ys ≡ us ++ vs → CutsBefore xs ys us vs ⊎ CutsBefore us vs xs ys
+pub two_cuts : (xs ys us vs : List Step) → xs ++ ys ≡ us ++ vs → CutsBefore xs ys us vs ⊎ CutsBefore us vs xs ys
 two_cuts [] ys us vs same = inr (record { between = us; behind = same; front = refl })
 two_cuts (x ∷ xs) ys [] vs same = inl (record { between = x ∷ xs; behind = sym same; front = refl })
 two_cuts (x ∷ xs) ys (u ∷ us) vs same =
@@ -36,7 +35,7 @@ parts_of old new more now m steps =
     (sym steps ∙ m.later ∙ ap (λ (ss : List Step). m.after ++ ss) m.since ∙ sym (append_assoc m.after m.before old))
 
 -- a moment lies on one side of a third list
-on_one_side : (a b c now first second : List Step) → b ≡ first ++ a → c ≡ second ++ b → IsMoment a c now → IsMoment a b now ⊎ IsMoment b c now
+pub on_one_side : (a b c now first second : List Step) → b ≡ first ++ a → c ≡ second ++ b → IsMoment a c now → IsMoment a b now ⊎ IsMoment b c now
 on_one_side a b c now first second to_b to_c m =
     let parts : second ++ first ≡ m.after ++ m.before =
     parts_of a c (second ++ first) now m (to_c ∙ ap (λ (ss : List Step). second ++ ss) to_b ∙ sym (append_assoc second first a)) in
@@ -135,31 +134,42 @@ last_write at words (s ∷ after) before all = last_write at words after before 
 
 -- ---- more blocks, and a lower place
 
-past_more : (sound : Rows → Type 0) (from : State) (blocks more : List Block) (place : ℕ) (image : Image) → RecoversPast sound from blocks place image → RecoversPast sound from (blocks ++ more) place image
-past_more sound from blocks more place image past = record {
-  front = past.front;
-  rest = past.rest ++ more;
-  split = ap (λ (bs : List Block). bs ++ more) past.split ∙ append_assoc past.front past.rest more;
-  low = past.low;
-  pair = past.pair;
-  there = past.there;
-}
+pub stopped_more : (sound : Rows → Type 0) (from : State) (blocks more : List Block) (place : ℕ) (now : List Step) (image : Image) → RecoversStopped sound from blocks place now image
+    → RecoversStopped sound from (blocks ++ more) place now image
+stopped_more sound from blocks more place now image is =
+    let past = is.past in
+    record {
+      past = record {
+        front = past.front;
+        rest = past.rest ++ more;
+        split = ap (λ (bs : List Block). bs ++ more) past.split ∙ append_assoc past.front past.rest more;
+        low = past.low;
+        pair = past.pair;
+        there = past.there;
+      };
+      stops = is.stops;
+    }
 
-past_lower : (sound : Rows → Type 0) (from : State) (blocks : List Block) (place later : ℕ) (image : Image) → place ≤ later → RecoversPast sound from blocks later image → RecoversPast sound from blocks place image
-past_lower sound from blocks place later image lower past =
+pub stopped_lower : (sound : Rows → Type 0) (from : State) (blocks : List Block) (place later : ℕ) (now : List Step) (image : Image) → place ≤ later → RecoversStopped sound from blocks later now image
+    → RecoversStopped sound from blocks place now image
+stopped_lower sound from blocks place later now image lower is =
+    let past = is.past in
     let low = past.low in
     record {
-      front = past.front;
-      rest = past.rest;
-      split = past.split;
-      low = omega (arith, lower, low);
-      pair = past.pair;
-      there = past.there;
+      past = record {
+        front = past.front;
+        rest = past.rest;
+        split = past.split;
+        low = omega (arith, lower, low);
+        pair = past.pair;
+        there = past.there;
+      };
+      stops = is.stops;
     }
 
 pub go_on : (sound : Rows → Type 0) (from : State) (blocks more : List Block) (place later : ℕ) (a b c : List Step) → place ≤ later → KeepsBlocks sound from blocks place a b
     → KeepsBlocks sound from (blocks ++ more) later b c → KeepsBlocks sound from (blocks ++ more) place a c
 go_on sound from blocks more place later a b c lower first second =
     joined _ a b c
-    (weaker _ _ a b (λ now image keeps tears. past_more sound from blocks more place image (keeps tears)) first)
-    (weaker _ _ b c (λ now image keeps tears. past_lower sound from (blocks ++ more) place later image lower (keeps tears)) second)
+    (weaker _ _ a b (λ now image keeps tears. stopped_more sound from blocks more place now image (keeps tears)) first)
+    (weaker _ _ b c (λ now image keeps tears. stopped_lower sound from (blocks ++ more) place later now image lower (keeps tears)) second)

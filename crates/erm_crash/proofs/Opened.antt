@@ -5,20 +5,25 @@ use Rattle.erm_model.specs.declared.limits.TheConstants.{LAST_RUN, STOP}
 use Rattle.erm_block.specs.Block.{IsBlock}
 use Rattle.erm_block.specs.declared.block.Block.{Block}
 use Rattle.erm_block.specs.Spelling.{spelling}
+use Rattle.erm_block.proofs.OneSpelling.{length-spelling}
+use Rattle.erm_record.proofs.StoredRows.{stored_length-le}
 use Rattle.erm_log_disk.specs.Chains.{MayStand}
 use Rattle.erm_log_disk.specs.Writes.{AllWriteWords}
 use Rattle.erm_log_words.specs.Tears.{IsFresh}
 use Rattle.erm_log_words.specs.Words.{word_at}
 use Rattle.erm_outside.specs.Disk.{contents, Image, IsImage, IsSettled, Step}
 use Rattle.erm_ckpt.specs.declared.slot.TheConstants.{LOG_START}
-use Rattle.erm_ckpt.specs.Recovered.{Pair, State, best, end_at, slots_of}
+use Rattle.erm_ckpt.specs.Recovered.{Pair, State, base, best, end_at, slots_of}
+use Rattle.erm_ckpt.proofs.Images.{state_grows}
 use Rattle.erm_ckpt.specs.States.{HoldsAll, RecoversTo}
 use Rattle.erm_recover.specs.Opening.{Opens, RecoversEither, open_block, opened}
 use Rattle.erm_checkpoint.specs.Taken.{HoldsLog}
 use Rattle.erm_world.specs.Log.{Log, words_of}
 use Rattle.erm_crash.specs.Kept.{IsJustOpened, KeepsOpening}
 use Rattle.erm_crash.specs.Moments.{IsMoment, TearsApart}
+use Rattle.erm_crash.specs.Stops.{MayStop}
 use Rattle.erm_crash.proofs.Moments.{from_each, last_write, parts_of, settled_image}
+use Rattle.erm_crash.proofs.Stops.{stop_wider, words_stop}
 
 -- the Open block is one of the grammar
 is_block : (at run : ℕ) → at < STOP → run < LAST_RUN → IsBlock (open_block at run) at run
@@ -46,11 +51,25 @@ module _ (sound : Rows → Type 0) where
       from_each (RecoversEither sound state pair) old new now (opens.more, opens.steps, opens.images) m image is
       (tears.blocks old m.before state pair block [] m.since done settled there there.opens stand writes).0
 
+  -- what is pending then is of the segment of the place and the next one
+  stops_opening : (state : State) (pair : Pair) (old new now : List Step) → IsSettled old → (there : RecoversTo sound state pair (contents old)) → state.at < STOP → state.run < LAST_RUN
+      → (opens : Opens sound state pair old new) → IsMoment old new now → MayStop (base pair).at state.at now
+  stops_opening state pair old new now settled there low less opens m =
+      let block : Block = open_block state.at state.run in
+      let size = length-spelling stored_length-le block state.at state.run (is_block state.at state.run low less) in
+      let parts = parts_of old new opens.more now m opens.steps in
+      let writes : AllWriteWords state.at (spelling block) m.before = last_write state.at (spelling block) m.after m.before (subst (AllWriteWords state.at (spelling block)) parts opens.writes) in
+      let grows = state_grows (base pair) there.blocks in
+      let at = there.is.at in
+      subst (MayStop (base pair).at state.at) (sym m.since)
+      (stop_wider state.at (base pair).at state.at state.at (m.before ++ old) (omega (arith, grows, at)) (omega arith)
+      (words_stop state.at (spelling block) old m.before (omega (arith, size)) writes settled))
+
   pub opening_keeps : (state : State) (pair : Pair) (old new : List Step) → IsSettled old → RecoversTo sound state pair (contents old) → sound state.rows → state.at < STOP → state.run < LAST_RUN
       → Opens sound state pair old new → KeepsOpening sound state pair old new
   opening_keeps state pair old new settled there meets low less opens = (
     (opens.more, opens.steps),
-    λ now m image is tears. at_opening state pair old new now settled there meets low less opens m m.before refl image is tears,
+    λ now m image is tears. (at_opening state pair old new now settled there meets low less opens m m.before refl image is tears, stops_opening state pair old new now settled there low less opens m),
   )
 
   pub opened_holds : (state : State) (pair : Pair) (log : Log) (steps : List Step) → IsJustOpened state log → HoldsAll sound (opened state) pair steps

@@ -5,7 +5,8 @@ use Rattle.erm_model.specs.Rows.{Rows}
 use Rattle.erm_model.specs.RowTransaction.{SameRows}
 use Rattle.erm_record.specs.Stored.{stored_length}
 use Rattle.erm_bytes.specs.Bytes.{bytes_of}
-use Rattle.erm_outside.specs.Disk.{contents, Image, IsImage, Step}
+use Rattle.erm_outside.specs.declared.disk.File.TheVariants.{Segment}
+use Rattle.erm_outside.specs.Disk.{changes_of, contents, Image, IsFileSettled, IsImage, Step}
 use Rattle.erm_outside.specs.Disk.Change.{Wrote, Tried, Synced}
 use Rattle.erm_ckpt.specs.declared.slot.Slot.{Slot}
 use Rattle.erm_ckpt.specs.declared.slot.Slots.{Slots}
@@ -24,6 +25,7 @@ use Rattle.erm_crash.specs.Kept.{KeepsBlocks}
 use Rattle.erm_crash.specs.Moments.{AtMoments, IsMoment, TearsApart}
 use Rattle.erm_crash.proofs.Flushed.{flush_keeps}
 use Rattle.erm_crash.proofs.Moments.{all_from_each, at_both, at_once, from_each, joined, settled_image, weaker}
+use Rattle.erm_crash.proofs.Stops.{Calm, calm_stops, part_calm, removed_calm}
 
 -- one step more isn't none
 grown : (step : Step) (steps : List Step) → step ∷ steps ≢ steps
@@ -98,23 +100,36 @@ module _
       let c : Checkpoint = s.checkpoint in
       let below = removals_below short sound respects m slots c mid s.holds s.may in
       let to = s.holds.to in
+      let still : (n : ℕ) → IsFileSettled (changes_of (Segment n) mid) = λ n. s.may.settled (Segment n) in
+      let calm : AtMoments Calm mid new = elim s.saves [
+        | inl part ↦ elim part [
+          | inl writes ↦ part_calm pair (bytes_of (slot_words c)) mid new still writes
+          | inr removes ↦ removed_calm pair (bytes_of (slot_words c)) slot.first (removal_end slots) mid new still (inl removes)
+        ]
+        | inr all ↦ removed_calm pair (bytes_of (slot_words c)) slot.first (removal_end slots) mid new still (inr all)
+      ] in
       let kept : AtMoments (Torn sound respects here) mid new = elim s.saves [
         | inl part ↦ elim part [
           | inl writes ↦ part_keeps sound respects here pair c mid s.may new writes
           | inr removes ↦ all_keeps sound respects here pair c mid s.may slot.first (removal_end slots) new below (inl removes)
         ]
         | inr all ↦ all_keeps sound respects here pair c mid s.may slot.first (removal_end slots) new below (inr all)
-      ] in
-      weaker (Torn sound respects here) _ mid new (λ now image keeps tears.
-      let r = keeps tears in
-      record {
-        front = s.holds.front;
-        rest = s.holds.rest;
-        split = s.holds.split;
-        low = omega (arith, low, to);
-        pair = r.0;
-        there = r.1;
-      }) kept
+      ] in (
+        kept.0,
+        λ now moment image is tears.
+            let r = kept.1 now moment image is tears in
+            record {
+              past = record {
+                front = s.holds.front;
+                rest = s.holds.rest;
+                split = s.holds.split;
+                low = omega (arith, low, to);
+                pair = r.0;
+                there = r.1;
+              };
+              stops = calm_stops (base r.0).at here.at now (calm.1 now moment image is);
+            },
+      )
 
   pub checkpoint_keeps : (l m : Log) (slots : Slots) (slot : Slot) (old new : List Step) → HoldsLog sound l slots old → GoesOnTo l m → IsLog sound m → LOG_START < m.opened.at
       → Takes sound l.flushed m slots slot old new → KeepsBlocks sound (state_at m []) m.gathered l.flushed old new

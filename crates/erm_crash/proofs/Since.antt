@@ -4,13 +4,13 @@ use Rattle.erm_model.specs.Rows.{Rows}
 use Rattle.erm_block.specs.declared.block.Block.{Block}
 use Rattle.erm_outside.specs.Disk.{Step}
 use Rattle.erm_ckpt.specs.declared.slot.Slots.{Slots}
-use Rattle.erm_ckpt.specs.Recovered.{State}
-use Rattle.erm_ckpt.specs.States.{RecoversPast}
+use Rattle.erm_ckpt.specs.Recovered.{State, base, state_behind}
 use Rattle.erm_checkpoint.specs.Taken.{HoldsLog, state_at}
 use Rattle.erm_checkpoint.proofs.Taken.{place_is}
 use Rattle.erm_world.specs.Log.{Log, Start, gathered_to}
-use Rattle.erm_crash.specs.Kept.{KeepsBlocks, KeepsSince}
+use Rattle.erm_crash.specs.Kept.{KeepsBlocks, KeepsSince, RecoversStopped}
 use Rattle.erm_crash.proofs.Moments.{at_once, go_on, settled_image}
+use Rattle.erm_crash.proofs.Stops.{settled_stops}
 
 module _ (sound : Rows → Type 0) where
   pub kept_begins : (log : Log) (slots : Slots) (steps : List Step) → HoldsLog sound log slots steps → KeepsSince sound log.flushed log slots steps steps
@@ -23,13 +23,16 @@ module _ (sound : Rows → Type 0) where
         rest = h.rest;
         split = h.split;
         to = sym (place_is from h.front) ∙ h.to;
-        moments = at_once _ steps (λ image is tears. settled_image (RecoversPast sound from h.front log.flushed) steps image h.ready.settled is (record {
-          front = h.front;
-          rest = [];
-          split = sym (append-nil h.front);
-          low = omega (arith, to);
-          pair = h.pair;
-          there = h.there;
+        moments = at_once _ steps (λ image is tears. settled_image (RecoversStopped sound from h.front log.flushed steps) steps image h.ready.settled is (record {
+          past = record {
+            front = h.front;
+            rest = [];
+            split = sym (append-nil h.front);
+            low = omega (arith, to);
+            pair = h.pair;
+            there = h.there;
+          };
+          stops = settled_stops (base h.pair).at (state_behind from h.front).at steps h.ready.settled;
         }));
       }
 

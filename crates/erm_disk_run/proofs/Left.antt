@@ -1,5 +1,5 @@
 -- What is left at the end of a run, where all of its log is flushed.
-use Rattle.std.proofs.Common.{inl, inr, ◌≡◌, ℕ, zero, suc, ◌+◌, ◌<◌, ◌≤◌, ◌↔◌, true, Bool, cond, nat_lt, List, [], ◌∷◌, ◌++◌, refl, sym, ap, ◌∙◌, subst, arith}
+use Rattle.std.proofs.Common.{inl, inr, ◌≡◌, ℕ, zero, suc, ◌+◌, ◌<◌, ◌≤◌, ◌↔◌, true, Bool, cond, nat_lt, List, [], ◌∷◌, ◌++◌, None, refl, sym, ap, ◌∙◌, subst, arith}
 use Rattle.std.proofs.lemmas.Bool.Decides.{nat_tests}
 use Rattle.erm_model.specs.Committed.{Committed, IsStateBelow, RunsInOrder, below, rank_of, state_after}
 use Rattle.erm_model.specs.Database.{Database}
@@ -34,6 +34,7 @@ use Rattle.erm_told_log.proofs.Places.{met_within}
 use Rattle.erm_told_crash.specs.Logged.{CoursesLogCommits, HasCommits}
 use Rattle.erm_told_audit.specs.Audits.{AuditTells}
 use Rattle.erm_told_audit.proofs.Audits.{audit_from}
+use Rattle.erm_log_run.specs.Saving.{SparesOlder, saved_at}
 use Rattle.erm_log_run.proofs.Held.{all_flushed}
 use Rattle.erm_disk_run.specs.Crashes.{Leaves}
 use Rattle.erm_disk_run.proofs.Told.{CourseLaws, RanOn, begins, commits, from_opening, stamps_within}
@@ -157,8 +158,9 @@ module _ (laws : CourseLaws) (may : MayOpenAll) (one : OrdersAreOne) (audits : A
         (audit_tells (meets.blocks ++ opener ∷ []) slots steps meets.tail flushed best blocks recovers)
 
   pub leaves : (slots : Slots) (old steps : List Step) → MeetsFound state log slots old steps → log.flushed ≡ log.tail → (order : List Committed)
-      (opening end : Database) → opening ≡ map_of_rows state.rows → IsSerialOrder rank_of told order → RunsInOrder order opening end → SlotsLeft answers slots old steps → Leaves told state answers end old steps
-  leaves slots old steps meets flushed order opening end same serial run left =
+      (opening end : Database) → opening ≡ map_of_rows state.rows → IsSerialOrder rank_of told order → RunsInOrder order opening end → SlotsLeft answers slots old steps
+      → (saved_at answers ≡ None → SparesOlder state.at old steps) → Leaves told state answers end old steps
+  leaves slots old steps meets flushed order opening end same serial run left older =
       let h : HoldsLog sound_law.meets log slots steps = meets.tail.holds in
       let found : State = state_at log h.front in
       let to : found.at ≡ log.tail = h.to ∙ flushed in
@@ -178,6 +180,7 @@ module _ (laws : CourseLaws) (may : MayOpenAll) (one : OrdersAreOne) (audits : A
         logged = λ best blocks recovers. audit_from_place slots old steps meets best blocks recovers flushed;
         saved = left_saved answers slots old steps left h.pair h.names;
         spared = left_spared answers slots old steps left h.pair h.names;
+        kept = older;
         opening = λ best blocks recovers low. opening_met slots old steps meets best blocks recovers low;
         older = λ before best found blocks was recovers b low. older_found slots old steps meets best blocks recovers before found was b low;
       }

@@ -1,6 +1,8 @@
 pub mod Cut
+pub mod Followed
 pub mod Left
 pub mod Opened
+pub mod Order
 pub mod Outlived
 pub mod SavedAt
 pub mod SlotsLeft

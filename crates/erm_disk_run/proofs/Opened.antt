@@ -25,6 +25,8 @@ use Rattle.erm_ckpt.specs.Checkpoint.{Checkpoint}
 use Rattle.erm_ckpt.specs.Recovered.{Pair, Recovers, RecoversAt, State, base, best, end_at, slots_of, state_behind, state_of}
 use Rattle.erm_ckpt.specs.States.{HoldsAll, RecoversTo, SameState}
 use Rattle.erm_crash.specs.Kept.{IsJustOpened, KeepsOpening}
+use Rattle.erm_crash.specs.Stops.{MayStop}
+use Rattle.erm_crash.proofs.Stops.{settled_stops, stop_wider}
 use Rattle.erm_crash.proofs.Moments.{joined, settled_image}
 use Rattle.erm_node.specs.Sound.{IsSound, sound_law}
 use Rattle.erm_node.specs.TreeMap.{map_of_rows}
@@ -110,9 +112,10 @@ none_below commits from m place none same = record {
 abbrev pub MayOpenAll : Type 0
 MayOpenAll = (state : State) (pair : Pair) (image : Image) → RecoversTo sound_law.meets state pair image → MayOpen (RecoversAt sound_law.meets) image
 
-pub below_of : MayOpenAll → (commits : List Committed) (from found : State) (pair : Pair) (image : Image) → RecoversTo sound_law.meets found pair image → below found.at commits ≡ []
-    → from.at ≤ found.at → (found.run ≡ from.run) ⊎ (found.run ≡ from.run + 1) → map_of_rows found.rows ≡ map_of_rows from.rows → RecoversBelow commits from from.at image
-below_of opens commits from found pair image there none low run map = record {
+pub below_of : MayOpenAll → (commits : List Committed) (from found : State) (pair : Pair) (now : List Step) (image : Image) → RecoversTo sound_law.meets found pair image → below found.at commits ≡ []
+    → from.at ≤ found.at → (found.run ≡ from.run) ⊎ (found.run ≡ from.run + 1) → map_of_rows found.rows ≡ map_of_rows from.rows
+    → MayStop (base pair).at found.at now → RecoversBelow commits from from.at now image
+below_of opens commits from found pair now image there none low run map stops = record {
   found = found;
   pair = pair;
   there = there;
@@ -120,6 +123,7 @@ below_of opens commits from found pair image there none low run map = record {
   run = run;
   map = none_below commits (map_of_rows from.rows) (map_of_rows found.rows) found.at none map;
   opens = opens found pair image there;
+  stops = stops;
 }
 
 -- while a log is opened each image recovers to the map found, with none of the commits behind the block that opens it
@@ -127,10 +131,13 @@ pub opening_commits : MayOpenAll → (commits : List Committed) (state : State) 
     → KeepsOpening sound_law.meets state pair old new → KeepsCommits commits state state.at old new
 opening_commits opens commits state pair old new before behind keeps = (
   keeps.0,
-  λ now m image is tears. elim (keeps.1 now m image is tears) [
-    | inl there ↦ below_of opens commits state state pair image there before (omega arith) (inl refl) refl
-    | inr there ↦ below_of opens commits state (opened state) pair image there behind (omega arith) (inr refl) refl
-  ],
+  λ now m image is tears.
+      let kept = keeps.1 now m image is tears in
+      elim kept.0 [
+        | inl there ↦ below_of opens commits state state pair now image there before (omega arith) (inl refl) refl kept.1
+        | inr there ↦ below_of opens commits state (opened state) pair now image there behind (omega arith) (inr refl) refl
+            (stop_wider (base pair).at (base pair).at state.at (state.at + LEAST_BLOCK) now (omega arith) (omega arith) kept.1)
+      ],
 )
 
 -- ---- the log that was opened
@@ -165,7 +172,10 @@ module _ (laws : OpeningLaws) (r : Recovered) (found_sound : IsSound (rows_of r.
     (waits.0, waits.1),
     λ now m image has tears.
         let so_far = waits_before old mid now waits m.before m.since m.after m.later in
-        inl (settled_image (RecoversTo sound_law.meets (state_recovered r) pair) now image (disk_stays old now so_far settled) has (there_at old now pair kept is so_far)),
+        let stays = disk_stays old now so_far settled in (
+          inl (settled_image (RecoversTo sound_law.meets (state_recovered r) pair) now image stays has (there_at old now pair kept is so_far)),
+          settled_stops (base pair).at r.stamp now stays,
+        ),
   )
 
   -- each image at each moment recovers to it once nothing is pending

@@ -1,18 +1,16 @@
 -- What a crash leaves at each moment of an opening and of a run so far.
-use Rattle.std.proofs.Common.{◌≡◌, ℕ, ◌+◌, ◌≤◌, ◌++◌, List, [], ◌∷◌, Option, Some, None, append_assoc, inr, refl, sym, ap, ◌∙◌, subst, arith}
+use Rattle.std.proofs.Common.{◌≡◌, ℕ, ◌+◌, ◌≤◌, ◌++◌, List, [], ◌∷◌, append_assoc, inr, refl, sym, ap, ◌∙◌, subst, arith}
 use Rattle.std.specs.List.{All}
 use Rattle.erm_model.specs.Committed.{Committed, IsStateBelow, below}
 use Rattle.erm_model.specs.Rows.{Rows}
 use Rattle.erm_model.specs.declared.limits.TheConstants.{LEAST_BLOCK}
 use Rattle.erm_block.specs.declared.block.Block.{Block}
 use Rattle.erm_block.specs.LogList.{rows_after_block}
-use Rattle.erm_outside.specs.Disk.{Image, Step, Tells}
+use Rattle.erm_outside.specs.Disk.{Image, Step}
 use Rattle.erm_ckpt.specs.Recovered.{Pair, State, state_behind}
-use Rattle.erm_ckpt.specs.States.{RecoversPast}
 use Rattle.erm_checkpoint.specs.Taken.{state_at}
 use Rattle.erm_checkpoint.proofs.Taken.{All-front, place_is, run_is}
-use Rattle.erm_crash.specs.Kept.{KeepsBlocks, KeepsOpening}
-use Rattle.erm_crash.specs.Moments.{IsMoment}
+use Rattle.erm_crash.specs.Kept.{KeepsBlocks, KeepsOpening, RecoversStopped}
 use Rattle.erm_crash.proofs.Moments.{joined, weaker}
 use Rattle.erm_node.specs.Sound.{sound_law}
 use Rattle.erm_node.specs.TreeMap.{map_of_rows}
@@ -23,6 +21,7 @@ use Rattle.erm_world.specs.Log.{Log, place_behind, rows_behind}
 use Rattle.erm_world.specs.World.{View}
 use Rattle.erm_good_report.specs.Phases.{Closed}
 use Rattle.erm_log_run.specs.Acknowledged.{AllLast}
+use Rattle.erm_log_run.proofs.Told.{since_before, told_since}
 use Rattle.erm_recover.specs.Waiting.{SinceSettled}
 use Rattle.erm_recover.proofs.Waits.{since_then}
 use Rattle.erm_disk_run.specs.Crashes.{KeepsCommits, Outlives, RecoversBelow}
@@ -65,33 +64,26 @@ module _ (laws : CourseLaws) (may : MayOpenAll) (state : State) (sessions : ℕ)
       run_is log.opened.run start front refl (All-front (λ (block : Block). block.run ≡ log.opened.run) front rest (subst (All (λ (block : Block). block.run ≡ log.opened.run)) split ran.is.one_run))
       ∙ next_run laws state sessions v t log script answers closed ran
 
-  below_past : (place : ℕ) (image : Image) → RecoversPast sound_law.meets start log.gathered place image → RecoversBelow told state place image
-  below_past place image past = record {
-    found = state_at log past.front;
-    pair = past.pair;
-    there = past.there;
-    low = past.low;
-    run = inr (run_front past.front past.rest past.split);
-    map = state_front past.front past.rest past.split;
-    opens = may (state_at log past.front) past.pair image past.there;
-  }
+  below_past : (place : ℕ) (now : List Step) (image : Image) → RecoversStopped sound_law.meets start log.gathered place now image → RecoversBelow told state place now image
+  below_past place now image is = let past = is.past in
+      record {
+        found = state_at log past.front;
+        pair = past.pair;
+        there = past.there;
+        low = past.low;
+        run = inr (run_front past.front past.rest past.split);
+        map = state_front past.front past.rest past.split;
+        opens = may (state_at log past.front) past.pair image past.there;
+        stops = is.stops;
+      }
 
-  below_lower : (place later : ℕ) (image : Image) → place ≤ later → RecoversBelow told state later image → RecoversBelow told state place image
-  below_lower place later image lower is = let low = is.low in
-      record { found = is.found; pair = is.pair; there = is.there; low = omega (arith, lower, low); run = is.run; map = is.map; opens = is.opens }
+  below_lower : (place later : ℕ) (now : List Step) (image : Image) → place ≤ later → RecoversBelow told state later now image → RecoversBelow told state place now image
+  below_lower place later now image lower is = let low = is.low in
+      record { found = is.found; pair = is.pair; there = is.there; low = omega (arith, lower, low); run = is.run; map = is.map; opens = is.opens; stops = is.stops }
 
   -- no commit is below a place up to the end of the block that opened the log
   none_yet : (bound : ℕ) → bound ≤ state.at + LEAST_BLOCK → below bound told ≡ []
   none_yet bound low = none_below bound told (λ c m. let within = stamps_within laws state sessions v t log script answers closed ran c m in omega (arith, within.0, low))
-
-  -- a moment of the run is one since before the opening
-  since_before : (old mid new now more : List Step) → mid ≡ more ++ old → IsMoment mid new now → IsMoment old new now
-  since_before old mid new now more opening m = record {
-    before = m.before ++ more;
-    since = m.since ∙ ap (λ (ss : List Step). m.before ++ ss) opening ∙ sym (append_assoc m.before more old);
-    after = m.after;
-    later = m.later;
-  }
 
   pub outlives : (lines : List Line) (place : ℕ) → state.at ≤ place → (old mid new : List Step) → OpensAt state old mid
       → KeepsBlocks sound_law.meets start log.gathered place mid new × AllLast sound_law.meets start log.gathered lines mid new → Outlives told state lines old new
@@ -100,22 +92,14 @@ module _ (laws : CourseLaws) (may : MayOpenAll) (state : State) (sessions : ℕ)
         since_then (KeepsOpening sound_law.meets state pair) (KeepsCommits told state state.at) old mid new
         (λ first opens.
         joined _ first mid new (opening_commits may told state pair first mid (none_yet state.at (omega arith)) (none_yet (state.at + LEAST_BLOCK) (omega arith)) opens)
-        (weaker _ _ mid new (λ now image is tears. below_lower state.at place image low (below_past place image (is tears))) keeps)) opening;
+        (weaker _ _ mid new (λ now image is tears. below_lower state.at place now image low (below_past place now image (is tears))) keeps)) opening;
     acknowledged = λ known tells.
         let since = last known tells in
         let steps = steps_since state pair old mid opening in
         record {
           mid = since.mid;
           moment = since_before old mid new since.mid steps.0 steps.1 since.moment;
-          holds = since.holds;
-          keeps = weaker _ _ since.mid new (λ now image is tears. below_past known image (is tears)) since.keeps;
+          holds = told_since sound_law.meets tells.answer known old mid since.mid steps.0 steps.1 since.holds;
+          keeps = weaker _ _ since.mid new (λ now image is tears. below_past known now image (is tears)) since.keeps;
         };
   }
-
--- what a disk tells twice of two moments
-pub tells_both : (P Q : List Step → List Step → Type 0) (before after : Option (List Step)) → Tells P before after → Tells Q before after → Tells (λ a b. P a b × Q a b) before after
-tells_both P Q None after first second = first
-tells_both P Q (Some old) after (new, is, p) (other, then_is, q) = (new, is, (p, subst (Q old) (the_one other new (sym then_is ∙ is)) q))
-  where
-    the_one : (a b : List Step) → Some a ≡ Some b → a ≡ b
-    the_one a b is = cc

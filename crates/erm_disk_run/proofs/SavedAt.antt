@@ -9,7 +9,6 @@ use Rattle.erm_record.proofs.StoredRows.{stored_length-le}
 use Rattle.erm_block.specs.declared.block.Block.{Block}
 use Rattle.erm_block.specs.LogList.{IsChain, rows_after_block}
 use Rattle.erm_block.proofs.OneSpelling.{length-spelling}
-use Rattle.erm_block.specs.Spelling.{spelling}
 use Rattle.erm_outside.specs.declared.disk.File.TheVariants.{Segment}
 use Rattle.erm_outside.specs.Disk.{Image, Step, Tells, contents}
 use Rattle.erm_log_words.specs.Tears.{IsFresh}
@@ -17,25 +16,27 @@ use Rattle.erm_ckpt.specs.declared.slot.Slots.{Slots}
 use Rattle.erm_ckpt.specs.declared.slot.TheConstants.{LOG_START}
 use Rattle.erm_ckpt.specs.Recovered.{Pair, Recovers, State, base, end_at, slots_of, state_behind}
 use Rattle.erm_ckpt.specs.Slots.{next_first, put_slot, removal_end}
-use Rattle.erm_ckpt.specs.States.{RecoversPast, RecoversTo, SameState}
+use Rattle.erm_ckpt.specs.States.{RecoversTo, SameState}
 use Rattle.erm_ckpt.proofs.Images.{state_grows}
 use Rattle.erm_checkpoint.specs.declared.stops.CheckpointStop.{CheckpointStop}
 use Rattle.erm_checkpoint.specs.declared.stops.CheckpointStop.TheVariants as stop
 use Rattle.erm_checkpoint.specs.Taken.{Checkpoints, GoesOnTo, HoldsLog, HoldsLogFrom, Takes, TakesAll, slot_at_end, state_at}
-use Rattle.erm_checkpoint.proofs.Segments.{IsOutside, below_segments, checkpoint_spares, words_spare}
-use Rattle.erm_crash.specs.Kept.{KeepsBlocks, KeepsOpening}
+use Rattle.erm_checkpoint.proofs.Segments.{IsOutside, below_segments, checkpoint_spares}
+use Rattle.erm_crash.specs.Kept.{KeepsBlocks, KeepsOpening, RecoversStopped}
 use Rattle.erm_crash.specs.Moments.{TearsApart}
+use Rattle.erm_crash.specs.Stops.{MayStop}
 use Rattle.erm_crash.proofs.Moments.{joined, weaker}
 use Rattle.erm_log_run.proofs.Held.{tells_and, tells_join, tells_weaker}
 use Rattle.erm_log_run.proofs.Logged.{none_waits}
 use Rattle.erm_log_run.specs.Saving.{TookPlace}
 use Rattle.erm_log_run.proofs.Saving.{took_place}
+use Rattle.erm_log_run.proofs.Told.{took_since}
 use Rattle.erm_node.specs.Sound.{IsSound, sound_law}
 use Rattle.erm_node.specs.TreeMap.{map_of_rows}
 use Rattle.erm_plain.specs.Logs.{KeepsSessions as KeepsPlain, plain_log, view_kept}
 use Rattle.erm_plain.specs.Stands.{IsWorld, plain_view}
 use Rattle.erm_plain.specs.declared.plain.Plain.{Plain}
-use Rattle.erm_recover.specs.Opening.{open_block, opened}
+use Rattle.erm_recover.specs.Opening.{opened}
 use Rattle.erm_recover.specs.Waiting.{SinceSettled}
 use Rattle.erm_recover.proofs.Waits.{since_then}
 use Rattle.erm_start.specs.Recovered.{IsOpenedLog, IsOpenedOn}
@@ -46,7 +47,7 @@ use Rattle.erm_disk_run.specs.Crashes.{KeepsCommits, RecoversBelow}
 use Rattle.erm_disk_run.specs.Opened.{IsOpenedWorld, NamesFound, OpensLog}
 use Rattle.erm_disk_run.specs.Saved.{IsSaved}
 use Rattle.erm_disk_run.proofs.Opened.{MayOpenAll, below_of, opening_commits}
-use Rattle.erm_disk_run.proofs.SlotsLeft.{same_slots}
+use Rattle.erm_disk_run.proofs.SlotsLeft.{opened_older, same_slots}
 
 -- the law of checkpoints
 abbrev pub CheckpointsKeep : Type 0
@@ -70,7 +71,7 @@ no_blocks image s (b ∷ bs) (next, others) same =
 -- removed are as before
 pub record SparesSegments (state : State) (found later : Slots) (old steps : List Step) : Type 0 where
   pub named : NamesFound found old
-  pub took : TookPlace sound_law.meets (state.at + LEAST_BLOCK) found later steps
+  pub took : TookPlace sound_law.meets (state.at + LEAST_BLOCK) found later old steps
   pub kept : (n : ℕ) → IsOutside (next_first found) (removal_end found) n → n < state.at / SEGMENT_WORDS → contents steps (Segment n) ≡ contents old (Segment n)
 
 -- whatever tells the slots found
@@ -163,8 +164,11 @@ module _ (state : State) (v t : View) (l m : Log) (turned : Turned state v t l m
   blocks_commits : MayOpenAll → (place : ℕ) (old new : List Step) → KeepsBlocks sound_law.meets (state_at m []) m.gathered place old new → KeepsCommits [] state state.at old new
   blocks_commits opens place old new =
       weaker _ _ old new (λ now image keeps tears.
-      let past : RecoversPast sound_law.meets (state_at m []) m.gathered place image = keeps tears in
-      below_of opens [] state (opened state) past.pair image (front_opened past.front past.rest past.pair image past.split past.there) refl (omega arith) (inr refl) refl)
+      let kept : RecoversStopped sound_law.meets (state_at m []) m.gathered place now image = keeps tears in
+      let past = kept.past in
+      let at : (state_at m past.front).at ≡ state.at + LEAST_BLOCK = ap (λ (bs : List Block). (state_at m bs).at) (no_front past.front past.rest past.split) ∙ at_is in
+      below_of opens [] state (opened state) past.pair now image (front_opened past.front past.rest past.pair image past.split past.there) refl (omega arith) (inr refl) refl
+      (subst (λ (n : ℕ). MayStop (base past.pair).at n now) at kept.stops))
 
   -- the slot is of the place behind the block that opened the log, and has the map found
   saved_at : SameMaps → IsSound state.rows → (found slots : Slots) (stamp : ℕ) (old steps : List Step) → m.tail ≡ stamp → SparesSegments state found slots old steps
@@ -183,8 +187,8 @@ module _ (state : State) (v t : View) (l m : Log) (turned : Turned state v t l m
         at = place;
         run = same.run;
         map = sym (maps state.rows (base pair).rows (λ oid less. sym (same.rows oid less)) sound);
-        took = λ before blocks recovers. subst (λ (s : Slots). TookPlace sound_law.meets (state.at + LEAST_BLOCK) s (slots_of pair) steps)
-            (found_by found old spares.named before blocks recovers) (subst (λ (s : Slots). TookPlace sound_law.meets (state.at + LEAST_BLOCK) found s steps) h.holds.names spares.took);
+        took = λ before blocks recovers. subst (λ (s : Slots). TookPlace sound_law.meets (state.at + LEAST_BLOCK) s (slots_of pair) old steps)
+            (found_by found old spares.named before blocks recovers) (subst (λ (s : Slots). TookPlace sound_law.meets (state.at + LEAST_BLOCK) found s old steps) h.holds.names spares.took);
         kept = λ before blocks recovers n out low. spares.kept n
             (subst (λ (s : Slots). IsOutside (next_first s) (removal_end s) n) (sym (found_by found old spares.named before blocks recovers)) out) low;
       }
@@ -198,7 +202,7 @@ module _ (state : State) (v t : View) (l m : Log) (turned : Turned state v t l m
         tells_join (OpensLog state l slots) (Takes sound_law.meets l.flushed m slots (slot_at_end m run slots)) (SinceSettled (KeepsCommits [] state state.at)) before mid after both opens takes
       where
         Keeps : List Step → Image → Type 0
-        Keeps now image = TearsApart sound_law.meets now image → RecoversBelow [] state state.at image
+        Keeps now image = TearsApart sound_law.meets now image → RecoversBelow [] state state.at now image
 
         both : (a b c : List Step) → OpensLog state l slots a b → Takes sound_law.meets l.flushed m slots (slot_at_end m run slots) b c → SinceSettled (KeepsCommits [] state state.at) a c
         both a b c o takes =
@@ -216,12 +220,12 @@ module _ (state : State) (v t : View) (l m : Log) (turned : Turned state v t l m
         both : (a b c : List Step) → OpensLog state l slots a b → TakenAll run b c → SparesSegments state slots later a c
         both a b c o t = record {
           named = o.found;
-          took = took_place sound_law.meets l.flushed m slots later run (state.at + LEAST_BLOCK) b c tail_is put t;
+          took = took_since sound_law.meets (state.at + LEAST_BLOCK) slots later a b c o.writes.0 o.writes.1
+              (took_place sound_law.meets l.flushed m slots later run (state.at + LEAST_BLOCK) b c tail_is put t);
           kept = λ n out low.
               checkpoint_spares sound_law.meets l.flushed m slots (slot_at_end m run slots) b c t n out
               (subst (λ (at : ℕ). n < at / SEGMENT_WORDS) (sym turned.log.flushed) (below_segments state.at LEAST_BLOCK n low))
-              ∙ ap (λ (steps : List Step). contents steps (Segment n)) o.writes.1
-              ∙ words_spare state.at (spelling (open_block state.at state.run)) n a o.writes.0 low o.writes.2;
+              ∙ opened_older state l slots a b o n low;
         }
 
     pub saved_told : SameMaps → IsSound state.rows → (later : Slots) (run stamp : ℕ) → later ≡ put_slot slots (slot_at_end m run slots) → m.tail ≡ stamp → Tells (TakenAll run) mid after

@@ -1,21 +1,26 @@
--- The slots that a run leaves, as recovery finds them.
-use Rattle.std.proofs.Common.{◌≡◌, ◌≢◌, ℕ, List, Option, Some, None, IfSome, refl, sym, ap, ◌∙◌, subst}
+-- The slots and the older segments that a run leaves, as recovery finds them.
+use Rattle.std.proofs.Common.{◌≡◌, ◌≢◌, ℕ, ◌≤◌, List, Option, Some, None, IfSome, refl, sym, ap, ◌∙◌, subst}
 use Rattle.std.specs.Option.{option_map}
 use Rattle.erm_block.specs.declared.block.Block.{Block}
+use Rattle.erm_block.specs.Spelling.{spelling}
 use Rattle.erm_outside.specs.Disk.{Step, Tells, contents}
-use Rattle.erm_outside.specs.declared.disk.File.TheVariants.{Slot0, Slot1}
+use Rattle.erm_outside.specs.declared.disk.File.TheVariants.{Segment, Slot0, Slot1}
 use Rattle.erm_ckpt.specs.declared.slot.Slot.{Slot}
 use Rattle.erm_ckpt.specs.declared.slot.Slots.{Slots}
 use Rattle.erm_ckpt.specs.Checkpoint.{Checkpoint}
-use Rattle.erm_ckpt.specs.Recovered.{Pair, Recovers, base, best, slots_of, state_of}
+use Rattle.erm_ckpt.specs.Recovered.{Pair, Recovers, State, base, best, slots_of, state_of}
 use Rattle.erm_ckpt.specs.Slots.{best_of}
 use Rattle.erm_ckpt.proofs.Choices.{best_slot}
 use Rattle.erm_ckpt.proofs.OneRecovery.{same_shown}
 use Rattle.erm_node.specs.Sound.{sound_law}
 use Rattle.erm_report.specs.declared.answer.Answer.{Answer}
-use Rattle.erm_log_run.specs.Saving.{AreSaved, IsBestAt, saved_at}
-use Rattle.erm_log_run.proofs.Held.{tells_from}
-use Rattle.erm_disk_run.specs.Opened.{NamesFound}
+use Rattle.erm_checkpoint.proofs.Segments.{words_spare}
+use Rattle.erm_log_run.specs.Saving.{AreSaved, IsBestAt, OlderStay, SparesOlder, saved_at}
+use Rattle.erm_log_run.proofs.Held.{tells_from, tells_join, tells_weaker}
+use Rattle.erm_log_run.proofs.Older.{older_then}
+use Rattle.erm_recover.specs.Opening.{open_block}
+use Rattle.erm_world.specs.Log.{Log}
+use Rattle.erm_disk_run.specs.Opened.{NamesFound, OpensLog}
 
 -- the best one of the checkpoints that slots name, of which the best one is of a place
 best_named : (slots : Slots) (pair : Pair) (place : ℕ) → slots ≡ slots_of pair → IsBestAt slots place → (best pair ≢ None) × ((base pair).at ≡ place)
@@ -73,3 +78,19 @@ saved_told P answers first slots before after saved told = tells_from (λ steps.
     again : (last : Option ℕ) (old new : List Step) → AreSaved last (Some old) first slots → AreSaved last (Some new) first slots
     again None old new saved = saved
     again (Some place) old new saved = saved
+
+-- ---- the log's older segments
+
+-- the block that opens a log leaves them
+pub opened_older : (state : State) (log : Log) (slots : Slots) (old new : List Step) → OpensLog state log slots old new → SparesOlder state.at old new
+opened_older state log slots old new opens n low =
+    ap (λ (steps : List Step). contents steps (Segment n)) opens.writes.1
+    ∙ words_spare state.at (spelling (open_block state.at state.run)) n old opens.writes.0 low opens.writes.2
+
+-- so does a run behind it without a checkpoint
+pub older_told : (P : List Step → List Step → Type 0) (last : Option ℕ) (place later : ℕ) (before mid after : Option (List Step)) → place ≤ later → Tells (SparesOlder place) before mid → Tells P mid after → OlderStay last later mid after
+    → Tells (λ old new. last ≡ None → SparesOlder place old new) before after
+older_told P None place later before mid after below first moments stays =
+    tells_weaker (SparesOlder place) (λ old new. None ≡ None → SparesOlder place old new) before after (λ old new spares same. spares) (older_then place later before mid after below first stays)
+older_told P (Some saved) place later before mid after below first moments stays =
+    tells_join (SparesOlder place) P (λ old new. Some saved ≡ None → SparesOlder place old new) before mid after (λ a b c spares p none. absurd (let no : Some saved ≡ None = none in cc)) first moments

@@ -15,6 +15,7 @@ use Rattle.erm_script.specs.declared.script.Command.{Command}
 use Rattle.erm_script.specs.declared.script.Command.TheVariants as command
 use Rattle.erm_script.specs.declared.script.ScriptLine.{ScriptLine}
 use Rattle.erm_world.specs.World.{View}
+use Rattle.erm_invariant.specs.Commits.{EachFrontRuns}
 use Rattle.erm_good_report.specs.GoodReport.{OwesToAnswers, Report, places_of}
 use Rattle.erm_good_report.specs.Opening.{InTurn}
 use Rattle.erm_good_report.specs.Phases.{Closed, Closes, phase_of}
@@ -74,6 +75,7 @@ module _ (spare : SpareNamesTellNothing) (before after : Option (List Step)) (st
         uncut = subst (λ (r : Report). AreUncut r.answers) same was.uncut;
         celled = subst (λ (r : Report). HaveManyCells script r.answers) same was.celled;
         keyed = keyed_without was.opening 1 script without.0.good.report.answers (subst (λ (r : Report). HaveManyKeys was.opening 1 script r.answers) same was.keyed);
+        fronts = subst (λ (cs : List Committed). EachFrontRuns cs was.opening.map) empty was.fronts;
         outlives = subst (λ (cs : List Committed). Tells (Outlives cs state lines) before after) empty was.outlives;
         leaves = subst (λ (r : Report). Tells (λ old new. Leaves [] state r.answers (from_entries (entries_of r.pairs)) old new) before after) same
             (subst (λ (cs : List Committed). Tells (λ old new. Leaves cs state was.tight.good.report.answers (from_entries (entries_of was.tight.good.report.pairs)) old new) before after) empty was.leaves);
@@ -109,6 +111,7 @@ module _ (spare : SpareNamesTellNothing) (before after : Option (List Step)) (st
         unseen = subst (λ (given : List Answer). AreUnseen [] script given was.closed) same (record { once = was.unseen.once; fits = was.unseen.fits; late = was.unseen.late });
         owes = subst (λ (given : List Answer). OwesToAnswers InTurn was.opening script given []) same
             (subst (λ (ts : List Transaction). OwesToAnswers InTurn was.opening script was.cut.answers ts) untold was.owes);
+        fronts = subst (λ (cs : List Committed). EachFrontRuns cs was.opening.map) empty was.fronts;
         outlives = subst (λ (cs : List Committed). Tells (Outlives cs state lines) before after) empty was.outlives;
       }
 
@@ -131,6 +134,7 @@ module _ (spare : SpareNamesTellNothing) (before after : Option (List Step)) (st
         closed = was.closed;
         unseen = record { once = was.unseen.once; fits = was.unseen.fits; late = was.unseen.late };
         owes = subst (λ (ts : List Transaction). OwesToAnswers InTurn was.opening script was.answers ts) untold was.owes;
+        fronts = subst (λ (cs : List Committed). EachFrontRuns cs was.opening.map) empty was.fronts;
         moments = subst (λ (cs : List Committed). Tells (SinceSettled (KeepsCommits cs state state.at)) before after) empty was.moments;
       }
 

@@ -34,7 +34,7 @@ use Rattle.erm_plain.specs.Stands.{plain_view}
 use Rattle.erm_log_run.proofs.Held.{tells_weaker}
 use Rattle.erm_log_run.specs.Acknowledged.{AllLast}
 use Rattle.erm_log_run.specs.Runs.{IsCutReportOf, IsReportOf, OnFault, UnlessFault, UnlessMemory, WasCut, WasRun, lines_in}
-use Rattle.erm_log_run.specs.Saving.{AreSaved, saved_at}
+use Rattle.erm_log_run.specs.Saving.{AreSaved, OlderStay, SparesOlder, saved_at}
 use Rattle.erm_log_run.specs.Starving.{OnMemory, WasStarved}
 use Rattle.erm_log_run.specs.declared.stops.RunStop.{RunStop as LogRunStop}
 use Rattle.erm_log_run.specs.declared.stops.RunStop.TheVariants as log_stop
@@ -47,6 +47,7 @@ use Rattle.erm_disk_run.specs.declared.stops.RunStop.TheVariants as run
 use Rattle.erm_disk_run.proofs.Cut.{whole_course}
 use Rattle.erm_disk_run.proofs.Left.{MeetsFound}
 use Rattle.erm_disk_run.proofs.Outlived.{OpensAt}
+use Rattle.erm_disk_run.proofs.SlotsLeft.{opened_older}
 use Rattle.erm_disk_run.proofs.Told.{MapsAreTold, OpensOn, same_map, starts_from}
 use Rattle.erm_disk_run.proofs.ToldRun.{DiskLaws, RunsOn, meets_still, was_cut_on, was_run_on, was_starved_on}
 
@@ -66,6 +67,7 @@ pub record StartsOn (state : State) (many : ℕ) (v : View) (begun : Log) (slots
   pub opens : Tells (OpensAt state) before mid
   pub named : Tells (λ old new. NamesFound slots old) before mid
   pub meets : Tells (MeetsFound state begun slots) before mid
+  pub older : Tells (SparesOlder state.at) before mid
   pub starts : StartsFrom state opening
   pub of : IsOpeningOf v opening
 
@@ -87,6 +89,7 @@ opened_on maps before mid state many o first was =
       named = tells_weaker (OpensLog state (plain_log o.world) o.slots) (λ old new. NamesFound o.slots old) before mid (λ a b opens. opens.found) was.disk;
       meets = tells_weaker (OpensLog state (plain_log o.world) o.slots) (MeetsFound state (plain_log o.world) o.slots) before mid
           (λ a b opens. record { pair = opens.found.pair; blocks = opens.found.blocks; recovers = opens.found.recovers; at = opens.at; tail = opens.tail }) was.disk;
+      older = tells_weaker (OpensLog state (plain_log o.world) o.slots) (SparesOlder state.at) before mid (opened_older state (plain_log o.world) o.slots) was.disk;
       starts = starts_from maps state many v was.world.view o.start (was.map ∙ sym (same_map maps state many v was.world.view)) was.stamp was.run;
       of = record {
         map = was.map ∙ sym (same_map maps state many v was.world.view);
@@ -107,7 +110,7 @@ module _ (laws : DiskLaws) (state : State) (names : List (List ℕ)) (v t : View
 
   abbrev IsWhole : List Line → Type 0
   IsWhole lines = (was : WasRun v t opening names script lines) × (All FitsTypes lines → IsReportOf opening names script was.answers was.closed lines)
-      × AreSaved (saved_at was.answers) mid first slots
+      × AreSaved (saved_at was.answers) mid first slots × OlderStay (saved_at was.answers) begun.flushed mid after
 
   abbrev IsCut : List Line → Type 0
   IsCut lines = (was : WasCut v t opening names script lines) × (All FitsTypes lines → IsCutReportOf opening names script was.answers lines)
@@ -151,7 +154,7 @@ module _ (laws : DiskLaws) (state : State) (names : List (List ℕ)) (v t : View
     state,
     on.found,
     was_run_on laws state names v t begun log script lines.items before mid after (runs_on (of stands) lines.items moments acknowledged) slots flushed
-        (meets_still state begun log first slots (KeepsBlocks IsSound (state_at begun []) log.gathered begun.flushed) before mid after on.meets moments still) opening on.starts on.of ran.0 (ran.1 fits) first on.named ran.2,
+        (meets_still state begun log first slots (KeepsBlocks IsSound (state_at begun []) log.gathered begun.flushed) before mid after on.meets moments still) opening on.starts on.of ran.0 (ran.1 fits) first on.named ran.2 on.older ran.3,
   )
   ends (Err (log_stop.DiskFault lines)) S of stands moments acknowledged flushed still ran cut starved = λ fits. (
     state,

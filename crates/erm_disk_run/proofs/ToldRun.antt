@@ -21,17 +21,19 @@ use Rattle.erm_world.specs.World as world
 use Rattle.erm_good_report.specs.GoodReport.{IsGoodReport, OwesToAnswers, places_of}
 use Rattle.erm_good_report.specs.Opening.{InTurn, Opening}
 use Rattle.erm_good_report.specs.Phases.{Closed}
-use Rattle.erm_good_report.specs.Transactions.{transactions_of}
+use Rattle.erm_good_report.specs.Transactions.{history_of, transactions_of}
 use Rattle.erm_lines.specs.Executions.{AreClosed, IsCourse, IsOpeningOf, closed_in}
 use Rattle.erm_lines.specs.Laws.{PartsCutFew, RunsCutFew}
 use Rattle.erm_told_crash.specs.Laws.{CoursesClose}
+use Rattle.erm_told_fronts.specs.Fronts.{CoursesRunInFronts}
+use Rattle.erm_invariant.specs.Commits.{EachFrontRuns}
 use Rattle.erm_tight.specs.NewKeys.{OidsAreFull}
 use Rattle.erm_told_limits.specs.Limits.{CellsAreFull}
 use Rattle.erm_told_log.specs.Tail.{MeetsTail}
 use Rattle.erm_log_run.specs.Acknowledged.{AllLast}
 use Rattle.erm_log_run.specs.Runs.{IsCutReportOf, IsReportOf, WasCut, WasRun}
-use Rattle.erm_log_run.specs.Saving.{AreSaved, saved_at}
-use Rattle.erm_log_run.proofs.Held.{tells_join, tells_weaker}
+use Rattle.erm_log_run.specs.Saving.{AreSaved, OlderStay, SparesOlder, saved_at}
+use Rattle.erm_log_run.proofs.Held.{tells_both, tells_join, tells_weaker}
 use Rattle.erm_recover.specs.Waiting.{SinceSettled}
 use Rattle.erm_disk_run.specs.Crashes.{KeepsCommits, Leaves, Outlives}
 use Rattle.erm_disk_run.specs.Found.{StartsFrom}
@@ -41,8 +43,8 @@ use Rattle.erm_disk_run.specs.Runs.{AreUncut, AreUnseen, HaveManyCells, HaveMany
 use Rattle.erm_disk_run.proofs.Cut.{HasUnseen, course_celled, course_keyed, course_uncut, has_unseen, run_uncut, whole_course}
 use Rattle.erm_disk_run.proofs.Left.{AuditLaws, MeetsFound, OrdersAreOne, leaves}
 use Rattle.erm_disk_run.proofs.Opened.{MayOpenAll}
-use Rattle.erm_disk_run.proofs.Outlived.{OpensAt, outlives, tells_both}
-use Rattle.erm_disk_run.proofs.SlotsLeft.{SlotsLeft, saved_told}
+use Rattle.erm_disk_run.proofs.Outlived.{OpensAt, outlives}
+use Rattle.erm_disk_run.proofs.SlotsLeft.{SlotsLeft, older_told, saved_told}
 use Rattle.erm_disk_run.proofs.Told.{CourseLaws, OpensOn, RanOn, opening_stays}
 
 -- the laws that a run on a disk rests on
@@ -57,6 +59,7 @@ pub record DiskLaws : Type 0 where
   pub keys : OidsAreFull
   pub close : CoursesClose
   pub owe : CoursesOwe
+  pub fronts : CoursesRunInFronts
 
 -- behind whatever blocks recovery met those of a log at first, it meets them behind the same at the end
 abbrev StillMeets : Log → Log → Slots → Slots → List Step → List Step → Type 0
@@ -119,10 +122,18 @@ module _ (laws : DiskLaws) (state : State) (names : List (List ℕ)) (v t : View
   ran_on : (answers : List Answer) (closed : List Closed) (course : IsCourse v script answers t) → AreClosed course.closing closed → RanOn state (length names) v t log script answers closed
   ran_on answers closed course are = record { opened = on.opened; course = course; are = are; log_of = on.log_of; is = on.is }
 
+  -- the commits told below any stamp are a serial run
+  front_runs : (answers : List Answer) (closed : List Closed) (course : IsCourse v script answers t) → AreClosed course.closing closed → (opening : Opening) → IsOpeningOf v opening
+      → EachFrontRuns (commits_told names script answers closed) opening.map
+  front_runs answers closed course are opening of =
+      subst (λ (n : ℕ). EachFrontRuns (history_of (transactions_of n (places_of script answers closed))) opening.map) on.opened.sessions
+      (laws.fronts v t script answers course closed opening are of)
+
   pub was_run_on : (slots : Slots) → t.flushed ≡ t.tail → Tells (MeetsFound state log slots) before after → (opening : Opening) → StartsFrom state opening → IsOpeningOf v opening
       → (was : WasRun v t opening names script lines) → IsReportOf opening names script was.answers was.closed lines → (first : Slots)
-      → Tells (λ old new. NamesFound first old) before mid → AreSaved (saved_at was.answers) mid first slots → WasRunOn before after state names script lines
-  was_run_on slots flushed meets opening starts of was report first named saved = record {
+      → Tells (λ old new. NamesFound first old) before mid → AreSaved (saved_at was.answers) mid first slots → Tells (SparesOlder state.at) before mid
+      → OlderStay (saved_at was.answers) begun.flushed mid after → WasRunOn before after state names script lines
+  was_run_on slots flushed meets opening starts of was report first named saved opened older = record {
     low = on.low;
     run_low = on.run_low;
     opening = opening;
@@ -131,13 +142,16 @@ module _ (laws : DiskLaws) (state : State) (names : List (List ℕ)) (v t : View
     uncut = subst AreUncut (sym report.answers_are) (run_uncut laws.runs_few v t script was.answers was.run on.opened.cuts);
     celled = subst (HaveManyCells script) (sym report.answers_are) (course_celled laws.cells v t script was.answers (whole_course v t script was.answers was.run) on.opened.cells);
     keyed = subst (HaveManyKeys opening (length names) script) (sym report.answers_are) (course_keyed laws.keys v t opening of (length names) on.opened.sessions script was.answers (whole_course v t script was.answers was.run));
+    fronts = subst (λ (cs : List Closed). EachFrontRuns (commits_told names script answers cs) opening.map) (sym report.closed_are)
+        (subst (λ (given : List Answer). EachFrontRuns (commits_told names script given was.closed) opening.map) (sym report.answers_are)
+        (front_runs was.answers was.closed (whole_course v t script was.answers was.run) was.are opening of));
     outlives = outlived answers closed ran;
     leaves =
-        tells_weaker (λ old new. MeetsFound state log slots old new × SlotsLeft answers slots old new)
+        tells_weaker (λ old new. MeetsFound state log slots old new × (SlotsLeft answers slots old new × StaysOlder old new))
         (λ old new. Leaves (commits_told names script answers closed) state answers end old new) before after
         (λ old new both. leaves laws.courses laws.may laws.one laws.audits state (length names) v t log script answers closed ran slots old new both.0 ends good.report.order opening.map end starts.map
-        good.order.serial good.order.run both.1)
-        (tells_both (MeetsFound state log slots) (SlotsLeft answers slots) before after meets left);
+        good.order.serial good.order.run both.1.0 both.1.1)
+        (tells_both (MeetsFound state log slots) (λ old new. SlotsLeft answers slots old new × StaysOlder old new) before after meets (tells_both (SlotsLeft answers slots) StaysOlder before after left kept));
   }
     where
       good : IsGoodReport InTurn opening names script lines
@@ -157,6 +171,13 @@ module _ (laws : DiskLaws) (state : State) (names : List (List ℕ)) (v t : View
           (λ a b c is kept. record { first = first; named = is; saved = kept }) named
           (saved_told (KeepsBlocks sound_law.meets (state_at begun []) log.gathered begun.flushed) answers first slots mid after
           (subst (λ (given : List Answer). AreSaved (saved_at given) mid first slots) (sym report.answers_are) saved) on.moments)
+
+      StaysOlder : List Step → List Step → Type 0
+      StaysOlder old new = saved_at answers ≡ None → SparesOlder state.at old new
+
+      kept : Tells StaysOlder before after
+      kept = older_told (KeepsBlocks sound_law.meets (state_at begun []) log.gathered begun.flushed) (saved_at answers) state.at begun.flushed before mid after low opened on.moments
+          (subst (λ (given : List Answer). OlderStay (saved_at given) begun.flushed mid after) (sym report.answers_are) older)
 
       ends : log.flushed ≡ log.tail
       ends = on.log_of.flushed ∙ flushed ∙ sym on.log_of.tail
@@ -183,6 +204,8 @@ module _ (laws : DiskLaws) (state : State) (names : List (List ℕ)) (v t : View
     owes = subst (λ (given : List Answer). OwesToAnswers InTurn opening script given (transactions_of (length names) (places_of script given found.closed))) (sym report.answers_are)
         (subst (λ (n : ℕ). OwesToAnswers InTurn opening script was.answers (transactions_of n (places_of script was.answers found.closed))) on.opened.sessions
         (laws.owe v t script was.answers was.course found.closed opening found.are of));
+    fronts = subst (λ (given : List Answer). EachFrontRuns (commits_told names script given found.closed) opening.map) (sym report.answers_are)
+        (front_runs was.answers found.closed was.course found.are opening of);
     outlives = outlived report.cut.answers found.closed (subst (λ (given : List Answer). RanOn state (length names) v t log script given found.closed) (sym report.answers_are)
         (ran_on was.answers found.closed was.course found.are));
   }
@@ -207,6 +230,7 @@ module _ (laws : DiskLaws) (state : State) (names : List (List ℕ)) (v t : View
     unseen = found.unseen;
     owes = subst (λ (n : ℕ). OwesToAnswers InTurn opening script answers (transactions_of n (places_of script answers found.closed))) on.opened.sessions
         (laws.owe v t script answers course found.closed opening found.are of);
+    fronts = front_runs answers found.closed course found.are opening of;
     moments = tells_weaker (Outlives (commits_told names script answers found.closed) state lines) (SinceSettled (KeepsCommits (commits_told names script answers found.closed) state state.at)) before after
         (λ old new outlives. outlives.moments) (outlived answers found.closed (ran_on answers found.closed course found.are));
   }

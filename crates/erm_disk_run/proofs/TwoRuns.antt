@@ -33,12 +33,12 @@ last_moment mid entry more steps = record { before = more; since = steps; after 
 
 -- each image that the first run left recovers to what it acknowledged
 pub left_images : (commits : List Committed) (from : State) (a : Answer) (place : ℕ) (old entry : List Step) → KeepsSince commits from a place old entry → (image : Image) → IsImage entry image
-    → TearsApart sound_law.meets entry image → RecoversBelow commits from place image
+    → TearsApart sound_law.meets entry image → RecoversBelow commits from place entry image
 left_images commits from a place old entry since image is tears =
     since.keeps.1 entry (last_moment since.mid entry since.keeps.0.0 since.keeps.0.1) image is tears
 
 -- two states of one recovery
-same_found : RecoversOnce → (found : State) (entry : List Step) (reads : ReadsAs found entry) (commits : List Committed) (from : State) (place : ℕ) (below : RecoversBelow commits from place (contents entry))
+same_found : RecoversOnce → (found : State) (entry : List Step) (reads : ReadsAs found entry) (commits : List Committed) (from : State) (place : ℕ) (below : RecoversBelow commits from place entry (contents entry))
     → SameState found below.found
 same_found one found entry reads commits from place below =
     let same = one (contents entry) reads.pair below.pair reads.blocks below.there.blocks reads.recovers below.there.recovers in
@@ -63,9 +63,9 @@ is_found one maps commits from found a place old entry since tears reads sound =
           (subst (λ (m : Database). IsStateBelow commits (map_of_rows from.rows) below.found.at m) (sym (maps found.rows below.found.rows same.rows sound)) below.map);
     }
 
-lower : (commits : List Committed) (from : State) (place later : ℕ) (image : Image) → place ≤ later → RecoversBelow commits from later image → RecoversBelow commits from place image
-lower commits from place later image less is = let low = is.low in
-    record { found = is.found; pair = is.pair; there = is.there; low = omega (arith, less, low); run = is.run; map = is.map; opens = is.opens }
+lower : (commits : List Committed) (from : State) (place later : ℕ) (now : List Step) (image : Image) → place ≤ later → RecoversBelow commits from later now image → RecoversBelow commits from place now image
+lower commits from place later now image less is = let low = is.low in
+    record { found = is.found; pair = is.pair; there = is.there; low = omega (arith, less, low); run = is.run; map = is.map; opens = is.opens; stops = is.stops }
 
 pub keeps_both : (first second : List Committed) (from found : State) (a : Answer) (place : ℕ) (old entry new : List Step) → KeepsSince first from a place old entry
     → HasCommits first from place found → SinceSettled (KeepsCommits second found found.at) entry new → KeepsOfBoth first from place second found entry new
@@ -76,4 +76,4 @@ keeps_both first second from found a place old entry new since has (s, whole) =
           let so_far = waits_before entry s.mid now s.waits m.before m.since m.after m.later in
           inl (left_images first from a place old entry since image (images_stay entry now so_far image is) left),
     )
-    (weaker _ _ s.mid new (λ now image keeps left tears. inr (lower second found place found.at image has.low (keeps tears))) s.since)
+    (weaker _ _ s.mid new (λ now image keeps left tears. inr (lower second found place found.at now image has.low (keeps tears))) s.since)

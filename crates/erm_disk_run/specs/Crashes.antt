@@ -10,8 +10,9 @@ use Rattle.erm_ckpt.specs.Recovered.{Pair, Recovers, RecoversAt, State, base, be
 use Rattle.erm_told_audit.specs.Audits.{AuditTells}
 use Rattle.erm_ckpt.specs.States.{RecoversTo}
 use Rattle.erm_crash.specs.Moments.{AtMoments, IsMoment, TearsApart}
+use Rattle.erm_crash.specs.Stops.{MayStop}
 use Rattle.erm_log_run.specs.Acknowledged.{HoldsTold, IsAcknowledged}
-use Rattle.erm_log_run.specs.Saving.{saved_at}
+use Rattle.erm_log_run.specs.Saving.{SparesOlder, saved_at}
 use Rattle.erm_log_words.specs.Kept.{MayOpen}
 use Rattle.erm_node.specs.Sound.{sound_law}
 use Rattle.erm_node.specs.TreeMap.{map_of_rows}
@@ -20,9 +21,9 @@ use Rattle.erm_recover.specs.Waiting.{SinceSettled}
 use Rattle.erm_report.specs.declared.answer.Answer.{Answer}
 use Rattle.erm_report.specs.declared.line.Line.{Line}
 
--- An image recovers to the map that some commits make below a stamp, from a state on. The stamp is at or above a place, and the run is the
--- state's or the next. And the image may be opened again.
-pub record RecoversBelow (commits : List Committed) (from : State) (place : ℕ) (image : Image) : Type 0 where
+-- At a moment an image recovers to the map that some commits make below a stamp, from a state on. The stamp is at or above a place, and the run is
+-- the state's or the next. The image may be opened again; and what is pending at the moment is what the next opening waits for.
+pub record RecoversBelow (commits : List Committed) (from : State) (place : ℕ) (now : List Step) (image : Image) : Type 0 where
   pub found : State
   pub pair : Pair
   pub there : RecoversTo sound_law.meets found pair image
@@ -30,17 +31,18 @@ pub record RecoversBelow (commits : List Committed) (from : State) (place : ℕ)
   pub run : (found.run ≡ from.run) ⊎ (found.run ≡ from.run + 1)
   pub map : IsStateBelow commits (map_of_rows from.rows) found.at (map_of_rows found.rows)
   pub opens : MayOpen (RecoversAt sound_law.meets) image
+  pub stops : MayStop (base pair).at found.at now
 
 -- so does each image at each moment that shows each block and each slot whole, or none
 abbrev pub KeepsCommits : List Committed → State → ℕ → List Step → List Step → Type 0
 KeepsCommits commits from place old new =
-    AtMoments (λ now image. TearsApart sound_law.meets now image → RecoversBelow commits from place image) old new
+    AtMoments (λ now image. TearsApart sound_law.meets now image → RecoversBelow commits from place now image) old new
 
 -- so it is up to the last moment, from one on at which the disk recovered to the place that an answer tells
 pub record KeepsSince (commits : List Committed) (from : State) (a : Answer) (place : ℕ) (old new : List Step) : Type 0 where
   pub mid : List Step
   pub moment : IsMoment old new mid
-  pub holds : HoldsTold sound_law.meets a place mid
+  pub holds : HoldsTold sound_law.meets a place old mid
   pub keeps : KeepsCommits commits from place mid new
 
 -- Commits outlive a crash: once nothing is pending of what was done before, until when nothing is done but to wait, each image at each moment
@@ -51,7 +53,7 @@ pub record Outlives (commits : List Committed) (from : State) (lines : List Line
 
 -- At the end nothing is pending on a disk, so that a crash leaves what it reads: it recovers to this map, in the next run, behind all commits. Of
 -- the commits in the blocks that recovery meets those from the place found on are just these, from the place on where recovery begins. The best
--- checkpoint is the last one that the answers tell, and with none the slots are those from before. Of the blocks from the place on where recovery
+-- checkpoint is the last one that the answers tell; with none the slots, and the segments below that of the place found, are those from before. Of the blocks from the place on where recovery
 -- begins it meets the one that opens the run, and of those below the place found just the ones that it met before.
 pub record Leaves (commits : List Committed) (from : State) (answers : List Answer) (m : Database) (old steps : List Step) : Type 0 where
   pub settled : IsSettled steps
@@ -65,6 +67,7 @@ pub record Leaves (commits : List Committed) (from : State) (answers : List Answ
   pub logged : (best : Pair) (blocks : List Block) → Recovers sound_law.meets (contents steps) best blocks → AuditTells blocks (base best).at from.at commits
   pub saved : (place : ℕ) → saved_at answers ≡ Some place → (best pair ≢ None) × ((base pair).at ≡ place)
   pub spared : saved_at answers ≡ None → (before : Pair) (blocks : List Block) → Recovers sound_law.meets (contents old) before blocks → slots_of pair ≡ slots_of before
+  pub kept : saved_at answers ≡ None → SparesOlder from.at old steps
   pub opening : (best : Pair) (blocks : List Block) → Recovers sound_law.meets (contents steps) best blocks → (base best).at ≤ from.at → open_block from.at from.run ∈ blocks
   pub older : (before best : Pair) (found blocks : List Block) → Recovers sound_law.meets (contents old) before found → Recovers sound_law.meets (contents steps) best blocks
       → (b : Block) → b.stamp < from.at → (b ∈ blocks) ↔ ((b ∈ found) × ((base best).at ≤ b.stamp))

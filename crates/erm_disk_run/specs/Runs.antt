@@ -24,6 +24,7 @@ use Rattle.erm_good_report.specs.Opening.{InTurn, Opening}
 use Rattle.erm_good_report.specs.Phases.{Closed, Closes, phase_of}
 use Rattle.erm_good_report.specs.Refusals.{claims_of, total_of}
 use Rattle.erm_good_report.specs.Transactions.{history_of, said_of, table_of, transactions_of}
+use Rattle.erm_invariant.specs.Commits.{EachFrontRuns}
 use Rattle.erm_tight.specs.NewKeys.{HaveNewKeys}
 use Rattle.erm_disk_run.specs.Crashes.{KeepsCommits, Leaves, Outlives}
 use Rattle.erm_disk_run.specs.Found.{IsFound, StartsFrom}
@@ -67,7 +68,8 @@ HaveManyKeys opening sessions script answers = (i drawn : ℕ) → slice_get ans
     → (n : ℕ) × HaveNewKeys sessions [] (take (i + 1) (said_of script answers)) n × (OID_LIMIT < opening.first + PUT_OBJECTS * n)
 
 -- A script was run on a disk from which a state was found, below the end of the log and of runs: these lines are a good report, whose windows are
--- tight. The commits that it tells outlive a crash at any moment, and at the end the disk recovers to the map that it tells.
+-- tight. The commits that it tells outlive a crash at any moment, those below any stamp are a serial run, and at the end the disk recovers to the
+-- map that it tells.
 pub record WasRunOn (before after : Option (List Step)) (state : State) (names : List (List ℕ)) (script : List ScriptLine) (lines : List Line) : Type 0 where
   pub low : state.at < STOP
   pub run_low : state.run < LAST_RUN
@@ -77,6 +79,7 @@ pub record WasRunOn (before after : Option (List Step)) (state : State) (names :
   pub uncut : AreUncut tight.good.report.answers
   pub celled : HaveManyCells script tight.good.report.answers
   pub keyed : HaveManyKeys opening (length names) script tight.good.report.answers
+  pub fronts : EachFrontRuns (commits_told names script tight.good.report.answers tight.good.report.closed) opening.map
   pub outlives : Tells (Outlives (commits_told names script tight.good.report.answers tight.good.report.closed) state lines) before after
   pub leaves : Tells (λ old new. Leaves (commits_told names script tight.good.report.answers tight.good.report.closed) state tight.good.report.answers
       (from_entries (entries_of tight.good.report.pairs)) old new) before after
@@ -89,7 +92,7 @@ pub record AreUnseen (names : List (List ℕ)) (script : List ScriptLine) (answe
 
 -- The disk failed while a script was run on it, at a line of the log or behind all lines: these lines are the report up to then. With the
 -- sessions that were closed behind its last line the answers are what a report owes, and the commits that both tell outlive a crash at any
--- moment.
+-- moment; those below any stamp are a serial run.
 pub record WasCutOn (before after : Option (List Step)) (state : State) (names : List (List ℕ)) (script : List ScriptLine) (lines : List Line) : Type 0 where
   pub low : state.at < STOP
   pub run_low : state.run < LAST_RUN
@@ -102,11 +105,12 @@ pub record WasCutOn (before after : Option (List Step)) (state : State) (names :
   pub closed : List Closed
   pub unseen : AreUnseen names script cut.answers closed
   pub owes : OwesToAnswers InTurn opening script cut.answers (transactions_of (length names) (places_of script cut.answers closed))
+  pub fronts : EachFrontRuns (commits_told names script cut.answers closed) opening.map
   pub outlives : Tells (Outlives (commits_told names script cut.answers closed) state lines) before after
 
 -- Memory ran out while a script was run on a disk, or was told: behind some of its lines, or behind all of them. These answers, of which no line tells,
 -- are what a report owes, with the sessions that were closed behind the last line. Once nothing is pending of what was done before, each image at each
--- moment recovers to the commits below a stamp that both tell.
+-- moment recovers to the commits below a stamp that both tell; those below any stamp are a serial run.
 pub record WasStarvedOn (before after : Option (List Step)) (state : State) (names : List (List ℕ)) (script : List ScriptLine) : Type 0 where
   pub low : state.at < STOP
   pub run_low : state.run < LAST_RUN
@@ -120,6 +124,7 @@ pub record WasStarvedOn (before after : Option (List Step)) (state : State) (nam
   pub closed : List Closed
   pub unseen : AreUnseen names script answers closed
   pub owes : OwesToAnswers InTurn opening script answers (transactions_of (length names) (places_of script answers closed))
+  pub fronts : EachFrontRuns (commits_told names script answers closed) opening.map
   pub moments : Tells (SinceSettled (KeepsCommits (commits_told names script answers closed) state state.at)) before after
 
 -- how a run ends on a disk before and after

@@ -31,7 +31,7 @@ pub record IsSaved (state : State) (old steps : List Step) : Type 0 where
   pub at : (base pair).at ≡ state.at + LEAST_BLOCK
   pub run : (base pair).run ≡ state.run + 1
   pub map : map_of_rows (base pair).rows ≡ map_of_rows state.rows
-  pub took : (before : Pair) (blocks : List Block) → Recovers sound_law.meets (contents old) before blocks → TookPlace sound_law.meets (state.at + LEAST_BLOCK) (slots_of before) (slots_of pair) steps
+  pub took : (before : Pair) (blocks : List Block) → Recovers sound_law.meets (contents old) before blocks → TookPlace sound_law.meets (state.at + LEAST_BLOCK) (slots_of before) (slots_of pair) old steps
   pub kept : (before : Pair) (blocks : List Block) → Recovers sound_law.meets (contents old) before blocks
       → (n : ℕ) → (n < next_first (slots_of before)) ⊎ (removal_end (slots_of before) ≤ n) → n < state.at / SEGMENT_WORDS → contents steps (Segment n) ≡ contents old (Segment n)
 

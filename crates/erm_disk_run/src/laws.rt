@@ -1,16 +1,17 @@
 //! Laws of runs. Each holds for every value, and its function does nothing.
-ghost use Rattle.std.specs.Prelude.{ℕ, List};
+ghost use Rattle.std.specs.Prelude.{◌<◌, ℕ, List};
 ghost use Rattle.erm_ckpt.specs.Recovered.{State};
-ghost use Rattle.erm_crash.specs.Moments.{TearsApart};
+ghost use Rattle.erm_crash.specs.Moments.{IsMoment, TearsApart};
 ghost use Rattle.erm_model.specs.Committed.{Committed};
 ghost use Rattle.erm_node.specs.Sound.{IsSound, sound_law};
 ghost use Rattle.erm_outside.specs.Disk.{Step, contents};
-ghost use Rattle.erm_recover.specs.Waiting.{SinceSettled};
+ghost use Rattle.erm_recover.specs.Waiting.{OnceSettled, SinceSettled};
 ghost use Rattle.erm_report.specs.declared.answer.Answer.{Answer};
+ghost use Rattle.erm_log_run.specs.Acknowledged.{GoesOnFrom};
 ghost use Rattle.erm_disk_run.specs.Crashes.{KeepsCommits, KeepsSince};
-ghost use Rattle.erm_disk_run.specs.Found.{ReadsAs};
+ghost use Rattle.erm_disk_run.specs.Found.{IsKept, ReadsAs};
 ghost use Rattle.erm_disk_run.specs.Owed.{CoursesOwe};
-ghost use Rattle.erm_disk_run.specs.TwoRuns.{HasCommits, KeepsOfBoth};
+ghost use Rattle.erm_disk_run.specs.TwoRuns.{HasCommits, KeepsOfBoth, MayBeFollowed};
 
 use erm_node::SoundRows;
 
@@ -27,6 +28,27 @@ pub(crate) fn courses_owe_to_answers()
     erm_told_limits::full_has_cause();
     erm_told_limits::end_has_cause();
     erm_told_limits::stamps_are_in_reach();
+}
+
+/// Of two places that a run acknowledges the greater one was reached later: where it is greater than the place to which the disk recovered at the
+/// moment of the lesser one, and at that moment the disk shows each block and each slot that was written whole, or none.
+pub fn greater_places_are_reached_later()
+    ensures { (commits : List Committed) (from : State) (a b : Answer) (place other : ℕ) (old new : List Step)
+        → (one : KeepsSince commits from a place old new) (two : KeepsSince commits from b other old new)
+        → TearsApart sound_law.meets one.mid (contents one.mid) → one.holds.found.at < other → GoesOnFrom one.mid two.mid }
+{
+    erm_ckpt::one_recovery::<SoundRows>();
+}
+
+/// Wherever a run is stopped, the next one may go on from what it leaves, if the disk shows then each block and each slot that was written whole, or
+/// none: so it is of a whole run, and of one that was stopped while the log was being opened.
+pub fn stopped_runs_may_be_followed()
+    ensures runs { (commits : List Committed) (from : State) (old new now : List Step)
+        → IsKept old → SinceSettled (KeepsCommits commits from from.at) old new → IsMoment old new now → TearsApart sound_law.meets now (contents now) → MayBeFollowed now }
+    ensures openings { (commits : List Committed) (from : State) (old new now : List Step)
+        → IsKept old → OnceSettled (KeepsCommits commits from from.at) old new → IsMoment old new now → TearsApart sound_law.meets now (contents now) → MayBeFollowed now }
+{
+    erm_ckpt::one_recovery::<SoundRows>();
 }
 
 /// What a run acknowledges is there in the next one, wherever the first was stopped, also with writes pending: what the disk then reads recovers

@@ -8,7 +8,10 @@ mod run;
 mod stops;
 
 pub use checkpoint::checkpoint_on_disk;
-pub use laws::next_runs_keep_what_was_acknowledged;
+pub use laws::{
+    greater_places_are_reached_later, next_runs_keep_what_was_acknowledged,
+    stopped_runs_may_be_followed,
+};
 pub use run::run_on_disk;
 pub use stops::{DiskStop, OnDisk, RunStop};
 

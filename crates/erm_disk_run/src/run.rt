@@ -97,6 +97,7 @@ fn run_opened<D: Disk>(
     erm_told_crash::logs_tell_states();
     erm_told_crash::courses_close_sessions();
     courses_owe_to_answers();
+    erm_told_fronts::courses_run_in_fronts();
     erm_told_crash::logs_have_the_commits_told();
     erm_told_log::recovery_meets_the_run::<SoundRows>();
     erm_told_log::recovery_meets_earlier_blocks::<SoundRows>();

@@ -6,7 +6,7 @@ use Rattle.erm_block.specs.declared.block.Block.{Block}
 use Rattle.erm_block.specs.LogList.{End, end_after, end_of}
 use Rattle.erm_block.specs.Spelling.{StandsAt}
 use Rattle.erm_flush.specs.Blocks.{LeavesFront}
-use Rattle.erm_flush.specs.Turns.{HoldsFrom, start_of, WritesFrom}
+use Rattle.erm_flush.specs.Turns.{HoldsFrom, start_of, WritesFew, WritesFrom}
 use Rattle.erm_log_disk.specs.Chains.{MayStand}
 use Rattle.erm_log_disk.specs.Writes.{AllWriteWords, Holds}
 use Rattle.erm_log_disk.proofs.Chains.{chain_may_stand, end_of-append, fresh_among, length-words, list_is_all, list_is_front, may_stand-behind, may_stand-front, places_grow, runs_grow}
@@ -82,8 +82,8 @@ module _
 
   -- words of the blocks of a log were written from a place on
   pub writes_from : (place : ℕ) (log : Log) (p : Parts sound place log) (old new more : List Step) → IsSettled old → IsFresh log.opened.run (contents old) place
-      → new ≡ more ++ old → AllWriteWords place (words_of p.blocks) more → WritesFrom sound place log old new
-  writes_from place log p old new more settled fresh steps writes =
+      → new ≡ more ++ old → AllWriteWords place (words_of p.blocks) more → WritesFew place more → WritesFrom sound place log old new
+  writes_from place log p old new more settled fresh steps writes few =
       let end = end_of (start_of log) p.front in
       let here : IsFresh log.opened.run (contents old) end.at = rw (sym p.place_is) at fresh in
       let there : AllWriteWords end.at (words_of p.blocks) more = rw (sym p.place_is) at writes in
@@ -98,6 +98,7 @@ module _
           writes = there;
           images = fronts log.opened.run end p.blocks old more p.low p.stand settled here there;
         };
+        few = few;
       }
 
   -- they were written and last

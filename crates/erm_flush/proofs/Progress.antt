@@ -1,6 +1,8 @@
 -- Turns one after another.
-use Rattle.std.proofs.Common.{◌≡◌, ℕ, ◌+◌, ◌-◌, ◌<◌, ◌≤◌, ◌++◌, List, [], ◌∷◌, length, take, replicate, Bool, Option, Some, None, IfSome, Err, refl, sym, ap, ◌∙◌, subst, arith, append_assoc, append-nil}
+use Rattle.std.proofs.Common.{inl, inr, ◌≡◌, ℕ, ◌+◌, ◌-◌, ◌<◌, ◌≤◌, ◌⊎◌, ◌++◌, true, false, List, [], ◌∷◌, length, take, replicate, Bool, Option, Some, None, IfSome, Err, refl, sym, ap, ◌∙◌, subst, arith, append_assoc, append-nil}
+use Rattle.std.specs.Prelude.{is_some}
 use Rattle.std.proofs.lemmas.Grind.{flat_map-append}
+use Rattle.std.proofs.lemmas.List.{append_cancel_right}
 use Rattle.erm_model.specs.Rows.{Rows}
 use Rattle.erm_record.specs.Stored.{stored_length}
 use Rattle.erm_block.specs.declared.block.Block.{Block}
@@ -11,7 +13,7 @@ use Rattle.erm_block.proofs.OneSpelling.{length-spelling}
 use Rattle.erm_flush.specs.Blocks.{HoldsBlocks, WritesBlocks}
 use Rattle.erm_flush.specs.declared.stops.FlushStop.{FlushStop}
 use Rattle.erm_flush.specs.declared.stops.FlushStop.TheVariants.{Empty, Unfilled, DiskFault, Failed}
-use Rattle.erm_flush.specs.Turns.{GoesOn, HoldsFrom, IsReady, start_of, Turns, WritesFrom}
+use Rattle.erm_flush.specs.Turns.{DidGather, GoesOn, HoldsFrom, IsReady, start_of, Stays, Turns, WritesFew, WritesFrom}
 use Rattle.erm_log_disk.specs.Chains.{MayStand}
 use Rattle.erm_log_disk.specs.Writes.{AllWriteWords}
 use Rattle.erm_log_disk.proofs.Chains.{chain_may_stand, end_of-append, length-words, list_is_all, lists-joined, may_stand-behind, may_stand-front, places_grow}
@@ -19,7 +21,7 @@ use Rattle.erm_log_disk.proofs.Joins.{writes-joined}
 use Rattle.erm_log_words.specs.Tears.{IsFresh}
 use Rattle.erm_log_words.specs.Words.{Spares}
 use Rattle.erm_outside.specs.Disk.{contents, Image, IsSettled, Step, Tells}
-use Rattle.erm_world.specs.Log.{gathered_to, IsLog, Log, Start, words_of}
+use Rattle.erm_world.specs.Log.{gathered_to, IsLog, IsStop, Log, Start, words_of}
 use Rattle.erm_flush.proofs.Flushes.{other_words, parts, same_place, still_fresh, writes_from}
 
 -- one after another, two changes of words spare all others
@@ -40,6 +42,30 @@ pub record Progress (sound : Rows → Type 0) (place : ℕ) (log : Log) (old new
   pub more : List Step
   pub steps : new ≡ more ++ old
   pub writes : AllWriteWords place (words_of holds.blocks) more
+  pub few : WritesFew place more
+  pub stops : ((holds.blocks ≡ []) × (more ≡ [])) ⊎ IsStop log log.flushed
+
+-- where nothing is to gather, nothing was gathered
+no_stop : (log m : Log) → DidGather log m → IsStop log log.flushed → ⊥
+no_stop log m did (inl ends) = let waits = did.waits in omega (arith, waits, ends)
+no_stop log m did (inr busy) = let no : true ≡ false = sym busy ∙ ap is_some did.decided in cc
+
+-- so all that turns write is what one of them does
+few_turn : (sound : Rows → Type 0) (place : ℕ) (log m : Log) (old mid new : List Step) → DidGather log m → (q : Progress sound place log old mid) (w : WritesFrom sound log.flushed m mid new) → WritesFew place (w.writes.more ++ q.more)
+few_turn sound place log m old mid new did q w = elim q.stops [
+  | inl none ↦
+      let h = q.holds in
+      let at : log.flushed ≡ place = sym h.to ∙ ap (λ (bs : List Block). (end_of (end_of (start_of log) h.front) bs).at) none.0 ∙ h.from in
+      subst (λ (xs : List Step). WritesFew place (w.writes.more ++ xs)) (sym none.1)
+      (subst (WritesFew place) (sym (append-nil w.writes.more)) (subst (λ (n : ℕ). WritesFew n w.writes.more) at w.few))
+  | inr stop ↦ absurd (no_stop log m did stop)
+]
+
+-- and where a turn did nothing, what the others do
+few_stop : (sound : Rows → Type 0) (place : ℕ) (log m : Log) (old mid new : List Step) → new ≡ mid → (q : Progress sound place log old mid) (w : WritesFrom sound log.flushed m mid new) → WritesFew place (w.writes.more ++ q.more)
+few_stop sound place log m old mid new same q w =
+    let none : w.writes.more ≡ [] = append_cancel_right w.writes.more [] mid (sym w.writes.steps ∙ same) in
+    subst (λ (xs : List Step). WritesFew place (xs ++ q.more)) (sym none) q.few
 
 -- two cuts of one list
 pub record SameCut (xs us ys vs : List Block) : Type 0 where
@@ -78,6 +104,7 @@ record Joined (place : ℕ) (base : End) (gathered blocks behind : List Block) (
   pub more : List Step
   pub steps : new ≡ more ++ old
   pub writes : AllWriteWords place (words_of (blocks ++ behind)) more
+  pub few : WritesFew place more
 
 module _
     (short : (row : List ℕ) → stored_length row ≤ length row) (whole : (row : List ℕ) → take (stored_length row) row ++ replicate (length row - stored_length row) 0 ≡ row)
@@ -107,15 +134,17 @@ module _
         more = [];
         steps = refl;
         writes = tt;
+        few = ([], omega arith, tt);
+        stops = inl (refl, refl);
       }
 
   -- the words of blocks that stand behind others
   joined : (place : ℕ) (base : End) (gathered front blocks rest : List Block) (old mid new : List Step) (w_front w_blocks : List Block) (r : List Block) → MayStand sound base gathered
       → gathered ≡ (front ++ (blocks ++ rest)) ++ r → (end_of base front).at ≡ place
       → (more : List Step) → mid ≡ more ++ old → AllWriteWords place (words_of blocks) more
-      → gathered ≡ w_front ++ w_blocks → (end_of base w_front).at ≡ (end_of (end_of base front) blocks).at → WritesBlocks sound (end_of base w_front) w_blocks mid new
-      → SameCut (front ++ blocks) (rest ++ r) w_front w_blocks × Joined place base gathered blocks w_blocks front old new
-  joined place base gathered front blocks rest old mid new w_front w_blocks r stand split from more steps writes w_split w_place w =
+      → gathered ≡ w_front ++ w_blocks → (end_of base w_front).at ≡ (end_of (end_of base front) blocks).at → (w : WritesBlocks sound (end_of base w_front) w_blocks mid new)
+      → WritesFew place (w.more ++ more) → SameCut (front ++ blocks) (rest ++ r) w_front w_blocks × Joined place base gathered blocks w_blocks front old new
+  joined place base gathered front blocks rest old mid new w_front w_blocks r stand split from more steps writes w_split w_place w few =
       let regroup : gathered ≡ (front ++ blocks) ++ (rest ++ r) = split ∙ ap (λ (bs : List Block). bs ++ r) (sym (append_assoc front blocks rest)) ∙ append_assoc (front ++ blocks) rest r in
       let stands : MayStand sound base ((front ++ blocks) ++ (rest ++ r)) = rw regroup at stand in
       let same = one_cut short sound base (front ++ blocks) (rest ++ r) w_front w_blocks stands (sym regroup ∙ w_split) (ap (λ (e : End). e.at) (end_of-append base front blocks) ∙ sym w_place) in
@@ -129,6 +158,7 @@ module _
           more = w.more ++ more;
           steps = w.steps ∙ ap (λ (ss : List Step). w.more ++ ss) steps ∙ sym (append_assoc w.more more old);
           writes = rw (flat_map-append spelling blocks w_blocks) all;
+          few = few;
         },
       )
 
@@ -138,36 +168,42 @@ module _
 
   -- after some turns and one more, which may have stopped, all that was done was to write
   written_at : (place : ℕ) (log : Log) (G : List Block) (F : ℕ) (r : List Block) (old mid new : List Step) → IsLog sound (record log { gathered = G; flushed = F }) → G ≡ log.gathered ++ r
-      → IsSettled old → IsFresh log.opened.run (contents old) place → Progress sound place log old mid → WritesFrom sound log.flushed (record log { gathered = G; flushed = F }) mid new
-      → WritesFrom sound place (record log { gathered = G; flushed = F }) old new
-  written_at place log G F r old mid new is grown settled fresh q w =
+      → IsSettled old → IsFresh log.opened.run (contents old) place → (q : Progress sound place log old mid) (w : WritesFrom sound log.flushed (record log { gathered = G; flushed = F }) mid new)
+      → WritesFew place (w.writes.more ++ q.more) → WritesFrom sound place (record log { gathered = G; flushed = F }) old new
+  written_at place log G F r old mid new is grown settled fresh q w few =
       let n = record log { gathered = G; flushed = F } in
       let h = q.holds in
       let j = joined place (start_of log) G h.front h.blocks h.rest old mid new w.front w.blocks r (all_stand n is) (grown ∙ ap (λ (bs : List Block). bs ++ r) h.split) h.from
-      q.more q.steps q.writes w.split (w.place_is ∙ sym h.to) w.writes in
+      q.more q.steps q.writes w.split (w.place_is ∙ sym h.to) w.writes few in
       let p = parts sound place n h.front (h.blocks ++ w.blocks) is j.1.split (sym h.from ∙ sym (same_place (start_of log) h.front)) in
-      writes_from short whole sound place n p old new j.1.more settled fresh j.1.steps j.1.writes
+      writes_from short whole sound place n p old new j.1.more settled fresh j.1.steps j.1.writes j.1.few
 
   pub written_on : (place : ℕ) (log m : Log) (old mid new : List Step) → GoesOn log m → IsLog sound m → IsSettled old → IsFresh m.opened.run (contents old) place
-      → Progress sound place log old mid → WritesFrom sound log.flushed m mid new → WritesFrom sound place m old new
-  written_on place log m old mid new on is settled fresh q w =
+      → (q : Progress sound place log old mid) (w : WritesFrom sound log.flushed m mid new) → DidGather log m ⊎ (new ≡ mid) → WritesFrom sound place m old new
+  written_on place log m old mid new on is settled fresh q w did =
       let n : Log = record log { gathered = m.gathered; flushed = m.flushed } in
       let run : m.opened.run ≡ log.opened.run = ap (λ (x : Log). x.opened.run) on.log in
-      let here = written_at place log m.gathered m.flushed on.more.0 old mid new (subst (λ (x : Log). IsLog sound x) on.log is) on.more.1 settled (rw run at fresh) q (subst (λ (x : Log). WritesFrom sound log.flushed x mid new) on.log w) in
+      let moved : WritesFrom sound log.flushed n mid new = subst (λ (x : Log). WritesFrom sound log.flushed x mid new) on.log w in
+      let few : WritesFew place (moved.writes.more ++ q.more) = elim did [
+        | inl gathers ↦ few_turn sound place log n old mid new (subst (λ (x : Log). DidGather log x) on.log gathers) q moved
+        | inr same ↦ few_stop sound place log n old mid new same q moved
+      ] in
+      let here = written_at place log m.gathered m.flushed on.more.0 old mid new (subst (λ (x : Log). IsLog sound x) on.log is) on.more.1 settled (rw run at fresh) q moved few in
       subst (λ (x : Log). WritesFrom sound place x old new) (sym on.log) here
 
   -- after one turn more the blocks last, and those before them
   turned_at : (place : ℕ) (log : Log) (G : List Block) (F : ℕ) (r : List Block) (old mid new : List Step) → IsLog sound (record log { gathered = G; flushed = F }) → G ≡ log.gathered ++ r
-      → F ≡ gathered_to (record log { gathered = G; flushed = F }) → Progress sound place log old mid → WritesFrom sound log.flushed (record log { gathered = G; flushed = F }) mid new
+      → F ≡ gathered_to (record log { gathered = G; flushed = F }) → DidGather log (record log { gathered = G; flushed = F }) → Progress sound place log old mid
+      → WritesFrom sound log.flushed (record log { gathered = G; flushed = F }) mid new
       → HoldsFrom sound log.flushed (record log { gathered = G; flushed = F }) mid new → Progress sound place (record log { gathered = G; flushed = F }) old new
-  turned_at place log G F r old mid new is grown flushed q w h =
+  turned_at place log G F r old mid new is grown flushed did q w h =
       let n = record log { gathered = G; flushed = F } in
       let base = start_of log in
       let k = q.holds in
       let end = end_of base k.front in
       let stand = all_stand n is in
       let j = joined place base G k.front k.blocks k.rest old mid new w.front w.blocks r stand (grown ∙ ap (λ (bs : List Block). bs ++ r) k.split) k.from
-      q.more q.steps q.writes w.split (w.place_is ∙ sym k.to) w.writes in
+      q.more q.steps q.writes w.split (w.place_is ∙ sym k.to) w.writes (few_turn sound place log n old mid new did q w) in
       -- what lasts is all that was written
       let cut : G ≡ (h.front ++ h.blocks) ++ h.rest = h.split ∙ sym (append_assoc h.front h.blocks h.rest) in
       let last : (end_of base (h.front ++ h.blocks)).at ≡ (end_of base G).at = ap (λ (e : End). e.at) (end_of-append base h.front h.blocks) ∙ h.to ∙ flushed ∙ same_place base G in
@@ -196,12 +232,16 @@ module _
         more = j.1.more;
         steps = j.1.steps;
         writes = j.1.writes;
+        few = j.1.few;
+        stops = inr (subst (IsStop n) (sym flushed) did.stops);
       }
 
-  pub turned_on : (place : ℕ) (log m : Log) (old mid new : List Step) → GoesOn log m → IsLog sound m → m.flushed ≡ gathered_to m
+  pub turned_on : (place : ℕ) (log m : Log) (old mid new : List Step) → DidGather log m → IsLog sound m → m.flushed ≡ gathered_to m
       → Progress sound place log old mid → WritesFrom sound log.flushed m mid new → HoldsFrom sound log.flushed m mid new → Progress sound place m old new
-  turned_on place log m old mid new on is flushed q w h =
-      let here = turned_at place log m.gathered m.flushed on.more.0 old mid new (subst (λ (x : Log). IsLog sound x) on.log is) on.more.1 (subst (λ (x : Log). m.flushed ≡ gathered_to x) on.log flushed) q
+  turned_on place log m old mid new did is flushed q w h =
+      let on = did.goes_on in
+      let here = turned_at place log m.gathered m.flushed on.more.0 old mid new (subst (λ (x : Log). IsLog sound x) on.log is) on.more.1 (subst (λ (x : Log). m.flushed ≡ gathered_to x) on.log flushed)
+      (subst (λ (x : Log). DidGather log x) on.log did) q
       (subst (λ (x : Log). WritesFrom sound log.flushed x mid new) on.log w) (subst (λ (x : Log). HoldsFrom sound log.flushed x mid new) on.log h) in
       subst (λ (x : Log). Progress sound place x old new) (sym on.log) here
 
@@ -210,7 +250,7 @@ module _
   told_start l None is ready = refl
   told_start l (Some old) is ready = (old, refl, at_start l old is ready)
 
-  pub told_turn : (place : ℕ) (log m : Log) (a b c : Option (List Step)) → GoesOn log m → IsLog sound m → m.flushed ≡ gathered_to m
+  pub told_turn : (place : ℕ) (log m : Log) (a b c : Option (List Step)) → DidGather log m → IsLog sound m → m.flushed ≡ gathered_to m
       → Tells (Progress sound place log) a b → Tells (WritesFrom sound log.flushed m) b c → Tells (HoldsFrom sound log.flushed m) b c → Tells (Progress sound place m) a c
   told_turn place log m None b c on is flushed q w h = rw q at w
   told_turn place log m (Some old) b c on is flushed (mid, told, q) w h = turn_told (rw told at w) (rw told at h) where
@@ -219,13 +259,19 @@ module _
         let same : other ≡ new = cc in
         (new, told_new, turned_on place log m old mid new on is flushed q w' (subst (λ (ss : List Step). HoldsFrom sound log.flushed m mid ss) same h'))
 
-  pub told_stop : (l log m : Log) (a b c : Option (List Step)) → GoesOn log m → IsLog sound m → m.opened ≡ l.opened → IfSome a (IsReady l)
+  pub told_stop : (l log m : Log) (a b c : Option (List Step)) → GoesOn log m → IsLog sound m → m.opened ≡ l.opened → IfSome a (IsReady l) → DidGather log m ⊎ (c ≡ b)
       → Tells (Progress sound l.flushed log) a b → Tells (WritesFrom sound log.flushed m) b c → Tells (WritesFrom sound l.flushed m) a c
-  told_stop l log m None b c on is opened ready q w = rw q at w
-  told_stop l log m (Some old) b c on is opened ready (mid, told, q) w = stop_told (rw told at w) where
+  told_stop l log m None b c on is opened ready did q w = rw q at w
+  told_stop l log m (Some old) b c on is opened ready did (mid, told, q) w = stop_told (rw told at w) where
+    either : (new : List Step) → c ≡ Some new → DidGather log m ⊎ (new ≡ mid)
+    either new told_new = elim did [
+      | inl gathers ↦ inl gathers
+      | inr same ↦ inr (let one : Some new ≡ Some mid = sym told_new ∙ same ∙ told in cc)
+    ]
+
     stop_told : Tells (WritesFrom sound log.flushed m) (Some mid) c → Tells (WritesFrom sound l.flushed m) (Some old) c
     stop_told (new, told_new, w') =
-        (new, told_new, written_on l.flushed log m old mid new on is ready.settled (subst (λ (s : Start). IsFresh s.run (contents old) l.flushed) (sym opened) ready.fresh) q w')
+        (new, told_new, written_on l.flushed log m old mid new on is ready.settled (subst (λ (s : Start). IsFresh s.run (contents old) l.flushed) (sym opened) ready.fresh) q w' (either new told_new))
 
 -- a log goes on, and on from there
 goes_where : (l : Log) (G H : List Block) (F E : ℕ) → GoesOn l (record l { gathered = G; flushed = F }) → (m : Log) → GoesOn (record l { gathered = G; flushed = F }) m → GoesOn l m
@@ -245,6 +291,13 @@ goes_further l log m first second =
 
 pub goes_nowhere : (l m : Log) → m ≡ l → GoesOn l m
 goes_nowhere l m same = subst (λ (x : Log). GoesOn l x) (sym same) (record { log = refl; more = ([], sym (append-nil l.gathered)); further = omega arith })
+
+-- what a turn that stopped did: it gathered, or nothing
+pub stop_did : (stop : FlushStop) (was now : Bool) (log m : Log) (before after : Option (List Step)) → Turns (Err stop) was now log m → Stays (Err stop) before after → DidGather log m ⊎ (after ≡ before)
+stop_did (Empty at) was now log m before after turn stays = inr stays
+stop_did (Unfilled at) was now log m before after turn stays = inr stays
+stop_did DiskFault was now log m before after turn stays = inl turn.2
+stop_did Failed was now log m before after turn stays = inr stays
 
 -- what a turn that stopped leaves
 pub stop_goes_on : (stop : FlushStop) (was now : Bool) (log m : Log) → Turns (Err stop) was now log m → GoesOn log m

@@ -1,8 +1,9 @@
 -- What a disk tells after a turn, as far as it tells.
 use Rattle.std.proofs.Common.{◌≡◌, ℕ, ◌+◌, ◌-◌, ◌≤◌, ◌++◌, List, [], length, take, replicate, Option, Some, None, IfSome, Result, Ok, Err, OnOk, false, refl, sym, ap, ◌∙◌, subst, arith}
 use Rattle.std.specs.Result.{is_err}
-use Rattle.std.proofs.lemmas.List.{take_at}
+use Rattle.std.proofs.lemmas.List.{length-take, take_at}
 use Rattle.erm_model.specs.Rows.{Rows}
+use Rattle.erm_model.specs.declared.limits.TheConstants.{RING_WORDS}
 use Rattle.erm_record.specs.Stored.{stored_length}
 use Rattle.erm_block.specs.declared.block.Block.{Block}
 use Rattle.erm_block.specs.LogList.{end_of}
@@ -53,13 +54,14 @@ module _
 
   -- words that were gathered were written
   written : (l n : Log) (front blocks : List Block) (at : ℕ) (words : List ℕ) (before after : Option (List Step)) → IsLog sound n → n.gathered ≡ front ++ blocks → n.opened ≡ l.opened
-      → l.flushed ≡ place_behind l.opened.at front → at ≡ l.flushed → words ≡ words_of blocks → IfSome before (IsReady l) → OnlyWrites at words before after → Tells (WritesFrom sound l.flushed n) before after
-  written l n front blocks at words None after is split opened place at_is words_are ready writes = writes
-  written l n front blocks at words (Some old) after is split opened place at_is words_are ready (new, told, only) =
+      → l.flushed ≡ place_behind l.opened.at front → at ≡ l.flushed → words ≡ words_of blocks → length words ≤ RING_WORDS → IfSome before (IsReady l) → OnlyWrites at words before after → Tells (WritesFrom sound l.flushed n) before after
+  written l n front blocks at words None after is split opened place at_is words_are few ready writes = writes
+  written l n front blocks at words (Some old) after is split opened place at_is words_are few ready (new, told, only) =
       let p = parts sound l.flushed n front blocks is split (place ∙ ap (λ (s : Start). place_behind s.at front) (sym opened)) in
       let fresh : IsFresh n.opened.run (contents old) l.flushed = subst (λ (s : Start). IsFresh s.run (contents old) l.flushed) (sym opened) ready.fresh in
       let all = rw (at_is, words_are) at only.2 in
-      (new, told, writes_from short whole sound l.flushed n p old new only.0 ready.settled fresh only.1 all)
+      let less : length (words_of blocks) ≤ RING_WORDS = rw words_are at few in
+      (new, told, writes_from short whole sound l.flushed n p old new only.0 ready.settled fresh only.1 all (words_of blocks, less, all))
 
   -- they last
   lasting : (l n : Log) (front blocks : List Block) (at : ℕ) (words : List ℕ) (before after : Option (List Step)) → IsLog sound n → n.gathered ≡ front ++ blocks → n.opened ≡ l.opened
@@ -83,17 +85,21 @@ module _
       rw told (record { settled = all.settled; fresh = subst (λ (place : ℕ). IsFresh n.opened.run (contents new) place) (sym flushed) behind })
 
   -- the same of what a call of `gather` answered, where the log is as it left it, and where it was then flushed
-  pub written_gathered : (l m : Log) (at count : ℕ) (words now : List ℕ) (before after : Option (List Step)) → DidGather l m at count words → IsLog sound m → now ≡ words
-      → IfSome before (IsReady l) → OnlyWrites at (take count now) before after → Tells (WritesFrom sound l.flushed m) before after
-  written_gathered l m at count words now before after d is same ready only =
-      written l m d.front d.blocks at (take count now) before after is (ap (λ (x : Log). x.gathered) d.gathered) (ap (λ (x : Log). x.opened) d.gathered) d.flushed_is d.at_is
-      (ap (take count) same ∙ d.words_are) ready only
+  -- no more words are cut off than there are
+  cut_few : (count : ℕ) (words now : List ℕ) → now ≡ words → length words ≡ RING_WORDS → length (take count now) ≤ RING_WORDS
+  cut_few count words now same room = let size = length-take count now in let long = ap length same in omega (arith, size, long, room)
 
-  pub written_flushed : (l m n : Log) (at count : ℕ) (words now : List ℕ) (before after : Option (List Step)) → DidGather l m at count words → n ≡ record m { flushed = at + count } → IsLog sound n → now ≡ words
+  pub written_gathered : (l m : Log) (at count : ℕ) (words now : List ℕ) (before after : Option (List Step)) → DidGather l m at count words → IsLog sound m → now ≡ words → length words ≡ RING_WORDS
+      → IfSome before (IsReady l) → OnlyWrites at (take count now) before after → Tells (WritesFrom sound l.flushed m) before after
+  written_gathered l m at count words now before after d is same room ready only =
+      written l m d.front d.blocks at (take count now) before after is (ap (λ (x : Log). x.gathered) d.gathered) (ap (λ (x : Log). x.opened) d.gathered) d.flushed_is d.at_is
+      (ap (take count) same ∙ d.words_are) (cut_few count words now same room) ready only
+
+  pub written_flushed : (l m n : Log) (at count : ℕ) (words now : List ℕ) (before after : Option (List Step)) → DidGather l m at count words → n ≡ record m { flushed = at + count } → IsLog sound n → now ≡ words → length words ≡ RING_WORDS
       → IfSome before (IsReady l) → OnlyWrites at (take count now) before after → Tells (WritesFrom sound l.flushed n) before after
-  written_flushed l m n at count words now before after d f is same ready only =
+  written_flushed l m n at count words now before after d f is same room ready only =
       written l n d.front d.blocks at (take count now) before after is (ap (λ (x : Log). x.gathered) f ∙ ap (λ (x : Log). x.gathered) d.gathered) (ap (λ (x : Log). x.opened) f ∙ ap (λ (x : Log). x.opened) d.gathered)
-      d.flushed_is d.at_is (ap (take count) same ∙ d.words_are) ready only
+      d.flushed_is d.at_is (ap (take count) same ∙ d.words_are) (cut_few count words now same room) ready only
 
   pub lasting_flushed : (l m n : Log) (at count : ℕ) (words now : List ℕ) (before after : Option (List Step)) → DidGather l m at count words → n ≡ record m { flushed = at + count } → IsLog sound n → now ≡ words
       → IfSome before (IsReady l) → Lasts at (take count now) before after → Tells (HoldsFrom sound l.flushed n) before after
@@ -112,7 +118,7 @@ module _
   unchanged l None is ready = refl
   unchanged l (Some old) is ready =
       let p = parts sound l.flushed l is.flushed.front is.flushed.rest is is.flushed.split is.flushed.behind in
-      (old, refl, writes_from short whole sound l.flushed l p old old [] ready.settled ready.fresh refl tt)
+      (old, refl, writes_from short whole sound l.flushed l p old old [] ready.settled ready.fresh refl tt ([], omega arith, tt))
 
   pub unchanged_log : (l m : Log) (before : Option (List Step)) → IsLog sound l → m ≡ l → IfSome before (IsReady l) → Tells (WritesFrom sound l.flushed m) before before
   unchanged_log l m before is same ready = subst (λ (n : Log). Tells (WritesFrom sound l.flushed n) before before) (sym same) (unchanged l before is ready)

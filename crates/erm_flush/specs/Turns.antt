@@ -1,11 +1,13 @@
 -- Flush turns: what one does to a world's log and to the disk, and what it answers.
-use Rattle.std.specs.Prelude.{◌≡◌, ℕ, ◌<◌, ◌≤◌, Bool, false, IsTrue, List, [], ◌++◌, Option, None, Result, Ok, Err, IsSome}
+use Rattle.std.specs.Prelude.{◌≡◌, ℕ, ◌<◌, ◌≤◌, Bool, false, IsTrue, List, [], ◌++◌, length, Option, None, Result, Ok, Err, IsSome}
 use Rattle.erm_model.specs.Rows.{Rows}
+use Rattle.erm_model.specs.declared.limits.TheConstants.{RING_WORDS}
 use Rattle.erm_block.specs.declared.block.Block.{Block}
 use Rattle.erm_block.specs.LogList.{End, end_of}
 use Rattle.erm_flush.specs.declared.stops.FlushStop.{FlushStop}
 use Rattle.erm_flush.specs.declared.stops.FlushStop.TheVariants.{Empty, Unfilled, DiskFault, Failed}
 use Rattle.erm_flush.specs.Blocks.{HoldsBlocks, WritesBlocks}
+use Rattle.erm_log_disk.specs.Writes.{AllWriteWords}
 use Rattle.erm_log_words.specs.Tears.{IsFresh}
 use Rattle.erm_outside.specs.Disk.{contents, IsSettled, Step}
 use Rattle.erm_outside.specs.Faults.{Rose}
@@ -21,13 +23,18 @@ pub record IsReady (log : Log) (steps : List Step) : Type 0 where
   pub settled : IsSettled steps
   pub fresh : IsFresh log.opened.run (contents steps) log.flushed
 
--- blocks of a log were gathered from a place on, and all that was done to a disk was to write them
+-- these steps write some of a few words from a place on, as many as a flusher takes at once, or wait
+abbrev pub WritesFew : ℕ → List Step → Type 0
+WritesFew place more = (words : List ℕ) × (length words ≤ RING_WORDS) × AllWriteWords place words more
+
+-- blocks of a log were gathered from a place on, and all that was done to a disk was to write them: no more than are taken at once
 pub record WritesFrom (sound : Rows → Type 0) (place : ℕ) (log : Log) (old new : List Step) : Type 0 where
   pub front : List Block
   pub blocks : List Block
   pub split : log.gathered ≡ front ++ blocks
   pub place_is : (end_of (start_of log) front).at ≡ place
   pub writes : WritesBlocks sound (end_of (start_of log) front) blocks old new
+  pub few : WritesFew place writes.more
 
 -- the blocks of a log from a place up to the one flushed all last
 pub record HoldsFrom (sound : Rows → Type 0) (place : ℕ) (log : Log) (old new : List Step) : Type 0 where

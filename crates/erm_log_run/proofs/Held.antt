@@ -65,6 +65,14 @@ pub tells_and : (H : List Step → Type 0) (P : List Step → List Step → Type
 tells_and H P None after held told = told
 tells_and H P (Some old) after held (new, told, p) = (new, told, (subst (λ (o : Option (List Step)). IfSome o H) told held, p))
 
+-- what it tells twice of two moments
+pub tells_both : (P Q : List Step → List Step → Type 0) (before after : Option (List Step)) → Tells P before after → Tells Q before after → Tells (λ a b. P a b × Q a b) before after
+tells_both P Q None after first second = first
+tells_both P Q (Some old) after (new, is, p) (other, then_is, q) = (new, is, (p, subst (Q old) (the_one other new (sym then_is ∙ is)) q))
+  where
+    the_one : (a b : List Step) → Some a ≡ Some b → a ≡ b
+    the_one a b is = cc
+
 -- what is so after
 pub told_after : (H : List Step → Type 0) (P : List Step → List Step → Type 0) (before after : Option (List Step)) → ((a b : List Step) → P a b → H b) → Tells P before after → IfSome after H
 told_after H P None after so told = subst (λ (o : Option (List Step)). IfSome o H) (sym told) tt

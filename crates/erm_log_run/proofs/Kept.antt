@@ -1,5 +1,5 @@
 -- The moments of a whole run.
-use Rattle.std.proofs.Common.{◌≡◌, ℕ, ◌≤◌, ◌++◌, List, [], ◌∷◌, append_assoc, length, Option, Some, None, IfSome, refl, sym, ap, ◌∙◌, subst, arith}
+use Rattle.std.proofs.Common.{◌≡◌, ℕ, ◌≤◌, ◌++◌, List, [], ◌∷◌, length, Option, Some, None, IfSome, refl, sym, ap, ◌∙◌, subst, arith}
 use Rattle.std.proofs.lemmas.List.{length-append}
 use mathlib.Core.Path.{fun_ext}
 use Rattle.erm_model.specs.Rows.{Rows}
@@ -8,11 +8,14 @@ use Rattle.erm_outside.specs.Disk.{Image, IsImage, Step, Tells, contents}
 use Rattle.erm_outside.specs.declared.disk.File.{File}
 use Rattle.erm_world.specs.Log.{Log}
 use Rattle.erm_ckpt.specs.declared.slot.Slots.{Slots}
-use Rattle.erm_ckpt.specs.Recovered.{State}
-use Rattle.erm_ckpt.specs.States.{RecoversPast, RecoversTo}
+use Rattle.erm_ckpt.specs.Recovered.{State, base}
+use Rattle.erm_ckpt.specs.States.{RecoversTo}
 use Rattle.erm_checkpoint.specs.Taken.{HoldsLog, state_at}
-use Rattle.erm_crash.specs.Kept.{KeepsBlocks, KeepsSince}
+use Rattle.erm_crash.specs.Kept.{KeepsBlocks, KeepsSince, RecoversStopped}
 use Rattle.erm_crash.specs.Moments.{IsMoment}
+use Rattle.erm_crash.specs.Stops.{MayStop}
+use Rattle.erm_crash.proofs.Moments.{stopped_lower, stopped_more}
+use Rattle.erm_crash.proofs.Stops.{settled_stops}
 use Rattle.erm_log_run.specs.Keeping.{IsKept, Keeper, KeepsMoments, KeepsOn}
 use Rattle.erm_log_run.proofs.Held.{same_start, tells_weaker}
 
@@ -44,18 +47,22 @@ first_kept sound k holds none start = by k.told holds
     front_none : (steps : List Step) (h : HoldsLog sound k.log k.slots steps) → h.front ≡ []
     front_none steps h = no_front h.front h.rest (sym h.split ∙ none)
 
-    past : (steps now : List Step) (h : HoldsLog sound k.log k.slots steps) → IsMoment steps steps now → (image : Image) → IsImage now image → RecoversPast sound (state_at k.log []) [] k.log.flushed image
+    past : (steps now : List Step) (h : HoldsLog sound k.log k.slots steps) → IsMoment steps steps now → (image : Image) → IsImage now image → RecoversStopped sound (state_at k.log []) [] k.log.flushed now image
     past steps now h m image is =
-        let here : IsImage steps image = subst (λ (x : List Step). IsImage x image) (one_moment steps now m) is in
+        let one : now ≡ steps = one_moment steps now m in
+        let here : IsImage steps image = subst (λ (x : List Step). IsImage x image) one is in
         let same : image ≡ contents steps = fun_ext (λ (file : File). h.ready.settled file (image file) (here file)) in
         record {
-          front = [];
-          rest = [];
-          split = refl;
-          low = omega (arith, start);
-          pair = h.pair;
-          there = subst (λ (bytes : Image). RecoversTo sound (state_at k.log []) h.pair bytes) (sym same)
-              (subst (λ (bs : List Block). RecoversTo sound (state_at k.log bs) h.pair (contents steps)) (front_none steps h) h.there);
+          past = record {
+            front = [];
+            rest = [];
+            split = refl;
+            low = omega (arith, start);
+            pair = h.pair;
+            there = subst (λ (bytes : Image). RecoversTo sound (state_at k.log []) h.pair bytes) (sym same)
+                (subst (λ (bs : List Block). RecoversTo sound (state_at k.log bs) h.pair (contents steps)) (front_none steps h) h.there);
+          };
+          stops = subst (MayStop (base h.pair).at (state_at k.log []).at) (sym one) (settled_stops (base h.pair).at (state_at k.log []).at steps h.ready.settled);
         }
 
     by : (o : Option (List Step)) → IfSome o (HoldsLog sound k.log k.slots) → Tells Kept o o
@@ -78,30 +85,14 @@ lower : (sound : Rows → Type 0) (from : State) (blocks : List Block) (place la
 lower sound from blocks place later old new below keeps = (
   keeps.0,
   λ now m image is tears.
-      let p = keeps.1 now m image is tears in
-      record {
-        front = p.front;
-        rest = p.rest;
-        split = p.split;
-        low = (let low = p.low in omega (arith, below, low));
-        pair = p.pair;
-        there = p.there;
-      },
+      stopped_lower sound from blocks place later now image below (keeps.1 now m image is tears),
 )
 
 longer : (sound : Rows → Type 0) (from : State) (front rest : List Block) (place : ℕ) (old new : List Step) → KeepsBlocks sound from front place old new → KeepsBlocks sound from (front ++ rest) place old new
 longer sound from front rest place old new keeps = (
   keeps.0,
   λ now m image is tears.
-      let p = keeps.1 now m image is tears in
-      record {
-        front = p.front;
-        rest = p.rest ++ rest;
-        split = ap (λ (bs : List Block). bs ++ rest) p.split ∙ append_assoc p.front p.rest rest;
-        low = p.low;
-        pair = p.pair;
-        there = p.there;
-      },
+      stopped_more sound from front rest place now image (keeps.1 now m image is tears),
 )
 
 -- what is so of a log that was kept since some steps

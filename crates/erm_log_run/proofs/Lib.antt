@@ -14,6 +14,7 @@ pub mod Lasting
 pub mod Leaving
 pub mod Lined
 pub mod Logged
+pub mod Older
 pub mod Passing
 pub mod Progress
 pub mod Reached

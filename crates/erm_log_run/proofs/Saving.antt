@@ -17,14 +17,17 @@ use Rattle.erm_ckpt.proofs.Choices.{best_slot}
 use Rattle.erm_checkpoint.specs.Taken.{HoldsLogFrom, TakesAll, slot_at_end}
 use Rattle.erm_checkpoint.proofs.Segments.{saving_more, saving_spares}
 use Rattle.erm_crash.specs.Kept.{KeepsSince}
+use Rattle.erm_flush.specs.Turns.{WritesFrom}
 use Rattle.erm_lines.specs.Answers.{DidLine}
 use Rattle.erm_log_run.specs.Keeping.{IsHeld, Keeper, KeepsOn}
 use Rattle.erm_log_run.specs.Saving.{AreSaved, IsBestAt, Removes, TookPlace, saved_at, saved_by, saved_from}
 use Rattle.erm_log_run.proofs.Reached.{no_checkpoint}
+use Rattle.erm_log_run.specs.Acknowledged.{GoesOnFrom}
+use Rattle.erm_log_run.proofs.Held.{tells_weaker}
 use Rattle.erm_log_run.proofs.Told.{LogsBegin, kept_now}
 
 -- one answer more
-saved_push : (last : Option ℕ) (answers : List Answer) (a : Answer) → saved_from last (answers ++ a ∷ []) ≡ saved_by a (saved_from last answers)
+pub saved_push : (last : Option ℕ) (answers : List Answer) (a : Answer) → saved_from last (answers ++ a ∷ []) ≡ saved_by a (saved_from last answers)
 saved_push last [] a = refl
 saved_push last (b ∷ bs) a = saved_push (saved_by b last) bs a
 
@@ -47,13 +50,16 @@ checkpoint_saved sound log slots place (Some steps) lasts = named_best slots las
 
 -- a checkpoint that was taken took its place
 pub took_place : (sound : Rows → Type 0) (flushed : ℕ) (log : Log) (old new : Slots) (run place : ℕ) (first steps : List Step) → log.tail ≡ place → new ≡ put_slot old (slot_at_end log run old)
-    → TakesAll sound flushed log old (slot_at_end log run old) first steps → TookPlace sound place old new steps
+    → TakesAll sound flushed log old (slot_at_end log run old) first steps → TookPlace sound place old new first steps
 took_place sound flushed log old new run place first steps tail put all = record {
   run = run;
   put = put ∙ ap (λ (n : ℕ). put_slot old (record { stamp = n; run = run; first = next_first old })) tail;
   gone = all.saves.gone;
   was = all.mid;
-  more = saving_more sound flushed log old (slot_at_end log run old) first steps all;
+  moment =
+      let writes = all.flushes.writes in
+      let more = saving_more sound flushed log old (slot_at_end log run old) first steps all in
+      record { before = writes.more; since = writes.steps; after = more.0; later = more.1 };
   settled = all.holds.ready.settled;
   pair = all.holds.pair;
   blocks = all.holds.there.blocks;
@@ -64,13 +70,16 @@ took_place sound flushed log old new run place first steps tail put all = record
 
 -- and what it removed
 pub checkpoint_removes : (sound : Rows → Type 0) (flushed : ℕ) (log : Log) (old new : Slots) (run place : ℕ) (before told : Option (List Step)) → log.tail ≡ place → new ≡ put_slot old (slot_at_end log run old)
-    → Tells (TakesAll sound flushed log old (slot_at_end log run old)) before told → Removes sound (answer.Checkpointed place) told old new
-checkpoint_removes sound flushed log old new run place None told tail put takes = subst (λ (o : Option (List Step)). IfSome o (TookPlace sound place old new)) (sym takes) tt
-checkpoint_removes sound flushed log old new run place (Some first) told tail put (steps, is, all) =
-    subst (λ (o : Option (List Step)). IfSome o (TookPlace sound place old new)) (sym is) (took_place sound flushed log old new run place first steps tail put all)
+    → Tells (TakesAll sound flushed log old (slot_at_end log run old)) before told → Removes sound (answer.Checkpointed place) before told old new
+checkpoint_removes sound flushed log old new run place before told tail put takes =
+    tells_weaker (TakesAll sound flushed log old (slot_at_end log run old)) (TookPlace sound place old new) before told (λ first steps all. took_place sound flushed log old new run place first steps tail put all) takes
+
+-- a flusher goes on from where it was
+pub writes_on : (sound : Rows → Type 0) (place : ℕ) (log : Log) (before after : Option (List Step)) → Tells (WritesFrom sound place log) before after → Tells GoesOnFrom before after
+writes_on sound place log before after = tells_weaker (WritesFrom sound place log) GoesOnFrom before after (λ old new w. (w.writes.more, w.writes.steps))
 
 -- a line of a session removes nothing
-pub session_removes : (sound : Rows → Type 0) (v t : View) (l : ScriptLine) (a : Answer) (told : Option (List Step)) (slots : Slots) → DidLine v l a t → Removes sound a told slots slots
+pub session_removes : (sound : Rows → Type 0) (v t : View) (l : ScriptLine) (a : Answer) (told : Option (List Step)) (slots : Slots) → DidLine v l a t → Removes sound a told told slots slots
 session_removes sound v t l (answer.Checkpointed place) told slots did = absurd (no_checkpoint v t l place did)
 session_removes sound v t l a told slots did = tt
 

@@ -1,5 +1,5 @@
 -- The places that a report acknowledges: all below them has come to the disk, to last.
-use Rattle.std.specs.Prelude.{◌≡◌, ◌≢◌, ℕ, ◌+◌, ◌≤◌, ◌++◌, List, [], Option, Some, None, IfSome, Result, Ok, Err}
+use Rattle.std.specs.Prelude.{◌≡◌, ◌≢◌, ℕ, ◌+◌, ◌≤◌, ◌++◌, List, [], Option, Some, None, Result, Ok, Err}
 use Rattle.erm_model.specs.Member.{◌∈◌}
 use Rattle.erm_model.specs.Rows.{Rows}
 use Rattle.erm_block.specs.declared.block.Block.{Block}
@@ -33,25 +33,26 @@ EndsAt (answer.Durable stamp) place end = place ≤ end
 EndsAt a place end = end ≡ place
 
 -- the checkpoint that an answer tells is there: it is the best one, of the place, in the place of the one that wasn't the best before
-abbrev pub IsSavedAt : (Rows → Type 0) → Answer → Pair → List Step → Type 0
-IsSavedAt sound (answer.Checkpointed place) pair steps = (best pair ≢ None) × ((base pair).at ≡ place) × ((before : Slots) × TookPlace sound place before (slots_of pair) steps)
-IsSavedAt sound a pair steps = Unit {0}
+abbrev pub IsSavedAt : (Rows → Type 0) → Answer → Pair → List Step → List Step → Type 0
+IsSavedAt sound (answer.Checkpointed place) pair first steps = (best pair ≢ None) × ((base pair).at ≡ place) × ((before : Slots) × TookPlace sound place before (slots_of pair) first steps)
+IsSavedAt sound a pair first steps = Unit {0}
 
--- nothing is pending on a disk, and it recovers to the place that an answer tells, from the checkpoint that it tells, if it tells one
-pub record HoldsTold (sound : Rows → Type 0) (a : Answer) (place : ℕ) (steps : List Step) : Type 0 where
+-- nothing is pending on a disk, and it recovers to the place that an answer tells, from the checkpoint that it tells, if it tells one, which was taken
+-- since the first steps
+pub record HoldsTold (sound : Rows → Type 0) (a : Answer) (place : ℕ) (first steps : List Step) : Type 0 where
   pub settled : IsSettled steps
   pub found : State
   pub pair : Pair
   pub there : RecoversTo sound found pair (contents steps)
   pub ends : EndsAt a place found.at
-  pub saved : IsSavedAt sound a pair steps
+  pub saved : IsSavedAt sound a pair first steps
 
 -- From a moment on at which the disk recovers to the place that an answer tells, up to the last one, each image recovers to a front of these
 -- blocks, to all below the place at least.
 pub record LastsFrom (sound : Rows → Type 0) (from : State) (blocks : List Block) (a : Answer) (place : ℕ) (old new : List Step) : Type 0 where
   pub mid : List Step
   pub moment : IsMoment old new mid
-  pub holds : HoldsTold sound a place mid
+  pub holds : HoldsTold sound a place old mid
   pub keeps : KeepsBlocks sound from blocks place mid new
 
 -- so it is of each place that these lines acknowledge
@@ -73,7 +74,7 @@ GoesOnFrom old new = (more : List Step) × (new ≡ more ++ old)
 pub record IsKeptTo (sound : Rows → Type 0) (first : Option (List Step)) (k : Keeper) (a : Answer) (place : ℕ) : Type 0 where
   pub start : Option (List Step)
   pub later : Tells GoesOnFrom first start
-  pub holds : IfSome start (HoldsTold sound a place)
+  pub holds : Tells (HoldsTold sound a place) first start
   pub low : place ≤ k.log.flushed
   pub kept : IsKept sound start place k
 

@@ -11,7 +11,7 @@ ghost use Rattle.erm_lines.specs.Whole.{AreRunsNow};
 ghost use Rattle.erm_log_run.specs.Keeping.{CountsFaults, IsHeld, Keeps, keeper_of};
 ghost use Rattle.erm_log_run.specs.Lines.{AreReceipts, IsLineOf};
 ghost use Rattle.erm_log_run.specs.Runs.{FailsOfLog, FlushesOnFault};
-ghost use Rattle.erm_log_run.specs.Saving.{AreSaved, Removes, saved_by};
+ghost use Rattle.erm_log_run.specs.Saving.{AreSaved, OlderStay, Removes, saved_by};
 ghost use Rattle.erm_log_run.specs.Starving.{WhereStarved};
 
 use crate::{LineStop, RowsOf, Store, checkpoint_line, flush_line};
@@ -77,7 +77,8 @@ pub fn run_line<W: ScriptWorld, D: Disk>(
     ensures receipts { OnOk result (AreReceipts (W.view world.new) receipts.new) }
     ensures keeps { Keeps W.rows_law.meets result (keeper_of (W.log world.old) store.old (D.told store.old.disk)) (keeper_of (W.log world.new) store.new (D.told store.new.disk)) }
     ensures saves { IfOk result (λ a. AreSaved (saved_by a None) (D.told store.new.disk) store.old.slots store.new.slots) }
-    ensures removes { IfOk result (λ a. Removes W.rows_law.meets a (D.told store.new.disk) store.old.slots store.new.slots) }
+    ensures removes { IfOk result (λ a. Removes W.rows_law.meets a (D.told store.old.disk) (D.told store.new.disk) store.old.slots store.new.slots) }
+    ensures older { IfOk result (λ a. OlderStay (saved_by a None) (W.log world.old).flushed (D.told store.old.disk) (D.told store.new.disk)) }
     ensures counts { CountsFaults result (D.faults store.old.disk) (D.faults store.new.disk) }
     ensures spared { WhereStarved result (store.new ≡ store.old) }
 {

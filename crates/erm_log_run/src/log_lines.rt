@@ -4,7 +4,7 @@ ghost use Rattle.erm_lines.specs.Executions.{DidLog};
 ghost use Rattle.erm_script.specs.declared.script.Command.TheVariants.{Checkpoint, Flush};
 ghost use Rattle.erm_log_run.specs.Keeping.{CountsFaults, IsHeld, Keeps, keeper_of};
 ghost use Rattle.erm_log_run.specs.Runs.{FlushesOnFault};
-ghost use Rattle.erm_log_run.specs.Saving.{AreSaved, Removes, saved_by};
+ghost use Rattle.erm_log_run.specs.Saving.{AreSaved, OlderStay, Removes, saved_by};
 ghost use Rattle.erm_log_run.specs.Starving.{WhereStarved};
 
 use crate::{LineStop, RowsOf, Store};
@@ -26,7 +26,8 @@ pub fn flush_line<W: ScriptWorld, D: Disk>(
     ensures flushes { FlushesOnFault result (W.view world.old) (W.view world.new) }
     ensures keeps { Keeps W.rows_law.meets result (keeper_of (W.log world.old) store.old (D.told store.old.disk)) (keeper_of (W.log world.new) store.new (D.told store.new.disk)) }
     ensures saves { IfOk result (λ a. AreSaved (saved_by a None) (D.told store.new.disk) store.old.slots store.new.slots) }
-    ensures removes { IfOk result (λ a. Removes W.rows_law.meets a (D.told store.new.disk) store.old.slots store.new.slots) }
+    ensures removes { IfOk result (λ a. Removes W.rows_law.meets a (D.told store.old.disk) (D.told store.new.disk) store.old.slots store.new.slots) }
+    ensures older { IfOk result (λ a. OlderStay (saved_by a None) (W.log world.old).flushed (D.told store.old.disk) (D.told store.new.disk)) }
     ensures counts { CountsFaults result (D.faults store.old.disk) (D.faults store.new.disk) }
     ensures fed { WhereStarved result ⊥ }
 {
@@ -55,7 +56,8 @@ pub fn checkpoint_line<W: ScriptWorld, D: Disk>(
     ensures flushes { FlushesOnFault result (W.view world.old) (W.view world.new) }
     ensures keeps { Keeps W.rows_law.meets result (keeper_of (W.log world.old) store.old (D.told store.old.disk)) (keeper_of (W.log world.new) store.new (D.told store.new.disk)) }
     ensures saves { IfOk result (λ a. AreSaved (saved_by a None) (D.told store.new.disk) store.old.slots store.new.slots) }
-    ensures removes { IfOk result (λ a. Removes W.rows_law.meets a (D.told store.new.disk) store.old.slots store.new.slots) }
+    ensures removes { IfOk result (λ a. Removes W.rows_law.meets a (D.told store.old.disk) (D.told store.new.disk) store.old.slots store.new.slots) }
+    ensures older { IfOk result (λ a. OlderStay (saved_by a None) (W.log world.old).flushed (D.told store.old.disk) (D.told store.new.disk)) }
     ensures counts { CountsFaults result (D.faults store.old.disk) (D.faults store.new.disk) }
     ensures fed { WhereStarved result ⊥ }
 {
@@ -84,7 +86,8 @@ fn checkpoint_flushed<W: ScriptWorld, D: Disk>(
     ensures flushes { FlushesOnFault result (W.view world.old) (W.view world.new) }
     ensures keeps { Keeps W.rows_law.meets result (keeper_of (W.log world.old) store.old (D.told store.old.disk)) (keeper_of (W.log world.new) store.new (D.told store.new.disk)) }
     ensures saves { IfOk result (λ a. AreSaved (saved_by a None) (D.told store.new.disk) store.old.slots store.new.slots) }
-    ensures removes { IfOk result (λ a. Removes W.rows_law.meets a (D.told store.new.disk) store.old.slots store.new.slots) }
+    ensures removes { IfOk result (λ a. Removes W.rows_law.meets a (D.told store.old.disk) (D.told store.new.disk) store.old.slots store.new.slots) }
+    ensures older { IfOk result (λ a. OlderStay (saved_by a None) (W.log world.old).flushed (D.told store.old.disk) (D.told store.new.disk)) }
     ensures counts { CountsFaults result (D.faults store.old.disk) (D.faults store.new.disk) }
     ensures fed { WhereStarved result ⊥ }
 {

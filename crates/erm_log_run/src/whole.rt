@@ -22,7 +22,7 @@ ghost use Rattle.erm_log_run.specs.Keeping.{CountsFaults, IsHeld, Keeps, keeper_
 ghost use Rattle.erm_log_run.specs.Lines.{AreLinesOf};
 ghost use Rattle.erm_log_run.specs.Acknowledged.{AllLast, KeepsTold};
 ghost use Rattle.erm_log_run.specs.Runs.{IsCutReportOf, IsReportOf, OnFault, RanAll, UnlessFault, UnlessMemory, WasCut, WasRun, lines_in};
-ghost use Rattle.erm_log_run.specs.Saving.{AreSaved, saved_at};
+ghost use Rattle.erm_log_run.specs.Saving.{AreSaved, OlderStay, saved_at};
 ghost use Rattle.erm_log_run.specs.Starving.{OnMemory, Starves, WasStarved, WhereStarved};
 
 use crate::{LineStop, RunStop, Store, answer_all, by_seat, close_all, cut_report};
@@ -56,6 +56,7 @@ fn run_all<W: ScriptWorld, D: Disk>(
     ensures keeps { Keeps W.rows_law.meets result (keeper_of (W.log world.old) store.old (D.told store.old.disk)) (keeper_of (W.log world.new) store.new (D.told store.new.disk)) }
     ensures told { KeepsTold W.rows_law.meets result answers.new.items (D.told store.old.disk) (keeper_of (W.log world.new) store.new (D.told store.new.disk)) }
     ensures saves { OnOk result (AreSaved (saved_at answers.new.items) (D.told store.old.disk) store.old.slots store.new.slots) }
+    ensures older { OnOk result (OlderStay (saved_at answers.new.items) (W.log world.old).flushed (D.told store.old.disk) (D.told store.new.disk)) }
     ensures counts { CountsFaults result (D.faults store.old.disk) (D.faults store.new.disk) }
     ensures starved { WhereStarved result (Starves W.rows_law.meets (W.view world.old) script.now (keeper_of (W.log world.old) store.old (D.told store.old.disk)) (D.told store.new.disk)) }
 {
@@ -109,11 +110,12 @@ pub fn run_script<W: ScriptWorld, D: Disk>(
     ensures stands { UnlessMemory result (W.stands world.new) }
 
     // The lines are a good report, whose windows are tight, of this very run. The last checkpoint that it tells left its slot, and with none
-    // the slots are those from before.
+    // the slots are those from before, and so are the log's older segments.
     ensures ran { IfOk result (λ lines.
         (was : WasRun (W.view world.old) (W.view world.new) (opening_at start (count_rows (W.view world.old).opening.rows) (W.view world.old).opening.first) names.now script.now lines.items)
         × (All FitsTypes lines.items → IsReportOf (opening_at start (count_rows (W.view world.old).opening.rows) (W.view world.old).opening.first) names.now script.now was.answers was.closed lines.items)
-        × AreSaved (saved_at was.answers) (D.told store.old.disk) store.old.slots store.new.slots) }
+        × AreSaved (saved_at was.answers) (D.told store.old.disk) store.old.slots store.new.slots
+        × OlderStay (saved_at was.answers) (W.log world.old).flushed (D.told store.old.disk) (D.told store.new.disk)) }
 
     // All that committed is flushed at the end, and the disk holds the log.
     ensures flushed { OnOk result ((W.view world.new).flushed ≡ (W.view world.new).tail) }

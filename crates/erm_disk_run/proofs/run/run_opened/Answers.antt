@@ -61,6 +61,7 @@ returns g c =
       keys = c.oids_are_full.ensures;
       close = c.courses_close_sessions.ensures;
       owe = c.courses_owe_to_answers.ensures;
+      fronts = c.courses_run_in_fronts.ensures;
     } in
     let told : ended_as c.run_script.result ≡ c.match-run_script.ended = elim c.match-run_script.branch [
       | in-Ok w ↦ ap ended_as w.in-Ok.is ∙ sym w.ended-is

@@ -13,13 +13,14 @@ use Rattle.erm_good_report.specs.Stamps.{place_told}
 use Rattle.erm_log_run.specs.Acknowledged.{EndsAt}
 use Rattle.erm_log_run.specs.Keeping.{Keeper, KeepsOn, keeper_of}
 use Rattle.erm_log_run.specs.Lines.{IsLineOf}
-use Rattle.erm_log_run.specs.Saving.{AreSaved, saved_at}
+use Rattle.erm_log_run.specs.Saving.{AreSaved, OlderStay, saved_at}
 use Rattle.erm_log_run.specs.Starving.{Starves}
 use Rattle.erm_log_run.proofs.Answering.{line_moves_front, line_moves_more}
 use Rattle.erm_log_run.proofs.Closing.{execution_more}
 use Rattle.erm_log_run.proofs.Leaving.{on_itself, on_then}
 use Rattle.erm_log_run.proofs.Lined.{line_of_too}
 use Rattle.erm_log_run.proofs.Serial.{serializable_too}
+use Rattle.erm_log_run.proofs.Older.{older_itself, stay_more}
 use Rattle.erm_log_run.proofs.Saving.{saved_more}
 use Rattle.erm_log_run.proofs.Starving.{starved_behind, starved_so, stop_starves}
 use Rattle.erm_log_run.proofs.Stopped.{stop_keeps, stop_ran}
@@ -39,6 +40,7 @@ loop-line-init g c = record {
   keeps = on_itself g.W.LogWorld.rows_law.meets _;
   told = λ place is. absurd (none_in_nil is.answer (subst (λ (xs : List Answer). is.answer ∈ xs) c.requires.none is.given));
   saves = subst (λ (xs : List Answer). AreSaved (saved_at xs) (g.D.Disk.told c.args.store.now.disk) c.args.store.now.slots c.args.store.now.slots) (sym c.requires.none) refl;
+  older = subst (λ (xs : List Answer). OlderStay (saved_at xs) (g.W.LogWorld.log c.args.world.now).flushed (g.D.Disk.told c.args.store.now.disk) (g.D.Disk.told c.args.store.now.disk)) (sym c.requires.none) (older_itself (g.W.LogWorld.log c.args.world.now).flushed (g.D.Disk.told c.args.store.now.disk));
   faults = refl;
 }
 
@@ -100,9 +102,11 @@ loop-line-preserved g c =
       held = keeps.0;
       keeps = further;
       told = subst (λ (xs : List Answer). AreKept sound first.told xs is) (sym pushed)
-          (all_kept_more sound c.kept_logs_begin.ensures first was is c.loop-line.answers.items a c.requires.held keeps.1 further keeps.0 reaches c.in_ok-answer.ensures.saves c.in_ok-answer.ensures.removes kept.told);
+          (all_kept_more sound c.kept_logs_begin.ensures first was is c.loop-line.answers.items a c.requires.held kept.keeps keeps.1 further keeps.0 reaches c.in_ok-answer.ensures.saves c.in_ok-answer.ensures.removes kept.told);
       saves = subst (λ (xs : List Answer). AreSaved (saved_at xs) first.told first.slots is.slots) (sym pushed)
           (saved_more sound c.kept_logs_begin.ensures first was is c.loop-line.answers.items a c.requires.held further kept.saves c.in_ok-answer.ensures.saves);
+      older = subst (λ (xs : List Answer). OlderStay (saved_at xs) first.log.flushed first.told is.told) (sym pushed)
+          (stay_more c.loop-line.answers.items a first.log.flushed was.log.flushed first.told was.told is.told kept.keeps.further kept.older c.in_ok-answer.ensures.older);
       faults = c.in_ok-answer.ensures.counts ∙ kept.faults;
     }
 

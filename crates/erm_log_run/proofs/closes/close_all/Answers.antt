@@ -9,6 +9,7 @@ use Rattle.erm_log_run.specs.Closing.{IsClosing}
 use Rattle.erm_log_run.specs.Keeping.{Keeper, keeper_of}
 use Rattle.erm_log_run.proofs.Closing.{flushed_too, none_closed}
 use Rattle.erm_log_run.proofs.Leaving.{SessionLaws, on_itself, on_then, session_keeps}
+use Rattle.erm_log_run.proofs.Older.{older_itself, older_then}
 use Rattle.erm_log_run.proofs.Progress.{all_idle, first_count, idle_after, none_left, same_count, turn_taken}
 use Rattle.erm_log_run.proofs.Serial.{serializable_too}
 use Rattle.erm_log_run.proofs.Starving.{stop_starves}
@@ -29,6 +30,7 @@ loop-init g c =
       held = c.requires.held;
       keeps = on_itself g.W.LogWorld.rows_law.meets _;
       slots = refl;
+      older = older_itself (g.W.LogWorld.log c.args.world.now).flushed (g.D.Disk.told c.args.store.now.disk);
       faults = refl;
     }
 
@@ -73,6 +75,7 @@ loop-preserved g c =
       held = keeps.0;
       keeps = on_then law.meets first k m (on_then law.meets first was k kept.keeps flushes.1) keeps.1;
       slots = c.in_ok-flush_up.ensures.slots ∙ kept.slots;
+      older = older_then first.log.flushed was.log.flushed first.told was.told k.told kept.keeps.further kept.older c.in_ok-flush_up.ensures.older;
       faults = c.in_ok-flush_up.ensures.counts ∙ kept.faults;
     }
 
@@ -97,6 +100,13 @@ returns-clause-idle g c =
 
 pub returns-clause-flushed : goal.returns-clause-flushed
 returns-clause-flushed g c = c.in_ok-flush_up-2.ensures.all (returns-clause-idle g c)
+
+pub returns-clause-older : goal.returns-clause-older
+returns-clause-older g c =
+    let kept = c.loop.invariant in
+    let place = (g.W.LogWorld.log c.args.world.now).flushed in
+    older_then place (g.W.LogWorld.log c.loop.world).flushed (g.D.Disk.told c.args.store.now.disk) (g.D.Disk.told c.loop.store.disk) (g.D.Disk.told c.flush_up-2.new.store.disk)
+    kept.keeps.further kept.older c.in_ok-flush_up-2.ensures.older
 
 pub returns-in_err-flush_up-clause-closes : goal.returns-in_err-flush_up-clause-closes
 returns-in_err-flush_up-clause-closes g c =

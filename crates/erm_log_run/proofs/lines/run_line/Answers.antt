@@ -9,6 +9,7 @@ use Rattle.erm_log_run.specs.Keeping.{Keeper, keeper_of}
 use Rattle.erm_log_run.specs.Lines.{Names}
 use Rattle.erm_log_run.proofs.Leaving.{SessionLaws, session_keeps, turn_leaves}
 use Rattle.erm_log_run.proofs.Lined.{checkpoint_moved, flush_moved, log_line, names_session}
+use Rattle.erm_log_run.proofs.Older.{session_older}
 use Rattle.erm_log_run.proofs.Receipts.{receipts_stay}
 use Rattle.erm_log_run.proofs.Saving.{session_removes, session_saved}
 use Rattle.erm_log_run.proofs.Serial.{serializable_too}
@@ -37,6 +38,7 @@ returns-in-Flush g c =
       keeps = c.flush_line.ensures.keeps;
       saves = c.flush_line.ensures.saves;
       removes = c.flush_line.ensures.removes;
+      older = c.flush_line.ensures.older;
       counts = c.flush_line.ensures.counts;
       spared = starved_weaker r ⊥ (c.flush_line.new.store ≡ c.args.store.now) (λ no. absurd no) c.flush_line.ensures.fed;
     }
@@ -62,6 +64,7 @@ returns-in-Checkpoint g c =
       keeps = c.checkpoint_line.ensures.keeps;
       saves = c.checkpoint_line.ensures.saves;
       removes = c.checkpoint_line.ensures.removes;
+      older = c.checkpoint_line.ensures.older;
       counts = c.checkpoint_line.ensures.counts;
       spared = starved_weaker r ⊥ (c.checkpoint_line.new.store ≡ c.args.store.now) (λ no. absurd no) c.checkpoint_line.ensures.fed;
     }
@@ -110,6 +113,7 @@ returns-in_ok-session_line-in_default g c =
           c.requires.held refl refl refl refl;
       saves = session_saved v t l a (g.D.Disk.told s.disk) s.slots did;
       removes = session_removes law.meets v t l a (g.D.Disk.told s.disk) s.slots did;
+      older = session_older a k.log.flushed (g.D.Disk.told s.disk);
       counts = refl;
       spared = tt;
     }

@@ -33,6 +33,7 @@ returns-in-Ok g c =
       keeps = checkpoint_keeps sound laws k m f c.in-Ok.place did.1 did.4 (inl (did.4 ∙ sym did.3)) (c.in-Ok.ensures.stays did.1) c.in-Ok.ensures.lasts;
       removes = checkpoint_removes sound l.flushed n s.slots c.checkpoint_turn.new.slots s.run c.in-Ok.place (g.D.Disk.told s.disk) (g.D.Disk.told c.checkpoint_turn.new.disk) did.3 c.in-Ok.ensures.put c.in-Ok.ensures.saved;
       saves = checkpoint_saved sound n c.checkpoint_turn.new.slots c.in-Ok.place (g.D.Disk.told c.checkpoint_turn.new.disk) c.in-Ok.ensures.lasts;
+      older = tt;
       counts = c.in-Ok.ensures.counts;
       fed = tt;
     }
@@ -78,6 +79,7 @@ returns-in-Err-DiskFault g c =
       keeps = checkpoint_fault_keeps sound laws k m f;
       saves = tt;
       removes = tt;
+      older = tt;
       counts = subst (λ (stop : CheckpointStop). Counts {T = ℕ} (Err stop) (g.D.Disk.faults s.disk) (g.D.Disk.faults c.checkpoint_turn.new.disk)) c.in-Err-DiskFault.field-0-is c.in-Err-DiskFault.ensures.counts;
       fed = tt;
     }

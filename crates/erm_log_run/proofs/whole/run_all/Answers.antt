@@ -7,6 +7,7 @@ use Rattle.erm_world.specs.World.{Opening, Session, phase_of}
 use Rattle.erm_log_run.specs.Keeping.{Keeper, keeper_of}
 use Rattle.erm_log_run.specs.Saving.{saved_at}
 use Rattle.erm_log_run.specs.Starving.{Starves}
+use Rattle.erm_log_run.proofs.Older.{stay_behind}
 use Rattle.erm_log_run.proofs.Receipts.{none_received}
 use Rattle.erm_log_run.proofs.Leaving.{on_itself}
 use Rattle.erm_log_run.proofs.Results.{all_ran, counts_then, cut_ran, keeps_then}
@@ -40,6 +41,7 @@ returns-in_err-answer_all g c =
       keeps = rw (p.1, p.2) (stop_keeps (Unit {0}) (Vec (Option Answer) Global) sound stop first first mid (on_itself sound first) c.in_err-answer_all.ensures.keeps);
       told = rw (p.1, p.2) (stop_told_too (Unit {0}) (Vec (Option Answer) Global) sound stop first.told c.answer_all.new.answers.items mid c.in_err-answer_all.ensures.told);
       saves = rw p.1 tt;
+      older = rw p.1 tt;
       starved = rw (p.1, p.2) (stop_starves (Unit {0}) (Vec (Option Answer) Global) stop (Starves sound v c.args.script.now first mid.told) (Starves sound v c.args.script.now first mid.told) (λ starved. starved) c.in_err-answer_all.ensures.starved);
       counts = rw (p.1, p.2) (stop_counts (Unit {0}) (Vec (Option Answer) Global) stop (g.D.Disk.faults c.args.store.now.disk) (g.D.Disk.faults c.args.store.now.disk) (g.D.Disk.faults c.answer_all.new.store.disk) refl c.in_err-answer_all.ensures.counts);
     }
@@ -70,6 +72,7 @@ returns g c =
       keeps = keeps_then r g.W.LogWorld.rows_law.meets first mid last c.in_ok-answer_all.ensures.keeps.1 c.close_all.ensures.keeps;
       told = told_then r g.W.LogWorld.rows_law.meets first.told c.answer_all.new.answers.items mid last c.in_ok-answer_all.ensures.told c.close_all.ensures.keeps;
       saves = saved_then r (saved_at c.answer_all.new.answers.items) first.told first.slots mid.slots last.slots c.in_ok-answer_all.ensures.saves c.close_all.ensures.slots;
+      older = stay_behind r (saved_at c.answer_all.new.answers.items) first.log.flushed mid.log.flushed first.told mid.told last.told c.in_ok-answer_all.ensures.keeps.1.further c.in_ok-answer_all.ensures.older c.close_all.ensures.older;
       counts = counts_then r _ _ _ c.in_ok-answer_all.ensures.counts c.close_all.ensures.counts;
       starved = starved_weaker r (c.close_all.new.store ≡ c.answer_all.new.store) (Starves sound v c.args.script.now first last.told)
           (λ same.

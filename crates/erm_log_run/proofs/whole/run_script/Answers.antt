@@ -115,7 +115,7 @@ returns-in-Ok g c =
     let moments = moments_of sound k m keeps.1 kept in
     record {
       stands = c.run_all.ensures.stands;
-      ran = (was, (λ fits. told_tight laws v t script opening is names c.requires.sessions lines was fits), c.in-Ok.ensures.saves);
+      ran = (was, (λ fits. told_tight laws v t script opening is names c.requires.sessions lines was fits), c.in-Ok.ensures.saves, c.in-Ok.ensures.older);
       flushed = ran.3;
       holds = keeps.0.holds;
       tail = keeps.1.tail;

@@ -1,6 +1,6 @@
 use Rattle.std.proofs.Common.{◌∙◌, refl, sym, ap}
 use Rattle.erm_world.specs.Log.{Log}
-use Rattle.erm_flush.proofs.Progress.{goes_further, goes_nowhere, stop_goes_on, told_start, told_stop, told_turn}
+use Rattle.erm_flush.proofs.Progress.{goes_further, goes_nowhere, stop_did, stop_goes_on, told_start, told_stop, told_turn}
 use Rattle.erm_flush.proofs.flusher.Flusher.flush_all.Goals as goal
 
 pub loop-stop-init : goal.loop-stop-init
@@ -30,7 +30,7 @@ loop-stop-preserved g c =
       still = λ failed. let fine = turn.1 in absurd (cc);
       told = λ fine. told_turn c.stored_words_tell_the_row.ensures.short c.stored_words_tell_the_row.ensures.whole g.W.LogWorld.rows_law.meets (g.W.LogWorld.log c.args.world.now).flushed
           (g.W.LogWorld.log c.loop-stop.world) now (g.D.Disk.told c.args.disk.now) (g.D.Disk.told c.loop-stop.disk) (g.D.Disk.told c.flush_turn.new.disk)
-          turn.2.goes_on (g.met.W.LogWorld.is_log c.flush_turn.new.world c.in_default.ensures.stands) (turn.3 ∙ turn.4)
+          turn.2 (g.met.W.LogWorld.is_log c.flush_turn.new.world c.in_default.ensures.stands) (turn.3 ∙ turn.4)
           (c.loop-stop.invariant.told turn.0) (c.in_default.ensures.any_moment turn.0) c.in_default.ensures.lasts;
     }
 
@@ -43,4 +43,5 @@ returns-in-Err-clause-any_moment g c = λ fine.
     told_stop c.stored_words_tell_the_row.ensures.short c.stored_words_tell_the_row.ensures.whole g.W.LogWorld.rows_law.meets (g.W.LogWorld.log c.args.world.now)
     (g.W.LogWorld.log c.loop-stop.world) now (g.D.Disk.told c.args.disk.now) (g.D.Disk.told c.loop-stop.disk) (g.D.Disk.told c.flush_turn.new.disk)
     on (g.met.W.LogWorld.is_log c.flush_turn.new.world c.in-Err.ensures.stands) (ap (λ (x : Log). x.opened) all.log) (c.requires.ready fine)
+    (stop_did c.in-Err.stop c.loop-stop.self c.flush_turn.new.self (g.W.LogWorld.log c.loop-stop.world) now (g.D.Disk.told c.loop-stop.disk) (g.D.Disk.told c.flush_turn.new.disk) c.in-Err.ensures.turn c.in-Err.ensures.stays)
     (c.loop-stop.invariant.told was) (c.in-Err.ensures.any_moment was)

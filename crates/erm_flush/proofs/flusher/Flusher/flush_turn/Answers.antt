@@ -24,14 +24,14 @@ returns-then-is_err-clause-any_moment g c = λ fine.
     let same = whole_buffer c.deref.result.now c.gather.new.words _ c.self.inside.words.len _ c.deref.ensures.value c.in-Words.ensures.room c.self.invariant.0 in
     written_gathered c.stored_words_tell_the_row.ensures.short c.stored_words_tell_the_row.ensures.whole g.W.LogWorld.rows_law.meets (g.W.LogWorld.log c.args.world.now) (g.W.LogWorld.log c.gather.new.self)
     c.in-Words.at c.in-Words.count c.gather.new.words c.deref.result.now (g.D.Disk.told c.args.disk.now) (g.D.Disk.told c.write_log.new.disk)
-    c.in-Words.ensures.gathers (g.met.W.LogWorld.is_log c.gather.new.self c.in-Words.ensures.stands) same (c.requires.ready fine) c.write_log.ensures.writes
+    c.in-Words.ensures.gathers (g.met.W.LogWorld.is_log c.gather.new.self c.in-Words.ensures.stands) same c.in-Words.ensures.room (c.requires.ready fine) c.write_log.ensures.writes
 
 pub returns-clause-any_moment : goal.returns-clause-any_moment
 returns-clause-any_moment g c = λ fine.
     let same = whole_buffer c.deref.result.now c.gather.new.words _ c.self.inside.words.len _ c.deref.ensures.value c.in-Words.ensures.room c.self.invariant.0 in
     written_flushed c.stored_words_tell_the_row.ensures.short c.stored_words_tell_the_row.ensures.whole g.W.LogWorld.rows_law.meets (g.W.LogWorld.log c.args.world.now) (g.W.LogWorld.log c.gather.new.self) (g.W.LogWorld.log c.flushed_to.new.self)
     c.in-Words.at c.in-Words.count c.gather.new.words c.deref.result.now (g.D.Disk.told c.args.disk.now) (g.D.Disk.told c.write_log.new.disk)
-    c.in-Words.ensures.gathers c.flushed_to.ensures.flushed (g.met.W.LogWorld.is_log c.flushed_to.new.self c.flushed_to.ensures.stands) same (c.requires.ready fine) c.write_log.ensures.writes
+    c.in-Words.ensures.gathers c.flushed_to.ensures.flushed (g.met.W.LogWorld.is_log c.flushed_to.new.self c.flushed_to.ensures.stands) same c.in-Words.ensures.room (c.requires.ready fine) c.write_log.ensures.writes
 
 pub returns-clause-lasts : goal.returns-clause-lasts
 returns-clause-lasts g c =
