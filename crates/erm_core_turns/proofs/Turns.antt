@@ -44,7 +44,7 @@ IsOfFlusher kind.LoadFlushed = Unit {0}
 IsOfFlusher k = ⊥
 
 shared_same : (s : Shared) → SharedStays s s
-shared_same s = record { opening = refl; run = refl; first = refl; cells = refl; tail = refl; log = refl; objects = refl }
+shared_same s = record { opening = refl; run = refl; first = refl; cells = refl; drawn = refl; tail = refl; log = refl; objects = refl }
 
 shared_stays : (k : Kind) → IsOfFlusher k → (found : ℕ) (x : Part) (s : Shared) → SharedStays s (shared_after FLUSH_SEAT k found x s)
 shared_stays (kind.LoadTail purpose) is found x s = shared_same s
@@ -53,8 +53,8 @@ shared_stays (kind.LoadState other bound) is found x s = shared_same s
 shared_stays (kind.LoadEntry oid) is found x s = shared_same s
 shared_stays (kind.LoadCell version w) is found x s = shared_same s
 shared_stays (kind.LoadRing at) is found x s = shared_same s
-shared_stays (kind.ClearRing at) is found x s = record { opening = refl; run = refl; first = refl; cells = refl; tail = refl; log = refl; objects = refl }
-shared_stays (kind.StoreFlushed value) is found x s = record { opening = refl; run = refl; first = refl; cells = refl; tail = refl; log = refl; objects = refl }
+shared_stays (kind.ClearRing at) is found x s = record { opening = refl; run = refl; first = refl; cells = refl; drawn = refl; tail = refl; log = refl; objects = refl }
+shared_stays (kind.StoreFlushed value) is found x s = record { opening = refl; run = refl; first = refl; cells = refl; drawn = refl; tail = refl; log = refl; objects = refl }
 shared_stays kind.LoadFlushed is found x s = shared_same s
 shared_stays _ is found x s = absurd is
 
@@ -64,6 +64,7 @@ shared_both s t u one two = record {
   run = two.run ∙ one.run;
   first = two.first ∙ one.first;
   cells = two.cells ∙ one.cells;
+  drawn = two.drawn ∙ one.drawn;
   tail = two.tail ∙ one.tail;
   log = two.log ∙ one.log;
   objects = two.objects ∙ one.objects;

@@ -83,6 +83,7 @@ pub record SharedStays (s t : Shared) : Type 0 where
   pub run : t.run ≡ s.run
   pub first : t.first ≡ s.first
   pub cells : t.cell_limit ≡ s.cell_limit
+  pub drawn : t.cells_drawn ≡ s.cells_drawn
   pub tail : t.tail ≡ s.tail
   pub log : t.log ≡ s.log
   pub objects : t.objects ≡ s.objects

@@ -4,3 +4,4 @@ pub mod Gathering
 pub mod Clearing
 pub mod Turning
 pub mod Took
+pub mod TookWords

@@ -8,7 +8,7 @@ ghost use Rattle.erm_world.specs.declared.gathered.Gathered.TheVariants.{Empty, 
 ghost use Rattle.erm_rule.specs.Books.{book};
 ghost use Rattle.erm_rule.specs.Steps.{Booked, Fits, Ready};
 ghost use Rattle.erm_rule.specs.Views.{view, part_in};
-ghost use Rattle.erm_ring.specs.Took.{TookClear};
+ghost use Rattle.erm_ring.specs.Took.{TookClear, TookGather};
 ghost use Rattle.erm_rule.specs.Went.{IsLoadStep, Went};
 
 use erm_cells::{clear_ring, load_flushed, load_ring, store_flushed};
@@ -85,6 +85,7 @@ pub fn gather<L: RowLaw>(t: &Table<L>, p: &mut Pass, words: &mut [u64]) -> Gathe
     ensures fits { Fits t.now.words.shared.table_id p.new }
     ensures room { length words.new ≡ RING_WORDS }
     ensures gathers { Gathers result (book p.old) words.new (book p.new) }
+    ensures took { TookGather L.law result words.new (book p.old) (book p.new) }
     ensures loads { Went L.law FLUSH_SEAT IsLoadStep (book p.old) (book p.new) }
 {
     let tail = load_tail(t, p, FLUSH_SEAT, TailUse::Gather);

@@ -1,5 +1,6 @@
-use Rattle.std.proofs.Common.{◌∙◌, arith, length-set}
+use Rattle.std.proofs.Common.{◌∙◌, inl, inr, ⊎_elim, arith, length-set}
 use Rattle.erm_ring.proofs.Gathering.{at_low, gather_full, gather_stops, flushed_held, flushed_ready, gather_goes_on, gather_starts, has, loop_held, tail_ready, word_ready}
+use Rattle.erm_ring.proofs.TookWords.{took_full, took_gather, words_more, words_none}
 use Rattle.erm_ring.proofs.turns.gather.Goals as goal
 use Rattle.erm_rule.proofs.Wents.{went_more, went_one, went_step}
 
@@ -18,6 +19,7 @@ loop-count-init g c = (
   c.requires.room,
   gather_starts c.args.p.now.me.0 c.requires.may g.L.RowLaw.law c.load_tail-tail.result c.load_flushed-from.result c.load_tail-tail.new.p.me.0 c.load_flushed-from.new.p.me.0 c.load_tail-tail.ensures.booked c.load_flushed-from.ensures.booked c.args.words.now,
   went_step _ _ _ _ _ _ _ _ (went_one _ _ _ _ _ _ _ tt c.load_tail-tail.ensures.booked) tt c.load_flushed-from.ensures.booked,
+  words_none g.L.RowLaw.law c.load_tail-tail.result c.load_flushed-from.result c.args.p.now.me.0 c.args.words.now c.load_tail-tail.new.p.me.0 c.load_flushed-from.new.p.me.0 c.load_tail-tail.ensures.booked c.load_flushed-from.ensures.booked,
 )
 
 pub next_word-requires-clause-fits : goal.next_word-requires-clause-fits
@@ -53,6 +55,7 @@ loop-count-preserved g c =
       gather_goes_on c.args.p.now.me.0 (has c.args.p.now.me.0 c.requires.may) c.load_tail-tail.result c.load_flushed-from.result c.loop-count.count c.loop-count.end c.loop-count.words c.loop-count.p.me.0 c.loop-count.invariant.2
           g.L.RowLaw.law c.in-Some.word c.in-Some.to c.next_word.new.p.me.0 next.0 next.1 (omega (arith, less, room, own)) (omega (arith, less, room)) next.2,
       went_more _ _ _ _ _ _ c.loop-count.invariant.3 c.next_word.ensures.loads,
+      words_more g.L.RowLaw.law c.load_tail-tail.result c.load_flushed-from.result c.args.p.now.me.0 c.loop-count.count c.in-Some.word c.loop-count.words c.loop-count.p.me.0 c.next_word.new.p.me.0 (omega (arith, less, room, own)) c.loop-count.invariant.4 next.0,
     )
 
 pub returns-clause-fits : goal.returns-clause-fits
@@ -69,3 +72,15 @@ returns-in_default-clause-loads g c = went_more _ _ _ _ _ _ c.loop-count.invaria
 
 pub returns-clause-loads : goal.returns-clause-loads
 returns-clause-loads g c = c.loop-count.invariant.3
+
+pub returns-in_default-clause-took : goal.returns-in_default-clause-took
+returns-in_default-clause-took g c =
+    took_gather g.L.RowLaw.law c.load_tail-tail.result c.load_flushed-from.result c.args.p.now.me.0 c.loop-count.count c.loop-count.words c.next_word.new.p.me.0
+    (record { few = (let less = c.loop-count-test.true in let room = c.loop-count.invariant.1 in omega (arith, less, room)); gathered = c.loop-count.p.me.0; loads = c.loop-count.invariant.4; stop = ⊎_elim (λ ended. inl (inl ended.0, ended.1)) (λ open_here. inr (open_here.0, (let less = c.loop-count-test.true in let room = c.loop-count.invariant.1 in omega (arith, less, room)), open_here.1)) (c.next_word.ensures.none c.in_default.is).1 })
+    c.gathered.result c.gathered.ensures.words c.gathered.ensures.empty c.gathered.ensures.unfilled
+
+pub returns-clause-took : goal.returns-clause-took
+returns-clause-took g c =
+    took_full g.L.RowLaw.law c.load_tail-tail.result c.load_flushed-from.result c.args.p.now.me.0 c.loop-count.count c.loop-count.words c.loop-count.p.me.0
+    (let less = c.loop-count-test.false in let most = c.loop-count.auto.count-end in let room = c.requires.room in omega (arith, less, most, room)) c.loop-count.invariant.1 c.loop-count.invariant.4
+    c.gathered-2.result c.gathered-2.ensures.words c.gathered-2.ensures.empty c.gathered-2.ensures.unfilled
