@@ -1,5 +1,5 @@
 -- A claim: what the pass's view says of it, as the world shows it, and the head that was found free.
-use Rattle.std.proofs.Common.{◌≡◌, ◌≢◌, ℕ, ◌+◌, ◌<◌, ◌≤◌, true, false, List, [], ◌∷◌, ◌++◌, length, map, Option, Some, refl, sym, ap, ◌∙◌, subst, arith}
+use Rattle.std.proofs.Common.{◌≡◌, ℕ, ◌+◌, ◌<◌, ⊎_elim, true, false, List, [], ◌∷◌, ◌++◌, length, map, Option, Some, refl, sym, ap, ◌∙◌, subst, arith}
 use Rattle.std.proofs.lemmas.List.{length-append, length-map, map-append}
 use Rattle.erm_model.specs.declared.history.VersionWritten.{VersionWritten}
 use Rattle.erm_model.specs.declared.limits.TheConstants.{WRITE_LIMIT}
@@ -7,7 +7,6 @@ use Rattle.erm_model.specs.declared.outcome.Phase.TheVariants as phase
 use Rattle.erm_model.specs.RowTransaction.{Law}
 use Rattle.erm_machine.specs.declared.attempt.Claim.{Claim}
 use Rattle.erm_machine.specs.declared.attempt.OwnCell.{OwnCell}
-use Rattle.erm_machine.specs.declared.event.Kind.{Kind}
 use Rattle.erm_machine.specs.declared.event.Kind.TheVariants as kind
 use Rattle.erm_machine.specs.declared.part.Part.{Part}
 use Rattle.erm_machine.specs.declared.task.Task.{Task}
@@ -25,27 +24,32 @@ use Rattle.erm_machine.proofs.QuietKinds.{moves}
 use Rattle.erm_core_cells.proofs.ChainsFrames.{same_name}
 use Rattle.erm_core_view.specs.Views.{session_of, view_of, work_of}
 use Rattle.erm_core_view.proofs.Shown.{shows_work}
-use Rattle.erm_core_steps.specs.Claiming.{HasHead, is_cleared}
+use Rattle.erm_core_steps.specs.Claiming.{is_cleared}
 use Rattle.erm_core_steps.specs.Reads.{IsAtWork, in_hand}
 use Rattle.erm_core_steps.proofs.Aborts.{no_flusher}
-use Rattle.erm_core_steps.proofs.Exchanges.{free_current, has_head, head_free, head_unowned}
+use Rattle.erm_core_steps.proofs.Early.{works_work}
+use Rattle.erm_core_steps.proofs.Exchanges.{free_current, has_head, head_free}
 use Rattle.erm_core_steps.proofs.Stored.{claimed_from}
 use Rattle.erm_core_steps.proofs.Unowned.{unowned}
 use Rattle.erm_core_steps.proofs.Ways.{begin_stays}
 use Rattle.erm_rows.specs.Claims as rows
 use Rattle.erm_rows.specs.Claims.{claimed_part, filled_claim}
-use Rattle.erm_rows.specs.Took.{TookFree, begin_in}
+use Rattle.erm_rows.specs.Took.{TookClaim, TookFree, begin_in}
 use Rattle.erm_rule.specs.declared.view.Book.{Book}
 use Rattle.erm_rule.specs.Views.{part_of}
 use Rattle.erm_rule.specs.Went.{core_of}
-use Rattle.erm_world.specs.Calls.{HasNoNewer, IsUnowned, Works}
-use Rattle.erm_world.specs.Works.{claiming}
+use Rattle.erm_session.specs.Calls.{ClaimsObject, HasClaimed}
+use Rattle.erm_session.specs.Calls as session_calls
+use Rattle.erm_session.specs.Took.{TookAnyClaim}
+use Rattle.erm_world.specs.Calls.{DidClaim, HasNoNewer, IsUnowned, Works}
+use Rattle.erm_world.specs.Calls as calls
+use Rattle.erm_world.specs.Works.{claiming, is_claimed}
 use Rattle.erm_world.specs.World.{IsSession, Session, View, Work, phase_at, work_at}
 use Rattle.erm_world.specs.World as world
 use Rattle.erm_table_world.specs.Stands.{StandsAt}
 use Rattle.erm_table_world.proofs.Beginning.{took_alone}
 use Rattle.erm_table_world.proofs.Loads.{loads_go}
-use Rattle.erm_table_world.proofs.Reading.{at_seat, work}
+use Rattle.erm_table_world.proofs.Reading.{as_it_was, at_seat, is_unclaimed, work}
 use Rattle.erm_table_world.proofs.Still.{Stayed, becomes}
 use Rattle.erm_table_world.proofs.Wholly.{Ran, part_is, part_set, runs}
 
@@ -148,3 +152,27 @@ module _ (law : Law) (sessions seat : ℕ) (b e : Book) (at : StandsAt law sessi
         free = unowned sessions seat oid (core_of b) at.state.sound.sound at.quiet (ap owner_of one.met ∙ took.head.unowned);
         current = subst (λ (v : View). HasNoNewer v seat oid) then.unseen.view (free_current sessions seat oid entry (core_of m) two.state.sound.sound then.at.active free);
       }
+
+  -- A CLAIM of an object that was claimed before, or is now
+  pub did_claim : (oid count : ℕ) → is_cleared own.task ≡ false → Ran law sessions seat b e → Stayed sessions seat (core_of b) (core_of e) → ClaimsObject b.view seat oid e.view
+      → TookAnyClaim law seat oid count b e → DidClaim (view_of sessions (core_of b)) seat oid (view_of sessions (core_of e))
+  did_claim oid count left ran stayed (session_calls.before same row has) took =
+      let mine : HasClaimed own oid row = subst (λ (x : Part). HasClaimed x oid row) (part_is law b seat at.state seated) has in
+      calls.before (as_it_was law sessions seat b e at session active seated ran stayed same)
+      (ap (λ (w : Work). is_claimed w.claims oid) (work law sessions seat b e at session active seated)
+      ∙ claimed_from own.current.writes mine.place no_claim oid mine.claimed.within mine.claimed.oid_is)
+  did_claim oid count left ran stayed (session_calls.now none row did) took =
+      let v : View = view_of sessions (core_of b) in
+      let c = claims oid row ran stayed did in
+      let made : VersionWritten = record { oid = oid; stamp = c.stamp; base = c.base; row = c.base; is_set = false } in
+      ⊎_elim
+      (λ (t : (count ≡ 0) × (e ≡ b)).
+      let grown : length (work_at (view_of sessions (core_of e)) seat).claims ≡ length (work_at v seat).claims + length (made ∷ []) =
+      ap (λ (w : Work). length w.claims) (works_work v (view_of sessions (core_of e)) seat (claiming made (work_at v seat)) c.shows) ∙ length-append (work_at v seat).claims (made ∷ [])
+      in
+      let same : length (work_at (view_of sessions (core_of e)) seat).claims ≡ length (work_at v seat).claims = ap (λ (z : Book). length (work_at (view_of sessions (core_of z)) seat).claims) t.1 in
+      absurd (omega (arith, grown, same)))
+      (λ (t : TookClaim law seat oid count b e).
+      let free = frees oid t.entry.entry t.entry.at left t.entry.free in
+      calls.now c.stamp c.base (is_unclaimed law sessions seat b e at session active seated oid none) c.few free.free free.current c.shows)
+      took

@@ -85,7 +85,7 @@ last_one rs ss r s same both =
     sym (get_or-append_seam rs r [] s) ∙ ap (λ (l : List VersionRead). get_or l (length rs) s) both ∙ ap (λ (l : List VersionRead). get_or (ss ++ s ∷ []) (length l) s) same
     ∙ get_or-append_seam ss s [] s
 
-window_closed : (t : Attempt) (succ pred : ℕ) → 0 < succ → succ ≤ pred → t.succ ≡ succ → t.pred ≡ pred → closed_window t ≡ Some (succ, pred)
+pub window_closed : (t : Attempt) (succ pred : ℕ) → 0 < succ → succ ≤ pred → t.succ ≡ succ → t.pred ≡ pred → closed_window t ≡ Some (succ, pred)
 window_closed t succ pred some low succ_is pred_is =
     let shut : (ltb 0 t.succ && leb t.succ t.pred) ≡ true =
     and_from _ _ (lt-ltb 0 t.succ (omega (arith, some, succ_is))) (le-leb t.succ t.pred (omega (arith, low, succ_is, pred_is)))

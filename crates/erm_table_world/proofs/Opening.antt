@@ -1,5 +1,5 @@
 -- The first state of a world.
-use Rattle.std.proofs.Common.{◌≡◌, ℕ, suc, zero, ◌+◌, ◌<◌, ◌≤◌, ⊎_elim, Bool, true, List, [], length, get_or, refl, sym, ap, ◌∙◌, subst, arith}
+use Rattle.std.proofs.Common.{◌≡◌, ℕ, suc, zero, ◌+◌, ◌<◌, ◌≤◌, ⊎_elim, inl, Bool, true, List, [], length, get_or, refl, sym, ap, ◌∙◌, subst, arith}
 use Rattle.std.specs.Prelude.{replicate, if◌then◌else◌}
 use Rattle.std.proofs.lemmas.List.{get_or_default}
 use Rattle.erm_model.specs.declared.limits.TheConstants.{LAST_RUN, SESSIONS, TABLE_CELLS}
@@ -66,6 +66,8 @@ module _ (o : Opening) where
   first_stands law sound few behind short = record {
     state = first_stateful law sound;
     quiet = opening_quiet o.sessions (first_rows o) o.tail o.run o.first TABLE_CELLS few (omega (arith, behind)) short;
+    covered = inl (omega arith);
+    starts = refl;
   }
 
   module _ (count : length o.rows.items ≡ OBJECT_LIMIT) where

@@ -1,5 +1,5 @@
 -- A claim that is refused: whoever owns the object, or has committed a newer version. The exchange of an entry never fails here.
-use Rattle.std.proofs.Common.{◌≡◌, ◌≢◌, ℕ, ◌<◌, ◌≤◌, true, false, List, [], ◌∷◌, length, refl, sym, ap, ◌∙◌, subst, arith}
+use Rattle.std.proofs.Common.{◌≡◌, ◌≢◌, ℕ, ◌<◌, true, false, List, [], ◌∷◌, length, sym, ap, ◌∙◌, subst, arith}
 use Rattle.erm_model.specs.declared.limits.TheConstants.{WRITE_LIMIT}
 use Rattle.erm_model.specs.declared.outcome.Phase.TheVariants as phase
 use Rattle.erm_model.specs.declared.row_stop.RowStop.{RowStop}
@@ -15,7 +15,7 @@ use Rattle.erm_machine.specs.Seat.{may_start}
 use Rattle.erm_machine.specs.Words.{is_seat, number_of, owner_of}
 use Rattle.erm_machine.proofs.QuietKinds.{moves}
 use Rattle.erm_cells.specs.Took.{IsEndStep}
-use Rattle.erm_core_view.specs.Views.{IsQuiet, view_of}
+use Rattle.erm_core_view.specs.Views.{view_of}
 use Rattle.erm_core_steps.specs.Claiming.{is_cleared}
 use Rattle.erm_core_steps.specs.Reads.{IsAtWork}
 use Rattle.erm_core_steps.proofs.Early.{quiet_goes}
@@ -23,11 +23,9 @@ use Rattle.erm_core_steps.proofs.Exchanges.{has_head, head_newer}
 use Rattle.erm_core_steps.proofs.Quiet.{IsActive}
 use Rattle.erm_core_steps.proofs.Unowned.{owner_owned, unowned}
 use Rattle.erm_core_steps.proofs.Unseen.{meets_one}
-use Rattle.erm_core_steps.proofs.Ways.{begin_stays}
 use Rattle.erm_ends.specs.Ends as ends
 use Rattle.erm_rows.specs.Took.{TookMissed, TookNotFree, TookOther, begin_in}
 use Rattle.erm_rule.specs.declared.view.Book.{Book}
-use Rattle.erm_rule.specs.Views.{part_of}
 use Rattle.erm_rule.specs.Went.{AllSteps, IsLoadStep, Took, Went, core_of}
 use Rattle.erm_world.specs.Calls.{DidAbort, DidNotClaim, IsNewer, IsOwned}
 use Rattle.erm_world.specs.Works.{is_claimed}

@@ -8,6 +8,7 @@ use Rattle.erm_model.specs.declared.outcome.Phase.TheVariants as phase
 use Rattle.erm_model.specs.RowTransaction.{Law}
 use Rattle.erm_machine.specs.declared.attempt.Attempt.{Attempt}
 use Rattle.erm_machine.specs.declared.part.Part.{Part}
+use Rattle.erm_machine.specs.declared.limits.TheConstants.{FLUSH_SEAT}
 use Rattle.erm_machine.specs.declared.place.Place.{Place}
 use Rattle.erm_machine.specs.declared.place.Place.TheVariants.{Active, Idle, Sealed}
 use Rattle.erm_machine.specs.declared.task.Task.{Task}
@@ -20,6 +21,7 @@ use Rattle.erm_machine.specs.Tasks.{TaskFits}
 use Rattle.erm_cells.specs.Calls.{starts_anew}
 use Rattle.erm_core_view.specs.Views.{IsBetween, IsQuiet, stand_of, view_of, work_of}
 use Rattle.erm_machine.specs.Words.{is_flusher, is_seat, is_session}
+use Rattle.erm_core_steps.proofs.Aborts.{no_flusher}
 use Rattle.erm_core_steps.proofs.Quiet.{quiet_after, session_of_few}
 use Rattle.erm_core_steps.proofs.Stamps.{size_shown}
 use Rattle.erm_rule.specs.declared.view.Book.{Book}
@@ -27,7 +29,7 @@ use Rattle.erm_rule.specs.Books.{book}
 use Rattle.erm_rule.specs.Hands.{IsKnown}
 use Rattle.erm_rule.specs.Steps.{Fits}
 use Rattle.erm_rule.specs.Views.{part_of, view}
-use Rattle.erm_rule.specs.Went.{core_of}
+use Rattle.erm_rule.specs.Went.{IsStillStep, Went, core_of}
 use Rattle.erm_session.specs.declared.session.Session.{Session}
 use Rattle.erm_session.specs.declared.session.Stage.{Stage}
 use Rattle.erm_session.specs.declared.session.Stage.TheVariants as stage
@@ -36,7 +38,7 @@ use Rattle.erm_world.specs.World.{Opening, size_of}
 use Rattle.erm_world.specs.World as world
 use Rattle.erm_table_world.specs.declared.table_world.TableWorld.{TableWorld}
 use Rattle.erm_table_world.specs.Stands.{AreNew, AreSessions, IsSessionAt, IsStateful, Stands, table_view}
-use Rattle.erm_table_world.proofs.Still.{Stayed}
+use Rattle.erm_table_world.proofs.Still.{Stayed, went_ran, went_stayed}
 use Rattle.erm_table_world.proofs.Wholly.{Ran, known_of, part_is}
 
 active_phase : (pl : Place) (t : Attempt) → is_active pl ≡ true → phase.Active ≡ world.phase_of (stand_of pl t)
@@ -58,7 +60,7 @@ idle_between : (pl : Place) (t : Attempt) (u : Task) → pl ≡ Idle → TaskFit
 idle_between Idle t u e fits = fits
 idle_between _ t u e fits = absurd (cc)
 
-anew_starts : (u : Task) → starts_anew u ≡ true → may_start u ≡ true
+pub anew_starts : (u : Task) → starts_anew u ≡ true → may_start u ≡ true
 anew_starts (task.Cleared oid) e = refl
 anew_starts _ e = e
 
@@ -176,7 +178,7 @@ pub record Called {L : Type 0} (law : Law) (w : TableWorld L) (who : ℕ) (pass 
 pub called : {L : Type 0} (law : Law) (w : TableWorld L) (who : ℕ) (pass : Seat (Unit {0}) Book) (s : Session) → Stands law w → world.IsSession (table_view w) who → Called law w who pass s → Stands law (after_call w who pass s)
 called law w who pass s stands session call = record {
   fits = call.fits;
-  at = record { state = call.ran.state; quiet = call.quiet };
+  at = record { state = call.ran.state; quiet = call.quiet; covered = call.ran.covered (session_of_few w.count who (core_of (book w.pass)) stands.at.quiet session.0 session.1) stands.at.covered; starts = ap (λ (x : Part). starts_anew x.task) (call.ran.others FLUSH_SEAT (λ same. no_flusher who (session_of_few w.count who (core_of (book w.pass)) stands.at.quiet session.0 session.1) (sym same))) ∙ stands.at.starts };
   count = length-set w.sessions.items (who - 1) s ∙ stands.count;
   sessions =
       sessions_after w.sessions.items who s (core_of (book w.pass)) (core_of (book pass)) session.0 stands.sessions call.ran.others
@@ -214,4 +216,29 @@ called_same law w who pass s stands session at call =
       at = after.at;
       count = stands.count;
       sessions = subst (λ (ss : List Session). AreSessions ss (core_of (book pass))) same after.sessions;
+    }
+
+-- A CALL of steps that leave the log's end and the place flushed
+pub record StillCall {L : Type 0} (law : Law) (w : TableWorld L) (who : ℕ) (pass : Seat (Unit {0}) Book) (t : Session) : Type 0 where
+  pub ran : Ran law w.count who (book w.pass) (book pass)
+  pub stayed : Stayed w.count who (core_of (book w.pass)) (core_of (book pass))
+  pub stands : Stands law (after_call w who pass t)
+
+pub still_call : {L : Type 0} (law : Law) (w : TableWorld L) (who : ℕ) (s t : Session) (pass : Seat (Unit {0}) Book) → Stands law w → world.IsSession (table_view w) who
+    → s ≡ get_or w.sessions.items (who - 1) s → Fits w.table.words.shared.table_id pass → t.seat ≡ s.seat → IsSession t (part_of (view pass) s.seat)
+    → Went law s.seat IsStillStep (book w.pass) (book pass) → StillCall law w who pass t
+still_call law w who s t pass stands session same fits seat is steps =
+    let at = here law w who s stands session same in
+    let b : Book = book w.pass in
+    let e : Book = book pass in
+    let went = subst (λ (n : ℕ). Went law n IsStillStep b e) at.seat steps in
+    let ran = went_ran law w.count who IsStillStep b e went stands.at.state in
+    let stayed = went_stayed law w.count who b e went stands.at.state in
+    let now = is_now law e who s.seat t ran.state at.seated at.seat is in
+    record {
+      ran = ran;
+      stayed = stayed;
+      stands =
+          called law w who pass t stands session
+          (record { fits = fits; ran = ran; quiet = quiet_still law w.count who b e t stands.at.quiet session ran stayed now; seat = seat ∙ at.seat; is = now });
     }

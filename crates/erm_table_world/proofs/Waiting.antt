@@ -41,6 +41,7 @@ use Rattle.erm_rule.specs.Views.{part_of}
 use Rattle.erm_ring.specs.Took.{IsFillStep}
 use Rattle.erm_rule.proofs.Wents.{went_as, went_more, went_step}
 use Rattle.erm_rule.specs.Went.{AllSteps, IsLoadStep, IsStillStep, Took, Went, core_of}
+use Rattle.erm_rule.proofs.Allowed.{of_seat}
 use Rattle.erm_session.specs.Took.{TookDecision, TookFinish}
 use Rattle.erm_world.specs.declared.stops.Wait.TheVariants as wait
 use Rattle.erm_world.specs.Calls.{DidNotSettle, DidSettle}
@@ -158,16 +159,13 @@ finish_still law who b e took =
     (went_step law who IsStillStep b took.filled took.decided (kind.Decide took.at took.header) took.word (went_as law who IsFillStep IsStillStep b took.filled fill_still took.fills) tt took.step)
     (ends_still law who took.decided e took.ends)
 
-some_seat : (q : ℕ) → is_seat q ≡ true → q < ANNOUNCERS
-some_seat q seat = grind (arith, seat)
-
 -- whom a settle looks at, as the world says it
 looks_at : (c : Core) (seat other : ℕ) (y : Part) (t : Task) → Sound c → (c.seats seat).task ≡ t → y.task ≡ (c.seats seat).task → precommit.LooksAt t other → LooksAt y other
 looks_at c seat other y (task.ReadOwned read owner) sound at same looks = at_owner read (same ∙ at ∙ ap (λ (n : ℕ). task.ReadOwned read n) (sym looks))
 looks_at c seat other y (task.ReadersLeft write bits) sound at same looks =
     let b = bound_at c seat sound (task.ReadersLeft write bits) at in
     at_reader write bits (same ∙ at)
-    (and_from _ _ (eq-eqb (trailing_zeros w64 bits) other (sym looks.0)) (lt-ltb other ANNOUNCERS (some_seat other (b.2 other looks.1).has_words)))
+    (and_from _ _ (eq-eqb (trailing_zeros w64 bits) other (sym looks.0)) (lt-ltb other ANNOUNCERS (of_seat other (b.2 other looks.1).has_words)))
 looks_at c seat other y _ sound at same looks = absurd looks
 
 module _ (law : Law) (sessions seat : ℕ) (b e : Book) (at : StandsAt law sessions b) (session : IsSession (view_of sessions (core_of b)) seat) (phased : phase_at (view_of sessions (core_of b)) seat ≡ phase.Sealed) (seated : is_seat seat ≡ true)

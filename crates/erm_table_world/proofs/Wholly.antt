@@ -1,5 +1,5 @@
 -- What each step of a pass with all seats makes of its one state.
-use Rattle.std.proofs.Common.{◌≡◌, ◌≢◌, ◌⊎◌, inl, inr, ℕ, true, List, [], ◌∷◌, Option, Some, unwrap_or, refl, sym, ap, ◌∙◌, subst}
+use Rattle.std.proofs.Common.{◌≡◌, ◌≢◌, ◌⊎◌, ◌≤◌, inl, inr, ℕ, true, List, [], ◌∷◌, Option, Some, unwrap_or, refl, sym, ap, ◌∙◌, subst, arith}
 use Rattle.erm_model.specs.declared.limits.TheConstants.{TABLE_CELLS}
 use Rattle.erm_model.specs.RowTransaction.{Law}
 use Rattle.erm_machine.specs.declared.event.Kind.{Kind}
@@ -10,12 +10,13 @@ use Rattle.erm_machine.specs.Core.{Core, Shared, fresh_part, spot_of, word_at}
 use Rattle.erm_machine.specs.Lawful.{Lawful}
 use Rattle.erm_machine.specs.Sound.{Sound}
 use Rattle.erm_machine.specs.Step.{after_event, part_after}
-use Rattle.erm_machine.specs.Words.{is_seat}
+use Rattle.erm_machine.specs.Words.{is_seat, is_session}
 use Rattle.erm_core_blocks.specs.Spelled.{AreSpelled}
 use Rattle.erm_core_ring.proofs.Begins.{begins_kept}
 use Rattle.erm_core_view.specs.Steps.{MeetsOne}
 use Rattle.erm_core_view.specs.Views.{view_of}
 use Rattle.erm_core_view.proofs.Moved.{changes_one}
+use Rattle.erm_core_stays.proofs.Numbers.{rises}
 use Rattle.erm_core_steps.proofs.Unseen.{others_stay}
 use Rattle.erm_rule.specs.declared.view.Book.{Book}
 use Rattle.erm_rule.specs.declared.view.Held.{Held}
@@ -31,7 +32,9 @@ use Rattle.erm_rule.proofs.Whole.{leaves}
 use Rattle.erm_model.specs.Member.{◌∈◌}
 use Rattle.std.proofs.lemmas.Bool.{eqb-false}
 use Rattle.std.specs.Prelude.{◌==◌, if◌then◌else◌, Bool, false}
+use Rattle.erm_table_world.specs.Covered.{IsCovered}
 use Rattle.erm_table_world.specs.Stands.{IsStateful}
+use Rattle.erm_table_world.proofs.Covered.{step_covered}
 
 -- a step that is taken is no split and no join
 one_met : (who : ℕ) (k : Kind) (found : ℕ) (s : Shared) (x y : Part) → part_after who k found s x ≡ Some y → MeetsOne k
@@ -69,20 +72,24 @@ runs law b who k found e booked state =
       };
     }
 
--- what steps of one seat leave of the others, and of the opening
+-- what steps of one seat leave of the others, of the opening, and of how many cells are drawn
 pub record Ran (law : Law) (sessions who : ℕ) (b e : Book) : Type 0 where
   pub state : IsStateful law e
   pub others : (q : ℕ) → q ≢ who → (core_of e).seats q ≡ (core_of b).seats q
   pub opening : (view_of sessions (core_of e)).opening ≡ (view_of sessions (core_of b)).opening
+  pub covered : is_session who ≡ true → IsCovered (core_of b) → IsCovered (core_of e)
+  pub drawn : (core_of b).shared.cells_drawn ≤ (core_of e).shared.cells_drawn
 
 pub ran_none : (law : Law) (sessions who : ℕ) (b : Book) → IsStateful law b → Ran law sessions who b b
-ran_none law sessions who b state = record { state = state; others = λ q other. refl; opening = refl }
+ran_none law sessions who b state = record { state = state; others = λ q other. refl; opening = refl; covered = λ session covered. covered; drawn = omega arith }
 
 pub ran_more : (law : Law) (sessions who : ℕ) (b m e : Book) → Ran law sessions who b m → Ran law sessions who m e → Ran law sessions who b e
 ran_more law sessions who b m e first second = record {
   state = second.state;
   others = λ q other. second.others q other ∙ first.others q other;
   opening = second.opening ∙ first.opening;
+  covered = λ session covered. second.covered session (first.covered session covered);
+  drawn = let less = first.drawn in let more = second.drawn in omega (arith, less, more);
 }
 
 pub ran_one : (law : Law) (sessions who : ℕ) (k : Kind) (found : ℕ) (b e : Book) → Booked law b who k found e → IsStateful law b → Ran law sessions who b e
@@ -92,6 +99,8 @@ ran_one law sessions who k found b e booked state =
       state = run.state;
       others = others_stay (core_of b) (core_of e) who k run.one run.event;
       opening = (changes_one sessions who (core_of b) (core_of e) k state.sound.sound run.one run.event).opening;
+      covered = λ session covered. step_covered (core_of b) (core_of e) who session state.sound.sound covered k run.one run.event;
+      drawn = (rises (core_of b) (core_of e) who k state.sound.sound run.event).cells_drawn;
     }
 
 pub took_ran : (law : Law) (sessions who : ℕ) (steps : List (Kind × ℕ)) (b e : Book) → Took law who steps b e → IsStateful law b → Ran law sessions who b e

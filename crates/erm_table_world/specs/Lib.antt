@@ -1,2 +1,5 @@
+pub mod Covered
+pub mod Flusher
 pub mod Stands
+pub mod Turns
 pub mod Waits

@@ -1,5 +1,6 @@
 -- The world over the word table: the state that the steps of its one pass lead to, and the sessions beside that pass.
-use Rattle.std.specs.Prelude.{◌≡◌, ℕ, ◌+◌, ◌<◌, List, length, slice_index_or}
+use Rattle.std.specs.Prelude.{◌≡◌, ℕ, ◌+◌, ◌<◌, true, List, length, slice_index_or}
+use Rattle.erm_cells.specs.Calls.{starts_anew}
 use Rattle.erm_model.specs.declared.limits.TheConstants.{TABLE_CELLS}
 use Rattle.erm_model.specs.RowTransaction.{Law}
 use Rattle.erm_machine.specs.declared.place.Place.TheVariants.{Idle}
@@ -15,6 +16,8 @@ use Rattle.erm_rule.specs.Views.{IsInOrder, IsView}
 use Rattle.erm_rule.specs.Went.{IsWhole, core_of}
 use Rattle.erm_session.specs.declared.session.Session.{Session}
 use Rattle.erm_session.specs.Session.{IsSession}
+use Rattle.erm_table_world.specs.Covered.{IsCovered}
+use Rattle.erm_table_world.specs.Flusher.{task_in}
 use Rattle.erm_world.specs.Laws.{IsPossibleIn, IsSerializable}
 use Rattle.erm_world.specs.Log.{IsLog, Log}
 use Rattle.erm_world.specs.Whole.{IsLogOf}
@@ -31,10 +34,13 @@ pub record IsStateful (law : Law) (b : Book) : Type 0 where
   pub cuts : CutsAtNewest (core_of b)
   pub limit : (core_of b).shared.cell_limit ≡ TABLE_CELLS
 
--- that state is one between two calls of so many sessions
+-- That state is one between two calls of so many sessions, and of the flush seat, which may start one anew. In it there is an object or a
+-- claim for each cell drawn, or for each that can be.
 pub record StandsAt (law : Law) (sessions : ℕ) (b : Book) : Type 0 where
   pub state : IsStateful law b
   pub quiet : IsQuiet sessions (core_of b)
+  pub covered : IsCovered (core_of b)
+  pub starts : starts_anew (task_in b) ≡ true
 
 -- what a session keeps beside the pass is its seat's
 pub record IsSessionAt (s : Session) (seat : ℕ) (c : Core) : Type 0 where
@@ -62,6 +68,14 @@ pub record Stands {L : Type 0} (law : Law) (w : TableWorld L) : Type 0 where
 abbrev pub table_view : {L : Type 0} → TableWorld L → View
 table_view w = view_of w.count (core_of (book w.pass))
 
+-- the same where each call cuts off so many versions at most
+abbrev pub with_cuts : ℕ → View → View
+with_cuts n v = record v { opening = record v.opening { cuts = n } }
+
+-- its view as that of a world of sessions: no call cuts off more versions than there are cells
+abbrev pub world_view : {L : Type 0} → TableWorld L → View
+world_view w = with_cuts TABLE_CELLS (table_view w)
+
 -- its log
 abbrev pub table_log : {L : Type 0} → TableWorld L → Log
 table_log w = log_of w.count (core_of (book w.pass))
@@ -69,7 +83,7 @@ table_log w = log_of w.count (core_of (book w.pass))
 -- it stands, and has what the laws of a world say of its view and of its log
 pub record IsTableWorld {L : Type 0} (law : Law) (w : TableWorld L) : Type 0 where
   pub stands : Stands law w
-  pub serializable : IsSerializable law (table_view w)
-  pub possible : IsPossibleIn law (table_view w)
+  pub serializable : IsSerializable law (world_view w)
+  pub possible : IsPossibleIn law (world_view w)
   pub log : IsLog law.meets (table_log w)
   pub log_of_view : IsLogOf (table_view w) (table_log w)

@@ -2,6 +2,7 @@
 #![tactic(auto)]
 
 mod begins;
+mod claims;
 mod makes;
 mod reads;
 mod seals;
@@ -9,6 +10,7 @@ mod settles;
 mod table_world;
 #[cfg(test)]
 mod tests;
+pub mod turns;
 mod world;
 
 pub use table_world::TableWorld;

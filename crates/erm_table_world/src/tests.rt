@@ -3,6 +3,8 @@ ghost use Rattle.std.specs.Prelude.{◌≡◌, IfOk};
 ghost use Rattle.erm_model.specs.RowTransaction.{any_law};
 ghost use Rattle.erm_table_world.specs.Stands.{Stands, table_view};
 
+mod rows;
+
 use crate::TableWorld;
 use erm_model::{AnyRows, OID_LIMIT, Oid, Outcome, Phase, ROW_WORDS, Receipt, Row, Seat, Stamp};
 use erm_rule::Opening;

@@ -1,16 +1,18 @@
+use Rattle.erm_model.specs.declared.limits.TheConstants.{TABLE_CELLS}
 use Rattle.erm_rule.specs.Books.{book}
 use Rattle.erm_rule.specs.Went.{core_of}
-use Rattle.erm_table_world.specs.Stands.{table_view}
+use Rattle.erm_table_world.specs.Stands.{table_view, world_view}
+use Rattle.erm_table_world.proofs.Cuts.{serializable}
 use Rattle.erm_table_world.proofs.world.standing_worlds_have_laws.Goals as goal
 
 pub returns : goal.returns
 returns g c = λ w standing.
     let at = standing.at in
-    let serializable = c.views_are_serializable.ensures w.count (core_of (book w.pass)) at.state.sound at.quiet in
+    let laws = serializable TABLE_CELLS g.L.RowLaw.law (table_view w) (c.views_are_serializable.ensures w.count (core_of (book w.pass)) at.state.sound at.quiet) in
     record {
       stands = standing;
-      serializable = serializable;
-      possible = c.works_are_possible.ensures (table_view w) serializable;
+      serializable = laws;
+      possible = c.works_are_possible.ensures (world_view w) laws;
       log = c.states_have_logs.ensures.is w.count (core_of (book w.pass)) at.state.sound at.quiet;
       log_of_view = c.states_have_logs.ensures.of_view w.count (core_of (book w.pass)) at.state.sound at.quiet;
     }

@@ -2,7 +2,9 @@ use Rattle.std.proofs.Common.{ℕ, IfErr, IfOk, ◌∙◌, subst}
 use Rattle.erm_rule.specs.Books.{book}
 use Rattle.erm_seats.specs.Took.{TookBegin}
 use Rattle.erm_session.specs.Took.{TookNoBegin}
+use Rattle.erm_world.specs.declared.stops.BeginStop.TheVariants as stop
 use Rattle.erm_table_world.proofs.Beginning.{at_last, began}
+use Rattle.erm_table_world.proofs.Results.{never}
 use Rattle.erm_table_world.proofs.Sessions.{called, here, is_now}
 use Rattle.erm_table_world.proofs.table_world.TableWorld.begin.Goals as goal
 
@@ -40,4 +42,5 @@ returns g c =
           });
       ok = done.ok;
       err = done.err;
+      memory = never r (λ why. TookNoBegin law seat why b e) stop.Memory (λ none. none) none;
     }
