@@ -38,7 +38,7 @@ use Rattle.erm_causes.proofs.Own.{TreeLaws}
 use Rattle.erm_told_limits.proofs.Ran.{ran}
 
 -- LAST. What the last call left besides.
-last_made : (asked : Asked) (w u : Work) → Last asked w u → u.made ≡ w.made
+pub last_made : (asked : Asked) (w u : Work) → Last asked w u → u.made ≡ w.made
 last_made asked w u (operated.same_work is) = ap (λ (x : Work). x.made) is
 last_made asked w u (operated.read r asks is) = ap (λ (x : Work). x.made) is
 last_made asked w u (operated.claimed c asks is) = ap (λ (x : Work). x.made) is

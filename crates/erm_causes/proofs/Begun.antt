@@ -43,14 +43,20 @@ pub record BeganOn (table : ℕ → ℕ) (w : Work) : Type 0 where
 abbrev pub CommitsKeep : (ℕ → ℕ) → View → Type 0
 CommitsKeep table v = (seat : ℕ) (f : Finished) (stamp : ℕ) → IsSession v seat → f ∈ (v.session seat).over → stamp_of f.fate ≡ Some stamp → KeepsTables table f.work
 
-module _ (laws : HistoryLaws) (table : ℕ → ℕ) (v : View) (holds : IsSerializable sound_law v) (opened : AreOfTables table v.opening.rows) (keep : CommitsKeep table v) where
-  keeps_of : (t : TransactionRecord) → t ∈ history_of v → KeepsTables table (work_in t)
-  keeps_of t within =
-      let own : IsCommitOf v t = (tells_commits v).only t within in
-      subst (λ (w : Work). KeepsTables table w) (ap work_in (sym own.is)) (keep own.seat (record { work = own.work; fate = world.commits own.stamp own.succ own.pred }) own.stamp own.session own.over refl)
+-- the same of the commits below a bound
+abbrev pub KeepBelow : (ℕ → ℕ) → View → ℕ → Type 0
+KeepBelow table v bound = (seat : ℕ) (f : Finished) (stamp : ℕ) → IsSession v seat → f ∈ (v.session seat).over → stamp_of f.fate ≡ Some stamp → stamp < bound → KeepsTables table f.work
 
-  pub began_on : (seat : ℕ) (w : Work) → IsSession v seat → Has v seat w → BeganOn table w
-  began_on seat w session has =
+module _ (laws : HistoryLaws) (table : ℕ → ℕ) (v : View) (holds : IsSerializable sound_law v) (opened : AreOfTables table v.opening.rows) where
+  keeps_of : (bound : ℕ) → KeepBelow table v bound → (t : TransactionRecord) → t ∈ history_of v → t.stamp < bound → KeepsTables table (work_in t)
+  keeps_of bound keep t within less =
+      let own : IsCommitOf v t = (tells_commits v).only t within in
+      subst (λ (w : Work). KeepsTables table w) (ap work_in (sym own.is))
+      (keep own.seat (record { work = own.work; fate = world.commits own.stamp own.succ own.pred }) own.stamp own.session own.over refl
+      (subst (λ (r : TransactionRecord). r.stamp < bound) own.is less))
+
+  pub began_below : (seat : ℕ) (w : Work) → IsSession v seat → Has v seat w → KeepBelow table v w.begin → BeganOn table w
+  began_below seat w session has keep =
       let certified = laws.certified (history_of v) holds.certified w.begin in
       let found = laws.exists (below w.begin (history_of v)) certified in
       let order = found.0 in
@@ -70,6 +76,11 @@ module _ (laws : HistoryLaws) (table : ℕ → ℕ) (v : View) (holds : IsSerial
         sound = fits.meets;
         fits = fits;
         are = after_commits table order v.opening.rows (lawful_below sound_law v holds w.begin order runs).0
-            (λ t m. keeps_of t (in_below (history_of v) w.begin t (∈-permutation t order (below w.begin (history_of v)) (IsPermutation-sym (below w.begin (history_of v)) order found.1.same) m)).0)
+            (λ t m.
+            let there = in_below (history_of v) w.begin t (∈-permutation t order (below w.begin (history_of v)) (IsPermutation-sym (below w.begin (history_of v)) order found.1.same) m) in
+            keeps_of w.begin keep t there.0 there.1)
             opened;
       }
+
+  pub began_on : CommitsKeep table v → (seat : ℕ) (w : Work) → IsSession v seat → Has v seat w → BeganOn table w
+  began_on keep seat w session has = began_below seat w session has (λ q f stamp of within is less. keep q f stamp of within is)

@@ -37,7 +37,7 @@ pub record BothAt (seat : ℕ) (table : ℕ → ℕ) (h : History) (t : Transact
   pub tells : TellsOne seat t f
   pub touches : TouchesOne table h t f
 
-both_told : (seat : ℕ) (table : ℕ → ℕ) (h : History) (ts : List Transaction) (fs : List Finished) (k : ℕ) (t : Transaction) → TellsOver seat ts fs → TouchesOver table h ts fs
+pub both_told : (seat : ℕ) (table : ℕ → ℕ) (h : History) (ts : List Transaction) (fs : List Finished) (k : ℕ) (t : Transaction) → TellsOver seat ts fs → TouchesOver table h ts fs
     → slice_get ts k ≡ Some t → (f : Finished) × (slice_get fs k ≡ Some f) × BothAt seat table h t f
 both_told seat table h [] fs k t told touched at = cc
 both_told seat table h (u ∷ ts) [] k t told touched at = absurd told
@@ -45,7 +45,7 @@ both_told seat table h (u ∷ ts) (f ∷ fs) zero t told touched at =
     let same : u ≡ t = cc in (f, refl, subst (λ (x : Transaction). BothAt seat table h x f) same (record { tells = told.0; touches = touched.0 }))
 both_told seat table h (u ∷ ts) (f ∷ fs) (suc k) t told touched at = both_told seat table h ts fs k t told.1 touched.1 at
 
-both_over : (seat : ℕ) (table : ℕ → ℕ) (h : History) (ts : List Transaction) (fs : List Finished) (k : ℕ) (f : Finished) → TellsOver seat ts fs → TouchesOver table h ts fs
+pub both_over : (seat : ℕ) (table : ℕ → ℕ) (h : History) (ts : List Transaction) (fs : List Finished) (k : ℕ) (f : Finished) → TellsOver seat ts fs → TouchesOver table h ts fs
     → slice_get fs k ≡ Some f → (t : Transaction) × (slice_get ts k ≡ Some t) × BothAt seat table h t f
 both_over seat table h ts [] k f told touched at = cc
 both_over seat table h [] (g ∷ fs) k f told touched at = absurd told

@@ -6,7 +6,7 @@ use Rattle.erm_model.specs.declared.outcome.Phase.TheVariants.{Active}
 use Rattle.erm_model.specs.declared.row_stop.RowStop.{RowStop}
 use Rattle.erm_model.specs.Lawful.{times_made}
 use Rattle.erm_model.specs.Member.{◌∈◌}
-use Rattle.erm_model.specs.RowTransaction.{Agrees, Asked, Event, asked_claim, made_by_all}
+use Rattle.erm_model.specs.RowTransaction.{Agrees, Asked, Event, KeepsLaw, WritesNothing, asked_claim, made_by_all}
 use Rattle.erm_model.specs.Rows.{Rows}
 use Rattle.erm_model.specs.Run.{Step}
 use Rattle.erm_node.specs.Sound.{IsSound, sound_law}
@@ -26,7 +26,7 @@ use Rattle.erm_good_report.specs.Causes.{NamesTable, WritesTable}
 use Rattle.erm_good_report.specs.Transactions.{Exchange, Transaction, is_writer, table_of, with_line}
 use Rattle.erm_lines.specs.Operations.{AsksOf, DidCalls, FrontOf, WereCutOff, WholeOf}
 use Rattle.erm_causes.specs.Touched.{AreOfTables, Touches}
-use Rattle.erm_causes.proofs.Begun.{CommitsKeep, HistoryLaws, began_on}
+use Rattle.erm_causes.proofs.Begun.{BeganOn, CommitsKeep, HistoryLaws, began_on}
 use Rattle.erm_causes.proofs.Coloured.{AskedOf, KeepsTables, after_events, agrees_with, asked_of, claims_of, reads_of}
 use Rattle.erm_causes.proofs.Fine.{FineNow, Turned, names_more, still_session, writes_more}
 use Rattle.erm_causes.proofs.Made.{made_by_one, made_within}
@@ -123,6 +123,39 @@ pub record CutFine (table : ℕ → ℕ) (k : ℕ) (c : Command) (t : Transactio
   pub asked_is : AskedOf table k asked
   pub writes : (oid : ℕ) → asked ≡ asked_claim oid → is_writer c ≡ true
 
+-- WORKS. Calls of a line, of a transaction that began on such rows.
+module _ (tree : TreeLaws) (table : ℕ → ℕ) (w u : Work) (events : List Event) (moves : MovesAll sound_law w events u) (once : (x : ℕ) → times_made u.made x ≤ 1) (c : Command) (a : Answer) (k : ℕ)
+    (named : table_of c ≡ Some k) (range : IsInRange c) (made : (x : ℕ) → 0 < made_by_all events x → table x ≡ k) (t : Transaction) (touches : Touches table t w) (keeps : KeepsTables table w)
+    (lawful : IsLawfulWork sound_law w) (began : BeganOn table u) where
+  -- a line that was answered
+  pub whole_work : ((rows : Rows) → IsSound rows → Agrees sound_law events rows → WholeOf c a rows events × KeepsLaw sound_law events rows) → Touches table (with_line (Some c) a t) u × KeepsTables table u
+  whole_work of =
+      let below = table_below c k named range in
+      let stays : (rows : Rows) → IsSound rows → Agrees sound_law events rows → StaysIn k rows events = λ rows sound agrees.
+      let it = of rows sound agrees in whole_stays tree c a k rows events named range sound agrees it.1 it.0 in (
+        touches_then table k below w u events moves lawful once made stays keeps t c a named (λ rows sound agrees. whole_writes c a rows events (of rows sound agrees).0) touches
+            began.rows began.sound began.fits began.are,
+        keeps_more table k below w u events moves lawful once made stays keeps,
+      )
+
+  -- one that was cut off
+  pub cut_work : (asked : Asked) → WritesNothing events → ((rows : Rows) → IsSound rows → Agrees sound_law events rows → FrontOf c rows events)
+      → ((rows : Rows) → IsSound rows → Agrees sound_law events rows → AsksOf c events rows asked) → CutFine table k c (with_line (Some c) a t) u asked
+  cut_work asked none of asks_so =
+      let below = table_below c k named range in
+      let stays : (rows : Rows) → IsSound rows → Agrees sound_law events rows → StaysIn k rows events = λ rows sound agrees.
+      front_stays tree c k rows events named range sound none (of rows sound agrees) in
+      let on = agrees_with w u events moves lawful once began.rows began.fits in
+      let asks = asks_so (seen_by w began.rows) on.0 on.1 in
+      record {
+        touches = touches_then table k below w u events moves lawful once made stays keeps t c a named
+            (λ rows sound agrees. front_writes c rows events (of rows sound agrees)) touches began.rows began.sound began.fits began.are;
+        keeps = keeps_more table k below w u events moves lawful once made stays keeps;
+        asked_is = asked_of table k (seen_by w began.rows) events asked below
+            (asks_stay tree c k (seen_by w began.rows) events asked named range on.0 asks) made (keeps began.rows began.sound (moves.fitted began.rows began.fits) began.are);
+        writes = λ oid is. asks_write c (seen_by w began.rows) events oid (subst (λ (q : Asked). AsksOf c events (seen_by w began.rows) q) is asks);
+      }
+
 -- a line that was answered leaves its transaction so
 module _ (tree : TreeLaws) (laws : HistoryLaws) (table : ℕ → ℕ) (v u : View) (seat : ℕ) (c : Command) (a : Answer) (k : ℕ) (session : IsSession v seat) (active : phase_at v seat ≡ Active)
     (named : table_of c ≡ Some k) (range : IsInRange c) (holds : IsSerializable sound_law u) (opened : AreOfTables table u.opening.rows) (keep : CommitsKeep table v)
@@ -131,41 +164,22 @@ module _ (tree : TreeLaws) (laws : HistoryLaws) (table : ℕ → ℕ) (v u : Vie
   pub whole_fine : (steps : List Step) → DidCalls v seat steps (WholeOf c a) u → FineNow table (Some (with_line (Some c) a t)) (u.session seat).stand
   whole_fine steps did =
       let gone = ran sound_law did.events v u seat active did.ran in
-      let below = table_below c k named range in
       let in_u = still_session v u seat gone.0.opening session in
       let once : (x : ℕ) → times_made (work_at u seat).made x ≤ 1 = λ x. made_at_once u seat x in_u (holds.made_once x) in
       let made_here : (x : ℕ) → 0 < made_by_all did.events x → table x ≡ k = λ x some. made x (omega (arith, ran_made v u seat did.events session gone.0 gone.1 x, some)) in
-      let stays : (rows : Rows) → IsSound rows → Agrees sound_law did.events rows → StaysIn k rows did.events = λ rows sound agrees.
-      let of = did.of rows sound agrees in whole_stays tree c a k rows did.events named range sound agrees of.1 of.0 in
       let began = began_on laws table u holds opened (stays_keep table v u seat gone.0 keep) seat (work_at u seat) in_u
       (inr (current_in (u.session seat).stand (work_at u seat) gone.0.stand)) in
-      subst (λ (stand : Stand). FineNow table (Some (with_line (Some c) a t)) stand) (sym gone.0.stand) (
-        touches_then table k below (work_at v seat) (work_at u seat) did.events gone.1 run.lawful once made_here stays keeps t c a named
-            (λ rows sound agrees. whole_writes c a rows did.events (did.of rows sound agrees).0) touches began.rows began.sound began.fits began.are,
-        keeps_more table k below (work_at v seat) (work_at u seat) did.events gone.1 run.lawful once made_here stays keeps,
-        (before ++ steps, did.run before run),
-      )
+      let fine = whole_work tree table (work_at v seat) (work_at u seat) did.events gone.1 once c a k named range made_here t touches keeps run.lawful began did.of in
+      subst (λ (stand : Stand). FineNow table (Some (with_line (Some c) a t)) stand) (sym gone.0.stand) (fine.0, fine.1, (before ++ steps, did.run before run))
 
   module _ (stop : RowStop) (did : WereCutOff v seat (FrontOf c) (AsksOf c) stop u) (w : Work) (has : Has u seat w) (fitted : (rows : Rows) → FitsWork sound_law w rows → FitsWork sound_law (work_at did.at seat) rows)
       (opening : u.opening ≡ v.opening) (same : (x : ℕ) → world.made_by_all u x ≡ world.made_by_all did.at x) (keep_after : CommitsKeep table u) where
     pub cut_fine : CutFine table k c (with_line (Some c) a t) (work_at did.at seat) did.asked
     cut_fine =
         let gone = ran sound_law did.events v did.at seat active did.ran in
-        let below = table_below c k named range in
         let in_at = still_session v did.at seat gone.0.opening session in
         let once : (x : ℕ) → times_made (work_at did.at seat).made x ≤ 1 = λ x. made_at_once did.at seat x in_at (omega (arith, same x, holds.made_once x)) in
         let made_here : (x : ℕ) → 0 < made_by_all did.events x → table x ≡ k = λ x some. made x (omega (arith, ran_made v did.at seat did.events session gone.0 gone.1 x, some, same x)) in
-        let stays : (rows : Rows) → IsSound rows → Agrees sound_law did.events rows → StaysIn k rows did.events = λ rows sound agrees.
-        front_stays tree c k rows did.events named range sound did.none (did.of rows sound agrees) in
-        let began = began_on laws table u holds opened keep_after seat w (still_session v u seat opening session) has in
-        let fits = fitted began.rows began.fits in
-        let on = agrees_with (work_at v seat) (work_at did.at seat) did.events gone.1 run.lawful once began.rows fits in
-        let asks = did.asks_so (seen_by (work_at v seat) began.rows) on.0 on.1 in
-        record {
-          touches = touches_then table k below (work_at v seat) (work_at did.at seat) did.events gone.1 run.lawful once made_here stays keeps t c a named
-              (λ rows sound agrees. front_writes c rows did.events (did.of rows sound agrees)) touches began.rows began.sound fits began.are;
-          keeps = keeps_more table k below (work_at v seat) (work_at did.at seat) did.events gone.1 run.lawful once made_here stays keeps;
-          asked_is = asked_of table k (seen_by (work_at v seat) began.rows) did.events did.asked below
-              (asks_stay tree c k (seen_by (work_at v seat) began.rows) did.events did.asked named range on.0 asks) made_here (keeps began.rows began.sound (gone.1.fitted began.rows fits) began.are);
-          writes = λ oid is. asks_write c (seen_by (work_at v seat) began.rows) did.events oid (subst (λ (q : Asked). AsksOf c did.events (seen_by (work_at v seat) began.rows) q) is asks);
-        }
+        let last = began_on laws table u holds opened keep_after seat w (still_session v u seat opening session) has in
+        let began : BeganOn table (work_at did.at seat) = record { rows = last.rows; sound = last.sound; fits = fitted last.rows last.fits; are = last.are } in
+        cut_work tree table (work_at v seat) (work_at did.at seat) did.events gone.1 once c a k named range made_here t touches keeps run.lawful began did.asked did.none did.of did.asks_so

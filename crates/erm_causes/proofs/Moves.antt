@@ -63,7 +63,7 @@ seal_made : (v t : View) (seat stamp : ℕ) → IsSession v seat → DidSeal v s
 seal_made v t seat stamp session did x =
     omega (arith, made_by_one v t seat x session did.others did.opening, ap (λ (s : Session). made_in s x) did.own)
 
-work_now : (stand : Stand) (w : Work) → HasNow stand w → work_of stand ≡ w
+pub work_now : (stand : Stand) (w : Work) → HasNow stand w → work_of stand ≡ w
 work_now stand w (inl active) = ap work_of active
 work_now stand w (inr (stamp, sealed)) = ap work_of sealed
 

@@ -76,26 +76,25 @@ same_now asked a (Some t) none = same_line asked a t none
 pub same_goes_on : (asked : Option Command) (a : Answer) (p : Progress) → NamesNone asked → SameLines p (goes_on asked a p)
 same_goes_on asked a p none = (refl, same_now asked a p.current none)
 
-same_itself : (current : Option Transaction) → SameNow current current
+pub same_itself : (current : Option Transaction) → SameNow current current
 same_itself None = tt
 same_itself (Some t) = refl
 
--- EXCLUDED. One that was excluded when it was settled had its window closed.
-module _ (v t : View) (seat : ℕ) (w : Work) (stamp succ pred : ℕ) (session : IsSession v seat) (done : IsDone v seat w (world.excluded stamp succ pred) t)
+-- EXCLUDED. One that was excluded after its seal, with the definitions' numbers, had its window closed.
+module _ (t : View) (seat : ℕ) (w : Work) (stamp succ pred : ℕ) (session : IsSession t seat) (over : record { work = w; fate = world.excluded stamp succ pred } ∈ (t.session seat).over)
     (successor : IsSuccessorStamp (history_of t) (λ u. u.succ) (record_of seat w stamp succ pred)) (predecessor : IsPredecessorStamp (history_of t) pred (record_of seat w stamp succ pred))
     (shut : succ ≤ pred) (holds : IsSerializable sound_law t) where
+  abbrev its_end : Finished
+  its_end = record { work = w; fate = world.excluded stamp succ pred }
+
   stamped : HasStamp t seat w stamp
-  stamped =
-      let f : Finished = record { work = w; fate = world.excluded stamp succ pred } in
-      inl (f, subst (λ (s : Session). f ∈ s.over) (sym done.own) (∈-last (v.session seat).over f), refl, refl)
+  stamped = inl (its_end, over, refl, refl)
 
   -- its stamp is behind 0
   behind : 0 < stamp
   behind =
-      let in_t = still_session v t seat done.opening session in
-      let f : Finished = record { work = w; fate = world.excluded stamp succ pred } in
-      let begin = holds.begins seat w in_t (inl (f, subst (λ (s : Session). f ∈ s.over) (sym done.own) (∈-last (v.session seat).over f), refl)) in
-      omega (arith, holds.opened, begin.0, (holds.stamps seat w stamp in_t stamped).0)
+      let begin = holds.begins seat w session (inl (its_end, over, refl)) in
+      omega (arith, holds.opened, begin.0, (holds.stamps seat w stamp session stamped).0)
 
   -- the least of stamps that count is a commit's, behind 0
   positive : (u : TransactionRecord) → u ∈ history_of t → 0 < u.succ
@@ -119,14 +118,23 @@ module _ (v t : View) (seat : ℕ) (w : Work) (stamp succ pred : ℕ) (session :
     }
   ]
 
-  pub excluded_closed : IsClosedBy (history_of t) w (Some stamp) succ pred
-  excluded_closed = elim successor.attained as (λ _. IsClosedBy (history_of t) w (Some stamp) succ pred) [
+  pub closed_by_numbers : IsClosedBy (history_of t) w (Some stamp) succ pred
+  closed_by_numbers = elim successor.attained as (λ _. IsClosedBy (history_of t) w (Some stamp) succ pred) [
     | inl own ↦ elim predecessor.attained as (λ _. IsClosedBy (history_of t) w (Some stamp) succ pred) [
       | inl none ↦ absurd (omega (arith, own, none, shut, behind))
       | inr found ↦ absurd (omega (arith, own, shut, found.1.1, found.2))
     ]
     | inr found ↦ closed_with found.0 found.1.0 found.1.1 found.1.2 found.2
   ]
+
+-- so had one that was just settled
+pub excluded_closed : (v t : View) (seat : ℕ) (w : Work) (stamp succ pred : ℕ) → IsSession v seat → IsDone v seat w (world.excluded stamp succ pred) t
+    → IsSuccessorStamp (history_of t) (λ u. u.succ) (record_of seat w stamp succ pred) → IsPredecessorStamp (history_of t) pred (record_of seat w stamp succ pred) → succ ≤ pred
+    → IsSerializable sound_law t → IsClosedBy (history_of t) w (Some stamp) succ pred
+excluded_closed v t seat w stamp succ pred session settled successor predecessor shut holds =
+    let f : Finished = record { work = w; fate = world.excluded stamp succ pred } in
+    closed_by_numbers t seat w stamp succ pred (still_session v t seat settled.opening session) (subst (λ (s : Session). f ∈ s.over) (sym settled.own) (∈-last (v.session seat).over f))
+    successor predecessor shut holds
 
 -- DECIDED.
 pub decided : (v t : View) (seat : ℕ) (asked : Option Command) (a : Answer) → IsSession v seat → NamesNone asked → DidDecide v seat a t → Quiet v seat asked a t
@@ -141,7 +149,7 @@ decided v t seat asked (answer.WaitRing flushed) session none did = still did.0 
 decided v t seat asked a session none did = absurd did
 
 -- LINES. A line's phase allowed it, or its refusal is heard as nothing.
-refusal_still : (wanted : Option Phase) (phase : Phase) (refusal : Answer) → refusal_for wanted phase ≡ Some refusal → (asked : Option Command) → StillBy asked refusal
+pub refusal_still : (wanted : Option Phase) (phase : Phase) (refusal : Answer) → refusal_for wanted phase ≡ Some refusal → (asked : Option Command) → StillBy asked refusal
 refusal_still (Some Idle) Active refusal is asked = let same : answer.NotIdle ≡ refusal = cc in subst (StillBy asked) same (λ q p. (refl, same_itself p.current))
 refusal_still (Some Idle) Sealed refusal is asked = let same : answer.NotIdle ≡ refusal = cc in subst (StillBy asked) same (λ q p. (refl, same_itself p.current))
 refusal_still (Some Active) Idle refusal is asked = let same : answer.NoTransaction ≡ refusal = cc in subst (StillBy asked) same (λ q p. (refl, same_itself p.current))
@@ -158,12 +166,12 @@ wants_active Idle is = cc
 wants_active Active is = refl
 wants_active Sealed is = cc
 
-wants_idle : (phase : Phase) → refusal_for (Some Idle) phase ≡ None → phase ≡ Idle
+pub wants_idle : (phase : Phase) → refusal_for (Some Idle) phase ≡ None → phase ≡ Idle
 wants_idle Idle is = refl
 wants_idle Active is = cc
 wants_idle Sealed is = cc
 
-idle_with : (stand : Stand) → phase_of stand ≡ Idle → stand ≡ world.idle
+pub idle_with : (stand : Stand) → phase_of stand ≡ Idle → stand ≡ world.idle
 idle_with world.idle is = refl
 idle_with (world.active w) is = cc
 idle_with (world.sealed w stamp) is = cc
@@ -174,6 +182,10 @@ pub data Lined (v : View) (seat : ℕ) (c : Command) (a : Answer) (t : View) : T
   sealed_first : (stamp : ℕ) (between : View) → phase_at v seat ≡ Active → DidSeal v seat stamp between → Quiet between seat (Some c) a t → Lined v seat c a t
   named : (k : ℕ) → table_of c ≡ Some k → phase_at v seat ≡ Active → Operated v seat c a t → Lined v seat c a t
 
+pub seal_heard : (current : Option Transaction) (stamp : ℕ) → SameNow current (option_map (with_seal stamp) current)
+seal_heard None stamp = tt
+seal_heard (Some u) stamp = refl
+
 module _ (v t : View) (seat : ℕ) (session : IsSession v seat) where
   begun_line : (a : Answer) → refusal_of (phase_at v seat) command.Begin ≡ None → DidCommand v seat command.Begin a t → Lined v seat command.Begin a t
   begun_line (answer.Began begin) free did =
@@ -181,10 +193,6 @@ module _ (v t : View) (seat : ℕ) (session : IsSession v seat) where
   begun_line (answer.LogEnd tail) free did = quiet (still did.0 (λ q p. same_goes_on (Some command.Begin) (answer.LogEnd tail) p refl))
   begun_line answer.NumbersEnd free did = quiet (still did.0 (λ q p. same_goes_on (Some command.Begin) answer.NumbersEnd p refl))
   begun_line a free did = absurd did
-
-  seal_heard : (current : Option Transaction) (stamp : ℕ) → SameNow current (option_map (with_seal stamp) current)
-  seal_heard None stamp = tt
-  seal_heard (Some u) stamp = refl
 
   sealed_line : (a : Answer) → refusal_of (phase_at v seat) command.Seal ≡ None → DidCommand v seat command.Seal a t → Lined v seat command.Seal a t
   sealed_line (answer.Sealed stamp) free did = quiet (seals stamp (wants_active (phase_at v seat) free) did (λ q p. (refl, seal_heard p.current stamp)))

@@ -57,15 +57,16 @@ pub record Tabled (base : ℕ → ℕ) (moves : List Move) (v t : View) (run : I
   pub right : AreRight table moves v t run
   pub grows : (x : ℕ) → made_by_all v x ≤ made_by_all t x
 
-abbrev pub table_then : (ℕ → ℕ) → View → Move → View → ℕ → ℕ
-table_then base v m u x = cond (nat_lt (made_by_all v x) (made_by_all u x)) (option_map_or (λ k. k) (table_in m) (base x)) (base x)
+-- the table of what a move made, where it counts so before it and behind it
+abbrev pub table_then : (ℕ → ℕ) → (ℕ → ℕ) → Move → (ℕ → ℕ) → ℕ → ℕ
+table_then base before m after x = cond (nat_lt (before x) (after x)) (option_map_or (λ k. k) (table_in m) (base x)) (base x)
 
-then_made : (base : ℕ → ℕ) (v : View) (m : Move) (u : View) (k x : ℕ) → table_in m ≡ Some k → made_by_all v x < made_by_all u x → table_then base v m u x ≡ k
-then_made base v m u k x names less =
-    rw (lt-ltb (made_by_all v x) (made_by_all u x) less) (ap (λ (r : Option ℕ). option_map_or (λ j. j) r (base x)) names)
+pub then_made : (base before : ℕ → ℕ) (m : Move) (after : ℕ → ℕ) (k x : ℕ) → table_in m ≡ Some k → before x < after x → table_then base before m after x ≡ k
+then_made base before m after k x names less =
+    rw (lt-ltb (before x) (after x) less) (ap (λ (r : Option ℕ). option_map_or (λ j. j) r (base x)) names)
 
-then_unmade : (base : ℕ → ℕ) (v : View) (m : Move) (u : View) (x : ℕ) → made_by_all u x ≤ made_by_all v x → table_then base v m u x ≡ base x
-then_unmade base v m u x none = rw (le-ltb (made_by_all v x) (made_by_all u x) none) refl
+pub then_unmade : (base before : ℕ → ℕ) (m : Move) (after : ℕ → ℕ) (x : ℕ) → after x ≤ before x → table_then base before m after x ≡ base x
+then_unmade base before m after x none = rw (le-ltb (before x) (after x) none) refl
 
 pub tabled : (moves : List Move) (v t : View) (base : ℕ → ℕ) (run : IsExecution v moves t) → Tabled base moves v t run
 tabled [] v t base run = record {
@@ -76,14 +77,14 @@ tabled [] v t base run = record {
   grows = λ x. omega (arith, ap (λ (y : View). made_by_all y x) run);
 }
 tabled (m ∷ moves) v t base (u, did, holds, rest) =
-    let later = tabled moves u t (table_then base v m u) rest in
+    let later = tabled moves u t (table_then base (made_by_all v) m (made_by_all u)) rest in
     let grew = move_made v m u did in
     record {
       table = later.table;
-      kept = λ x some. later.kept x (omega (arith, grew x, some)) ∙ then_unmade base v m u x (omega (arith, holds.made_once x, some));
-      unmade = λ x none. later.unmade x none ∙ then_unmade base v m u x (omega (arith, later.grows x, none));
+      kept = λ x some. later.kept x (omega (arith, grew x, some)) ∙ then_unmade base (made_by_all v) m (made_by_all u) x (omega (arith, holds.made_once x, some));
+      unmade = λ x none. later.unmade x none ∙ then_unmade base (made_by_all v) m (made_by_all u) x (omega (arith, later.grows x, none));
       right = (
-        λ k names x less. later.kept x (omega (arith, less)) ∙ then_made base v m u k x names less,
+        λ k names x less. later.kept x (omega (arith, less)) ∙ then_made base (made_by_all v) m (made_by_all u) k x names less,
         later.right,
       );
       grows = λ x. omega (arith, grew x, later.grows x);
@@ -101,6 +102,17 @@ pub run_history : (moves : List Move) (v t : View) → IsExecution v moves t →
 run_history [] v t run r within = subst (λ (x : View). r ∈ history_of x) (sym run) within
 run_history (m ∷ moves) v t (u, did, holds, rest) r within = run_history moves u t rest r (move_history v m u did r within)
 
+zero_or_more : (n : ℕ) → (n ≡ 0) ⊎ (0 < n)
+zero_or_more zero = inl refl
+zero_or_more (suc n) = inr (omega arith)
+
+-- what the opening's rows reach is never made
+pub reached_unmade : (t : View) → IsSerializable sound_law t → (x : ℕ) → 0 < reached t.opening.rows x → made_by_all t x ≡ 0
+reached_unmade t holds x there = elim (zero_or_more (made_by_all t x)) as (λ _. made_by_all t x ≡ 0) [
+  | inl none ↦ none
+  | inr some ↦ absurd (omega (arith, there, holds.opening_reach x (holds.made_new x some)))
+]
+
 -- The table of an execution from a world that was just opened.
 pub record TableOf (moves : List Move) (v t : View) (run : IsExecution v moves t) : Type 0 where
   pub table : ℕ → ℕ
@@ -117,21 +129,9 @@ table_of_run one moves v t run holds =
       table = it.table;
       opened = λ k x below some.
           let there : 0 < reached v.opening.rows x = omega (arith, reached-table v.opening.rows k x below, some) in
-          it.unmade x (not_made x there holds_t opening) ∙ first_of k x below some;
+          it.unmade x (reached_unmade t holds_t x (subst (λ (o : world.Opening). 0 < reached o.rows x) (sym opening) there)) ∙ first_of k x below some;
       right = it.right;
     }
-  where
-    zero_or_more : (n : ℕ) → (n ≡ 0) ⊎ (0 < n)
-    zero_or_more zero = inl refl
-    zero_or_more (suc n) = inr (omega arith)
-
-    not_made : (x : ℕ) → 0 < reached v.opening.rows x → IsSerializable sound_law t → t.opening ≡ v.opening → made_by_all t x ≡ 0
-    not_made x there in_t opening = elim (zero_or_more (made_by_all t x)) as (λ _. made_by_all t x ≡ 0) [
-      | inl none ↦ none
-      | inr some ↦
-          let above : v.opening.first ≤ x = subst (λ (o : world.Opening). o.first ≤ x) opening (in_t.made_new x some) in
-          absurd (omega (arith, there, holds.opening_reach x above))
-    ]
 
 -- EXECUTIONS. What is heard of moves.
 abbrev pub heard_moves : List Move → (ℕ → Progress) → ℕ → Progress

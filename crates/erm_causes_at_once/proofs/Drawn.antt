@@ -25,15 +25,15 @@ use Rattle.erm_lines_at_once.specs.Ends.{one_below, sealed_below, sealed_in, sea
 use Rattle.erm_lines_at_once.specs.Executions.{DidOwn, IsOwnRun, IsRunAtOnce, all_moves}
 use Rattle.erm_told_at_once.proofs.Runs.{all_say, at_first, knows_own, tells}
 use Rattle.erm_causes_at_once.proofs.Sealed.{close_counts, count_sealed, line_counts, one_phase, over_few, over_fewer}
-use Rattle.erm_causes_at_once.proofs.Totals.{draws_asked, drawn_few, drawn_upto, own_draws, own_total}
+use Rattle.erm_causes_at_once.proofs.Totals.{count_asked, counted_few, counted_upto, own_count, own_total}
 
 -- what a place tells, where it is one of the session
 abbrev Counts : Progress → Phase → Progress → Phase → ℕ → Type 0
 Counts p phase q after more = count_sealed q.over + one_phase after ≤ (count_sealed p.over + one_phase phase) + more
 
 place_counts : (b : Bool) (seat : ℕ) (asked : Option Command) (a : Answer) (p : Progress) (phase : Phase)
-    → (b ≡ true → Counts p phase (heard seat asked a p) (phase_after asked a phase) (draws_asked asked))
-    → Counts p phase (cond b (heard seat asked a p) p) (cond b (phase_after asked a phase) phase) (cond b (draws_asked asked) 0)
+    → (b ≡ true → Counts p phase (heard seat asked a p) (phase_after asked a phase) (count_asked draws_of asked))
+    → Counts p phase (cond b (heard seat asked a p) p) (cond b (phase_after asked a phase) phase) (cond b (count_asked draws_of asked) 0)
 place_counts true seat asked a p phase gives = gives refl
 place_counts false seat asked a p phase gives = omega arith
 
@@ -69,47 +69,47 @@ module _ (runs : (number begin : ℕ) → IsRunOf (world.begun number begin) [])
       omega (arith, one)
 
   counts : (f : View) (seat : ℕ) (moves : List Move) (p : Progress) (phase : Phase) (v t : View) → IsOwnRun f seat v moves t → Knows seat p phase v
-      → Counts p phase (fold (hears seat) p (said_in moves)) (fold (turns seat) phase (said_in moves)) (own_total seat (said_in moves))
+      → Counts p phase (fold (hears seat) p (said_in moves)) (fold (turns seat) phase (said_in moves)) (own_total draws_of seat (said_in moves))
   counts f seat [] p phase v t passes knows = omega arith
   counts f seat (line l a ∷ moves) p phase v t (u, w, passes, did, rest) knows =
       let s : Said = record { session = l.session; asked = Some l.command; answer = a } in
       let then = knows_own runs stay f seat (line l a ∷ []) p phase v w (u, w, passes, did, passes_itself seat w) knows in
       let one = place_counts (l.session == seat) seat (Some l.command) a p phase (line_place f seat l a p phase v u w knows passes did) in
       let more = counts f seat moves (hears seat p s) (turns seat phase s) w t rest then in
-      omega (arith, one, more, sum_by-cons (λ (x : Said). own_draws seat x) s (said_in moves))
+      omega (arith, one, more, sum_by-cons (λ (x : Said). own_count draws_of seat x) s (said_in moves))
   counts f seat (log l a ∷ moves) p phase v t (u, w, passes, did, rest) knows =
       let s : Said = record { session = l.session; asked = Some l.command; answer = a } in
       let then = knows_own runs stay f seat (log l a ∷ []) p phase v w (u, w, passes, did, passes_itself seat w) knows in
       let one = place_counts (l.session == seat) seat (Some l.command) a p phase (λ own. absurd (subst (λ (b : Bool). DidOwn b f seat (log l a) u w) own did)) in
       let more = counts f seat moves (hears seat p s) (turns seat phase s) w t rest then in
-      omega (arith, one, more, sum_by-cons (λ (x : Said). own_draws seat x) s (said_in moves))
+      omega (arith, one, more, sum_by-cons (λ (x : Said). own_count draws_of seat x) s (said_in moves))
   counts f seat (close at a ∷ moves) p phase v t (u, w, passes, did, rest) knows =
       let s : Said = record { session = at; asked = None; answer = a } in
       let then = knows_own runs stay f seat (close at a ∷ []) p phase v w (u, w, passes, did, passes_itself seat w) knows in
       let one = place_counts (at == seat) seat None a p phase (close_place f seat at a p phase v u w knows passes did) in
       let more = counts f seat moves (hears seat p s) (turns seat phase s) w t rest then in
-      omega (arith, one, more, sum_by-cons (λ (x : Said). own_draws seat x) s (said_in moves))
+      omega (arith, one, more, sum_by-cons (λ (x : Said). own_count draws_of seat x) s (said_in moves))
   counts f seat (flush ∷ moves) p phase v t (u, w, passes, did, rest) knows =
       counts f seat moves p phase w t rest (knows_own runs stay f seat (flush ∷ []) p phase v w (u, w, passes, did, passes_itself seat w) knows)
 
   module _ (v f : View) (script : List ScriptLine) (answers : List Answer) (closed : List Closed) (run : IsRunAtOnce v script answers closed f) where
-    told_few : (seat : ℕ) → IsSession v seat → count_sealed (progress_of seat (places_of script answers closed)).over ≤ own_total seat (places_of script answers closed)
+    told_few : (seat : ℕ) → IsSession v seat → count_sealed (progress_of seat (places_of script answers closed)).over ≤ own_total draws_of seat (places_of script answers closed)
     told_few seat session =
         let part = run.own seat session in
         let all = counts f seat (all_moves script answers closed) nothing Idle v part.last part.run (at_first runs stay v f script answers closed run seat session) in
-        subst (λ (said : List Said). count_sealed (progress_of seat said).over ≤ own_total seat said) (all_say script answers closed) (omega (arith, all))
+        subst (λ (said : List Said). count_sealed (progress_of seat said).over ≤ own_total draws_of seat said) (all_say script answers closed) (omega (arith, all))
 
     none_now : (seat bound : ℕ) → IsSession v seat → one_below bound (stamp_now (f.session seat).stand) ≡ 0
     none_now seat bound session = ap (one_below bound) (idle_now (f.session seat).stand (run.idle seat (still_session v f seat run.opening session)))
 
-    seat_few : (seat bound : ℕ) → IsSession v seat → sealed_in bound (f.session seat) ≤ own_total seat (places_of script answers closed)
+    seat_few : (seat bound : ℕ) → IsSession v seat → sealed_in bound (f.session seat) ≤ own_total draws_of seat (places_of script answers closed)
     seat_few seat bound session =
         let few = told_few seat session in
         let over = over_few bound seat (progress_of seat (places_of script answers closed)).over (f.session seat).over (tells runs stay v f script answers closed run seat session).over in
         omega (arith, few, over, none_now seat bound session)
 
-    upto_few : (bound n : ℕ) → n ≤ v.opening.sessions → sealed_upto n f.session bound ≤ drawn_upto n (places_of script answers closed)
-    unfolding sealed_upto drawn_upto
+    upto_few : (bound n : ℕ) → n ≤ v.opening.sessions → sealed_upto n f.session bound ≤ counted_upto draws_of n (places_of script answers closed)
+    unfolding sealed_upto counted_upto
     upto_few bound zero within = omega arith
     upto_few bound (suc n) within =
         omega (arith, upto_few bound n (omega (arith, within)), seat_few (suc n) bound (omega arith, within))
@@ -118,7 +118,7 @@ module _ (runs : (number begin : ℕ) → IsRunOf (world.begun number begin) [])
     below_few bound =
         let sessions : f.opening.sessions ≡ v.opening.sessions = ap (λ (o : Opening). o.sessions) run.opening in
         let upto = upto_few bound f.opening.sessions (omega (arith, sessions)) in
-        let all = drawn_few f.opening.sessions script answers closed in
+        let all = counted_few draws_of f.opening.sessions script answers closed in
         omega (arith, upto, all)
 
     pub tail_few : f.tail ≤ v.opening.tail + GREATEST_BLOCK * total_of draws_of script
@@ -129,20 +129,20 @@ module _ (runs : (number begin : ℕ) → IsRunOf (world.begun number begin) [])
 
     -- A STAMP that the session has is one more than those below it.
     seat_fewer : (seat stamp : ℕ) → IsSession v seat → (g : Finished) → g ∈ (f.session seat).over → world.stamp_of g.fate ≡ Some stamp
-        → sealed_in stamp (f.session seat) + 1 ≤ own_total seat (places_of script answers closed)
+        → sealed_in stamp (f.session seat) + 1 ≤ own_total draws_of seat (places_of script answers closed)
     seat_fewer seat stamp session g m is =
         let few = told_few seat session in
         let over = over_fewer seat stamp (progress_of seat (places_of script answers closed)).over (f.session seat).over g (tells runs stay v f script answers closed run seat session).over m is in
         omega (arith, few, over, none_now seat stamp session)
 
     upto_fewer : (seat stamp : ℕ) → 0 < seat → (g : Finished) → g ∈ (f.session seat).over → world.stamp_of g.fate ≡ Some stamp → (n : ℕ) → n ≤ v.opening.sessions → seat ≤ n
-        → sealed_upto n f.session stamp + 1 ≤ drawn_upto n (places_of script answers closed)
-    unfolding sealed_upto drawn_upto
+        → sealed_upto n f.session stamp + 1 ≤ counted_upto draws_of n (places_of script answers closed)
+    unfolding sealed_upto counted_upto
     upto_fewer seat stamp some g m is zero within at = absurd (omega (arith, some, at))
-    upto_fewer seat stamp some g m is (suc n) within at = elim (cases_eq seat (suc n)) as (λ _. sealed_upto (suc n) f.session stamp + 1 ≤ drawn_upto (suc n) (places_of script answers closed)) [
+    upto_fewer seat stamp some g m is (suc n) within at = elim (cases_eq seat (suc n)) as (λ _. sealed_upto (suc n) f.session stamp + 1 ≤ counted_upto draws_of (suc n) (places_of script answers closed)) [
       | inl same ↦
-          let here : sealed_in stamp (f.session (suc n)) + 1 ≤ own_total (suc n) (places_of script answers closed) =
-          subst (λ (q : ℕ). sealed_in stamp (f.session q) + 1 ≤ own_total q (places_of script answers closed)) same (seat_fewer seat stamp (some, omega (arith, within, at)) g m is) in
+          let here : sealed_in stamp (f.session (suc n)) + 1 ≤ own_total draws_of (suc n) (places_of script answers closed) =
+          subst (λ (q : ℕ). sealed_in stamp (f.session q) + 1 ≤ own_total draws_of q (places_of script answers closed)) same (seat_fewer seat stamp (some, omega (arith, within, at)) g m is) in
           omega (arith, upto_few stamp n (omega (arith, within)), here)
       | inr another ↦
           omega (arith, upto_fewer seat stamp some g m is n (omega (arith, within)) (omega (arith, at, another)), seat_few (suc n) stamp (omega arith, within))
@@ -154,6 +154,6 @@ module _ (runs : (number begin : ℕ) → IsRunOf (world.begun number begin) [])
         let sessions : f.opening.sessions ≡ v.opening.sessions = ap (λ (o : Opening). o.sessions) run.opening in
         let tail : f.opening.tail ≡ v.opening.tail = ap (λ (o : Opening). o.tail) run.opening in
         let upto = upto_fewer seat stamp session.0 g m is f.opening.sessions (omega (arith, sessions)) (omega (arith, session.1, sessions)) in
-        let all = drawn_few f.opening.sessions script answers closed in
+        let all = counted_few draws_of f.opening.sessions script answers closed in
         let reach = run.ends.reach seat g.work stamp (still_session v f seat run.opening session) (inl (g, m, refl, is)) in
         omega (arith, reach, tail, upto, all)

@@ -1,5 +1,14 @@
+pub mod Called
 pub mod Drawn
+pub mod Free
+pub mod Line
+pub mod Operation
 pub mod Own
+pub mod Quieted
 pub mod Reach
+pub mod Refused
 pub mod Sealed
+pub mod Tabled
 pub mod Totals
+pub mod Touched
+pub mod Walked

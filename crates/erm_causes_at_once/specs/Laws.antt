@@ -1,11 +1,14 @@
 -- What the answers of executions at once owe of their causes: the laws, as statements.
 use Rattle.std.specs.Prelude.{◌≡◌, ℕ, List, Some}
 use Rattle.std.specs.List.{slice_get}
+use Rattle.erm_model.specs.Member.{◌∈◌}
 use Rattle.erm_report.specs.declared.answer.Answer.{Answer}
 use Rattle.erm_script.specs.declared.script.ScriptLine.{ScriptLine}
+use Rattle.erm_good_report.specs.Causes.{HasCauseOf}
 use Rattle.erm_good_report.specs.Opening.{AtOnce, Opening}
-use Rattle.erm_good_report.specs.Refusals.{HasLogCause, HasUnfilledCause, IsInReach, moment_at}
+use Rattle.erm_good_report.specs.Refusals.{HasLogCause, HasRefusalCause, HasUnfilledCause, IsInReach, IsOwn, moment_at}
 use Rattle.erm_good_report.specs.Transactions.{Transaction}
+use Rattle.erm_causes.specs.Laws.{IsForOthers}
 use Rattle.erm_lines_at_once.specs.Laws.{OfRunsAtOnce}
 
 -- each answer that needs no transaction has its cause: of the log's end, of a session's last commit, and of where the log is flushed
@@ -20,3 +23,15 @@ RunsAtOnceTellLog = OfRunsAtOnce (λ opening script answers closed told. TellsLo
 abbrev pub RunsAtOnceAreInReach : Type 0
 RunsAtOnceAreInReach = OfRunsAtOnce (λ opening script answers closed told. (i : ℕ) (l : ScriptLine) (a : Answer) → slice_get script i ≡ Some l → slice_get answers i ≡ Some a
     → IsInReach (moment_at AtOnce opening script answers told i l) l.command a)
+
+-- each commit that is told shows the causes of both ends of its window, and each exclusion those of its closed one
+abbrev pub RunsAtOnceHaveCauses : Type 0
+RunsAtOnceHaveCauses = OfRunsAtOnce (λ opening script answers closed told. (t : Transaction) → t ∈ told → HasCauseOf t.ending told t)
+
+-- each answer to a line of a transaction that what others did caused has its cause: it was owned, there was a newer commit, or its window was decided
+abbrev pub RefusesForOthers : Opening → List ScriptLine → List Answer → List Transaction → Type 0
+RefusesForOthers opening script answers told = (i : ℕ) (l : ScriptLine) (a : Answer) → slice_get script i ≡ Some l → slice_get answers i ≡ Some a → IsForOthers a
+    → (t : Transaction) → IsOwn (moment_at AtOnce opening script answers told i l) l.command a t → HasRefusalCause (moment_at AtOnce opening script answers told i l) l.command t a
+
+abbrev pub RunsAtOnceRefuseForOthers : Type 0
+RunsAtOnceRefuseForOthers = OfRunsAtOnce (λ opening script answers closed told. RefusesForOthers opening script answers told)

@@ -151,7 +151,7 @@ module _ (tell : RunsAtOnceTell) (v f : View) (script : List ScriptLine) (answer
   session_of : (s : Said) → s ∈ said → IsSession v s.session
   session_of s m = let r = of_line script answers s m in subst (λ (q : ℕ). IsSession v q) r.2 (run.named r.0 r.1)
 
-  no_wait : (s : Said) → s ∈ said → IsWait s.answer → ⊥
+  pub no_wait : (s : Said) → s ∈ said → IsWait s.answer → ⊥
   no_wait s m =
       let session = session_of s m in
       let part = run.own s.session session in

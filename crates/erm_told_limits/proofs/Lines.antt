@@ -1,5 +1,5 @@
 -- A line that was answered: how its session has gone on.
-use Rattle.std.proofs.Common.{◌≡◌, ◌≢◌, ℕ, ◌+◌, ◌-◌, ◌<◌, ◌≤◌, ◌⊎◌, true, false, List, [], ◌∷◌, length, is_some, refl, sym, ap, ◌∙◌, subst, inl, inr, arith}
+use Rattle.std.proofs.Common.{◌≡◌, ◌≢◌, ℕ, ◌+◌, ◌-◌, ◌<◌, ◌≤◌, ◌⊎◌, true, false, List, [], ◌∷◌, ◌++◌, length, is_some, refl, sym, ap, ◌∙◌, subst, inl, inr, arith}
 use Rattle.std.proofs.lemmas.List.{length-append}
 use Rattle.erm_model.specs.declared.outcome.Phase.TheVariants.{Active}
 use Rattle.erm_model.specs.declared.row_stop.RowStop.{RowStop}
@@ -29,7 +29,7 @@ use Rattle.erm_lines.specs.Operations.{AsksOf, DidCalls, FrontOf, Ran, WereCutOf
 use Rattle.erm_told_limits.proofs.Arrays.{HaveRowsBelow, Stood, stood}
 use Rattle.erm_told_limits.proofs.Bounds.{front_claims, front_counts, front_makes, counted_grows, whole_grows}
 use Rattle.erm_told_limits.proofs.Grown.{Grew, all_active, grew_nothing, no_writes, nothing_apart}
-use Rattle.erm_told_limits.proofs.Moved.{Turned, moved_on, moved_out, turned_nothing, turned_then, turned_within}
+use Rattle.erm_told_limits.proofs.Moved.{Moved, Turned, moved_on, moved_out, turned_nothing, turned_then, turned_within}
 use Rattle.erm_told_limits.proofs.Pigeons as pigeons
 use Rattle.erm_told_limits.proofs.Ran.{AreReading, MovesAll, Stays, ran, same_work}
 use Rattle.erm_told_limits.proofs.Reached.{Ways, asks_reached, front_reads, whole_reads}
@@ -42,6 +42,26 @@ Known c t x = IsInRange c → 0 < reached t.opening.rows x + made_by_all t x
 -- the transaction in progress is the run of some operations
 abbrev pub HasRun : View → ℕ → Type 0
 HasRun v seat = (steps : List Step) × IsRunOf (work_at v seat) steps
+
+-- a session's transaction is over with what it had, goes on with that, or begins where there was none
+pub done_moved : (P : ℕ → Type 0) (s t : Session) (w : Work) (fate : Fate) → w ≡ work_of s.stand → t ≡ record { over = s.over ++ record { work = w; fate = fate } ∷ []; stand = world.idle } → Moved P 0 0 1 s t
+done_moved P s t w fate is done =
+    moved_out P 0 0 s t w fate done (omega (arith, ap (λ (x : Work). length x.made) is)) (omega (arith, ap (λ (x : Work). length x.claims) is))
+    (λ x. omega (arith, ap (λ (y : Work). times_made y.made x) is))
+
+pub same_moved : (P : ℕ → Type 0) (s t : Session) → t.over ≡ s.over → work_of t.stand ≡ work_of s.stand → Moved P 0 0 0 s t
+same_moved P s t over work =
+    moved_on P 0 0 s t over (subst (λ (w : Work). Grew (work_of s.stand) w 0 0) (sym work) (grew_nothing (work_of s.stand)))
+    (λ x. omega (arith, ap (λ (y : Work). times_made y.made x) work))
+    (λ x read. inl (subst (λ (w : Work). is_some (row_read w.reads x) ≡ true) work read))
+
+pub begun_moved : (P : ℕ → Type 0) (s t : Session) (n b : ℕ) → s.stand ≡ world.idle → t.over ≡ s.over → work_of t.stand ≡ begun n b → Moved P 0 0 0 s t
+begun_moved P s t n b idle over now =
+    let before : work_of s.stand ≡ begun 0 0 = ap work_of idle in
+    moved_on P 0 0 s t over
+    (subst (λ (w : Work). Grew (work_of s.stand) w 0 0) (sym now) (record { made = omega arith; claimed = omega arith; few = λ few. omega arith; apart = λ apart. nothing_apart }))
+    (λ x. omega (arith, ap (λ (y : Work). times_made y.made x) before))
+    (λ x read. let none : is_some (row_read (work_of t.stand).reads x) ≡ false = ap (λ (w : Work). is_some (row_read w.reads x)) now in absurd (cc))
 
 module _ (P : ℕ → Type 0) (v : View) (seat : ℕ) (t : View) where
   -- calls were answered
@@ -65,33 +85,19 @@ module _ (P : ℕ → Type 0) (v : View) (seat : ℕ) (t : View) where
   }
 
   pub done_as_was : (w : Work) (fate : Fate) → w ≡ work_at v seat → IsDone v seat w fate t → Turned P 0 0 1 v seat t
-  done_as_was w fate is done =
-      done_turned w fate 0 0 done (omega (arith, ap (λ (x : Work). length x.made) is)) (omega (arith, ap (λ (x : Work). length x.claims) is))
-      (λ x. omega (arith, ap (λ (y : Work). times_made y.made x) is))
+  done_as_was w fate is done = record { own = done_moved P (v.session seat) (t.session seat) w fate is done.own; others = done.others; opening = done.opening }
 
   -- the same work goes on
   pub same_turned : (t.session seat).over ≡ (v.session seat).over → work_at t seat ≡ work_at v seat → ((q : ℕ) → q ≢ seat → t.session q ≡ v.session q) → t.opening ≡ v.opening → Turned P 0 0 0 v seat t
-  same_turned over work others opening = record {
-    own = moved_on P 0 0 (v.session seat) (t.session seat) over (subst (λ (w : Work). Grew (work_at v seat) w 0 0) (sym work) (grew_nothing (work_at v seat)))
-        (λ x. omega (arith, ap (λ (y : Work). times_made y.made x) work))
-        (λ x read. inl (subst (λ (w : Work). is_some (row_read w.reads x) ≡ true) work read));
-    others = others;
-    opening = opening;
-  }
+  same_turned over work others opening = record { own = same_moved P (v.session seat) (t.session seat) over work; others = others; opening = opening }
 
   -- a transaction begins where there was none
   pub begun_turned : (n b : ℕ) → (v.session seat).stand ≡ world.idle → Works v seat (begun n b) t → Turned P 0 0 0 v seat t
-  begun_turned n b idle works =
-      let now : work_at t seat ≡ begun n b = ap (λ (s : Session). work_of s.stand) works.own in
-      let before : work_at v seat ≡ begun 0 0 = ap work_of idle in
-      record {
-        own = moved_on P 0 0 (v.session seat) (t.session seat) (ap (λ (s : Session). s.over) works.own)
-            (subst (λ (w : Work). Grew (work_at v seat) w 0 0) (sym now) (record { made = omega arith; claimed = omega arith; few = λ few. omega arith; apart = λ apart. nothing_apart }))
-            (λ x. omega (arith, ap (λ (y : Work). times_made y.made x) before))
-            (λ x read. let none : is_some (row_read (work_at t seat).reads x) ≡ false = ap (λ (w : Work). is_some (row_read w.reads x)) now in absurd (cc));
-        others = works.others;
-        opening = works.opening;
-      }
+  begun_turned n b idle works = record {
+    own = begun_moved P (v.session seat) (t.session seat) n b idle (ap (λ (s : Session). s.over) works.own) (ap (λ (s : Session). work_of s.stand) works.own);
+    others = works.others;
+    opening = works.opening;
+  }
 
 -- what a refusal leaves of a work: it stands, or is over after it has gone on
 pub record Later (t : View) (seat : ℕ) (w : Work) : Type 0 where

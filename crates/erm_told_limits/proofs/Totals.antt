@@ -12,7 +12,7 @@ use Rattle.erm_lines.specs.Executions.{DidFlush}
 use Rattle.erm_told_limits.proofs.Moved.{Turned, mades_in}
 
 -- the sum over the sessions up to a number
-pub total_upto : (Session → ℕ) → ℕ → (ℕ → Session) → ℕ
+unfoldable pub total_upto : (Session → ℕ) → ℕ → (ℕ → Session) → ℕ
 total_upto F zero session = 0
 total_upto F (suc n) session = total_upto F n session + F (session (suc n))
 

@@ -1,0 +1,155 @@
+-- What a line of a session that names a table leaves of it, and what a refusal of it asked for.
+use Rattle.std.proofs.Common.{◌≡◌, ℕ, zero, suc, ◌<◌, false, List, [], ◌∷◌, ◌++◌, Some, sum_by, refl, sym, ap, ◌∙◌, subst, arith}
+use Rattle.erm_model.specs.declared.outcome.Phase.TheVariants.{Active}
+use Rattle.erm_model.specs.declared.row_stop.RowStop.{RowStop}
+use Rattle.erm_model.specs.Lawful.{times_made}
+use Rattle.erm_model.specs.RowTransaction.{ends}
+use Rattle.erm_model.specs.Run.{Step}
+use Rattle.erm_node.specs.Sound.{sound_law}
+use Rattle.erm_report.specs.declared.answer.Answer.{Answer}
+use Rattle.erm_script.specs.declared.script.Command.{Command}
+use Rattle.erm_script.specs.Script.{IsInRange}
+use Rattle.erm_world.specs.Laws.{IsSerializable}
+use Rattle.erm_world.specs.World.{Finished, IsSession, Session, View, Work, history_of, made_in, phase_at, work_at, work_of}
+use Rattle.erm_world.specs.World as world
+use Rattle.erm_maps.specs.Runs.{IsRunOf}
+use Rattle.erm_good_report.specs.Transactions.{Ending, Progress, Transaction, heard, table_of, with_line}
+use Rattle.erm_lines.specs.Operations.{AsksOf, DidCalls, FrontOf, WholeOf}
+use Rattle.erm_lines.specs.Told.{Continues}
+use Rattle.erm_lines_at_once.specs.Operations.{Beside, DidOperationBeside, WasTried, WereCutBeside}
+use Rattle.erm_told.proofs.Going.{extends_itself}
+use Rattle.erm_causes.specs.Touched.{AreOfTables, Touches, WasClosed}
+use Rattle.erm_causes.proofs.Answered.{last_touches, shut_closed}
+use Rattle.erm_causes.proofs.Begun.{HistoryLaws, KeepBelow}
+use Rattle.erm_causes.proofs.Fine.{touches_more}
+use Rattle.erm_causes.proofs.Lines.{CutFine, lines_before}
+use Rattle.erm_causes.proofs.Made.{made_over}
+use Rattle.erm_causes.proofs.Operated.{EndsBy, GoesOnBy, Last, ShutAs}
+use Rattle.erm_causes.proofs.Own.{TreeLaws}
+use Rattle.erm_told_limits.proofs.Ran.{active_with}
+use Rattle.erm_causes_at_once.proofs.Called.{IsOut, Kept, Once, calls_gone, cut_gone, cut_kept, kept_gone, kept_then, once_of, out, stayed, tried_kept, whole}
+use Rattle.erm_causes_at_once.proofs.Free.{ActiveFree, IsFree, active_free, out_free, went_free}
+use Rattle.erm_causes_at_once.proofs.Line.{Ahead, Behind, ahead_before, ahead_last, ahead_of, ahead_there, cut_on, last_begin, later_has, over_has, stays_on, tried_on, whole_on}
+
+-- tries leave the run of the operations
+pub tried_run : (f : View) (seat : ℕ) (c : Command) (n : ℕ) (v t : View) → WasTried f seat c n v t → (steps : List Step) → IsRunOf (work_at v seat) steps → IsRunOf (work_at t seat) steps
+tried_run f seat c zero v t passes steps run = subst (λ (s : Session). IsRunOf (work_of s.stand) steps) (sym passes.own) run
+tried_run f seat c (suc n) v t (u, (other, seen, cut), rest) steps run = tried_run f seat c n u t rest steps (cut.run refl steps run)
+
+pub called_run : (seat : ℕ) (c : Command) (a : Answer) (steps : List Step) (v t : View) → Beside seat (λ u w. DidCalls u seat steps (WholeOf c a) w) v t → (before : List Step)
+    → IsRunOf (work_at v seat) before → IsRunOf (work_at t seat) (before ++ steps)
+called_run seat c a steps v t beside before run =
+    subst (λ (s : Session). IsRunOf (work_of s.stand) (before ++ steps)) (sym beside.stops)
+    (beside.did.run before (subst (λ (s : Session). IsRunOf (work_of s.stand) before) (sym beside.starts) run))
+
+module _ (tree : TreeLaws) (laws : HistoryLaws) (table : ℕ → ℕ) (f : View) (seat : ℕ) (session : IsSession f seat) (holds : IsSerializable sound_law f) (opened : AreOfTables table f.opening.rows)
+    (c : Command) (a : Answer) (k : ℕ) (named : table_of c ≡ Some k) (range : IsInRange c) (v u : View) (active : phase_at v seat ≡ Active) (did : DidOperationBeside f seat c a v u)
+    (goes : Continues (u.session seat) (f.session seat)) (right : (x : ℕ) → made_in (v.session seat) x < made_in (u.session seat) x → table x ≡ k) (p : Progress)
+    (free : IsFree table f p (v.session seat)) where
+  pub now : ActiveFree table f p.current (work_at v seat)
+  now = active_free table f p.current (v.session seat).stand free.now active
+
+  abbrev first : Work
+  first = work_at v seat
+
+  abbrev with_it : Transaction
+  with_it = with_line (Some c) a now.told
+
+  kept : Kept (v.session seat) (did.at.session seat)
+  kept = tried_kept f seat c did.times v did.at active did.tried
+
+  run_at : IsRunOf (work_at did.at seat) now.steps
+  run_at = tried_run f seat c did.times v did.at did.tried now.steps now.run
+
+  -- the line's own work, up to its last try
+  behind_at : KeepBelow table f first.begin → Ahead table k first (work_at did.at seat) → Behind table with_it first (work_at did.at seat)
+  behind_at keep ahead =
+      let stays = now.stays keep in
+      let here : Behind table with_it first first = record {
+        touches = touches_more table now.told with_it first (lines_before c a now.told) stays.0;
+        keeps = stays.1;
+        low = λ x. omega arith;
+        steps = now.steps;
+        run = now.run;
+      } in
+      (tried_on tree table f seat c a k named range now.told first did.times v did.at active did.tried ahead).behind here
+
+  keep_first : (w : Work) → w.begin ≡ first.begin → KeepBelow table f w.begin → KeepBelow table f first.begin
+  keep_first w same keep = subst (λ (n : ℕ). KeepBelow table f n) same keep
+
+  -- where the transaction goes on
+  ahead_kept : Kept (v.session seat) (u.session seat) → KeepBelow table f (work_at u seat).begin → Ahead table k first (work_at u seat)
+  ahead_kept all keep =
+      let stand = active_with (u.session seat).stand all.phase in
+      let (x, has, more) = later_has f seat (work_at u seat) (goes.active (work_at u seat) stand) in
+      ahead_of laws table f seat session holds opened k first (work_at u seat) x has more keep
+      (λ y less. right y (omega (arith, less, ap (λ (gs : List Finished). sum_by (λ (g : Finished). times_made g.work.made y) gs) all.over)))
+
+  -- where it ended
+  ahead_out : (s : Session) (w : Work) → Kept (v.session seat) s → IsOut s w (u.session seat) → KeepBelow table f w.begin → Ahead table k first w
+  ahead_out s w all ended keep =
+      ahead_of laws table f seat session holds opened k first w w (over_has f seat (u.session seat) s w goes ended) (extends_itself w) keep
+      (λ y less. right y (omega (
+        arith,
+        less,
+        ap (λ (r : Session). made_in r y) ended,
+        made_over s.over w world.aborts y,
+        ap (λ (gs : List Finished). sum_by (λ (g : Finished). times_made g.work.made y) gs) all.over,
+      )))
+
+  module _ (why : RowStop) (cut : WereCutBeside f seat (FrontOf c) (AsksOf c) why did.at u) where
+    pub kept_cut : Kept (v.session seat) (cut.at.session seat)
+    kept_cut = kept_then (v.session seat) (did.at.session seat) (cut.at.session seat) kept
+        (kept_gone cut.events (did.at.session seat) (cut.at.session seat) (cut_gone f seat c why did.at u kept.phase cut))
+
+    -- what it asked for is of the line's table
+    pub out_fine : (w : Work) → Last cut.asked (work_at cut.at seat) w → IsOut (cut.at.session seat) w (u.session seat) → KeepBelow table f w.begin
+        → CutFine table k c with_it (work_at cut.at seat) cut.asked
+    out_fine w last ended keep =
+        let gone = cut_gone f seat c why did.at u kept.phase cut in
+        let ahead = ahead_last table k first cut.asked (work_at cut.at seat) w last (ahead_out (cut.at.session seat) w kept_cut ended keep) in
+        let behind = behind_at (keep_first w (last_begin cut.asked (work_at cut.at seat) w last ∙ kept_cut.begin) keep)
+        (ahead_before table k first cut.events (work_at did.at seat) (work_at cut.at seat) gone.moves ahead) in
+        cut_on tree table f seat c a k named range now.told first why did.at u kept.phase cut behind ahead
+
+    pub out_touches : (w : Work) → Last cut.asked (work_at cut.at seat) w → IsOut (cut.at.session seat) w (u.session seat) → KeepBelow table f w.begin → Touches table with_it w
+    out_touches w last ended keep = last_touches table k c a now.told (work_at cut.at seat) cut.asked named (out_fine w last ended keep) w last
+
+    stayed_free : ends why ≡ false → GoesOnBy a → IsFree table f (heard seat (Some c) a p) (u.session seat)
+    stayed_free stays hears =
+        let all = kept_then (v.session seat) (did.at.session seat) (u.session seat) kept (cut_kept f seat c why did.at u kept.phase cut stays) in
+        went_free table f seat c a p (v.session seat) (u.session seat) now.told hears now.is all.over (active_with (u.session seat).stand all.phase)
+        (λ keep.
+        let ahead = ahead_kept all keep in
+        let before = ahead_there tree table f seat c a k named range now.told first why did.at u kept.phase cut stays ahead in
+        let behind = stays_on tree table f seat c a k named range now.told first why did.at u kept.phase cut stays (behind_at (keep_first (work_at u seat) all.begin keep) before) ahead in
+        (behind.touches, behind.keeps))
+        now.steps (cut.run stays now.steps run_at) free
+
+    ended_free : (w : Work) (ending : Ending) → Last cut.asked (work_at cut.at seat) w → IsOut (cut.at.session seat) w (u.session seat) → ShutAs ending f seat w → EndsBy a ending
+        → IsFree table f (heard seat (Some c) a p) (u.session seat)
+    ended_free w ending last ended shut hears =
+        let g : Finished = record { work = w; fate = world.aborts } in
+        subst (λ (s : Session). IsFree table f (heard seat (Some c) a p) s)
+        (sym (ended ∙ ap (λ (gs : List Finished). record { over = gs ++ g ∷ []; stand = world.idle }) kept_cut.over))
+        (out_free table f seat c a p (v.session seat) now.told w ending hears now.is (out_touches w last ended)
+        (λ succ pred is. subst (λ (e : Ending). WasClosed (history_of f) e w) is (shut_closed f f seat w ending (λ r m. m) shut)) free)
+
+  whole_free : (steps : List Step) → Beside seat (λ x y. DidCalls x seat steps (WholeOf c a) y) did.at u → GoesOnBy a → IsFree table f (heard seat (Some c) a p) (u.session seat)
+  whole_free steps beside hears =
+      let gone = calls_gone seat c a steps did.at u kept.phase beside in
+      let all = kept_then (v.session seat) (did.at.session seat) (u.session seat) kept (kept_gone beside.did.events (did.at.session seat) (u.session seat) gone) in
+      went_free table f seat c a p (v.session seat) (u.session seat) now.told hears now.is all.over gone.stand
+      (λ keep.
+      let ahead = ahead_kept all keep in
+      let behind = behind_at (keep_first (work_at u seat) all.begin keep) (ahead_before table k first beside.did.events (work_at did.at seat) (work_at u seat) gone.moves ahead) in
+      whole_on tree table f seat c a k named range now.told first steps did.at u kept.phase beside behind ahead)
+      (now.steps ++ steps) (called_run seat c a steps did.at u beside now.steps run_at) free
+
+  once_free : Once f seat c a did.at u → IsFree table f (heard seat (Some c) a p) (u.session seat)
+  once_free (whole steps beside hears) = whole_free steps beside hears
+  once_free (stayed why cut stays hears) = stayed_free why cut stays hears
+  once_free (out why cut w ending told last ended shut hears) = ended_free why cut w ending last ended shut hears
+
+  pub operation_free : IsFree table f (heard seat (Some c) a p) (u.session seat)
+  operation_free = once_free (once_of f seat c did.at u a did.once)

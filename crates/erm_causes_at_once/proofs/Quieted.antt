@@ -1,0 +1,159 @@
+-- Moves of a session that touch no object: a transaction begins, is sealed, or is over; or nothing happens.
+use Rattle.std.proofs.Common.{◌≡◌, ℕ, ◌+◌, [], ◌∷◌, ◌++◌, length, Option, Some, None, inl, inr, refl, sym, ap, ◌∙◌, subst, arith}
+use Rattle.erm_model.specs.declared.outcome.Phase.{Phase}
+use Rattle.erm_model.specs.declared.outcome.Phase.TheVariants.{Idle, Active, Sealed}
+use Rattle.erm_model.specs.Lawful.{times_made}
+use Rattle.erm_report.specs.declared.answer.Answer.{Answer}
+use Rattle.erm_report.specs.declared.answer.Answer.TheVariants as answer
+use Rattle.erm_script.specs.declared.script.Command.{Command}
+use Rattle.erm_script.specs.declared.script.Command.TheVariants as command
+use Rattle.erm_script.specs.declared.script.ScriptLine.{ScriptLine}
+use Rattle.erm_world.specs.World.{Fate, Finished, Session, Stand, View, Work, made_in, phase_at, phase_of, work_at, work_of}
+use Rattle.erm_world.specs.World as world
+use Rattle.erm_maps.specs.Runs.{IsRunOf}
+use Rattle.erm_good_report.specs.Phases.{Closes, FitsRefusal, phase_asked, refusal_of}
+use Rattle.erm_good_report.specs.Transactions.{Aborts, Commits, Ending, Excludes, Progress, Transaction, begun, ended, heard, table_of}
+use Rattle.erm_beside.specs.Calls.{Passes}
+use Rattle.erm_lines_at_once.specs.Answers.{DidAskedBeside, DidCloseBeside, DidCommandBeside, DidCommitBeside, DidDecideBeside, DidEndBeside, DidLineBeside}
+use Rattle.erm_lines_at_once.specs.Operations.{DidOperationBeside}
+use Rattle.erm_causes.proofs.Made.{made_over}
+use Rattle.erm_causes.proofs.Moves.{work_now}
+use Rattle.erm_causes.proofs.Quiet.{DoneBy, HasNow, StillBy, idle_with, refusal_still, same_goes_on, seal_heard, wants_active, wants_idle}
+use Rattle.erm_told_limits.proofs.Ran.{active_with}
+use Rattle.erm_causes_at_once.proofs.Free.{IsFree, begun_free, done_free, same_free, sealed_free}
+
+-- an answer is heard as one that begins a transaction without lines
+abbrev pub FreshBy : Option Command → Answer → Type 0
+FreshBy asked a = (seat : ℕ) (p : Progress) → (t : Transaction) × (heard seat asked a p ≡ record { over = p.over; current = Some t }) × (t.lines ≡ [])
+
+pub data Quieted (asked : Option Command) (a : Answer) (s t : Session) : Type 0 where
+  still : t ≡ s → StillBy asked a → Quieted asked a s t
+  begins : (number begin : ℕ) → s.stand ≡ world.idle → t ≡ record { over = s.over; stand = world.active (world.begun number begin) } → FreshBy asked a → Quieted asked a s t
+  seals : (stamp : ℕ) → phase_of s.stand ≡ Active → t ≡ record { over = s.over; stand = world.sealed (work_of s.stand) stamp } → StillBy asked a → Quieted asked a s t
+  done : (w : Work) (fate : Fate) (ending : Ending) → HasNow s.stand w → t ≡ record { over = s.over ++ record { work = w; fate = fate } ∷ []; stand = world.idle }
+      → ((succ pred : ℕ) → ending ≡ Excludes None succ pred → ⊥) → DoneBy asked a ending → Quieted asked a s t
+
+-- nothing is made by them
+pub quieted_made : (asked : Option Command) (a : Answer) (s t : Session) → Quieted asked a s t → (x : ℕ) → made_in t x ≡ made_in s x
+quieted_made asked a s t (still is hears) x = ap (λ (r : Session). made_in r x) is
+quieted_made asked a s t (begins number begin idle is hears) x =
+    let none : times_made (work_of s.stand).made x ≡ 0 = ap (λ (stand : Stand). times_made (work_of stand).made x) idle in
+    omega (arith, ap (λ (r : Session). made_in r x) is, none)
+quieted_made asked a s t (seals stamp active is hears) x = ap (λ (r : Session). made_in r x) is
+quieted_made asked a s t (done w fate ending has is none hears) x =
+    let same : times_made (work_of s.stand).made x ≡ times_made w.made x = ap (λ (y : Work). times_made y.made x) (work_now s.stand w has) in
+    omega (arith, ap (λ (r : Session). made_in r x) is, made_over s.over w fate x, same)
+
+-- and what was touched stays so
+pub quieted_free : ((number begin : ℕ) → IsRunOf (world.begun number begin) []) → (table : ℕ → ℕ) (f : View) (seat : ℕ) (asked : Option Command) (a : Answer) (p : Progress) (s t : Session)
+    → Quieted asked a s t → IsFree table f p s → IsFree table f (heard seat asked a p) t
+quieted_free run table f seat asked a p s t (still is hears) free =
+    subst (λ (r : Session). IsFree table f (heard seat asked a p) r) (sym is) (same_free table f p (heard seat asked a p) s (hears seat p) free)
+quieted_free run table f seat asked a p s t (begins number begin idle is hears) free =
+    let heard_is = hears seat p in
+    subst (λ (q : Progress). IsFree table f q t) (sym heard_is.1)
+    (subst (λ (r : Session). IsFree table f (record { over = p.over; current = Some heard_is.0 }) r) (sym is)
+    (begun_free table f p s heard_is.0 number begin (run number begin) free))
+quieted_free run table f seat asked a p s t (seals stamp active is hears) free =
+    same_free table f p (heard seat asked a p) t (hears seat p) (subst (λ (r : Session). IsFree table f p r) (sym is) (sealed_free table f p s stamp active free))
+quieted_free run table f seat asked a p s t (done w fate ending has is none hears) free =
+    subst (λ (q : Progress). IsFree table f q t) (sym (hears seat p))
+    (subst (λ (r : Session). IsFree table f (ended ending p) r) (sym is) (done_free table f p s w fate ending has none free))
+
+-- after others went on
+after_passes : (seat : ℕ) (asked : Option Command) (a : Answer) (v u t : View) → Passes seat v u → Quieted asked a (u.session seat) (t.session seat) → Quieted asked a (v.session seat) (t.session seat)
+after_passes seat asked a v u t passes did = subst (λ (s : Session). Quieted asked a s (t.session seat)) passes.own did
+
+-- DECIDED.
+pub decided : (seat : ℕ) (asked : Option Command) (a : Answer) (v t : View) → DidDecideBeside seat a v t → Quieted asked a (v.session seat) (t.session seat)
+decided seat asked (answer.Committed stamp succ pred) v t (r, at, is_succ, is_pred, (u, passes, (w, own, stand, settled))) =
+    after_passes seat asked (answer.Committed stamp succ pred) v u t passes
+    (done w (world.commits own r.succ r.pred) (Commits stamp succ pred) (inr (own, stand)) settled.0.own (λ s p is. cc) (λ q p. refl))
+decided seat asked (answer.Excluded stamp succ pred) v t (u, passes, (w, own, stand, settled)) =
+    after_passes seat asked (answer.Excluded stamp succ pred) v u t passes
+    (done w (world.excluded own succ pred) (Excludes (Some stamp) succ pred) (inr (own, stand)) settled.0.own (λ s p is. cc) (λ q p. refl))
+decided seat asked a v t did = absurd did
+
+-- LINES. What a line did: it is a quiet one; or it sealed its transaction, and then it is; or it is one that names a table.
+pub data Lined (f : View) (seat : ℕ) (asked : Option Command) (a : Answer) (v t : View) : Type 0 where
+  quiet : Quieted asked a (v.session seat) (t.session seat) → Lined f seat asked a v t
+  sealed_first : (stamp : ℕ) (between : Session) → phase_at v seat ≡ Active → between ≡ record { over = (v.session seat).over; stand = world.sealed (work_at v seat) stamp }
+      → Quieted asked a between (t.session seat) → Lined f seat asked a v t
+  named : (c : Command) (k : ℕ) → asked ≡ Some c → table_of c ≡ Some k → phase_at v seat ≡ Active → DidOperationBeside f seat c a v t → Lined f seat asked a v t
+
+module _ (f : View) (seat : ℕ) (v t : View) where
+  abbrev phase_passed : (u : View) → Passes seat v u → phase_at u seat ≡ phase_at v seat
+  phase_passed u passes = ap (λ (s : Session). phase_of s.stand) passes.own
+
+  nothing_done : (c : Command) (a : Answer) (u : View) → Passes seat v u → t ≡ u → StillBy (Some c) a → Lined f seat (Some c) a v t
+  nothing_done c a u passes is hears = quiet (still (ap (λ (x : View). x.session seat) is ∙ passes.own) hears)
+
+  begun_line : (a : Answer) → refusal_of (phase_at v seat) command.Begin ≡ None → DidCommandBeside f seat command.Begin a v t → Lined f seat (Some command.Begin) a v t
+  begun_line (answer.Began begin) free (u, passes, did) =
+      quiet (after_passes seat (Some command.Begin) (answer.Began begin) v u t passes
+      (begins (length (u.session seat).over + 1) begin (idle_with (u.session seat).stand (phase_passed u passes ∙ wants_idle (phase_at v seat) free)) did.2.own (λ q p. (begun q begin p, refl, refl))))
+  begun_line (answer.LogEnd tail) free (u, passes, did) =
+      nothing_done command.Begin (answer.LogEnd tail) u passes did.0 (λ q p. same_goes_on (Some command.Begin) (answer.LogEnd tail) p refl)
+  begun_line answer.NumbersEnd free (u, passes, did) = nothing_done command.Begin answer.NumbersEnd u passes did.0 (λ q p. same_goes_on (Some command.Begin) answer.NumbersEnd p refl)
+  begun_line a free did = absurd did
+
+  sealed_line : (a : Answer) → refusal_of (phase_at v seat) command.Seal ≡ None → DidCommandBeside f seat command.Seal a v t → Lined f seat (Some command.Seal) a v t
+  sealed_line (answer.Sealed stamp) free (u, passes, did) =
+      quiet (after_passes seat (Some command.Seal) (answer.Sealed stamp) v u t passes
+      (seals stamp (phase_passed u passes ∙ wants_active (phase_at v seat) free) did.own (λ q p. (refl, seal_heard p.current stamp))))
+  sealed_line a free did = absurd did
+
+  aborts_now : (asked : Option Command) → phase_at v seat ≡ Active → (u : View) → Passes seat v u
+      → t.session seat ≡ record { over = (u.session seat).over ++ record { work = work_at u seat; fate = world.aborts } ∷ []; stand = world.idle } → Quieted asked answer.Aborted (v.session seat) (t.session seat)
+  aborts_now asked active u passes own =
+      after_passes seat asked answer.Aborted v u t passes
+      (done (work_at u seat) world.aborts Aborts (inl (active_with (u.session seat).stand (phase_passed u passes ∙ active))) own (λ s p is. cc) (λ q p. refl))
+
+  aborted_line : (a : Answer) → refusal_of (phase_at v seat) command.Abort ≡ None → DidCommandBeside f seat command.Abort a v t → Lined f seat (Some command.Abort) a v t
+  aborted_line answer.Aborted free (u, passes, did) = quiet (aborts_now (Some command.Abort) (wants_active (phase_at v seat) free) u passes did.own)
+  aborted_line a free did = absurd did
+
+  commit_line : (a : Answer) → refusal_of (phase_at v seat) command.Commit ≡ None → DidCommitBeside seat a v t → Lined f seat (Some command.Commit) a v t
+  commit_line a free did =
+      let (u, passes, sealed) = did.sealed in
+      let own = subst (λ (s : Session). did.between.session seat ≡ record { over = s.over; stand = world.sealed (work_of s.stand) did.stamp }) passes.own sealed.own in
+      sealed_first did.stamp (did.between.session seat) (wants_active (phase_at v seat) free) own (decided seat (Some command.Commit) a did.between t did.decided)
+
+  durable_line : (a : Answer) → DidCommandBeside f seat command.Durable a v t → Lined f seat (Some command.Durable) a v t
+  durable_line (answer.Durable stamp) (u, passes, did) =
+      nothing_done command.Durable (answer.Durable stamp) u passes did.0 (λ q p. same_goes_on (Some command.Durable) (answer.Durable stamp) p refl)
+  durable_line answer.NoReceipt (u, passes, did) = nothing_done command.Durable answer.NoReceipt u passes did.0 (λ q p. same_goes_on (Some command.Durable) answer.NoReceipt p refl)
+  durable_line a did = absurd did
+
+  commanded : (c : Command) (a : Answer) → refusal_of (phase_at v seat) c ≡ None → DidCommandBeside f seat c a v t → Lined f seat (Some c) a v t
+  commanded command.Begin a free did = begun_line a free did
+  commanded command.Seal a free did = sealed_line a free did
+  commanded command.Settle a free did = quiet (decided seat (Some command.Settle) a v t did)
+  commanded command.Commit a free did = commit_line a free did
+  commanded command.Abort a free did = aborted_line a free did
+  commanded (command.Get k key) a free did = named (command.Get k key) k refl refl (wants_active (phase_at v seat) free) did
+  commanded (command.Put k key value) a free did = named (command.Put k key value) k refl refl (wants_active (phase_at v seat) free) did
+  commanded (command.Del k key) a free did = named (command.Del k key) k refl refl (wants_active (phase_at v seat) free) did
+  commanded (command.Next k from) a free did = named (command.Next k from) k refl refl (wants_active (phase_at v seat) free) did
+  commanded (command.Scan k low high) a free did = named (command.Scan k low high) k refl refl (wants_active (phase_at v seat) free) did
+  commanded (command.Tidy k key) a free did = named (command.Tidy k key) k refl refl (wants_active (phase_at v seat) free) did
+  commanded command.Durable a free did = durable_line a did
+  commanded command.Flush a free did = absurd did
+  commanded command.Checkpoint a free did = absurd did
+
+  asked_line : (c : Command) (a : Answer) (r : Option Answer) → refusal_of (phase_at v seat) c ≡ r → FitsRefusal r c a → DidAskedBeside r f seat c a v t → Lined f seat (Some c) a v t
+  asked_line c a None is fits did = commanded c a is did
+  asked_line c a (Some refusal) is fits passes =
+      quiet (still passes.own (subst (StillBy (Some c)) (sym fits) (refusal_still (phase_asked c) (phase_at v seat) refusal is (Some c))))
+
+  closed_as : (a : Answer) (phase : Phase) → phase_at v seat ≡ phase → Closes phase a → DidCloseBeside phase seat a v t → Quieted None a (v.session seat) (t.session seat)
+  closed_as a Idle is closes did = absurd did
+  closed_as answer.Aborted Active is closes (u, passes, did) = aborts_now None is u passes did.own
+  closed_as a Active is closes did = absurd closes
+  closed_as a Sealed is closes did = decided seat None a v t did
+
+pub lined : (f : View) (l : ScriptLine) (a : Answer) (v t : View) → DidLineBeside f l a v t → Lined f l.session (Some l.command) a v t
+lined f l a v t did = asked_line f l.session v t l.command a (refusal_of (phase_at v l.session) l.command) refl did.fits did.did
+
+pub closed_quiet : (f : View) (seat : ℕ) (a : Answer) (v t : View) → DidEndBeside seat a v t → Quieted None a (v.session seat) (t.session seat)
+closed_quiet f seat a v t did = closed_as f seat v t a (phase_at v seat) refl did.fits did.did

@@ -1,0 +1,394 @@
+-- A line of an execution at once that was refused for what another session owns, committed or decided shows the cause.
+use Rattle.std.proofs.Common.{◌≡◌, ℕ, zero, suc, ◌⊎◌, true, List, [], ◌∷◌, take, slice_get, Option, Some, None, inl, inr, refl, sym, ap, ◌∙◌, subst}
+use Rattle.erm_model.specs.declared.outcome.Phase.TheVariants.{Active, Idle}
+use Rattle.erm_model.specs.declared.row_stop.RowStop.{RowStop}
+use Rattle.erm_model.specs.declared.row_stop.RowStop.TheVariants as stop
+use Rattle.erm_model.specs.Member.{◌∈◌}
+use Rattle.erm_model.specs.RowTransaction.{Asked, asked_claim, asked_make, asked_read}
+use Rattle.erm_model.specs.Run.{Step}
+use Rattle.erm_report.specs.declared.answer.Answer.{Answer}
+use Rattle.erm_report.specs.declared.answer.Answer.TheVariants as answer
+use Rattle.erm_script.specs.declared.script.Command.{Command}
+use Rattle.erm_script.specs.declared.script.Command.TheVariants as command
+use Rattle.erm_script.specs.declared.script.ScriptLine.{ScriptLine}
+use Rattle.erm_world.specs.Going.{Extends}
+use Rattle.erm_world.specs.World.{Finished, IsCurrent, IsSession, Session, Stand, View, Work, history_of, phase_at, phase_of, work_at, work_of}
+use Rattle.erm_world.specs.World as world
+use Rattle.erm_world.specs.Works.{is_claimed}
+use Rattle.erm_maps.specs.Runs.{IsAnswered, IsRunOf}
+use Rattle.erm_good_report.specs.Causes.{CommitsBeside, HasWindow, OverwritesBeside, WritesTable}
+use Rattle.erm_good_report.specs.GoodReport.{places_of}
+use Rattle.erm_good_report.specs.Opening.{AtOnce, InTurn, Mode, Opening}
+use Rattle.erm_good_report.specs.Phases.{Closed, FitsRefusal, IsAnswerTo, phase_asked, refusal_in, refusal_of}
+use Rattle.erm_good_report.specs.Phases as report
+use Rattle.erm_good_report.specs.Refusals.{HasNoWindowBefore, HasRefusalCause, HasWindowBefore, IsInProgress, IsNewerBy, IsOwn, IsOwnedBy, Moment, WasOver, moment_at}
+use Rattle.erm_good_report.specs.Stamps.{IsWait}
+use Rattle.erm_good_report.specs.Transactions.{Commits, Excludes, Progress, Said, Transaction, nothing, progress_of, said_of, table_of, with_line}
+use Rattle.erm_lines.specs.Executions.{line_moves}
+use Rattle.erm_lines.specs.Operations.{AsksOf, FrontOf}
+use Rattle.erm_lines.specs.Told.{TellsNow}
+use Rattle.erm_beside.specs.Calls.{After, RefusedBeside}
+use Rattle.erm_beside.specs.Ends.{MetBeside, WasNewer, WasOwned}
+use Rattle.erm_lines_at_once.specs.Answers.{DidAskedBeside, DidCommandBeside, DidLineBeside}
+use Rattle.erm_lines_at_once.specs.Executions.{IsRunAtOnce}
+use Rattle.erm_lines_at_once.specs.Operations.{DidOnce, DidOperationBeside, WereCutBeside, told_at_once}
+use Rattle.erm_told.proofs.Executed.{Knows}
+use Rattle.erm_told.proofs.Lines.{phase_refuses}
+use Rattle.erm_told.proofs.Runs.{said_first}
+use Rattle.erm_told_at_once.proofs.Runs.{at_first, knows_own, runs_tell}
+use Rattle.erm_told_at_once.proofs.Stamping.{no_wait}
+use Rattle.erm_causes.specs.Laws.{IsForOthers}
+use Rattle.erm_causes.specs.Touched.{AreOfTables, Touches}
+use Rattle.erm_causes.proofs.Answered.{shut_closed}
+use Rattle.erm_causes.proofs.Begun.{HistoryLaws}
+use Rattle.erm_causes.proofs.Beside.{claimed_at, shows_closed_by}
+use Rattle.erm_causes.proofs.Causes.{both_over, over_told}
+use Rattle.erm_causes.proofs.Coloured.{AskedOf}
+use Rattle.erm_causes.proofs.Lines.{CutFine}
+use Rattle.erm_causes.proofs.Moments.{the_told}
+use Rattle.erm_causes.proofs.Operated.{Last, same_work}
+use Rattle.erm_causes.proofs.Own.{TreeLaws}
+use Rattle.erm_causes.proofs.Waits.{named_active}
+use Rattle.erm_causes_at_once.proofs.Called.{IsOut, excluded_out, newer_out, owned_out}
+use Rattle.erm_causes_at_once.proofs.Free.{ActiveFree}
+use Rattle.erm_causes_at_once.proofs.Line.{last_begin, over_has}
+use Rattle.erm_causes_at_once.proofs.Operation.{kept_cut, now, out_fine, out_touches}
+use Rattle.erm_causes_at_once.proofs.Touched.{commits_told, keep_all, line_free, session_first, session_last, table, tabled, told, told_there, touches_all}
+use Rattle.erm_causes_at_once.proofs.Walked.{FreeAt}
+
+-- the answers that tell of a call's refusal
+abbrev pub IsStop : Answer → Type 0
+IsStop (answer.Owned seat number) = Unit {0}
+IsStop (answer.Newer stamp) = Unit {0}
+IsStop (answer.ExcludedEarly succ pred) = Unit {0}
+IsStop answer.ReadsFull = Unit {0}
+IsStop answer.WritesFull = Unit {0}
+IsStop (answer.CellsFull drawn) = Unit {0}
+IsStop (answer.OidsFull drawn) = Unit {0}
+IsStop a = ⊥
+
+-- they are to lines that name a table
+names_of : (c : Command) (a : Answer) → IsStop a → IsAnswerTo c a → (k : ℕ) × (table_of c ≡ Some k)
+names_of (command.Get k key) a told fits = (k, refl)
+names_of (command.Put k key value) a told fits = (k, refl)
+names_of (command.Del k key) a told fits = (k, refl)
+names_of (command.Next k from) a told fits = (k, refl)
+names_of (command.Scan k low high) a told fits = (k, refl)
+names_of (command.Tidy k key) a told fits = (k, refl)
+names_of c (answer.Owned seat number) told fits = absurd fits
+names_of c (answer.Newer stamp) told fits = absurd fits
+names_of c (answer.ExcludedEarly succ pred) told fits = absurd fits
+names_of c answer.ReadsFull told fits = absurd fits
+names_of c answer.WritesFull told fits = absurd fits
+names_of c (answer.CellsFull drawn) told fits = absurd fits
+names_of c (answer.OidsFull drawn) told fits = absurd fits
+names_of c a told fits = absurd told
+
+operates : (f : View) (seat : ℕ) (c : Command) (a : Answer) (k : ℕ) (v t : View) → table_of c ≡ Some k → DidCommandBeside f seat c a v t → DidOperationBeside f seat c a v t
+operates f seat (command.Get n key) a k v t named did = did
+operates f seat (command.Put n key value) a k v t named did = did
+operates f seat (command.Del n key) a k v t named did = did
+operates f seat (command.Next n from) a k v t named did = did
+operates f seat (command.Scan n low high) a k v t named did = did
+operates f seat (command.Tidy n key) a k v t named did = did
+operates f seat c a k v t named did = let no : None ≡ Some k = named in cc
+
+no_refusal : (a : Answer) → IsStop a → refusal_in a ≡ None
+no_refusal (answer.Owned seat number) told = refl
+no_refusal (answer.Newer stamp) told = refl
+no_refusal (answer.ExcludedEarly succ pred) told = refl
+no_refusal answer.ReadsFull told = refl
+no_refusal answer.WritesFull told = refl
+no_refusal (answer.CellsFull drawn) told = refl
+no_refusal (answer.OidsFull drawn) told = refl
+no_refusal a told = absurd told
+
+-- A line that a call's refusal cut off names a table, and its session was active.
+pub record Stopped (f : View) (seat : ℕ) (c : Command) (a : Answer) (v t : View) : Type 0 where
+  pub table : ℕ
+  pub names : table_of c ≡ Some table
+  pub active : phase_at v seat ≡ Active
+  pub did : DidOperationBeside f seat c a v t
+
+pub stopped : (f : View) (l : ScriptLine) (a : Answer) (v t : View) → IsStop a → DidLineBeside f l a v t → Stopped f l.session l.command a v t
+stopped f l a v t told did = by (refusal_of (phase_at v l.session) l.command) refl did.fits did.did
+  where
+    by : (r : Option Answer) → refusal_of (phase_at v l.session) l.command ≡ r → FitsRefusal r l.command a → DidAskedBeside r f l.session l.command a v t → Stopped f l.session l.command a v t
+    by None is fits did =
+        let (k, names) = names_of l.command a told fits in
+        record { table = k; names = names; active = named_active (phase_at v l.session) l.command k names is; did = operates f l.session l.command a k v t names did }
+    by (Some r) is fits did =
+        let no : None ≡ Some r = sym (no_refusal a told) ∙ ap refusal_in fits ∙ phase_refuses (phase_asked l.command) (phase_at v l.session) r is in cc
+
+-- the refusal that an answer tells
+abbrev pub stop_in : Answer → Option RowStop
+stop_in (answer.Owned seat number) = Some (stop.Owned seat number)
+stop_in (answer.Newer stamp) = Some (stop.Newer stamp)
+stop_in (answer.ExcludedEarly succ pred) = Some (stop.Excluded succ pred)
+stop_in answer.ReadsFull = Some stop.ReadsFull
+stop_in answer.WritesFull = Some stop.WritesFull
+stop_in (answer.CellsFull drawn) = Some (stop.CellsFull drawn)
+stop_in (answer.OidsFull drawn) = Some (stop.OidsFull drawn)
+stop_in a = None
+
+stop_is : (why : RowStop) (a : Answer) → told_at_once why ≡ Some a → stop_in a ≡ Some why
+stop_is (stop.NotYet other seen) a told = let no : None ≡ Some a = told in cc
+stop_is stop.ReadsFull a told = let same : answer.ReadsFull ≡ a = cc in subst (λ (b : Answer). stop_in b ≡ Some stop.ReadsFull) same refl
+stop_is (stop.Owned other number) a told =
+    let same : answer.Owned other number ≡ a = cc in subst (λ (b : Answer). stop_in b ≡ Some (stop.Owned other number)) same refl
+stop_is (stop.Newer stamp) a told = let same : answer.Newer stamp ≡ a = cc in subst (λ (b : Answer). stop_in b ≡ Some (stop.Newer stamp)) same refl
+stop_is stop.WritesFull a told = let same : answer.WritesFull ≡ a = cc in subst (λ (b : Answer). stop_in b ≡ Some stop.WritesFull) same refl
+stop_is (stop.CellsFull drawn) a told = let same : answer.CellsFull drawn ≡ a = cc in subst (λ (b : Answer). stop_in b ≡ Some (stop.CellsFull drawn)) same refl
+stop_is (stop.OidsFull drawn) a told = let same : answer.OidsFull drawn ≡ a = cc in subst (λ (b : Answer). stop_in b ≡ Some (stop.OidsFull drawn)) same refl
+stop_is (stop.Excluded succ pred) a told =
+    let same : answer.ExcludedEarly succ pred ≡ a = cc in subst (λ (b : Answer). stop_in b ≡ Some (stop.Excluded succ pred)) same refl
+stop_is stop.Memory a told = let no : None ≡ Some a = told in cc
+
+the_stop : (why other : RowStop) → Some why ≡ Some other → why ≡ other
+the_stop why other is = cc
+
+-- its last try was cut off so
+pub cut_by : (f : View) (seat : ℕ) (c : Command) (a : Answer) (why : RowStop) (v t : View) → stop_in a ≡ Some why
+    → (x : RowStop) × (told_at_once x ≡ Some a) × WereCutBeside f seat (FrontOf c) (AsksOf c) x v t → WereCutBeside f seat (FrontOf c) (AsksOf c) why v t
+cut_by f seat c a why v t is (x, told, cut) =
+    subst (λ (y : RowStop). WereCutBeside f seat (FrontOf c) (AsksOf c) y v t) (the_stop x why (sym (stop_is x a told) ∙ is)) cut
+
+-- THE OWN TRANSACTION begins where it is told.
+told_begin : (seat : ℕ) (current : Option Transaction) (stand : Stand) (t : Transaction) → TellsNow seat current stand → phase_of stand ≡ Active → current ≡ Some t → t.begin ≡ (work_of stand).begin
+told_begin seat None stand t told active is = cc
+told_begin seat (Some u) world.idle t told active is = cc
+told_begin seat (Some u) (world.active w) t told active is = let same : u ≡ t = cc in ap (λ (x : Transaction). x.begin) (sym same) ∙ told.0.work.begin
+told_begin seat (Some u) (world.sealed w stamp) t told active is = cc
+
+-- at once nothing is asked to have been over
+never_over : (m : Moment) (t : Transaction) → m.mode ≡ AtOnce → WasOver m t
+never_over m t mode in_turn = let no : AtOnce ≡ InTurn = sym mode ∙ in_turn in cc
+
+none_now : (stand : Stand) (w : Work) → phase_of stand ≡ Idle → IsCurrent stand w → ⊥
+none_now world.idle w idle is = is
+none_now (world.active u) w idle is = cc
+none_now (world.sealed u stamp) w idle is = cc
+
+-- a window that has its causes
+window_so : (m : Moment) (t : Transaction) (stamp succ pred : ℕ) → m.mode ≡ AtOnce → HasWindow m.all t stamp succ pred → HasWindowBefore m t stamp succ pred
+window_so m t stamp succ pred mode window = record {
+  succ_cause = elim window.succ_cause as (λ _. (succ ≡ stamp) ⊎ ((u : Transaction) × (u ∈ m.all) × WasOver m u × OverwritesBeside u t (Some stamp) succ)) [
+    | inl is ↦ inl is
+    | inr found ↦ inr (found.0, found.1, never_over m found.0 mode, found.2)
+  ];
+  pred_cause = elim window.pred_cause as (λ _. (pred ≡ 0) ⊎ ((u : Transaction) × (u ∈ m.all) × WasOver m u × CommitsBeside u t pred)) [
+    | inl none ↦ inl none
+    | inr found ↦ inr (found.0, found.1, never_over m found.0 mode, found.3)
+  ];
+}
+
+abbrev said_at : ScriptLine → Answer → Said
+said_at l a = record { session = l.session; asked = Some l.command; answer = a }
+
+-- two lines with their answers are one place
+abbrev IsPlaceOf : ScriptLine → Answer → ScriptLine → Answer → Type 0
+IsPlaceOf x c y d = said_at x c ≡ said_at y d
+
+-- a line with its answer is a place of what is said
+place_said : (script : List ScriptLine) (answers : List Answer) (i : ℕ) (l : ScriptLine) (a : Answer) → slice_get script i ≡ Some l → slice_get answers i ≡ Some a
+    → slice_get (said_of script answers) i ≡ Some (said_at l a)
+place_said [] answers i l a at answered = cc
+place_said (k ∷ script) [] i l a at answered = cc
+place_said (k ∷ script) (b ∷ answers) zero l a at answered = ap (λ (s : Said). Some s) (same k l b a at answered)
+  where
+    same : (x y : ScriptLine) (c d : Answer) → Some x ≡ Some y → Some c ≡ Some d
+        → IsPlaceOf x c y d
+    same x y c d first second = cc
+place_said (k ∷ script) (b ∷ answers) (suc i) l a at answered = place_said script answers i l a at answered
+
+pub once_cut : (f : View) (seat : ℕ) (c : Command) (a : Answer) (v t : View) → IsStop a → DidOnce f seat c a v t
+    → (why : RowStop) × (told_at_once why ≡ Some a) × WereCutBeside f seat (FrontOf c) (AsksOf c) why v t
+once_cut f seat c (answer.Owned other number) v t told did = did
+once_cut f seat c (answer.Newer stamp) v t told did = did
+once_cut f seat c (answer.ExcludedEarly succ pred) v t told did = did
+once_cut f seat c answer.ReadsFull v t told did = did
+once_cut f seat c answer.WritesFull v t told did = did
+once_cut f seat c (answer.CellsFull drawn) v t told did = did
+once_cut f seat c (answer.OidsFull drawn) v t told did = did
+once_cut f seat c a v t told did = absurd told
+
+module _ (tree : TreeLaws) (laws : HistoryLaws) (begun : (number begin : ℕ) → IsRunOf (world.begun number begin) [])
+    (stay : (w u : Work) (steps : List Step) → Extends w u → IsAnswered w steps → IsAnswered u steps)
+    (v f : View) (script : List ScriptLine) (answers : List Answer) (closed : List Closed) (run : IsRunAtOnce v script answers closed f) where
+  abbrev colour : ℕ → ℕ
+  colour = table tree laws begun stay v f script answers closed run
+
+  abbrev all : List Transaction
+  all = told tree laws begun stay v f script answers closed run
+
+  -- what another session's transaction has claimed is of a table of which it has a line that writes
+  owner_told : (m : Moment) (c : Command) (k oid other number place : ℕ) → m.mode ≡ AtOnce → m.all ≡ all → table_of c ≡ Some k → colour oid ≡ k → WasOwned f m.session oid other number place
+      → IsOwnedBy m c other number
+  owner_told m c k oid other number place mode same named is owned = by owned.has
+    where
+      by : world.Has f other owned.work → IsOwnedBy m c other number
+      by (inr now_is) = absurd (none_now (f.session other).stand owned.work (run.idle other owned.session) now_is)
+      by (inl (g, within, work_is)) =
+          let found = both_over other colour (history_of f) (progress_of other (places_of script answers closed)).over (f.session other).over within.0 g
+          (told_there tree laws begun stay v f script answers closed run other owned.session).over (touches_all tree laws begun stay v f script answers closed run other owned.session).over within.1 in
+          let t = found.0 in
+          let first = session_first tree laws begun stay v f script answers closed run other owned.session in
+          let member : t ∈ m.all = subst (λ (ts : List Transaction). t ∈ ts) (sym same) (over_told v.opening.sessions (places_of script answers closed) other first.0 first.1 t (within.0, found.1)) in
+          record {
+            another = owned.another;
+            other = t;
+            in_progress = subst (λ (mode_is : Mode). IsInProgress mode_is m other t) (sym mode) member;
+            name = (found.2.tells.work.session, found.2.tells.work.number ∙ ap (λ (w : Work). w.number) work_is ∙ owned.number_is);
+            table = k;
+            named = named;
+            writes = subst (λ (n : ℕ). WritesTable t n) is (found.2.touches.touches.claims oid (subst (λ (w : Work). is_claimed w.claims oid ≡ true) (sym work_is) owned.claims));
+          }
+
+  -- and a commit that made a version of an object is one of such a table
+  newer_told : (m : Moment) (c : Command) (k oid stamp : ℕ) (t : Transaction) → m.mode ≡ AtOnce → m.all ≡ all → table_of c ≡ Some k → colour oid ≡ k → WasNewer f m.session t.begin oid stamp
+      → IsNewerBy m c t stamp
+  newer_told m c k oid stamp t mode same named is newer =
+      let by = commits_told tree laws begun stay v f script answers closed run newer.by newer.committed in
+      let made = newer.makes in record {
+        by = by.by;
+        of = subst (λ (ts : List Transaction). by.by ∈ ts) (sym same) by.of;
+        another = λ own. newer.another (sym by.session ∙ own);
+        succ = newer.by.succ;
+        pred = newer.by.pred;
+        commits = subst (λ (n : ℕ). by.by.ending ≡ Commits n newer.by.succ newer.by.pred) newer.stamp_is by.ending;
+        early = never_over m by.by mode;
+        above = newer.above;
+        table = k;
+        named = named;
+        writes = subst (λ (n : ℕ). WritesTable by.by n) (ap colour made.2 ∙ is) (by.touches.claims made.0.oid (claimed_at newer.by.writes made.1.0 made.0 made.1.1));
+      }
+
+  -- THE LINE.
+  module _ (opening : Opening) (i : ℕ) (l : ScriptLine) (a : Answer) (at : slice_get script i ≡ Some l) (answered : slice_get answers i ≡ Some a) where
+    abbrev m : Moment
+    m = moment_at AtOnce opening script answers all i l
+
+    abbrev p : Progress
+    p = progress_of l.session (take i (said_of script answers))
+
+    session_there : IsSession v l.session
+    session_there = run.named l (i, at)
+
+    session : IsSession f l.session
+    session = session_last tree laws begun stay v f script answers closed run l.session session_there
+
+    abbrev opened_there : AreOfTables colour f.opening.rows
+    opened_there = (tabled tree laws begun stay v f script answers closed run).opened
+
+    there : FreeAt tree laws begun stay colour f l.session session run.ends.serializable opened_there v script answers nothing i l a
+    there = line_free tree laws begun stay v f script answers closed run i l a session at answered
+
+    knows : Knows l.session p (report.phase_of l.session (take i (said_of script answers))) there.before
+    knows = subst (λ (said : List Said). Knows l.session (progress_of l.session said) (report.phase_of l.session said) there.before) (said_first i script answers)
+        (knows_own begun stay f l.session (line_moves (take i script) (take i answers)) nothing Idle v there.before there.start
+        (at_first begun stay v f script answers closed run l.session session_there))
+
+    -- it was cut off by a call's refusal
+    module _ (stopping : IsStop a) where
+      here : Stopped f l.session l.command a there.before there.after
+      here = stopped f l a there.before there.after stopping there.did
+
+      abbrev its : ActiveFree colour f p.current (work_at there.before l.session)
+      its = now tree laws colour f l.session session run.ends.serializable opened_there l.command a here.table here.names (run.ranges l (i, at)) there.before there.after here.active here.did there.goes
+          (there.right here.table here.names) p there.free
+
+      abbrev t : Transaction
+      t = with_line (Some l.command) a its.told
+
+      t_is : (u : Transaction) → IsOwn m l.command a u → u ≡ t
+      t_is u (x, current, is) = is ∙ ap (λ (y : Transaction). with_line (Some l.command) a y) (the_told p.current x its.told current its.is)
+
+      begin_is : its.told.begin ≡ (work_at there.before l.session).begin
+      begin_is = told_begin l.session p.current (there.before.session l.session).stand its.told knows.tells.now here.active its.is
+
+      cut_so : (why : RowStop) → stop_in a ≡ Some why → WereCutBeside f l.session (FrontOf l.command) (AsksOf l.command) why here.did.at there.after
+      cut_so why is = cut_by f l.session l.command a why here.did.at there.after is (once_cut f l.session l.command a here.did.at there.after stopping here.did.once)
+
+      module _ (why : RowStop) (cut : WereCutBeside f l.session (FrontOf l.command) (AsksOf l.command) why here.did.at there.after) where
+        -- what it asked for is of the line's table
+        asked_fine : (w : Work) → Last cut.asked (work_at cut.at l.session) w → IsOut (cut.at.session l.session) w (there.after.session l.session)
+            → CutFine colour here.table l.command t (work_at cut.at l.session) cut.asked
+        asked_fine w last ended =
+            out_fine tree laws colour f l.session session run.ends.serializable opened_there l.command a here.table here.names (run.ranges l (i, at)) there.before there.after here.active here.did there.goes
+            (there.right here.table here.names) p there.free why cut w last ended (keep_all tree laws begun stay v f script answers closed run w.begin)
+
+        touches_so : (w : Work) → Last cut.asked (work_at cut.at l.session) w → IsOut (cut.at.session l.session) w (there.after.session l.session) → Touches colour t w
+        touches_so w last ended =
+            out_touches tree laws colour f l.session session run.ends.serializable opened_there l.command a here.table here.names (run.ranges l (i, at)) there.before there.after here.active here.did there.goes
+            (there.right here.table here.names) p there.free why cut w last ended (keep_all tree laws begun stay v f script answers closed run w.begin)
+
+        begin_cut : (work_at cut.at l.session).begin ≡ t.begin
+        begin_cut =
+            (kept_cut tree laws colour f l.session session run.ends.serializable opened_there l.command a here.table here.names (run.ranges l (i, at)) there.before there.after here.active here.did there.goes
+            (there.right here.table here.names) p there.free why cut).begin ∙ sym begin_is
+
+      -- OWNED
+      owned_asked : (other number : ℕ) (x y : View) (asked : Asked) → AskedOf colour here.table asked → After l.session (RefusedBeside l.session asked (stop.Owned other number)) x y
+          → MetBeside f l.session asked (stop.Owned other number) x y → IsOwnedBy m l.command other number
+      owned_asked other number x y (asked_read oid) is (u, passes, refused) met = absurd refused
+      owned_asked other number x y (asked_claim oid) is refused met = owner_told m l.command here.table oid other number y.tail refl refl here.names is met
+      owned_asked other number x y asked_make is (u, passes, refused) met = absurd refused
+
+      owned_cause : (other number : ℕ) → stop_in a ≡ Some (stop.Owned other number) → IsOwnedBy m l.command other number
+      owned_cause other number is =
+          let cut = cut_so (stop.Owned other number) is in
+          let ended = owned_out l.session other number cut.asked cut.at there.after cut.refused in
+          let fine = asked_fine (stop.Owned other number) cut (work_at cut.at l.session) (same_work refl) ended in
+          owned_asked other number cut.at there.after cut.asked fine.asked_is cut.refused cut.met
+
+      -- NEWER
+      newer_asked : (stamp : ℕ) (x y : View) (asked : Asked) → (work_at x l.session).begin ≡ t.begin → AskedOf colour here.table asked
+          → After l.session (RefusedBeside l.session asked (stop.Newer stamp)) x y → MetBeside f l.session asked (stop.Newer stamp) x y → IsNewerBy m l.command t stamp
+      newer_asked stamp x y (asked_read oid) begin is (u, passes, refused) met = absurd refused
+      newer_asked stamp x y (asked_claim oid) begin is refused met =
+          newer_told m l.command here.table oid stamp t refl refl here.names is (subst (λ (n : ℕ). WasNewer f l.session n oid stamp) begin met.0)
+      newer_asked stamp x y asked_make begin is (u, passes, refused) met = absurd refused
+
+      newer_cause : (stamp : ℕ) → stop_in a ≡ Some (stop.Newer stamp) → IsNewerBy m l.command t stamp
+      newer_cause stamp is =
+          let cut = cut_so (stop.Newer stamp) is in
+          let ended = newer_out l.session stamp cut.asked cut.at there.after cut.refused in
+          let fine = asked_fine (stop.Newer stamp) cut (work_at cut.at l.session) (same_work refl) ended in
+          newer_asked stamp cut.at there.after cut.asked (begin_cut (stop.Newer stamp) cut) fine.asked_is cut.refused cut.met
+
+      -- EXCLUDED EARLY
+      early_cause : (succ pred : ℕ) → stop_in a ≡ Some (stop.Excluded succ pred) → HasNoWindowBefore m t None succ pred
+      early_cause succ pred is =
+          let cut = cut_so (stop.Excluded succ pred) is in
+          let shut = excluded_out f l.session succ pred cut.asked cut.at there.after cut.refused cut.met in
+          let w = shut.work in
+          let has = over_has f l.session (there.after.session l.session) (cut.at.session l.session) w there.goes shut.ended in
+          let sees = run.ends.serializable.sees l.session w session has in
+          let begin = sym (begin_cut (stop.Excluded succ pred) cut) ∙ sym (last_begin cut.asked (work_at cut.at l.session) w shut.last) in
+          let closed_so = shut_closed f f l.session w (Excludes None succ pred) (λ r m. m) shut.shut in
+          shows_closed_by colour all t w (touches_so (stop.Excluded succ pred) cut w shut.last shut.ended) (history_of f) f.opening.rows run.ends.serializable.snapshots sees.reads (WasOver m)
+          (λ u within. let by = commits_told tree laws begun stay v f script answers closed run u within in (by, never_over m by.by refl)) begin None succ pred closed_so
+
+  -- EACH ANSWER that what others did caused
+  waits_never : (i : ℕ) (l : ScriptLine) (a : Answer) → slice_get script i ≡ Some l → slice_get answers i ≡ Some a → IsWait a → ⊥
+  waits_never i l a at answered waits =
+      no_wait (runs_tell begun stay) v f script answers closed run (record { session = l.session; asked = Some l.command; answer = a }) (i, place_said script answers i l a at answered) waits
+
+  pub for_others : (opening : Opening) (i : ℕ) (l : ScriptLine) (a : Answer) → slice_get script i ≡ Some l → slice_get answers i ≡ Some a → IsForOthers a
+      → (t : Transaction) → IsOwn (moment_at AtOnce opening script answers all i l) l.command a t → HasRefusalCause (moment_at AtOnce opening script answers all i l) l.command t a
+  for_others opening i l (answer.WaitSeat seat seen) at answered others t own = absurd (waits_never i l (answer.WaitSeat seat seen) at answered tt)
+  for_others opening i l (answer.WaitRing flushed) at answered others t own = absurd (waits_never i l (answer.WaitRing flushed) at answered tt)
+  for_others opening i l (answer.Owned other number) at answered others t own = owned_cause opening i l (answer.Owned other number) at answered tt other number refl
+  for_others opening i l (answer.Newer stamp) at answered others t own =
+      subst (λ (x : Transaction). IsNewerBy (moment_at AtOnce opening script answers all i l) l.command x stamp) (sym (t_is opening i l (answer.Newer stamp) at answered tt t own))
+      (newer_cause opening i l (answer.Newer stamp) at answered tt stamp refl)
+  for_others opening i l (answer.ExcludedEarly succ pred) at answered others t own =
+      subst (λ (x : Transaction). HasNoWindowBefore (moment_at AtOnce opening script answers all i l) x None succ pred) (sym (t_is opening i l (answer.ExcludedEarly succ pred) at answered tt t own))
+      (early_cause opening i l (answer.ExcludedEarly succ pred) at answered tt succ pred refl)
+  for_others opening i l (answer.Committed stamp succ pred) at answered others t own = λ window. window_so (moment_at AtOnce opening script answers all i l) t stamp succ pred refl window
+  for_others opening i l (answer.Excluded stamp succ pred) at answered others t own = λ shut. (
+    shut,
+    never_over (moment_at AtOnce opening script answers all i l) shut.after refl,
+    never_over (moment_at AtOnce opening script answers all i l) shut.before refl,
+  )
+  for_others opening i l a at answered others t own = absurd others

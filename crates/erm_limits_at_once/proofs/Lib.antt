@@ -1,0 +1,5 @@
+pub mod Chained
+pub mod Full
+pub mod Placed
+pub mod Looked
+pub mod Tried

@@ -1,0 +1,11 @@
+-- What the report of an execution at once owes to its answers: the law, as a statement.
+use Rattle.erm_good_report.specs.GoodReport.{OwesToAnswers}
+use Rattle.erm_good_report.specs.Opening.{AtOnce}
+use Rattle.erm_good_report.specs.Transactions.{said_of}
+use Rattle.erm_good_at_once.specs.Rising.{StampsRise}
+use Rattle.erm_lines_at_once.specs.Laws.{OfRunsAtOnce}
+
+-- Phases and stamps agree, each transaction was answered on its snapshot, each commit, exclusion and refusal has its cause, and what was met
+-- lies below.
+abbrev pub RunsAtOnceOwe : Type 0
+RunsAtOnceOwe = OfRunsAtOnce (λ opening script answers closed told. OwesToAnswers AtOnce opening script answers told × StampsRise AtOnce told (said_of script answers))

@@ -1,0 +1,68 @@
+-- The report of an execution at once, put together.
+use Rattle.std.proofs.Common.{◌≡◌, ℕ, List, length, sym, subst}
+use Rattle.std.specs.List.{All}
+use Rattle.erm_model.specs.Committed.{rank_of}
+use Rattle.erm_model.specs.SerialOrder.{IsSerialOrder, StampsDiffer}
+use Rattle.erm_report.specs.declared.answer.Answer.{Answer}
+use Rattle.erm_report.specs.declared.line.Line.{Line}
+use Rattle.erm_report.specs.Printable.{FitsTypes}
+use Rattle.erm_script.specs.declared.script.ScriptLine.{ScriptLine}
+use Rattle.erm_world.specs.World.{View}
+use Rattle.erm_good_report.specs.GoodReport.{HaveTightWindows, IsGoodReport, OwesToAnswers, places_of}
+use Rattle.erm_good_report.specs.Opening.{AtOnce, Opening}
+use Rattle.erm_good_report.specs.Phases.{Closed, ClosesAgree}
+use Rattle.erm_good_report.specs.Transactions.{history_of, said_of, transactions_of}
+use Rattle.erm_good_at_once.specs.Rising.{StampsRise}
+use Rattle.erm_lines.specs.Executions.{IsOpeningOf}
+use Rattle.erm_lines_at_once.specs.Executions.{IsRunAtOnce}
+use Rattle.erm_lines_at_once.specs.Laws.{RunsAtOnceAreSerial, RunsAtOnceCloseSessions}
+use Rattle.erm_log_run.proofs.Differing.{stamps_differ}
+use Rattle.erm_owes_at_once.specs.Laws.{RunsAtOnceOwe}
+use Rattle.erm_summary.specs.Summary.{SummariesAreGood, Summarizes}
+use Rattle.erm_tight_at_once.specs.Laws.{RunsAtOnceHaveTightWindows}
+use Rattle.erm_report_at_once.specs.Laws.{IsGoodOf, RunsAtOnceAreGood, RunsAtOnceReportWell}
+
+module _ (closes : RunsAtOnceCloseSessions) (serial : RunsAtOnceAreSerial) (owe : RunsAtOnceOwe) (summaries : SummariesAreGood) (v f : View) (script : List ScriptLine) (answers : List Answer)
+    (closed : List Closed) (run : IsRunAtOnce v script answers closed f) (opening : Opening) (of : IsOpeningOf v opening) (names : List (List ℕ)) (many : v.opening.sessions ≡ length names)
+    (lines : List Line) (sums : Summarizes opening names script answers closed lines) (fits : All FitsTypes lines) where
+  owes : OwesToAnswers AtOnce opening script answers (transactions_of v.opening.sessions (places_of script answers closed))
+      × StampsRise AtOnce (transactions_of v.opening.sessions (places_of script answers closed)) (said_of script answers)
+  owes = owe v f script answers closed opening run of
+
+  good : (good : IsGoodReport AtOnce opening names script lines) × (good.report.answers ≡ answers) × (good.report.closed ≡ closed)
+  good =
+      summaries AtOnce opening names script answers closed lines sums fits run.each
+      (subst (λ (n : ℕ). ClosesAgree n (said_of script answers) closed) many (closes v f script answers closed run))
+      (subst (λ (n : ℕ). OwesToAnswers AtOnce opening script answers (transactions_of n (places_of script answers closed))) many owes.0)
+      (subst (λ (n : ℕ). StampsDiffer rank_of (history_of (transactions_of n (places_of script answers closed)))) many
+      (stamps_differ (transactions_of v.opening.sessions (places_of script answers closed)) owes.0.stamps.differ))
+      (λ order is. serial v f script answers closed opening run of order
+      (subst (λ (n : ℕ). IsSerialOrder rank_of (history_of (transactions_of n (places_of script answers closed))) order) (sym many) is))
+
+  pub good_of : IsGoodOf opening names script answers closed lines
+  good_of = record {
+    good = good.0;
+    answers_are = good.1;
+    closed_are = good.2;
+    rise =
+        subst (λ (cs : List Closed). StampsRise AtOnce (transactions_of (length names) (places_of script good.0.report.answers cs)) (said_of script good.0.report.answers)) (sym good.2)
+        (subst (λ (given : List Answer). StampsRise AtOnce (transactions_of (length names) (places_of script given closed)) (said_of script given)) (sym good.1)
+        (subst (λ (n : ℕ). StampsRise AtOnce (transactions_of n (places_of script answers closed)) (said_of script answers)) many owes.1));
+  }
+
+pub report_well : RunsAtOnceCloseSessions → RunsAtOnceAreSerial → RunsAtOnceOwe → SummariesAreGood → RunsAtOnceReportWell
+report_well closes serial owe summaries v f script opening names lines of many was fits =
+    good_of closes serial owe summaries v f script was.answers was.closed was.run opening of names many lines was.told fits
+
+-- with its windows
+pub are_good : RunsAtOnceReportWell → RunsAtOnceHaveTightWindows → RunsAtOnceAreGood
+are_good well windows v f script opening names lines of many was claims fits =
+    let it = well v f script opening names lines of many was fits in record {
+      good = it.good;
+      rise = it.rise;
+      tight =
+          subst (λ (cs : List Closed). HaveTightWindows (transactions_of (length names) (places_of script it.good.report.answers cs))) (sym it.closed_are)
+          (subst (λ (given : List Answer). HaveTightWindows (transactions_of (length names) (places_of script given was.closed))) (sym it.answers_are)
+          (subst (λ (n : ℕ). HaveTightWindows (transactions_of n (places_of script was.answers was.closed))) many
+          (windows v f script was.answers was.closed was.run claims)));
+    }

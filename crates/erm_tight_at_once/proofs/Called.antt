@@ -1,0 +1,238 @@
+-- A line that names a table leaves its session's transaction so that its lines tell what it touched.
+use Rattle.std.proofs.Common.{◌≡◌, ℕ, zero, suc, ◌≤◌, false, List, [], ◌∷◌, ◌++◌, Option, Some, None, inl, inr, refl, sym, ap, ◌∙◌, subst, arith}
+use Rattle.std.specs.Option.{option_map, option_to_list}
+use Rattle.erm_model.specs.declared.operation.Op.{Op}
+use Rattle.erm_model.specs.declared.operation.Reply.{Reply}
+use Rattle.erm_model.specs.declared.outcome.Phase.TheVariants.{Active}
+use Rattle.erm_model.specs.declared.row_stop.RowStop.{RowStop}
+use Rattle.erm_model.specs.declared.row_stop.RowStop.TheVariants as stop
+use Rattle.erm_model.specs.Lawful.{times_made}
+use Rattle.erm_model.specs.RowTransaction.{Event, OnlyReads, after_all, ends}
+use Rattle.erm_model.specs.Rows.{Rows}
+use Rattle.erm_model.specs.Run.{Step}
+use Rattle.erm_model.proofs.RowCalls.{after_all-OnlyReads, after_all-WritesNothing}
+use Rattle.erm_node.specs.Sound.{sound_law}
+use Rattle.erm_node.specs.TreeMap.{record_in}
+use Rattle.erm_report.specs.declared.answer.Answer.{Answer}
+use Rattle.erm_report.specs.declared.answer.Answer.TheVariants as answer
+use Rattle.erm_script.specs.declared.script.Command.{Command}
+use Rattle.erm_script.specs.declared.script.Command.TheVariants as command
+use Rattle.erm_script.specs.Script.{IsInRange}
+use Rattle.erm_world.specs.Going.{Extends}
+use Rattle.erm_world.specs.Laws.{FitsWork, IsSerializable}
+use Rattle.erm_world.specs.Onward.{extends_then}
+use Rattle.erm_world.specs.Works.{seen_by}
+use Rattle.erm_world.specs.World.{Finished, Has, IsSession, Session, View, Work, phase_at, phase_of, work_at, work_of}
+use Rattle.erm_world.specs.World as world
+use Rattle.erm_maps.specs.Runs.{IsRunOf}
+use Rattle.erm_good_report.specs.Transactions.{Exchange, Progress, Transaction, heard, op_of, table_of, with_line}
+use Rattle.erm_good_report.specs.Windows.{IsReplied, IsTidied}
+use Rattle.erm_lines.specs.Operations.{AsksOf, DidCalls, FrontOf, Ran, WholeOf}
+use Rattle.erm_lines.specs.Told.{Continues}
+use Rattle.erm_lines_at_once.specs.Operations.{Beside, DidOnce, DidOperationBeside, WasTried, WereCutBeside, told_at_once}
+use Rattle.erm_causes.proofs.Operated.{GoesOnBy}
+use Rattle.erm_causes_at_once.proofs.Called.{CutOnce, calls_gone, cut_as, cut_gone, cut_kept, cut_stays, ends_so, kept_gone, kept_then, stays_so, tried_kept}
+use Rattle.erm_causes_at_once.proofs.Line.{extended_made, later_has}
+use Rattle.erm_causes_at_once.proofs.Operation.{called_run, tried_run}
+use Rattle.erm_told_limits.proofs.Holds.{Laws}
+use Rattle.erm_told_limits.proofs.Ran.{MovesAll, active_with}
+use Rattle.erm_limits_at_once.proofs.Looked.{BeganIn, began_in, tried_more, waits_only}
+use Rattle.erm_limits_at_once.proofs.Tried.{beside_works}
+use Rattle.erm_tight.proofs.Calls.{KeepsRecords, same_kept}
+use Rattle.erm_tight.proofs.Claims.{no_claims}
+use Rattle.erm_tight.proofs.Marks.{HasIn, LineDid, Marks, Overwriting, marks_then}
+use Rattle.erm_tight.proofs.Moves.{IsGoing, now_active}
+use Rattle.erm_tight.proofs.Went.{Leaves, leaves}
+use Rattle.erm_tight.proofs.Whole.{KeyLaws, Overwrites, WholeDid, front_only, tidy_did, whole_did}
+use Rattle.erm_tight_at_once.proofs.Marked.{AreMarks, out_marks, went_marks}
+
+-- READS leave what the lines tell.
+module _ (lines : List Exchange) (w u : Work) (events : List Event) (moves : MovesAll sound_law w events u) (left : Leaves w events u) (only : OnlyReads events) where
+  seen_same : (rows : Rows) → FitsWork sound_law u rows → seen_by u rows ≡ seen_by w rows
+  seen_same rows fits = moves.seen rows fits ∙ after_all-OnlyReads events only (seen_by w rows)
+
+  pub marks_read : Marks lines w → Marks lines u
+  marks_read marks = record {
+    kept = λ rows sound fits. subst (λ (seen : Rows). KeepsRecords rows seen) (sym (seen_same rows fits)) (marks.kept rows sound (moves.fitted rows fits));
+    touched = λ rows sound fits table key x line is. left.touched x (marks.touched rows sound (moves.fitted rows fits) table key x line is);
+    puts = λ table key line.
+        let had = marks.puts table key line in (
+          had.0,
+          (
+            had.1.0,
+            λ rows sound fits.
+                let put = had.1.1 rows sound (moves.fitted rows fits) in
+                (ap (λ (rs : Rows). record_in rs table key) (seen_same rows fits) ∙ put.0, left.claimed had.1.0 put.1),
+          ),
+        );
+    changes = λ rows sound fits table key x line is. left.claimed x (marks.changes rows sound (moves.fitted rows fits) table key x line is);
+    only = λ rows sound fits table key x below is claimed. elim (moves.claims x claimed) as (λ _. HasIn (Overwriting table key) lines) [
+      | inl before ↦ marks.only rows sound (moves.fitted rows fits) table key x below is before
+      | inr by ↦ absurd (no_claims events only x by)
+    ];
+  }
+
+-- WHAT A LINE DID, by its command.
+module _ (keys : KeyLaws) (c : Command) (k : ℕ) (named : table_of c ≡ Some k) (range : IsInRange c) where
+  abbrev line : Answer → Exchange
+  line a = record { asked = c; answer = a }
+
+  line_did : (a : Answer) (events : List Event) → ((table key : ℕ) → Overwrites table key c → Overwriting table key (record { asked = c; answer = a })) → WholeDid c events
+      → LineDid (record { asked = c; answer = a }) events
+  line_did a events over did = record {
+    kept = did.kept;
+    gets = λ table key gets. did.gets table key gets.0;
+    puts = λ table key puts. did.puts table key puts.0.0 puts.0.1;
+    changes = λ table key changes. elim changes [ inl deletes ↦ did.writes table key (inl deletes.0) | inr tidies ↦ did.writes table key (inr tidies.0) ];
+    only = λ rows sound agrees table key x below is by. over table key (did.only rows sound agrees table key x below is by);
+  }
+
+  replied_over : (r : Reply) (o : Op) → op_of c ≡ Some o → (table key : ℕ) → Overwrites table key c → Overwriting table key (record { asked = c; answer = answer.Replied r })
+  replied_over r o is table key (inl put) = inl (put, (r, refl))
+  replied_over r o is table key (inr (inl del)) = inr (inl (del, (r, refl)))
+  replied_over r o is table key (inr (inr tidy)) = let never : None ≡ Some o = sym (ap op_of tidy) ∙ is in cc
+
+  cut_over : (cells : ℕ) → op_of c ≡ None → (table key : ℕ) → Overwrites table key c → Overwriting table key (record { asked = c; answer = answer.Cut cells })
+  cut_over cells is table key (inl put) = let never : op_of (command.Put table key put.0) ≡ None = sym (ap op_of put.1) ∙ is in cc
+  cut_over cells is table key (inr (inl del)) = let never : op_of (command.Del table key) ≡ None = sym (ap op_of del) ∙ is in cc
+  cut_over cells is table key (inr (inr tidy)) = inr (inr (tidy, (cells, refl)))
+
+  front_did : (a : Answer) → (IsReplied a → ⊥) → (IsTidied a → ⊥) → (f : View) (seat : ℕ) (why : RowStop) (v t : View) (cut : WereCutBeside f seat (FrontOf c) (AsksOf c) why v t)
+      → LineDid (record { asked = c; answer = a }) cut.events
+  front_did a replied tidied f seat why v t cut = record {
+    kept = λ rows sound agrees. same_kept keys.rows rows (after_all cut.events rows) (after_all-WritesNothing cut.events cut.none rows);
+    gets = λ table key gets. absurd (replied gets.1);
+    puts = λ table key puts. absurd (replied puts.1);
+    changes = λ table key changes. elim changes [ inl deletes ↦ absurd (replied deletes.1) | inr tidies ↦ absurd (tidied tidies.1) ];
+    only = λ rows sound agrees table key x below is by.
+        absurd (front_only keys cut.events c k named range cut.none rows sound agrees (cut.of rows sound agrees) table key x below is by);
+  }
+
+  -- the lines with this one
+  lines_now : (a : Answer) (t : Transaction) → (with_line (Some c) a t).lines ≡ t.lines ++ record { asked = c; answer = a } ∷ []
+  lines_now a t = ap (λ (r : Option ℕ). t.lines ++ option_to_list (option_map (λ (table : ℕ). record { asked = c; answer = a }) r)) named
+
+  -- THE CALLS of a work that goes on to one of the world in which all end.
+  module _ (f : View) (seat : ℕ) where
+    cut_leaves : (why : RowStop) (v t : View) → phase_at v seat ≡ Active → (cut : WereCutBeside f seat (FrontOf c) (AsksOf c) why v t) → Leaves (work_at v seat) cut.events (work_at cut.at seat)
+    cut_leaves why v t active cut =
+        beside_works seat (λ u w. Ran u seat cut.events w) (λ w y. Leaves w cut.events y) v cut.at cut.ran
+        (leaves cut.events cut.ran.from cut.ran.to seat (ap (λ (s : Session). phase_of s.stand) cut.ran.starts ∙ active) cut.ran.did)
+
+    module _ (last : Work) (began : BeganIn last) where
+      made_few : (w : Work) → Extends w last → (x : ℕ) → times_made w.made x ≤ 1
+      made_few w more x = let less = extended_made w last more x in let one = began.once x in omega (arith, less, one)
+
+      tried_marks : (lines : List Exchange) (n : ℕ) (v t : View) → phase_at v seat ≡ Active → WasTried f seat c n v t → (steps : List Step) → IsRunOf (work_at v seat) steps
+          → Extends (work_at t seat) last → Marks lines (work_at v seat) → Marks lines (work_at t seat)
+      tried_marks lines zero v t active passes steps run more marks = subst (λ (s : Session). Marks lines (work_of s.stand)) (sym passes.own) marks
+      tried_marks lines (suc n) v t active (u, (other, seen, cut), rest) steps run more marks =
+          let why = stop.NotYet other seen in
+          let kept = cut_kept f seat c why v u active cut refl in
+          let same : u.session seat ≡ cut.at.session seat = cut_stays f seat c why v u active cut refl in
+          let gone = cut_gone f seat c why v u active cut in
+          let more_u = extends_then (work_at u seat) (work_at t seat) last (tried_more f seat c n u t kept.phase rest) more in
+          let more_at = subst (λ (s : Session). Extends (work_of s.stand) last) same more_u in
+          let only = waits_only last began f seat c other seen v u active cut steps run more_at in
+          let first = marks_read lines (work_at v seat) (work_at cut.at seat) cut.events gone.moves (cut_leaves why v u active cut) only marks in
+          tried_marks lines n u t kept.phase rest steps (cut.run refl steps run) more (subst (λ (s : Session). Marks lines (work_of s.stand)) (sym same) first)
+
+      whole_marks : (a : Answer) (lines : List Exchange) (now : List Step) (v t : View) → phase_at v seat ≡ Active → (beside : Beside seat (λ x y. DidCalls x seat now (WholeOf c a) y) v t)
+          → (steps : List Step) → IsRunOf (work_at v seat) steps → Extends (work_at t seat) last → LineDid (record { asked = c; answer = a }) beside.did.events → Marks lines (work_at v seat)
+          → Marks (lines ++ record { asked = c; answer = a } ∷ []) (work_at t seat)
+      whole_marks a lines now v t active beside steps run more did marks =
+          let events = beside.did.events in
+          let gone = calls_gone seat c a now v t active beside in
+          let left : Leaves (work_at v seat) events (work_at t seat) =
+          beside_works seat (λ x y. DidCalls x seat now (WholeOf c a) y) (λ w y. Leaves w beside.did.events y) v t beside
+          (leaves beside.did.events beside.from beside.to seat (ap (λ (s : Session). phase_of s.stand) beside.starts ∙ active) beside.did.ran) in
+          marks_then lines (work_at v seat) (work_at t seat) (record { asked = c; answer = a }) events gone.moves left run.lawful (made_few (work_at t seat) more) did marks
+
+      cut_marks : (a : Answer) (lines : List Exchange) (why : RowStop) (v t : View) → phase_at v seat ≡ Active → (cut : WereCutBeside f seat (FrontOf c) (AsksOf c) why v t)
+          → (steps : List Step) → IsRunOf (work_at v seat) steps → Extends (work_at cut.at seat) last → LineDid (record { asked = c; answer = a }) cut.events → Marks lines (work_at v seat)
+          → Marks (lines ++ record { asked = c; answer = a } ∷ []) (work_at cut.at seat)
+      cut_marks a lines why v t active cut steps run more did marks =
+          let gone = cut_gone f seat c why v t active cut in
+          marks_then lines (work_at v seat) (work_at cut.at seat) (record { asked = c; answer = a }) cut.events gone.moves (cut_leaves why v t active cut) run.lawful
+          (made_few (work_at cut.at seat) more) did marks
+
+  -- THE WHOLE LINE.
+  module _ (laws : Laws) (f : View) (seat : ℕ) (session : IsSession f seat) (holds : IsSerializable sound_law f) (p : Progress) (v t : View) (active : phase_at v seat ≡ Active)
+      (goes : Continues (t.session seat) (f.session seat)) (marks : AreMarks p (v.session seat)) (n : ℕ) (at : View) (tried : WasTried f seat c n v at) where
+    going : IsGoing p.current (work_at v seat)
+    going = now_active p.current (v.session seat).stand marks.now active
+
+    run_at : IsRunOf (work_at at seat) going.steps
+    run_at = tried_run f seat c n v at tried going.steps going.run
+
+    active_at : phase_at at seat ≡ Active
+    active_at = (tried_kept f seat c n v at active tried).phase
+
+    last_of : phase_at t seat ≡ Active → (x : Work) × Has f seat x × Extends (work_at t seat) x
+    last_of there = later_has f seat (work_at t seat) (goes.active (work_at t seat) (active_with (t.session seat).stand there))
+
+    whole_line : (a : Answer) (now : List Step) → (beside : Beside seat (λ x y. DidCalls x seat now (WholeOf c a) y) at t) → LineDid (record { asked = c; answer = a }) beside.did.events → GoesOnBy a
+        → AreMarks (heard seat (Some c) a p) (t.session seat)
+    whole_line a now beside did hears =
+        let gone = calls_gone seat c a now at t active_at beside in
+        let all = kept_then (v.session seat) (at.session seat) (t.session seat) (tried_kept f seat c n v at active tried)
+        (kept_gone beside.did.events (at.session seat) (t.session seat) gone) in
+        let (x, has, more) = last_of all.phase in
+        let began = began_in laws f seat session holds x has in
+        let more_at = extends_then (work_at at seat) (work_at t seat) x gone.more more in
+        let before = tried_marks f seat x began going.told.lines n v at active tried going.steps going.run more_at going.marks in
+        let lines = whole_marks f seat x began a going.told.lines now at t active_at beside going.steps run_at more did before in
+        went_marks seat c a p (v.session seat) (t.session seat) going.told hears going.is all.over gone.stand
+        (subst (λ (es : List Exchange). Marks es (work_at t seat)) (sym (lines_now a going.told)) lines)
+        (going.steps ++ now) (called_run seat c a now at t beside going.steps run_at) marks
+
+    stays_line : (a : Answer) → (IsReplied a → ⊥) → (IsTidied a → ⊥) → (why : RowStop) → WereCutBeside f seat (FrontOf c) (AsksOf c) why at t → ends why ≡ false → GoesOnBy a
+        → AreMarks (heard seat (Some c) a p) (t.session seat)
+    stays_line a replied tidied why cut stays hears =
+        let same : t.session seat ≡ cut.at.session seat = cut_stays f seat c why at t active_at cut stays in
+        let gone = cut_gone f seat c why at t active_at cut in
+        let all = kept_then (v.session seat) (at.session seat) (t.session seat) (tried_kept f seat c n v at active tried) (cut_kept f seat c why at t active_at cut stays) in
+        let (x, has, more) = last_of all.phase in
+        let began = began_in laws f seat session holds x has in
+        let more_cut = subst (λ (s : Session). Extends (work_of s.stand) x) same more in
+        let more_at = extends_then (work_at at seat) (work_at cut.at seat) x gone.more more_cut in
+        let before = tried_marks f seat x began going.told.lines n v at active tried going.steps going.run more_at going.marks in
+        let lines = cut_marks f seat x began a going.told.lines why at t active_at cut going.steps run_at more_cut (front_did a replied tidied f seat why at t cut) before in
+        went_marks seat c a p (v.session seat) (t.session seat) going.told hears going.is all.over (active_with (t.session seat).stand all.phase)
+        (subst (λ (es : List Exchange). Marks es (work_at t seat)) (sym (lines_now a going.told))
+        (subst (λ (s : Session). Marks (going.told.lines ++ record { asked = c; answer = a } ∷ []) (work_of s.stand)) (sym same) lines))
+        going.steps (cut.run stays going.steps run_at) marks
+
+    refused_line : (a : Answer) → (IsReplied a → ⊥) → (IsTidied a → ⊥) → CutOnce f seat c a at t → AreMarks (heard seat (Some c) a p) (t.session seat)
+    refused_line a replied tidied (stays_so why cut stays hears) = stays_line a replied tidied why cut stays hears
+    refused_line a replied tidied (ends_so why cut w ending told_so last ended shut hears) =
+        let g : Finished = record { work = w; fate = world.aborts } in
+        let gone = cut_gone f seat c why at t active_at cut in
+        let all = kept_then (v.session seat) (at.session seat) (cut.at.session seat) (tried_kept f seat c n v at active tried)
+        (kept_gone cut.events (at.session seat) (cut.at.session seat) gone) in
+        subst (λ (s : Session). AreMarks (heard seat (Some c) a p) s)
+        (sym (ended ∙ ap (λ (gs : List Finished). record { over = gs ++ g ∷ []; stand = world.idle }) all.over))
+        (out_marks seat c a p (v.session seat) going.told w ending hears going.is marks)
+
+    refused_as : (a : Answer) → (IsReplied a → ⊥) → (IsTidied a → ⊥) → (why : RowStop) × (told_at_once why ≡ Some a) × WereCutBeside f seat (FrontOf c) (AsksOf c) why at t
+        → AreMarks (heard seat (Some c) a p) (t.session seat)
+    refused_as a replied tidied did = refused_line a replied tidied (cut_as f seat c at t a did)
+
+    once_marks : (a : Answer) → DidOnce f seat c a at t → AreMarks (heard seat (Some c) a p) (t.session seat)
+    once_marks (answer.Replied r) (o, is, beside) =
+        whole_line (answer.Replied r) (record { op = o; reply = r } ∷ []) beside
+        (line_did (answer.Replied r) beside.did.events (replied_over r o is)
+        (whole_did keys beside.did.events c k named range r o is (λ rows sound agrees. beside.did.of rows sound agrees)
+        (λ rows sound agrees. beside.did.right (record { op = o; reply = r }) refl rows sound agrees)))
+        (λ q asked p. refl)
+    once_marks (answer.Cut cells) (none, few, beside) =
+        whole_line (answer.Cut cells) [] beside
+        (line_did (answer.Cut cells) beside.did.events (cut_over cells none)
+        (tidy_did keys beside.did.events c k named range cells none (λ rows sound agrees. beside.did.of rows sound agrees)))
+        (λ q asked p. refl)
+    once_marks a did = refused_as a (λ replied. let never : None ≡ Some replied.0 = replied.1 in cc) (λ tidied. let other = tidied.1 in cc) did
+
+  pub operation_marks : Laws → (f : View) (seat : ℕ) → IsSession f seat → IsSerializable sound_law f → (a : Answer) (p : Progress) (v t : View) → phase_at v seat ≡ Active
+      → DidOperationBeside f seat c a v t → Continues (t.session seat) (f.session seat) → AreMarks p (v.session seat) → AreMarks (heard seat (Some c) a p) (t.session seat)
+  operation_marks laws f seat session holds a p v t active did goes marks =
+      once_marks laws f seat session holds p v t active goes marks did.times did.at did.tried a did.once

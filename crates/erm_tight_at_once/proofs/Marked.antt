@@ -1,0 +1,122 @@
+-- What the lines of a session's transactions tell of the records that these touched, and how moves that touch none leave it.
+use Rattle.std.proofs.Common.{◌≡◌, ℕ, List, [], ◌∷◌, ◌++◌, Option, Some, None, inl, inr, refl, sym, subst}
+use Rattle.std.specs.Option.{option_map, option_to_list}
+use Rattle.erm_model.specs.declared.outcome.Phase.TheVariants.{Active}
+use Rattle.erm_model.specs.Run.{Step}
+use Rattle.erm_report.specs.declared.answer.Answer.{Answer}
+use Rattle.erm_script.specs.declared.script.Command.{Command}
+use Rattle.erm_world.specs.World.{Fate, Finished, Session, Stand, Work, phase_of, stamp_of, work_of}
+use Rattle.erm_world.specs.World as world
+use Rattle.erm_maps.specs.Runs.{IsRunOf}
+use Rattle.erm_good_report.specs.Transactions.{Ending, Exchange, Progress, Transaction, ended, heard, with_ending, with_line}
+use Rattle.erm_causes.proofs.Moves.{work_now}
+use Rattle.erm_causes.proofs.Operated.{EndsBy, GoesOnBy}
+use Rattle.erm_causes.proofs.Quiet.{HasNow, SameLines, SameNow}
+use Rattle.erm_causes_at_once.proofs.Quieted.{Quieted, begins, done, seals, still}
+use Rattle.erm_tight.proofs.Marks.{Marks, marks_nothing}
+use Rattle.erm_tight.proofs.Moves.{HasMarks, MarkedNow, now_active}
+
+-- one that is over tells it where it was sealed
+abbrev pub MarksOne : Transaction → Finished → Type 0
+MarksOne t g = (stamp : ℕ) → stamp_of g.fate ≡ Some stamp → Marks t.lines g.work
+
+abbrev pub MarksOver : List Transaction → List Finished → Type 0
+MarksOver [] [] = Unit {0}
+MarksOver [] (g ∷ gs) = ⊥
+MarksOver (t ∷ ts) [] = ⊥
+MarksOver (t ∷ ts) (g ∷ gs) = MarksOne t g × MarksOver ts gs
+
+pub record AreMarks (p : Progress) (s : Session) : Type 0 where
+  pub over : MarksOver p.over s.over
+  pub now : MarkedNow p.current s.stand
+
+marks_push : (ts : List Transaction) (gs : List Finished) (t : Transaction) (g : Finished) → MarksOver ts gs → MarksOne t g → MarksOver (ts ++ t ∷ []) (gs ++ g ∷ [])
+marks_push [] [] t g marks one = (one, tt)
+marks_push [] (h ∷ gs) t g marks one = absurd marks
+marks_push (u ∷ ts) [] t g marks one = absurd marks
+marks_push (u ∷ ts) (h ∷ gs) t g marks one = (marks.0, marks_push ts gs t g marks.1 one)
+
+-- where no line changed
+now_same : (current other : Option Transaction) (stand : Stand) → SameNow current other → MarkedNow current stand → MarkedNow other stand
+now_same None None stand same now = now
+now_same None (Some u) stand same now = absurd same
+now_same (Some t) None stand same now = absurd same
+now_same (Some t) (Some u) world.idle same now = absurd now
+now_same (Some t) (Some u) (world.active w) same now = (subst (λ (es : List Exchange). Marks es w) (sym same) now.0, now.1)
+now_same (Some t) (Some u) (world.sealed w stamp) same now = subst (λ (es : List Exchange). Marks es w) (sym same) now
+
+same_marks : (p q : Progress) (s : Session) → SameLines p q → AreMarks p s → AreMarks q s
+same_marks p q s same marks = record {
+  over = subst (λ (ts : List Transaction). MarksOver ts s.over) (sym same.0) marks.over;
+  now = now_same p.current q.current s.stand same.1 marks.now;
+}
+
+-- the transaction in progress, sealed or not
+now_has : (current : Option Transaction) (stand : Stand) (w : Work) → MarkedNow current stand → HasNow stand w → HasMarks current w
+now_has None world.idle w now (inl active) = cc
+now_has None world.idle w now (inr (stamp, sealed)) = cc
+now_has None (world.active u) w now has = absurd now
+now_has None (world.sealed u stamp) w now has = absurd now
+now_has (Some t) world.idle w now has = absurd now
+now_has (Some t) (world.active u) w now has =
+    record { told = t; is = refl; marks = subst (λ (x : Work). Marks t.lines x) (work_now (world.active u) w has) now.0 }
+now_has (Some t) (world.sealed u stamp) w now has =
+    record { told = t; is = refl; marks = subst (λ (x : Work). Marks t.lines x) (work_now (world.sealed u stamp) w has) now }
+
+-- QUIET MOVES.
+pub sealed_marks : (p : Progress) (s : Session) (stamp : ℕ) → phase_of s.stand ≡ Active → AreMarks p s → AreMarks p (record { over = s.over; stand = world.sealed (work_of s.stand) stamp })
+sealed_marks p s stamp active marks =
+    let going = now_active p.current s.stand marks.now active in record {
+      over = marks.over;
+      now = subst (λ (r : Option Transaction). MarkedNow r (world.sealed (work_of s.stand) stamp)) (sym going.is) going.marks;
+    }
+
+done_marks : (p : Progress) (s : Session) (w : Work) (fate : Fate) (ending : Ending) → HasNow s.stand w → AreMarks p s
+    → AreMarks (ended ending p) (record { over = s.over ++ record { work = w; fate = fate } ∷ []; stand = world.idle })
+done_marks p s w fate ending has marks =
+    let now = now_has p.current s.stand w marks.now has in
+    let one : MarksOne (with_ending ending now.told) (record { work = w; fate = fate }) = λ stamp at. now.marks in
+    record {
+      over = subst (λ (r : Option Transaction). MarksOver (p.over ++ option_to_list (option_map (with_ending ending) r)) (s.over ++ record { work = w; fate = fate } ∷ []))
+          (sym now.is) (marks_push p.over s.over (with_ending ending now.told) (record { work = w; fate = fate }) marks.over one);
+      now = tt;
+    }
+
+pub quieted_marks : ((number begin : ℕ) → IsRunOf (world.begun number begin) []) → (seat : ℕ) (asked : Option Command) (a : Answer) (p : Progress) (s t : Session) → Quieted asked a s t
+    → AreMarks p s → AreMarks (heard seat asked a p) t
+quieted_marks run seat asked a p s t (still is hears) marks =
+    subst (λ (r : Session). AreMarks (heard seat asked a p) r) (sym is) (same_marks p (heard seat asked a p) s (hears seat p) marks)
+quieted_marks run seat asked a p s t (begins number begin idle is hears) marks =
+    let heard_is = hears seat p in
+    subst (λ (q : Progress). AreMarks q t) (sym heard_is.1)
+    (subst (λ (r : Session). AreMarks (record { over = p.over; current = Some heard_is.0 }) r) (sym is) (record {
+      over = marks.over;
+      now = (subst (λ (es : List Exchange). Marks es (world.begun number begin)) (sym heard_is.2) (marks_nothing number begin), ([], run number begin));
+    }))
+quieted_marks run seat asked a p s t (seals stamp active is hears) marks =
+    same_marks p (heard seat asked a p) t (hears seat p) (subst (λ (r : Session). AreMarks p r) (sym is) (sealed_marks p s stamp active marks))
+quieted_marks run seat asked a p s t (done w fate ending has is none hears) marks =
+    subst (λ (q : Progress). AreMarks q t) (sym (hears seat p))
+    (subst (λ (r : Session). AreMarks (ended ending p) r) (sym is) (done_marks p s w fate ending has marks))
+
+-- LINES that name a table: the transaction goes on, or ends.
+pub went_marks : (seat : ℕ) (c : Command) (a : Answer) (p : Progress) (s t : Session) (told : Transaction) → GoesOnBy a → p.current ≡ Some told → t.over ≡ s.over
+    → t.stand ≡ world.active (work_of t.stand) → Marks (with_line (Some c) a told).lines (work_of t.stand) → (steps : List Step) → IsRunOf (work_of t.stand) steps
+    → AreMarks p s → AreMarks (heard seat (Some c) a p) t
+went_marks seat c a p s t told hears is over stand lines steps run marks = subst (λ (q : Progress). AreMarks q t) (sym (hears seat (Some c) p)) (record {
+  over = subst (λ (gs : List Finished). MarksOver p.over gs) (sym over) marks.over;
+  now = subst (λ (r : Option Transaction). MarkedNow (option_map (with_line (Some c) a) r) t.stand) (sym is)
+      (subst (λ (at : Stand). MarkedNow (Some (with_line (Some c) a told)) at) (sym stand) (lines, (steps, run)));
+})
+
+pub out_marks : (seat : ℕ) (c : Command) (a : Answer) (p : Progress) (s : Session) (told : Transaction) (w : Work) (ending : Ending) → EndsBy a ending → p.current ≡ Some told → AreMarks p s
+    → AreMarks (heard seat (Some c) a p) (record { over = s.over ++ record { work = w; fate = world.aborts } ∷ []; stand = world.idle })
+out_marks seat c a p s told w ending hears is marks =
+    let t = with_line (Some c) a told in
+    let g : Finished = record { work = w; fate = world.aborts } in
+    let one : MarksOne (with_ending ending t) g = λ stamp at. cc in
+    subst (λ (q : Progress). AreMarks q (record { over = s.over ++ g ∷ []; stand = world.idle })) (sym (hears seat (Some c) p)) (record {
+      over = subst (λ (r : Option Transaction). MarksOver (p.over ++ option_to_list (option_map (with_ending ending) (option_map (with_line (Some c) a) r))) (s.over ++ g ∷ []))
+          (sym is) (marks_push p.over s.over (with_ending ending t) g marks.over one);
+      now = tt;
+    })
