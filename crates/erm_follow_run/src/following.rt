@@ -24,7 +24,8 @@ pub const STREAM_BYTES: usize = 16_777_216;
 /// How many bytes are asked for at a time.
 const CHUNK_BYTES: usize = 4096;
 
-/// Follows the stream that a source has, and puts each commit's line once no later commit can come before it. It answers a status:
+/// Follows the stream that a source has, and puts the lines of the commits below each safe stamp in the serial order: where the
+/// log keeps what its safe stamps promise, no later commit can come before them. It answers a status:
 ///
 /// - 0 where the source was read to its end: how many commits wait was put behind the lines, and how many bytes are left, which are no whole item;
 /// - 4 where the source failed;

@@ -1,4 +1,4 @@
-//! A stream of a log followed from a source to a sink: each commit's line is put once no later commit can come before it.
+//! A stream of a log followed from a source to a sink: the commits below a safe stamp are put in the serial order.
 #![tactic(auto)]
 
 mod drained;

@@ -1,0 +1,128 @@
+//! Streams of disks whose words another program worked out, and what stops them.
+use crate::ship;
+use erm_outside::{Disk, Failed, File};
+use erm_outside_mem::{MemDisk, MemSink, Silent};
+use erm_segment::place;
+use std::alloc::{AllocError, Global};
+use std::test::Fail;
+
+// The words of the slots and of the log from a place on, and those of the stream, in hexadecimal digits.
+struct Row {
+    slot0: &'static str,
+    slot1: &'static str,
+    at: u64,
+    log: &'static str,
+    stream: &'static str,
+}
+
+const ROWS: [Row; 4] = [
+    // Nothing was written.
+    Row {
+        slot0: "",
+        slot1: "",
+        at: 8,
+        log: "",
+        stream: "6 2 8 0 0 0 5c9fd545423f8c61",
+    },
+    // Three transactions, and words behind the log's end.
+    Row {
+        slot0: "",
+        slot1: "",
+        at: 8,
+        log: "100053 8 0 0 1f73ff748bce0b21 100194 d d 1000301 b00000000 3 2 a 14 0 0 0 0 0 10 11 300000010 2 1 aa 300000011 2 1 bb 122b2e4560abbb92 100094 26 26 2000101 300000011 2 1 a2 4491757b566a48e 100094 2f 26",
+        stream: "6 2 8 0 0 0 5c9fd545423f8c61 100053 8 0 0 1f73ff748bce0b21 100194 d d 1000301 b00000000 3 2 a 14 0 0 0 0 0 10 11 300000010 2 1 aa 300000011 2 1 bb 122b2e4560abbb92 100094 26 26 2000101 300000011 2 1 a2 4491757b566a48e",
+    },
+    // A checkpoint in format 1, and behind it a block over two segments.
+    Row {
+        slot0: "1 fffa 1 0 0 2f11bf3809c7419",
+        slot1: "",
+        at: 65530,
+        log: "200053 fffa 0 0 228bc15b554c0665 200194 ffff ffff 1000301 b00000000 3 2 a 14 0 0 0 0 0 10 11 300000010 2 1 aa 300000011 2 1 bb 5655ce98e7aa2a07",
+        stream: "6 2 fffa 1 0 0 ee40de9d19033648 200053 fffa 0 0 228bc15b554c0665 200194 ffff ffff 1000301 b00000000 3 2 a 14 0 0 0 0 0 10 11 300000010 2 1 aa 300000011 2 1 bb 5655ce98e7aa2a07",
+    },
+    // Two checkpoints, the second one behind the log's words.
+    Row {
+        slot0: "2 2f 1 0 3 b00000000 3 2 a 14 0 0 0 0 0 10 11 300000010 2 1 c1 300000011 2 1 bb f40ddc21a7e49d9f",
+        slot1: "2 34 2 0 3 b00000000 3 2 a 14 0 0 0 0 0 10 11 300000010 2 1 c1 300000011 2 1 bb b5d072da61b1da57",
+        at: 8,
+        log: "100053 8 0 0 1f73ff748bce0b21",
+        stream: "1a 2 34 2 0 3 b00000000 3 2 a 14 0 0 0 0 0 10 11 300000010 2 1 c1 300000011 2 1 bb b5d072da61b1da57",
+    },
+];
+
+// Writes words to a file, from its front on.
+fn write_words(disk: &mut Silent<MemDisk>, file: File, words: &str) -> Result<(), Failed> {
+    let mut at: u64 = 0;
+    for word in words.split_whitespace() {
+        let word = u64::from_str_radix(word, 16).unwrap_or(0);
+        disk.write(file, at, &word.to_le_bytes())?;
+        at = at.saturating_add(8);
+    }
+    Ok(())
+}
+
+// A disk with the words of a row.
+fn disk_of(disk: &mut Silent<MemDisk>, row: &Row) -> Result<(), Failed> {
+    write_words(disk, File::Slot0, row.slot0)?;
+    write_words(disk, File::Slot1, row.slot1)?;
+    let mut at = row.at;
+    for word in row.log.split_whitespace() {
+        let word = u64::from_str_radix(word, 16).unwrap_or(0);
+        let (file, byte) = place(at);
+        disk.write(file, byte, &word.to_le_bytes())?;
+        at = at.saturating_add(1);
+    }
+    Ok(())
+}
+
+// The bytes of words.
+fn bytes_of(alloc: Global, words: &str) -> Result<Vec<u8>, AllocError> {
+    let mut bytes = Vec::new(alloc);
+    for word in words.split_whitespace() {
+        let word = u64::from_str_radix(word, 16).unwrap_or(0);
+        bytes.extend_from_slice(&word.to_le_bytes())?;
+    }
+    Ok(bytes)
+}
+
+// A disk without files, of which a call fails, and all behind it.
+fn failing_at(alloc: Global, call: u64) -> Silent<MemDisk> {
+    Silent {
+        disk: MemDisk::new(alloc).stop_at(call),
+    }
+}
+
+#[test]
+fn streams(rt: HostRuntime) -> Result<(), Fail> {
+    let alloc = rt.alloc();
+    for row in &ROWS {
+        let mut disk = Silent {
+            disk: MemDisk::new(alloc),
+        };
+        disk_of(&mut disk, row)?;
+        let mut sink = MemSink::new(alloc, 4096);
+        assert_eq!(rt; ship(alloc, &mut disk, &mut sink), 0);
+        assert_eq!(rt; sink.as_slice(), bytes_of(alloc, row.stream)?.as_slice());
+    }
+    Ok(())
+}
+
+// A sink that fails, a disk that fails at its first call, and one without a place to start from.
+#[test]
+fn stops(rt: HostRuntime) -> Result<(), Fail> {
+    let alloc = rt.alloc();
+    let mut disk = failing_at(alloc, 1000);
+    let mut sink = MemSink::new(alloc, 20).failing([2].to_vec(alloc)?);
+    assert_eq!(rt; ship(alloc, &mut disk, &mut sink), 5);
+    assert_eq!(rt; sink.as_slice().len(), 20);
+    let mut disk = failing_at(alloc, 0);
+    let mut sink = MemSink::new(alloc, 4096);
+    assert_eq!(rt; ship(alloc, &mut disk, &mut sink), 6);
+    assert_eq!(rt; sink.as_slice(), b"disk fault\n".as_slice());
+    let mut disk = failing_at(alloc, 1000);
+    disk.write(File::Slot0, 0, b"x")?;
+    let mut sink = MemSink::new(alloc, 4096);
+    assert_eq!(rt; ship(alloc, &mut disk, &mut sink), 7);
+    assert_eq!(rt; sink.as_slice(), b"no base\n".as_slice());
+    Ok(())
+}
