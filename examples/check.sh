@@ -55,6 +55,8 @@ fi
 
 # The launcher's words, where it is the program: a byte of the block that opens the run is changed, and it stops, until --go-on.
 if [[ $program == "$(readlink -f "$top/erm")" ]]; then
+    "$examples/stream.sh" "$program" >"$folder/stream.out"
+    count "stream" cmp "$folder/stream.out" "$examples/stream.out"
     says() {
         local status=$1 text=$2
         shift 2
@@ -70,7 +72,11 @@ if [[ $program == "$(readlink -f "$top/erm")" ]]; then
     count "-C" says 0 "recovered 42 run 1" -C "$folder/copied" recover
     count "explain" says 0 "18: line 14 (a put 0 10) overwrites" explain "$examples/write_skew.erm" "$examples/write_skew.out"
     count "log" says 0 "end 42 run 1" log
+    count "log with keys" says 0 "object 16 value 000001f4 key 0/1" log --keys
     count "log and a word" says 2 "log takes no word" log erm-data
+    count "ship" cmp <("$program" ship | wc -c) <(echo 328)
+    count "follow" grep -q "pending 2" <("$program" ship | "$program" follow)
+    count "ship and a word" says 2 "ship takes no word" ship erm-data
     count "a bad script" grep -q "line 2.*a table is 0 to 15" <("$program" run <"$folder/bad.erm" 2>&1)
     printf '\001' | dd of=erm-data/log0000000000000000 bs=1 seek=70 conv=notrunc status=none
     count "a changed byte" says 70 "2 blocks still read behind the log's end at 8" run

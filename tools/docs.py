@@ -6,6 +6,8 @@
 
 Made are, between two marks each: the table of layers in README.md, the list of the kit's crates that the program stands on there,
 and the table of crates in docs/architecture.md. They come from crates.txt, from the crates' own first sentences and from their lines.
+Made are also the words of docs/definitions.md: those of each row are the comments over the definitions that its first cell names, one
+after another. A row of which a definition has no comment, or can't be told from another of its name, is written by hand.
 Compared are: that each crate has its row in docs/crates.md, that the definitions of docs/definitions.md stand in specs/ or are
 items of the code, that the files it names are there, and that links of documents lead to files and headings that are there. How
 the lines of a document are broken is left open.
@@ -152,6 +154,70 @@ def defined(crates):
     return found
 
 
+def comment_over(rows, at, mark):
+    """The lines of a comment that ends over a line, as one text."""
+    first = at
+    while first > 0 and rows[first - 1].lstrip().startswith(mark):
+        first -= 1
+    return " ".join(it.lstrip()[len(mark) :].strip() for it in rows[first:at])
+
+
+def comments_of(crates):
+    """By the name of each definition in specs/, and of each type in src/: the files that have one, each with the comment over it."""
+    found = {}
+    word = r"([^\s(){}:;,]+)"
+    kinds = {
+        ("specs", ".antt", "--"): re.compile(rf"(?:unfoldable |abbrev |record |data |pub )+{word}.*? :"),
+        ("src", ".rt", "///"): re.compile(r"\s*pub (?:struct|enum|trait|fn|const|type) (\w+)"),
+    }
+    for name in crates.uses:
+        for (folder, ending, mark), pattern in kinds.items():
+            for path in files_of(name, folder, ending):
+                rows = [it for it in text_of(path).split("\n") if not it.lstrip().startswith("#[")]
+                for at, row in enumerate(rows):
+                    head = pattern.match(row)
+                    if head:
+                        found.setdefault(head[1], []).append((path, comment_over(rows, at, mark)))
+    return found
+
+
+def sentence(text):
+    """A comment as a sentence of a table's cell."""
+    text = text[:1].upper() + text[1:]
+    return (text if text.endswith((".", ":")) else f"{text}.").replace("|", "\\|")
+
+
+def words_of(names, files, places, comments):
+    """The words of a row: the comment of each name, in the file that the row names or else in a crate of its section; none if one lacks."""
+    told = []
+    for name in names:
+        bare = name.split("(")[0].split(".")[-1].split("::")[-1]
+        there = comments.get(bare, ())
+        near = [it for it in there if any(it[0].endswith(f"/{file}") for file in files) and any(it[0].startswith(f"crates/{at}/") for at in places)]
+        near = near or [it for it in there if any(it[0].startswith(f"crates/{at}/") for at in places)] or there
+        if len({it[1] for it in near}) != 1 or not near[0][1]:
+            return None
+        told.append(sentence(near[0][1]))
+    return " ".join(told) if told else None
+
+
+def definitions_made(crates):
+    """The document of definitions with its words as they are to be."""
+    comments, places, rows = comments_of(crates), [], []
+    for row in text_of("docs/definitions.md").split("\n"):
+        if row.startswith("## "):
+            places = re.findall(r"`(erm_[a-z_]+)", row)
+        cells = re.split(r"(?<!\\) \| ", row.removesuffix(" |"))
+        if row.startswith("| `") and len(cells) > 1:
+            files = re.findall(r"((?:specs|src)/[A-Za-z0-9_/]+\.(?:antt|rt))", " ".join(cells[2:]))
+            near = [*places, *re.findall(r"(erm_[a-z_]+)/(?:specs|src)/", " ".join(cells[2:]))]
+            told = words_of(re.findall(r"`([^`]+)`", cells[0]), files, near, comments)
+            cells[1] = told or cells[1]
+            row = " | ".join(cells) + (" |" if row.endswith(" |") else "")
+        rows.append(row)
+    return "\n".join(rows)
+
+
 def definitions_faults(crates):
     """Words of definitions.md that are nowhere defined, and files that aren't there."""
     known = defined(crates)
@@ -205,8 +271,9 @@ def links_faults():
 def main(words):
     crates = Crates()
     faults = [*crates.faults()]
-    for path in MADE:
-        text = made(path, crates)
+    texts = {path: made(path, crates) for path in MADE}
+    texts["docs/definitions.md"] = definitions_made(crates)
+    for path, text in texts.items():
         if "--check" not in words:
             with open(os.path.join(TOP, path), "w", encoding="utf-8") as it:
                 it.write(text)

@@ -73,7 +73,7 @@ answer_more() {
 # The command that a word seems to mean, in brackets.
 nearest() {
     local word=${1,,} it
-    for it in run make recover audit checkpoint help copy try; do
+    for it in run make recover audit checkpoint log ship follow explain help copy try; do
         if [[ $word == "$it" || $word == "-$it" || $word == "--$it" || ($word == "${it:0:3}"* && ${#word} -ge 3) ]]; then
             echo ": is it $it?"
             return
