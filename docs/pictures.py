@@ -1,6 +1,6 @@
 #!/usr/bin/env python3
 """Makes the pictures of the documents from the text below, from crates.txt and from the examples: docs/house.svg, flow.svg, life.svg,
-cycle.svg, crash.svg, and docs/runs/ with a picture of each example's run.
+session.svg, cycle.svg, crash.svg, stream.svg, and docs/runs/ with a picture of each example's run.
 
     docs/pictures.py            writes them
     docs/pictures.py --check    tells whether they are as this makes them
@@ -54,15 +54,27 @@ def laws_only(name):
     return not any(doing.search(re.sub(r"(?m)^\s*(?:ghost|ensures|requires|//|→).*$", "", sources.text_of(it))) for it in sources.files_of(name, "src", ".rt") if "test" not in it)
 
 
+# From how many lines of code, definitions and proofs on a crate's box is longer by a step, and the lengths.
+STEPS = (500, 1000, 2000, 4000, 8000)
+LENGTHS = (106, 124, 150, 186, 232, 290)
+
+
+def length_of(name):
+    """How long a crate's box is: by a step for each doubling of its lines."""
+    files = [it for folder in ("src", "specs", "proofs") for it in sources.files_of(name, folder, (".rt", ".antt"))]
+    count = sum(sources.text_of(it).count("\n") for it in files)
+    return LENGTHS[sum(count >= least for least in STEPS)]
+
+
 def house():
-    """The layers of the program, wide as their sources are long."""
+    """The layers of the program, with a box for each crate."""
     crates, parts, y, width = sources.Crates(), [], 10, 900
     needed = crates.below("erm_main")
     for layer, _, names in crates.layers:
         names = [it for it in names if it in needed]
         x, top, boxes = 170, y + 8, []
         for crate in names:
-            wide = 14 + 7 * len(crate[4:])
+            wide = length_of(crate)
             if x + wide > width - 20:
                 x, y = 170, y + 30
             boxes += [box(x, y + 8, wide, 22, "none" if laws_only(crate) else "box"), words(x + wide / 2, y + 23, crate[4:], "word")]
@@ -70,9 +82,10 @@ def house():
         if names:
             y += 38
             parts += [box(10, top - 6, width - 20, y - top, "plain"), words(22, top + 15, layer, "small", "start"), *boxes]
-    notes = "Each crate (erm_..) uses crates of its own layer and of lower ones alone. Blue ones have code that runs, grey ones laws and proofs alone."
-    parts.append(words(width / 2, y + 18, notes, "small"))
-    return picture(width, y + 30, "The crates of the program in layers", parts)
+    notes = ["Each crate (erm_..) uses crates of its own layer and of lower ones alone. Blue ones have code that runs, grey ones laws and proofs alone."]
+    notes += [f"A box is longer by a step from {', '.join(f'{it:,}' for it in STEPS[:-1])} and {STEPS[-1]:,} lines of code, definitions and proofs on."]
+    parts += [words(width / 2, y + 18 * (i + 1), note, "small") for i, note in enumerate(notes)]
+    return picture(width, y + 48, "The crates of the program in layers", parts)
 
 
 # The way of the data: each place, with the crates that have it; then what goes from one to the next.
@@ -123,11 +136,35 @@ def life():
     last = 32 + 48 * (len(rows) - 1)
     parts += [words(350, last + 19, f"{rows[-1][3]}: idle again", "small", "start")]
     parts += [arrow(f"M20 {last + 14} H8 V46 H18")]
-    active = 32 + 48 * 3 + 19
-    parts += [words(350, active, "reads, claims, writes; an abort leads back to Idle", "small", "start")]
+    active = 32 + 48 * 3 + 14
+    parts += [line(f"M20 {active} H8"), words(350, active + 5, "reads, claims, writes; an abort leads back to Idle", "small", "start")]
     parts += [words(20, last + 62, "a: the place in the log when it began.  c: the commit stamp, where the block begins in the log.", "small", "start")]
     parts += [words(20, last + 80, "State word 1: a stamp is being drawn, and others who meet it wait or look again.", "small", "start")]
     return picture(660, last + 95, "The life of a transaction, with its places and words", parts)
+
+
+# What a session's transaction goes through: each state with what it may do or is told there; then the step to the next one.
+SESSION = """
+active | get, next, scan, put, del, tidy | seal
+sealed | has a stamp, and may wait | settle
+committed | counts, and is in the map | flush
+durable | outlives a crash |
+"""
+
+
+def session():
+    parts, rows = [words(8, 75, "begin", "small", "start"), arrow("M8 84 H52")], rows_of(SESSION)
+    for i, (name, what, step) in enumerate(rows):
+        x = 54 + 236 * i
+        parts += [box(x, 56, 172, 56), words(x + 86, 79, name, "head"), words(x + 86, 99, what, "small")]
+        if step:
+            parts += [arrow(f"M{x + 172} 84 H{x + 234}"), words(x + 203, 76, step, "small")]
+    parts += [arrow("M320 56 C320 22 432 22 432 54"), words(376, 22, "wait: the line is asked again", "small")]
+    parts += [words(258, 130, "(commit: both in one)", "small")]
+    for x, name, what in ((54, "over", "refused or aborted"), (290, "over", "excluded at its stamp")):
+        parts += [arrow(f"M{x + 86} 112 V166", "bad"), box(x, 168, 172, 56, "lost"), words(x + 86, 191, name, "head"), words(x + 86, 211, what, "small")]
+    parts += [words(54, 250, "What is over leaves nothing, and its session may begin again. So it may behind committed. A script's end settles what is sealed, and aborts what is active.", "small", "start")]
+    return picture(950, 266, "The life of a transaction, as its session sees it", parts)
 
 
 def crash():
@@ -153,6 +190,49 @@ def crash():
     return picture(720, y + 92, "A log that a crash cut, and what recovery takes", parts)
 
 
+def told_stream():
+    """What examples/stream.out tells of two runs and of the stream behind them: the blocks by ascending stamps, each with its stamp, its session
+    and its succ, or with the stamp alone where it opens a run; where the last one ends; and the stamps of the commits told, in their order."""
+    parts = [it.split("\n") for it in sources.text_of("examples/stream.out").split("$ ")[1:]]
+    runs = [[row.split() for row in it[1:]] for it in parts if it[0].startswith("erm run")]
+    opened = [int(row[1]) for run in runs for row in run if row[:1] == ["open"]]
+    blocks = [(at, None, None) for at in opened[:2]]
+    blocks += [(int(row[4]), row[1], row[6]) for run in runs for row in run if row[:1] == ["commit"]]
+    follow = next(it for it in parts if it[0] == "erm ship | erm follow")
+    return sorted(blocks), opened[2], [int(it.split()[4]) for it in follow if it.startswith("commit")]
+
+
+def stream():
+    """Order against commit order: the blocks of two runs along their stamps, and below the places in the serial order that are told."""
+    blocks, end, told = told_stream()
+    place = lambda at: 30 + 6.2 * (at - blocks[0][0])
+    top, low, wide, middle, names = 84, 208, 94, {}, {}
+    left, right = 30 + (wide + 6) * len(told), place(end)
+    parts = [words(30, 22, "The log, by commit stamps", "head", "start"), words(right, top - 8, end, "word")]
+    for (at, name, succ), (behind, _, _) in zip(blocks, [*blocks[1:], (end, None, None)]):
+        middle[at], names[at] = (place(at) + place(behind)) / 2, name
+        parts += [words(place(at), top - 8, at, "word"), line(f"M{place(at):g} {top - 4} V{top}")]
+        if name is None:
+            parts += [box(place(at), top, place(behind) - place(at), 44, "plain"), words(middle[at], top + 26, "open", "small")]
+            parts += [line(f"M{place(at):g} {top - 22} V{top - 40} H{place(at) + 8:g}"), words(place(at) + 12, top - 36, f"safe stamp {at}", "small", "start")]
+        else:
+            parts += [box(place(at), top, place(behind) - place(at), 44, "box" if at in told else "none")]
+            parts += [words(middle[at], top + 19, name), words(middle[at], top + 36, f"succ {succ}", "small")]
+    for number, at in enumerate(told):
+        x = 30 + (wide + 6) * number
+        kind = "good" if any(it < at for it in told[number + 1 :]) else "line"
+        parts += [box(x, low, wide, 34), words(x + wide / 2, low + 22, f"{number + 1}  {names[at]}")]
+        parts += [arrow(f"M{middle[at]:g} {top + 44} C{middle[at]:g} {top + 84} {x + wide / 2:g} {low - 46} {x + wide / 2:g} {low - 2}", kind)]
+    pending = [at for at, name, _ in blocks if name and at not in told]
+    parts += [box(left, low, right - left, 34, "none"), words((left + right) / 2, low + 22, f"pending {len(pending)}")]
+    parts += [line(f"M{middle[at]:g} {top + 44} V{low}", "thin") for at in pending]
+    parts += [words(30, low + 58, "The serial order, as far as it is told: by succ, and where that is the same the greater stamp first", "head", "start")]
+    notes = ["Blue: a commit that comes before one of a lesser stamp. Each commit from a safe stamp on comes behind all below it, so those below are told."]
+    notes += [f"Grey: a later commit may still come before one of these. They are due where the next run opens, at {end}, which is then the safe stamp."]
+    parts += [words(30, low + 82 + 18 * i, note, "small", "start") for i, note in enumerate(notes)]
+    return picture(round(right) + 30, low + 114, "The serial order of a stream against the order of its commits", parts)
+
+
 def run_of(name):
     """The picture of an example's run, by tools/picture."""
     path = os.path.join(TOP, "tools", "picture")
@@ -165,7 +245,7 @@ def run_of(name):
 
 def pictures():
     """Each picture's name, and how it is made."""
-    yield from (("house", house), ("flow", flow), ("life", life), ("crash", crash), ("cycle", lambda: run_of("write_skew")))
+    yield from (("house", house), ("flow", flow), ("life", life), ("session", session), ("crash", crash), ("stream", stream), ("cycle", lambda: run_of("write_skew")))
     for path in sorted(glob.glob(os.path.join(TOP, "examples", "*.erm"))):
         name = os.path.basename(path)[:-4]
         if name != "empty":
