@@ -5,7 +5,7 @@ mod room;
 mod run;
 mod step;
 
-ghost use Rattle.std.specs.Prelude.{◌≡◌, ◌+◌, ◌%◌, ◌≤◌, Some, None, MatchOption, vec_len, vec_capacity};
+ghost use Rattle.std.specs.Prelude.{◌≡◌, ◌+◌, ◌%◌, ◌<◌, ◌≤◌, Some, None, vec_len, vec_capacity};
 ghost use Rattle.erm_machine.specs.declared.limits.TheConstants.{ANNOUNCERS, OBJECT_LIMIT, RING_WORDS};
 ghost use Rattle.erm_kept.specs.Attempts.{attempt_of};
 ghost use Rattle.erm_kept.specs.Objects.{object_of};
@@ -137,17 +137,19 @@ impl State {
     }
 
     /// An object below the limit, as it is kept.
-    pub fn object(&self, oid: Oid) -> Option<&ObjectState>
-        ensures { MatchOption result (OBJECT_LIMIT ≤ oid) (λ o. object_of o.now ≡ (core_of self.now).shared.objects oid) }
+    pub fn object(&self, oid: Oid) -> &ObjectState
+        requires { oid < OBJECT_LIMIT }
+        ensures { object_of result.now ≡ (core_of self.now).shared.objects oid }
     {
-        self.objects.get(oid as usize)
+        &self.objects[oid as usize]
     }
 
     /// A seat that has words, as it is kept.
-    pub fn seat(&self, seat: Seat) -> Option<&SeatState>
-        ensures { MatchOption result (ANNOUNCERS ≤ seat) (λ x. part_of x.now ≡ (core_of self.now).seats seat) }
+    pub fn seat(&self, seat: Seat) -> &SeatState
+        requires { seat < ANNOUNCERS }
+        ensures { part_of result.now ≡ (core_of self.now).seats seat }
     {
-        self.seats.get(seat as usize)
+        &self.seats[seat as usize]
     }
 
     // The begin word of a seat.

@@ -26,7 +26,7 @@ use Rattle.erm_core_calls.specs.Going.{MovesOn, Waits, for_owner}
 use Rattle.erm_core_calls.proofs.Moving.{rank, Apart, unlike, unlike_if, place_at, next_at, more, to_task, same_self, branch, other_branch}
 
 -- a task to which the load of an entry doesn't lead
-entered_other : (p oid entry : ℕ) (o : Object) (t : Task) → eqb 1 (rank t) ≡ false → eqb 3 (rank t) ≡ false → eqb 10 (rank t) ≡ false → Apart t (entered p oid entry o)
+pub entered_other : (p oid entry : ℕ) (o : Object) (t : Task) → eqb 1 (rank t) ≡ false → eqb 3 (rank t) ≡ false → eqb 10 (rank t) ≡ false → Apart t (entered p oid entry o)
 entered_other p oid entry o t owned walks claimed =
     unlike_if t (eqb (owner_of entry) 0) (task.Walks (head_version oid entry o) (Some entry)) _ (unlike t _ walks)
     (unlike_if t (eqb (owner_of entry) p) (task.Claimed (head_version oid entry o)) (task.Owned oid (owner_of entry)) (unlike t _ claimed) (unlike t _ owned))

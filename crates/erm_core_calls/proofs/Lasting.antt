@@ -22,10 +22,10 @@ pub less_ends : (run : ℕ → Ahead) → ((n : ℕ) → IsLess (run (suc n)) (r
 less_ends run less = all_end ((run 0).stages + 1) run less (omega arith)
 
 -- no more
-abbrev AtMost : Ahead → Ahead → Type 0
+abbrev pub AtMost : Ahead → Ahead → Type 0
 AtMost a b = IsLess a b ⊎ (a ≡ b)
 
-then_less : (x y z : Ahead) → IsLess x y → IsLess y z → IsLess x z
+pub then_less : (x y z : Ahead) → IsLess x y → IsLess y z → IsLess x z
 then_less x y z first second =
     elim first [
       | fewer_stages lt ↦ elim second [
@@ -38,11 +38,11 @@ then_less x y z first second =
       ]
     ]
 
-less_at_last : (x y z : Ahead) → AtMost x y → IsLess y z → IsLess x z
+pub less_at_last : (x y z : Ahead) → AtMost x y → IsLess y z → IsLess x z
 less_at_last x y z first second =
     ⊎_elim (λ (less : IsLess x y). then_less x y z less second) (λ (same : x ≡ y). subst (λ a. IsLess a z) (sym same) second) first
 
-at_most_then : (x y z : Ahead) → AtMost x y → AtMost y z → AtMost x z
+pub at_most_then : (x y z : Ahead) → AtMost x y → AtMost y z → AtMost x z
 at_most_then x y z first second =
     ⊎_elim (λ (less : IsLess y z). inl (less_at_last x y z first less)) (λ (same : y ≡ z). subst (AtMost x) same first) second
 

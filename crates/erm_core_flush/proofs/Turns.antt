@@ -48,7 +48,7 @@ here_taken : (pl : Place) → pl ≢ Vacant → is_vacant pl ≡ false
 here_taken Vacant taken = absurd (taken refl)
 here_taken _ taken = refl
 
-is_undecided : (d : Decision) → (d ≢ Undecided → ⊥) → d ≡ Undecided
+pub is_undecided : (d : Decision) → (d ≢ Undecided → ⊥) → d ≡ Undecided
 is_undecided Undecided n = refl
 is_undecided Commit n = absurd (n (λ (e : Commit ≡ Undecided). cc))
 is_undecided Skip n = absurd (n (λ (e : Skip ≡ Undecided). cc))

@@ -1,5 +1,5 @@
 -- What the commits below a transaction's begin stamp made, and it besides, is made once.
-use Rattle.std.proofs.Common.{◌≡◌, ℕ, ◌+◌, ◌<◌, ◌≤◌, ⊎_elim, List, [], ◌∷◌, ◌++◌, flat_map, sym, ap, ◌∙◌, subst, arith}
+use Rattle.std.proofs.Common.{◌≡◌, ℕ, ◌+◌, ◌<◌, ◌≤◌, ⊎_elim, List, [], ◌∷◌, flat_map, sym, ap, ◌∙◌, subst, arith}
 use Rattle.std.specs.Prelude.{nat_lt}
 use Rattle.std.proofs.lemmas.Bool.{cases_eq, cond_both}
 use Rattle.std.proofs.lemmas.List.Sums.{sum_by-cons}
@@ -22,7 +22,7 @@ use Rattle.erm_machine.proofs.Listed.{∈-cons, ∈-head}
 use Rattle.erm_core_ssn.specs.Laws.{made_in_history}
 use Rattle.erm_core_ssn.proofs.Prefixes.{in_below}
 use Rattle.erm_core_view.proofs.Made.{at_most_once, made_at, none_or_some, times_both}
-use Rattle.erm_log_list.proofs.Made.{made_new, made_once}
+use Rattle.erm_log_list.proofs.Made.{made_new, made_once, made_push}
 use Rattle.erm_sound.specs.Kept.{SoundUnder}
 
 -- what the first one of a history made, and the others
@@ -52,15 +52,6 @@ made_by (t ∷ h) x some =
     (λ (none : times_made t.made x ≡ 0). let r = made_by h x (omega (arith, some, all, none)) in record { by = r.by; stands = ∈-behind t h r.by r.stands; made = r.made })
     (λ (here : 0 < times_made t.made x). record { by = t; stands = ∈-head t h; made = here })
     (none_or_some (times_made t.made x))
-
--- what the transactions of a seat made
-made_push : (ts : List Attempt) (t : Attempt) (x : ℕ) → times_made (flat_map (λ (u : Attempt). u.made) (ts ++ t ∷ [])) x ≡ times_made (flat_map (λ (u : Attempt). u.made) ts) x + times_made t.made x
-made_push [] t x = let both = times_both t.made [] x in omega (arith, both)
-made_push (u ∷ ts) t x =
-    let rest = made_push ts t x in
-    let both = times_both u.made (flat_map (λ (v : Attempt). v.made) ts) x in
-    let more = times_both u.made (flat_map (λ (v : Attempt). v.made) (ts ++ t ∷ [])) x in
-    omega (arith, rest, both, more)
 
 seat_made : (p : Part) (x : ℕ) → times_made (made_of p) x ≡ times_made (flat_map (λ (t : Attempt). t.made) (all_of p)) x
 seat_made p x =

@@ -50,10 +50,7 @@ fn place_of(state: &State, seat: Seat) -> Place
     requires { seat < ANNOUNCERS }
     ensures { result ≡ ((core_of state.now).seats seat).place }
 {
-    match state.seat(seat) {
-        Some(x) => x.place,
-        None => Place::Vacant,
-    }
+    state.seat(seat).place
 }
 
 // Whether the ring has room for the seat's block.
@@ -61,10 +58,7 @@ fn fits(state: &State, seat: Seat) -> bool
     requires { seat < ANNOUNCERS }
     ensures { result ≡ has_room (core_of state.now).shared.flushed ((core_of state.now).seats seat).current }
 {
-    match state.seat(seat) {
-        Some(x) => x.current.has_room(state.flushed()),
-        None => false,
-    }
+    state.seat(seat).current.has_room(state.flushed())
 }
 
 // A seat that seals.

@@ -20,7 +20,7 @@ use Rattle.erm_machine.specs.Core.{Core, Object, claim_at, no_claim, version_at}
 use Rattle.erm_machine.specs.Decided.{bare, history_of, MarkInHand, NoneReadsLeft, MayCommit, writes_passed, writes_rated}
 use Rattle.erm_machine.specs.Reading.{new_claim, claim, with_own_word, start_row, store_row_word}
 use Rattle.erm_machine.specs.Seat.{end_of, may_start, is_active, is_decided, last_claim}
-use Rattle.erm_machine.specs.Settling.{store_head_word, store_active_word, store_cell, install_claim, adds_version, install_new, release_old, unclaim, install, clear_reader}
+use Rattle.erm_machine.specs.Settling.{store_head_word, store_active_word, store_cell, install_claim, adds_version, install_new, release_old, unclaim, without_newest, install, clear_reader}
 use Rattle.erm_machine.specs.Sound.{Sound}
 use Rattle.erm_machine.specs.Tasks.{TaskFits}
 use Rattle.erm_machine.proofs.Guards.{when_then, if_then}
@@ -168,7 +168,7 @@ module _ (c : Core) (p : ℕ) (sound : Sound c) where
       when_then (Leaves c p) _ _ y e (λ g.
       let active : is_active (c.seats p).place ≡ true = first _ _ (first _ _ (first _ _ g)) in
       writes_leaves _ active (subst NotEnds (sym at) tt) refl refl refl refl refl refl
-      (claims_take (c.seats p).current (record (c.seats p).current { writes = take (last_claim (c.seats p).current) (c.seats p).current.writes }) refl (wants task.Refused at).1) (free_from _ tt))
+      (claims_take (c.seats p).current (without_newest (c.seats p).current) refl (wants task.Refused at).1) (free_from _ tt))
 
   pub install_leaves : (oid head : ℕ) (t : Task) (y : Part) → (c.seats p).task ≡ t → install oid head (c.seats p) t ≡ Some y → Leaves c p y
   install_leaves oid head task.Refused y at e = unclaim_leaves oid head y at e

@@ -22,7 +22,7 @@ use Rattle.erm_machine.specs.Core.{Core, Object, Shared, claim_at, no_claim, no_
 use Rattle.erm_machine.specs.Facts.{IsCurrent, over_of}
 use Rattle.erm_machine.specs.Reading.{lost, new_claim, claim, cut_off, detached, swap_link}
 use Rattle.erm_machine.specs.Seat.{is_active, is_decided, is_commit, is_own, last_claim, cells_of, end_of}
-use Rattle.erm_machine.specs.Settling.{installs, adds_version, install_new, release_old, install_claim, unclaim, install}
+use Rattle.erm_machine.specs.Settling.{installs, adds_version, install_new, release_old, install_claim, unclaim, without_newest, install}
 use Rattle.erm_machine.specs.Snapshot.{IsNewestAt, InHand}
 use Rattle.erm_machine.specs.Sound.{Sound}
 use Rattle.erm_machine.specs.Step.{installed, added, with_object}
@@ -110,12 +110,12 @@ given_size r t n w (Some here) is ok own m =
 
 -- the newest claim is dropped
 drops_own : (r : Shared) (x : Part) → Given x → x.task ≡ task.Refused → 0 < length x.current.writes → OwnWritten r x
-    → OwnWritten r (record x { task = task.Rest; current = record x.current { writes = take (last_claim x.current) x.current.writes } })
+    → OwnWritten r (record x { task = task.Rest; current = without_newest x.current })
 drops_own r x given at some old =
     own_from r y old.spare ok (λ h. absurd h) (old.sealed x.current (∈-last x.over x.current)) (λ t m. over_at r x old t m)
   where
     y : Part
-    y = record x { task = task.Rest; current = record x.current { writes = take (last_claim x.current) x.current.writes } }
+    y = record x { task = task.Rest; current = without_newest x.current }
 
     less : (k : ℕ) → k < length y.current.writes → k < last_claim x.current
     less k within = let n = length-take (last_claim x.current) x.current.writes in omega (arith, n, within)

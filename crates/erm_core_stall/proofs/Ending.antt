@@ -1,5 +1,5 @@
 -- No turn goes on for ever, and no other seat's event changes it.
-use Rattle.std.proofs.Common.{◌≡◌, ◌≢◌, ℕ, zero, suc, ◌+◌, ◌-◌, ◌<◌, ◌≤◌, ◌⊎◌, ⊎_elim, Bool, true, false, Option, Some, None, refl, inl, inr, sym, ap, ◌∙◌, subst, arith}
+use Rattle.std.proofs.Common.{◌≡◌, ◌≢◌, ℕ, zero, suc, ◌+◌, ◌-◌, ◌<◌, ◌≤◌, ⊎_elim, Bool, true, false, Option, Some, None, refl, inl, inr, sym, ap, ◌∙◌, subst, arith}
 use Rattle.std.specs.Prelude.{if◌then◌else◌}
 use Rattle.std.proofs.lemmas.Option.{same_Some}
 use Rattle.erm_machine.specs.declared.event.Kind.{Kind}
@@ -12,35 +12,10 @@ use Rattle.erm_machine.specs.Step.{after_event, with_part}
 use Rattle.erm_machine.proofs.Frames.{at_cases, put_other}
 use Rattle.erm_machine.proofs.Guards.{when_then}
 use Rattle.erm_machine.proofs.QuietKinds.{moves}
-use Rattle.erm_core_calls.specs.Ending.{Ahead, IsLess, fewer_stages, less_left}
-use Rattle.erm_core_calls.proofs.Lasting.{less_ends}
+use Rattle.erm_core_calls.specs.Ending.{Ahead, IsLess}
+use Rattle.erm_core_calls.proofs.Lasting.{AtMost, at_most_then, less_at_last, less_ends}
 use Rattle.erm_core_flush.specs.Turns.{turn_of}
 use Rattle.erm_core_stall.specs.Waiting.{TakesTurn, TurnsForEver, turn_ahead}
-
--- no more
-abbrev AtMost : Ahead → Ahead → Type 0
-AtMost a b = IsLess a b ⊎ (a ≡ b)
-
-then_less : (x y z : Ahead) → IsLess x y → IsLess y z → IsLess x z
-then_less x y z first second =
-    elim first [
-      | fewer_stages lt ↦ elim second [
-        | fewer_stages more ↦ fewer_stages (omega (arith, lt, more))
-        | less_left same more ↦ fewer_stages (omega (arith, lt, same))
-      ]
-      | less_left here lt ↦ elim second [
-        | fewer_stages more ↦ fewer_stages (omega (arith, here, more))
-        | less_left same more ↦ less_left (here ∙ same) (omega (arith, lt, more))
-      ]
-    ]
-
-less_at_last : (x y z : Ahead) → AtMost x y → IsLess y z → IsLess x z
-less_at_last x y z first second =
-    ⊎_elim (λ (less : IsLess x y). then_less x y z less second) (λ (same : x ≡ y). subst (λ a. IsLess a z) (sym same) second) first
-
-at_most_then : (x y z : Ahead) → AtMost x y → AtMost y z → AtMost x z
-at_most_then x y z first second =
-    ⊎_elim (λ (less : IsLess y z). inl (less_at_last x y z first less)) (λ (same : y ≡ z). subst (AtMost x) same first) second
 
 -- what lies ahead while nothing more is flushed
 module _ (run : ℕ → Core) (on : TurnsForEver run) where

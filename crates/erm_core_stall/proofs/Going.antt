@@ -1,5 +1,5 @@
 -- Each transaction that isn't over goes on or waits.
-use Rattle.std.proofs.Common.{◌≡◌, ℕ, ◌<◌, ◌⊎◌, ⊎_elim, true, false, not, ◌&&◌, eqb, Some, refl, ap, ◌∙◌, subst, inl, inr}
+use Rattle.std.proofs.Common.{◌≡◌, ℕ, ◌<◌, ◌⊎◌, ⊎_elim, true, false, not, ◌&&◌, refl, ap, ◌∙◌, subst, inl, inr}
 use Rattle.std.proofs.lemmas.Bool.{and_from, cases_Bool, cond-true, lt-ltb, not_from_false}
 use Rattle.erm_machine.specs.declared.attempt.Attempt.{Attempt}
 use Rattle.erm_machine.specs.declared.event.Kind.TheVariants as kind
@@ -9,22 +9,23 @@ use Rattle.erm_machine.specs.declared.place.Place.{Place}
 use Rattle.erm_machine.specs.declared.place.Place.TheVariants.{Vacant, Idle, Active, Sealed, Decided}
 use Rattle.erm_machine.specs.declared.task.Task.{Task}
 use Rattle.erm_machine.specs.declared.task.Task.TheVariants as task
-use Rattle.erm_machine.specs.Core.{Core, Object}
+use Rattle.erm_machine.specs.Core.{Core}
 use Rattle.erm_machine.specs.Flushing.{load_flushed}
 use Rattle.erm_machine.specs.Life.{store_state}
-use Rattle.erm_machine.specs.Reading.{entered, head_version, load_entry}
+use Rattle.erm_machine.specs.Reading.{entered, load_entry}
 use Rattle.erm_machine.specs.Seat.{is_active, is_sealed, is_vacant, may_start, when, with_task}
 use Rattle.erm_machine.specs.Settling.{has_room, load_flushed_to_settle, may_settle}
 use Rattle.erm_machine.specs.Sound.{Sound}
 use Rattle.erm_machine.specs.Tasks.{InEnd, TaskFits}
-use Rattle.erm_machine.specs.Words.{is_session, owner_of}
+use Rattle.erm_machine.specs.Words.{is_session}
 use Rattle.erm_core_calls.specs.Going.{IsInCall, MayWrite, MovesOn, Waits, Written, next_kind}
 use Rattle.erm_core_calls.proofs.Goes.{goes_from, some_fits}
-use Rattle.erm_core_calls.proofs.Moving.{Apart, other_branch, rank, to_place, to_task, unlike, unlike_if}
+use Rattle.erm_core_calls.proofs.Moving.{Apart, other_branch, to_place, to_task, unlike}
 use Rattle.erm_core_calls.proofs.Seats.{sealing_session}
 use Rattle.erm_core_stall.specs.Waiting.{Actor, GoesOn, IsUnfinished, MayChoose, WaitsFor, between_calls, flush_turn, for_ring, in_call, seat_of, to_settle}
 use Rattle.erm_core_stall.proofs.Looks.{call_stays, waits_for}
 use Rattle.erm_core_stall.proofs.Places.{active_place, fits_at, sealed_session, sealed_taken}
+use Rattle.erm_core_calls.proofs.GoesActive.{entered_other}
 
 -- where a transaction that isn't over stands: in a call, between calls, or sealed and to settle
 data Stage (p : ℕ) (pl : Place) (u : Task) : Type 0 where
@@ -53,12 +54,6 @@ may_start_there p (task.Found version stamp head) may = refl
 may_start_there p (task.Rated version) may = refl
 may_start_there p task.Numbers may = refl
 may_start_there p u may = absurd may
-
--- a task to which the load of an entry doesn't lead
-entered_other : (p oid entry : ℕ) (o : Object) (t : Task) → eqb 1 (rank t) ≡ false → eqb 3 (rank t) ≡ false → eqb 10 (rank t) ≡ false → Apart t (entered p oid entry o)
-entered_other p oid entry o t owned walks claimed =
-    unlike_if t (eqb (owner_of entry) 0) (task.Walks (head_version oid entry o) (Some entry)) _ (unlike t _ walks)
-    (unlike_if t (eqb (owner_of entry) p) (task.Claimed (head_version oid entry o)) (task.Owned oid (owner_of entry)) (unlike t _ claimed) (unlike t _ owned))
 
 module _ (c : Core) (p : ℕ) (sound : Sound c) where
   -- between calls any object may be read

@@ -9,7 +9,7 @@ use Rattle.erm_machine.specs.declared.attempt.Decision.TheVariants.{Undecided}
 use Rattle.erm_machine.specs.declared.attempt.Read.{Read}
 use Rattle.erm_machine.specs.Decided.{read_of, record_of, written_of}
 use Rattle.erm_core_stays.specs.Staying.{ClaimStays, Continues, KeepsDecision, KeepsRange}
-use Rattle.erm_core_stays.proofs.Growing.{Front, WritesStay, front_same, writes_same}
+use Rattle.erm_core_stays.proofs.Growing.{Front, TriesStay, front_same, writes_same}
 
 -- two transactions have the same of all that the history has of a transaction
 pub record SameHistory (t u : Attempt) : Type 0 where
@@ -41,7 +41,7 @@ record_same seat t u same =
     ∙ ap (λ ms. parts seat t.number t.begin t.stamp t.succ t.pred (map read_of t.reads) (map written_of t.writes) ms) same.made
 
 range_same : (t : Attempt) → KeepsRange t t
-range_same t = record { stamp = refl; size = refl; reads = refl; writes = refl; made = refl }
+range_same t = record { stamp = refl; size = refl; reads = refl; writes = refl; made = refl; given_up = refl }
 
 decision_same : (t : Attempt) → KeepsDecision t t
 decision_same t = record { decision = refl; record_is = λ seat. refl; header = refl; block = refl }
@@ -51,12 +51,15 @@ continues_itself : (t : Attempt) → Continues t t
 continues_itself t =
     let reads = front_same t.reads t.reads refl in
     let made = front_same t.made t.made refl in
+    let given = front_same t.given_up t.given_up refl in
     record {
       number = refl;
       begin = refl;
       reads = (reads.more, reads.is);
       made = (made.more, made.is);
-      claims = (writes_same t.writes t.writes refl).stay;
+      given_up = (given.more, given.is);
+      tried = λ oid tried. tried;
+      claims = (writes_same t.writes t.writes refl).firm.stay;
       drawn = λ _. range_same t;
       decided = λ _. decision_same t;
     }
@@ -65,20 +68,22 @@ pub continues_same : (t u : Attempt) → u ≡ t → Continues t u
 continues_same t u e = subst (Continues t) (sym e) (continues_itself t)
 
 -- one that has no range yet, and isn't decided
-pub continues_open : (t u : Attempt) → t.stamp ≡ 0 → t.decision ≡ Undecided → u.number ≡ t.number → u.begin ≡ t.begin → Front t.reads u.reads → Front t.made u.made → WritesStay t.writes u.writes → Continues t u
-continues_open t u none undecided number begin reads made claims = record {
+pub continues_open : (t u : Attempt) → t.stamp ≡ 0 → t.decision ≡ Undecided → u.number ≡ t.number → u.begin ≡ t.begin → Front t.reads u.reads → Front t.made u.made → TriesStay t u → Continues t u
+continues_open t u none undecided number begin reads made tries = record {
   number = number;
   begin = begin;
   reads = (reads.more, reads.is);
   made = (made.more, made.is);
-  claims = claims.stay;
+  given_up = (tries.given_up.more, tries.given_up.is);
+  tried = tries.tried;
+  claims = tries.claims.stay;
   drawn = λ some. absurd (omega (arith, some, none));
   decided = λ decided. absurd (decided undecided);
 }
 
 -- one that has its range, and isn't decided
-pub continues_drawn : (t u : Attempt) → t.decision ≡ Undecided → u.number ≡ t.number → u.begin ≡ t.begin → WritesStay t.writes u.writes → KeepsRange t u → Continues t u
-continues_drawn t u undecided number begin claims range =
+pub continues_drawn : (t u : Attempt) → t.decision ≡ Undecided → u.number ≡ t.number → u.begin ≡ t.begin → TriesStay t u → KeepsRange t u → Continues t u
+continues_drawn t u undecided number begin tries range =
     let reads = front_same t.reads u.reads range.reads in
     let made = front_same t.made u.made range.made in
     record {
@@ -86,14 +91,16 @@ continues_drawn t u undecided number begin claims range =
       begin = begin;
       reads = (reads.more, reads.is);
       made = (made.more, made.is);
-      claims = claims.stay;
+      given_up = (tries.given_up.more, tries.given_up.is);
+      tried = tries.tried;
+      claims = tries.claims.stay;
       drawn = λ _. range;
       decided = λ decided. absurd (decided undecided);
     }
 
 -- one that is decided
-pub continues_decided : (t u : Attempt) → SameHistory t u → u.size ≡ t.size → u.decision ≡ t.decision → u.header ≡ t.header → u.block ≡ t.block → WritesStay t.writes u.writes → Continues t u
-continues_decided t u same size decision header block claims =
+pub continues_decided : (t u : Attempt) → SameHistory t u → u.size ≡ t.size → u.decision ≡ t.decision → u.header ≡ t.header → u.block ≡ t.block → u.given_up ≡ t.given_up → TriesStay t u → Continues t u
+continues_decided t u same size decision header block given tries =
     let reads = front_same t.reads u.reads same.reads in
     let made = front_same t.made u.made same.made in
     record {
@@ -101,8 +108,10 @@ continues_decided t u same size decision header block claims =
       begin = same.begin;
       reads = (reads.more, reads.is);
       made = (made.more, made.is);
-      claims = claims.stay;
-      drawn = λ _. record { stamp = same.stamp; size = size; reads = same.reads; writes = same.writes; made = same.made };
+      given_up = (tries.given_up.more, tries.given_up.is);
+      tried = tries.tried;
+      claims = tries.claims.stay;
+      drawn = λ _. record { stamp = same.stamp; size = size; reads = same.reads; writes = same.writes; made = same.made; given_up = given };
       decided = λ _. record { decision = decision; record_is = λ seat. record_same seat t u same; header = header; block = block };
     }
 
@@ -126,6 +135,7 @@ range_after t u v first second = record {
   reads = second.reads ∙ first.reads;
   writes = second.writes ∙ first.writes;
   made = second.made ∙ first.made;
+  given_up = second.given_up ∙ first.given_up;
 }
 
 decision_after : (t u v : Attempt) → KeepsDecision t u → KeepsDecision u v → KeepsDecision t v
@@ -142,6 +152,8 @@ continues_after t u v first second = record {
   begin = second.begin ∙ first.begin;
   reads = (first.reads.0 ++ second.reads.0, more_after t.reads u.reads v.reads first.reads.0 second.reads.0 first.reads.1 second.reads.1);
   made = (first.made.0 ++ second.made.0, more_after t.made u.made v.made first.made.0 second.made.0 first.made.1 second.made.1);
+  given_up = (first.given_up.0 ++ second.given_up.0, more_after t.given_up u.given_up v.given_up first.given_up.0 second.given_up.0 first.given_up.1 second.given_up.1);
+  tried = λ oid tried. second.tried oid (first.tried oid tried);
   claims = λ place within firm.
       let one = first.claims place within firm in claim_after place t.writes u.writes v.writes one (second.claims place one.within one.firm);
   drawn = λ some. let one = first.drawn some in range_after t u v one (second.drawn (let e = one.stamp in omega (arith, some, e)));

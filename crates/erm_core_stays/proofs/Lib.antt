@@ -4,5 +4,6 @@ pub mod Continuing
 pub mod Growing
 pub mod Numbers
 pub mod Onward
+pub mod Owners
 pub mod Owning
 pub mod Running

@@ -33,7 +33,7 @@ use Rattle.erm_core_lives.proofs.Lasting.{Lasting, SameRecord, SameWords, lastin
 use Rattle.erm_core_lives.proofs.LivesLists.{∈-last, ∈-front}
 use Rattle.erm_core_stays.specs.Staying.{Continues}
 use Rattle.erm_core_stays.proofs.Continuing.{continues_decided, continues_drawn, continues_open, continues_same}
-use Rattle.erm_core_stays.proofs.Growing.{GivesUp, Grows, front_same, growing_kind, writes_same}
+use Rattle.erm_core_stays.proofs.Growing.{GivesUp, Grows, front_same, growing_kind, tries_from, writes_same}
 
 -- a seat has a transaction that continues this one
 abbrev pub HasOn : Attempt → Part → Type 0
@@ -67,9 +67,9 @@ go_over x y u over now = record {
 }
 
 -- one that has no range, and is changed in nothing but its range, its decision and its header
-opens : (t u : Attempt) → t.stamp ≡ 0 → t.decision ≡ Undecided → u.number ≡ t.number → u.begin ≡ t.begin → u.reads ≡ t.reads → u.made ≡ t.made → u.writes ≡ t.writes → Continues t u
-opens t u none undecided number begin reads made writes =
-    continues_open t u none undecided number begin (front_same t.reads u.reads reads) (front_same t.made u.made made) (writes_same t.writes u.writes writes)
+opens : (t u : Attempt) → t.stamp ≡ 0 → t.decision ≡ Undecided → u.number ≡ t.number → u.begin ≡ t.begin → u.reads ≡ t.reads → u.made ≡ t.made → u.writes ≡ t.writes → u.given_up ≡ t.given_up → Continues t u
+opens t u none undecided number begin reads made writes given =
+    continues_open t u none undecided number begin (front_same t.reads u.reads reads) (front_same t.made u.made made) (tries_from t u given (writes_same t.writes u.writes writes))
 
 y_begin : (seat found : ℕ) (x : Part) (pl : Place) (y : Part) → IsCurrent pl x.current → load_tail_to_begin seat found x pl ≡ Some y → AllGoOn x y
 y_begin seat found x Idle y cur e = when_then (AllGoOn x) _ _ y e (λ _. same x _ refl refl)
@@ -88,7 +88,7 @@ y_load_tail seat purpose.Gather found x y cur e = when_then (AllGoOn x) _ _ y e 
 
 y_add_tail : (seat size found : ℕ) (x : Part) (pl : Place) (y : Part) → IsCurrent pl x.current → add_tail seat size found x pl ≡ Some y → AllGoOn x y
 y_add_tail seat size found x (Sealing tail) y cur e =
-    when_then (AllGoOn x) _ _ y e (λ _. go_from x _ refl (λ _. opens x.current _ cur.stamp cur.decision refl refl refl refl refl))
+    when_then (AllGoOn x) _ _ y e (λ _. go_from x _ refl (λ _. opens x.current _ cur.stamp cur.decision refl refl refl refl refl refl))
 y_add_tail seat size found x _ y cur e = absurd (cc)
 
 y_store_begin : (seat value : ℕ) (x : Part) (pl : Place) (y : Part) → is_flusher seat ≡ false → IsCurrent pl x.current → store_begin seat value x pl ≡ Some y → AllGoOn x y
@@ -96,7 +96,7 @@ y_store_begin seat value x (Begun tail) y session cur e = when_then (AllGoOn x) 
 y_store_begin seat value x (Active tail) y session cur e =
     when_then (AllGoOn x) _ _ y e (λ _.
     either_way (AllGoOn x) (is_flusher seat) _ _ (λ (flusher : is_flusher seat ≡ true). absurd (cc))
-    (λ _. go_over x _ (record x.current { decision = Abort }) refl (opens x.current _ cur.stamp cur.decision refl refl refl refl refl)))
+    (λ _. go_over x _ (record x.current { decision = Abort }) refl (opens x.current _ cur.stamp cur.decision refl refl refl refl refl refl)))
 y_store_begin seat value x (Decided tail stamp) y session cur e = when_then (AllGoOn x) _ _ y e (λ _. same x _ refl refl)
 y_store_begin seat value x _ y session cur e = absurd (cc)
 
@@ -124,7 +124,7 @@ y_decide : (at header : ℕ) (x : Part) (pl : Place) (t : Task) (y : Part) → I
 y_decide at header x (Sealed tail stamp) (task.Fills words) y cur e =
     when_then (AllGoOn x) _ _ y e (λ _.
     go_from x _ refl (λ _.
-    continues_drawn x.current _ cur.decision refl refl (writes_same x.current.writes x.current.writes refl) (record { stamp = refl; size = refl; reads = refl; writes = refl; made = refl })))
+    continues_drawn x.current _ cur.decision refl refl (tries_from x.current _ refl (writes_same x.current.writes x.current.writes refl)) (record { stamp = refl; size = refl; reads = refl; writes = refl; made = refl; given_up = refl })))
 y_decide at header x _ _ y cur e = absurd (cc)
 
 -- quiet steps: an active transaction has no range; one that settles isn't decided
@@ -140,14 +140,17 @@ module _ (x y : Part) (cur : IsCurrent x.place x.current) (steady : Steady x y) 
   from_active : is_active x.place ≡ true → Continues x.current y.current
   from_active active =
       let no_range = active_open x.place x.current active cur in
-      continues_open x.current y.current no_range.0 no_range.1 steady.number steady.begin grows.reads grows.made grows.claims
+      continues_open x.current y.current no_range.0 no_range.1 steady.number steady.begin grows.reads grows.made grows.tries
 
   from_sealed : is_sealed x.place ≡ true → Continues x.current y.current
   from_sealed sealed =
       ⊎_elim from_active
       (λ (kept : SameRecord x.current y.current).
-      continues_drawn x.current y.current (sealed_open x.place x.current sealed cur) steady.number steady.begin grows.claims
-      (record { stamp = steady.stamp; size = steady.size; reads = kept.reads; writes = kept.writes; made = kept.made }))
+      ⊎_elim from_active
+      (λ (given : y.current.given_up ≡ x.current.given_up).
+      continues_drawn x.current y.current (sealed_open x.place x.current sealed cur) steady.number steady.begin grows.tries
+      (record { stamp = steady.stamp; size = steady.size; reads = kept.reads; writes = kept.writes; made = kept.made; given_up = given }))
+      grows.gives)
       lasting.current
 
   from_rest : y.current.pred ≡ x.current.pred → Continues x.current y.current
@@ -158,9 +161,11 @@ module _ (x y : Part) (cur : IsCurrent x.place x.current) (steady : Steady x y) 
       (λ (rest : (is_sealed x.place ≡ true) ⊎ SameWords x.current y.current).
       ⊎_elim from_sealed
       (λ (words : SameWords x.current y.current).
+      ⊎_elim from_active
+      (λ (given : y.current.given_up ≡ x.current.given_up).
       continues_decided x.current y.current
       (record { number = steady.number; begin = steady.begin; stamp = steady.stamp; succ = words.succ; pred = pred; reads = kept.reads; writes = kept.writes; made = kept.made }) steady.size steady.decision
-      words.header words.block grows.claims) rest)
+      words.header words.block given grows.tries) grows.gives) rest)
       lasting.words)
       lasting.current
 

@@ -71,6 +71,11 @@ claim_session seat oid seen number found o x (task.Found version stamp (Some ent
     when_then (λ _. is_session seat ≡ true) _ _ y e (λ g. (and_parts _ _ (and_parts _ _ (and_parts _ _ (and_parts _ _ (and_parts _ _ g).0).0).0).0).1)
 claim_session seat oid seen number found o x _ y e = absurd (cc)
 
+claim_taken : (c d : Core) (seat oid seen number : ℕ) → after_event c seat (kind.Claim oid seen number) ≡ Some d → is_session seat ≡ true
+claim_taken c d seat oid seen number e =
+    let m = moves c seat (kind.Claim oid seen number) d tt e in
+    claim_session seat oid seen number (c.shared.objects oid).entry (c.shared.objects oid) (c.seats seat) (c.seats seat).task m.part m.after
+
 -- an end has come to a claim that isn't over
 ends_upto : (pl : Place) (t : Task) (n : ℕ × ℕ × ℕ × ℕ) (writes : ℕ) → (is_decided pl || is_active pl) ≡ true → end_of t ≡ Some n → over_of pl t writes ≤ n.1
 ends_upto (Active tail) (task.Ends raised ended step cleared) n writes g at = let same = ap (λ (m : ℕ × ℕ × ℕ × ℕ). m.1) (same_Some _ _ at) in omega (arith, same)
@@ -208,6 +213,20 @@ module _ (keeps : KeepsSound) (oid owner number : ℕ) (known : oid < OBJECT_LIM
   first_claim : (e : Event) (es : List Event) → FromClaim e.seat e.kind oid owner number → HasClaimed (e ∷ es) owner oid number
   unfolding event_of
   first_claim e es by = (by.0, subst (λ (f : Event). f ∈ (e ∷ es)) (same_event e owner (kind.Claim oid by.0 number) by.1 by.2) (∈-head e es))
+
+  pub run_session : (es : List Event) (c d : Core) → Sound c → Runs es c d → IsOwnedBy d.shared oid owner number → IsOwnedBy c.shared oid owner number ⊎ (is_session owner ≡ true)
+  run_session [] c d sound run owned = inl (subst (λ (f : Core). IsOwnedBy f.shared oid owner number) (sym run) owned)
+  run_session (e ∷ es) c d sound run owned =
+      let b = run.0 in
+      let sound_b = keeps c b e.seat e.kind sound run.1 in
+      ⊎_elim
+      (λ (before : IsOwnedBy b.shared oid owner number).
+      ⊎_elim (λ (first : IsOwnedBy c.shared oid owner number). inl first)
+      (λ (by : FromClaim e.seat e.kind oid owner number).
+      inr (subst (λ n. is_session n ≡ true) by.1 (claim_taken c b e.seat oid by.0 number (subst (λ (k : Kind). after_event c e.seat k ≡ Some b) by.2 run.1))))
+      (owned_from c b e.seat sound oid owner number e.kind sound_b known some run.1 before))
+      (λ (later : is_session owner ≡ true). inr later)
+      (run_session es b d sound_b run.2 owned)
 
   pub run_owned : (es : List Event) (c d : Core) → Sound c → Runs es c d → IsOwnedBy d.shared oid owner number → IsOwnedBy c.shared oid owner number ⊎ HasClaimed es owner oid number
   run_owned [] c d sound run owned = inl (subst (λ (f : Core). IsOwnedBy f.shared oid owner number) (sym run) owned)

@@ -47,13 +47,22 @@ pub record ClaimStays (place : ℕ) (ws vs : List Claim) : Type 0 where
   pub base : (claim_in vs place).base ≡ (claim_in ws place).base
   pub firm : IsFirm (claim_in vs place)
 
--- the range of a transaction that has one, and what it has read, claimed and made
+-- one of some claims is of the object
+abbrev pub IsAmong : List Claim → ℕ → Type 0
+IsAmong ws oid = (place : ℕ) × (place < length ws) × ((claim_in ws place).version.oid ≡ oid)
+
+-- the transaction has claimed the object, or had, and the claim was given up for want of a cell
+abbrev pub HasTried : Attempt → ℕ → Type 0
+HasTried t oid = IsAmong t.writes oid ⊎ (oid ∈ t.given_up)
+
+-- the range of a transaction that has one, and what it has read, claimed, made and given up
 pub record KeepsRange (t u : Attempt) : Type 0 where
   pub stamp : u.stamp ≡ t.stamp
   pub size : u.size ≡ t.size
   pub reads : u.reads ≡ t.reads
   pub writes : map written_of u.writes ≡ map written_of t.writes
   pub made : u.made ≡ t.made
+  pub given_up : u.given_up ≡ t.given_up
 
 -- how a transaction was decided, all that the history has of it, and its block
 pub record KeepsDecision (t u : Attempt) : Type 0 where
@@ -62,13 +71,15 @@ pub record KeepsDecision (t u : Attempt) : Type 0 where
   pub header : u.header ≡ t.header
   pub block : u.block ≡ t.block
 
--- U is the transaction T as it is later. What it has read and made stands first among what it has, and its firm claims stay; from the draw of
--- its range on nothing is added, and from its decision on all stays.
+-- U is the transaction T as it is later. What it has read, made and given up stands first among what it has; its firm claims stay, and what it
+-- had claimed or given up it has claimed or given up. From the draw of its range on nothing is added, and from its decision on all stays.
 pub record Continues (t u : Attempt) : Type 0 where
   pub number : u.number ≡ t.number
   pub begin : u.begin ≡ t.begin
   pub reads : (more : List Read) × (u.reads ≡ t.reads ++ more)
   pub made : (more : List ℕ) × (u.made ≡ t.made ++ more)
+  pub given_up : (more : List ℕ) × (u.given_up ≡ t.given_up ++ more)
+  pub tried : (oid : ℕ) → HasTried t oid → HasTried u oid
   pub claims : (place : ℕ) → place < length t.writes → IsFirm (claim_in t.writes place) → ClaimStays place t.writes u.writes
   pub drawn : 0 < t.stamp → KeepsRange t u
   pub decided : t.decision ≢ Undecided → KeepsDecision t u

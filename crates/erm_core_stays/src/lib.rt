@@ -2,7 +2,7 @@
 //! decided blocks stay, transactions go on, and commits stay. Each law is the contract of a function that does nothing.
 #![tactic(auto)]
 
-ghost use Rattle.std.specs.Prelude.{◌≡◌, ◌≢◌, ◌⊎◌, ◌<◌, ℕ, false, List, ◌++◌, Some};
+ghost use Rattle.std.specs.Prelude.{◌≡◌, ◌≢◌, ◌⊎◌, ◌<◌, ℕ, true, false, List, ◌++◌, Some};
 ghost use Rattle.erm_model.specs.declared.history.TransactionRecord.{TransactionRecord};
 ghost use Rattle.erm_model.specs.Member.{◌∈◌};
 ghost use Rattle.erm_machine.specs.declared.attempt.Attempt.{Attempt};
@@ -15,10 +15,10 @@ ghost use Rattle.erm_machine.specs.Decided.{history_of};
 ghost use Rattle.erm_machine.specs.Facts.{all_of};
 ghost use Rattle.erm_machine.specs.Sound.{Sound};
 ghost use Rattle.erm_machine.specs.Step.{after_event, run_from};
-ghost use Rattle.erm_machine.specs.Words.{is_flusher};
+ghost use Rattle.erm_machine.specs.Words.{is_flusher, is_session};
 ghost use Rattle.erm_core_flush.specs.Turns.{Blocks, words_of};
 ghost use Rattle.erm_core_stays.specs.Runs.{Runs};
-ghost use Rattle.erm_core_stays.specs.Staying.{Continues, HasClaimed, IsOwnedBy, Rises, StoresFlushed};
+ghost use Rattle.erm_core_stays.specs.Staying.{Continues, HasClaimed, HasTried, IsOwnedBy, Rises, StoresFlushed};
 
 /// A run from a sound state leads to a sound one. A run behind another is one run; and of steps one after another some are a run to the
 /// same state, since those that aren't taken change nothing.
@@ -65,7 +65,8 @@ pub fn decided_blocks_stay()
 }
 
 /// Each transaction of a session goes on: it is there later, in progress or over, with its number and its begin stamp, and with what it had
-/// read and made, and claimed with a cell; from its draw on with all of it, and from its decision on just as it was.
+/// read and made, and claimed with a cell. What it had claimed or given up it has claimed or given up. From its draw on it is there with all
+/// of it, and from its decision on just as it was.
 pub fn transactions_go_on()
     ensures event { (c d : Core) (seat : ℕ) (kind : Kind) → Sound c → after_event c seat kind ≡ Some d
         → (q : ℕ) (t : Attempt) → is_flusher q ≡ false → t ∈ all_of (c.seats q) → 0 < t.number
@@ -92,6 +93,24 @@ pub fn commits_stay()
 pub fn owners_have_claimed()
     ensures { (c d : Core) (es : List Event) (oid owner number : ℕ) → Sound c → Runs es c d → oid < OBJECT_LIMIT → 0 < owner
         → IsOwnedBy d.shared oid owner number → IsOwnedBy c.shared oid owner number ⊎ HasClaimed es owner oid number }
+{
+    erm_sound::events_keep_sound();
+}
+
+/// Who owns an entry at the end of a run owned it at its beginning, or is a session: the flush seat claims nothing.
+pub fn owners_are_sessions()
+    ensures { (c d : Core) (es : List Event) (oid owner number : ℕ) → Sound c → Runs es c d → oid < OBJECT_LIMIT → 0 < owner
+        → IsOwnedBy d.shared oid owner number → IsOwnedBy c.shared oid owner number ⊎ (is_session owner ≡ true) }
+{
+    erm_sound::events_keep_sound();
+}
+
+/// A session that owned an entry has, in each later state, a transaction of the number that the entry named, in progress or over, that has
+/// claimed the object, or had and gave the claim up for want of a cell.
+pub fn owners_go_on()
+    ensures { (c d : Core) (es : List Event) (oid owner number : ℕ) → Sound c → Runs es c d → oid < OBJECT_LIMIT → is_session owner ≡ true
+        → IsOwnedBy c.shared oid owner number
+        → (t : Attempt) × (t ∈ all_of (d.seats owner)) × (t.number ≡ number) × HasTried t oid }
 {
     erm_sound::events_keep_sound();
 }

@@ -1,13 +1,11 @@
 -- The end of a transaction that aborts: its claims are released, its reader bits cleared, and then it is over.
-use Rattle.std.proofs.Common.{◌≡◌, ◌≢◌, ℕ, ◌+◌, ◌<◌, Bool, true, false, ◌&&◌, ◌||◌, not, eqb, leb, ltb, [], ◌∷◌, ◌++◌, length, List, map, Option, Some, None, refl, sym, ap, ◌∙◌, subst, arith, length-set}
+use Rattle.std.proofs.Common.{◌≡◌, ◌≢◌, ℕ, ◌+◌, ◌<◌, Bool, true, false, ◌&&◌, ◌||◌, not, eqb, leb, ltb, [], ◌∷◌, ◌++◌, length, List, map, Some, refl, sym, ap, ◌∙◌, subst, arith, length-set}
 use Rattle.std.specs.Prelude.{if◌then◌else◌}
 use Rattle.std.proofs.lemmas.Bool.{and_from, and_parts, and_left, eq-eqb, eqb-false, leb-true, lt-ltb, ne_eqb, or_left, or_right}
 use Rattle.std.proofs.lemmas.List.{map-append}
-use Rattle.std.proofs.lemmas.Option.{same_Some}
 use Rattle.erm_model.specs.declared.outcome.Phase.TheVariants as phase
 use Rattle.erm_machine.specs.declared.attempt.Attempt.{Attempt}
 use Rattle.erm_machine.specs.declared.attempt.Decision.TheVariants.{Abort}
-use Rattle.erm_machine.specs.declared.event.Kind.{Kind}
 use Rattle.erm_machine.specs.declared.event.Kind.TheVariants as kind
 use Rattle.erm_machine.specs.declared.limits.TheConstants.{FLUSH_SEAT, OBJECT_LIMIT, SESSIONS}
 use Rattle.erm_machine.specs.declared.part.Part.{Part}
@@ -19,12 +17,11 @@ use Rattle.erm_machine.specs.declared.version.VersionAt.{VersionAt}
 use Rattle.erm_machine.specs.Core.{Core, blank, claim_at}
 use Rattle.erm_machine.specs.Facts.{IsCurrent, IsUnsealed}
 use Rattle.erm_machine.specs.Life.{aborted, has_ended, store_begin}
-use Rattle.erm_machine.specs.Seat.{end_of, is_active, is_commit, is_decided, may_start, over, read_at, when, with_task}
-use Rattle.erm_machine.specs.Settling.{adds_version, clear_reader, given_back, install, install_claim, install_new, release_old}
+use Rattle.erm_machine.specs.Seat.{end_of, is_active, is_commit, is_decided, over, read_at, when, with_task}
+use Rattle.erm_machine.specs.Settling.{adds_version, clear_reader, given_back, install_new, release_old}
 use Rattle.erm_machine.specs.Sound.{Sound}
 use Rattle.erm_machine.specs.Step.{after_event}
 use Rattle.erm_machine.specs.Words.{is_flusher, is_session}
-use Rattle.erm_machine.proofs.Frames.{put_same}
 use Rattle.erm_world.specs.Calls.{DidAbort}
 use Rattle.erm_world.specs.World.{Finished, IsSession, Opening, Session, View, Work, phase_at}
 use Rattle.erm_world.specs.World as world
@@ -37,15 +34,14 @@ use Rattle.erm_core_view.proofs.Shown.{work_active}
 use Rattle.erm_core_steps.specs.Steps.{HasCleared, HasReleased, IsEnding, IsTaken, IsUnseen, MayEnd, claims_in, reads_in}
 use Rattle.erm_core_steps.proofs.Unseen.{others_stay, unseen_both, unseen_step}
 use Rattle.erm_core_steps.proofs.Quiet.{active_seat, quiet_after}
+use Rattle.erm_core_view.proofs.Ends.{installs_by, not_decided}
+use Rattle.erm_core_turns.proofs.Turns.{part_stepped}
+use Rattle.erm_core_turns.proofs.Pins.{end_starts}
 
 -- an active transaction isn't sealed
 pub unsealed : (pl : Place) (t : Attempt) → is_active pl ≡ true → IsCurrent pl t → IsUnsealed t
 unsealed (Active tail) t e cur = cur
 unsealed _ t e cur = absurd (cc)
-
-undecided : (pl : Place) → is_active pl ≡ true → is_decided pl ≡ false
-undecided (Active tail) e = refl
-undecided _ e = absurd (cc)
 
 -- a session isn't the flusher
 pub session_plain : (seat : ℕ) → is_session seat ≡ true → is_flusher seat ≡ false
@@ -55,11 +51,6 @@ session_plain seat e =
 
 pub no_flusher : (seat : ℕ) → is_session seat ≡ true → seat ≢ FLUSH_SEAT
 no_flusher seat e = eqb-false seat FLUSH_SEAT (session_plain seat e)
-
--- an end has begun where it may
-ends_claim : (oid head : ℕ) (x : Part) (t : Task) (e : ℕ × ℕ × ℕ × ℕ) → end_of t ≡ Some e → install oid head x t ≡ install_claim oid head x (Some e)
-ends_claim oid head x task.Refused e at = absurd (cc)
-ends_claim oid head x t e at = ap (install_claim oid head x) at
 
 -- the seat's part after its transaction is over
 abbrev pub aborted_part : Part → Part
@@ -81,13 +72,6 @@ released ended cleared x = with_task (task.Ends 0 (ended + 1) 0 cleared) (given_
 abbrev pub cleared_bit : ℕ → ℕ → Part → Part
 cleared_bit ended cleared x = with_task (task.Ends 0 ended 0 (cleared + 1)) x
 
--- one step leads to one state
-pub one_after : (c d e : Core) (seat : ℕ) (k : Kind) → after_event c seat k ≡ Some e → after_event c seat k ≡ Some d → d ≡ e
-one_after c d e seat k first second = same_Some d e (sym second ∙ first)
-
-pub part_stepped : (c d : Core) (seat : ℕ) (k : Kind) (y : Part) → after_event c seat k ≡ Some (stepped c seat k y) → after_event c seat k ≡ Some d → d.seats seat ≡ y
-part_stepped c d seat k y first second = ap (λ (to : Core). to.seats seat) (one_after c d (stepped c seat k y) seat k first second) ∙ put_same c.seats seat y
-
 module _ (seat claims reads ended cleared : ℕ) (c : Core) (sound : Sound c) (at : IsEnding seat claims reads ended cleared c) where
   current : IsUnsealed (c.seats seat).current
   current = unsealed (c.seats seat).place (c.seats seat).current at.active (sound.own seat).ranges.current
@@ -107,10 +91,10 @@ module _ (seat claims reads ended cleared : ℕ) (c : Core) (sound : Sound c) (a
       let all = at.all_claims in
       let low : ended < length (c.seats seat).current.writes = omega (arith, within, all) in
       let e : ℕ × ℕ × ℕ × ℕ = (0, ended, 0, cleared) in
-      let adds : adds_version (c.seats seat) ≡ false = and_left (is_decided (c.seats seat).place) (is_commit (c.seats seat).current.decision) (undecided (c.seats seat).place at.active) in
+      let adds : adds_version (c.seats seat) ≡ false = and_left (is_decided (c.seats seat).place) (is_commit (c.seats seat).current.decision) (not_decided (c.seats seat).place at.active) in
       taken c seat (kind.Install v.oid v.cell) (released ended cleared (c.seats seat)) tt (lt-ltb v.oid OBJECT_LIMIT ((sound.own seat).claims.objects ended low))
       (met _ _ _
-      (ends_claim v.oid v.cell (c.seats seat) (c.seats seat).task e at.come
+      (installs_by v.oid v.cell (c.seats seat) (c.seats seat).task e at.come
       ∙ other_branch (adds_version (c.seats seat)) (install_new v.oid v.cell (c.seats seat) e) (release_old v.oid v.cell (c.seats seat) e) _ adds refl)
       (and_from _ _ (and_from _ _ (and_from _ _ ending (lt-ltb ended (length (c.seats seat).current.writes) low)) (eq-eqb v.oid v.oid refl)) (eq-eqb v.cell v.cell refl)))
 
@@ -205,15 +189,10 @@ abort_shows sessions seat claims reads c d sound at e =
       tail = (let h = change.tail in omega (arith, h));
       flushed = change.flushed;
       pinned = change.pinned (no_flusher seat at.session);
+      given_up = refl;
     }
 
 -- the end of an active transaction that may start a call
-end_starts : (u : Task) → may_start u ≡ true → end_of u ≡ Some (0, 0, 0, 0)
-end_starts (task.Ends raised ended step cleared) e = absurd (cc)
-end_starts (task.Copies word) e = absurd (cc)
-end_starts (task.Writes claim word) e = absurd (cc)
-end_starts u e = ap (λ (b : Bool). let o : Option (ℕ × ℕ × ℕ × ℕ) = if b then Some (0, 0, 0, 0) else None in o) e
-
 pub may_end : (sessions seat : ℕ) (c : Core) → IsQuiet sessions c → IsSession (view_of sessions c) seat → phase_at (view_of sessions c) seat ≡ phase.Active → MayEnd seat c
 may_end sessions seat c quiet session active =
     let at = active_seat sessions seat c quiet session active in

@@ -28,9 +28,10 @@ use Rattle.erm_world.specs.Calls.{DidBegin}
 use Rattle.erm_world.specs.World.{Finished, IsSession, Opening, Session, Stand, View, Work, phase_at, phase_of}
 use Rattle.erm_world.specs.World as world
 use Rattle.erm_core_steps.specs.Steps.{IsTaken}
-use Rattle.erm_core_steps.proofs.Aborts.{no_flusher, part_stepped, session_plain}
+use Rattle.erm_core_steps.proofs.Aborts.{no_flusher, session_plain}
 use Rattle.erm_core_steps.proofs.Quiet.{quiet_after, session_of_few}
 use Rattle.erm_core_steps.proofs.Unseen.{others_stay, unseen_step}
+use Rattle.erm_core_turns.proofs.Turns.{part_stepped}
 
 -- a session without a transaction
 pub record IsIdle (seat : ℕ) (c : Core) : Type 0 where
@@ -233,6 +234,7 @@ begin_done sessions seat b c d e sound_b sound_c sound_d quiet session at less l
           tail = tail;
           flushed = flushed;
           pinned = (let other = no_flusher seat at.session in three.pinned other ∙ two.pinned other ∙ one.pinned other);
+          given_up = refl;
         },
       ),
     )

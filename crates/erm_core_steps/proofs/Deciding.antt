@@ -50,8 +50,9 @@ use Rattle.erm_core_blocks.specs.Spelled.{IsBlockOf, IsSpelled, decided_by, entr
 use Rattle.erm_record.specs.Stored.{block_words}
 use Rattle.erm_core_steps.specs.Ends.{HasDecided, IsSpelledBy, MayDecide, OnlyAt, Remains, is_ending}
 use Rattle.erm_core_steps.specs.Steps.{IsTaken}
-use Rattle.erm_core_steps.proofs.Aborts.{part_stepped, session_plain}
+use Rattle.erm_core_steps.proofs.Aborts.{session_plain}
 use Rattle.erm_core_steps.proofs.Leaving.{only_step}
+use Rattle.erm_core_turns.proofs.Turns.{part_stepped}
 
 -- the range of a transaction that has one
 range_if : (b : Bool) (r : Span) → b ≡ true → r ∈ (if b then r ∷ [] else [])

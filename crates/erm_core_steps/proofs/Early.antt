@@ -19,7 +19,6 @@ use Rattle.erm_machine.specs.Decided.{MayCommit, RunningFits, counted, written_o
 use Rattle.erm_machine.specs.Decided as machine
 use Rattle.erm_machine.specs.Facts.{Holds, HoldsBelow, IsCurrent, over_of}
 use Rattle.erm_machine.specs.Seat.{is_active, may_start}
-use Rattle.erm_machine.specs.Settling.{may_settle}
 use Rattle.erm_machine.specs.Snapshot.{NoneInHand}
 use Rattle.erm_machine.specs.Sound.{Sound}
 use Rattle.erm_machine.proofs.Holders.{holds_from, stands_at}
@@ -36,10 +35,8 @@ use Rattle.erm_core_steps.specs.Reads.{GoesOn, closed_window}
 use Rattle.erm_core_steps.proofs.Aborts.{unsealed}
 use Rattle.erm_core_steps.proofs.Histories.{history_same}
 use Rattle.erm_core_steps.proofs.Quiet.{IsActive, quiet_after}
-
-between_active : (pl : Place) (u : Task) → is_active pl ≡ true → may_start u ≡ true → IsBetween pl u
-between_active (Active tail) u e starts = starts
-between_active _ u e starts = absurd (cc)
+use Rattle.erm_core_view.proofs.Claimed.{settles_with_all}
+use Rattle.erm_core_steps.proofs.Places.{active_between}
 
 -- a state after steps of one session that is active, where a call may start, is one between two calls
 pub quiet_since : (sessions seat : ℕ) (b d : Core) → IsQuiet sessions b → IsSession (view_of sessions b) seat → Sound d → ((q : ℕ) → q ≢ seat → d.seats q ≡ b.seats q)
@@ -51,7 +48,7 @@ quiet_since sessions seat b d quiet session sound others opened tail flushed act
     let opening : d.shared.opening ≡ b.shared.opening = ap (λ (o : Opening). o.tail) opened in
     let low = quiet.flushed.0 in
     let high = quiet.flushed.1 in
-    quiet_after sessions seat b d quiet session others opening (between_active (d.seats seat).place (d.seats seat).task active starts)
+    quiet_after sessions seat b d quiet session others opening (active_between (d.seats seat).place (d.seats seat).task active starts)
     (λ some. absurd (omega (arith, some, stamp))) (omega (arith, opening, flushed, low), omega (arith, tail, flushed, high))
 
 pub quiet_goes : (sessions seat : ℕ) (b d : Core) → IsQuiet sessions b → IsSession (view_of sessions b) seat → Sound d → GoesOn sessions seat b d
@@ -83,10 +80,6 @@ claimed_holds oid other c sound none claimed =
       held = (sound.own other).claims.held at.place at.within (omega (arith, none));
       oid_is = ap (λ (v : Claim). v.version.oid) at.is ∙ w.2;
     })
-
-pub settles_with_all : (tail stamp : ℕ) (u : Task) (writes : ℕ) → may_settle u ≡ true → over_of (Sealed tail stamp) u writes ≡ 0
-settles_with_all tail stamp (task.Ends raised ended step cleared) writes e = absurd (cc)
-settles_with_all tail stamp _ writes e = refl
 
 pub record SealedPart (pl : Place) (t : Attempt) (u : Task) (w : Work) (seen : ℕ) : Type 0 where
   pub stamp : t.stamp ≡ seen
@@ -268,6 +261,7 @@ done_before v t u seat w works done =
       tail = done.tail ∙ works.tail;
       flushed = done.flushed ∙ works.flushed;
       pinned = done.pinned ∙ works.pinned;
+      given_up = done.given_up ∙ works.given_up;
     }
 
 pub works_phase : (v t : View) (seat : ℕ) (w : Work) → Works v seat w t → (t.session seat).stand ≡ world.active w

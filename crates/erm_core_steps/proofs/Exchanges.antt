@@ -8,7 +8,6 @@ use Rattle.erm_model.specs.declared.history.VersionWritten.{VersionWritten}
 use Rattle.erm_model.specs.declared.outcome.Phase.TheVariants as phase
 use Rattle.erm_model.specs.declared.row_stop.RowStop.{RowStop}
 use Rattle.erm_model.specs.declared.row_stop.RowStop.TheVariants as stop
-use Rattle.erm_machine.specs.declared.event.Kind.{Kind}
 use Rattle.erm_machine.specs.declared.event.Kind.TheVariants as kind
 use Rattle.erm_machine.specs.declared.limits.TheConstants.{OBJECT_LIMIT, WRITE_LIMIT}
 use Rattle.erm_machine.specs.declared.part.Part.{Part}
@@ -17,16 +16,15 @@ use Rattle.erm_machine.specs.declared.task.Task.TheVariants as task
 use Rattle.erm_machine.specs.declared.version.CellWord.TheVariants as word
 use Rattle.erm_machine.specs.declared.version.VersionAt.{VersionAt}
 use Rattle.erm_machine.specs.Chains.{HeadInHand, IsHead, IsNamed, NamedInHand}
-use Rattle.erm_machine.specs.Core.{Core, Object, Shared, spot_of, version_at, word_at}
+use Rattle.erm_machine.specs.Core.{Core, Object, Shared, version_at}
 use Rattle.erm_machine.specs.Decided.{written_of}
 use Rattle.erm_machine.specs.Reading.{claim, head_version, load_cell, load_entry, load_walked_stamp, lost, new_claim}
 use Rattle.erm_machine.specs.Seat.{is_active, may_start}
 use Rattle.erm_machine.specs.Snapshot.{InHand, IsNewestAt}
 use Rattle.erm_machine.specs.Sound.{Sound}
-use Rattle.erm_machine.specs.Step.{after_event, shared_after}
+use Rattle.erm_machine.specs.Step.{after_event}
 use Rattle.erm_machine.specs.Words.{owner_of}
 use Rattle.erm_machine.proofs.Guards.{when_then}
-use Rattle.erm_machine.proofs.QuietKinds.{moves}
 use Rattle.erm_world.specs.Calls.{DidClaim, DidNotClaim, HasNoNewer, IsNewer, IsUnowned, MayClaim, Works, now}
 use Rattle.erm_world.specs.World.{Finished, IsSession, Session, Stand, View, Work, phase_of, work_at}
 use Rattle.erm_world.specs.World as world
@@ -37,28 +35,17 @@ use Rattle.erm_core_view.proofs.Moved.{one_becomes}
 use Rattle.erm_core_view.proofs.Shown.{claims, work_active}
 use Rattle.erm_core_steps.specs.Claiming.{HasExchanged, HasFreeHead, HasHead, is_cleared}
 use Rattle.erm_core_steps.specs.Finishes.{IsDropped}
-use Rattle.erm_core_steps.specs.Reads.{IsAtWork, IsExcluded, IsLoad, finds, in_hand, stage_of}
+use Rattle.erm_core_steps.specs.Reads.{IsAtWork, IsExcluded, finds, in_hand, stage_of}
 use Rattle.erm_core_steps.specs.Steps.{IsTaken, IsUnseen}
-use Rattle.erm_core_steps.proofs.Aborts.{part_stepped, session_plain}
+use Rattle.erm_core_steps.proofs.Aborts.{session_plain}
 use Rattle.erm_core_steps.proofs.Early.{done_before, quiet_since, shut_before, works_work}
 use Rattle.erm_core_steps.proofs.Quiet.{IsActive}
 use Rattle.erm_core_steps.proofs.Registered.{finds_starts}
-use Rattle.erm_core_steps.proofs.Unseen.{meets_one, others_stay, same_view}
-use Rattle.erm_core_steps.proofs.Ways.{Arrives, chosen, entry_part, load_one, owned, part_is, read_goes, read_nears, walks}
+use Rattle.erm_core_steps.proofs.Unseen.{others_stay, same_view}
+use Rattle.erm_core_steps.proofs.Ways.{Arrives, chosen, entry_part, owned, part_is, read_goes, read_nears, walks}
 use Rattle.erm_core_steps.proofs.Unowned.{newer_shown, none_newer, unowned}
-
--- a load changes nothing that is shared
-shared_stays : (seat : ℕ) (k : Kind) (found : ℕ) (x : Part) (s : Shared) → IsLoad k → shared_after seat k found x s ≡ s
-shared_stays seat (kind.LoadState other bound) found x s loads = refl
-shared_stays seat (kind.LoadEntry oid) found x s loads = refl
-shared_stays seat (kind.LoadCell v w) found x s loads = refl
-shared_stays seat (kind.LoadStamp v w) found x s loads = refl
-shared_stays seat _ found x s loads = absurd loads
-
-pub load_shared : (c d : Core) (seat : ℕ) (k : Kind) → IsLoad k → after_event c seat k ≡ Some d → d.shared ≡ c.shared
-load_shared c d seat k loads e =
-    let m = moves c seat k d (meets_one k (load_one k loads)) e in
-    ap (λ (to : Core). to.shared) m.is ∙ shared_stays seat k (word_at c (spot_of seat k)) (c.seats seat) c.shared loads
+use Rattle.erm_core_turns.proofs.Turns.{part_stepped}
+use Rattle.erm_core_steps.proofs.Loads.{load_shared}
 
 -- what an entry leads to is where a call may start, and no owner that was found clear
 pub arrives_starts : (oid entry : ℕ) (t : Task) → Arrives oid entry t → may_start t ≡ true
@@ -274,7 +261,7 @@ dropped_same v between t seat c active works dropped =
     (λ (here : q ≡ seat). subst (λ n. t.session n ≡ v.session n) (sym here) own)
     (λ (there : q ≡ seat → ⊥). dropped.others q there ∙ works.others q there)
     (cases_eq q seat)))
-    (dropped.tail ∙ works.tail) (dropped.flushed ∙ works.flushed) (dropped.pinned ∙ works.pinned)
+    (dropped.tail ∙ works.tail) (dropped.flushed ∙ works.flushed) (dropped.pinned ∙ works.pinned) (dropped.given_up ∙ works.given_up)
 
 -- AFTER a claim the session is between calls.
 pub quiet_claimed : (sessions seat oid : ℕ) (b c d : Core) → IsQuiet sessions b → IsSession (view_of sessions b) seat → HasExchanged sessions seat oid b c

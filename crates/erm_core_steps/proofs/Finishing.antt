@@ -23,7 +23,7 @@ use Rattle.erm_machine.specs.Decided.{written_of}
 use Rattle.erm_machine.specs.Life.{load_begin, load_tail_for_horizon, lower}
 use Rattle.erm_machine.specs.Reading.{add_counter, after_cut, load_active_stamp, load_counter, load_detached, load_walked_link, load_walked_stamp, older, store_row_word, swap_link}
 use Rattle.erm_machine.specs.Seat.{is_active, last_claim, when}
-use Rattle.erm_machine.specs.Settling.{install}
+use Rattle.erm_machine.specs.Settling.{install, without_newest}
 use Rattle.erm_machine.specs.Sound.{Sound}
 use Rattle.erm_machine.specs.Step.{after_event, part_after}
 use Rattle.erm_machine.specs.Words.{begin_of}
@@ -47,7 +47,8 @@ use Rattle.erm_core_steps.specs.Reads.{GoesOn, IsAtWork}
 use Rattle.erm_core_steps.specs.Steps.{IsTaken, IsUnpromised}
 use Rattle.erm_core_steps.proofs.Aborts.{no_flusher}
 use Rattle.erm_core_steps.proofs.Unseen.{others_stay, unseen_step}
-use Rattle.erm_core_steps.proofs.Ways.{active_at, active_kept, part_is}
+use Rattle.erm_core_steps.proofs.Ways.{active_kept, part_is}
+use Rattle.erm_core_steps.proofs.Places.{active_at}
 
 -- how many steps of that half are left at most
 abbrev pub finish_left : Task → ℕ
@@ -325,7 +326,7 @@ finish_rests x _ finishing none some = absurd (cc)
 
 -- NO CELL was left: the entry is stored with its old head, and the newest claim is none.
 abbrev dropped : Part → Part
-dropped x = record x { task = task.Rest; current = record x.current { writes = take (last_claim x.current) x.current.writes } }
+dropped x = record x { task = task.Rest; current = without_newest x.current }
 
 pub drop_taken : (seat : ℕ) (c : Core) (v : VersionAt) → Sound c → IsAtWork seat c → (c.seats seat).task ≡ task.Refused → v ≡ newest_of (c.seats seat).current → IsTaken c seat (kind.Install v.oid v.cell)
 drop_taken seat c v sound at refused is =
@@ -365,6 +366,7 @@ drop_shows sessions seat oid head b c d sound goes refused e =
       tail = omega (arith, tail);
       flushed = change.flushed;
       pinned = change.pinned (no_flusher seat goes.at.session);
+      given_up = refl;
     }
     in
     record {

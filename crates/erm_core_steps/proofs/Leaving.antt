@@ -1,5 +1,5 @@
 -- The end of a decided transaction: each step is taken, and leaves the transaction as it was decided.
-use Rattle.std.proofs.Common.{◌≡◌, ◌⊎◌, ⊎_elim, ℕ, ◌+◌, ◌<◌, Bool, true, false, ◌&&◌, ltb, List, [], ◌∷◌, ◌++◌, length, Option, Some, None, refl, sym, ap, ◌∙◌, subst, inl, inr, arith}
+use Rattle.std.proofs.Common.{◌≡◌, ◌⊎◌, ⊎_elim, ℕ, ◌+◌, ◌<◌, true, false, List, [], ◌∷◌, ◌++◌, length, Option, Some, None, refl, sym, ap, ◌∙◌, subst, inl, inr, arith}
 use Rattle.std.specs.Prelude.{if◌then◌else◌, nat_lt, ◌==◌, slice_index_or}
 use Rattle.std.proofs.lemmas.Bool.{and_parts}
 use Rattle.erm_machine.specs.declared.attempt.Attempt.{Attempt}
@@ -33,12 +33,10 @@ use Rattle.erm_core_view.proofs.Calm.{claim_same}
 use Rattle.erm_core_view.proofs.Moved.{changes_one, own_after}
 use Rattle.erm_core_steps.specs.Ends.{HasLeft, IsLeaving, OnlyAt, Remains, is_ending}
 use Rattle.erm_core_steps.specs.Steps.{IsFree, IsTaken}
-use Rattle.erm_core_steps.proofs.Aborts.{one_after, part_stepped}
 use Rattle.erm_core_steps.proofs.Passing.{some_block}
-use Rattle.erm_core_steps.proofs.Unseen.{meets_one, others_stay}
-
-first : (a b : Bool) → (a && b) ≡ true → a ≡ true
-first a b h = (and_parts a b h).0
+use Rattle.erm_core_steps.proofs.Unseen.{others_stay}
+use Rattle.erm_core_turns.proofs.Turns.{one_after, part_stepped}
+use Rattle.erm_core_view.proofs.Moved.{meets_one}
 
 pub decided_ends : (pl : Place) → is_decided pl ≡ true → is_ending pl ≡ true
 decided_ends (Decided tail stamp) e = refl
@@ -162,7 +160,7 @@ module _ (x : Part) (decided : is_decided x.place ≡ true) where
       when_then Goes _ _ y e (λ g.
       absurd (let off = decided_inactive x.place decided in
       let active : is_active x.place ≡ true =
-      first (is_active x.place) (ltb 0 claims) (first (is_active x.place && ltb 0 claims) (oid == v.oid) (first ((is_active x.place && ltb 0 claims) && (oid == v.oid)) (head == v.cell) g)) in
+      (and_parts _ _ (and_parts _ _ (and_parts _ _ g).0).0).0 in
       cc))
   g_install oid head u y e = g_claim oid head (end_of u) y e
 

@@ -7,8 +7,6 @@ use Rattle.erm_machine.specs.declared.event.Kind.{Kind}
 use Rattle.erm_machine.specs.declared.event.Kind.TheVariants as kind
 use Rattle.erm_machine.specs.declared.limits.TheConstants.{OBJECT_LIMIT}
 use Rattle.erm_machine.specs.declared.part.Part.{Part}
-use Rattle.erm_machine.specs.declared.place.Place.{Place}
-use Rattle.erm_machine.specs.declared.place.Place.TheVariants.{Active}
 use Rattle.erm_machine.specs.declared.task.Task.{Task}
 use Rattle.erm_machine.specs.declared.task.Task.TheVariants as task
 use Rattle.erm_machine.specs.Core.{Core}
@@ -18,7 +16,7 @@ use Rattle.erm_machine.specs.Sound.{Sound}
 use Rattle.erm_machine.specs.Step.{after_event}
 use Rattle.erm_machine.proofs.Guards.{either_way}
 use Rattle.erm_core_calls.proofs.Moving.{met, stepped, taken}
-use Rattle.erm_core_view.specs.Views.{IsBetween, IsQuiet, session_of, stand_of, view_of, work_of}
+use Rattle.erm_core_view.specs.Views.{IsQuiet, session_of, stand_of, view_of, work_of}
 use Rattle.erm_core_view.proofs.Moved.{calm_shows, changes_one}
 use Rattle.erm_core_view.proofs.Shown.{work_active}
 use Rattle.erm_world.specs.Calls.{DidMake}
@@ -26,13 +24,11 @@ use Rattle.erm_world.specs.Works.{making}
 use Rattle.erm_world.specs.World.{IsSession, Opening, Session, View, Work}
 use Rattle.erm_world.specs.World as world
 use Rattle.erm_core_steps.specs.Steps.{IsTaken, IsUnseen}
-use Rattle.erm_core_steps.proofs.Aborts.{no_flusher, one_after, part_stepped, unsealed}
+use Rattle.erm_core_steps.proofs.Aborts.{no_flusher, unsealed}
 use Rattle.erm_core_steps.proofs.Quiet.{IsActive, quiet_after}
 use Rattle.erm_core_steps.proofs.Unseen.{others_stay, unseen_step}
-
-between_active : (pl : Place) (u : Task) → is_active pl ≡ true → may_start u ≡ true → IsBetween pl u
-between_active (Active tail) u e starts = starts
-between_active _ u e starts = absurd (cc)
+use Rattle.erm_core_turns.proofs.Turns.{one_after, part_stepped}
+use Rattle.erm_core_steps.proofs.Places.{active_between}
 
 -- the part after the counter is loaded, and after it is raised
 abbrev pub looked : ℕ → Part → Part
@@ -83,7 +79,7 @@ counter_looked sessions seat c d sound quiet session at e =
     record {
       unseen = unseen;
       quiet =
-          quiet_after sessions seat c d quiet session unseen.others opening (between_active (d.seats seat).place (d.seats seat).task here.active here.starts)
+          quiet_after sessions seat c d quiet session unseen.others opening (active_between (d.seats seat).place (d.seats seat).task here.active here.starts)
           (λ some. absurd (omega (arith, some, stamp))) (omega (arith, opening, flushed, low), omega (arith, tail, flushed, high));
       active = here;
       drawn = ap (λ (to : Core). to.shared.objects_drawn) (one_after c d (stepped c seat k (looked found (c.seats seat))) seat k steps e);
@@ -130,8 +126,9 @@ number_made sessions seat b c d sound session at less e shows =
       tail = omega (arith, tail);
       flushed = change.flushed;
       pinned = change.pinned (no_flusher seat at.active.session);
+      given_up = refl;
     } in (
-      quiet_after sessions seat c d at.quiet session (others_stay c d seat k tt e) opening (between_active (d.seats seat).place (d.seats seat).task active starts)
+      quiet_after sessions seat c d at.quiet session (others_stay c d seat k tt e) opening (active_between (d.seats seat).place (d.seats seat).task active starts)
           (λ some. absurd (omega (arith, some, stamp))) (omega (arith, opening, flushed, low), omega (arith, tail, flushed, high)),
       subst (λ (v : View). DidMake v seat b.shared.objects_drawn (view_of sessions d)) at.unseen.view here,
     )

@@ -1,5 +1,5 @@
 -- Who has claimed an object, as the machine and as the view say it.
-use Rattle.std.proofs.Common.{◌≡◌, ◌≢◌, ℕ, zero, suc, ◌<◌, ◌≤◌, ⊎_elim, true, false, List, [], ◌∷◌, map, slice_get, length, Result, Ok, Err, IfErr, Some, refl, sym, ap, ◌∙◌, subst, arith}
+use Rattle.std.proofs.Common.{◌≡◌, ◌≢◌, ℕ, zero, suc, ◌<◌, ◌≤◌, ⊎_elim, true, false, List, [], ◌∷◌, map, slice_get, length, Some, refl, sym, ap, ◌∙◌, subst, arith}
 use Rattle.std.proofs.lemmas.Bool.{cases_Bool, cases_lt, eq-eqb, or_left, or_right}
 use Rattle.erm_model.specs.declared.row_stop.RowStop.{RowStop}
 use Rattle.erm_model.specs.declared.row_stop.RowStop.TheVariants as stop
@@ -71,7 +71,7 @@ pub record IsSealedAt (pl : Place) (t : Attempt) (seen bound : ℕ) : Type 0 whe
   pub stand : stand_of pl t ≡ world.sealed (work_of t) seen
   pub below : seen < bound
 
-below_unclear : (seen bound : ℕ) → 1 < seen → is_clear seen bound ≡ false → seen < bound
+pub below_unclear : (seen bound : ℕ) → 1 < seen → is_clear seen bound ≡ false → seen < bound
 below_unclear seen bound more unclear = grind arith
 
 pub unclear_sealed : (pl : Place) (u : Task) (t : Attempt) (bound : ℕ) → IsBetween pl u → is_clear (state_of pl) bound ≡ false → (in_progress pl ≡ 1 → 0 < state_of pl → 1 < state_of pl)
@@ -141,7 +141,3 @@ not_yet sessions seat oid owner b c t (stop.NotYet other seen) sound quiet known
     (owner_ahead sessions seat oid owner bound b sound quiet known some owns another not_clear))
     in (same, new, few, ahead)
 not_yet sessions seat oid owner b c t why sound quiet known some owns another stays begins same new few waits = absurd waits
-
-pub err_to : {X : Type 0} (r : Result X RowStop) (P Q : RowStop → Type 0) → ((why : RowStop) → P why → Q why) → IfErr r P → IfErr r Q
-err_to (Ok x) P Q f h = tt
-err_to (Err why) P Q f h = f why h

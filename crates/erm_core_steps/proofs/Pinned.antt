@@ -1,7 +1,7 @@
 -- Rows as of the pin: the last version below it, and who may still write one.
 use Rattle.std.proofs.Common.{◌≡◌, ◌≢◌, ℕ, zero, suc, ◌+◌, ◌<◌, ◌≤◌, ◌⊎◌, ⊎_elim, Bool, true, false, ◌||◌, cond, eqb, ltb, List, [], ◌∷◌, ◌++◌, length, map, take, get_or, Option, Some, None, IfSome, refl, sym, ap, ◌∙◌, subst, inl, inr, arith}
-use Rattle.std.specs.Prelude.{IsSome, if◌then◌else◌}
-use Rattle.std.proofs.lemmas.Bool.{cases_eq, cases_lt, cond-false, cond-true, eq-eqb, eqb-false, eqb-true, le-ltb, lt-ltb, ne_eqb, or_cases, or_left, or_right}
+use Rattle.std.specs.Prelude.{IsSome, if◌then◌else◌, is_some}
+use Rattle.std.proofs.lemmas.Bool.{cases_eq, cases_lt, cond-false, cond-true, eq-eqb, eqb-false, eqb-true, le-ltb, lt-ltb, ne_eqb, or_cases, or_left, or_right, or_parts}
 use Rattle.std.proofs.lemmas.List.{take_more}
 use Rattle.std.proofs.lemmas.Option.{same_Some}
 use Rattle.erm_model.specs.declared.history.VersionWritten.{VersionWritten}
@@ -11,7 +11,7 @@ use Rattle.erm_model.proofs.Members.{∈-behind}
 use Rattle.erm_machine.specs.declared.attempt.Attempt.{Attempt}
 use Rattle.erm_machine.specs.declared.limits.TheConstants.{FLUSH_SEAT, OBJECT_LIMIT}
 use Rattle.erm_machine.specs.declared.place.Place.{Place}
-use Rattle.erm_machine.specs.declared.place.Place.TheVariants.{Active, Idle, Sealed, Vacant}
+use Rattle.erm_machine.specs.declared.place.Place.TheVariants.{Active, Idle, Sealed}
 use Rattle.erm_machine.specs.declared.task.Task.{Task}
 use Rattle.erm_machine.specs.declared.version.Version.{Version}
 use Rattle.erm_machine.specs.Core.{Core, no_version}
@@ -33,6 +33,7 @@ use Rattle.erm_world.specs.Works.{is_claimed}
 use Rattle.erm_core_steps.specs.Pinned.{IsNewestRow, owner_below, row_below}
 use Rattle.erm_core_steps.proofs.Early.{ahead_holds}
 use Rattle.erm_core_steps.proofs.Owners.{owner_ahead}
+use Rattle.erm_core_turns.proofs.GatherDone.{vacant_unsealed}
 
 abbrev F : ℕ
 F = FLUSH_SEAT
@@ -124,10 +125,6 @@ drawn_state (Active tail) u t between is some = let none = is.stamp in absurd (o
 drawn_state (Sealed tail stamp) u t between is some = sym is.stamp_is
 drawn_state _ u t between is some = absurd between
 
-vacant_drawn : (pl : Place) (t : Attempt) → pl ≡ Vacant → IsCurrent pl t → 0 < t.stamp → ⊥
-vacant_drawn Vacant t e is some = let none = ap (λ (a : Attempt). a.stamp) is in absurd (omega (arith, none, some))
-vacant_drawn _ t e is some = absurd (cc)
-
 -- an object that is claimed is among the objects that are
 claimed_among : (claims : List VersionWritten) (oid : ℕ) → is_claimed claims oid ≡ true → oid ∈ map (λ (w : VersionWritten). w.oid) claims
 claimed_among [] oid e = absurd (cc)
@@ -158,7 +155,7 @@ module _ (law : Law) (lists : Lists law) (more : More law) (sessions : ℕ) (c :
   holder_state : (q : ℕ) → HoldsBelow (c.seats q) oid b → state_of (c.seats q).place ≡ (c.seats q).current.stamp
   holder_state q below =
       let cur = (under.sound.own q).ranges.current in
-      let unused : (0 < q → q ≤ sessions → ⊥) → is_flusher q ≡ false → ⊥ = λ none plain. vacant_drawn (c.seats q).place (c.seats q).current (quiet.others q none plain) cur below.0 in
+      let unused : (0 < q → q ≤ sessions → ⊥) → is_flusher q ≡ false → ⊥ = λ none plain. vacant_unsealed (c.seats q).place (c.seats q).current (quiet.others q none plain) cur below.0 in
       ⊎_elim
       (λ (flusher : q ≡ F). drawn_state (c.seats q).place (c.seats q).task (c.seats q).current (quiet.flusher q (eq-eqb q F flusher)).rests cur below.0)
       (λ (other : q ≡ F → ⊥).
@@ -173,7 +170,7 @@ module _ (law : Law) (lists : Lists law) (more : More law) (sessions : ℕ) (c :
   holder_some : (q : ℕ) → HoldsBelow (c.seats q) oid b → q ≢ 0
   holder_some q below = λ e.
       let plain : is_flusher q ≡ false = ne_eqb q F (λ same. absurd (omega (arith, same, e))) in
-      absurd (vacant_drawn (c.seats q).place (c.seats q).current (quiet.others q (λ positive low. absurd (omega (arith, e, positive))) plain) (under.sound.own q).ranges.current below.0)
+      absurd (vacant_unsealed (c.seats q).place (c.seats q).current (quiet.others q (λ positive low. absurd (omega (arith, e, positive))) plain) (under.sound.own q).ranges.current below.0)
 
   apart : owner_below c oid b ≡ None → (q : ℕ) → F ≢ q → HoldsBelow (c.seats q) oid b → ⊥
   apart none q other below =
@@ -211,10 +208,10 @@ module _ (law : Law) (lists : Lists law) (more : More law) (sessions : ℕ) (c :
       (record { stamp = _; newest = newest_shown law lists more sessions c under quiet is some oid _ row newest })
 
   -- each object has a version of stamp 0, below each pin
-  pub some_found : row_below b (c.shared.objects oid).versions None ≡ None → ⊥
-  some_found e =
+  pub some_found : IsSome (row_below b (c.shared.objects oid).versions None)
+  some_found =
       ⊎_elim
-      (λ (has : HasLast b (c.shared.objects oid).versions (row_below b (c.shared.objects oid).versions None)). let no : ◌≡◌ {A = Option (List ℕ)} None (Some has.0) = sym e ∙ has.1 in cc)
+      (λ (has : HasLast b (c.shared.objects oid).versions (row_below b (c.shared.objects oid).versions None)). ap is_some has.1)
       (λ (none : AllAbove b (c.shared.objects oid).versions × (row_below b (c.shared.objects oid).versions None ≡ None)).
       let first = none.0 0 (under.sound.common.claims.objects oid known).some in
       let opened = under.sound.common.marks.opened oid known in
@@ -260,10 +257,6 @@ module _ (law : Law) (lists : Lists law) (more : More law) (sessions : ℕ) (c :
       let here = owner_waits positive parts.1 in
       subst (IsWait (log_of sessions c) oid) found.1 here
     where
-      or_parts : (p q : Bool) → (p || q) ≡ false → (p ≡ false) × (q ≡ false)
-      or_parts true q f = absurd (cc)
-      or_parts false q f = (refl, f)
-
       owner_waits : 0 < owner → is_clear seen b ≡ false → IsWait (log_of sessions c) oid (record { seat = owner; seen = seen })
       owner_waits positive unclear =
           let no : owner ≢ F = λ same. absurd (flush_clear same unclear) in

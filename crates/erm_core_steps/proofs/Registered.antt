@@ -30,9 +30,10 @@ use Rattle.erm_core_view.proofs.Moved.{one_becomes}
 use Rattle.erm_core_view.proofs.Shown.{registers, work_active}
 use Rattle.erm_core_steps.specs.Reads.{DidRegister, GoesOn, HasRegistered, IsAtWork, finds, in_hand, rates, read_step, stage_of}
 use Rattle.erm_core_steps.specs.Steps.{IsTaken}
-use Rattle.erm_core_steps.proofs.Aborts.{part_stepped, session_plain}
+use Rattle.erm_core_steps.proofs.Aborts.{session_plain}
 use Rattle.erm_core_steps.proofs.Early.{found_clear, quiet_since}
 use Rattle.erm_core_steps.proofs.Unseen.{others_stay}
+use Rattle.erm_core_turns.proofs.Turns.{part_stepped}
 
 -- a walk that is done has found a version
 pub record IsFound (oid : ℕ) (t : Task) : Type 0 where

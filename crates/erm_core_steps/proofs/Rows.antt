@@ -24,7 +24,7 @@ own_row-push : (ws : List VersionWritten) (c : VersionWritten) (oid : ℕ) (base
 own_row-push [] c oid base = refl
 own_row-push (w ∷ ws) c oid base = own_row-push ws c oid (if eqb w.oid oid then w.row else base)
 
-claimed-push : (ws : List VersionWritten) (c : VersionWritten) (oid : ℕ) → is_claimed (ws ++ c ∷ []) oid ≡ (is_claimed ws oid || (eqb c.oid oid || false))
+pub claimed-push : (ws : List VersionWritten) (c : VersionWritten) (oid : ℕ) → is_claimed (ws ++ c ∷ []) oid ≡ (is_claimed ws oid || (eqb c.oid oid || false))
 claimed-push ws c oid = list_any-append (λ (w : VersionWritten). eqb w.oid oid) ws (c ∷ [])
 
 -- one more claim

@@ -47,11 +47,13 @@ use Rattle.erm_core_view.proofs.Seals.{block_within}
 use Rattle.erm_core_steps.specs.Ends.{HasDecided, HasLeft, MayDecide, Remains, outcome_of}
 use Rattle.erm_core_steps.specs.Settles.{HasPassed, IsPassing, IsWaiting, is_passing}
 use Rattle.erm_core_steps.specs.Steps.{IsTaken, IsUnseen}
-use Rattle.erm_core_steps.proofs.Aborts.{no_flusher, part_stepped, session_plain}
+use Rattle.erm_core_steps.proofs.Aborts.{no_flusher, session_plain}
 use Rattle.erm_core_steps.proofs.Leaving.{remains_both}
 use Rattle.erm_core_steps.proofs.Quiet.{quiet_after, session_of_few}
 use Rattle.erm_core_steps.proofs.Unseen.{unseen_step}
 use Rattle.erm_core_steps.proofs.Waiting.{all_ready, in_the_way, same_sealed}
+use Rattle.erm_core_turns.proofs.Turns.{part_stepped}
+use Rattle.erm_core_steps.proofs.Places.{sealed_there, sealed_drawn, sealed_between}
 
 phase_sealed : (pl : Place) (t : Attempt) → phase_of (stand_of pl t) ≡ phase.Sealed → is_sealed pl ≡ true
 phase_sealed (Sealed tail stamp) t e = refl
@@ -60,10 +62,6 @@ phase_sealed _ t e = absurd (cc)
 between_sealed : (pl : Place) (u : Task) → is_sealed pl ≡ true → IsBetween pl u → may_settle u ≡ true
 between_sealed (Sealed tail stamp) u e between = between
 between_sealed _ u e between = absurd (cc)
-
-sealed_between : (pl : Place) (u : Task) → is_sealed pl ≡ true → may_settle u ≡ true → IsBetween pl u
-sealed_between (Sealed tail stamp) u e may = may
-sealed_between _ u e may = absurd (cc)
 
 pub passing_may : (u : Task) → is_passing u ≡ true → may_settle u ≡ true
 passing_may (task.Settles reads writes) e = refl
@@ -75,17 +73,9 @@ passing_may (task.WriteClear write) e = refl
 passing_may (task.WriteMade write) e = refl
 passing_may u e = absurd (cc)
 
-sealed_vacant : (pl : Place) → is_sealed pl ≡ true → is_vacant pl ≡ false
-sealed_vacant (Sealed tail stamp) e = refl
-sealed_vacant _ e = absurd (cc)
-
 sealed_stands : (pl : Place) (t : Attempt) → is_sealed pl ≡ true → IsCurrent pl t → stand_of pl t ≡ world.sealed (work_of t) t.stamp
 sealed_stands (Sealed tail stamp) t e is = ap (λ n. world.sealed (work_of t) n) (sym is.stamp_is)
 sealed_stands _ t e is = absurd (cc)
-
-sealed_drawn : (pl : Place) (t : Attempt) → is_sealed pl ≡ true → IsCurrent pl t → 0 < t.stamp
-sealed_drawn (Sealed tail stamp) t e is = let at = is.stamp_is in let some = is.positive in omega (arith, at, some)
-sealed_drawn _ t e is = absurd (cc)
 
 -- where a settle may be called
 pub record MaySettle (sessions seat : ℕ) (a : Core) : Type 0 where
@@ -134,7 +124,7 @@ module _ (sessions seat : ℕ) (a : Core) (m : MaySettle sessions seat a) where
     loads : after_event a seat kind.LoadFlushed ≡ Some (stepped a seat kind.LoadFlushed begun)
     loads =
         taken a seat kind.LoadFlushed begun tt refl
-        (met _ _ _ (ap (load_flushed a.shared.flushed x) still) (not_from_false (is_vacant x.place) (sealed_vacant x.place m.sealed)))
+        (met _ _ _ (ap (load_flushed a.shared.flushed x) still) (not_from_false (is_vacant x.place) (sealed_there x.place m.sealed)))
 
     pub flush_taken : IsTaken a seat kind.LoadFlushed
     flush_taken = (stepped a seat kind.LoadFlushed begun, loads)
@@ -306,6 +296,7 @@ module _ (sessions seat : ℕ) (a : Core) (m : MaySettle sessions seat a) where
         tail = left.only.tail ∙ decided.only.tail;
         flushed = left.only.flushed ∙ decided.only.flushed;
         pinned = ap (λ (z : Part). pin_of z.place z.current) (others FLUSH_SEAT (λ same. no_flusher seat is_one (sym same)));
+        given_up = refl;
       }
 
       undecided_not : (opened : Bool) → ltb t.pred t.succ ≡ opened → u.decision ≢ Undecided

@@ -31,9 +31,10 @@ use Rattle.erm_world.specs.Laws.{IsLawfulWork}
 use Rattle.erm_world.specs.World.{Finished, IsSession, Opening, Session, View, Work, size_of, work_at}
 use Rattle.erm_world.specs.World as world
 use Rattle.erm_core_steps.specs.Steps.{IsTaken}
-use Rattle.erm_core_steps.proofs.Aborts.{no_flusher, part_stepped}
+use Rattle.erm_core_steps.proofs.Aborts.{no_flusher}
 use Rattle.erm_core_steps.proofs.Quiet.{IsActive, quiet_after}
 use Rattle.erm_core_steps.proofs.Unseen.{others_stay}
+use Rattle.erm_core_turns.proofs.Turns.{part_stepped}
 
 -- an active place, with the tail that it announced
 pub record IsActiveAt (pl : Place) : Type 0 where
@@ -180,6 +181,7 @@ seal_done sessions seat size b c d e sound_b sound_c sound_d quiet session activ
         fits = subst (λ (s : ℕ). s ≤ GREATEST_BLOCK) (sized ∙ ap size_of whole) greatest;
         flushed = flushed;
         pinned = (let other = no_flusher seat active.session in three.pinned other ∙ two.pinned other ∙ one.pinned other);
+        given_up = refl;
       },
     )
   where

@@ -1,8 +1,7 @@
 -- A row is stored, word after word.
-use Rattle.std.proofs.Common.{◌≡◌, ◌≢◌, ℕ, zero, suc, ◌+◌, ◌<◌, ◌≤◌, Bool, true, false, ◌||◌, eqb, List, [], ◌∷◌, ◌++◌, length, map, take, drop, get_or, Some, refl, sym, ap, ◌∙◌, subst, arith, length-set, get_or-set_same, add-one, drop-cons}
+use Rattle.std.proofs.Common.{◌≡◌, ◌≢◌, ℕ, zero, suc, ◌+◌, ◌<◌, ◌≤◌, Bool, true, false, ◌||◌, eqb, List, [], ◌∷◌, length, map, take, drop, get_or, Some, refl, sym, ap, ◌∙◌, subst, arith, length-set, get_or-set_same, add-one, drop-cons}
 use Rattle.std.proofs.lemmas.Bool.{cond-false, eq-eqb, ne_eqb, or_left, or_right}
 use Rattle.std.proofs.lemmas.List.{drop_all, map-append, take_more}
-use Rattle.std.proofs.lemmas.List.Folds.{list_any-append}
 use Rattle.erm_model.specs.declared.TheConstants.{ROW_WORDS}
 use Rattle.erm_model.specs.declared.history.VersionWritten.{VersionWritten}
 use Rattle.erm_machine.specs.declared.attempt.Claim.{Claim}
@@ -11,13 +10,11 @@ use Rattle.erm_machine.specs.declared.part.Part.{Part}
 use Rattle.erm_machine.specs.declared.task.Task.{Task}
 use Rattle.erm_machine.specs.declared.task.Task.TheVariants as task
 use Rattle.erm_machine.specs.declared.version.CellWord.TheVariants as word
-use Rattle.erm_machine.specs.Cells.{MayWant}
 use Rattle.erm_machine.specs.Claims.{claims_over}
 use Rattle.erm_machine.specs.Core.{Core, claim_at, no_claim}
 use Rattle.erm_machine.specs.Decided.{written_of}
 use Rattle.erm_machine.specs.Facts.{over_of}
 use Rattle.erm_machine.specs.Seat.{is_active, is_own, may_start}
-use Rattle.erm_machine.specs.declared.place.Place.TheVariants.{Active}
 use Rattle.erm_machine.specs.Sound.{Sound}
 use Rattle.erm_machine.specs.Step.{after_event, run_from}
 use Rattle.erm_machine.proofs.Frames.{put_same}
@@ -35,16 +32,16 @@ use Rattle.erm_core_view.proofs.Rows.{Ready, after_one, after_word, claim_then, 
 use Rattle.erm_core_steps.specs.Claiming.{IsStoring, StandsAt}
 use Rattle.erm_core_steps.specs.Reads.{closed_window}
 use Rattle.erm_core_steps.specs.Steps.{IsTaken}
-use Rattle.erm_core_steps.proofs.Aborts.{one_after}
 use Rattle.erm_core_steps.proofs.Early.{quiet_since, works_work}
 use Rattle.erm_core_steps.proofs.Quiet.{IsActive}
 use Rattle.erm_core_steps.proofs.Readings.{still_active, still_session}
-use Rattle.erm_core_steps.proofs.Ways.{active_at}
+use Rattle.erm_core_turns.proofs.Turns.{one_after}
+use Rattle.erm_core_steps.proofs.Rows.{claimed-push}
+use Rattle.erm_core_view.proofs.Claimed.{starts_with_all}
+use Rattle.erm_core_cells.proofs.CellsCalls.{starts_bare}
+use Rattle.erm_core_steps.proofs.Places.{active_at}
 
 -- THE CLAIM of an object stands among the transaction's.
-claimed-push : (ws : List VersionWritten) (c : VersionWritten) (oid : ℕ) → is_claimed (ws ++ c ∷ []) oid ≡ (is_claimed ws oid || (eqb c.oid oid || false))
-claimed-push ws c oid = list_any-append (λ (w : VersionWritten). eqb w.oid oid) ws (c ∷ [])
-
 pub unclaimed_more : (ws : List Claim) (i : ℕ) (d : Claim) (oid : ℕ) → i < length ws → is_claimed (map written_of (take i ws)) oid ≡ false
     → ((get_or ws i d).version.oid ≡ oid → ⊥) → is_claimed (map written_of (take (i + 1) ws)) oid ≡ false
 unclaimed_more ws i d oid within none other =
@@ -117,30 +114,13 @@ pub may_write : (seat oid place : ℕ) (c : Core) → Sound c → IsActive seat 
 may_write seat oid place c sound at stands =
     let x = c.seats seat in
     let pl = active_at x.place at.active in
-    let none : claims_over x ≡ 0 = ap (λ q. over_of q x.task (length x.current.writes)) pl.1 ∙ starts_over pl.0 x.task (length x.current.writes) at.starts in
+    let none : claims_over x ≡ 0 = ap (λ q. over_of q x.task (length x.current.writes)) pl.1 ∙ starts_with_all pl.0 x.task (length x.current.writes) at.starts in
     record {
       active = at.active;
       starts = at.starts;
       claimed = stands.within;
-      own = claim_cell c seat sound x.task place refl (starts_want x.task at.starts) stands.within (omega (arith, none));
+      own = claim_cell c seat sound x.task place refl (starts_bare x.task at.starts) stands.within (omega (arith, none));
     }
-  where
-    starts_over : (tail : ℕ) (u : Task) (writes : ℕ) → may_start u ≡ true → over_of (Active tail) u writes ≡ 0
-    starts_over tail (task.Ends raised ended step cleared) writes e = absurd (cc)
-    starts_over tail _ writes e = refl
-
-    starts_want : (t : Task) → may_start t ≡ true → MayWant t → ⊥
-    starts_want task.Draws e wants = absurd (cc)
-    starts_want (task.Claimed v) e wants = absurd (cc)
-    starts_want (task.Horizon v least next) e wants = absurd (cc)
-    starts_want (task.CutWalks v h) e wants = absurd (cc)
-    starts_want (task.CutPassed v h) e wants = absurd (cc)
-    starts_want (task.CutFound v h) e wants = absurd (cc)
-    starts_want (task.Detaches v) e wants = absurd (cc)
-    starts_want task.Pool e wants = absurd (cc)
-    starts_want task.Fetched e wants = absurd (cc)
-    starts_want task.Refused e wants = absurd (cc)
-    starts_want _ e wants = wants
 
 pub storing_first : (seat place cell : ℕ) (c : Core) → IsActive seat c → MayWrite (c.seats seat) place cell → IsStoring seat place cell 0 c
 storing_first seat place cell c at may = record {
@@ -179,6 +159,7 @@ claim_then_set v between t seat oid w (now stamp base none few free current work
       tail = set_it.tail ∙ works.tail;
       flushed = set_it.flushed ∙ works.flushed;
       pinned = set_it.pinned ∙ works.pinned;
+      given_up = set_it.given_up ∙ works.given_up;
     }
 
 -- AFTER ALL WORDS the session is between calls.

@@ -7,11 +7,10 @@ use Rattle.erm_machine.specs.declared.limits.TheConstants.{OBJECT_LIMIT}
 use Rattle.erm_machine.specs.declared.place.Place.{Place}
 use Rattle.erm_machine.specs.declared.place.Place.TheVariants.{Active, Idle, Sealed}
 use Rattle.erm_machine.specs.declared.task.Task.{Task}
-use Rattle.erm_machine.specs.declared.task.Task.TheVariants as task
 use Rattle.erm_machine.specs.Core.{Core, newest, version_at}
 use Rattle.erm_machine.specs.Facts.{over_of}
 use Rattle.erm_machine.specs.Lives.{in_progress}
-use Rattle.erm_machine.specs.Seat.{is_active, may_start}
+use Rattle.erm_machine.specs.Seat.{is_active}
 use Rattle.erm_machine.specs.Sound.{Sound}
 use Rattle.erm_machine.specs.Words.{number_of, owner_of}
 use Rattle.erm_machine.proofs.Holders.{held_claim}
@@ -24,9 +23,10 @@ use Rattle.erm_core_view.specs.Views.{IsBetween, IsQuiet, stand_of, view_of, wor
 use Rattle.erm_core_view.proofs.Commits.{has_the_history}
 use Rattle.erm_core_view.proofs.Shown.{work_active}
 use Rattle.erm_core_steps.proofs.Aborts.{unsealed}
-use Rattle.erm_core_steps.proofs.Early.{claimed_holds, settles_with_all}
+use Rattle.erm_core_steps.proofs.Early.{claimed_holds}
 use Rattle.erm_core_steps.proofs.Newest.{newest_shown}
 use Rattle.erm_core_steps.proofs.Owners.{holder_session, holds_claimed}
+use Rattle.erm_core_view.proofs.Claimed.{starts_with_all, settles_with_all}
 
 -- a session in the middle of a transaction shows it
 current_shown : (pl : Place) (u : Task) (t : Attempt) → IsBetween pl u → in_progress pl ≡ 1 → world.IsCurrent (stand_of pl t) (work_of t)
@@ -52,10 +52,6 @@ owner_owned sessions seat oid owner c sound quiet known some owns other =
     }
 
 -- nobody in the middle of a transaction has claimed an object without owner
-starts_with_all : (tail : ℕ) (u : Task) (writes : ℕ) → may_start u ≡ true → over_of (Active tail) u writes ≡ 0
-starts_with_all tail (task.Ends raised ended step cleared) writes e = absurd (cc)
-starts_with_all tail _ writes e = refl
-
 current_held : (pl : Place) (t : Attempt) (u : Task) (w : Work) → world.IsCurrent (stand_of pl t) w → IsBetween pl u
     → (over_of pl u (length t.writes) ≡ 0) × (work_of t ≡ w)
 current_held (Active tail) t u w is between = (starts_with_all tail u (length t.writes) between, is)

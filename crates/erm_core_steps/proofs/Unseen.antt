@@ -1,10 +1,9 @@
 -- Steps of a session that the view doesn't show, and what each step of a session leaves.
-use Rattle.std.proofs.Common.{◌≡◌, ◌≢◌, ℕ, ⊎_elim, Option, Some, None, refl, sym, ap, ◌∙◌, subst, arith}
+use Rattle.std.proofs.Common.{◌≡◌, ◌≢◌, ℕ, ⊎_elim, List, Option, Some, None, refl, sym, ap, ◌∙◌, subst, arith}
 use Rattle.std.proofs.Math.Path.{fun_ext}
 use Rattle.std.proofs.lemmas.Bool.{cases_eq}
 use Rattle.erm_machine.specs.declared.attempt.Attempt.{Attempt}
 use Rattle.erm_machine.specs.declared.event.Kind.{Kind}
-use Rattle.erm_machine.specs.declared.event.Kind.TheVariants as kind
 use Rattle.erm_machine.specs.declared.limits.TheConstants.{FLUSH_SEAT}
 use Rattle.erm_machine.specs.declared.part.Part.{Part}
 use Rattle.erm_machine.specs.declared.place.Place.{Place}
@@ -14,18 +13,13 @@ use Rattle.erm_machine.specs.Sound.{Sound}
 use Rattle.erm_machine.specs.Step.{after_event}
 use Rattle.erm_machine.proofs.Frames.{put_other}
 use Rattle.erm_machine.proofs.QuietKinds.{moves}
-use Rattle.erm_machine.proofs.QuietKinds as quiet
-use Rattle.erm_world.specs.World.{Opening, Session, Stand, View}
+use Rattle.erm_world.specs.World.{GivenUp, Opening, Session, Stand, View}
 use Rattle.erm_world.specs.World as world
 use Rattle.erm_core_view.specs.Steps.{MeetsOne, drawn_by, flushed_by}
 use Rattle.erm_core_view.specs.Views.{pin_of, session_of, stand_of, view_of}
 use Rattle.erm_core_view.proofs.Moved.{changes_one}
 use Rattle.erm_core_steps.specs.Steps.{IsUnseen}
-
-pub meets_one : (k : Kind) → MeetsOne k → quiet.MeetsOne k
-meets_one (kind.Split other) one = one
-meets_one (kind.Join other) one = one
-meets_one _ one = tt
+use Rattle.erm_core_view.proofs.Moved.{meets_one}
 
 -- a step changes no other seat
 pub others_stay : (c d : Core) (seat : ℕ) (k : Kind) → MeetsOne k → after_event c seat k ≡ Some d → (q : ℕ) → q ≢ seat → d.seats q ≡ c.seats q
@@ -33,12 +27,12 @@ others_stay c d seat k one e q other =
     let m = moves c seat k d (meets_one k one) e in
     ap (λ (to : Core). to.seats q) m.is ∙ put_other c.seats seat m.part q other
 
-pub same_view : (u v : View) → v.opening ≡ u.opening → v.session ≡ u.session → v.tail ≡ u.tail → v.flushed ≡ u.flushed → v.pinned ≡ u.pinned → v ≡ u
-same_view u v opening session tail flushed pinned =
-    let made : Opening → (ℕ → Session) → ℕ → ℕ → Option ℕ → View = λ o s t f p. record { opening = o; session = s; tail = t; flushed = f; pinned = p } in
+pub same_view : (u v : View) → v.opening ≡ u.opening → v.session ≡ u.session → v.tail ≡ u.tail → v.flushed ≡ u.flushed → v.pinned ≡ u.pinned → v.given_up ≡ u.given_up → v ≡ u
+same_view u v opening session tail flushed pinned given =
+    let made : Opening → (ℕ → Session) → ℕ → ℕ → Option ℕ → View = λ o s t f p. record { opening = o; session = s; tail = t; flushed = f; pinned = p; given_up = v.given_up } in
     ap (λ (o : Opening). made o v.session v.tail v.flushed v.pinned) opening ∙ ap (λ (s : ℕ → Session). made u.opening s v.tail v.flushed v.pinned) session
     ∙ ap (λ (t : ℕ). made u.opening u.session t v.flushed v.pinned) tail ∙ ap (λ (f : ℕ). made u.opening u.session u.tail f v.pinned) flushed
-    ∙ ap (λ (p : Option ℕ). made u.opening u.session u.tail u.flushed p) pinned
+    ∙ ap (λ (p : Option ℕ). made u.opening u.session u.tail u.flushed p) pinned ∙ ap (λ (g : ℕ → List GivenUp). let w : View = record u { given_up = g } in w) given
 
 -- a seat's pin is told by what its session shows
 abbrev pin_from : Stand → Option ℕ
@@ -69,7 +63,7 @@ unseen_step sessions seat c d k sound one none same e own =
     let pinned : (view_of sessions d).pinned ≡ (view_of sessions c).pinned =
     pin (d.seats FLUSH_SEAT) ∙ ap (λ (f : ℕ → Session). pin_from (f FLUSH_SEAT).stand) session ∙ sym (pin (c.seats FLUSH_SEAT))
     in
-    record { others = others; view = same_view (view_of sessions c) (view_of sessions d) opening session tail flushed pinned }
+    record { others = others; view = same_view (view_of sessions c) (view_of sessions d) opening session tail flushed pinned refl }
 
 pub unseen_none : (sessions seat : ℕ) (c : Core) → IsUnseen sessions seat c c
 unseen_none sessions seat c = record { others = λ q other. refl; view = refl }

@@ -1,7 +1,7 @@
 -- Whom a settle waits for: the first version that isn't ready, in the order in which they are passed.
-use Rattle.std.proofs.Common.{◌≡◌, ◌≢◌, ⊎_elim, ℕ, zero, suc, ◌+◌, ◌<◌, ◌≤◌, true, false, not, ◌&&◌, eqb, leb, List, [], ◌∷◌, ◌++◌, drop, get_or, length, map, take, refl, sym, ap, ◌∙◌, subst, arith}
+use Rattle.std.proofs.Common.{◌≡◌, ◌≢◌, ⊎_elim, ℕ, zero, suc, ◌+◌, ◌<◌, ◌≤◌, true, false, List, [], ◌∷◌, ◌++◌, drop, get_or, length, map, take, refl, sym, ap, ◌∙◌, subst, arith}
 use Rattle.std.specs.Int.{w64, bit_at, trailing_zeros}
-use Rattle.std.proofs.lemmas.Bool.{and_from, and_parts, cases_Bool, cases_eq, cases_lt, eqb-true, le-leb, ne_eqb, not_from_false, or_right}
+use Rattle.std.proofs.lemmas.Bool.{and_parts, cases_Bool, cases_eq, cases_lt, eqb-true}
 use Rattle.std.proofs.Math.Seq.{take-length}
 use Rattle.std.proofs.lemmas.Nat.Bits.{bit_at-trailing_zeros}
 use Rattle.erm_model.specs.declared.history.VersionRead.{VersionRead}
@@ -42,6 +42,8 @@ use Rattle.erm_world.specs.World as world
 use Rattle.erm_core_view.specs.Views.{IsBetween, IsQuiet, stand_of, view_of, work_of}
 use Rattle.erm_core_steps.specs.Settles.{AreReaders, HasPassed, IsOwnedHead, IsPassing, IsWaiting, Stays, at_owner, at_reader}
 use Rattle.erm_core_steps.proofs.Weights.{word_from_bits}
+use Rattle.erm_core_steps.proofs.Owners.{below_unclear}
+use Rattle.erm_core_steps.proofs.Places.{sealed_drawn}
 
 -- the lists before and behind a place
 parted : {X Y : Type 0} (f : X → Y) (xs : List X) (k : ℕ) (d : X) → k < length xs → map f xs ≡ map f (take k xs) ++ f (get_or xs k d) ∷ map f (drop (suc k) xs)
@@ -76,16 +78,6 @@ one_stamp now o i j fits low high same =
     ⊎_elim (λ (e : i ≡ j). e) (λ (ne : i ≡ j → ⊥). absurd (let h = fits.ascend j i (omega (arith, le, ne)) low in omega (arith, h, same))) (cases_eq i j))
     (cases_lt i j)
 
--- a stamp that isn't clear for a bound lies below it
-low_stamp : (stamp bound : ℕ) → 1 < stamp → is_clear stamp bound ≡ false → stamp < bound
-low_stamp stamp bound more found =
-    ⊎_elim (λ (less : stamp < bound). less)
-    (λ (up : bound ≤ stamp).
-    let clear : is_clear stamp bound ≡ true = or_right (eqb stamp 0) (not (eqb stamp 1) && leb bound stamp)
-    (and_from (not (eqb stamp 1)) (leb bound stamp) (not_from_false (eqb stamp 1) (ne_eqb stamp 1 (λ e. absurd (omega (arith, e, more))))) (le-leb bound stamp up)) in
-    absurd (cc))
-    (cases_lt stamp bound)
-
 pub same_sealed : (u w : Work) (s t : ℕ) → world.sealed u s ≡ world.sealed w t → (u ≡ w) × (s ≡ t)
 same_sealed u w s t e = (cc, cc)
 
@@ -105,12 +97,8 @@ module _ (sessions : ℕ) (c : Core) (sound : Sound c) (quiet : IsQuiet sessions
   sealed_seat : (q seen : ℕ) (work : Work) → stand_of (c.seats q).place (c.seats q).current ≡ world.sealed work seen → SealedAt (c.seats q) work seen
   sealed_seat q seen work e = sealed_at (c.seats q) (c.seats q).place work seen refl (sound.own q).ranges.current e
 
-  drawn_at : (pl : Place) (t : Attempt) → is_sealed pl ≡ true → IsCurrent pl t → 0 < t.stamp
-  drawn_at (Sealed tail stamp) t e is = let at = is.stamp_is in let some = is.positive in omega (arith, at, some)
-  drawn_at _ t e is = absurd (cc)
-
   drawn : (q : ℕ) → is_sealed (c.seats q).place ≡ true → 0 < (c.seats q).current.stamp
-  drawn q e = drawn_at (c.seats q).place (c.seats q).current e (sound.own q).ranges.current
+  drawn q e = sealed_drawn (c.seats q).place (c.seats q).current e (sound.own q).ranges.current
 
   settles_at : (pl : Place) (t : Attempt) (u : Task) → is_sealed pl ≡ true → TaskFits pl t u → InSettle u
   settles_at (Sealed tail stamp) t u e f = f
@@ -278,7 +266,7 @@ module _ (sessions : ℕ) (c : Core) (sound : Sound c) (quiet : IsQuiet sessions
             session = session;
             another = another;
             stand = ap (λ (pl : Place). stand_of pl y.current) at;
-            below = low_stamp stamp x.current.stamp (omega (arith, own_stamp, high)) (subst (λ pl. is_clear (state_of pl) x.current.stamp ≡ false) at waits);
+            below = below_unclear stamp x.current.stamp (omega (arith, own_stamp, high)) (subst (λ pl. is_clear (state_of pl) x.current.stamp ≡ false) at waits);
           }
       is_below_at _ at e = absurd e
 

@@ -17,7 +17,7 @@ use Rattle.erm_machine.specs.declared.version.VersionAt.{VersionAt}
 use Rattle.erm_machine.specs.Core.{Core, Object, spot_of, word_at}
 use Rattle.erm_machine.specs.Life.{after_clear, noted}
 use Rattle.erm_machine.specs.Reading.{entered, head_version, load_active_stamp, load_cell, load_entry, load_walked_link, load_walked_stamp}
-use Rattle.erm_machine.specs.Seat.{is_active, is_sealed, is_vacant, may_start, same_version}
+use Rattle.erm_machine.specs.Seat.{is_active, is_sealed, may_start, same_version}
 use Rattle.erm_machine.specs.Settling.{load_stamp}
 use Rattle.erm_machine.specs.Sound.{Sound}
 use Rattle.erm_machine.specs.Step.{after_event, part_after}
@@ -27,90 +27,17 @@ use Rattle.erm_machine.proofs.QuietKinds.{moves}
 use Rattle.erm_machine.proofs.QuietKinds as machine
 use Rattle.erm_world.specs.World.{Session, View, Work}
 use Rattle.erm_world.specs.World as world
-use Rattle.erm_core.specs.declared.need.Need.{Need}
-use Rattle.erm_core.specs.declared.need.Need.TheVariants as need
-use Rattle.erm_core.specs.Rooms.{AddsNothing, IsOfNone, LeavesChain, LeavesNeed, ranges_in}
 use Rattle.erm_core_calls.proofs.GoesActive.{bound_at, g_cleared, g_overtaken, g_passed, g_registered, g_walks}
 use Rattle.erm_core_calls.proofs.Moving.{met, other_branch, stepped, taken}
-use Rattle.erm_core_view.specs.Steps.{IsCalm, MeetsOne, drawn_by, flushed_by}
 use Rattle.erm_core_view.specs.Views.{session_of, stand_of, view_of, work_of}
 use Rattle.erm_core_view.proofs.Moved.{calm_shows, own_after}
 use Rattle.erm_core_view.proofs.Shown.{stands_active, work_active}
 use Rattle.erm_core_steps.specs.Reads.{GoesOn, IsAtWork, IsLoad, finds, read_step, stage_of, steps_left}
-use Rattle.erm_core_steps.specs.Steps.{IsFree, IsTaken, IsUnpromised}
-use Rattle.erm_core_steps.proofs.Aborts.{part_stepped}
+use Rattle.erm_core_steps.specs.Steps.{IsTaken}
 use Rattle.erm_core_steps.proofs.Unseen.{unseen_both, unseen_none, unseen_step}
-
--- a load meets one word, doesn't show, and needs no room
-pub load_one : (k : Kind) → IsLoad k → MeetsOne k
-load_one (kind.LoadState other bound) loads = tt
-load_one (kind.LoadEntry oid) loads = tt
-load_one (kind.LoadCell v w) loads = tt
-load_one (kind.LoadStamp v w) loads = tt
-load_one _ loads = absurd loads
-
-load_calm : (k : Kind) → IsLoad k → IsCalm k
-load_calm (kind.LoadState other bound) loads = tt
-load_calm (kind.LoadEntry oid) loads = tt
-load_calm (kind.LoadCell v w) loads = tt
-load_calm (kind.LoadStamp v w) loads = tt
-load_calm _ loads = absurd loads
-
-load_ranges : (k : Kind) → IsLoad k → ranges_in k ≡ 0
-load_ranges (kind.LoadState other bound) loads = refl
-load_ranges (kind.LoadEntry oid) loads = refl
-load_ranges (kind.LoadCell v w) loads = refl
-load_ranges (kind.LoadStamp v w) loads = refl
-load_ranges _ loads = absurd loads
-
-load_none : (k : Kind) → IsLoad k → IsOfNone k
-load_none (kind.LoadState other bound) loads = tt
-load_none (kind.LoadEntry oid) loads = tt
-load_none (kind.LoadCell v w) loads = tt
-load_none (kind.LoadStamp v w) loads = tt
-load_none _ loads = absurd loads
-
-load_drawn : (k : Kind) → IsLoad k → drawn_by k ≡ 0
-load_drawn (kind.LoadState other bound) loads = refl
-load_drawn (kind.LoadEntry oid) loads = refl
-load_drawn (kind.LoadCell v w) loads = refl
-load_drawn (kind.LoadStamp v w) loads = refl
-load_drawn _ loads = absurd loads
-
-load_flushed : (k : Kind) (flushed : ℕ) → IsLoad k → flushed_by k flushed ≡ flushed
-load_flushed (kind.LoadState other bound) flushed loads = refl
-load_flushed (kind.LoadEntry oid) flushed loads = refl
-load_flushed (kind.LoadCell v w) flushed loads = refl
-load_flushed (kind.LoadStamp v w) flushed loads = refl
-load_flushed _ flushed loads = absurd loads
-
-pub load_adds : (k : Kind) → IsLoad k → AddsNothing k
-load_adds (kind.LoadState other bound) loads = tt
-load_adds (kind.LoadEntry oid) loads = tt
-load_adds (kind.LoadCell v w) loads = tt
-load_adds (kind.LoadStamp v w) loads = tt
-load_adds _ loads = absurd loads
-
-load_chain : (k : Kind) (oid : ℕ) → IsLoad k → LeavesChain k oid
-load_chain (kind.LoadState other bound) oid loads = record { versions = refl; cut = tt }
-load_chain (kind.LoadEntry n) oid loads = record { versions = refl; cut = tt }
-load_chain (kind.LoadCell v w) oid loads = record { versions = refl; cut = tt }
-load_chain (kind.LoadStamp v w) oid loads = record { versions = refl; cut = tt }
-load_chain _ oid loads = absurd loads
-
-pub load_leaves : (k : Kind) (n : Need) → IsLoad k → LeavesNeed k n
-load_leaves k (need.Claim oid) loads = load_chain k oid loads
-load_leaves k _ loads = tt
-
-load_unpromised : (k : Kind) → IsLoad k → IsUnpromised k
-load_unpromised (kind.LoadState other bound) loads = tt
-load_unpromised (kind.LoadEntry oid) loads = tt
-load_unpromised (kind.LoadCell v w) loads = tt
-load_unpromised (kind.LoadStamp v w) loads = tt
-load_unpromised _ loads = absurd loads
-
-pub load_free : (k : Kind) → IsLoad k → IsFree k
-load_free k loads = record { one = load_unpromised k loads; ranges = load_ranges k loads; none = load_none k loads }
+use Rattle.erm_core_turns.proofs.Turns.{part_stepped}
+use Rattle.erm_core_steps.proofs.Places.{active_at, active_unsealed, active_there}
+use Rattle.erm_core_steps.proofs.Loads.{loads}
 
 -- where a session shows a transaction that is active, it is
 active_stand : (pl : Place) (t : Attempt) (w : Work) → stand_of pl t ≡ world.active w → is_active pl ≡ true
@@ -121,24 +48,13 @@ pub active_kept : (x y : Part) → session_of y ≡ session_of x → is_active x
 active_kept x y same active =
     active_stand y.place y.current (work_of x.current) (ap (λ (s : Session). s.stand) same ∙ stands_active x.place x.current active)
 
-pub active_at : (pl : Place) → is_active pl ≡ true → (tail : ℕ) × (pl ≡ Active tail)
-active_at (Active tail) e = (tail, refl)
-active_at _ e = absurd (cc)
-
-active_unsealed : (pl : Place) → is_active pl ≡ true → is_sealed pl ≡ false
-active_unsealed (Active tail) e = refl
-active_unsealed _ e = absurd (cc)
-
-active_there : (pl : Place) → is_active pl ≡ true → is_vacant pl ≡ false
-active_there (Active tail) e = refl
-active_there _ e = absurd (cc)
-
 -- the seat goes on
 pub load_goes : (sessions seat : ℕ) (c d : Core) (k : Kind) → Sound c → IsAtWork seat c → IsLoad k → after_event c seat k ≡ Some d → GoesOn sessions seat c d
-load_goes sessions seat c d k sound at loads e =
-    let same = calm_shows seat c d k (load_calm k loads) e in
+load_goes sessions seat c d k sound at load e =
+    let l = loads k load in
+    let same = calm_shows seat c d k l.calm e in
     record {
-      unseen = unseen_step sessions seat c d k sound (load_one k loads) (load_drawn k loads) (load_flushed k c.shared.flushed loads) e same;
+      unseen = unseen_step sessions seat c d k sound l.one l.drawn (l.flushed c.shared.flushed) e same;
       at = record { session = at.session; active = active_kept (c.seats seat) (d.seats seat) same at.active };
     }
 

@@ -29,12 +29,13 @@ pub record GoesOn (sessions seat : ℕ) (c d : Core) : Type 0 where
   pub unseen : IsUnseen sessions seat c d
   pub at : IsAtWork seat d
 
--- loads of a read, and of a claim before its exchange
+-- loads of a read, of a claim before its exchange, and of a settle that passes versions
 abbrev pub IsLoad : Kind → Type 0
 IsLoad (kind.LoadState other bound) = Unit {0}
 IsLoad (kind.LoadEntry oid) = Unit {0}
 IsLoad (kind.LoadCell version w) = Unit {0}
 IsLoad (kind.LoadStamp version w) = Unit {0}
+IsLoad (kind.LoadReaders version) = Unit {0}
 IsLoad k = ⊥
 
 -- the part of a read: the way to a version of an object, the rating of the one that is registered, or neither

@@ -21,6 +21,21 @@ found_in (answer.Word word) = word
 found_in answer.Done = 0
 found_in answer.Failed = 0
 
+-- a load of a word
+abbrev pub LoadsWord : Kind → Type 0
+LoadsWord (kind.LoadTail purpose) = Unit {0}
+LoadsWord (kind.LoadBegin seat) = Unit {0}
+LoadsWord (kind.LoadState seat bound) = Unit {0}
+LoadsWord (kind.LoadEntry oid) = Unit {0}
+LoadsWord (kind.LoadCell version w) = Unit {0}
+LoadsWord (kind.LoadCounter counter) = Unit {0}
+LoadsWord (kind.LoadReaders version) = Unit {0}
+LoadsWord (kind.LoadStamp version w) = Unit {0}
+LoadsWord (kind.LoadRing at) = Unit {0}
+LoadsWord kind.LoadFlushed = Unit {0}
+LoadsWord (kind.LoadDetached version) = Unit {0}
+LoadsWord k = ⊥
+
 -- kinds that meet one word, and neither draw a range nor decide
 abbrev pub IsUnpromised : Kind → Type 0
 IsUnpromised (kind.Split other) = ⊥

@@ -41,6 +41,7 @@ use Rattle.erm_core_turns.proofs.LogIs.{Lists, More, behind_upto, gathered_behin
 use Rattle.erm_core_turns.proofs.Turns.{log_same, quiet_turn}
 use Rattle.erm_core_turns.proofs.Undecided.{one_undecided, sealed_is}
 use Rattle.erm_core_turns.proofs.Words.{Between, NoneAcross, are_later, ranges_between, ranges_words}
+use Rattle.erm_core_flush.proofs.Turns.{is_undecided}
 
 abbrev F : ℕ
 F = FLUSH_SEAT
@@ -59,15 +60,9 @@ pin_unsealed (Active tail) u t between pin cur drawn = let none = cur.stamp in a
 pin_unsealed (Sealed tail stamp) u t between pin cur drawn = pin
 pin_unsealed _ u t between pin cur drawn = absurd between
 
-vacant_unsealed : (pl : Place) (t : Attempt) → pl ≡ Vacant → IsCurrent pl t → 0 < t.stamp → ⊥
+pub vacant_unsealed : (pl : Place) (t : Attempt) → pl ≡ Vacant → IsCurrent pl t → 0 < t.stamp → ⊥
 vacant_unsealed Vacant t e cur drawn = let none = ap (λ (a : Attempt). a.stamp) cur in absurd (omega (arith, none, drawn))
 vacant_unsealed _ t e cur drawn = absurd (cc)
-
-is_undecided : (d : Decision) → (d ≢ Undecided → ⊥) → d ≡ Undecided
-is_undecided Undecided n = refl
-is_undecided Commit n = absurd (n (λ (e : Commit ≡ Undecided). cc))
-is_undecided Skip n = absurd (n (λ (e : Skip ≡ Undecided). cc))
-is_undecided Abort n = absurd (n (λ (e : Abort ≡ Undecided). cc))
 
 either_decided : (d : Decision) → (d ≡ Undecided) ⊎ (d ≢ Undecided)
 either_decided Undecided = inl refl

@@ -1,7 +1,7 @@
 -- A gather: its steps, and what they leave.
 use Rattle.std.proofs.Common.{◌≡◌, ◌≢◌, ℕ, ◌+◌, ◌<◌, ◌≤◌, ⊎_elim, Bool, true, false, not, List, [], ◌∷◌, ◌++◌, Some, refl, sym, ap, ◌∙◌, subst, inl, inr, arith}
 use Rattle.std.specs.Prelude.{if◌then◌else◌, nat_lt, ◌==◌, ◌⊎◌}
-use Rattle.std.proofs.lemmas.Bool.{and_from, cases_eq, cases_lt, eq-eqb, ltb-false, ltb-true, ne_eqb}
+use Rattle.std.proofs.lemmas.Bool.{and_from, cases_eq, cases_lt, eq-eqb, ltb-false, ltb-true, ne_eqb, cases_Bool}
 use Rattle.std.proofs.lemmas.Option.{same_Some}
 use Rattle.erm_machine.specs.declared.event.Kind.{Kind}
 use Rattle.erm_machine.specs.declared.event.Kind.TheVariants as kind
@@ -33,10 +33,6 @@ use Rattle.erm_core_turns.proofs.Turns.{flushes_both, flushes_none, one_after, p
 
 abbrev F : ℕ
 F = FLUSH_SEAT
-
-either_bool : (b : Bool) → (b ≡ true) ⊎ (b ≡ false)
-either_bool true = inl refl
-either_bool false = inr refl
 
 not_vacant : (pl : Place) → pl ≢ Vacant → is_vacant pl ≡ false
 not_vacant Vacant taken = absurd (taken refl)
@@ -232,7 +228,7 @@ module _ (from at : ℕ) (c : Core) (sound : Sound c) (g : IsGathering from at c
   may : (in_block (c.seats F).flushing ≡ false → at < c.shared.tail) → at < from + RING_WORDS → MayGather c.shared.tail from at g.end
   may on room =
       ⊎_elim (λ (yes : in_block (c.seats F).flushing ≡ true). inl (inside yes)) (λ (no : in_block (c.seats F).flushing ≡ false). inr (on no, room))
-      (either_bool (in_block (c.seats F).flushing))
+      (cases_Bool (in_block (c.seats F).flushing))
 
   pub loads : (in_block (c.seats F).flushing ≡ false → at < c.shared.tail) → at < from + RING_WORDS
       → GathersOn c c.shared.tail from g.block at g.end ⊎ GathersNoMore c at g.end

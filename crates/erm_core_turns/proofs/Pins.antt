@@ -1,6 +1,6 @@
 -- A pin: the steps of a begin, and its end.
-use Rattle.std.proofs.Common.{◌≡◌, ℕ, ◌≤◌, true, eqb, List, [], length, Option, Some, None, refl, sym, ap, ◌∙◌, subst, arith}
-use Rattle.std.specs.Prelude.{IsSome}
+use Rattle.std.proofs.Common.{◌≡◌, ℕ, ◌≤◌, true, eqb, List, [], length, Option, Some, None, refl, sym, ap, ◌∙◌, subst, arith, Bool}
+use Rattle.std.specs.Prelude.{IsSome, if◌then◌else◌}
 use Rattle.std.proofs.lemmas.Bool.{and_from, eq-eqb}
 use Rattle.erm_model.specs.declared.limits.TheConstants.{LAST_RUN}
 use Rattle.erm_machine.specs.declared.attempt.Attempt.{Attempt}
@@ -151,23 +151,16 @@ pin_done sessions b c d e quiet idle one two three =
 abbrev pub unpinned_part : Part → Part
 unpinned_part x = with_current blank (record x { place = Idle; task = task.Rest })
 
+pub end_starts : (u : Task) → may_start u ≡ true → end_of u ≡ Some (0, 0, 0, 0)
+end_starts (task.Ends raised ended step cleared) e = absurd (cc)
+end_starts (task.Copies word) e = absurd (cc)
+end_starts (task.Writes claim word) e = absurd (cc)
+end_starts u e = ap (λ (b : Bool). let o : Option (ℕ × ℕ × ℕ × ℕ) = if b then Some (0, 0, 0, 0) else None in o) e
+
 ended_none : (t : Task) (x : Attempt) → may_start t ≡ true → x.writes ≡ [] → x.reads ≡ [] → has_ended x (end_of t) ≡ true
 ended_none t x starts writes reads =
-    ap (λ (e : Option (ℕ × ℕ × ℕ × ℕ)). has_ended x e) (may_end t starts)
+    ap (λ (e : Option (ℕ × ℕ × ℕ × ℕ)). has_ended x e) (end_starts t starts)
     ∙ and_from (eqb 0 (length x.writes)) (eqb 0 (length x.reads)) (ap (λ (ws : List Claim). eqb 0 (length ws)) writes) (ap (λ (rs : List Read). eqb 0 (length rs)) reads)
-  where
-    may_end : (u : Task) → may_start u ≡ true → end_of u ≡ Some (0, 0, 0, 0)
-    may_end task.Rest e = refl
-    may_end (task.Owned oid owner) e = refl
-    may_end (task.Cleared oid) e = refl
-    may_end (task.Walks version head) e = refl
-    may_end (task.Passed version) e = refl
-    may_end (task.Found version stamp head) e = refl
-    may_end (task.Registered version) e = refl
-    may_end (task.Overtaken version overwriter) e = refl
-    may_end (task.Rated version) e = refl
-    may_end task.Numbers e = refl
-    may_end _ e = absurd (cc)
 
 pub unpin_steps : (c : Core) → (at : IsPinned (c.seats F)) → IsStill (c.seats F) → after_event c F (kind.StoreBegin 0) ≡ Some (stepped c F (kind.StoreBegin 0) (unpinned_part (c.seats F)))
 unpin_steps c at still =

@@ -19,6 +19,7 @@ use Rattle.erm_log_list.specs.LogOf.{AreBlocksIn, IsBlockIn, ranges_below, words
 use Rattle.erm_log_list.proofs.Ranges.{none_below, one_below, starts_from}
 use Rattle.erm_core_turns.specs.Turns.{blocks_in, ring_words}
 use Rattle.erm_core_turns.proofs.Blocks.{is_over}
+use Rattle.erm_core_log.proofs.Lists.{end_to_end_ascends}
 
 abbrev F : ℕ
 F = FLUSH_SEAT
@@ -140,7 +141,7 @@ module _ (sessions : ℕ) (c : Core) (sound : Sound c) (quiet : IsQuiet sessions
       ap (λ (k : ℕ). ring_words c.shared at k) none ∙ no_words c.shared at
   ranges_words at p n (r ∷ rs) (b ∷ bs) e within are low high count =
       let start = e.0 in
-      let most = ends_behind (at + r.size) p rs e.1 in
+      let most = end_to_end_ascends (at + r.size) p rs e.1 in
       let m : ℕ = p - (at + r.size) in
       let parts : n ≡ r.size + m = omega (arith, most, count) in
       let first : ring_words c.shared at r.size ≡ spelling b =
@@ -149,9 +150,5 @@ module _ (sessions : ℕ) (c : Core) (sound : Sound c) (quiet : IsQuiet sessions
       let rest = ranges_words (at + r.size) p m rs bs e.1 (λ s k. within s (∈-behind r rs s k)) are.1 (omega (arith, low)) high (omega (arith, most)) in
       ap (λ (k : ℕ). ring_words c.shared at k) parts ∙ words_add c.shared at r.size m ∙ ap (λ (ws : List ℕ). ws ++ ring_words c.shared (at + r.size) m) first
       ∙ ap (λ (ws : List ℕ). spelling b ++ ws) rest
-    where
-      ends_behind : (a z : ℕ) (ss : List Span) → EndToEnd a ss z → a ≤ z
-      ends_behind a z [] f = let is : a ≡ z = f in omega (arith, is)
-      ends_behind a z (s ∷ ss) f = let on = ends_behind (a + s.size) z ss f.1 in omega (arith, on)
   ranges_words at p n [] (b ∷ bs) e within are low high count = absurd are
   ranges_words at p n (r ∷ rs) [] e within are low high count = absurd are

@@ -16,7 +16,7 @@ use Rattle.erm_machine.specs.Step.{after_event, core_step, is_known, moved, part
 use Rattle.erm_machine.specs.Words.{put}
 use Rattle.erm_machine.proofs.Frames.{put_other, put_same}
 use Rattle.erm_world.specs.Calls.{Becomes}
-use Rattle.erm_world.specs.World.{Opening, Session, View}
+use Rattle.erm_world.specs.World.{GivenUp, Opening, Session, View}
 use Rattle.erm_core_view.specs.Steps.{MeetsOne}
 use Rattle.erm_core_view.specs.Views.{pin_of, session_of, view_of}
 
@@ -80,6 +80,7 @@ alone_shows sessions seat c y d s alone pin is = record {
   tail = ap (λ (shared : Shared). shared.tail) alone.shared;
   flushed = ap (λ (shared : Shared). shared.flushed) alone.shared;
   pinned = alone_pins sessions seat c y d alone pin;
+  given_up = refl;
 }
   where
     opening_from : ℕ → Shared → Opening
@@ -102,6 +103,7 @@ becomes_then v seat s t r u first second = record {
   tail = second.tail ∙ first.tail;
   flushed = second.flushed ∙ first.flushed;
   pinned = second.pinned ∙ first.pinned;
+  given_up = second.given_up ∙ first.given_up;
 }
 
 -- it still is what it was
@@ -112,16 +114,19 @@ becomes_same sessions seat c d e first second =
     (becomes_then (view_of sessions c) seat (session_of (c.seats seat)) (view_of sessions d) (session_of (d.seats seat)) (view_of sessions e) first second)
 
 -- a world whose session becomes what it was is the same
-same_fields : (o p : Opening) (s r : ℕ → Session) (tail end flushed synced : ℕ) (pin held : Option ℕ) → o ≡ p → s ≡ r → tail ≡ end → flushed ≡ synced → pin ≡ held
-    → ◌≡◌ {A = View} (record { opening = o; session = s; tail = tail; flushed = flushed; pinned = pin }) (record { opening = p; session = r; tail = end; flushed = synced; pinned = held })
-same_fields o p s r tail end flushed synced pin held a b c d e = cc
+same_fields : (o p : Opening) (s r : ℕ → Session) (tail end flushed synced : ℕ) (pin held : Option ℕ) (given up : ℕ → List GivenUp) → o ≡ p → s ≡ r → tail ≡ end → flushed ≡ synced
+    → pin ≡ held → given ≡ up
+    → ◌≡◌ {A = View} (record { opening = o; session = s; tail = tail; flushed = flushed; pinned = pin; given_up = given })
+    (record { opening = p; session = r; tail = end; flushed = synced; pinned = held; given_up = up })
+same_fields o p s r tail end flushed synced pin held given up a b c d e f = cc
 
 pub same_view : (v : View) (seat : ℕ) (t : View) → Becomes v seat (v.session seat) t → t ≡ v
 same_view v seat t becomes =
     let sessions : t.session ≡ v.session = fun_ext (λ q.
     ⊎_elim (λ (same : q ≡ seat). subst (λ (n : ℕ). t.session n ≡ v.session n) (sym same) becomes.own)
     (λ (other : q ≡ seat → ⊥). becomes.others q other) (cases_eq q seat)) in
-    same_fields t.opening v.opening t.session v.session t.tail v.tail t.flushed v.flushed t.pinned v.pinned becomes.opening sessions becomes.tail becomes.flushed becomes.pinned
+    same_fields t.opening v.opening t.session v.session t.tail v.tail t.flushed v.flushed t.pinned v.pinned t.given_up v.given_up becomes.opening sessions becomes.tail becomes.flushed becomes.pinned
+    becomes.given_up
 
 -- events behind others
 pub run_append : (es fs : List Event) (c : Core) → run_from c (es ++ fs) ≡ run_from (run_from c es) fs

@@ -22,11 +22,11 @@ use Rattle.erm_world.specs.World as world
 use Rattle.erm_core_view.specs.Views.{IsBetween, IsQuiet, stand_of, view_of}
 
 -- no claim is over where a call may start, and where settle may begin anew
-starts_with_all : (tail : ℕ) (u : Task) (writes : ℕ) → may_start u ≡ true → over_of (Active tail) u writes ≡ 0
+pub starts_with_all : (tail : ℕ) (u : Task) (writes : ℕ) → may_start u ≡ true → over_of (Active tail) u writes ≡ 0
 starts_with_all tail (task.Ends raised ended step cleared) writes e = absurd (cc)
 starts_with_all tail _ writes e = refl
 
-settles_with_all : (tail stamp : ℕ) (u : Task) (writes : ℕ) → may_settle u ≡ true → over_of (Sealed tail stamp) u writes ≡ 0
+pub settles_with_all : (tail stamp : ℕ) (u : Task) (writes : ℕ) → may_settle u ≡ true → over_of (Sealed tail stamp) u writes ≡ 0
 settles_with_all tail stamp (task.Ends raised ended step cleared) writes e = absurd (cc)
 settles_with_all tail stamp _ writes e = refl
 

@@ -39,7 +39,7 @@ pinned_uncommitted (Active tail) t pin current = ap is_commit current.decision
 pinned_uncommitted _ t pin current = absurd pin
 
 -- the commits of a list of transactions that are over
-one_more : (q : ℕ) (d : Decision) (t : Attempt) (rest : History) (kept : List Attempt) → rest ≡ map (record_of q) kept
+pub one_more : (q : ℕ) (d : Decision) (t : Attempt) (rest : History) (kept : List Attempt) → rest ≡ map (record_of q) kept
     → commit_of q (work_of t) (fate_of d t) ++ rest ≡ map (record_of q) (cond (is_commit d) (t ∷ kept) kept)
 one_more q Commit t rest kept e = ap (λ (h : History). record_of q t ∷ h) e
 one_more q Skip t rest kept e = e

@@ -35,7 +35,7 @@ use Rattle.erm_core_view.proofs.Moved.{calm_shows, end_shows, one_becomes}
 use Rattle.erm_core_view.proofs.Parts.{current_stands}
 
 -- an active seat isn't decided, and its transaction isn't
-not_decided : (place : Place) → is_active place ≡ true → is_decided place ≡ false
+pub not_decided : (place : Place) → is_active place ≡ true → is_decided place ≡ false
 not_decided (Active tail) e = refl
 not_decided _ e = absurd (cc)
 
@@ -44,7 +44,7 @@ undecided (Active tail) t e current = current.decision
 undecided _ t e current = absurd (cc)
 
 -- where an end may begin, no entry is released for want of a cell
-installs_by : (oid head : ℕ) (x : Part) (t : Task) (e : ℕ × ℕ × ℕ × ℕ) → end_of t ≡ Some e → install oid head x t ≡ install_claim oid head x (Some e)
+pub installs_by : (oid head : ℕ) (x : Part) (t : Task) (e : ℕ × ℕ × ℕ × ℕ) → end_of t ≡ Some e → install oid head x t ≡ install_claim oid head x (Some e)
 installs_by oid head x task.Refused e is = absurd (cc)
 installs_by oid head x t e is = ap (λ (o : Option (ℕ × ℕ × ℕ × ℕ)). install_claim oid head x o) is
 
@@ -118,7 +118,7 @@ module _ (sessions seat : ℕ) (c : Core) (sound : Sound c) (session : is_flushe
 
   pub nothing_ended : end_of (c.seats seat).task ≡ Some (0, 0, 0, 0) → Ending 0 0 c
   nothing_ended may = record {
-    shows = record { own = refl; others = λ q other. refl; opening = refl; tail = refl; flushed = refl; pinned = refl };
+    shows = record { own = refl; others = λ q other. refl; opening = refl; tail = refl; flushed = refl; pinned = refl; given_up = refl };
     place = refl;
     task = may;
     decision = undecided x.place x.current active (sound.own seat).ranges.current;

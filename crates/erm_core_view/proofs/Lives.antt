@@ -20,7 +20,7 @@ use Rattle.erm_core_view.specs.Views.{IsQuiet, finished_of, session_of, view_of,
 use Rattle.erm_core_view.proofs.Parts.{current_of, has_attempt, has_stamped}
 
 -- what keeps a law keeps it in the view
-lawful_work : (law : Law) (seat : ℕ) (t : Attempt) → IsLawfulRecord law (record_of seat t) → IsLawfulWork law (work_of t)
+pub lawful_work : (law : Law) (seat : ℕ) (t : Attempt) → IsLawfulRecord law (record_of seat t) → IsLawfulWork law (work_of t)
 lawful_work law seat t lawful = record {
   meets = λ rows fits. lawful.meets rows (record { meets = fits.meets; reads = fits.reads; claims = fits.claims; unreached = fits.unreached });
   reach = λ rows x fits. lawful.reach rows x (record { meets = fits.meets; reads = fits.reads; claims = fits.claims; unreached = fits.unreached });

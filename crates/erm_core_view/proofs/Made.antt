@@ -169,12 +169,12 @@ made_among (suc n) session seat x above within =
     (λ (before : seat ≡ suc n → ⊥). omega (arith, made_among n session seat x above (omega (arith, within, before)))) (cases_eq seat (suc n))
 
 -- a seat that has made something, where none is over and the current transaction made nothing
-none_made : (p : Part) (x : ℕ) → p.over ≡ [] → p.current.made ≡ [] → x ∈ made_of p → ⊥
+pub none_made : (p : Part) (x : ℕ) → p.over ≡ [] → p.current.made ≡ [] → x ∈ made_of p → ⊥
 none_made p x none unmade m =
     ⊎_elim (λ (past : x ∈ flat_map (λ (t : Attempt). t.made) p.over). none_in_nil x (subst (λ (ts : List Attempt). x ∈ flat_map (λ (t : Attempt). t.made) ts) none past))
     (λ (now : x ∈ p.current.made). none_in_nil x (subst (λ (ms : List ℕ). x ∈ ms) unmade now)) (∈-either (flat_map (λ (t : Attempt). t.made) p.over) p.current.made x m)
 
-vacant_made : (pl : Place) (t : Attempt) → pl ≡ Vacant → IsCurrent pl t → t.made ≡ []
+pub vacant_made : (pl : Place) (t : Attempt) → pl ≡ Vacant → IsCurrent pl t → t.made ≡ []
 vacant_made pl t at current = let none : t ≡ blank = subst (λ (q : Place). IsCurrent q t) at current in ap (λ (a : Attempt). a.made) none
 
 module _ (sessions : ℕ) (c : Core) (sound : Sound c) (quiet : IsQuiet sessions c) where

@@ -24,7 +24,7 @@ use Rattle.erm_core_view.specs.Views.{pin_of, session_of, view_of}
 use Rattle.erm_core_view.proofs.Calm.{calm_kind, install_same}
 
 -- kinds that meet one word
-meets_one : (k : Kind) → MeetsOne k → quiet.MeetsOne k
+pub meets_one : (k : Kind) → MeetsOne k → quiet.MeetsOne k
 meets_one (kind.Split other) one = one
 meets_one (kind.Join other) one = one
 meets_one _ one = tt
@@ -132,4 +132,5 @@ one_becomes sessions p c d k s plain has one none still e shows =
       tail = omega (arith, tail, none);
       flushed = changes.flushed ∙ still;
       pinned = changes.pinned (eqb-false p FLUSH_SEAT plain);
+      given_up = refl;
     }

@@ -65,7 +65,7 @@ pub record IsStamped (x : Part) (w : Work) (stamp : ℕ) : Type 0 where
   pub drawn : 0 < attempt.stamp
 
 -- one with a stamp is a commit or excluded
-fate_stamp : (d : Decision) (t : Attempt) (stamp : ℕ) → stamp_of (fate_of d t) ≡ Some stamp → (t.stamp ≡ stamp) × ((d ≡ Commit) ⊎ (d ≡ Skip))
+pub fate_stamp : (d : Decision) (t : Attempt) (stamp : ℕ) → stamp_of (fate_of d t) ≡ Some stamp → (t.stamp ≡ stamp) × ((d ≡ Commit) ⊎ (d ≡ Skip))
 fate_stamp Commit t stamp e = (same_Some t.stamp stamp e, inl refl)
 fate_stamp Skip t stamp e = (same_Some t.stamp stamp e, inr refl)
 fate_stamp Abort t stamp e = absurd (cc)

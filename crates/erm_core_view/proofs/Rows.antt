@@ -180,14 +180,14 @@ writes_rest seat place cell row c may words =
     record { place = ap (λ (y : Part). y.place) own; rests = ap (λ (y : Part). y.task) own }
 
 -- the claim of an object has this row now, and the others are as they were
-hit : (oid : ℕ) (row : List ℕ) (v : VersionWritten) → v.oid ≡ oid → with_row oid row v ≡ record v { row = row; is_set = true }
+pub hit : (oid : ℕ) (row : List ℕ) (v : VersionWritten) → v.oid ≡ oid → with_row oid row v ≡ record v { row = row; is_set = true }
 hit oid row v same =
     let is : eqb v.oid oid ≡ true = eq-eqb v.oid oid same in
     let one : cond (eqb v.oid oid) row v.row ≡ row = cond-true (eqb v.oid oid) row v.row is in
     let two : cond (eqb v.oid oid) true v.is_set ≡ true = cond-true (eqb v.oid oid) true v.is_set is in
     cc
 
-miss : (oid : ℕ) (row : List ℕ) (v : VersionWritten) → (v.oid ≡ oid → ⊥) → with_row oid row v ≡ v
+pub miss : (oid : ℕ) (row : List ℕ) (v : VersionWritten) → (v.oid ≡ oid → ⊥) → with_row oid row v ≡ v
 miss oid row v other =
     let is : eqb v.oid oid ≡ false = ne_eqb v.oid oid other in
     let one : cond (eqb v.oid oid) row v.row ≡ v.row = cond-false (eqb v.oid oid) row v.row is in

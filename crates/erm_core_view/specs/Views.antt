@@ -54,7 +54,7 @@ abbrev pub pin_of : Place → Attempt → Option ℕ
 pin_of (Active tail) t = Some t.begin
 pin_of p t = None
 
--- the state as a world of so many sessions
+-- the state as a world of so many sessions, of which none meets another's claim between two calls, so that none given up shows
 abbrev pub view_of : ℕ → Core → View
 view_of sessions c = record {
   opening = record {
@@ -70,6 +70,7 @@ view_of sessions c = record {
   tail = c.shared.tail;
   flushed = c.shared.flushed;
   pinned = pin_of (c.seats FLUSH_SEAT).place (c.seats FLUSH_SEAT).current;
+  given_up = λ q. [];
 }
 
 -- A session between two calls: without a transaction, active where a call may start, or sealed where settle may start anew.

@@ -17,7 +17,7 @@ use crate::opening::open;
 use crate::told::{Answers, Told};
 use erm_core::State;
 use erm_core_ready::ready;
-use erm_machine::Event;
+use erm_machine::{ANNOUNCERS, Event};
 use erm_model::Seat;
 use erm_seat::SeatState;
 use std::alloc::{AllocError, Global};
@@ -77,9 +77,11 @@ fn see(state: &State, words: &[&str]) -> Told {
 
 // What a seat keeps.
 fn look(state: &State, name: &str, number: u64) -> Told {
-    match state.seat(seat(number)) {
-        Some(x) => kept(x, name),
-        None => Told::Unknown,
+    let seat = seat(number);
+    if seat < ANNOUNCERS {
+        kept(state.seat(seat), name)
+    } else {
+        Told::Unknown
     }
 }
 

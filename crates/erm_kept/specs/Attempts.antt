@@ -17,6 +17,7 @@ attempt_of t = record {
   reads = t.reads.items;
   writes = t.writes.items;
   made = t.made.items;
+  given_up = t.given_up.numbers;
   header = t.header;
   block = t.block.items;
 }

@@ -9,6 +9,7 @@ ghost use Rattle.erm_kept.specs.Attempts.{attempt_of, IsEmpty, KeepsLists, Keeps
 ghost use Rattle.erm_kept.specs.Tasks.{stored};
 
 use crate::words::is_commit;
+use boxcar::tag::Tag;
 use erm_machine::{Claim, Decision, RING_WORDS, Read, Task, VersionAt};
 use erm_model::{COMMIT_KIND, Oid, ROW_WORDS, RUN_UNIT, SIZE_UNIT, SKIP_KIND, Stamp};
 use std::alloc::Global;
@@ -27,6 +28,8 @@ pub struct AttemptState {
     pub reads: Vec<Read>,
     pub writes: Vec<Claim>,
     pub made: Vec<Oid>,
+    /// The objects of claims that were given up: numbers for proofs alone, which take no memory.
+    pub given_up: Tag,
     pub header: u64,
     pub block: Vec<u64>,
 }
@@ -64,6 +67,7 @@ impl AttemptState {
             reads: Vec::new(alloc),
             writes: Vec::new(alloc),
             made: Vec::new(alloc),
+            given_up: Tag::empty(),
             header: 0,
             block: Vec::new(alloc),
         }
@@ -86,6 +90,7 @@ impl AttemptState {
         self.reads.clear();
         self.writes.clear();
         self.made.clear();
+        self.given_up = Tag::empty();
         self.header = 0;
         self.block.clear();
     }

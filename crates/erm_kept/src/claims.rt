@@ -1,14 +1,16 @@
 //! The claims of a transaction and their own cells.
-ghost use Rattle.std.specs.Prelude.{◌≡◌, slice_set};
+ghost use Rattle.std.specs.Prelude.{◌≡◌, ◌-◌, slice_set, vec_len};
 ghost use Rattle.erm_machine.specs.Core as core_specs;
 ghost use Rattle.erm_machine.specs.Reading as reading_specs;
 ghost use Rattle.erm_machine.specs.Seat as seat_specs;
 ghost use Rattle.erm_machine.specs.Settling as settling_specs;
 ghost use Rattle.erm_machine.specs.declared.version.CellWord.TheVariants.{Row};
-ghost use Rattle.erm_kept.specs.Attempts.{attempt_of, KeepsSize};
+ghost use Rattle.erm_kept.specs.Attempts.{attempt_of, KeepsLists, KeepsSize};
 
 use crate::AttemptState;
+use crate::given_up::WithNewest;
 use crate::words::put_word;
+use boxcar::tag::Tag;
 use erm_machine::{CellWord, Claim, OwnCell, VersionAt};
 use erm_model::ROW_WORDS;
 
@@ -87,6 +89,18 @@ impl AttemptState {
         ensures { result ≡ core_specs.claim_at (attempt_of self.now) (seat_specs.last_claim (attempt_of self.now)) }
     {
         self.claim_at(self.last_claim())
+    }
+
+    /// The newest claim is given up.
+    pub fn give_up(&mut self)
+        ensures after { attempt_of self.new ≡ settling_specs.without_newest (attempt_of self.old) }
+        ensures claims { vec_len self.new.writes ≡ vec_len self.old.writes - 1 }
+        ensures others { self.new ≡ record self.old { writes = self.new.writes; given_up = self.new.given_up } }
+        ensures lists { KeepsLists self.old self.new }
+    {
+        self.given_up = Tag::of::<AttemptState, WithNewest>(self);
+        let place = self.last_claim();
+        self.writes.truncate(place);
     }
 
     /// The newest claim gets this cell.

@@ -4,6 +4,7 @@
 
 mod attempt;
 mod claims;
+mod given_up;
 mod object;
 pub mod words;
 

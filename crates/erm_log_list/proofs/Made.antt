@@ -28,7 +28,7 @@ committed_made seat (t ∷ ts) x =
     (λ _. let one = sum_by-cons (λ (r : TransactionRecord). times_made r.made x) (record_of seat t) (map (record_of seat) kept) in omega (arith, one, both, rest))
     (λ _. omega (arith, both, rest))
 
-made_push : (ts : List Attempt) (t : Attempt) (x : ℕ)
+pub made_push : (ts : List Attempt) (t : Attempt) (x : ℕ)
     → times_made (flat_map (λ (u : Attempt). u.made) (ts ++ t ∷ [])) x ≡ times_made (flat_map (λ (u : Attempt). u.made) ts) x + times_made t.made x
 made_push [] t x = let both = times_both t.made [] x in omega (arith, both)
 made_push (u ∷ ts) t x =

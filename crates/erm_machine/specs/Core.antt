@@ -166,6 +166,7 @@ blank = record {
   reads = [];
   writes = [];
   made = [];
+  given_up = [];
   header = 0;
   block = [];
 }
@@ -184,6 +185,7 @@ begun number begin = record {
   reads = [];
   writes = [];
   made = [];
+  given_up = [];
   header = 0;
   block = [];
 }

@@ -185,13 +185,20 @@ abbrev pub install_claim : ℕ → ℕ → Part → Option (ℕ × ℕ × ℕ ×
 install_claim oid head x None = None
 install_claim oid head x (Some e) = if adds_version x then install_new oid head x e else release_old oid head x e
 
--- CLAIM: where there is no cell the entry is released again, and the claim is none
+-- the newest claim is none any more, and its object is noted
+abbrev pub without_newest : Attempt → Attempt
+without_newest t = record t {
+  writes = take (last_claim t) t.writes;
+  given_up = t.given_up ++ (claim_at t (last_claim t)).version.oid ∷ [];
+}
+
+-- CLAIM: where there is no cell the entry is released again, and the claim is given up
 abbrev pub unclaim : ℕ → ℕ → Part → Option Part
 unclaim oid head x =
     when
     (is_active x.place && nat_lt 0 (length x.current.writes) && (oid == (claim_at x.current (last_claim x.current)).version.oid)
     && (head == (claim_at x.current (last_claim x.current)).version.cell))
-    (record x { task = task.Rest; current = record x.current { writes = take (last_claim x.current) x.current.writes } })
+    (record x { task = task.Rest; current = without_newest x.current })
 
 abbrev pub install : ℕ → ℕ → Part → Task → Option Part
 install oid head x task.Refused = unclaim oid head x

@@ -72,6 +72,8 @@ pub struct Attempt {
     pub writes: LinkedList<Claim>,
     /// The objects that it made.
     pub made: LinkedList<Oid>,
+    /// The objects of claims that were given up for want of a cell, in order. No guard reads it.
+    pub given_up: LinkedList<Oid>,
     /// The header of its block of the log, or 0 before the decision.
     pub header: u64,
     /// The words of its block behind the header, as stored so far.

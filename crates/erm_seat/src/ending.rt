@@ -252,8 +252,7 @@ impl SeatState {
             return false;
         }
         self.task = Task::Rest;
-        let place = self.current.last_claim();
-        self.current.writes.truncate(place);
+        self.current.give_up();
         true
     }
 

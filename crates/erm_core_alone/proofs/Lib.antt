@@ -1,0 +1,3 @@
+pub mod Recalls
+pub mod Drawn
+pub mod Kept

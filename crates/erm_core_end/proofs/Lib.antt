@@ -1,0 +1,4 @@
+pub mod Counted
+pub mod Sealed
+pub mod Shown
+pub mod Excluded
