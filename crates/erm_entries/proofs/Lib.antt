@@ -3,7 +3,6 @@ pub mod Loads
 pub mod Owners
 pub mod Reaching
 pub mod Releases
-pub mod Sessions
 pub mod Spelled
 pub mod Stores
 pub mod Unclaims

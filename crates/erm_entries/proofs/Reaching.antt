@@ -31,7 +31,7 @@ use Rattle.erm_entries.proofs.Owners.{holder_is, leads}
 free_entered : (who oid entry : ℕ) (o : Object) → owner_of entry ≡ 0 → entered who oid entry o ≡ task.Walks (head_version oid entry o) (Some entry)
 free_entered who oid entry o none = choose (eqb (owner_of entry) 0) _ _ (eq-eqb _ _ none)
 
-owned_entered : (who oid entry owner : ℕ) (o : Object) → owner_of entry ≡ owner → owner ≢ 0 → owner ≢ who → entered who oid entry o ≡ task.Owned oid owner
+pub owned_entered : (who oid entry owner : ℕ) (o : Object) → owner_of entry ≡ owner → owner ≢ 0 → owner ≢ who → entered who oid entry o ≡ task.Owned oid owner
 owned_entered who oid entry owner o is some other =
     ap (λ (n : ℕ). if eqb n 0 then task.Walks (head_version oid entry o) (Some entry) else (if eqb n who then task.Claimed (head_version oid entry o) else task.Owned oid n)) is
     ∙ refuse (eqb owner 0) (task.Walks (head_version oid entry o) (Some entry)) (if eqb owner who then task.Claimed (head_version oid entry o) else task.Owned oid owner) (ne_eqb _ _ some)

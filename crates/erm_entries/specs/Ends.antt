@@ -1,13 +1,13 @@
 -- How claims end, and what that leaves of a pass's view.
-use Rattle.std.specs.Prelude.{◌≡◌, ℕ, ◌+◌, ◌<◌, true, false, ◌||◌, length, take, unwrap_or, IsSome}
+use Rattle.std.specs.Prelude.{◌≡◌, ℕ, ◌+◌, ◌<◌, true, false, ◌||◌, length, unwrap_or, IsSome}
 use Rattle.erm_cells.specs.Hands.{newest_claimed, ended_by, cleared_by}
 use Rattle.erm_machine.specs.declared.attempt.Claim.{Claim}
 use Rattle.erm_machine.specs.declared.part.Part.{Part}
 use Rattle.erm_machine.specs.declared.task.Task.TheVariants as task
 use Rattle.erm_machine.specs.declared.version.Version.{Version}
 use Rattle.erm_machine.specs.Core.{Core, newest, version_at, claim_at, own_words}
-use Rattle.erm_machine.specs.Seat.{with_task, is_active, is_decided, is_own, end_of, last_claim}
-use Rattle.erm_machine.specs.Settling.{adds_version, given_back, without_entry}
+use Rattle.erm_machine.specs.Seat.{with_task, is_active, is_decided, is_own, end_of}
+use Rattle.erm_machine.specs.Settling.{adds_version, given_back, without_entry, without_newest}
 use Rattle.erm_machine.specs.Words.{owner_of}
 use Rattle.erm_rule.specs.declared.view.View.{View}
 use Rattle.erm_rule.specs.Hands.{IsKnown}
@@ -29,9 +29,9 @@ pub record IsRefused (x : Part) (oid head : ℕ) : Type 0 where
   pub oid_is : (newest_claimed x).oid ≡ oid
   pub cell_is : (newest_claimed x).cell ≡ head
 
--- the part of a seat whose newest claim is none
+-- the part of a seat whose newest claim is given up
 abbrev pub unclaimed_part : Part → Part
-unclaimed_part x = record x { task = task.Rest; current = record x.current { writes = take (last_claim x.current) x.current.writes } }
+unclaimed_part x = record x { task = task.Rest; current = without_newest x.current }
 
 -- The newest claim was given up.
 pub record DidUnclaim (v : View) (who oid head : ℕ) (w : View) : Type 0 where

@@ -9,8 +9,6 @@ mod installing;
 mod laws;
 mod loading;
 mod releasing;
-#[cfg(test)]
-mod tests;
 
 pub use claiming::{claim, unclaim};
 pub use entries::Entry;

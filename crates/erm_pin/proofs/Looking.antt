@@ -23,7 +23,7 @@ use Rattle.erm_rule.specs.Views.{part_of, with_part}
 use Rattle.erm_rule.specs.Went.{IsLoadStep, Went}
 use Rattle.erm_rule.proofs.Parts.{none_there, with_part-again}
 use Rattle.erm_rule.proofs.Telling.{part_of-changed}
-use Rattle.erm_pin.specs.Pins.{HasLooked, IsFound, IsPinned}
+use Rattle.erm_pin.specs.Pins.{HasLooked, HasFound, IsPinned}
 use Rattle.erm_pin.specs.Rows.{IsRowOf}
 use Rattle.erm_pin.specs.Took.{TookRow}
 
@@ -70,8 +70,8 @@ module _ (v : View) (pinned : IsPinned v) (oid : ℕ) where
       pub found_active : is_active (part_of w F).place ≡ true
       found_active = ap (λ (z : Part). is_active z.place) y_is ∙ walks_active
 
-      pub found_there : IsFound (part_of w F).task
-      found_there = subst (λ (z : Part). IsFound z.task) (sym y_is) tt
+      pub found_there : HasFound (part_of w F).task
+      found_there = subst (λ (z : Part). HasFound z.task) (sym y_is) tt
 
       pub found_cell : (in_hand (part_of w F).task).cell ≡ cell
       found_cell = ap (λ (z : Part). (in_hand z.task).cell) y_is ∙ did.cell_is

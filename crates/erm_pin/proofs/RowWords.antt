@@ -28,19 +28,19 @@ use Rattle.erm_rule.specs.Steps.{Booked, Ready, Told}
 use Rattle.erm_rule.specs.Views.{IsView, part_in, part_of}
 use Rattle.erm_rule.proofs.Courses.{onward}
 use Rattle.erm_rule.proofs.Parts.{with_part-same}
-use Rattle.erm_pin.specs.Pins.{IsFound}
+use Rattle.erm_pin.specs.Pins.{HasFound}
 use Rattle.erm_pin.specs.Rows.{IsRowOf, row_of}
 
 abbrev F : ℕ
 F = FLUSH_SEAT
 
 -- the load of a word of the row leaves the part: the flush seat sets no bit
-word_loads : (k : ℕ) (x : Part) (t : Task) → is_active x.place ≡ true → IsFound t
+word_loads : (k : ℕ) (x : Part) (t : Task) → is_active x.place ≡ true → HasFound t
     → unless (reads_early F (word.Row k) t) (when (is_active x.place && (may_load_row (in_hand t) t || may_copy_row (in_hand t) x t)) x) ≡ Some x
 word_loads k x (task.Found version stamp head) active found = when_true _ x (both _ _ active (or_left _ _ (same_self version)))
 word_loads k x _ active found = absurd found
 
-found_named : (t : Task) → IsFound t → (s : Shared) → NamedInHand s t → IsNamed s (in_hand t)
+found_named : (t : Task) → HasFound t → (s : Shared) → NamedInHand s t → IsNamed s (in_hand t)
 found_named (task.Found version stamp head) found s named = named
 found_named _ found s named = absurd found
 
@@ -50,7 +50,7 @@ pub record RowLoop (b : Book) (k : ℕ) (row : List ℕ) (e : Book) : Type 0 whe
   pub size : length row ≡ 16
   pub front : (c : Core) → IsBookOf e c → take k row ≡ take k (row_of c (in_hand (part_of b.view F).task))
 
-module _ (b : Book) (active : is_active (part_of b.view F).place ≡ true) (known : IsKnown b.view) (found : IsFound (part_of b.view F).task) where
+module _ (b : Book) (active : is_active (part_of b.view F).place ≡ true) (known : IsKnown b.view) (found : HasFound (part_of b.view F).task) where
   abbrev x : Part
   x = part_of b.view F
 

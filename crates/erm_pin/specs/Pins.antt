@@ -45,6 +45,6 @@ pub record HasLooked (v w : View) : Type 0 where
   pub known : IsKnown w
 
 -- a version is found: its row may be loaded
-abbrev pub IsFound : Task → Type 0
-IsFound (task.Found version stamp head) = Unit {0}
-IsFound t = ⊥
+abbrev pub HasFound : Task → Type 0
+HasFound (task.Found version stamp head) = Unit {0}
+HasFound t = ⊥

@@ -2,7 +2,7 @@
 ghost use Rattle.std.specs.Prelude.{◌≡◌, true};
 ghost use Rattle.erm_machine.specs.Seat.{is_active};
 ghost use Rattle.erm_machine.specs.declared.limits.TheConstants.{FLUSH_SEAT};
-ghost use Rattle.erm_pin.specs.Pins.{IsFound};
+ghost use Rattle.erm_pin.specs.Pins.{HasFound};
 ghost use Rattle.erm_pin.specs.Rows.{IsRowOf};
 ghost use Rattle.erm_rule.specs.Books.{book};
 ghost use Rattle.erm_rule.specs.Hands.{IsKnown, in_hand};
@@ -21,7 +21,7 @@ pub fn load_pinned<L: RowLaw>(t: &Table<L>, p: &mut Pass, cell: u32) -> Row
     requires fits { Fits t.now.words.shared.table_id p.old }
     requires known { IsKnown (view p.old) }
     requires active { is_active (part_of (view p.old) FLUSH_SEAT).place ≡ true }
-    requires found { IsFound (part_of (view p.old) FLUSH_SEAT).task }
+    requires found { HasFound (part_of (view p.old) FLUSH_SEAT).task }
     requires cell { (in_hand (part_of (view p.old) FLUSH_SEAT).task).cell ≡ cell }
     ensures fits { Fits t.now.words.shared.table_id p.new }
     ensures same { view p.new ≡ view p.old }

@@ -6,7 +6,6 @@ pub mod Overwritten
 pub mod Looks
 pub mod Loops
 pub mod Starts
-pub mod Bare
 pub mod Causes
 pub mod Windows
 pub mod Skews

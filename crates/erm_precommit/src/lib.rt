@@ -7,8 +7,6 @@ mod laws;
 mod pre;
 mod reads;
 mod settling;
-#[cfg(test)]
-mod tests;
 mod writes;
 
 pub use answer::{Settled, Wait};

@@ -7,4 +7,3 @@ pub mod Seats
 pub mod Seen
 pub mod Settling
 pub mod Walked
-pub mod Players

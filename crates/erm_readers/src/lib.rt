@@ -7,8 +7,6 @@ mod ends;
 mod laws;
 mod reads;
 mod settles;
-#[cfg(test)]
-mod tests;
 mod walking;
 
 pub use ends::{mark_overwritten, raise, unregister};

@@ -5,3 +5,4 @@ pub mod Clearing
 pub mod Turning
 pub mod Took
 pub mod TookWords
+pub mod Between

@@ -47,15 +47,15 @@ pub record TookWords (law : Law) (tail from count : ℕ) (words : List ℕ) (b e
   pub loads : Took law FLUSH_SEAT (ring_steps from words count) began e
 
 -- There it stopped: at that end of the log, at the ring's, or at a header that was 0.
-abbrev pub TookStop : Law → (tail from count : ℕ) → Book → Book → Type 0
-TookStop law tail from count b e =
+abbrev pub TookGatherEnd : Law → (tail from count : ℕ) → Book → Book → Type 0
+TookGatherEnd law tail from count b e =
     (((tail ≤ from + count) ⊎ (count ≡ RING_WORDS)) × (e ≡ b)) ⊎ ((from + count < tail) × (count < RING_WORDS) × Booked law b FLUSH_SEAT (kind.LoadRing (from + count)) 0 e)
 
 pub record TookGathered (law : Law) (tail from count : ℕ) (words : List ℕ) (b e : Book) : Type 0 where
   pub few : count ≤ RING_WORDS
   pub gathered : Book
   pub loads : TookWords law tail from count words b gathered
-  pub stop : TookStop law tail from count gathered e
+  pub stop : TookGatherEnd law tail from count gathered e
 
 -- GATHER. Nothing was gathered where the log ended at the place flushed, or a header of 0 stood there.
 abbrev pub TookGather : Law → Gathered → List ℕ → Book → Book → Type 0

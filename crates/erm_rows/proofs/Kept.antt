@@ -33,6 +33,21 @@ kept_same t x y same is = record {
   pred = is.pred ∙ ap (λ (n : Attempt). n.pred) same;
 }
 
+-- it has nothing of what was given up
+pub kept_given : (t : Active) (x y : Part) (given : List ℕ) → record x.current { given_up = given } ≡ y.current → IsActive t x → IsActive t y
+kept_given t x y given same is =
+    kept_same t (record x { current = record x.current { given_up = given } }) y same
+    (record {
+      begin = is.begin;
+      number = is.number;
+      read_count = is.read_count;
+      reads = is.reads;
+      claim_count = is.claim_count;
+      claims = is.claims;
+      succ = is.succ;
+      pred = is.pred;
+    })
+
 -- once it is sealed
 pub seals : (t : Active) (x : Part) (stamp size : ℕ) → IsActive t x
     → IsPre (record { stamp = stamp; size = size; reads = t.reads; claims = t.claims; succ = least_with (Some stamp) t.succ; pred = t.pred }) (sealed_part size stamp x)

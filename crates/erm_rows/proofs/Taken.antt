@@ -1,7 +1,6 @@
 -- A claim's way to an object's entry: what stops it, and what taking the entry leaves.
-use Rattle.std.proofs.Common.{◌≡◌, ◌≢◌, ℕ, ◌<◌, ◌≤◌, true, ⊎_elim, inl, inr, Option, Some, List, length, refl, sym, ap, ◌∙◌, subst, eqb, ltb, arith}
-use Rattle.std.specs.Prelude.{if◌then◌else◌}
-use Rattle.std.proofs.lemmas.Bool.{lt-ltb, ne_eqb}
+use Rattle.std.proofs.Common.{◌≡◌, ◌≢◌, ℕ, ◌<◌, ◌≤◌, true, ⊎_elim, inl, inr, Option, Some, List, length, refl, sym, ap, ◌∙◌, subst, ltb, arith}
+use Rattle.std.proofs.lemmas.Bool.{lt-ltb}
 use Rattle.erm_model.specs.declared.row_stop.RowStop.{RowStop}
 use Rattle.erm_model.specs.declared.row_stop.RowStop.TheVariants as stop
 use Rattle.erm_machine.specs.declared.limits.TheConstants.{OBJECT_LIMIT, WRITE_LIMIT}
@@ -10,9 +9,7 @@ use Rattle.erm_machine.specs.declared.task.Task.{Task}
 use Rattle.erm_machine.specs.declared.task.Task.TheVariants as task
 use Rattle.erm_machine.specs.declared.version.VersionAt.{VersionAt}
 use Rattle.erm_machine.specs.Bounds.{IsOther}
-use Rattle.erm_machine.specs.Core.{Object}
 use Rattle.erm_machine.specs.Facts.{Holds}
-use Rattle.erm_machine.specs.Reading.{entered, head_version}
 use Rattle.erm_machine.specs.Seat.{is_active, with_task}
 use Rattle.erm_machine.specs.Words.{claimed, head_of, owner_of}
 use Rattle.erm_rule.specs.declared.view.View.{View}
@@ -22,20 +19,14 @@ use Rattle.erm_rule.proofs.Telling.{part_of-changed}
 use Rattle.erm_cells.specs.Calls.{DidEnter, DidTake, IsFoundHead, taken_part, walked}
 use Rattle.erm_cells.specs.Spare.{SpareIs}
 use Rattle.erm_cells.proofs.Heads.{has}
-use Rattle.erm_cells.proofs.Views.{choose, refuse}
+use Rattle.erm_cells.proofs.Views.{choose}
 use Rattle.erm_entries.specs.declared.entries.Entry.{Entry}
 use Rattle.erm_entries.specs.Spelling.{entry_of}
-use Rattle.erm_entries.proofs.Reaching.{is_other}
+use Rattle.erm_entries.proofs.Reaching.{is_other, owned_entered}
 use Rattle.erm_rows.specs.declared.active.Active.{Active}
 use Rattle.erm_rows.specs.Active.{IsActive}
 use Rattle.erm_rows.specs.Claims.{DidFindFree, DidMeetNewer, DidMeetOwner, DidMissHead, DidNotExchange, DidNotFind, DidNotTake, DidTakeEntry}
 use Rattle.erm_rows.proofs.Kept.{kept_same}
-
-owned_entered : (who oid entry owner : ℕ) (o : Object) → owner_of entry ≡ owner → owner ≢ 0 → owner ≢ who → entered who oid entry o ≡ task.Owned oid owner
-owned_entered who oid entry owner o is some other =
-    ap (λ (n : ℕ). if eqb n 0 then task.Walks (head_version oid entry o) (Some entry) else (if eqb n who then task.Claimed (head_version oid entry o) else task.Owned oid n)) is
-    ∙ refuse (eqb owner 0) (task.Walks (head_version oid entry o) (Some entry)) (if eqb owner who then task.Claimed (head_version oid entry o) else task.Owned oid owner) (ne_eqb _ _ some)
-    ∙ refuse (eqb owner who) (task.Claimed (head_version oid entry o)) (task.Owned oid owner) (ne_eqb _ _ other)
 
 same_version_found : (a b : VersionAt) (m n : ℕ) (h k : Option ℕ) → task.Found a m h ≡ task.Found b n k → a ≡ b
 same_version_found a b m n h k e = cc

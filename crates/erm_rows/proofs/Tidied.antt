@@ -1,5 +1,5 @@
 -- The chain of an object that the transaction has claimed: the seat owns the entry, and the transaction rests after the cut.
-use Rattle.std.proofs.Common.{◌≡◌, ◌≢◌, ℕ, ◌-◌, ◌<◌, ◌≤◌, Bool, true, false, ◌&&◌, List, length, Option, Some, None, is_none, refl, sym, ap, ◌∙◌, subst, eqb, ltb, leb, arith}
+use Rattle.std.proofs.Common.{◌≡◌, ◌≢◌, ℕ, ◌-◌, ◌<◌, Bool, true, false, ◌&&◌, List, length, Option, Some, None, is_none, refl, sym, ap, ◌∙◌, subst, eqb, ltb, leb, arith}
 use Rattle.std.specs.Prelude.{if◌then◌else◌}
 use Rattle.std.proofs.lemmas.Bool.{eq-eqb, ltb-true, ne_eqb}
 use Rattle.erm_model.proofs.Members.{∈-at}
@@ -12,7 +12,7 @@ use Rattle.erm_machine.specs.declared.task.Task.{Task}
 use Rattle.erm_machine.specs.declared.task.Task.TheVariants as task
 use Rattle.erm_machine.specs.declared.version.VersionAt.{VersionAt}
 use Rattle.erm_machine.specs.Claims.{OwnClaims, claims_over}
-use Rattle.erm_machine.specs.Core.{Core, Object, claim_at, no_claim}
+use Rattle.erm_machine.specs.Core.{Object, claim_at, no_claim}
 use Rattle.erm_machine.specs.Facts.{Holds, over_of}
 use Rattle.erm_machine.specs.Reading.{after_cut, entered, head_version}
 use Rattle.erm_machine.specs.Seat.{is_active, is_own, last_claim, with_task}

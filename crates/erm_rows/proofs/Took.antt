@@ -1,13 +1,11 @@
 -- The steps of a read and of a claim: why they stop, and by the classes that callers ask for.
-use Rattle.std.proofs.Common.{◌≡◌, ◌≢◌, ◌⊎◌, ◌<◌, ⊎_elim, ℕ, [], ◌∷◌, length, sym, ap, subst, inl, inr}
+use Rattle.std.proofs.Common.{◌≡◌, ◌⊎◌, ◌<◌, ⊎_elim, ℕ, [], ◌∷◌, length, sym, ap, subst, inl, inr}
 use Rattle.erm_model.specs.declared.row_stop.RowStop.{RowStop}
 use Rattle.erm_model.specs.declared.row_stop.RowStop.TheVariants as stop
 use Rattle.erm_model.specs.RowTransaction.{Law}
 use Rattle.erm_machine.specs.declared.event.Kind.TheVariants.{Claim, Install, LoadCell, LoadEntry, SetReader}
 use Rattle.erm_machine.specs.declared.limits.TheConstants.{ANNOUNCERS, WRITE_LIMIT}
 use Rattle.erm_machine.specs.declared.version.CellWord.TheVariants.{Stamp}
-use Rattle.erm_machine.specs.declared.version.VersionAt.{VersionAt}
-use Rattle.erm_machine.specs.Words.{owner_of}
 use Rattle.erm_rule.specs.declared.view.Book.{Book}
 use Rattle.erm_rule.specs.declared.view.View.{View}
 use Rattle.erm_rule.specs.Views.{part_of}
@@ -19,7 +17,7 @@ use Rattle.erm_entries.specs.declared.entries.Entry.{Entry}
 use Rattle.erm_entries.specs.Spelling.{entry_of}
 use Rattle.erm_entries.proofs.Took.{reach_loads, wait_loads}
 use Rattle.erm_rows.specs.Claims.{DidNotTake}
-use Rattle.erm_rows.specs.Took.{IsOwnedBy, TookClaim, TookCutChain, TookEntry, TookFree, TookHead, TookLack, TookMissed, TookNoCell, TookNoClaim, TookNoEntry, TookNotFree, TookNotRead, TookOther, TookRead, TookVersion}
+use Rattle.erm_rows.specs.Took.{TookClaim, TookCutChain, TookEntry, TookFree, TookHead, TookLack, TookMissed, TookNoCell, TookNoClaim, TookNoEntry, TookNotFree, TookNotRead, TookOther, TookRead, TookVersion}
 use Rattle.erm_entries.specs.Took.{TookWait}
 use Rattle.erm_entries.specs.declared.answer.SeatWait.{SeatWait}
 use Rattle.erm_rows.specs.Tidies.{TookTidy}

@@ -32,7 +32,7 @@ use Rattle.erm_rows.specs.declared.active.Active.{Active}
 use Rattle.erm_rows.specs.declared.claiming.Filled.{Filled}
 use Rattle.erm_rows.specs.Active.{AddsClaim, IsActive}
 use Rattle.erm_rows.specs.Claims.{claimed_part, filled_claim, filled_part, given_up_part, tidied_part, DidClaim, DidCutChain, DidFill, DidFindNoCell, DidLackCell, DidNotClaim, DidNotTake, DidTakeEntry, IsClaimedHead, TellsCount}
-use Rattle.erm_rows.proofs.Kept.{kept_same}
+use Rattle.erm_rows.proofs.Kept.{kept_given}
 
 -- an entry that isn't taken
 pub untaken : (v : View) (who oid : ℕ) (why : RowStop) (w : View) → DidNotTake v who oid why w → DidNotClaim v who oid why w
@@ -149,12 +149,18 @@ module _ (v : View) (who oid : ℕ) (active : is_active (part_of v who).place �
     -- there was no cell
     module _ (drawn : ℕ) (w : View) (none : DidFindNoCell b who oid head drawn w) where
       abbrev g : Part
-      g = given_up_part cut.found.tail cut.done.cut x
+      g = given_up_part oid cut.found.tail cut.done.cut x
+
+      -- what it gives up
+      abbrev gives : List Claim → Claim → Part
+      gives ws z = record g { current = record x.current { writes = ws; given_up = x.current.given_up ++ z.version.oid ∷ [] } }
 
       g_there : w ≡ with_part who g v
       g_there = none.view_is
           ∙ ap (λ (z : Part). with_part who (unclaimed_part z) b) d_is
-          ∙ ap (λ (ws : List Claim). with_part who (record g { current = record x.current { writes = ws } }) b) (last_left x.current.writes c)
+          ∙ ap (λ (ws : List Claim). with_part who (gives ws (claim_at d.current (last_claim d.current))) b) (last_left x.current.writes c)
+          ∙ ap (λ (z : Claim). with_part who (gives x.current.writes z) b) newest
+          ∙ ap (λ (n : ℕ). with_part who (record g { current = record x.current { given_up = x.current.given_up ++ n ∷ [] } }) b) took.oid_is
           ∙ ap (λ (s : View). with_part who g s) d_there
           ∙ with_part-again who d g v
 
@@ -162,7 +168,7 @@ module _ (v : View) (who oid : ℕ) (active : is_active (part_of v who).place �
       did_lack = record { head = head; taken = a; took = took; count = count; tidied = b; cut = cut; none = none; view_is = g_there }
 
       pub kept_lack : (txn : Active) → IsActive txn x → IsActive txn (part_of w who)
-      kept_lack txn is = subst (λ (z : Part). IsActive txn z) (sym (part_of-changed v who w g x (has v who active) g_there)) (kept_same txn x g refl is)
+      kept_lack txn is = subst (λ (z : Part). IsActive txn z) (sym (part_of-changed v who w g x (has v who active) g_there)) (kept_given txn x g (x.current.given_up ++ oid ∷ []) refl is)
 
     -- it has a cell
     module _ (filled : Filled) (w : View) (fill : DidFill b who filled w) where

@@ -187,9 +187,14 @@ pub record DidClaim (v : View) (who oid : ℕ) (row : List ℕ) (w : View) : Typ
       (claimed_part (filled_claim fill.own (new_claim took.version took.stamp took.base)) fill.spare cut.found.tail filled.readers (part_of v who)) v
   pub known : IsKnown w
 
--- the part of a seat whose claim was given up after the cut: its transaction is as before
-abbrev pub given_up_part : ℕ → List OwnCell → Part → Part
-given_up_part tail cut x = record x { task = task.Rest; spare = x.spare ++ cut; seen = tail }
+-- the part of a seat whose claim of this object was given up after the cut: its transaction is as before, but for that
+abbrev pub given_up_part : (oid tail : ℕ) → List OwnCell → Part → Part
+given_up_part oid tail cut x = record x {
+  task = task.Rest;
+  spare = x.spare ++ cut;
+  seen = tail;
+  current = record x.current { given_up = x.current.given_up ++ oid ∷ [] };
+}
 
 -- The entry was taken and the chain cut, but there was no cell, as so many were drawn, all that there are: the claim was given up.
 pub record DidLackCell (v : View) (who oid drawn : ℕ) (w : View) : Type 0 where
@@ -200,7 +205,7 @@ pub record DidLackCell (v : View) (who oid drawn : ℕ) (w : View) : Type 0 wher
   pub tidied : View
   pub cut : DidCutChain taken who count tidied
   pub none : DidFindNoCell tidied who oid head drawn w
-  pub view_is : w ≡ with_part who (given_up_part cut.found.tail cut.done.cut (part_of v who)) v
+  pub view_is : w ≡ with_part who (given_up_part oid cut.found.tail cut.done.cut (part_of v who)) v
 
 -- the object was claimed, and then the exclusion window known so far was closed
 pub record DidClaimExcluded (v : View) (who oid succ pred : ℕ) (w : View) : Type 0 where

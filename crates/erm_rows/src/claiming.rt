@@ -133,10 +133,7 @@ fn claim_object<L: RowLaw>(
     ensures took { IfOk result (λ claimed. TookClaim L.law who oid claimed.cut (book p.old) (book p.new)) }
     ensures took_none { IfErr result (λ stop. TookNoClaim L.law who oid stop (book p.old) (book p.new)) }
 {
-    let head = match take_entry(txn, t, p, who, oid) {
-        Ok(head) => head,
-        Err(why) => return Err(why),
-    };
+    let head = take_entry(txn, t, p, who, oid)?;
     let cut = cut_chain(t, p, who, head, spare);
     let filled = match fill_claim(t, p, who, oid, head, spare) {
         Ok(filled) => filled,
@@ -185,11 +182,9 @@ pub fn claim<L: RowLaw>(
     ensures took_none { IfErr result (λ stop. TookNoClaim L.law who oid stop (book p.old) (book p.new)) }
     ensures still { Went L.law who IsStillStep (book p.old) (book p.new) }
 {
-    match claim_object(txn, spare, t, p, who, oid) {
-        Err(why) => Err(why),
-        Ok(claimed) => match txn.closed_window() {
-            Some((succ, pred)) => Err(RowStop::Excluded { succ, pred }),
-            None => Ok(claimed),
-        },
+    let claimed = claim_object(txn, spare, t, p, who, oid)?;
+    match txn.closed_window() {
+        Some((succ, pred)) => Err(RowStop::Excluded { succ, pred }),
+        None => Ok(claimed),
     }
 }

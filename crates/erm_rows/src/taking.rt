@@ -131,12 +131,7 @@ pub fn take_entry<L: RowLaw>(
     if txn.claims.len() == WRITE_LIMIT {
         return Err(RowStop::WritesFull);
     }
-    let seen = match find_free(t, p, who, oid, txn.begin) {
-        Ok(seen) => seen,
-        Err(why) => return Err(why),
-    };
-    match exchange(t, p, who, oid, &seen, txn.number) {
-        Ok(()) => Ok(seen.head),
-        Err(why) => Err(why),
-    }
+    let seen = find_free(t, p, who, oid, txn.begin)?;
+    exchange(t, p, who, oid, &seen, txn.number)?;
+    Ok(seen.head)
 }

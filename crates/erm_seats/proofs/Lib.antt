@@ -1,6 +1,5 @@
 pub mod Beginning
 pub mod Looks
-pub mod Racing
 pub mod Sealing
 pub mod Stamps
 pub mod Took

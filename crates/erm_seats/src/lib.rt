@@ -4,8 +4,6 @@
 pub mod answer;
 mod life;
 mod looking;
-#[cfg(test)]
-mod tests;
 
 pub use life::{begin_steps, seal_steps};
 pub use looking::look;

@@ -110,14 +110,21 @@ pub with_rows : (s : Session) (x : Part) → IsKept s x → s.rows_read.items �
     → s.rows_claimed.items ≡ map (λ (w : Claim). w.row) x.current.writes → IsOpen s.stage x → IsSession s x
 with_rows s x is rows_read rows_claimed window = record { kept = is; rows_read = rows_read; rows_claimed = rows_claimed; window = window }
 
--- a session whose transaction is as before
-pub same_rows : (s new : Session) (x y : Part) → IsSession s x → phase_of s.stage ≡ phase.Active → IsKept new y → y.current ≡ x.current → new.rows_read.items ≡ s.rows_read.items
+-- a transaction is as before, but for what it gave up
+pub record SameWork (x y : Part) : Type 0 where
+  pub same : y.current ≡ record x.current { given_up = y.current.given_up }
+
+pub same_current : (x y : Part) → y.current ≡ x.current → SameWork x y
+same_current x y e = record { same = subst (λ (t : Attempt). t ≡ record x.current { given_up = t.given_up }) (sym e) refl }
+
+-- a session whose transaction is so
+pub same_rows : (s new : Session) (x y : Part) → IsSession s x → phase_of s.stage ≡ phase.Active → IsKept new y → SameWork x y → new.rows_read.items ≡ s.rows_read.items
     → new.rows_claimed.items ≡ s.rows_claimed.items → IsSession new y
-same_rows s new x y is active_is kept same rows_read rows_claimed = record {
+same_rows s new x y is active_is kept work rows_read rows_claimed = record {
   kept = kept;
-  window = open_still s.stage new.stage x y active_is is.window (ap (λ (n : Attempt). n.succ) same) (ap (λ (n : Attempt). n.pred) same);
-  rows_read = rows_read ∙ is.rows_read ∙ ap (λ (n : Attempt). map (λ (r : Read). r.row) n.reads) (sym same);
-  rows_claimed = rows_claimed ∙ is.rows_claimed ∙ ap (λ (n : Attempt). map (λ (w : Claim). w.row) n.writes) (sym same);
+  window = open_still s.stage new.stage x y active_is is.window (ap (λ (n : Attempt). n.succ) work.same) (ap (λ (n : Attempt). n.pred) work.same);
+  rows_read = rows_read ∙ is.rows_read ∙ ap (λ (n : Attempt). map (λ (r : Read). r.row) n.reads) (sym work.same);
+  rows_claimed = rows_claimed ∙ is.rows_claimed ∙ ap (λ (n : Attempt). map (λ (w : Claim). w.row) n.writes) (sym work.same);
 }
 
 -- a call was refused, and the transaction goes on or was aborted

@@ -5,6 +5,7 @@ pub mod Ending
 pub mod Goes
 pub mod Keeps
 pub mod Lasting
+pub mod Listed
 pub mod Looks
 pub mod Makes
 pub mod Players

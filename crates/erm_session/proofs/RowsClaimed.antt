@@ -24,7 +24,7 @@ use Rattle.erm_rule.specs.Hands.{IsKnown}
 use Rattle.erm_rule.specs.Views.{part_of, with_part}
 use Rattle.erm_rule.proofs.Telling.{changed_here, part_of-changed}
 use Rattle.erm_session.specs.Calls.{is_end, IsClaimedAt, IsUnclaimed, RefusesClaim}
-use Rattle.erm_session.proofs.Goes.{ends_where, goes_same, Goes}
+use Rattle.erm_session.proofs.Goes.{ends_where, goes_same, same_current, Goes, SameWork}
 use Rattle.erm_rows.specs.declared.claiming.Claimed.{Claimed}
 
 -- a call may start where a head's stamp is loaded
@@ -93,8 +93,8 @@ module _ (v : View) (who oid : ℕ) (active : is_active (part_of v who).place �
       subst (λ (z : Part). Goes x z) (sym (part_of-changed v who w (with_task t x) x (has v who active) is))
       (record { place = refl; starts = starts; number = refl; run = refl; current = refl })
 
-  lacks : (drawn : ℕ) (w : View) (did : DidLackCell v who oid drawn w) → part_of w who ≡ given_up_part did.cut.found.tail did.cut.done.cut x
-  lacks drawn w did = part_of-changed v who w (given_up_part did.cut.found.tail did.cut.done.cut x) x (has v who active) did.view_is
+  lacks : (drawn : ℕ) (w : View) (did : DidLackCell v who oid drawn w) → part_of w who ≡ given_up_part oid did.cut.found.tail did.cut.done.cut x
+  lacks drawn w did = part_of-changed v who w (given_up_part oid did.cut.found.tail did.cut.done.cut x) x (has v who active) did.view_is
 
   -- it is refused
   pub known_unclaimed : IsKnown v → (why : RowStop) (w : View) → DidNotClaim v who oid why w → IsKnown w
@@ -124,11 +124,11 @@ module _ (v : View) (who oid : ℕ) (active : is_active (part_of v who).place �
   goes_either starts (Ok claimed) w did stopped = goes_claimed claimed.row w did
   goes_either starts (Err why) w did stopped = goes_unclaimed starts why w stopped
 
-  pub same_unclaimed : (why : RowStop) (w : View) → DidNotClaim v who oid why w → is_end why ≡ false → (part_of w who).current ≡ x.current
-  same_unclaimed stop.WritesFull w did on = ap (λ (u : View). (part_of u who).current) did.1
+  pub same_unclaimed : (why : RowStop) (w : View) → DidNotClaim v who oid why w → is_end why ≡ false → SameWork x (part_of w who)
+  same_unclaimed stop.WritesFull w did on = same_current x (part_of w who) (ap (λ (u : View). (part_of u who).current) did.1)
   same_unclaimed (stop.Owned seat number) w did on = absurd (cc)
   same_unclaimed (stop.Newer stamp) w did on = absurd (cc)
-  same_unclaimed (stop.CellsFull drawn) w did on = ap (λ (z : Part). z.current) (lacks drawn w did)
+  same_unclaimed (stop.CellsFull drawn) w did on = subst (λ (z : Part). SameWork x z) (sym (lacks drawn w did)) (record { same = refl })
   same_unclaimed (stop.Excluded succ pred) w did on = absurd (cc)
   same_unclaimed _ w did on = absurd did
 

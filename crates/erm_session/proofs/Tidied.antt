@@ -22,7 +22,7 @@ use Rattle.erm_session.specs.declared.session.Stage.TheVariants as stage
 use Rattle.erm_session.specs.Calls.{ClaimsObject, IsUnclaimed, TidiesObject, now_claimed}
 use Rattle.erm_session.specs.Session.{IsSession, phase_of}
 use Rattle.erm_session.specs.Took.{TookAnyClaim, TookAnyTidy}
-use Rattle.erm_session.proofs.Goes.{active, goes_on, kept, same_rows, stage_goes, Goes}
+use Rattle.erm_session.proofs.Goes.{active, goes_on, kept, same_current, same_rows, stage_goes, Goes}
 
 module _ (s : Session) (v : View) (is : IsSession s (part_of v s.seat)) (t : Active) (at : s.stage ≡ stage.Active t) (count : ℕ) (w : View) (did : DidTidy v s.seat count w) where
   abbrev x : Part
@@ -42,7 +42,7 @@ module _ (s : Session) (v : View) (is : IsSession s (part_of v s.seat)) (t : Act
       let same = ap (λ (z : Part). z.current) y_is in
       same_rows s (record s { spare = spare }) x (part_of w s.seat) is on
       (goes_on s (record s { spare = spare }) x (part_of w s.seat) is.kept goes (stage_goes s x is.kept t at (part_of w s.seat) goes (kept_same t x (part_of w s.seat) (sym same) (kept s x is.kept t at))) spare_is refl refl refl
-      is.kept.room_read is.kept.room_claimed refl) same refl refl
+      is.kept.room_read is.kept.room_claimed refl) (same_current x (part_of w s.seat) same) refl refl
 
 -- where the object wasn't claimed it is now
 pub claims_too : (v : View) (who oid : ℕ) (w : View) → IsUnclaimed (part_of v who) oid → (r : Result ℕ RowStop) → OnOk r (ClaimsObject v who oid w) → IfOk r (λ cut. TidiesObject v who oid cut w)

@@ -11,6 +11,7 @@ ghost use Rattle.erm_rule.specs.Views.{view, part_of};
 ghost use Rattle.erm_session.specs.Calls.{SealsRows};
 ghost use Rattle.erm_session.specs.Session.{IsSession, phase_of};
 ghost use Rattle.erm_machine.specs.declared.attempt.Claim.{Claim};
+ghost use Rattle.erm_machine.specs.declared.part.Part.{Part};
 ghost use Rattle.erm_rule.specs.Books.{book};
 ghost use Rattle.erm_seats.specs.Took.{TookSeal};
 
@@ -37,6 +38,17 @@ fn block_size(rows: &[Row]) -> u64
 }
 
 impl Session {
+    /// How many words of the log the block of its sealed transaction takes.
+    pub fn size(&self) -> u64
+        requires sealed { phase_of self.now.stage ≡ Sealed }
+        ensures { (x : Part) → IsSession self.now x → result ≡ x.current.size }
+    {
+        let Stage::Sealed(txn) = &self.stage else {
+            unreachable!()
+        };
+        txn.size
+    }
+
     /// Seals the active transaction, which is lawful: its commit stamp, the place of the log, in words, where its block begins.
     pub fn seal<L: RowLaw>(&mut self, t: &Table<L>, p: &mut Pass) -> Stamp
         requires fits { Fits t.now.words.shared.table_id p.old }

@@ -126,10 +126,8 @@ impl Session {
         ensures took_none { IfErr result (λ stop. TookClaimStop L.law self.old.seat oid stop (book p.old) (book p.new)) }
         ensures still { Went L.law self.old.seat IsStillStep (book p.old) (book p.new) }
     {
-        match self.claim_at(t, p, oid) {
-            Ok((_, cut)) => Ok(cut),
-            Err(why) => Err(why),
-        }
+        let (_, cut) = self.claim_at(t, p, oid)?;
+        Ok(cut)
     }
 
     // Sets the row of the object claimed at a place.
@@ -180,10 +178,7 @@ impl Session {
         ensures took_none { IfErr result (λ stop. TookClaimStop L.law self.old.seat oid stop (book p.old) (book p.new)) }
         ensures still { Went L.law self.old.seat IsStillStep (book p.old) (book p.new) }
     {
-        let place = match self.claim_at(t, p, oid) {
-            Ok((place, _)) => place,
-            Err(why) => return Err(why),
-        };
+        let (place, _) = self.claim_at(t, p, oid)?;
         self.set_row(t, p, place, row);
         Ok(())
     }

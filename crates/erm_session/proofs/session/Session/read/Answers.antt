@@ -2,7 +2,7 @@ use Rattle.std.proofs.Common.{◌≤◌, refl, arith, sym, subst, inl, inr}
 use Rattle.erm_machine.specs.declared.limits.TheConstants.{READ_LIMIT}
 use Rattle.erm_rule.specs.Views.{part_of}
 use Rattle.erm_session.specs.Calls.{again, first, own, is_end}
-use Rattle.erm_session.proofs.Goes.{active, goes_on, kept, known_where, same_rows, starts, with_rows}
+use Rattle.erm_session.proofs.Goes.{active, goes_on, kept, known_where, same_current, same_rows, starts, with_rows}
 use Rattle.erm_session.proofs.RowsRead.{goes_read, goes_unread, known_unread, owner_met, refuses_read, room_read, rows_read, rows_stay, same_unread, spare_read, spare_unread}
 use Rattle.erm_session.proofs.Sought.{has_claimed, has_read_row, unclaimed, unread}
 use Rattle.erm_session.proofs.session.Session.read.Goals as goal
@@ -74,7 +74,7 @@ end_where-requires-clause-stands g c = λ goes.
     let x = part_of v s.seat in
     let is = c.requires.stands.kept in
     let on = active s x is c.in-Active.txn c.in-Active.is in
-    same_rows s _ x _ c.requires.stands c.requires.active (end_where-requires-clause-kept g c) (same_unread v s.seat c.args.oid on c.in-Err.why _ c.in-Err.ensures.refused goes) refl refl
+    same_rows s _ x _ c.requires.stands c.requires.active (end_where-requires-clause-kept g c) (same_current x _ (same_unread v s.seat c.args.oid on c.in-Err.why _ c.in-Err.ensures.refused goes)) refl refl
 
 pub returns-in-Ok-clause-stands : goal.returns-in-Ok-clause-stands
 returns-in-Ok-clause-stands g c =

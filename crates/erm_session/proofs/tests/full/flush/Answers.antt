@@ -1,5 +1,5 @@
 use Rattle.std.proofs.Common.{◌+◌, ◌^◌, ◌<◌, arith}
-use Rattle.erm_session.proofs.Turns.{clear_leaves, gathers_clears, gathers_leaves, gathers_low}
+use Rattle.erm_ring.proofs.Between.{clear_leaves, gathers_clears, gathers_leaves, gathers_low}
 use Rattle.erm_session.proofs.tests.full.flush.Goals as goal
 
 pub overflow_add-at : goal.overflow_add-at
