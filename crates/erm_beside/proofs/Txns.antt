@@ -10,7 +10,7 @@ use Rattle.erm_model.specs.Lawful.{times_made}
 use Rattle.erm_model.specs.RowTransaction.{Asked, Does, Event, Face, IsRefused, Law, SameView, Stays, Steps, StopsClaim, StopsMake, StopsRead, asked_claim, asked_make, asked_read}
 use Rattle.erm_model.specs.RowTransaction as rows
 use Rattle.erm_world.specs.Calls.{IsDone}
-use Rattle.erm_world.specs.Face.{Answered, Goes, Grows}
+use Rattle.erm_world.specs.Face.{Answered, Goes, Grows, same}
 use Rattle.erm_world.specs.Face as face
 use Rattle.erm_world.specs.Going.{Extends, found_by}
 use Rattle.erm_world.specs.Laws.{FitsWork}
@@ -20,7 +20,7 @@ use Rattle.erm_world.specs.World.{Session, Stand, View, Work, phase_at, phase_of
 use Rattle.erm_world.specs.World as world
 use Rattle.erm_world.proofs.Txns.{MayStop, Went, went}
 use Rattle.erm_world.proofs.Works.{Moves}
-use Rattle.erm_beside.specs.Calls.{After, NotClaimedBeside, NotMadeBeside, NotReadBeside, Passes, RefusedBeside}
+use Rattle.erm_beside.specs.Calls.{After, GivesUp, NotClaimedBeside, NotMadeBeside, NotReadBeside, Passes, RefusedBeside}
 use Rattle.erm_beside.specs.Ends.{MetBeside}
 use Rattle.erm_beside.specs.Face.{AnsweredAfter, GoesBeside, beside_face}
 use Rattle.erm_beside.specs.Laws.{GoesOnward, IsSound}
@@ -103,6 +103,20 @@ module _ (seat : ℕ) (may : RowStop → Type 0) (v u t : View) (passes : Passes
     stays = λ still. ap (λ (w : View). w.session seat) is ∙ passes.own;
   }
 
+  given : (why : RowStop) (oid : ℕ) → may why → rows.ends why ≡ false → GivesUp u seat oid t → Stopped seat may why v t
+  given why oid named stays gives =
+      let own : t.session seat ≡ u.session seat = ap (λ (w : View). w.session seat) gives.is in record {
+        named = named;
+        goes = record {
+          own = subst (λ (s : Session). Grows s (t.session seat)) passes.own (same own);
+          opening = ap (λ (w : View). w.opening) gives.is ∙ passes.opening;
+          tail = omega (arith, passes.tail, ap (λ (w : View). w.tail) gives.is);
+          flushed = omega (arith, passes.flushed, ap (λ (w : View). w.flushed) gives.is);
+        };
+        ended = λ ended. cc;
+        stays = λ still. own ∙ passes.own;
+      }
+
   out : (why : RowStop) (w : Work) → may why → rows.ends why ≡ true → phase_at u seat ≡ Active → Extends (work_at u seat) w → IsDone u seat w world.aborts t → Stopped seat may why v t
   out why w named ends active more done = record {
     named = named;
@@ -132,7 +146,7 @@ module _ (seat : ℕ) (v u t : View) (passes : Passes seat v u) (active : phase_
   stopped_claim oid (stop.Newer stamp) did =
       out seat StopsClaim v u t passes (stop.Newer stamp) (work_at u seat) tt refl active (same_work (work_at u seat)) did.1
   stopped_claim oid stop.WritesFull did = there seat StopsClaim v u t passes stop.WritesFull tt refl did.0
-  stopped_claim oid (stop.CellsFull drawn) did = there seat StopsClaim v u t passes (stop.CellsFull drawn) tt refl did.1
+  stopped_claim oid (stop.CellsFull drawn) did = given seat StopsClaim v u t passes (stop.CellsFull drawn) oid tt refl did.1
   stopped_claim oid (stop.OidsFull drawn) did = absurd did
   stopped_claim oid (stop.Excluded succ pred) (may, (c, at, done)) =
       out seat StopsClaim v u t passes (stop.Excluded succ pred) (claiming c (work_at u seat)) tt refl active (one_claimed_more c (work_at u seat)) done

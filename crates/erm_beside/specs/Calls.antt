@@ -1,6 +1,6 @@
 -- What the calls of a session do to its own part where other sessions run beside it. A session's own view is a world as far as the session
 -- knows it: of it only its own part counts, how the world was opened, and how far the log has come at least.
-use Rattle.std.specs.Prelude.{◌≡◌, ◌≢◌, ℕ, ◌+◌, ◌<◌, ◌≤◌, false, length}
+use Rattle.std.specs.Prelude.{◌≡◌, ◌≢◌, ℕ, ◌+◌, ◌<◌, ◌≤◌, ◌⊎◌, false, List, length}
 use Rattle.erm_model.specs.declared.history.VersionRead.{VersionRead}
 use Rattle.erm_model.specs.declared.history.VersionWritten.{VersionWritten}
 use Rattle.erm_model.specs.declared.limits.TheConstants.{LAST_NUMBER, OID_LIMIT, READ_LIMIT, STOP, WRITE_LIMIT}
@@ -8,13 +8,14 @@ use Rattle.erm_model.specs.declared.outcome.Outcome.{Outcome}
 use Rattle.erm_model.specs.declared.outcome.Outcome.TheVariants.{Committed, Excluded}
 use Rattle.erm_model.specs.declared.row_stop.RowStop.{RowStop}
 use Rattle.erm_model.specs.declared.row_stop.RowStop.TheVariants as stop
+use Rattle.erm_model.specs.Member.{◌∈◌}
 use Rattle.erm_model.specs.RowTransaction.{Asked, asked_claim, asked_make, asked_read}
 use Rattle.erm_world.specs.declared.stops.BeginStop.{BeginStop}
 use Rattle.erm_world.specs.declared.stops.BeginStop.TheVariants as begin
 use Rattle.erm_world.specs.declared.stops.Wait.{Wait}
 use Rattle.erm_world.specs.declared.stops.Wait.TheVariants as wait
 use Rattle.erm_world.specs.Calls.{IsDone, IsJustAbove, IsNew, IsRingFull, MayClaim, Works}
-use Rattle.erm_world.specs.World.{IsSession, View, Work, begun, size_of, work_at}
+use Rattle.erm_world.specs.World.{GivenUp, IsSession, View, Work, begun, size_of, work_at}
 use Rattle.erm_world.specs.World as world
 use Rattle.erm_world.specs.Works.{claiming, is_claimed, reading}
 
@@ -24,6 +25,7 @@ pub record Passes (seat : ℕ) (v u : View) : Type 0 where
   pub opening : u.opening ≡ v.opening
   pub tail : v.tail ≤ u.tail
   pub flushed : v.flushed ≤ u.flushed
+  pub given_up : u.given_up seat ≡ v.given_up seat
 
 -- others went on, and then the session did this
 abbrev pub After : ℕ → (View → View → Type 0) → View → View → Type 0
@@ -59,12 +61,18 @@ NotReadBeside seat oid stop.WritesFull v t = ⊥
 NotReadBeside seat oid (stop.CellsFull drawn) v t = ⊥
 NotReadBeside seat oid (stop.OidsFull drawn) v t = ⊥
 
+-- There was no cell, so that the claim was given up: another session may have met it meanwhile. Nothing else changes.
+pub record GivesUp (v : View) (seat oid : ℕ) (t : View) : Type 0 where
+  pub given : ℕ → List GivenUp
+  pub is : t ≡ record v { given_up = given }
+  pub only : (x : GivenUp) → x ∈ given seat → (x ∈ v.given_up seat) ⊎ (x ≡ record { number = (work_at v seat).number; oid = oid })
+
 -- CLAIM. The own part of a claim, or of a write of an object that isn't claimed, that was refused.
 abbrev pub NotClaimedBeside : ℕ → ℕ → RowStop → View → View → Type 0
 NotClaimedBeside seat oid stop.WritesFull v t = (t ≡ v) × (is_claimed (work_at v seat).claims oid ≡ false) × (length (work_at v seat).claims ≡ WRITE_LIMIT)
 NotClaimedBeside seat oid (stop.Owned other number) v t = MayClaim (work_at v seat) oid × IsDone v seat (work_at v seat) world.aborts t
 NotClaimedBeside seat oid (stop.Newer stamp) v t = MayClaim (work_at v seat) oid × IsDone v seat (work_at v seat) world.aborts t
-NotClaimedBeside seat oid (stop.CellsFull drawn) v t = MayClaim (work_at v seat) oid × (t ≡ v)
+NotClaimedBeside seat oid (stop.CellsFull drawn) v t = MayClaim (work_at v seat) oid × GivesUp v seat oid t
 NotClaimedBeside seat oid (stop.Excluded succ pred) v t = MayClaim (work_at v seat) oid
     × ((c : VersionWritten) × (c.oid ≡ oid) × IsDone v seat (claiming c (work_at v seat)) world.aborts t)
 NotClaimedBeside seat oid stop.Memory v t = (t ≡ v) × (is_claimed (work_at v seat).claims oid ≡ false)

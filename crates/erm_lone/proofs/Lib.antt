@@ -1,3 +1,4 @@
+pub mod Leaves
 pub mod Later
 pub mod Meets
 pub mod Moves

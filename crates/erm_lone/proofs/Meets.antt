@@ -55,16 +55,16 @@ module _ (tells : (u : View) → TellsCommits u) (v f : View) (later : IsLaterWo
           (u, inl (record { work = u; fate = fate }, subst (λ (fs : List Finished). record { work = u; fate = fate } ∈ fs) (sym (later.session q).over) (∈-after (v.session q).over (later.session q).more (record { work = u; fate = fate }) m), refl), goes)
       from (u, goes, inr at) = (u, inr at, goes)
 
-  pub owned_later : (law : Law) (seat oid other number place : ℕ) → IsSerializable law v → v.tail ≤ place → IsOwned v seat oid other number → WasOwned f seat oid other number place
-  owned_later law seat oid other number place lawful up owned =
+  pub owned_later : (law : Law) (seat oid other number own place : ℕ) → IsSerializable law v → v.tail ≤ place → IsOwned v seat oid other number → WasOwned f seat oid other number own place
+  owned_later law seat oid other number own place lawful up owned =
       let (u, has, goes) = has_later other owned.work owned.current in record {
         session = still_session other owned.session;
         another = owned.another;
         work = u;
         has = has;
         number_is = goes.number ∙ owned.number_is;
-        claims = claimed_still owned.work u oid goes owned.claims;
-        begun = omega (arith, goes.begin, (lawful.begins other owned.work owned.session (inr owned.current)).1, up);
+        tried = inl (claimed_still owned.work u oid goes owned.claims);
+        begun = inl (omega (arith, goes.begin, (lawful.begins other owned.work owned.session (inr owned.current)).1, up));
       }
 
   -- what is committed stays so
@@ -145,7 +145,7 @@ module _ (tells : (u : View) → TellsCommits u) (law : Law) (v t f : View) (sea
   met_claim : (oid : ℕ) (why : RowStop) → WasRefused v seat (asked_claim oid) why t → MetBeside f seat (asked_claim oid) why v t
   met_claim oid (stop.NotYet other seen) did = tt
   met_claim oid stop.ReadsFull did = tt
-  met_claim oid (stop.Owned other number) did = owned_later tells v f later law seat oid other number t.tail lawful (omega (arith, did.1.tail)) did.2
+  met_claim oid (stop.Owned other number) did = owned_later tells v f later law seat oid other number (work_at v seat).number t.tail lawful (omega (arith, did.1.tail)) did.2
   met_claim oid (stop.Newer stamp) did =
       let newer = newer_later tells v f later law seat oid stamp lawful did.3 in (newer.0, omega (arith, newer.1, did.1.tail))
   met_claim oid stop.WritesFull did = tt

@@ -1,5 +1,5 @@
 -- A call of a world, as one of a session beside others.
-use Rattle.std.proofs.Common.{◌≡◌, ℕ, ◌<◌, ◌≢◌, ◌+◌, length, refl, sym, subst, inr, arith, Result, Ok, Err, IfOk, IfErr, OnOk}
+use Rattle.std.proofs.Common.{◌≡◌, ℕ, ◌<◌, ◌+◌, length, refl, sym, subst, inl, inr, arith, Result, Ok, Err, IfOk, IfErr, OnOk}
 use Rattle.erm_model.specs.declared.outcome.Outcome.{Outcome}
 use Rattle.erm_model.specs.declared.outcome.Outcome.TheVariants.{Committed, Excluded}
 use Rattle.erm_model.specs.declared.outcome.Phase.TheVariants.{Active, Idle}
@@ -24,7 +24,7 @@ use Rattle.erm_lone.proofs.Later.{ends_onward, world_aborts, world_begins, world
 
 -- nothing happened between
 pub rests : (seat : ℕ) (v : View) → Passes seat v v
-rests seat v = record { own = refl; opening = refl; tail = omega arith; flushed = omega arith }
+rests seat v = record { own = refl; opening = refl; tail = omega arith; flushed = omega arith; given_up = refl }
 
 pub at_once : (seat : ℕ) (Did : View → View → Type 0) (v t : View) → Did v t → After seat Did v t
 at_once seat Did v t did = (v, rests seat v, did)
@@ -102,7 +102,7 @@ module _ (law : Law) (v : View) (lawful : IsSerializable law v) where
   claim_err t seat oid stop.WritesFull did = did
   claim_err t seat oid (stop.Owned other number) did = (did.0, did.1)
   claim_err t seat oid (stop.Newer stamp) did = (did.0, did.1)
-  claim_err t seat oid (stop.CellsFull drawn) did = (did.0, did.1)
+  claim_err t seat oid (stop.CellsFull drawn) did = (did.0, record { given = v.given_up; is = did.1; only = λ x m. inl m })
   claim_err t seat oid (stop.Excluded succ pred) (may, unowned, current, (c, at, done, shut)) = (may, (c, at, done))
   claim_err t seat oid stop.Memory did = did
   claim_err t seat oid (stop.NotYet other seen) did = did

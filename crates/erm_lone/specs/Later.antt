@@ -1,8 +1,8 @@
 -- A world after calls of its sessions: in which worlds its sessions may end.
-use Rattle.std.specs.Prelude.{◌≡◌, ℕ, ◌≤◌}
+use Rattle.std.specs.Prelude.{◌≡◌, ◌≢◌, ℕ, ◌≤◌, List}
 use Rattle.erm_model.specs.RowTransaction.{Law}
 use Rattle.erm_world.specs.Laws.{IsSerializable}
-use Rattle.erm_world.specs.World.{IsSession, View}
+use Rattle.erm_world.specs.World.{GivenUp, IsSession, Session, View}
 use Rattle.erm_beside.specs.Later.{IsLater}
 
 -- the world was opened so, its log has come as far at least, and each session is in a later state
@@ -15,3 +15,7 @@ pub record IsLaterWorld (v f : View) : Type 0 where
 -- as far as a session of this seat knows, all may end in a later state of its world, whose transactions are serializable
 abbrev pub EndsIn : Law → View → ℕ → View → Type 0
 EndsIn law v seat f = IsSession v seat × IsLaterWorld v f × IsSerializable law f
+
+-- the sessions of a world but the one of this seat stand so, and have given these claims up
+abbrev pub OthersStand : (ℕ → Session × List GivenUp) → View → ℕ → Type 0
+OthersStand standing v seat = (q : ℕ) → q ≢ seat → (v.session q ≡ (standing q).0) × (v.given_up q ≡ (standing q).1)

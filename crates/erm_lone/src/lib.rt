@@ -3,6 +3,8 @@
 
 mod laws;
 mod lone;
+mod others;
 
 pub use laws::worlds_may_end_as_they_stand;
 pub use lone::LoneSession;
+pub use others::Others;

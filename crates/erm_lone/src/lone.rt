@@ -1,32 +1,35 @@
 //! A session of a world that nobody else calls meanwhile.
 ghost use Rattle.erm_world.specs.World.{IsSession};
-ghost use Rattle.erm_lone.specs.Later.{EndsIn};
+ghost use Rattle.erm_lone.specs.Later.{EndsIn, OthersStand};
 ghost use Rattle.erm_lone.specs.Within.{ends_itself, is_sound, is_within};
 
+use crate::Others;
 use erm_beside::SharedSession;
 use erm_model::{Oid, Outcome, Phase, Receipt, Row, RowStop, Seat, Stamp};
 use erm_world::{BeginStop, NotFlushed, RowWorld, Wait};
+use std::marker::PhantomData;
 
-/// A world and the seat of one of its sessions. It shares nothing besides, so that the others may go on between its calls only where the world
-/// is handed to them.
+/// A world and the seat of one of its sessions. It has the world alone, so that the others may go on between its calls only where the world
+/// is handed on to them: while it is called they stand as they stood.
 #[derive(Drop)]
-pub struct LoneSession<'a, W> {
-    pub world: &'a mut W,
+pub struct LoneSession<W, O> {
+    pub world: W,
     pub seat: Seat,
+    pub others: PhantomData<O>,
 }
 
-impl<'a, W: RowWorld> SharedSession for LoneSession<'a, W> {
+impl<W: RowWorld, O: Others> SharedSession for LoneSession<W, O> {
     type Shared = ();
 
     ghost law = { W.law };
 
-    ghost own = { λ s. W.view s.world.now };
+    ghost own = { λ s. W.view s.world };
 
     ghost seat = { λ s. s.seat };
 
-    ghost stands = { λ shared s. W.stands s.world.now × IsSession (W.view s.world.now) s.seat };
+    ghost stands = { λ shared s. W.stands s.world × IsSession (W.view s.world) s.seat × OthersStand O.standing (W.view s.world) s.seat };
 
-    ghost ends = { λ s f. EndsIn W.law (W.view s.world.now) s.seat f };
+    ghost ends = { λ s f. EndsIn W.law (W.view s.world) s.seat f };
 
     fn begin(&mut self, _shared: &()) -> Result<Stamp, BeginStop> {
         self.world.begin(self.seat)
@@ -72,11 +75,11 @@ impl<'a, W: RowWorld> SharedSession for LoneSession<'a, W> {
         self.world.abort(self.seat)
     }
 
-    ghost sound = { λ shared s standing. is_sound W.law (W.view s.world.now) s.seat standing.1 (W.serializable s.world.now standing.0) (W.possible s.world.now standing.0) };
+    ghost sound = { λ shared s standing. is_sound W.law (W.view s.world) s.seat standing.1 (W.serializable s.world standing.0) (W.possible s.world standing.0) };
 
-    ghost within = { λ s f end. is_within W.law (W.view s.world.now) s.seat f end };
+    ghost within = { λ s f end. is_within W.law (W.view s.world) s.seat f end };
 
-    ghost some = { λ shared s standing. (W.view s.world.now, ends_itself W.law (W.view s.world.now) s.seat standing.1 (W.serializable s.world.now standing.0)) };
+    ghost some = { λ shared s standing. (W.view s.world, ends_itself W.law (W.view s.world) s.seat standing.1 (W.serializable s.world standing.0)) };
 
     ghost lasting = { λ s f end. end.2 };
 }

@@ -47,6 +47,7 @@ becomes m then_over stand s is = record {
   tail = refl;
   flushed = refl;
   pinned = refl;
+  given_up = refl;
 }
 
 works : (m : Map) (w u : Work) → Works (map_view (record m { stand = world.active w })) 1 u (map_view (record m { stand = world.active u }))
@@ -202,6 +203,7 @@ claim_works v seat oid t active (calls.before is claimed) = (
     tail = ap (λ (x : View). x.tail) is;
     flushed = ap (λ (x : View). x.flushed) is;
     pinned = ap (λ (x : View). x.pinned) is;
+    given_up = ap (λ (x : View). x.given_up) is;
   },
 )
 claim_works v seat oid t active (calls.now stamp base none few free newest now) =
@@ -228,6 +230,7 @@ write_after v seat oid row b t u active claim set is =
         tail = set.tail ∙ first.tail;
         flushed = set.flushed ∙ first.flushed;
         pinned = set.pinned ∙ first.pinned;
+        given_up = set.given_up ∙ first.given_up;
       };
     }
 

@@ -42,6 +42,7 @@ map_view m = record {
   tail = m.tail;
   flushed = m.start;
   pinned = None;
+  given_up = λ q. [];
 }
 
 -- a world of one session that was just opened on these rows, whose log begins at this place, and which makes objects from this one on

@@ -3,8 +3,6 @@
 #![tactic(auto)]
 
 mod map_world;
-#[cfg(test)]
-mod tests;
 mod works;
 
 pub use map_world::MapWorld;

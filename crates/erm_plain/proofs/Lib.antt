@@ -1,4 +1,3 @@
 pub mod GatherCall
-pub mod Lasting
 pub mod Room
 pub mod Turned

@@ -20,10 +20,7 @@ impl<L: RowLaw> Plain<L> {
         requires session { is_session seat ≡ true }
         ensures { result ≡ ((core_of self.now.state).seats seat).number }
     {
-        match self.state.seat(seat) {
-            Some(x) => x.number,
-            None => 0,
-        }
+        self.state.seat(seat).number
     }
 
     /// Begins a transaction: the begin stamp, which is the end of the log, in words. It is refused, in this order, where memory

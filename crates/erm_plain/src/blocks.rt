@@ -95,9 +95,7 @@ impl<L: RowLaw> Plain<L> {
     {
         erm_block::spelling_size();
         let run = self.state.run_number();
-        let Some(x) = self.state.seat(seat) else {
-            return;
-        };
+        let x = self.state.seat(seat);
         let block = block_of(seat, run, x.current.number, &x.current);
         let mut words = [0; BLOCK_WORDS];
         let size = encode_into(&mut words, &block);

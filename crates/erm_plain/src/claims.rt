@@ -52,10 +52,7 @@ impl<L: RowLaw> Plain<L> {
         requires session { is_session seat ≡ true }
         ensures { result ≡ is_claimed (map written_of ((core_of self.now.state).seats seat).current.writes) oid }
     {
-        match self.state.seat(seat) {
-            Some(x) => claims_object(x.current.writes.as_slice(), oid),
-            None => false,
-        }
+        claims_object(self.state.seat(seat).current.writes.as_slice(), oid)
     }
 
     // The number of the seat's transaction.
@@ -63,10 +60,7 @@ impl<L: RowLaw> Plain<L> {
         requires session { is_session seat ≡ true }
         ensures { result ≡ ((core_of self.now.state).seats seat).current.number }
     {
-        match self.state.seat(seat) {
-            Some(x) => x.current.number,
-            None => 0,
-        }
+        self.state.seat(seat).current.number
     }
 
     // A read that has just found an owner clear goes on to a head, so that the next load of the entry is a claim's.
@@ -131,10 +125,7 @@ impl<L: RowLaw> Plain<L> {
         if !self.finish_claim(seat) {
             return Err(RowStop::Memory);
         }
-        match self.test_early(seat) {
-            Ok(()) => Ok(()),
-            Err(why) => Err(why),
-        }
+        self.test_early(seat)
     }
 
     // Looks at the head of an object without owner: a version at or above the begin stamp ends the transaction.
@@ -230,9 +221,7 @@ impl<L: RowLaw> Plain<L> {
         ensures cells { IfErr result (λ stop. (drawn : ℕ) → stop ≢ CellsFull drawn) }
         ensures none { IfOk result (λ count. count ≡ 0) }
     {
-        match self.claim(seat, oid) {
-            Ok(()) => Ok(0),
-            Err(why) => Err(why),
-        }
+        self.claim(seat, oid)?;
+        Ok(0)
     }
 }

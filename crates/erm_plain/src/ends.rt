@@ -22,10 +22,7 @@ impl<L: RowLaw> Plain<L> {
         requires session { is_session seat ≡ true }
         ensures { result ≡ length ((core_of self.now.state).seats seat).current.writes }
     {
-        match self.state.seat(seat) {
-            Some(x) => x.current.writes.len(),
-            None => 0,
-        }
+        self.state.seat(seat).current.writes.len()
     }
 
     // How many versions the seat's transaction has read.
@@ -33,10 +30,7 @@ impl<L: RowLaw> Plain<L> {
         requires session { is_session seat ≡ true }
         ensures { result ≡ length ((core_of self.now.state).seats seat).current.reads }
     {
-        match self.state.seat(seat) {
-            Some(x) => x.current.reads.len(),
-            None => 0,
-        }
+        self.state.seat(seat).current.reads.len()
     }
 
     // The version that a claim of the seat's transaction overwrites.
@@ -44,10 +38,7 @@ impl<L: RowLaw> Plain<L> {
         requires session { is_session seat ≡ true }
         ensures { result ≡ (claim_at ((core_of self.now.state).seats seat).current place).version }
     {
-        match self.state.seat(seat) {
-            Some(x) => x.current.claim_at(place).version,
-            None => no_version(),
-        }
+        self.state.seat(seat).current.claim_at(place).version
     }
 
     // The version that the seat's transaction has read at a place.
@@ -55,10 +46,7 @@ impl<L: RowLaw> Plain<L> {
         requires session { is_session seat ≡ true }
         ensures { result ≡ (read_at ((core_of self.now.state).seats seat).current place).version }
     {
-        match self.state.seat(seat) {
-            Some(x) => x.current.read_at(place).version,
-            None => no_version(),
-        }
+        self.state.seat(seat).current.read_at(place).version
     }
 }
 

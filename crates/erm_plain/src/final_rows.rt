@@ -10,7 +10,7 @@ ghost use Rattle.erm_world.specs.World.{history_of};
 
 use crate::Plain;
 use erm_machine::Version;
-use erm_model::{Oid, ROW_WORDS, Row, RowLaw};
+use erm_model::{Oid, Row, RowLaw};
 
 // The row of the last of some versions.
 fn last_row(versions: &[Version]) -> Row
@@ -34,9 +34,6 @@ impl<L: RowLaw> Plain<L> {
         erm_core_view::views_are_serializable::<L>();
         erm_core_ssn::rows_run_serially();
         erm_core_ssn::versions_are_unique();
-        match self.state.object(oid) {
-            Some(o) => last_row(o.versions.as_slice()),
-            None => [0; ROW_WORDS],
-        }
+        last_row(self.state.object(oid).versions.as_slice())
     }
 }

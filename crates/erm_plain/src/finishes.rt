@@ -17,21 +17,11 @@ ghost use Rattle.erm_core_steps.specs.Reads.{GoesOn, IsAtWork};
 ghost use Rattle.erm_core_steps.specs.Steps.{IsUnseen};
 
 use crate::Plain;
-use crate::ends::no_version;
+use crate::installs::own_number;
 use erm_kept::AttemptState;
-use erm_machine::{CellWord, Counter, Kind, OwnCell, TailUse, Task, VersionAt};
+use erm_machine::{CellWord, Counter, Kind, TailUse, Task, VersionAt};
 use erm_model::{RowLaw, Seat};
 use erm_seat::SeatState;
-
-// The number of a claim's own cell, or 0 for none.
-fn own_number(own: Option<OwnCell>) -> u32
-    ensures { result ≡ going_specs.own_number own }
-{
-    match own {
-        Some(own) => own.cell,
-        None => 0,
-    }
-}
 
 // A word of a row, or 0 past its end.
 fn row_word(row: &[u64], k: u8) -> u64
@@ -114,10 +104,7 @@ impl<L: RowLaw> Plain<L> {
         requires session { is_session seat ≡ true }
         ensures { result ≡ finishes_specs.finish_step ((core_of self.now.state).seats seat) ((core_of self.now.state).seats seat).task }
     {
-        match self.state.seat(seat) {
-            Some(x) => finish_step(x),
-            None => None,
-        }
+        finish_step(self.state.seat(seat))
     }
 
     // The version that the newest claim of the seat's transaction overwrites.
@@ -125,10 +112,7 @@ impl<L: RowLaw> Plain<L> {
         requires session { is_session seat ≡ true }
         ensures { result ≡ going_specs.newest_of ((core_of self.now.state).seats seat).current }
     {
-        match self.state.seat(seat) {
-            Some(x) => x.current.newest_claim().version,
-            None => no_version(),
-        }
+        self.state.seat(seat).current.newest_claim().version
     }
 
     // Goes on until the row is copied, or the claim is refused a cell.

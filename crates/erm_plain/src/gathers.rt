@@ -20,12 +20,9 @@ impl<L: RowLaw> Plain<L> {
     fn in_block(&self) -> bool
         ensures { result ≡ in_block ((core_of self.now.state).seats FLUSH_SEAT).flushing }
     {
-        match self.state.seat(FLUSH_SEAT) {
-            Some(x) => match x.flushing {
-                Flushing::Gathers { next, end, .. } => next < end,
-                _ => false,
-            },
-            None => false,
+        match self.state.seat(FLUSH_SEAT).flushing {
+            Flushing::Gathers { next, end, .. } => next < end,
+            _ => false,
         }
     }
 

@@ -18,7 +18,7 @@ use erm_machine::{CellWord, Kind, OwnCell, Place, Task};
 use erm_model::{RowLaw, Seat};
 
 // The cell that a claim has for its own, or 0.
-fn own_number(own: Option<OwnCell>) -> u32
+pub(crate) fn own_number(own: Option<OwnCell>) -> u32
     ensures { result ≡ calls.own_number own }
 {
     match own {
@@ -147,12 +147,10 @@ impl<L: RowLaw> Plain<L> {
             (λ kind. (is_decided ((core_of self.now.state).seats seat).place ≡ true)
             × (kind ≡ calls.next_end ((core_of self.now.state).seats seat).current ((core_of self.now.state).seats seat).task)) }
     {
-        match self.state.seat(seat) {
-            Some(x) => match x.place {
-                Place::Decided { .. } => Some(next_end(&x.current, x.task)),
-                _ => None,
-            },
-            None => None,
+        let x = self.state.seat(seat);
+        match x.place {
+            Place::Decided { .. } => Some(next_end(&x.current, x.task)),
+            _ => None,
         }
     }
 

@@ -19,8 +19,6 @@ mod rows_at;
 mod seals;
 mod settles;
 mod steps;
-#[cfg(test)]
-mod tests;
 mod walks;
 mod world;
 mod writes;

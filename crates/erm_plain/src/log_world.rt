@@ -5,9 +5,9 @@ use erm_model::{Oid, Row, RowLaw, Stamp};
 use erm_world::{Gathered, LogWorld, ScriptWorld, SeatWait};
 
 impl<L: RowLaw> LogWorld for Plain<L> {
+    ghost use Rattle.erm_core_steps.specs.Keeping as keeping;
     ghost use Rattle.erm_plain.specs.Logs.{KeepsSessions, plain_log};
-    ghost use Rattle.erm_plain.specs.Logs as logs;
-    ghost use Rattle.erm_plain.specs.Stands.{IsWorld};
+    ghost use Rattle.erm_plain.specs.Stands.{IsWorld, Stands, plain_view};
 
     ghost rows_law = { L.law };
 
@@ -48,19 +48,19 @@ impl<L: RowLaw> LogWorld for Plain<L> {
 
     ghost is_log = { λ p world. world.log };
 
-    ghost keeps_itself = { λ p. logs.keeps_itself L.law p };
+    ghost keeps_itself = { λ p. keeping.keeps_itself (Stands L.law) plain_view p };
 
-    ghost keeps_on = { λ p q r first second. logs.keeps_on L.law p q r first second };
+    ghost keeps_on = { λ p q r first second. keeping.keeps_on (Stands L.law) plain_view p q r first second };
 }
 
 impl<L: RowLaw> ScriptWorld for Plain<L> {
-    ghost use Rattle.erm_plain.specs.Logs.{one_law, view_kept};
+    ghost use Rattle.erm_core_steps.specs.Keeping.{one_law};
 
     ghost one_law = { one_law L.law };
 
     ghost may_flush = { λ p world. world };
 
-    ghost sessions_stay = { λ p q world keeps after. (after, view_kept L.law p q keeps) };
+    ghost sessions_stay = { λ p q world keeps after. (after, keeps.sessions) };
 
     ghost one_log = { λ p world. world.log_of_view };
 }

@@ -91,10 +91,8 @@ impl<L: RowLaw> Plain<L> {
             (AreAllBehind ((core_of self.now.state).seats seat).current ((core_of self.now.state).seats seat).task)
             (PassesBy ((core_of self.now.state).seats seat).current ((core_of self.now.state).seats seat).task) }
     {
-        match self.state.seat(seat) {
-            Some(x) => next_pass(&x.current, x.task),
-            None => None,
-        }
+        let x = self.state.seat(seat);
+        next_pass(&x.current, x.task)
     }
 
     // Passes the versions read, and then those overwritten, up to the first one that isn't ready.

@@ -1,15 +1,25 @@
 //! A pin of the log's end, as of which a flusher reads rows.
 ghost use Rattle.std.specs.Prelude.{◌≡◌, ◌≤◌, IsSome, None, Some};
-ghost use Rattle.erm_core.specs.Cores.{core_of};
 ghost use Rattle.erm_plain.specs.Logs.{KeepsSessions, plain_log};
 ghost use Rattle.erm_plain.specs.Stands.{Stands};
 
 use crate::Plain;
 use crate::steps::found;
-use erm_machine::{FLUSH_SEAT, Kind, TailUse};
+use erm_machine::{FLUSH_SEAT, Kind, Place, TailUse};
 use erm_model::{RowLaw, Stamp};
 
 impl<L: RowLaw> Plain<L> {
+    /// The place that is pinned, in words, if there is one.
+    pub fn pinned(&self) -> Option<Stamp>
+        ensures { result ≡ (plain_log self.now).pinned }
+    {
+        let x = self.state.seat(FLUSH_SEAT);
+        match x.place {
+            Place::Active { .. } => Some(x.current.begin),
+            _ => None,
+        }
+    }
+
     /// Pins the log's end: rows may be read as of it until it is unpinned.
     pub fn pin(&mut self) -> Stamp
         requires stands { Stands L.law self.old }

@@ -66,13 +66,10 @@ impl<L: RowLaw> Plain<L> {
         requires session { IsSession (plain_view self.now) seat }
         ensures { result ≡ phase_at (plain_view self.now) seat }
     {
-        match self.state.seat(seat) {
-            Some(x) => match x.place {
-                Place::Active { .. } => Phase::Active,
-                Place::Sealed { .. } => Phase::Sealed,
-                _ => Phase::Idle,
-            },
-            None => Phase::Idle,
+        match self.state.seat(seat).place {
+            Place::Active { .. } => Phase::Active,
+            Place::Sealed { .. } => Phase::Sealed,
+            _ => Phase::Idle,
         }
     }
 

@@ -21,7 +21,7 @@ ghost use Rattle.erm_world.specs.Works.{is_claimed, row_read};
 use crate::Plain;
 use erm_core::Need;
 use erm_machine::{Claim, Kind, READ_LIMIT, Read};
-use erm_model::{Oid, ROW_WORDS, Row, RowLaw, RowStop, Seat, Stamp};
+use erm_model::{Oid, Row, RowLaw, RowStop, Seat, Stamp};
 
 // The row of an object after one more claim.
 fn row_after(claim: &Claim, oid: Oid, row: Option<Row>) -> Option<Row>
@@ -64,10 +64,7 @@ impl<L: RowLaw> Plain<L> {
         ensures { MatchOption result (is_claimed (map written_of ((core_of self.now.state).seats seat).current.writes) oid ≡ false)
             (λ row. HasOwnRow (map written_of ((core_of self.now.state).seats seat).current.writes) oid row) }
     {
-        match self.state.seat(seat) {
-            Some(x) => claimed_row(x.current.writes.as_slice(), oid),
-            None => None,
-        }
+        claimed_row(self.state.seat(seat).current.writes.as_slice(), oid)
     }
 
     // The row that the seat's transaction has read of an object.
@@ -75,10 +72,7 @@ impl<L: RowLaw> Plain<L> {
         requires session { is_session seat ≡ true }
         ensures { result ≡ row_read (map read_of ((core_of self.now.state).seats seat).current.reads) oid }
     {
-        match self.state.seat(seat) {
-            Some(x) => first_row(x.current.reads.as_slice(), oid),
-            None => None,
-        }
+        first_row(self.state.seat(seat).current.reads.as_slice(), oid)
     }
 
     // The row of the last version that the seat's transaction has read.
@@ -86,13 +80,8 @@ impl<L: RowLaw> Plain<L> {
         requires session { is_session seat ≡ true }
         ensures { result ≡ (read_at ((core_of self.now.state).seats seat).current (length ((core_of self.now.state).seats seat).current.reads - 1)).row }
     {
-        match self.state.seat(seat) {
-            Some(x) => x
-                .current
-                .read_at(x.current.reads.len().saturating_sub(1))
-                .row,
-            None => [0; ROW_WORDS],
-        }
+        let t = &self.state.seat(seat).current;
+        t.read_at(t.reads.len().saturating_sub(1)).row
     }
 
     // The running successor and predecessor stamp, where they exclude the seat's transaction.
@@ -100,12 +89,11 @@ impl<L: RowLaw> Plain<L> {
         requires session { is_session seat ≡ true }
         ensures { result ≡ closed_window ((core_of self.now.state).seats seat).current }
     {
-        match self.state.seat(seat) {
-            Some(x) if 0 < x.current.succ && x.current.succ <= x.current.pred => Some((
-                x.current.succ,
-                x.current.pred,
-            )),
-            _ => None,
+        let t = &self.state.seat(seat).current;
+        if 0 < t.succ && t.succ <= t.pred {
+            Some((t.succ, t.pred))
+        } else {
+            None
         }
     }
 
@@ -182,10 +170,8 @@ impl<L: RowLaw> Plain<L> {
         ensures err { IfErr result (λ stop. DidNotRead (plain_view self.old) seat oid stop (plain_view self.new)) }
     {
         let row = self.read_version(seat, oid)?;
-        match self.test_early(seat) {
-            Ok(()) => Ok(row),
-            Err(why) => Err(why),
-        }
+        self.test_early(seat)?;
+        Ok(row)
     }
 
     // A read of an object that the transaction has neither claimed nor read before.

@@ -11,7 +11,7 @@ ghost use Rattle.erm_world.specs.Log.{IsRowAsPinned, IsRowAt, IsUnwaited, IsWait
 use crate::Plain;
 use erm_kept::words::{is_clear, owner_of};
 use erm_machine::{FLUSH_SEAT, Kind, Version};
-use erm_model::{Oid, ROW_WORDS, Row, RowLaw, Stamp};
+use erm_model::{Oid, Row, RowLaw, Stamp};
 use erm_world::SeatWait;
 
 // The row of the last version below the bound, after one more.
@@ -41,10 +41,7 @@ impl<L: RowLaw> Plain<L> {
     fn pin_stamp(&self) -> Stamp
         ensures { result ≡ ((core_of self.now.state).seats FLUSH_SEAT).current.begin }
     {
-        match self.state.seat(FLUSH_SEAT) {
-            Some(x) => x.current.begin,
-            None => 0,
-        }
+        self.state.seat(FLUSH_SEAT).current.begin
     }
 
     // Who owns an object's entry, where that one is sealed below the bound.
@@ -66,10 +63,7 @@ impl<L: RowLaw> Plain<L> {
         requires object { oid < OID_LIMIT }
         ensures { result ≡ row_below bound ((core_of self.now.state).shared.objects oid).versions None }
     {
-        match self.state.object(oid) {
-            Some(o) => row_below(o.versions.as_slice(), bound),
-            None => None,
-        }
+        row_below(self.state.object(oid).versions.as_slice(), bound)
     }
 
     /// The row of an object as of the place pinned: the newest below it of all that commits. It waits where a transaction that
@@ -95,9 +89,6 @@ impl<L: RowLaw> Plain<L> {
         if let Some(wait) = self.owner_below(oid, pin) {
             return Err(wait);
         }
-        match self.version_below(oid, pin) {
-            Some(row) => Ok(row),
-            None => Ok([0; ROW_WORDS]),
-        }
+        Ok(self.version_below(oid, pin).unwrap())
     }
 }

@@ -39,10 +39,7 @@ impl<L: RowLaw> Plain<L> {
         ensures most { result ≤ 5 + 17 * length ((core_of self.now.state).seats seat).current.writes }
         ensures least { LEAST_BLOCK ≤ result }
     {
-        match self.state.seat(seat) {
-            Some(x) => block_size(x.current.writes.as_slice()),
-            None => LEAST_BLOCK,
-        }
+        block_size(self.state.seat(seat).current.writes.as_slice())
     }
 
     /// Seals the transaction: its commit stamp, the place of the log, in words, where its block begins. The transaction keeps the

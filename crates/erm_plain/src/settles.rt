@@ -44,10 +44,7 @@ impl<L: RowLaw> Plain<L> {
         requires session { is_session seat ≡ true }
         ensures { result ≡ has_room flushed ((core_of self.now.state).seats seat).current }
     {
-        match self.state.seat(seat) {
-            Some(x) => x.current.has_room(flushed),
-            None => false,
-        }
+        self.state.seat(seat).current.has_room(flushed)
     }
 
     // What becomes of the seat's transaction once it is decided.
@@ -56,14 +53,7 @@ impl<L: RowLaw> Plain<L> {
         requires end { ((core_of self.now.state).seats seat).current.stamp + ((core_of self.now.state).seats seat).current.size < 2 ^ 64 }
         ensures { result ≡ outcome_of ((core_of self.now.state).seats seat).current }
     {
-        match self.state.seat(seat) {
-            Some(x) => outcome(&x.current),
-            None => Outcome::Excluded {
-                stamp: 0,
-                succ: 0,
-                pred: 0,
-            },
-        }
+        outcome(&self.state.seat(seat).current)
     }
 
     /// Decides a sealed transaction by the Serial Safety Net. It commits where its predecessor stamp lies below its successor

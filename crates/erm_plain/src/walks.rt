@@ -69,10 +69,7 @@ impl<L: RowLaw> Plain<L> {
         requires session { is_session seat ≡ true }
         ensures { result ≡ ((core_of self.now.state).seats seat).task }
     {
-        match self.state.seat(seat) {
-            Some(x) => x.task,
-            None => Task::Rest,
-        }
+        self.state.seat(seat).task
     }
 
     // The begin stamp of the seat's transaction.
@@ -80,10 +77,7 @@ impl<L: RowLaw> Plain<L> {
         requires session { is_session seat ≡ true }
         ensures { result ≡ ((core_of self.now.state).seats seat).current.begin }
     {
-        match self.state.seat(seat) {
-            Some(x) => x.current.begin,
-            None => 0,
-        }
+        self.state.seat(seat).current.begin
     }
 
     // The version that the seat's read has in hand.

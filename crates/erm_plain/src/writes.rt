@@ -18,6 +18,7 @@ ghost use Rattle.erm_world.specs.World.{IsSession, phase_at, work_at};
 ghost use Rattle.erm_world.specs.Works.{is_claimed, setting};
 
 use crate::Plain;
+use crate::installs::own_number;
 use erm_machine::{CellWord, Claim, Kind};
 use erm_model::{Oid, ROW_WORDS, Row, RowLaw, RowStop, Seat};
 
@@ -49,10 +50,7 @@ impl<L: RowLaw> Plain<L> {
         requires claimed { is_claimed (map written_of ((core_of self.now.state).seats seat).current.writes) oid ≡ true }
         ensures { StandsAt ((core_of self.now.state).seats seat).current.writes oid result }
     {
-        match self.state.seat(seat) {
-            Some(x) => claim_place(x.current.writes.as_slice(), oid),
-            None => 0,
-        }
+        claim_place(self.state.seat(seat).current.writes.as_slice(), oid)
     }
 
     // The number of a claim's own cell.
@@ -60,13 +58,7 @@ impl<L: RowLaw> Plain<L> {
         requires session { is_session seat ≡ true }
         ensures { result ≡ own_at ((core_of self.now.state).seats seat).current place }
     {
-        match self.state.seat(seat) {
-            Some(x) => match x.current.claim_at(place).own {
-                Some(own) => own.cell,
-                None => 0,
-            },
-            None => 0,
-        }
+        own_number(self.state.seat(seat).current.claim_at(place).own)
     }
 
     // Sets the row of an object that the transaction has claimed to these words.

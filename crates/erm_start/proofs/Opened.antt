@@ -19,7 +19,7 @@ use Rattle.erm_lines.specs.Executions.{is_zero}
 use Rattle.erm_plain.specs.Logs.{plain_log}
 use Rattle.erm_plain.specs.Stands.{IsWorld, plain_view}
 use Rattle.erm_plain.specs.declared.plain.Plain.{Plain}
-use Rattle.erm_start.specs.Recovered.{IsFirstObject, IsOpenedLog, IsOpenedOn}
+use Rattle.erm_start.specs.Recovered.{IsFirstObject, IsOpenedLog, IsOpenedOn, IsOpenedWith}
 
 -- a session is idle at first, and nothing is pinned
 idle_at : (b : Bool) (run tail : ℕ) → session_of (fresh_part (if b then Idle else Vacant) run tail) ≡ record { over = []; stand = world.idle }
@@ -38,36 +38,40 @@ row_at rows false oid is = absurd (cc)
 rows_opened : (sessions : ℕ) (rows : Rows) (tail run first cells : ℕ) → SameRows (opening_rows (opening_state sessions rows tail run first cells).shared) rows
 rows_opened sessions rows tail run first cells oid below = row_at rows _ oid (lt-ltb oid OID_LIMIT below)
 
--- the view and the log of the opening's state
-module _ (sessions : ℕ) (rows : Rows) (tail run first : ℕ) where
+-- the view and the log of the opening's state, for rows that were found and are the same for each object that there may be
+module _ (found : Rows) (sessions : ℕ) (rows : Rows) (same_rows : SameRows rows found) (tail run first cells : ℕ) where
   abbrev start : Core
-  start = opening_state sessions rows tail run first MOST_CELLS
+  start = opening_state sessions rows tail run first cells
 
-  view_at : IsFirstObject rows first → IsSerializable sound_law (view_of sessions start) → ((oid : ℕ) → start.shared.first ≤ oid → reached (opening_rows start.shared) oid ≡ 0)
-      → IsOpenedOn rows tail run sessions (view_of sessions start)
+  rows_are : SameRows (opening_rows start.shared) found
+  rows_are oid below = rows_opened sessions rows tail run first cells oid below ∙ same_rows oid below
+
+  view_at : IsFirstObject found first → IsSerializable sound_law (view_of sessions start) → ((oid : ℕ) → start.shared.first ≤ oid → reached (opening_rows start.shared) oid ≡ 0)
+      → IsOpenedWith found tail run sessions cells 0 (view_of sessions start)
   view_at is serializable unreached = record {
     opened = record {
       idle = λ seat session. idle_at (is_taken sessions seat) run tail;
       tail = refl;
       flushed = refl;
       pinned = unpinned_at (is_taken sessions FLUSH_SEAT) run tail;
+      given_up = λ seat. refl;
       serializable = serializable;
     };
-    rows = rows_opened sessions rows tail run first MOST_CELLS;
+    rows = rows_are;
     tail = refl;
     run = refl;
     sessions = refl;
     first = is;
-    cells = omega arith;
+    cells = refl;
     cuts = refl;
     unreached = unreached;
   }
 
-  log_at : IsOpenedLog rows tail run (log_of sessions start)
+  log_at : IsOpenedLog found tail run (log_of sessions start)
   log_at = record {
     at = refl;
     run = refl;
-    rows = rows_opened sessions rows tail run first MOST_CELLS;
+    rows = rows_are;
     tail = refl;
     flushed = refl;
     gathered = refl;
@@ -75,26 +79,29 @@ module _ (sessions : ℕ) (rows : Rows) (tail run first : ℕ) where
   }
 
   -- a world that was opened so has them
-  view_is : (many : ℕ) (c : Core) → many ≡ sessions → c ≡ start → IsFirstObject rows first → IsSerializable sound_law (view_of many c)
-      → ((oid : ℕ) → c.shared.first ≤ oid → reached (opening_rows c.shared) oid ≡ 0) → IsOpenedOn rows tail run sessions (view_of many c)
+  pub view_is : (many : ℕ) (c : Core) → many ≡ sessions → c ≡ start → IsFirstObject found first → IsSerializable sound_law (view_of many c)
+      → ((oid : ℕ) → c.shared.first ≤ oid → reached (opening_rows c.shared) oid ≡ 0) → IsOpenedWith found tail run sessions cells 0 (view_of many c)
   view_is many c same at is =
       subst
-      (λ (n : ℕ). IsSerializable sound_law (view_of n c) → ((oid : ℕ) → c.shared.first ≤ oid → reached (opening_rows c.shared) oid ≡ 0) → IsOpenedOn rows tail run sessions (view_of n c))
+      (λ (n : ℕ). IsSerializable sound_law (view_of n c) → ((oid : ℕ) → c.shared.first ≤ oid → reached (opening_rows c.shared) oid ≡ 0) → IsOpenedWith found tail run sessions cells 0 (view_of n c))
       (sym same)
       (subst
-      (λ (d : Core). IsSerializable sound_law (view_of sessions d) → ((oid : ℕ) → d.shared.first ≤ oid → reached (opening_rows d.shared) oid ≡ 0) → IsOpenedOn rows tail run sessions (view_of sessions d))
+      (λ (d : Core). IsSerializable sound_law (view_of sessions d) → ((oid : ℕ) → d.shared.first ≤ oid → reached (opening_rows d.shared) oid ≡ 0) → IsOpenedWith found tail run sessions cells 0 (view_of sessions d))
       (sym at) (view_at is))
 
-  log_is : (many : ℕ) (c : Core) → many ≡ sessions → c ≡ start → IsOpenedLog rows tail run (log_of many c)
+  pub log_is : (many : ℕ) (c : Core) → many ≡ sessions → c ≡ start → IsOpenedLog found tail run (log_of many c)
   log_is many c same at =
-      subst (λ (n : ℕ). IsOpenedLog rows tail run (log_of n c)) (sym same) (subst (λ (d : Core). IsOpenedLog rows tail run (log_of sessions d)) (sym at) log_at)
+      subst (λ (n : ℕ). IsOpenedLog found tail run (log_of n c)) (sym same) (subst (λ (d : Core). IsOpenedLog found tail run (log_of sessions d)) (sym at) log_at)
 
-  pub opened_on : {L E : Type 0} (r : Result (Plain L) E) → IsFirstObject rows first → IfOk r (λ p. IsWorld sound_law p) → IfOk r (λ p. core_of p.state ≡ start)
-      → IfOk r (λ p. p.sessions ≡ sessions) → IfOk r (λ p. IsOpenedOn rows tail run sessions (plain_view p))
-  opened_on (Ok p) is world opened many = view_is p.sessions (core_of p.state) many opened is world.serializable world.stands.sound.lawful.below
+-- the world in lists
+module _ (sessions : ℕ) (rows : Rows) (tail run first : ℕ) where
+  pub opened_on : {L E : Type 0} (r : Result (Plain L) E) → IsFirstObject rows first → IfOk r (λ p. IsWorld sound_law p)
+      → IfOk r (λ p. core_of p.state ≡ opening_state sessions rows tail run first MOST_CELLS) → IfOk r (λ p. p.sessions ≡ sessions) → IfOk r (λ p. IsOpenedOn rows tail run sessions (plain_view p))
+  opened_on (Ok p) is world opened many =
+      view_is rows sessions rows (λ oid below. refl) tail run first MOST_CELLS p.sessions (core_of p.state) many opened is world.serializable world.stands.sound.lawful.below
   opened_on (Err e) is world opened many = tt
 
-  pub opened_log : {L E : Type 0} (r : Result (Plain L) E) → IfOk r (λ p. core_of p.state ≡ start) → IfOk r (λ p. p.sessions ≡ sessions)
+  pub opened_log : {L E : Type 0} (r : Result (Plain L) E) → IfOk r (λ p. core_of p.state ≡ opening_state sessions rows tail run first MOST_CELLS) → IfOk r (λ p. p.sessions ≡ sessions)
       → IfOk r (λ p. IsOpenedLog rows tail run (plain_log p))
-  opened_log (Ok p) opened many = log_is p.sessions (core_of p.state) many opened
+  opened_log (Ok p) opened many = log_is rows sessions rows (λ oid below. refl) tail run first MOST_CELLS p.sessions (core_of p.state) many opened
   opened_log (Err e) opened many = tt

@@ -21,17 +21,21 @@ abbrev pub IsFirstObject : Rows → ℕ → Type 0
 IsFirstObject rows first = IsFirstBelow rows OID_LIMIT first
 
 -- A world of so many sessions that was just opened on these rows, whose log goes on at this place, and is written as this run. The
--- rows reach none of the objects that it makes, it has as many cells as there may be, and it cuts off no versions.
-pub record IsOpenedOn (found : Rows) (place number many : ℕ) (v : View) : Type 0 where
+-- rows reach none of the objects that it makes, it has so many cells, and a call cuts off so many versions at most.
+pub record IsOpenedWith (found : Rows) (place number many room most : ℕ) (v : View) : Type 0 where
   pub opened : IsOpened v
   pub rows : SameRows v.opening.rows found
   pub tail : v.opening.tail ≡ place
   pub run : v.opening.run ≡ number
   pub sessions : v.opening.sessions ≡ many
   pub first : IsFirstObject found v.opening.first
-  pub cells : v.opening.cells ≡ MOST_CELLS
-  pub cuts : v.opening.cuts ≡ 0
+  pub cells : v.opening.cells ≡ room
+  pub cuts : v.opening.cuts ≡ most
   pub unreached : (oid : ℕ) → v.opening.first ≤ oid → reached v.opening.rows oid ≡ 0
+
+-- one that has as many cells as there may be, and cuts off no versions
+abbrev pub IsOpenedOn : Rows → (place number many : ℕ) → View → Type 0
+IsOpenedOn found place number many v = IsOpenedWith found place number many MOST_CELLS 0 v
 
 -- a log that was just opened on these rows: it goes on at this place, as this run, all is synced, nothing is gathered, and it has no pin
 pub record IsOpenedLog (found : Rows) (place number : ℕ) (log : Log) : Type 0 where

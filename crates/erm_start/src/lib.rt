@@ -5,4 +5,4 @@ mod laws;
 mod recovered;
 
 pub use laws::zero_rows_are_the_empty_map;
-pub use recovered::open_world;
+pub use recovered::{first_object, open_world};

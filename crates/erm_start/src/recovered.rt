@@ -41,8 +41,8 @@ pub fn open_world(
     Plain::open(alloc, rows, tail, run, u64::from(first), sessions)
 }
 
-// The first object that a world on these rows makes.
-fn first_object(rows: &[Row]) -> Oid
+/// The first object that a world on these rows makes: one above the greatest one that is in use, or the first behind the tables.
+pub fn first_object(rows: &[Row]) -> Oid
     requires { length rows.now ≡ OID_LIMIT }
     ensures { IsFirstObject (rows_of rows.now) result }
 {

@@ -6,8 +6,6 @@ use Rattle.erm_model.specs.RowTransaction.{Law}
 use Rattle.erm_machine.specs.declared.attempt.Attempt.{Attempt}
 use Rattle.erm_machine.specs.declared.attempt.Claim.{Claim}
 use Rattle.erm_machine.specs.declared.attempt.Decision.TheVariants.{Abort}
-use Rattle.erm_machine.specs.declared.event.Kind.{Kind}
-use Rattle.erm_machine.specs.declared.event.Kind.TheVariants as kind
 use Rattle.erm_machine.specs.declared.part.Part.{Part}
 use Rattle.erm_machine.specs.Decided.{written_of}
 use Rattle.erm_machine.specs.Seat.{is_active}
@@ -21,24 +19,13 @@ use Rattle.erm_core_steps.proofs.Aborts.{no_flusher}
 use Rattle.erm_rule.specs.declared.view.Book.{Book}
 use Rattle.erm_rule.specs.Views.{part_of}
 use Rattle.erm_rule.specs.Went.{IsStillStep, Went, core_of}
-use Rattle.erm_rule.proofs.Wents.{went_as}
 use Rattle.erm_world.specs.Calls.{DidAbort}
 use Rattle.erm_world.specs.World.{Finished, Session, Work}
 use Rattle.erm_world.specs.World as world
 use Rattle.erm_table_world.specs.Stands.{IsStateful}
 use Rattle.erm_table_world.proofs.Still.{becomes, went_ran, went_stayed}
 use Rattle.erm_table_world.proofs.Wholly.{part_is, part_set}
-
--- the steps of an end leave the log's end and the place flushed
-end_still : (k : Kind) (found : ℕ) → IsEndStep k found → IsStillStep k found
-end_still (kind.AddTail size) found is = absurd is
-end_still (kind.StoreFlushed value) found is = absurd is
-end_still (kind.Split other) found is = absurd is
-end_still (kind.Join other) found is = absurd is
-end_still _ found is = tt
-
-pub ends_still : (law : Law) (who : ℕ) (b e : Book) → Went law who IsEndStep b e → Went law who IsStillStep b e
-ends_still law who b e went = went_as law who IsEndStep IsStillStep b e end_still went
+use Rattle.erm_cells.proofs.Took.{ends_still}
 
 -- claims that are over are still shown
 pub over_shown : (n : ℕ) (ws : List Claim) → map written_of (claims_over n ws) ≡ map written_of ws

@@ -24,7 +24,7 @@ use Rattle.erm_machine.specs.Words.{is_flusher, is_session, put}
 use Rattle.erm_machine.proofs.Frames.{total-put}
 use Rattle.erm_machine.proofs.QuietKinds.{moves}
 use Rattle.erm_core_cells.proofs.NumbersKept.{LeavesCounters, cells_raised, same_drawn}
-use Rattle.erm_core_steps.proofs.Unseen.{meets_one}
+use Rattle.erm_core_view.proofs.Moved.{meets_one}
 use Rattle.erm_core_turns.specs.Turns.{Flushes}
 use Rattle.erm_core_view.specs.Steps.{MeetsOne}
 use Rattle.erm_core_view.specs.Views.{IsBetween, IsQuiet, finished_of, session_of, stand_of, view_of}

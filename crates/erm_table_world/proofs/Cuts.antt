@@ -13,7 +13,10 @@ use Rattle.erm_world.specs.declared.stops.Wait.{Wait}
 use Rattle.erm_world.specs.declared.stops.Wait.TheVariants as wait
 use Rattle.erm_world.specs.Calls as calls
 use Rattle.erm_world.specs.Calls.{Becomes, DidAbort, DidBegin, DidClaim, DidMake, DidNotClaim, DidNotMake, DidNotRead, DidNotSettle, DidRead, DidSeal, DidSettle, DidWrite, HasNoNewer, IsAhead, IsClaimReady, IsInTheWay, IsNewer, IsOwned, IsReadReady, IsSealedBelow, IsShut, IsUnowned, MayHaveRead, MayNotBegin, MayOverwrite, Settled, Waits}
+use Rattle.erm_block.specs.declared.block.Block.{Block}
 use Rattle.erm_world.specs.Laws.{IsSerializable, SeesSnapshot}
+use Rattle.erm_world.specs.Log.{Log, Undecided}
+use Rattle.erm_world.specs.Whole.{IsBlockOf, IsLogOf, IsSealedAt}
 use Rattle.erm_world.specs.World.{Session, View, Work}
 use Rattle.erm_world.specs.World as world
 use Rattle.erm_table_world.specs.Stands.{with_cuts}
@@ -30,6 +33,7 @@ module _ (n : ℕ) where
     tail = is.tail;
     flushed = is.flushed;
     pinned = is.pinned;
+    given_up = is.given_up;
   }
 
   ahead : (v : View) (seat oid bound other seen : ℕ) → IsAhead v seat oid bound other seen → IsAhead (cut v) seat oid bound other seen
@@ -153,6 +157,7 @@ module _ (n : ℕ) where
     fits = did.fits;
     flushed = did.flushed;
     pinned = did.pinned;
+    given_up = did.given_up;
   }
 
   sealed : (v : View) (seat bound other seen : ℕ) (w : Work) → IsSealedBelow v seat bound other seen w → IsSealedBelow (cut v) seat bound other seen w
@@ -258,4 +263,37 @@ module _ (n : ℕ) where
     lawful = is.lawful;
     made_once = is.made_once;
     made_new = is.made_new;
+  }
+
+  -- THE LOG
+  finished_block : (v : View) (run : ℕ) (b : Block) → IsBlockOf v run b → IsBlockOf (cut v) run b
+  finished_block v run b is = record {
+    session = is.session;
+    of = is.of;
+    over = is.over;
+    stamps = is.stamps;
+    kind_is = is.kind_is;
+    run_is = is.run_is;
+    number = is.number;
+    count = is.count;
+    size = is.size;
+    rows = is.rows;
+  }
+
+  range_at : (v : View) (place : ℕ) (u : Undecided) → IsSealedAt v place u → IsSealedAt (cut v) place u
+  range_at v place u is = record { session = is.session; work = is.work; stand = is.stand; claims = is.claims }
+
+  range_back : (v : View) (place : ℕ) (u : Undecided) → IsSealedAt (cut v) place u → IsSealedAt v place u
+  range_back v place u is = record { session = is.session; work = is.work; stand = is.stand; claims = is.claims }
+
+  pub log_of_view : (v : View) (log : Log) → IsLogOf v log → IsLogOf (cut v) log
+  log_of_view v log is = record {
+    at = is.at;
+    run = is.run;
+    rows = is.rows;
+    tail = is.tail;
+    flushed = is.flushed;
+    pinned = is.pinned;
+    undecided = λ place u. (λ there. range_at v place u ((is.undecided place u).0 there), λ there. (is.undecided place u).1 (range_back v place u there));
+    blocks = λ b member. finished_block v v.opening.run b (is.blocks b member);
   }

@@ -34,7 +34,7 @@ use Rattle.erm_core_cells.proofs.CellsCounts.{count_set}
 use Rattle.erm_core_stays.specs.Staying.{IsFirm}
 use Rattle.erm_core_stays.proofs.Growing.{GivesUp, WritesStay, growing_kind}
 use Rattle.erm_core_steps.proofs.Aborts.{session_plain}
-use Rattle.erm_core_steps.proofs.Ways.{active_at}
+use Rattle.erm_core_steps.proofs.Places.{active_at}
 use Rattle.erm_core_view.specs.Steps.{MeetsOne}
 use Rattle.erm_table_world.specs.Covered.{firm_in, is_firm}
 
@@ -198,7 +198,7 @@ module _ (c : Core) (sound : Sound c) (p : ℕ) where
   firm_kept (kind.Join other) found y session one e = absurd one
   firm_kept (kind.Decide at header) found y session one e = f_decide at header (c.seats p) (c.seats p).place (c.seats p).task y e
   firm_kept k found y session one e =
-      quiet_firm (c.seats p) y (quiet_kind p k found c.shared (c.seats p) y tt e).steady.over (growing_kind p k found c.shared (c.seats p) y gives_up tt e).claims
+      quiet_firm (c.seats p) y (quiet_kind p k found c.shared (c.seats p) y tt e).steady.over (growing_kind p k found c.shared (c.seats p) y gives_up tt e).tries.claims
 
   -- a cell that is drawn below the limit makes them one more
   pub firm_more : (found : ℕ) (y : Part) → (c.seats p).task ≡ task.Pool → found < c.shared.cell_limit → add_counter c.shared.cell_limit p Cells found (c.seats p) task.Pool ≡ Some y

@@ -4,16 +4,13 @@ pub mod Claiming
 pub mod Covered
 pub mod Cuts
 pub mod Firm
-pub mod Listed
 pub mod Loads
 pub mod Making
 pub mod NotClaiming
 pub mod NotReading
 pub mod Opening
-pub mod Passed
 pub mod Reading
 pub mod Refusing
-pub mod Results
 pub mod Sealing
 pub mod Sessions
 pub mod Settled
@@ -24,6 +21,7 @@ pub mod TurnClears
 pub mod TurnGathers
 pub mod TurnPins
 pub mod TurnRows
+pub mod Turned
 pub mod Unseen
 pub mod Waiting
 pub mod Wholly

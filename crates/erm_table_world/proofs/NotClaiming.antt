@@ -23,8 +23,8 @@ use Rattle.erm_machine.proofs.Guards.{when_then}
 use Rattle.erm_machine.proofs.QuietKinds.{moves}
 use Rattle.erm_cells.specs.Calls.{starts_anew}
 use Rattle.erm_cells.specs.Took.{IsEndStep}
-use Rattle.erm_core_view.specs.Views.{IsQuiet, session_of, view_of}
-use Rattle.erm_core_view.proofs.Shown.{work_active}
+use Rattle.erm_core_view.specs.Views.{IsQuiet, session_of, view_of, work_of}
+use Rattle.erm_core_view.proofs.Shown.{shows_work, work_active}
 use Rattle.erm_core_steps.specs.Claiming.{is_cleared}
 use Rattle.erm_core_steps.specs.Reads.{IsAtWork}
 use Rattle.erm_core_steps.proofs.Aborts.{no_flusher}
@@ -134,11 +134,14 @@ module _ (law : Law) (sessions seat : ℕ) (b : Book) (at : StandsAt law session
   lacks : (drawn : ℕ) (e : Book) → Ran law sessions seat b e → Stayed sessions seat (core_of b) (core_of e) → is_claimed (work_at (view_of sessions (core_of b)) seat).claims oid ≡ false
       → rows.DidLackCell b.view seat oid drawn e.view → TookLack law seat oid drawn b e → DidNotClaim (view_of sessions (core_of b)) seat oid (stop.CellsFull drawn) (view_of sessions (core_of e))
   lacks drawn e ran stayed none did took =
-      let y : Part → Part = λ x. given_up_part did.cut.found.tail did.cut.done.cut x in
+      let y : Part → Part = λ x. given_up_part oid did.cut.found.tail did.cut.done.cut x in
       let set : (core_of e).seats seat ≡ y ((core_of b).seats seat) =
       part_set law b e seat (y (part_of b.view seat)) at.state ran.state seated did.view_is ∙ ap y (part_is law b seat at.state seated)
       in
-      let same = same_world law sessions seat b e (no_flusher seat on.session) ran stayed (ap session_of set) in
+      let x : Part = (core_of b).seats seat in
+      let work : Work = work_of x.current in
+      let unseen : session_of (y x) ≡ session_of x = (shows_work x work (y x) refl on.active refl).shows ∙ sym (shows_work x work x refl on.active refl).shows in
+      let same = same_world law sessions seat b e (no_flusher seat on.session) ran stayed (ap session_of set ∙ unseen) in
       let free = claiming_of.frees law sessions seat b b at session active seated oid took.entry.entry took.entry.at left took.entry.free in
       let taken = (went_ran law sessions seat IsStillStep b took.taken (entry_went law seat oid took.head b took.taken took.entry) at.state).state in
       let tidied = (went_ran law sessions seat IsStillStep took.taken took.tidied (cut_went law seat took.count took.taken took.tidied took.cut) taken).state in

@@ -1,5 +1,5 @@
 -- A read that is refused: whom it waits for, or by what its transaction is excluded.
-use Rattle.std.proofs.Common.{◌≡◌, ◌≢◌, inl, inr, ℕ, ◌<◌, ◌≤◌, true, false, ◌&&◌, ltb, leb, eqb, List, [], ◌∷◌, ◌++◌, length, get_or, Option, Some, None, refl, sym, ap, ◌∙◌, subst, arith, eqb-true}
+use Rattle.std.proofs.Common.{◌≡◌, ◌≢◌, ℕ, ◌<◌, ◌≤◌, true, false, ◌&&◌, ltb, leb, eqb, List, [], ◌∷◌, ◌++◌, length, get_or, Option, Some, None, refl, sym, ap, ◌∙◌, subst, arith, eqb-true}
 use Rattle.std.proofs.lemmas.Bool.{and_from, and_parts, cond-true, le-leb, lt-ltb}
 use Rattle.std.proofs.Math.Seq.{get_or-append_seam}
 use Rattle.erm_model.specs.declared.history.VersionRead.{VersionRead}
@@ -32,13 +32,13 @@ use Rattle.erm_core_steps.proofs.Owners.{owner_ahead}
 use Rattle.erm_core_steps.proofs.Quiet.{IsActive}
 use Rattle.erm_core_steps.proofs.Readings.{read_excluded}
 use Rattle.erm_core_steps.proofs.Ways.{begin_stays}
-use Rattle.erm_entries.specs.Took.{TookReach, TookWait}
+use Rattle.erm_entries.specs.Took.{TookWait}
 use Rattle.erm_rows.specs.Reads as rows
 use Rattle.erm_rows.specs.Took.{IsClosedIn, TookRead, begin_in}
 use Rattle.erm_rule.specs.declared.view.Book.{Book}
 use Rattle.erm_rule.specs.Views.{part_of}
 use Rattle.erm_rule.specs.Went.{IsLoadStep, IsStillStep, Went, core_of}
-use Rattle.erm_rule.proofs.Wents.{loads_still, went_more, went_step}
+use Rattle.erm_rule.proofs.Wents.{went_more}
 use Rattle.erm_ends.specs.Ends as ends
 use Rattle.erm_session.specs.Calls.{RefusesRead}
 use Rattle.erm_session.specs.Took.{TookReadStop}
@@ -52,8 +52,10 @@ use Rattle.erm_table_world.proofs.Loads.{loads_go, went_go}
 use Rattle.erm_table_world.proofs.Reading as reading_of
 use Rattle.erm_table_world.proofs.Still.{Stayed, went_ran, went_stayed}
 use Rattle.erm_table_world.proofs.Wholly.{Ran, Runs, part_is, runs, took_ran}
+use Rattle.erm_entries.proofs.Took.{reach_loads}
+use Rattle.erm_rows.proofs.Took.{read_still}
 
-seat_some : (q : ℕ) → is_seat q ≡ true → 0 < q
+pub seat_some : (q : ℕ) → is_seat q ≡ true → 0 < q
 seat_some q seat = grind (arith, seat)
 
 -- the version that is registered was found
@@ -92,24 +94,6 @@ window_closed t succ pred some low succ_is pred_is =
     in
     cond-true (ltb 0 t.succ && leb t.succ t.pred) (Some (t.succ, t.pred)) None shut
     ∙ ap (λ (n : ℕ). Some (n, t.pred)) succ_is ∙ ap (λ (n : ℕ). Some (succ, n)) pred_is
-
--- loads up to the head of an object's chain
-reach_loads : (law : Law) (who oid begin entry : ℕ) (b e : Book) → TookReach law who oid begin entry b e → Went law who IsLoadStep b e
-reach_loads law who oid begin entry b e (inl once) = record { steps = (kind.LoadEntry oid, entry) ∷ []; took = once.1; all = (tt, tt) }
-reach_loads law who oid begin entry b e (inr again) = record {
-  steps = (kind.LoadEntry oid, entry) ∷ (kind.LoadState again.owner begin, again.state) ∷ (kind.LoadEntry oid, again.first) ∷ [];
-  took = again.took;
-  all = (tt, (tt, (tt, tt)));
-}
-
--- the steps of a read
-pub read_still : (law : Law) (who oid : ℕ) (b e : Book) → TookRead law who oid b e → Went law who IsStillStep b e
-read_still law who oid b e took =
-    let way = went_more law who IsLoadStep b took.reached took.read.found (reach_loads law who oid (begin_in b who) took.entry b took.reached took.reach) took.read.walk in
-    let still = loads_still law who b took.read.found way in
-    went_more law who IsStillStep b took.read.registered e
-    (went_step law who IsStillStep b took.read.found took.read.registered (kind.SetReader took.read.version) took.read.word still tt took.read.step)
-    (loads_still law who took.read.registered e took.read.rest)
 
 module _ (law : Law) (sessions seat : ℕ) (b : Book) (at : StandsAt law sessions b) (session : IsSession (view_of sessions (core_of b)) seat) (active : phase_at (view_of sessions (core_of b)) seat ≡ phase.Active)
     (seated : is_seat seat ≡ true) (oid : ℕ) (known : oid < OBJECT_LIMIT) where

@@ -1,5 +1,5 @@
 -- The first state of a world.
-use Rattle.std.proofs.Common.{◌≡◌, ℕ, suc, zero, ◌+◌, ◌<◌, ◌≤◌, ⊎_elim, inl, Bool, true, List, [], length, get_or, refl, sym, ap, ◌∙◌, subst, arith}
+use Rattle.std.proofs.Common.{◌≡◌, ℕ, suc, zero, ◌+◌, ◌<◌, ◌≤◌, ⊎_elim, inl, Bool, true, false, List, [], length, get_or, IfSome, refl, sym, ap, ◌∙◌, subst, arith}
 use Rattle.std.specs.Prelude.{replicate, if◌then◌else◌}
 use Rattle.std.proofs.lemmas.List.{get_or_default}
 use Rattle.erm_model.specs.declared.limits.TheConstants.{LAST_RUN, SESSIONS, TABLE_CELLS}
@@ -11,6 +11,7 @@ use Rattle.erm_machine.specs.Core.{fresh_part, is_taken}
 use Rattle.erm_machine.specs.Words.{is_seat}
 use Rattle.erm_sound.specs.Kept.{SoundUnder}
 use Rattle.erm_core_steps.proofs.Quiet.{opening_quiet}
+use Rattle.erm_core_view.specs.Views.{pin_of}
 use Rattle.erm_rule.specs.declared.view.Held.{Held}
 use Rattle.erm_rule.specs.declared.view.Opening.{Opening}
 use Rattle.erm_rule.specs.Rule.{first_book, first_core, first_rows, first_view, sessions_from}
@@ -19,6 +20,7 @@ use Rattle.erm_rule.proofs.Opens.{first_all, session_in}
 use Rattle.erm_rule.proofs.Parts.{found_among, split_at}
 use Rattle.erm_session.specs.declared.session.Session.{Session}
 use Rattle.erm_session.specs.Session.{IsSession}
+use Rattle.erm_table_world.specs.Flusher.{pin_in}
 use Rattle.erm_table_world.specs.Stands.{AreNew, AreSessions, IsStateful, StandsAt}
 
 once_sessions : (o : Opening) (n : ℕ) → EachOnce (sessions_from o n)
@@ -70,9 +72,17 @@ module _ (o : Opening) where
     starts = refl;
   }
 
+  -- nothing is pinned
+  pinned_at : (b : Bool) (n : ℕ) → IfSome (pin_of (fresh_part (if b then Idle else Vacant) o.run o.tail).place (fresh_part (if b then Idle else Vacant) o.run o.tail).current) (λ place. n ≡ place)
+  pinned_at true n = tt
+  pinned_at false n = tt
+
+  pub first_unpinned : (n : ℕ) → IfSome (pin_in (first_book o)) (λ place. n ≡ place)
+  first_unpinned n = pinned_at (is_taken o.sessions FLUSH_SEAT) n
+
   module _ (count : length o.rows.items ≡ OBJECT_LIMIT) where
     -- the rows are those of the opening, for the objects
-    row_is : (oid : ℕ) → oid < OBJECT_LIMIT → rows_of o.rows.items oid ≡ first_rows o oid
+    pub row_is : (oid : ℕ) → oid < OBJECT_LIMIT → rows_of o.rows.items oid ≡ first_rows o oid
     row_is oid known = sym (get_or_default o.rows.items oid (replicate 16 0) [] (omega (arith, known, count)))
 
     pub row_wide : ((oid : ℕ) → oid < length o.rows.items → length (get_or o.rows.items oid []) ≡ 16) → (oid : ℕ) → oid < OBJECT_LIMIT → length (first_rows o oid) ≡ 16

@@ -31,13 +31,13 @@ use Rattle.erm_rule.specs.Views.{part_of}
 use Rattle.erm_rule.specs.Went.{core_of}
 use Rattle.erm_session.specs.Calls.{HasClaimed, HasRead, IsUnclaimed, IsUnread, ReadsRow}
 use Rattle.erm_session.specs.Calls as session_calls
+use Rattle.erm_session.proofs.Listed.{own_row_is, row_read_is, unclaimed, unread}
 use Rattle.erm_world.specs.Calls as calls
 use Rattle.erm_world.specs.Calls.{Becomes, DidRead, IsNew, Works}
 use Rattle.erm_world.specs.Works.{is_claimed, own_row, reading, row_read}
 use Rattle.erm_world.specs.World.{IsSession, Session, View, Work, phase_at, work_at}
 use Rattle.erm_world.specs.World as world
 use Rattle.erm_table_world.specs.Stands.{StandsAt}
-use Rattle.erm_table_world.proofs.Listed.{own_row_is, row_read_is, unclaimed, unread}
 use Rattle.erm_table_world.proofs.Still.{Stayed, becomes}
 use Rattle.erm_table_world.proofs.Wholly.{Ran, part_is, part_set}
 
@@ -50,7 +50,7 @@ same_world law sessions seat b e plain ran stayed own =
     (λ (here : q ≡ seat). subst (λ n. session_of ((core_of e).seats n) ≡ session_of ((core_of b).seats n)) (sym here) own)
     (λ (there : q ≡ seat → ⊥). ap session_of (ran.others q there))
     (cases_eq q seat)))
-    stayed.tail stayed.flushed (stayed.pinned plain)
+    stayed.tail stayed.flushed (stayed.pinned plain) refl
 
 -- what a version's words make of the running numbers doesn't show
 rated_work : (words : Cell) (t : Attempt) → work_of (rated words t) ≡ work_of t

@@ -10,10 +10,9 @@ use Rattle.erm_machine.specs.declared.event.Kind.TheVariants as kind
 use Rattle.erm_machine.specs.declared.limits.TheConstants.{OBJECT_LIMIT}
 use Rattle.erm_machine.specs.declared.part.Part.{Part}
 use Rattle.erm_machine.specs.declared.version.CellWord.TheVariants as word
-use Rattle.erm_machine.specs.Core.{Core, Shared, spot_of, word_at}
+use Rattle.erm_machine.specs.Core.{Core, Shared}
 use Rattle.erm_machine.specs.Seat.{may_start}
 use Rattle.erm_machine.specs.Words.{is_seat, number_of, owner_of}
-use Rattle.erm_machine.proofs.QuietKinds.{moves}
 use Rattle.erm_cells.specs.Took.{IsEndStep}
 use Rattle.erm_core_view.specs.Views.{view_of}
 use Rattle.erm_core_steps.specs.Claiming.{is_cleared}
@@ -22,11 +21,10 @@ use Rattle.erm_core_steps.proofs.Early.{quiet_goes}
 use Rattle.erm_core_steps.proofs.Exchanges.{has_head, head_newer}
 use Rattle.erm_core_steps.proofs.Quiet.{IsActive}
 use Rattle.erm_core_steps.proofs.Unowned.{owner_owned, unowned}
-use Rattle.erm_core_steps.proofs.Unseen.{meets_one}
 use Rattle.erm_ends.specs.Ends as ends
 use Rattle.erm_rows.specs.Took.{TookMissed, TookNotFree, TookOther, begin_in}
 use Rattle.erm_rule.specs.declared.view.Book.{Book}
-use Rattle.erm_rule.specs.Went.{AllSteps, IsLoadStep, Took, Went, core_of}
+use Rattle.erm_rule.specs.Went.{IsLoadStep, Took, Went, core_of}
 use Rattle.erm_world.specs.Calls.{DidAbort, DidNotClaim, IsNewer, IsOwned}
 use Rattle.erm_world.specs.Works.{is_claimed}
 use Rattle.erm_world.specs.World.{IsSession, View, Work, phase_at, work_at}
@@ -37,22 +35,9 @@ use Rattle.erm_table_world.proofs.Claiming.{in_hand_is}
 use Rattle.erm_table_world.proofs.Loads.{loads_go, went_go}
 use Rattle.erm_table_world.proofs.Reading.{at_seat, work}
 use Rattle.erm_table_world.proofs.Still.{went_ran}
-use Rattle.erm_table_world.proofs.Waiting.{shared_stays}
 use Rattle.erm_table_world.proofs.Wholly.{part_is, runs, took_ran}
-
--- loads change nothing that is shared
-loads_shared : (law : Law) (seat : ℕ) (taken : List (Kind × ℕ)) (b e : Book) → Took law seat taken b e → AllSteps IsLoadStep taken → IsStateful law b → (core_of e).shared ≡ (core_of b).shared
-loads_shared law seat [] b e same all state = ap (λ (z : Book). (core_of z).shared) same
-loads_shared law seat (s ∷ taken) b e took all state =
-    let first = loads_shared law seat taken b took.0 took.1 all.1 state in
-    let before = (took_ran law 0 seat taken b took.0 took.1 state).state in
-    let run = runs law took.0 seat s.0 s.1 e took.2 before in
-    let m = moves (core_of took.0) seat s.0 (core_of e) (meets_one s.0 run.one) run.event in
-    ap (λ (to : Core). to.shared) m.is
-    ∙ shared_stays seat s.0 s.1 (word_at (core_of took.0) (spot_of seat s.0)) ((core_of took.0).seats seat) (core_of took.0).shared all.0 ∙ first
-
-seat_some : (q : ℕ) → is_seat q ≡ true → 0 < q
-seat_some q seat = grind (arith, seat)
+use Rattle.erm_table_world.proofs.TurnRows.{loads_same}
+use Rattle.erm_table_world.proofs.NotReading.{seat_some}
 
 module _ (law : Law) (sessions seat : ℕ) (b : Book) (at : StandsAt law sessions b) (session : IsSession (view_of sessions (core_of b)) seat) (active : phase_at (view_of sessions (core_of b)) seat ≡ phase.Active)
     (seated : is_seat seat ≡ true) (oid : ℕ) (known : oid < OBJECT_LIMIT) where
@@ -134,6 +119,6 @@ module _ (law : Law) (sessions seat : ℕ) (b : Book) (at : StandsAt law session
       let steps = head.took in
       let one = runs law b seat (kind.LoadEntry oid) took.entry steps.0 (took_alone law seat (kind.LoadEntry oid, took.entry) b steps.0 steps.1) at.state in
       let loads : List (Kind × ℕ) = (kind.LoadCell head.version word.Stamp, took.free.stamp) ∷ (kind.LoadEntry oid, took.entry) ∷ [] in
-      let same = loads_shared law seat loads b h steps (tt, (tt, tt)) at.state in
+      let same = loads_same law seat loads b h steps (tt, (tt, tt)) at.state in
       let state = (took_ran law sessions seat loads b h steps at.state).state in
       other_never took.entry took.number why h m one.met same state took.other

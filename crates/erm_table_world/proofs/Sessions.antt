@@ -2,7 +2,7 @@
 use Rattle.std.specs.Vec.{with_item}
 use Rattle.std.proofs.lemmas.Bool.{cases_eq, cases_lt, or_left}
 use Rattle.std.proofs.lemmas.List.{get_or-set_other, get_or-set_same, get_or_append_left, get_or_push, length-append, length-set, set-get_or}
-use Rattle.std.proofs.Common.{◌≡◌, ◌≢◌, ℕ, ◌+◌, ◌-◌, ◌<◌, ◌≤◌, ⊎_elim, true, List, [], ◌∷◌, ◌++◌, length, get_or, set, refl, sym, ap, ◌∙◌, subst, arith}
+use Rattle.std.proofs.Common.{◌≡◌, ◌≢◌, ℕ, ◌+◌, ◌-◌, ◌<◌, ◌≤◌, ⊎_elim, true, List, [], ◌∷◌, ◌++◌, length, get_or, set, IfSome, refl, sym, ap, ◌∙◌, subst, arith}
 use Rattle.atomic_table.specs.declared.shared.Seat.{Seat}
 use Rattle.erm_model.specs.declared.outcome.Phase.TheVariants as phase
 use Rattle.erm_model.specs.RowTransaction.{Law}
@@ -16,10 +16,9 @@ use Rattle.erm_machine.specs.declared.task.Task.TheVariants as task
 use Rattle.erm_machine.specs.Core.{Core, fresh_part}
 use Rattle.erm_machine.specs.Facts.{IsCurrent}
 use Rattle.erm_machine.specs.Seat.{is_active, is_sealed, may_start}
-use Rattle.erm_machine.specs.Settling.{may_settle}
 use Rattle.erm_machine.specs.Tasks.{TaskFits}
 use Rattle.erm_cells.specs.Calls.{starts_anew}
-use Rattle.erm_core_view.specs.Views.{IsBetween, IsQuiet, stand_of, view_of, work_of}
+use Rattle.erm_core_view.specs.Views.{IsBetween, IsQuiet, pin_of, stand_of, view_of, work_of}
 use Rattle.erm_machine.specs.Words.{is_flusher, is_seat, is_session}
 use Rattle.erm_core_steps.proofs.Aborts.{no_flusher}
 use Rattle.erm_core_steps.proofs.Quiet.{quiet_after, session_of_few}
@@ -40,6 +39,7 @@ use Rattle.erm_table_world.specs.declared.table_world.TableWorld.{TableWorld}
 use Rattle.erm_table_world.specs.Stands.{AreNew, AreSessions, IsSessionAt, IsStateful, Stands, table_view}
 use Rattle.erm_table_world.proofs.Still.{Stayed, went_ran, went_stayed}
 use Rattle.erm_table_world.proofs.Wholly.{Ran, known_of, part_is}
+use Rattle.erm_core_steps.proofs.Places.{active_between, sealed_between}
 
 active_phase : (pl : Place) (t : Attempt) → is_active pl ≡ true → phase.Active ≡ world.phase_of (stand_of pl t)
 active_phase (Active tail) t e = refl
@@ -63,14 +63,6 @@ idle_between _ t u e fits = absurd (cc)
 pub anew_starts : (u : Task) → starts_anew u ≡ true → may_start u ≡ true
 anew_starts (task.Cleared oid) e = refl
 anew_starts _ e = e
-
-active_between : (pl : Place) (u : Task) → is_active pl ≡ true → may_start u ≡ true → IsBetween pl u
-active_between (Active tail) u e starts = starts
-active_between _ u e starts = absurd (cc)
-
-sealed_between : (pl : Place) (u : Task) → is_sealed pl ≡ true → may_settle u ≡ true → IsBetween pl u
-sealed_between (Sealed tail stamp) u e may = may
-sealed_between _ u e may = absurd (cc)
 
 stage_between : (g : Stage) (x : Part) → StageIs g x → TaskFits x.place x.current x.task → IsBetween x.place x.task
 stage_between stage.Idle x is fits = idle_between x.place x.current x.task is fits
@@ -183,6 +175,7 @@ called law w who pass s stands session call = record {
   sessions =
       sessions_after w.sessions.items who s (core_of (book w.pass)) (core_of (book pass)) session.0 stands.sessions call.ran.others
       (record { seat_is = call.seat; is = call.is });
+  pin = subst (λ (x : Part). IfSome (pin_of x.place x.current) (λ place. w.pin ≡ place)) (sym (call.ran.others FLUSH_SEAT (λ same. no_flusher who (session_of_few w.count who (core_of (book w.pass)) stands.at.quiet session.0 session.1) (sym same)))) stands.pin;
 }
 
 -- the own session after the call, where it is that of the view
@@ -216,6 +209,7 @@ called_same law w who pass s stands session at call =
       at = after.at;
       count = stands.count;
       sessions = subst (λ (ss : List Session). AreSessions ss (core_of (book pass))) same after.sessions;
+      pin = after.pin;
     }
 
 -- A CALL of steps that leave the log's end and the place flushed

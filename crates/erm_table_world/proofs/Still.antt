@@ -76,4 +76,5 @@ becomes law sessions who b e s plain ran stayed own = record {
   tail = stayed.tail;
   flushed = stayed.flushed;
   pinned = stayed.pinned plain;
+  given_up = refl;
 }

@@ -25,7 +25,6 @@ use Rattle.erm_machine.specs.Chains.{IsNamed, NamedInHand}
 use Rattle.erm_machine.specs.Core.{Core, Shared, version_at}
 use Rattle.erm_machine.specs.Life.{is_between, load_state}
 use Rattle.erm_machine.specs.Snapshot.{InHand, IsNewestAt, NoneInHand}
-use Rattle.erm_machine.specs.Step.{shared_after}
 use Rattle.erm_machine.specs.Words.{is_clear, is_flusher, owner_of, state_of}
 use Rattle.erm_machine.proofs.Guards.{when_then}
 use Rattle.erm_machine.proofs.QuietKinds.{moves}
@@ -52,32 +51,20 @@ use Rattle.erm_table_world.specs.Turns.{Turned, book_log}
 use Rattle.erm_table_world.proofs.Beginning.{took_alone}
 use Rattle.erm_table_world.proofs.Still.{went_ran}
 use Rattle.erm_table_world.proofs.Wholly.{part_is, part_set, ran_one, runs, took_ran}
+use Rattle.erm_core_steps.proofs.Loads.{word_leaves}
+use Rattle.erm_table_world.proofs.Waiting.{loads_word}
 
 abbrev F : ℕ
 F = FLUSH_SEAT
 
 -- LOADS leave what is shared.
-load_same : (who : ℕ) (k : Kind) (found word : ℕ) (x : Part) (s : Shared) → IsLoadStep k word → shared_after who k found x s ≡ s
-load_same who (kind.LoadTail purpose) found word x s is = refl
-load_same who (kind.LoadBegin seat) found word x s is = refl
-load_same who (kind.LoadState seat bound) found word x s is = refl
-load_same who (kind.LoadEntry oid) found word x s is = refl
-load_same who (kind.LoadCell version w) found word x s is = refl
-load_same who (kind.LoadCounter counter) found word x s is = refl
-load_same who (kind.LoadReaders version) found word x s is = refl
-load_same who (kind.LoadStamp version w) found word x s is = refl
-load_same who (kind.LoadRing at) found word x s is = refl
-load_same who kind.LoadFlushed found word x s is = refl
-load_same who (kind.LoadDetached version) found word x s is = refl
-load_same who _ found word x s is = absurd is
-
 pub loads_same : (law : Law) (who : ℕ) (steps : List (Kind × ℕ)) (b e : Book) → Took law who steps b e → AllSteps IsLoadStep steps → IsStateful law b → (core_of e).shared ≡ (core_of b).shared
 loads_same law who [] b e took all state = ap (λ (z : Book). (core_of z).shared) took
 loads_same law who (s ∷ steps) b e took all state =
     let before = (took_ran law 0 who steps b took.0 took.1 state).state in
     let run = runs law took.0 who s.0 s.1 e took.2 before in
     let step = moves (core_of took.0) who s.0 (core_of e) run.one run.event in
-    ap (λ (c : Core). c.shared) step.is ∙ load_same who s.0 _ s.1 ((core_of took.0).seats who) (core_of took.0).shared all.0 ∙ loads_same law who steps b took.0 took.1 all.1 state
+    ap (λ (c : Core). c.shared) step.is ∙ word_leaves who s.0 _ ((core_of took.0).seats who) (core_of took.0).shared (loads_word s.0 s.1 all.0) ∙ loads_same law who steps b took.0 took.1 all.1 state
 
 shared_stays : (s t : Shared) → t ≡ s → SharedStays s t
 shared_stays s t same = record {

@@ -1,5 +1,5 @@
 -- A settle: it decides the transaction, or waits for the ring or for another session.
-use Rattle.std.proofs.Common.{◌≡◌, ◌≢◌, ℕ, ◌<◌, ◌≤◌, true, false, List, [], ◌∷◌, length, Some, refl, sym, ap, ◌∙◌, subst, arith}
+use Rattle.std.proofs.Common.{◌≡◌, ◌≢◌, ℕ, ◌≤◌, true, false, List, [], ◌∷◌, length, Some, refl, sym, ap, ◌∙◌, subst}
 use Rattle.std.specs.Int.{trailing_zeros, w64}
 use Rattle.std.proofs.lemmas.Bool.{and_from, eq-eqb, lt-ltb}
 use Rattle.erm_model.specs.declared.outcome.Outcome.{Outcome}
@@ -19,7 +19,6 @@ use Rattle.erm_machine.specs.Life.{load_tail_to_begin}
 use Rattle.erm_machine.specs.Seat.{is_sealed}
 use Rattle.erm_machine.specs.Settling.{has_room, may_settle}
 use Rattle.erm_machine.specs.Sound.{Sound}
-use Rattle.erm_machine.specs.Step.{shared_after}
 use Rattle.erm_machine.specs.Words.{is_clear, is_seat, is_session, state_of}
 use Rattle.erm_machine.proofs.QuietKinds.{moves}
 use Rattle.erm_record.specs.Stored.{stored_length}
@@ -29,9 +28,12 @@ use Rattle.erm_core_view.specs.Views.{session_of, stand_of, view_of, work_of}
 use Rattle.erm_core_steps.specs.Ends as steps
 use Rattle.erm_core_steps.specs.Settles.{HasPassed, IsPassing, IsWaiting, LooksAt, at_owner, at_reader}
 use Rattle.erm_core_steps.specs.Steps.{IsUnseen}
-use Rattle.erm_core_steps.proofs.Passing.{look_stays}
+use Rattle.erm_core_steps.proofs.Loads.{word_leaves}
+use Rattle.erm_core_steps.proofs.Passes.{load_next, look_stays}
+use Rattle.erm_core_steps.specs.Steps.{LoadsWord}
 use Rattle.erm_core_steps.proofs.Settling.{MaySettle, as_before, did_settle, flush_size, flush_unseen, is_full, is_one, not_full, not_settled, passing_may, ring_full, settle_may, starts}
-use Rattle.erm_core_steps.proofs.Unseen.{meets_one, unseen_both, unseen_none, unseen_step}
+use Rattle.erm_core_view.proofs.Moved.{meets_one}
+use Rattle.erm_core_steps.proofs.Unseen.{unseen_both, unseen_none, unseen_step}
 use Rattle.erm_precommit.specs.Settle.{reached_part}
 use Rattle.erm_precommit.specs.Took as precommit
 use Rattle.erm_precommit.specs.Took.{TookRingWait, TookStartedWait}
@@ -48,13 +50,12 @@ use Rattle.erm_world.specs.Calls.{DidNotSettle, DidSettle}
 use Rattle.erm_world.specs.World.{IsSession, Session, Stand, phase_at}
 use Rattle.erm_world.specs.World as world
 use Rattle.erm_table_world.specs.Stands.{IsStateful, StandsAt}
-use Rattle.erm_table_world.proofs.Aborting.{ends_still}
 use Rattle.erm_table_world.proofs.Beginning.{took_alone}
 use Rattle.erm_table_world.proofs.Loads.{load_shows, load_still}
-use Rattle.erm_table_world.proofs.Passed.{load_next}
 use Rattle.erm_table_world.proofs.Settled.{between, has_decided, has_left, rests}
 use Rattle.erm_table_world.proofs.Still.{still_drawn, still_flushed, went_ran, went_stayed}
 use Rattle.erm_table_world.proofs.Wholly.{Ran, part_is, part_set, ran_one, runs, took_ran}
+use Rattle.erm_cells.proofs.Took.{ends_still}
 
 -- a sealed session doesn't load the tail to begin
 no_begin : (seat found : ℕ) (x y : Part) (pl : Place) → is_sealed pl ≡ true → load_tail_to_begin seat found x pl ≡ Some y → ⊥
@@ -108,29 +109,29 @@ pub record GoesPassing (seat : ℕ) (c d : Core) : Type 0 where
   pub passes : IsPassing d.shared (d.seats seat)
   pub size : (d.seats seat).current.size ≡ (c.seats seat).current.size
 
-pub shared_stays : (seat : ℕ) (k : Kind) (found word : ℕ) (x : Part) (s : Shared) → IsLoadStep k found → shared_after seat k word x s ≡ s
-shared_stays seat (kind.LoadTail purpose) found word x s is = refl
-shared_stays seat (kind.LoadBegin q) found word x s is = refl
-shared_stays seat (kind.LoadState q bound) found word x s is = refl
-shared_stays seat (kind.LoadEntry oid) found word x s is = refl
-shared_stays seat (kind.LoadCell v w) found word x s is = refl
-shared_stays seat (kind.LoadCounter counter) found word x s is = refl
-shared_stays seat (kind.LoadReaders v) found word x s is = refl
-shared_stays seat (kind.LoadStamp v w) found word x s is = refl
-shared_stays seat (kind.LoadRing at) found word x s is = refl
-shared_stays seat kind.LoadFlushed found word x s is = refl
-shared_stays seat (kind.LoadDetached v) found word x s is = refl
-shared_stays seat _ found word x s is = absurd is
+pub loads_word : (k : Kind) (found : ℕ) → IsLoadStep k found → LoadsWord k
+loads_word (kind.LoadTail purpose) found is = tt
+loads_word (kind.LoadBegin q) found is = tt
+loads_word (kind.LoadState q bound) found is = tt
+loads_word (kind.LoadEntry oid) found is = tt
+loads_word (kind.LoadCell v w) found is = tt
+loads_word (kind.LoadCounter counter) found is = tt
+loads_word (kind.LoadReaders v) found is = tt
+loads_word (kind.LoadStamp v w) found is = tt
+loads_word (kind.LoadRing at) found is = tt
+loads_word kind.LoadFlushed found is = tt
+loads_word (kind.LoadDetached v) found is = tt
+loads_word _ found is = absurd is
 
 load_passes : (law : Law) (seat : ℕ) (k : Kind) (found : ℕ) (b e : Book) → Booked law b seat k found e → IsStateful law b → IsLoadStep k found → IsPassing (core_of b).shared ((core_of b).seats seat)
     → GoesPassing seat (core_of b) (core_of e)
 load_passes law seat k found b e booked state is passes =
     let run = runs law b seat k found e booked state in
     let m = moves (core_of b) seat k (core_of e) (meets_one k run.one) run.event in
-    let next = load_next (core_of b) seat k found m.part is passes m.after in
+    let next = load_next (core_of b) seat k m.part (loads_word k found is) passes m.after in
     let own : (core_of e).seats seat ≡ m.part = own_after (core_of b) seat k (core_of e) m in
     let shared : (core_of e).shared ≡ (core_of b).shared =
-    ap (λ (to : Core). to.shared) m.is ∙ shared_stays seat k found (word_at (core_of b) (spot_of seat k)) ((core_of b).seats seat) (core_of b).shared is
+    ap (λ (to : Core). to.shared) m.is ∙ word_leaves seat k (word_at (core_of b) (spot_of seat k)) ((core_of b).seats seat) (core_of b).shared (loads_word k found is)
     in
     record {
       passes =
@@ -252,7 +253,7 @@ module _ (law : Law) (sessions seat : ℕ) (b e : Book) (at : StandsAt law sessi
       let mine : c.seats seat ≡ m.part = own_after (core_of h) seat k c m in
       let word : state_of ((core_of h).seats other).place ≡ seen = last.met in
       let unclear : is_clear (state_of ((core_of h).seats other).place) bound ≡ false = ap (λ (n : ℕ). is_clear n bound) word ∙ took.waits.unclear in
-      let stays = look_stays (core_of h).shared ((core_of h).seats seat) seat other bound (state_of ((core_of h).seats other).place) m.part unclear m.after in
+      let stays = look_stays ((core_of h).seats seat) seat other bound (state_of ((core_of h).seats other).place) m.part unclear m.after in
       let stamp : bound ≡ (c.seats seat).current.stamp =
       ap (λ (x : Part). x.current.stamp) there ∙ sym (ap (λ (t : Attempt). t.stamp) stays.1) ∙ sym (ap (λ (x : Part). x.current.stamp) mine)
       in

@@ -1,6 +1,6 @@
 -- A write: the object is claimed, and then the row of its claim is set.
-use Rattle.std.proofs.Common.{◌≡◌, ◌≢◌, ⊎_elim, ℕ, zero, suc, ◌+◌, ◌<◌, ◌≤◌, Bool, true, false, not, eqb, cond, List, [], ◌∷◌, length, map, set, get_or, Some, refl, sym, ap, ◌∙◌, subst, arith}
-use Rattle.std.proofs.lemmas.Bool.{cases_lt, cond-false, cond-true, eq-eqb, ne_eqb}
+use Rattle.std.proofs.Common.{◌≡◌, ◌≢◌, ⊎_elim, ℕ, zero, suc, ◌+◌, ◌<◌, ◌≤◌, Bool, true, false, not, List, [], ◌∷◌, length, map, set, get_or, Some, refl, sym, ap, ◌∙◌, subst, arith}
+use Rattle.std.proofs.lemmas.Bool.{cases_lt}
 use Rattle.std.proofs.lemmas.List.{get_or-set_other, get_or-set_same, length-append, length-set, map-append}
 use Rattle.erm_model.specs.declared.history.VersionWritten.{VersionWritten}
 use Rattle.erm_model.specs.declared.limits.TheConstants.{WRITE_LIMIT}
@@ -57,6 +57,7 @@ use Rattle.erm_table_world.proofs.Claiming as claiming_of
 use Rattle.erm_table_world.proofs.Reading.{at_seat, is_unclaimed, work}
 use Rattle.erm_table_world.proofs.Still.{Stayed, becomes}
 use Rattle.erm_table_world.proofs.Wholly.{Ran, part_is, part_put, part_set, runs, took_ran}
+use Rattle.erm_core_view.proofs.Rows.{hit, miss}
 
 -- STORES leave as many claims as there were.
 abbrev pub SameCount : Part → Part → Type 0
@@ -96,22 +97,7 @@ stores_count law seat (s ∷ steps) b e took all state =
     let run = runs law took.0 seat s.0 s.1 e took.2 (took_ran law 0 seat steps b took.0 took.1 state).state in
     one_count seat s.0 s.1 (core_of took.0) (core_of e) all.0 run.event ∙ before
 
--- A ROW THAT IS SET shows at its object's claim, and at no other one.
-set_here : (oid : ℕ) (row : List ℕ) (v : VersionWritten) → v.oid ≡ oid → with_row oid row v ≡ record v { row = row; is_set = true }
-set_here oid row v same =
-    let is : eqb v.oid oid ≡ true = eq-eqb v.oid oid same in
-    let one : cond (eqb v.oid oid) row v.row ≡ row = cond-true (eqb v.oid oid) row v.row is in
-    let two : cond (eqb v.oid oid) true v.is_set ≡ true = cond-true (eqb v.oid oid) true v.is_set is in
-    cc
-
-set_elsewhere : (oid : ℕ) (row : List ℕ) (v : VersionWritten) → (v.oid ≡ oid → ⊥) → with_row oid row v ≡ v
-set_elsewhere oid row v other =
-    let is : eqb v.oid oid ≡ false = ne_eqb v.oid oid other in
-    let one : cond (eqb v.oid oid) row v.row ≡ v.row = cond-false (eqb v.oid oid) row v.row is in
-    let two : cond (eqb v.oid oid) true v.is_set ≡ v.is_set = cond-false (eqb v.oid oid) true v.is_set is in
-    cc
-
--- the claim at this place is the only one of the object
+-- A ROW THAT IS SET shows at its object's claim, and at no other one: the claim at this place is the only one of the object.
 abbrev pub IsOnly : List Claim → ℕ → ℕ → Type 0
 IsOnly ws place oid = (k : ℕ) → k < length ws → k ≢ place → (get_or ws k no_claim).version.oid ≢ oid
 
@@ -119,7 +105,7 @@ rows_left : (ws : List Claim) (oid : ℕ) (row : List ℕ) → ((k : ℕ) → k 
     → map (with_row oid row) (map written_of ws) ≡ map written_of ws
 rows_left [] oid row none = refl
 rows_left (w ∷ ws) oid row none =
-    let here = set_elsewhere oid row (written_of w) (none 0 (omega arith)) in
+    let here = miss oid row (written_of w) (none 0 (omega arith)) in
     let rest = rows_left ws oid row (λ k within. none (suc k) (omega (arith, within))) in
     ap (λ (v : VersionWritten). v ∷ map (with_row oid row) (map written_of ws)) here ∙ ap (λ (vs : List VersionWritten). written_of w ∷ vs) rest
 
@@ -131,11 +117,11 @@ rows_set : (ws : List Claim) (place oid : ℕ) (row : List ℕ) → place < leng
     → map written_of (set ws place (row_claim ws place row)) ≡ map (with_row oid row) (map written_of ws)
 rows_set [] place oid row within is only = absurd (omega (arith, within))
 rows_set (w ∷ ws) zero oid row within is only =
-    let here = set_here oid row (written_of w) is in
+    let here = hit oid row (written_of w) is in
     let rest = rows_left ws oid row (λ k low. only (suc k) (omega (arith, low)) (λ none. omega (arith, none))) in
     ap (λ (v : VersionWritten). v ∷ map written_of ws) (sym here) ∙ ap (λ (vs : List VersionWritten). with_row oid row (written_of w) ∷ vs) (sym rest)
 rows_set (w ∷ ws) (suc place) oid row within is only =
-    let here = set_elsewhere oid row (written_of w) (only 0 (omega arith) (λ none. omega (arith, none))) in
+    let here = miss oid row (written_of w) (only 0 (omega arith) (λ none. omega (arith, none))) in
     let rest = rows_set ws place oid row (omega (arith, within)) is (λ k low other. only (suc k) (omega (arith, low)) (λ same. other (omega (arith, same)))) in
     ap (λ (v : VersionWritten). v ∷ map written_of (set ws place (row_claim ws place row))) (sym here)
     ∙ ap (λ (vs : List VersionWritten). with_row oid row (written_of w) ∷ vs) rest
@@ -176,6 +162,7 @@ session_works v seat w = record {
   tail = refl;
   flushed = refl;
   pinned = refl;
+  given_up = refl;
 }
 
 module _ (law : Law) (sessions seat : ℕ) (b e : Book) (at : StandsAt law sessions b) (session : IsSession (view_of sessions (core_of b)) seat) (active : phase_at (view_of sessions (core_of b)) seat ≡ phase.Active)

@@ -1,5 +1,6 @@
 pub mod Covered
 pub mod Flusher
+pub mod Logs
 pub mod Stands
 pub mod Turns
 pub mod Waits

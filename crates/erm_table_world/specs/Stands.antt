@@ -1,5 +1,5 @@
 -- The world over the word table: the state that the steps of its one pass lead to, and the sessions beside that pass.
-use Rattle.std.specs.Prelude.{◌≡◌, ℕ, ◌+◌, ◌<◌, true, List, length, slice_index_or}
+use Rattle.std.specs.Prelude.{◌≡◌, ℕ, ◌+◌, ◌<◌, true, List, length, slice_index_or, IfSome}
 use Rattle.erm_cells.specs.Calls.{starts_anew}
 use Rattle.erm_model.specs.declared.limits.TheConstants.{TABLE_CELLS}
 use Rattle.erm_model.specs.RowTransaction.{Law}
@@ -17,7 +17,7 @@ use Rattle.erm_rule.specs.Went.{IsWhole, core_of}
 use Rattle.erm_session.specs.declared.session.Session.{Session}
 use Rattle.erm_session.specs.Session.{IsSession}
 use Rattle.erm_table_world.specs.Covered.{IsCovered}
-use Rattle.erm_table_world.specs.Flusher.{task_in}
+use Rattle.erm_table_world.specs.Flusher.{pin_in, task_in}
 use Rattle.erm_world.specs.Laws.{IsPossibleIn, IsSerializable}
 use Rattle.erm_world.specs.Log.{IsLog, Log}
 use Rattle.erm_world.specs.Whole.{IsLogOf}
@@ -57,12 +57,14 @@ AreNew run sessions =
     (k : ℕ) (d : Session) → k < length sessions
     → ((slice_index_or sessions k d).seat ≡ k + 1) × ((tail : ℕ) → IsSession (slice_index_or sessions k d) (fresh_part Idle run tail))
 
--- It may be called: the pass is the table's, and the sessions are as the pass has their seats.
+-- It may be called: the pass is the table's, the sessions are as the pass has their seats, and the pin's place is the one that is kept,
+-- while there is a pin.
 pub record Stands {L : Type 0} (law : Law) (w : TableWorld L) : Type 0 where
   pub fits : Fits w.table.words.shared.table_id w.pass
   pub at : StandsAt law w.count (book w.pass)
   pub count : length w.sessions.items ≡ w.count
   pub sessions : AreSessions w.sessions.items (core_of (book w.pass))
+  pub pin : IfSome (pin_in (book w.pass)) (λ place. w.pin ≡ place)
 
 -- what it means: the view of the state that the steps of its pass lead to
 abbrev pub table_view : {L : Type 0} → TableWorld L → View
@@ -86,4 +88,4 @@ pub record IsTableWorld {L : Type 0} (law : Law) (w : TableWorld L) : Type 0 whe
   pub serializable : IsSerializable law (world_view w)
   pub possible : IsPossibleIn law (world_view w)
   pub log : IsLog law.meets (table_log w)
-  pub log_of_view : IsLogOf (table_view w) (table_log w)
+  pub log_of_view : IsLogOf (world_view w) (table_log w)

@@ -3,6 +3,7 @@
 
 mod begins;
 mod claims;
+mod log_world;
 mod makes;
 mod reads;
 mod seals;

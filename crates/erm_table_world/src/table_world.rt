@@ -9,7 +9,7 @@ ghost use Rattle.erm_rule.specs.Went.{core_of};
 ghost use Rattle.erm_table_world.specs.Stands.{AreNew, Stands, table_view};
 ghost use Rattle.erm_world.specs.World.{IsSession, phase_at};
 
-use erm_model::{Phase, Row, RowLaw, Seat};
+use erm_model::{Phase, Row, RowLaw, Seat, Stamp};
 use erm_rule::{Opening, Pass, Table};
 use erm_session::Session;
 use std::alloc::{AllocError, Global};
@@ -23,6 +23,8 @@ pub struct TableWorld<L: RowLaw> {
     // What each session keeps beside the pass, in the order of their seats, from 1 on.
     pub(crate) sessions: Vec<Session>,
     pub(crate) count: Seat,
+    // The place that the flush seat has pinned, while it has a pin.
+    pub(crate) pin: Stamp,
 }
 
 // Each row has so many words. This holds of every slice, and the function does nothing.
@@ -73,6 +75,7 @@ impl<L: RowLaw> TableWorld<L> {
             pass,
             sessions,
             count: opening.sessions,
+            pin: 0,
         })
     }
 

@@ -26,6 +26,7 @@ pub record Becomes (v : View) (seat : ℕ) (s : Session) (t : View) : Type 0 whe
   pub tail : t.tail ≡ v.tail
   pub flushed : t.flushed ≡ v.flushed
   pub pinned : t.pinned ≡ v.pinned
+  pub given_up : t.given_up ≡ v.given_up
 
 -- the transaction in progress has become this one
 abbrev pub Works : View → ℕ → Work → View → Type 0
@@ -202,6 +203,7 @@ pub record DidSeal (v : View) (seat stamp : ℕ) (t : View) : Type 0 where
   pub fits : size_of (work_at v seat) ≤ GREATEST_BLOCK
   pub flushed : t.flushed ≡ v.flushed
   pub pinned : t.pinned ≡ v.pinned
+  pub given_up : t.given_up ≡ v.given_up
 
 -- another session's transaction, sealed with this stamp below the bound
 pub record IsSealedBelow (v : View) (seat bound other seen : ℕ) (work : Work) : Type 0 where

@@ -57,14 +57,20 @@ pub record Opening : Type 0 where
   pub sessions : ℕ
   pub cuts : ℕ
 
--- a world: how it was opened, its sessions, the end of its log, the place of the log below which all is synced, and the place as
--- of which rows are pinned, where they are
+-- a transaction, by its number, had claimed this object, and gave the claim up, since there was no cell for a version of it
+pub record GivenUp : Type 0 where
+  pub number : ℕ
+  pub oid : ℕ
+
+-- a world: how it was opened, its sessions, the end of its log, the place of the log below which all is synced, the place as of which rows are
+-- pinned, where they are, and which claims its sessions gave up where another session may have met them
 pub record View : Type 0 where
   pub opening : Opening
   pub session : ℕ → Session
   pub tail : ℕ
   pub flushed : ℕ
   pub pinned : Option ℕ
+  pub given_up : ℕ → List GivenUp
 
 -- the seat is one of a session of the world
 abbrev pub IsSession : View → ℕ → Type 0

@@ -4,7 +4,8 @@ use Rattle.erm_core_view.specs.Views.{view_of}
 use Rattle.erm_world.specs.Calls.{DidNotRead}
 use Rattle.erm_core_steps.specs.Reads.{GoesOn, IsWaiting}
 use Rattle.erm_plain.specs.Stands.{plain_view}
-use Rattle.erm_core_steps.proofs.Owners.{err_to, not_yet, owner_other}
+use Rattle.erm_core_steps.proofs.Owners.{not_yet, owner_other}
+use Rattle.erm_core_steps.proofs.Results.{err_to}
 use Rattle.erm_core_steps.proofs.Quiet.{active_seat}
 use Rattle.erm_core_steps.proofs.Ways.{arrived_owner, arrived_walks, begin_stays, entry_arrives, entry_taken, goes_both}
 use Rattle.erm_plain.proofs.plain.Plain.arrive.Goals as goal

@@ -1,4 +1,7 @@
-use Rattle.std.proofs.Common.{◌≡◌, ap, ◌∙◌, sym, subst}
+use Rattle.std.proofs.Common.{◌≡◌, ◌≢◌, ℕ, ap, ◌∙◌, sym, subst}
+use Rattle.erm_model.specs.declared.row_stop.RowStop.TheVariants.{CellsFull}
+use Rattle.erm_world.specs.Calls.{DidClaim, DidNotClaim}
+use Rattle.erm_core_steps.proofs.Results.{err_to, on_ok_to}
 use Rattle.erm_model.specs.declared.outcome.Phase.TheVariants as phase
 use Rattle.erm_machine.specs.Seat.{may_start}
 use Rattle.erm_machine.specs.Words.{owner_of}
@@ -77,8 +80,8 @@ test_early-requires g c =
       active = subst (λ v. phase_at v seat ≡ phase.Active) (sym shown) (still_active (plain_view c.args.self.now) (view_of sessions between) seat _ shows);
     }
 
-pub returns-in-Ok-clause-ok : goal.returns-in-Ok-clause-ok
-returns-in-Ok-clause-ok g c =
+pub returns-clause-ok : goal.returns-clause-ok
+returns-clause-ok g c =
     let sessions = c.args.self.now.sessions in
     let seat = c.args.seat in
     let before = core_of c.args.self.now.state in
@@ -89,12 +92,16 @@ returns-in-Ok-clause-ok g c =
     let shown : plain_view c.finish_claim.new.self ≡ view_of sessions between = ap (λ n. view_of n after) all ∙ unseen.view in
     let at = active_seat sessions seat before c.requires.stands.quiet c.requires.session c.requires.active in
     let none : owner_of (before.shared.objects c.args.oid).entry ≡ 0 = ap owner_of c.requires.free.entry_is ∙ c.requires.free.unowned in
+    on_ok_to c.test_early.result (plain_view c.test_early.new.self ≡ plain_view c.finish_claim.new.self)
+    (DidClaim (plain_view c.args.self.now) seat c.args.oid (plain_view c.test_early.new.self))
+    (λ same.
     claim_done (plain_view c.args.self.now) (view_of sessions between) (plain_view c.test_early.new.self) seat c.args.oid c.exchange.ensures.exchanged.stamp c.exchange.ensures.exchanged.base
     c.requires.may (unowned sessions seat c.args.oid before c.requires.stands.sound.sound c.requires.stands.quiet none)
-    (free_current sessions seat c.args.oid c.args.entry before c.requires.stands.sound.sound at.active c.requires.free) c.exchange.ensures.exchanged.shows (c.in-Ok.ensures.ok ∙ shown)
+    (free_current sessions seat c.args.oid c.args.entry before c.requires.stands.sound.sound at.active c.requires.free) c.exchange.ensures.exchanged.shows (same ∙ shown))
+    c.test_early.ensures.ok
 
-pub returns-in-Err-clause-err : goal.returns-in-Err-clause-err
-returns-in-Err-clause-err g c =
+pub returns-clause-err : goal.returns-clause-err
+returns-clause-err g c =
     let sessions = c.args.self.now.sessions in
     let seat = c.args.seat in
     let before = core_of c.args.self.now.state in
@@ -105,10 +112,16 @@ returns-in-Err-clause-err g c =
     let shown : plain_view c.finish_claim.new.self ≡ view_of sessions between = ap (λ n. view_of n after) all ∙ unseen.view in
     let at = active_seat sessions seat before c.requires.stands.quiet c.requires.session c.requires.active in
     let none : owner_of (before.shared.objects c.args.oid).entry ≡ 0 = ap owner_of c.requires.free.entry_is ∙ c.requires.free.unowned in
+    err_to c.test_early.result (IsExcluded (plain_view c.finish_claim.new.self) seat (plain_view c.test_early.new.self))
+    (λ why. DidNotClaim (plain_view c.args.self.now) seat c.args.oid why (plain_view c.test_early.new.self))
+    (λ why did.
     claim_excluded (plain_view c.args.self.now) (view_of sessions between) (plain_view c.test_early.new.self) seat c.args.oid c.exchange.ensures.exchanged.stamp
-    c.exchange.ensures.exchanged.base c.in-Err.why c.requires.may (unowned sessions seat c.args.oid before c.requires.stands.sound.sound c.requires.stands.quiet none)
+    c.exchange.ensures.exchanged.base why c.requires.may (unowned sessions seat c.args.oid before c.requires.stands.sound.sound c.requires.stands.quiet none)
     (free_current sessions seat c.args.oid c.args.entry before c.requires.stands.sound.sound at.active c.requires.free)
-    c.exchange.ensures.exchanged.shows (subst (λ v. IsExcluded v seat (plain_view c.test_early.new.self) c.in-Err.why) shown c.in-Err.ensures.err)
+    c.exchange.ensures.exchanged.shows (subst (λ v. IsExcluded v seat (plain_view c.test_early.new.self) why) shown did))
+    c.test_early.ensures.err
 
-pub returns-in-Err-clause-cells : goal.returns-in-Err-clause-cells
-returns-in-Err-clause-cells g c = excluded_cells (plain_view c.finish_claim.new.self) (plain_view c.test_early.new.self) c.args.seat c.in-Err.why c.in-Err.ensures.err
+pub returns-clause-cells : goal.returns-clause-cells
+returns-clause-cells g c =
+    err_to c.test_early.result (IsExcluded (plain_view c.finish_claim.new.self) c.args.seat (plain_view c.test_early.new.self)) (λ why. (drawn : ℕ) → why ≢ CellsFull drawn)
+    (λ why did. excluded_cells (plain_view c.finish_claim.new.self) (plain_view c.test_early.new.self) c.args.seat why did) c.test_early.ensures.err

@@ -1,5 +1,6 @@
 use Rattle.erm_core.specs.Cores.{core_of}
-use Rattle.erm_core_steps.proofs.Ways.{load_adds, load_free, load_goes, load_leaves}
+use Rattle.erm_core_steps.proofs.Loads.{load_free, load_leaves, loads}
+use Rattle.erm_core_steps.proofs.Ways.{load_goes}
 use Rattle.erm_plain.proofs.plain.Plain.load.Goals as goal
 
 pub go-requires : goal.go-requires
@@ -12,5 +13,5 @@ returns-clause-goes g c =
 
 pub returns-clause-room : goal.returns-clause-room
 returns-clause-room g c = λ n room.
-    c.rooms_last.ensures.own c.args.self.now.state c.go.new.self.state c.args.seat c.args.kind n c.go.ensures.left (load_adds c.args.kind c.requires.loads)
+    c.rooms_last.ensures.own c.args.self.now.state c.go.new.self.state c.args.seat c.args.kind n c.go.ensures.left (loads c.args.kind c.requires.loads).adds
     (load_leaves c.args.kind n c.requires.loads) room

@@ -2,7 +2,8 @@ use Rattle.std.proofs.Common.{◌≡◌, ap, ◌∙◌}
 use Rattle.erm_machine.specs.Core.{spot_of, word_at}
 use Rattle.erm_core.specs.Cores.{core_of}
 use Rattle.erm_core_steps.specs.Steps.{found_in}
-use Rattle.erm_core_steps.proofs.Passing.{is_load, is_taken, less, load_free, loads_one, now_waits, still_passing, still_size, still_unseen}
+use Rattle.erm_core_steps.proofs.Loads.{load_free}
+use Rattle.erm_core_steps.proofs.Passing.{is_load, is_taken, less, loads_one, now_waits, still_passing, still_size, still_unseen}
 use Rattle.erm_plain.proofs.plain.Plain.pass_versions.Goals as goal
 
 pub go-requires-clause-free : goal.go-requires-clause-free

@@ -1,4 +1,8 @@
+use Rattle.std.proofs.Common.{◌≡◌, true, false, ap, ◌∙◌, sym}
 use Rattle.erm_core.specs.Cores.{core_of}
+use Rattle.erm_core_view.proofs.Shown.{work_active}
+use Rattle.erm_world.specs.World.{Work}
+use Rattle.erm_world.specs.Works.{is_claimed, row_read}
 use Rattle.erm_core_steps.proofs.Quiet.{active_seat}
 use Rattle.erm_plain.proofs.plain.Plain.read.Goals as goal
 
@@ -11,3 +15,22 @@ pub row_read-requires : goal.row_read-requires
 row_read-requires g c =
     let at = active_seat c.args.self.now.sessions c.args.seat (core_of c.args.self.now.state) c.requires.stands.quiet c.requires.session c.requires.active in
     record { session = at.session }
+
+pub returns-in-Some-clause-open_still : goal.returns-in-Some-clause-open_still
+returns-in-Some-clause-open_still g c = λ new.
+    let now = core_of c.args.self.now.state in
+    let at = active_seat c.args.self.now.sessions c.args.seat now c.requires.stands.quiet c.requires.session c.requires.active in
+    let x = now.seats c.args.seat in
+    let shown = ap (λ (w : Work). is_claimed w.claims c.args.oid) (work_active x.place x.current at.active) in
+    let both : true ≡ false = sym c.in-Some.ensures.claimed ∙ sym shown ∙ new.unclaimed in
+    absurd (cc)
+
+pub returns-in-Some-row_read-clause-open_still : goal.returns-in-Some-row_read-clause-open_still
+returns-in-Some-row_read-clause-open_still g c = λ new.
+    let now = core_of c.args.self.now.state in
+    let at = active_seat c.args.self.now.sessions c.args.seat now c.requires.stands.quiet c.requires.session c.requires.active in
+    let x = now.seats c.args.seat in
+    let shown = ap (λ (w : Work). row_read w.reads c.args.oid) (work_active x.place x.current at.active) in
+    let none = sym c.row_read.ensures ∙ c.in-Some-row_read.is in
+    let both = sym new.unread ∙ shown ∙ none in
+    absurd (cc)

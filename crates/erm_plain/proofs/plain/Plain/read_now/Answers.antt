@@ -1,13 +1,24 @@
+use Rattle.std.proofs.Common.{IfErr, subst, sym}
+use Rattle.std.proofs.lemmas.Result.{err_from_is_err_and}
+use Rattle.erm_model.specs.declared.row_stop.RowStop.{RowStop}
+use Rattle.erm_world.specs.Calls.{DidNotRead}
 use Rattle.erm_plain.specs.Stands.{plain_view}
 use Rattle.erm_core_steps.proofs.Readings.{read_excluded, read_goes_on}
 use Rattle.erm_plain.proofs.plain.Plain.read_now.Goals as goal
 
-pub returns-in-Ok-clause-ok : goal.returns-in-Ok-clause-ok
-returns-in-Ok-clause-ok g c =
+pub returns-clause-ok : goal.returns-clause-ok
+returns-clause-ok g c =
     read_goes_on (plain_view c.args.self.now) (plain_view c.read_version.new.self) (plain_view c.test_early.new.self) c.args.seat c.args.oid c.in_ok-row.row c.requires.new
-    c.requires.few c.in_ok-row.ensures.ok c.in-Ok.ensures.ok
+    c.requires.few c.in_ok-row.ensures.ok c.in_ok-test_early.ensures.ok
 
-pub returns-in-Err-clause-err : goal.returns-in-Err-clause-err
-returns-in-Err-clause-err g c =
-    read_excluded (plain_view c.args.self.now) (plain_view c.read_version.new.self) (plain_view c.test_early.new.self) c.args.seat c.args.oid c.in_ok-row.row c.in-Err.why c.requires.new
-    c.requires.few c.in_ok-row.ensures.ok c.in-Err.ensures.err
+pub returns-in_err-test_early-clause-err : goal.returns-in_err-test_early-clause-err
+returns-in_err-test_early-clause-err g c =
+    let v = plain_view c.args.self.now in
+    let t = plain_view c.test_early.new.self in
+    let shown =
+    read_excluded v (plain_view c.read_version.new.self) t c.args.seat c.args.oid c.in_ok-row.row c.in_err-test_early.field-0.0 c.requires.new c.requires.few
+    c.in_ok-row.ensures.ok c.in_err-test_early.ensures.err
+    in
+    let failed = err_from_is_err_and c.from_residual-in_err-test_early.result c.from_residual-in_err-test_early.ensures.1 in
+    subst (λ r. IfErr r (λ stop. DidNotRead v c.args.seat c.args.oid stop t)) (sym failed.1)
+    (subst (λ (stop : RowStop). DidNotRead v c.args.seat c.args.oid stop t) (sym failed.2) shown)

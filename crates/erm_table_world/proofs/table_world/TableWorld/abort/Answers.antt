@@ -5,10 +5,11 @@ use Rattle.erm_rule.specs.Books.{book}
 use Rattle.erm_rule.specs.Went.{IsStillStep, Went, core_of}
 use Rattle.erm_rule.specs.Views.{view}
 use Rattle.erm_core_steps.proofs.Quiet.{active_seat}
-use Rattle.erm_table_world.proofs.Aborting.{aborted, ends_still}
+use Rattle.erm_table_world.proofs.Aborting.{aborted}
 use Rattle.erm_table_world.proofs.Sessions.{called, here, is_now, quiet_still}
 use Rattle.erm_table_world.proofs.Still.{went_ran, went_stayed}
 use Rattle.erm_table_world.proofs.table_world.TableWorld.abort.Goals as goal
+use Rattle.erm_cells.proofs.Took.{ends_still}
 
 pub abort-requires : goal.abort-requires
 abort-requires g c =

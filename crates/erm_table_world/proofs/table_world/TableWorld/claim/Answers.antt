@@ -1,6 +1,5 @@
 use Rattle.std.proofs.Common.{ℕ, ◌∙◌, subst}
 use Rattle.erm_model.specs.declared.row_stop.RowStop.{RowStop}
-use Rattle.erm_model.specs.declared.row_stop.RowStop.TheVariants as stop
 use Rattle.erm_rule.specs.Books.{book}
 use Rattle.erm_rule.specs.Went.{core_of}
 use Rattle.erm_session.specs.Calls.{ClaimsObject, RefusesClaim}

@@ -1,12 +1,13 @@
-use Rattle.std.proofs.Common.{◌≡◌, ℕ, ◌<◌, List, [], length, get_or, sym, ◌∙◌, subst, arith}
+use Rattle.std.proofs.Common.{◌≡◌, ℕ, ◌<◌, List, [], length, get_or, IfSome, sym, ◌∙◌, subst, arith}
 use Rattle.erm_model.specs.declared.limits.TheConstants.{TABLE_CELLS}
 use Rattle.erm_machine.specs.Sound.{Sound}
 use Rattle.erm_sound.specs.Kept.{SoundUnder}
 use Rattle.erm_rule.specs.declared.view.Book.{Book}
 use Rattle.erm_rule.specs.Rule.{first_core, first_rows}
 use Rattle.erm_rule.specs.Went.{core_of}
+use Rattle.erm_table_world.specs.Flusher.{pin_in}
 use Rattle.erm_table_world.specs.Stands.{AreSessions, StandsAt}
-use Rattle.erm_table_world.proofs.Opening.{first_meets, first_sessions, first_stands, first_unreached, row_wide}
+use Rattle.erm_table_world.proofs.Opening.{first_meets, first_sessions, first_stands, first_unpinned, first_unreached, row_wide}
 use Rattle.erm_table_world.proofs.table_world.TableWorld.open.Goals as goal
 
 pub returns-clause-stands : goal.returns-clause-stands
@@ -30,4 +31,5 @@ returns-clause-stands g c =
       at = subst (λ (b : Book). StandsAt law o.sessions b) (sym book) (first_stands o law under r.few r.positive r.run_high);
       count = c.in_ok-sessions.ensures.count;
       sessions = subst (λ (b : Book). AreSessions c.in_ok-sessions.sessions.items (core_of b)) (sym book) (first_sessions o c.in_ok-sessions.sessions.items c.in_ok-sessions.ensures.count r.few c.in_ok-sessions.ensures.new);
+      pin = subst (λ (b : Book). IfSome (pin_in b) (λ place. 0 ≡ place)) (sym book) (first_unpinned o 0);
     }

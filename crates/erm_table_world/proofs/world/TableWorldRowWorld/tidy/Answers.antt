@@ -1,7 +1,7 @@
 use Rattle.erm_model.specs.declared.limits.TheConstants.{TABLE_CELLS}
 use Rattle.erm_table_world.specs.Stands.{table_view}
 use Rattle.erm_table_world.proofs.Cuts.{did_claim, did_not_claim}
-use Rattle.erm_table_world.proofs.Results.{err_to, on_ok_to}
+use Rattle.erm_core_steps.proofs.Results.{err_to, on_ok_to}
 use Rattle.erm_table_world.proofs.world.TableWorldRowWorld.tidy.Goals as goal
 
 pub returns-clause-stands : goal.returns-clause-stands

@@ -1,0 +1,6 @@
+//! The world over the word table, on rows that were recovered.
+#![tactic(auto)]
+
+mod recovered;
+
+pub use recovered::open_table;
