@@ -1,0 +1,4 @@
+pub mod Closed
+pub mod Ended
+pub mod Opened
+pub mod Taken

@@ -1,0 +1,13 @@
+//! How sessions that run on threads begin and end over the word table: a table is opened and hands out its sessions, each with the pass of its
+//! own seat; and once they have run, all passes are joined and the table is closed, in one world in which all have ended.
+#![tactic(auto)]
+
+mod closing;
+mod giving;
+mod opening;
+mod taking;
+#[cfg(test)]
+mod tests;
+
+pub use closing::close;
+pub use opening::{Opened, open};

@@ -1,0 +1,25 @@
+-- What is told of answers that are errors.
+use Rattle.std.proofs.Common.{◌≢◌, Result, Ok, Err, IfErr, subst}
+use Rattle.erm_model.specs.declared.outcome.Outcome.{Outcome}
+use Rattle.erm_precommit.specs.declared.answer.Wait as answer
+use Rattle.erm_precommit.specs.declared.answer.Wait.TheVariants as found
+use Rattle.erm_precommit.specs.Settle.{WasWait}
+use Rattle.erm_rule.specs.declared.view.Book.{Book}
+use Rattle.erm_shared_session.specs.Seen.{settled_of}
+use Rattle.erm_shared_session.specs.Waits.{WasLookedAt}
+
+-- an error of which nothing is told isn't answered
+pub never : {X E : Type 0} (r : Result X E) (P : E → Type 0) (other : E) → (P other → ⊥) → IfErr r P → IfErr r (λ why. why ≢ other)
+never (Ok x) P other none told = tt
+never (Err why) P other none told = λ same. none (subst P same told)
+
+-- of an error of which two things are told the first one is
+pub first_told : {X E : Type 0} (r : Result X E) (P Q : E → Type 0) → IfErr r (λ why. P why × Q why) → IfErr r P
+first_told (Ok x) P Q told = tt
+first_told (Err why) P Q told = told.0
+
+-- what a settle waits for was met, as the session answers it
+pub looked_at : (b e : Book) (r : Result Outcome answer.Wait) → IfErr r (λ why. WasWait b why e) → IfErr (settled_of r) (λ why. WasLookedAt b why e)
+looked_at b e (Ok outcome) met = tt
+looked_at b e (Err (found.Ring at)) met = met
+looked_at b e (Err (found.Seat seat seen)) met = met

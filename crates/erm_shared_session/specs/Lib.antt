@@ -1,0 +1,5 @@
+pub mod ReadsBack
+pub mod Seen
+pub mod Stands
+pub mod Handing
+pub mod Waits
