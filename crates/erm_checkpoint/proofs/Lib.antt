@@ -6,3 +6,6 @@ pub mod Taken
 pub mod Flushed
 pub mod Told
 pub mod Pinned
+pub mod RowsRead
+pub mod Past
+pub mod BelowTold

@@ -52,7 +52,7 @@ All-front P [] ys all = λ k d low. absurd (omega arith)
 All-front P (x ∷ xs) ys all = All-cons P x xs (All-head P x (xs ++ ys) all) (All-front P xs ys (All-tail P x (xs ++ ys) all))
 
 -- the rows, the place
-rows_are : (state : State) (blocks : List Block) → (state_behind state blocks).rows ≡ rows_behind state.rows blocks
+pub rows_are : (state : State) (blocks : List Block) → (state_behind state blocks).rows ≡ rows_behind state.rows blocks
 rows_are state [] = refl
 rows_are state (b ∷ bs) = rows_are (record { at = state.at + b.size; run = b.run; rows = rows_after_block b state.rows }) bs
 
@@ -61,19 +61,19 @@ place_is state [] = refl
 place_is state (b ∷ bs) = place_is (record { at = state.at + b.size; run = b.run; rows = rows_after_block b state.rows }) bs
 
 -- a log's rows are sound behind each front, and no block ends behind the log's last place
-sound_behind : (sound : Rows → Type 0) (state : State) (xs ys : List Block) → sound state.rows → (e : End) → of_end e ≡ state → MayStand sound e (xs ++ ys) → sound (state_behind state xs).rows
+pub sound_behind : (sound : Rows → Type 0) (state : State) (xs ys : List Block) → sound state.rows → (e : End) → of_end e ≡ state → MayStand sound e (xs ++ ys) → sound (state_behind state xs).rows
 sound_behind sound state [] ys here e is stand = here
 sound_behind sound state (b ∷ xs) ys here e is (block, rows, others) =
     let next : of_end (end_after b e) ≡ record { at = state.at + b.size; run = b.run; rows = rows_after_block b state.rows } =
     ap (λ (s : State). let t : State = record { at = s.at + b.size; run = b.run; rows = rows_after_block b s.rows } in t) is in
     sound_behind sound (record { at = state.at + b.size; run = b.run; rows = rows_after_block b state.rows }) xs ys (subst (λ (s : State). sound (rows_after_block b s.rows)) is rows) (end_after b e) next others
 
-ends_within : (sound : Rows → Type 0) (e : End) (xs ys : List Block) → e.at ≤ LOG_END → MayStand sound e (xs ++ ys) → (end_of e xs).at ≤ LOG_END
+pub ends_within : (sound : Rows → Type 0) (e : End) (xs ys : List Block) → e.at ≤ LOG_END → MayStand sound e (xs ++ ys) → (end_of e xs).at ≤ LOG_END
 ends_within sound e [] ys low stand = low
 ends_within sound e (b ∷ xs) ys low (block, rows, others) = ends_within sound (end_after b e) xs ys block.end others
 
 -- fewer runs are fresh where more are
-fresh_of_later : (run later at : ℕ) (image : Image) → run ≤ later → IsFresh run image at → IsFresh later image at
+pub fresh_of_later : (run later at : ℕ) (image : Image) → run ≤ later → IsFresh run image at → IsFresh later image at
 fresh_of_later run later at image le fresh = λ p low block before high stands. fresh p low block before (omega (arith, le, high)) stands
 
 -- a segment with a word isn't empty
@@ -93,16 +93,16 @@ end_state log front = of_end-end_of (start_of log) front
 
 -- ---- slots
 
-slot_ok : (sound : Rows → Type 0) (file : List ℕ) (shown : Option Checkpoint) → Shows sound file shown → IfSome shown (λ c. IsSlot c.slot)
+pub slot_ok : (sound : Rows → Type 0) (file : List ℕ) (shown : Option Checkpoint) → Shows sound file shown → IfSome shown (λ c. IsSlot c.slot)
 slot_ok sound file None shows = tt
 slot_ok sound file (Some c) shows = shows.is.slot
 
 -- the first segment that is removed isn't behind that of the place where recovery begins, and no more are removed than those below it
-record BoundsAt (best : Option Checkpoint) (first end : ℕ) : Type 0 where
+pub record BoundsAt (best : Option Checkpoint) (first end : ℕ) : Type 0 where
   pub first_low : first ≤ (state_of best).at / SEGMENT_WORDS
   pub end_low : end ≤ (state_of best).at / SEGMENT_WORDS
 
-abbrev said : Option Checkpoint → Option Slot
+abbrev pub said : Option Checkpoint → Option Slot
 said = option_map (λ c. c.slot)
 
 is_below : (m n : ℕ) → nat_lt m n ≡ true → m < n
@@ -111,7 +111,7 @@ is_below m n e = grind (arith, nat_tests)
 isnt_below : (m n : ℕ) → nat_lt m n ≡ false → n ≤ m
 isnt_below m n e = grind (arith, nat_tests)
 
-bounds : (a b : Option Checkpoint) → IfSome a (λ c. IsSlot c.slot) → IfSome b (λ c. IsSlot c.slot)
+pub bounds : (a b : Option Checkpoint) → IfSome a (λ c. IsSlot c.slot) → IfSome b (λ c. IsSlot c.slot)
     → BoundsAt (better a b) (first_left (said a) (said b)) (segment_of_best (better_slot (said a) (said b)))
 bounds None None one other = record { first_low = omega arith; end_low = omega arith }
 bounds None (Some b) one other = record { first_low = other.first; end_low = omega arith }
@@ -123,7 +123,17 @@ bounds (Some a) (Some b) one other = cases (nat_lt a.slot.stamp b.slot.stamp) re
     cases true e = let less = is_below a.slot.stamp b.slot.stamp e in let low = other.first in record { first_low = omega arith; end_low = omega arith }
     cases false e = let least = isnt_below a.slot.stamp b.slot.stamp e in let low = one.first in record { first_low = omega arith; end_low = omega arith }
 
-last_moment : (Q : Image → Type 0) (old more : List Step) (image : Image) → EachImage Q old more → IsImage (more ++ old) image → Q image
+-- where a disk holds a log, no segment is to be removed at or above that of the place flushed
+pub removals_within : (sound : Rows → Type 0) (log : Log) (slots : Slots) (steps : List Step) → HoldsLog sound log slots steps → removal_end slots ≤ log.flushed / SEGMENT_WORDS
+removals_within sound log slots steps h =
+    let b = bounds h.pair.slot0 h.pair.slot1 (slot_ok sound (contents steps Slot0) h.pair.slot0 h.there.recovers.slot0) (slot_ok sound (contents steps Slot1) h.pair.slot1 h.there.recovers.slot1) in
+    let end_is : removal_end slots ≡ segment_of_best (better_slot (said h.pair.slot0) (said h.pair.slot1)) = ap removal_end h.names in
+    let end_low = b.end_low in
+    let low : (base h.pair).at ≤ (state_at log h.front).at = omega (arith, h.there.is.at, state_grows (base h.pair) h.there.blocks) in
+    let to = h.to in
+    omega (arith, end_low, end_is, low, to)
+
+pub last_moment : (Q : Image → Type 0) (old more : List Step) (image : Image) → EachImage Q old more → IsImage (more ++ old) image → Q image
 last_moment Q old [] image each is = each image is
 last_moment Q old (step ∷ more) image each is = each.0 image is
 
@@ -136,7 +146,7 @@ module _
       let stand : MayStand sound (start_of log) (xs ++ us) = subst (MayStand sound (start_of log)) one (stands_from sound log is) in
       (one_cut short sound (start_of log) xs us ys vs stand (sym one ∙ other) (ap (λ (s : State). s.at) (end_state log xs) ∙ place)).front
 
-  pub flushed_holds : (l m : Log) (slots : Slots) (old mid : List Step) → HoldsLog sound l slots old → HoldsFrom sound l.flushed m old mid → IsReady m mid → GoesOn l m → IsLog sound m
+  unfoldable pub flushed_holds : (l m : Log) (slots : Slots) (old mid : List Step) → HoldsLog sound l slots old → HoldsFrom sound l.flushed m old mid → IsReady m mid → GoesOn l m → IsLog sound m
       → LOG_START < m.opened.at → HoldsLog sound m slots mid
   flushed_holds l m slots old mid h f ready on is begin =
       let opened : m.opened ≡ l.opened = ap (λ (x : Log). x.opened) on.log in
@@ -232,7 +242,7 @@ module _
       omega (arith, end_low, end_is, newer, from)
 
   pub saved_holds : (log : Log) (slots : Slots) (c : Checkpoint) (old new : List Step) (h : HoldsLog sound log slots old) → MaySave sound (state_at log h.front) [] [] h.pair c old → c.slot.stamp ≡ log.flushed
-      → SavesAll (other_file h.pair) (bytes_of (slot_words c)) c.slot.first (removal_end slots) old new
+      → SavesAll (other_file h.pair) (bytes_of (slot_words c)) 0 (removal_end slots) old new
       → HoldsLogFrom sound log (put_slot slots c.slot) c.slot.stamp new
   saved_holds log slots c old new h may stamp all =
       let here : State = state_at log h.front in
@@ -241,15 +251,15 @@ module _
       let s : IsSaved sound here h.pair c old wrote = saved sound respects here [] [] h.pair c old may in
       let from = s.from in
       let low : removal_end slots ≤ (base (put h.pair c)).at / SEGMENT_WORDS = removals_below log slots c old h may in
-      let moments = removal_moments sound here (put h.pair c) c.slot.first (removal_end slots) wrote new s.settled s.there s.some low (inr all) in
+      let moments = removal_moments sound here (put h.pair c) 0 (removal_end slots) wrote new s.settled s.there s.some low (inr all) in
       let reads : IsImage (moments.0 ++ wrote) (contents new) = subst (λ (steps : List Step). IsImage steps (contents new)) moments.1 (λ f. reads_may_be _) in
       let there : RecoversTo sound here (put h.pair c) (contents new) = last_moment (RecoversTo sound here (put h.pair c)) wrote moments.0 (contents new) moments.2 reads in
       let words : (p : ℕ) → log.flushed ≤ p → word_at (contents new) p ≡ word_at (contents old) p =
-      λ p more. removal_words c.slot.first (removal_end slots) wrote new (inr all) p (omega (arith, low, from, stamp, more)) ∙ s.words p in
+      λ p more. removal_words 0 (removal_end slots) wrote new (inr all) p (omega (arith, low, from, stamp, more)) ∙ s.words p in
       record {
         holds = record {
           ready = record {
-            settled = removals_settle c.slot.first (removal_end slots) wrote new s.settled all;
+            settled = removals_settle 0 (removal_end slots) wrote new s.settled all;
             fresh = same_fresh log.opened.run log.flushed (contents old) (contents new) words h.ready.fresh;
           };
           pair = put h.pair c;

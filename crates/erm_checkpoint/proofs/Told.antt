@@ -85,13 +85,13 @@ module _
 
   pub told_takes : (place : ℕ) (m : Log) (slots : Slots) (slot : Slot) (rows : List (List ℕ)) (before mid after : Option (List Step)) → Tells (WritesFrom sound place m) before mid
       → IfSome mid (HoldsLog sound m slots) → AtPin sound m slot slots rows
-      → Tells (λ old new. SavesPart (other_of slots) (slot_bytes slot rows) slot.first (removal_end slots) old new ⊎ SavesAll (other_of slots) (slot_bytes slot rows) slot.first (removal_end slots) old new) mid after
+      → Tells (λ old new. SavesPart (other_of slots) (slot_bytes slot rows) 0 (removal_end slots) old new ⊎ SavesAll (other_of slots) (slot_bytes slot rows) 0 (removal_end slots) old new) mid after
       → Tells (Takes sound place m slots slot) before after
   told_takes place m slots slot rows None mid after writes held p saves =
-      subst (λ (x : Option (List Step)). Tells (λ old new. SavesPart (other_of slots) (slot_bytes slot rows) slot.first (removal_end slots) old new ⊎ SavesAll (other_of slots) (slot_bytes slot rows) slot.first (removal_end slots) old new) x after) writes saves
+      subst (λ (x : Option (List Step)). Tells (λ old new. SavesPart (other_of slots) (slot_bytes slot rows) 0 (removal_end slots) old new ⊎ SavesAll (other_of slots) (slot_bytes slot rows) 0 (removal_end slots) old new) x after) writes saves
   told_takes place m slots slot rows (Some old) mid after (steps, told, writes) held p saves =
       let h : HoldsLog sound m slots steps = subst (λ (x : Option (List Step)). IfSome x (HoldsLog sound m slots)) told held in
-      let here = subst (λ (x : Option (List Step)). Tells (λ old new. SavesPart (other_of slots) (slot_bytes slot rows) slot.first (removal_end slots) old new ⊎ SavesAll (other_of slots) (slot_bytes slot rows) slot.first (removal_end slots) old new) x after) told saves in (
+      let here = subst (λ (x : Option (List Step)). Tells (λ old new. SavesPart (other_of slots) (slot_bytes slot rows) 0 (removal_end slots) old new ⊎ SavesAll (other_of slots) (slot_bytes slot rows) 0 (removal_end slots) old new) x after) told saves in (
         here.0,
         here.1,
         record {
@@ -102,20 +102,20 @@ module _
             checkpoint = checkpoint_of slot rows;
             slot_is = refl;
             may = may_at m slots slot rows steps h p;
-            saves = subst (λ (file : File). SavesPart file (slot_bytes slot rows) slot.first (removal_end slots) steps here.0 ⊎ SavesAll file (slot_bytes slot rows) slot.first (removal_end slots) steps here.0)
+            saves = subst (λ (file : File). SavesPart file (slot_bytes slot rows) 0 (removal_end slots) steps here.0 ⊎ SavesAll file (slot_bytes slot rows) 0 (removal_end slots) steps here.0)
                 (ap other_of h.names) here.2;
           });
         },
       )
 
   pub told_takes_all : (place : ℕ) (m : Log) (slots : Slots) (slot : Slot) (rows : List (List ℕ)) (before mid after : Option (List Step)) → Tells (WritesFrom sound place m) before mid
-      → IfSome mid (HoldsLog sound m slots) → AtPin sound m slot slots rows → Tells (SavesAll (other_of slots) (slot_bytes slot rows) slot.first (removal_end slots)) mid after
+      → IfSome mid (HoldsLog sound m slots) → AtPin sound m slot slots rows → Tells (SavesAll (other_of slots) (slot_bytes slot rows) 0 (removal_end slots)) mid after
       → Tells (TakesAll sound place m slots slot) before after
   told_takes_all place m slots slot rows None mid after writes held p saves =
-      subst (λ (x : Option (List Step)). Tells (SavesAll (other_of slots) (slot_bytes slot rows) slot.first (removal_end slots)) x after) writes saves
+      subst (λ (x : Option (List Step)). Tells (SavesAll (other_of slots) (slot_bytes slot rows) 0 (removal_end slots)) x after) writes saves
   told_takes_all place m slots slot rows (Some old) mid after (steps, told, writes) held p saves =
       let h : HoldsLog sound m slots steps = subst (λ (x : Option (List Step)). IfSome x (HoldsLog sound m slots)) told held in
-      let here = subst (λ (x : Option (List Step)). Tells (SavesAll (other_of slots) (slot_bytes slot rows) slot.first (removal_end slots)) x after) told saves in (
+      let here = subst (λ (x : Option (List Step)). Tells (SavesAll (other_of slots) (slot_bytes slot rows) 0 (removal_end slots)) x after) told saves in (
         here.0,
         here.1,
         record {
@@ -125,17 +125,17 @@ module _
           checkpoint = checkpoint_of slot rows;
           slot_is = refl;
           may = may_at m slots slot rows steps h p;
-          saves = subst (λ (file : File). SavesAll file (slot_bytes slot rows) slot.first (removal_end slots) steps here.0) (ap other_of h.names) here.2;
+          saves = subst (λ (file : File). SavesAll file (slot_bytes slot rows) 0 (removal_end slots) steps here.0) (ap other_of h.names) here.2;
         },
       )
 
   pub told_lasts : (m : Log) (slots : Slots) (slot : Slot) (rows : List (List ℕ)) (mid after : Option (List Step)) → IfSome mid (HoldsLog sound m slots) → AtPin sound m slot slots rows
-      → Tells (SavesAll (other_of slots) (slot_bytes slot rows) slot.first (removal_end slots)) mid after → IfSome after (HoldsLogFrom sound m (put_slot slots slot) slot.stamp)
+      → Tells (SavesAll (other_of slots) (slot_bytes slot rows) 0 (removal_end slots)) mid after → IfSome after (HoldsLogFrom sound m (put_slot slots slot) slot.stamp)
   told_lasts m slots slot rows None after held p saves = subst (λ (x : Option (List Step)). IfSome x (HoldsLogFrom sound m (put_slot slots slot) slot.stamp)) (sym saves) tt
   told_lasts m slots slot rows (Some steps) after h p (new, told, all) =
       subst (λ (x : Option (List Step)). IfSome x (HoldsLogFrom sound m (put_slot slots slot) slot.stamp)) (sym told)
       (saved_holds short sound respects m slots (checkpoint_of slot rows) steps new h (may_at m slots slot rows steps h p) p.stamp
-      (subst (λ (file : File). SavesAll file (slot_bytes slot rows) slot.first (removal_end slots) steps new) (ap other_of h.names) all))
+      (subst (λ (file : File). SavesAll file (slot_bytes slot rows) 0 (removal_end slots) steps new) (ap other_of h.names) all))
 
 pub told_part : (P Q : List Step → List Step → Type 0) (before after : Option (List Step)) → Tells P before after → Tells (λ old new. P old new ⊎ Q old new) before after
 told_part P Q None after told = told

@@ -2,3 +2,4 @@ pub mod Saved
 pub mod Steps
 pub mod Phases
 pub mod Taken
+pub mod Below

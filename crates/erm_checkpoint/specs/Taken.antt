@@ -5,7 +5,7 @@ use Rattle.erm_model.specs.declared.limits.TheConstants.{OID_LIMIT}
 use Rattle.erm_model.specs.Rows.{Rows}
 use Rattle.erm_block.specs.declared.block.Block.{Block}
 use Rattle.erm_flush.specs.Turns.{GoesOn, IsReady, start_of, WritesFrom}
-use Rattle.erm_block.specs.LogList.{end_of}
+use Rattle.erm_block.specs.LogList.{end_of, IsLogList}
 use Rattle.erm_log_words.specs.Tears.{ShowsBlocks}
 use Rattle.erm_log_words.specs.Words.{word_at}
 use Rattle.erm_outside.specs.Disk.{contents, Image, Step}
@@ -15,7 +15,7 @@ use Rattle.erm_ckpt.specs.declared.slot.Slot.{Slot}
 use Rattle.erm_ckpt.specs.declared.slot.Slots.{Slots}
 use Rattle.erm_ckpt.specs.declared.slot.TheConstants.{LOG_START}
 use Rattle.erm_ckpt.specs.Checkpoint.{Checkpoint, slot_words}
-use Rattle.erm_ckpt.specs.Recovered.{Pair, State, base, best, slots_of, state_behind}
+use Rattle.erm_ckpt.specs.Recovered.{Pair, State, base, best, end_at, slots_of, state_behind}
 use Rattle.erm_ckpt.specs.Slots.{next_first, removal_end}
 use Rattle.erm_ckpt.specs.States.{RecoversPast, RecoversTo}
 use Rattle.erm_checkpoint.specs.declared.stops.CheckpointStop.{CheckpointStop}
@@ -46,6 +46,17 @@ pub record HoldsLogFrom (sound : Rows → Type 0) (log : Log) (slots : Slots) (s
   pub some : best holds.pair ≢ None
   pub from : (base holds.pair).at ≡ stamp
 
+-- A disk holds a log as far as it is flushed, and past a place at or above that where recovery begins: these blocks are all that it holds from
+-- there on.
+pub record HoldsLogPast (sound : Rows → Type 0) (log : Log) (slots : Slots) (place : ℕ) (steps : List Step) : Type 0 where
+  pub holds : HoldsLog sound log slots steps
+  pub front : List Block
+  pub blocks : List Block
+  pub split : holds.front ≡ front ++ blocks
+  pub at : (state_at log front).at ≡ place
+  pub list : IsLogList sound (end_at (contents steps) (state_at log front)) blocks
+  pub low : (base holds.pair).at ≤ place
+
 -- Where an image shows each of these blocks, which were gathered behind a front, whole or no block, it recovers to the state behind
 -- a front of all that was gathered: to all below a place at least.
 abbrev pub RecoversFlushing : (Rows → Type 0) → ℕ → Log → List Block → List Block → Image → Type 0
@@ -58,8 +69,26 @@ pub record SavesLog (sound : Rows → Type 0) (log : Log) (slots : Slots) (slot 
   pub checkpoint : Checkpoint
   pub slot_is : checkpoint.slot ≡ slot
   pub may : MaySave sound (state_at log holds.front) [] [] holds.pair checkpoint old
-  pub saves : SavesPart (other_file holds.pair) (bytes_of (slot_words checkpoint)) slot.first (removal_end slots) old new
-      ⊎ SavesAll (other_file holds.pair) (bytes_of (slot_words checkpoint)) slot.first (removal_end slots) old new
+  pub saves : SavesPart (other_file holds.pair) (bytes_of (slot_words checkpoint)) 0 (removal_end slots) old new
+      ⊎ SavesAll (other_file holds.pair) (bytes_of (slot_words checkpoint)) 0 (removal_end slots) old new
+
+-- A checkpoint was saved to a disk that holds a log past its place, or that was begun: it holds the log's state there.
+pub record SavesLogPast (sound : Rows → Type 0) (log : Log) (slots : Slots) (slot : Slot) (old new : List Step) : Type 0 where
+  pub holds : HoldsLogPast sound log slots slot.stamp old
+  pub checkpoint : Checkpoint
+  pub slot_is : checkpoint.slot ≡ slot
+  pub may : MaySave sound (state_at log holds.front) [] holds.blocks holds.holds.pair checkpoint old
+  pub saves : SavesPart (other_file holds.holds.pair) (bytes_of (slot_words checkpoint)) 0 (removal_end slots) old new
+      ⊎ SavesAll (other_file holds.holds.pair) (bytes_of (slot_words checkpoint)) 0 (removal_end slots) old new
+
+-- All of that was done: the slot was written and waited for, and then exactly those segments below that of the best slot's place that had bytes
+-- were removed, each waited for.
+pub record SavedLogPast (sound : Rows → Type 0) (log : Log) (slots : Slots) (slot : Slot) (old new : List Step) : Type 0 where
+  pub holds : HoldsLogPast sound log slots slot.stamp old
+  pub checkpoint : Checkpoint
+  pub slot_is : checkpoint.slot ≡ slot
+  pub may : MaySave sound (state_at log holds.front) [] holds.blocks holds.holds.pair checkpoint old
+  pub saves : SavesAll (other_file holds.holds.pair) (bytes_of (slot_words checkpoint)) 0 (removal_end slots) old new
 
 -- What is done to a disk where a checkpoint is taken: a log is flushed from the place where it was, and then, if it comes to that,
 -- the checkpoint is saved.
@@ -68,8 +97,8 @@ pub record Takes (sound : Rows → Type 0) (place : ℕ) (log : Log) (slots : Sl
   pub flushes : WritesFrom sound place log old mid
   pub saves : (new ≡ mid) ⊎ SavesLog sound log slots slot mid new
 
--- All of that was done: the log was flushed, the checkpoint's slot was written and waited for, and then exactly those segments of
--- the range that had bytes were removed, each waited for.
+-- All of that was done: the log was flushed, the checkpoint's slot was written and waited for, and then exactly those segments below that of
+-- the best slot's place that had bytes were removed, each waited for: those too whose removal a stop had cut off.
 pub record TakesAll (sound : Rows → Type 0) (place : ℕ) (log : Log) (slots : Slots) (slot : Slot) (old new : List Step) : Type 0 where
   pub mid : List Step
   pub flushes : WritesFrom sound place log old mid
@@ -77,7 +106,7 @@ pub record TakesAll (sound : Rows → Type 0) (place : ℕ) (log : Log) (slots :
   pub checkpoint : Checkpoint
   pub slot_is : checkpoint.slot ≡ slot
   pub may : MaySave sound (state_at log holds.front) [] [] holds.pair checkpoint mid
-  pub saves : SavesAll (other_file holds.pair) (bytes_of (slot_words checkpoint)) slot.first (removal_end slots) mid new
+  pub saves : SavesAll (other_file holds.pair) (bytes_of (slot_words checkpoint)) 0 (removal_end slots) mid new
 
 -- a log goes on, at its end too
 pub record GoesOnTo (l m : Log) : Type 0 where

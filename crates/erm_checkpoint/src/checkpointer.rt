@@ -2,14 +2,18 @@
 ghost use Rattle.std.specs.Prelude.{◌≡◌, ◌<◌, ◌≤◌, false, None, Some, IfOk, IfSome, IsTrue, OnErr, OnOk};
 ghost use Rattle.erm_ckpt.specs.declared.slot.TheConstants.{LOG_START};
 ghost use Rattle.erm_ckpt.specs.Slots.{next_first, put_slot};
+ghost use Rattle.erm_log_view.specs.Views.{IsPinned};
 ghost use Rattle.erm_model.specs.declared.limits.TheConstants.{LAST_RUN, LOG_END};
 ghost use Rattle.erm_outside.specs.Disk.{Tells};
-ghost use Rattle.erm_checkpoint.specs.Taken.{Checkpoints, Counts, HoldsLog, HoldsLogFrom, Takes, TakesAll, TakesAt, slot_at_end};
+ghost use Rattle.erm_world.specs.Log.{Log};
+ghost use Rattle.erm_checkpoint.specs.Below.{IsSlotAt, SavesKnown, SavesPinned};
+ghost use Rattle.erm_checkpoint.specs.Taken.{Checkpoints, Counts, HoldsLog, HoldsLogFrom, HoldsLogPast, Takes, TakesAll, TakesAt, slot_at_end};
 
-use crate::{CheckpointStop, read_rows, save_rows};
+use crate::{CheckpointStop, read_pinned, read_rows, save_rows};
 use erm_bytes::WORD_BYTES;
 use erm_ckpt::{SLOT_WORDS, Slot, Slots, next_first, put_slot};
 use erm_flush::{FlushStop, Flusher};
+use erm_log_view::PinnedLog;
 use erm_model::{OID_LIMIT, ROW_WORDS, Row, Stamp};
 use erm_outside::Disk;
 use erm_record::stored_words_tell_the_row;
@@ -48,7 +52,8 @@ impl Checkpointer {
     }
 
     /// Takes a checkpoint: pins the log's end, flushes up to it, and reads every row as of it; then writes the slot that isn't best
-    /// and waits until it lasts, and removes the segments that are needed no more and waits for each. It answers the place pinned.
+    /// and waits until it lasts, and removes the segments that are needed no more and waits for each: all below that of the best slot's
+    /// place. It answers the place pinned.
     /// On each exit the log is unpinned. No memory is taken.
     pub fn checkpoint_turn<D: Disk, W: LogWorld>(
         &mut self,
@@ -99,6 +104,55 @@ impl Checkpointer {
         taken?;
         put_slot(slots, slot);
         Ok(stamp)
+    }
+
+    /// Takes a checkpoint of a log that others may go on writing, which is flushed up to the place pinned or past it: reads every row as of
+    /// it; then writes the slot that isn't best and waits until it lasts, and removes the segments that are needed no more, as
+    /// `checkpoint_turn`. No memory is taken.
+    pub fn save_pinned<D: Disk, V: PinnedLog>(
+        &mut self,
+        flusher: &mut Flusher,
+        disk: &mut D,
+        log: &mut V,
+        slots: &Slots,
+        slot: &Slot,
+    ) -> Result<(), CheckpointStop>
+        requires stands { V.stands log.old }
+        requires pinned { IsPinned V.knows log.old }
+        requires fine { flusher.old ≡ false }
+        ensures stands { V.stands log.new }
+        ensures keeps { V.keeps log.old log.new }
+        ensures same { (l : Log) → V.knows log.old l → V.knows log.new l }
+        ensures saves { SavesPinned V.knows V.waits result flusher.new log.old log.new }
+        ensures counts { Counts result (D.faults disk.old) (D.faults disk.new) }
+
+        // What that means for a log that is known, where the disk holds it past the place pinned.
+        ensures known { (l : Log) → V.knows log.old l → IsSlotAt l slots.now slot.now → IfSome (D.told disk.old) (HoldsLogPast V.rows_law.meets l slots.now slot.now.stamp)
+            → SavesKnown V.rows_law.meets result l slots.now slot.now (D.told disk.old) (D.told disk.new) }
+    {
+        stored_words_tell_the_row();
+        V::respects_rows();
+        V::gathers_are_known();
+        if let Err(wait) = read_pinned(log, &mut self.rows) {
+            return Err(CheckpointStop::NotYet {
+                seat: wait.seat,
+                seen: wait.seen,
+            });
+        }
+        if save_rows(
+            disk,
+            slots,
+            slot,
+            &self.rows,
+            &mut self.words,
+            &mut self.bytes,
+        )
+        .is_err()
+        {
+            flusher.fail();
+            return Err(CheckpointStop::DiskFault);
+        }
+        Ok(())
     }
 
     // Takes a checkpoint as of the place pinned, which is the log's end.

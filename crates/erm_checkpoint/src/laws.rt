@@ -6,13 +6,13 @@ ghost use Rattle.erm_flush.specs.Turns.{GoesOn, HoldsFrom, IsReady, WritesFrom};
 ghost use Rattle.erm_model.specs.declared.limits.TheConstants.{LAST_RUN, LOG_END, SEGMENT_WORDS};
 ghost use Rattle.erm_model.specs.Rows.{rows_of};
 ghost use Rattle.erm_model.specs.RowTransaction.{SameRows};
-ghost use Rattle.erm_world.specs.Log.{IsLog, Log};
+ghost use Rattle.erm_world.specs.Log.{IsEnd, IsLog, Log};
 ghost use Rattle.erm_ckpt.specs.declared.slot.Slot.{Slot as DiskSlot};
 ghost use Rattle.erm_ckpt.specs.declared.slot.Slots.{Slots as DiskSlots};
 ghost use Rattle.erm_ckpt.specs.declared.slot.TheConstants.{LOG_START};
 ghost use Rattle.erm_ckpt.specs.Slots.{next_first, put_slot, removal_end};
 ghost use Rattle.erm_checkpoint.specs.Saved.{AreRowsAt};
-ghost use Rattle.erm_checkpoint.specs.Taken.{HoldsLog, HoldsLogFrom, RecoversFlushing, state_at};
+ghost use Rattle.erm_checkpoint.specs.Taken.{HoldsLog, HoldsLogFrom, HoldsLogPast, RecoversFlushing, state_at};
 ghost use Rattle.erm_log_words.specs.Words.{word_at};
 ghost use Rattle.erm_outside.specs.Disk.{AtEachMoment, IsSettled, Step, contents};
 ghost use Rattle.erm_ckpt.specs.Checkpoint.{Checkpoint, IsCheckpoint, IsSlot, checkpoint_of, rows_of_checkpoint, slot_words};
@@ -82,7 +82,30 @@ pub fn checkpoints_hold_logs<L: RowLaw>()
         → MaySave L.law.meets (state_at log holds.front) [] [] holds.pair (checkpoint_of slot rows) steps }
     ensures saved { (log : Log) (slots : DiskSlots) (checkpoint : Checkpoint) (old new : List Step) (holds : HoldsLog L.law.meets log slots old)
         → MaySave L.law.meets (state_at log holds.front) [] [] holds.pair checkpoint old → checkpoint.slot.stamp ≡ log.flushed
-        → SavesAll (other_file holds.pair) (bytes_of (slot_words checkpoint)) checkpoint.slot.first (removal_end slots) old new
+        → SavesAll (other_file holds.pair) (bytes_of (slot_words checkpoint)) 0 (removal_end slots) old new
+        → HoldsLogFrom L.law.meets log (put_slot slots checkpoint.slot) checkpoint.slot.stamp new }
+{
+    L::respects_rows();
+    stored_words_tell_the_row();
+}
+
+/// The same where the log is flushed past the place of the checkpoint, which is at or above the one that was flushed before: from the
+/// checkpoint's place on recovery reads the blocks behind it. At the place flushed there are none.
+pub fn checkpoints_below_hold_logs<L: RowLaw>()
+    ensures here { (log : Log) (slots : DiskSlots) (steps : List Step) → HoldsLog L.law.meets log slots steps → HoldsLogPast L.law.meets log slots log.flushed steps }
+    ensures flushed { (before now : Log) (slots : DiskSlots) (old new : List Step) (place : ℕ) → HoldsLog L.law.meets before slots old
+        → HoldsFrom L.law.meets before.flushed now old new → IsReady now new → GoesOn before now → IsLog L.law.meets now
+        → LOG_START < now.opened.at → before.flushed ≤ place → place ≤ now.flushed → IsEnd now place → HoldsLogPast L.law.meets now slots place new }
+    ensures low { (log : Log) (slots : DiskSlots) (place : ℕ) (steps : List Step) → HoldsLogPast L.law.meets log slots place steps → place ≤ log.flushed }
+    ensures may { (log : Log) (slots : DiskSlots) (slot : DiskSlot) (rows : List (List ℕ)) (steps : List Step) (holds : HoldsLogPast L.law.meets log slots slot.stamp steps)
+        → IsLog L.law.meets log → LOG_START < log.opened.at → log.opened.at ≤ LOG_END
+        → slot.run ≡ log.opened.run → 1 ≤ slot.run → slot.run ≤ LAST_RUN → slot.first ≡ next_first slots
+        → log.pinned ≡ Some slot.stamp → AreRowsAt log rows
+        → (IsSlot slot → IsCheckpoint (checkpoint_of slot rows)) → SameRows (rows_of_checkpoint (checkpoint_of slot rows)) (rows_of rows)
+        → MaySave L.law.meets (state_at log holds.front) [] holds.blocks holds.holds.pair (checkpoint_of slot rows) steps }
+    ensures saved { (log : Log) (slots : DiskSlots) (checkpoint : Checkpoint) (old new : List Step) (holds : HoldsLogPast L.law.meets log slots checkpoint.slot.stamp old)
+        → MaySave L.law.meets (state_at log holds.front) [] holds.blocks holds.holds.pair checkpoint old
+        → SavesAll (other_file holds.holds.pair) (bytes_of (slot_words checkpoint)) 0 (removal_end slots) old new
         → HoldsLogFrom L.law.meets log (put_slot slots checkpoint.slot) checkpoint.slot.stamp new }
 {
     L::respects_rows();

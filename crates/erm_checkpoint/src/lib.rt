@@ -12,10 +12,10 @@ mod tests;
 
 pub use checkpointer::Checkpointer;
 pub use laws::{
-    checkpoints_hold_logs, flushed_logs_are_held, flushes_recover, removals_spare_the_log,
-    slots_are_saved,
+    checkpoints_below_hold_logs, checkpoints_hold_logs, flushed_logs_are_held, flushes_recover,
+    removals_spare_the_log, slots_are_saved,
 };
-pub use reading::read_rows;
+pub use reading::{read_pinned, read_rows};
 pub use removing::remove_segments;
 pub use saving::{save, save_rows};
 pub use stops::CheckpointStop;

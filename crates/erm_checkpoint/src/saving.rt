@@ -47,8 +47,8 @@ fn write_slot<D: Disk>(disk: &mut D, file: File, slot: &[u8]) -> Result<(), Fail
 }
 
 /// Saves the checkpoint with these rows: writes its slot to the file of the one that isn't best and waits until it lasts; and then
-/// removes the segments from the slot's first up to below that of the best slot's place, as `save`. The words go through `words`,
-/// and the bytes through `bytes`; no memory is taken.
+/// removes the segments below that of the best slot's place, as `save`: those too that an earlier checkpoint was to remove and was
+/// stopped before. The words go through `words`, and the bytes through `bytes`; no memory is taken.
 pub fn save_rows<D: Disk>(
     disk: &mut D,
     slots: &Slots,
@@ -60,8 +60,8 @@ pub fn save_rows<D: Disk>(
     requires count { length rows.now ≡ OID_LIMIT }
     requires words { length words.old ≡ SLOT_WORDS }
     requires bytes { length bytes.old ≡ WORD_BYTES * SLOT_WORDS }
-    ensures saved { OnOk result (Tells (SavesAll (other_of slots.now) (slot_bytes slot.now rows.now) slot.now.first (removal_end slots.now)) (D.told disk.old) (D.told disk.new)) }
-    ensures part { OnErr result (Tells (SavesPart (other_of slots.now) (slot_bytes slot.now rows.now) slot.now.first (removal_end slots.now)) (D.told disk.old) (D.told disk.new)) }
+    ensures saved { OnOk result (Tells (SavesAll (other_of slots.now) (slot_bytes slot.now rows.now) 0 (removal_end slots.now)) (D.told disk.old) (D.told disk.new)) }
+    ensures part { OnErr result (Tells (SavesPart (other_of slots.now) (slot_bytes slot.now rows.now) 0 (removal_end slots.now)) (D.told disk.old) (D.told disk.new)) }
 
     // The checkpoint is one of the grammar where the slot may say this, and has these rows.
     ensures is { IsSlot slot.now → IsCheckpoint (checkpoint_of slot.now rows.now) }
@@ -72,11 +72,5 @@ pub fn save_rows<D: Disk>(
     let size = encode_slot(words, slot, rows);
     let spelled = &mut bytes[..WORD_BYTES * size];
     write_words(&words[..size], spelled);
-    save(
-        disk,
-        other_of(slots),
-        spelled,
-        slot.first,
-        removal_end(slots),
-    )
+    save(disk, other_of(slots), spelled, 0, removal_end(slots))
 }

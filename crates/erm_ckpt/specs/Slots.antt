@@ -44,7 +44,7 @@ best_of slots = better_slot slots.slot0 slots.slot1
 abbrev pub other_of : Slots → File
 other_of slots = worse_file slots.slot0 slots.slot1
 
--- the first segment that the next checkpoint removes
+-- the first segment that the slot of the next checkpoint names; the checkpoint removes from segment 0 on
 abbrev pub next_first : Slots → ℕ
 next_first slots = first_left slots.slot0 slots.slot1
 

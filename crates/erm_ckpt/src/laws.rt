@@ -64,7 +64,7 @@ pub fn put_slots_are_best()
     ensures slots { (pair : Pair) (checkpoint : Checkpoint) → slots_of (put pair checkpoint) ≡ put_slot (slots_of pair) checkpoint.slot }
 {}
 
-/// The first segment that the next checkpoint removes is no greater than that of a place that no slot lies behind.
+/// The first segment that the slot of the next checkpoint names is no greater than that of a place that no slot lies behind.
 pub fn next_first_is_low()
     ensures { (slots : Slots) (stamp : ℕ) → IfSome slots.slot0 (λ slot. IsSlot slot × slot.stamp ≤ stamp)
         → IfSome slots.slot1 (λ slot. IsSlot slot × slot.stamp ≤ stamp) → next_first slots ≤ stamp / SEGMENT_WORDS }

@@ -7,8 +7,6 @@ mod laws;
 mod read;
 mod rules;
 mod slot;
-#[cfg(test)]
-mod tests;
 
 pub use encode::encode_slot;
 pub use laws::{

@@ -73,7 +73,8 @@ pub fn other_of(slots: &Slots) -> File
     }
 }
 
-/// The first segment that the next checkpoint removes: none below is there, but for removals that a stop cut off.
+/// The first segment that the slot of the next checkpoint names: none below is there, but for removals that a stop cut off. For those the
+/// checkpoint itself removes from segment 0 on.
 pub fn next_first(slots: &Slots) -> u64
     ensures { result ≡ next_first slots.now }
 {

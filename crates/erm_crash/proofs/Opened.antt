@@ -23,7 +23,7 @@ use Rattle.erm_crash.specs.Kept.{IsJustOpened, KeepsOpening}
 use Rattle.erm_crash.specs.Moments.{IsMoment, TearsApart}
 use Rattle.erm_crash.specs.Stops.{MayStop}
 use Rattle.erm_crash.proofs.Moments.{from_each, last_write, parts_of, settled_image}
-use Rattle.erm_crash.proofs.Stops.{stop_wider, words_stop}
+use Rattle.erm_crash.proofs.Stops.{beyond_wider, words_stop}
 
 -- the Open block is one of the grammar
 is_block : (at run : ℕ) → at < STOP → run < LAST_RUN → IsBlock (open_block at run) at run
@@ -62,8 +62,8 @@ module _ (sound : Rows → Type 0) where
       let grows = state_grows (base pair) there.blocks in
       let at = there.is.at in
       subst (MayStop (base pair).at state.at) (sym m.since)
-      (stop_wider state.at (base pair).at state.at state.at (m.before ++ old) (omega (arith, grows, at)) (omega arith)
-      (words_stop state.at (spelling block) old m.before (omega (arith, size)) writes settled))
+      (inl (beyond_wider state.at (base pair).at state.at state.at (m.before ++ old) (omega (arith, grows, at)) (omega arith)
+      (words_stop state.at (spelling block) old m.before (omega (arith, size)) writes settled)))
 
   pub opening_keeps : (state : State) (pair : Pair) (old new : List Step) → IsSettled old → RecoversTo sound state pair (contents old) → sound state.rows → state.at < STOP → state.run < LAST_RUN
       → Opens sound state pair old new → KeepsOpening sound state pair old new

@@ -7,11 +7,12 @@ ghost use Rattle.erm_world.specs.Laws.{IsSerializable};
 ghost use Rattle.erm_world.specs.Log.{IsLog, Log, gathered_to};
 ghost use Rattle.erm_world.specs.Whole.{IsLogOf};
 ghost use Rattle.erm_world.specs.World.{View};
+ghost use Rattle.erm_ckpt.specs.declared.slot.Slot.{Slot as DiskSlot};
 ghost use Rattle.erm_ckpt.specs.declared.slot.Slots.{Slots as DiskSlots};
 ghost use Rattle.erm_ckpt.specs.declared.slot.TheConstants.{LOG_START};
 ghost use Rattle.erm_ckpt.specs.Recovered.{Pair, RecoversAt, State, best, slots_of};
 ghost use Rattle.erm_ckpt.specs.States.{HoldsAll, RecoversTo};
-ghost use Rattle.erm_checkpoint.specs.Taken.{GoesOnTo, HoldsLog, Takes, slot_at_end, state_at};
+ghost use Rattle.erm_checkpoint.specs.Taken.{GoesOnTo, HoldsLog, SavesLogPast, Takes, slot_at_end, state_at};
 ghost use Rattle.erm_log_words.specs.Kept.{MayOpen};
 ghost use Rattle.erm_log_words.specs.Words.{word_at};
 ghost use Rattle.erm_outside.specs.Disk.{Image, IsSettled, Step, contents};
@@ -53,6 +54,15 @@ pub fn checkpoints_keep<L: RowLaw>()
         → GoesOnTo before now → IsLog L.law.meets now → LOG_START < now.opened.at
         → Takes L.law.meets before.flushed now slots (slot_at_end now run slots) old new
         → KeepsBlocks L.law.meets (state_at now []) now.gathered before.flushed old new }
+{
+    L::respects_rows();
+    stored_words_tell_the_row();
+}
+
+/// The same while a checkpoint is saved of a log that is flushed up to its place or past it.
+pub fn checkpoints_below_keep<L: RowLaw>()
+    ensures { (log : Log) (slots : DiskSlots) (slot : DiskSlot) (place : ℕ) (old new : List Step) → place ≤ log.flushed
+        → SavesLogPast L.law.meets log slots slot old new → KeepsBlocks L.law.meets (state_at log []) log.gathered place old new }
 {
     L::respects_rows();
     stored_words_tell_the_row();

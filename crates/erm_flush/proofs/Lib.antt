@@ -1,3 +1,6 @@
 pub mod Flushes
 pub mod Progress
 pub mod Told
+pub mod Over
+pub mod Exact
+pub mod Images

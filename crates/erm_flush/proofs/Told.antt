@@ -1,5 +1,5 @@
 -- What a disk tells after a turn, as far as it tells.
-use Rattle.std.proofs.Common.{◌≡◌, ℕ, ◌+◌, ◌-◌, ◌≤◌, ◌++◌, List, [], length, take, replicate, Option, Some, None, IfSome, Result, Ok, Err, OnOk, false, refl, sym, ap, ◌∙◌, subst, arith}
+use Rattle.std.proofs.Common.{◌≡◌, ℕ, ◌-◌, ◌≤◌, ◌++◌, List, [], length, take, replicate, Option, Some, None, IfSome, Result, Ok, Err, OnOk, false, refl, sym, ap, ◌∙◌, subst, arith}
 use Rattle.std.specs.Result.{is_err}
 use Rattle.std.proofs.lemmas.List.{length-take, take_at}
 use Rattle.erm_model.specs.Rows.{Rows}
@@ -18,15 +18,6 @@ use Rattle.erm_flush.proofs.Flushes.{fresh_behind, holds_from, parts, writes_fro
 -- a buffer that was filled whole
 pub whole_buffer : (now words items : List ℕ) (n size : ℕ) → now ≡ take n (words ++ items) → length words ≡ size → n ≡ size → now ≡ words
 whole_buffer now words items n size cut long same = cut ∙ take_at words items n (long ∙ sym same)
-
--- a log that is flushed up to the end of what was gathered
-all_flushed : (l m n : Log) (at count : ℕ) (words : List ℕ) → DidGather l m at count words → n ≡ record m { flushed = at + count } → n.flushed ≡ gathered_to n
-all_flushed l m n at count words d e =
-    let flushed : n.flushed ≡ at + count = ap (λ (x : Log). x.flushed) e in
-    let to : gathered_to n ≡ gathered_to m = ap gathered_to e in
-    let place = d.at_is in
-    let size = d.count_is in
-    omega (arith, flushed, to, place, size)
 
 -- a call that didn't fail
 pub was_ok : {T E : Type 0} (r : Result T E) (P : Type 0) → is_err r ≡ false → OnOk r P → P
@@ -48,12 +39,8 @@ module _
       let count_is = d.count_is in
       omega arith
 
-  pub cut_words : (l m : Log) (at count : ℕ) (words now : List ℕ) (d : DidGather l m at count words) → IsLog sound m → now ≡ words → count ≡ length (take count now)
-  cut_words l m at count words now d is same =
-      sym (ap (λ (ws : List ℕ). length (take count ws)) same ∙ ap length d.words_are ∙ gathered_words l m at count words d is)
-
   -- words that were gathered were written
-  written : (l n : Log) (front blocks : List Block) (at : ℕ) (words : List ℕ) (before after : Option (List Step)) → IsLog sound n → n.gathered ≡ front ++ blocks → n.opened ≡ l.opened
+  pub written : (l n : Log) (front blocks : List Block) (at : ℕ) (words : List ℕ) (before after : Option (List Step)) → IsLog sound n → n.gathered ≡ front ++ blocks → n.opened ≡ l.opened
       → l.flushed ≡ place_behind l.opened.at front → at ≡ l.flushed → words ≡ words_of blocks → length words ≤ RING_WORDS → IfSome before (IsReady l) → OnlyWrites at words before after → Tells (WritesFrom sound l.flushed n) before after
   written l n front blocks at words None after is split opened place at_is words_are few ready writes = writes
   written l n front blocks at words (Some old) after is split opened place at_is words_are few ready (new, told, only) =
@@ -64,7 +51,7 @@ module _
       (new, told, writes_from short whole sound l.flushed n p old new only.0 ready.settled fresh only.1 all (words_of blocks, less, all))
 
   -- they last
-  lasting : (l n : Log) (front blocks : List Block) (at : ℕ) (words : List ℕ) (before after : Option (List Step)) → IsLog sound n → n.gathered ≡ front ++ blocks → n.opened ≡ l.opened
+  pub lasting : (l n : Log) (front blocks : List Block) (at : ℕ) (words : List ℕ) (before after : Option (List Step)) → IsLog sound n → n.gathered ≡ front ++ blocks → n.opened ≡ l.opened
       → l.flushed ≡ place_behind l.opened.at front → at ≡ l.flushed → words ≡ words_of blocks → IfSome before (IsReady l) → n.flushed ≡ gathered_to n → Lasts at words before after → Tells (HoldsFrom sound l.flushed n) before after
   lasting l n front blocks at words None after is split opened place at_is words_are ready flushed lasts = lasts
   lasting l n front blocks at words (Some old) after is split opened place at_is words_are ready flushed (new, told, holds) =
@@ -74,7 +61,7 @@ module _
       (new, told, holds_from short whole sound l.flushed n p old new fresh flushed all)
 
   -- and the log may be flushed on
-  readies : (l n : Log) (front blocks : List Block) (at : ℕ) (words : List ℕ) (before after : Option (List Step)) → IsLog sound n → n.gathered ≡ front ++ blocks → n.opened ≡ l.opened
+  pub readies : (l n : Log) (front blocks : List Block) (at : ℕ) (words : List ℕ) (before after : Option (List Step)) → IsLog sound n → n.gathered ≡ front ++ blocks → n.opened ≡ l.opened
       → l.flushed ≡ place_behind l.opened.at front → at ≡ l.flushed → words ≡ words_of blocks → IfSome before (IsReady l) → n.flushed ≡ gathered_to n → Lasts at words before after → IfSome after (IsReady n)
   readies l n front blocks at words None after is split opened place at_is words_are ready flushed lasts = rw lasts tt
   readies l n front blocks at words (Some old) after is split opened place at_is words_are ready flushed (new, told, holds) =
@@ -84,34 +71,9 @@ module _
       let behind = fresh_behind short whole sound l.flushed n p old new fresh all in
       rw told (record { settled = all.settled; fresh = subst (λ (place : ℕ). IsFresh n.opened.run (contents new) place) (sym flushed) behind })
 
-  -- the same of what a call of `gather` answered, where the log is as it left it, and where it was then flushed
   -- no more words are cut off than there are
-  cut_few : (count : ℕ) (words now : List ℕ) → now ≡ words → length words ≡ RING_WORDS → length (take count now) ≤ RING_WORDS
+  pub cut_few : (count : ℕ) (words now : List ℕ) → now ≡ words → length words ≡ RING_WORDS → length (take count now) ≤ RING_WORDS
   cut_few count words now same room = let size = length-take count now in let long = ap length same in omega (arith, size, long, room)
-
-  pub written_gathered : (l m : Log) (at count : ℕ) (words now : List ℕ) (before after : Option (List Step)) → DidGather l m at count words → IsLog sound m → now ≡ words → length words ≡ RING_WORDS
-      → IfSome before (IsReady l) → OnlyWrites at (take count now) before after → Tells (WritesFrom sound l.flushed m) before after
-  written_gathered l m at count words now before after d is same room ready only =
-      written l m d.front d.blocks at (take count now) before after is (ap (λ (x : Log). x.gathered) d.gathered) (ap (λ (x : Log). x.opened) d.gathered) d.flushed_is d.at_is
-      (ap (take count) same ∙ d.words_are) (cut_few count words now same room) ready only
-
-  pub written_flushed : (l m n : Log) (at count : ℕ) (words now : List ℕ) (before after : Option (List Step)) → DidGather l m at count words → n ≡ record m { flushed = at + count } → IsLog sound n → now ≡ words → length words ≡ RING_WORDS
-      → IfSome before (IsReady l) → OnlyWrites at (take count now) before after → Tells (WritesFrom sound l.flushed n) before after
-  written_flushed l m n at count words now before after d f is same room ready only =
-      written l n d.front d.blocks at (take count now) before after is (ap (λ (x : Log). x.gathered) f ∙ ap (λ (x : Log). x.gathered) d.gathered) (ap (λ (x : Log). x.opened) f ∙ ap (λ (x : Log). x.opened) d.gathered)
-      d.flushed_is d.at_is (ap (take count) same ∙ d.words_are) (cut_few count words now same room) ready only
-
-  pub lasting_flushed : (l m n : Log) (at count : ℕ) (words now : List ℕ) (before after : Option (List Step)) → DidGather l m at count words → n ≡ record m { flushed = at + count } → IsLog sound n → now ≡ words
-      → IfSome before (IsReady l) → Lasts at (take count now) before after → Tells (HoldsFrom sound l.flushed n) before after
-  lasting_flushed l m n at count words now before after d f is same ready lasts =
-      lasting l n d.front d.blocks at (take count now) before after is (ap (λ (x : Log). x.gathered) f ∙ ap (λ (x : Log). x.gathered) d.gathered) (ap (λ (x : Log). x.opened) f ∙ ap (λ (x : Log). x.opened) d.gathered)
-      d.flushed_is d.at_is (ap (take count) same ∙ d.words_are) ready (all_flushed l m n at count words d f) lasts
-
-  pub ready_flushed : (l m n : Log) (at count : ℕ) (words now : List ℕ) (before after : Option (List Step)) → DidGather l m at count words → n ≡ record m { flushed = at + count } → IsLog sound n → now ≡ words
-      → IfSome before (IsReady l) → Lasts at (take count now) before after → IfSome after (IsReady n)
-  ready_flushed l m n at count words now before after d f is same ready lasts =
-      readies l n d.front d.blocks at (take count now) before after is (ap (λ (x : Log). x.gathered) f ∙ ap (λ (x : Log). x.gathered) d.gathered) (ap (λ (x : Log). x.opened) f ∙ ap (λ (x : Log). x.opened) d.gathered)
-      d.flushed_is d.at_is (ap (take count) same ∙ d.words_are) ready (all_flushed l m n at count words d f) lasts
 
   -- where nothing was done, nothing is written
   pub unchanged : (l : Log) (before : Option (List Step)) → IsLog sound l → IfSome before (IsReady l) → Tells (WritesFrom sound l.flushed l) before before

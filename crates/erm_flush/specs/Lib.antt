@@ -1,2 +1,4 @@
 pub mod Blocks
 pub mod Turns
+pub mod Over
+pub mod Pinned

@@ -1,12 +1,15 @@
 //! The flusher.
 ghost use Rattle.std.specs.Prelude.{◌≡◌, ◌<◌, ◌*◌, false, IfOk, IfSome, IsErr, IsErrOf, IsSome, IsTrue, OnOk, vec_len};
-ghost use Rattle.erm_outside.specs.Disk.{Tells};
+ghost use Rattle.erm_outside.specs.Disk.{IsSettled, Tells};
+ghost use Rattle.erm_world.specs.Log.{Log};
 ghost use Rattle.erm_flush.specs.declared.stops.FlushStop.{FlushStop as Stop};
+ghost use Rattle.erm_flush.specs.Over.{TurnsKnown, TurnsOver};
 ghost use Rattle.erm_flush.specs.Turns.{Counts, HoldsFrom, IsReady, Stays, Turns, TurnsAll, WritesFrom};
 
-use crate::FlushStop;
+use crate::{FlushStop, WorldLog};
 use erm_bytes::WORD_BYTES;
 use erm_log_disk::write_log;
+use erm_log_view::LogView;
 use erm_model::{RING_WORDS, Stamp};
 use erm_outside::Disk;
 use erm_record::stored_words_tell_the_row;
@@ -49,6 +52,46 @@ impl Flusher {
         })
     }
 
+    /// A turn over a log that others may go on writing: writes all blocks that are decided from the place flushed on, up to the first that
+    /// isn't or the log's end, and waits until they last; then the log is flushed up to the answer. No memory is taken.
+    pub fn turn_over<D: Disk, V: LogView>(
+        &mut self,
+        disk: &mut D,
+        world: &mut V,
+    ) -> Result<Stamp, FlushStop>
+        requires stands { V.stands world.old }
+        // After a fault nothing is asked of the disk.
+        requires settled { self.old ≡ false → IfSome (D.told disk.old) IsSettled }
+
+        ensures stands { V.stands world.new }
+        ensures keeps { V.keeps world.old world.new }
+        ensures turn { TurnsOver V.gathers V.flushes result self.old self.new world.old world.new (D.told disk.old) (D.told disk.new) }
+        ensures counts { Counts result (D.faults disk.old) (D.faults disk.new) }
+
+        // What that means for the log, as far as it is known.
+        ensures known { (l : Log) → V.knows world.old l → (self.old ≡ false → IfSome (D.told disk.old) (IsReady l))
+            → TurnsKnown V.rows_law.meets V.knows V.awaits V.ended V.opened V.stopped result l world.old world.new (D.told disk.old) (D.told disk.new) }
+    {
+        if self.failed {
+            return Err(FlushStop::Failed);
+        }
+        stored_words_tell_the_row();
+        V::gathers_are_known();
+        let (at, count) = match world.gather(&mut self.words) {
+            Gathered::Empty { at } => return Err(FlushStop::Empty { at }),
+            Gathered::Unfilled { at } => return Err(FlushStop::Unfilled { at }),
+            Gathered::Words { at, count } => (at, count),
+        };
+        let words = &self.words[..count as usize];
+        if write_log(disk, at, words, &mut self.bytes).is_err() {
+            self.failed = true;
+            return Err(FlushStop::DiskFault);
+        }
+        let end = at + count;
+        world.flushed_to(end);
+        Ok(end)
+    }
+
     /// Writes all blocks that are decided from the place flushed on, up to the first that isn't or the log's end, and waits
     /// until they last; then the world's log is flushed up to the answer. No memory is taken.
     pub fn flush_turn<D: Disk, W: LogWorld>(
@@ -71,23 +114,15 @@ impl Flusher {
         ensures lasts { OnOk result (Tells (HoldsFrom W.rows_law.meets (W.log world.old).flushed (W.log world.new)) (D.told disk.old) (D.told disk.new)) }
         ensures ready { self.new ≡ false → IfSome (D.told disk.new) (IsReady (W.log world.new)) }
     {
-        if self.failed {
-            return Err(FlushStop::Failed);
-        }
         stored_words_tell_the_row();
-        let (at, count) = match world.gather(&mut self.words) {
-            Gathered::Empty { at } => return Err(FlushStop::Empty { at }),
-            Gathered::Unfilled { at } => return Err(FlushStop::Unfilled { at }),
-            Gathered::Words { at, count } => (at, count),
-        };
-        let words = &self.words[..count as usize];
-        if write_log(disk, at, words, &mut self.bytes).is_err() {
-            self.failed = true;
-            return Err(FlushStop::DiskFault);
-        }
-        let end = at + count;
-        world.flushed_to(end);
-        Ok(end)
+        self.turn_over(disk, &mut WorldLog { world })
+    }
+
+    /// Whether the disk failed at an earlier call.
+    pub fn has_failed(&self) -> bool
+        ensures { result ≡ self.now }
+    {
+        self.failed
     }
 
     /// Says that the disk failed at a call that wasn't the flusher's: it writes nothing more.

@@ -4,7 +4,9 @@
 mod flusher;
 mod laws;
 mod stops;
+mod world_log;
 
 pub use flusher::Flusher;
 pub use laws::writes_leave_fronts;
 pub use stops::FlushStop;
+pub use world_log::WorldLog;

@@ -17,7 +17,7 @@ use Rattle.erm_replica.proofs.Cuts.{fed_twice, reads_more}
 use Rattle.erm_follow_run.specs.declared.halt.Halt.{Halt}
 use Rattle.erm_follow_run.specs.declared.halt.Halt.TheVariants as halt
 use Rattle.erm_follow_run.specs.Draining.{AreLines, DrainsTo, HasFront, Leads}
-use Rattle.erm_follow_run.specs.Ends.{EndsHalt, EndsPiece, Finishes, FollowEnds, HearsPiece, PrintsStarved, PrintsTo, Runs, TakesAtMost, TellsBad, TellsBroken, TellsCut, TellsFront, TellsSoFar, TellsStarved, TellsWhole, TookAll, TookFront, Ways}
+use Rattle.erm_follow_run.specs.Ends.{EndsHalt, EndsPiece, Finishes, FollowEnds, HearsPiece, PrintsStarved, PrintsTo, Runs, TakesAtMost, TellsBad, TellsBroken, TellsCut, TellsFront, TellsSoFar, TellsStarved, TellsWhole, TookAll, TookFront, Ways, StarvesAtOnce}
 use Rattle.erm_follow_run.specs.Following.{Following}
 use Rattle.erm_follow_run.specs.Texts.{bad_text, broken_text, end_text, lines_text}
 use Rattle.erm_follow_run.proofs.Puts.{prints_join, prints_same, puts_front, puts_join, puts_nothing}
@@ -138,6 +138,22 @@ took_all bytes buffer (Some all) now next front takes =
       here.rest ∙ ap Some none,
     )
 
+-- memory ran out
+ends_8 : (a : Ways) → TakesAtMost 16777217 a.left_before a.left_after → TellsStarved a → a.source_after ≡ a.source_before → FollowEnds 8 a
+ends_8 a taken starved source = record {
+  known = inr (inr (inr (inl refl)));
+  success = λ e. absurd (omega (arith, e));
+  read_fault = λ e. absurd (omega (arith, e));
+  sink_fault = λ e. absurd (omega (arith, e));
+  no_memory = λ e. starved;
+  too_long = λ e. absurd (omega (arith, e));
+  bad = λ e. absurd (omega (arith, e));
+  broken = λ e. absurd (omega (arith, e));
+  taken = taken;
+  source_sound = λ e. source;
+  sink_sound = λ e. absurd (omega (arith, e));
+}
+
 module _ (stays : (log : Option LogPlace) (bytes more : List ℕ) (part : Part) → StandsFirst log bytes part → StandsFirst log (bytes ++ more) part)
     (within : (log : Option LogPlace) (bytes : List ℕ) (part : Part) → StandsFirst log bytes part → 8 * length (part_words part) ≤ length bytes) where
   fed_following : (bytes piece : List ℕ) (s : Streamed) (f : Followed) (lines : List Commit) → Following bytes s f lines → Following (bytes ++ piece) (fed s piece) f lines
@@ -193,21 +209,6 @@ module _ (stays : (log : Option LogPlace) (bytes more : List ℕ) (part : Part) 
     read_fault = λ e. absurd (omega (arith, e));
     sink_fault = λ e. (rose, (text, tells, put));
     no_memory = λ e. absurd (omega (arith, e));
-    too_long = λ e. absurd (omega (arith, e));
-    bad = λ e. absurd (omega (arith, e));
-    broken = λ e. absurd (omega (arith, e));
-    taken = taken;
-    source_sound = λ e. source;
-    sink_sound = λ e. absurd (omega (arith, e));
-  }
-
-  ends_8 : (a : Ways) → TakesAtMost 16777217 a.left_before a.left_after → TellsStarved a → a.source_after ≡ a.source_before → FollowEnds 8 a
-  ends_8 a taken starved source = record {
-    known = inr (inr (inr (inl refl)));
-    success = λ e. absurd (omega (arith, e));
-    read_fault = λ e. absurd (omega (arith, e));
-    sink_fault = λ e. absurd (omega (arith, e));
-    no_memory = λ e. starved;
     too_long = λ e. absurd (omega (arith, e));
     bad = λ e. absurd (omega (arith, e));
     broken = λ e. absurd (omega (arith, e));
@@ -411,3 +412,16 @@ runs_first given left written = record {
   rest_is = refl;
   put = puts_nothing written;
 }
+
+-- and where memory runs out before a byte is taken
+pub starved_first : HasGiven 8 [] [] (follow_start 8) → (a : Ways) → StarvesAtOnce a → FollowEnds 8 a
+starved_first given a starves =
+    let front : TookFront [] a.left_before a.left_after = subst (λ (x : Option (List ℕ)). TookFront [] a.left_before x) (sym starves.left) (took_nothing a.left_before) in
+    let following : Following [] start (follow_start 8) [] = record { parts = []; reads = refl; given = given; below = tt } in
+    ends_8 a ([], front, omega arith) (record {
+      bytes = [];
+      front = front;
+      text = [];
+      told = record { s = start; f = follow_start 8; lines = []; following = following; front = record { front = []; rest = []; split = refl; added = refl } };
+      printed = starves.printed;
+    }) starves.sound

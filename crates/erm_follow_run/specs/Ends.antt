@@ -134,6 +134,12 @@ pub record FollowEnds (status : ℕ) (a : Ways) : Type 0 where
   pub source_sound : status ≢ 4 → a.source_after ≡ a.source_before
   pub sink_sound : status ≡ 0 → a.sink_after ≡ a.sink_before
 
+-- memory ran out before a byte was taken
+pub record StarvesAtOnce (a : Ways) : Type 0 where
+  pub left : a.left_after ≡ a.left_before
+  pub sound : a.source_after ≡ a.source_before
+  pub printed : Prints (line_text line.NoMemory) a
+
 -- ---- a piece that is heard
 
 -- the line for want of memory was printed

@@ -5,8 +5,10 @@ mod drained;
 mod ends;
 mod following;
 mod halt;
+mod laws;
 mod steps;
 #[cfg(test)]
 mod tests;
 
 pub use following::{STREAM_BYTES, follow};
+pub use laws::starving_is_an_end;

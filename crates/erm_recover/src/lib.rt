@@ -23,6 +23,3 @@ pub use slots::SLOT_BYTES;
 pub use sound_rows::{SoundTest, zero_rows_are_sound};
 pub use stop::RecoverStop;
 pub use tail::Tail;
-
-#[cfg(test)]
-mod tests;

@@ -61,8 +61,8 @@ returns-then-is_err-clause-any_moment g c = λ fine.
     let pin = at_pin sound l m n slot slots rows c.read_rows.new.rows e.turns.2 c.in_default.ensures.same (e.turns.3 ∙ sym e.turns.4) c.requires.pinned c.requires.place c.requires.run c.requires.run_low c.requires.run_high
     c.requires.first c.requires.begins c.requires.high (g.met.W.LogWorld.is_log c.read_rows.new.world c.in_default.ensures.stands)
     c.in_default.ensures.rows same_rows c.save_rows.ensures.is c.save_rows.ensures.rows in
-    let part = SavesPart (other_of slots) (slot_bytes slot rows) slot.first (removal_end slots) in
-    let all = SavesAll (other_of slots) (slot_bytes slot rows) slot.first (removal_end slots) in
+    let part = SavesPart (other_of slots) (slot_bytes slot rows) 0 (removal_end slots) in
+    let all = SavesAll (other_of slots) (slot_bytes slot rows) 0 (removal_end slots) in
     let writes = subst (λ (x : Log). Tells (WritesFrom sound l.flushed x) before mid) (sym c.in_default.ensures.same) (e.any_moment fine) in
     told_takes short sound c.respects_rows.ensures.meets l.flushed n slots slot rows before mid after writes held pin
     (told_part part all mid after (was_err c.save_rows.result (Tells part mid after) (sym c.is_err.ensures.value ∙ c.if-is_err.true) c.save_rows.ensures.part))
@@ -90,8 +90,8 @@ returns-clause-any_moment g c = λ fine.
     let pin = at_pin sound l m n slot slots rows c.read_rows.new.rows e.turns.2 c.in_default.ensures.same (e.turns.3 ∙ sym e.turns.4) c.requires.pinned c.requires.place c.requires.run c.requires.run_low c.requires.run_high
     c.requires.first c.requires.begins c.requires.high (g.met.W.LogWorld.is_log c.read_rows.new.world c.in_default.ensures.stands)
     c.in_default.ensures.rows same_rows c.save_rows.ensures.is c.save_rows.ensures.rows in
-    let part = SavesPart (other_of slots) (slot_bytes slot rows) slot.first (removal_end slots) in
-    let all = SavesAll (other_of slots) (slot_bytes slot rows) slot.first (removal_end slots) in
+    let part = SavesPart (other_of slots) (slot_bytes slot rows) 0 (removal_end slots) in
+    let all = SavesAll (other_of slots) (slot_bytes slot rows) 0 (removal_end slots) in
     let writes = subst (λ (x : Log). Tells (WritesFrom sound l.flushed x) before mid) (sym c.in_default.ensures.same) (e.any_moment fine) in
     told_takes short sound c.respects_rows.ensures.meets l.flushed n slots slot rows before mid after writes held pin
     (told_all part all mid after (was_ok c.save_rows.result (Tells all mid after) (sym c.is_err.ensures.value ∙ c.if-is_err.false) c.save_rows.ensures.saved))
@@ -119,7 +119,7 @@ returns-clause-saved g c =
     let pin = at_pin sound l m n slot slots rows c.read_rows.new.rows e.turns.2 c.in_default.ensures.same (e.turns.3 ∙ sym e.turns.4) c.requires.pinned c.requires.place c.requires.run c.requires.run_low c.requires.run_high
     c.requires.first c.requires.begins c.requires.high (g.met.W.LogWorld.is_log c.read_rows.new.world c.in_default.ensures.stands)
     c.in_default.ensures.rows same_rows c.save_rows.ensures.is c.save_rows.ensures.rows in
-    let all = SavesAll (other_of slots) (slot_bytes slot rows) slot.first (removal_end slots) in
+    let all = SavesAll (other_of slots) (slot_bytes slot rows) 0 (removal_end slots) in
     let writes = subst (λ (x : Log). Tells (WritesFrom sound l.flushed x) before mid) (sym c.in_default.ensures.same) (e.any_moment e.turns.0) in
     told_takes_all short sound c.respects_rows.ensures.meets l.flushed n slots slot rows before mid after writes held pin
     (was_ok c.save_rows.result (Tells all mid after) (sym c.is_err.ensures.value ∙ c.if-is_err.false) c.save_rows.ensures.saved)
@@ -147,7 +147,7 @@ returns-clause-lasts g c =
     let pin = at_pin sound l m n slot slots rows c.read_rows.new.rows e.turns.2 c.in_default.ensures.same (e.turns.3 ∙ sym e.turns.4) c.requires.pinned c.requires.place c.requires.run c.requires.run_low c.requires.run_high
     c.requires.first c.requires.begins c.requires.high (g.met.W.LogWorld.is_log c.read_rows.new.world c.in_default.ensures.stands)
     c.in_default.ensures.rows same_rows c.save_rows.ensures.is c.save_rows.ensures.rows in
-    let part = SavesPart (other_of slots) (slot_bytes slot rows) slot.first (removal_end slots) in
-    let all = SavesAll (other_of slots) (slot_bytes slot rows) slot.first (removal_end slots) in
+    let part = SavesPart (other_of slots) (slot_bytes slot rows) 0 (removal_end slots) in
+    let all = SavesAll (other_of slots) (slot_bytes slot rows) 0 (removal_end slots) in
     told_lasts short sound c.respects_rows.ensures.meets n slots slot rows mid after held pin
     (was_ok c.save_rows.result (Tells all mid after) (sym c.is_err.ensures.value ∙ c.if-is_err.false) c.save_rows.ensures.saved)

@@ -1,0 +1,16 @@
+pub mod Opened
+pub mod Lawful
+pub mod Listed
+pub mod Fronts
+pub mod Onward
+pub mod Turned
+pub mod Full
+pub mod Looking
+pub mod Begun
+pub mod Unflushed
+pub mod Chained
+pub mod Stays
+pub mod PinFront
+pub mod PinKept
+pub mod Ended
+pub mod Pins

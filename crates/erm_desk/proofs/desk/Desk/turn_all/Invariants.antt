@@ -1,0 +1,16 @@
+use Rattle.std.proofs.Common.{◌≡◌, ◌≤◌, ◌-◌, ◌^◌}
+use Rattle.erm_desk.specs.All.{FlushTurns}
+use Rattle.erm_desk.proofs.Chained.{IsLast}
+use Rattle.erm_desk.proofs.desk.Desk.turn_all.Given as goal
+
+-- the turns so far flushed, as far as the last one
+abbrev pub invariant-loop-end : goal.invariant-loop-end
+invariant-loop-end g l = record {
+  turns : FlushTurns g.L.RowLaw.law g.B.Naming.start l.turns l.fn.self l.self;
+  few : l.turns ≤ l.flushed;
+  last : IsLast l.flushed l.self;
+  same : l.self.faults ≡ l.fn.self.faults;
+}
+
+abbrev pub decreases-loop-end : goal.decreases-loop-end
+decreases-loop-end g l = 2 ^ 64 - l.flushed

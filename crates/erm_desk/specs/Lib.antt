@@ -1,0 +1,4 @@
+pub mod Known
+pub mod Turns
+pub mod Desk
+pub mod All
