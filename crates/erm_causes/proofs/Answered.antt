@@ -27,7 +27,7 @@ use Rattle.erm_good_report.specs.Causes.{NamesTable, WritesTable}
 use Rattle.erm_good_report.specs.Transactions.{Aborts, Commits, Ending, Excludes, Unfinished, Progress, Transaction, ended, goes_on, heard, is_writer, table_of, with_ending, with_line}
 use Rattle.erm_lines.specs.Operations.{AsksOf, FrontOf, WereCutOff}
 use Rattle.erm_causes.specs.Touched.{AreOfTables, Touches, WasClosed}
-use Rattle.erm_causes.proofs.Begun.{CommitsKeep, HistoryLaws}
+use Rattle.erm_causes.proofs.Begun.{CommitsKeep}
 use Rattle.erm_causes.proofs.Coloured.{AskedOf, KeepsTables}
 use Rattle.erm_causes.proofs.Fine.{FineNow, FineOne, FineOver, IsFine, Turned, history_grows, over_later, over_one_more, still_session, touches_same, turned_then}
 use Rattle.erm_causes.proofs.Lines.{CutFine, commits_keep, current_in, cut_fine, names_line, ran_made, stays_keep, turned_by, whole_fine, writes_line}
@@ -36,6 +36,7 @@ use Rattle.erm_causes.proofs.Operated.{EndsBy, GoesOnBy, Last, Operated, ShutAs}
 use Rattle.erm_causes.proofs.Operated as operated
 use Rattle.erm_causes.proofs.Own.{TreeLaws}
 use Rattle.erm_told_limits.proofs.Ran.{ran}
+use Rattle.erm_told_limits.proofs.Given.{HistoryLaws}
 
 -- LAST. What the last call left besides.
 pub last_made : (asked : Asked) (w u : Work) → Last asked w u → u.made ≡ w.made

@@ -1,11 +1,10 @@
 -- The rows on which a transaction began: sound ones, that fit it, and of which each object is of its table.
-use Rattle.std.proofs.Common.{◌≡◌, ℕ, ◌<◌, List, Some, refl, ap, subst, sym}
+use Rattle.std.proofs.Common.{◌≡◌, ℕ, ◌<◌, Some, refl, ap, subst, sym}
 use Rattle.std.proofs.lemmas.List.Sorted.{IsPermutation-sym}
 use Rattle.erm_model.specs.declared.history.TransactionRecord.{TransactionRecord}
-use Rattle.erm_model.specs.History.{HasNewestRows, History, IsCertified, IsNewestBelow, IsSnapshot, IsVersion, RunsSerially, below, rank_of, rows_after}
+use Rattle.erm_model.specs.History.{below, rows_after}
 use Rattle.erm_model.specs.Member.{◌∈◌}
 use Rattle.erm_model.specs.Rows.{Rows}
-use Rattle.erm_model.specs.SerialOrder.{IsSerialOrder}
 use Rattle.erm_core_ssn.proofs.Members.{∈-permutation}
 use Rattle.erm_core_ssn.proofs.Prefixes.{in_below}
 use Rattle.erm_node.specs.Sound.{IsSound, sound_law}
@@ -17,20 +16,7 @@ use Rattle.erm_maps.proofs.Histories.{work_in}
 use Rattle.erm_maps.proofs.Lawful.{LeavesNewest, RunsBelow, begins_above, fits_below, lawful_below}
 use Rattle.erm_causes.specs.Touched.{AreOfTables}
 use Rattle.erm_causes.proofs.Coloured.{KeepsTables, after_commits}
-
--- What the laws of histories say.
-pub record HistoryLaws : Type 0 where
-  pub certified : (h : History) → IsCertified h → (bound : ℕ) → IsCertified (below bound h)
-  pub snapshot : (h : History) (opening : Rows) → IsSnapshot h opening → (bound : ℕ) → IsSnapshot (below bound h) opening
-  pub exists : (h : History) → IsCertified h → (order : History) × IsSerialOrder rank_of h order
-  pub run_below : (h : History) (opening : Rows) → IsSnapshot h opening → IsCertified h → (bound : ℕ) (order : History) → IsSerialOrder rank_of (below bound h) order
-      → RunsSerially (below bound h) opening opening order
-  pub newest_below : (h : History) (opening : Rows) → IsSnapshot h opening → IsCertified h → (bound : ℕ) (order : History) → IsSerialOrder rank_of (below bound h) order
-      → 0 < bound → HasNewestRows h opening bound (rows_after order opening)
-  pub row : (h : History) (opening : Rows) → IsSnapshot h opening → IsCertified h → (oid stamp : ℕ) (one other : List ℕ)
-      → IsVersion h opening oid stamp one → IsVersion h opening oid stamp other → one ≡ other
-  pub newest : (h : History) (opening : Rows) → IsSnapshot h opening → IsCertified h → (oid bound stamp other_stamp : ℕ) (row other_row : List ℕ)
-      → IsNewestBelow h opening oid bound stamp row → IsNewestBelow h opening oid bound other_stamp other_row → (stamp ≡ other_stamp) × (row ≡ other_row)
+use Rattle.erm_told_limits.proofs.Given.{HistoryLaws}
 
 -- rows on which a transaction may have begun, of which each object is of its table
 pub record BeganOn (table : ℕ → ℕ) (w : Work) : Type 0 where

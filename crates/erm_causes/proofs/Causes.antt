@@ -19,14 +19,14 @@ use Rattle.erm_causes.specs.Touched.{TouchesAll, TouchesOne, TouchesOver, WasClo
 use Rattle.erm_causes.proofs.Beside.{ToldCommit, commits_beside, overwrites_after, overwrites_beside, shows_closed}
 
 -- what stands in joined lists stands in one of them
-in_flat : {X Y : Type 0} (f : X → List Y) (xs : List X) (y : Y) → y ∈ flat_map f xs → (x : X) × (x ∈ xs) × (y ∈ f x)
+pub in_flat : {X Y : Type 0} (f : X → List Y) (xs : List X) (y : Y) → y ∈ flat_map f xs → (x : X) × (x ∈ xs) × (y ∈ f x)
 in_flat f [] y m = absurd (none_in_nil y m)
 in_flat f (x ∷ xs) y m = elim (∈-either (f x) (flat_map f xs) y m) [
   | inl here ↦ (x, (zero, refl), here)
   | inr later ↦ let found = in_flat f xs y later in (found.0, (suc found.1.0, found.1.1), found.2)
 ]
 
-from_flat : {X Y : Type 0} (f : X → List Y) (xs : List X) (x : X) (y : Y) (k : ℕ) → slice_get xs k ≡ Some x → y ∈ f x → y ∈ flat_map f xs
+pub from_flat : {X Y : Type 0} (f : X → List Y) (xs : List X) (x : X) (y : Y) (k : ℕ) → slice_get xs k ≡ Some x → y ∈ f x → y ∈ flat_map f xs
 from_flat f [] x y k at m = cc
 from_flat {X} {Y} f (z ∷ xs) x y zero at m =
     let same : z ≡ x = cc in ∈-first (f z) (flat_map f xs) y (subst (λ (q : X). y ∈ f q) (sym same) m)

@@ -26,12 +26,13 @@ use Rattle.erm_good_report.specs.Causes.{NamesTable, WritesTable}
 use Rattle.erm_good_report.specs.Transactions.{Exchange, Transaction, is_writer, table_of, with_line}
 use Rattle.erm_lines.specs.Operations.{AsksOf, DidCalls, FrontOf, WereCutOff, WholeOf}
 use Rattle.erm_causes.specs.Touched.{AreOfTables, Touches}
-use Rattle.erm_causes.proofs.Begun.{BeganOn, CommitsKeep, HistoryLaws, began_on}
+use Rattle.erm_causes.proofs.Begun.{BeganOn, CommitsKeep, began_on}
 use Rattle.erm_causes.proofs.Coloured.{AskedOf, KeepsTables, after_events, agrees_with, asked_of, claims_of, reads_of}
 use Rattle.erm_causes.proofs.Fine.{FineNow, Turned, names_more, still_session, writes_more}
 use Rattle.erm_causes.proofs.Made.{made_by_one, made_within}
 use Rattle.erm_causes.proofs.Own.{StaysIn, TreeLaws, asks_stay, asks_write, front_stays, front_writes, table_below, whole_stays, whole_writes}
 use Rattle.erm_told_limits.proofs.Ran.{MovesAll, Stays, ran}
+use Rattle.erm_told_limits.proofs.Given.{HistoryLaws}
 
 -- LINES. A line that names a table is one of its transaction's, behind the earlier ones.
 pub line_in : (c : Command) (a : Answer) (t : Transaction) (k : ℕ) → table_of c ≡ Some k → record { asked = c; answer = a } ∈ (with_line (Some c) a t).lines

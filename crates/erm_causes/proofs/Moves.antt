@@ -24,16 +24,17 @@ use Rattle.erm_lines.specs.Executions.{DidFlush, DidMove, Move, close, flush, li
 use Rattle.erm_lines.proofs.Moved.{log_flushes, log_of_none}
 use Rattle.erm_causes.specs.Touched.{AreOfTables, Touches, WasClosed}
 use Rattle.erm_causes.proofs.Answered.{done_turned, now_active, operated_fine, operated_made, operated_turned}
-use Rattle.erm_causes.proofs.Begun.{CommitsKeep, HistoryLaws}
+use Rattle.erm_causes.proofs.Begun.{CommitsKeep}
 use Rattle.erm_causes.proofs.Coloured.{KeepsTables}
 use Rattle.erm_causes.proofs.Fine.{FineNow, FineOne, FineOver, IsFine, Turned, history_grows, over_keeps, over_later, over_one_more, still_session, touches_nothing, touches_same, turned_then}
 use Rattle.erm_causes.proofs.Made.{made_by_one, made_done}
 use Rattle.erm_causes.proofs.Own.{TreeLaws}
 use Rattle.erm_causes.proofs.Quiet.{HasNow, Lined, Quiet, SameLines, SameNow, closed_quiet, lined}
 use Rattle.erm_causes.proofs.Quiet as quiet
+use Rattle.erm_told_limits.proofs.Given.{HistoryLaws}
 
 -- QUIET MOVES. The session goes on, and nothing is made.
-own_turned : (v t : View) (seat : ℕ) (stand : Stand) → t.session seat ≡ record { over = (v.session seat).over; stand = stand } → ((q : ℕ) → q ≢ seat → t.session q ≡ v.session q)
+pub own_turned : (v t : View) (seat : ℕ) (stand : Stand) → t.session seat ≡ record { over = (v.session seat).over; stand = stand } → ((q : ℕ) → q ≢ seat → t.session q ≡ v.session q)
     → t.opening ≡ v.opening → Turned v seat t
 own_turned v t seat stand own others opening = record {
   others = others;
@@ -42,7 +43,7 @@ own_turned v t seat stand own others opening = record {
   over = ap (λ (s : Session). s.over) own ∙ sym (append-nil (v.session seat).over);
 }
 
-itself_turned : (v t : View) (seat : ℕ) → t ≡ v → Turned v seat t
+pub itself_turned : (v t : View) (seat : ℕ) → t ≡ v → Turned v seat t
 itself_turned v t seat is = record {
   others = λ q another. ap (λ (x : View). x.session q) is;
   opening = ap (λ (x : View). x.opening) is;

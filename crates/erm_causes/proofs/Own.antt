@@ -1,5 +1,5 @@
 -- The events of a line are of its table: what they read and claim is reached by its tree, or made by them, and they change that tree alone.
-use Rattle.std.proofs.Common.{◌≡◌, ℕ, zero, suc, ◌+◌, ◌^◌, ◌<◌, ◌⊎◌, true, List, [], ◌∷◌, ◌++◌, map, Option, Some, None, append-nil, inl, inr, refl, sym, ap, ◌∙◌, subst, arith}
+use Rattle.std.proofs.Common.{◌≡◌, ℕ, zero, suc, ◌+◌, ◌^◌, ◌<◌, ◌⊎◌, true, List, [], ◌∷◌, ◌++◌, Option, Some, None, append-nil, inl, inr, refl, sym, ap, ◌∙◌, subst, arith}
 use Rattle.std.specs.Prelude.{MatchOption}
 use Rattle.std.proofs.lemmas.Bool.{cases_eq}
 use Rattle.erm_model.specs.declared.limits.TheConstants.{TABLES}
@@ -11,7 +11,7 @@ use Rattle.erm_node.specs.Sound.{IsSound, sound_law}
 use Rattle.erm_node.specs.TreeMap.{record_in}
 use Rattle.erm_record.specs.Record.{absent_row, value_row}
 use Rattle.erm_tree.specs.Calls.{AsksReads, ReadsAre}
-use Rattle.erm_tree.specs.Change.{AreReadsThen, IsDel, IsPut, IsPutOfNew, makes_claims_writes}
+use Rattle.erm_tree.specs.Change.{AreReadsThen, IsDel, IsPut, IsPutOfNew}
 use Rattle.erm_tree.specs.Reads.{IsMetIn, IsOnWay, IsSought}
 use Rattle.erm_tree.specs.Tables.{AreClaiming, AreReached, DelsAskOwn, DelsClaimOwn, IsOwn, IsOwnAsked, KeepsTables, ObjectsHaveOneTable, PutsAskOwn, PutsClaimOwn, TablesStandApart, reached_by}
 use Rattle.erm_tree.specs.Walk.{IsMetByNext, last_sought}
@@ -23,6 +23,7 @@ use Rattle.erm_script.specs.Script.{IsInRange}
 use Rattle.erm_good_report.specs.Transactions.{is_writer, table_of}
 use Rattle.erm_lines.specs.Operations.{AsksOf, FrontOf, IsMetByScan, ReadsOnly, WholeOf}
 use Rattle.erm_told_limits.proofs.Ran.{AreReading}
+use Rattle.erm_told_limits.proofs.Reached.{change_reads_nothing, reads_are}
 
 -- What the tree's laws say of its calls.
 pub record TreeLaws : Type 0 where
@@ -43,19 +44,8 @@ pub record StaysIn (table : ℕ) (rows : Rows) (events : List Event) : Type 0 wh
   pub after : (other x : ℕ) → other < TABLES → 0 < reached_by (after_all events rows) other x
       → (0 < reached_by rows other x) ⊎ ((other ≡ table) × (0 < made_by_all events x))
 
--- what events read is one of these objects
-pub reads_are : (P : ℕ → Type 0) (events : List Event) → ReadsAre P events → (x : ℕ) → AreReading events x → P x
-reads_are P [] of x by = absurd by
-reads_are P (did_read oid row ∷ events) of x by = elim by as (λ _. P x) [
-  | inl here ↦ subst P (sym here) of.0
-  | inr later ↦ reads_are P events of.1 x later
-]
-reads_are P (did_claim oid ∷ events) of x by = reads_are P events of x by
-reads_are P (did_write oid row ∷ events) of x by = reads_are P events of x by
-reads_are P (did_make oid ∷ events) of x by = reads_are P events of x by
-
 -- reads claim nothing
-no_claims : (events : List Event) → OnlyReads events → (x : ℕ) → AreClaiming events x → ⊥
+pub no_claims : (events : List Event) → OnlyReads events → (x : ℕ) → AreClaiming events x → ⊥
 no_claims [] only x by = by
 no_claims (did_read oid row ∷ events) only x by = elim by as (λ _. ⊥) [ inl none ↦ none | inr later ↦ no_claims events only x later ]
 no_claims (did_claim oid ∷ events) only x by = only
@@ -63,7 +53,7 @@ no_claims (did_write oid row ∷ events) only x by = only
 no_claims (did_make oid ∷ events) only x by = only
 
 -- and claims after reads are those of the others
-claims_then : (reads others : List Event) → OnlyReads reads → (x : ℕ) → AreClaiming (reads ++ others) x → AreClaiming others x
+pub claims_then : (reads others : List Event) → OnlyReads reads → (x : ℕ) → AreClaiming (reads ++ others) x → AreClaiming others x
 claims_then [] others only x by = by
 claims_then (did_read oid row ∷ reads) others only x by = elim by as (λ _. AreClaiming others x) [ inl none ↦ absurd none | inr later ↦ claims_then reads others only x later ]
 claims_then (did_claim oid ∷ reads) others only x by = absurd only
@@ -81,35 +71,11 @@ reads_then P (did_claim oid ∷ reads) others of none x by = reads_then P reads 
 reads_then P (did_write oid row ∷ reads) others of none x by = reads_then P reads others of none x by
 reads_then P (did_make oid ∷ reads) others of none x by = reads_then P reads others of none x by
 
-no_reads_append : (es fs : List Event) → ((x : ℕ) → AreReading es x → ⊥) → ((x : ℕ) → AreReading fs x → ⊥) → (x : ℕ) → AreReading (es ++ fs) x → ⊥
-no_reads_append [] fs none then_none x by = then_none x by
-no_reads_append (did_read oid row ∷ es) fs none then_none x by = none oid (inl refl)
-no_reads_append (did_claim oid ∷ es) fs none then_none x by = no_reads_append es fs none then_none x by
-no_reads_append (did_write oid row ∷ es) fs none then_none x by = no_reads_append es fs none then_none x by
-no_reads_append (did_make oid ∷ es) fs none then_none x by = no_reads_append es fs none then_none x by
-
-makes_read_nothing : (made : List ℕ) (x : ℕ) → AreReading (map did_make made) x → ⊥
-makes_read_nothing [] x by = by
-makes_read_nothing (oid ∷ made) x by = makes_read_nothing made x by
-
-claims_read_nothing : (rows : List (ℕ × List ℕ)) (x : ℕ) → AreReading (map (λ (entry : ℕ × List ℕ). did_claim entry.0) rows) x → ⊥
-claims_read_nothing [] x by = by
-claims_read_nothing (entry ∷ rows) x by = claims_read_nothing rows x by
-
-writes_read_nothing : (rows : List (ℕ × List ℕ)) (x : ℕ) → AreReading (map (λ (entry : ℕ × List ℕ). did_write entry.0 entry.1) rows) x → ⊥
-writes_read_nothing [] x by = by
-writes_read_nothing (entry ∷ rows) x by = writes_read_nothing rows x by
-
-change_reads_nothing : (made : List ℕ) (rows : List (ℕ × List ℕ)) (x : ℕ) → AreReading (makes_claims_writes made rows) x → ⊥
-change_reads_nothing made rows =
-    no_reads_append (map did_make made) (map (λ (entry : ℕ × List ℕ). did_claim entry.0) rows ++ map (λ (entry : ℕ × List ℕ). did_write entry.0 entry.1) rows) (makes_read_nothing made)
-    (no_reads_append (map (λ (entry : ℕ × List ℕ). did_claim entry.0) rows) (map (λ (entry : ℕ × List ℕ). did_write entry.0 entry.1) rows) (claims_read_nothing rows) (writes_read_nothing rows))
-
 -- reads of these objects, and then others that read nothing
-split_reads : (P : ℕ → Type 0) (others events : List Event) → AreReadsThen P others events → ((x : ℕ) → AreReading others x → ⊥) → (x : ℕ) → AreReading events x → P x
+pub split_reads : (P : ℕ → Type 0) (others events : List Event) → AreReadsThen P others events → ((x : ℕ) → AreReading others x → ⊥) → (x : ℕ) → AreReading events x → P x
 split_reads P others events is none x by = reads_then P is.reads others is.of none x (subst (λ (es : List Event). AreReading es x) is.split by)
 
-split_claims : (P : ℕ → Type 0) (others events : List Event) → AreReadsThen P others events → (x : ℕ) → AreClaiming events x → AreClaiming others x
+pub split_claims : (P : ℕ → Type 0) (others events : List Event) → AreReadsThen P others events → (x : ℕ) → AreClaiming events x → AreClaiming others x
 split_claims P others events is x by = claims_then is.reads others is.only x (subst (λ (es : List Event). AreClaiming es x) is.split by)
 
 module _ (laws : TreeLaws) where

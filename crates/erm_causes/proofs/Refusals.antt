@@ -30,7 +30,6 @@ use Rattle.erm_lines.specs.Answers.{DidCommand, DidDecide, WasRefusedAs, stop_to
 use Rattle.erm_lines.specs.Operations.{AsksOf, FrontOf, WereCutOff}
 use Rattle.erm_causes.specs.Touched.{AreOfTables, IsClosedBy, Touches}
 use Rattle.erm_causes.proofs.Answered.{done_turned, last_touches, now_active, out_fine, shut_closed, stayed_fine}
-use Rattle.erm_causes.proofs.Begun.{HistoryLaws}
 use Rattle.erm_causes.proofs.Beside.{shows_closed_by}
 use Rattle.erm_causes.proofs.Coloured.{AskedOf}
 use Rattle.erm_causes.proofs.Decided.{no_window_before, window_before}
@@ -44,6 +43,7 @@ use Rattle.erm_causes.proofs.Operated as operated
 use Rattle.erm_causes.proofs.Own.{TreeLaws}
 use Rattle.erm_causes.proofs.Quiet.{same_line, wants_active}
 use Rattle.erm_told_limits.proofs.Ran.{Stays, active_with, ran}
+use Rattle.erm_told_limits.proofs.Given.{HistoryLaws}
 use Rattle.erm_causes.proofs.Waits.{Decides, IsDecision, Waited, excluded_named, named_active, newer_named, none_for_ring, owned_named, waited_ring, waited_seat}
 use Rattle.erm_causes.proofs.Waits as waits
 use Rattle.erm_causes.proofs.Refused.{Known, KnowsStamps, newer_by, owned_by, waits_to_read, waits_to_settle}

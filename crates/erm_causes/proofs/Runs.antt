@@ -17,11 +17,11 @@ use Rattle.erm_told.proofs.Runs.{executed_both, last_moves, same_progress}
 use Rattle.erm_script.specs.Script.{IsInRange}
 use Rattle.erm_causes.specs.Laws.{RunsTouchTables}
 use Rattle.erm_causes.specs.Touched.{TouchesAll}
-use Rattle.erm_causes.proofs.Begun.{HistoryLaws}
 use Rattle.erm_causes.proofs.Fine.{fine_touches, still_session}
 use Rattle.erm_causes.proofs.Moves.{move_range}
 use Rattle.erm_causes.proofs.Own.{TreeLaws}
 use Rattle.erm_causes.proofs.Tables.{AreMovesInRange, TableOf, heard_moves, heard_said, opened_fine, run_fine, run_opening, table_of_run}
+use Rattle.erm_told_limits.proofs.Given.{HistoryLaws}
 
 -- the commands of a script are in range
 abbrev pub AreInRange : List ScriptLine → Type 0

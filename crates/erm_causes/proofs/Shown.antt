@@ -30,9 +30,9 @@ use Rattle.erm_lines.specs.Told.{Tells}
 use Rattle.erm_told.proofs.Ended.{stamp_later}
 use Rattle.erm_told.proofs.Runs.{said_first, said_lines, serializable_then}
 use Rattle.erm_told_limits.specs.Limits.{ClaimsAreFew, EndHasCause, FullHasCause, IsEnd, IsFull, StampsAreInReach}
+use Rattle.erm_told_limits.proofs.Given.{HistoryLaws}
 use Rattle.erm_causes.specs.Laws.{IsForOthers, IsOfLog, RefusesForOthers, RunsRefuseForOthers, RunsTellLog}
 use Rattle.erm_causes.specs.Touched.{AreOfTables}
-use Rattle.erm_causes.proofs.Begun.{HistoryLaws}
 use Rattle.erm_causes.proofs.Causes.{commit_over, over_told}
 use Rattle.erm_causes.proofs.Early.{EarlyCommit, over_later}
 use Rattle.erm_causes.proofs.Fine.{IsFine, fine_touches, still_session}

@@ -16,10 +16,10 @@ use Rattle.erm_maps.specs.Runs.{IsRunOf}
 use Rattle.erm_good_report.specs.Transactions.{Progress, Said, heard, nothing}
 use Rattle.erm_lines.specs.Executions.{IsExecution, IsOpened, Move, close, flush, line, log, said_in}
 use Rattle.erm_causes.specs.Touched.{AreOfTables}
-use Rattle.erm_causes.proofs.Begun.{HistoryLaws}
 use Rattle.erm_causes.proofs.Fine.{IsFine}
 use Rattle.erm_causes.proofs.Moves.{AllFine, IsMoveInRange, heard_move, move_fine, move_history, move_made, move_opening, table_in}
 use Rattle.erm_causes.proofs.Own.{TreeLaws}
+use Rattle.erm_told_limits.proofs.Given.{HistoryLaws}
 
 -- the last table below a number whose tree reaches the object
 abbrev pub table_from : Rows → ℕ → ℕ → ℕ

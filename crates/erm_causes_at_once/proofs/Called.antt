@@ -44,17 +44,24 @@ gone_beside seat events v t active beside =
 pub record Kept (s t : Session) : Type 0 where
   pub phase : phase_of t.stand ≡ Active
   pub over : t.over ≡ s.over
+  pub number : (work_of t.stand).number ≡ (work_of s.stand).number
   pub begin : (work_of t.stand).begin ≡ (work_of s.stand).begin
   pub made : (x : ℕ) → times_made (work_of s.stand).made x ≤ times_made (work_of t.stand).made x
 
 pub kept_gone : (events : List Event) (s t : Session) → Gone events s t → Kept s t
-kept_gone events s t gone = record { phase = ap phase_of gone.stand; over = gone.over; begin = gone.begin; made = λ x. omega (arith, gone.moves.made x) }
+kept_gone events s t gone = record { phase = ap phase_of gone.stand; over = gone.over; number = gone.more.number; begin = gone.begin; made = λ x. omega (arith, gone.moves.made x) }
 
 pub kept_same : (s t : Session) → phase_of s.stand ≡ Active → t ≡ s → Kept s t
-kept_same s t active is = subst (λ (r : Session). Kept s r) (sym is) (record { phase = active; over = refl; begin = refl; made = λ x. omega arith })
+kept_same s t active is = subst (λ (r : Session). Kept s r) (sym is) (record { phase = active; over = refl; number = refl; begin = refl; made = λ x. omega arith })
 
 pub kept_then : (s r t : Session) → Kept s r → Kept r t → Kept s t
-kept_then s r t first second = record { phase = second.phase; over = second.over ∙ first.over; begin = second.begin ∙ first.begin; made = λ x. le_trans (first.made x) (second.made x) }
+kept_then s r t first second = record {
+  phase = second.phase;
+  over = second.over ∙ first.over;
+  number = second.number ∙ first.number;
+  begin = second.begin ∙ first.begin;
+  made = λ x. le_trans (first.made x) (second.made x);
+}
 
 pub kept_made : (s t : Session) → Kept s t → (x : ℕ) → made_in s x ≤ made_in t x
 kept_made s t kept x =
@@ -178,6 +185,7 @@ calls_gone seat c a steps v t active beside = gone_beside seat beside.did.events
   opening = beside.opening;
   tail = beside.tail;
   flushed = beside.flushed;
+  given_up = beside.given_up;
 })
 
 -- WHAT IS MADE. No less than before.

@@ -5,7 +5,6 @@ use Rattle.std.proofs.lemmas.List.Sums.{sum_by-cons}
 use Rattle.erm_model.specs.declared.limits.TheConstants.{GREATEST_BLOCK}
 use Rattle.erm_model.specs.declared.outcome.Phase.{Phase}
 use Rattle.erm_model.specs.declared.outcome.Phase.TheVariants.{Idle}
-use Rattle.erm_model.specs.Member.{◌∈◌}
 use Rattle.erm_model.specs.Run.{Step}
 use Rattle.erm_report.specs.declared.answer.Answer.{Answer}
 use Rattle.erm_script.specs.declared.script.Command.{Command}
@@ -22,9 +21,11 @@ use Rattle.erm_lines.specs.Executions.{Move, close, flush, line, log, said_in}
 use Rattle.erm_told.proofs.Executed.{Knows, hears, still_session, turns}
 use Rattle.erm_beside.specs.Calls.{Passes}
 use Rattle.erm_lines_at_once.specs.Ends.{one_below, sealed_below, sealed_in, sealed_upto, stamp_now}
-use Rattle.erm_lines_at_once.specs.Executions.{DidOwn, IsOwnRun, IsRunAtOnce, all_moves}
+use Rattle.erm_lines_at_once.specs.Executions.{DidOwn, IsOwnRun, all_moves}
+use Rattle.erm_lines_at_once.specs.Parts.{IsRunInPart}
+use Rattle.erm_told_at_once.proofs.Drawing.{HasDrawn}
 use Rattle.erm_told_at_once.proofs.Runs.{all_say, at_first, knows_own, tells}
-use Rattle.erm_causes_at_once.proofs.Sealed.{close_counts, count_sealed, line_counts, one_phase, over_few, over_fewer}
+use Rattle.erm_causes_at_once.proofs.Sealed.{close_counts, count_sealed, line_counts, not_below, one_most, one_phase, over_few, over_fewer}
 use Rattle.erm_causes_at_once.proofs.Totals.{count_asked, counted_few, counted_upto, own_count, own_total}
 
 -- what a place tells, where it is one of the session
@@ -37,13 +38,8 @@ place_counts : (b : Bool) (seat : ℕ) (asked : Option Command) (a : Answer) (p 
 place_counts true seat asked a p phase gives = gives refl
 place_counts false seat asked a p phase gives = omega arith
 
-idle_now : (stand : Stand) → phase_of stand ≡ Idle → stamp_now stand ≡ None
-idle_now world.idle idle = refl
-idle_now (world.active w) idle = absurd (cc)
-idle_now (world.sealed w stamp) idle = absurd (cc)
-
 passes_itself : (seat : ℕ) (v : View) → Passes seat v v
-passes_itself seat v = record { own = refl; opening = refl; tail = omega arith; flushed = omega arith }
+passes_itself seat v = record { own = refl; opening = refl; tail = omega arith; flushed = omega arith; given_up = refl }
 
 module _ (runs : (number begin : ℕ) → IsRunOf (world.begun number begin) []) (stay : (w u : Work) (steps : List Step) → Extends w u → IsAnswered w steps → IsAnswered u steps) where
   -- the phase that the session's view has when it is asked
@@ -92,21 +88,30 @@ module _ (runs : (number begin : ℕ) → IsRunOf (world.begun number begin) [])
   counts f seat (flush ∷ moves) p phase v t (u, w, passes, did, rest) knows =
       counts f seat moves p phase w t rest (knows_own runs stay f seat (flush ∷ []) p phase v w (u, w, passes, did, passes_itself seat w) knows)
 
-  module _ (v f : View) (script : List ScriptLine) (answers : List Answer) (closed : List Closed) (run : IsRunAtOnce v script answers closed f) where
-    told_few : (seat : ℕ) → IsSession v seat → count_sealed (progress_of seat (places_of script answers closed)).over ≤ own_total draws_of seat (places_of script answers closed)
+  module _ (v f : View) (whole script : List ScriptLine) (answers : List Answer) (closed : List Closed) (run : IsRunInPart v whole script answers closed f) where
+    -- those over, and the one that is sealed now
+    told_few : (seat : ℕ) → IsSession v seat
+        → count_sealed (progress_of seat (places_of script answers closed)).over + one_phase (phase_of (f.session seat).stand) ≤ own_total draws_of seat (places_of script answers closed)
     told_few seat session =
         let part = run.own seat session in
-        let all = counts f seat (all_moves script answers closed) nothing Idle v part.last part.run (at_first runs stay v f script answers closed run seat session) in
-        subst (λ (said : List Said). count_sealed (progress_of seat said).over ≤ own_total draws_of seat said) (all_say script answers closed) (omega (arith, all))
+        let moves = all_moves script answers closed in
+        let first = at_first runs stay v f whole script answers closed run seat session in
+        let all = counts f seat moves nothing Idle v part.last part.run first in
+        let phase : fold (turns seat) Idle (said_in moves) ≡ phase_of (f.session seat).stand =
+        (knows_own runs stay f seat moves nothing Idle v part.last part.run first).phase_is ∙ ap (λ (s : Session). phase_of s.stand) part.ends in
+        subst (λ (said : List Said). count_sealed (progress_of seat said).over + one_phase (phase_of (f.session seat).stand) ≤ own_total draws_of seat said) (all_say script answers closed)
+        (omega (arith, all, ap one_phase phase))
 
-    none_now : (seat bound : ℕ) → IsSession v seat → one_below bound (stamp_now (f.session seat).stand) ≡ 0
-    none_now seat bound session = ap (one_below bound) (idle_now (f.session seat).stand (run.idle seat (still_session v f seat run.opening session)))
+    now_few : (bound : ℕ) (stand : Stand) → one_below bound (stamp_now stand) ≤ one_phase (phase_of stand)
+    now_few bound world.idle = omega arith
+    now_few bound (world.active w) = omega arith
+    now_few bound (world.sealed w stamp) = one_most bound (Some stamp)
 
     seat_few : (seat bound : ℕ) → IsSession v seat → sealed_in bound (f.session seat) ≤ own_total draws_of seat (places_of script answers closed)
     seat_few seat bound session =
         let few = told_few seat session in
-        let over = over_few bound seat (progress_of seat (places_of script answers closed)).over (f.session seat).over (tells runs stay v f script answers closed run seat session).over in
-        omega (arith, few, over, none_now seat bound session)
+        let over = over_few bound seat (progress_of seat (places_of script answers closed)).over (f.session seat).over (tells runs stay v f whole script answers closed run seat session).over in
+        omega (arith, few, over, now_few bound (f.session seat).stand)
 
     upto_few : (bound n : ℕ) → n ≤ v.opening.sessions → sealed_upto n f.session bound ≤ counted_upto draws_of n (places_of script answers closed)
     unfolding sealed_upto counted_upto
@@ -121,39 +126,47 @@ module _ (runs : (number begin : ℕ) → IsRunOf (world.begun number begin) [])
         let all = counted_few draws_of f.opening.sessions script answers closed in
         omega (arith, upto, all)
 
-    pub tail_few : f.tail ≤ v.opening.tail + GREATEST_BLOCK * total_of draws_of script
+    pub tail_few : f.tail ≤ v.opening.tail + GREATEST_BLOCK * total_of draws_of whole
     tail_few =
         let tail : f.opening.tail ≡ v.opening.tail = ap (λ (o : Opening). o.tail) run.opening in
         let few = below_few f.tail in
-        omega (arith, run.ends.tail, tail, few)
+        omega (arith, run.ends.tail, tail, few, run.draws)
 
     -- A STAMP that the session has is one more than those below it.
-    seat_fewer : (seat stamp : ℕ) → IsSession v seat → (g : Finished) → g ∈ (f.session seat).over → world.stamp_of g.fate ≡ Some stamp
-        → sealed_in stamp (f.session seat) + 1 ≤ own_total draws_of seat (places_of script answers closed)
-    seat_fewer seat stamp session g m is =
-        let few = told_few seat session in
-        let over = over_fewer seat stamp (progress_of seat (places_of script answers closed)).over (f.session seat).over g (tells runs stay v f script answers closed run seat session).over m is in
-        omega (arith, few, over, none_now seat stamp session)
+    none_below : (w : Work) (stamp : ℕ) (stand : Stand) → stand ≡ world.sealed w stamp → one_below stamp (stamp_now stand) + 1 ≤ one_phase (phase_of stand)
+    none_below w stamp stand is = omega (arith, not_below stamp (stamp_now stand) (ap stamp_now is), ap (λ (s : Stand). one_phase (phase_of s)) is)
 
-    upto_fewer : (seat stamp : ℕ) → 0 < seat → (g : Finished) → g ∈ (f.session seat).over → world.stamp_of g.fate ≡ Some stamp → (n : ℕ) → n ≤ v.opening.sessions → seat ≤ n
+    seat_fewer : (seat stamp : ℕ) → IsSession v seat → HasDrawn (f.session seat) stamp → sealed_in stamp (f.session seat) + 1 ≤ own_total draws_of seat (places_of script answers closed)
+    seat_fewer seat stamp session (inl (g, m, is)) =
+        let few = told_few seat session in
+        let over = over_fewer seat stamp (progress_of seat (places_of script answers closed)).over (f.session seat).over g (tells runs stay v f whole script answers closed run seat session).over m is in
+        omega (arith, few, over, now_few stamp (f.session seat).stand)
+    seat_fewer seat stamp session (inr (w, sealed)) =
+        let few = told_few seat session in
+        let over = over_few stamp seat (progress_of seat (places_of script answers closed)).over (f.session seat).over (tells runs stay v f whole script answers closed run seat session).over in
+        omega (arith, few, over, none_below w stamp (f.session seat).stand sealed)
+
+    upto_fewer : (seat stamp : ℕ) → 0 < seat → HasDrawn (f.session seat) stamp → (n : ℕ) → n ≤ v.opening.sessions → seat ≤ n
         → sealed_upto n f.session stamp + 1 ≤ counted_upto draws_of n (places_of script answers closed)
     unfolding sealed_upto counted_upto
-    upto_fewer seat stamp some g m is zero within at = absurd (omega (arith, some, at))
-    upto_fewer seat stamp some g m is (suc n) within at = elim (cases_eq seat (suc n)) as (λ _. sealed_upto (suc n) f.session stamp + 1 ≤ counted_upto draws_of (suc n) (places_of script answers closed)) [
+    upto_fewer seat stamp some has zero within at = absurd (omega (arith, some, at))
+    upto_fewer seat stamp some has (suc n) within at = elim (cases_eq seat (suc n)) as (λ _. sealed_upto (suc n) f.session stamp + 1 ≤ counted_upto draws_of (suc n) (places_of script answers closed)) [
       | inl same ↦
           let here : sealed_in stamp (f.session (suc n)) + 1 ≤ own_total draws_of (suc n) (places_of script answers closed) =
-          subst (λ (q : ℕ). sealed_in stamp (f.session q) + 1 ≤ own_total draws_of q (places_of script answers closed)) same (seat_fewer seat stamp (some, omega (arith, within, at)) g m is) in
+          subst (λ (q : ℕ). sealed_in stamp (f.session q) + 1 ≤ own_total draws_of q (places_of script answers closed)) same (seat_fewer seat stamp (some, omega (arith, within, at)) has) in
           omega (arith, upto_few stamp n (omega (arith, within)), here)
       | inr another ↦
-          omega (arith, upto_fewer seat stamp some g m is n (omega (arith, within)) (omega (arith, at, another)), seat_few (suc n) stamp (omega arith, within))
+          omega (arith, upto_fewer seat stamp some has n (omega (arith, within)) (omega (arith, at, another)), seat_few (suc n) stamp (omega arith, within))
     ]
 
-    pub stamp_few : (seat stamp : ℕ) → IsSession v seat → (g : Finished) → g ∈ (f.session seat).over → world.stamp_of g.fate ≡ Some stamp
-        → stamp + GREATEST_BLOCK ≤ v.opening.tail + GREATEST_BLOCK * total_of draws_of script
-    stamp_few seat stamp session g m is =
+    reached : (seat stamp : ℕ) → IsSession f seat → HasDrawn (f.session seat) stamp → stamp ≤ f.opening.tail + GREATEST_BLOCK * (sealed_below f stamp + run.more)
+    reached seat stamp session (inl (g, m, is)) = run.ends.reach seat g.work stamp session (inl (g, m, refl, is))
+    reached seat stamp session (inr (w, sealed)) = run.ends.reach seat w stamp session (inr sealed)
+
+    pub stamp_few : (seat stamp : ℕ) → IsSession v seat → HasDrawn (f.session seat) stamp → stamp + GREATEST_BLOCK ≤ v.opening.tail + GREATEST_BLOCK * total_of draws_of whole
+    stamp_few seat stamp session has =
         let sessions : f.opening.sessions ≡ v.opening.sessions = ap (λ (o : Opening). o.sessions) run.opening in
         let tail : f.opening.tail ≡ v.opening.tail = ap (λ (o : Opening). o.tail) run.opening in
-        let upto = upto_fewer seat stamp session.0 g m is f.opening.sessions (omega (arith, sessions)) (omega (arith, session.1, sessions)) in
+        let upto = upto_fewer seat stamp session.0 has f.opening.sessions (omega (arith, sessions)) (omega (arith, session.1, sessions)) in
         let all = counted_few draws_of f.opening.sessions script answers closed in
-        let reach = run.ends.reach seat g.work stamp (still_session v f seat run.opening session) (inl (g, m, refl, is)) in
-        omega (arith, reach, tail, upto, all)
+        omega (arith, reached seat stamp (still_session v f seat run.opening session) has, tail, upto, all, run.draws)

@@ -102,6 +102,13 @@ module _ (table : ℕ → ℕ) (f : View) where
   active_free (Some t) (world.active w) now active = record { told = t; is = refl; stays = now.0; steps = now.1.0; run = now.1.1 }
   active_free (Some t) (world.sealed w stamp) now active = cc
 
+  -- an idle session has none
+  pub none_now : (current : Option Transaction) (stand : Stand) → FreeNow current stand → stand ≡ world.idle → current ≡ None
+  none_now None stand now idle = refl
+  none_now (Some t) world.idle now idle = absurd now
+  none_now (Some t) (world.active w) now idle = cc
+  none_now (Some t) (world.sealed w stamp) now idle = cc
+
   -- QUIET MOVES, and what they leave of the session.
   pub begun_free : (p : Progress) (s : Session) (t : Transaction) (number begin : ℕ) → IsRunOf (world.begun number begin) [] → IsFree p s
       → IsFree (record { over = p.over; current = Some t }) (record { over = s.over; stand = world.active (world.begun number begin) })

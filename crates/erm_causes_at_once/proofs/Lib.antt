@@ -1,6 +1,7 @@
 pub mod Called
 pub mod Drawn
 pub mod Free
+pub mod GivenUp
 pub mod Line
 pub mod Operation
 pub mod Own
@@ -8,6 +9,7 @@ pub mod Quieted
 pub mod Reach
 pub mod Refused
 pub mod Sealed
+pub mod Still
 pub mod Tabled
 pub mod Totals
 pub mod Touched

@@ -28,7 +28,7 @@ use Rattle.erm_lines.specs.Told.{Continues, IsLater}
 use Rattle.erm_lines_at_once.specs.Operations.{Beside, WasTried, WereCutBeside}
 use Rattle.erm_causes.specs.Touched.{AreOfTables, Touches}
 use Rattle.erm_causes.proofs.Answered.{last_fitted, last_made}
-use Rattle.erm_causes.proofs.Begun.{BeganOn, HistoryLaws, KeepBelow, began_below}
+use Rattle.erm_causes.proofs.Begun.{BeganOn, KeepBelow, began_below}
 use Rattle.erm_causes.proofs.Coloured.{KeepsTables}
 use Rattle.erm_causes.proofs.Fine.{touches_more}
 use Rattle.erm_causes.proofs.Lines.{CutFine, cut_work, line_in, whole_work}
@@ -36,6 +36,7 @@ use Rattle.erm_causes.proofs.Made.{made_within}
 use Rattle.erm_causes.proofs.Operated.{Last, claimed, read, same_work}
 use Rattle.erm_causes.proofs.Own.{TreeLaws}
 use Rattle.erm_told_limits.proofs.Ran.{MovesAll}
+use Rattle.erm_told_limits.proofs.Given.{HistoryLaws}
 use Rattle.erm_causes_at_once.proofs.Called.{IsOut, calls_gone, cut_gone, cut_kept, cut_stays}
 
 -- what is so of the line's own work up to a call, with the line counted already

@@ -3,7 +3,7 @@ use Rattle.std.proofs.Common.{◌≡◌, ℕ, zero, suc, ◌<◌, false, List, [
 use Rattle.erm_model.specs.declared.outcome.Phase.TheVariants.{Active}
 use Rattle.erm_model.specs.declared.row_stop.RowStop.{RowStop}
 use Rattle.erm_model.specs.Lawful.{times_made}
-use Rattle.erm_model.specs.RowTransaction.{ends}
+use Rattle.erm_model.specs.RowTransaction.{Asked, asked_claim, ends}
 use Rattle.erm_model.specs.Run.{Step}
 use Rattle.erm_node.specs.Sound.{sound_law}
 use Rattle.erm_report.specs.declared.answer.Answer.{Answer}
@@ -13,6 +13,7 @@ use Rattle.erm_world.specs.Laws.{IsSerializable}
 use Rattle.erm_world.specs.World.{Finished, IsSession, Session, View, Work, history_of, made_in, phase_at, work_at, work_of}
 use Rattle.erm_world.specs.World as world
 use Rattle.erm_maps.specs.Runs.{IsRunOf}
+use Rattle.erm_good_report.specs.Causes.{WritesTable}
 use Rattle.erm_good_report.specs.Transactions.{Ending, Progress, Transaction, heard, table_of, with_line}
 use Rattle.erm_lines.specs.Operations.{AsksOf, DidCalls, FrontOf, WholeOf}
 use Rattle.erm_lines.specs.Told.{Continues}
@@ -20,14 +21,16 @@ use Rattle.erm_lines_at_once.specs.Operations.{Beside, DidOperationBeside, WasTr
 use Rattle.erm_told.proofs.Going.{extends_itself}
 use Rattle.erm_causes.specs.Touched.{AreOfTables, Touches, WasClosed}
 use Rattle.erm_causes.proofs.Answered.{last_touches, shut_closed}
-use Rattle.erm_causes.proofs.Begun.{HistoryLaws, KeepBelow}
+use Rattle.erm_causes.proofs.Begun.{KeepBelow}
+use Rattle.erm_causes.proofs.Coloured.{AskedOf}
 use Rattle.erm_causes.proofs.Fine.{touches_more}
-use Rattle.erm_causes.proofs.Lines.{CutFine, lines_before}
+use Rattle.erm_causes.proofs.Lines.{CutFine, lines_before, writes_line}
 use Rattle.erm_causes.proofs.Made.{made_over}
 use Rattle.erm_causes.proofs.Operated.{EndsBy, GoesOnBy, Last, ShutAs}
 use Rattle.erm_causes.proofs.Own.{TreeLaws}
 use Rattle.erm_told_limits.proofs.Ran.{active_with}
-use Rattle.erm_causes_at_once.proofs.Called.{IsOut, Kept, Once, calls_gone, cut_gone, cut_kept, kept_gone, kept_then, once_of, out, stayed, tried_kept, whole}
+use Rattle.erm_told_limits.proofs.Given.{HistoryLaws}
+use Rattle.erm_causes_at_once.proofs.Called.{IsOut, Kept, Once, calls_gone, cut_gone, cut_kept, cut_stays, kept_gone, kept_then, once_of, out, stayed, tried_kept, whole}
 use Rattle.erm_causes_at_once.proofs.Free.{ActiveFree, IsFree, active_free, out_free, went_free}
 use Rattle.erm_causes_at_once.proofs.Line.{Ahead, Behind, ahead_before, ahead_last, ahead_of, ahead_there, cut_on, last_begin, later_has, over_has, stays_on, tried_on, whole_on}
 
@@ -115,9 +118,27 @@ module _ (tree : TreeLaws) (laws : HistoryLaws) (table : ℕ → ℕ) (f : View)
     pub out_touches : (w : Work) → Last cut.asked (work_at cut.at seat) w → IsOut (cut.at.session seat) w (u.session seat) → KeepBelow table f w.begin → Touches table with_it w
     out_touches w last ended keep = last_touches table k c a now.told (work_at cut.at seat) cut.asked named (out_fine w last ended keep) w last
 
+    kept_on : ends why ≡ false → Kept (v.session seat) (u.session seat)
+    kept_on stays = kept_then (v.session seat) (did.at.session seat) (u.session seat) kept (cut_kept f seat c why did.at u kept.phase cut stays)
+
+    -- also where the transaction goes on
+    stayed_fine : ends why ≡ false → KeepBelow table f (work_at u seat).begin → CutFine table k c with_it (work_at cut.at seat) cut.asked
+    stayed_fine stays keep =
+        let all = kept_on stays in
+        let ahead = ahead_kept all keep in
+        let before = ahead_there tree table f seat c a k named range now.told first why did.at u kept.phase cut stays ahead in
+        cut_on tree table f seat c a k named range now.told first why did.at u kept.phase cut (behind_at (keep_first (work_at u seat) all.begin keep) before)
+        (subst (λ (s : Session). Ahead table k first (work_of s.stand)) (cut_stays f seat c why did.at u kept.phase cut stays) ahead)
+
+    -- so it writes in the table of an object that it asked to claim
+    pub claim_writes : ends why ≡ false → KeepBelow table f (work_at u seat).begin → (oid : ℕ) → cut.asked ≡ asked_claim oid → WritesTable with_it (table oid)
+    claim_writes stays keep oid asks =
+        let fine = stayed_fine stays keep in
+        subst (λ (n : ℕ). WritesTable with_it n) (sym (subst (λ (x : Asked). AskedOf table k x) asks fine.asked_is)) (writes_line c a now.told k named (fine.writes oid asks))
+
     stayed_free : ends why ≡ false → GoesOnBy a → IsFree table f (heard seat (Some c) a p) (u.session seat)
     stayed_free stays hears =
-        let all = kept_then (v.session seat) (did.at.session seat) (u.session seat) kept (cut_kept f seat c why did.at u kept.phase cut stays) in
+        let all = kept_on stays in
         went_free table f seat c a p (v.session seat) (u.session seat) now.told hears now.is all.over (active_with (u.session seat).stand all.phase)
         (λ keep.
         let ahead = ahead_kept all keep in

@@ -14,11 +14,11 @@ use Rattle.erm_world.specs.Going.{Extends}
 use Rattle.erm_world.specs.World.{Finished, Session, View, Work, phase_at}
 use Rattle.erm_world.specs.World as world
 use Rattle.erm_maps.specs.Runs.{IsAnswered, IsRunOf}
-use Rattle.erm_good_report.specs.GoodReport.{places_of}
-use Rattle.erm_good_report.specs.Opening.{AtOnce, Opening}
+use Rattle.erm_good_report.specs.Opening.{Opening}
 use Rattle.erm_good_report.specs.Phases.{FitsRefusal, IsAnswerTo, phase_asked, refusal_in, refusal_of}
-use Rattle.erm_good_report.specs.Refusals.{HasLogCause, HasUnfilledCause, Moment, draws_of, last_commit, moment_at, total_of}
-use Rattle.erm_good_report.specs.Transactions.{Progress, Said, Transaction, heard, nothing, progress_of, said_of, transactions_of}
+use Rattle.erm_good_report.specs.Refusals.{HasLogCause, HasUnfilledCause, Moment, draws_of, last_commit, total_of}
+use Rattle.erm_good_report.specs.Transactions.{Progress, Said, Transaction, heard, nothing, progress_of, said_of}
+use Rattle.erm_good_at_once.specs.CutReports.{moment_in}
 use Rattle.erm_lines.specs.Answers.{IsLastCommit}
 use Rattle.erm_lines.specs.Told.{TellsOver}
 use Rattle.erm_beside.specs.Calls.{Passes}
@@ -28,7 +28,7 @@ use Rattle.erm_told.proofs.Sessions.{same_length}
 use Rattle.erm_causes.proofs.Logged.{last_none, last_some}
 use Rattle.erm_lines_at_once.specs.Answers.{DidAskedBeside, DidCommandBeside, DidLineBeside}
 use Rattle.erm_told_at_once.proofs.Runs.{LineThere, line_there}
-use Rattle.erm_causes_at_once.specs.Laws.{RunsAtOnceTellLog}
+use Rattle.erm_causes_at_once.specs.Laws.{RunsInPartTellLog}
 use Rattle.erm_causes_at_once.proofs.Drawn.{tail_few}
 
 -- HOW MANY ARE OVER. One more at most by each answer.
@@ -83,11 +83,11 @@ allowed f l a v t none did = by (refusal_of (phase_at v l.session) l.command) re
     by (Some r) is fits did =
         let no : None ≡ Some r = sym none ∙ ap refusal_in fits ∙ phase_refuses (phase_asked l.command) (phase_at v l.session) r is in cc
 
-module _ (f : View) (script : List ScriptLine) (answers : List Answer) (few : length script ≤ LAST_NUMBER) (opening : Opening)
-    (far : f.tail ≤ opening.stamp + LEAST_BLOCK + GREATEST_BLOCK * total_of draws_of script) (all : List Transaction)
+module _ (f : View) (whole script : List ScriptLine) (answers : List Answer) (few : length script ≤ LAST_NUMBER) (opening : Opening)
+    (far : f.tail ≤ opening.stamp + LEAST_BLOCK + GREATEST_BLOCK * total_of draws_of whole) (all : List Transaction)
     (i : ℕ) (l : ScriptLine) (a : Answer) (at : slice_get script i ≡ Some l) (there : LineThere f script answers i l a) where
   abbrev m : Moment
-  m = moment_at AtOnce opening script answers all i l
+  m = moment_in opening whole script answers all i l
 
   abbrev over : List Transaction
   over = (progress_of l.session (take i (said_of script answers))).over
@@ -157,8 +157,7 @@ module _ (f : View) (script : List ScriptLine) (answers : List Answer) (few : le
       (log_cause l.command a did, unfilled_cause l.command a did)
 
 module _ (runs : (number begin : ℕ) → IsRunOf (world.begun number begin) []) (stay : (w u : Work) (steps : List Step) → Extends w u → IsAnswered w steps → IsAnswered u steps) where
-  pub runs_log : RunsAtOnceTellLog
-  runs_log v f script answers closed opening run of i l a at answered =
-      let most = tail_few runs stay v f script answers closed run in
-      causes f script answers run.few opening (omega (arith, most, of.stamp)) (transactions_of v.opening.sessions (places_of script answers closed)) i l a at
-      (line_there runs stay v f script answers closed run i l a at answered)
+  pub part_log : RunsInPartTellLog
+  part_log v f whole part answers closed opening run of all i l a at answered =
+      let most = tail_few runs stay v f whole part answers closed run in
+      causes f whole part answers run.few opening (omega (arith, most, of.stamp)) all i l a at (line_there runs stay v f whole part answers closed run i l a at answered)

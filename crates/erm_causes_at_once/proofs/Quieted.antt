@@ -12,7 +12,7 @@ use Rattle.erm_world.specs.World.{Fate, Finished, Session, Stand, View, Work, ma
 use Rattle.erm_world.specs.World as world
 use Rattle.erm_maps.specs.Runs.{IsRunOf}
 use Rattle.erm_good_report.specs.Phases.{Closes, FitsRefusal, phase_asked, refusal_of}
-use Rattle.erm_good_report.specs.Transactions.{Aborts, Commits, Ending, Excludes, Progress, Transaction, begun, ended, heard, table_of}
+use Rattle.erm_good_report.specs.Transactions.{Aborts, Commits, Ending, Excludes, Progress, Transaction, begun, ended, heard, nothing, table_of}
 use Rattle.erm_beside.specs.Calls.{Passes}
 use Rattle.erm_lines_at_once.specs.Answers.{DidAskedBeside, DidCloseBeside, DidCommandBeside, DidCommitBeside, DidDecideBeside, DidEndBeside, DidLineBeside}
 use Rattle.erm_lines_at_once.specs.Operations.{DidOperationBeside}
@@ -20,6 +20,7 @@ use Rattle.erm_causes.proofs.Made.{made_over}
 use Rattle.erm_causes.proofs.Moves.{work_now}
 use Rattle.erm_causes.proofs.Quiet.{DoneBy, HasNow, StillBy, idle_with, refusal_still, same_goes_on, seal_heard, wants_active, wants_idle}
 use Rattle.erm_told_limits.proofs.Ran.{active_with}
+use Rattle.erm_causes_at_once.proofs.Called.{Once, once_of, out, stayed, whole}
 use Rattle.erm_causes_at_once.proofs.Free.{IsFree, begun_free, done_free, same_free, sealed_free}
 
 -- an answer is heard as one that begins a transaction without lines
@@ -157,3 +158,22 @@ lined f l a v t did = asked_line f l.session v t l.command a (refusal_of (phase_
 
 pub closed_quiet : (f : View) (seat : ℕ) (a : Answer) (v t : View) → DidEndBeside seat a v t → Quieted None a (v.session seat) (t.session seat)
 closed_quiet f seat a v t did = closed_as f seat v t a (phase_at v seat) refl did.fits did.did
+
+-- AN IDLE SESSION. A transaction is told to begin only there.
+quieted_idle : (asked : Option Command) (begin : ℕ) (s t : Session) → Quieted asked (answer.Began begin) s t → s.stand ≡ world.idle
+quieted_idle asked begin s t (still is hears) = absurd (hears 0 nothing).1
+quieted_idle asked begin s t (begins number at idle is hears) = idle
+quieted_idle asked begin s t (seals stamp active is hears) = absurd (hears 0 nothing).1
+quieted_idle asked begin s t (done w fate ending has is none hears) = let no : Some (begun 0 begin nothing) ≡ None = ap (λ (p : Progress). p.current) (hears 0 nothing) in cc
+
+once_idle : (f : View) (seat : ℕ) (c : Command) (begin : ℕ) (v t : View) (stand : Stand) → Once f seat c (answer.Began begin) v t → stand ≡ world.idle
+once_idle f seat c begin v t stand (whole steps beside hears) = let no : Some (begun 0 begin nothing) ≡ None = ap (λ (p : Progress). p.current) (hears 0 None nothing) in cc
+once_idle f seat c begin v t stand (stayed why cut stays hears) = let no : Some (begun 0 begin nothing) ≡ None = ap (λ (p : Progress). p.current) (hears 0 None nothing) in cc
+once_idle f seat c begin v t stand (out why cut w ending told last ended_so shut hears) =
+    let no : Some (begun 0 begin nothing) ≡ None = ap (λ (p : Progress). p.current) (hears 0 None nothing) in cc
+
+pub began_idle : (f : View) (seat : ℕ) (asked : Option Command) (begin : ℕ) (v t : View) → Lined f seat asked (answer.Began begin) v t → (v.session seat).stand ≡ world.idle
+began_idle f seat asked begin v t (quiet did) = quieted_idle asked begin (v.session seat) (t.session seat) did
+began_idle f seat asked begin v t (sealed_first stamp between active is did) =
+    let no : world.sealed (work_at v seat) stamp ≡ world.idle = ap (λ (s : Session). s.stand) (sym is) ∙ quieted_idle asked begin between (t.session seat) did in cc
+began_idle f seat asked begin v t (named c k is names active did) = once_idle f seat c begin did.at t (v.session seat).stand (once_of f seat c did.at t (answer.Began begin) did.once)

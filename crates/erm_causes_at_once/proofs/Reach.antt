@@ -2,7 +2,6 @@
 use Rattle.std.proofs.Common.{◌≡◌, ℕ, ◌+◌, ◌*◌, ◌≤◌, Bool, true, false, List, [], ◌∷◌, slice_get, Option, Some, None, refl, sym, ap, ◌∙◌, subst, inl, inr, arith}
 use Rattle.std.specs.Prelude.{if◌then◌else◌}
 use Rattle.erm_model.specs.declared.limits.TheConstants.{GREATEST_BLOCK}
-use Rattle.erm_model.specs.declared.outcome.Phase.TheVariants.{Idle, Sealed}
 use Rattle.erm_model.specs.Member.{◌∈◌}
 use Rattle.erm_model.specs.Run.{Step}
 use Rattle.erm_machine.proofs.Listed.{∈-first, ∈-head, ∈-second}
@@ -22,12 +21,11 @@ use Rattle.erm_good_report.specs.Stamps.{begin_told, stamp_drawn}
 use Rattle.erm_lines.specs.Told.{Continues}
 use Rattle.erm_told.proofs.Drawing.{the_number}
 use Rattle.erm_told.proofs.Endings.{if_told}
-use Rattle.erm_told.proofs.Executed.{still_session}
 use Rattle.erm_lines_at_once.specs.Answers.{DidCommandBeside, DidDecideBeside}
-use Rattle.erm_lines_at_once.specs.Executions.{IsRunAtOnce}
+use Rattle.erm_lines_at_once.specs.Parts.{IsRunInPart}
 use Rattle.erm_told_at_once.proofs.Drawing.{HasDrawn}
 use Rattle.erm_told_at_once.proofs.Runs.{LineThere, line_there}
-use Rattle.erm_causes_at_once.specs.Laws.{RunsAtOnceAreInReach}
+use Rattle.erm_causes_at_once.specs.Laws.{RunsInPartAreInReach}
 use Rattle.erm_causes_at_once.proofs.Drawn.{stamp_few, tail_few}
 use Rattle.erm_causes_at_once.proofs.Own.{allowed}
 
@@ -81,31 +79,26 @@ continues_drawn s t stamp goes (inr (w, sealed)) = elim (goes.sealed w stamp sea
   | inr (g, rest, front, over, work, stamped) ↦ inl (g, subst (λ (fs : List Finished). g ∈ fs) (sym over) (∈-second front (g ∷ rest) g (∈-head g rest)), stamped)
 ]
 
-over_drawn : (s : Session) (stamp : ℕ) → phase_of s.stand ≡ Idle → HasDrawn s stamp → (g : Finished) × (g ∈ s.over) × (world.stamp_of g.fate ≡ Some stamp)
-over_drawn s stamp idle (inl has) = has
-over_drawn s stamp idle (inr (w, sealed)) = let no : Sealed ≡ Idle = sym (ap phase_of sealed) ∙ idle in cc
-
 module _ (runs : (number begin : ℕ) → IsRunOf (world.begun number begin) []) (stay : (w u : Work) (steps : List Step) → Extends w u → IsAnswered w steps → IsAnswered u steps) where
-  module _ (v f : View) (script : List ScriptLine) (answers : List Answer) (closed : List Closed) (run : IsRunAtOnce v script answers closed f)
+  module _ (v f : View) (whole script : List ScriptLine) (answers : List Answer) (closed : List Closed) (run : IsRunInPart v whole script answers closed f)
       (i : ℕ) (l : ScriptLine) (a : Answer) (at : slice_get script i ≡ Some l) (there : LineThere f script answers i l a) where
-    begins : (begin : ℕ) → begin_told a ≡ Some begin → begin ≤ v.opening.tail + GREATEST_BLOCK * total_of draws_of script
+    begins : (begin : ℕ) → begin_told a ≡ Some begin → begin ≤ v.opening.tail + GREATEST_BLOCK * total_of draws_of whole
     begins begin told =
         let did = allowed f l a there.before there.after (begin_free a begin told) there.did in
         let low = begin_at f l.session l.command a there.before there.after begin did.0 did.1 told in
-        omega (arith, low, there.within, tail_few runs stay v f script answers closed run)
+        omega (arith, low, there.within, tail_few runs stay v f whole script answers closed run)
 
-    draws : (stamp : ℕ) → stamp_drawn (Some l.command) a ≡ Some stamp → stamp + GREATEST_BLOCK ≤ v.opening.tail + GREATEST_BLOCK * total_of draws_of script
+    draws : (stamp : ℕ) → stamp_drawn (Some l.command) a ≡ Some stamp → stamp + GREATEST_BLOCK ≤ v.opening.tail + GREATEST_BLOCK * total_of draws_of whole
     draws stamp drawn =
         let did = allowed f l a there.before there.after (drawn_free (Some l.command) a stamp drawn) there.did in
         let session = run.named l (i, at) in
         let here = drawn_at f l.session l.command a there.before there.after stamp did.0 did.1 drawn in
-        let (g, m, is) = over_drawn (f.session l.session) stamp (run.idle l.session (still_session v f l.session run.opening session))
-        (continues_drawn (there.after.session l.session) (f.session l.session) stamp there.goes here) in
-        stamp_few runs stay v f script answers closed run l.session stamp session g m is
+        stamp_few runs stay v f whole script answers closed run l.session stamp session
+        (continues_drawn (there.after.session l.session) (f.session l.session) stamp there.goes here)
 
-  pub runs_reach : RunsAtOnceAreInReach
-  runs_reach v f script answers closed opening run of i l a at answered =
-      let there = line_there runs stay v f script answers closed run i l a at answered in record {
-        begin = if_told (begin_told a) _ (λ begin told. let most = begins v f script answers closed run i l a at there begin told in omega (arith, most, of.stamp));
-        drawn = if_told (stamp_drawn (Some l.command) a) _ (λ stamp drawn. let most = draws v f script answers closed run i l a at there stamp drawn in omega (arith, most, of.stamp));
+  pub part_reach : RunsInPartAreInReach
+  part_reach v f whole part answers closed opening run of i l a at answered =
+      let there = line_there runs stay v f whole part answers closed run i l a at answered in record {
+        begin = if_told (begin_told a) _ (λ begin told. let most = begins v f whole part answers closed run i l a at there begin told in omega (arith, most, of.stamp));
+        drawn = if_told (stamp_drawn (Some l.command) a) _ (λ stamp drawn. let most = draws v f whole part answers closed run i l a at there stamp drawn in omega (arith, most, of.stamp));
       }

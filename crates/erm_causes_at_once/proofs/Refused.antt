@@ -1,11 +1,13 @@
 -- A line of an execution at once that was refused for what another session owns, committed or decided shows the cause.
-use Rattle.std.proofs.Common.{◌≡◌, ℕ, zero, suc, ◌⊎◌, true, List, [], ◌∷◌, take, slice_get, Option, Some, None, inl, inr, refl, sym, ap, ◌∙◌, subst}
+use Rattle.std.proofs.Common.{◌≡◌, ◌≢◌, ℕ, zero, suc, ◌<◌, ◌≤◌, ◌⊎◌, List, [], ◌∷◌, ◌++◌, take, slice_get, Option, Some, None, flat_map, option_to_list, inl, inr, refl, sym, ap, ◌∙◌, subst, true, arith}
+use Rattle.std.specs.List.{range_with_len}
 use Rattle.erm_model.specs.declared.outcome.Phase.TheVariants.{Active, Idle}
 use Rattle.erm_model.specs.declared.row_stop.RowStop.{RowStop}
 use Rattle.erm_model.specs.declared.row_stop.RowStop.TheVariants as stop
 use Rattle.erm_model.specs.Member.{◌∈◌}
 use Rattle.erm_model.specs.RowTransaction.{Asked, asked_claim, asked_make, asked_read}
 use Rattle.erm_model.specs.Run.{Step}
+use Rattle.erm_machine.proofs.Listed.{∈-first, ∈-head, ∈-second}
 use Rattle.erm_report.specs.declared.answer.Answer.{Answer}
 use Rattle.erm_report.specs.declared.answer.Answer.TheVariants as answer
 use Rattle.erm_script.specs.declared.script.Command.{Command}
@@ -21,26 +23,27 @@ use Rattle.erm_good_report.specs.GoodReport.{places_of}
 use Rattle.erm_good_report.specs.Opening.{AtOnce, InTurn, Mode, Opening}
 use Rattle.erm_good_report.specs.Phases.{Closed, FitsRefusal, IsAnswerTo, phase_asked, refusal_in, refusal_of}
 use Rattle.erm_good_report.specs.Phases as report
-use Rattle.erm_good_report.specs.Refusals.{HasNoWindowBefore, HasRefusalCause, HasWindowBefore, IsInProgress, IsNewerBy, IsOwn, IsOwnedBy, Moment, WasOver, moment_at}
+use Rattle.erm_good_report.specs.Refusals.{HasNoWindowBefore, HasRefusalCause, HasWindowBefore, IsInProgress, IsNewerBy, IsOwn, IsOwnedBy, Moment, WasOver}
 use Rattle.erm_good_report.specs.Stamps.{IsWait}
-use Rattle.erm_good_report.specs.Transactions.{Commits, Excludes, Progress, Said, Transaction, nothing, progress_of, said_of, table_of, with_line}
+use Rattle.erm_good_report.specs.Transactions.{Commits, Excludes, Progress, Said, Transaction, nothing, progress_of, said_of, table_of, transactions_of, with_line}
+use Rattle.erm_good_at_once.specs.CutReports.{moment_in}
 use Rattle.erm_lines.specs.Executions.{line_moves}
 use Rattle.erm_lines.specs.Operations.{AsksOf, FrontOf}
-use Rattle.erm_lines.specs.Told.{TellsNow}
+use Rattle.erm_lines.specs.Told.{TellsNow, TellsWork}
 use Rattle.erm_beside.specs.Calls.{After, RefusedBeside}
 use Rattle.erm_beside.specs.Ends.{MetBeside, WasNewer, WasOwned}
 use Rattle.erm_lines_at_once.specs.Answers.{DidAskedBeside, DidCommandBeside, DidLineBeside}
-use Rattle.erm_lines_at_once.specs.Executions.{IsRunAtOnce}
 use Rattle.erm_lines_at_once.specs.Operations.{DidOnce, DidOperationBeside, WereCutBeside, told_at_once}
+use Rattle.erm_lines_at_once.specs.Parts.{IsRunInPart}
 use Rattle.erm_told.proofs.Executed.{Knows}
 use Rattle.erm_told.proofs.Lines.{phase_refuses}
+use Rattle.erm_told.proofs.Ranges.{in_range_from}
 use Rattle.erm_told.proofs.Runs.{said_first}
 use Rattle.erm_told_at_once.proofs.Runs.{at_first, knows_own, runs_tell}
 use Rattle.erm_told_at_once.proofs.Stamping.{no_wait}
 use Rattle.erm_causes.specs.Laws.{IsForOthers}
-use Rattle.erm_causes.specs.Touched.{AreOfTables, Touches}
+use Rattle.erm_causes.specs.Touched.{AreOfTables, Touches, TouchesNow}
 use Rattle.erm_causes.proofs.Answered.{shut_closed}
-use Rattle.erm_causes.proofs.Begun.{HistoryLaws}
 use Rattle.erm_causes.proofs.Beside.{claimed_at, shows_closed_by}
 use Rattle.erm_causes.proofs.Causes.{both_over, over_told}
 use Rattle.erm_causes.proofs.Coloured.{AskedOf}
@@ -53,8 +56,9 @@ use Rattle.erm_causes_at_once.proofs.Called.{IsOut, excluded_out, newer_out, own
 use Rattle.erm_causes_at_once.proofs.Free.{ActiveFree}
 use Rattle.erm_causes_at_once.proofs.Line.{last_begin, over_has}
 use Rattle.erm_causes_at_once.proofs.Operation.{kept_cut, now, out_fine, out_touches}
-use Rattle.erm_causes_at_once.proofs.Touched.{commits_told, keep_all, line_free, session_first, session_last, table, tabled, told, told_there, touches_all}
-use Rattle.erm_causes_at_once.proofs.Walked.{FreeAt}
+use Rattle.erm_causes_at_once.proofs.Touched.{commits_told, given_told, keep_all, line_free, session_first, session_last, table, tabled, told, told_there, touches_all}
+use Rattle.erm_causes_at_once.proofs.Walked.{FreeAt, TellsGiven, told_work}
+use Rattle.erm_told_limits.proofs.Given.{HistoryLaws}
 
 -- the answers that tell of a call's refusal
 abbrev pub IsStop : Answer → Type 0
@@ -153,21 +157,36 @@ pub cut_by : (f : View) (seat : ℕ) (c : Command) (a : Answer) (why : RowStop) 
 cut_by f seat c a why v t is (x, told, cut) =
     subst (λ (y : RowStop). WereCutBeside f seat (FrontOf c) (AsksOf c) y v t) (the_stop x why (sym (stop_is x a told) ∙ is)) cut
 
--- THE OWN TRANSACTION begins where it is told.
-told_begin : (seat : ℕ) (current : Option Transaction) (stand : Stand) (t : Transaction) → TellsNow seat current stand → phase_of stand ≡ Active → current ≡ Some t → t.begin ≡ (work_of stand).begin
-told_begin seat None stand t told active is = cc
-told_begin seat (Some u) world.idle t told active is = cc
-told_begin seat (Some u) (world.active w) t told active is = let same : u ≡ t = cc in ap (λ (x : Transaction). x.begin) (sym same) ∙ told.0.work.begin
-told_begin seat (Some u) (world.sealed w stamp) t told active is = cc
-
 -- at once nothing is asked to have been over
 never_over : (m : Moment) (t : Transaction) → m.mode ≡ AtOnce → WasOver m t
 never_over m t mode in_turn = let no : AtOnce ≡ InTurn = sym mode ∙ in_turn in cc
 
-none_now : (stand : Stand) (w : Work) → phase_of stand ≡ Idle → IsCurrent stand w → ⊥
-none_now world.idle w idle is = is
-none_now (world.active u) w idle is = cc
-none_now (world.sealed u stamp) w idle is = cc
+-- what is told of the transaction in progress
+now_told : (seat : ℕ) (colour : ℕ → ℕ) (current : Option Transaction) (stand : Stand) (w : Work) → TellsNow seat current stand → TouchesNow colour current stand → IsCurrent stand w
+    → (t : Transaction) × (current ≡ Some t) × TellsWork seat t w × Touches colour t w
+now_told seat colour None world.idle w tells touched at = absurd at
+now_told seat colour None (world.active u) w tells touched at = absurd tells
+now_told seat colour None (world.sealed u stamp) w tells touched at = absurd tells
+now_told seat colour (Some t) world.idle w tells touched at = absurd tells
+now_told seat colour (Some t) (world.active u) w tells touched at =
+    (t, refl, subst (λ (x : Work). TellsWork seat t x) at tells.0.work, subst (λ (x : Work). Touches colour t x) at touched)
+now_told seat colour (Some t) (world.sealed u stamp) w tells touched at =
+    (t, refl, subst (λ (x : Work). TellsWork seat t x) at tells.0.work, subst (λ (x : Work). Touches colour t x) at touched)
+
+-- one of a session's own is one of all
+of_all : (lists : ℕ → List Transaction) (ns : List ℕ) (n : ℕ) (t : Transaction) (k : ℕ) → slice_get ns k ≡ Some n → t ∈ lists n → t ∈ flat_map lists ns
+of_all lists [] n t k at m = cc
+of_all lists (q ∷ ns) n t zero at m =
+    let same : q ≡ n = cc in ∈-first (lists q) (flat_map lists ns) t (subst (λ (x : ℕ). t ∈ lists x) (sym same) m)
+of_all lists (q ∷ ns) n t (suc k) at m = ∈-second (lists q) (flat_map lists ns) t (of_all lists ns n t k at m)
+
+-- it is one of those told
+current_told : (sessions : ℕ) (said : List Said) (seat : ℕ) → 0 < seat → seat ≤ sessions → (t : Transaction) → (progress_of seat said).current ≡ Some t → t ∈ transactions_of sessions said
+current_told sessions said seat some most t current =
+    let place = in_range_from 1 sessions seat some (omega (arith, most)) in
+    let own : t ∈ option_to_list (progress_of seat said).current = subst (λ (o : Option Transaction). t ∈ option_to_list o) (sym current) (∈-head t []) in
+    of_all (λ (q : ℕ). (progress_of q said).over ++ option_to_list (progress_of q said).current) (range_with_len 1 sessions) seat t place.0 place.1
+    (∈-second (progress_of seat said).over (option_to_list (progress_of seat said).current) t own)
 
 -- a window that has its causes
 window_so : (m : Moment) (t : Transaction) (stamp succ pred : ℕ) → m.mode ≡ AtOnce → HasWindow m.all t stamp succ pred → HasWindowBefore m t stamp succ pred
@@ -214,41 +233,70 @@ once_cut f seat c a v t told did = absurd told
 
 module _ (tree : TreeLaws) (laws : HistoryLaws) (begun : (number begin : ℕ) → IsRunOf (world.begun number begin) [])
     (stay : (w u : Work) (steps : List Step) → Extends w u → IsAnswered w steps → IsAnswered u steps)
-    (v f : View) (script : List ScriptLine) (answers : List Answer) (closed : List Closed) (run : IsRunAtOnce v script answers closed f) where
+    (v f : View) (whole script : List ScriptLine) (answers : List Answer) (closed : List Closed) (run : IsRunInPart v whole script answers closed f) where
   abbrev colour : ℕ → ℕ
-  colour = table tree laws begun stay v f script answers closed run
+  colour = table tree laws begun stay v f whole script answers closed run
 
   abbrev all : List Transaction
-  all = told tree laws begun stay v f script answers closed run
+  all = told tree laws begun stay v f whole script answers closed run
 
-  -- what another session's transaction has claimed is of a table of which it has a line that writes
-  owner_told : (m : Moment) (c : Command) (k oid other number place : ℕ) → m.mode ≡ AtOnce → m.all ≡ all → table_of c ≡ Some k → colour oid ≡ k → WasOwned f m.session oid other number place
-      → IsOwnedBy m c other number
-  owner_told m c k oid other number place mode same named is owned = by owned.has
-    where
-      by : world.Has f other owned.work → IsOwnedBy m c other number
-      by (inr now_is) = absurd (none_now (f.session other).stand owned.work (run.idle other owned.session) now_is)
-      by (inl (g, within, work_is)) =
-          let found = both_over other colour (history_of f) (progress_of other (places_of script answers closed)).over (f.session other).over within.0 g
-          (told_there tree laws begun stay v f script answers closed run other owned.session).over (touches_all tree laws begun stay v f script answers closed run other owned.session).over within.1 in
-          let t = found.0 in
-          let first = session_first tree laws begun stay v f script answers closed run other owned.session in
-          let member : t ∈ m.all = subst (λ (ts : List Transaction). t ∈ ts) (sym same) (over_told v.opening.sessions (places_of script answers closed) other first.0 first.1 t (within.0, found.1)) in
-          record {
-            another = owned.another;
-            other = t;
-            in_progress = subst (λ (mode_is : Mode). IsInProgress mode_is m other t) (sym mode) member;
-            name = (found.2.tells.work.session, found.2.tells.work.number ∙ ap (λ (w : Work). w.number) work_is ∙ owned.number_is);
-            table = k;
-            named = named;
-            writes = subst (λ (n : ℕ). WritesTable t n) is (found.2.touches.touches.claims oid (subst (λ (w : Work). is_claimed w.claims oid ≡ true) (sym work_is) owned.claims));
-          }
+  -- one of another session's transactions that writes in the table
+  owner_is : (m : Moment) (c : Command) (k oid other number : ℕ) → m.mode ≡ AtOnce → m.all ≡ all → table_of c ≡ Some k → colour oid ≡ k → other ≢ m.session
+      → (t : Transaction) → t ∈ all → t.session ≡ other → t.number ≡ number → WritesTable t (colour oid) → IsOwnedBy m c other number
+  owner_is m c k oid other number mode same named is another t member session number_is writes =
+      let within : t ∈ m.all = subst (λ (ts : List Transaction). t ∈ ts) (sym same) member in record {
+        another = another;
+        other = t;
+        in_progress = subst (λ (mode_is : Mode). IsInProgress mode_is m other t) (sym mode) within;
+        name = (session, number_is);
+        table = k;
+        named = named;
+        writes = subst (λ (n : ℕ). WritesTable t n) is writes;
+      }
+
+  -- what another session's transaction has claimed, or gave up, is of a table of which it has a line that writes
+  module _ (m : Moment) (c : Command) (k oid other number own place : ℕ) (mode : m.mode ≡ AtOnce) (same : m.all ≡ all) (named : table_of c ≡ Some k) (is : colour oid ≡ k)
+      (owned : WasOwned f m.session oid other number own place) where
+    abbrev theirs : Progress
+    theirs = progress_of other (places_of script answers closed)
+
+    their_session : IsSession v other
+    their_session = session_first tree laws begun stay v f whole script answers closed run other owned.session
+
+    over_in : (t : Transaction) → t ∈ theirs.over → t ∈ all
+    over_in t within = over_told v.opening.sessions (places_of script answers closed) other their_session.0 their_session.1 t within
+
+    now_in : (t : Transaction) → theirs.current ≡ Some t → t ∈ all
+    now_in t current = current_told v.opening.sessions (places_of script answers closed) other their_session.0 their_session.1 t current
+
+    claimed_told : is_claimed owned.work.claims oid ≡ true → world.Has f other owned.work → IsOwnedBy m c other number
+    claimed_told claimed (inl (g, within, work_is)) =
+        let found = both_over other colour (history_of f) theirs.over (f.session other).over within.0 g
+        (told_there tree laws begun stay v f whole script answers closed run other owned.session).over (touches_all tree laws begun stay v f whole script answers closed run other owned.session).over within.1 in
+        let tells = subst (λ (w : Work). TellsWork other found.0 w) work_is found.2.tells.work in
+        owner_is m c k oid other number mode same named is owned.another found.0 (over_in found.0 (within.0, found.1)) tells.session (tells.number ∙ owned.number_is)
+        ((subst (λ (w : Work). Touches colour found.0 w) work_is found.2.touches.touches).claims oid claimed)
+    claimed_told claimed (inr now_is) =
+        let (t, current, tells, touches) = now_told other colour theirs.current (f.session other).stand owned.work
+        (told_there tree laws begun stay v f whole script answers closed run other owned.session).now (touches_all tree laws begun stay v f whole script answers closed run other owned.session).now now_is in
+        owner_is m c k oid other number mode same named is owned.another t (now_in t current) tells.session (tells.number ∙ owned.number_is) (touches.claims oid claimed)
+
+    gave_told : TellsGiven colour f other theirs (record { number = number; oid = oid }) → IsOwnedBy m c other number
+    gave_told gave =
+        let within : gave.told ∈ all = elim gave.is as (λ _. gave.told ∈ all) [ inl over ↦ over_in gave.told over | inr current ↦ now_in gave.told current ] in
+        owner_is m c k oid other number mode same named is owned.another gave.told within gave.session gave.number (gave.writes (keep_all tree laws begun stay v f whole script answers closed run))
+
+    owner_told : IsOwnedBy m c other number
+    owner_told = elim owned.tried as (λ _. IsOwnedBy m c other number) [
+      | inl claimed ↦ claimed_told claimed owned.has
+      | inr gave ↦ gave_told (given_told tree laws begun stay v f whole script answers closed run other owned.session (record { number = number; oid = oid }) gave)
+    ]
 
   -- and a commit that made a version of an object is one of such a table
   newer_told : (m : Moment) (c : Command) (k oid stamp : ℕ) (t : Transaction) → m.mode ≡ AtOnce → m.all ≡ all → table_of c ≡ Some k → colour oid ≡ k → WasNewer f m.session t.begin oid stamp
       → IsNewerBy m c t stamp
   newer_told m c k oid stamp t mode same named is newer =
-      let by = commits_told tree laws begun stay v f script answers closed run newer.by newer.committed in
+      let by = commits_told tree laws begun stay v f whole script answers closed run newer.by newer.committed in
       let made = newer.makes in record {
         by = by.by;
         of = subst (λ (ts : List Transaction). by.by ∈ ts) (sym same) by.of;
@@ -266,7 +314,7 @@ module _ (tree : TreeLaws) (laws : HistoryLaws) (begun : (number begin : ℕ) �
   -- THE LINE.
   module _ (opening : Opening) (i : ℕ) (l : ScriptLine) (a : Answer) (at : slice_get script i ≡ Some l) (answered : slice_get answers i ≡ Some a) where
     abbrev m : Moment
-    m = moment_at AtOnce opening script answers all i l
+    m = moment_in opening whole script answers all i l
 
     abbrev p : Progress
     p = progress_of l.session (take i (said_of script answers))
@@ -275,18 +323,18 @@ module _ (tree : TreeLaws) (laws : HistoryLaws) (begun : (number begin : ℕ) �
     session_there = run.named l (i, at)
 
     session : IsSession f l.session
-    session = session_last tree laws begun stay v f script answers closed run l.session session_there
+    session = session_last tree laws begun stay v f whole script answers closed run l.session session_there
 
     abbrev opened_there : AreOfTables colour f.opening.rows
-    opened_there = (tabled tree laws begun stay v f script answers closed run).opened
+    opened_there = (tabled tree laws begun stay v f whole script answers closed run).opened
 
     there : FreeAt tree laws begun stay colour f l.session session run.ends.serializable opened_there v script answers nothing i l a
-    there = line_free tree laws begun stay v f script answers closed run i l a session at answered
+    there = line_free tree laws begun stay v f whole script answers closed run i l a session at answered
 
     knows : Knows l.session p (report.phase_of l.session (take i (said_of script answers))) there.before
     knows = subst (λ (said : List Said). Knows l.session (progress_of l.session said) (report.phase_of l.session said) there.before) (said_first i script answers)
         (knows_own begun stay f l.session (line_moves (take i script) (take i answers)) nothing Idle v there.before there.start
-        (at_first begun stay v f script answers closed run l.session session_there))
+        (at_first begun stay v f whole script answers closed run l.session session_there))
 
     -- it was cut off by a call's refusal
     module _ (stopping : IsStop a) where
@@ -304,7 +352,7 @@ module _ (tree : TreeLaws) (laws : HistoryLaws) (begun : (number begin : ℕ) �
       t_is u (x, current, is) = is ∙ ap (λ (y : Transaction). with_line (Some l.command) a y) (the_told p.current x its.told current its.is)
 
       begin_is : its.told.begin ≡ (work_at there.before l.session).begin
-      begin_is = told_begin l.session p.current (there.before.session l.session).stand its.told knows.tells.now here.active its.is
+      begin_is = (told_work l.session p.current (there.before.session l.session).stand its.told knows.tells.now here.active its.is).begin
 
       cut_so : (why : RowStop) → stop_in a ≡ Some why → WereCutBeside f l.session (FrontOf l.command) (AsksOf l.command) why here.did.at there.after
       cut_so why is = cut_by f l.session l.command a why here.did.at there.after is (once_cut f l.session l.command a here.did.at there.after stopping here.did.once)
@@ -315,12 +363,12 @@ module _ (tree : TreeLaws) (laws : HistoryLaws) (begun : (number begin : ℕ) �
             → CutFine colour here.table l.command t (work_at cut.at l.session) cut.asked
         asked_fine w last ended =
             out_fine tree laws colour f l.session session run.ends.serializable opened_there l.command a here.table here.names (run.ranges l (i, at)) there.before there.after here.active here.did there.goes
-            (there.right here.table here.names) p there.free why cut w last ended (keep_all tree laws begun stay v f script answers closed run w.begin)
+            (there.right here.table here.names) p there.free why cut w last ended (keep_all tree laws begun stay v f whole script answers closed run w.begin)
 
         touches_so : (w : Work) → Last cut.asked (work_at cut.at l.session) w → IsOut (cut.at.session l.session) w (there.after.session l.session) → Touches colour t w
         touches_so w last ended =
             out_touches tree laws colour f l.session session run.ends.serializable opened_there l.command a here.table here.names (run.ranges l (i, at)) there.before there.after here.active here.did there.goes
-            (there.right here.table here.names) p there.free why cut w last ended (keep_all tree laws begun stay v f script answers closed run w.begin)
+            (there.right here.table here.names) p there.free why cut w last ended (keep_all tree laws begun stay v f whole script answers closed run w.begin)
 
         begin_cut : (work_at cut.at l.session).begin ≡ t.begin
         begin_cut =
@@ -331,7 +379,7 @@ module _ (tree : TreeLaws) (laws : HistoryLaws) (begun : (number begin : ℕ) �
       owned_asked : (other number : ℕ) (x y : View) (asked : Asked) → AskedOf colour here.table asked → After l.session (RefusedBeside l.session asked (stop.Owned other number)) x y
           → MetBeside f l.session asked (stop.Owned other number) x y → IsOwnedBy m l.command other number
       owned_asked other number x y (asked_read oid) is (u, passes, refused) met = absurd refused
-      owned_asked other number x y (asked_claim oid) is refused met = owner_told m l.command here.table oid other number y.tail refl refl here.names is met
+      owned_asked other number x y (asked_claim oid) is refused met = owner_told m l.command here.table oid other number (work_at x l.session).number y.tail refl refl here.names is met
       owned_asked other number x y asked_make is (u, passes, refused) met = absurd refused
 
       owned_cause : (other number : ℕ) → stop_in a ≡ Some (stop.Owned other number) → IsOwnedBy m l.command other number
@@ -367,28 +415,28 @@ module _ (tree : TreeLaws) (laws : HistoryLaws) (begun : (number begin : ℕ) �
           let begin = sym (begin_cut (stop.Excluded succ pred) cut) ∙ sym (last_begin cut.asked (work_at cut.at l.session) w shut.last) in
           let closed_so = shut_closed f f l.session w (Excludes None succ pred) (λ r m. m) shut.shut in
           shows_closed_by colour all t w (touches_so (stop.Excluded succ pred) cut w shut.last shut.ended) (history_of f) f.opening.rows run.ends.serializable.snapshots sees.reads (WasOver m)
-          (λ u within. let by = commits_told tree laws begun stay v f script answers closed run u within in (by, never_over m by.by refl)) begin None succ pred closed_so
+          (λ u within. let by = commits_told tree laws begun stay v f whole script answers closed run u within in (by, never_over m by.by refl)) begin None succ pred closed_so
 
   -- EACH ANSWER that what others did caused
   waits_never : (i : ℕ) (l : ScriptLine) (a : Answer) → slice_get script i ≡ Some l → slice_get answers i ≡ Some a → IsWait a → ⊥
   waits_never i l a at answered waits =
-      no_wait (runs_tell begun stay) v f script answers closed run (record { session = l.session; asked = Some l.command; answer = a }) (i, place_said script answers i l a at answered) waits
+      no_wait (runs_tell begun stay) v f whole script answers closed run (record { session = l.session; asked = Some l.command; answer = a }) (i, place_said script answers i l a at answered) waits
 
   pub for_others : (opening : Opening) (i : ℕ) (l : ScriptLine) (a : Answer) → slice_get script i ≡ Some l → slice_get answers i ≡ Some a → IsForOthers a
-      → (t : Transaction) → IsOwn (moment_at AtOnce opening script answers all i l) l.command a t → HasRefusalCause (moment_at AtOnce opening script answers all i l) l.command t a
+      → (t : Transaction) → IsOwn (moment_in opening whole script answers all i l) l.command a t → HasRefusalCause (moment_in opening whole script answers all i l) l.command t a
   for_others opening i l (answer.WaitSeat seat seen) at answered others t own = absurd (waits_never i l (answer.WaitSeat seat seen) at answered tt)
   for_others opening i l (answer.WaitRing flushed) at answered others t own = absurd (waits_never i l (answer.WaitRing flushed) at answered tt)
   for_others opening i l (answer.Owned other number) at answered others t own = owned_cause opening i l (answer.Owned other number) at answered tt other number refl
   for_others opening i l (answer.Newer stamp) at answered others t own =
-      subst (λ (x : Transaction). IsNewerBy (moment_at AtOnce opening script answers all i l) l.command x stamp) (sym (t_is opening i l (answer.Newer stamp) at answered tt t own))
+      subst (λ (x : Transaction). IsNewerBy (moment_in opening whole script answers all i l) l.command x stamp) (sym (t_is opening i l (answer.Newer stamp) at answered tt t own))
       (newer_cause opening i l (answer.Newer stamp) at answered tt stamp refl)
   for_others opening i l (answer.ExcludedEarly succ pred) at answered others t own =
-      subst (λ (x : Transaction). HasNoWindowBefore (moment_at AtOnce opening script answers all i l) x None succ pred) (sym (t_is opening i l (answer.ExcludedEarly succ pred) at answered tt t own))
+      subst (λ (x : Transaction). HasNoWindowBefore (moment_in opening whole script answers all i l) x None succ pred) (sym (t_is opening i l (answer.ExcludedEarly succ pred) at answered tt t own))
       (early_cause opening i l (answer.ExcludedEarly succ pred) at answered tt succ pred refl)
-  for_others opening i l (answer.Committed stamp succ pred) at answered others t own = λ window. window_so (moment_at AtOnce opening script answers all i l) t stamp succ pred refl window
+  for_others opening i l (answer.Committed stamp succ pred) at answered others t own = λ window. window_so (moment_in opening whole script answers all i l) t stamp succ pred refl window
   for_others opening i l (answer.Excluded stamp succ pred) at answered others t own = λ shut. (
     shut,
-    never_over (moment_at AtOnce opening script answers all i l) shut.after refl,
-    never_over (moment_at AtOnce opening script answers all i l) shut.before refl,
+    never_over (moment_in opening whole script answers all i l) shut.after refl,
+    never_over (moment_in opening whole script answers all i l) shut.before refl,
   )
   for_others opening i l a at answered others t own = absurd others

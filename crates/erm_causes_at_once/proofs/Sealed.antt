@@ -43,7 +43,7 @@ bit : (b : Bool) → one_if b ≤ 1
 bit true = omega arith
 bit false = omega arith
 
-one_most : (bound : ℕ) (stamp : Option ℕ) → one_below bound stamp ≤ 1
+pub one_most : (bound : ℕ) (stamp : Option ℕ) → one_below bound stamp ≤ 1
 one_most bound None = omega arith
 one_most bound (Some stamp) = bit (nat_lt stamp bound)
 
@@ -68,7 +68,7 @@ over_few bound seat (t ∷ ts) (f ∷ fs) tells =
     )
 
 -- one with this stamp isn't below it
-not_below : (stamp : ℕ) (o : Option ℕ) → o ≡ Some stamp → one_below stamp o ≡ 0
+pub not_below : (stamp : ℕ) (o : Option ℕ) → o ≡ Some stamp → one_below stamp o ≡ 0
 not_below stamp o is = ap (one_below stamp) is ∙ by (nat_lt stamp stamp) refl
   where
     by : (b : Bool) → nat_lt stamp stamp ≡ b → one_if b ≡ 0

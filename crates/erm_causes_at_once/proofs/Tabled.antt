@@ -53,6 +53,7 @@ pub record PartRight (table : ℕ → ℕ) (f : View) (seat : ℕ) (v : View) (m
   pub last : View
   pub run : IsOwnRun f seat v moves last
   pub ends : last.session seat ≡ f.session seat
+  pub given_up : last.given_up seat ≡ f.given_up seat
   pub right : OwnRight table f seat moves v last run
 
 part_too : (one other : ℕ → ℕ) (f : View) (seat : ℕ) (v : View) (moves : List Move) → PartRight one f seat v moves → ((x : ℕ) → 0 < made_in (f.session seat) x → other x ≡ one x)
@@ -61,6 +62,7 @@ part_too one other f seat v moves part same = record {
   last = part.last;
   run = part.run;
   ends = part.ends;
+  given_up = part.given_up;
   right = right_too one other f seat moves v part.last part.run part.right (λ x some. same x (omega (arith, ap (λ (s : Session). made_in s x) part.ends, some)));
 }
 
@@ -80,7 +82,7 @@ module _ (v f : View) (moves : List Move) (own : (seat : ℕ) → IsSession v se
       let one : (x : ℕ) → made_in (part.last.session (suc n)) x ≤ 1 = λ x. omega (arith, ap (λ (s : Session). made_in s x) part.ends, once x) in
       let here = own_tabled f (suc n) moves v part.last lower.table part.run one in
       let others : (x : ℕ) → made_in (f.session (suc n)) x ≡ 0 → here.table x ≡ lower.table x = λ x none. here.unmade x (ap (λ (s : Session). made_in s x) part.ends ∙ none) in
-      let own_part : PartRight here.table f (suc n) v moves = record { last = part.last; run = part.run; ends = part.ends; right = here.right } in record {
+      let own_part : PartRight here.table f (suc n) v moves = record { last = part.last; run = part.run; ends = part.ends; given_up = part.given_up; right = here.right } in record {
         table = here.table;
         unmade = λ x none. others x (omega (arith, none)) ∙ lower.unmade x (omega (arith, none));
         right = λ seat above below. elim (cases_eq seat (suc n)) as (λ _. PartRight here.table f seat v moves) [

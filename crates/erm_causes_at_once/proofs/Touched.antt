@@ -1,30 +1,30 @@
 -- The transactions of an execution at once touch objects of their lines' tables alone, and so what is told of them shows the causes of their ends.
-use Rattle.std.proofs.Common.{◌≡◌, ℕ, zero, suc, List, [], ◌∷◌, map, fold, slice_get, Option, Some, None, inl, refl, sym, ap, ◌∙◌, subst, arith}
+use Rattle.std.proofs.Common.{◌≡◌, ℕ, zero, suc, List, [], ◌∷◌, map, slice_get, Option, Some, None, inl, refl, sym, ap, ◌∙◌, subst, arith}
 use Rattle.erm_model.specs.declared.history.TransactionRecord.{TransactionRecord}
 use Rattle.erm_model.specs.Member.{◌∈◌}
 use Rattle.erm_model.specs.Run.{Step}
-use Rattle.erm_model.proofs.Members.{∈-behind}
+use Rattle.erm_model.proofs.Members.{none_in_nil, ∈-behind}
 use Rattle.erm_machine.proofs.Listed.{∈-head}
 use Rattle.erm_node.specs.Sound.{sound_law}
 use Rattle.erm_report.specs.declared.answer.Answer.{Answer}
 use Rattle.erm_script.specs.declared.script.ScriptLine.{ScriptLine}
 use Rattle.erm_world.specs.Going.{Extends}
 use Rattle.erm_world.specs.Laws.{IsSerializable}
-use Rattle.erm_world.specs.World.{Fate, Finished, IsSession, Session, Stand, View, Work, history_of, stamp_of}
+use Rattle.erm_world.specs.World.{Fate, Finished, GivenUp, IsSession, Session, Stand, View, Work, history_of, stamp_of}
 use Rattle.erm_world.specs.World as world
 use Rattle.erm_maps.specs.Runs.{IsAnswered, IsRunOf}
 use Rattle.erm_good_report.specs.Causes.{HasCauseOf}
 use Rattle.erm_good_report.specs.GoodReport.{places_of}
 use Rattle.erm_good_report.specs.Phases.{Closed}
 use Rattle.erm_good_report.specs.Transactions.{Aborts, Commits, Ending, Excludes, Unfinished, Said, Transaction, nothing, progress_of, transactions_of}
-use Rattle.erm_lines.specs.Executions.{said_in}
 use Rattle.erm_lines.specs.Told.{Continues, EndsAs, Tells, TellsOver}
-use Rattle.erm_lines_at_once.specs.Executions.{IsRunAtOnce, all_moves}
-use Rattle.erm_told.proofs.Executed.{hears, still_session}
+use Rattle.erm_lines_at_once.specs.Executions.{all_moves}
+use Rattle.erm_lines_at_once.specs.Parts.{IsRunInPart}
+use Rattle.erm_told.proofs.Executed.{still_session}
 use Rattle.erm_told.proofs.Going.{continues_itself}
-use Rattle.erm_told_at_once.proofs.Runs.{all_say, close_of, tells}
+use Rattle.erm_told_at_once.proofs.Runs.{all_say, at_first, close_of, tells}
 use Rattle.erm_causes.specs.Touched.{IsClosedBy, TouchesAll, TouchesNow, TouchesOver, WasClosed}
-use Rattle.erm_causes.proofs.Begun.{HistoryLaws, KeepBelow}
+use Rattle.erm_causes.proofs.Begun.{KeepBelow}
 use Rattle.erm_causes.proofs.Causes.{causes_of, commit_told}
 use Rattle.erm_causes.proofs.Beside.{ToldCommit}
 use Rattle.erm_causes.proofs.Coloured.{KeepsTables}
@@ -34,7 +34,8 @@ use Rattle.erm_causes.proofs.Runs.{lines_range}
 use Rattle.erm_causes.proofs.Tables.{AreMovesInRange}
 use Rattle.erm_causes_at_once.proofs.Free.{FreeNow, FreeOver, IsFree}
 use Rattle.erm_causes_at_once.proofs.Tabled.{PartRight, TableAtOnce, table_at_once}
-use Rattle.erm_causes_at_once.proofs.Walked.{FreeAt, free_at, run_free}
+use Rattle.erm_causes_at_once.proofs.Walked.{FreeAt, Stands, TellsGiven, free_at, run_stands}
+use Rattle.erm_told_limits.proofs.Given.{HistoryLaws}
 
 pub closes_range : (closed : List Closed) → AreMovesInRange (map close_of closed)
 closes_range [] = tt
@@ -54,7 +55,7 @@ over_keeps table f (t ∷ ts) (h ∷ gs) (suc i) g stamp free at is keep = over_
 
 module _ (tree : TreeLaws) (laws : HistoryLaws) (begun : (number begin : ℕ) → IsRunOf (world.begun number begin) [])
     (stay : (w u : Work) (steps : List Step) → Extends w u → IsAnswered w steps → IsAnswered u steps)
-    (v f : View) (script : List ScriptLine) (answers : List Answer) (closed : List Closed) (run : IsRunAtOnce v script answers closed f) where
+    (v f : View) (whole script : List ScriptLine) (answers : List Answer) (closed : List Closed) (run : IsRunInPart v whole script answers closed f) where
   abbrev said : List Said
   said = places_of script answers closed
 
@@ -79,18 +80,25 @@ module _ (tree : TreeLaws) (laws : HistoryLaws) (begun : (number begin : ℕ) �
   goes_last : (seat : ℕ) (session : IsSession f seat) → Continues ((part_of seat session).last.session seat) (f.session seat)
   goes_last seat session = let part = part_of seat session in continues_itself (part.last.session seat) (f.session seat) (sym part.ends)
 
-  first_free : (seat : ℕ) → IsSession f seat → IsFree table f nothing (v.session seat)
-  first_free seat session = subst (λ (s : Session). IsFree table f nothing s) (sym (run.opened.idle seat (session_first seat session))) (record { over = tt; now = tt })
+  first_stands : (seat : ℕ) → IsSession f seat → Stands table f seat nothing v
+  first_stands seat session =
+      let first = session_first seat session in record {
+        free = subst (λ (s : Session). IsFree table f nothing s) (sym (run.opened.idle seat first)) (record { over = tt; now = tt });
+        tells = (at_first begun stay v f whole script answers closed run seat first).tells;
+        given = λ x m. absurd (none_in_nil x (subst (λ (xs : List GivenUp). x ∈ xs) (run.opened.given_up seat) m));
+      }
 
-  -- each session's transactions, as they are told
-  free : (seat : ℕ) → IsSession f seat → IsFree table f (progress_of seat said) (f.session seat)
-  free seat session =
+  -- each session's part, as it is told
+  stands : (seat : ℕ) (session : IsSession f seat) → Stands table f seat (progress_of seat said) (part_of seat session).last
+  stands seat session =
       let part = part_of seat session in
       let range = lines_range script answers (map close_of closed) run.ranges (closes_range closed) in
-      let all = run_free tree laws begun stay table f seat session holds tabled.opened (all_moves script answers closed) nothing v part.last part.run range part.right
-      (goes_last seat session) (first_free seat session) in
-      subst (λ (list : List Said). IsFree table f (progress_of seat list) (f.session seat)) (all_say script answers closed)
-      (subst (λ (s : Session). IsFree table f (fold (hears seat) nothing (said_in (all_moves script answers closed))) s) part.ends all)
+      subst (λ (list : List Said). Stands table f seat (progress_of seat list) part.last) (all_say script answers closed)
+      (run_stands tree laws begun stay table f seat session holds tabled.opened (all_moves script answers closed) nothing v part.last part.run range part.right
+      (goes_last seat session) (first_stands seat session))
+
+  free : (seat : ℕ) → IsSession f seat → IsFree table f (progress_of seat said) (f.session seat)
+  free seat session = subst (λ (s : Session). IsFree table f (progress_of seat said) s) (part_of seat session).ends (stands seat session).free
 
   -- so all commits keep to their tables, the earlier ones first
   pub keep_all : (bound : ℕ) → KeepBelow table f bound
@@ -141,13 +149,17 @@ module _ (tree : TreeLaws) (laws : HistoryLaws) (begun : (number begin : ℕ) �
   touches_now (Some t) (world.sealed w stamp) now = (now (keep_all w.begin)).0
 
   pub told_there : (seat : ℕ) → IsSession f seat → Tells seat (progress_of seat said) (f.session seat)
-  told_there seat session = tells begun stay v f script answers closed run seat (session_first seat session)
+  told_there seat session = tells begun stay v f whole script answers closed run seat (session_first seat session)
 
   pub touches_all : (seat : ℕ) → IsSession f seat → TouchesAll table (history_of f) (progress_of seat said) (f.session seat)
   touches_all seat session = record {
     over = touches_over seat session (progress_of seat said).over (f.session seat).over (λ g m. m) (told_there seat session).over (free seat session).over;
     now = touches_now (progress_of seat said).current (f.session seat).stand (free seat session).now;
   }
+
+  -- the claims that it gave up are told
+  pub given_told : (seat : ℕ) → IsSession f seat → (x : GivenUp) → x ∈ f.given_up seat → TellsGiven table f seat (progress_of seat said) x
+  given_told seat session x m = (stands seat session).given x (subst (λ (xs : List GivenUp). x ∈ xs) (sym (part_of seat session).given_up) m)
 
   pub same_sessions : v.opening.sessions ≡ f.opening.sessions
   same_sessions = ap (λ (o : world.Opening). o.sessions) (sym run.opening)
@@ -167,4 +179,4 @@ module _ (tree : TreeLaws) (laws : HistoryLaws) (begun : (number begin : ℕ) �
   line_free i l a session at answered =
       let part = part_of l.session session in
       free_at tree laws begun stay table f l.session session holds tabled.opened script answers (map close_of closed) nothing v part.last i l a part.run (λ k j there. run.ranges k (j, there)) part.right
-      (goes_last l.session session) (first_free l.session session) refl at answered
+      (goes_last l.session session) (first_stands l.session session) refl at answered

@@ -1,6 +1,11 @@
--- A session's own part of an execution at once, move by move: what it makes, and that its transactions touch objects of their lines' tables.
+-- A session's own part of an execution at once, move by move: what it makes, that its transactions touch objects of their lines' tables, and that those
+-- that gave up a claim are told to write there.
 use Rattle.std.proofs.Common.{◌≡◌, ◌≢◌, ℕ, zero, suc, ◌<◌, ◌≤◌, ◌⊎◌, ◌==◌, Bool, cond, List, [], ◌∷◌, ◌++◌, take, fold, slice_get, Option, Some, None, inl, inr, refl, sym, ap, ◌∙◌, subst, eq-eqb, ne_eqb, arith}
+use Rattle.std.specs.Option.{option_map}
 use Rattle.std.proofs.lemmas.Bool.{cases_eq}
+use Rattle.erm_model.specs.declared.outcome.Phase.TheVariants.{Active}
+use Rattle.erm_model.specs.declared.row_stop.RowStop.TheVariants as stop
+use Rattle.erm_model.specs.Member.{◌∈◌}
 use Rattle.erm_model.specs.Run.{Step}
 use Rattle.erm_node.specs.Sound.{sound_law}
 use Rattle.erm_report.specs.declared.answer.Answer.{Answer}
@@ -9,27 +14,34 @@ use Rattle.erm_script.specs.declared.script.ScriptLine.{ScriptLine}
 use Rattle.erm_script.specs.Script.{IsInRange}
 use Rattle.erm_world.specs.Going.{Extends}
 use Rattle.erm_world.specs.Laws.{IsSerializable}
-use Rattle.erm_world.specs.World.{IsSession, Session, View, Work, made_in, phase_at, work_at}
+use Rattle.erm_world.specs.World.{GivenUp, IsSession, Session, Stand, View, Work, made_in, phase_at, phase_of, work_at, work_of}
 use Rattle.erm_world.specs.World as world
 use Rattle.erm_maps.specs.Runs.{IsAnswered, IsRunOf}
-use Rattle.erm_good_report.specs.Transactions.{Progress, heard, said_of, table_of}
+use Rattle.erm_good_report.specs.Causes.{WritesTable}
+use Rattle.erm_good_report.specs.Transactions.{Progress, Transaction, heard, said_of, table_of, with_line}
 use Rattle.erm_lines.specs.Executions.{Move, close, flush, line, line_moves, log, move_of, said_in}
-use Rattle.erm_lines.specs.Told.{Continues}
+use Rattle.erm_lines.specs.Told.{Continues, Tells, TellsNow, TellsWork}
 use Rattle.erm_beside.specs.Calls.{Passes}
 use Rattle.erm_lines_at_once.specs.Answers.{DidLineBeside}
 use Rattle.erm_lines_at_once.specs.Executions.{DidOwn, IsOwnRun, is_own}
+use Rattle.erm_lines_at_once.specs.Operations.{DidOperationBeside}
 use Rattle.erm_told.proofs.Executed.{hears}
 use Rattle.erm_told.proofs.Going.{continues_then}
+use Rattle.erm_told_at_once.proofs.Lines.{turns_end, turns_line}
 use Rattle.erm_told_at_once.proofs.Runs.{other_line, own_goes, own_line}
 use Rattle.erm_causes.specs.Touched.{AreOfTables}
-use Rattle.erm_causes.proofs.Begun.{HistoryLaws}
+use Rattle.erm_causes.proofs.Begun.{KeepBelow}
+use Rattle.erm_causes.proofs.Fine.{writes_more}
 use Rattle.erm_causes.proofs.Moves.{move_table, table_in}
 use Rattle.erm_causes.proofs.Own.{TreeLaws}
 use Rattle.erm_causes.proofs.Tables.{AreMovesInRange}
 use Rattle.erm_causes_at_once.proofs.Called.{operation_made}
-use Rattle.erm_causes_at_once.proofs.Free.{IsFree, sealed_free}
-use Rattle.erm_causes_at_once.proofs.Operation.{operation_free}
-use Rattle.erm_causes_at_once.proofs.Quieted.{Lined, closed_quiet, lined, named, quiet, quieted_free, quieted_made, sealed_first}
+use Rattle.erm_causes_at_once.proofs.Free.{IsFree, none_now, sealed_free}
+use Rattle.erm_causes_at_once.proofs.GivenUp.{GaveUp, LeavesGiven, close_given, given_by, gives, leaves, line_given, tried_given}
+use Rattle.erm_causes_at_once.proofs.Operation.{claim_writes, kept_cut, now, operation_free}
+use Rattle.erm_causes_at_once.proofs.Quieted.{Lined, began_idle, closed_quiet, lined, named, quiet, quieted_free, quieted_made, sealed_first}
+use Rattle.erm_causes_at_once.proofs.Still.{IsToldIn, StillTold, heard_still}
+use Rattle.erm_told_limits.proofs.Given.{HistoryLaws}
 
 -- a move of the session did this, and one of another nothing
 abbrev pub OwnDid : View → ℕ → ℕ → Option Command → Answer → View → View → Type 0
@@ -103,6 +115,32 @@ abbrev pub IsAskedInRange : Option Command → Type 0
 IsAskedInRange None = Unit {0}
 IsAskedInRange (Some c) = IsInRange c
 
+-- THE CLAIMS GIVEN UP. A transaction of the number of one is told, and has a line that writes in the object's table where the commits keep to theirs.
+pub record TellsGiven (table : ℕ → ℕ) (f : View) (seat : ℕ) (p : Progress) (x : GivenUp) : Type 0 where
+  pub told : Transaction
+  pub is : IsToldIn p told
+  pub session : told.session ≡ seat
+  pub number : told.number ≡ x.number
+  pub writes : ((bound : ℕ) → KeepBelow table f bound) → WritesTable told (table x.oid)
+
+-- a session's part, where these answers were told: its transactions, the objects that they touch, and the claims that they gave up
+pub record Stands (table : ℕ → ℕ) (f : View) (seat : ℕ) (p : Progress) (v : View) : Type 0 where
+  pub free : IsFree table f p (v.session seat)
+  pub tells : Tells seat p (v.session seat)
+  pub given : (x : GivenUp) → x ∈ v.given_up seat → TellsGiven table f seat p x
+
+-- what a move of the session tells, and leaves of the claims that it gave up
+record Moved (f : View) (seat : ℕ) (asked : Option Command) (a : Answer) (v t : View) : Type 0 where
+  tells : (p : Progress) → Tells seat p (v.session seat) → Tells seat (heard seat asked a p) (t.session seat)
+  given : LeavesGiven f seat asked a v t
+
+-- the transaction in progress is told as its work
+pub told_work : (seat : ℕ) (current : Option Transaction) (stand : Stand) (t : Transaction) → TellsNow seat current stand → phase_of stand ≡ Active → current ≡ Some t → TellsWork seat t (work_of stand)
+told_work seat None stand t tells active is = cc
+told_work seat (Some u) world.idle t tells active is = absurd tells
+told_work seat (Some u) (world.active w) t tells active is = let same : u ≡ t = cc in subst (λ (x : Transaction). TellsWork seat x w) same tells.0.work
+told_work seat (Some u) (world.sealed w stamp) t tells active is = cc
+
 module _ (tree : TreeLaws) (laws : HistoryLaws) (begun : (number begin : ℕ) → IsRunOf (world.begun number begin) [])
     (stay : (w u : Work) (steps : List Step) → Extends w u → IsAnswered w steps → IsAnswered u steps) (table : ℕ → ℕ) (f : View) (seat : ℕ) (session : IsSession f seat)
     (holds : IsSerializable sound_law f) (opened : AreOfTables table f.opening.rows) where
@@ -117,35 +155,106 @@ module _ (tree : TreeLaws) (laws : HistoryLaws) (begun : (number begin : ℕ) �
       subst (λ (b : Option Command). IsFree table f (heard seat b a p) (t.session seat)) (sym is)
       (operation_free tree laws table f seat session holds opened c a k names (subst IsAskedInRange is range) v t active did goes (right k (ap table_asked is ∙ names)) p free)
 
-  own_free : (at : ℕ) (asked : Option Command) (a : Answer) (v t : View) (p : Progress) → OwnDid f seat at asked a v t → IsAskedInRange asked
-      → ((k : ℕ) → table_asked asked ≡ Some k → (x : ℕ) → made_in (v.session seat) x < made_in (t.session seat) x → table x ≡ k) → Continues (t.session seat) (f.session seat)
-      → IsFree table f p (v.session seat) → IsFree table f (cond (at == seat) (heard seat asked a p) p) (t.session seat)
-  own_free at asked a v t p (inl (is, did)) range right goes free =
-      subst (λ (b : Bool). IsFree table f (cond b (heard seat asked a p) p) (t.session seat)) (sym (eq-eqb at seat is)) (lined_free asked a v t p did range right goes free)
-  own_free at asked a v t p (inr (another, is)) range right goes free =
-      subst (λ (b : Bool). IsFree table f (cond b (heard seat asked a p) p) (t.session seat)) (sym (ne_eqb at seat another))
-      (subst (λ (y : View). IsFree table f p (y.session seat)) (sym is) free)
+  given_later : (p q : Progress) (x : GivenUp) → ((t : Transaction) → IsToldIn p t → StillTold t q) → TellsGiven table f seat p x → TellsGiven table f seat q x
+  given_later p q x still tells =
+      let later = still tells.told tells.is in record {
+        told = later.told;
+        is = later.is;
+        session = later.session ∙ tells.session;
+        number = later.number ∙ tells.number;
+        writes = λ keep. writes_more tells.told later.told (table x.oid) later.lines (tells.writes keep);
+      }
 
-  passed : (p : Progress) (v u : View) → Passes seat v u → IsFree table f p (v.session seat) → IsFree table f p (u.session seat)
-  passed p v u passes free = subst (λ (s : Session). IsFree table f p s) (sym passes.own) free
+  heard_given : (asked : Option Command) (a : Answer) (v t : View) (p : Progress) → Lined f seat asked a v t → Stands table f seat p v → (x : GivenUp) → TellsGiven table f seat p x
+      → TellsGiven table f seat (heard seat asked a p) x
+  heard_given asked a v t p did stands x tells =
+      given_later p (heard seat asked a p) x
+      (heard_still seat asked a p (λ begin is. none_now table f p.current (v.session seat).stand stands.free.now
+      (began_idle f seat asked begin v t (subst (λ (b : Answer). Lined f seat asked b v t) is did)))) tells
+
+  -- the claim that a line gave up is of its table
+  gave_now : (c : Command) (a : Answer) (k : ℕ) (names : table_of c ≡ Some k) (range : IsInRange c) (v t : View) (active : phase_at v seat ≡ Active) (did : DidOperationBeside f seat c a v t)
+      (goes : Continues (t.session seat) (f.session seat)) (right : (x : ℕ) → made_in (v.session seat) x < made_in (t.session seat) x → table x ≡ k) (p : Progress) → Stands table f seat p v
+      → (gave : GaveUp f seat c a did.at t) → TellsGiven table f seat (heard seat (Some c) a p) (given_by gave.oid (gave.cut.at.session seat))
+  gave_now c a k names range v t active did goes right p stands gave =
+      let its = now tree laws table f seat session holds opened c a k names range v t active did goes right p stands.free in
+      let tells = told_work seat p.current (v.session seat).stand its.told stands.tells.now active its.is in
+      let kept = kept_cut tree laws table f seat session holds opened c a k names range v t active did goes right p stands.free (stop.CellsFull gave.drawn) gave.cut in record {
+        told = with_line (Some c) a its.told;
+        is = subst (λ (q : Progress). IsToldIn q (with_line (Some c) a its.told)) (sym (gave.hears seat (Some c) p))
+            (inr (ap (λ (r : Option Transaction). option_map (with_line (Some c) a) r) its.is));
+        session = tells.session;
+        number = tells.number ∙ sym kept.number;
+        writes = λ keep. claim_writes tree laws table f seat session holds opened c a k names range v t active did goes right p stands.free (stop.CellsFull gave.drawn) gave.cut refl
+            (keep (work_at t seat).begin) gave.oid gave.asks;
+      }
+
+  lined_given : (asked : Option Command) (a : Answer) (v t : View) (p : Progress) → Lined f seat asked a v t → LeavesGiven f seat asked a v t → IsAskedInRange asked
+      → ((k : ℕ) → table_asked asked ≡ Some k → (x : ℕ) → made_in (v.session seat) x < made_in (t.session seat) x → table x ≡ k) → Continues (t.session seat) (f.session seat)
+      → Stands table f seat p v → (x : GivenUp) → x ∈ t.given_up seat → TellsGiven table f seat (heard seat asked a p) x
+  lined_given asked a v t p did (leaves same) range right goes stands x m =
+      heard_given asked a v t p did stands x (stands.given x (subst (λ (xs : List GivenUp). x ∈ xs) same m))
+  lined_given asked a v t p did (gives c k is names active op gave) range right goes stands x m =
+      elim (gave.only x m) as (λ _. TellsGiven table f seat (heard seat asked a p) x) [
+        | inl before ↦ heard_given asked a v t p did stands x (stands.given x (subst (λ (xs : List GivenUp). x ∈ xs) (tried_given f seat c op.times v op.at op.tried) before))
+        | inr new ↦
+            subst (λ (y : GivenUp). TellsGiven table f seat (heard seat asked a p) y) (sym new)
+            (subst (λ (b : Option Command). TellsGiven table f seat (heard seat b a p) (given_by gave.oid (gave.cut.at.session seat))) (sym is)
+            (gave_now c a k names (subst IsAskedInRange is range) v t active op goes (right k (ap table_asked is ∙ names)) p stands gave))
+      ]
+
+  own_stands : (at : ℕ) (asked : Option Command) (a : Answer) (v t : View) (p : Progress) → OwnDid f seat at asked a v t → (at ≡ seat → Moved f seat asked a v t) → IsAskedInRange asked
+      → ((k : ℕ) → table_asked asked ≡ Some k → (x : ℕ) → made_in (v.session seat) x < made_in (t.session seat) x → table x ≡ k) → Continues (t.session seat) (f.session seat)
+      → Stands table f seat p v → Stands table f seat (cond (at == seat) (heard seat asked a p) p) t
+  own_stands at asked a v t p (inl (is, did)) moved range right goes stands =
+      subst (λ (b : Bool). Stands table f seat (cond b (heard seat asked a p) p) t) (sym (eq-eqb at seat is)) (record {
+        free = lined_free asked a v t p did range right goes stands.free;
+        tells = (moved is).tells p stands.tells;
+        given = lined_given asked a v t p did (moved is).given range right goes stands;
+      })
+  own_stands at asked a v t p (inr (another, is)) moved range right goes stands =
+      subst (λ (b : Bool). Stands table f seat (cond b (heard seat asked a p) p) t) (sym (ne_eqb at seat another)) (subst (λ (y : View). Stands table f seat p y) (sym is) stands)
+
+  passed : (p : Progress) (v u : View) → Passes seat v u → Stands table f seat p v → Stands table f seat p u
+  passed p v u passes stands = record {
+    free = subst (λ (s : Session). IsFree table f p s) (sym passes.own) stands.free;
+    tells = subst (λ (s : Session). Tells seat p s) (sym passes.own) stands.tells;
+    given = λ x m. stands.given x (subst (λ (xs : List GivenUp). x ∈ xs) passes.given_up m);
+  }
+
+  -- the moves of the session
+  moved_line : (l : ScriptLine) (a : Answer) (v t : View) → DidLineBeside f l a v t → l.session ≡ seat → Moved f seat (Some l.command) a v t
+  moved_line l a v t did is =
+      subst (λ (q : ℕ). Moved f q (Some l.command) a v t) is (record { tells = (turns_line begun stay f l a v t did).took.tells; given = line_given f l a v t did })
+
+  line_moved : (l : ScriptLine) (a : Answer) (v t : View) → DidOwn (is_own seat (line l a)) f seat (line l a) v t → l.session ≡ seat → Moved f seat (Some l.command) a v t
+  line_moved l a v t did is = moved_line l a v t (subst (λ (b : Bool). DidOwn b f seat (line l a) v t) (eq-eqb l.session seat is) did).1 is
+
+  log_moved : (l : ScriptLine) (a : Answer) (v t : View) → DidOwn (is_own seat (log l a)) f seat (log l a) v t → l.session ≡ seat → Moved f seat (Some l.command) a v t
+  log_moved l a v t did is = absurd (subst (λ (b : Bool). DidOwn b f seat (log l a) v t) (eq-eqb l.session seat is) did)
+
+  close_moved : (at : ℕ) (a : Answer) (v t : View) → DidOwn (is_own seat (close at a)) f seat (close at a) v t → at ≡ seat → Moved f seat None a v t
+  close_moved at a v t did is =
+      let own = (subst (λ (b : Bool). DidOwn b f seat (close at a) v t) (eq-eqb at seat is) did).1 in
+      subst (λ (q : ℕ). Moved f q None a v t) is (record { tells = (turns_end at a v t own).took.tells; given = close_given f at a v t own })
 
   goes_from : (moves : List Move) (w t : View) → IsOwnRun f seat w moves t → Continues (t.session seat) (f.session seat) → Continues (w.session seat) (f.session seat)
   goes_from moves w t rest goes = continues_then (w.session seat) (t.session seat) (f.session seat) (own_goes begun stay f seat moves w t rest).goes goes
 
-  pub run_free : (moves : List Move) (p : Progress) (v t : View) (run : IsOwnRun f seat v moves t) → AreMovesInRange moves → OwnRight table f seat moves v t run
-      → Continues (t.session seat) (f.session seat) → IsFree table f p (v.session seat) → IsFree table f (fold (hears seat) p (said_in moves)) (t.session seat)
-  run_free [] p v t passes range right goes free = passed p v t passes free
-  run_free (line l a ∷ moves) p v t (u, w, passes, did, rest) range right goes free =
-      run_free moves (hears seat p (record { session = l.session; asked = Some l.command; answer = a })) w t rest range.1 right.1 goes
-      (own_free l.session (Some l.command) a u w p (move_did f seat l a u w did) range.0 right.0 (goes_from moves w t rest goes) (passed p v u passes free))
-  run_free (log l a ∷ moves) p v t (u, w, passes, did, rest) range right goes free =
-      run_free moves (hears seat p (record { session = l.session; asked = Some l.command; answer = a })) w t rest range.1 right.1 goes
-      (own_free l.session (Some l.command) a u w p (log_did f seat l a u w did) range.0 right.0 (goes_from moves w t rest goes) (passed p v u passes free))
-  run_free (close at a ∷ moves) p v t (u, w, passes, did, rest) range right goes free =
-      run_free moves (hears seat p (record { session = at; asked = None; answer = a })) w t rest range.1 right.1 goes
-      (own_free at None a u w p (close_did f seat at a u w did) tt (λ k names. right.0 k names) (goes_from moves w t rest goes) (passed p v u passes free))
-  run_free (flush ∷ moves) p v t (u, w, passes, did, rest) range right goes free =
-      run_free moves p w t rest range.1 right.1 goes (subst (λ (y : View). IsFree table f p (y.session seat)) (sym did) (passed p v u passes free))
+  pub run_stands : (moves : List Move) (p : Progress) (v t : View) (run : IsOwnRun f seat v moves t) → AreMovesInRange moves → OwnRight table f seat moves v t run
+      → Continues (t.session seat) (f.session seat) → Stands table f seat p v → Stands table f seat (fold (hears seat) p (said_in moves)) t
+  run_stands [] p v t passes range right goes stands = passed p v t passes stands
+  run_stands (line l a ∷ moves) p v t (u, w, passes, did, rest) range right goes stands =
+      run_stands moves (hears seat p (record { session = l.session; asked = Some l.command; answer = a })) w t rest range.1 right.1 goes
+      (own_stands l.session (Some l.command) a u w p (move_did f seat l a u w did) (line_moved l a u w did) range.0 right.0 (goes_from moves w t rest goes) (passed p v u passes stands))
+  run_stands (log l a ∷ moves) p v t (u, w, passes, did, rest) range right goes stands =
+      run_stands moves (hears seat p (record { session = l.session; asked = Some l.command; answer = a })) w t rest range.1 right.1 goes
+      (own_stands l.session (Some l.command) a u w p (log_did f seat l a u w did) (log_moved l a u w did) range.0 right.0 (goes_from moves w t rest goes) (passed p v u passes stands))
+  run_stands (close at a ∷ moves) p v t (u, w, passes, did, rest) range right goes stands =
+      run_stands moves (hears seat p (record { session = at; asked = None; answer = a })) w t rest range.1 right.1 goes
+      (own_stands at None a u w p (close_did f seat at a u w did) (close_moved at a u w did) tt (λ k names. right.0 k names) (goes_from moves w t rest goes) (passed p v u passes stands))
+  run_stands (flush ∷ moves) p v t (u, w, passes, did, rest) range right goes stands =
+      run_stands moves p w t rest range.1 right.1 goes (subst (λ (y : View). Stands table f seat p y) (sym did) (passed p v u passes stands))
 
   -- A LINE of the session, where its transactions stand so before it
   pub record FreeAt (v : View) (script : List ScriptLine) (answers : List Answer) (p : Progress) (i : ℕ) (l : ScriptLine) (a : Answer) : Type 0 where
@@ -165,11 +274,11 @@ module _ (tree : TreeLaws) (laws : HistoryLaws) (begun : (number begin : ℕ) �
 
   pub free_at : (script : List ScriptLine) (answers : List Answer) (more : List Move) (p : Progress) (v t : View) (i : ℕ) (l : ScriptLine) (a : Answer)
       → (run : IsOwnRun f seat v (line_moves script answers ++ more) t) → ((k : ScriptLine) → (j : ℕ) → slice_get script j ≡ Some k → IsInRange k.command)
-      → OwnRight table f seat (line_moves script answers ++ more) v t run → Continues (t.session seat) (f.session seat) → IsFree table f p (v.session seat)
+      → OwnRight table f seat (line_moves script answers ++ more) v t run → Continues (t.session seat) (f.session seat) → Stands table f seat p v
       → l.session ≡ seat → slice_get script i ≡ Some l → slice_get answers i ≡ Some a → FreeAt v script answers p i l a
-  free_at [] answers more p v t i l a run range right goes free own at answered = cc
-  free_at (k ∷ script) [] more p v t i l a run range right goes free own at answered = cc
-  free_at (k ∷ script) (b ∷ answers) more p v t zero l a (u, w, passes, did, rest) range right goes free own at answered =
+  free_at [] answers more p v t i l a run range right goes stands own at answered = cc
+  free_at (k ∷ script) [] more p v t i l a run range right goes stands own at answered = cc
+  free_at (k ∷ script) (b ∷ answers) more p v t zero l a (u, w, passes, did, rest) range right goes stands own at answered =
       let line_is : k ≡ l = the_line k l at in
       let answer_is : b ≡ a = the_answer b a answered in record {
         before = u;
@@ -178,15 +287,15 @@ module _ (tree : TreeLaws) (laws : HistoryLaws) (begun : (number begin : ℕ) �
         did = own_line f seat l a u w own
             (subst (λ (x : ScriptLine). DidOwn (is_own seat (move_of x a)) f seat (move_of x a) u w) line_is
             (subst (λ (x : Answer). DidOwn (is_own seat (move_of k x)) f seat (move_of k x) u w) answer_is did));
-        free = passed p v u passes free;
+        free = (passed p v u passes stands).free;
         right = λ n names. right.0 n (move_table k b ∙ ap (λ (x : ScriptLine). table_of x.command) line_is ∙ names);
         goes = goes_from (line_moves script answers ++ more) w t rest goes;
       }
-  free_at (k ∷ script) (b ∷ answers) more p v t (suc i) l a (u, w, passes, did, rest) range right goes free own at answered =
+  free_at (k ∷ script) (b ∷ answers) more p v t (suc i) l a (u, w, passes, did, rest) range right goes stands own at answered =
       let moves = line_moves script answers ++ more in
       let there = free_at script answers more (hears seat p (record { session = k.session; asked = Some k.command; answer = b })) w t i l a rest (λ x j. range x (suc j)) right.1 goes
-      (own_free k.session (Some k.command) b u w p (line_did f seat k b u w did) (range k zero refl) (λ n names. right.0 n (move_table k b ∙ names)) (goes_from moves w t rest goes)
-      (passed p v u passes free)) own at answered in record {
+      (own_stands k.session (Some k.command) b u w p (line_did f seat k b u w did) (λ is. moved_line k b u w (own_line f seat k b u w is did) is) (range k zero refl)
+      (λ n names. right.0 n (move_table k b ∙ names)) (goes_from moves w t rest goes) (passed p v u passes stands)) own at answered in record {
         before = there.before;
         after = there.after;
         start = (u, w, passes, did, there.start);

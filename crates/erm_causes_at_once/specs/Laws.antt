@@ -9,7 +9,9 @@ use Rattle.erm_good_report.specs.Opening.{AtOnce, Opening}
 use Rattle.erm_good_report.specs.Refusals.{HasLogCause, HasRefusalCause, HasUnfilledCause, IsInReach, IsOwn, moment_at}
 use Rattle.erm_good_report.specs.Transactions.{Transaction}
 use Rattle.erm_causes.specs.Laws.{IsForOthers}
+use Rattle.erm_good_at_once.specs.CutReports.{moment_in}
 use Rattle.erm_lines_at_once.specs.Laws.{OfRunsAtOnce}
+use Rattle.erm_lines_at_once.specs.Parts.{OfRunsInPart}
 
 -- each answer that needs no transaction has its cause: of the log's end, of a session's last commit, and of where the log is flushed
 abbrev pub TellsLog : Opening → List ScriptLine → List Answer → List Transaction → Type 0
@@ -35,3 +37,26 @@ RefusesForOthers opening script answers told = (i : ℕ) (l : ScriptLine) (a : A
 
 abbrev pub RunsAtOnceRefuseForOthers : Type 0
 RunsAtOnceRefuseForOthers = OfRunsAtOnce (λ opening script answers closed told. RefusesForOthers opening script answers told)
+
+-- The same of an execution that is told in part, where each line of the whole script may have been run in part.
+abbrev pub TellsLogIn : Opening → (whole part : List ScriptLine) → List Answer → List Transaction → Type 0
+TellsLogIn opening whole part answers told = (i : ℕ) (l : ScriptLine) (a : Answer) → slice_get part i ≡ Some l → slice_get answers i ≡ Some a
+    → HasLogCause (moment_in opening whole part answers told i l) a × HasUnfilledCause (moment_in opening whole part answers told i l) l.command a
+
+-- these causes ask for no transactions, whichever are told
+abbrev pub RunsInPartTellLog : Type 0
+RunsInPartTellLog = OfRunsInPart (λ opening whole part answers told. (all : List Transaction) → TellsLogIn opening whole part answers all)
+
+abbrev pub RunsInPartAreInReach : Type 0
+RunsInPartAreInReach = OfRunsInPart (λ opening whole part answers told. (i : ℕ) (l : ScriptLine) (a : Answer) → slice_get part i ≡ Some l → slice_get answers i ≡ Some a
+    → IsInReach (moment_in opening whole part answers told i l) l.command a)
+
+abbrev pub RunsInPartHaveCauses : Type 0
+RunsInPartHaveCauses = OfRunsInPart (λ opening whole part answers told. (t : Transaction) → t ∈ told → HasCauseOf t.ending told t)
+
+abbrev pub RefusesForOthersIn : Opening → (whole part : List ScriptLine) → List Answer → List Transaction → Type 0
+RefusesForOthersIn opening whole part answers told = (i : ℕ) (l : ScriptLine) (a : Answer) → slice_get part i ≡ Some l → slice_get answers i ≡ Some a → IsForOthers a
+    → (t : Transaction) → IsOwn (moment_in opening whole part answers told i l) l.command a t → HasRefusalCause (moment_in opening whole part answers told i l) l.command t a
+
+abbrev pub RunsInPartRefuseForOthers : Type 0
+RunsInPartRefuseForOthers = OfRunsInPart (λ opening whole part answers told. RefusesForOthersIn opening whole part answers told)

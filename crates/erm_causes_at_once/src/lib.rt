@@ -1,7 +1,33 @@
 //! The causes that an execution at once shows, of answers to its lines. Each law is the contract of a function that does nothing.
 #![tactic(auto)]
 
-ghost use Rattle.erm_causes_at_once.specs.Laws.{RunsAtOnceAreInReach, RunsAtOnceHaveCauses, RunsAtOnceRefuseForOthers, RunsAtOnceTellLog};
+ghost use Rattle.erm_causes_at_once.specs.Laws.{RunsAtOnceAreInReach, RunsAtOnceHaveCauses, RunsAtOnceRefuseForOthers, RunsAtOnceTellLog, RunsInPartAreInReach, RunsInPartHaveCauses, RunsInPartRefuseForOthers, RunsInPartTellLog};
+
+/// Of an execution that is told in part: each answer that needs no transaction has its cause, and no begin and no stamp is further on than
+/// the whole script's lines may have moved the log.
+pub fn runs_in_part_tell_log()
+    ensures log { RunsInPartTellLog }
+    ensures reach { RunsInPartAreInReach }
+{
+    erm_maps::begun_transactions_are_runs();
+    erm_maps::answers_stay();
+}
+
+/// Of such an execution: each commit and each exclusion that is told has its causes, and so has each answer that refuses for what another
+/// session's transaction has claimed, also where it gave the claim up, or committed.
+pub fn runs_in_part_have_causes()
+    ensures causes { RunsInPartHaveCauses }
+    ensures others { RunsInPartRefuseForOthers }
+{
+    erm_core_ssn::rows_run_serially();
+    erm_core_ssn::serial_order_is_unique();
+    erm_core_ssn::versions_are_unique();
+    erm_core_ssn::prefixes_stand_alone();
+    erm_tree::tables_stand_apart();
+    erm_tree::calls_stay_in_their_table();
+    erm_maps::begun_transactions_are_runs();
+    erm_maps::answers_stay();
+}
 
 /// Each answer that needs no transaction has its cause. One that the log is at its end tells a place from which no transaction begins
 /// any more, no further on than the script's lines may have moved the log. One that a commit is on the disk names the last one that
@@ -10,8 +36,7 @@ ghost use Rattle.erm_causes_at_once.specs.Laws.{RunsAtOnceAreInReach, RunsAtOnce
 pub fn runs_at_once_tell_log()
     ensures { RunsAtOnceTellLog }
 {
-    erm_maps::begun_transactions_are_runs();
-    erm_maps::answers_stay();
+    runs_in_part_tell_log();
 }
 
 /// No begin that an answer tells, and no stamp that a line draws, is further on than the script's lines may have moved the log, with a
@@ -19,8 +44,7 @@ pub fn runs_at_once_tell_log()
 pub fn runs_at_once_are_in_reach()
     ensures { RunsAtOnceAreInReach }
 {
-    erm_maps::begun_transactions_are_runs();
-    erm_maps::answers_stay();
+    runs_in_part_tell_log();
 }
 
 /// Each commit that the report tells has the causes of both ends of its window, and each exclusion, early or after its seal, the two
@@ -28,27 +52,13 @@ pub fn runs_at_once_are_in_reach()
 pub fn runs_at_once_have_causes()
     ensures { RunsAtOnceHaveCauses }
 {
-    erm_core_ssn::rows_run_serially();
-    erm_core_ssn::serial_order_is_unique();
-    erm_core_ssn::versions_are_unique();
-    erm_core_ssn::prefixes_stand_alone();
-    erm_tree::tables_stand_apart();
-    erm_tree::calls_stay_in_their_table();
-    erm_maps::begun_transactions_are_runs();
-    erm_maps::answers_stay();
+    runs_in_part_have_causes();
 }
 
-/// Each answer that refuses for what another session's transaction has claimed, or for what one has committed since, and each one that
-/// decides a transaction, has its cause in the lines of the report. None waits.
+/// Each answer that refuses for what another session's transaction has claimed, also where it gave the claim up for want of a cell, or for
+/// what one has committed since, and each one that decides a transaction, has its cause in the lines of the report. None waits.
 pub fn runs_at_once_refuse_for_others()
     ensures { RunsAtOnceRefuseForOthers }
 {
-    erm_core_ssn::rows_run_serially();
-    erm_core_ssn::serial_order_is_unique();
-    erm_core_ssn::versions_are_unique();
-    erm_core_ssn::prefixes_stand_alone();
-    erm_tree::tables_stand_apart();
-    erm_tree::calls_stay_in_their_table();
-    erm_maps::begun_transactions_are_runs();
-    erm_maps::answers_stay();
+    runs_in_part_have_causes();
 }

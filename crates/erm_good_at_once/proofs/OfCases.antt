@@ -1,22 +1,26 @@
 -- Small reports of sessions at once: which clause they break, and that a gap is allowed.
-use Rattle.std.proofs.Common.{◌≡◌, ℕ, ◌<◌, ◌≤◌, ◌==◌, true, nat_lt, List, [], ◌∷◌, ◌++◌, cond, take, Option, Some, None, refl, arith}
+use Rattle.std.proofs.Common.{Contains, ◌≡◌, ℕ, ◌<◌, ◌≤◌, ◌==◌, Bool, true, false, nat_lt, List, [], ◌∷◌, ◌++◌, cond, take, drop, Option, Some, None, refl, sym, ap, ◌∙◌, subst, arith}
+use Rattle.std.specs.Prelude.{if◌then◌else◌}
 use Rattle.std.proofs.lemmas.Bool.Decides.{nat_tests}
 use Rattle.std.proofs.lemmas.List.Elements.{All-from_recursion}
+use Rattle.std.proofs.lemmas.List.Sorted.{Contains-permutation, IsPermutation-sym}
 use Rattle.erm_model.specs.Member.{◌∈◌}
 use Rattle.erm_report.specs.declared.answer.Answer.{Answer}
 use Rattle.erm_report.specs.declared.answer.Answer.TheVariants as answer
+use Rattle.erm_report.specs.declared.line.Line.{Line}
 use Rattle.erm_report.specs.declared.line.Line.TheVariants as line
 use Rattle.erm_report.specs.Printable.{FitsTypes}
+use Rattle.erm_script.specs.declared.script.Command.TheVariants as command
 use Rattle.erm_script.specs.declared.script.ScriptLine.{ScriptLine}
 use Rattle.erm_good_report.specs.GoodReport.{answer_lines, fault_line}
 use Rattle.erm_good_report.specs.Opening.{AtOnce, is_before}
-use Rattle.erm_good_report.specs.Phases.{FitsPhase, phase_of}
+use Rattle.erm_good_report.specs.Phases.{FitsPhase, PhasesAgree, phase_of}
 use Rattle.erm_good_report.specs.Refusals.{HasCause, IsInReach}
 use Rattle.erm_good_report.specs.Stamps.{Told, begin_told, stamp_printed}
 use Rattle.erm_good_report.specs.Transactions.{Said, Transaction, said_of}
 use Rattle.erm_good_report.proofs.Parts.{all_pairs_from_test, each_place, pairs_pass, told_from_test, told_pass}
-use Rattle.erm_good_at_once.specs.Cases.{BeginsAgree, BegunAtOneMet, BegunBelowItsOwner, GapIsAllowed, first_opening, lines_with_gap, names, said_met, said_named, script_with_gap}
-use Rattle.erm_good_at_once.specs.CutReports.{IsCutAtOnce, OwesInPart, answered_of, moment_in}
+use Rattle.erm_good_at_once.specs.Cases.{BeginsAgree, BegunAtOneMet, BegunBelowItsOwner, GapIsAllowed, HoleIsRefused, OutOfPhaseIsRefused, first_opening, lines_out_of_phase, lines_with_gap, lines_with_hole, names, said_met, said_named, script_with_gap}
+use Rattle.erm_good_at_once.specs.CutReports.{AreSerial, IsCutAtOnce, OwesInPart, answered_of, less, moment_in}
 
 less_from : (m n : ℕ) → nat_lt m n ≡ true → m < n
 less_from m n pass = grind (arith, nat_tests)
@@ -49,6 +53,13 @@ counts session = cond (session == 2) 1 0
 none_told : (P : Transaction → Type 0) (t : Transaction) → t ∈ [] → P t
 none_told P t (k, at) = cc
 
+-- no commit is told, so there is one order
+serial_of_none : AreSerial first_opening []
+serial_of_none [] sorted = record { run = refl }
+serial_of_none (c ∷ order) sorted =
+    let there : Contains [] c = Contains-permutation (c ∷ order) [] c (IsPermutation-sym [] (c ∷ order) sorted.same) (0, omega arith, refl) in
+    absurd (omega (arith, there.1))
+
 owes : OwesInPart first_opening script_with_gap (answered_of counts script_with_gap) (answer.NoTransaction ∷ []) []
 owes = record {
   phases = record { fits = each_place (λ i l a. FitsPhase (phase_of l.session (take i (said_of (answered_of counts script_with_gap) (answer.NoTransaction ∷ [])))) l.command a) (answered_of counts script_with_gap) (answer.NoTransaction ∷ []) (refl, tt) };
@@ -69,6 +80,7 @@ owes = record {
   };
   rise = record { met = λ i j d less within. absurd (omega arith); named = none_told _ };
   snapshots = none_told _;
+  serial = serial_of_none;
   causes = none_told _;
   refusals = each_place (λ i l a. HasCause (moment_in first_opening script_with_gap (answered_of counts script_with_gap) (answer.NoTransaction ∷ []) [] i l) l.command a) (answered_of counts script_with_gap) (answer.NoTransaction ∷ [])
       (record { own = λ t is. tt; log = tt; unfilled = tt }, tt);
@@ -97,3 +109,77 @@ not_in_turn (a ∷ answers) fault same = cc same
 
 pub gap_is_allowed : GapIsAllowed
 gap_is_allowed = (cut_at_once, λ cut. not_in_turn cut.answers cut.fault cut.lines_ok)
+
+-- ---- reports that are refused
+abbrev first_line : ScriptLine
+first_line = record { line = 1; session = 1; command = command.Begin }
+
+abbrev second_line : ScriptLine
+second_line = record { line = 2; session = 2; command = command.Abort }
+
+abbrev third_line : ScriptLine
+third_line = record { line = 3; session = 1; command = command.Abort }
+
+-- the lines answered, by whether the two sessions have answers
+abbrev answered_by : (ℕ → ℕ) → Bool → Bool → List ScriptLine
+answered_by given one two = if one then first_line ∷ answered_of (less 1 given) (drop 1 script_with_gap)
+    else (if two then second_line ∷ answered_of (less 2 given) (drop 2 script_with_gap) else (if one then third_line ∷ answered_of (less 1 given) [] else []))
+
+of_three : (given : ℕ → ℕ) (b c : Bool) → nat_lt 0 (given 1) ≡ b → nat_lt 0 (given 2) ≡ c → answered_of given script_with_gap ≡ answered_by given b c
+of_three given b c one two = ap (λ (x : Bool). answered_by given x (nat_lt 0 (given 2))) one ∙ ap (λ (y : Bool). answered_by given b y) two
+
+-- which line of the script is answered first
+data AnsweredFirst (given : ℕ → ℕ) : Type 0 where
+  none : answered_of given script_with_gap ≡ [] → AnsweredFirst given
+  first : (ls : List ScriptLine) → answered_of given script_with_gap ≡ first_line ∷ ls → AnsweredFirst given
+  second : (ls : List ScriptLine) → answered_of given script_with_gap ≡ second_line ∷ ls → AnsweredFirst given
+
+answered_first : (given : ℕ → ℕ) → AnsweredFirst given
+answered_first given = by (nat_lt 0 (given 1)) (nat_lt 0 (given 2)) refl refl
+  where
+    by : (b c : Bool) → nat_lt 0 (given 1) ≡ b → nat_lt 0 (given 2) ≡ c → AnsweredFirst given
+    by true c one two = first (answered_of (less 1 given) (drop 1 script_with_gap)) (of_three given true c one two)
+    by false true one two = second (answered_of (less 2 given) (drop 2 script_with_gap)) (of_three given false true one two)
+    by false false one two = none (of_three given false false one two)
+
+-- the lines printed, of the lines answered
+abbrev printed : List ScriptLine → List Answer → List Line
+printed ls answers = line.Open 8 1 ∷ answer_lines ls answers ++ line.DiskFault ∷ []
+
+never_first : (answers : List Answer) (ls : List ScriptLine) → lines_with_hole ≡ printed (first_line ∷ ls) answers → ⊥
+never_first [] ls same = cc same
+never_first (a ∷ answers) ls same = cc same
+
+never_second : (answers : List Answer) (ls : List ScriptLine) → lines_with_hole ≡ printed (second_line ∷ ls) answers → ⊥
+never_second [] ls same = cc same
+never_second (a ∷ answers) ls same = cc same
+
+pub hole_is_refused : HoleIsRefused
+hole_is_refused cut = by (answered_first cut.counts)
+  where
+    by : AnsweredFirst cut.counts → ⊥
+    by (none is) = cc (cut.lines_ok ∙ ap (λ (ls : List ScriptLine). printed ls cut.answers) is)
+    by (first ls is) = never_first cut.answers ls (cut.lines_ok ∙ ap (λ (ls : List ScriptLine). printed ls cut.answers) is)
+    by (second ls is) = never_second cut.answers ls (cut.lines_ok ∙ ap (λ (ls : List ScriptLine). printed ls cut.answers) is)
+
+-- the second line alone is answered so
+not_begun : (answers : List Answer) (ls : List ScriptLine) → lines_out_of_phase ≡ printed (first_line ∷ ls) answers → ⊥
+not_begun [] ls same = cc same
+not_begun (a ∷ answers) ls same = cc same
+
+aborts_so : (answers : List Answer) (ls : List ScriptLine) → lines_out_of_phase ≡ printed (second_line ∷ ls) answers → PhasesAgree (second_line ∷ ls) answers → ⊥
+aborts_so [] ls same phases = cc same
+aborts_so (a ∷ answers) ls same phases =
+    let is : a ≡ answer.Aborted = cc same in
+    let fits : a ≡ answer.NoTransaction = phases.fits 0 second_line a refl refl in
+    let no : answer.Aborted ≡ answer.NoTransaction = sym is ∙ fits in cc
+
+pub out_of_phase_is_refused : OutOfPhaseIsRefused
+out_of_phase_is_refused cut = by (answered_first cut.counts)
+  where
+    by : AnsweredFirst cut.counts → ⊥
+    by (none is) = cc (cut.lines_ok ∙ ap (λ (ls : List ScriptLine). printed ls cut.answers) is)
+    by (first ls is) = not_begun cut.answers ls (cut.lines_ok ∙ ap (λ (ls : List ScriptLine). printed ls cut.answers) is)
+    by (second ls is) =
+        aborts_so cut.answers ls (cut.lines_ok ∙ ap (λ (ls : List ScriptLine). printed ls cut.answers) is)
+        (subst (λ (ls : List ScriptLine). PhasesAgree ls cut.answers) is cut.owes.phases)

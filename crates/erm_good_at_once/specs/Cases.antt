@@ -55,3 +55,17 @@ lines_with_gap = line.Open 8 1 ∷ line.Answer 2 answer.NoTransaction ∷ line.D
 
 abbrev pub GapIsAllowed : Type 0
 GapIsAllowed = IsCutAtOnce first_opening names script_with_gap lines_with_gap × (IsCutReport InTurn first_opening names script_with_gap lines_with_gap → ⊥)
+
+-- a session's second line is answered, and its first one isn't
+abbrev pub lines_with_hole : List Line
+lines_with_hole = line.Open 8 1 ∷ line.Answer 3 answer.NoTransaction ∷ line.DiskFault ∷ []
+
+abbrev pub HoleIsRefused : Type 0
+HoleIsRefused = IsCutAtOnce first_opening names script_with_gap lines_with_hole → ⊥
+
+-- a session without a transaction aborts one
+abbrev pub lines_out_of_phase : List Line
+lines_out_of_phase = line.Open 8 1 ∷ line.Answer 2 answer.Aborted ∷ line.DiskFault ∷ []
+
+abbrev pub OutOfPhaseIsRefused : Type 0
+OutOfPhaseIsRefused = IsCutAtOnce first_opening names script_with_gap lines_out_of_phase → ⊥

@@ -2,8 +2,9 @@
 use Rattle.std.specs.Prelude.{◌≡◌, ◌≢◌, ℕ, ◌-◌, ◌==◌, nat_lt, if◌then◌else◌, List, [], ◌∷◌, ◌++◌, length, Some}
 use Rattle.std.specs.List.{All, AllPairs, slice_get}
 use Rattle.erm_model.specs.declared.outcome.Phase.TheVariants.{Sealed}
-use Rattle.erm_model.specs.Committed.{HasSnapshotReplies}
+use Rattle.erm_model.specs.Committed.{Committed, HasSnapshotReplies, RunsInOrder, rank_of, state_after}
 use Rattle.erm_model.specs.Member.{◌∈◌}
+use Rattle.erm_model.specs.SerialOrder.{IsSerialOrder}
 use Rattle.erm_report.specs.declared.answer.Answer.{Answer}
 use Rattle.erm_report.specs.declared.line.Line.{Line}
 use Rattle.erm_report.specs.declared.line.Line.TheVariants as line
@@ -31,12 +32,18 @@ answered_of counts (l ∷ ls) = if nat_lt 0 (counts l.session) then l ∷ answer
 abbrev pub moment_in : Opening → (whole part : List ScriptLine) → List Answer → List Transaction → ℕ → ScriptLine → Moment
 moment_in opening whole part answers all i l = record (moment_at AtOnce opening part answers all i l) { lines = whole }
 
--- What the answers to a part of a script owe, of the transactions that they tell.
+-- run in each serial order of theirs, the commits told give their replies, from the opening's map on
+abbrev pub AreSerial : Opening → List Transaction → Type 0
+AreSerial opening told = (order : List Committed) → IsSerialOrder rank_of (history_of told) order → RunsInOrder order opening.map (state_after order opening.map)
+
+-- What the answers to a part of a script owe, of the transactions that they tell. No line tells their order; it is that of what they tell of their
+-- windows, where their stamps differ.
 pub record OwesInPart (opening : Opening) (whole part : List ScriptLine) (answers : List Answer) (told : List Transaction) : Type 0 where
   pub phases : PhasesAgree part answers
   pub stamps : StampsAgree AtOnce opening told (said_of part answers)
   pub rise : StampsRise AtOnce told (said_of part answers)
   pub snapshots : (t : Transaction) → t ∈ told → HasSnapshotReplies (history_of told) opening.map t.begin (steps_of t)
+  pub serial : AreSerial opening told
   pub causes : (t : Transaction) → t ∈ told → HasCauseOf t.ending told t
   pub refusals : (i : ℕ) (l : ScriptLine) (a : Answer) → slice_get part i ≡ Some l → slice_get answers i ≡ Some a
       → HasCause (moment_in opening whole part answers told i l) l.command a

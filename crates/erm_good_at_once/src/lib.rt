@@ -4,4 +4,4 @@
 
 mod laws;
 
-pub use laws::{clauses_at_once_are_needed, gaps_are_allowed};
+pub use laws::{bad_cuts_are_refused, clauses_at_once_are_needed, gaps_are_allowed};

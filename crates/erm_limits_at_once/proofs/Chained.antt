@@ -65,7 +65,7 @@ pub knows_run : (seat : ℕ) (p : Progress) (phase : Phase) (v : View) → Knows
 knows_run seat p phase v knows active = active_run seat p.current (v.session seat).stand knows.tells.now active
 
 pub passes_itself : (seat : ℕ) (v : View) → Passes seat v v
-passes_itself seat v = record { own = refl; opening = refl; tail = omega arith; flushed = omega arith }
+passes_itself seat v = record { own = refl; opening = refl; tail = omega arith; flushed = omega arith; given_up = refl }
 
 -- the transaction in progress has claimed no more than its lines may
 abbrev pub ClaimsFew : Progress → Session → Type 0

@@ -24,15 +24,17 @@ use Rattle.erm_world.specs.World.{Finished, IsSession, Session, View, Work, clai
 use Rattle.erm_world.specs.World as world
 use Rattle.erm_maps.specs.Runs.{IsAnswered, IsRunOf}
 use Rattle.erm_good_report.specs.GoodReport.{places_of}
-use Rattle.erm_good_report.specs.Opening.{AtOnce, Opening}
+use Rattle.erm_good_report.specs.Opening.{Opening}
 use Rattle.erm_good_report.specs.Phases.{Closed}
-use Rattle.erm_good_report.specs.Refusals.{HasRefusalCause, IsOwn, claims_of, makes_of, moment_at, total_of}
+use Rattle.erm_good_report.specs.Refusals.{HasRefusalCause, IsOwn, claims_of, makes_of, total_of}
 use Rattle.erm_good_report.specs.Transactions.{Said, Transaction, nothing, progress_of, said_of, transactions_of, with_line}
+use Rattle.erm_good_at_once.specs.CutReports.{moment_in}
 use Rattle.erm_lines.specs.Executions.{IsOpeningOf, count_rows}
 use Rattle.erm_lines.specs.Told.{Continues}
 use Rattle.erm_beside.specs.Calls.{After, RefusedBeside}
 use Rattle.erm_beside.specs.Ends.{MetBeside}
-use Rattle.erm_lines_at_once.specs.Executions.{IsRunAtOnce, all_moves}
+use Rattle.erm_lines_at_once.specs.Executions.{all_moves}
+use Rattle.erm_lines_at_once.specs.Parts.{IsRunInPart}
 use Rattle.erm_told.proofs.Executed.{still_session}
 use Rattle.erm_told.proofs.Going.{continues_itself}
 use Rattle.erm_told_at_once.proofs.Runs.{all_say, at_first, close_of}
@@ -48,7 +50,7 @@ use Rattle.erm_told_limits.proofs.Looks.{reads_line}
 use Rattle.erm_told_limits.proofs.Moved.{mades_in}
 use Rattle.erm_told_limits.proofs.Pigeons.{Has, filled, has_first, has_made, has_reached, has_read, has_second, length_filled, length_roots, made_few, oids_read, read_before, read_few, roots}
 use Rattle.erm_told_limits.proofs.Totals.{all_made, length_all, mades_by_all, times_all, total_upto}
-use Rattle.erm_limits_at_once.specs.Laws.{IsFull}
+use Rattle.erm_told_limits.specs.Limits.{IsFull}
 use Rattle.erm_limits_at_once.proofs.Chained.{Few, few_idle, run_counts}
 use Rattle.erm_limits_at_once.proofs.Looked.{named_kind}
 use Rattle.erm_limits_at_once.proofs.Placed.{LineCounts, line_counts}
@@ -128,7 +130,7 @@ asked_few rs oid ys apart none wanted all = read_few rs oid ys apart none (λ q 
 
 module _ (laws : Laws) (zeros : (rows : Rows) (x : ℕ) → IsSound rows → TABLES ≤ x → rows x ≡ replicate ROW_WORDS 0 → reached rows x ≡ 0) (begun : (number begin : ℕ) → IsRunOf (world.begun number begin) [])
     (stay : (w u : Work) (steps : List Step) → Extends w u → IsAnswered w steps → IsAnswered u steps)
-    (v f : View) (script : List ScriptLine) (answers : List Answer) (closed : List Closed) (run : IsRunAtOnce v script answers closed f) where
+    (v f : View) (whole script : List ScriptLine) (answers : List Answer) (closed : List Closed) (run : IsRunInPart v whole script answers closed f) where
   abbrev said : List Said
   said = places_of script answers closed
 
@@ -150,7 +152,7 @@ module _ (laws : Laws) (zeros : (rows : Rows) (x : ℕ) → IsSound rows → TAB
       let part = run.own seat session in
       let range = lines_range script answers (map close_of closed) run.ranges (closes_range closed) in
       let all = run_counts laws begun stay f seat (still_session v f seat run.opening session) run.ends.serializable (all_moves script answers closed) nothing Idle v part.last part.run range
-      (goes_last seat session) (at_first begun stay v f script answers closed run seat session) (few_first seat session) in
+      (goes_last seat session) (at_first begun stay v f whole script answers closed run seat session) (few_first seat session) in
       let first = none_first seat session in
       let says = all_say script answers closed in (
         omega (arith, all.mades, first.0, ap (λ (s : Session). mades_in s) part.ends, ap (λ (list : List Said). own_total makes_of seat list) says),
@@ -189,7 +191,7 @@ module _ (laws : Laws) (zeros : (rows : Rows) (x : ℕ) → IsSound rows → TAB
     abbrev there : LineCounts laws begun stay f l.session in_f run.ends.serializable script answers (all_moves script answers closed) nothing v (run.own l.session session).last i l a
     there = line_counts laws begun stay f l.session in_f run.ends.serializable script answers (map close_of closed) nothing Idle v (run.own l.session session).last i l a (run.own l.session session).run
         (lines_range script answers (map close_of closed) run.ranges (closes_range closed)) (λ k j found. run.ranges k (j, found)) (goes_last l.session session)
-        (at_first begun stay v f script answers closed run l.session session) (few_first l.session session) refl at answered
+        (at_first begun stay v f whole script answers closed run l.session session) (few_first l.session session) refl at answered
 
     module _ (why : RowStop) (stays : ends why ≡ false) (stopping : IsStop a) (is : stop_in a ≡ Some why) where
       here : Stopped f l.session l.command a there.before there.after
@@ -249,7 +251,7 @@ module _ (laws : Laws) (zeros : (rows : Rows) (x : ℕ) → IsSound rows → TAB
       reads_apart : Apart (work_at (room stop.ReadsFull refl stopping is).at l.session).reads
       reads_apart = no_more.moved.now.apart there.few.apart
 
-      reads_cause : READ_LIMIT < TABLES + count_rows v.opening.rows + total_of makes_of script
+      reads_cause : READ_LIMIT < TABLES + count_rows v.opening.rows + total_of makes_of whole
       reads_cause =
           let what = reads_at l.session no_more.asked no_more.at there.after no_more.refused in
           let most : length read_now + 1 ≤ length there_may_be =
@@ -258,7 +260,7 @@ module _ (laws : Laws) (zeros : (rows : Rows) (x : ℕ) → IsSound rows → TAB
           let parts = length-append (roots ++ filled f.opening.rows) (all_made f) in
           let front = length-append roots (filled f.opening.rows) in
           let rows : count_rows f.opening.rows ≡ count_rows v.opening.rows = ap (λ (o : world.Opening). count_rows o.rows) run.opening in
-          omega (arith, most, what.3, parts, front, length_roots, length_filled f.opening.rows, length_all f, mades_few, rows)
+          omega (arith, most, what.3, parts, front, length_roots, length_filled f.opening.rows, length_all f, mades_few, rows, run.counts makes_of)
 
       own_reads : (u : Transaction) → (progress_of l.session (take i (said_of script answers))).current ≡ Some u → READ_LIMIT < may_read (with_line (Some l.command) a u)
       own_reads u current =
@@ -296,15 +298,15 @@ module _ (laws : Laws) (zeros : (rows : Rows) (x : ℕ) → IsSound rows → TAB
         omega (arith, what.2, r.moved.now.claimed, less, there.few.claims u current, counts)
 
     -- cells
-    cells_cause : (drawn : ℕ) (stopping : IsStop a) → stop_in a ≡ Some (stop.CellsFull drawn) → IsJustAbove v.opening.cells drawn × (v.opening.cells < OID_LIMIT + total_of claims_of script)
+    cells_cause : (drawn : ℕ) (stopping : IsStop a) → stop_in a ≡ Some (stop.CellsFull drawn) → IsJustAbove v.opening.cells drawn × (v.opening.cells < OID_LIMIT + total_of claims_of whole)
     cells_cause drawn stopping is =
         let r = room (stop.CellsFull drawn) refl stopping is in
         let what = cells_at f l.session drawn r.asked r.at there.after r.refused r.met in
         let cells : f.opening.cells ≡ v.opening.cells = ap (λ (o : world.Opening). o.cells) run.opening in
-        (subst (λ (limit : ℕ). IsJustAbove limit drawn) cells what.2, omega (arith, cells, what.3, claims_less (stop.CellsFull drawn) refl stopping is what.0 what.1))
+        (subst (λ (limit : ℕ). IsJustAbove limit drawn) cells what.2, omega (arith, cells, what.3, claims_less (stop.CellsFull drawn) refl stopping is what.0 what.1, run.counts claims_of))
 
     -- objects
-    oids_cause : (drawn : ℕ) (stopping : IsStop a) → stop_in a ≡ Some (stop.OidsFull drawn) → IsJustAbove OID_LIMIT drawn × (OID_LIMIT < v.opening.first + total_of makes_of script)
+    oids_cause : (drawn : ℕ) (stopping : IsStop a) → stop_in a ≡ Some (stop.OidsFull drawn) → IsJustAbove OID_LIMIT drawn × (OID_LIMIT < v.opening.first + total_of makes_of whole)
     oids_cause drawn stopping is =
         let r = room (stop.OidsFull drawn) refl stopping is in
         let what = oids_at f l.session drawn r.asked r.at there.after r.refused r.met in
@@ -312,12 +314,12 @@ module _ (laws : Laws) (zeros : (rows : Rows) (x : ℕ) → IsSound rows → TAB
         let most : OID_LIMIT ≤ v.opening.first + length (all_made f) =
         made_few v.opening.first OID_LIMIT (all_made f)
         (λ q above below. has_made (all_made f) q (let some = what.2 q (omega (arith, first, above)) below in omega (arith, some, times_all f q))) in
-        (what.1, omega (arith, most, length_all f, mades_less (stop.OidsFull drawn) refl stopping is what.0))
+        (what.1, omega (arith, most, length_all f, mades_less (stop.OidsFull drawn) refl stopping is what.0, run.counts makes_of))
 
   -- EACH SUCH ANSWER
   pub for_room : (opening : Opening) → IsOpeningOf v opening → (i : ℕ) (l : ScriptLine) (a : Answer) → slice_get script i ≡ Some l → slice_get answers i ≡ Some a → IsFull a
-      → (t : Transaction) → IsOwn (moment_at AtOnce opening script answers (transactions_of v.opening.sessions said) i l) l.command a t
-      → HasRefusalCause (moment_at AtOnce opening script answers (transactions_of v.opening.sessions said) i l) l.command t a
+      → (t : Transaction) → IsOwn (moment_in opening whole script answers (transactions_of v.opening.sessions said) i l) l.command a t
+      → HasRefusalCause (moment_in opening whole script answers (transactions_of v.opening.sessions said) i l) l.command t a
   for_room opening of i l answer.ReadsFull at answered full t own =
       let most = reads_cause i l answer.ReadsFull at answered tt refl in
       let own_most = own_reads i l answer.ReadsFull at answered tt refl own.0 own.1 in

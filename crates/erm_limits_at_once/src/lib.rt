@@ -2,12 +2,11 @@
 //! contract of a function that does nothing.
 #![tactic(auto)]
 
-ghost use Rattle.erm_limits_at_once.specs.Laws.{RunsAtOnceRefuseForRoom};
+ghost use Rattle.erm_limits_at_once.specs.Laws.{RunsAtOnceRefuseForRoom, RunsInPartRefuseForRoom};
 
-/// Each answer to a line that had no room has its cause in the script: for claims in the transaction's own lines so far, for reads in
-/// these and in the objects that there may be, for cells and objects in the lines of all sessions.
-pub fn runs_at_once_refuse_for_room()
-    ensures { RunsAtOnceRefuseForRoom }
+/// Of an execution that is told in part: each answer to a line that had no room has its cause in the whole script.
+pub fn runs_in_part_refuse_for_room()
+    ensures { RunsInPartRefuseForRoom }
 {
     erm_core_ssn::rows_run_serially();
     erm_core_ssn::serial_order_is_unique();
@@ -17,4 +16,12 @@ pub fn runs_at_once_refuse_for_room()
     erm_tree::calls_stay_in_their_table();
     erm_maps::begun_transactions_are_runs();
     erm_maps::answers_stay();
+}
+
+/// Each answer to a line that had no room has its cause in the script: for claims in the transaction's own lines so far, for reads in
+/// these and in the objects that there may be, for cells and objects in the lines of all sessions.
+pub fn runs_at_once_refuse_for_room()
+    ensures { RunsAtOnceRefuseForRoom }
+{
+    runs_in_part_refuse_for_room();
 }

@@ -130,6 +130,7 @@ pub record IsOpened (v : View) : Type 0 where
   pub tail : v.tail ≡ v.opening.tail
   pub flushed : v.flushed ≡ v.opening.tail
   pub pinned : v.pinned ≡ None
+  pub given_up : (seat : ℕ) → v.given_up seat ≡ []
   pub serializable : IsSerializable sound_law v
 
 -- An execution of a script, of no more lines than a session may have transactions, whose commands are in range: the answers are those of its lines, one for each, and then all sessions are closed.

@@ -19,13 +19,14 @@ use Rattle.erm_world.proofs.Commits.{tells_commits}
 use Rattle.erm_world.proofs.Works.{Moves}
 use Rattle.erm_beside.specs.Face.{AnsweredAfter, beside_face}
 use Rattle.erm_beside.specs.Laws.{IsSound}
+use Rattle.erm_beside.proofs.Given.{given_after}
 
 -- a session that has done nothing
 abbrev pub unused : Session
 unused = record { over = []; stand = world.idle }
 
 abbrev pub alone_of : ℕ → Opening → Session → View
-alone_of seat opening s = record { opening = opening; session = λ q. cond (q == seat) s unused; tail = 0; flushed = 0; pinned = None }
+alone_of seat opening s = record { opening = opening; session = λ q. cond (q == seat) s unused; tail = 0; flushed = 0; pinned = None; given_up = λ q. [] }
 
 -- the world in which this session alone has done anything
 abbrev pub alone : ℕ → View → View
@@ -52,6 +53,7 @@ alone_becomes seat s v t now = record {
   tail = refl;
   flushed = refl;
   pinned = refl;
+  given_up = refl;
 }
 
 -- its work became what this makes of it
@@ -168,6 +170,12 @@ module _ {S : Type 0} (law : Law) (own : S → View) (seat : S → ℕ) (stands 
   pub runs_alone : (events : List Event) (s t : S) → Runs Shared s events t → Runs Alone s events t
   runs_alone [] s t is = is
   runs_alone (event ∷ events) s t (u, step, rest) = (u, steps_alone s u event step, runs_alone events u t rest)
+
+  -- events in turn give no claim up
+  pub given_along : (events : List Event) (s t : S) → Runs Shared s events t → (own t).given_up (seat s) ≡ (own s).given_up (seat s)
+  given_along [] s t is = ap (λ (x : S). (own x).given_up (seat s)) is
+  given_along (event ∷ events) s t (u, step, rest) =
+      subst (λ (q : ℕ). (own t).given_up q ≡ (own u).given_up q) step.answered.0.seat_is (given_along events u t rest) ∙ given_after (seat s) event (own s) (own u) step.answered.1
 
   pub goes_alone : (events : List Event) (s t : S) → GoesOn Shared s events t → GoesOn Alone s events t
   goes_alone events s t goes = record { runs = runs_alone events s t goes.runs; active = active_alone t goes.active; possible = possible_alone t goes.possible }

@@ -8,7 +8,7 @@ use Rattle.erm_model.specs.declared.row_stop.RowStop.{RowStop}
 use Rattle.erm_model.specs.declared.row_stop.RowStop.TheVariants as stop
 use Rattle.erm_model.specs.Database.{AreFound, IsNextAt, at, value_at}
 use Rattle.erm_model.specs.Rows.{Rows}
-use Rattle.erm_model.specs.RowTransaction.{Agrees, Asked, Does, Event, Face, IsRefused, IsStopped, Law, SameLaw, StopsClaim, StopsRead, WritesNothing, asked_claim, asked_make, asked_read, did_claim}
+use Rattle.erm_model.specs.RowTransaction.{Agrees, Asked, Does, Event, Face, IsRefused, IsStopped, Law, Runs, SameLaw, StopsClaim, StopsRead, WritesNothing, asked_claim, asked_make, asked_read, did_claim}
 use Rattle.erm_model.specs.RowTransaction as rows
 use Rattle.erm_model.specs.Run.{Step}
 use Rattle.erm_model.proofs.RowCalls.{WritesNothing-OnlyReads}
@@ -43,9 +43,10 @@ use Rattle.erm_beside.specs.Ends.{MetBeside}
 use Rattle.erm_beside.specs.Face.{beside_face}
 use Rattle.erm_beside.specs.Laws.{IsSound}
 use Rattle.erm_beside.specs.Onward.{beside_then, onward_then}
+use Rattle.erm_beside.proofs.Given.{given_after}
 use Rattle.erm_beside.proofs.Txns.{Stopped, stopped_after}
 use Rattle.erm_lines_at_once.specs.Operations.{Beside, IsNamed, TriedOnce, WereCutBeside, told_at_once}
-use Rattle.erm_lines_at_once.proofs.Alone.{Alone, alone_own, did_alone, does_alone, runs_alone, saw_alone, stays_alone, view, view_at, work_there}
+use Rattle.erm_lines_at_once.proofs.Alone.{Alone, alone_own, did_alone, does_alone, given_along, runs_alone, saw_alone, stays_alone, view, view_at, work_there}
 
 -- what a look for the record asks for, a del does too
 asks_del : (table key : ℕ) (events : List Event) (array : Rows) (asked : Asked) → AsksReads (IsOnWay table key) events array asked → AsksDel table key events array asked
@@ -107,8 +108,14 @@ module _ {S : Type 0} (law : Law) (own : S → View) (seat : S → ℕ) (stands 
   stop_there s t is =
       sym (ap (λ (x : View). x.session (seat s)) (view_at law own seat stands may one sound s t is) ∙ alone_own (seat s) (own t))
 
-  beside : (Did : View → View → Type 0) (s t : S) → face.follows s t → Did (alone_view s) (alone_view t) → Beside (seat s) Did (own s) (own t)
-  beside Did s t goes did = record {
+  abbrev GaveNothing : S → S → Type 0
+  GaveNothing s t = (own t).given_up (seat s) ≡ (own s).given_up (seat s)
+
+  given : (events : List Event) (s t : S) → Runs face s events t → GaveNothing s t
+  given events s t runs = given_along law own seat stands may one sound events s t runs
+
+  beside : (Did : View → View → Type 0) (s t : S) → face.follows s t → GaveNothing s t → Did (alone_view s) (alone_view t) → Beside (seat s) Did (own s) (own t)
+  beside Did s t goes gave did = record {
     from = alone_view s;
     to = alone_view t;
     starts = alone_own (seat s) (own s);
@@ -117,6 +124,7 @@ module _ {S : Type 0} (law : Law) (own : S → View) (seat : S → ℕ) (stands 
     opening = goes.3.opening;
     tail = goes.3.tail;
     flushed = goes.3.flushed;
+    given_up = gave;
   }
 
   -- ANSWERED
@@ -125,7 +133,7 @@ module _ {S : Type 0} (law : Law) (own : S → View) (seat : S → ℕ) (stands 
   got f s t table key value did =
       let there = saw_alone law own seat stands may one sound (IsSought table key) (λ rows. value ≡ value_at (map_of_rows rows) table key) s t did in
       let was = get_ok law alone_view seat stands any same are_runs s t table key value there in
-      (tt, (was.did.0, was.did.1, beside (λ u w. DidCalls u (seat s) _ (WholeOf (command.Get table key) (answer.Replied (reply.Value value))) w) s t did.saw.follows was.did.2))
+      (tt, (was.did.0, was.did.1, beside (λ u w. DidCalls u (seat s) _ (WholeOf (command.Get table key) (answer.Replied (reply.Value value))) w) s t did.saw.follows (given did.saw.events s t did.saw.goes_on.runs) was.did.2))
 
   pub found_next : (f : View) (s t : S) (table from : ℕ) (found : Option (ℕ × List ℕ))
       → SawIn face (λ rows x. IsMetIn rows table from (last_sought (2 ^ 64) found) x) s t (λ rows. IsNextAt (map_of_rows rows) table from found)
@@ -133,7 +141,7 @@ module _ {S : Type 0} (law : Law) (own : S → View) (seat : S → ℕ) (stands 
   found_next f s t table from found did =
       let there = saw_alone law own seat stands may one sound (λ rows x. IsMetIn rows table from (last_sought (2 ^ 64) found) x) (λ rows. IsNextAt (map_of_rows rows) table from found) s t did in
       let was = next_ok law alone_view seat stands any same are_runs s t table from found there in
-      (tt, (was.did.0, was.did.1, beside (λ u w. DidCalls u (seat s) _ (WholeOf (command.Next table from) (answer.Replied (reply.Pair found))) w) s t did.saw.follows was.did.2))
+      (tt, (was.did.0, was.did.1, beside (λ u w. DidCalls u (seat s) _ (WholeOf (command.Next table from) (answer.Replied (reply.Pair found))) w) s t did.saw.follows (given did.saw.events s t did.saw.goes_on.runs) was.did.2))
 
   pub did_put : (f : View) (s t : S) (table key : ℕ) (value : List ℕ)
       → DidBy face (λ rows events. IsPut rows table key (value_row value) events) s t (λ old new. map_of_rows new ≡ insert (map_of_rows old) (at table key) value)
@@ -141,7 +149,7 @@ module _ {S : Type 0} (law : Law) (own : S → View) (seat : S → ℕ) (stands 
   did_put f s t table key value did =
       let there = did_alone law own seat stands may one sound (λ rows events. IsPut rows table key (value_row value) events) (λ old new. map_of_rows new ≡ insert (map_of_rows old) (at table key) value) s t did in
       let was = put_ok law alone_view seat stands any same are_runs s t table key value there in
-      (tt, (was.did.0, was.did.1, beside (λ u w. DidCalls u (seat s) _ (WholeOf (command.Put table key value) (answer.Replied reply.Done)) w) s t did.did.follows was.did.2))
+      (tt, (was.did.0, was.did.1, beside (λ u w. DidCalls u (seat s) _ (WholeOf (command.Put table key value) (answer.Replied reply.Done)) w) s t did.did.follows (given did.did.events s t did.did.goes_on.runs) was.did.2))
 
   pub did_del : (f : View) (s t : S) (table key : ℕ)
       → DidBy face (λ rows events. IsDel rows table key absent_row events) s t (λ old new. map_of_rows new ≡ remove (map_of_rows old) (at table key))
@@ -149,7 +157,7 @@ module _ {S : Type 0} (law : Law) (own : S → View) (seat : S → ℕ) (stands 
   did_del f s t table key did =
       let there = did_alone law own seat stands may one sound (λ rows events. IsDel rows table key absent_row events) (λ old new. map_of_rows new ≡ remove (map_of_rows old) (at table key)) s t did in
       let was = del_ok law alone_view seat stands any same are_runs s t table key there in
-      (tt, (was.did.0, was.did.1, beside (λ u w. DidCalls u (seat s) _ (WholeOf (command.Del table key) (answer.Replied reply.Done)) w) s t did.did.follows was.did.2))
+      (tt, (was.did.0, was.did.1, beside (λ u w. DidCalls u (seat s) _ (WholeOf (command.Del table key) (answer.Replied reply.Done)) w) s t did.did.follows (given did.did.events s t did.did.goes_on.runs) was.did.2))
 
   run_there : (s : S) (before : List Step) → IsRunOf (work_at (own s) (seat s)) before → IsRunOf (work_at (alone_view s) (seat s)) before
   run_there s before run = subst (λ (w : Work). IsRunOf w before) (sym (work_there law own seat stands may one sound s)) run
@@ -160,7 +168,7 @@ module _ {S : Type 0} (law : Law) (own : S → View) (seat : S → ℕ) (stands 
       let did : SawIn face (IsMetByScan table low high) s t (λ array. AreFound (map_of_rows array) table low high found) = IfOk-at_ok (Scanned face table low high s t) is was in
       let there = saw_alone law own seat stands may one sound (IsMetByScan table low high) (λ array. AreFound (map_of_rows array) table low high found) s t did in
       let answered = scan_ok law alone_view seat stands any same are_runs s t table low high found (Ok found) (lawful_before law alone_view seat stands any same s before (run_there s before run)) refl there in
-      (tt, (answered.did.0, answered.did.1, beside (λ u w. DidCalls u (seat s) _ (WholeOf (command.Scan table low high) (answer.Replied (reply.Found found))) w) s t did.saw.follows answered.did.2))
+      (tt, (answered.did.0, answered.did.1, beside (λ u w. DidCalls u (seat s) _ (WholeOf (command.Scan table low high) (answer.Replied (reply.Found found))) w) s t did.saw.follows (given did.saw.events s t did.saw.goes_on.runs) answered.did.2))
 
   -- TIDIED
   abbrev pub FoundOf : ℕ → ℕ → S → S → Option ℕ → Type 0
@@ -171,20 +179,23 @@ module _ {S : Type 0} (law : Law) (own : S → View) (seat : S → ℕ) (stands 
       let did = subst (FoundOf table key s t) is look in
       let there = saw_alone law own seat stands may one sound (IsOnWay table key) (λ array. None ≡ record_in array table key) s t did in
       let was = tidy_none law alone_view seat stands any same are_runs s t table key None (λ a b saw. Stutters-saw alone_face a b (λ array. None ≡ record_in array table key) saw.saw) refl there in
-      (tt, (was.did.0, omega arith, beside (λ u w. DidCalls u (seat s) [] (WholeOf (command.Tidy table key) (answer.Cut 0)) w) s t did.saw.follows was.did.2))
+      (tt, (was.did.0, omega arith, beside (λ u w. DidCalls u (seat s) [] (WholeOf (command.Tidy table key) (answer.Cut 0)) w) s t did.saw.follows (given did.saw.events s t did.saw.goes_on.runs) was.did.2))
 
   pub tidied_some : (f : View) (s u t : S) (table key oid : ℕ) (found : Option ℕ) (cells : ℕ) → found ≡ Some oid → FoundOf table key s u found → cells ≤ (own u).opening.cuts
       → Does face u (did_claim oid) t → TriedOnce f (seat s) (command.Tidy table key) (Some (answer.Cut cells)) (own s) (own t)
   tidied_some f s u t table key oid found cells is look few does =
       let did = subst (FoundOf table key s u) is look in
       let there = saw_alone law own seat stands may one sound (IsOnWay table key) (λ array. Some oid ≡ record_in array table key) s u did in
+      let claimed : (own t).given_up (seat s) ≡ (own u).given_up (seat s) =
+      subst (λ (q : ℕ). (own t).given_up q ≡ (own u).given_up q) did.saw.follows.2.seat_is (given_after (seat u) (did_claim oid) (own u) (own t) does.step.answered.1) in
+      let gave : GaveNothing s t = claimed ∙ given did.saw.events s u did.saw.goes_on.runs in
       let was = tidy_some law alone_view seat stands any same are_runs s u t table key oid (Some oid) (λ a b saw. Stutters-saw alone_face a b (λ array. Some oid ≡ record_in array table key) saw.saw) refl there
       cells few (Stutters-does alone_face (did_claim oid) tt) (does_alone law own seat stands may one sound (did_claim oid) u t does) in (
         tt,
         (
           was.did.0,
           omega (arith, few, ap (λ (o : Opening). o.cuts) did.saw.follows.3.opening),
-          beside (λ x w. DidCalls x (seat s) [] (WholeOf (command.Tidy table key) (answer.Cut cells)) w) s t (goes_then s u t did.saw.follows does.follows) was.did.2,
+          beside (λ x w. DidCalls x (seat s) [] (WholeOf (command.Tidy table key) (answer.Cut cells)) w) s t (goes_then s u t did.saw.follows does.follows) gave was.did.2,
         ),
       )
 
@@ -221,7 +232,7 @@ module _ {S : Type 0} (law : Law) (own : S → View) (seat : S → ℕ) (stands 
         let es = stopped.events in record {
           events = es;
           at = own stopped.at;
-          ran = beside (λ u w. Ran u (seat s) es w) s stopped.at stopped.follows
+          ran = beside (λ u w. Ran u (seat s) es w) s stopped.at stopped.follows (given es s stopped.at stopped.goes_on.runs)
               (ran law alone_view seat stands any same es s stopped.at (runs_alone law own seat stands may one sound es s stopped.at stopped.goes_on.runs));
           none = none es stopped.of_kind;
           of = λ array sound_array agrees. fronts es stopped.of_kind array ((same.meets array).1 sound_array) (tells_as law same es array array agrees);

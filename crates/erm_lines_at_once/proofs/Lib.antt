@@ -1,4 +1,5 @@
 pub mod Alone
 pub mod Bridged
 pub mod Opened
+pub mod Parts
 pub mod Receipts

@@ -42,12 +42,13 @@ IsOwnRun f seat v (move ∷ moves) t = (u : View) × (w : View) × Passes seat v
 abbrev pub all_moves : List ScriptLine → List Answer → List Closed → List Move
 all_moves script answers closed = line_moves script answers ++ map (λ c. close c.session c.answer) closed
 
--- the part of a session in an execution: by its own moves it comes to stand as in the world in which all end, and the log hasn't come further than
--- in that
+-- the part of a session in an execution: by its own moves it comes to stand as in the world in which all end, with the claims given up that it has
+-- there, and the log hasn't come further than in that
 pub record IsOwnPart (f : View) (seat : ℕ) (v : View) (moves : List Move) : Type 0 where
   pub last : View
   pub run : IsOwnRun f seat v moves last
   pub ends : last.session seat ≡ f.session seat
+  pub given_up : last.given_up seat ≡ f.given_up seat
   pub within : (last.tail ≤ f.tail) × (last.flushed ≤ f.flushed)
 
 -- An execution of a script, of no more lines than a session may have transactions, whose commands are in range and whose lines are those of

@@ -1,8 +1,7 @@
 -- What executions at once owe: the laws, as statements.
 use Rattle.std.specs.Prelude.{ℕ, List}
-use Rattle.erm_model.specs.Committed.{Committed, HasSnapshotReplies, RunsInOrder, rank_of, state_after}
+use Rattle.erm_model.specs.Committed.{HasSnapshotReplies}
 use Rattle.erm_model.specs.Member.{◌∈◌}
-use Rattle.erm_model.specs.SerialOrder.{IsSerialOrder}
 use Rattle.erm_report.specs.declared.answer.Answer.{Answer}
 use Rattle.erm_script.specs.declared.script.ScriptLine.{ScriptLine}
 use Rattle.erm_world.specs.World.{IsSession, View}
@@ -11,6 +10,7 @@ use Rattle.erm_good_report.specs.Opening.{AtOnce, Opening}
 use Rattle.erm_good_report.specs.Phases.{Closed, ClosesAgree, PhasesAgree}
 use Rattle.erm_good_report.specs.Stamps.{StampsAgree}
 use Rattle.erm_good_report.specs.Transactions.{Transaction, history_of, progress_of, said_of, steps_of, transactions_of}
+use Rattle.erm_good_at_once.specs.CutReports.{AreSerial}
 use Rattle.erm_good_at_once.specs.Rising.{StampsRise}
 use Rattle.erm_lines.specs.Executions.{IsOpeningOf}
 use Rattle.erm_lines.specs.Told.{Tells}
@@ -45,5 +45,4 @@ RunsAtOnceHaveSnapshots = OfRunsAtOnce (λ opening script answers closed told.
 
 -- run in the serial order, the commits told give their replies, from the opening's map on
 abbrev pub RunsAtOnceAreSerial : Type 0
-RunsAtOnceAreSerial = OfRunsAtOnce (λ opening script answers closed told. (order : List Committed) → IsSerialOrder rank_of (history_of told) order
-    → RunsInOrder order opening.map (state_after order opening.map))
+RunsAtOnceAreSerial = OfRunsAtOnce (λ opening script answers closed told. AreSerial opening told)

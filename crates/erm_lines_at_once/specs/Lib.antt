@@ -1,5 +1,7 @@
 pub mod Answers
+pub mod CutRuns
 pub mod Ends
 pub mod Executions
 pub mod Laws
 pub mod Operations
+pub mod Parts

@@ -31,6 +31,7 @@ pub record Beside (seat : ℕ) (Did : View → View → Type 0) (v t : View) : T
   pub opening : t.opening ≡ v.opening
   pub tail : v.tail ≤ t.tail
   pub flushed : v.flushed ≤ t.flushed
+  pub given_up : t.given_up seat ≡ v.given_up seat
 
 -- Calls were answered, and then one was refused: the events before it set no row and are of a kind, what it asked for too, on each sound array
 -- that agrees with them; what it met of others is so of the world in which all end; where the refusal doesn't end the transaction, this is the

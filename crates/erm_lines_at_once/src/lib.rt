@@ -7,5 +7,5 @@ mod laws;
 mod operations;
 
 pub use calls::{abort, begin, decide, seal, try_durable};
-pub use laws::empty_scripts_run_at_once;
+pub use laws::{empty_scripts_run_at_once, scripts_may_be_cut_off_at_once};
 pub use operations::{del, get, next, put, scan, tidy};

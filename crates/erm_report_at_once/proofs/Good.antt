@@ -16,7 +16,7 @@ use Rattle.erm_good_at_once.specs.Rising.{StampsRise}
 use Rattle.erm_lines.specs.Executions.{IsOpeningOf}
 use Rattle.erm_lines_at_once.specs.Executions.{IsRunAtOnce}
 use Rattle.erm_lines_at_once.specs.Laws.{RunsAtOnceAreSerial, RunsAtOnceCloseSessions}
-use Rattle.erm_log_run.proofs.Differing.{stamps_differ}
+use Rattle.erm_told.proofs.Differing.{stamps_differ}
 use Rattle.erm_owes_at_once.specs.Laws.{RunsAtOnceOwe}
 use Rattle.erm_summary.specs.Summary.{SummariesAreGood, Summarizes}
 use Rattle.erm_tight_at_once.specs.Laws.{RunsAtOnceHaveTightWindows}
@@ -56,7 +56,7 @@ report_well closes serial owe summaries v f script opening names lines of many w
 
 -- with its windows
 pub are_good : RunsAtOnceReportWell → RunsAtOnceHaveTightWindows → RunsAtOnceAreGood
-are_good well windows v f script opening names lines of many was claims fits =
+are_good well windows v f script opening names lines of many was fits =
     let it = well v f script opening names lines of many was fits in record {
       good = it.good;
       rise = it.rise;
@@ -64,5 +64,5 @@ are_good well windows v f script opening names lines of many was claims fits =
           subst (λ (cs : List Closed). HaveTightWindows (transactions_of (length names) (places_of script it.good.report.answers cs))) (sym it.closed_are)
           (subst (λ (given : List Answer). HaveTightWindows (transactions_of (length names) (places_of script given was.closed))) (sym it.answers_are)
           (subst (λ (n : ℕ). HaveTightWindows (transactions_of n (places_of script was.answers was.closed))) many
-          (windows v f script was.answers was.closed was.run claims)));
+          (windows v f script was.answers was.closed was.run)));
     }

@@ -15,7 +15,6 @@ use Rattle.erm_good_at_once.specs.Rising.{StampsRise}
 use Rattle.erm_lines.specs.Executions.{IsOpeningOf}
 use Rattle.erm_lines_at_once.specs.Executions.{IsRunAtOnce}
 use Rattle.erm_summary.specs.Summary.{Summarizes}
-use Rattle.erm_tight_at_once.specs.Laws.{ClaimsStandAlone}
 
 -- Lines tell of an execution at once: of its answers, and of the sessions that were closed.
 pub record TellsAtOnce (v f : View) (opening : Opening) (names : List (List ℕ)) (script : List ScriptLine) (lines : List Line) : Type 0 where
@@ -36,7 +35,7 @@ abbrev pub RunsAtOnceReportWell : Type 0
 RunsAtOnceReportWell = (v f : View) (script : List ScriptLine) (opening : Opening) (names : List (List ℕ)) (lines : List Line) → IsOpeningOf v opening → v.opening.sessions ≡ length names
     → (was : TellsAtOnce v f opening names script lines) → All FitsTypes lines → IsGoodOf opening names script was.answers was.closed lines
 
--- And where the claims of excluded transactions stood alone, it is good in full: its windows are tight.
+-- They are good in full: their windows are tight.
 abbrev pub RunsAtOnceAreGood : Type 0
 RunsAtOnceAreGood = (v f : View) (script : List ScriptLine) (opening : Opening) (names : List (List ℕ)) (lines : List Line) → IsOpeningOf v opening → v.opening.sessions ≡ length names
-    → TellsAtOnce v f opening names script lines → ClaimsStandAlone f → All FitsTypes lines → IsGoodAtOnce opening names script lines
+    → TellsAtOnce v f opening names script lines → All FitsTypes lines → IsGoodAtOnce opening names script lines

@@ -14,8 +14,7 @@ pub fn runs_at_once_report_well()
     erm_summary::summaries_are_good();
 }
 
-/// Where no commit made a version of what an excluded transaction had claimed, from its begin up to its stamp, they are a good report of
-/// sessions at once in full, with tight windows.
+/// They are a good report of sessions at once in full, with tight windows.
 pub fn runs_at_once_are_good()
     ensures { RunsAtOnceAreGood }
 {

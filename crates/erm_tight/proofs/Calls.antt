@@ -20,10 +20,11 @@ use Rattle.erm_tree.proofs.Records.{record_in-same}
 use Rattle.erm_tree.proofs.Runs.{objects_for-some}
 use Rattle.erm_told_limits.proofs.Ran.{AreReading}
 use Rattle.erm_tight.proofs.Alike.{AreWriting, SameBut, after_alike, other_row, own_row, reads_or_not, unwritten, writes_claim, writes_or_not}
-use Rattle.erm_tight.proofs.Claims.{change_claims, split_claims}
+use Rattle.erm_tight.proofs.Claims.{change_claims}
 use Rattle.erm_tight.proofs.Kept.{RowLaws, after_differ, after_same, differ, other_agrees, other_sound, other_value, set_differs, set_record, told_record, two_values, with_value}
 use Rattle.erm_tight.proofs.Objects.{IsNodeOr, made_object, new_are, node_has_none, put_object, set_row_of, written_object}
 use Rattle.erm_tight.proofs.Ways.{put_reads, record_is, rows_then, way_no_record}
+use Rattle.erm_causes.proofs.Own.{split_claims}
 
 -- each key has the value of its record
 abbrev pub MapHasValues : Type 0

@@ -21,26 +21,11 @@ use Rattle.erm_tree.proofs.Puts.{made_by_all-put}
 use Rattle.erm_tree.proofs.Records.{occurs, occurs-entries, occurs-found}
 use Rattle.erm_tree.proofs.Runs.{objects_for-some}
 use Rattle.erm_tree.proofs.Standing.{levels_of-bounds, reached-table}
+use Rattle.erm_causes.proofs.Own.{split_claims}
 
 -- how a node's row is read back
 abbrev pub NodesReadBack : Type 0
 NodesReadBack = (row : List ℕ) (shape : Shape) → node_of row ≡ Some shape → (is_node shape ≡ true) × (row ≡ node_row shape)
-
--- reads claim nothing
-pub no_claims : (events : List Event) → OnlyReads events → (x : ℕ) → AreClaiming events x → ⊥
-no_claims [] only x by = by
-no_claims (did_read oid row ∷ events) only x by = elim by as (λ _. ⊥) [ inl none ↦ none | inr later ↦ no_claims events only x later ]
-no_claims (did_claim oid ∷ events) only x by = only
-no_claims (did_write oid row ∷ events) only x by = only
-no_claims (did_make oid ∷ events) only x by = only
-
--- and claims after reads are those of the others
-claims_then : (reads others : List Event) → OnlyReads reads → (x : ℕ) → AreClaiming (reads ++ others) x → AreClaiming others x
-claims_then [] others only x by = by
-claims_then (did_read oid row ∷ reads) others only x by = elim by as (λ _. AreClaiming others x) [ inl none ↦ absurd none | inr later ↦ claims_then reads others only x later ]
-claims_then (did_claim oid ∷ reads) others only x by = absurd only
-claims_then (did_write oid row ∷ reads) others only x by = absurd only
-claims_then (did_make oid ∷ reads) others only x by = absurd only
 
 claims_behind : (reads others : List Event) (x : ℕ) → AreClaiming others x → AreClaiming (reads ++ others) x
 claims_behind [] others x by = by
@@ -49,9 +34,6 @@ claims_behind (event ∷ reads) others x by = inr (claims_behind reads others x 
 pub claims_before : (events others : List Event) (x : ℕ) → AreClaiming events x → AreClaiming (events ++ others) x
 claims_before [] others x by = absurd by
 claims_before (event ∷ events) others x by = elim by as (λ _. AreClaiming ((event ∷ events) ++ others) x) [ inl here ↦ inl here | inr later ↦ inr (claims_before events others x later) ]
-
-pub split_claims : (P : ℕ → Type 0) (others events : List Event) → AreReadsThen P others events → (x : ℕ) → AreClaiming events x → AreClaiming others x
-split_claims P others events is x by = claims_then is.reads others is.only x (subst (λ (es : List Event). AreClaiming es x) is.split by)
 
 pub joined_claims : (P : ℕ → Type 0) (others events : List Event) → AreReadsThen P others events → (x : ℕ) → AreClaiming others x → AreClaiming events x
 joined_claims P others events is x by = subst (λ (es : List Event). AreClaiming es x) (sym is.split) (claims_behind is.reads others x by)

@@ -21,7 +21,6 @@ use Rattle.erm_good_report.specs.Windows.{GetsFirst, HasLine, IsCommit, IsHighEn
 use Rattle.erm_good_report.specs.GoodReport.{HaveTightWindows}
 use Rattle.erm_lines.specs.Told.{EndsAs, Tells}
 use Rattle.erm_causes.proofs.Beside.{claimed_at}
-use Rattle.erm_causes.proofs.Begun.{HistoryLaws}
 use Rattle.erm_tight.proofs.Found.{claimed_in, read_in}
 use Rattle.erm_tight.proofs.Low.{IsLowAt, low_ends}
 use Rattle.erm_tight.proofs.Marks.{Changing, Marks, Puts, Touching}
@@ -29,6 +28,7 @@ use Rattle.erm_tight.proofs.Moves.{IsMarked}
 use Rattle.erm_tight.proofs.Serial.{RowsBelow, rows_below}
 use Rattle.erm_tight.proofs.Told.{IsOne, IsCommitted, IsCommitTold, commit_known, commit_told, one_told, record_told}
 use Rattle.erm_tight.proofs.Undecided.{IsBeside, IsOrderly}
+use Rattle.erm_told_limits.proofs.Given.{HistoryLaws}
 
 same_some : (a b : ℕ) → Some a ≡ Some b → a ≡ b
 same_some a b is = cc

@@ -6,6 +6,8 @@ use Rattle.erm_model.specs.declared.row_stop.RowStop.TheVariants as stop
 use Rattle.erm_model.specs.RowTransaction.{Event, ends}
 use Rattle.erm_model.specs.Run.{Step}
 use Rattle.erm_model.proofs.RowCalls.{after_all-WritesNothing}
+use Rattle.erm_model.specs.declared.operation.Op.{Op}
+use Rattle.erm_model.specs.declared.operation.Reply.{Reply}
 use Rattle.erm_node.specs.Sound.{sound_law}
 use Rattle.erm_world.specs.Calls.{IsDone}
 use Rattle.erm_world.specs.World.{Finished, Session, View, Work, phase_at, phase_of, work_at}
@@ -34,9 +36,9 @@ pub data Called (v : View) (seat : ℕ) (c : Command) (a : Answer) (u : View) : 
   out : (w : Work) (ending : Ending) → u.session seat ≡ record { over = (v.session seat).over ++ record { work = w; fate = world.aborts } ∷ []; stand = world.idle } → EndsBy a ending
       → Called v seat c a u
 
-module _ (laws : KeyLaws) (v u : View) (seat : ℕ) (c : Command) (k : ℕ) (named : table_of c ≡ Some k) (range : IsInRange c) (active : phase_at v seat ≡ Active) where
-  -- ANSWERED.
-  line_did : (a : Answer) (events : List Event) → ((table key : ℕ) → Overwrites table key c → Overwriting table key (record { asked = c; answer = a })) → WholeDid c events
+-- ANSWERED. What the events of a whole line tell of it.
+module _ (c : Command) where
+  pub line_did : (a : Answer) (events : List Event) → ((table key : ℕ) → Overwrites table key c → Overwriting table key (record { asked = c; answer = a })) → WholeDid c events
       → LineDid (record { asked = c; answer = a }) events
   line_did a events over did = record {
     kept = did.kept;
@@ -46,17 +48,18 @@ module _ (laws : KeyLaws) (v u : View) (seat : ℕ) (c : Command) (k : ℕ) (nam
     only = λ rows sound agrees table key x below is by. over table key (did.only rows sound agrees table key x below is by);
   }
 
-  replied_over : (r : Rattle.erm_model.specs.declared.operation.Reply.Reply) (o : Rattle.erm_model.specs.declared.operation.Op.Op) → op_of c ≡ Some o → (table key : ℕ) → Overwrites table key c
+  pub replied_over : (r : Reply) (o : Op) → op_of c ≡ Some o → (table key : ℕ) → Overwrites table key c
       → Overwriting table key (record { asked = c; answer = answer.Replied r })
   replied_over r o is table key (inl put) = inl (put, (r, refl))
   replied_over r o is table key (inr (inl del)) = inr (inl (del, (r, refl)))
   replied_over r o is table key (inr (inr tidy)) = let never : None ≡ Some o = sym (ap op_of tidy) ∙ is in cc
 
-  cut_over : (cells : ℕ) → op_of c ≡ None → (table key : ℕ) → Overwrites table key c → Overwriting table key (record { asked = c; answer = answer.Cut cells })
+  pub cut_over : (cells : ℕ) → op_of c ≡ None → (table key : ℕ) → Overwrites table key c → Overwriting table key (record { asked = c; answer = answer.Cut cells })
   cut_over cells is table key (inl put) = let never : op_of (command.Put table key put.0) ≡ None = sym (ap op_of put.1) ∙ is in cc
   cut_over cells is table key (inr (inl del)) = let never : op_of (command.Del table key) ≡ None = sym (ap op_of del) ∙ is in cc
   cut_over cells is table key (inr (inr tidy)) = inr (inr (tidy, (cells, refl)))
 
+module _ (laws : KeyLaws) (v u : View) (seat : ℕ) (c : Command) (k : ℕ) (named : table_of c ≡ Some k) (range : IsInRange c) (active : phase_at v seat ≡ Active) where
   -- CUT OFF.
   module _ (a : Answer) (replied : IsReplied a → ⊥) (tidied : IsTidied a → ⊥) where
     front_did : (why : RowStop) (did : WereCutOff v seat (FrontOf c) (AsksOf c) why u) → LineDid (record { asked = c; answer = a }) did.events
@@ -103,10 +106,10 @@ module _ (laws : KeyLaws) (v u : View) (seat : ℕ) (c : Command) (k : ℕ) (nam
   pub called : (a : Answer) → DidOperation v seat c a u → Called v seat c a u
   called (answer.Replied r) (o, is, did) =
       goes did.events did.ran
-      (line_did (answer.Replied r) did.events (replied_over r o is)
+      (line_did c (answer.Replied r) did.events (replied_over c r o is)
       (whole_did laws did.events c k named range r o is (λ rows sound agrees. did.of rows sound agrees) (λ rows sound agrees. did.right (record { op = o; reply = r }) refl rows sound agrees)))
       (λ before run. (_, did.run before run)) (λ q asked p. refl)
   called (answer.Cut cells) (none, few, did) =
-      goes did.events did.ran (line_did (answer.Cut cells) did.events (cut_over cells none) (tidy_did laws did.events c k named range cells none (λ rows sound agrees. did.of rows sound agrees)))
+      goes did.events did.ran (line_did c (answer.Cut cells) did.events (cut_over c cells none) (tidy_did laws did.events c k named range cells none (λ rows sound agrees. did.of rows sound agrees)))
       (λ before run. (_, did.run before run)) (λ q asked p. refl)
   called a did = refused_as a (λ replied. let never : None ≡ Some replied.0 = replied.1 in cc) (λ tidied. let other = tidied.1 in cc) did

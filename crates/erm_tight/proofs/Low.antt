@@ -9,12 +9,12 @@ use Rattle.erm_maps.proofs.Lawful.{begins_above}
 use Rattle.erm_good_report.specs.Transactions.{Aborts, Commits, Ending, Excludes, Unfinished, Said, Transaction, progress_of, transactions_of}
 use Rattle.erm_good_report.specs.Windows.{IsLowEnd}
 use Rattle.erm_lines.specs.Told.{EndsAs, Tells}
-use Rattle.erm_causes.proofs.Begun.{HistoryLaws}
 use Rattle.erm_tight.proofs.Found.{claimed_in, read_in}
 use Rattle.erm_tight.proofs.Moves.{IsMarked}
 use Rattle.erm_tight.proofs.Quiet.{AreBelow, IsBounded}
 use Rattle.erm_tight.proofs.Serial.{RowsBelow, rows_below}
 use Rattle.erm_tight.proofs.Told.{IsOne, commit_known, one_told, record_told}
+use Rattle.erm_told_limits.proofs.Given.{HistoryLaws}
 
 -- the window of a transaction that has its commit stamp is tight at its low end
 abbrev pub IsLowAt : Ending → List Transaction → Transaction → Type 0

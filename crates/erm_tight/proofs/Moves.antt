@@ -1,5 +1,5 @@
 -- Each move of an execution leaves all sessions so that their transactions' lines tell what they touched.
-use Rattle.std.proofs.Common.{◌≡◌, ◌≢◌, ℕ, cond, List, [], ◌∷◌, ◌++◌, Option, Some, None, append-nil, inl, inr, refl, sym, ap, ◌∙◌, subst, ne_eqb}
+use Rattle.std.proofs.Common.{◌≡◌, ℕ, cond, List, [], ◌∷◌, ◌++◌, Option, Some, None, inl, inr, refl, sym, ap, subst, ne_eqb}
 use Rattle.std.specs.Option.{option_map, option_to_list}
 use Rattle.std.proofs.lemmas.Bool.Decides.{eqb_tells}
 use Rattle.erm_model.specs.declared.outcome.Phase.TheVariants.{Active}
@@ -19,14 +19,15 @@ use Rattle.erm_lines.proofs.Moved.{log_flushes, log_of_none}
 use Rattle.erm_causes.proofs.Answered.{done_turned, operated_turned}
 use Rattle.erm_causes.proofs.Fine.{Turned, still_session, turned_then}
 use Rattle.erm_causes.proofs.Lines.{made_at_once}
-use Rattle.erm_causes.proofs.Moves.{IsMoveInRange, heard_move, heard_one, session_before}
+use Rattle.erm_causes.proofs.Moves.{IsMoveInRange, heard_move, heard_one, itself_turned, own_turned, session_before, work_now}
 use Rattle.erm_causes.proofs.Operated.{operated}
 use Rattle.erm_told_limits.proofs.Ran.{ran}
 use Rattle.erm_causes.proofs.Tables.{AreMovesInRange, heard_moves}
+use Rattle.erm_causes.proofs.Quiet.{HasNow, SameLines, SameNow}
 use Rattle.erm_tight.proofs.Lines.{Called, called}
 use Rattle.erm_tight.proofs.Lines as called
 use Rattle.erm_tight.proofs.Marks.{Marks, marks_nothing, marks_then}
-use Rattle.erm_tight.proofs.Quiet.{DoneBy, HasNow, IsBounded, Lined, Quiet, SameLines, SameNow, closed_quiet, lined}
+use Rattle.erm_tight.proofs.Quiet.{IsBounded, Lined, Quiet, closed_quiet, lined}
 use Rattle.erm_tight.proofs.Quiet as quiet
 use Rattle.erm_tight.proofs.Went.{leaves}
 use Rattle.erm_tight.proofs.Whole.{KeyLaws}
@@ -59,7 +60,7 @@ over_one_more (u ∷ ts) [] t f marked one = absurd marked
 over_one_more (u ∷ ts) (g ∷ fs) t f marked one = (marked.0, over_one_more ts fs t f marked.1 one)
 
 -- QUIET.
-now_same : (current other : Option Transaction) (stand : Stand) → SameNow current other → MarkedNow current stand → MarkedNow other stand
+pub now_same : (current other : Option Transaction) (stand : Stand) → SameNow current other → MarkedNow current stand → MarkedNow other stand
 now_same None None stand same now = now
 now_same None (Some u) stand same now = absurd same
 now_same (Some t) None stand same now = absurd same
@@ -79,11 +80,7 @@ pub record HasMarks (current : Option Transaction) (w : Work) : Type 0 where
   pub is : current ≡ Some told
   pub marks : Marks told.lines w
 
-work_now : (stand : Stand) (w : Work) → HasNow stand w → work_of stand ≡ w
-work_now stand w (inl active) = ap work_of active
-work_now stand w (inr (stamp, sealed)) = ap work_of sealed
-
-now_has : (current : Option Transaction) (stand : Stand) (w : Work) → MarkedNow current stand → HasNow stand w → HasMarks current w
+pub now_has : (current : Option Transaction) (stand : Stand) (w : Work) → MarkedNow current stand → HasNow stand w → HasMarks current w
 now_has None world.idle w now (inl active) = cc
 now_has None world.idle w now (inr (stamp, sealed)) = cc
 now_has None (world.active u) w now has = absurd now
@@ -145,23 +142,6 @@ quiet_marked run v seat asked a t p holds (quiet.seals stamp active did hears) m
     same_marked p (heard seat asked a p) (t.session seat) (hears seat p) (seal_marked v t seat stamp p active did marked)
 quiet_marked run v seat asked a t p holds (quiet.done w fate ending now did bounded decides hears) marked =
     subst (λ (q : Progress). IsMarked q (t.session seat)) (sym (hears seat p)) (done_marked v t seat w fate ending p now did (bounded holds) marked)
-
-own_turned : (v t : View) (seat : ℕ) (stand : Stand) → t.session seat ≡ record { over = (v.session seat).over; stand = stand } → ((q : ℕ) → q ≢ seat → t.session q ≡ v.session q)
-    → t.opening ≡ v.opening → Turned v seat t
-own_turned v t seat stand own others opening = record {
-  others = others;
-  opening = opening;
-  more = [];
-  over = ap (λ (s : Session). s.over) own ∙ sym (append-nil (v.session seat).over);
-}
-
-itself_turned : (v t : View) (seat : ℕ) → t ≡ v → Turned v seat t
-itself_turned v t seat is = record {
-  others = λ q another. ap (λ (x : View). x.session q) is;
-  opening = ap (λ (x : View). x.opening) is;
-  more = [];
-  over = ap (λ (x : View). (x.session seat).over) is ∙ sym (append-nil (v.session seat).over);
-}
 
 quiet_turned : (v : View) (seat : ℕ) (asked : Option Command) (a : Answer) (t : View) → Quiet v seat asked a t → Turned v seat t
 quiet_turned v seat asked a t (quiet.still is hears) = itself_turned v t seat is

@@ -31,7 +31,6 @@ use Rattle.erm_maps.proofs.Made.{made_beside}
 use Rattle.erm_script.specs.declared.script.Command.TheVariants as command
 use Rattle.erm_good_report.specs.Transactions.{Exchange}
 use Rattle.erm_lines.specs.Operations.{AsksOf, FrontOf, Ran, WereCutOff}
-use Rattle.erm_causes.proofs.Begun.{HistoryLaws}
 use Rattle.erm_causes.proofs.Coloured.{agrees_with}
 use Rattle.erm_causes.proofs.Fine.{still_session}
 use Rattle.erm_told_limits.proofs.Bounds.{counted_grows, front_makes}
@@ -39,6 +38,7 @@ use Rattle.erm_told_limits.proofs.Grown.{all_active, makes-append, only_none}
 use Rattle.erm_told_limits.proofs.Lines.{ends_so, stays_turned}
 use Rattle.erm_told_limits.proofs.Ran.{MovesAll, ran, same_work}
 use Rattle.erm_told_limits.proofs.Totals.{mades_by_all, mades_turned}
+use Rattle.erm_told_limits.proofs.Given.{HistoryLaws}
 use Rattle.erm_tight.proofs.Marks.{Marks, Puts}
 use Rattle.erm_tight.proofs.Serial.{IsTold, RowsBelow, rows_below}
 

@@ -1,9 +1,8 @@
 -- Each line of a session leaves the number of objects made, or puts a key that is new to its transaction.
-use Rattle.std.proofs.Common.{◌≡◌, ℕ, zero, suc, ◌+◌, ◌*◌, ◌<◌, ◌≤◌, ◌⊎◌, List, [], ◌∷◌, ◌++◌, Option, Some, None, append-nil, append_assoc, inl, inr, refl, sym, ap, ◌∙◌, subst, arith}
+use Rattle.std.proofs.Common.{◌≡◌, ℕ, suc, ◌+◌, ◌<◌, ◌≤◌, ◌⊎◌, List, [], ◌∷◌, ◌++◌, Option, Some, None, append-nil, append_assoc, inl, inr, refl, sym, ap, ◌∙◌, subst, arith}
 use Rattle.std.proofs.lemmas.Bool.{cases_lt}
 use Rattle.erm_model.specs.declared.history.TransactionRecord.{TransactionRecord}
 use Rattle.erm_model.specs.declared.limits.TheConstants.{PUT_OBJECTS}
-use Rattle.erm_model.specs.declared.outcome.Phase.{Phase}
 use Rattle.erm_model.specs.declared.outcome.Phase.TheVariants.{Active}
 use Rattle.erm_model.specs.Member.{◌∈◌}
 use Rattle.erm_node.specs.Sound.{sound_law}
@@ -18,14 +17,14 @@ use Rattle.erm_script.specs.declared.script.Command.TheVariants as command
 use Rattle.erm_script.specs.declared.script.ScriptLine.{ScriptLine}
 use Rattle.erm_good_report.specs.Phases.{refusal_of}
 use Rattle.erm_good_report.specs.Refusals.{claims_of, makes_of}
-use Rattle.erm_good_report.specs.Transactions.{Said, Transaction, op_of, progress_of}
-use Rattle.erm_lines.specs.Answers.{DidAsked, DidCommand, DidLine, DidOperation}
+use Rattle.erm_good_report.specs.Transactions.{Said, Transaction, progress_of}
+use Rattle.erm_lines.specs.Answers.{DidAsked, DidLine, DidOperation}
 use Rattle.erm_lines.specs.Told.{Tells, TellsNow}
-use Rattle.erm_causes.proofs.Begun.{HistoryLaws}
 use Rattle.erm_told_limits.proofs.Holds.{Laws, said_by}
 use Rattle.erm_told_limits.proofs.Totals.{mades_by_all, mades_turned}
 use Rattle.erm_told_limits.proofs.Lines.{Known}
 use Rattle.erm_told_limits.proofs.Turns.{line_turned, wanted}
+use Rattle.erm_told_limits.proofs.Given.{HistoryLaws}
 use Rattle.erm_tight.specs.NewKeys.{HaveNewKeys, PutsNewKey}
 use Rattle.erm_tight.proofs.Marks.{Puts}
 use Rattle.erm_tight.proofs.Moves.{IsGoing, IsMarked, now_active}

@@ -1,5 +1,5 @@
 -- The lines of a run put new keys, as many as make the objects that it makes.
-use Rattle.std.proofs.Common.{◌≡◌, ℕ, zero, suc, ◌+◌, ◌*◌, ◌<◌, ◌≤◌, ◌⊎◌, List, [], ◌∷◌, ◌++◌, length, take, slice_get, Option, Some, None, append_assoc, append-nil, refl, sym, ap, ◌∙◌, subst, ⊎_elim, arith}
+use Rattle.std.proofs.Common.{◌≡◌, ℕ, zero, suc, ◌+◌, ◌*◌, ◌<◌, ◌≤◌, List, [], ◌∷◌, ◌++◌, length, take, slice_get, Option, Some, None, append_assoc, refl, sym, ap, ◌∙◌, subst, ⊎_elim, arith}
 use Rattle.erm_model.specs.declared.history.TransactionRecord.{TransactionRecord}
 use Rattle.erm_model.specs.declared.limits.TheConstants.{OID_LIMIT, PUT_OBJECTS}
 use Rattle.erm_model.specs.declared.row_stop.RowStop.TheVariants as stop
@@ -9,7 +9,7 @@ use Rattle.erm_machine.proofs.Listed.{∈-head}
 use Rattle.erm_model.proofs.Members.{∈-behind}
 use Rattle.erm_node.specs.Sound.{sound_law}
 use Rattle.erm_tree.specs.Change.{count_makes}
-use Rattle.erm_world.specs.Calls.{AreAllMade, DidNotMake}
+use Rattle.erm_world.specs.Calls.{AreAllMade}
 use Rattle.erm_world.specs.Face.{WasRefused}
 use Rattle.erm_world.specs.Laws.{IsSerializable}
 use Rattle.erm_world.specs.World.{IsSession, Session, View, history_of, phase_at, work_at}
@@ -30,14 +30,14 @@ use Rattle.erm_lines.specs.Operations.{AsksOf, FrontOf, WereCutOff}
 use Rattle.erm_lines.specs.Told.{Tells}
 use Rattle.erm_lines.proofs.Moved.{log_flushes, moved, said_move}
 use Rattle.erm_told.proofs.Runs.{executed_both, said_both}
-use Rattle.erm_causes.proofs.Begun.{HistoryLaws}
 use Rattle.erm_causes.proofs.Moves.{move_history, move_range, session_before}
-use Rattle.erm_causes.proofs.Tables.{AreMovesInRange, heard_said, run_holds, run_opening}
+use Rattle.erm_causes.proofs.Tables.{AreMovesInRange, heard_said, run_opening}
 use Rattle.erm_told_limits.proofs.Holds.{Laws, said_by}
 use Rattle.erm_told_limits.proofs.Moved.{mades_in}
 use Rattle.erm_told_limits.proofs.Pigeons.{has_made, made_few}
 use Rattle.erm_told_limits.proofs.Refused.{WasFull, kind_of, oids_full, was_full}
 use Rattle.erm_told_limits.proofs.Totals.{all_made, length_all, mades_by_all, mades_kept, times_all, total_zero}
+use Rattle.erm_told_limits.proofs.Given.{HistoryLaws}
 use Rattle.erm_tight.specs.NewKeys.{HaveNewKeys, PutsNewKey}
 use Rattle.erm_tight.proofs.Moves.{IsMarked, opened_marked, run_marked}
 use Rattle.erm_tight.proofs.NewKeys.{cut_asks_none, cut_less, grows_to}

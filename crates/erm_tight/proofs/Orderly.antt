@@ -24,9 +24,10 @@ use Rattle.erm_causes.proofs.Fine.{still_session}
 use Rattle.erm_causes.proofs.Moves.{session_before}
 use Rattle.erm_causes.proofs.Operated.{Operated, operated}
 use Rattle.erm_causes.proofs.Operated as operated
+use Rattle.erm_causes.proofs.Quiet.{HasNow}
 use Rattle.erm_told_limits.proofs.Ran.{stays_one}
 use Rattle.erm_tight.proofs.Newest.{IsNewestMaker, newest_maker}
-use Rattle.erm_tight.proofs.Quiet.{HasNow, Lined, Quiet, closed_quiet, lined}
+use Rattle.erm_tight.proofs.Quiet.{Lined, Quiet, closed_quiet, lined}
 use Rattle.erm_tight.proofs.Quiet as quiet
 use Rattle.erm_tight.proofs.Undecided.{AreApart, IsOrderly, aborted_orderly, active_orderly, done_orderly, flushed_orderly, none_claimed, sealed_orderly}
 

@@ -1,6 +1,5 @@
 -- What a line or a session's closing did: it touched no object, and then what was decided is bounded; or it named a table.
-use Rattle.std.proofs.Common.{◌≡◌, ℕ, ◌+◌, ◌<◌, ◌≤◌, ◌⊎◌, [], ◌++◌, length, Option, Some, None, append-nil, inl, inr, refl, sym, subst, arith}
-use Rattle.std.specs.Option.{option_map, option_to_list}
+use Rattle.std.proofs.Common.{◌≡◌, ℕ, ◌+◌, ◌<◌, ◌≤◌, ◌⊎◌, [], length, Option, Some, None, inl, inr, refl, sym, subst, arith}
 use Rattle.erm_model.specs.declared.history.TransactionRecord.{TransactionRecord}
 use Rattle.erm_model.specs.declared.history.VersionRead.{VersionRead}
 use Rattle.erm_model.specs.declared.history.VersionWritten.{VersionWritten}
@@ -19,60 +18,18 @@ use Rattle.erm_report.specs.declared.answer.Answer.TheVariants as answer
 use Rattle.erm_script.specs.declared.script.Command.{Command}
 use Rattle.erm_script.specs.declared.script.Command.TheVariants as command
 use Rattle.erm_script.specs.declared.script.ScriptLine.{ScriptLine}
-use Rattle.erm_good_report.specs.Phases.{Closes, FitsRefusal, phase_asked, refusal_for, refusal_of}
-use Rattle.erm_good_report.specs.Transactions.{Aborts, Commits, Ending, Excludes, Progress, Transaction, begun, ended, goes_on, heard, table_of, with_line, with_seal}
+use Rattle.erm_good_report.specs.Phases.{Closes, FitsRefusal, phase_asked, refusal_of}
+use Rattle.erm_good_report.specs.Transactions.{Aborts, Commits, Ending, Excludes, Progress, Transaction, begun, heard, table_of}
 use Rattle.erm_lines.specs.Answers.{DidAskDurable, DidAsked, DidClose, DidCommand, DidDecide, DidLine, DidOperation}
 use Rattle.erm_lines.specs.Executions.{DidEnd}
 use Rattle.erm_lines.proofs.Moved.{asked_still}
 use Rattle.erm_causes.proofs.Fine.{still_session}
+use Rattle.erm_causes.proofs.Quiet.{DoneBy, HasNow, NamesNone, StillBy, idle_with, refusal_still, same_goes_on, seal_heard, wants_active, wants_idle}
 use Rattle.erm_told_limits.proofs.Ran.{active_with}
 use Rattle.erm_tight.proofs.Undecided.{Decides}
 
--- a line that names no table, or no line
-abbrev pub NamesNone : Option Command → Type 0
-NamesNone None = Unit {0}
-NamesNone (Some c) = table_of c ≡ None
-
--- the transaction in progress has the lines that it had
-abbrev pub SameNow : Option Transaction → Option Transaction → Type 0
-SameNow None None = Unit {0}
-SameNow (Some t) (Some u) = u.lines ≡ t.lines
-SameNow None (Some u) = ⊥
-SameNow (Some t) None = ⊥
-
-abbrev pub SameLines : Progress → Progress → Type 0
-SameLines p q = (q.over ≡ p.over) × SameNow p.current q.current
-
--- An answer is heard as one that changes no line, that begins a transaction, or that ends one.
-abbrev pub StillBy : Option Command → Answer → Type 0
-StillBy asked a = (seat : ℕ) (p : Progress) → SameLines p (heard seat asked a p)
-
 abbrev pub BeginsBy : Option Command → Answer → Type 0
 BeginsBy asked a = (seat : ℕ) (p : Progress) → (t : Transaction) × (heard seat asked a p ≡ record { over = p.over; current = Some t }) × (t.lines ≡ [])
-
-abbrev pub DoneBy : Option Command → Answer → Ending → Type 0
-DoneBy asked a ending = (seat : ℕ) (p : Progress) → heard seat asked a p ≡ ended ending p
-
--- a session has this transaction, sealed or not
-abbrev pub HasNow : Stand → Work → Type 0
-HasNow stand w = (stand ≡ world.active w) ⊎ ((stamp : ℕ) × (stand ≡ world.sealed w stamp))
-
--- a line that names no table leaves the lines
-same_line : (asked : Option Command) (a : Answer) (t : Transaction) → NamesNone asked → (with_line asked a t).lines ≡ t.lines
-same_line None a t none = append-nil t.lines
-same_line (Some c) a t none =
-    subst (λ (r : Option ℕ). (t.lines ++ option_to_list (option_map (λ (table : ℕ). record { asked = c; answer = a }) r)) ≡ t.lines) (sym none) (append-nil t.lines)
-
-same_now : (asked : Option Command) (a : Answer) (current : Option Transaction) → NamesNone asked → SameNow current (option_map (with_line asked a) current)
-same_now asked a None none = tt
-same_now asked a (Some t) none = same_line asked a t none
-
-pub same_goes_on : (asked : Option Command) (a : Answer) (p : Progress) → NamesNone asked → SameLines p (goes_on asked a p)
-same_goes_on asked a p none = (refl, same_now asked a p.current none)
-
-same_itself : (current : Option Transaction) → SameNow current current
-same_itself None = tt
-same_itself (Some t) = refl
 
 -- BOUNDED. The versions that a transaction read or overwrote are no later than its predecessor stamp.
 pub record AreBelow (w : Work) (pred : ℕ) : Type 0 where
@@ -84,24 +41,19 @@ IsBounded w (world.commits stamp succ pred) = AreBelow w pred
 IsBounded w (world.excluded stamp succ pred) = AreBelow w pred
 IsBounded w world.aborts = Unit {0}
 
-module _ (v t : View) (seat : ℕ) (w : Work) (fate : Fate) (stamp succ pred : ℕ) (session : IsSession v seat) (done : IsDone v seat w fate t) (is : stamp_of fate ≡ Some stamp)
-    (predecessor : IsPredecessorStamp (history_of t) pred (record_of seat w stamp succ pred)) (holds : IsSerializable sound_law t) where
-  in_over : record { work = w; fate = fate } ∈ (t.session seat).over
-  in_over = subst (λ (s : Session). record { work = w; fate = fate } ∈ s.over) (sym done.own) (∈-last (v.session seat).over (record { work = w; fate = fate }))
-
-  in_t : IsSession t seat
-  in_t = still_session v t seat done.opening session
-
+-- one that is over has the versions that it read or overwrote no later than the stamp that counts
+module _ (t : View) (holds : IsSerializable sound_law t) (seat : ℕ) (session : IsSession t seat) (w : Work) (fate : Fate) (stamp succ pred : ℕ)
+    (over : record { work = w; fate = fate } ∈ (t.session seat).over) (is : stamp_of fate ≡ Some stamp) (predecessor : IsPredecessorStamp (history_of t) pred (record_of seat w stamp succ pred)) where
   begins_below : w.begin ≤ stamp
-  begins_below = (holds.stamps seat w stamp in_t (inl (record { work = w; fate = fate }, in_over, refl, is))).0
+  begins_below = (holds.stamps seat w stamp session (inl (record { work = w; fate = fate }, over, refl, is))).0
 
   counted : (u : TransactionRecord) → u ∈ history_of t → u.stamp < w.begin
       → ReadsFrom (record_of seat w stamp succ pred) u ⊎ OverwritesFrom (record_of seat w stamp succ pred) u ⊎ OverwritesReadOf (record_of seat w stamp succ pred) u → u.stamp ≤ pred
   counted u within below counts = predecessor.at_least_each u (within, omega (arith, below, begins_below), counts)
 
-  pub are_below : AreBelow w pred
-  are_below =
-      let sees = holds.sees seat w in_t (inl (record { work = w; fate = fate }, in_over, refl)) in
+  pub over_below : AreBelow w pred
+  over_below =
+      let sees = holds.sees seat w session (inl (record { work = w; fate = fate }, over, refl)) in
       record {
         reads = λ r m.
             let newest = sees.reads r m in
@@ -118,6 +70,13 @@ module _ (v t : View) (seat : ℕ) (w : Work) (fate : Fate) (stamp succ pred : �
                   omega (arith, at, counted u within (omega (arith, at, newest.below)) (inr (inl (c, m, sym at, (d, d_in, oid)))))
             ];
       }
+
+-- so has one that was just decided
+are_below : (v t : View) (seat : ℕ) (w : Work) (fate : Fate) (stamp succ pred : ℕ) → IsSession v seat → IsDone v seat w fate t → stamp_of fate ≡ Some stamp
+    → IsPredecessorStamp (history_of t) pred (record_of seat w stamp succ pred) → IsSerializable sound_law t → AreBelow w pred
+are_below v t seat w fate stamp succ pred session done is predecessor holds =
+    over_below t holds seat (still_session v t seat done.opening session) w fate stamp succ pred
+    (subst (λ (s : Session). record { work = w; fate = fate } ∈ s.over) (sym done.own) (∈-last (v.session seat).over (record { work = w; fate = fate }))) is predecessor
 
 -- DECIDED. Or nothing was touched.
 pub data Quiet (v : View) (seat : ℕ) (asked : Option Command) (a : Answer) (t : View) : Type 0 where
@@ -140,34 +99,6 @@ decided v t seat asked (answer.WaitSeat other seen) session none did = still did
 decided v t seat asked (answer.WaitRing flushed) session none did = still did.0 (λ q p. same_goes_on asked (answer.WaitRing flushed) p none)
 decided v t seat asked a session none did = absurd did
 
--- LINES. A line's phase allowed it, or its refusal is heard as nothing.
-refusal_still : (wanted : Option Phase) (phase : Phase) (refusal : Answer) → refusal_for wanted phase ≡ Some refusal → (asked : Option Command) → StillBy asked refusal
-refusal_still (Some Idle) Active refusal is asked = let same : answer.NotIdle ≡ refusal = cc in subst (StillBy asked) same (λ q p. (refl, same_itself p.current))
-refusal_still (Some Idle) Sealed refusal is asked = let same : answer.NotIdle ≡ refusal = cc in subst (StillBy asked) same (λ q p. (refl, same_itself p.current))
-refusal_still (Some Active) Idle refusal is asked = let same : answer.NoTransaction ≡ refusal = cc in subst (StillBy asked) same (λ q p. (refl, same_itself p.current))
-refusal_still (Some Active) Sealed refusal is asked = let same : answer.IsSealed ≡ refusal = cc in subst (StillBy asked) same (λ q p. (refl, same_itself p.current))
-refusal_still (Some Sealed) Idle refusal is asked = let same : answer.NotSealed ≡ refusal = cc in subst (StillBy asked) same (λ q p. (refl, same_itself p.current))
-refusal_still (Some Sealed) Active refusal is asked = let same : answer.NotSealed ≡ refusal = cc in subst (StillBy asked) same (λ q p. (refl, same_itself p.current))
-refusal_still (Some Idle) Idle refusal is asked = let no : None ≡ Some refusal = is in cc
-refusal_still (Some Active) Active refusal is asked = let no : None ≡ Some refusal = is in cc
-refusal_still (Some Sealed) Sealed refusal is asked = let no : None ≡ Some refusal = is in cc
-refusal_still None phase refusal is asked = let no : None ≡ Some refusal = is in cc
-
-pub wants_active : (phase : Phase) → refusal_for (Some Active) phase ≡ None → phase ≡ Active
-wants_active Idle is = cc
-wants_active Active is = refl
-wants_active Sealed is = cc
-
-wants_idle : (phase : Phase) → refusal_for (Some Idle) phase ≡ None → phase ≡ Idle
-wants_idle Idle is = refl
-wants_idle Active is = cc
-wants_idle Sealed is = cc
-
-idle_with : (stand : Stand) → phase_of stand ≡ Idle → stand ≡ world.idle
-idle_with world.idle is = refl
-idle_with (world.active w) is = cc
-idle_with (world.sealed w stamp) is = cc
-
 -- What a line did: it is a quiet one; or it sealed its transaction, and then it is; or it is one that names a table.
 pub data Lined (v : View) (seat : ℕ) (c : Command) (a : Answer) (t : View) : Type 0 where
   quiet : Quiet v seat (Some c) a t → Lined v seat c a t
@@ -181,10 +112,6 @@ module _ (v t : View) (seat : ℕ) (session : IsSession v seat) where
   begun_line (answer.LogEnd tail) free did = quiet (still did.0 (λ q p. same_goes_on (Some command.Begin) (answer.LogEnd tail) p refl))
   begun_line answer.NumbersEnd free did = quiet (still did.0 (λ q p. same_goes_on (Some command.Begin) answer.NumbersEnd p refl))
   begun_line a free did = absurd did
-
-  seal_heard : (current : Option Transaction) (stamp : ℕ) → SameNow current (option_map (with_seal stamp) current)
-  seal_heard None stamp = tt
-  seal_heard (Some u) stamp = refl
 
   sealed_line : (a : Answer) → refusal_of (phase_at v seat) command.Seal ≡ None → DidCommand v seat command.Seal a t → Lined v seat command.Seal a t
   sealed_line (answer.Sealed stamp) free did = quiet (seals stamp (wants_active (phase_at v seat) free) did (λ q p. (refl, seal_heard p.current stamp)))

@@ -17,10 +17,10 @@ use Rattle.erm_world.specs.Works.{is_claimed}
 use Rattle.erm_world.specs.World.{Has, IsSession, View, Work, history_of}
 use Rattle.erm_maps.proofs.Histories.{work_in}
 use Rattle.erm_maps.proofs.Lawful.{LeavesNewest, RunsBelow, fits_below, lawful_below}
-use Rattle.erm_causes.proofs.Begun.{HistoryLaws}
 use Rattle.erm_good_report.specs.Transactions.{Exchange}
 use Rattle.erm_tight.proofs.Calls.{KeepsRecords}
 use Rattle.erm_tight.proofs.Marks.{HasPut, Marks, OnFit, Puts}
+use Rattle.erm_told_limits.proofs.Given.{HistoryLaws}
 
 -- a commit's lines tell what it touched
 abbrev pub IsTold : TransactionRecord → Type 0

@@ -1,10 +1,10 @@
 -- The transactions that a report tells beside those of the world, with what their lines tell of the records that they touched.
-use Rattle.std.proofs.Common.{◌≡◌, ℕ, zero, suc, ◌⊎◌, List, [], ◌∷◌, ◌++◌, Option, Some, None, slice_get, flat_map, option_to_list, inl, inr, refl, sym, ap, ◌∙◌, subst, arith}
+use Rattle.std.proofs.Common.{◌≡◌, ℕ, zero, suc, ◌⊎◌, List, [], ◌∷◌, ◌++◌, Option, Some, None, slice_get, option_to_list, inl, inr, refl, sym, ap, ◌∙◌, subst, arith}
 use Rattle.std.specs.List.{range_with_len}
 use Rattle.erm_model.specs.declared.history.TransactionRecord.{TransactionRecord}
 use Rattle.erm_model.specs.Member.{◌∈◌}
 use Rattle.erm_model.proofs.Members.{none_in_nil}
-use Rattle.erm_machine.proofs.Listed.{∈-either, ∈-first, ∈-second}
+use Rattle.erm_machine.proofs.Listed.{∈-either, ∈-first}
 use Rattle.erm_world.specs.Laws.{IsCommitOf}
 use Rattle.erm_world.specs.World.{Fate, Finished, IsSession, Stand, View, Work, history_of, record_of}
 use Rattle.erm_world.specs.World as world
@@ -17,19 +17,7 @@ use Rattle.erm_told.proofs.Ranges.{in_range, in_range_from}
 use Rattle.erm_tight.proofs.Marks.{Marks}
 use Rattle.erm_tight.proofs.Moves.{IsMarked, MarkedOne, MarkedOver}
 use Rattle.erm_tight.proofs.Serial.{IsTold}
-
-in_flat : {X Y : Type 0} (f : X → List Y) (xs : List X) (y : Y) → y ∈ flat_map f xs → (x : X) × (x ∈ xs) × (y ∈ f x)
-in_flat f [] y m = absurd (none_in_nil y m)
-in_flat f (x ∷ xs) y m = elim (∈-either (f x) (flat_map f xs) y m) [
-  | inl here ↦ (x, (zero, refl), here)
-  | inr later ↦ let found = in_flat f xs y later in (found.0, (suc found.1.0, found.1.1), found.2)
-]
-
-from_flat : {X Y : Type 0} (f : X → List Y) (xs : List X) (x : X) (y : Y) (k : ℕ) → slice_get xs k ≡ Some x → y ∈ f x → y ∈ flat_map f xs
-from_flat f [] x y k at m = cc
-from_flat {X} {Y} f (z ∷ xs) x y zero at m =
-    let same : z ≡ x = cc in ∈-first (f z) (flat_map f xs) y (subst (λ (q : X). y ∈ f q) (sym same) m)
-from_flat f (z ∷ xs) x y (suc k) at m = ∈-second (f z) (flat_map f xs) y (from_flat f xs x y k at m)
+use Rattle.erm_causes.proofs.Causes.{from_flat, in_flat}
 
 -- One told, beside the one of the world.
 pub record Both (seat : ℕ) (t : Transaction) (f : Finished) : Type 0 where

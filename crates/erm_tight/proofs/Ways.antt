@@ -1,9 +1,9 @@
 -- What stands on the way to a key is a node, and the entries of a tree are records; and what the calls of a key read.
-use Rattle.std.proofs.Common.{◌≡◌, ℕ, zero, suc, ◌^◌, ◌<◌, ◌==◌, true, false, cond, List, [], ◌∷◌, ◌++◌, map, Option, Some, None, inl, inr, sym, ap, ◌∙◌, subst}
+use Rattle.std.proofs.Common.{◌≡◌, ℕ, zero, suc, ◌^◌, ◌<◌, ◌==◌, true, false, cond, List, [], ◌∷◌, ◌++◌, Option, Some, None, inl, inr, sym, ap, ◌∙◌, subst}
 use Rattle.std.specs.Prelude.{MatchOption, nat_eq, flat_map}
 use Rattle.std.specs.Map.{lookup}
 use Rattle.std.proofs.lemmas.Bool.{false≢true}
-use Rattle.erm_model.specs.RowTransaction.{Event, after_all, did_claim, did_make, did_read, did_write}
+use Rattle.erm_model.specs.RowTransaction.{Event, after_all, did_write}
 use Rattle.erm_model.specs.Rows.{Rows}
 use Rattle.erm_model.proofs.RowCalls.{after_all-append, after_all-OnlyReads}
 use Rattle.erm_record.specs.Record.{IsRecord}
@@ -11,11 +11,12 @@ use Rattle.erm_node.specs.Node.{Shape, node_of, pairs_of}
 use Rattle.erm_node.specs.Sound.{IsSound, levels_of}
 use Rattle.erm_node.specs.Tree.{Fan, first_key, IsTree, entries}
 use Rattle.erm_node.specs.TreeMap.{record_in}
-use Rattle.erm_tree.specs.Calls.{ReadsAre}
-use Rattle.erm_tree.specs.Change.{AreReadsThen, IsPutOfNew, makes_claims_writes}
+use Rattle.erm_tree.specs.Change.{AreReadsThen, IsPutOfNew}
 use Rattle.erm_tree.specs.Reads.{AnyOfFan, IsMet, IsOnWay}
 use Rattle.erm_tree.proofs.Insertion.{Each}
 use Rattle.erm_told_limits.proofs.Ran.{AreReading}
+use Rattle.erm_told_limits.proofs.Reached.{change_reads_nothing}
+use Rattle.erm_causes.proofs.Own.{split_reads}
 
 -- an object's row is a node's
 abbrev pub HasNode : Rows → ℕ → Type 0
@@ -74,36 +75,7 @@ pub record_is : (rows : Rows) (table key x : ℕ) → IsSound rows → table < 1
 record_is rows table key x sound below is =
     each_found (λ (o : ℕ). IsRecord (rows o)) key x (entries rows (levels_of rows table) table 0) (records_of rows (levels_of rows table) 0 table 0 (2 ^ 64) (sound.trees table below)) is
 
--- READS. Reads before others that read nothing.
-reads_then : (P : ℕ → Type 0) (reads others : List Event) → ReadsAre P reads → ((x : ℕ) → AreReading others x → ⊥) → (x : ℕ) → AreReading (reads ++ others) x → P x
-reads_then P [] others of none x by = absurd (none x by)
-reads_then P (did_read oid row ∷ reads) others of none x by = elim by as (λ _. P x) [
-  | inl here ↦ subst P (sym here) of.0
-  | inr later ↦ reads_then P reads others of.1 none x later
-]
-reads_then P (did_claim oid ∷ reads) others of none x by = reads_then P reads others of none x by
-reads_then P (did_write oid row ∷ reads) others of none x by = reads_then P reads others of none x by
-reads_then P (did_make oid ∷ reads) others of none x by = reads_then P reads others of none x by
-
-claims_read_nothing : (ws : List (ℕ × List ℕ)) (x : ℕ) → AreReading (map (λ (entry : ℕ × List ℕ). did_claim entry.0) ws ++ map (λ (entry : ℕ × List ℕ). did_write entry.0 entry.1) ws) x → ⊥
-claims_read_nothing ws x = behind ws
-  where
-    writes : (us : List (ℕ × List ℕ)) → AreReading (map (λ (entry : ℕ × List ℕ). did_write entry.0 entry.1) us) x → ⊥
-    writes [] by = by
-    writes (u ∷ us) by = writes us by
-
-    behind : (us : List (ℕ × List ℕ)) → AreReading (map (λ (entry : ℕ × List ℕ). did_claim entry.0) us ++ map (λ (entry : ℕ × List ℕ). did_write entry.0 entry.1) ws) x → ⊥
-    behind [] by = writes ws by
-    behind (u ∷ us) by = behind us by
-
-change_reads_nothing : (made : List ℕ) (ws : List (ℕ × List ℕ)) (x : ℕ) → AreReading (makes_claims_writes made ws) x → ⊥
-change_reads_nothing [] ws x by = claims_read_nothing ws x by
-change_reads_nothing (oid ∷ made) ws x by = change_reads_nothing made ws x by
-
--- reads of these objects, and then others that read nothing
-pub split_reads : (P : ℕ → Type 0) (others events : List Event) → AreReadsThen P others events → ((x : ℕ) → AreReading others x → ⊥) → (x : ℕ) → AreReading events x → P x
-split_reads P others events is none x by = reads_then P is.reads others is.of none x (subst (λ (es : List Event). AreReading es x) is.split by)
-
+-- READS.
 pub put_reads : (table key : ℕ) (row : List ℕ) (rows : Rows) (events : List Event) (found : Option ℕ)
     → MatchOption found (IsPutOfNew rows table key row events) (λ oid. AreReadsThen (IsOnWay table key rows) (did_write oid row ∷ []) events)
     → (x : ℕ) → AreReading events x → IsOnWay table key rows x

@@ -27,10 +27,11 @@ use Rattle.erm_lines.specs.Operations.{FrontOf, IsRightOn, IsTidy, WholeOf}
 use Rattle.erm_told_limits.proofs.Ran.{AreReading}
 use Rattle.erm_tight.proofs.Alike.{writes_claim}
 use Rattle.erm_tight.proofs.Calls.{ArePut, KeepsRecords, MapHasValues, del_kept, get_reads, put_kept, put_sets, same_kept}
-use Rattle.erm_tight.proofs.Claims.{NodesReadBack, front_claims, front_new, joined_claims, new_claims, no_claims, split_claims}
+use Rattle.erm_tight.proofs.Claims.{NodesReadBack, front_claims, front_new, joined_claims, new_claims}
 use Rattle.erm_tight.proofs.Kept.{RowLaws}
 use Rattle.erm_tight.proofs.Objects.{put_object}
 use Rattle.erm_tight.proofs.Ways.{rows_then}
+use Rattle.erm_causes.proofs.Own.{no_claims, split_claims}
 
 -- What rows, nodes and maps are.
 pub record KeyLaws : Type 0 where

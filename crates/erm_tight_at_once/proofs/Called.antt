@@ -1,8 +1,6 @@
 -- A line that names a table leaves its session's transaction so that its lines tell what it touched.
 use Rattle.std.proofs.Common.{◌≡◌, ℕ, zero, suc, ◌≤◌, false, List, [], ◌∷◌, ◌++◌, Option, Some, None, inl, inr, refl, sym, ap, ◌∙◌, subst, arith}
 use Rattle.std.specs.Option.{option_map, option_to_list}
-use Rattle.erm_model.specs.declared.operation.Op.{Op}
-use Rattle.erm_model.specs.declared.operation.Reply.{Reply}
 use Rattle.erm_model.specs.declared.outcome.Phase.TheVariants.{Active}
 use Rattle.erm_model.specs.declared.row_stop.RowStop.{RowStop}
 use Rattle.erm_model.specs.declared.row_stop.RowStop.TheVariants as stop
@@ -16,7 +14,6 @@ use Rattle.erm_node.specs.TreeMap.{record_in}
 use Rattle.erm_report.specs.declared.answer.Answer.{Answer}
 use Rattle.erm_report.specs.declared.answer.Answer.TheVariants as answer
 use Rattle.erm_script.specs.declared.script.Command.{Command}
-use Rattle.erm_script.specs.declared.script.Command.TheVariants as command
 use Rattle.erm_script.specs.Script.{IsInRange}
 use Rattle.erm_world.specs.Going.{Extends}
 use Rattle.erm_world.specs.Laws.{FitsWork, IsSerializable}
@@ -25,12 +22,13 @@ use Rattle.erm_world.specs.Works.{seen_by}
 use Rattle.erm_world.specs.World.{Finished, Has, IsSession, Session, View, Work, phase_at, phase_of, work_at, work_of}
 use Rattle.erm_world.specs.World as world
 use Rattle.erm_maps.specs.Runs.{IsRunOf}
-use Rattle.erm_good_report.specs.Transactions.{Exchange, Progress, Transaction, heard, op_of, table_of, with_line}
+use Rattle.erm_good_report.specs.Transactions.{Exchange, Progress, Transaction, heard, table_of, with_line}
 use Rattle.erm_good_report.specs.Windows.{IsReplied, IsTidied}
 use Rattle.erm_lines.specs.Operations.{AsksOf, DidCalls, FrontOf, Ran, WholeOf}
 use Rattle.erm_lines.specs.Told.{Continues}
 use Rattle.erm_lines_at_once.specs.Operations.{Beside, DidOnce, DidOperationBeside, WasTried, WereCutBeside, told_at_once}
 use Rattle.erm_causes.proofs.Operated.{GoesOnBy}
+use Rattle.erm_causes.proofs.Own.{no_claims}
 use Rattle.erm_causes_at_once.proofs.Called.{CutOnce, calls_gone, cut_as, cut_gone, cut_kept, cut_stays, ends_so, kept_gone, kept_then, stays_so, tried_kept}
 use Rattle.erm_causes_at_once.proofs.Line.{extended_made, later_has}
 use Rattle.erm_causes_at_once.proofs.Operation.{called_run, tried_run}
@@ -39,11 +37,11 @@ use Rattle.erm_told_limits.proofs.Ran.{MovesAll, active_with}
 use Rattle.erm_limits_at_once.proofs.Looked.{BeganIn, began_in, tried_more, waits_only}
 use Rattle.erm_limits_at_once.proofs.Tried.{beside_works}
 use Rattle.erm_tight.proofs.Calls.{KeepsRecords, same_kept}
-use Rattle.erm_tight.proofs.Claims.{no_claims}
 use Rattle.erm_tight.proofs.Marks.{HasIn, LineDid, Marks, Overwriting, marks_then}
 use Rattle.erm_tight.proofs.Moves.{IsGoing, now_active}
 use Rattle.erm_tight.proofs.Went.{Leaves, leaves}
-use Rattle.erm_tight.proofs.Whole.{KeyLaws, Overwrites, WholeDid, front_only, tidy_did, whole_did}
+use Rattle.erm_tight.proofs.Whole.{KeyLaws, front_only, tidy_did, whole_did}
+use Rattle.erm_tight.proofs.Lines.{cut_over, line_did, replied_over}
 use Rattle.erm_tight_at_once.proofs.Marked.{AreMarks, out_marks, went_marks}
 
 -- READS leave what the lines tell.
@@ -76,26 +74,6 @@ module _ (lines : List Exchange) (w u : Work) (events : List Event) (moves : Mov
 module _ (keys : KeyLaws) (c : Command) (k : ℕ) (named : table_of c ≡ Some k) (range : IsInRange c) where
   abbrev line : Answer → Exchange
   line a = record { asked = c; answer = a }
-
-  line_did : (a : Answer) (events : List Event) → ((table key : ℕ) → Overwrites table key c → Overwriting table key (record { asked = c; answer = a })) → WholeDid c events
-      → LineDid (record { asked = c; answer = a }) events
-  line_did a events over did = record {
-    kept = did.kept;
-    gets = λ table key gets. did.gets table key gets.0;
-    puts = λ table key puts. did.puts table key puts.0.0 puts.0.1;
-    changes = λ table key changes. elim changes [ inl deletes ↦ did.writes table key (inl deletes.0) | inr tidies ↦ did.writes table key (inr tidies.0) ];
-    only = λ rows sound agrees table key x below is by. over table key (did.only rows sound agrees table key x below is by);
-  }
-
-  replied_over : (r : Reply) (o : Op) → op_of c ≡ Some o → (table key : ℕ) → Overwrites table key c → Overwriting table key (record { asked = c; answer = answer.Replied r })
-  replied_over r o is table key (inl put) = inl (put, (r, refl))
-  replied_over r o is table key (inr (inl del)) = inr (inl (del, (r, refl)))
-  replied_over r o is table key (inr (inr tidy)) = let never : None ≡ Some o = sym (ap op_of tidy) ∙ is in cc
-
-  cut_over : (cells : ℕ) → op_of c ≡ None → (table key : ℕ) → Overwrites table key c → Overwriting table key (record { asked = c; answer = answer.Cut cells })
-  cut_over cells is table key (inl put) = let never : op_of (command.Put table key put.0) ≡ None = sym (ap op_of put.1) ∙ is in cc
-  cut_over cells is table key (inr (inl del)) = let never : op_of (command.Del table key) ≡ None = sym (ap op_of del) ∙ is in cc
-  cut_over cells is table key (inr (inr tidy)) = inr (inr (tidy, (cells, refl)))
 
   front_did : (a : Answer) → (IsReplied a → ⊥) → (IsTidied a → ⊥) → (f : View) (seat : ℕ) (why : RowStop) (v t : View) (cut : WereCutBeside f seat (FrontOf c) (AsksOf c) why v t)
       → LineDid (record { asked = c; answer = a }) cut.events
@@ -221,13 +199,13 @@ module _ (keys : KeyLaws) (c : Command) (k : ℕ) (named : table_of c ≡ Some k
     once_marks : (a : Answer) → DidOnce f seat c a at t → AreMarks (heard seat (Some c) a p) (t.session seat)
     once_marks (answer.Replied r) (o, is, beside) =
         whole_line (answer.Replied r) (record { op = o; reply = r } ∷ []) beside
-        (line_did (answer.Replied r) beside.did.events (replied_over r o is)
+        (line_did c (answer.Replied r) beside.did.events (replied_over c r o is)
         (whole_did keys beside.did.events c k named range r o is (λ rows sound agrees. beside.did.of rows sound agrees)
         (λ rows sound agrees. beside.did.right (record { op = o; reply = r }) refl rows sound agrees)))
         (λ q asked p. refl)
     once_marks (answer.Cut cells) (none, few, beside) =
         whole_line (answer.Cut cells) [] beside
-        (line_did (answer.Cut cells) beside.did.events (cut_over cells none)
+        (line_did c (answer.Cut cells) beside.did.events (cut_over c cells none)
         (tidy_did keys beside.did.events c k named range cells none (λ rows sound agrees. beside.did.of rows sound agrees)))
         (λ q asked p. refl)
     once_marks a did = refused_as a (λ replied. let never : None ≡ Some replied.0 = replied.1 in cc) (λ tidied. let other = tidied.1 in cc) did

@@ -1,5 +1,5 @@
 -- What the lines of a session's transactions tell of the records that these touched, and how moves that touch none leave it.
-use Rattle.std.proofs.Common.{◌≡◌, ℕ, List, [], ◌∷◌, ◌++◌, Option, Some, None, inl, inr, refl, sym, subst}
+use Rattle.std.proofs.Common.{◌≡◌, ℕ, List, [], ◌∷◌, ◌++◌, Option, Some, sym, subst}
 use Rattle.std.specs.Option.{option_map, option_to_list}
 use Rattle.erm_model.specs.declared.outcome.Phase.TheVariants.{Active}
 use Rattle.erm_model.specs.Run.{Step}
@@ -9,12 +9,11 @@ use Rattle.erm_world.specs.World.{Fate, Finished, Session, Stand, Work, phase_of
 use Rattle.erm_world.specs.World as world
 use Rattle.erm_maps.specs.Runs.{IsRunOf}
 use Rattle.erm_good_report.specs.Transactions.{Ending, Exchange, Progress, Transaction, ended, heard, with_ending, with_line}
-use Rattle.erm_causes.proofs.Moves.{work_now}
 use Rattle.erm_causes.proofs.Operated.{EndsBy, GoesOnBy}
-use Rattle.erm_causes.proofs.Quiet.{HasNow, SameLines, SameNow}
+use Rattle.erm_causes.proofs.Quiet.{HasNow, SameLines}
 use Rattle.erm_causes_at_once.proofs.Quieted.{Quieted, begins, done, seals, still}
 use Rattle.erm_tight.proofs.Marks.{Marks, marks_nothing}
-use Rattle.erm_tight.proofs.Moves.{HasMarks, MarkedNow, now_active}
+use Rattle.erm_tight.proofs.Moves.{MarkedNow, now_active, now_has, now_same}
 
 -- one that is over tells it where it was sealed
 abbrev pub MarksOne : Transaction → Finished → Type 0
@@ -36,32 +35,11 @@ marks_push [] (h ∷ gs) t g marks one = absurd marks
 marks_push (u ∷ ts) [] t g marks one = absurd marks
 marks_push (u ∷ ts) (h ∷ gs) t g marks one = (marks.0, marks_push ts gs t g marks.1 one)
 
--- where no line changed
-now_same : (current other : Option Transaction) (stand : Stand) → SameNow current other → MarkedNow current stand → MarkedNow other stand
-now_same None None stand same now = now
-now_same None (Some u) stand same now = absurd same
-now_same (Some t) None stand same now = absurd same
-now_same (Some t) (Some u) world.idle same now = absurd now
-now_same (Some t) (Some u) (world.active w) same now = (subst (λ (es : List Exchange). Marks es w) (sym same) now.0, now.1)
-now_same (Some t) (Some u) (world.sealed w stamp) same now = subst (λ (es : List Exchange). Marks es w) (sym same) now
-
 same_marks : (p q : Progress) (s : Session) → SameLines p q → AreMarks p s → AreMarks q s
 same_marks p q s same marks = record {
   over = subst (λ (ts : List Transaction). MarksOver ts s.over) (sym same.0) marks.over;
   now = now_same p.current q.current s.stand same.1 marks.now;
 }
-
--- the transaction in progress, sealed or not
-now_has : (current : Option Transaction) (stand : Stand) (w : Work) → MarkedNow current stand → HasNow stand w → HasMarks current w
-now_has None world.idle w now (inl active) = cc
-now_has None world.idle w now (inr (stamp, sealed)) = cc
-now_has None (world.active u) w now has = absurd now
-now_has None (world.sealed u stamp) w now has = absurd now
-now_has (Some t) world.idle w now has = absurd now
-now_has (Some t) (world.active u) w now has =
-    record { told = t; is = refl; marks = subst (λ (x : Work). Marks t.lines x) (work_now (world.active u) w has) now.0 }
-now_has (Some t) (world.sealed u stamp) w now has =
-    record { told = t; is = refl; marks = subst (λ (x : Work). Marks t.lines x) (work_now (world.sealed u stamp) w has) now }
 
 -- QUIET MOVES.
 pub sealed_marks : (p : Progress) (s : Session) (stamp : ℕ) → phase_of s.stand ≡ Active → AreMarks p s → AreMarks p (record { over = s.over; stand = world.sealed (work_of s.stand) stamp })

@@ -1,6 +1,7 @@
 -- The windows of the transactions that the report of an execution at once tells are tight.
 use Rattle.std.proofs.Common.{◌≡◌, ℕ, true, List, [], ◌∷◌, fold, map, sym, ap, ◌∙◌, subst}
 use Rattle.erm_model.specs.declared.outcome.Phase.TheVariants.{Active}
+use Rattle.erm_model.specs.History.{Makes}
 use Rattle.erm_model.specs.Member.{◌∈◌}
 use Rattle.erm_model.specs.Run.{Step}
 use Rattle.erm_model.proofs.Members.{∈-behind}
@@ -24,17 +25,18 @@ use Rattle.erm_lines_at_once.specs.Laws.{RunsAtOnceTell}
 use Rattle.erm_told.proofs.Executed.{hears, still_session}
 use Rattle.erm_told.proofs.Going.{continues_itself}
 use Rattle.erm_told_at_once.proofs.Runs.{all_say, close_of}
-use Rattle.erm_causes.proofs.Begun.{HistoryLaws}
 use Rattle.erm_causes.proofs.Quiet.{idle_with}
 use Rattle.erm_causes.proofs.Runs.{lines_range}
 use Rattle.erm_causes_at_once.proofs.Touched.{closes_range}
 use Rattle.erm_told_limits.proofs.Holds.{Laws}
+use Rattle.erm_told_limits.proofs.Given.{HistoryLaws}
+use Rattle.erm_tight.proofs.Found.{claimed_in}
 use Rattle.erm_tight.proofs.High.{tight_windows}
 use Rattle.erm_tight.proofs.Moves.{IsMarked, MarkedOver}
 use Rattle.erm_tight.proofs.Quiet.{IsBounded}
 use Rattle.erm_tight.proofs.Undecided.{IsOrderly, none_claimed}
 use Rattle.erm_tight.proofs.Whole.{KeyLaws}
-use Rattle.erm_tight_at_once.specs.Laws.{ClaimsStandAlone, RunsAtOnceHaveTightWindows}
+use Rattle.erm_tight_at_once.specs.Laws.{RunsAtOnceHaveTightWindows}
 use Rattle.erm_tight_at_once.proofs.Bounded.{bounded}
 use Rattle.erm_tight_at_once.proofs.Marked.{AreMarks, MarksOver}
 use Rattle.erm_tight_at_once.proofs.Walked.{run_marks}
@@ -94,12 +96,13 @@ module _ (keys : KeyLaws) (laws : Laws) (histories : HistoryLaws) (begun : (numb
   idle_at seat session = idle_with (f.session seat).stand (run.idle seat session)
 
   -- In the end no transaction is in progress, and one that was excluded has its numbers.
-  orderly : ClaimsStandAlone f → IsOrderly f
-  orderly claims = record {
+  orderly : IsOrderly f
+  orderly = record {
     excluded = λ seat stamp succ pred w session was. record {
       decided = λ u within less. record {
         reads = λ overwrites. (run.ends.excluded seat w stamp succ pred session was).0.at_most_each u (within, less, overwrites);
-        claims = λ x is makes. claims.alone seat w stamp succ pred x u session was is within makes less;
+        claims = λ x is makes.
+            let claim = claimed_in w.claims x is in run.ends.alone seat w stamp succ pred claim.0 u session was claim.1 within (subst (λ (n : ℕ). Makes u n) (sym claim.2) makes) less;
       };
       undecided = λ q seen y in_f stand less. absurd (never_sealed (f.session q).stand y seen (idle_at q in_f) stand);
     };
@@ -108,11 +111,11 @@ module _ (keys : KeyLaws) (laws : Laws) (histories : HistoryLaws) (begun : (numb
     earlier = λ seat stamp g session active within is. absurd (never_active (f.session seat).stand (idle_at seat session) active);
   }
 
-  pub tight : ClaimsStandAlone f → HaveTightWindows (transactions_of v.opening.sessions (places_of script answers closed))
-  tight claims =
+  pub tight : HaveTightWindows (transactions_of v.opening.sessions (places_of script answers closed))
+  tight =
       tight_windows histories f v.opening.sessions said holds (ap (λ (o : world.Opening). o.sessions) (sym run.opening))
-      (λ seat session. tell v f script answers closed run seat (session_first seat session)) marked (orderly claims)
+      (λ seat session. tell v f script answers closed run seat (session_first seat session)) marked orderly
 
 pub have_tight_windows : KeyLaws → Laws → HistoryLaws → ((number begin : ℕ) → IsRunOf (world.begun number begin) [])
     → ((w u : Work) (steps : List Step) → Extends w u → IsAnswered w steps → IsAnswered u steps) → RunsAtOnceTell → RunsAtOnceHaveTightWindows
-have_tight_windows keys laws histories begun stay tell v f script answers closed run claims = tight keys laws histories begun stay tell v f script answers closed run claims
+have_tight_windows keys laws histories begun stay tell v f script answers closed run = tight keys laws histories begun stay tell v f script answers closed run

@@ -4,8 +4,7 @@
 
 ghost use Rattle.erm_tight_at_once.specs.Laws.{RunsAtOnceHaveTightWindows};
 
-/// Where no commit made a version of what an excluded transaction had claimed, from its begin up to its stamp, the window of each
-/// transaction that the report tells with its commit stamp is tight, whether it committed or was excluded.
+/// The window of each transaction that the report tells with its commit stamp is tight, whether it committed or was excluded.
 pub fn runs_at_once_have_tight_windows()
     ensures { RunsAtOnceHaveTightWindows }
 {

@@ -1,6 +1,6 @@
 -- The stamps that a line tells lie between the ends of the log before and after it, those that it prints of others and a place that it tells to be
 -- flushed below the latter.
-use Rattle.std.proofs.Common.{◌≡◌, ℕ, ◌+◌, ◌<◌, ◌≤◌, List, Bool, true, false, cond, [], ◌∷◌, Option, Some, None, refl, sym, ap, ◌∙◌, subst, inl, inr, ⊎_elim, arith}
+use Rattle.std.proofs.Common.{◌≡◌, ℕ, ◌+◌, ◌<◌, ◌≤◌, List, Bool, true, false, cond, [], ◌∷◌, Option, Some, None, refl, sym, ap, ◌∙◌, subst, inl, ⊎_elim, arith}
 use Rattle.erm_model.specs.declared.limits.TheConstants.{LEAST_BLOCK, STOP}
 use Rattle.erm_model.specs.declared.row_stop.RowStop.{RowStop}
 use Rattle.erm_model.specs.declared.row_stop.RowStop.TheVariants as stop
@@ -41,11 +41,11 @@ no_number None n P none some = absurd (cc)
 no_number (Some m) n P none some = absurd (cc)
 
 -- what tells no stamp draws none
-decided_none : (b : Bool) (o : Option ℕ) → o ≡ None → cond b o None ≡ None
+pub decided_none : (b : Bool) (o : Option ℕ) → o ≡ None → cond b o None ≡ None
 decided_none true o is = is
 decided_none false o is = refl
 
-drawn_none : (asked : Option Command) (a : Answer) → stamp_told a ≡ None → stamp_drawn asked a ≡ None
+pub drawn_none : (asked : Option Command) (a : Answer) → stamp_told a ≡ None → stamp_drawn asked a ≡ None
 drawn_none asked (answer.Sealed stamp) is = absurd (cc)
 drawn_none asked a is = decided_none (asks_commit asked) (stamp_told a) is
 
@@ -117,7 +117,7 @@ begin_draws v seat begin asked t (few, room, is, now) = record {
 }
 
 -- A SEAL draws it too, and the block goes behind it.
-block_fits : (v : View) (seat stamp : ℕ) (t : View) → DidSeal v seat stamp t → stamp + LEAST_BLOCK ≤ t.tail
+pub block_fits : (v : View) (seat stamp : ℕ) (t : View) → DidSeal v seat stamp t → stamp + LEAST_BLOCK ≤ t.tail
 block_fits v seat stamp t did =
     let enough : LEAST_BLOCK ≤ size_of (work_at v seat) = omega arith in
     omega (arith, enough, did.stamp_is, did.tail)

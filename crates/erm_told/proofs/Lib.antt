@@ -1,6 +1,7 @@
 pub mod Closing
 pub mod Courses
 pub mod Cutting
+pub mod Differing
 pub mod Drawing
 pub mod Ended
 pub mod Endings

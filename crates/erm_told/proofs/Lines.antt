@@ -35,14 +35,14 @@ phase_refuses (Some Sealed) Idle r is = subst (λ (a : Answer). refusal_in a ≡
 phase_refuses (Some Sealed) Active r is = subst (λ (a : Answer). refusal_in a ≡ Some a) (the_answer answer.NotSealed r is) refl
 phase_refuses (Some Sealed) Sealed r is = cc
 
-quiet_phase : (asked : Option Command) (r : Answer) (phase : Phase) → refusal_in r ≡ Some r → phase_after asked r phase ≡ phase
+pub quiet_phase : (asked : Option Command) (r : Answer) (phase : Phase) → refusal_in r ≡ Some r → phase_after asked r phase ≡ phase
 quiet_phase asked answer.NotIdle phase is = refl
 quiet_phase asked answer.NoTransaction phase is = refl
 quiet_phase asked answer.IsSealed phase is = refl
 quiet_phase asked answer.NotSealed phase is = refl
 quiet_phase asked r phase is = absurd (cc)
 
-quiet_heard : (seat : ℕ) (asked : Option Command) (r : Answer) (p : Progress) → refusal_in r ≡ Some r → heard seat asked r p ≡ p
+pub quiet_heard : (seat : ℕ) (asked : Option Command) (r : Answer) (p : Progress) → refusal_in r ≡ Some r → heard seat asked r p ≡ p
 quiet_heard seat asked answer.NotIdle p is = refl
 quiet_heard seat asked answer.NoTransaction p is = refl
 quiet_heard seat asked answer.IsSealed p is = refl

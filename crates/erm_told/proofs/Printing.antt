@@ -1,5 +1,5 @@
 -- A stamp that a refusal prints, that of a session waited for or of a newer commit, lies below the end of the log.
-use Rattle.std.proofs.Common.{◌≡◌, ℕ, ◌<◌, ◌≤◌, List, Option, Some, None, refl, sym, ap, ◌∙◌, inl, inr, subst, arith}
+use Rattle.std.proofs.Common.{◌≡◌, ℕ, ◌<◌, ◌≤◌, Option, Some, None, refl, sym, ap, ◌∙◌, inl, inr, subst, arith}
 use Rattle.erm_model.specs.RowTransaction.{Asked, asked_claim, asked_make, asked_read}
 use Rattle.erm_model.specs.declared.history.TransactionRecord.{TransactionRecord}
 use Rattle.erm_model.specs.declared.row_stop.RowStop.{RowStop}
@@ -7,7 +7,6 @@ use Rattle.erm_model.specs.declared.row_stop.RowStop.TheVariants as stop
 use Rattle.erm_model.specs.Member.{◌∈◌}
 use Rattle.erm_node.specs.Sound.{sound_law}
 use Rattle.erm_report.specs.declared.answer.Answer.{Answer}
-use Rattle.erm_report.specs.declared.answer.Answer.TheVariants as answer
 use Rattle.erm_world.specs.Calls.{DidNotSettle, IsAhead, IsDone, IsInTheWay, IsNewer, IsSealedBelow, has_read, overwrites}
 use Rattle.erm_world.specs.declared.stops.Wait.TheVariants as wait
 use Rattle.erm_world.specs.Face.{WasRefused}

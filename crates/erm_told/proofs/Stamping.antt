@@ -1,6 +1,6 @@
 -- The stamps that the report of a run tells agree.
-use Rattle.std.proofs.Common.{◌≡◌, ◌≢◌, ℕ, ◌+◌, ◌<◌, ◌≤◌, List, IfSome, Some, sym, ap, ◌∙◌, arith}
-use Rattle.erm_model.specs.declared.limits.TheConstants.{LEAST_BLOCK, STOP}
+use Rattle.std.proofs.Common.{◌≢◌, ℕ, ◌+◌, ◌<◌, ◌≤◌, List, IfSome, Some, sym, ap, ◌∙◌, arith}
+use Rattle.erm_model.specs.declared.limits.TheConstants.{LEAST_BLOCK}
 use Rattle.erm_model.specs.Member.{◌∈◌}
 use Rattle.erm_node.specs.Sound.{sound_law}
 use Rattle.erm_report.specs.declared.answer.Answer.{Answer}
@@ -12,7 +12,7 @@ use Rattle.erm_good_report.specs.GoodReport.{places_of}
 use Rattle.erm_good_report.specs.Opening.{InTurn, Opening}
 use Rattle.erm_good_report.specs.Phases.{Closed}
 use Rattle.erm_good_report.specs.Stamps.{StampsAgree, Told, begin_told, place_told, stamp_drawn, stamp_printed}
-use Rattle.erm_good_report.specs.Transactions.{Said, Transaction, said_of, stamp_of, transactions_of}
+use Rattle.erm_good_report.specs.Transactions.{Transaction, said_of, stamp_of, transactions_of}
 use Rattle.erm_lines.specs.Executions.{AreClosed, IsCourse, IsOpeningOf}
 use Rattle.erm_lines.specs.Laws.{ExecutionsGoOn, ExecutionsTell, OfCourses}
 use Rattle.erm_told.proofs.Ended.{at_end, opening_is, report}

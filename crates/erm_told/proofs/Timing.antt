@@ -55,7 +55,7 @@ before_of m n a b draws later = record {
   begins_ascend = λ first last told then_told. le_trans (draws.begin first told).1 (later.begin last then_told);
 }
 
-later_still : (m n : ℕ) (s : Said) → m ≤ n → Later n s → Later m s
+pub later_still : (m n : ℕ) (s : Said) → m ≤ n → Later n s → Later m s
 later_still m n s less later = record {
   begin = λ stamp told. le_trans less (later.begin stamp told);
   drawn = λ stamp told. le_trans less (later.drawn stamp told);

@@ -1,6 +1,6 @@
 -- The stamps that an own line tells lie between the ends of the log that the session knows before and after it, and what it met of others below the
 -- latter.
-use Rattle.std.proofs.Common.{◌≡◌, ◌⊎◌, ℕ, zero, suc, ◌+◌, ◌<◌, ◌≤◌, Bool, true, false, cond, List, [], ◌∷◌, ◌++◌, Option, Some, None, refl, sym, ap, ◌∙◌, subst, inl, inr, ⊎_elim, arith, le_trans}
+use Rattle.std.proofs.Common.{◌≡◌, ◌⊎◌, ℕ, zero, suc, ◌+◌, ◌<◌, ◌≤◌, List, [], ◌∷◌, ◌++◌, length, Option, Some, None, refl, sym, ap, ◌∙◌, subst, inl, inr, ⊎_elim, arith, le_trans}
 use Rattle.erm_model.specs.declared.limits.TheConstants.{LEAST_BLOCK}
 use Rattle.erm_model.specs.declared.outcome.Phase.{Phase}
 use Rattle.erm_model.specs.declared.outcome.Phase.TheVariants.{Idle, Active, Sealed}
@@ -20,17 +20,17 @@ use Rattle.erm_script.specs.declared.script.ScriptLine.{ScriptLine}
 use Rattle.erm_world.specs.Calls.{DidSeal, IsDone}
 use Rattle.erm_world.specs.Face.{Grows, ends, same, works}
 use Rattle.erm_world.specs.Onward.{grows_then}
-use Rattle.erm_world.specs.World.{Fate, Finished, Has, IsSession, Session, Stand, View, Work, phase_at, phase_of, size_of, stamp_of, work_at}
+use Rattle.erm_world.specs.World.{Fate, Finished, Has, IsSession, Session, Stand, View, Work, phase_at, phase_of, size_of, stamp_of, work_at, work_of}
 use Rattle.erm_world.specs.World as world
-use Rattle.erm_good_report.specs.Phases.{FitsRefusal, asks_commit, phase_asked, refusal_in, refusal_of}
+use Rattle.erm_good_report.specs.Phases.{FitsRefusal, phase_asked, refusal_in, refusal_of}
 use Rattle.erm_good_report.specs.Stamps.{IsWait, begin_told, place_told, stamp_drawn, stamp_printed, stamp_told}
 use Rattle.erm_good_at_once.specs.Rising.{stamp_met}
 use Rattle.erm_lines.specs.Answers.{IsLastCommit}
 use Rattle.erm_lines.specs.Operations.{AsksOf, DidCalls, FrontOf, WholeOf}
 use Rattle.erm_beside.specs.Calls.{After, DidBeginBeside, Passes, RefusedBeside}
-use Rattle.erm_beside.specs.Ends.{MetBeside}
+use Rattle.erm_beside.specs.Ends.{Aborted, MetBeside}
 use Rattle.erm_beside.proofs.Txns.{stopped_after}
-use Rattle.erm_told.proofs.Drawing.{no_number, stamp_at, the_number}
+use Rattle.erm_told.proofs.Drawing.{block_fits, drawn_none, no_number, stamp_at, the_number}
 use Rattle.erm_told.proofs.Lines.{phase_refuses}
 use Rattle.erm_told.proofs.Operations.{the_answer}
 use Rattle.erm_lines_at_once.specs.Answers.{DidAskedBeside, DidCommandBeside, DidCommitBeside, DidDecideBeside, DidLineBeside}
@@ -45,77 +45,74 @@ HasDrawn s stamp = ((f : Finished) × (f ∈ s.over) × (stamp_of f.fate ≡ Som
 abbrev pub LieBelow : ℕ → View → Type 0
 LieBelow seat v = (stamp : ℕ) → HasDrawn (v.session seat) stamp → stamp < v.tail
 
--- a transaction that has claimed what the line asked for
-pub record IsOwner (f : View) (other number place : ℕ) : Type 0 where
+-- A transaction that has tried to claim what the line asked for: the own one is the last that is over. The other began below where the log ends, or in
+-- any case below what the session begins after its own one.
+pub record IsOwner (f : View) (seat : ℕ) (t : View) (other number : ℕ) : Type 0 where
   pub session : IsSession f other
   pub work : Work
   pub has : Has f other work
   pub number_is : work.number ≡ number
-  pub begun : work.begin ≤ place
+  pub own : Work
+  pub over : Aborted t seat own
+  pub begun : (work.begin ≤ t.tail) ⊎ ((u : Work) → Has f seat u → own.number < u.number → work.begin ≤ u.begin)
 
--- the stamps that an answer tells, the place that it tells to be flushed, and what it met of others, beside the ends of the log before and after
-pub record DrawsBeside (f : View) (m n : ℕ) (asked : Option Command) (a : Answer) : Type 0 where
-  pub begin : (stamp : ℕ) → begin_told a ≡ Some stamp → (m ≤ stamp) × (stamp ≤ n)
-  pub printed : (stamp : ℕ) → stamp_printed a ≡ Some stamp → stamp < n
-  pub drawn : (stamp : ℕ) → stamp_drawn asked a ≡ Some stamp → (m ≤ stamp) × (stamp + LEAST_BLOCK ≤ n)
-  pub placed : (place : ℕ) → place_told a ≡ Some place → place ≤ n
-  pub met : (stamp : ℕ) → stamp_met a ≡ Some stamp → stamp < n
-  pub owned : (other number : ℕ) → a ≡ answer.Owned other number → IsOwner f other number n
+-- the session has just begun a transaction with this stamp
+abbrev pub Begins : ℕ → Session → Type 0
+Begins stamp s = (over : List Finished) × (s ≡ record { over = over; stand = world.active (world.begun (length over + 1) stamp) })
+
+-- the stamps that an answer tells, the place that it tells to be flushed, what it began, and what it met of others, beside the ends of the log before
+-- and after
+pub record DrawsBeside (f : View) (seat m : ℕ) (t : View) (asked : Option Command) (a : Answer) : Type 0 where
+  pub begin : (stamp : ℕ) → begin_told a ≡ Some stamp → (m ≤ stamp) × (stamp ≤ t.tail)
+  pub begun : (stamp : ℕ) → begin_told a ≡ Some stamp → Begins stamp (t.session seat)
+  pub printed : (stamp : ℕ) → stamp_printed a ≡ Some stamp → stamp < t.tail
+  pub drawn : (stamp : ℕ) → stamp_drawn asked a ≡ Some stamp → (m ≤ stamp) × (stamp + LEAST_BLOCK ≤ t.tail)
+  pub placed : (place : ℕ) → place_told a ≡ Some place → place ≤ t.tail
+  pub met : (stamp : ℕ) → stamp_met a ≡ Some stamp → stamp < t.tail
+  pub owned : (other number : ℕ) → a ≡ answer.Owned other number → IsOwner f seat t other number
   pub waits : IsWait a → ⊥
 
--- what tells no stamp draws none
-decided_none : (b : Bool) (o : Option ℕ) → o ≡ None → cond b o None ≡ None
-decided_none true o is = is
-decided_none false o is = refl
-
-drawn_none : (asked : Option Command) (a : Answer) → stamp_told a ≡ None → stamp_drawn asked a ≡ None
-drawn_none asked (answer.Sealed stamp) is = absurd (cc)
-drawn_none asked a is = decided_none (asks_commit asked) (stamp_told a) is
-
 -- it tells nothing, or what it met of others alone
-module _ (f : View) (m n : ℕ) (asked : Option Command) (a : Answer) where
-  meets : begin_told a ≡ None → stamp_told a ≡ None → place_told a ≡ None → (IsWait a → ⊥) → ((stamp : ℕ) → stamp_printed a ≡ Some stamp → stamp < n)
-      → ((stamp : ℕ) → stamp_met a ≡ Some stamp → stamp < n) → ((other number : ℕ) → a ≡ answer.Owned other number → IsOwner f other number n) → DrawsBeside f m n asked a
+module _ (f : View) (seat m : ℕ) (t : View) (asked : Option Command) (a : Answer) where
+  meets : begin_told a ≡ None → stamp_told a ≡ None → place_told a ≡ None → (IsWait a → ⊥) → ((stamp : ℕ) → stamp_printed a ≡ Some stamp → stamp < t.tail)
+      → ((stamp : ℕ) → stamp_met a ≡ Some stamp → stamp < t.tail) → ((other number : ℕ) → a ≡ answer.Owned other number → IsOwner f seat t other number) → DrawsBeside f seat m t asked a
   meets no_begin no_stamp no_place waits printed met owned = record {
-    begin = λ stamp is. no_number (begin_told a) stamp ((m ≤ stamp) × (stamp ≤ n)) no_begin is;
+    begin = λ stamp is. no_number (begin_told a) stamp ((m ≤ stamp) × (stamp ≤ t.tail)) no_begin is;
+    begun = λ stamp is. no_number (begin_told a) stamp (Begins stamp (t.session seat)) no_begin is;
     printed = printed;
-    drawn = λ stamp is. no_number (stamp_drawn asked a) stamp ((m ≤ stamp) × (stamp + LEAST_BLOCK ≤ n)) (drawn_none asked a no_stamp) is;
-    placed = λ place is. no_number (place_told a) place (place ≤ n) no_place is;
+    drawn = λ stamp is. no_number (stamp_drawn asked a) stamp ((m ≤ stamp) × (stamp + LEAST_BLOCK ≤ t.tail)) (drawn_none asked a no_stamp) is;
+    placed = λ place is. no_number (place_told a) place (place ≤ t.tail) no_place is;
     met = met;
     owned = owned;
     waits = waits;
   }
 
   silent : begin_told a ≡ None → stamp_told a ≡ None → place_told a ≡ None → (IsWait a → ⊥) → stamp_printed a ≡ None → stamp_met a ≡ None
-      → ((other number : ℕ) → a ≡ answer.Owned other number → ⊥) → DrawsBeside f m n asked a
+      → ((other number : ℕ) → a ≡ answer.Owned other number → ⊥) → DrawsBeside f seat m t asked a
   silent no_begin no_stamp no_place waits no_print no_met no_owner =
-      meets no_begin no_stamp no_place waits (λ stamp is. no_number (stamp_printed a) stamp (stamp < n) no_print is) (λ stamp is. no_number (stamp_met a) stamp (stamp < n) no_met is)
+      meets no_begin no_stamp no_place waits (λ stamp is. no_number (stamp_printed a) stamp (stamp < t.tail) no_print is) (λ stamp is. no_number (stamp_met a) stamp (stamp < t.tail) no_met is)
       (λ other number is. absurd (no_owner other number is))
 
--- further ends
-pub wider : (f : View) (m n x y : ℕ) (asked : Option Command) (a : Answer) → x ≤ m → n ≤ y → DrawsBeside f m n asked a → DrawsBeside f x y asked a
-wider f m n x y asked a low high draws = record {
-  begin = λ stamp is. let r = draws.begin stamp is in (le_trans low r.0, le_trans r.1 high);
-  printed = λ stamp is. omega (arith, draws.printed stamp is, high);
-  drawn = λ stamp is. let r = draws.drawn stamp is in (le_trans low r.0, le_trans r.1 high);
-  placed = λ place is. le_trans (draws.placed place is) high;
-  met = λ stamp is. omega (arith, draws.met stamp is, high);
-  owned = λ other number is. let r = draws.owned other number is in record { session = r.session; work = r.work; has = r.has; number_is = r.number_is; begun = le_trans r.begun high };
-  waits = draws.waits;
-}
-
-phase_silent : (f : View) (m n : ℕ) (asked : Option Command) (a : Answer) → refusal_in a ≡ Some a → DrawsBeside f m n asked a
-phase_silent f m n asked answer.NotIdle is = silent f m n asked answer.NotIdle refl refl refl (λ none. none) refl refl (λ other number is. cc)
-phase_silent f m n asked answer.NoTransaction is = silent f m n asked answer.NoTransaction refl refl refl (λ none. none) refl refl (λ other number is. cc)
-phase_silent f m n asked answer.IsSealed is = silent f m n asked answer.IsSealed refl refl refl (λ none. none) refl refl (λ other number is. cc)
-phase_silent f m n asked answer.NotSealed is = silent f m n asked answer.NotSealed refl refl refl (λ none. none) refl refl (λ other number is. cc)
-phase_silent f m n asked a is = absurd (cc)
+phase_silent : (f : View) (seat m : ℕ) (t : View) (asked : Option Command) (a : Answer) → refusal_in a ≡ Some a → DrawsBeside f seat m t asked a
+phase_silent f seat m t asked answer.NotIdle is = silent f seat m t asked answer.NotIdle refl refl refl (λ none. none) refl refl (λ other number is. cc)
+phase_silent f seat m t asked answer.NoTransaction is = silent f seat m t asked answer.NoTransaction refl refl refl (λ none. none) refl refl (λ other number is. cc)
+phase_silent f seat m t asked answer.IsSealed is = silent f seat m t asked answer.IsSealed refl refl refl (λ none. none) refl refl (λ other number is. cc)
+phase_silent f seat m t asked answer.NotSealed is = silent f seat m t asked answer.NotSealed refl refl refl (λ none. none) refl refl (λ other number is. cc)
+phase_silent f seat m t asked a is = absurd (cc)
 
 -- WHAT WAS MET.
 owner_met : (f : View) (seat : ℕ) (asked : Asked) (other number : ℕ) (v t : View) → After seat (RefusedBeside seat asked (stop.Owned other number)) v t
-    → MetBeside f seat asked (stop.Owned other number) v t → IsOwner f other number t.tail
+    → MetBeside f seat asked (stop.Owned other number) v t → IsOwner f seat t other number
 owner_met f seat (asked_read oid) other number v t (u, passes, did) met = absurd did
-owner_met f seat (asked_claim oid) other number v t did met = record { session = met.session; work = met.work; has = met.has; number_is = met.number_is; begun = met.begun }
+owner_met f seat (asked_claim oid) other number v t (u, passes, (may, done)) met = record {
+  session = met.session;
+  work = met.work;
+  has = met.has;
+  number_is = met.number_is;
+  own = work_at v seat;
+  over = subst (λ (s : Session). Aborted t seat (work_of s.stand)) passes.own ((u.session seat).over, ap (λ (s : Session). s.over) done.own);
+  begun = met.begun;
+}
 owner_met f seat asked_make other number v t (u, passes, did) met = absurd did
 
 newer_met : (f : View) (seat : ℕ) (asked : Asked) (stamp : ℕ) (v t : View) → After seat (RefusedBeside seat asked (stop.Newer stamp)) v t
@@ -135,30 +132,30 @@ one_owner a b c d is = (cc, cc)
 
 module _ (f : View) (seat : ℕ) (c : Command) (v t : View) (m : ℕ) where
   abbrev At : Answer → Type 0
-  At a = DrawsBeside f m t.tail (Some c) a
+  At a = DrawsBeside f seat m t (Some c) a
 
   cut_draws : (a : Answer) (why : RowStop) → told_at_once why ≡ Some a → WereCutBeside f seat (FrontOf c) (AsksOf c) why v t → At a
   cut_draws a (stop.NotYet other seen) told cut = cc
   cut_draws a stop.ReadsFull told cut =
-      subst At (the_answer answer.ReadsFull a told) (silent f m t.tail (Some c) answer.ReadsFull refl refl refl (λ none. none) refl refl (λ other number is. cc))
+      subst At (the_answer answer.ReadsFull a told) (silent f seat m t (Some c) answer.ReadsFull refl refl refl (λ none. none) refl refl (λ other number is. cc))
   cut_draws a (stop.Owned other number) told cut =
       subst At (the_answer (answer.Owned other number) a told)
-      (meets f m t.tail (Some c) (answer.Owned other number) refl refl refl (λ none. none) (λ stamp is. cc) (λ stamp is. cc)
+      (meets f seat m t (Some c) (answer.Owned other number) refl refl refl (λ none. none) (λ stamp is. cc) (λ stamp is. cc)
       (λ x y is. let names = one_owner other number x y is in
-      subst (λ (q : ℕ). IsOwner f q y t.tail) names.0 (subst (λ (k : ℕ). IsOwner f other k t.tail) names.1 (owner_met f seat cut.asked other number cut.at t cut.refused cut.met))))
+      subst (λ (q : ℕ). IsOwner f seat t q y) names.0 (subst (λ (k : ℕ). IsOwner f seat t other k) names.1 (owner_met f seat cut.asked other number cut.at t cut.refused cut.met))))
   cut_draws a (stop.Newer stamp) told cut =
       subst At (the_answer (answer.Newer stamp) a told)
-      (meets f m t.tail (Some c) (answer.Newer stamp) refl refl refl (λ none. none)
+      (meets f seat m t (Some c) (answer.Newer stamp) refl refl refl (λ none. none)
       (λ other is. omega (arith, newer_met f seat cut.asked stamp cut.at t cut.refused cut.met, the_number stamp other is)) (λ other is. cc) (λ other number is. cc))
   cut_draws a stop.WritesFull told cut =
-      subst At (the_answer answer.WritesFull a told) (silent f m t.tail (Some c) answer.WritesFull refl refl refl (λ none. none) refl refl (λ other number is. cc))
+      subst At (the_answer answer.WritesFull a told) (silent f seat m t (Some c) answer.WritesFull refl refl refl (λ none. none) refl refl (λ other number is. cc))
   cut_draws a (stop.CellsFull drawn) told cut =
-      subst At (the_answer (answer.CellsFull drawn) a told) (silent f m t.tail (Some c) (answer.CellsFull drawn) refl refl refl (λ none. none) refl refl (λ other number is. cc))
+      subst At (the_answer (answer.CellsFull drawn) a told) (silent f seat m t (Some c) (answer.CellsFull drawn) refl refl refl (λ none. none) refl refl (λ other number is. cc))
   cut_draws a (stop.OidsFull drawn) told cut =
-      subst At (the_answer (answer.OidsFull drawn) a told) (silent f m t.tail (Some c) (answer.OidsFull drawn) refl refl refl (λ none. none) refl refl (λ other number is. cc))
+      subst At (the_answer (answer.OidsFull drawn) a told) (silent f seat m t (Some c) (answer.OidsFull drawn) refl refl refl (λ none. none) refl refl (λ other number is. cc))
   cut_draws a (stop.Excluded succ pred) told cut =
       subst At (the_answer (answer.ExcludedEarly succ pred) a told)
-      (meets f m t.tail (Some c) (answer.ExcludedEarly succ pred) refl refl refl (λ none. none) (λ other is. cc)
+      (meets f seat m t (Some c) (answer.ExcludedEarly succ pred) refl refl refl (λ none. none) (λ other is. cc)
       (λ other is. omega (arith, shut_met f seat cut.asked succ pred cut.at t cut.refused cut.met, the_number pred other is)) (λ other number is. cc))
   cut_draws a stop.Memory told cut = cc
 
@@ -166,8 +163,8 @@ module _ (f : View) (seat : ℕ) (c : Command) (v t : View) (m : ℕ) where
   cut_draws_as a (why, told, cut) = cut_draws a why told cut
 
   once_draws : (a : Answer) → DidOnce f seat c a v t → At a
-  once_draws (answer.Replied r) did = silent f m t.tail (Some c) (answer.Replied r) refl refl refl (λ none. none) refl refl (λ other number is. cc)
-  once_draws (answer.Cut cells) did = silent f m t.tail (Some c) (answer.Cut cells) refl refl refl (λ none. none) refl refl (λ other number is. cc)
+  once_draws (answer.Replied r) did = silent f seat m t (Some c) (answer.Replied r) refl refl refl (λ none. none) refl refl (λ other number is. cc)
+  once_draws (answer.Cut cells) did = silent f seat m t (Some c) (answer.Cut cells) refl refl refl (λ none. none) refl refl (λ other number is. cc)
   once_draws a did = cut_draws_as a did
 
 -- A SESSION'S STAMPS. By calls of its transaction it draws none.
@@ -228,7 +225,7 @@ called_grew : (seat : ℕ) (steps : List Step) (kind : Rows → List Event → T
     → Beside seat (λ u w. DidCalls u seat steps kind w) v t → Grew seat v t
 called_grew seat steps kind v t active beside =
     let before : Reached seat v t = reached seat beside.did.events v t active
-    (record { from = beside.from; to = beside.to; starts = beside.starts; did = beside.did.ran; stops = beside.stops; opening = beside.opening; tail = beside.tail; flushed = beside.flushed }) in
+    (record { from = beside.from; to = beside.to; starts = beside.starts; did = beside.did.ran; stops = beside.stops; opening = beside.opening; tail = beside.tail; flushed = beside.flushed; given_up = beside.given_up }) in
     (before.grows, before.onward.tail)
 
 module _ (f : View) (seat : ℕ) (c : Command) (v t : View) (active : phase_at v seat ≡ Active) where
@@ -242,7 +239,7 @@ module _ (f : View) (seat : ℕ) (c : Command) (v t : View) (active : phase_at v
 
 -- THE LINE. What it tells lies between, and the session's stamps lie below still.
 pub record Drew (f : View) (seat : ℕ) (asked : Option Command) (a : Answer) (v t : View) : Type 0 where
-  pub draws : DrawsBeside f v.tail t.tail asked a
+  pub draws : DrawsBeside f seat v.tail t asked a
   pub below : LieBelow seat t
   pub up : v.tail ≤ t.tail
 
@@ -256,10 +253,10 @@ operation_drew f seat c a v t active below did =
     }
 
 -- nothing happened but that others went on
-still_drew : (f : View) (seat : ℕ) (asked : Option Command) (a : Answer) (v u t : View) → Passes seat v u → t ≡ u → LieBelow seat v → ((m n : ℕ) → n ≡ t.tail → LieBelow seat t → DrawsBeside f m n asked a) → Drew f seat asked a v t
+still_drew : (f : View) (seat : ℕ) (asked : Option Command) (a : Answer) (v u t : View) → Passes seat v u → t ≡ u → LieBelow seat v → ((m : ℕ) → LieBelow seat t → DrawsBeside f seat m t asked a) → Drew f seat asked a v t
 still_drew f seat asked a v u t passes is below draws =
     let there : LieBelow seat t = subst (λ (w : View). LieBelow seat w) (sym is) (lie_passes seat v u passes below) in record {
-      draws = draws v.tail t.tail refl there;
+      draws = draws v.tail there;
       below = there;
       up = omega (arith, passes.tail, ap (λ (w : View). w.tail) is);
     }
@@ -269,6 +266,7 @@ begin_drew f seat begin asked v u t passes (few, is, now) below = record {
   draws = record {
     begin = λ stamp told.
         let one = the_number begin stamp told in (omega (arith, is, one, passes.tail), omega (arith, is, one, now.tail));
+    begun = λ stamp told. subst (λ (n : ℕ). Begins n (t.session seat)) (the_number begin stamp told) ((u.session seat).over, now.own);
     printed = λ stamp told. no_number None stamp (stamp < t.tail) refl told;
     drawn = λ stamp told. no_number (stamp_drawn asked (answer.Began begin)) stamp ((v.tail ≤ stamp) × (stamp + LEAST_BLOCK ≤ t.tail)) (drawn_none asked (answer.Began begin) refl) told;
     placed = λ place told. no_number None place (place ≤ t.tail) refl told;
@@ -283,12 +281,6 @@ begin_drew f seat begin asked v u t passes (few, is, now) below = record {
     had : (stamp : ℕ) → HasDrawn (t.session seat) stamp → HasDrawn (u.session seat) stamp
     had stamp (inl (g, m, stamped)) = inl (g, subst (λ (s : Session). g ∈ s.over) now.own m, stamped)
     had stamp (inr (w, sealed)) = not_sealed (t.session seat).stand w stamp (HasDrawn (u.session seat) stamp) (ap (λ (s : Session). phase_of s.stand) now.own) sealed
-
--- a seal draws the end of the log, and the block goes behind it
-block_fits : (v : View) (seat stamp : ℕ) (t : View) → DidSeal v seat stamp t → stamp + LEAST_BLOCK ≤ t.tail
-block_fits v seat stamp t did =
-    let enough : LEAST_BLOCK ≤ size_of (work_at v seat) = omega arith in
-    omega (arith, enough, did.stamp_is, did.tail)
 
 sealed_below : (seat stamp : ℕ) (v u t : View) → Passes seat v u → DidSeal u seat stamp t → LieBelow seat v → LieBelow seat t
 sealed_below seat stamp v u t passes did below other has = from has
@@ -309,6 +301,7 @@ seal_drew f seat stamp asked v u t passes did below =
     let fits = block_fits u seat stamp t did in record {
       draws = record {
         begin = λ other told. no_number None other ((v.tail ≤ other) × (other ≤ t.tail)) refl told;
+        begun = λ other told. no_number None other (Begins other (t.session seat)) refl told;
         printed = λ other told. let one = the_number stamp other told in omega (arith, fits, one);
         drawn = λ other told. let one = the_number stamp other told in (omega (arith, one, did.stamp_is, passes.tail), omega (arith, fits, one));
         placed = λ place told. no_number None place (place ≤ t.tail) refl told;
@@ -393,6 +386,7 @@ settle_drew f seat a v t below did =
     let own : stamp < v.tail = below stamp (inr decided.stand) in record {
       draws = record {
         begin = λ x told. no_number (begin_told a) x ((v.tail ≤ x) × (x ≤ t.tail)) decided.begins told;
+        begun = λ x told. no_number (begin_told a) x (Begins x (t.session seat)) decided.begins told;
         printed = λ x told. omega (arith, own, decided.tail, the_number stamp x (sym decided.printed ∙ told));
         drawn = λ x told. no_number (stamp_drawn (Some command.Settle) a) x ((v.tail ≤ x) × (x + LEAST_BLOCK ≤ t.tail)) decided.settled told;
         placed = λ place told. no_number (place_told a) place (place ≤ t.tail) decided.places told;
@@ -414,6 +408,7 @@ commit_drew f seat a v t below did =
     let fits : did.stamp + LEAST_BLOCK ≤ m.tail = block_fits u seat did.stamp m sealed in record {
       draws = record {
         begin = λ x told. no_number (begin_told a) x ((v.tail ≤ x) × (x ≤ t.tail)) decided.begins told;
+        begun = λ x told. no_number (begin_told a) x (Begins x (t.session seat)) decided.begins told;
         printed = λ x told. omega (arith, fits, is, decided.tail, the_number stamp x (sym decided.printed ∙ told));
         drawn = λ x told.
             let one = the_number stamp x (sym decided.committed ∙ told) in
@@ -428,18 +423,19 @@ commit_drew f seat a v t below did =
     }
 
 -- a durable commit is one of the session's
-durable_draws : (f : View) (seat stamp : ℕ) (asked : Option Command) (u t : View) → t ≡ u → (end : ℕ) → IsLastCommit (u.session seat).over stamp end → (m n : ℕ) → n ≡ t.tail → LieBelow seat t
-    → DrawsBeside f m n asked (answer.Durable stamp)
-durable_draws f seat stamp asked u t is end last m n at below =
+durable_draws : (f : View) (seat stamp : ℕ) (asked : Option Command) (u t : View) → t ≡ u → (end : ℕ) → IsLastCommit (u.session seat).over stamp end → (m : ℕ) → LieBelow seat t
+    → DrawsBeside f seat m t asked (answer.Durable stamp)
+durable_draws f seat stamp asked u t is end last m below =
     let g : Finished = last.last in
     let over : g ∈ (u.session seat).over = subst (λ (fs : List Finished). g ∈ fs) (sym last.split) (∈-second last.front (g ∷ last.rest) g (∈-head g last.rest)) in
     let has : HasDrawn (t.session seat) stamp = subst (λ (w : View). HasDrawn (w.session seat) stamp) (sym is) (inl (g, over, ap stamp_of last.commits.2)) in
     let under : stamp < t.tail = below stamp has in record {
-      begin = λ x told. no_number None x ((m ≤ x) × (x ≤ n)) refl told;
-      printed = λ x told. omega (arith, under, at, the_number stamp x told);
-      drawn = λ x told. no_number (stamp_drawn asked (answer.Durable stamp)) x ((m ≤ x) × (x + LEAST_BLOCK ≤ n)) (drawn_none asked (answer.Durable stamp) refl) told;
-      placed = λ place told. omega (arith, under, at, the_number (stamp + 1) place told);
-      met = λ x told. no_number None x (x < n) refl told;
+      begin = λ x told. no_number None x ((m ≤ x) × (x ≤ t.tail)) refl told;
+      begun = λ x told. no_number None x (Begins x (t.session seat)) refl told;
+      printed = λ x told. omega (arith, under, the_number stamp x told);
+      drawn = λ x told. no_number (stamp_drawn asked (answer.Durable stamp)) x ((m ≤ x) × (x + LEAST_BLOCK ≤ t.tail)) (drawn_none asked (answer.Durable stamp) refl) told;
+      placed = λ place told. omega (arith, under, the_number (stamp + 1) place told);
+      met = λ x told. no_number None x (x < t.tail) refl told;
       owned = λ x y told. cc;
       waits = λ none. none;
     }
@@ -447,7 +443,7 @@ durable_draws f seat stamp asked u t is end last m n at below =
 -- an abort
 aborted_drew : (f : View) (seat : ℕ) (asked : Option Command) (v u t : View) (w : Work) → Passes seat v u → IsDone u seat w world.aborts t → LieBelow seat v → Drew f seat asked answer.Aborted v t
 aborted_drew f seat asked v u t w passes done below = record {
-  draws = silent f v.tail t.tail asked answer.Aborted refl refl refl (λ none. none) refl refl (λ other number is. cc);
+  draws = silent f seat v.tail t asked answer.Aborted refl refl refl (λ none. none) refl refl (λ other number is. cc);
   below = lie_still seat v t (λ stamp has. subst (λ (s : Session). HasDrawn s stamp) passes.own (from stamp has)) (omega (arith, passes.tail, done.tail)) below;
   up = omega (arith, passes.tail, done.tail);
 }
@@ -467,10 +463,10 @@ command_drew : (f : View) (seat : ℕ) (c : Command) (a : Answer) (v t : View) �
 command_drew f seat command.Begin (answer.Began stamp) v t none below (u, passes, did) = begin_drew f seat stamp (Some command.Begin) v u t passes did below
 command_drew f seat command.Begin (answer.LogEnd tail) v t none below (u, passes, did) =
     still_drew f seat (Some command.Begin) (answer.LogEnd tail) v u t passes did.0 below
-    (λ m n is there. silent f m n (Some command.Begin) (answer.LogEnd tail) refl refl refl (λ none. none) refl refl (λ other number e. cc))
+    (λ m there. silent f seat m t (Some command.Begin) (answer.LogEnd tail) refl refl refl (λ none. none) refl refl (λ other number e. cc))
 command_drew f seat command.Begin answer.NumbersEnd v t none below (u, passes, did) =
     still_drew f seat (Some command.Begin) answer.NumbersEnd v u t passes did.0 below
-    (λ m n is there. silent f m n (Some command.Begin) answer.NumbersEnd refl refl refl (λ none. none) refl refl (λ other number e. cc))
+    (λ m there. silent f seat m t (Some command.Begin) answer.NumbersEnd refl refl refl (λ none. none) refl refl (λ other number e. cc))
 command_drew f seat command.Seal (answer.Sealed stamp) v t none below (u, passes, did) = seal_drew f seat stamp (Some command.Seal) v u t passes did below
 command_drew f seat command.Settle a v t none below did = settle_drew f seat a v t below did
 command_drew f seat command.Commit a v t none below did = commit_drew f seat a v t below did
@@ -485,7 +481,7 @@ command_drew f seat command.Durable (answer.Durable stamp) v t none below (u, pa
     still_drew f seat (Some command.Durable) (answer.Durable stamp) v u t passes did.0 below (durable_draws f seat stamp (Some command.Durable) u t did.0 did.1.0 did.1.1)
 command_drew f seat command.Durable answer.NoReceipt v t none below (u, passes, did) =
     still_drew f seat (Some command.Durable) answer.NoReceipt v u t passes did.0 below
-    (λ m n is there. silent f m n (Some command.Durable) answer.NoReceipt refl refl refl (λ none. none) refl refl (λ other number e. cc))
+    (λ m there. silent f seat m t (Some command.Durable) answer.NoReceipt refl refl refl (λ none. none) refl refl (λ other number e. cc))
 command_drew f seat c a v t none below did = absurd did
 
 asked_drew : (f : View) (seat : ℕ) (c : Command) (a : Answer) (v t : View) (refusal : Option Answer) → refusal_of (phase_at v seat) c ≡ refusal → FitsRefusal refusal c a
@@ -493,7 +489,7 @@ asked_drew : (f : View) (seat : ℕ) (c : Command) (a : Answer) (v t : View) (re
 asked_drew f seat c a v t None is fits below did = command_drew f seat c a v t is below did
 asked_drew f seat c a v t (Some r) is fits below passes =
     still_drew f seat (Some c) a v t t passes refl below
-    (λ m n at there. phase_silent f m n (Some c) a (subst (λ (x : Answer). refusal_in x ≡ Some x) (sym fits) (phase_refuses (phase_asked c) (phase_at v seat) r is)))
+    (λ m there. phase_silent f seat m t (Some c) a (subst (λ (x : Answer). refusal_in x ≡ Some x) (sym fits) (phase_refuses (phase_asked c) (phase_at v seat) r is)))
 
 pub line_drew : (f : View) (l : ScriptLine) (a : Answer) (v t : View) → LieBelow l.session v → DidLineBeside f l a v t → Drew f l.session (Some l.command) a v t
 line_drew f l a v t below did = asked_drew f l.session l.command a v t (refusal_of (phase_at v l.session) l.command) refl did.fits below did.did

@@ -16,28 +16,27 @@ use Rattle.erm_good_report.specs.Transactions.{Transaction, history_of, steps_of
 use Rattle.erm_lines.specs.Executions.{IsOpeningOf}
 use Rattle.erm_told.proofs.Executed.{still_session}
 use Rattle.erm_told_order.specs.Told.{IsTold, ToldAreSerial, ToldHaveSnapshots}
-use Rattle.erm_lines_at_once.specs.Executions.{IsRunAtOnce}
-use Rattle.erm_lines_at_once.specs.Laws.{RunsAtOnceAreSerial, RunsAtOnceHaveSnapshots, RunsAtOnceTell}
+use Rattle.erm_lines_at_once.specs.Parts.{IsRunInPart, RunsInPartAreSerial, RunsInPartHaveSnapshots, RunsInPartTell}
 
-module _ (tell : RunsAtOnceTell) where
-  pub is_told : (v f : View) (script : List ScriptLine) (answers : List Answer) (closed : List Closed) → IsRunAtOnce v script answers closed f → IsTold f (places_of script answers closed)
-  is_told v f script answers closed run = record {
+module _ (tell : RunsInPartTell) where
+  pub is_told : (v f : View) (whole part : List ScriptLine) (answers : List Answer) (closed : List Closed) → IsRunInPart v whole part answers closed f → IsTold f (places_of part answers closed)
+  is_told v f whole part answers closed run = record {
     serializable = run.ends.serializable;
-    tells = λ seat session. tell v f script answers closed run seat (still_session f v seat (sym run.opening) session);
+    tells = λ seat session. tell v f whole part answers closed run seat (still_session f v seat (sym run.opening) session);
   }
 
-  end_map : (v f : View) (script : List ScriptLine) (answers : List Answer) (closed : List Closed) → IsRunAtOnce v script answers closed f → (opening : Opening) → IsOpeningOf v opening
+  end_map : (v f : View) (whole part : List ScriptLine) (answers : List Answer) (closed : List Closed) → IsRunInPart v whole part answers closed f → (opening : Opening) → IsOpeningOf v opening
       → opening.map ≡ map_of_rows f.opening.rows
-  end_map v f script answers closed run opening of = of.map ∙ ap (λ (o : world.Opening). map_of_rows o.rows) (sym run.opening)
+  end_map v f whole part answers closed run opening of = of.map ∙ ap (λ (o : world.Opening). map_of_rows o.rows) (sym run.opening)
 
-  pub snapshots : ToldHaveSnapshots → RunsAtOnceHaveSnapshots
-  snapshots law v f script answers closed opening run of =
-      let said = places_of script answers closed in
+  pub snapshots : ToldHaveSnapshots → RunsInPartHaveSnapshots
+  snapshots law v f whole part answers closed opening run of =
+      let said = places_of part answers closed in
       subst (λ (o : world.Opening). (u : Transaction) → u ∈ transactions_of o.sessions said → HasSnapshotReplies (history_of (transactions_of o.sessions said)) opening.map u.begin (steps_of u))
-      run.opening (law f said (is_told v f script answers closed run) opening.map (end_map v f script answers closed run opening of))
+      run.opening (law f said (is_told v f whole part answers closed run) opening.map (end_map v f whole part answers closed run opening of))
 
-  pub serial : ToldAreSerial → RunsAtOnceAreSerial
-  serial law v f script answers closed opening run of order sorted =
-      let said = places_of script answers closed in
-      law f said (is_told v f script answers closed run) opening.map (end_map v f script answers closed run opening of) order
+  pub serial : ToldAreSerial → RunsInPartAreSerial
+  serial law v f whole part answers closed opening run of order sorted =
+      let said = places_of part answers closed in
+      law f said (is_told v f whole part answers closed run) opening.map (end_map v f whole part answers closed run opening of) order
       (subst (λ (o : world.Opening). IsSerialOrder rank_of (history_of (transactions_of o.sessions said)) order) (sym run.opening) sorted)

@@ -17,27 +17,12 @@ use Rattle.erm_good_report.specs.Transactions.{Commits, Excludes, Progress, hear
 use Rattle.erm_lines.specs.Told.{Tells}
 use Rattle.erm_beside.specs.Calls.{DidBeginBeside, Passes}
 use Rattle.erm_told.proofs.Going.{continues_from, continues_then}
-use Rattle.erm_told.proofs.Lines.{phase_refuses}
+use Rattle.erm_told.proofs.Lines.{phase_refuses, quiet_heard, quiet_phase}
 use Rattle.erm_told.proofs.Sessions.{begun_told}
 use Rattle.erm_told.proofs.Turns.{idle_in, told_sealed, told_still, turn_aborted, turn_decided, turn_sealed, turn_still}
 use Rattle.erm_lines_at_once.specs.Answers.{DidAskedBeside, DidCloseBeside, DidCommandBeside, DidCommitBeside, DidDecideBeside, DidEndBeside, DidLineBeside}
 use Rattle.erm_told_at_once.proofs.Operated.{turns_operation}
 use Rattle.erm_told_at_once.proofs.Turns.{Turns, onward_passes, onward_then, took_as, turns_after}
-
--- what the phase refuses is told as that
-quiet_phase : (asked : Option Command) (r : Answer) (phase : Phase) → refusal_in r ≡ Some r → phase_after asked r phase ≡ phase
-quiet_phase asked answer.NotIdle phase is = refl
-quiet_phase asked answer.NoTransaction phase is = refl
-quiet_phase asked answer.IsSealed phase is = refl
-quiet_phase asked answer.NotSealed phase is = refl
-quiet_phase asked r phase is = absurd (cc)
-
-quiet_heard : (seat : ℕ) (asked : Option Command) (r : Answer) (p : Progress) → refusal_in r ≡ Some r → heard seat asked r p ≡ p
-quiet_heard seat asked answer.NotIdle p is = refl
-quiet_heard seat asked answer.NoTransaction p is = refl
-quiet_heard seat asked answer.IsSealed p is = refl
-quiet_heard seat asked answer.NotSealed p is = refl
-quiet_heard seat asked r p is = absurd (cc)
 
 -- nothing happened but that others went on
 turns_still : (seat : ℕ) (asked : Option Command) (a : Answer) (v u t : View) → Passes seat v u → t ≡ u → ((phase : Phase) → phase_after asked a phase ≡ phase)

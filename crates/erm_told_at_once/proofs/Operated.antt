@@ -31,6 +31,7 @@ use Rattle.erm_told.proofs.Sessions.{aborted_told, active_told, unchanged_told}
 use Rattle.erm_told.proofs.Steps.{added, none_asked, none_replied, one_replied}
 use Rattle.erm_lines_at_once.specs.Operations.{Beside, DidOnce, DidOperationBeside, WasTried, WereCutBeside, told_at_once}
 use Rattle.erm_told_at_once.proofs.Turns.{Onward, Took, Turns, onward_passes, onward_then, turns_beside}
+use Rattle.erm_told.proofs.Turns.{now_active}
 
 -- THE CALLS BEFORE. The session is active still, with a work that has gone on.
 pub record Reached (seat : ℕ) (v t : View) : Type 0 where
@@ -58,9 +59,6 @@ GoesFrom s t = (u : Work) × (t.stand ≡ world.active u) × Extends (work_of s.
 went_from : (s t : Session) → phase_of s.stand ≡ Active → GoesFrom s t → Continues s t
 went_from s t active (u, stand, more, over) =
     continues_from s t (world.active (work_of s.stand)) (active_in s.stand active) [] (over ∙ sym (append-nil s.over)) (u, more, inl stand)
-
-now_active : (seat : ℕ) (p : Progress) (s : Session) → phase_of s.stand ≡ Active → Tells seat p s → TellsNow seat p.current (world.active (work_of s.stand))
-now_active seat p s active told = subst (λ (stand : Stand). TellsNow seat p.current stand) (active_in s.stand active) told.now
 
 took_on : (seat : ℕ) (asked : Option Command) (a : Answer) (s t : Session) → phase_of s.stand ≡ Active → GoesFrom s t
     → ((before : List Step) → IsRunOf (work_of s.stand) before → IsRunOf (work_of t.stand) (before ++ added asked a))

@@ -30,16 +30,23 @@ use Rattle.erm_told.proofs.Ranges.{in_range, in_range_from, pairs_filter, pairs_
 use Rattle.erm_told.proofs.Runs.{said_both, said_first, said_lines}
 use Rattle.erm_lines_at_once.specs.Answers.{DidEndBeside, DidLineBeside}
 use Rattle.erm_lines_at_once.specs.Executions.{DidOwn, IsOwnRun, IsRunAtOnce, all_moves, is_own}
-use Rattle.erm_lines_at_once.specs.Laws.{RunsAtOnceCloseSessions, RunsAtOnceHavePhases, RunsAtOnceTell}
+use Rattle.erm_lines_at_once.specs.Laws.{RunsAtOnceCloseSessions}
+use Rattle.erm_lines_at_once.specs.Parts.{IsRunInPart, RunsInPartHavePhases, RunsInPartTell}
+use Rattle.erm_lines_at_once.proofs.Parts.{in_part}
 use Rattle.erm_told_at_once.proofs.Lines.{turns_end, turns_line}
 use Rattle.erm_told_at_once.proofs.Turns.{Onward, Turns, onward_itself, onward_passes, onward_then}
 
 -- a session that is the same
-knows_still : (seat : ℕ) (p : Progress) (phase : Phase) (v t : View) → t.session seat ≡ v.session seat → Knows seat p phase v → Knows seat p phase t
+pub knows_still : (seat : ℕ) (p : Progress) (phase : Phase) (v t : View) → t.session seat ≡ v.session seat → Knows seat p phase v → Knows seat p phase t
 knows_still seat p phase v t is knows = record {
   tells = subst (λ (s : Session). Tells seat p s) (sym is) knows.tells;
   phase_is = knows.phase_is ∙ sym (ap (λ (s : Session). world.phase_of s.stand) is);
 }
+
+-- a session that has no transaction yet
+pub first_known : (seat : ℕ) (v : View) → v.session seat ≡ record { over = []; stand = world.idle } → Knows seat nothing Idle v
+first_known seat v is = knows_still seat nothing Idle (record v { session = λ q. record { over = []; stand = world.idle } }) v is
+    (record { tells = record { over = tt; now = tt }; phase_is = refl })
 
 -- a move of this session, or of another
 abbrev pub OwnOr : ℕ → ℕ → Option Command → Answer → View → View → Type 0
@@ -80,9 +87,13 @@ own_goes_then seat v u t first second = record {
   goes = continues_then (v.session seat) (u.session seat) (t.session seat) first.goes second.goes;
 }
 
+-- nothing happened
+pub passes_itself : (seat : ℕ) (v : View) → Passes seat v v
+passes_itself seat v = record { own = refl; opening = refl; tail = omega arith; flushed = omega arith; given_up = refl }
+
 -- moves in two parts
 pub own_split : (f : View) (seat : ℕ) (xs ys : List Move) (v t : View) → IsOwnRun f seat v (xs ++ ys) t → (u : View) × IsOwnRun f seat v xs u × IsOwnRun f seat u ys t
-own_split f seat [] ys v t run = (v, record { own = refl; opening = refl; tail = omega arith; flushed = omega arith }, run)
+own_split f seat [] ys v t run = (v, passes_itself seat v, run)
 own_split f seat (move ∷ xs) ys v t (u, w, passes, did, rest) =
     let (m, first, second) = own_split f seat xs ys w t rest in (m, (u, w, passes, did, first), second)
 
@@ -112,6 +123,30 @@ other_close f seat at a v t another did = subst (λ (b : Bool). DidOwn b f seat 
 -- the moves of sessions that are closed
 abbrev pub close_of : Closed → Move
 close_of c = close c.session c.answer
+
+-- A session that isn't closed stays as it was.
+not_closed : (f : View) (seat : ℕ) (cs : List Closed) (u t : View) → IsOwnRun f seat u (map close_of cs) t → ((c : Closed) → c ∈ cs → c.session ≢ seat) → t.session seat ≡ u.session seat
+not_closed f seat [] u t passes none = passes.own
+not_closed f seat (c ∷ cs) u t (x, w, passes, did, rest) none =
+    not_closed f seat cs w t rest (λ d m. none d (∈-behind c cs d m))
+    ∙ ap (λ (y : View). y.session seat) (other_close f seat c.session c.answer x w (none c (∈-head c cs)) did) ∙ passes.own
+
+-- one that is was closed as it says, where the lines left it
+pub is_closed : (f : View) (seat : ℕ) (cs : List Closed) (u t : View) (c : Closed) → Pairs (λ (a b : Closed). a.session < b.session) cs → IsOwnRun f seat u (map close_of cs) t → c ∈ cs → c.session ≡ seat
+    → Closes (phase_at u seat) c.answer
+is_closed f seat [] u t c ascend own m same = absurd (none_in_nil c m)
+is_closed f seat (d ∷ cs) u t c ascend (x, w, passes, did, rest) m same =
+    ⊎_elim
+    (λ (here : d ≡ c).
+    let mine : d.session ≡ seat = ap (λ (e : Closed). e.session) here ∙ same in
+    let ends = own_close f seat d.session d.answer x w mine did in
+    subst (λ (e : Closed). Closes (phase_at u seat) e.answer) here
+    (subst (λ (s : Session). Closes (world.phase_of s.stand) d.answer) (ap x.session mine ∙ passes.own) ends.fits))
+    (λ (later : c ∈ cs).
+    let another : d.session ≢ seat = λ is. omega (arith, ascend.0 c later, is, same) in
+    let stays : w.session seat ≡ u.session seat = ap (λ (y : View). y.session seat) (other_close f seat d.session d.answer x w another did) ∙ passes.own in
+    subst (λ (s : Session). Closes (world.phase_of s.stand) c.answer) stays (is_closed f seat cs w t c ascend.1 rest later same))
+    (∈-cons c d cs m)
 
 closes_say : (cs : List Closed) → said_in (map close_of cs) ≡ map close_said cs
 closes_say [] = refl
@@ -224,11 +259,10 @@ module _ (runs : (number begin : ℕ) → IsRunOf (world.begun number begin) [])
       own_goes_then seat v u t (goes_passes seat v u passes)
       (own_goes f seat moves u t (subst (λ (x : View). IsOwnRun f seat x moves t) did rest))
 
-  -- THE WHOLE.
-  module _ (v f : View) (script : List ScriptLine) (answers : List Answer) (closed : List Closed) (run : IsRunAtOnce v script answers closed f) where
+  -- THE LINES TOLD.
+  module _ (v f : View) (whole script : List ScriptLine) (answers : List Answer) (closed : List Closed) (run : IsRunInPart v whole script answers closed f) where
     pub at_first : (seat : ℕ) → IsSession v seat → Knows seat nothing Idle v
-    at_first seat session = knows_still seat nothing Idle (record v { session = λ q. record { over = []; stand = world.idle } }) v (run.opened.idle seat session)
-        (record { tells = record { over = tt; now = tt }; phase_is = refl })
+    at_first seat session = first_known seat v (run.opened.idle seat session)
 
     pub tells : (seat : ℕ) → IsSession v seat → Tells seat (progress_of seat (places_of script answers closed)) (f.session seat)
     tells seat session =
@@ -248,29 +282,37 @@ module _ (runs : (number begin : ℕ) → IsRunOf (world.begun number begin) [])
         ap (λ (said : List Said). phase_of seat said) (sym (said_lines script answers))
         ∙ (knows_own f seat (line_moves script answers) nothing Idle v lines.0 lines.1 (at_first seat session)).phase_is
 
-    -- THE SESSIONS CLOSED. One that isn't stays as the lines left it.
-    not_closed : (seat : ℕ) (cs : List Closed) (u t : View) → IsOwnRun f seat u (map close_of cs) t → ((c : Closed) → c ∈ cs → c.session ≢ seat) → t.session seat ≡ u.session seat
-    not_closed seat [] u t passes none = passes.own
-    not_closed seat (c ∷ cs) u t (x, w, passes, did, rest) none =
-        not_closed seat cs w t rest (λ d m. none d (∈-behind c cs d m))
-        ∙ ap (λ (y : View). y.session seat) (other_close f seat c.session c.answer x w (none c (∈-head c cs)) did) ∙ passes.own
+    -- Each line stands where its session's earlier answers leave it.
+    pub line_there : (i : ℕ) (l : ScriptLine) (a : Answer) → slice_get script i ≡ Some l → slice_get answers i ≡ Some a → LineThere f script answers i l a
+    line_there i l a at answered =
+        let session = run.named l (i, at) in
+        let lines = own_lines l.session session in
+        let there = own_at f l.session script answers v lines.0 i l a refl lines.1 at answered in
+        let rest = own_goes f l.session (line_moves (drop (suc i) script) (drop (suc i) answers)) there.after lines.0 there.rest in
+        let closing = own_goes f l.session (map close_of closed) lines.0 (run.own l.session session).last lines.2 in
+        let all = own_goes_then l.session there.after lines.0 (run.own l.session session).last rest closing in record {
+          before = there.before;
+          after = there.after;
+          did = there.did;
+          knows = subst (λ (said : List Said). Knows l.session (progress_of l.session said) (phase_of l.session said) there.before) (said_first i script answers)
+              (knows_own f l.session (line_moves (take i script) (take i answers)) nothing Idle v there.before there.start (at_first l.session session));
+          within = le_trans all.onward.tail (run.own l.session session).within.0;
+          goes = subst (λ (s : Session). Continues (there.after.session l.session) s) (run.own l.session session).ends all.goes;
+        }
 
-    -- one that is was closed as it says, where the lines left it
-    is_closed : (seat : ℕ) (cs : List Closed) (u t : View) (c : Closed) → Pairs (λ (a b : Closed). a.session < b.session) cs → IsOwnRun f seat u (map close_of cs) t → c ∈ cs → c.session ≡ seat
-        → Closes (phase_at u seat) c.answer
-    is_closed seat [] u t c ascend own m same = absurd (none_in_nil c m)
-    is_closed seat (d ∷ cs) u t c ascend (x, w, passes, did, rest) m same =
-        ⊎_elim
-        (λ (here : d ≡ c).
-        let mine : d.session ≡ seat = ap (λ (e : Closed). e.session) here ∙ same in
-        let ends = own_close f seat d.session d.answer x w mine did in
-        subst (λ (e : Closed). Closes (phase_at u seat) e.answer) here
-        (subst (λ (s : Session). Closes (world.phase_of s.stand) d.answer) (ap x.session mine ∙ passes.own) ends.fits))
-        (λ (later : c ∈ cs).
-        let another : d.session ≢ seat = λ is. omega (arith, ascend.0 c later, is, same) in
-        let stays : w.session seat ≡ u.session seat = ap (λ (y : View). y.session seat) (other_close f seat d.session d.answer x w another did) ∙ passes.own in
-        subst (λ (s : Session). Closes (world.phase_of s.stand) c.answer) stays (is_closed seat cs w t c ascend.1 rest later same))
-        (∈-cons c d cs m)
+    pub line_fits : (i : ℕ) (l : ScriptLine) (a : Answer) → slice_get script i ≡ Some l → slice_get answers i ≡ Some a
+        → FitsPhase (phase_of l.session (take i (said_of script answers))) l.command a
+    line_fits i l a at answered =
+        let there = line_there i l a at answered in
+        subst (λ (x : Phase). FitsPhase x l.command a) (sym there.knows.phase_is) there.did.fits
+
+  -- THE SESSIONS CLOSED, of a whole execution.
+  module _ (v f : View) (script : List ScriptLine) (answers : List Answer) (closed : List Closed) (run : IsRunAtOnce v script answers closed f) where
+    abbrev lines_of : (seat : ℕ) (session : IsSession v seat) → (u : View) × IsOwnRun f seat v (line_moves script answers) u × IsOwnRun f seat u (map close_of closed) (run.own seat session).last
+    lines_of seat session = own_lines v f script script answers closed (in_part v f script answers closed run) seat session
+
+    phase_left : (seat : ℕ) (session : IsSession v seat) → phase_of seat (said_of script answers) ≡ phase_at (lines_of seat session).0 seat
+    phase_left seat session = phase_before v f script script answers closed (in_part v f script answers closed run) seat session
 
     ascending : Pairs (λ (a b : Closed). a.session < b.session) closed
     ascending = pairs_of (λ (a b : Closed). a.session < b.session) closed run.ascend
@@ -278,9 +320,9 @@ module _ (runs : (number begin : ℕ) → IsRunOf (world.begun number begin) [])
     fits_at : (c : Closed) → c ∈ closed → Closes (phase_of c.session (said_of script answers)) c.answer
     fits_at c m =
         let session = run.sessions c m in
-        let lines = own_lines c.session session in
-        subst (λ (phase : Phase). Closes phase c.answer) (sym (phase_before c.session session))
-        (is_closed c.session closed lines.0 (run.own c.session session).last c ascending lines.2 m refl)
+        let lines = lines_of c.session session in
+        subst (λ (phase : Phase). Closes phase c.answer) (sym (phase_left c.session session))
+        (is_closed f c.session closed lines.0 (run.own c.session session).last c ascending lines.2 m refl)
 
     -- a session is closed where it isn't idle
     abbrev is_left : ℕ → Bool
@@ -307,10 +349,10 @@ module _ (runs : (number begin : ℕ) → IsRunOf (world.begun number begin) [])
 
     idle_before : (s : ℕ) (session : IsSession v s) → ((c : Closed) → c ∈ closed → c.session ≢ s) → phase_of s (said_of script answers) ≡ Idle
     idle_before s session none =
-        let lines = own_lines s session in
+        let lines = lines_of s session in
         let part = run.own s session in
-        phase_before s session
-        ∙ ap (λ (x : Session). world.phase_of x.stand) (sym (not_closed s closed lines.0 part.last lines.2 none) ∙ part.ends)
+        phase_left s session
+        ∙ ap (λ (x : Session). world.phase_of x.stand) (sym (not_closed f s closed lines.0 part.last lines.2 none) ∙ part.ends)
         ∙ run.idle s (still_session v f s run.opening session)
 
     left_are_closed : (s : ℕ) → s ∈ filter is_left (range_with_len 1 v.opening.sessions) → s ∈ map (λ (c : Closed). c.session) closed
@@ -334,35 +376,11 @@ module _ (runs : (number begin : ℕ) → IsRunOf (world.begun number begin) [])
       fits = fits_at;
     }
 
-    -- THE LINES. Each stands where its session's earlier answers leave it.
-    pub line_there : (i : ℕ) (l : ScriptLine) (a : Answer) → slice_get script i ≡ Some l → slice_get answers i ≡ Some a → LineThere f script answers i l a
-    line_there i l a at answered =
-        let session = run.named l (i, at) in
-        let lines = own_lines l.session session in
-        let there = own_at f l.session script answers v lines.0 i l a refl lines.1 at answered in
-        let rest = own_goes f l.session (line_moves (drop (suc i) script) (drop (suc i) answers)) there.after lines.0 there.rest in
-        let closing = own_goes f l.session (map close_of closed) lines.0 (run.own l.session session).last lines.2 in
-        let all = own_goes_then l.session there.after lines.0 (run.own l.session session).last rest closing in record {
-          before = there.before;
-          after = there.after;
-          did = there.did;
-          knows = subst (λ (said : List Said). Knows l.session (progress_of l.session said) (phase_of l.session said) there.before) (said_first i script answers)
-              (knows_own f l.session (line_moves (take i script) (take i answers)) nothing Idle v there.before there.start (at_first l.session session));
-          within = le_trans all.onward.tail (run.own l.session session).within.0;
-          goes = subst (λ (s : Session). Continues (there.after.session l.session) s) (run.own l.session session).ends all.goes;
-        }
+  pub runs_tell : RunsInPartTell
+  runs_tell v f whole part answers closed run seat session = tells v f whole part answers closed run seat session
 
-    pub line_fits : (i : ℕ) (l : ScriptLine) (a : Answer) → slice_get script i ≡ Some l → slice_get answers i ≡ Some a
-        → FitsPhase (phase_of l.session (take i (said_of script answers))) l.command a
-    line_fits i l a at answered =
-        let there = line_there i l a at answered in
-        subst (λ (x : Phase). FitsPhase x l.command a) (sym there.knows.phase_is) there.did.fits
-
-  pub runs_tell : RunsAtOnceTell
-  runs_tell v f script answers closed run seat session = tells v f script answers closed run seat session
-
-  pub phases : RunsAtOnceHavePhases
-  phases v f script answers closed opening run of = record { fits = line_fits v f script answers closed run }
+  pub phases : RunsInPartHavePhases
+  phases v f whole part answers closed opening run of = record { fits = line_fits v f whole part answers closed run }
 
   pub runs_close : RunsAtOnceCloseSessions
   runs_close v f script answers closed run = closes_agree v f script answers closed run

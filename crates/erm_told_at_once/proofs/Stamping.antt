@@ -1,18 +1,22 @@
 -- The stamps that the report of an execution at once tells agree, and what was met lies below.
-use Rattle.std.proofs.Common.{◌≡◌, ◌≢◌, ℕ, ◌+◌, ◌<◌, ◌≤◌, List, [], ◌∷◌, get_or, slice_get, map, IfSome, Some, refl, sym, ap, ◌∙◌, subst, inl, inr, ⊎_elim, eqb-true, arith, le_trans}
+use Rattle.std.proofs.Common.{◌≡◌, ◌≢◌, ℕ, ◌+◌, ◌<◌, ◌≤◌, List, [], ◌∷◌, ◌++◌, get_or, length, slice_get, map, IfSome, Some, refl, sym, ap, ◌∙◌, subst, inl, inr, ⊎_elim, eqb-true, arith, le_trans}
 use Rattle.std.proofs.lemmas.Bool.{cases_eq}
+use Rattle.std.proofs.lemmas.List.{append_assoc, length-append}
 use Rattle.std.proofs.lemmas.Option.{slice_get_within}
 use Rattle.erm_model.specs.declared.limits.TheConstants.{LEAST_BLOCK}
 use Rattle.erm_model.specs.Member.{◌∈◌}
+use Rattle.erm_model.specs.Run.{Step}
 use Rattle.erm_model.proofs.Members.{none_in_nil, ∈-at, ∈-behind}
-use Rattle.erm_machine.proofs.Listed.{∈-cons, ∈-head}
+use Rattle.erm_machine.proofs.Listed.{∈-cons, ∈-head, ∈-second}
 use Rattle.erm_node.specs.Sound.{sound_law}
 use Rattle.erm_report.specs.declared.answer.Answer.{Answer}
 use Rattle.erm_report.specs.declared.answer.Answer.TheVariants as answer
 use Rattle.erm_script.specs.declared.script.ScriptLine.{ScriptLine}
-use Rattle.erm_world.specs.Laws.{IsSerializable}
+use Rattle.erm_world.specs.Going.{Extends}
+use Rattle.erm_world.specs.Laws.{IsNumbered, IsSerializable}
 use Rattle.erm_world.specs.World.{Finished, Has, IsCurrent, IsSession, Opening, Session, Stand, View, Work}
 use Rattle.erm_world.specs.World as world
+use Rattle.erm_maps.specs.Runs.{IsAnswered, IsRunOf}
 use Rattle.erm_good_report.specs.GoodReport.{places_of}
 use Rattle.erm_good_report.specs.Opening.{AtOnce, Opening as Start}
 use Rattle.erm_good_report.specs.Phases.{Closed}
@@ -20,25 +24,56 @@ use Rattle.erm_good_report.specs.Stamps.{AllInTime, IsWait, StampsAgree, Told, b
 use Rattle.erm_good_report.specs.Transactions.{Said, Transaction, progress_of, said_of, stamp_of, transactions_of}
 use Rattle.erm_good_at_once.specs.Rising.{Names, StampsRise, stamp_met}
 use Rattle.erm_lines.specs.Executions.{IsOpeningOf, line_moves, move_of}
-use Rattle.erm_lines.specs.Told.{Tells}
+use Rattle.erm_lines.specs.Told.{Continues, IsLater, Tells}
+use Rattle.erm_beside.specs.Calls.{Passes}
+use Rattle.erm_beside.specs.Ends.{Aborted}
 use Rattle.erm_told.proofs.Endings.{if_told, told_from}
 use Rattle.erm_told.proofs.Executed.{still_session}
+use Rattle.erm_told.proofs.Going.{continues_then}
 use Rattle.erm_told.proofs.Pairs.{Pairs, all_pairs, pairs_from}
 use Rattle.erm_told.proofs.Reported.{Differ, IsTold, each_told, told_differ}
-use Rattle.erm_told.proofs.Timing.{Before, Later}
-use Rattle.erm_lines_at_once.specs.Executions.{DidOwn, IsOwnRun, IsRunAtOnce, is_own}
-use Rattle.erm_lines_at_once.specs.Laws.{RunsAtOnceHaveStamps, RunsAtOnceRise, RunsAtOnceTell}
-use Rattle.erm_told_at_once.proofs.Drawing.{Drew, DrawsBeside, HasDrawn, IsOwner, LieBelow, lie_passes, line_drew}
-use Rattle.erm_told_at_once.proofs.Runs.{own_line, own_split, other_line, close_of}
+use Rattle.erm_told.proofs.Timing.{Before, Later, later_still}
+use Rattle.erm_lines_at_once.specs.Executions.{DidOwn, IsOwnRun, is_own}
+use Rattle.erm_lines_at_once.specs.Parts.{IsRunInPart, RunsInPartHaveStamps, RunsInPartRise, RunsInPartTell}
+use Rattle.erm_told_at_once.proofs.Drawing.{Begins, Drew, DrawsBeside, HasDrawn, LieBelow, lie_passes, line_drew}
+use Rattle.erm_told_at_once.proofs.Runs.{close_of, other_line, own_goes, own_line, own_split, passes_itself, runs_tell}
+
+-- an owner that a line names, which began below this place
+pub record OwnerBelow (f : View) (other number place : ℕ) : Type 0 where
+  pub session : IsSession f other
+  pub work : Work
+  pub has : Has f other work
+  pub number_is : work.number ≡ number
+  pub begun : work.begin ≤ place
+
+-- the session has begun a transaction there, behind so many that were over
+abbrev pub BeganBehind : View → ℕ → ℕ → ℕ → Type 0
+BeganBehind f seat count begin = (u : Work) × Has f seat u × (count < u.number) × (u.begin ≡ begin)
 
 -- IN TIME. A place of the session, and one behind it: what the first tells lies below what the second does.
 pub record BeforeBeside (f : View) (a b : Said) : Type 0 where
   pub stamps : Before a b
   pub met : (stamp begin : ℕ) → stamp_met a.answer ≡ Some stamp → begin_told b.answer ≡ Some begin → stamp < begin
-  pub owned : (other number begin : ℕ) → a.answer ≡ answer.Owned other number → begin_told b.answer ≡ Some begin → IsOwner f other number begin
+  pub owned : (other number begin : ℕ) → a.answer ≡ answer.Owned other number → begin_told b.answer ≡ Some begin → OwnerBelow f other number begin
 
-before_of : (f : View) (m n : ℕ) (a b : Said) → DrawsBeside f m n a.asked a.answer → Later n b → BeforeBeside f a b
-before_of f m n a b draws later = record {
+-- the last transaction that is over, by its number in the end
+at_end : (front : List Finished) (g : Finished) (more : List Finished) → slice_get (front ++ g ∷ more) (length front) ≡ Some g
+at_end [] g more = refl
+at_end (h ∷ front) g more = at_end front g more
+
+own_number : (f : View) (seat : ℕ) (w : View) (own : Work) → IsNumbered (f.session seat) → Continues (w.session seat) (f.session seat) → Aborted w seat own
+    → own.number ≡ length (w.session seat).over
+own_number f seat w own numbered ends (front, over) =
+    let g : Finished = record { work = own; fate = world.aborts } in
+    let all : (f.session seat).over ≡ front ++ g ∷ ends.more =
+    ends.over ∙ ap (λ (fs : List Finished). fs ++ ends.more) over ∙ append_assoc front (g ∷ []) ends.more in
+    let number : own.number ≡ length front + 1 =
+    numbered.over (length front) g (ap (λ (fs : List Finished). slice_get fs (length front)) all ∙ at_end front g ends.more) in
+    omega (arith, number, ap (λ (fs : List Finished). length fs) over, length-append front (g ∷ []))
+
+before_of : (f : View) (seat m : ℕ) (w : View) (a b : Said) → IsNumbered (f.session seat) → Continues (w.session seat) (f.session seat) → DrawsBeside f seat m w a.asked a.answer → Later w.tail b
+    → ((begin : ℕ) → begin_told b.answer ≡ Some begin → BeganBehind f seat (length (w.session seat).over) begin) → BeforeBeside f a b
+before_of f seat m w a b numbered ends draws later began = record {
   stamps = record {
     begins = λ stamp begin told then_told. omega (arith, draws.printed stamp told, later.begin begin then_told);
     draws = λ begin stamp told then_told. omega (arith, (draws.begin begin told).1, later.drawn stamp then_told);
@@ -50,17 +85,20 @@ before_of f m n a b draws later = record {
   met = λ stamp begin told then_told. omega (arith, draws.met stamp told, later.begin begin then_told);
   owned = λ other number begin told then_told.
       let r = draws.owned other number told in
-      record { session = r.session; work = r.work; has = r.has; number_is = r.number_is; begun = le_trans r.begun (later.begin begin then_told) };
+      let (u, has, behind, is) = began begin then_told in record {
+        session = r.session;
+        work = r.work;
+        has = r.has;
+        number_is = r.number_is;
+        begun =
+            ⊎_elim (λ (low : r.work.begin ≤ w.tail). le_trans low (later.begin begin then_told))
+            (λ (low : (x : Work) → Has f seat x → r.own.number < x.number → r.work.begin ≤ x.begin).
+            omega (arith, low u has (omega (arith, behind, own_number f seat w r.own numbered ends r.over)), is)) r.begun;
+      };
 }
 
-later_of : (f : View) (m n : ℕ) (s : Said) → DrawsBeside f m n s.asked s.answer → Later m s
-later_of f m n s draws = record { begin = λ stamp told. (draws.begin stamp told).0; drawn = λ stamp told. (draws.drawn stamp told).0 }
-
-later_still : (m n : ℕ) (s : Said) → m ≤ n → Later n s → Later m s
-later_still m n s less later = record {
-  begin = λ stamp told. le_trans less (later.begin stamp told);
-  drawn = λ stamp told. le_trans less (later.drawn stamp told);
-}
+later_of : (f : View) (seat m : ℕ) (w : View) (s : Said) → DrawsBeside f seat m w s.asked s.answer → Later m s
+later_of f seat m w s draws = record { begin = λ stamp told. (draws.begin stamp told).0; drawn = λ stamp told. (draws.drawn stamp told).0 }
 
 abbrev place_of : ScriptLine → Answer → Said
 place_of l a = record { session = l.session; asked = Some l.command; answer = a }
@@ -69,7 +107,7 @@ place_of l a = record { session = l.session; asked = Some l.command; answer = a 
 record StepsOn (f : View) (seat : ℕ) (l : ScriptLine) (a : Answer) (v w : View) : Type 0 where
   below : LieBelow seat w
   up : v.tail ≤ w.tail
-  draws : l.session ≡ seat → DrawsBeside f v.tail w.tail (Some l.command) a
+  draws : l.session ≡ seat → DrawsBeside f seat v.tail w (Some l.command) a
 
 steps_on : (f : View) (seat : ℕ) (l : ScriptLine) (a : Answer) (u w : View) → LieBelow seat u → DidOwn (is_own seat (move_of l a)) f seat (move_of l a) u w → StepsOn f seat l a u w
 steps_on f seat l a u w below did = elim (cases_eq l.session seat) as (λ _. StepsOn f seat l a u w) [
@@ -78,7 +116,7 @@ steps_on f seat l a u w below did = elim (cases_eq l.session seat) as (λ _. Ste
       line_drew f l a u w (subst (λ (q : ℕ). LieBelow q u) (sym is) below) (own_line f seat l a u w is did) in record {
         below = subst (λ (q : ℕ). LieBelow q w) is drew.below;
         up = drew.up;
-        draws = λ same. drew.draws;
+        draws = λ same. subst (λ (q : ℕ). DrawsBeside f q u.tail w (Some l.command) a) is drew.draws;
       }
   | inr another ↦
       let is : w ≡ u = other_line f seat l a u w another did in record {
@@ -105,21 +143,70 @@ module _ (f : View) (seat : ℕ) where
       (λ (here : place_of l a ≡ s).
       let draws = step.draws (ap (λ (x : Said). x.session) here ∙ own) in
       subst (λ (x : Said). LaterBeside v.tail x) here
-      (record { later = later_still v.tail u.tail (place_of l a) passes.tail (later_of f u.tail w.tail (place_of l a) draws); waits = draws.waits }))
+      (record { later = later_still v.tail u.tail (place_of l a) passes.tail (later_of f seat u.tail w (place_of l a) draws); waits = draws.waits }))
       (λ (behind : s ∈ said_of script answers).
       let r = all_later script answers w t step.below rest s behind own in
       record { later = later_still v.tail w.tail s low r.later; waits = r.waits })
       (∈-cons s (place_of l a) (said_of script answers) m)
 
+-- a session in a later state has as many that are over at least
+more_over : (s t : Session) → Continues s t → length s.over ≤ length t.over
+more_over s t goes = omega (arith, ap (λ (fs : List Finished). length fs) goes.over, length-append s.over goes.more)
+
+-- a transaction that goes on is one of the session's
+has_later : (f : View) (seat : ℕ) (w : Work) → IsLater w (f.session seat) → (u : Work) × Has f seat u × Extends w u
+has_later f seat w (u, more, inl active) = (u, inr (subst (λ (at : Stand). IsCurrent at u) (sym active) refl), more)
+has_later f seat w (u, more, inr (inl (stamp, sealed))) = (u, inr (subst (λ (at : Stand). IsCurrent at u) (sym sealed) refl), more)
+has_later f seat w (u, more, inr (inr (g, rest, front, over, is))) =
+    (u, inl (g, subst (λ (fs : List Finished). g ∈ fs) (sym over) (∈-second front (g ∷ rest) g (∈-head g rest)), is), more)
+
+began_behind : (f : View) (seat count begin : ℕ) (w : View) → count ≤ length (w.session seat).over → Begins begin (w.session seat) → Continues (w.session seat) (f.session seat)
+    → BeganBehind f seat count begin
+began_behind f seat count begin w few (over, is) ends =
+    let (u, has, more) = has_later f seat (world.begun (length over + 1) begin) (ends.active (world.begun (length over + 1) begin) (ap (λ (s : Session). s.stand) is)) in
+    let number : u.number ≡ length over + 1 = more.number in
+    (u, has, omega (arith, few, number, ap (λ (s : Session). length s.over) is), more.begin)
+
+-- a session's own run, to the end
+module _ (runs : (number begin : ℕ) → IsRunOf (world.begun number begin) []) (stay : (w u : Work) (steps : List Step) → Extends w u → IsAnswered w steps → IsAnswered u steps)
+    (f : View) (seat : ℕ) where
+  line_over : (l : ScriptLine) (a : Answer) (v u w : View) → Passes seat v u → DidOwn (is_own seat (move_of l a)) f seat (move_of l a) u w
+      → length (v.session seat).over ≤ length (w.session seat).over
+  line_over l a v u w passes did =
+      more_over (v.session seat) (w.session seat) (own_goes runs stay f seat (move_of l a ∷ []) v w (u, w, passes, did, passes_itself seat w)).goes
+
+  to_end : (script : List ScriptLine) (answers : List Answer) (w t : View) → IsOwnRun f seat w (line_moves script answers) t → Continues (t.session seat) (f.session seat)
+      → Continues (w.session seat) (f.session seat)
+  to_end script answers w t rest ends =
+      continues_then (w.session seat) (t.session seat) (f.session seat) (own_goes runs stay f seat (line_moves script answers) w t rest).goes ends
+
+  all_begun : (script : List ScriptLine) (answers : List Answer) (v t : View) → LieBelow seat v → IsOwnRun f seat v (line_moves script answers) t
+      → Continues (t.session seat) (f.session seat) → (s : Said) → s ∈ said_of script answers → s.session ≡ seat
+      → (begin : ℕ) → begin_told s.answer ≡ Some begin → BeganBehind f seat (length (v.session seat).over) begin
+  all_begun [] answers v t below run ends s m own begin told = absurd (none_in_nil s m)
+  all_begun (l ∷ script) [] v t below run ends s m own begin told = absurd (none_in_nil s m)
+  all_begun (l ∷ script) (a ∷ answers) v t below (u, w, passes, did, rest) ends s m own begin told =
+      let step = steps_on f seat l a u w (lie_passes seat v u passes below) did in
+      let few = line_over l a v u w passes did in
+      ⊎_elim
+      (λ (here : place_of l a ≡ s).
+      let draws = step.draws (ap (λ (x : Said). x.session) here ∙ own) in
+      began_behind f seat (length (v.session seat).over) begin w few (draws.begun begin (ap (λ (x : Said). begin_told x.answer) here ∙ told)) (to_end script answers w t rest ends))
+      (λ (behind : s ∈ said_of script answers).
+      let (x, has, more, is) = all_begun script answers w t step.below rest ends s behind own begin told in (x, has, omega (arith, few, more), is))
+      (∈-cons s (place_of l a) (said_of script answers) m)
+
   all_before : (script : List ScriptLine) (answers : List Answer) (v t : View) → LieBelow seat v → IsOwnRun f seat v (line_moves script answers) t
+      → IsNumbered (f.session seat) → Continues (t.session seat) (f.session seat)
       → Pairs (λ (a b : Said). a.session ≡ seat → b.session ≡ seat → BeforeBeside f a b) (said_of script answers)
-  all_before [] answers v t below run = tt
-  all_before (l ∷ script) [] v t below run = tt
-  all_before (l ∷ script) (a ∷ answers) v t below (u, w, passes, did, rest) =
+  all_before [] answers v t below run numbered ends = tt
+  all_before (l ∷ script) [] v t below run numbered ends = tt
+  all_before (l ∷ script) (a ∷ answers) v t below (u, w, passes, did, rest) numbered ends =
       let step = steps_on f seat l a u w (lie_passes seat v u passes below) did in (
         λ s m own then_own.
-            before_of f u.tail w.tail (place_of l a) s (step.draws own) (all_later script answers w t step.below rest s m then_own).later,
-        all_before script answers w t step.below rest,
+            before_of f seat u.tail w (place_of l a) s numbered (to_end script answers w t rest ends) (step.draws own) (all_later f seat script answers w t step.below rest s m then_own).later
+            (all_begun script answers w t step.below rest ends s m then_own),
+        all_before script answers w t step.below rest numbered ends,
       )
 
 -- the session of a place is that of a line
@@ -131,7 +218,7 @@ of_line (l ∷ script) (a ∷ answers) s m =
     (λ (behind : s ∈ said_of script answers). let r = of_line script answers s behind in (r.0, ∈-behind l script r.0 r.1, r.2))
     (∈-cons s (place_of l a) (said_of script answers) m)
 
-module _ (tell : RunsAtOnceTell) (v f : View) (script : List ScriptLine) (answers : List Answer) (closed : List Closed) (run : IsRunAtOnce v script answers closed f) where
+module _ (tell : RunsInPartTell) (v f : View) (whole script : List ScriptLine) (answers : List Answer) (closed : List Closed) (run : IsRunInPart v whole script answers closed f) where
   abbrev said : List Said
   said = said_of script answers
 
@@ -141,12 +228,6 @@ module _ (tell : RunsAtOnceTell) (v f : View) (script : List ScriptLine) (answer
       from : HasDrawn (record { over = []; stand = world.idle }) stamp → ⊥
       from (inl (g, m, stamped)) = none_in_nil g m
       from (inr (w, sealed)) = cc
-
-  pairs_at : (seat : ℕ) → IsSession v seat → Pairs (λ (a b : Said). a.session ≡ seat → b.session ≡ seat → BeforeBeside f a b) said
-  pairs_at seat session =
-      let part = run.own seat session in
-      let (u, lines, rest) = own_split f seat (line_moves script answers) (map close_of closed) v part.last part.run in
-      all_before f seat script answers v u (none_drawn seat session) lines
 
   session_of : (s : Said) → s ∈ said → IsSession v s.session
   session_of s m = let r = of_line script answers s m in subst (λ (q : ℕ). IsSession v q) r.2 (run.named r.0 r.1)
@@ -158,21 +239,37 @@ module _ (tell : RunsAtOnceTell) (v f : View) (script : List ScriptLine) (answer
       let (u, lines, rest) = own_split f s.session (line_moves script answers) (map close_of closed) v part.last part.run in
       (all_later f s.session script answers v u (none_drawn s.session session) lines s m refl).waits
 
+module _ (runs : (number begin : ℕ) → IsRunOf (world.begun number begin) []) (stay : (w u : Work) (steps : List Step) → Extends w u → IsAnswered w steps → IsAnswered u steps)
+    (v f : View) (whole script : List ScriptLine) (answers : List Answer) (closed : List Closed) (run : IsRunInPart v whole script answers closed f) where
+  abbrev tell : RunsInPartTell
+  tell = runs_tell runs stay
+
+  abbrev places : List Said
+  places = said_of script answers
+
+  pairs_at : (seat : ℕ) → IsSession v seat → Pairs (λ (a b : Said). a.session ≡ seat → b.session ≡ seat → BeforeBeside f a b) places
+  pairs_at seat session =
+      let part = run.own seat session in
+      let (u, lines, rest) = own_split f seat (line_moves script answers) (map close_of closed) v part.last part.run in
+      all_before runs stay f seat script answers v u (none_drawn tell v f whole script answers closed run seat session) lines
+      (run.ends.serializable.numbered seat (still_session v f seat run.opening session))
+      (subst (λ (s : Session). Continues (u.session seat) s) part.ends (own_goes runs stay f seat (map close_of closed) u part.last rest).goes)
+
   -- so it is of each two lines of one session
-  in_time : (P : Said → Said → Type 0) → ((a b : Said) → BeforeBeside f a b → P a b) → AllInTime AtOnce P said
+  in_time : (P : Said → Said → Type 0) → ((a b : Said) → BeforeBeside f a b → P a b) → AllInTime AtOnce P places
   in_time P gives i j d less within before =
-      let a = get_or said i d in
-      let b = get_or said j d in
+      let a = get_or places i d in
+      let b = get_or places j d in
       let one : a.session ≡ b.session = eqb-true a.session b.session before in
-      let in_it : a ∈ said = ∈-at said i d (omega (arith, less, within)) in
-      gives a b (all_pairs (λ (x y : Said). x.session ≡ a.session → y.session ≡ a.session → BeforeBeside f x y) said (pairs_at a.session (session_of a in_it)) i j d less within refl (sym one))
+      let in_it : a ∈ places = ∈-at places i d (omega (arith, less, within)) in
+      gives a b (all_pairs (λ (x y : Said). x.session ≡ a.session → y.session ≡ a.session → BeforeBeside f x y) places (pairs_at a.session (session_of tell v f whole script answers closed run a in_it)) i j d less within refl (sym one))
 
   -- THE TRANSACTIONS
   lawful : IsSerializable sound_law f
   lawful = run.ends.serializable
 
   tells_there : (seat : ℕ) → IsSession f seat → Tells seat (progress_of seat (places_of script answers closed)) (f.session seat)
-  tells_there seat session = tell v f script answers closed run seat (still_session f v seat (sym run.opening) session)
+  tells_there seat session = tell v f whole script answers closed run seat (still_session f v seat (sym run.opening) session)
 
   abbrev told : List Transaction
   told = transactions_of v.opening.sessions (places_of script answers closed)
@@ -191,7 +288,7 @@ module _ (tell : RunsAtOnceTell) (v f : View) (script : List ScriptLine) (answer
       (then_told.own.stamped m (then_is ∙ ap (λ (k : ℕ). Some k) (sym same))) in
       differ (first.own.tells.session ∙ one.0 ∙ sym then_told.own.tells.session) (first.own.tells.number ∙ one.1 ∙ sym then_told.own.tells.number))
 
-  pub stamps : (opening : Start) → IsOpeningOf v opening → StampsAgree AtOnce opening told said
+  pub stamps : (opening : Start) → IsOpeningOf v opening → StampsAgree AtOnce opening told places
   stamps opening of = record {
     differ = all_pairs (λ t u. Told (λ a b. a ≢ b) (stamp_of t) (stamp_of u)) told
         (pairs_from Differ (λ t u. Told (λ a b. a ≢ b) (stamp_of t) (stamp_of u)) told two_names (λ t u m n differ. stamps_differ t u (of_world t m) (of_world u n) differ));
@@ -216,8 +313,8 @@ module _ (tell : RunsAtOnceTell) (v f : View) (script : List ScriptLine) (answer
     begins_ascend = in_time (λ a b. Told (λ first later. first ≤ later) (begin_told a.answer) (begin_told b.answer))
         (λ a b is. told_from (begin_told a.answer) (begin_told b.answer) (λ first later. first ≤ later) is.stamps.begins_ascend);
     stops = λ in_turn. absurd (cc in_turn);
-    untold_after = λ i j stamp s drawn before at. absurd (no_wait drawn.line (i, drawn.at) drawn.waits);
-    untold_before = λ i j stamp s drawn behind at. absurd (no_wait drawn.line (i, drawn.at) drawn.waits);
+    untold_after = λ i j stamp s drawn before at. absurd (no_wait tell v f whole script answers closed run drawn.line (i, drawn.at) drawn.waits);
+    untold_before = λ i j stamp s drawn behind at. absurd (no_wait tell v f whole script answers closed run drawn.line (i, drawn.at) drawn.waits);
   }
 
   -- an owner that is told is the one that was met, since of a session one transaction has a number
@@ -248,7 +345,7 @@ module _ (tell : RunsAtOnceTell) (v f : View) (script : List ScriptLine) (answer
     one_name w x (inr now) (inl (g, over, is)) same = no_other g w (w ≡ x) over now (ap (λ (u : Work). u.number) is ∙ sym same)
     one_name w x (inr now) (inr then_now) same = one_now (f.session seat).stand w x now then_now
 
-  named_by : (t : Transaction) → IsTold f t → (a : Answer) (begin : ℕ) → ((other number : ℕ) → a ≡ answer.Owned other number → IsOwner f other number begin) → Names a t → t.begin ≤ begin
+  named_by : (t : Transaction) → IsTold f t → (a : Answer) (begin : ℕ) → ((other number : ℕ) → a ≡ answer.Owned other number → OwnerBelow f other number begin) → Names a t → t.begin ≤ begin
   named_by t one (answer.Owned other number) begin owned (own, number_is) =
       let owner = owned other number refl in
       let seat : one.seat ≡ other = sym one.own.tells.session ∙ own in
@@ -257,7 +354,7 @@ module _ (tell : RunsAtOnceTell) (v f : View) (script : List ScriptLine) (answer
       omega (arith, owner.begun, one.own.tells.begin, ap (λ (w : Work). w.begin) same)
   named_by t one a begin owned none = absurd none
 
-  pub rise : StampsRise AtOnce told said
+  pub rise : StampsRise AtOnce told places
   rise = record {
     met = in_time (λ a b. Told (λ stamp begin. stamp < begin) (stamp_met a.answer) (begin_told b.answer))
         (λ a b is. told_from (stamp_met a.answer) (begin_told b.answer) (λ stamp begin. stamp < begin) is.met);
@@ -265,9 +362,9 @@ module _ (tell : RunsAtOnceTell) (v f : View) (script : List ScriptLine) (answer
         (λ begin told. named_by t (of_world t m) a.answer begin (λ other number same. is.owned other number begin same told) names));
   }
 
-module _ (tell : RunsAtOnceTell) where
-  pub runs_stamps : RunsAtOnceHaveStamps
-  runs_stamps v f script answers closed opening run of = stamps tell v f script answers closed run opening of
+module _ (runs : (number begin : ℕ) → IsRunOf (world.begun number begin) []) (stay : (w u : Work) (steps : List Step) → Extends w u → IsAnswered w steps → IsAnswered u steps) where
+  pub part_stamps : RunsInPartHaveStamps
+  part_stamps v f whole part answers closed opening run of = stamps runs stay v f whole part answers closed run opening of
 
-  pub runs_rise : RunsAtOnceRise
-  runs_rise v f script answers closed opening run of = rise tell v f script answers closed run
+  pub part_rise : RunsInPartRise
+  part_rise v f whole part answers closed opening run of = rise runs stay v f whole part answers closed run

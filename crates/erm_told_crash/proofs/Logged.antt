@@ -17,11 +17,12 @@ use Rattle.erm_world.proofs.Blocks.{chain_stands}
 use Rattle.erm_world.proofs.Commits.{tells_commits}
 use Rattle.erm_maps.specs.Runs.{Told, told_commit, told_commits}
 use Rattle.erm_maps.proofs.Histories.{IsCommitted, of_history, work_in}
+use Rattle.erm_good_report.specs.GoodReport.{places_of}
 use Rattle.erm_lines.specs.Laws.{ExecutionsGoOn, ExecutionsTell}
 use Rattle.erm_told_crash.specs.Laws.{RangesStandApart, StandApart}
-use Rattle.erm_told_crash.specs.Logged.{CoursesLogCommits, HasCommits, IsLogged}
+use Rattle.erm_told_crash.specs.Logged.{CoursesLogCommits, HasCommits, IsLogged, ToldLogCommits}
 use Rattle.erm_told_crash.proofs.Newest.{none_behind, one_over}
-use Rattle.erm_told_crash.proofs.States.{holds, ranges, told, told_as}
+use Rattle.erm_told_crash.proofs.States.{course_apart, course_commits, course_told, told, told_as}
 
 -- a place among blocks that stand one after another is in one of them
 record Covers (blocks : List Block) (place : ℕ) : Type 0 where
@@ -134,8 +135,11 @@ module _ (v : View) (lawful : IsSerializable sound_law v) (apart : StandApart v)
         subst (λ (x : Committed). (log.opened.at ≤ x.stamp) × (x.stamp < log.tail)) found.2 (commit_within found.0 found.1);
   }
 
-pub log_commits : ExecutionsTell → ExecutionsGoOn → RangesStandApart → CoursesLogCommits
-log_commits tell go apart v t script answers course closed closes log of is =
-    subst (λ (commits : List Committed). HasCommits log commits) (sym (told_as tell go apart v t script answers course closed closes))
-    (has_commits t (holds tell go apart v t script answers course closed closes) (ranges tell go apart v t script answers course closed closes) log of is
-    (told tell go apart v t script answers course closed closes))
+pub told_log : ToldLogCommits
+told_log f said is_told apart log of is =
+    subst (λ (commits : List Committed). HasCommits log commits) (sym (told_as f said is_told)) (has_commits f is_told.serializable apart log of is (told f said is_told))
+
+pub log_commits : ExecutionsTell → ExecutionsGoOn → RangesStandApart → ToldLogCommits → CoursesLogCommits
+log_commits tell go apart law v t script answers course closed closes log of is =
+    subst (λ (commits : List Committed). HasCommits log commits) (course_commits tell go apart v t script answers course closed closes)
+    (law t (places_of script answers closed) (course_told tell go apart v t script answers course closed closes) (course_apart tell go apart v t script answers course closed closes) log of is)

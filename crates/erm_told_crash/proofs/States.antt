@@ -26,14 +26,16 @@ use Rattle.erm_maps.proofs.Histories.{IsCommitted, of_history, work_in}
 use Rattle.erm_good_report.specs.GoodReport.{places_of}
 use Rattle.erm_good_report.specs.Opening.{Opening}
 use Rattle.erm_good_report.specs.Phases.{Closed}
-use Rattle.erm_good_report.specs.Transactions.{history_of, progress_of, transactions_of}
+use Rattle.erm_good_report.specs.Transactions.{Said, history_of, progress_of, transactions_of}
 use Rattle.erm_lines.specs.Executions.{AreClosed, IsCourse, IsOpeningOf, line_moves}
 use Rattle.erm_lines.specs.Laws.{ExecutionsGoOn, ExecutionsTell}
+use Rattle.erm_told.proofs.Courses.{run_so_far}
 use Rattle.erm_told.proofs.Ended.{all_moves, at_end, end_tells, opening_is}
+use Rattle.erm_told_order.specs.Told.{IsTold, told_in}
 use Rattle.erm_told_order.proofs.Ends.{end_map}
 use Rattle.erm_told_order.proofs.Orders.{are_runs, commits_told}
 use Rattle.erm_told_order.proofs.Places.{told_by}
-use Rattle.erm_told_crash.specs.Laws.{RangesStandApart, StandApart}
+use Rattle.erm_told_crash.specs.Laws.{CoursesTellStates, RangesStandApart, RunsTellAll, StandApart, ToldTellAll, ToldTellStates}
 use Rattle.erm_told_crash.proofs.Newest.{behind_newest, opening_newest}
 
 -- a front of blocks that stand one after another does so
@@ -107,59 +109,78 @@ below_end v holds bound is u m =
 same_state : (order others : List Committed) (opening m end : Database) → order ≡ others → opening ≡ m → end ≡ state_after others m → end ≡ state_after order opening
 same_state order others opening m end same_order same_map is = rw (same_order, same_map) is
 
-module _ (tell : ExecutionsTell) (go : ExecutionsGoOn) (apart : RangesStandApart) (v t : View) (script : List ScriptLine) (answers : List Answer) (run : IsCourse v script answers t)
-    (closed : List Closed) (closes : AreClosed run.closing closed) where
-  pub holds : IsSerializable sound_law t
-  holds = at_end tell go v t script answers run closed closes
-
-  pub ranges : StandApart t
-  ranges = apart v t (line_moves script answers ++ run.closing) run.opened (all_moves v t script answers run)
-
-  -- the commits told are those of the last world, as the operations told, which are their runs
+-- WHAT IS TOLD of a world.
+module _ (f : View) (said : List Said) (is_told : IsTold f said) where
+  -- the commits told are those of the world, as the operations told, which are their runs
   abbrev pub told : Told
-  told = told_by (λ (seat : ℕ). progress_of seat (places_of script answers closed))
+  told = told_by (λ (seat : ℕ). progress_of seat said)
 
-  runs_told : AreRuns t told
-  runs_told = are_runs t (λ (seat : ℕ). progress_of seat (places_of script answers closed)) holds (end_tells tell go v t script answers run closed closes)
+  runs_told : AreRuns f told
+  runs_told = are_runs f (λ (seat : ℕ). progress_of seat said) is_told.serializable is_told.tells
 
-  pub told_as : history_of (transactions_of v.opening.sessions (places_of script answers closed)) ≡ told_commits told (world.history_of t)
-  told_as =
-      ap (λ (o : world.Opening). history_of (transactions_of o.sessions (places_of script answers closed))) (sym (opening_is tell go v t script answers run closed closes))
-      ∙ commits_told t (λ (seat : ℕ). progress_of seat (places_of script answers closed)) holds (end_tells tell go v t script answers run closed closes)
+  pub told_as : history_of (told_in f said) ≡ told_commits told (world.history_of f)
+  told_as = commits_told f (λ (seat : ℕ). progress_of seat said) is_told.serializable is_told.tells
 
-  module _ (opening : Opening) (opens : IsOpeningOf v opening) (log : Log) (of : IsLogOf t log) (is : IsLog sound_law.meets log) where
-    same_map : opening.map ≡ map_of_rows t.opening.rows
-    same_map = end_map tell go v t script answers run closed closes opening opens
-
+  module _ (ranges : StandApart f) (opening : Database) (same_map : opening ≡ map_of_rows f.opening.rows) (log : Log) (of : IsLogOf f log) (is : IsLog sound_law.meets log) where
     -- at each block
-    pub state_behind : (IsSerializable sound_law t → HistoryLaws t) → (front rest : List Block) → log.gathered ≡ front ++ rest
-        → IsStateBelow (history_of (transactions_of v.opening.sessions (places_of script answers closed))) opening.map (place_behind log.opened.at front)
-        (map_of_rows (rows_behind log.opened.rows front))
+    pub state_behind : HistoryLaws f → (front rest : List Block) → log.gathered ≡ front ++ rest
+        → IsStateBelow (history_of (told_in f said)) opening (place_behind log.opened.at front) (map_of_rows (rows_behind log.opened.rows front))
     state_behind laws front rest split =
+        let holds = is_told.serializable in
         let bound = place_behind log.opened.at front in
-        let found = (laws holds).order bound in
-        let rows : rows_behind log.opened.rows front ≡ rows_after found.0 t.opening.rows =
-        rows_are_one t bound (rows_behind log.opened.rows front) (rows_after found.0 t.opening.rows) (λ oid. (laws holds).one oid bound)
-        (log_newest t holds ranges log of is front rest split) ((laws holds).newest bound found.0 found.1 (above_none t holds ranges log of is front))
+        let found = laws.order bound in
+        let rows : rows_behind log.opened.rows front ≡ rows_after found.0 f.opening.rows =
+        rows_are_one f bound (rows_behind log.opened.rows front) (rows_after found.0 f.opening.rows) (λ oid. laws.one oid bound)
+        (log_newest f holds ranges log of is front rest split) (laws.newest bound found.0 found.1 (above_none f holds ranges log of is front))
         in
-        state_as (history_of (transactions_of v.opening.sessions (places_of script answers closed))) (told_commits told (world.history_of t)) opening.map (map_of_rows t.opening.rows) bound
-        (map_of_rows (rows_behind log.opened.rows front)) (map_of_rows (rows_after found.0 t.opening.rows)) told_as same_map (ap map_of_rows rows)
-        ((laws holds).states told bound found.0 runs_told found.1).state
+        state_as (history_of (told_in f said)) (told_commits told (world.history_of f)) opening (map_of_rows f.opening.rows) bound
+        (map_of_rows (rows_behind log.opened.rows front)) (map_of_rows (rows_after found.0 f.opening.rows)) told_as same_map (ap map_of_rows rows)
+        (laws.states told bound found.0 runs_told found.1).state
 
     -- where all is gathered
-    pub all_behind : (IsSerializable sound_law t → WholeLaws t) → gathered_to log ≡ log.tail → (order : List Committed)
-        → IsSerialOrder committed.rank_of (history_of (transactions_of v.opening.sessions (places_of script answers closed))) order
-        → map_of_rows (rows_behind log.opened.rows log.gathered) ≡ state_after order opening.map
+    pub all_behind : WholeLaws f → gathered_to log ≡ log.tail → (order : List Committed) → IsSerialOrder committed.rank_of (history_of (told_in f said)) order
+        → map_of_rows (rows_behind log.opened.rows log.gathered) ≡ state_after order opening
     all_behind laws ends order serial =
+        let holds = is_told.serializable in
         let bound = gathered_to log in
-        let found = (laws holds).order in
-        let rows : rows_behind log.opened.rows log.gathered ≡ rows_after found.0 t.opening.rows =
-        rows_are_one t bound (rows_behind log.opened.rows log.gathered) (rows_after found.0 t.opening.rows) (λ oid. (laws holds).one oid bound)
-        (log_newest t holds ranges log of is log.gathered [] (sym (append-nil log.gathered)))
-        ((laws holds).newest found.0 found.1 bound (above_none t holds ranges log of is log.gathered) (below_end t holds bound (ends ∙ of.tail)))
+        let found = laws.order in
+        let rows : rows_behind log.opened.rows log.gathered ≡ rows_after found.0 f.opening.rows =
+        rows_are_one f bound (rows_behind log.opened.rows log.gathered) (rows_after found.0 f.opening.rows) (λ oid. laws.one oid bound)
+        (log_newest f holds ranges log of is log.gathered [] (sym (append-nil log.gathered)))
+        (laws.newest found.0 found.1 bound (above_none f holds ranges log of is log.gathered) (below_end f holds bound (ends ∙ of.tail)))
         in
-        let runs = (laws holds).run told found.0 runs_told found.1 in
-        same_state order (told_commits told found.0) opening.map (map_of_rows t.opening.rows) (map_of_rows (rows_behind log.opened.rows log.gathered))
-        ((laws holds).unique (told_commits told (world.history_of t)) order (told_commits told found.0)
+        let runs = laws.run told found.0 runs_told found.1 in
+        same_state order (told_commits told found.0) opening (map_of_rows f.opening.rows) (map_of_rows (rows_behind log.opened.rows log.gathered))
+        (laws.unique (told_commits told (world.history_of f)) order (told_commits told found.0)
         (subst (λ commits. IsSerialOrder committed.rank_of commits order) told_as serial) runs.serial) same_map
-        (ap map_of_rows rows ∙ run_ends (told_commits told found.0) (map_of_rows t.opening.rows) (map_of_rows (rows_after found.0 t.opening.rows)) runs.run.run)
+        (ap map_of_rows rows ∙ run_ends (told_commits told found.0) (map_of_rows f.opening.rows) (map_of_rows (rows_after found.0 f.opening.rows)) runs.run.run)
+
+-- A RUN so far tells the world that it comes to, whose ranges stand apart.
+module _ (tell : ExecutionsTell) (go : ExecutionsGoOn) (apart : RangesStandApart) (v t : View) (script : List ScriptLine) (answers : List Answer) (run : IsCourse v script answers t)
+    (closed : List Closed) (closes : AreClosed run.closing closed) where
+  pub course_told : IsTold t (places_of script answers closed)
+  course_told = record { serializable = at_end tell go v t script answers run closed closes; tells = end_tells tell go v t script answers run closed closes }
+
+  pub course_apart : StandApart t
+  course_apart = apart v t (line_moves script answers ++ run.closing) run.opened (all_moves v t script answers run)
+
+  pub course_commits : history_of (told_in t (places_of script answers closed)) ≡ history_of (transactions_of v.opening.sessions (places_of script answers closed))
+  course_commits = ap (λ (o : world.Opening). history_of (transactions_of o.sessions (places_of script answers closed))) (opening_is tell go v t script answers run closed closes)
+
+  pub course_map : (opening : Opening) → IsOpeningOf v opening → opening.map ≡ map_of_rows t.opening.rows
+  course_map opening of = end_map tell go v t script answers run closed closes opening of
+
+-- so the laws on what is told are laws of runs
+pub courses_tell_states : ExecutionsTell → ExecutionsGoOn → RangesStandApart → ToldTellStates → CoursesTellStates
+courses_tell_states tell go apart law v t script answers run closed opening closes of log log_of is front rest split =
+    subst (λ (commits : List Committed). IsStateBelow commits opening.map (place_behind log.opened.at front) (map_of_rows (rows_behind log.opened.rows front)))
+    (course_commits tell go apart v t script answers run closed closes)
+    (law t (places_of script answers closed) (course_told tell go apart v t script answers run closed closes) (course_apart tell go apart v t script answers run closed closes)
+    opening.map (course_map tell go apart v t script answers run closed closes opening of) log log_of is front rest split)
+
+pub runs_tell_all : ExecutionsTell → ExecutionsGoOn → RangesStandApart → ToldTellAll → RunsTellAll
+runs_tell_all tell go apart law v t script answers run closed opening closes of log log_of is ends order serial =
+    let course = run_so_far v t script answers run in
+    law t (places_of script answers closed) (course_told tell go apart v t script answers course closed closes) (course_apart tell go apart v t script answers course closed closes)
+    opening.map (course_map tell go apart v t script answers course closed closes opening of) log log_of is ends order
+    (subst (λ (commits : List Committed). IsSerialOrder committed.rank_of commits order) (sym (course_commits tell go apart v t script answers course closed closes)) serial)

@@ -12,8 +12,10 @@ use Rattle.erm_world.specs.Whole.{IsLogOf}
 use Rattle.erm_world.specs.World.{View}
 use Rattle.erm_good_report.specs.GoodReport.{places_of}
 use Rattle.erm_good_report.specs.Phases.{Closed}
-use Rattle.erm_good_report.specs.Transactions.{history_of, transactions_of}
+use Rattle.erm_good_report.specs.Transactions.{Said, history_of, transactions_of}
 use Rattle.erm_lines.specs.Executions.{AreClosed, IsCourse}
+use Rattle.erm_told_order.specs.Told.{IsTold, told_in}
+use Rattle.erm_told_crash.specs.Laws.{StandApart}
 
 -- a block is that of a commit: it has its name, and its stamps
 pub record IsLogged (block : Block) (c : Committed) : Type 0 where
@@ -29,6 +31,10 @@ pub record HasCommits (log : Log) (commits : List Committed) : Type 0 where
   pub each : (block : Block) → block ∈ log.gathered → (block.kind ≡ Skip) ⊎ ((c : Committed) × (c ∈ commits) × IsLogged block c)
   pub all : (c : Committed) → c ∈ commits → c.stamp < gathered_to log → (block : Block) × (block ∈ log.gathered) × IsLogged block c
   pub within : (c : Committed) → c ∈ commits → (log.opened.at ≤ c.stamp) × (c.stamp < log.tail)
+
+-- where what was said tells a world whose ranges stand apart, its log has the commits told
+abbrev pub ToldLogCommits : Type 0
+ToldLogCommits = (f : View) (said : List Said) → IsTold f said → StandApart f → (log : Log) → IsLogOf f log → IsLog sound_law.meets log → HasCommits log (history_of (told_in f said))
 
 -- the log of a run so far has the commits that are told
 abbrev pub CoursesLogCommits : Type 0

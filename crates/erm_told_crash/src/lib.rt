@@ -2,14 +2,29 @@
 //! contract of a function that does nothing.
 #![tactic(auto)]
 
-ghost use Rattle.erm_told_crash.specs.Laws.{CoursesClose, CoursesTellStates, RangesStandApart, RunsTellAll};
-ghost use Rattle.erm_told_crash.specs.Logged.{CoursesLogCommits};
+ghost use Rattle.erm_told_crash.specs.Laws.{CoursesClose, CoursesTellStates, RangesStandApart, RunsTellAll, ToldTellAll, ToldTellStates};
+ghost use Rattle.erm_told_crash.specs.Logged.{CoursesLogCommits, ToldLogCommits};
 ghost use Rattle.erm_told_crash.specs.Spare.{SpareNamesTellNothing};
 
 /// The ranges of the log that transactions take from their commit stamps on stand apart, within the log.
 pub fn ranges_stand_apart()
     ensures { RangesStandApart }
 {}
+
+/// Where what was said tells a world whose ranges of the log stand apart, in turn or at once: at each block of its log, the rows behind it
+/// stand for the state, as it is told, below the place behind it; behind all of it, gathered to its end, for the state after all commits told,
+/// in the serial order; and its blocks are those of the commits told, and those of excluded transactions.
+pub fn told_logs_tell_states()
+    ensures states { ToldTellStates }
+    ensures all { ToldTellAll }
+    ensures commits { ToldLogCommits }
+{
+    erm_core_ssn::rows_run_serially();
+    erm_core_ssn::serial_order_is_unique();
+    erm_core_ssn::versions_are_unique();
+    erm_core_ssn::prefixes_stand_alone();
+    erm_maps::histories_run_as_operations();
+}
 
 /// At each block of the log of a run so far, the rows behind it stand for the state, as the report tells it, below the place behind it.
 pub fn logs_tell_states()
@@ -18,11 +33,7 @@ pub fn logs_tell_states()
     ranges_stand_apart();
     erm_told::executions_tell_sessions();
     erm_told::executions_go_on();
-    erm_core_ssn::rows_run_serially();
-    erm_core_ssn::serial_order_is_unique();
-    erm_core_ssn::versions_are_unique();
-    erm_core_ssn::prefixes_stand_alone();
-    erm_maps::histories_run_as_operations();
+    told_logs_tell_states();
 }
 
 /// Where the log of a run is gathered to its end, the rows behind it stand for the state after all commits that the report tells, in
@@ -33,10 +44,7 @@ pub fn logs_tell_all()
     ranges_stand_apart();
     erm_told::executions_tell_sessions();
     erm_told::executions_go_on();
-    erm_core_ssn::rows_run_serially();
-    erm_core_ssn::serial_order_is_unique();
-    erm_core_ssn::versions_are_unique();
-    erm_maps::histories_run_as_operations();
+    told_logs_tell_states();
 }
 
 /// The sessions that a run so far closed can be listed, and each was closed as the answers leave it.
@@ -54,6 +62,7 @@ pub fn logs_have_the_commits_told()
     ranges_stand_apart();
     erm_told::executions_tell_sessions();
     erm_told::executions_go_on();
+    told_logs_tell_states();
 }
 
 /// A report of a script whose lines name no session, with a spare name, is one with no names too.

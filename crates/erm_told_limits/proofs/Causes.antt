@@ -15,7 +15,7 @@ use Rattle.erm_script.specs.declared.script.Command.TheVariants as command
 use Rattle.erm_script.specs.declared.script.ScriptLine.{ScriptLine}
 use Rattle.erm_world.specs.World.{View}
 use Rattle.erm_good_report.specs.Opening.{Opening, InTurn}
-use Rattle.erm_good_report.specs.Refusals.{HasRefusalCause, IsOwn, moment_at, claims_of, makes_of, total_of}
+use Rattle.erm_good_report.specs.Refusals.{HasRefusalCause, IsCounted, IsOwn, moment_at, claims_of, makes_of, total_of}
 use Rattle.erm_good_report.specs.Transactions.{Said, Transaction, said_of}
 use Rattle.erm_lines.specs.Answers.{DidLine}
 use Rattle.erm_lines.specs.Executions.{DidLog, DidLogLine, IsCourse, IsOpeningOf}
@@ -93,11 +93,11 @@ taken_less count ls n =
     omega (arith, parts, ap (λ (all : List ScriptLine). total_of count all) (take-append-drop n ls))
 
 pub cells_full_at : (laws : Laws) (v t : View) (script : List ScriptLine) (answers : List Answer) → IsCourse v script answers t → (drawn : ℕ) → answer.CellsFull drawn ∈ answers
-    → (v.opening.cells ≤ drawn) × (v.opening.cells < OID_LIMIT + total_of claims_of script)
+    → IsCounted v.opening.cells v.opening.cells drawn × (v.opening.cells < OID_LIMIT + total_of claims_of script)
 cells_full_at laws v t script answers run drawn (i, e) =
     let line = line_there script answers run.most i (answer.CellsFull drawn) e in
     let l = line.0 in
     let said = take i (said_of script answers) in
     let at : At v (take i script) said l (answer.CellsFull drawn) = of_session v (take i script) said l (answer.CellsFull drawn) tt (there laws v t script answers run i l (answer.CellsFull drawn) line.1 e) in
     let most = cells_cause laws v (take i script) said l (answer.CellsFull drawn) at drawn (cells_full drawn) in
-    (most.0.0, omega (arith, most.1, taken_less claims_of script (i + 1), ap (λ (ls : List ScriptLine). total_of claims_of ls) (take_next script i l line.1)))
+    (most.0, omega (arith, most.1, taken_less claims_of script (i + 1), ap (λ (ls : List ScriptLine). total_of claims_of ls) (take_next script i l line.1)))

@@ -71,7 +71,7 @@ writes_read_nothing : (rows : List (ℕ × List ℕ)) (x : ℕ) → AreReading (
 writes_read_nothing [] x by = by
 writes_read_nothing (entry ∷ rows) x by = writes_read_nothing rows x by
 
-change_reads_nothing : (made : List ℕ) (rows : List (ℕ × List ℕ)) (x : ℕ) → AreReading (makes_claims_writes made rows) x → ⊥
+pub change_reads_nothing : (made : List ℕ) (rows : List (ℕ × List ℕ)) (x : ℕ) → AreReading (makes_claims_writes made rows) x → ⊥
 change_reads_nothing made rows x by =
     let first = map (λ (entry : ℕ × List ℕ). did_claim entry.0) rows in
     let last = map (λ (entry : ℕ × List ℕ). did_write entry.0 entry.1) rows in

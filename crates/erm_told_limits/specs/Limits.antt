@@ -9,7 +9,7 @@ use Rattle.erm_script.specs.declared.script.ScriptLine.{ScriptLine}
 use Rattle.erm_script.specs.Script.{IsInRange}
 use Rattle.erm_world.specs.World.{IsSession, View, work_at}
 use Rattle.erm_good_report.specs.Opening.{Opening, InTurn}
-use Rattle.erm_good_report.specs.Refusals.{HasLogCause, HasRefusalCause, IsInReach, IsOwn, Moment, claims_of, moment_at, total_of}
+use Rattle.erm_good_report.specs.Refusals.{HasLogCause, HasRefusalCause, IsCounted, IsInReach, IsOwn, Moment, claims_of, moment_at, total_of}
 use Rattle.erm_good_report.specs.Transactions.{Transaction, progress_of, said_of}
 use Rattle.erm_lines.specs.Executions.{IsCourse, IsExecution, IsOpened, IsOpeningOf, line_moves}
 
@@ -34,11 +34,11 @@ IsFull a = ⊥
 abbrev pub FullHasCause : Type 0
 FullHasCause = OfLines IsFull (λ m l a. (t : Transaction) → IsOwn m l.command a t → HasRefusalCause m l.command t a)
 
--- Where an answer of a run so far tells that cells are full, all of its world's were drawn, and the script's lines may claim as many as they are
--- beside those of the objects.
+-- Where an answer of a run so far tells that cells are full, its count is at the number of its world's cells or above it by one for each seat at most, and
+-- the script's lines may claim as many as they are beside those of the objects.
 abbrev pub CellsAreFull : Type 0
 CellsAreFull = (v t : View) (script : List ScriptLine) (answers : List Answer) → IsCourse v script answers t → (drawn : ℕ) → answer.CellsFull drawn ∈ answers
-    → (v.opening.cells ≤ drawn) × (v.opening.cells < OID_LIMIT + total_of claims_of script)
+    → IsCounted v.opening.cells v.opening.cells drawn × (v.opening.cells < OID_LIMIT + total_of claims_of script)
 
 -- the answers that tell that the log is at its end, or a session's numbers
 abbrev pub IsEnd : Answer → Type 0

@@ -18,7 +18,7 @@ pub fn full_has_cause()
     erm_maps::begun_transactions_are_runs();
 }
 
-/// An answer that tells of cells counts those of the run's own world: all of them were drawn, and the script's lines may claim so many.
+/// An answer that tells that cells are full has a count at the number of the run's own world's cells or above it, and the script's lines may claim so many.
 pub fn cells_are_full()
     ensures { CellsAreFull }
 {

@@ -1,7 +1,7 @@
-use Rattle.erm_causes.proofs.Begun.{HistoryLaws}
 use Rattle.erm_causes.proofs.Own.{TreeLaws}
 use Rattle.erm_causes.proofs.Shown.{runs_refuse}
 use Rattle.erm_causes.proofs.runs_refuse_for_others.Goals as goal
+use Rattle.erm_told_limits.proofs.Given.{HistoryLaws}
 
 pub returns : goal.returns
 returns c =

@@ -1,7 +1,7 @@
-use Rattle.erm_causes.proofs.Begun.{HistoryLaws}
 use Rattle.erm_causes.proofs.Own.{TreeLaws}
 use Rattle.erm_causes.proofs.Runs.{runs_touch}
 use Rattle.erm_causes.proofs.runs_touch_tables.Goals as goal
+use Rattle.erm_told_limits.proofs.Given.{HistoryLaws}
 
 pub returns : goal.returns
 returns c =

@@ -1,28 +1,8 @@
-use Rattle.erm_causes.proofs.Begun.{HistoryLaws}
-use Rattle.erm_causes.proofs.Own.{TreeLaws}
-use Rattle.erm_causes_at_once.proofs.Touched.{have_causes}
+use Rattle.erm_model.specs.Member.{◌∈◌}
+use Rattle.erm_good_report.specs.Causes.{HasCauseOf}
+use Rattle.erm_good_report.specs.Transactions.{Transaction}
+use Rattle.erm_lines_at_once.proofs.Parts.{whole_of}
 use Rattle.erm_causes_at_once.proofs.runs_at_once_have_causes.Goals as goal
 
 pub returns : goal.returns
-returns c =
-    let tree : TreeLaws = record {
-      apart = c.tables_stand_apart.ensures.apart;
-      one = c.tables_stand_apart.ensures.one;
-      way = c.calls_stay_in_their_table.ensures.way;
-      met = c.calls_stay_in_their_table.ensures.met;
-      next = c.calls_stay_in_their_table.ensures.next;
-      put = c.calls_stay_in_their_table.ensures.put;
-      put_asks = c.calls_stay_in_their_table.ensures.put_asks;
-      del = c.calls_stay_in_their_table.ensures.del;
-      del_asks = c.calls_stay_in_their_table.ensures.del_asks;
-    } in
-    let laws : HistoryLaws = record {
-      certified = c.prefixes_stand_alone.ensures.certified;
-      snapshot = c.prefixes_stand_alone.ensures.snapshot;
-      exists = c.serial_order_is_unique.ensures.exists;
-      run_below = c.rows_run_serially.ensures.run_below;
-      newest_below = c.rows_run_serially.ensures.newest_below;
-      row = c.versions_are_unique.ensures.row;
-      newest = c.versions_are_unique.ensures.newest;
-    } in
-    λ v f script answers closed opening run of. have_causes tree laws c.begun_transactions_are_runs.ensures c.answers_stay.ensures v f script answers closed run
+returns c = whole_of (λ opening whole part answers told. (t : Transaction) → t ∈ told → HasCauseOf t.ending told t) c.runs_in_part_have_causes.ensures.causes

@@ -1,19 +1,6 @@
-use Rattle.erm_told_limits.proofs.Given.{HistoryLaws, given}
-use Rattle.erm_limits_at_once.proofs.Full.{for_room}
+use Rattle.erm_limits_at_once.specs.Laws.{RefusesForRoomIn}
+use Rattle.erm_lines_at_once.proofs.Parts.{whole_of}
 use Rattle.erm_limits_at_once.proofs.runs_at_once_refuse_for_room.Goals as goal
 
 pub returns : goal.returns
-returns c =
-    let histories : HistoryLaws = record {
-      certified = c.prefixes_stand_alone.ensures.certified;
-      snapshot = c.prefixes_stand_alone.ensures.snapshot;
-      exists = c.serial_order_is_unique.ensures.exists;
-      run_below = c.rows_run_serially.ensures.run_below;
-      newest_below = c.rows_run_serially.ensures.newest_below;
-      row = c.versions_are_unique.ensures.row;
-      newest = c.versions_are_unique.ensures.newest;
-    }
-    in
-    let ways = c.calls_stay_in_their_table.ensures in
-    let laws = given histories (record { way = ways.way; met = ways.met; next = ways.next }) c.begun_transactions_are_runs.ensures in
-    λ v f script answers closed opening run of. for_room laws c.zero_rows_are_not_reached.ensures c.begun_transactions_are_runs.ensures c.answers_stay.ensures v f script answers closed run opening of
+returns c = whole_of (λ opening whole part answers told. RefusesForRoomIn opening whole part answers told) c.runs_in_part_refuse_for_room.ensures

@@ -1,6 +1,6 @@
-use Rattle.erm_causes.proofs.Begun.{HistoryLaws}
 use Rattle.erm_told_limits.proofs.Given as limits
 use Rattle.erm_told_limits.proofs.Holds.{Laws}
+use Rattle.erm_told_limits.proofs.Given.{HistoryLaws}
 use Rattle.erm_tight.proofs.NewRuns.{oids_full_of}
 use Rattle.erm_tight.proofs.Whole.{KeyLaws, key_laws}
 use Rattle.erm_tight.proofs.oids_are_full.Goals as goal

@@ -4,7 +4,6 @@ use Rattle.erm_good_report.specs.GoodReport.{places_of}
 use Rattle.erm_world.specs.World as world
 use Rattle.erm_lines.specs.Executions.{line_moves}
 use Rattle.erm_told.proofs.Courses.{run_so_far}
-use Rattle.erm_causes.proofs.Begun.{HistoryLaws}
 use Rattle.erm_causes.proofs.Moves.{session_before}
 use Rattle.erm_causes.proofs.Runs.{whole_run}
 use Rattle.erm_causes.proofs.Tables.{run_holds, run_opening}
@@ -14,6 +13,7 @@ use Rattle.erm_tight.proofs.Runs.{run_marks}
 use Rattle.erm_tight.proofs.Undecided.{opened_orderly}
 use Rattle.erm_tight.proofs.Whole.{KeyLaws, key_laws}
 use Rattle.erm_tight.proofs.runs_have_tight_windows.Goals as goal
+use Rattle.erm_told_limits.proofs.Given.{HistoryLaws}
 
 pub returns : goal.returns
 returns c = λ v t script answers run closed opening are starts.

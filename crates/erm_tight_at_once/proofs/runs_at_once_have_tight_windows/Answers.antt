@@ -1,5 +1,4 @@
-use Rattle.erm_causes.proofs.Begun.{HistoryLaws}
-use Rattle.erm_told_limits.proofs.Given.{given}
+use Rattle.erm_told_limits.proofs.Given.{HistoryLaws, given}
 use Rattle.erm_told_limits.proofs.Given as limits
 use Rattle.erm_tight.proofs.Whole.{KeyLaws, key_laws}
 use Rattle.erm_tight_at_once.proofs.Windows.{have_tight_windows}

@@ -1,5 +1,6 @@
-use Rattle.erm_told_at_once.proofs.Ends.{serial}
+use Rattle.erm_good_at_once.specs.CutReports.{AreSerial}
+use Rattle.erm_lines_at_once.proofs.Parts.{whole_of}
 use Rattle.erm_told_at_once.proofs.runs_at_once_are_serial.Goals as goal
 
 pub returns : goal.returns
-returns c = serial c.runs_at_once_tell.ensures c.told_worlds_are_serial.ensures
+returns c = whole_of (λ opening whole part answers told. AreSerial opening told) c.runs_in_part_are_told.ensures.serial

@@ -1,5 +1,8 @@
-use Rattle.erm_told_at_once.proofs.Stamping.{runs_stamps}
+use Rattle.erm_good_report.specs.Opening.{AtOnce}
+use Rattle.erm_good_report.specs.Stamps.{StampsAgree}
+use Rattle.erm_good_report.specs.Transactions.{said_of}
+use Rattle.erm_lines_at_once.proofs.Parts.{whole_of}
 use Rattle.erm_told_at_once.proofs.runs_at_once_have_stamps.Goals as goal
 
 pub returns : goal.returns
-returns c = runs_stamps c.runs_at_once_tell.ensures
+returns c = whole_of (λ opening whole part answers told. StampsAgree AtOnce opening told (said_of part answers)) c.runs_in_part_are_told.ensures.stamps

@@ -1,0 +1,10 @@
+pub mod Alike
+pub mod Closing
+pub mod Left
+pub mod MetThere
+pub mod Parted
+pub mod Rereading
+pub mod Report
+pub mod Stands
+pub mod Whole
+pub mod World

@@ -1,0 +1,38 @@
+//! What the report of an execution at once that a fault cut off owes: of the lines answered, all that a report owes to its answers. Each
+//! law is the contract of a function that does nothing.
+#![tactic(auto)]
+
+ghost use Rattle.erm_cut_at_once.specs.Laws.{CutRunsCloseUnseen, CutRunsOwe, CutRunsReportWell};
+
+/// Phases and stamps agree, each transaction told was answered on its snapshot, the commits told give their replies where they run in the
+/// serial order, each commit, exclusion and refusal told has its cause, and what was met lies below what is begun later. A transaction that was aborted behind the last answers is told unfinished, and what a
+/// waiting line read for it, or the stamp that a waiting commit drew, is told by no line.
+pub fn cut_runs_owe()
+    ensures { CutRunsOwe }
+{
+    erm_core_ssn::rows_run_serially();
+    erm_core_ssn::serial_order_is_unique();
+    erm_core_ssn::versions_are_unique();
+    erm_core_ssn::prefixes_stand_alone();
+    erm_tree::calls_stay_in_their_table();
+    erm_maps::begun_transactions_are_runs();
+    erm_maps::answers_stay();
+    erm_causes_at_once::runs_in_part_tell_log();
+    erm_owes_at_once::runs_in_part_owe();
+}
+
+/// A session that was decided behind the last answers had all its lines answered, and they leave it sealed.
+pub fn cut_runs_close_unseen()
+    ensures { CutRunsCloseUnseen }
+{
+    erm_maps::begun_transactions_are_runs();
+    erm_maps::answers_stay();
+}
+
+/// Lines that tell of an execution that was cut off, and whose numbers and values fit their types, are a good report of it.
+pub fn cut_runs_report_well()
+    ensures { CutRunsReportWell }
+{
+    cut_runs_owe();
+    cut_runs_close_unseen();
+}

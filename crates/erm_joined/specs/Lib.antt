@@ -1,0 +1,3 @@
+pub mod Cuts
+pub mod Merged
+pub mod Runs

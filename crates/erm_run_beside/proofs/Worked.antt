@@ -1,0 +1,86 @@
+-- The jobs of sessions just opened may be worked, and what their workers did.
+use Rattle.std.proofs.Common.{◌≡◌, ℕ, ◌+◌, ◌≤◌, List, length, sym, ap, ◌∙◌, subst, arith}
+use Rattle.std.specs.Prelude.{vec_capacity, None}
+use Rattle.std.specs.List.{All}
+use Rattle.std.proofs.lemmas.Option.{slice_get-get_or}
+use Rattle.erm_model.specs.declared.outcome.Phase.TheVariants.{Active}
+use Rattle.erm_model.specs.Member.{◌∈◌}
+use Rattle.erm_model.specs.RowTransaction.{Law}
+use Rattle.erm_model.proofs.Members.{none_in_nil}
+use Rattle.erm_script.specs.declared.script.ScriptLine.{ScriptLine}
+use Rattle.erm_rule.specs.declared.rule.Table.{Table}
+use Rattle.erm_rule.specs.declared.view.Opening.{Opening}
+use Rattle.erm_rule.specs.Openings.{start_of}
+use Rattle.erm_shared_session.specs.declared.session.TableSession.{TableSession}
+use Rattle.erm_shared_session.specs.Stands.{Ends, Stands, own_of, seat_of}
+use Rattle.erm_world.specs.World.{View, phase_at}
+use Rattle.erm_worker.specs.Work.{IsReady, MayBeAsked}
+use Rattle.erm_threads.specs.declared.job.Done.{Done}
+use Rattle.erm_threads.specs.declared.job.Job.{Job}
+use Rattle.erm_threads.specs.Work.{AllWorked, DidWork, IsJob, Worked}
+use Rattle.erm_threads.proofs.Jobs.{there_is}
+use Rattle.erm_engine.specs.Opened.{AreNew, IsNew, opened_view}
+use Rattle.erm_engine.proofs.Joined.{at_within}
+use Rattle.erm_run_beside.specs.Jobs.{AreJobs, AreLines, IsJobOf}
+use Rattle.erm_run_beside.specs.Ended.{AreWorked, HasWorked}
+
+-- ONE JOB may be worked
+opened_ready : (o : Opening) (seat : ℕ) → IsReady ((opened_view (start_of o)).session seat) None
+opened_ready o seat = record { run = λ active. absurd (cc); receipt = λ f in_none committed. none_in_nil f in_none }
+
+one_job : {L T : Type 0} (law : Law) (table : Table L) (o : Opening) (seat : ℕ) (s : TableSession L) (ls : List ScriptLine) (j : Job (TableSession L) T) → IsNew law table o seat s
+    → ((l : ScriptLine) → l ∈ ls → (l.session ≡ seat) × MayBeAsked l.command) → IsJobOf s ls j → IsJob (Stands law table) seat_of own_of j
+one_job {L} law table o seat s ls j new may is =
+    let place : seat_of j.session ≡ seat = ap (λ (x : TableSession L). seat_of x) is.session_is ∙ new.seat_is in
+    let own : own_of j.session ≡ opened_view (start_of o) = ap (λ (x : TableSession L). own_of x) is.session_is ∙ new.own in
+    record {
+      stands_so = subst (λ (x : TableSession L). Stands law table x) (sym is.session_is) new.stands;
+      may = record {
+        own = λ l there. (may l (subst (λ (xs : List ScriptLine). l ∈ xs) is.lines_are there)).0 ∙ sym place;
+        may = λ l there. (may l (subst (λ (xs : List ScriptLine). l ∈ xs) is.lines_are there)).1;
+        ready = subst (λ (v : View). IsReady (v.session (seat_of j.session)) None) (sym own) (opened_ready o (seat_of j.session));
+      };
+      none = is.none;
+      room = subst (λ (xs : List ScriptLine). length xs ≤ vec_capacity j.answers) (sym is.lines_are) is.room;
+    }
+
+-- and so may all
+pub all_jobs : {L T : Type 0} (law : Law) (table : Table L) (o : Opening) (count : ℕ) (ss : List (TableSession L)) (ps : List (List ScriptLine)) (js : List (Job (TableSession L) T))
+    → AreNew law table o count ss → AreLines ps → AreJobs ss ps js → All (λ j. IsJob (Stands law table) seat_of own_of j) js
+all_jobs law table o count ss ps js new may are = λ k d less.
+    let there = slice_get-get_or js k d less in
+    let many = are.many in
+    let lines = are.lines in
+    let s = at_within ss k (omega (arith, less, many)) in
+    let p = at_within ps k (omega (arith, less, lines)) in
+    one_job law table o (k + 1) s.0 p.0 _ (new.each k s.0 s.1) (may k p.0 p.1) (are.each k s.0 p.0 _ s.1 p.1 there)
+
+-- ONE SESSION after its worker
+one_worked : {L T : Type 0} (law : Law) (table : Table L) (o : Opening) (seat : ℕ) (s : TableSession L) (ls : List ScriptLine) (j : Job (TableSession L) T) (d : Done (TableSession L))
+    → IsNew law table o seat s → IsJobOf s ls j → Worked (Stands law table) seat_of own_of (Ends law) j d → HasWorked law table o seat ls d
+one_worked {L} law table o seat s ls j d new is w =
+    let place : seat_of j.session ≡ seat = ap (λ (x : TableSession L). seat_of x) is.session_is ∙ new.seat_is in
+    let own : own_of j.session ≡ opened_view (start_of o) = ap (λ (x : TableSession L). own_of x) is.session_is ∙ new.own in
+    record {
+      stands = w.stands_so;
+      seat_is = w.onward.seat_is ∙ place;
+      rests = λ active. w.rests (subst (λ (q : ℕ). phase_at (own_of d.session) q ≡ Active) (sym place) active);
+      most = subst (λ (xs : List ScriptLine). length d.answers.items ≤ length xs) is.lines_are w.most;
+      did = λ whole f end.
+          subst (λ (q : ℕ). DidWork f q ls d.answers.items d.closed (opened_view (start_of o)) (own_of d.session)) place
+          (subst (λ (xs : List ScriptLine). DidWork f (seat_of j.session) xs d.answers.items d.closed (opened_view (start_of o)) (own_of d.session)) is.lines_are
+          (subst (λ (v : View). DidWork f (seat_of j.session) j.lines.items d.answers.items d.closed v (own_of d.session)) own (w.did whole f end)));
+    }
+
+pub all_worked : {L T : Type 0} (law : Law) (table : Table L) (o : Opening) (count : ℕ) (ss : List (TableSession L)) (ps : List (List ScriptLine)) (js : List (Job (TableSession L) T))
+    (done : List (Done (TableSession L))) → AreNew law table o count ss → AreJobs ss ps js → length done ≡ length js → AllWorked (Stands law table) seat_of own_of (Ends law) js done
+    → AreWorked law table o ps done
+all_worked law table o count ss ps js done new are long worked = record {
+  many = long ∙ are.lines;
+  each = λ k ls d at_p at_d.
+      let less = there_is done k d at_d in
+      let many = are.many in
+      let s = at_within ss k (omega (arith, less, many, long)) in
+      let j = at_within js k (omega (arith, less, long)) in
+      one_worked law table o (k + 1) s.0 ls j.0 d (new.each k s.0 s.1) (are.each k s.0 ls j.0 s.1 at_p j.1) (worked k j.0 d j.1 at_d);
+}

@@ -1,0 +1,24 @@
+-- The jobs of the sessions' workers, and what is asked of their lines.
+use Rattle.std.specs.Prelude.{◌≡◌, ℕ, ◌+◌, ◌≤◌, List, [], length, Some, vec_capacity}
+use Rattle.std.specs.List.{slice_get}
+use Rattle.erm_model.specs.Member.{◌∈◌}
+use Rattle.erm_script.specs.declared.script.ScriptLine.{ScriptLine}
+use Rattle.erm_threads.specs.declared.job.Job.{Job}
+use Rattle.erm_worker.specs.Work.{MayBeAsked}
+
+-- the lines of each session, in the order of the seats, from 1 on: each may be asked of a session
+abbrev pub AreLines : List (List ScriptLine) → Type 0
+AreLines parts = (k : ℕ) (lines : List ScriptLine) → slice_get parts k ≡ Some lines → (l : ScriptLine) → l ∈ lines → (l.session ≡ k + 1) × MayBeAsked l.command
+
+-- the job of a session with these lines, with room for their answers
+pub record IsJobOf {S T : Type 0} (session : S) (lines : List ScriptLine) (j : Job S T) : Type 0 where
+  pub session_is : j.session ≡ session
+  pub lines_are : j.lines.items ≡ lines
+  pub none : j.answers.items ≡ []
+  pub room : length lines ≤ vec_capacity j.answers
+
+-- so many sessions have a job each, in order
+pub record AreJobs {S T : Type 0} (sessions : List S) (parts : List (List ScriptLine)) (jobs : List (Job S T)) : Type 0 where
+  pub many : length jobs ≡ length sessions
+  pub lines : length jobs ≡ length parts
+  pub each : (k : ℕ) (s : S) (ls : List ScriptLine) (j : Job S T) → slice_get sessions k ≡ Some s → slice_get parts k ≡ Some ls → slice_get jobs k ≡ Some j → IsJobOf s ls j

@@ -1,0 +1,15 @@
+//! Sessions on threads over the word table, which take turns of the desk under its lock.
+#![tactic(auto)]
+
+mod apart;
+mod end;
+mod jobs;
+mod run;
+mod sessions;
+mod turns;
+mod work;
+
+pub use run::work_beside;
+pub use sessions::{run_opened, run_sessions};
+pub use turns::DeskTurns;
+pub use work::{Ran, SessionWork};

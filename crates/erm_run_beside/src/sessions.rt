@@ -1,0 +1,113 @@
+//! Sessions on threads, from the opening of a table to its close.
+ghost use Rattle.std.specs.Prelude.{◌≡◌, ℕ, ◌+◌, ◌<◌, ◌≤◌, IfOk, IfSome, map, vec_len, []};
+ghost use Rattle.erm_ckpt.specs.declared.slot.TheConstants.{LOG_START};
+ghost use Rattle.erm_desk.specs.Desk.{IsHeld};
+ghost use Rattle.erm_engine.specs.Opened.{IsOpened, opened_view};
+ghost use Rattle.erm_model.specs.declared.limits.TheConstants.{LAST_RUN, OID_LIMIT, SESSIONS, STOP};
+ghost use Rattle.erm_model.specs.RowTransaction.{SameLaw};
+ghost use Rattle.erm_model.specs.Rows.{rows_of};
+ghost use Rattle.erm_node.specs.Sound.{sound_law};
+ghost use Rattle.erm_rule.specs.Openings.{start_of};
+ghost use Rattle.erm_run_beside.specs.Jobs.{AreLines};
+ghost use Rattle.erm_run_beside.specs.Runs.{RanBeside};
+
+use crate::end::{end_desk, end_sessions};
+use crate::run::work_beside;
+use crate::work::Ran;
+use erm_desk::{Desk, Naming};
+use erm_engine::{Opened, open};
+use erm_model::{RowLaw, Seat};
+use erm_outside::{Disk, Gate};
+use erm_rule::Opening;
+use erm_script::ScriptLine;
+use std::alloc::{AllocError, Global};
+use std::marker::Brand;
+use std::sync::{Mutex, Wait};
+use std::thread::Threads;
+
+/// The sessions of a table just opened run their lines, and the table is closed behind them: all threads agree on the table, on how it was
+/// opened, and on what the disk told. `Err` where there was no memory for a desk: the disk is dropped.
+pub fn run_opened<
+    L: RowLaw + Send + Sync,
+    D: Disk + Drop + Send,
+    B: Naming + Send,
+    G: Gate + Sync,
+    R: Threads + Wait + Sync,
+>(
+    rt: &R,
+    alloc: Global,
+    opening: &Opening,
+    opened: Opened<L>,
+    disk: D,
+    gate: &G,
+    parts: Vec<Vec<ScriptLine>>,
+) -> Result<Ran<D>, AllocError>
+    requires law { SameLaw L.law sound_law }
+    requires table { opened.table.words.shared.table_id ≡ B.table }
+    requires start { start_of opening.now ≡ B.start }
+    requires began { D.told disk ≡ B.began }
+    requires faults { D.faults disk ≡ B.faults }
+    requires opened { IsOpened L.law opening.now (vec_len parts) opened }
+    requires few { vec_len parts ≤ SESSIONS }
+    requires behind { LOG_START < opening.now.tail }
+    requires low { opening.now.tail ≤ STOP + 4 }
+    requires meets { L.law.meets (opened_view (start_of opening.now)).opening.rows }
+    requires holds { IfSome (D.told disk) (IsHeld L.law (start_of opening.now) []) }
+    requires lines { AreLines (map (λ p. p.items) parts.items) }
+    ensures ran { IfOk result (λ ran. RanBeside L.law opening.now B.began B.faults (map (λ p. p.items) parts.items) (D.told ran.disk) (D.faults ran.disk) ran.failed (λ works. works.items) ran.sessions) }
+{
+    let Opened {
+        table,
+        sessions,
+        idle,
+        flush,
+    } = opened;
+    let desk = Desk::<L, D, B>::new(alloc, disk, flush)?;
+    let desk = Mutex::new(desk);
+    let worked = work_beside(rt, alloc, opening, &table, &desk, gate, sessions, parts);
+    let (disk, pass, failed) = end_desk(&table, desk);
+    let sessions = match worked {
+        Ok(done) => end_sessions(alloc, opening, table, done, idle, pass),
+        Err(lack) => Err(lack),
+    };
+    Ok(Ran {
+        disk,
+        failed,
+        sessions,
+    })
+}
+
+/// Opens a table, runs a session for each of these parts of a script on a thread of its own where one can be made, and closes the table
+/// behind them. The disk holds the log as far as the opening; behind that it has blocks that were decided, in order, as far as turns of the desk
+/// wrote them. `Err` where memory ran out before the first line: the disk is dropped.
+pub fn run_sessions<
+    L: RowLaw + Send + Sync,
+    D: Disk + Drop + Send,
+    G: Gate + Sync,
+    R: Threads + Wait + Sync,
+>(
+    rt: &R,
+    alloc: Global,
+    opening: &Opening,
+    disk: D,
+    gate: &G,
+    parts: Vec<Vec<ScriptLine>>,
+) -> Result<Ran<D>, AllocError>
+    requires law { SameLaw L.law sound_law }
+    requires few { vec_len parts ≤ SESSIONS }
+    requires none { opening.now.sessions ≡ 0 }
+    requires behind { LOG_START < opening.now.tail }
+    requires low { opening.now.tail ≤ STOP + 4 }
+    requires run_high { opening.now.run ≤ LAST_RUN }
+    requires first { opening.now.first ≤ OID_LIMIT }
+    requires rows { vec_len opening.now.rows ≡ OID_LIMIT }
+    requires meets { L.law.meets (rows_of opening.now.rows.items) }
+    requires unreached { (oid : ℕ) → opening.now.first ≤ oid → L.law.reach (rows_of opening.now.rows.items) oid ≡ 0 }
+    requires holds { IfSome (D.told disk) (IsHeld L.law (start_of opening.now) []) }
+    requires lines { AreLines (map (λ p. p.items) parts.items) }
+    ensures ran { IfOk result (λ ran. RanBeside L.law opening.now (D.told disk) (D.faults disk) (map (λ p. p.items) parts.items) (D.told ran.disk) (D.faults ran.disk) ran.failed (λ works. works.items) ran.sessions) }
+{
+    L::respects_rows();
+    let opened = open::<L>(alloc, opening, parts.len() as Seat)?;
+    run_opened::<L, D, Brand, G, R>(rt, alloc, opening, opened, disk, gate, parts)
+}

@@ -1,0 +1,24 @@
+//! What is known of the work of a session.
+use erm_report::Answer;
+use std::alloc::AllocError;
+
+/// The work of a session.
+#[derive(Drop)]
+pub struct SessionWork {
+    /// The answers of its first lines. Fewer than it has lines: its worker halted, or memory ran out.
+    pub answers: Vec<Answer>,
+    /// The answer of its closing behind the last line. `None` where it was idle, or was left.
+    pub closed: Option<Answer>,
+    /// Whether memory ran out: then no more is known of what the session did.
+    pub lacked: bool,
+}
+
+/// What comes back from sessions that ran on threads.
+#[derive(Drop)]
+pub struct Ran<D> {
+    pub disk: D,
+    /// Whether the disk failed.
+    pub failed: bool,
+    /// The work of each session, in the order of their seats. `Err` where memory ran out outside the workers.
+    pub sessions: Result<Vec<SessionWork>, AllocError>,
+}

@@ -1,0 +1,62 @@
+-- What the workers of sessions do: each runs its session's lines, and closes it behind them.
+use Rattle.std.specs.Prelude.{◌≡◌, ℕ, ◌<◌, ◌≤◌, false, List, [], length, Option, None, Some, vec_capacity}
+use Rattle.std.specs.List.{slice_get}
+use Rattle.erm_model.specs.declared.outcome.Phase.{Phase}
+use Rattle.erm_model.specs.declared.outcome.Phase.TheVariants.{Active, Idle, Sealed}
+use Rattle.erm_model.specs.Member.{◌∈◌}
+use Rattle.erm_report.specs.declared.answer.Answer.{Answer}
+use Rattle.erm_script.specs.declared.script.ScriptLine.{ScriptLine}
+use Rattle.erm_world.specs.World.{View, phase_at}
+use Rattle.erm_beside.specs.Laws.{GoesOnward}
+use Rattle.erm_worker.specs.Work.{IsReady, MayBeAsked, RanLines, WasClosed}
+use Rattle.erm_threads.specs.declared.job.Done.{Done}
+use Rattle.erm_threads.specs.declared.job.Job.{Job}
+
+-- these are lines of the session, which has committed nothing
+pub record MayWork (seat : ℕ) (v : View) (lines : List ScriptLine) : Type 0 where
+  pub own : (l : ScriptLine) → l ∈ lines → l.session ≡ seat
+  pub may : (l : ScriptLine) → l ∈ lines → MayBeAsked l.command
+  pub ready : IsReady (v.session seat) None
+
+-- behind its last line an idle session stood, and another was closed, or is sealed and waits
+abbrev pub WasEnded : Phase → ℕ → Option Answer → View → View → Type 0
+WasEnded Idle seat closed v t = (closed ≡ None) × (t ≡ v)
+WasEnded phase seat closed v t = WasClosed seat closed v t
+
+-- The first lines of a session were answered, in order. Where all were, it was ended behind them; else it was left, and isn't closed.
+pub record DidWork (f : View) (seat : ℕ) (lines : List ScriptLine) (answers : List Answer) (closed : Option Answer) (v t : View) : Type 0 where
+  pub last : View
+  pub ran : RanLines f seat lines answers v last
+  pub whole : length answers ≡ length lines → WasEnded (phase_at last seat) seat closed last t
+  pub cut : length answers < length lines → (closed ≡ None) × (t ≡ last)
+
+-- Of sessions that stand so, are of such seats and know so much: a job that a worker may be given.
+pub record IsJob {S T : Type 0} (stands : S → Type 0) (seat : S → ℕ) (own : S → View) (job : Job S T) : Type 0 where
+  pub stands_so : stands job.session
+  pub may : MayWork (seat job.session) (own job.session) job.lines.items
+  pub none : job.answers.items ≡ []
+  pub room : length job.lines.items ≤ vec_capacity job.answers
+
+-- A session after its worker stands, is of its seat and isn't active: it did its work, in each world in which all may end as far as it knows, unless
+-- memory ran out.
+pub record Worked {S T : Type 0} (stands : S → Type 0) (seat : S → ℕ) (own : S → View) (ends : S → View → Type 0) (job : Job S T) (done : Done S) : Type 0 where
+  pub stands_so : stands done.session
+  pub onward : GoesOnward (seat job.session) (seat done.session) (ends job.session) (ends done.session)
+  pub rests : phase_at (own done.session) (seat job.session) ≡ Active → ⊥
+  pub most : length done.answers.items ≤ length job.lines.items
+  pub did : done.lacked ≡ false → (f : View) → ends done.session f
+      → DidWork f (seat job.session) job.lines.items done.answers.items done.closed (own job.session) (own done.session)
+
+-- so is each session after the worker of its job, in order
+abbrev pub AllWorked : {S T : Type 0} → (S → Type 0) → (S → ℕ) → (S → View) → (S → View → Type 0) → List (Job S T) → List (Done S) → Type 0
+AllWorked {S} {T} stands seat own ends jobs done = (k : ℕ) (job : Job S T) (d : Done S) → slice_get jobs k ≡ Some job → slice_get done k ≡ Some d → Worked stands seat own ends job d
+
+-- Where memory sufficed, a session that was left behind fewer answers than lines, or is sealed and wasn't closed, was so because what its worker waits by
+-- told it to stop.
+pub record LeftWhenTold {S T : Type 0} (told : T → Type 0) (seat : S → ℕ) (own : S → View) (job : Job S T) (done : Done S) : Type 0 where
+  pub left : done.lacked ≡ false → length done.answers.items < length job.lines.items → (turns : T) × told turns
+  pub waits : done.lacked ≡ false → done.closed ≡ None → phase_at (own done.session) (seat job.session) ≡ Sealed → (turns : T) × told turns
+
+-- so is each session after the worker of its job, in order
+abbrev pub AllLeftWhenTold : {S T : Type 0} → (T → Type 0) → (S → ℕ) → (S → View) → List (Job S T) → List (Done S) → Type 0
+AllLeftWhenTold {S} {T} told seat own jobs done = (k : ℕ) (job : Job S T) (d : Done S) → slice_get jobs k ≡ Some job → slice_get done k ≡ Some d → LeftWhenTold told seat own job d

@@ -1,0 +1,124 @@
+//! What the worker of a session does.
+ghost use Rattle.std.specs.Prelude.{◌≡◌, ◌<◌, ◌≤◌, [], None, false, IfOk, OnOk, length, vec_capacity, vec_len};
+ghost use Rattle.erm_model.specs.declared.outcome.Phase.TheVariants.{Active, Sealed};
+ghost use Rattle.erm_model.specs.RowTransaction.{SameLaw};
+ghost use Rattle.erm_node.specs.Sound.{sound_law};
+ghost use Rattle.erm_world.specs.World.{View, phase_at};
+ghost use Rattle.erm_beside.specs.Laws.{GoesOnward};
+ghost use Rattle.erm_threads.specs.Work.{DidWork, IsJob, LeftWhenTold, MayWork, WasEnded, Worked};
+
+use crate::{Done, Job};
+use erm_beside::SharedSession;
+use erm_model::Phase;
+use erm_report::Answer;
+use erm_script::ScriptLine;
+use erm_worker::{Turns, close_session, run_lines};
+use std::alloc::{AllocError, Global};
+use std::sync::Wait;
+
+// Gives the transaction of a session up where it is active.
+fn leave<S: SharedSession>(session: &mut S, shared: &S::Shared)
+    requires stands { S.stands shared.now session.old }
+    ensures stands { S.stands shared.now session.new }
+    ensures onward { GoesOnward (S.seat session.old) (S.seat session.new) (S.ends session.old) (S.ends session.new) }
+    ensures rests { phase_at (S.own session.new) (S.seat session.old) ≡ Active → ⊥ }
+{
+    if let Phase::Active = session.phase(shared) {
+        session.abort(shared);
+    }
+}
+
+// Closes a session behind its last line where it isn't idle.
+fn end<S: SharedSession, T: Turns, R: Wait>(
+    rt: &R,
+    session: &mut S,
+    shared: &S::Shared,
+    turns: &mut T,
+) -> Option<Answer>
+    requires stands { S.stands shared.now session.old }
+    ensures stands { S.stands shared.now session.new }
+    ensures onward { GoesOnward (S.seat session.old) (S.seat session.new) (S.ends session.old) (S.ends session.new) }
+    ensures ended { WasEnded (phase_at (S.own session.old) (S.seat session.old)) (S.seat session.old) result (S.own session.old) (S.own session.new) }
+    ensures waits { result ≡ None → phase_at (S.own session.new) (S.seat session.old) ≡ Sealed → T.told turns.new }
+{
+    if let Phase::Idle = session.phase(shared) {
+        return None;
+    }
+    close_session(rt, session, shared, turns)
+}
+
+// Runs the lines of a session, and closes it where none is left.
+fn run<S: SharedSession, T: Turns, R: Wait>(
+    rt: &R,
+    alloc: Global,
+    session: &mut S,
+    shared: &S::Shared,
+    turns: &mut T,
+    lines: &[ScriptLine],
+    answers: &mut Vec<Answer>,
+) -> Result<Option<Answer>, AllocError>
+    requires law { SameLaw S.law sound_law }
+    requires stands { S.stands shared.now session.old }
+    requires may { MayWork (S.seat session.old) (S.own session.old) lines.now }
+    requires none { answers.old.items ≡ [] }
+    requires room { length lines.now ≤ vec_capacity answers.old }
+    ensures stands { S.stands shared.now session.new }
+    ensures onward { GoesOnward (S.seat session.old) (S.seat session.new) (S.ends session.old) (S.ends session.new) }
+    ensures rests { OnOk result (phase_at (S.own session.new) (S.seat session.old) ≡ Active → ⊥) }
+    ensures most { length answers.new.items ≤ length lines.now }
+    ensures did { IfOk result (λ closed. (f : View) → S.ends session.new f → DidWork f (S.seat session.old) lines.now answers.new.items closed (S.own session.old) (S.own session.new)) }
+    ensures left { OnOk result (length answers.new.items < length lines.now → T.told turns.new) }
+    ensures waits { IfOk result (λ closed. closed ≡ None → phase_at (S.own session.new) (S.seat session.old) ≡ Sealed → T.told turns.new) }
+{
+    run_lines(rt, alloc, session, shared, turns, lines, answers)?;
+    if answers.len() < lines.len() {
+        return Ok(None);
+    }
+    Ok(end(rt, session, shared, turns))
+}
+
+/// Runs the lines of a session to their end, and closes it behind them, unless the worker is told to stop. Where memory runs out, the
+/// session comes back all the same.
+pub fn work<S: SharedSession, T: Turns + Drop, R: Wait>(
+    rt: &R,
+    alloc: Global,
+    shared: &S::Shared,
+    job: Job<S, T>,
+) -> Done<S>
+    requires law { SameLaw S.law sound_law }
+    requires job { IsJob (S.stands shared.now) S.seat S.own job }
+    ensures worked { Worked (S.stands shared.now) S.seat S.own S.ends job result }
+    ensures told { LeftWhenTold T.told S.seat S.own job result }
+{
+    let Job {
+        mut session,
+        mut turns,
+        lines,
+        mut answers,
+    } = job;
+    match run(
+        rt,
+        alloc,
+        &mut session,
+        shared,
+        &mut turns,
+        lines.as_slice(),
+        &mut answers,
+    ) {
+        Ok(closed) => Done {
+            session,
+            answers,
+            closed,
+            lacked: false,
+        },
+        Err(AllocError) => {
+            leave(&mut session, shared);
+            Done {
+                session,
+                answers,
+                closed: None,
+                lacked: true,
+            }
+        }
+    }
+}

@@ -1,0 +1,144 @@
+-- What a command that the phase allows did, by how it was answered, or waits.
+use Rattle.std.proofs.Common.{◌≡◌, ◌≢◌, ℕ, suc, Option, Some, None, IsSome, refl, subst}
+use Rattle.erm_model.specs.declared.outcome.Phase.{Phase}
+use Rattle.erm_model.specs.declared.outcome.Phase.TheVariants.{Active, Idle, Sealed}
+use Rattle.erm_report.specs.declared.answer.Answer.{Answer}
+use Rattle.erm_report.specs.declared.answer.Answer.TheVariants as answer
+use Rattle.erm_script.specs.declared.script.Command.{Command}
+use Rattle.erm_script.specs.declared.script.Command.TheVariants as command
+use Rattle.erm_world.specs.Calls.{DidSeal}
+use Rattle.erm_world.specs.World.{View, phase_at}
+use Rattle.erm_good_report.specs.Phases.{Closes, IsAnswerTo, IsOutcome, refusal_for, refusal_of}
+use Rattle.erm_good_report.specs.Transactions.{table_of}
+use Rattle.erm_lines.specs.Answers.{DidAskDurable}
+use Rattle.erm_beside.specs.Calls.{After, Passes}
+use Rattle.erm_lines_at_once.specs.Answers.{DidDecideBeside, TriedDurable, WasAnsweredBeside}
+use Rattle.erm_lines_at_once.specs.Operations.{DidOperationBeside, TriedOnce, WasTried}
+use Rattle.erm_worker.specs.Work.{IsOfSession, WasAsked, WasSettled, asked, drew, tried}
+use Rattle.erm_worker.proofs.Waits.{after_passes, tried_more, waits_active}
+
+-- an answer that closes a sealed session is an outcome
+closes_outcome : (a : Answer) → Closes Sealed a → IsOutcome a
+closes_outcome (answer.Committed stamp succ pred) closes = tt
+closes_outcome (answer.Excluded stamp succ pred) closes = tt
+closes_outcome a closes = absurd closes
+
+-- OPERATIONS. Each names a table.
+unnamed : (table : Option ℕ) → table ≡ None → IsSome table → ⊥
+unnamed table is named = cc
+
+names_table : (c : Command) → IsSome (table_of c) → (f : View) (seat : ℕ) (a : Answer) (v t : View) → IsAnswerTo c a → DidOperationBeside f seat c a v t → WasAnsweredBeside f seat c a v t
+names_table (command.Get table key) named f seat a v t fits did = record { fits = fits; did = did }
+names_table (command.Put table key value) named f seat a v t fits did = record { fits = fits; did = did }
+names_table (command.Del table key) named f seat a v t fits did = record { fits = fits; did = did }
+names_table (command.Next table from) named f seat a v t fits did = record { fits = fits; did = did }
+names_table (command.Scan table low high) named f seat a v t fits did = record { fits = fits; did = did }
+names_table (command.Tidy table key) named f seat a v t fits did = record { fits = fits; did = did }
+names_table command.Begin named f seat a v t fits did = absurd (unnamed None refl named)
+names_table command.Seal named f seat a v t fits did = absurd (unnamed None refl named)
+names_table command.Settle named f seat a v t fits did = absurd (unnamed None refl named)
+names_table command.Commit named f seat a v t fits did = absurd (unnamed None refl named)
+names_table command.Abort named f seat a v t fits did = absurd (unnamed None refl named)
+names_table command.Durable named f seat a v t fits did = absurd (unnamed None refl named)
+names_table command.Flush named f seat a v t fits did = absurd (unnamed None refl named)
+names_table command.Checkpoint named f seat a v t fits did = absurd (unnamed None refl named)
+
+-- waits so far
+pub record HasTried (f : View) (seat : ℕ) (c : Command) (v t : View) : Type 0 where
+  pub times : ℕ
+  pub waits : WasTried f seat c times v t
+
+-- ONE TRY MORE, as the session itself knows its seat: it was answered, or waits.
+module _ (f : View) (seat mid : ℕ) (is : mid ≡ seat) (c : Command) (v u t : View) where
+  pub operated : (a : Answer) → IsSome (table_of c) → HasTried f seat c v u → TriedOnce f mid c (Some a) u t → WasAsked f seat c (Some a) v t
+  operated a named so once =
+      let it : TriedOnce f seat c (Some a) u t = subst (λ (n : ℕ). TriedOnce f n c (Some a) u t) is once in
+      names_table c named f seat a v t it.0 (record { times = so.times; at = u; tried = so.waits; once = it.1 })
+
+  pub one_try_more : HasTried f seat c v u → TriedOnce f mid c None u t → HasTried f seat c v t
+  one_try_more so once =
+      let it : TriedOnce f seat c None u t = subst (λ (n : ℕ). TriedOnce f n c None u t) is once in
+      record { times = suc so.times; waits = tried_more f seat c so.times v u t so.waits it.0 it.1 it.2 }
+
+  pub still_active : phase_at u seat ≡ Active → TriedOnce f mid c None u t → phase_at t seat ≡ Active
+  still_active active once =
+      let it : TriedOnce f seat c None u t = subst (λ (n : ℕ). TriedOnce f n c None u t) is once in
+      waits_active f seat c it.0 it.1 u t active it.2
+
+  pub waits_still : phase_at v seat ≡ Active → phase_at u seat ≡ Active → HasTried f seat c v u → TriedOnce f mid c None u t → WasAsked f seat c None v t
+  waits_still active now so once =
+      let more = one_try_more so once in
+      tried more.times active (still_active now once) more.waits
+
+-- COMMITS. Sealed, and then decided, or it waits.
+pub committed : (f : View) (seat mid stamp : ℕ) (answered : Option Answer) (v u t : View) → mid ≡ seat → phase_at v seat ≡ Active → After seat (λ x y. DidSeal x seat stamp y) v u
+    → WasSettled mid answered u t → WasAsked f seat command.Commit answered v t
+committed f seat mid stamp None v u t is active sealed passes = drew stamp u active refl sealed (subst (λ (n : ℕ). Passes n u t) is passes)
+committed f seat mid stamp (Some a) v u t is active sealed settled = record {
+  fits = closes_outcome a settled.0;
+  did = record { stamp = stamp; between = u; sealed = sealed; decided = subst (λ (n : ℕ). DidDecideBeside n a u t) is settled.1 };
+}
+
+pub settled_asked : (f : View) (seat : ℕ) (answered : Option Answer) (v t : View) → WasSettled seat answered v t → WasAsked f seat command.Settle answered v t
+settled_asked f seat None v t passes = asked passes
+settled_asked f seat (Some a) v t settled = record { fits = closes_outcome a settled.0; did = settled.1 }
+
+-- DURABLE. It was asked after waits.
+pub durable_asked : (f : View) (seat : ℕ) (a : Answer) (v u t : View) → Passes seat v u → TriedDurable f seat (Some a) u t → WasAsked f seat command.Durable (Some a) v t
+durable_asked f seat (answer.Durable stamp) v u t passes did = record { fits = did.fits; did = after_passes seat (λ x y. DidAskDurable x seat (answer.Durable stamp) y) v u t passes did.did }
+durable_asked f seat answer.NoReceipt v u t passes did = record { fits = did.fits; did = after_passes seat (λ x y. DidAskDurable x seat answer.NoReceipt y) v u t passes did.did }
+durable_asked f seat a v u t passes did = absurd did.did
+
+-- THE PHASE of a command that isn't refused
+pub begins_idle : (phase : Phase) → refusal_of phase command.Begin ≡ None → phase ≡ Idle
+begins_idle Idle is = refl
+begins_idle Active is = cc
+begins_idle Sealed is = cc
+
+pub seals_active : (phase : Phase) → refusal_of phase command.Seal ≡ None → phase ≡ Active
+seals_active Active is = refl
+seals_active Idle is = cc
+seals_active Sealed is = cc
+
+pub commits_active : (phase : Phase) → refusal_of phase command.Commit ≡ None → phase ≡ Active
+commits_active Active is = refl
+commits_active Idle is = cc
+commits_active Sealed is = cc
+
+pub aborts_active : (phase : Phase) → refusal_of phase command.Abort ≡ None → phase ≡ Active
+aborts_active Active is = refl
+aborts_active Idle is = cc
+aborts_active Sealed is = cc
+
+pub settles_sealed : (phase : Phase) → refusal_of phase command.Settle ≡ None → phase ≡ Sealed
+settles_sealed Sealed is = refl
+settles_sealed Idle is = cc
+settles_sealed Active is = cc
+
+-- one that names a table asks for an active transaction
+asks_active : (phase : Phase) → refusal_for (Some Active) phase ≡ None → phase ≡ Active
+asks_active Active is = refl
+asks_active Idle is = cc
+asks_active Sealed is = cc
+
+-- the others name a table
+pub record Operates (c : Command) (phase : Phase) : Type 0 where
+  pub active : phase ≡ Active
+  pub named : IsSome (table_of c)
+
+pub operates : (c : Command) (phase : Phase) → IsOfSession c → refusal_of phase c ≡ None → c ≢ command.Begin → c ≢ command.Seal → c ≢ command.Settle → c ≢ command.Commit → c ≢ command.Abort → c ≢ command.Durable
+    → Operates c phase
+operates (command.Get table key) phase of is begin seal settle commit abort durable = record { active = asks_active phase is; named = refl }
+operates (command.Put table key value) phase of is begin seal settle commit abort durable = record { active = asks_active phase is; named = refl }
+operates (command.Del table key) phase of is begin seal settle commit abort durable = record { active = asks_active phase is; named = refl }
+operates (command.Next table from) phase of is begin seal settle commit abort durable = record { active = asks_active phase is; named = refl }
+operates (command.Scan table low high) phase of is begin seal settle commit abort durable = record { active = asks_active phase is; named = refl }
+operates (command.Tidy table key) phase of is begin seal settle commit abort durable = record { active = asks_active phase is; named = refl }
+operates command.Begin phase of is begin seal settle commit abort durable = absurd (begin refl)
+operates command.Seal phase of is begin seal settle commit abort durable = absurd (seal refl)
+operates command.Settle phase of is begin seal settle commit abort durable = absurd (settle refl)
+operates command.Commit phase of is begin seal settle commit abort durable = absurd (commit refl)
+operates command.Abort phase of is begin seal settle commit abort durable = absurd (abort refl)
+operates command.Durable phase of is begin seal settle commit abort durable = absurd (durable refl)
+operates command.Flush phase of is begin seal settle commit abort durable = absurd of
+operates command.Checkpoint phase of is begin seal settle commit abort durable = absurd of

@@ -1,0 +1,113 @@
+-- A session's transaction in progress stays the run of some operations, and its receipt that of its last commit, whatever a line does.
+use Rattle.std.proofs.Common.{◌≡◌, ℕ, true, false, Bool, List, [], ◌∷◌, ◌++◌, Option, Some, None, Result, Ok, Err, IfOk, OnOk, refl, sym, ap, ◌∙◌, subst}
+use Rattle.erm_model.specs.declared.outcome.Phase.TheVariants.{Active}
+use Rattle.erm_model.specs.declared.outcome.Receipt.{Receipt}
+use Rattle.erm_model.specs.declared.row_stop.RowStop.{RowStop}
+use Rattle.erm_model.specs.RowTransaction.{ends}
+use Rattle.erm_model.specs.Run.{Step}
+use Rattle.erm_report.specs.declared.answer.Answer.{Answer}
+use Rattle.erm_report.specs.declared.answer.Answer.TheVariants as answer
+use Rattle.erm_script.specs.declared.script.Command.{Command}
+use Rattle.erm_script.specs.declared.script.Command.TheVariants as command
+use Rattle.erm_world.specs.Calls.{IsDone}
+use Rattle.erm_world.specs.Face.{Grows}
+use Rattle.erm_world.specs.Face as face
+use Rattle.erm_world.specs.World.{Fate, Finished, Session, View, Work, begun, phase_at, phase_of, work_at, work_of}
+use Rattle.erm_world.specs.World as world
+use Rattle.erm_maps.specs.Runs.{IsRunOf}
+use Rattle.erm_lines.specs.Answers.{IsReceiptOf}
+use Rattle.erm_lines.specs.Operations.{AsksOf, FrontOf}
+use Rattle.erm_lines.proofs.Receipts.{one_more}
+use Rattle.erm_beside.proofs.Txns.{stopped_after}
+use Rattle.erm_lines_at_once.specs.Answers.{DidCommandBeside, DidDecideBeside}
+use Rattle.erm_lines_at_once.specs.Operations.{TriedOnce, WereCutBeside}
+use Rattle.erm_worker.specs.Work.{IsReady, IsRunNow}
+use Rattle.erm_worker.proofs.Waits.{ran_active}
+
+-- RUNS. Sessions that are idle, or sealed, have none in progress.
+idle_runs : (s : Session) → s.stand ≡ world.idle → IsRunNow s
+idle_runs s is active = let at = ap phase_of is in cc
+
+sealed_runs : (s : Session) (w : Work) (stamp : ℕ) → s.stand ≡ world.sealed w stamp → IsRunNow s
+sealed_runs s w stamp is active = let at = ap phase_of is in cc
+
+done_runs : (v t : View) (seat : ℕ) (w : Work) (fate : Fate) → IsDone v seat w fate t → IsRunNow (t.session seat)
+done_runs v t seat w fate did = idle_runs (t.session seat) (ap (λ (s : Session). s.stand) did.own)
+
+pub decided_runs : (seat : ℕ) (a : Answer) (v t : View) → DidDecideBeside seat a v t → IsRunNow (t.session seat)
+decided_runs seat (answer.Committed stamp succ pred) v t (r, stamp_is, succ_is, pred_is, (u, passes, (w, at, stand, did))) = done_runs u t seat w _ did.0
+decided_runs seat (answer.Excluded stamp succ pred) v t (u, passes, (w, at, stand, did)) = done_runs u t seat w _ did.0
+decided_runs seat a v t did = absurd did
+
+-- OPERATIONS.
+abbrev pub IsRunAt : View → ℕ → Type 0
+IsRunAt v seat = (steps : List Step) × IsRunOf (work_at v seat) steps
+
+same_run : (v u : View) (seat : ℕ) → u.session seat ≡ v.session seat → IsRunAt v seat → IsRunAt u seat
+same_run v u seat is run = subst (λ (s : Session). (steps : List Step) × IsRunOf (work_of s.stand) steps) (sym is) run
+
+module _ (f : View) (seat : ℕ) (c : Command) where
+  stopped_runs : (why : RowStop) (v t : View) (b : Bool) → ends why ≡ b → phase_at v seat ≡ Active → IsRunAt v seat → WereCutBeside f seat (FrontOf c) (AsksOf c) why v t → IsRunNow (t.session seat)
+  stopped_runs why v t false is active run cut = λ now. (run.0, cut.run is run.0 run.1)
+  stopped_runs why v t true is active run cut =
+      let first : phase_at cut.ran.from seat ≡ Active = ap (λ (s : Session). phase_of s.stand) cut.ran.starts ∙ active in
+      let last : phase_at cut.at seat ≡ Active = ap (λ (s : Session). phase_of s.stand) cut.ran.stops ∙ ran_active cut.events cut.ran.from cut.ran.to seat first cut.ran.did in
+      idle_runs (t.session seat) ((stopped_after seat cut.asked why cut.at t last cut.refused).ended is)
+
+  pub tried_runs : (tried : Option Answer) (v t : View) → phase_at v seat ≡ Active → IsRunAt v seat → TriedOnce f seat c tried v t → IsRunNow (t.session seat)
+  tried_runs None v t active run (other, seen, cut) = λ now. (run.0, cut.run refl run.0 run.1)
+  tried_runs (Some (answer.Replied r)) v t active run (fits, (op, is, beside)) =
+      let first = same_run v beside.from seat beside.starts run in
+      λ now. same_run beside.to t seat beside.stops (first.0 ++ record { op = op; reply = r } ∷ [], beside.did.run first.0 first.1)
+  tried_runs (Some (answer.Cut cells)) v t active run (fits, (is, few, beside)) =
+      let first = same_run v beside.from seat beside.starts run in
+      λ now. same_run beside.to t seat beside.stops (first.0 ++ [], beside.did.run first.0 first.1)
+  tried_runs (Some a) v t active run (fits, (why, told, cut)) = stopped_runs why v t (ends why) refl active run cut
+
+-- READY. Nothing happened to the session; its transaction went on, or was aborted; it began one, sealed it or gave it up.
+pub same_ready : (s t : Session) (r : Option Receipt) → t ≡ s → IsReady s r → IsReady t r
+same_ready s t r is ready = subst (λ (x : Session). IsReady x r) (sym is) ready
+
+over_receipt : (s t : Session) (r : Option Receipt) → t.over ≡ s.over → IsReceiptOf s.over r → IsReceiptOf t.over r
+over_receipt s t r is receipt = subst (λ (fs : List Finished). IsReceiptOf fs r) (sym is) receipt
+
+more_receipt : (s t : Session) (r : Option Receipt) (w : Work) → t.over ≡ s.over ++ record { work = w; fate = world.aborts } ∷ [] → IsReceiptOf s.over r → IsReceiptOf t.over r
+more_receipt s t r w is receipt = subst (λ (fs : List Finished). IsReceiptOf fs r) (sym is) (one_more s.over (record { work = w; fate = world.aborts }) (λ never. never) r receipt)
+
+pub grown_receipt : (s t : Session) (r : Option Receipt) → Grows s t → IsReceiptOf s.over r → IsReceiptOf t.over r
+grown_receipt s t r (face.same is) receipt = over_receipt s t r (ap (λ (x : Session). x.over) is) receipt
+grown_receipt s t r (face.works w u begins over stands more) receipt = over_receipt s t r over receipt
+grown_receipt s t r (face.ends w u begins over stands more) receipt = more_receipt s t r u over receipt
+
+begun_runs : ((number begin : ℕ) → IsRunOf (begun number begin) []) → (s : Session) (number begin : ℕ) → s.stand ≡ world.active (begun number begin) → IsRunNow s
+begun_runs none s number begin is active = ([], subst (λ (w : Work). IsRunOf w []) (sym (ap work_of is)) (none number begin))
+
+module _ (none : (number begin : ℕ) → IsRunOf (begun number begin) []) (f : View) (seat : ℕ) (v t : View) (r : Option Receipt) (ready : IsReady (v.session seat) r) where
+  pub begun_ready : (a : Answer) → DidCommandBeside f seat command.Begin a v t → IsReady (t.session seat) r
+  begun_ready (answer.Began stamp) (u, passes, did) = record {
+    run = begun_runs none (t.session seat) _ stamp (ap (λ (s : Session). s.stand) did.2.own);
+    receipt = over_receipt (v.session seat) (t.session seat) r (ap (λ (s : Session). s.over) did.2.own ∙ ap (λ (s : Session). s.over) passes.own) ready.receipt;
+  }
+  begun_ready (answer.LogEnd tail) (u, passes, did) = same_ready (v.session seat) (t.session seat) r (ap (λ (x : View). x.session seat) did.0 ∙ passes.own) ready
+  begun_ready answer.NumbersEnd (u, passes, did) = same_ready (v.session seat) (t.session seat) r (ap (λ (x : View). x.session seat) did.0 ∙ passes.own) ready
+  begun_ready a did = absurd did
+
+  pub sealed_ready : (a : Answer) → DidCommandBeside f seat command.Seal a v t → IsReady (t.session seat) r
+  sealed_ready (answer.Sealed stamp) (u, passes, did) = record {
+    run = sealed_runs (t.session seat) (work_at u seat) stamp (ap (λ (s : Session). s.stand) did.own);
+    receipt = over_receipt (v.session seat) (t.session seat) r (ap (λ (s : Session). s.over) did.own ∙ ap (λ (s : Session). s.over) passes.own) ready.receipt;
+  }
+  sealed_ready a did = absurd did
+
+  pub aborted_ready : (a : Answer) → DidCommandBeside f seat command.Abort a v t → IsReady (t.session seat) r
+  aborted_ready answer.Aborted (u, passes, did) = record {
+    run = done_runs u t seat (work_at u seat) world.aborts did;
+    receipt = more_receipt (v.session seat) (t.session seat) r (work_at u seat)
+        (ap (λ (s : Session). s.over) did.own ∙ ap (λ (s : Session). s.over ++ record { work = work_at u seat; fate = world.aborts } ∷ []) passes.own) ready.receipt;
+  }
+  aborted_ready a did = absurd did
+
+-- of an answer that was given
+pub on_ok_of : {X E : Type 0} (r : Result X E) (P : X → Type 0) (Q : Type 0) → ((x : X) → P x → Q) → IfOk r P → OnOk r Q
+on_ok_of (Ok x) P Q gives is = gives x is
+on_ok_of (Err e) P Q gives is = tt

@@ -1,0 +1,94 @@
+//! One line of a session, run to its end.
+ghost use Rattle.std.specs.Prelude.{◌≡◌, IfNone, IfOk, IfSome, None};
+ghost use Rattle.erm_model.specs.RowTransaction.{SameLaw};
+ghost use Rattle.erm_node.specs.Sound.{sound_law};
+ghost use Rattle.erm_good_report.specs.Phases.{refusal_of};
+ghost use Rattle.erm_world.specs.World.{View, phase_at};
+ghost use Rattle.erm_beside.specs.Laws.{GoesOnward};
+ghost use Rattle.erm_worker.specs.Work.{IsReady, MayBeAsked, RanLine, WasAsked};
+
+use crate::Turns;
+use crate::ends::{commit, durable, give_up, settle};
+use crate::operations::operate;
+use erm_beside::SharedSession;
+use erm_lines::refusal_of;
+use erm_lines_at_once::{abort, begin, seal};
+use erm_model::Receipt;
+use erm_outside::Place;
+use erm_report::Answer;
+use erm_script::{Command, ScriptLine};
+use std::alloc::{AllocError, Global};
+use std::sync::Wait;
+
+// Answers a command that the session's phase allows, or `None` where the worker was told to stop while it waited.
+fn run<S: SharedSession, T: Turns, R: Wait>(
+    rt: &R,
+    alloc: Global,
+    session: &mut S,
+    shared: &S::Shared,
+    turns: &mut T,
+    command: &Command,
+    receipt: &mut Option<Receipt>,
+) -> Result<Option<Answer>, AllocError>
+    requires law { SameLaw S.law sound_law }
+    requires stands { S.stands shared.now session.old }
+    requires allowed { refusal_of (phase_at (S.own session.old) (S.seat session.old)) command.now ≡ None }
+    requires may { MayBeAsked command.now }
+    requires ready { IsReady ((S.own session.old).session (S.seat session.old)) receipt.old }
+    ensures stands { S.stands shared.now session.new }
+    ensures onward { GoesOnward (S.seat session.old) (S.seat session.new) (S.ends session.old) (S.ends session.new) }
+    ensures asked { IfOk result (λ answered. (f : View) → S.ends session.new f → WasAsked f (S.seat session.old) command.now answered (S.own session.old) (S.own session.new)) }
+    ensures ready { IfOk result (λ answered. IfSome answered (λ _. IsReady ((S.own session.new).session (S.seat session.old)) receipt.new)) }
+    ensures told { IfOk result (λ answered. IfNone answered (T.told turns.new)) }
+{
+    erm_maps::begun_transactions_are_runs();
+    match command {
+        Command::Begin => {
+            turns.pass(Place::Begin);
+            Ok(Some(begin(session, shared)?))
+        }
+        Command::Seal => {
+            let answer = seal(session, shared);
+            turns.pass(Place::Sealed);
+            Ok(Some(answer))
+        }
+        Command::Settle => Ok(settle(rt, session, shared, turns, receipt)),
+        Command::Commit => Ok(commit(rt, session, shared, turns, receipt)),
+        Command::Abort => Ok(Some(abort(session, shared))),
+        Command::Durable => Ok(durable(rt, session, shared, turns, receipt.as_ref())),
+        _ => operate(rt, alloc, session, shared, turns, command),
+    }
+}
+
+/// Runs one line of a session: its answer, or `None` where the worker was told to stop while it waited. It keeps the receipt of the
+/// session's last commit, which is `None` where the session has committed nothing. `Err` where memory ran out.
+pub fn run_line<S: SharedSession, T: Turns, R: Wait>(
+    rt: &R,
+    alloc: Global,
+    session: &mut S,
+    shared: &S::Shared,
+    turns: &mut T,
+    line: &ScriptLine,
+    receipt: &mut Option<Receipt>,
+) -> Result<Option<Answer>, AllocError>
+    requires law { SameLaw S.law sound_law }
+    requires stands { S.stands shared.now session.old }
+    requires seat { line.now.session ≡ S.seat session.old }
+    requires may { MayBeAsked line.now.command }
+    requires ready { IsReady ((S.own session.old).session (S.seat session.old)) receipt.old }
+    ensures stands { S.stands shared.now session.new }
+    ensures onward { GoesOnward (S.seat session.old) (S.seat session.new) (S.ends session.old) (S.ends session.new) }
+    ensures ran { IfOk result (λ answered. (f : View) → S.ends session.new f → RanLine f line.now answered (S.own session.old) (S.own session.new)) }
+    ensures ready { IfOk result (λ answered. IfSome answered (λ _. IsReady ((S.own session.new).session (S.seat session.old)) receipt.new)) }
+    ensures told { IfOk result (λ answered. IfNone answered (T.told turns.new)) }
+{
+    let phase = session.phase(shared);
+    if let Some(refusal) = refusal_of(phase, &line.command) {
+        return Ok(Some(refusal));
+    }
+    let Some(answer) = run(rt, alloc, session, shared, turns, &line.command, receipt)? else {
+        give_up(session, shared);
+        return Ok(None);
+    };
+    Ok(Some(answer))
+}

@@ -1,0 +1,43 @@
+//! What a worker does between its calls.
+ghost use Rattle.std.specs.Prelude.{◌≡◌, false};
+
+use erm_outside::Place;
+use erm_world::Wait;
+
+/// What is in a line's way.
+#[derive(Clone, Copy, Debug, PartialEq, Eq)]
+pub enum Why {
+    /// Another session's transaction, which is sealing or sealed, and isn't decided.
+    Session,
+    /// The ring, which has no room for the transaction's block before a flush.
+    Ring,
+    /// The disk: the session's last commit isn't on it yet.
+    Disk,
+}
+
+impl Why {
+    /// What is in the way of a transaction that is to be decided.
+    pub fn of(wait: &Wait) -> Why {
+        match wait {
+            Wait::Ring { .. } => Why::Ring,
+            Wait::Seat { .. } => Why::Session,
+        }
+    }
+}
+
+/// What a worker does between its calls: no call of its session. Nothing else is said of it but that it tells the worker to stop.
+pub trait Turns {
+    /// The worker was told to stop.
+    ghost told: { Self → Type 0 };
+
+    /// Passes a place of its session, which may wait.
+    fn pass(&mut self, place: Place);
+
+    /// Waits for what is in the way, or does something about it: whether the worker tries again.
+    fn wait(&mut self, why: Why) -> bool
+        ensures told { result ≡ false → told self.new };
+
+    /// Whether the worker goes on with its next line.
+    fn goes_on(&mut self) -> bool
+        ensures told { result ≡ false → told self.new };
+}
