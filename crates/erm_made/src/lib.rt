@@ -4,8 +4,6 @@
 mod counts;
 mod laws;
 mod lines;
-#[cfg(test)]
-mod tests;
 
 pub use counts::{Made, counts_of};
 pub use laws::each_transaction_is_counted;

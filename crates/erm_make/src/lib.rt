@@ -7,8 +7,6 @@ mod laws;
 mod lines;
 mod load;
 mod names;
-#[cfg(test)]
-mod tests;
 mod text;
 mod workload;
 

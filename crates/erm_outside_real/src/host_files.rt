@@ -38,9 +38,8 @@ impl<R: Files<File = fs::File> + AllocGlobal + Clone + Drop> HostFiles<R> {
     // The number and length of the segment that an entry is, if it is one. A segment's name is UTF-8.
     fn segment_at(&self, entry: io::Result<DirEntry<R>>) -> io::Result<Option<(u64, u64)>> {
         let number = match entry {
-            Ok(entry) => segment_of(entry.file_name()),
             Err(error) if error.kind() == io::ErrorKind::InvalidFilename => None,
-            Err(error) => return Err(error),
+            entry => segment_of(entry?.file_name()),
         };
         let Some(number) = number else {
             return Ok(None);
@@ -154,9 +153,8 @@ impl<R: Files<File = fs::File> + AllocGlobal + Clone + Drop> FileSystem for Host
 // What was found, if it is there.
 fn if_there<T>(found: io::Result<T>) -> io::Result<Option<T>> {
     match found {
-        Ok(value) => Ok(Some(value)),
         Err(error) if error.kind() == io::ErrorKind::NotFound => Ok(None),
-        Err(error) => Err(error),
+        found => Ok(Some(found?)),
     }
 }
 

@@ -18,6 +18,3 @@ pub use names::FOLDER;
 pub use patient::Patient;
 pub use reader_source::ReaderSource;
 pub use writer_sink::WriterSink;
-
-#[cfg(test)]
-mod tests;

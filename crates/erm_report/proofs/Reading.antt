@@ -167,7 +167,6 @@ abbrev status_in : List (List ℕ) → Line
 status_in words =
     let word = word_at words 0 in
     if same word (codes "script") then line.BadLine (number_at words 1) (kind_in (word_at words 2))
-    else if same word (codes "usage:") then line.Usage
     else if same word (codes "read") then line.ReadFault
     else if same word (codes "too") then line.TooLong
     else if same word (codes "no") then (if same (word_at words 1) (codes "memory") then line.NoMemory else line.NoBase)
@@ -348,7 +347,6 @@ line_in-line_words (line.RunsEnd run) fits = ap (λ n. line.RunsEnd n) (number_i
 line_in-line_words (line.LogEnd tail) fits = ap (λ n. line.LogEnd n) (number_in-decimal tail fits)
 line_in-line_words (line.BadLine number kind) fits =
     ap (λ n. line.BadLine n (kind_in (fault_word kind))) (number_32 number fits) ∙ ap (λ k. line.BadLine number k) (kind_in-fault_word kind)
-line_in-line_words line.Usage fits = refl
 line_in-line_words line.ReadFault fits = refl
 line_in-line_words line.TooLong fits = refl
 line_in-line_words line.NoMemory fits = refl

@@ -99,12 +99,6 @@ answer_words NoReceipt = codes "no" ∷ codes "receipt" ∷ []
 answer_words (Unfilled stamp) = codes "unfilled" ∷ decimal stamp ∷ []
 answer_words DiskFault = codes "disk" ∷ codes "fault" ∷ []
 
--- the words of the usage line after the first
-abbrev pub usage_words : List (List ℕ)
-usage_words =
-    codes "erm" ∷ codes "run" ∷ codes "|" ∷ codes "threads" ∷ codes "|" ∷ codes "make" ∷ codes "--count" ∷ codes "N" ∷ codes "--sessions" ∷ codes "K"
-    ∷ codes "[--text]" ∷ codes "|" ∷ codes "recover" ∷ codes "|" ∷ codes "audit" ∷ codes "|" ∷ codes "checkpoint" ∷ []
-
 -- the words of a line
 abbrev pub line_words : Line → List (List ℕ)
 line_words (line.Open stamp run) = codes "open" ∷ decimal stamp ∷ codes "run" ∷ decimal run ∷ []
@@ -127,7 +121,6 @@ line_words (line.Excluded count) = codes "excluded" ∷ decimal count ∷ []
 line_words (line.Owned count) = codes "owned" ∷ decimal count ∷ []
 line_words (line.Pairs count) = codes "pairs" ∷ decimal count ∷ []
 line_words (line.BadLine number kind) = codes "script" ∷ decimal number ∷ fault_word kind ∷ []
-line_words line.Usage = codes "usage:" ∷ usage_words
 line_words line.ReadFault = codes "read" ∷ codes "fault" ∷ []
 line_words line.TooLong = codes "too" ∷ codes "long" ∷ []
 line_words line.NoMemory = codes "no" ∷ codes "memory" ∷ []
@@ -234,11 +227,6 @@ parts_at-answer_text NoReceipt fits = more (codes "no") _ _ refl (last (codes "r
 parts_at-answer_text (Unfilled stamp) fits = more (codes "unfilled") _ _ refl (last (decimal stamp) (number stamp fits))
 parts_at-answer_text DiskFault fits = more (codes "disk") _ _ refl (last (codes "fault") refl)
 
--- the usage line
-parts_at-usage : parts_at 32 (words_text line.Usage) ≡ codes "usage:" ∷ usage_words
-unfolding parts_at
-parts_at-usage = refl
-
 -- a kind of fault
 fault_lacks : (kind : FaultKind) → lacks 32 (fault_word kind) ≡ true
 fault_lacks fault.Threads = refl
@@ -293,7 +281,6 @@ parts_at-words_text (line.Pairs count) fits name = more (codes "pairs") _ _ refl
 parts_at-words_text (line.BadLine n kind) fits name =
     ap (λ rest. parts_at 32 (codes "script " ++ rest)) (append_assoc (decimal n) (codes " ") (fault_word kind))
     ∙ more (codes "script") _ _ refl (more (decimal n) _ _ (number_32 n fits) (last (fault_word kind) (fault_lacks kind)))
-parts_at-words_text line.Usage fits name = parts_at-usage
 parts_at-words_text line.ReadFault fits name = more (codes "read") _ _ refl (last (codes "fault") refl)
 parts_at-words_text line.TooLong fits name = more (codes "too") _ _ refl (last (codes "long") refl)
 parts_at-words_text line.NoMemory fits name = more (codes "no") _ _ refl (last (codes "memory") refl)
@@ -400,7 +387,6 @@ lacks-words_text (line.Excluded count) fits name = digits_end count fits
 lacks-words_text (line.Owned count) fits name = digits_end count fits
 lacks-words_text (line.Pairs count) fits name = digits_end count fits
 lacks-words_text (line.BadLine n kind) fits name = three (decimal n) (codes " ") (fault_word kind) (digits_end_32 n fits) refl (fault_end kind)
-lacks-words_text line.Usage fits name = refl
 lacks-words_text line.ReadFault fits name = refl
 lacks-words_text line.TooLong fits name = refl
 lacks-words_text line.NoMemory fits name = refl

@@ -94,7 +94,6 @@ words_text (line.Excluded count) = codes "excluded " ++ decimal count
 words_text (line.Owned count) = codes "owned " ++ decimal count
 words_text (line.Pairs count) = codes "pairs " ++ decimal count
 words_text (line.BadLine number kind) = codes "script " ++ decimal number ++ codes " " ++ fault_word kind
-words_text line.Usage = codes "usage: erm run | threads | make --count N --sessions K [--text] | recover | audit | checkpoint"
 words_text line.ReadFault = codes "read fault"
 words_text line.TooLong = codes "too long"
 words_text line.NoMemory = codes "no memory"

@@ -92,8 +92,6 @@ pub enum Line {
         line: u32,
         kind: FaultKind,
     },
-    /// In place of a report: how the program is used.
-    Usage,
     /// In place of a report: the script could not be read.
     ReadFault,
     /// In place of a report: the script has too many bytes.

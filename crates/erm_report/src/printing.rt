@@ -16,10 +16,6 @@ use erm_script::FaultKind;
 use part::{push_count, push_name, push_stamps, push_value};
 use std::alloc::AllocError;
 
-/// The line that says how the program is used.
-pub const USAGE: &[u8] =
-    b"usage: erm run | threads | make --count N --sessions K [--text] | recover | audit | checkpoint\n";
-
 /// The line for a source that failed.
 pub const READ_FAULT: &[u8] = b"read fault\n";
 
@@ -83,7 +79,6 @@ fn push_words(out: &mut Vec<u8>, line: &Line) -> Result<(), AllocError>
         Line::Owned { count } => push_count(out, b"owned ", *count as u64),
         Line::Pairs { count } => push_count(out, b"pairs ", *count as u64),
         Line::BadLine { line, kind } => push_bad_line(out, *line, *kind),
-        Line::Usage => push_status(out, USAGE),
         Line::ReadFault => push_status(out, READ_FAULT),
         Line::TooLong => push_status(out, TOO_LONG),
         Line::NoMemory => push_status(out, NO_MEMORY),

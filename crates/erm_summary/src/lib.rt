@@ -8,8 +8,6 @@ mod laws;
 mod maps;
 mod order;
 mod report;
-#[cfg(test)]
-mod tests;
 mod told;
 
 pub use commits::commits_told;

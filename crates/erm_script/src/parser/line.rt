@@ -46,14 +46,12 @@ pub fn line(bytes: &[u8], sessions: &Sessions, grammar: Grammar) -> Result<Asked
     let Some(seat) = sessions.seat(&name, grammar.sessions) else {
         return Err(FaultKind::Sessions);
     };
-    match command(words, grammar) {
-        Ok(command) => Ok(Asked::OfSession {
-            name,
-            seat,
-            command,
-        }),
-        Err(kind) => Err(kind),
-    }
+    let command = command(words, grammar)?;
+    Ok(Asked::OfSession {
+        name,
+        seat,
+        command,
+    })
 }
 
 // the command of a line that names no session, if it is one
@@ -101,10 +99,7 @@ fn command(words: Option<&[u8]>, grammar: Grammar) -> Result<Command, FaultKind>
     let Some(keyword) = session_keyword(word, grammar) else {
         return Err(FaultKind::Command);
     };
-    match with_arguments(keyword, arguments) {
-        Ok(command) => Ok(command),
-        Err(kind) => Err(kind),
-    }
+    with_arguments(keyword, arguments)
 }
 
 // the command of sessions that has this word, if there is one
