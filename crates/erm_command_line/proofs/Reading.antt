@@ -1,7 +1,8 @@
 -- What is read of a command that was found.
-use Rattle.std.proofs.Common.{◌≡◌, ◌≢◌, ◌⊎◌, ◌<◌, ◌≤◌, ℕ, List, [], ◌∷◌, Option, Some, None, decimal, refl, sym, ap, ◌∙◌, codes, inl, inr, subst, IfNone, IfSome}
+use Rattle.std.proofs.Common.{◌≡◌, ◌≢◌, ◌⊎◌, ◌<◌, ◌≤◌, ℕ, true, false, List, [], ◌∷◌, Option, Some, None, decimal, refl, sym, ap, ◌∙◌, codes, inl, inr, subst, IfNone, IfSome}
 use Rattle.std.specs.Prelude.{Box, option_map}
 use Rattle.std.specs.Borrow.{Bor}
+use Rattle.std.specs.Str.{bytes_eq}
 use Rattle.clap.specs.Matches.{first_value, found_of, subcommand_name_of}
 use Rattle.clap.specs.Simple.{subcommand_rows, subcommand_rows_of}
 use Rattle.clap.specs.Walk.{Row, Text, first_of, rows_of}
@@ -12,7 +13,7 @@ use Rattle.std.specs.Box.{box_value}
 use Rattle.clap.proofs.WalkLemmas.{first_value-rows}
 use Rattle.erm_command_line.specs.CommandLine.{IsReadAs}
 use Rattle.erm_command_line.specs.declared.command.Command.{Command}
-use Rattle.erm_command_line.specs.declared.command.Command.TheVariants.{Run, Threads, Recover, Audit, Checkpoint, Make}
+use Rattle.erm_command_line.specs.declared.command.Command.TheVariants.{Run, Threads, Recover, Audit, Checkpoint, Ship, Follow, Make}
 use Rattle.erm_command_line.specs.declared.command.TheConstants.{MOST_SESSIONS, MOST_TRANSACTIONS}
 
 -- a name and rows that were found stand together
@@ -48,6 +49,8 @@ at_make name rows Threads is other read = let bad : codes "make" ≡ codes "thre
 at_make name rows Recover is other read = let bad : codes "make" ≡ codes "recover" = sym is ∙ read in absurd (cc)
 at_make name rows Audit is other read = let bad : codes "make" ≡ codes "audit" = sym is ∙ read in absurd (cc)
 at_make name rows Checkpoint is other read = let bad : codes "make" ≡ codes "checkpoint" = sym is ∙ read in absurd (cc)
+at_make name rows Ship is other read = let bad : false ≡ true = ap (λ (t : Text). bytes_eq t (codes "ship")) (sym is ∙ read) in absurd (cc)
+at_make name rows Follow is other read = let bad : codes "make" ≡ codes "follow" = sym is ∙ read in absurd (cc)
 at_make name rows (Make transactions seats as_text) is other read = elim other [
   | inl no_count ↦ no_count transactions read.1.0 read.1.1 read.1.2
   | inr no_seats ↦ no_seats seats read.2.0 read.2.1 read.2.2

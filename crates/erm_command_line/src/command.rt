@@ -29,6 +29,10 @@ pub enum Command {
     Audit,
     /// To take a checkpoint.
     Checkpoint,
+    /// To put the log as a stream.
+    Ship,
+    /// To read a stream, and to tell the commits below its safe stamps.
+    Follow,
     /// To make a script and run it, or to print its text.
     Make {
         /// How many transactions it has.
@@ -78,6 +82,8 @@ fn command_read(matches: &ArgMatches) -> Option<Command>
         "recover" => Some(Command::Recover),
         "audit" => Some(Command::Audit),
         "checkpoint" => Some(Command::Checkpoint),
+        "ship" => Some(Command::Ship),
+        "follow" => Some(Command::Follow),
         "make" => {
             let count = number(options.get_str("count")?, MOST_TRANSACTIONS)?;
             let sessions = number(options.get_str("sessions")?, MOST_SESSIONS)?;

@@ -19,7 +19,9 @@ pub fn command_line<'a>(alloc: Global) -> Result<Command<'a>, AllocError>
         .subcommand(make(alloc)?)?
         .subcommand(Command::new(alloc, "recover"))?
         .subcommand(Command::new(alloc, "audit"))?
-        .subcommand(Command::new(alloc, "checkpoint"))
+        .subcommand(Command::new(alloc, "checkpoint"))?
+        .subcommand(Command::new(alloc, "ship"))?
+        .subcommand(Command::new(alloc, "follow"))
 }
 
 // The command `make`, with its options.

@@ -35,7 +35,7 @@ const FIVE_AS_TEXT: Option<Command> = Some(Command::Make {
     text: true,
 });
 
-static CASES: [(&str, Option<Command>); 44] = [
+static CASES: [(&str, Option<Command>); 50] = [
     ("erm run", Some(Command::Run)),
     (" run", Some(Command::Run)),
     ("run run", Some(Command::Run)),
@@ -45,6 +45,9 @@ static CASES: [(&str, Option<Command>); 44] = [
     ("erm recover", Some(Command::Recover)),
     ("erm audit", Some(Command::Audit)),
     ("erm checkpoint", Some(Command::Checkpoint)),
+    ("erm ship", Some(Command::Ship)),
+    ("erm ship --", Some(Command::Ship)),
+    ("erm follow", Some(Command::Follow)),
     ("erm make --count 1 --sessions 1", LEAST),
     ("erm make --sessions 16 --count 100000", GREATEST),
     ("erm make --text --count 5 --sessions 2", FIVE_AS_TEXT),
@@ -59,6 +62,9 @@ static CASES: [(&str, Option<Command>); 44] = [
     ("erm frob", None),
     ("erm RUN", None),
     ("erm run run", None),
+    ("erm ship erm-data", None),
+    ("erm follow stream", None),
+    ("erm ship follow", None),
     ("erm run -- --", None),
     ("erm -- run", None),
     ("erm run --help", None),

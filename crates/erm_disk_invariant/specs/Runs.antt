@@ -17,6 +17,7 @@ use Rattle.erm_good_report.specs.Phases.{Closed}
 use Rattle.erm_good_report.specs.Transactions.{Transaction, steps_of, transactions_of}
 use Rattle.erm_invariant.specs.Commits.{AllKeep, EachFrontRuns, SeesSome, transactions_in}
 use Rattle.erm_invariant.specs.Invariant.{Lasts}
+use Rattle.erm_disk_run.specs.Limits.{Limits}
 use Rattle.erm_disk_run.specs.Runs.{WasCutOn, WasRunOn, WasStarvedOn, commits_told}
 use Rattle.erm_disk_run.specs.TwoRuns.{HasCommits}
 
@@ -30,8 +31,8 @@ AllSee Invariant names script answers closed = (t : Transaction) → t ∈ trans
 
 -- Of a run to its end: the invariant lasts through the commits in the printed order, and the map printed has it; each transaction that is told
 -- sees it; a crash at any moment keeps it, and at the end the disk recovers to a map that has it.
-pub record RunKeeps (Invariant : Database → Type 0) (before after : Option (List Step)) (state : State) (names : List (List ℕ)) (script : List ScriptLine) (lines : List Line)
-    (was : WasRunOn before after state names script lines) : Type 0 where
+pub record RunKeeps (Invariant : Database → Type 0) (limits : Limits) (before after : Option (List Step)) (state : State) (names : List (List ℕ)) (script : List ScriptLine) (lines : List Line)
+    (was : WasRunOn limits before after state names script lines) : Type 0 where
   pub lasts : Lasts Invariant (transactions_in was.tight.good.report.order) was.opening.map (from_entries (entries_of was.tight.good.report.pairs))
   pub seen : AllSee Invariant names script was.tight.good.report.answers was.tight.good.report.closed
   pub crashes : CrashesKeep Invariant before after
@@ -39,21 +40,21 @@ pub record RunKeeps (Invariant : Database → Type 0) (before after : Option (Li
 
 -- where the map found has an invariant, and each commit of the run keeps it
 abbrev pub RunsKeep : (Database → Type 0) → Type 0
-RunsKeep Invariant = (before after : Option (List Step)) (state : State) (names : List (List ℕ)) (script : List ScriptLine) (lines : List Line)
-    (was : WasRunOn before after state names script lines) → Invariant (map_of_rows state.rows)
+RunsKeep Invariant = (limits : Limits) (before after : Option (List Step)) (state : State) (names : List (List ℕ)) (script : List ScriptLine) (lines : List Line)
+    (was : WasRunOn limits before after state names script lines) → Invariant (map_of_rows state.rows)
     → AllKeep Invariant (commits_told names script was.tight.good.report.answers was.tight.good.report.closed)
-    → RunKeeps Invariant before after state names script lines was
+    → RunKeeps Invariant limits before after state names script lines was
 
 -- Of a run that the disk's fault cut off: what was printed up to then sees the invariant, and a crash keeps it.
 abbrev pub CutRunsKeep : (Database → Type 0) → Type 0
-CutRunsKeep Invariant = (before after : Option (List Step)) (state : State) (names : List (List ℕ)) (script : List ScriptLine) (lines : List Line)
-    (was : WasCutOn before after state names script lines) → Invariant (map_of_rows state.rows) → AllKeep Invariant (commits_told names script was.cut.answers was.closed)
+CutRunsKeep Invariant = (limits : Limits) (before after : Option (List Step)) (state : State) (names : List (List ℕ)) (script : List ScriptLine) (lines : List Line)
+    (was : WasCutOn limits before after state names script lines) → Invariant (map_of_rows state.rows) → AllKeep Invariant (commits_told names script was.cut.answers was.closed)
     → AllSee Invariant names script was.cut.answers was.closed × CrashesKeep Invariant before after
 
 -- Of a run for which no memory was left: the commits of its lines are known to no one, but where each of them keeps the invariant a crash does.
 abbrev pub StarvedRunsKeep : (Database → Type 0) → Type 0
-StarvedRunsKeep Invariant = (before after : Option (List Step)) (state : State) (names : List (List ℕ)) (script : List ScriptLine)
-    (was : WasStarvedOn before after state names script) → Invariant (map_of_rows state.rows) → AllKeep Invariant (commits_told names script was.answers was.closed)
+StarvedRunsKeep Invariant = (limits : Limits) (before after : Option (List Step)) (state : State) (names : List (List ℕ)) (script : List ScriptLine)
+    (was : WasStarvedOn limits before after state names script) → Invariant (map_of_rows state.rows) → AllKeep Invariant (commits_told names script was.answers was.closed)
     → CrashesKeep Invariant before after
 
 -- Wherever a run was stopped, what the next one finds on the disk has the invariant too.

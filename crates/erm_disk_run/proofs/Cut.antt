@@ -1,6 +1,5 @@
 -- Sessions that were closed of which no line tells, and what answers tell of versions cut off.
 use Rattle.std.proofs.Common.{◌≡◌, ℕ, ◌<◌, List, [], ◌∷◌, ◌++◌, ◌+◌, length, take, inl, inr, refl, subst, arith}
-use Rattle.erm_model.specs.declared.limits.TheConstants.{MOST_CELLS}
 use Rattle.erm_model.specs.Member.{◌∈◌}
 use Rattle.erm_model.proofs.Members.{none_in_nil}
 use Rattle.erm_machine.proofs.Listed.{∈-head}
@@ -15,7 +14,8 @@ use Rattle.erm_lines.specs.Laws.{PartsCutFew, RunsCutFew}
 use Rattle.erm_told_crash.specs.Laws.{CoursesClose}
 use Rattle.erm_told_limits.specs.Limits.{CellsAreFull}
 use Rattle.erm_tight.specs.NewKeys.{HaveNewKeys, OidsAreFull}
-use Rattle.erm_disk_run.specs.Runs.{AreUncut, AreUnseen, HaveManyCells, HaveManyKeys}
+use Rattle.erm_disk_run.specs.Limits.{Limits}
+use Rattle.erm_disk_run.specs.Runs.{AreUnseen, CutFew, HaveManyCells, HaveManyKeys}
 
 -- a list whose elements stand in an empty one is empty
 none_listed : (xs : List Closed) → ((c : Closed) → c ∈ xs → c ∈ []) → xs ≡ []
@@ -56,9 +56,11 @@ whole_course v t script answers run = record {
   closes = run.closes;
 }
 
--- in a world of as many cells as there may be an answer that tells of them counts so many
-pub course_celled : CellsAreFull → (v t : View) (script : List ScriptLine) (answers : List Answer) → IsCourse v script answers t → v.opening.cells ≡ MOST_CELLS → HaveManyCells script answers
-course_celled full v t script answers course many drawn m = let most = full v t script answers course drawn m in (omega (arith, most.0, many), omega (arith, most.1, many))
+-- in a world of so many cells an answer that tells of them counts so many
+pub course_celled : CellsAreFull → (limits : Limits) (v t : View) (script : List ScriptLine) (answers : List Answer) → IsCourse v script answers t → v.opening.cells ≡ limits.cells
+    → HaveManyCells limits script answers
+course_celled full limits v t script answers course many drawn m = let most = full v t script answers course drawn m in
+    ((omega (arith, most.0.0, many), omega (arith, most.0.1, many)), omega (arith, most.1, many))
 
 -- and one that tells of objects counts new keys
 pub course_keyed : OidsAreFull → (v t : View) (opening : Opening) → IsOpeningOf v opening → (sessions : ℕ) → v.opening.sessions ≡ sessions → (script : List ScriptLine) (answers : List Answer) → IsCourse v script answers t
@@ -80,12 +82,12 @@ pub keyed_without : (opening : Opening) (sessions : ℕ) (script : List ScriptLi
 keyed_without opening sessions script answers keyed i drawn e =
     let found = keyed i drawn e in (found.0, fewer_sessions sessions [] (take (i + 1) (said_of script answers)) found.0 found.1, found.2)
 
--- in a world that cuts off no versions no answer tells that some were
-pub run_uncut : RunsCutFew → (v t : View) (script : List ScriptLine) (answers : List Answer) → IsRun v script answers t → v.opening.cuts ≡ 0 → AreUncut answers
-run_uncut few v t script answers run none n m = let least = few v t script answers run n m in omega (arith, least, none)
+-- no answer tells that more versions were cut off than a call of the world does
+pub run_cuts : RunsCutFew → (limits : Limits) (v t : View) (script : List ScriptLine) (answers : List Answer) → IsRun v script answers t → v.opening.cuts ≡ limits.cuts → CutFew limits answers
+run_cuts few limits v t script answers run most n m = let least = few v t script answers run n m in omega (arith, least, most)
 
-pub course_uncut : PartsCutFew → (v t : View) (script : List ScriptLine) (answers : List Answer) → IsCourse v script answers t → v.opening.cuts ≡ 0 → AreUncut answers
-course_uncut few v t script answers course none n m =
+pub course_cuts : PartsCutFew → (limits : Limits) (v t : View) (script : List ScriptLine) (answers : List Answer) → IsCourse v script answers t → v.opening.cuts ≡ limits.cuts → CutFew limits answers
+course_cuts few limits v t script answers course most n m =
     let part : IsPart v script answers course.between = record { opened = course.opened; ranges = course.ranges; few = course.few; most = course.most; lines = course.lines } in
     let least = few v course.between script answers part n m in
-    omega (arith, least, none)
+    omega (arith, least, most)

@@ -48,7 +48,7 @@ module _ (once : RecoversOnce) (commits : List Committed) (from : State) (place 
   pub followed_now : MayBeFollowed now
   followed_now = elim below.stops [
     | inl beyond ↦ inl (beyond_now now refl beyond)
-    | inr (segment, before, removed, beyond) ↦ inr (
+    | inr (segment, before, removed, low, beyond) ↦ inr (
       segment,
       before,
       removed,

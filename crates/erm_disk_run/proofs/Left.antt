@@ -14,7 +14,7 @@ use Rattle.erm_block.specs.declared.block.Block.{Block}
 use Rattle.erm_block.specs.declared.block.Kind.TheVariants as kind
 use Rattle.erm_outside.specs.Disk.{Step, contents}
 use Rattle.erm_ckpt.specs.declared.slot.Slots.{Slots}
-use Rattle.erm_ckpt.specs.Recovered.{Pair, Recovers, State, base, state_behind}
+use Rattle.erm_ckpt.specs.Recovered.{Pair, Recovers, State, base, slots_of, state_behind}
 use Rattle.erm_ckpt.proofs.OneRecovery.{same_recovery}
 use Rattle.erm_checkpoint.specs.Taken.{HoldsLog, state_at}
 use Rattle.erm_maps.proofs.Commits.{run_ends}
@@ -34,12 +34,12 @@ use Rattle.erm_told_log.proofs.Places.{met_within}
 use Rattle.erm_told_crash.specs.Logged.{CoursesLogCommits, HasCommits}
 use Rattle.erm_told_audit.specs.Audits.{AuditTells}
 use Rattle.erm_told_audit.proofs.Audits.{audit_from}
-use Rattle.erm_log_run.specs.Saving.{SparesOlder, saved_at}
+use Rattle.erm_log_run.specs.Saving.{AreRemoved, removed_to, saved_at}
 use Rattle.erm_log_run.proofs.Held.{all_flushed}
 use Rattle.erm_disk_run.specs.Crashes.{Leaves}
 use Rattle.erm_disk_run.proofs.Told.{CourseLaws, RanOn, begins, commits, from_opening, stamps_within}
 use Rattle.erm_disk_run.proofs.Opened.{MayOpenAll}
-use Rattle.erm_disk_run.proofs.SlotsLeft.{SlotsLeft, left_saved, left_spared}
+use Rattle.erm_disk_run.proofs.SlotsLeft.{RemovedAs, SlotsLeft, left_saved, left_spared}
 use Rattle.erm_disk_run.proofs.Outlived.{run_front, state_front}
 
 -- where all commits have their stamps below a bound
@@ -159,8 +159,8 @@ module _ (laws : CourseLaws) (may : MayOpenAll) (one : OrdersAreOne) (audits : A
 
   pub leaves : (slots : Slots) (old steps : List Step) → MeetsFound state log slots old steps → log.flushed ≡ log.tail → (order : List Committed)
       (opening end : Database) → opening ≡ map_of_rows state.rows → IsSerialOrder rank_of told order → RunsInOrder order opening end → SlotsLeft answers slots old steps
-      → (saved_at answers ≡ None → SparesOlder state.at old steps) → Leaves told state answers end old steps
-  leaves slots old steps meets flushed order opening end same serial run left older =
+      → RemovedAs answers state.at log.flushed old steps → Leaves told state answers end old steps
+  leaves slots old steps meets flushed order opening end same serial run left removed =
       let h : HoldsLog sound_law.meets log slots steps = meets.tail.holds in
       let found : State = state_at log h.front in
       let to : found.at ≡ log.tail = h.to ∙ flushed in
@@ -180,7 +180,7 @@ module _ (laws : CourseLaws) (may : MayOpenAll) (one : OrdersAreOne) (audits : A
         logged = λ best blocks recovers. audit_from_place slots old steps meets best blocks recovers flushed;
         saved = left_saved answers slots old steps left h.pair h.names;
         spared = left_spared answers slots old steps left h.pair h.names;
-        kept = older;
+        removed = λ before blocks recovers. subst (λ (at : ℕ). AreRemoved (removed_to (slots_of before) answers) state.at at old steps) (sym h.to) (removed before blocks recovers);
         opening = λ best blocks recovers low. opening_met slots old steps meets best blocks recovers low;
         older = λ before best found blocks was recovers b low. older_found slots old steps meets best blocks recovers before found was b low;
       }

@@ -12,6 +12,7 @@ use Rattle.erm_block.specs.declared.block.Block.{Block}
 use Rattle.erm_block.specs.declared.block.TheConstants.{RUN_END}
 use Rattle.erm_block.specs.LogList.{IsChain}
 use Rattle.erm_block.specs.Spelling.{spelling}
+use Rattle.erm_outside.specs.declared.disk.File.TheVariants.{Segment}
 use Rattle.erm_outside.specs.Disk.{Image, IsSettled, Step, Tells, contents}
 use Rattle.erm_log_disk.specs.Writes.{OnlyWrites}
 use Rattle.erm_log_run.proofs.Held.{tells_weaker}
@@ -22,8 +23,10 @@ use Rattle.erm_log_words.proofs.LogWords.{has-log_words}
 use Rattle.erm_ckpt.specs.declared.slot.Slots.{Slots}
 use Rattle.erm_ckpt.specs.declared.slot.TheConstants.{LOG_START}
 use Rattle.erm_ckpt.specs.Checkpoint.{Checkpoint}
+use Rattle.erm_ckpt.specs.Slots.{removal_end}
 use Rattle.erm_ckpt.specs.Recovered.{Pair, Recovers, RecoversAt, State, base, best, end_at, slots_of, state_behind, state_of}
 use Rattle.erm_ckpt.specs.States.{HoldsAll, RecoversTo, SameState}
+use Rattle.erm_checkpoint.proofs.Segments.{words_spare}
 use Rattle.erm_crash.specs.Kept.{IsJustOpened, KeepsOpening}
 use Rattle.erm_crash.specs.Stops.{MayStop}
 use Rattle.erm_crash.proofs.Stops.{settled_stops, stop_wider}
@@ -40,7 +43,7 @@ use Rattle.erm_recover.proofs.Waits.{WritesSome, disk_stays, once_since, once_we
 use Rattle.erm_start.specs.Recovered.{IsOpenedLog}
 use Rattle.erm_told_log.specs.Tail.{MeetsTail}
 use Rattle.erm_world.specs.Log.{Log}
-use Rattle.erm_disk_run.specs.Crashes.{KeepsCommits, RecoversBelow}
+use Rattle.erm_disk_run.specs.Crashes.{KeepsCommits, KeepsOlder, RecoversBelow}
 use Rattle.erm_disk_run.specs.Found.{IsFound, IsKept, ReadsAs}
 use Rattle.erm_disk_run.specs.Opened.{OpensLog, stop_of_opening}
 use Rattle.erm_disk_run.specs.declared.stops.DiskStop.{DiskStop}
@@ -136,7 +139,7 @@ opening_commits opens commits state pair old new before behind keeps = (
       elim kept.0 [
         | inl there ↦ below_of opens commits state state pair now image there before (omega arith) (inl refl) refl kept.1
         | inr there ↦ below_of opens commits state (opened state) pair now image there behind (omega arith) (inr refl) refl
-            (stop_wider (base pair).at (base pair).at state.at (state.at + LEAST_BLOCK) now (omega arith) (omega arith) kept.1)
+            (stop_wider (base pair).at state.at (state.at + LEAST_BLOCK) now (omega arith) kept.1)
       ],
 )
 
@@ -312,10 +315,20 @@ once_told state before after =
     tells_weaker (SinceSettled (KeepsCommits [] state state.at)) (OnceSettled (KeepsCommits [] state state.at)) before after
     (λ old new since. once_since (KeepsCommits [] state state.at) old new since)
 
--- what only opens a log keeps the map found
+-- the block that opens a log leaves the log's older segments
+words_kept : (state : State) (before after : Option (List Step)) → OnlyWrites state.at (spelling (open_block state.at state.run)) before after → Tells (KeepsOlder state removal_end) before after
+words_kept state None after writes = writes
+words_kept state (Some old) after (new, told, wrote) = (
+  new,
+  told,
+  λ pair blocks recovers n low.
+      inl (ap (λ (ss : List Step). contents ss (Segment n)) wrote.1 ∙ words_spare state.at (spelling (open_block state.at state.run)) n old wrote.0 low wrote.2),
+)
+
+-- what only opens a log keeps the map found, and the older segments
 pub map_kept : (before after : Option (List Step)) → OnlyOpens before after → KeepsMap before after
 map_kept before after (inl same) = inl same
-map_kept before after (inr (state, found, writes, keeps)) = inr (state, found, keeps)
+map_kept before after (inr (state, found, writes, keeps)) = inr (state, found, keeps, words_kept state before after writes)
 
 -- and so where nothing was run no checkpoint was taken
 pub stops_for : (cause : DiskStop) (before after : Option (List Step)) → StopsRun cause before after → StopsFor cause before after

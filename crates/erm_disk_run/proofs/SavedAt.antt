@@ -1,5 +1,5 @@
 -- A checkpoint of a log that was just opened: nothing is gathered, and the slot has the map found.
-use Rattle.std.proofs.Common.{◌≡◌, ℕ, ◌+◌, ◌/◌, ◌<◌, ◌≤◌, ◌++◌, false, List, [], ◌∷◌, Bool, IfSome, Option, Some, None, Err, refl, sym, ap, ◌∙◌, subst, arith, inr}
+use Rattle.std.proofs.Common.{◌≡◌, ℕ, ◌+◌, ◌/◌, ◌<◌, ◌≤◌, ◌++◌, false, List, [], ◌∷◌, Bool, IfSome, Option, Some, None, Err, refl, sym, ap, ◌∙◌, subst, arith, inl, inr}
 use Rattle.std.specs.List.{slice_get}
 use Rattle.erm_model.specs.Member.{◌∈◌}
 use Rattle.erm_model.specs.Rows.{Rows}
@@ -15,39 +15,40 @@ use Rattle.erm_log_words.specs.Tears.{IsFresh}
 use Rattle.erm_ckpt.specs.declared.slot.Slots.{Slots}
 use Rattle.erm_ckpt.specs.declared.slot.TheConstants.{LOG_START}
 use Rattle.erm_ckpt.specs.Recovered.{Pair, Recovers, State, base, end_at, slots_of, state_behind}
-use Rattle.erm_ckpt.specs.Slots.{next_first, put_slot, removal_end}
+use Rattle.erm_ckpt.specs.Slots.{put_slot, removal_end}
 use Rattle.erm_ckpt.specs.States.{RecoversTo, SameState}
 use Rattle.erm_ckpt.proofs.Images.{state_grows}
 use Rattle.erm_checkpoint.specs.declared.stops.CheckpointStop.{CheckpointStop}
 use Rattle.erm_checkpoint.specs.declared.stops.CheckpointStop.TheVariants as stop
 use Rattle.erm_checkpoint.specs.Taken.{Checkpoints, GoesOnTo, HoldsLog, HoldsLogFrom, Takes, TakesAll, slot_at_end, state_at}
-use Rattle.erm_checkpoint.proofs.Segments.{IsOutside, below_segments, checkpoint_spares}
+use Rattle.erm_checkpoint.proofs.Segments.{below_segments, checkpoint_spares}
+use Rattle.erm_checkpoint.proofs.Taken.{removals_within}
 use Rattle.erm_crash.specs.Kept.{KeepsBlocks, KeepsOpening, RecoversStopped}
 use Rattle.erm_crash.specs.Moments.{TearsApart}
 use Rattle.erm_crash.specs.Stops.{MayStop}
 use Rattle.erm_crash.proofs.Moments.{joined, weaker}
-use Rattle.erm_log_run.proofs.Held.{tells_and, tells_join, tells_weaker}
+use Rattle.erm_log_run.proofs.Held.{flushed_within, tells_and, tells_join, tells_weaker}
 use Rattle.erm_log_run.proofs.Logged.{none_waits}
-use Rattle.erm_log_run.specs.Saving.{TookPlace}
+use Rattle.erm_log_run.proofs.Older.{checkpoint_may}
+use Rattle.erm_log_run.specs.Saving.{AreRemoved, TookPlace}
 use Rattle.erm_log_run.proofs.Saving.{took_place}
 use Rattle.erm_log_run.proofs.Told.{took_since}
 use Rattle.erm_node.specs.Sound.{IsSound, sound_law}
 use Rattle.erm_node.specs.TreeMap.{map_of_rows}
-use Rattle.erm_plain.specs.Logs.{KeepsSessions as KeepsPlain, plain_log, view_kept}
-use Rattle.erm_plain.specs.Stands.{IsWorld, plain_view}
-use Rattle.erm_plain.specs.declared.plain.Plain.{Plain}
 use Rattle.erm_recover.specs.Opening.{opened}
 use Rattle.erm_recover.specs.Waiting.{SinceSettled}
 use Rattle.erm_recover.proofs.Waits.{since_then}
-use Rattle.erm_start.specs.Recovered.{IsOpenedLog, IsOpenedOn}
+use Rattle.erm_start.specs.Recovered.{IsOpenedLog}
 use Rattle.erm_world.specs.Log.{IsLog, Log, Start}
 use Rattle.erm_world.specs.Whole.{IsLogOf, KeepsSessions}
 use Rattle.erm_world.specs.World.{Finished, Opening, Session, View}
-use Rattle.erm_disk_run.specs.Crashes.{KeepsCommits, RecoversBelow}
+use Rattle.erm_disk_run.specs.Crashes.{KeepsCommits, KeepsOlder, RecoversBelow}
+use Rattle.erm_disk_run.specs.Limits.{AreLimits, Limits}
 use Rattle.erm_disk_run.specs.Opened.{IsOpenedWorld, NamesFound, OpensLog}
 use Rattle.erm_disk_run.specs.Saved.{IsSaved}
 use Rattle.erm_disk_run.proofs.Opened.{MayOpenAll, below_of, opening_commits}
-use Rattle.erm_disk_run.proofs.SlotsLeft.{opened_older, same_slots}
+use Rattle.erm_disk_run.proofs.SlotsLeft.{OpenedOlder, found_by, older_told, opened_older, opens_older}
+use Rattle.erm_disk_run.proofs.Told.{OpensOn, opens_on}
 
 -- the law of checkpoints
 abbrev pub CheckpointsKeep : Type 0
@@ -67,21 +68,16 @@ no_blocks image s (b ∷ bs) (next, others) same =
     let grows = state_grows (record { at = s.at + b.size; run = b.run; rows = rows_after_block b s.rows }) bs in
     absurd (omega (arith, size, grows, same))
 
--- a checkpoint took its place behind the block that opened a log, and of the segments below that block those that the slots found don't name to be
--- removed are as before
+-- a checkpoint took its place behind the block that opened a log, and of the segments below that block just those are gone that lie below that of the
+-- place of the best slot found
 pub record SparesSegments (state : State) (found later : Slots) (old steps : List Step) : Type 0 where
   pub named : NamesFound found old
   pub took : TookPlace sound_law.meets (state.at + LEAST_BLOCK) found later old steps
-  pub kept : (n : ℕ) → IsOutside (next_first found) (removal_end found) n → n < state.at / SEGMENT_WORDS → contents steps (Segment n) ≡ contents old (Segment n)
-
--- whatever tells the slots found
-found_by : (found : Slots) (old : List Step) → NamesFound found old → (before : Pair) (blocks : List Block) → Recovers sound_law.meets (contents old) before blocks → found ≡ slots_of before
-found_by found old n before blocks recovers =
-    n.names ∙ same_slots old n.pair before n.blocks blocks n.recovers recovers
+  pub removed : AreRemoved (removal_end found) state.at (state.at + LEAST_BLOCK) old steps
 
 -- a log before and after calls of a flusher, and the views that it has then; it was just opened on a state's rows
 pub record Turned (state : State) (v t : View) (l m : Log) : Type 0 where
-  pub view : IsOpenedOn state.rows (state.at + LEAST_BLOCK) (state.run + 1) 1 v
+  pub view : OpensOn state 1 v
   pub log : IsOpenedLog state.rows (state.at + LEAST_BLOCK) (state.run + 1) l
   pub before : IsLogOf v l
   pub after : IsLogOf t m
@@ -89,16 +85,16 @@ pub record Turned (state : State) (v t : View) (l m : Log) : Type 0 where
   pub keeps : KeepsSessions v t
   pub goes : GoesOnTo l m
 
--- so it is of a world
-pub turned_world : {L : Type 0} (state : State) (p q : Plain L) → IsOpenedWorld state 1 p → IsWorld sound_law p → IsWorld sound_law q → KeepsPlain sound_law p q → GoesOnTo (plain_log p) (plain_log q)
-    → Turned state (plain_view p) (plain_view q) (plain_log p) (plain_log q)
-turned_world state p q world first second keeps goes = record {
-  view = world.view;
+-- so it is of a world that was opened with any limits
+pub turned_world : (limits : Limits) → AreLimits limits → (state : State) (v t : View) (l m : Log) → IsOpenedWorld limits state 1 v l → IsLogOf v l → IsLogOf t m → IsLog sound_law.meets m → KeepsSessions v t
+    → GoesOnTo l m → Turned state v t l m
+turned_world limits are state v t l m world before after is keeps goes = record {
+  view = opens_on limits are state 1 v world.view;
   log = world.log;
-  before = first.log_of_view;
-  after = second.log_of_view;
-  is = second.log;
-  keeps = view_kept sound_law p q keeps;
+  before = before;
+  after = after;
+  is = is;
+  keeps = keeps;
   goes = goes;
 }
 
@@ -124,6 +120,10 @@ module _ (state : State) (v t : View) (l m : Log) (turned : Turned state v t l m
 
   pub tail_is : m.tail ≡ state.at + LEAST_BLOCK
   tail_is = turned.after.tail ∙ turned.keeps.tail ∙ sym turned.before.tail ∙ turned.log.tail
+
+  -- what is flushed lies within the log
+  m_within : IsLog sound_law.meets m → m.flushed ≤ m.tail
+  m_within is = let low = flushed_within sound_law.meets m is in let within = is.within in omega (arith, low, within)
 
   -- no session has a transaction that is over
   none_over : (b : Block) → b ∈ m.gathered → ⊥
@@ -189,8 +189,7 @@ module _ (state : State) (v t : View) (l m : Log) (turned : Turned state v t l m
         map = sym (maps state.rows (base pair).rows (λ oid less. sym (same.rows oid less)) sound);
         took = λ before blocks recovers. subst (λ (s : Slots). TookPlace sound_law.meets (state.at + LEAST_BLOCK) s (slots_of pair) old steps)
             (found_by found old spares.named before blocks recovers) (subst (λ (s : Slots). TookPlace sound_law.meets (state.at + LEAST_BLOCK) found s old steps) h.holds.names spares.took);
-        kept = λ before blocks recovers n out low. spares.kept n
-            (subst (λ (s : Slots). IsOutside (next_first s) (removal_end s) n) (sym (found_by found old spares.named before blocks recovers)) out) low;
+        removed = λ before blocks recovers. subst (λ (s : Slots). AreRemoved (removal_end s) state.at (state.at + LEAST_BLOCK) old steps) (found_by found old spares.named before blocks recovers) spares.removed;
       }
 
   -- ---- as far as the disk tells
@@ -222,11 +221,25 @@ module _ (state : State) (v t : View) (l m : Log) (turned : Turned state v t l m
           named = o.found;
           took = took_since sound_law.meets (state.at + LEAST_BLOCK) slots later a b c o.writes.0 o.writes.1
               (took_place sound_law.meets l.flushed m slots later run (state.at + LEAST_BLOCK) b c tail_is put t);
-          kept = λ n out low.
-              checkpoint_spares sound_law.meets l.flushed m slots (slot_at_end m run slots) b c t n out
-              (subst (λ (at : ℕ). n < at / SEGMENT_WORDS) (sym turned.log.flushed) (below_segments state.at LEAST_BLOCK n low))
-              ∙ opened_older state l slots a b o n low;
+          removed = record {
+            gone = λ n low. t.saves.gone n (omega arith) low;
+            stay = λ n high low.
+                checkpoint_spares sound_law.meets l.flushed m slots (slot_at_end m run slots) b c t n high
+                (subst (λ (at : ℕ). n < at / SEGMENT_WORDS) (sym turned.log.flushed) (below_segments state.at LEAST_BLOCK n low))
+                ∙ opened_older state l slots a b o n low;
+            within =
+                let low = removals_within sound_law.meets m slots t.mid t.holds in
+                let flushed = m_within turned.is in
+                omega (arith, low, flushed, tail_is);
+          };
         }
+
+    -- where it was begun, no more are gone
+    pub older_kept : (run : ℕ) → Tells (Takes sound_law.meets l.flushed m slots (slot_at_end m run slots)) mid after → Tells (KeepsOlder state removal_end) before after
+    older_kept run takes =
+        older_told state removal_end slots l.flushed before mid after (let flushed = turned.log.flushed in omega (arith, flushed))
+        (tells_weaker (OpensLog state l slots) (OpenedOlder state.at slots) before mid (opens_older state l slots) opens)
+        (checkpoint_may sound_law.meets l.flushed m slots (slot_at_end m run slots) mid after takes)
 
     pub saved_told : SameMaps → IsSound state.rows → (later : Slots) (run stamp : ℕ) → later ≡ put_slot slots (slot_at_end m run slots) → m.tail ≡ stamp → Tells (TakenAll run) mid after
         → IfSome after (HoldsLogFrom sound_law.meets m later stamp) → Tells (IsSaved state) before after

@@ -1,6 +1,8 @@
 -- The slots and the older segments that a run leaves, as recovery finds them.
-use Rattle.std.proofs.Common.{◌≡◌, ◌≢◌, ℕ, ◌≤◌, List, Option, Some, None, IfSome, refl, sym, ap, ◌∙◌, subst}
+use Rattle.std.proofs.Common.{◌≡◌, ◌≢◌, ℕ, ◌+◌, ◌≤◌, List, [], Option, Some, None, IfSome, refl, sym, ap, ◌∙◌, subst, arith, inl, inr}
+use Rattle.std.proofs.lemmas.Bool.{cases_lt}
 use Rattle.std.specs.Option.{option_map}
+use Rattle.erm_model.specs.declared.limits.TheConstants.{LEAST_BLOCK}
 use Rattle.erm_block.specs.declared.block.Block.{Block}
 use Rattle.erm_block.specs.Spelling.{spelling}
 use Rattle.erm_outside.specs.Disk.{Step, Tells, contents}
@@ -9,18 +11,20 @@ use Rattle.erm_ckpt.specs.declared.slot.Slot.{Slot}
 use Rattle.erm_ckpt.specs.declared.slot.Slots.{Slots}
 use Rattle.erm_ckpt.specs.Checkpoint.{Checkpoint}
 use Rattle.erm_ckpt.specs.Recovered.{Pair, Recovers, State, base, best, slots_of, state_of}
-use Rattle.erm_ckpt.specs.Slots.{best_of}
+use Rattle.erm_ckpt.specs.Slots.{best_of, removal_end}
 use Rattle.erm_ckpt.proofs.Choices.{best_slot}
 use Rattle.erm_ckpt.proofs.OneRecovery.{same_shown}
 use Rattle.erm_node.specs.Sound.{sound_law}
 use Rattle.erm_report.specs.declared.answer.Answer.{Answer}
 use Rattle.erm_checkpoint.proofs.Segments.{words_spare}
-use Rattle.erm_log_run.specs.Saving.{AreSaved, IsBestAt, OlderStay, SparesOlder, saved_at}
+use Rattle.erm_log_run.specs.Saving.{AreRemoved, AreSaved, IsBestAt, MayBeRemoved, SparesOlder, removed_to, saved_at}
 use Rattle.erm_log_run.proofs.Held.{tells_from, tells_join, tells_weaker}
-use Rattle.erm_log_run.proofs.Older.{older_then}
+use Rattle.erm_log_run.proofs.Older.{higher}
 use Rattle.erm_recover.specs.Opening.{open_block}
 use Rattle.erm_world.specs.Log.{Log}
+use Rattle.erm_disk_run.specs.Crashes.{KeepsOlder}
 use Rattle.erm_disk_run.specs.Opened.{NamesFound, OpensLog}
+use Rattle.erm_disk_run.specs.Saved.{IsSaved}
 
 -- the best one of the checkpoints that slots name, of which the best one is of a place
 best_named : (slots : Slots) (pair : Pair) (place : ℕ) → slots ≡ slots_of pair → IsBestAt slots place → (best pair ≢ None) × ((base pair).at ≡ place)
@@ -87,10 +91,56 @@ opened_older state log slots old new opens n low =
     ap (λ (steps : List Step). contents steps (Segment n)) opens.writes.1
     ∙ words_spare state.at (spelling (open_block state.at state.run)) n old opens.writes.0 low opens.writes.2
 
--- so does a run behind it without a checkpoint
-pub older_told : (P : List Step → List Step → Type 0) (last : Option ℕ) (place later : ℕ) (before mid after : Option (List Step)) → place ≤ later → Tells (SparesOlder place) before mid → Tells P mid after → OlderStay last later mid after
-    → Tells (λ old new. last ≡ None → SparesOlder place old new) before after
-older_told P None place later before mid after below first moments stays =
-    tells_weaker (SparesOlder place) (λ old new. None ≡ None → SparesOlder place old new) before after (λ old new spares same. spares) (older_then place later before mid after below first stays)
-older_told P (Some saved) place later before mid after below first moments stays =
-    tells_join (SparesOlder place) P (λ old new. Some saved ≡ None → SparesOlder place old new) before mid after (λ a b c spares p none. absurd (let no : Some saved ≡ None = none in cc)) first moments
+-- the slots found are those from which the disk recovers
+pub found_by : (found : Slots) (old : List Step) → NamesFound found old → (before : Pair) (blocks : List Block) → Recovers sound_law.meets (contents old) before blocks → found ≡ slots_of before
+found_by found old n before blocks recovers = n.names ∙ same_slots old n.pair before n.blocks blocks n.recovers recovers
+
+-- what is gone behind a run, by the slots found
+abbrev pub RemovedAs : List Answer → ℕ → ℕ → List Step → List Step → Type 0
+RemovedAs answers place later old new = (before : Pair) (blocks : List Block) → Recovers sound_law.meets (contents old) before blocks → AreRemoved (removed_to (slots_of before) answers) place later old new
+
+-- a log that was opened, by the slots found
+pub record OpenedOlder (place : ℕ) (first : Slots) (old new : List Step) : Type 0 where
+  pub named : NamesFound first old
+  pub spares : SparesOlder place old new
+
+pub opens_older : (state : State) (log : Log) (slots : Slots) (old new : List Step) → OpensLog state log slots old new → OpenedOlder state.at slots old new
+opens_older state log slots old new opens = record { named = opens.found; spares = opened_older state log slots old new opens }
+
+-- what is gone behind a run is what was removed since the log was opened
+pub removed_told : (answers : List Answer) (first : Slots) (place from later : ℕ) (before mid after : Option (List Step)) → place ≤ from → Tells (OpenedOlder place first) before mid
+    → Tells (AreRemoved (removed_to first answers) from later) mid after → Tells (RemovedAs answers place later) before after
+removed_told answers first place from later before mid after low opened removed =
+    tells_join (OpenedOlder place first) (AreRemoved (removed_to first answers) from later) (RemovedAs answers place later) before mid after
+    (λ a b c o r pair blocks recovers.
+    subst (λ (slots : Slots). AreRemoved (removed_to slots answers) place later a c) (found_by first a o.named pair blocks recovers)
+    (record { gone = r.gone; stay = λ n high less. r.stay n high (higher place from n low less) ∙ o.spares n less; within = r.within })) opened removed
+
+-- and so is what may be gone
+pub older_told : (state : State) (end : Slots → ℕ) (first : Slots) (from : ℕ) (before mid after : Option (List Step)) → state.at ≤ from → Tells (OpenedOlder state.at first) before mid
+    → Tells (MayBeRemoved (end first) from) mid after → Tells (KeepsOlder state end) before after
+older_told state end first from before mid after low opened may =
+    tells_join (OpenedOlder state.at first) (MayBeRemoved (end first) from) (KeepsOlder state end) before mid after
+    (λ a b c o m pair blocks recovers.
+    subst (λ (slots : Slots). MayBeRemoved (end slots) state.at a c) (found_by first a o.named pair blocks recovers)
+    (λ n less. elim (m n (higher state.at from n low less)) [
+      | inl same ↦ inl (same ∙ o.spares n less)
+      | inr gone ↦ inr gone
+    ])) opened may
+
+-- what is gone may be gone
+may_be : (e g place later : ℕ) (old new : List Step) → e ≤ g → AreRemoved e place later old new → MayBeRemoved g place old new
+may_be e g place later old new most r n low = elim (cases_lt n e) [
+  | inl under ↦ inr (omega (arith, under, most), r.gone n under)
+  | inr above ↦ inl (r.stay n above low)
+]
+
+pub may_from : (e g place later : ℕ) (before after : Option (List Step)) → e ≤ g → Tells (AreRemoved e place later) before after → Tells (MayBeRemoved g place) before after
+may_from e g place later before after most = tells_weaker (AreRemoved e place later) (MayBeRemoved g place) before after (λ old new r. may_be e g place later old new most r)
+
+-- a checkpoint that was taken removed no more than one that was begun
+pub older_saved : (state : State) (before after : Option (List Step)) → Tells (IsSaved state) before after → Tells (KeepsOlder state removal_end) before after
+older_saved state before after =
+    tells_weaker (IsSaved state) (KeepsOlder state removal_end) before after
+    (λ old new s pair blocks recovers.
+    may_be (removal_end (slots_of pair)) (removal_end (slots_of pair)) state.at (state.at + LEAST_BLOCK) old new (omega arith) (s.removed pair blocks recovers))

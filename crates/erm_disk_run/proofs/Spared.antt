@@ -23,9 +23,11 @@ use Rattle.erm_good_report.specs.Transactions.{Transaction, history_of, said_of,
 use Rattle.erm_told_crash.specs.Spare.{NamesNoSession, SpareNamesTellNothing}
 use Rattle.erm_told_crash.proofs.Spare.{idle, no_transactions}
 use Rattle.erm_log_run.specs.Lines.{AreLinesOf, Names}
+use Rattle.erm_log_run.specs.Saving.{removing_to}
 use Rattle.erm_recover.specs.Waiting.{SinceSettled}
-use Rattle.erm_disk_run.specs.Crashes.{KeepsCommits, Leaves, Outlives}
-use Rattle.erm_disk_run.specs.Runs.{AreUncut, AreUnseen, EndsRun, HaveManyCells, HaveManyKeys, IsScriptFor, LeavesUntold, MayBeRun, NamesOneOf, WasCutOn, WasRunOn, WasStarvedOn, commits_told}
+use Rattle.erm_disk_run.specs.Crashes.{KeepsCommits, KeepsOlder, Leaves, Outlives}
+use Rattle.erm_disk_run.specs.Limits.{Limits}
+use Rattle.erm_disk_run.specs.Runs.{AreUnseen, CutFew, EndsRun, HaveManyCells, HaveManyKeys, IsScriptFor, LeavesUntold, MayBeRun, NamesOneOf, WasCutOn, WasRunOn, WasStarvedOn, commits_told}
 use Rattle.erm_disk_run.proofs.Cut.{keyed_without}
 use Rattle.erm_disk_run.specs.declared.stops.RunStop.{RunStop}
 use Rattle.erm_disk_run.specs.declared.stops.RunStop.TheVariants as run
@@ -60,8 +62,8 @@ spare_script name script is = record {
   each = λ l m. let line = is.each l m in record { session = named_more l.command l.session line.session; table = line.table; range = line.range };
 }
 
-module _ (spare : SpareNamesTellNothing) (before after : Option (List Step)) (state : State) (name : List ℕ) (script : List ScriptLine) (lines : List Line) (none : NamesNoSession script) where
-  spared_run : WasRunOn before after state (name ∷ []) script lines → WasRunOn before after state [] script lines
+module _ (spare : SpareNamesTellNothing) (limits : Limits) (before after : Option (List Step)) (state : State) (name : List ℕ) (script : List ScriptLine) (lines : List Line) (none : NamesNoSession script) where
+  spared_run : WasRunOn limits before after state (name ∷ []) script lines → WasRunOn limits before after state [] script lines
   spared_run was =
       let without = spare.tight InTurn was.opening name script lines none was.tight in
       let same : was.tight.good.report ≡ without.0.good.report = sym without.1 in
@@ -72,8 +74,8 @@ module _ (spare : SpareNamesTellNothing) (before after : Option (List Step)) (st
         opening = was.opening;
         starts = was.starts;
         tight = without.0;
-        uncut = subst (λ (r : Report). AreUncut r.answers) same was.uncut;
-        celled = subst (λ (r : Report). HaveManyCells script r.answers) same was.celled;
+        few = subst (λ (r : Report). CutFew limits r.answers) same was.few;
+        celled = subst (λ (r : Report). HaveManyCells limits script r.answers) same was.celled;
         keyed = keyed_without was.opening 1 script without.0.good.report.answers (subst (λ (r : Report). HaveManyKeys was.opening 1 script r.answers) same was.keyed);
         fronts = subst (λ (cs : List Committed). EachFrontRuns cs was.opening.map) empty was.fronts;
         outlives = subst (λ (cs : List Committed). Tells (Outlives cs state lines) before after) empty was.outlives;
@@ -90,7 +92,7 @@ module _ (spare : SpareNamesTellNothing) (before after : Option (List Step)) (st
       closes_none : (a : Answer) → Closes Idle a → ⊥
       closes_none a closes = closes
 
-  spared_cut : WasCutOn before after state (name ∷ []) script lines → WasCutOn before after state [] script lines
+  spared_cut : WasCutOn limits before after state (name ∷ []) script lines → WasCutOn limits before after state [] script lines
   spared_cut was =
       let without = spare.cut InTurn was.opening name script lines none was.cut in
       let same : was.cut.answers ≡ without.0.answers = sym without.1 in
@@ -104,8 +106,8 @@ module _ (spare : SpareNamesTellNothing) (before after : Option (List Step)) (st
         opening = was.opening;
         starts = was.starts;
         cut = without.0;
-        uncut = subst AreUncut same was.uncut;
-        celled = subst (HaveManyCells script) same was.celled;
+        few = subst (CutFew limits) same was.few;
+        celled = subst (HaveManyCells limits script) same was.celled;
         keyed = keyed_without was.opening 1 script without.0.answers (subst (HaveManyKeys was.opening 1 script) same was.keyed);
         closed = was.closed;
         unseen = subst (λ (given : List Answer). AreUnseen [] script given was.closed) same (record { once = was.unseen.once; fits = was.unseen.fits; late = was.unseen.late });
@@ -113,9 +115,10 @@ module _ (spare : SpareNamesTellNothing) (before after : Option (List Step)) (st
             (subst (λ (ts : List Transaction). OwesToAnswers InTurn was.opening script was.cut.answers ts) untold was.owes);
         fronts = subst (λ (cs : List Committed). EachFrontRuns cs was.opening.map) empty was.fronts;
         outlives = subst (λ (cs : List Committed). Tells (Outlives cs state lines) before after) empty was.outlives;
+        older = subst (λ (given : List Answer). Tells (KeepsOlder state (λ slots. removing_to slots script given)) before after) same was.older;
       }
 
-  spared_starved : WasStarvedOn before after state (name ∷ []) script → WasStarvedOn before after state [] script
+  spared_starved : WasStarvedOn limits before after state (name ∷ []) script → WasStarvedOn limits before after state [] script
   spared_starved was =
       let untold : transactions_of 1 (places_of script was.answers was.closed) ≡ [] =
       no_transactions script was.answers none was.closed (not_closed was.answers was.closed was.unseen.fits)
@@ -128,7 +131,7 @@ module _ (spare : SpareNamesTellNothing) (before after : Option (List Step)) (st
         starts = was.starts;
         answers = was.answers;
         most = was.most;
-        uncut = was.uncut;
+        few = was.few;
         celled = was.celled;
         keyed = keyed_without was.opening 1 script was.answers was.keyed;
         closed = was.closed;
@@ -136,20 +139,21 @@ module _ (spare : SpareNamesTellNothing) (before after : Option (List Step)) (st
         owes = subst (λ (ts : List Transaction). OwesToAnswers InTurn was.opening script was.answers ts) untold was.owes;
         fronts = subst (λ (cs : List Committed). EachFrontRuns cs was.opening.map) empty was.fronts;
         moments = subst (λ (cs : List Committed). Tells (SinceSettled (KeepsCommits cs state state.at)) before after) empty was.moments;
+        older = was.older;
       }
 
 -- how a run ends that had a spare name
-pub spared : SpareNamesTellNothing → (before after : Option (List Step)) (name : List ℕ) (script : List ScriptLine) → NamesNoSession script
-    → (ended : Result (Vec Line Global) RunStop) → EndsRun ended before after (name ∷ []) script → EndsRun ended before after [] script
-spared spare before after name script none (Ok lines) ends = λ fits. let was = ends fits in (was.0, was.1, spared_run spare before after was.0 name script lines.items none was.2)
-spared spare before after name script none (Err (run.DiskFault lines)) ends = λ fits. let was = ends fits in (was.0, was.1, spared_cut spare before after was.0 name script lines.items none was.2)
-spared spare before after name script none (Err (run.Unopened stop)) ends = ends
-spared spare before after name script none (Err run.Memory) ends = (ends.0, ends.1, spared_starved spare before after ends.0 name script [] none ends.2)
+pub spared : SpareNamesTellNothing → (limits : Limits) (before after : Option (List Step)) (name : List ℕ) (script : List ScriptLine) → NamesNoSession script
+    → (ended : Result (Vec Line Global) RunStop) → EndsRun limits ended before after (name ∷ []) script → EndsRun limits ended before after [] script
+spared spare limits before after name script none (Ok lines) ends = λ fits. let was = ends fits in (was.0, was.1, spared_run spare limits before after was.0 name script lines.items none was.2)
+spared spare limits before after name script none (Err (run.DiskFault lines)) ends = λ fits. let was = ends fits in (was.0, was.1, spared_cut spare limits before after was.0 name script lines.items none was.2)
+spared spare limits before after name script none (Err (run.Unopened stop)) ends = ends
+spared spare limits before after name script none (Err run.Memory) ends = (ends.0, ends.1, spared_starved spare limits before after ends.0 name script [] none ends.2)
 
 -- and what it leaves untold
-pub spared_untold : SpareNamesTellNothing → (before after : Option (List Step)) (name : List ℕ) (script : List ScriptLine) → NamesNoSession script
-    → (ended : Result (Vec Line Global) RunStop) → LeavesUntold ended before after (name ∷ []) script → LeavesUntold ended before after [] script
-spared_untold spare before after name script none (Ok lines) was = (was.0, was.1, spared_starved spare before after was.0 name script [] none was.2)
-spared_untold spare before after name script none (Err (run.DiskFault lines)) was = (was.0, was.1, spared_starved spare before after was.0 name script [] none was.2)
-spared_untold spare before after name script none (Err (run.Unopened stop)) was = tt
-spared_untold spare before after name script none (Err run.Memory) was = (was.0, was.1, spared_starved spare before after was.0 name script [] none was.2)
+pub spared_untold : SpareNamesTellNothing → (limits : Limits) (before after : Option (List Step)) (name : List ℕ) (script : List ScriptLine) → NamesNoSession script
+    → (ended : Result (Vec Line Global) RunStop) → LeavesUntold limits ended before after (name ∷ []) script → LeavesUntold limits ended before after [] script
+spared_untold spare limits before after name script none (Ok lines) was = (was.0, was.1, spared_starved spare limits before after was.0 name script [] none was.2)
+spared_untold spare limits before after name script none (Err (run.DiskFault lines)) was = (was.0, was.1, spared_starved spare limits before after was.0 name script [] none was.2)
+spared_untold spare limits before after name script none (Err (run.Unopened stop)) was = tt
+spared_untold spare limits before after name script none (Err run.Memory) was = (was.0, was.1, spared_starved spare limits before after was.0 name script [] none was.2)

@@ -7,7 +7,7 @@ use Rattle.erm_model.specs.Database.{Database}
 use Rattle.erm_model.specs.Member.{◌∈◌}
 use Rattle.erm_model.specs.RowTransaction.{SameRows}
 use Rattle.erm_model.specs.Rows.{Rows}
-use Rattle.erm_model.specs.declared.limits.TheConstants.{LEAST_BLOCK, OID_LIMIT}
+use Rattle.erm_model.specs.declared.limits.TheConstants.{LEAST_BLOCK, MOST_CELLS, OID_LIMIT, TABLE_CELLS}
 use Rattle.erm_model.proofs.Members.{∈-behind}
 use Rattle.erm_machine.proofs.Listed.{∈-head, ∈-map}
 use Rattle.erm_block.specs.declared.block.Block.{Block}
@@ -27,16 +27,17 @@ use Rattle.erm_good_report.specs.GoodReport.{places_of}
 use Rattle.erm_good_report.specs.Opening.{Opening}
 use Rattle.erm_good_report.specs.Phases.{Closed}
 use Rattle.erm_good_report.specs.Transactions.{history_of, progress_of, transactions_of}
-use Rattle.erm_lines.specs.Executions.{AreClosed, IsCourse, IsOpeningOf, count_rows, is_zero}
+use Rattle.erm_lines.specs.Executions.{AreClosed, IsCourse, IsOpened, IsOpeningOf, count_rows, is_zero}
 use Rattle.erm_lines.specs.Laws.{ExecutionsGoOn, ExecutionsTell}
 use Rattle.erm_told.proofs.Ended.{at_end, end_tells, opening_is}
 use Rattle.erm_told_order.proofs.Orders.{commits_told}
 use Rattle.erm_told_order.proofs.Places.{told_by}
-use Rattle.erm_start.specs.Recovered.{IsOpenedOn}
+use Rattle.erm_start.specs.Recovered.{IsFirstObject, IsOpenedWith}
 use Rattle.erm_summary.specs.Summary.{opening_at}
 use Rattle.erm_summary.specs.declared.report.Start.{Start}
 use Rattle.erm_told_crash.specs.Laws.{CoursesTellStates}
 use Rattle.erm_disk_run.specs.Found.{StartsFrom}
+use Rattle.erm_disk_run.specs.Limits.{AreLimits, Limits}
 
 -- where no commit has its stamp below a bound
 pub none_below : (bound : ℕ) (cs : List Committed) → ((c : Committed) → c ∈ cs → bound ≤ c.stamp) → below bound cs ≡ []
@@ -64,9 +65,32 @@ counts_same a b same = ap (λ (oids : List ℕ). length oids) (same_count a b 0 
 abbrev pub MapsAreTold : Type 0
 MapsAreTold = (a b : Rows) → SameRows a b → IsSound a → map_of_rows a ≡ map_of_rows b
 
--- A world was opened on a state.
-abbrev pub OpensOn : State → ℕ → View → Type 0
-OpensOn state sessions v = IsOpenedOn state.rows (state.at + LEAST_BLOCK) (state.run + 1) sessions v
+-- a view is one of a world with these limits
+pub record HasLimits (limits : Limits) (v : View) : Type 0 where
+  pub cells : v.opening.cells ≡ limits.cells
+  pub cuts : v.opening.cuts ≡ limits.cuts
+
+-- A world was opened on a state, whatever its limits: it has cells enough, and no more than there may be.
+pub record OpensOn (state : State) (many : ℕ) (v : View) : Type 0 where
+  pub opened : IsOpened v
+  pub rows : SameRows v.opening.rows state.rows
+  pub tail : v.opening.tail ≡ state.at + LEAST_BLOCK
+  pub run : v.opening.run ≡ state.run + 1
+  pub sessions : v.opening.sessions ≡ many
+  pub first : IsFirstObject state.rows v.opening.first
+  pub cells : (TABLE_CELLS ≤ v.opening.cells) × (v.opening.cells ≤ MOST_CELLS)
+
+pub opens_on : (limits : Limits) → AreLimits limits → (state : State) (sessions : ℕ) (v : View)
+    → IsOpenedWith state.rows (state.at + LEAST_BLOCK) (state.run + 1) sessions limits.cells limits.cuts v → OpensOn state sessions v
+opens_on limits are state sessions v opened = record {
+  opened = opened.opened;
+  rows = opened.rows;
+  tail = opened.tail;
+  run = opened.run;
+  sessions = opened.sessions;
+  first = opened.first;
+  cells = (let least = are.least in let same = opened.cells in omega (arith, least, same), let most = are.most in let same = opened.cells in omega (arith, most, same));
+}
 
 module _ (maps : MapsAreTold) (state : State) (sessions : ℕ) (v : View) (opened : OpensOn state sessions v) where
   pub same_map : map_of_rows v.opening.rows ≡ map_of_rows state.rows
@@ -145,7 +169,7 @@ module _ (laws : CourseLaws) (state : State) (sessions : ℕ) (v t : View) (log 
       → IsStateBelow commits (map_of_rows state.rows) (place_behind log.opened.at front) (map_of_rows (rows_behind log.opened.rows front))
   state_told front rest split =
       let opening : Opening = record { map = map_of_rows v.opening.rows; stamp = state.at; run = state.run + 1; rows = count_rows v.opening.rows; first = v.opening.first } in
-      let of : IsOpeningOf v opening = record { map = refl; stamp = ran.opened.tail; rows = refl; first = refl; cells = (omega (arith, ran.opened.cells), omega (arith, ran.opened.cells)) } in
+      let of : IsOpeningOf v opening = record { map = refl; stamp = ran.opened.tail; rows = refl; first = refl; cells = ran.opened.cells } in
       let place = place_behind log.opened.at front in
       let rows = rows_behind log.opened.rows front in
       subst (λ (m : Database). IsStateBelow commits m place (map_of_rows rows)) (same_map laws.maps state sessions v ran.opened)

@@ -29,17 +29,17 @@ use Rattle.erm_good_report.specs.Opening.{Opening}
 use Rattle.erm_summary.specs.Summary.{opening_at}
 use Rattle.erm_summary.specs.Tables.{KeysAreInTables, SummariesAreInTables}
 use Rattle.erm_lines.specs.Executions.{IsOpeningOf, count_rows}
-use Rattle.erm_plain.specs.Logs.{plain_log}
-use Rattle.erm_plain.specs.Stands.{plain_view}
 use Rattle.erm_log_run.proofs.Held.{tells_weaker}
+use Rattle.erm_log_run.proofs.Older.{removed_below}
 use Rattle.erm_log_run.specs.Acknowledged.{AllLast}
 use Rattle.erm_log_run.specs.Runs.{IsCutReportOf, IsReportOf, OnFault, UnlessFault, UnlessMemory, WasCut, WasRun, lines_in}
-use Rattle.erm_log_run.specs.Saving.{AreSaved, OlderStay, SparesOlder, saved_at}
+use Rattle.erm_log_run.specs.Saving.{AreRemoved, AreSaved, MayBeRemoved, removed_to, removing_to, saved_at}
 use Rattle.erm_log_run.specs.Starving.{OnMemory, WasStarved}
 use Rattle.erm_log_run.specs.declared.stops.RunStop.{RunStop as LogRunStop}
 use Rattle.erm_log_run.specs.declared.stops.RunStop.TheVariants as log_stop
 use Rattle.erm_disk_run.specs.Found.{IsFound, StartsFrom}
-use Rattle.erm_disk_run.specs.Opened.{NamesFound, OpensLog, WasOpened}
+use Rattle.erm_disk_run.specs.Limits.{AreLimits, Limits}
+use Rattle.erm_disk_run.specs.Opened.{OpensLog, WasOpened}
 use Rattle.erm_disk_run.specs.declared.opening.Opened.{Opened}
 use Rattle.erm_disk_run.specs.Runs.{AreInTables, CountsRun, EndsRun, LeavesUntold, WasStarvedOn}
 use Rattle.erm_disk_run.specs.declared.stops.RunStop.{RunStop}
@@ -47,8 +47,8 @@ use Rattle.erm_disk_run.specs.declared.stops.RunStop.TheVariants as run
 use Rattle.erm_disk_run.proofs.Cut.{whole_course}
 use Rattle.erm_disk_run.proofs.Left.{MeetsFound}
 use Rattle.erm_disk_run.proofs.Outlived.{OpensAt}
-use Rattle.erm_disk_run.proofs.SlotsLeft.{opened_older}
-use Rattle.erm_disk_run.proofs.Told.{MapsAreTold, OpensOn, same_map, starts_from}
+use Rattle.erm_disk_run.proofs.SlotsLeft.{OpenedOlder, may_from, opens_older}
+use Rattle.erm_disk_run.proofs.Told.{HasLimits, MapsAreTold, OpensOn, opens_on, same_map, starts_from}
 use Rattle.erm_disk_run.proofs.ToldRun.{DiskLaws, RunsOn, meets_still, was_cut_on, was_run_on, was_starved_on}
 
 -- the answer is told as it is
@@ -58,50 +58,50 @@ ended_as (Err (log_stop.DiskFault lines)) = Err (run.DiskFault lines)
 ended_as (Err log_stop.Memory) = Err run.Memory
 
 -- what was opened before the script was run
-pub record StartsOn (state : State) (many : ℕ) (v : View) (begun : Log) (slots : Slots) (opening : Opening) (before mid : Option (List Step)) : Type 0 where
+pub record StartsOn (limits : Limits) (state : State) (many : ℕ) (v : View) (begun : Log) (slots : Slots) (opening : Opening) (before mid : Option (List Step)) : Type 0 where
   pub found : IsFound before state
   pub low : state.at < STOP
   pub run_low : state.run < LAST_RUN
   pub opened : OpensOn state many v
+  pub limited : HasLimits limits v
   pub first : IsLogOf v begun
   pub opens : Tells (OpensAt state) before mid
-  pub named : Tells (λ old new. NamesFound slots old) before mid
   pub meets : Tells (MeetsFound state begun slots) before mid
-  pub older : Tells (SparesOlder state.at) before mid
+  pub older : Tells (OpenedOlder state.at slots) before mid
   pub starts : StartsFrom state opening
   pub of : IsOpeningOf v opening
 
 -- a world that was just opened, as a report starts from it
-abbrev pub opening_of : Opened → Opening
-opening_of o = opening_at o.start (count_rows (plain_view o.world).opening.rows) (plain_view o.world).opening.first
+abbrev pub opening_of : {W : Type 0} → Opened W → View → Opening
+opening_of o v = opening_at o.start (count_rows v.opening.rows) v.opening.first
 
-pub opened_on : MapsAreTold → (before mid : Option (List Step)) (state : State) (many : ℕ) (o : Opened) → IsLogOf (plain_view o.world) (plain_log o.world) → WasOpened before mid state many o
-    → StartsOn state many (plain_view o.world) (plain_log o.world) o.slots (opening_of o) before mid
-opened_on maps before mid state many o first was =
-    let v : View = plain_view o.world in
+pub opened_on : {W : Type 0} (maps : MapsAreTold) (limits : Limits) → AreLimits limits → (before mid : Option (List Step)) (state : State) (many : ℕ) (v : View) (log : Log) (o : Opened W) → IsLogOf v log
+    → WasOpened limits before mid state many v log o → StartsOn limits state many v log o.slots (opening_of o v) before mid
+opened_on maps limits are before mid state many v log o first was =
+    let opened = opens_on limits are state many v was.world.view in
     record {
       found = was.found;
       low = was.world.low;
       run_low = was.world.run_low;
-      opened = was.world.view;
+      opened = opened;
+      limited = record { cells = was.world.view.cells; cuts = was.world.view.cuts };
       first = first;
-      opens = tells_weaker (OpensLog state (plain_log o.world) o.slots) (OpensAt state) before mid (λ a b opens. (opens.pair, opens.keeps)) was.disk;
-      named = tells_weaker (OpensLog state (plain_log o.world) o.slots) (λ old new. NamesFound o.slots old) before mid (λ a b opens. opens.found) was.disk;
-      meets = tells_weaker (OpensLog state (plain_log o.world) o.slots) (MeetsFound state (plain_log o.world) o.slots) before mid
+      opens = tells_weaker (OpensLog state log o.slots) (OpensAt state) before mid (λ a b opens. (opens.pair, opens.keeps)) was.disk;
+      meets = tells_weaker (OpensLog state log o.slots) (MeetsFound state log o.slots) before mid
           (λ a b opens. record { pair = opens.found.pair; blocks = opens.found.blocks; recovers = opens.found.recovers; at = opens.at; tail = opens.tail }) was.disk;
-      older = tells_weaker (OpensLog state (plain_log o.world) o.slots) (SparesOlder state.at) before mid (opened_older state (plain_log o.world) o.slots) was.disk;
-      starts = starts_from maps state many v was.world.view o.start (was.map ∙ sym (same_map maps state many v was.world.view)) was.stamp was.run;
+      older = tells_weaker (OpensLog state log o.slots) (OpenedOlder state.at o.slots) before mid (opens_older state log o.slots) was.disk;
+      starts = starts_from maps state many v opened o.start (was.map ∙ sym (same_map maps state many v opened)) was.stamp was.run;
       of = record {
-        map = was.map ∙ sym (same_map maps state many v was.world.view);
+        map = was.map ∙ sym (same_map maps state many v opened);
         stamp = was.world.view.tail ∙ ap (λ (n : ℕ). n + LEAST_BLOCK) (sym was.stamp);
         rows = refl;
         first = refl;
-        cells = (omega (arith, was.world.view.cells), omega (arith, was.world.view.cells));
+        cells = opened.cells;
       };
     }
 
-module _ (laws : DiskLaws) (state : State) (names : List (List ℕ)) (v t : View) (begun log : Log) (opening : Opening) (script : List ScriptLine) (first slots : Slots) (before mid after : Option (List Step))
-    (on : StartsOn state (length names) v begun first opening before mid) where
+module _ (laws : DiskLaws) (limits : Limits) (state : State) (names : List (List ℕ)) (v t : View) (begun log : Log) (opening : Opening) (script : List ScriptLine) (first slots : Slots) (before mid after : Option (List Step))
+    (on : StartsOn limits state (length names) v begun first opening before mid) where
   abbrev Moments : Type 0
   Moments = Tells (KeepsBlocks IsSound (state_at begun []) log.gathered begun.flushed) mid after
 
@@ -110,14 +110,16 @@ module _ (laws : DiskLaws) (state : State) (names : List (List ℕ)) (v t : View
 
   abbrev IsWhole : List Line → Type 0
   IsWhole lines = (was : WasRun v t opening names script lines) × (All FitsTypes lines → IsReportOf opening names script was.answers was.closed lines)
-      × AreSaved (saved_at was.answers) mid first slots × OlderStay (saved_at was.answers) begun.flushed mid after
+      × AreSaved (saved_at was.answers) mid first slots × Tells (AreRemoved (removed_to first was.answers) begun.flushed log.flushed) mid after
 
   abbrev IsCut : List Line → Type 0
   IsCut lines = (was : WasCut v t opening names script lines) × (All FitsTypes lines → IsCutReportOf opening names script was.answers lines)
+      × Tells (MayBeRemoved (removing_to first script was.answers) begun.flushed) mid after
 
-  runs_on : IsLogOf t log × IsLog IsSound log → (lines : List Line) → Moments → Acknowledged lines → RunsOn state (length names) v t begun log lines before mid after
+  runs_on : IsLogOf t log × IsLog IsSound log → (lines : List Line) → Moments → Acknowledged lines → RunsOn limits state (length names) v t begun log lines before mid after
   runs_on log_is lines moments acknowledged = record {
     opened = on.opened;
+    limited = on.limited;
     low = on.low;
     run_low = on.run_low;
     first = on.first;
@@ -130,10 +132,11 @@ module _ (laws : DiskLaws) (state : State) (names : List (List ℕ)) (v t : View
   }
 
   -- where memory ran out the run so far was of another view, and another log
-  starved_on : WasStarved IsSound v script begun mid after → WasStarvedOn before after state names script
-  starved_on was = was_starved_on laws state names v was.view begun was.log script [] before mid after
+  starved_on : WasStarved IsSound v script begun first mid after → WasStarvedOn limits before after state names script
+  starved_on was = was_starved_on laws limits state names v was.view begun was.log script [] before mid after
       (record {
         opened = on.opened;
+        limited = on.limited;
         low = on.low;
         run_low = on.run_low;
         first = on.first;
@@ -144,41 +147,43 @@ module _ (laws : DiskLaws) (state : State) (names : List (List ℕ)) (v t : View
         moments = was.moments;
         acknowledged = tells_weaker (KeepsBlocks IsSound (state_at begun []) was.log.gathered begun.flushed) (AllLast IsSound (state_at begun []) was.log.gathered []) mid after
             (λ old new keeps place is. absurd (none_in_nil (line.Answer is.number is.answer) is.told)) was.moments;
-      }) opening on.starts on.of was.answers was.course was.late
+      }) opening on.starts on.of was.answers was.course was.late first on.older
+      (may_from (removed_to first was.answers) (removing_to first script was.answers) begun.flushed was.log.flushed mid after (removed_below first script was.answers) was.older)
 
   pub ends : (r : Result (Vec Line Global) LogRunStop) (S : Type 0) → (S → IsLogOf t log × IsLog IsSound log) → UnlessMemory r S → UnlessMemory r Moments → UnlessMemory r (Acknowledged (lines_in r))
       → OnOk r (t.flushed ≡ t.tail)
       → OnOk r ((earlier : List Block) → IfSome mid (MeetsTail IsSound earlier begun first) → IfSome after (MeetsTail IsSound earlier log slots)) → IfOk r (λ lines. IsWhole lines.items) → OnFault r IsCut
-      → OnMemory r (WasStarved IsSound v script begun mid after) → EndsRun (ended_as r) before after names script
+      → OnMemory r (WasStarved IsSound v script begun first mid after) → EndsRun limits (ended_as r) before after names script
   ends (Ok lines) S of stands moments acknowledged flushed still ran cut starved = λ fits. (
     state,
     on.found,
-    was_run_on laws state names v t begun log script lines.items before mid after (runs_on (of stands) lines.items moments acknowledged) slots flushed
-        (meets_still state begun log first slots (KeepsBlocks IsSound (state_at begun []) log.gathered begun.flushed) before mid after on.meets moments still) opening on.starts on.of ran.0 (ran.1 fits) first on.named ran.2 on.older ran.3,
+    was_run_on laws limits state names v t begun log script lines.items before mid after (runs_on (of stands) lines.items moments acknowledged) slots flushed
+        (meets_still state begun log first slots (KeepsBlocks IsSound (state_at begun []) log.gathered begun.flushed) before mid after on.meets moments still) opening on.starts on.of ran.0 (ran.1 fits) first on.older ran.2 ran.3,
   )
   ends (Err (log_stop.DiskFault lines)) S of stands moments acknowledged flushed still ran cut starved = λ fits. (
     state,
     on.found,
-    was_cut_on laws state names v t begun log script lines.items before mid after (runs_on (of stands) lines.items moments acknowledged) opening on.starts on.of cut.0 (cut.1 fits),
+    was_cut_on laws limits state names v t begun log script lines.items before mid after (runs_on (of stands) lines.items moments acknowledged) opening on.starts on.of cut.0 (cut.1 fits) first on.older cut.2,
   )
   ends (Err log_stop.Memory) S of stands moments acknowledged flushed still ran cut starved = (state, on.found, starved_on starved)
 
   -- of a run of which nothing is told the lines that were run are known, as of one that starved
   pub untold : (r : Result (Vec Line Global) LogRunStop) (S : Type 0) → (S → IsLogOf t log × IsLog IsSound log) → UnlessMemory r S → UnlessMemory r Moments → UnlessMemory r (Acknowledged (lines_in r))
-      → IfOk r (λ lines. IsWhole lines.items) → OnFault r IsCut → OnMemory r (WasStarved IsSound v script begun mid after) → LeavesUntold (ended_as r) before after names script
+      → IfOk r (λ lines. IsWhole lines.items) → OnFault r IsCut → OnMemory r (WasStarved IsSound v script begun first mid after) → LeavesUntold limits (ended_as r) before after names script
   untold (Ok lines) S of stands moments acknowledged ran cut starved =
       let was = ran.0 in
       let each = was.run.each in (
         state,
         on.found,
-        was_starved_on laws state names v t begun log script lines.items before mid after (runs_on (of stands) lines.items moments acknowledged) opening on.starts on.of was.answers
-            (whole_course v t script was.answers was.run) (λ fewer. absurd (omega (arith, each, fewer))),
+        was_starved_on laws limits state names v t begun log script lines.items before mid after (runs_on (of stands) lines.items moments acknowledged) opening on.starts on.of was.answers
+            (whole_course v t script was.answers was.run) (λ fewer. absurd (omega (arith, each, fewer))) first on.older
+            (may_from (removed_to first was.answers) (removing_to first script was.answers) begun.flushed log.flushed mid after (removed_below first script was.answers) ran.3),
       )
   untold (Err (log_stop.DiskFault lines)) S of stands moments acknowledged ran cut starved =
       let was = cut.0 in (
         state,
         on.found,
-        was_starved_on laws state names v t begun log script lines.items before mid after (runs_on (of stands) lines.items moments acknowledged) opening on.starts on.of was.answers was.course was.late,
+        was_starved_on laws limits state names v t begun log script lines.items before mid after (runs_on (of stands) lines.items moments acknowledged) opening on.starts on.of was.answers was.course was.late first on.older cut.2,
       )
   untold (Err log_stop.Memory) S of stands moments acknowledged ran cut starved = (state, on.found, starved_on starved)
 

@@ -32,20 +32,20 @@ use Rattle.erm_told_limits.specs.Limits.{CellsAreFull}
 use Rattle.erm_told_log.specs.Tail.{MeetsTail}
 use Rattle.erm_log_run.specs.Acknowledged.{AllLast}
 use Rattle.erm_log_run.specs.Runs.{IsCutReportOf, IsReportOf, WasCut, WasRun}
-use Rattle.erm_log_run.specs.Saving.{AreSaved, OlderStay, SparesOlder, saved_at}
+use Rattle.erm_log_run.specs.Saving.{AreRemoved, AreSaved, MayBeRemoved, removed_to, removing_to, saved_at}
 use Rattle.erm_log_run.proofs.Held.{tells_both, tells_join, tells_weaker}
 use Rattle.erm_recover.specs.Waiting.{SinceSettled}
 use Rattle.erm_disk_run.specs.Crashes.{KeepsCommits, Leaves, Outlives}
 use Rattle.erm_disk_run.specs.Found.{StartsFrom}
-use Rattle.erm_disk_run.specs.Opened.{NamesFound}
+use Rattle.erm_disk_run.specs.Limits.{Limits}
 use Rattle.erm_disk_run.specs.Owed.{CoursesOwe}
-use Rattle.erm_disk_run.specs.Runs.{AreUncut, AreUnseen, HaveManyCells, HaveManyKeys, WasCutOn, WasRunOn, WasStarvedOn, commits_told}
-use Rattle.erm_disk_run.proofs.Cut.{HasUnseen, course_celled, course_keyed, course_uncut, has_unseen, run_uncut, whole_course}
+use Rattle.erm_disk_run.specs.Runs.{AreUnseen, CutFew, HaveManyCells, HaveManyKeys, WasCutOn, WasRunOn, WasStarvedOn, commits_told}
+use Rattle.erm_disk_run.proofs.Cut.{HasUnseen, course_celled, course_cuts, course_keyed, has_unseen, run_cuts, whole_course}
 use Rattle.erm_disk_run.proofs.Left.{AuditLaws, MeetsFound, OrdersAreOne, leaves}
 use Rattle.erm_disk_run.proofs.Opened.{MayOpenAll}
 use Rattle.erm_disk_run.proofs.Outlived.{OpensAt, outlives}
-use Rattle.erm_disk_run.proofs.SlotsLeft.{SlotsLeft, older_told, saved_told}
-use Rattle.erm_disk_run.proofs.Told.{CourseLaws, OpensOn, RanOn, opening_stays}
+use Rattle.erm_disk_run.proofs.SlotsLeft.{OpenedOlder, RemovedAs, SlotsLeft, older_told, removed_told, saved_told}
+use Rattle.erm_disk_run.proofs.Told.{CourseLaws, HasLimits, OpensOn, RanOn, opening_stays}
 
 -- the laws that a run on a disk rests on
 pub record DiskLaws : Type 0 where
@@ -78,10 +78,11 @@ meets_still state begun log first slots P before mid after opens moments still =
     at_end None after told still = told
     at_end (Some old) after (new, told, p) still = (new, told, λ earlier meets. subst (λ (o : Option (List Step)). IfSome o (MeetsTail sound_law.meets earlier log slots)) told (still earlier meets))
 
--- A disk's log was opened on a state, with a world of a session for each name, and what a report starts from. Then moves were made from one view
+-- A disk's log was opened on a state, with a world of a session for each name, which has these limits, and what a report starts from. Then moves were made from one view
 -- to another, while each image at each moment recovered to what the log had gathered.
-pub record RunsOn (state : State) (many : ℕ) (v t : View) (begun log : Log) (lines : List Line) (before mid after : Option (List Step)) : Type 0 where
+pub record RunsOn (limits : Limits) (state : State) (many : ℕ) (v t : View) (begun log : Log) (lines : List Line) (before mid after : Option (List Step)) : Type 0 where
   pub opened : OpensOn state many v
+  pub limited : HasLimits limits v
   pub low : state.at < STOP
   pub run_low : state.run < LAST_RUN
   pub first : IsLogOf v begun
@@ -96,8 +97,8 @@ pub record RunsOn (state : State) (many : ℕ) (v t : View) (begun log : Log) (l
 one_state : (a b : State) → a.at ≡ b.at → a.run ≡ b.run → a.rows ≡ b.rows → a ≡ b
 one_state a b at run rows = λ i. record { at = at i; run = run i; rows = rows i }
 
-module _ (laws : DiskLaws) (state : State) (names : List (List ℕ)) (v t : View) (begun log : Log) (script : List ScriptLine) (lines : List Line) (before mid after : Option (List Step))
-    (on : RunsOn state (length names) v t begun log lines before mid after) where
+module _ (laws : DiskLaws) (limits : Limits) (state : State) (names : List (List ℕ)) (v t : View) (begun log : Log) (script : List ScriptLine) (lines : List Line) (before mid after : Option (List Step))
+    (on : RunsOn limits state (length names) v t begun log lines before mid after) where
   -- where the run began is where the log began
   same_start : (answers : List Answer) (closed : List Closed) → RanOn state (length names) v t log script answers closed → state_at begun [] ≡ state_at log []
   same_start answers closed ran =
@@ -131,27 +132,28 @@ module _ (laws : DiskLaws) (state : State) (names : List (List ℕ)) (v t : View
 
   pub was_run_on : (slots : Slots) → t.flushed ≡ t.tail → Tells (MeetsFound state log slots) before after → (opening : Opening) → StartsFrom state opening → IsOpeningOf v opening
       → (was : WasRun v t opening names script lines) → IsReportOf opening names script was.answers was.closed lines → (first : Slots)
-      → Tells (λ old new. NamesFound first old) before mid → AreSaved (saved_at was.answers) mid first slots → Tells (SparesOlder state.at) before mid
-      → OlderStay (saved_at was.answers) begun.flushed mid after → WasRunOn before after state names script lines
-  was_run_on slots flushed meets opening starts of was report first named saved opened older = record {
+      → Tells (OpenedOlder state.at first) before mid → AreSaved (saved_at was.answers) mid first slots
+      → Tells (AreRemoved (removed_to first was.answers) begun.flushed log.flushed) mid after → WasRunOn limits before after state names script lines
+  was_run_on slots flushed meets opening starts of was report first opened saved older = record {
     low = on.low;
     run_low = on.run_low;
     opening = opening;
     starts = starts;
     tight = report.tight;
-    uncut = subst AreUncut (sym report.answers_are) (run_uncut laws.runs_few v t script was.answers was.run on.opened.cuts);
-    celled = subst (HaveManyCells script) (sym report.answers_are) (course_celled laws.cells v t script was.answers (whole_course v t script was.answers was.run) on.opened.cells);
+    few = subst (CutFew limits) (sym report.answers_are) (run_cuts laws.runs_few limits v t script was.answers was.run on.limited.cuts);
+    celled = subst (HaveManyCells limits script) (sym report.answers_are) (course_celled laws.cells limits v t script was.answers (whole_course v t script was.answers was.run) on.limited.cells);
     keyed = subst (HaveManyKeys opening (length names) script) (sym report.answers_are) (course_keyed laws.keys v t opening of (length names) on.opened.sessions script was.answers (whole_course v t script was.answers was.run));
     fronts = subst (λ (cs : List Closed). EachFrontRuns (commits_told names script answers cs) opening.map) (sym report.closed_are)
         (subst (λ (given : List Answer). EachFrontRuns (commits_told names script given was.closed) opening.map) (sym report.answers_are)
         (front_runs was.answers was.closed (whole_course v t script was.answers was.run) was.are opening of));
     outlives = outlived answers closed ran;
     leaves =
-        tells_weaker (λ old new. MeetsFound state log slots old new × (SlotsLeft answers slots old new × StaysOlder old new))
+        tells_weaker (λ old new. MeetsFound state log slots old new × (SlotsLeft answers slots old new × RemovedAs answers state.at log.flushed old new))
         (λ old new. Leaves (commits_told names script answers closed) state answers end old new) before after
         (λ old new both. leaves laws.courses laws.may laws.one laws.audits state (length names) v t log script answers closed ran slots old new both.0 ends good.report.order opening.map end starts.map
         good.order.serial good.order.run both.1.0 both.1.1)
-        (tells_both (MeetsFound state log slots) (λ old new. SlotsLeft answers slots old new × StaysOlder old new) before after meets (tells_both (SlotsLeft answers slots) StaysOlder before after left kept));
+        (tells_both (MeetsFound state log slots) (λ old new. SlotsLeft answers slots old new × RemovedAs answers state.at log.flushed old new) before after meets
+        (tells_both (SlotsLeft answers slots) (RemovedAs answers state.at log.flushed) before after left removed));
   }
     where
       good : IsGoodReport InTurn opening names script lines
@@ -167,17 +169,14 @@ module _ (laws : DiskLaws) (state : State) (names : List (List ℕ)) (v t : View
       end = from_entries (entries_of good.report.pairs)
 
       left : Tells (SlotsLeft answers slots) before after
-      left = tells_join (λ old new. NamesFound first old) (λ old new. AreSaved (saved_at answers) (Some new) first slots) (SlotsLeft answers slots) before mid after
-          (λ a b c is kept. record { first = first; named = is; saved = kept }) named
+      left = tells_join (OpenedOlder state.at first) (λ old new. AreSaved (saved_at answers) (Some new) first slots) (SlotsLeft answers slots) before mid after
+          (λ a b c is kept. record { first = first; named = is.named; saved = kept }) opened
           (saved_told (KeepsBlocks sound_law.meets (state_at begun []) log.gathered begun.flushed) answers first slots mid after
           (subst (λ (given : List Answer). AreSaved (saved_at given) mid first slots) (sym report.answers_are) saved) on.moments)
 
-      StaysOlder : List Step → List Step → Type 0
-      StaysOlder old new = saved_at answers ≡ None → SparesOlder state.at old new
-
-      kept : Tells StaysOlder before after
-      kept = older_told (KeepsBlocks sound_law.meets (state_at begun []) log.gathered begun.flushed) (saved_at answers) state.at begun.flushed before mid after low opened on.moments
-          (subst (λ (given : List Answer). OlderStay (saved_at given) begun.flushed mid after) (sym report.answers_are) older)
+      removed : Tells (RemovedAs answers state.at log.flushed) before after
+      removed = removed_told answers first state.at begun.flushed log.flushed before mid after low opened
+          (subst (λ (given : List Answer). Tells (AreRemoved (removed_to first given) begun.flushed log.flushed) mid after) (sym report.answers_are) older)
 
       ends : log.flushed ≡ log.tail
       ends = on.log_of.flushed ∙ flushed ∙ sym on.log_of.tail
@@ -189,15 +188,15 @@ module _ (laws : DiskLaws) (state : State) (names : List (List ℕ)) (v t : View
           (ran_on was.answers was.closed (whole_course v t script was.answers was.run) was.are))
 
   pub was_cut_on : (opening : Opening) → StartsFrom state opening → IsOpeningOf v opening → (was : WasCut v t opening names script lines) → IsCutReportOf opening names script was.answers lines
-      → WasCutOn before after state names script lines
-  was_cut_on opening starts of was report = record {
+      → (first : Slots) → Tells (OpenedOlder state.at first) before mid → Tells (MayBeRemoved (removing_to first script was.answers) begun.flushed) mid after → WasCutOn limits before after state names script lines
+  was_cut_on opening starts of was report first opened may = record {
     low = on.low;
     run_low = on.run_low;
     opening = opening;
     starts = starts;
     cut = report.cut;
-    uncut = subst AreUncut (sym report.answers_are) (course_uncut laws.parts_few v t script was.answers was.course on.opened.cuts);
-    celled = subst (HaveManyCells script) (sym report.answers_are) (course_celled laws.cells v t script was.answers was.course on.opened.cells);
+    few = subst (CutFew limits) (sym report.answers_are) (course_cuts laws.parts_few limits v t script was.answers was.course on.limited.cuts);
+    celled = subst (HaveManyCells limits script) (sym report.answers_are) (course_celled laws.cells limits v t script was.answers was.course on.limited.cells);
     keyed = subst (HaveManyKeys opening (length names) script) (sym report.answers_are) (course_keyed laws.keys v t opening of (length names) on.opened.sessions script was.answers was.course);
     closed = found.closed;
     unseen = subst (λ (given : List Answer). AreUnseen names script given found.closed) (sym report.answers_are) found.unseen;
@@ -208,6 +207,8 @@ module _ (laws : DiskLaws) (state : State) (names : List (List ℕ)) (v t : View
         (front_runs was.answers found.closed was.course found.are opening of);
     outlives = outlived report.cut.answers found.closed (subst (λ (given : List Answer). RanOn state (length names) v t log script given found.closed) (sym report.answers_are)
         (ran_on was.answers found.closed was.course found.are));
+    older = older_told state (λ slots. removing_to slots script report.cut.answers) first begun.flushed before mid after low opened
+        (subst (λ (given : List Answer). Tells (MayBeRemoved (removing_to first script given) begun.flushed) mid after) (sym report.answers_are) may);
   }
     where
       found : HasUnseen names v t script was.answers was.course
@@ -215,16 +216,17 @@ module _ (laws : DiskLaws) (state : State) (names : List (List ℕ)) (v t : View
 
   -- memory ran out: no line tells of it
   pub was_starved_on : (opening : Opening) → StartsFrom state opening → IsOpeningOf v opening → (answers : List Answer) (course : IsCourse v script answers t)
-      → (length answers < length script → closed_in course.closing ≡ []) → WasStarvedOn before after state names script
-  was_starved_on opening starts of answers course late = record {
+      → (length answers < length script → closed_in course.closing ≡ []) → (first : Slots) → Tells (OpenedOlder state.at first) before mid
+      → Tells (MayBeRemoved (removing_to first script answers) begun.flushed) mid after → WasStarvedOn limits before after state names script
+  was_starved_on opening starts of answers course late first opened may = record {
     low = on.low;
     run_low = on.run_low;
     opening = opening;
     starts = starts;
     answers = answers;
     most = course.most;
-    uncut = course_uncut laws.parts_few v t script answers course on.opened.cuts;
-    celled = course_celled laws.cells v t script answers course on.opened.cells;
+    few = course_cuts laws.parts_few limits v t script answers course on.limited.cuts;
+    celled = course_celled laws.cells limits v t script answers course on.limited.cells;
     keyed = course_keyed laws.keys v t opening of (length names) on.opened.sessions script answers course;
     closed = found.closed;
     unseen = found.unseen;
@@ -233,6 +235,7 @@ module _ (laws : DiskLaws) (state : State) (names : List (List ℕ)) (v t : View
     fronts = front_runs answers found.closed course found.are opening of;
     moments = tells_weaker (Outlives (commits_told names script answers found.closed) state lines) (SinceSettled (KeepsCommits (commits_told names script answers found.closed) state state.at)) before after
         (λ old new outlives. outlives.moments) (outlived answers found.closed (ran_on answers found.closed course found.are));
+    older = older_told state (λ slots. removing_to slots script answers) first begun.flushed before mid after low opened may;
   }
     where
       found : HasUnseen names v t script answers course

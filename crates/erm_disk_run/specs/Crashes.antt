@@ -6,13 +6,14 @@ use Rattle.erm_model.specs.Member.{◌∈◌}
 use Rattle.erm_model.specs.declared.limits.TheConstants.{LEAST_BLOCK}
 use Rattle.erm_outside.specs.Disk.{Image, IsSettled, Step, contents}
 use Rattle.erm_block.specs.declared.block.Block.{Block}
+use Rattle.erm_ckpt.specs.declared.slot.Slots.{Slots}
 use Rattle.erm_ckpt.specs.Recovered.{Pair, Recovers, RecoversAt, State, base, best, slots_of}
 use Rattle.erm_told_audit.specs.Audits.{AuditTells}
 use Rattle.erm_ckpt.specs.States.{RecoversTo}
 use Rattle.erm_crash.specs.Moments.{AtMoments, IsMoment, TearsApart}
 use Rattle.erm_crash.specs.Stops.{MayStop}
 use Rattle.erm_log_run.specs.Acknowledged.{HoldsTold, IsAcknowledged}
-use Rattle.erm_log_run.specs.Saving.{SparesOlder, saved_at}
+use Rattle.erm_log_run.specs.Saving.{AreRemoved, MayBeRemoved, removed_to, saved_at}
 use Rattle.erm_log_words.specs.Kept.{MayOpen}
 use Rattle.erm_node.specs.Sound.{sound_law}
 use Rattle.erm_node.specs.TreeMap.{map_of_rows}
@@ -22,7 +23,8 @@ use Rattle.erm_report.specs.declared.answer.Answer.{Answer}
 use Rattle.erm_report.specs.declared.line.Line.{Line}
 
 -- At a moment an image recovers to the map that some commits make below a stamp, from a state on. The stamp is at or above a place, and the run is
--- the state's or the next. The image may be opened again; and what is pending at the moment is what the next opening waits for.
+-- the state's or the next. The image may be opened again; and what is pending at the moment is what the next opening waits for, but for one removal of a
+-- segment below, which a checkpoint has begun and not waited for yet.
 pub record RecoversBelow (commits : List Committed) (from : State) (place : ℕ) (now : List Step) (image : Image) : Type 0 where
   pub found : State
   pub pair : Pair
@@ -51,10 +53,17 @@ pub record Outlives (commits : List Committed) (from : State) (lines : List Line
   pub moments : SinceSettled (KeepsCommits commits from from.at) old new
   pub acknowledged : (place : ℕ) (is : IsAcknowledged lines place) → KeepsSince commits from is.answer place old new
 
+-- Each of the log's segments below that of the place found is as it was, or it is gone and lies below an end, by the slots from which the disk recovered before.
+abbrev pub KeepsOlder : State → (Slots → ℕ) → List Step → List Step → Type 0
+KeepsOlder from end old new =
+    (before : Pair) (blocks : List Block) → Recovers sound_law.meets (contents old) before blocks → MayBeRemoved (end (slots_of before)) from.at old new
+
 -- At the end nothing is pending on a disk, so that a crash leaves what it reads: it recovers to this map, in the next run, behind all commits. Of
 -- the commits in the blocks that recovery meets those from the place found on are just these, from the place on where recovery begins. The best
--- checkpoint is the last one that the answers tell; with none the slots, and the segments below that of the place found, are those from before. Of the blocks from the place on where recovery
--- begins it meets the one that opens the run, and of those below the place found just the ones that it met before.
+-- checkpoint is the last one that the answers tell, and with none the slots are those from before. Just those segments are gone, of the ones below that
+-- of the place found, that the checkpoints told were to remove: with none told none, with one all below that of the place of the best one found, and else all
+-- below that of the place of the one before the last. Of the blocks from the place on where recovery begins it meets the one that opens the run, and of those
+-- below the place found just the ones that it met before.
 pub record Leaves (commits : List Committed) (from : State) (answers : List Answer) (m : Database) (old steps : List Step) : Type 0 where
   pub settled : IsSettled steps
   pub found : State
@@ -67,7 +76,7 @@ pub record Leaves (commits : List Committed) (from : State) (answers : List Answ
   pub logged : (best : Pair) (blocks : List Block) → Recovers sound_law.meets (contents steps) best blocks → AuditTells blocks (base best).at from.at commits
   pub saved : (place : ℕ) → saved_at answers ≡ Some place → (best pair ≢ None) × ((base pair).at ≡ place)
   pub spared : saved_at answers ≡ None → (before : Pair) (blocks : List Block) → Recovers sound_law.meets (contents old) before blocks → slots_of pair ≡ slots_of before
-  pub kept : saved_at answers ≡ None → SparesOlder from.at old steps
+  pub removed : (before : Pair) (blocks : List Block) → Recovers sound_law.meets (contents old) before blocks → AreRemoved (removed_to (slots_of before) answers) from.at found.at old steps
   pub opening : (best : Pair) (blocks : List Block) → Recovers sound_law.meets (contents steps) best blocks → (base best).at ≤ from.at → open_block from.at from.run ∈ blocks
   pub older : (before best : Pair) (found blocks : List Block) → Recovers sound_law.meets (contents old) before found → Recovers sound_law.meets (contents steps) best blocks
       → (b : Block) → b.stamp < from.at → (b ∈ blocks) ↔ ((b ∈ found) × ((base best).at ≤ b.stamp))

@@ -1,8 +1,10 @@
 pub mod Crashes
 pub mod Found
+pub mod Limits
 pub mod Opened
 pub mod Owed
 pub mod Runs
 pub mod Saved
 pub mod Stops
 pub mod TwoRuns
+pub mod Worlds

@@ -12,23 +12,22 @@ use Rattle.erm_checkpoint.specs.Taken.{HoldsLog}
 use Rattle.erm_crash.specs.Kept.{KeepsOpening}
 use Rattle.erm_node.specs.Sound.{sound_law}
 use Rattle.erm_node.specs.TreeMap.{map_of_rows}
-use Rattle.erm_plain.specs.Logs.{plain_log}
-use Rattle.erm_plain.specs.Stands.{plain_view}
-use Rattle.erm_plain.specs.declared.plain.Plain.{Plain}
 use Rattle.erm_recover.specs.Opening.{open_block}
 use Rattle.erm_recover.specs.Waiting.{SinceSettled}
 use Rattle.erm_recover.specs.declared.open.OpenStop.{OpenStop}
 use Rattle.erm_recover.specs.declared.open.OpenStop.TheVariants as opening
 use Rattle.erm_recover.specs.declared.stop.RecoverStop.{RecoverStop}
 use Rattle.erm_recover.specs.declared.stop.RecoverStop.TheVariants as recover
-use Rattle.erm_start.specs.Recovered.{IsOpenedLog, IsOpenedOn}
+use Rattle.erm_start.specs.Recovered.{IsOpenedLog, IsOpenedWith}
 use Rattle.erm_told_log.specs.Tail.{MeetsTail}
 use Rattle.erm_world.specs.Log.{Log}
+use Rattle.erm_world.specs.World.{View}
 use Rattle.erm_disk_run.specs.declared.opening.Opened.{Opened}
 use Rattle.erm_disk_run.specs.declared.opening.Room.{Room}
 use Rattle.erm_disk_run.specs.declared.stops.DiskStop.{DiskStop}
 use Rattle.erm_disk_run.specs.declared.stops.DiskStop.TheVariants as stop
 use Rattle.erm_disk_run.specs.Found.{IsFound}
+use Rattle.erm_disk_run.specs.Limits.{Limits}
 
 -- slots name the checkpoints from which a disk recovers as it reads
 pub record NamesFound (slots : Slots) (steps : List Step) : Type 0 where
@@ -48,29 +47,29 @@ pub record OpensLog (state : State) (log : Log) (slots : Slots) (old new : List 
   pub at : (state_behind (base found.pair) found.blocks).at ≡ state.at
   pub writes : (more : List Step) × (new ≡ more ++ old) × AllWriteWords state.at (spelling (open_block state.at state.run)) more
 
--- the same of a world's log, as far as the disk tells
-abbrev pub OpensTold : {L : Type 0} → State → Plain L → Slots → Option (List Step) → Option (List Step) → Type 0
-OpensTold state world slots before after = Tells (OpensLog state (plain_log world) slots) before after
+-- the same as far as the disk tells
+abbrev pub OpensTold : State → Log → Slots → Option (List Step) → Option (List Step) → Type 0
+OpensTold state log slots before after = Tells (OpensLog state log slots) before after
 
--- A world of so many sessions was opened on the rows of a state, behind the block that opens its log for the next run, below the end of runs and of
--- the log.
-pub record IsOpenedWorld {L : Type 0} (state : State) (sessions : ℕ) (world : Plain L) : Type 0 where
+-- A view and a log are those of a world of so many sessions and with these limits that was opened on the rows of a state, behind the block that opens its
+-- log for the next run, below the end of runs and of the log.
+pub record IsOpenedWorld (limits : Limits) (state : State) (sessions : ℕ) (v : View) (l : Log) : Type 0 where
   pub low : state.at < STOP
   pub run_low : state.run < LAST_RUN
-  pub view : IsOpenedOn state.rows (state.at + LEAST_BLOCK) (state.run + 1) sessions (plain_view world)
-  pub log : IsOpenedLog state.rows (state.at + LEAST_BLOCK) (state.run + 1) (plain_log world)
+  pub view : IsOpenedWith state.rows (state.at + LEAST_BLOCK) (state.run + 1) sessions limits.cells limits.cuts v
+  pub log : IsOpenedLog state.rows (state.at + LEAST_BLOCK) (state.run + 1) l
 
 -- a flusher that hasn't failed, and the map of these rows
 pub record IsRoomFor (rows : Rows) (room : Room) : Type 0 where
   pub well : room.flusher ≡ false
   pub map : room.map ≡ map_of_rows rows
 
--- A state was found on a disk and its log opened, with a world of so many sessions. What a report starts from is the state's map, place and
--- next run, and the flusher hasn't failed.
-pub record WasOpened (before after : Option (List Step)) (state : State) (sessions : ℕ) (o : Opened) : Type 0 where
+-- A state was found on a disk and its log opened, with a world of so many sessions, which has these limits, this view and this log. What a report starts
+-- from is the state's map, place and next run, and the flusher hasn't failed.
+pub record WasOpened {W : Type 0} (limits : Limits) (before after : Option (List Step)) (state : State) (sessions : ℕ) (v : View) (log : Log) (o : Opened W) : Type 0 where
   pub found : IsFound before state
-  pub world : IsOpenedWorld state sessions o.world
-  pub disk : OpensTold state o.world o.slots before after
+  pub world : IsOpenedWorld limits state sessions v log
+  pub disk : OpensTold state log o.slots before after
   pub map : o.start.map ≡ map_of_rows state.rows
   pub stamp : o.start.stamp ≡ state.at
   pub run : o.start.run ≡ state.run + 1

@@ -2,6 +2,7 @@
 use Rattle.std.specs.Prelude.{◌≡◌, ℕ, ◌<◌, ◌≤◌, ◌⊎◌, List, [], Option}
 use Rattle.erm_block.specs.Spelling.{spelling}
 use Rattle.erm_ckpt.specs.Recovered.{State}
+use Rattle.erm_ckpt.specs.Slots.{removal_end}
 use Rattle.erm_log_disk.specs.Writes.{OnlyWrites}
 use Rattle.erm_model.specs.declared.limits.TheConstants.{LAST_RUN, STOP}
 use Rattle.erm_node.specs.Sound.{sound_law}
@@ -12,13 +13,14 @@ use Rattle.erm_recover.specs.Recovering.{NoBaseTold}
 use Rattle.erm_recover.specs.Waiting.{OnceSettled}
 use Rattle.erm_disk_run.specs.declared.stops.DiskStop.{DiskStop}
 use Rattle.erm_disk_run.specs.declared.stops.DiskStop.TheVariants.{DiskFault, LogEnd, Memory, NoBase, RunsEnd}
-use Rattle.erm_disk_run.specs.Crashes.{KeepsCommits}
+use Rattle.erm_disk_run.specs.Crashes.{KeepsCommits, KeepsOlder}
 use Rattle.erm_disk_run.specs.Found.{IsFound}
 
--- Nothing was done to a disk, or its log was being opened: then nothing was done but to wait until nothing was pending, and from then on each image
--- at each moment recovers to the map found.
+-- Nothing was done to a disk, or its log was being opened, and a checkpoint taken: then nothing was done but to wait until nothing was pending, and from then
+-- on each image at each moment recovers to the map found. No more of the log's older segments are gone than the checkpoint was to remove.
 abbrev pub KeepsMap : Option (List Step) → Option (List Step) → Type 0
-KeepsMap before after = (after ≡ before) ⊎ ((state : State) × IsFound before state × Tells (OnceSettled (KeepsCommits [] state state.at)) before after)
+KeepsMap before after =
+    (after ≡ before) ⊎ ((state : State) × IsFound before state × Tells (OnceSettled (KeepsCommits [] state state.at)) before after × Tells (KeepsOlder state removal_end) before after)
 
 -- Nothing was done to a disk, or its log was being opened for the next run and no more: what came to the disk are words of the block that opens it, at
 -- its place, and that behind nothing but waits until nothing was pending: from then on each image at each moment recovers to the map found.

@@ -25,7 +25,8 @@ KeepsOfBoth first from place second found entry new =
     AtMoments (λ now image. TearsApart sound_law.meets entry image → TearsApart sound_law.meets now image
     → RecoversBelow first from place entry image ⊎ RecoversBelow second found place now image) entry new
 
--- The next run may go on from a disk: it may be opened, or may be once a removal of a segment, which was the last thing done, has been waited for.
+-- The next run may go on from a disk: it may be opened, or may be once a removal of a segment, which was the last thing done, has been waited for. No
+-- opening waits for it by itself, but in a folder the first sync waits for all removals.
 abbrev pub MayBeFollowed : List Step → Type 0
 MayBeFollowed now = IsKept now
     ⊎ ((segment : ℕ) × (before : List Step) × (now ≡ did (Segment segment) Removed before) × IsKept (did (Segment segment) Synced now))

@@ -10,6 +10,7 @@ use erm_model::Stamp;
 use erm_node::SoundRows;
 use erm_outside::Disk;
 use erm_report::Line;
+use erm_table_world::TableWorld;
 use std::alloc::Global;
 
 /// Recovers a disk, opens its log for the next run, and takes a checkpoint. It gives the lines that tell where.
@@ -38,7 +39,7 @@ fn open_and_save<D: Disk>(alloc: Global, disk: &mut D) -> Result<Vec<Line>, Disk
         mut flusher,
         mut checkpointer,
         mut slots,
-    } = open_disk(alloc, disk, 1)?;
+    } = open_disk::<TableWorld<SoundRows>, D>(alloc, disk, 1)?;
     match checkpointer.checkpoint_turn(&mut flusher, disk, &mut world, &mut slots, start.run) {
         Ok(place) => Ok(checkpoint_lines(lines, start.stamp, start.run, place)),
         // All is decided in a log that was just opened: only a fault stops the checkpoint.

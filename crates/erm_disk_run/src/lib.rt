@@ -6,13 +6,14 @@ mod laws;
 mod opening;
 mod run;
 mod stops;
+mod worlds;
 
 pub use checkpoint::checkpoint_on_disk;
 pub use laws::{
     greater_places_are_reached_later, next_runs_keep_what_was_acknowledged,
     stopped_runs_may_be_followed,
 };
-pub use run::run_on_disk;
+pub use run::{run_in_lists, run_on_disk};
 pub use stops::{DiskStop, OnDisk, RunStop};
 
 #[cfg(test)]

@@ -10,26 +10,24 @@ ghost use Rattle.erm_disk_run.specs.Opened.{IsOpenedWorld, IsRoomFor, OpensTold,
 ghost use Rattle.erm_disk_run.specs.Stops.{CountsStop, StopsRun};
 
 use crate::DiskStop;
+use crate::worlds::StartWorld;
 use erm_checkpoint::Checkpointer;
 use erm_ckpt::Slots;
 use erm_flush::Flusher;
 use erm_model::{Map, Row, Seat};
 use erm_node::{SoundRows, map_of};
 use erm_outside::Disk;
-use erm_plain::Plain;
 use erm_recover::{
     OpenStop, RecoverStop, Recovered, SoundTest, open_log, recover, zero_rows_are_sound,
 };
-use erm_start::open_world;
 use erm_summary::Start;
-use erm_world::RowWorld;
 use std::alloc::{AllocError, Global};
 
 /// A disk's log that was just opened for the next run: a world on what was found, and what keeps the log on the disk.
 #[derive(Drop)]
-pub(crate) struct Opened {
+pub(crate) struct Opened<W> {
     /// The world, whose log goes on behind the block that opened it.
-    pub world: Plain<SoundRows>,
+    pub world: W,
     /// What a report of the run starts from.
     pub start: Start,
     /// Writes the log to the disk.
@@ -92,16 +90,16 @@ impl From<AllocError> for DiskStop {
 /// Recovers a disk, opens its log for the next run, and a world of so many sessions behind the block that opens it. Where it stops it
 /// says why, and has done no more to the disk than to wait for what was pending and to open its log, so that it recovers to the map found, if
 /// anything was found.
-pub(crate) fn open_disk<D: Disk>(
+pub(crate) fn open_disk<W: StartWorld, D: Disk>(
     alloc: Global,
     disk: &mut D,
     sessions: Seat,
-) -> Result<Opened, DiskStop>
+) -> Result<Opened<W>, DiskStop>
     requires some { 0 < sessions }
     requires few { sessions ≤ SESSIONS }
     requires kept { IfSome (D.told disk.old) IsKept }
-    ensures opened { IfOk result (λ o. (state : State) × WasOpened (D.told disk.old) (D.told disk.new) state sessions o) }
-    ensures stands { IfOk result (λ o. ⟦<Plain<SoundRows> as RowWorld>⟧.stands o.world) }
+    ensures opened { IfOk result (λ o. (state : State) × WasOpened W.limits (D.told disk.old) (D.told disk.new) state sessions (W.view o.world) (W.log o.world) o) }
+    ensures stands { IfOk result (λ o. W.stands o.world) }
     ensures stops { IfErr result (λ stop. StopsRun stop (D.told disk.old) (D.told disk.new)) }
 
     // The disk's count of faults rises exactly where a fault is why it stops.
@@ -111,18 +109,19 @@ pub(crate) fn open_disk<D: Disk>(
     zero_rows_are_sound();
     let recovered = recover(alloc, disk, &SoundTest)?;
     let room = make_room(alloc, &recovered.rows)?;
-    let world = open_on(alloc, disk, &recovered, sessions)?;
+    let slots = recovered.slots;
     let start = Start {
         map: room.map,
         stamp: recovered.stamp,
         run: recovered.run + 1,
     };
+    let world = open_on(alloc, disk, recovered, sessions)?;
     Ok(Opened {
         world,
         start,
         flusher: room.flusher,
         checkpointer: room.checkpointer,
-        slots: recovered.slots,
+        slots,
     })
 }
 
@@ -138,21 +137,21 @@ fn make_room(alloc: Global, rows: &[Row]) -> Result<Room, AllocError>
 }
 
 // Opens the log of what was recovered, and a world behind the block that opens it.
-fn open_on<D: Disk>(
+fn open_on<W: StartWorld, D: Disk>(
     alloc: Global,
     disk: &mut D,
-    recovered: &Recovered,
+    recovered: Recovered,
     sessions: Seat,
-) -> Result<Plain<SoundRows>, DiskStop>
+) -> Result<W, DiskStop>
     requires some { 0 < sessions }
     requires few { sessions ≤ SESSIONS }
     requires kept { IfSome (D.told disk.old) IsKept }
-    requires told { RecoveredTold sound_law.meets (D.told disk.old) recovered.now }
-    requires found { IsFound (D.told disk.old) (state_recovered recovered.now) }
-    requires count { length recovered.now.rows.items ≡ OID_LIMIT }
-    ensures opened { IfOk result (λ world. IsOpenedWorld (state_recovered recovered.now) sessions world) }
-    ensures disk { IfOk result (λ world. OpensTold (state_recovered recovered.now) world recovered.now.slots (D.told disk.old) (D.told disk.new)) }
-    ensures stands { IfOk result ⟦<Plain<SoundRows> as RowWorld>⟧.stands }
+    requires told { RecoveredTold sound_law.meets (D.told disk.old) recovered }
+    requires found { IsFound (D.told disk.old) (state_recovered recovered) }
+    requires count { length recovered.rows.items ≡ OID_LIMIT }
+    ensures opened { IfOk result (λ world. IsOpenedWorld W.limits (state_recovered recovered) sessions (W.view world) (W.log world)) }
+    ensures disk { IfOk result (λ world. OpensTold (state_recovered recovered) (W.log world) recovered.slots (D.told disk.old) (D.told disk.new)) }
+    ensures stands { IfOk result W.stands }
     ensures stops { IfErr result (λ stop. StopsRun stop (D.told disk.old) (D.told disk.new)) }
     ensures counts { IfErr result (λ stop. CountsStop stop (D.faults disk.old) (D.faults disk.new)) }
     ensures sound { OnOk result (D.faults disk.new ≡ D.faults disk.old) }
@@ -160,7 +159,7 @@ fn open_on<D: Disk>(
     erm_crash::openings_keep::<SoundRows>();
     erm_crash::kept_images_may_open::<SoundRows>();
     erm_told_log::opened_logs_meet_the_blocks_found::<SoundRows>();
-    let tail = open_log::<D, SoundRows>(disk, recovered)?;
-    let world = open_world(alloc, &recovered.rows, tail, recovered.run + 1, sessions)?;
+    let tail = open_log::<D, SoundRows>(disk, &recovered)?;
+    let world = W::start(alloc, recovered.rows, tail, recovered.run + 1, sessions)?;
     Ok(world)
 }

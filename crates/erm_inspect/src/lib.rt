@@ -5,8 +5,6 @@ mod audit;
 mod found;
 mod map_lines;
 mod recovery;
-#[cfg(test)]
-mod tests;
 
 pub use audit::audited;
 pub use recovery::recovered;

@@ -24,7 +24,7 @@ use Rattle.erm_lines.specs.Laws.{PartsHaveCauses, PartsHavePhases, PartsHaveSnap
 use Rattle.erm_summary.specs.Summary.{SummariesAreGood, Summarizes}
 use Rattle.erm_log_run.specs.Closing.{IsClosing}
 use Rattle.erm_log_run.specs.Runs.{IsCutReportOf, IsReportOf, WasCut, WasRun}
-use Rattle.erm_log_run.proofs.Differing.{stamps_differ}
+use Rattle.erm_told.proofs.Differing.{stamps_differ}
 
 -- lines in turn, and then the end, are a run
 abbrev pub is_run : (v u t : View) (script : List ScriptLine) (answers : List Answer) (n : ℕ) (ends : List (Option Answer)) → IsOpened v → ((l : ScriptLine) → l ∈ script → IsInRange l.command)

@@ -3,7 +3,6 @@ pub mod Answering
 pub mod ClosedAt
 pub mod Closing
 pub mod Counting
-pub mod Differing
 pub mod Fated
 pub mod Flushed
 pub mod Flushing

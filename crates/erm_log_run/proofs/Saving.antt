@@ -54,7 +54,7 @@ pub took_place : (sound : Rows → Type 0) (flushed : ℕ) (log : Log) (old new 
 took_place sound flushed log old new run place first steps tail put all = record {
   run = run;
   put = put ∙ ap (λ (n : ℕ). put_slot old (record { stamp = n; run = run; first = next_first old })) tail;
-  gone = all.saves.gone;
+  gone = λ n low. all.saves.gone n (omega arith) low;
   was = all.mid;
   moment =
       let writes = all.flushes.writes in

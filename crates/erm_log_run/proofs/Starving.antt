@@ -1,5 +1,5 @@
 -- Memory runs out while a script is run.
-use Rattle.std.proofs.Common.{◌≡◌, ℕ, ◌<◌, ◌≤◌, List, [], ◌∷◌, length, Option, Ok, Err, Vec, refl, sym, subst, arith}
+use Rattle.std.proofs.Common.{◌≡◌, ℕ, ◌≤◌, List, [], ◌∷◌, length, Option, Ok, Err, Vec, refl, sym, subst, arith}
 use Rattle.std.specs.List.{All}
 use Rattle.std.specs.Prelude.{Result}
 use Rattle.std.specs.declared.alloc.Global.{Global}
@@ -25,7 +25,9 @@ use Rattle.erm_log_run.specs.Closing.{IsClosing}
 use Rattle.erm_log_run.specs.Keeping.{IsKept, Keeper, KeepsOn}
 use Rattle.erm_log_run.specs.Starving.{OnMemory, Starves, WasStarved, WhereStarved}
 use Rattle.erm_log_run.proofs.Kept.{moments_of}
+use Rattle.erm_log_run.specs.Saving.{AreRemoved, removed_to}
 use Rattle.erm_log_run.proofs.Leaving.{on_itself}
+use Rattle.erm_log_run.proofs.Older.{older_itself}
 
 -- what follows where memory ran out
 pub starved_weaker : {T : Type 0} (r : Result T LineStop) (P Q : Type 0) → (P → Q) → WhereStarved r P → WhereStarved r Q
@@ -55,8 +57,9 @@ none_closed = λ k d low. absurd (omega (arith, low))
 
 -- behind some lines
 pub starved_behind : (sound : Rows → Type 0) (v t : View) (script : List ScriptLine) (answers : List Answer) (k m : Keeper) (told : Option (List Step)) → length answers ≤ length script
-    → IsExecution v (line_moves script answers) t → IsLogOf t m.log → IsLog sound m.log → told ≡ m.told → KeepsOn sound k m → Starves sound v script k told
-starved_behind sound v t script answers k m told most ran of is same on = record {
+    → IsExecution v (line_moves script answers) t → IsLogOf t m.log → IsLog sound m.log → told ≡ m.told → KeepsOn sound k m
+    → Tells (AreRemoved (removed_to k.slots answers) k.log.flushed m.log.flushed) k.told m.told → Starves sound v script k told
+starved_behind sound v t script answers k m told most ran of is same on older = record {
   answers = answers;
   most = most;
   view = t;
@@ -68,11 +71,12 @@ starved_behind sound v t script answers k m told most ran of is same on = record
   is = is;
   same = same;
   keeps = on;
+  older = older;
 }
 
 -- before the first line
 pub starved_first : (sound : Rows → Type 0) (v : View) (script : List ScriptLine) (k : Keeper) → IsLogOf v k.log → IsLog sound k.log → Starves sound v script k k.told
-starved_first sound v script k of is = starved_behind sound v v script [] k k k.told (omega arith) (no_lines script) of is refl (on_itself sound k)
+starved_first sound v script k of is = starved_behind sound v v script [] k k k.told (omega arith) (no_lines script) of is refl (on_itself sound k) (older_itself k.log.flushed k.log.flushed k.told)
   where
     no_lines : (ls : List ScriptLine) → IsExecution v (line_moves ls []) v
     no_lines [] = refl
@@ -80,8 +84,9 @@ starved_first sound v script k of is = starved_behind sound v v script [] k k k.
 
 -- at the end
 pub starved_last : (sound : Rows → Type 0) (v u t : View) (n : ℕ) (script : List ScriptLine) (answers : List Answer) (ends : List (Option Answer)) (k m : Keeper) → length answers ≡ length script
-    → IsExecution v (line_moves script answers) u → IsClosing u n ends t → IsLogOf t m.log → IsLog sound m.log → KeepsOn sound k m → Starves sound v script k m.told
-starved_last sound v u t n script answers ends k m each ran is of log on = record {
+    → IsExecution v (line_moves script answers) u → IsClosing u n ends t → IsLogOf t m.log → IsLog sound m.log → KeepsOn sound k m
+    → Tells (AreRemoved (removed_to k.slots answers) k.log.flushed m.log.flushed) k.told m.told → Starves sound v script k m.told
+starved_last sound v u t n script answers ends k m each ran is of log on older = record {
   answers = answers;
   most = omega (arith, each);
   view = t;
@@ -93,11 +98,12 @@ starved_last sound v u t n script answers ends k m each ran is of log on = recor
   is = log;
   same = refl;
   keeps = on;
+  older = older;
 }
 
 -- A WHOLE RUN.
 pub was_starved : (sound : Rows → Type 0) (v : View) (script : List ScriptLine) (k : Keeper) (told : Option (List Step)) → IsOpened v → ((l : ScriptLine) → l ∈ script → IsInRange l.command)
-    → length script ≤ LAST_NUMBER → IsKept sound k.told k.log.flushed k → Starves sound v script k told → WasStarved sound v script k.log k.told told
+    → length script ≤ LAST_NUMBER → IsKept sound k.told k.log.flushed k → Starves sound v script k told → WasStarved sound v script k.log k.slots k.told told
 was_starved sound v script k told opened ranges few kept s = record {
   answers = s.answers;
   view = s.view;
@@ -117,4 +123,5 @@ was_starved sound v script k told opened ranges few kept s = record {
   log_of = s.log_of;
   is = s.is;
   moments = subst (λ (o : Option (List Step)). Tells (KeepsBlocks sound (state_at k.log []) s.now.log.gathered k.log.flushed) k.told o) (sym s.same) (moments_of sound k s.now s.keeps kept);
+  older = subst (λ (o : Option (List Step)). Tells (AreRemoved (removed_to k.slots s.answers) k.log.flushed s.now.log.flushed) k.told o) (sym s.same) s.older;
 }

@@ -7,7 +7,7 @@ ghost use Rattle.erm_log_run.specs.Acknowledged.{KeepsTold};
 ghost use Rattle.erm_log_run.specs.Keeping.{CountsFaults, IsHeld, Keeps, keeper_of};
 ghost use Rattle.erm_log_run.specs.Lines.{AreLinesOf, AreReceipts};
 ghost use Rattle.erm_log_run.specs.Runs.{Ran};
-ghost use Rattle.erm_log_run.specs.Saving.{AreSaved, OlderStay, saved_at};
+ghost use Rattle.erm_log_run.specs.Saving.{AreSaved, RemovesTo, removed_to, removing_to, saved_at};
 ghost use Rattle.erm_log_run.specs.Starving.{Starves, WhereStarved};
 
 use crate::{LineStop, RowsOf, Store, run_line};
@@ -39,7 +39,7 @@ pub fn answer_all<W: ScriptWorld, D: Disk>(
     ensures keeps { Keeps W.rows_law.meets result (keeper_of (W.log world.old) store.old (D.told store.old.disk)) (keeper_of (W.log world.new) store.new (D.told store.new.disk)) }
     ensures told { KeepsTold W.rows_law.meets result answers.new.items (D.told store.old.disk) (keeper_of (W.log world.new) store.new (D.told store.new.disk)) }
     ensures saves { OnOk result (AreSaved (saved_at answers.new.items) (D.told store.old.disk) store.old.slots store.new.slots) }
-    ensures older { OnOk result (OlderStay (saved_at answers.new.items) (W.log world.old).flushed (D.told store.old.disk) (D.told store.new.disk)) }
+    ensures older { RemovesTo result (λ _. removed_to store.old.slots answers.new.items) (removing_to store.old.slots script.now answers.new.items) (W.log world.old).flushed (W.log world.new).flushed (D.told store.old.disk) (D.told store.new.disk) }
     ensures counts { CountsFaults result (D.faults store.old.disk) (D.faults store.new.disk) }
     ensures starved { WhereStarved result (Starves W.rows_law.meets (W.view world.old) script.now (keeper_of (W.log world.old) store.old (D.told store.old.disk)) (D.told store.new.disk)) }
 {

@@ -11,7 +11,7 @@ ghost use Rattle.erm_crash.specs.Kept.{LeavesLog};
 ghost use Rattle.erm_log_run.specs.Closing.{HasClosed, IsClosing, IsFlushedUp, IsFlushedWhenIdle, closes_from};
 ghost use Rattle.erm_log_run.specs.Keeping.{CountsFaults, IsHeld, Keeps, keeper_of};
 ghost use Rattle.erm_log_run.specs.Runs.{ClosesOnFault, FlushesOnFault};
-ghost use Rattle.erm_log_run.specs.Saving.{OlderStay};
+ghost use Rattle.erm_log_run.specs.Saving.{RemovesTo};
 ghost use Rattle.erm_log_run.specs.Starving.{WhereStarved};
 
 use crate::{LineStop, RowsOf, Store};
@@ -44,7 +44,7 @@ pub fn close_all<W: ScriptWorld, D: Disk>(
     ensures idle { OnOk result ((seat : ℕ) → IsSession (W.view world.new) seat → phase_at (W.view world.new) seat ≡ Idle) }
     ensures flushed { OnOk result ((W.view world.new).flushed ≡ (W.view world.new).tail) }
     ensures slots { OnOk result (store.new.slots ≡ store.old.slots) }
-    ensures older { OnOk result (OlderStay None (W.log world.old).flushed (D.told store.old.disk) (D.told store.new.disk)) }
+    ensures older { RemovesTo result (λ _. 0) 0 (W.log world.old).flushed (W.log world.new).flushed (D.told store.old.disk) (D.told store.new.disk) }
     ensures closes { ClosesOnFault result (W.view world.old) (W.view world.new) }
     ensures keeps { Keeps W.rows_law.meets result (keeper_of (W.log world.old) store.old (D.told store.old.disk)) (keeper_of (W.log world.new) store.new (D.told store.new.disk)) }
     ensures counts { CountsFaults result (D.faults store.old.disk) (D.faults store.new.disk) }
@@ -82,7 +82,7 @@ fn flush_up<W: ScriptWorld, D: Disk>(world: &mut W, store: &mut Store<D>) -> Res
     ensures flushes { FlushesOnFault result (W.view world.old) (W.view world.new) }
     ensures up { OnOk result (IsFlushedUp (W.view world.new)) }
     ensures slots { OnOk result (store.new.slots ≡ store.old.slots) }
-    ensures older { OnOk result (OlderStay None (W.log world.old).flushed (D.told store.old.disk) (D.told store.new.disk)) }
+    ensures older { RemovesTo result (λ _. 0) 0 (W.log world.old).flushed (W.log world.new).flushed (D.told store.old.disk) (D.told store.new.disk) }
     ensures all { OnOk result (IsFlushedWhenIdle (W.view world.new)) }
     ensures keeps { Keeps W.rows_law.meets result (keeper_of (W.log world.old) store.old (D.told store.old.disk)) (keeper_of (W.log world.new) store.new (D.told store.new.disk)) }
     ensures counts { CountsFaults result (D.faults store.old.disk) (D.faults store.new.disk) }

@@ -3,6 +3,7 @@ ghost use Rattle.std.specs.Prelude.{◌≡◌, ◌<◌, None, IfOk, IfSome, OnOk
 ghost use Rattle.erm_model.specs.RowTransaction.{SameLaw};
 ghost use Rattle.erm_model.specs.declared.limits.TheConstants.{TABLES};
 ghost use Rattle.erm_node.specs.Sound.{sound_law};
+ghost use Rattle.erm_ckpt.specs.Slots.{removal_end};
 ghost use Rattle.erm_good_report.specs.Transactions.{table_of};
 ghost use Rattle.erm_world.specs.World.{IsSession};
 ghost use Rattle.erm_lines.specs.Answers.{DidLine};
@@ -11,7 +12,7 @@ ghost use Rattle.erm_lines.specs.Whole.{AreRunsNow};
 ghost use Rattle.erm_log_run.specs.Keeping.{CountsFaults, IsHeld, Keeps, keeper_of};
 ghost use Rattle.erm_log_run.specs.Lines.{AreReceipts, IsLineOf};
 ghost use Rattle.erm_log_run.specs.Runs.{FailsOfLog, FlushesOnFault};
-ghost use Rattle.erm_log_run.specs.Saving.{AreSaved, OlderStay, Removes, saved_by};
+ghost use Rattle.erm_log_run.specs.Saving.{AreSaved, Removes, RemovesTo, end_by, end_of_command, saved_by};
 ghost use Rattle.erm_log_run.specs.Starving.{WhereStarved};
 
 use crate::{LineStop, RowsOf, Store, checkpoint_line, flush_line};
@@ -78,7 +79,7 @@ pub fn run_line<W: ScriptWorld, D: Disk>(
     ensures keeps { Keeps W.rows_law.meets result (keeper_of (W.log world.old) store.old (D.told store.old.disk)) (keeper_of (W.log world.new) store.new (D.told store.new.disk)) }
     ensures saves { IfOk result (λ a. AreSaved (saved_by a None) (D.told store.new.disk) store.old.slots store.new.slots) }
     ensures removes { IfOk result (λ a. Removes W.rows_law.meets a (D.told store.old.disk) (D.told store.new.disk) store.old.slots store.new.slots) }
-    ensures older { IfOk result (λ a. OlderStay (saved_by a None) (W.log world.old).flushed (D.told store.old.disk) (D.told store.new.disk)) }
+    ensures older { RemovesTo result (end_by store.old.slots None) (end_of_command line.now.command (removal_end store.old.slots)) (W.log world.old).flushed (W.log world.new).flushed (D.told store.old.disk) (D.told store.new.disk) }
     ensures counts { CountsFaults result (D.faults store.old.disk) (D.faults store.new.disk) }
     ensures spared { WhereStarved result (store.new ≡ store.old) }
 {

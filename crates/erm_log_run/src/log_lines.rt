@@ -1,10 +1,11 @@
 //! The lines of the log: a flush, and a checkpoint.
 ghost use Rattle.std.specs.Prelude.{◌≡◌, None, IfOk};
+ghost use Rattle.erm_ckpt.specs.Slots.{removal_end};
 ghost use Rattle.erm_lines.specs.Executions.{DidLog};
 ghost use Rattle.erm_script.specs.declared.script.Command.TheVariants.{Checkpoint, Flush};
 ghost use Rattle.erm_log_run.specs.Keeping.{CountsFaults, IsHeld, Keeps, keeper_of};
 ghost use Rattle.erm_log_run.specs.Runs.{FlushesOnFault};
-ghost use Rattle.erm_log_run.specs.Saving.{AreSaved, OlderStay, Removes, saved_by};
+ghost use Rattle.erm_log_run.specs.Saving.{AreSaved, Removes, RemovesTo, end_by, saved_by};
 ghost use Rattle.erm_log_run.specs.Starving.{WhereStarved};
 
 use crate::{LineStop, RowsOf, Store};
@@ -14,7 +15,7 @@ use erm_outside::Disk;
 use erm_report::Answer;
 use erm_world::ScriptWorld;
 
-/// Flushes the log up to the first transaction that isn't decided, or to its end.
+/// Flushes the log up to the first transaction that isn't decided, or to its end. No segment is removed, not even where the disk fails.
 pub fn flush_line<W: ScriptWorld, D: Disk>(
     world: &mut W,
     store: &mut Store<D>,
@@ -27,7 +28,7 @@ pub fn flush_line<W: ScriptWorld, D: Disk>(
     ensures keeps { Keeps W.rows_law.meets result (keeper_of (W.log world.old) store.old (D.told store.old.disk)) (keeper_of (W.log world.new) store.new (D.told store.new.disk)) }
     ensures saves { IfOk result (λ a. AreSaved (saved_by a None) (D.told store.new.disk) store.old.slots store.new.slots) }
     ensures removes { IfOk result (λ a. Removes W.rows_law.meets a (D.told store.old.disk) (D.told store.new.disk) store.old.slots store.new.slots) }
-    ensures older { IfOk result (λ a. OlderStay (saved_by a None) (W.log world.old).flushed (D.told store.old.disk) (D.told store.new.disk)) }
+    ensures older { RemovesTo result (end_by store.old.slots None) 0 (W.log world.old).flushed (W.log world.new).flushed (D.told store.old.disk) (D.told store.new.disk) }
     ensures counts { CountsFaults result (D.faults store.old.disk) (D.faults store.new.disk) }
     ensures fed { WhereStarved result ⊥ }
 {
@@ -57,7 +58,7 @@ pub fn checkpoint_line<W: ScriptWorld, D: Disk>(
     ensures keeps { Keeps W.rows_law.meets result (keeper_of (W.log world.old) store.old (D.told store.old.disk)) (keeper_of (W.log world.new) store.new (D.told store.new.disk)) }
     ensures saves { IfOk result (λ a. AreSaved (saved_by a None) (D.told store.new.disk) store.old.slots store.new.slots) }
     ensures removes { IfOk result (λ a. Removes W.rows_law.meets a (D.told store.old.disk) (D.told store.new.disk) store.old.slots store.new.slots) }
-    ensures older { IfOk result (λ a. OlderStay (saved_by a None) (W.log world.old).flushed (D.told store.old.disk) (D.told store.new.disk)) }
+    ensures older { RemovesTo result (end_by store.old.slots None) (removal_end store.old.slots) (W.log world.old).flushed (W.log world.new).flushed (D.told store.old.disk) (D.told store.new.disk) }
     ensures counts { CountsFaults result (D.faults store.old.disk) (D.faults store.new.disk) }
     ensures fed { WhereStarved result ⊥ }
 {
@@ -87,7 +88,7 @@ fn checkpoint_flushed<W: ScriptWorld, D: Disk>(
     ensures keeps { Keeps W.rows_law.meets result (keeper_of (W.log world.old) store.old (D.told store.old.disk)) (keeper_of (W.log world.new) store.new (D.told store.new.disk)) }
     ensures saves { IfOk result (λ a. AreSaved (saved_by a None) (D.told store.new.disk) store.old.slots store.new.slots) }
     ensures removes { IfOk result (λ a. Removes W.rows_law.meets a (D.told store.old.disk) (D.told store.new.disk) store.old.slots store.new.slots) }
-    ensures older { IfOk result (λ a. OlderStay (saved_by a None) (W.log world.old).flushed (D.told store.old.disk) (D.told store.new.disk)) }
+    ensures older { RemovesTo result (end_by store.old.slots None) (removal_end store.old.slots) (W.log world.old).flushed (W.log world.new).flushed (D.told store.old.disk) (D.told store.new.disk) }
     ensures counts { CountsFaults result (D.faults store.old.disk) (D.faults store.new.disk) }
     ensures fed { WhereStarved result ⊥ }
 {

@@ -22,7 +22,7 @@ ghost use Rattle.erm_log_run.specs.Keeping.{CountsFaults, IsHeld, Keeps, keeper_
 ghost use Rattle.erm_log_run.specs.Lines.{AreLinesOf};
 ghost use Rattle.erm_log_run.specs.Acknowledged.{AllLast, KeepsTold};
 ghost use Rattle.erm_log_run.specs.Runs.{IsCutReportOf, IsReportOf, OnFault, RanAll, UnlessFault, UnlessMemory, WasCut, WasRun, lines_in};
-ghost use Rattle.erm_log_run.specs.Saving.{AreSaved, OlderStay, saved_at};
+ghost use Rattle.erm_log_run.specs.Saving.{AreRemoved, AreSaved, MayBeRemoved, RemovesTo, removed_to, removing_to, saved_at};
 ghost use Rattle.erm_log_run.specs.Starving.{OnMemory, Starves, WasStarved, WhereStarved};
 
 use crate::{LineStop, RunStop, Store, answer_all, by_seat, close_all, cut_report};
@@ -56,7 +56,7 @@ fn run_all<W: ScriptWorld, D: Disk>(
     ensures keeps { Keeps W.rows_law.meets result (keeper_of (W.log world.old) store.old (D.told store.old.disk)) (keeper_of (W.log world.new) store.new (D.told store.new.disk)) }
     ensures told { KeepsTold W.rows_law.meets result answers.new.items (D.told store.old.disk) (keeper_of (W.log world.new) store.new (D.told store.new.disk)) }
     ensures saves { OnOk result (AreSaved (saved_at answers.new.items) (D.told store.old.disk) store.old.slots store.new.slots) }
-    ensures older { OnOk result (OlderStay (saved_at answers.new.items) (W.log world.old).flushed (D.told store.old.disk) (D.told store.new.disk)) }
+    ensures older { RemovesTo result (λ _. removed_to store.old.slots answers.new.items) (removing_to store.old.slots script.now answers.new.items) (W.log world.old).flushed (W.log world.new).flushed (D.told store.old.disk) (D.told store.new.disk) }
     ensures counts { CountsFaults result (D.faults store.old.disk) (D.faults store.new.disk) }
     ensures starved { WhereStarved result (Starves W.rows_law.meets (W.view world.old) script.now (keeper_of (W.log world.old) store.old (D.told store.old.disk)) (D.told store.new.disk)) }
 {
@@ -110,12 +110,12 @@ pub fn run_script<W: ScriptWorld, D: Disk>(
     ensures stands { UnlessMemory result (W.stands world.new) }
 
     // The lines are a good report, whose windows are tight, of this very run. The last checkpoint that it tells left its slot, and with none
-    // the slots are those from before, and so are the log's older segments.
+    // the slots are those from before. Of the log's older segments just those are gone that the checkpoints told removed.
     ensures ran { IfOk result (λ lines.
         (was : WasRun (W.view world.old) (W.view world.new) (opening_at start (count_rows (W.view world.old).opening.rows) (W.view world.old).opening.first) names.now script.now lines.items)
         × (All FitsTypes lines.items → IsReportOf (opening_at start (count_rows (W.view world.old).opening.rows) (W.view world.old).opening.first) names.now script.now was.answers was.closed lines.items)
         × AreSaved (saved_at was.answers) (D.told store.old.disk) store.old.slots store.new.slots
-        × OlderStay (saved_at was.answers) (W.log world.old).flushed (D.told store.old.disk) (D.told store.new.disk)) }
+        × Tells (AreRemoved (removed_to store.old.slots was.answers) (W.log world.old).flushed (W.log world.new).flushed) (D.told store.old.disk) (D.told store.new.disk)) }
 
     // All that committed is flushed at the end, and the disk holds the log.
     ensures flushed { OnOk result ((W.view world.new).flushed ≡ (W.view world.new).tail) }
@@ -130,15 +130,17 @@ pub fn run_script<W: ScriptWorld, D: Disk>(
     ensures moments { UnlessMemory result (Tells (KeepsBlocks W.rows_law.meets (state_at (W.log world.old) []) (W.log world.new).gathered (W.log world.old).flushed) (D.told store.old.disk) (D.told store.new.disk)) }
     ensures acknowledged { UnlessMemory result (Tells (AllLast W.rows_law.meets (state_at (W.log world.old) []) (W.log world.new).gathered (lines_in result)) (D.told store.old.disk) (D.told store.new.disk)) }
 
-    // Where the disk fails the lines tell of the run up to then. The disk's count of faults rises exactly where a fault is the answer.
+    // Where the disk fails the lines tell of the run up to then, and no more of the older segments are gone than the checkpoints told removed, and
+    // than one more removes where the line at which it failed is a checkpoint. The disk's count of faults rises exactly where a fault is the answer.
     ensures cut { OnFault result (λ lines.
         (was : WasCut (W.view world.old) (W.view world.new) (opening_at start (count_rows (W.view world.old).opening.rows) (W.view world.old).opening.first) names.now script.now lines)
-        × (All FitsTypes lines → IsCutReportOf (opening_at start (count_rows (W.view world.old).opening.rows) (W.view world.old).opening.first) names.now script.now was.answers lines)) }
+        × (All FitsTypes lines → IsCutReportOf (opening_at start (count_rows (W.view world.old).opening.rows) (W.view world.old).opening.first) names.now script.now was.answers lines)
+        × Tells (MayBeRemoved (removing_to store.old.slots script.now was.answers) (W.log world.old).flushed) (D.told store.old.disk) (D.told store.new.disk)) }
     ensures fault { OnFault result (λ lines. Rose (D.faults store.old.disk) (D.faults store.new.disk)) }
     ensures sound { UnlessFault result (D.faults store.new.disk ≡ D.faults store.old.disk) }
 
     // Where memory runs out each image at each moment recovers to a front of what the script's first lines gathered.
-    ensures starved { OnMemory result (WasStarved W.rows_law.meets (W.view world.old) script.now (W.log world.old) (D.told store.old.disk) (D.told store.new.disk)) }
+    ensures starved { OnMemory result (WasStarved W.rows_law.meets (W.view world.old) script.now (W.log world.old) store.old.slots (D.told store.old.disk) (D.told store.new.disk)) }
 {
     erm_told::runs_have_phases();
     erm_told::runs_close_sessions();

@@ -70,10 +70,10 @@ pub fn words<R: AllocGlobal + Env>(rt: &R) -> Vec<String> {
     }
 }
 
-/// Whether the words ask for a command that only reads the disk. Where memory runs out it is taken for another one.
+/// Whether the words ask for a command that writes nothing to the disk. Where memory runs out it is taken for another one.
 pub fn only_reads(alloc: Global, words: &[String]) -> bool {
     matches!(
         command_of(alloc, words),
-        Ok(Some(Command::Recover | Command::Audit))
+        Ok(Some(Command::Recover | Command::Audit | Command::Ship | Command::Follow))
     )
 }

@@ -7,6 +7,7 @@ pub mod Ran
 pub mod Rooms
 pub mod Spelled
 pub mod Stopping
+pub mod Streaming
 pub mod Streams
 pub mod Texted
 pub mod Whole

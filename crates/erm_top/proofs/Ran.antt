@@ -5,6 +5,7 @@ use Rattle.erm_script.specs.Faults.{IsFirstBadLine}
 use Rattle.erm_script.specs.Script.{IsScript}
 use Rattle.erm_script.specs.declared.script.ScriptLine.{ScriptLine}
 use Rattle.erm_disk_run.specs.declared.stops.DiskStop.TheVariants as disk
+use Rattle.erm_disk_run.specs.Limits.{in_table}
 use Rattle.erm_disk_run.specs.Stops.{StopsFor}
 use Rattle.erm_top.specs.Around.{Around, PrintsText, TakesMore, WasReadWith}
 use Rattle.erm_top.specs.Runs.{IsAtEnd, LeftByMemory, NothingFailed, Refused, Reports, ReportsCut, RunEnds, SpellScript, Starved}
@@ -74,7 +75,7 @@ module _ (one : OneRecovery) (status : ℕ) (a : Around) (taken : TookAtMost (SC
     reports_cut text e = let t = (at (Err (stop.Cut text)) e).0 in
         reading (λ bytes. ReportsCut a bytes text) (record { names = names; script = script; spelled = is; state = t.state; found = t.found; lines = t.lines; cut = t.cut; text_is = t.text_is })
 
-    starved : LeavesScript names script a.told_before a.told_after → LeftByMemory a
+    starved : LeavesScript in_table names script a.told_before a.told_after → LeftByMemory a
     starved (inl keeps) = inl keeps
     starved (inr was) = inr (reading (Starved a) (record { names = names; script = script; spelled = is; state = was.0; found = was.1; was = was.2 }))
 

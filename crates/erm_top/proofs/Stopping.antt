@@ -10,6 +10,7 @@ use Rattle.erm_disk_run.specs.declared.stops.DiskStop.TheVariants as disk
 use Rattle.erm_disk_run.specs.Saved.{CountsCheckpoint, EndsCheckpoint}
 use Rattle.erm_disk_run.specs.Stops.{StopsFor}
 use Rattle.erm_disk_run.proofs.Opened.{map_kept, once_told}
+use Rattle.erm_disk_run.proofs.SlotsLeft.{older_saved}
 use Rattle.erm_top.specs.Stopped.{NotOpened, NotSaved, TellsSaved}
 use Rattle.erm_top.specs.declared.printing.Stop.{Stop}
 use Rattle.erm_top.specs.declared.printing.Stop.TheVariants as stop
@@ -38,4 +39,4 @@ pub saved_untold : (ended : Result (Vec Line Global) DiskStop) (lines : Vec Line
     → EndsCheckpoint ended before after → CountsCheckpoint ended faults now → TellsSaved (Err stop.Memory) before after faults now
 saved_untold ended lines is before after faults now ends counts =
     let was = subst (λ (r : Result (Vec Line Global) DiskStop). EndsCheckpoint r before after) is ends in
-    (inr (was.0, was.1, once_told was.0 before after was.2.keeps), subst (λ (r : Result (Vec Line Global) DiskStop). CountsCheckpoint r faults now) is counts)
+    (inr (was.0, was.1, once_told was.0 before after was.2.keeps, older_saved was.0 before after was.2.saved), subst (λ (r : Result (Vec Line Global) DiskStop). CountsCheckpoint r faults now) is counts)

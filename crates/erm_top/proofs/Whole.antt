@@ -7,11 +7,11 @@ use Rattle.erm_report.specs.Texts.{line_text}
 use Rattle.erm_report.specs.declared.line.Line.TheVariants as line
 use Rattle.erm_command_line.specs.CommandLine.{IsCommand}
 use Rattle.erm_command_line.specs.declared.command.Command.{Command}
-use Rattle.erm_command_line.specs.declared.command.Command.TheVariants.{Run, Threads, Recover, Audit, Checkpoint, Make}
+use Rattle.erm_command_line.specs.declared.command.Command.TheVariants.{Run, Threads, Recover, Audit, Checkpoint, Ship, Follow, Make}
 use Rattle.erm_inspect.specs.Audits.{HasAuditForm, IsAudit}
 use Rattle.erm_inspect.specs.Recoveries.{HasRecoveryForm, IsRecovery}
 use Rattle.erm_top.specs.Around.{Around, LeavesDisk, LeavesSource}
-use Rattle.erm_top.specs.Commands.{AskForNothing, is_on}
+use Rattle.erm_top.specs.Commands.{AskForNothing, is_on, usage_text}
 use Rattle.erm_top.specs.Outcomes.{CommandEnds, Ends}
 use Rattle.erm_top.specs.Told.{Prints, TookAtMost}
 use Rattle.erm_top.specs.declared.printing.Stop.TheVariants as stop
@@ -21,6 +21,7 @@ use Rattle.erm_top.proofs.Disks.{checkpoint_ends, make_ends}
 use Rattle.erm_top.proofs.Inspected.{inspection_ends}
 use Rattle.erm_top.proofs.Ran.{unread_ends}
 use Rattle.erm_top.proofs.Rooms.{OneRecovery}
+use Rattle.erm_top.proofs.Streaming.{StarvingEnds, follow_starved, ship_starved}
 
 -- no command has the status of words that ask for none
 no_usage : (command : Command) (status : ℕ) (a : Around) → CommandEnds command status a → status ≢ 2
@@ -28,6 +29,8 @@ no_usage Run status a ends two = omega (arith, two, ends.known)
 no_usage Recover status a ends two = omega (arith, two, ends.known)
 no_usage Audit status a ends two = omega (arith, two, ends.known)
 no_usage Checkpoint status a ends two = omega (arith, two, ends.known)
+no_usage Ship status a ends two = omega (arith, two, ends.ships.known)
+no_usage Follow status a ends two = omega (arith, two, ends.follows.known)
 no_usage (Make transactions sessions true) status a ends two = omega (arith, two, ends.known)
 no_usage (Make transactions sessions false) status a ends two = omega (arith, two, ends.known)
 no_usage Threads status a ends two = ends
@@ -38,16 +41,18 @@ took_none None = tt
 took_none (Some bytes) = (0, omega arith, omega arith, refl)
 
 -- memory ran out before anything was done
-pub starved : OneRecovery → CountsAddUp → (words : List (String Global)) (command : Command) (a : Around) → is_on command ≡ true → IsCommand words command → LeavesSource a → LeavesDisk a
+pub starved : OneRecovery → CountsAddUp → StarvingEnds → (words : List (String Global)) (command : Command) (a : Around) → is_on command ≡ true → IsCommand words command → LeavesSource a → LeavesDisk a
     → Prints (line_text line.NoMemory) a.written_before a.written_after a.sink_before a.sink_after → CommandEnds command 8 a
-starved one sum words Run a on asked source still put =
+starved one sum starves words Run a on asked source still put =
     unread_ends one 8 a (subst (λ (o : Option (List ℕ)). TookAtMost (SCRIPT_BYTES + 1) a.left_before o) (sym source.left) (took_none a.left_before)) (Err stop.Memory) source.sound (refl, put) still.told still.sound
-starved one sum words Recover a on asked source still put = inspection_ends IsRecovery HasRecoveryForm 8 a (Err stop.Memory) still.sound (refl, put) source still.told
-starved one sum words Audit a on asked source still put = inspection_ends IsAudit HasAuditForm 8 a (Err stop.Memory) still.sound (refl, put) source still.told
-starved one sum words Checkpoint a on asked source still put = checkpoint_ends one 8 a source (Err stop.Memory) (inl still.told, still.sound) (refl, put)
-starved one sum words (Make transactions sessions false) a on asked source still put =
+starved one sum starves words Recover a on asked source still put = inspection_ends IsRecovery HasRecoveryForm 8 a (Err stop.Memory) still.sound (refl, put) source still.told
+starved one sum starves words Audit a on asked source still put = inspection_ends IsAudit HasAuditForm 8 a (Err stop.Memory) still.sound (refl, put) source still.told
+starved one sum starves words Checkpoint a on asked source still put = checkpoint_ends one 8 a source (Err stop.Memory) (inl still.told, still.sound) (refl, put)
+starved one sum starves words Ship a on asked source still put = ship_starved a source still put
+starved one sum starves words Follow a on asked source still put = follow_starved starves a source still put
+starved one sum starves words (Make transactions sessions false) a on asked source still put =
     make_ends one sum transactions sessions (is_sized words (Make transactions sessions false) asked).2 8 a source (Err stop.Memory) (inl (inl still.told), inl still.sound) (refl, put)
-starved one sum words (Make transactions sessions true) a on asked source still put = record {
+starved one sum starves words (Make transactions sessions true) a on asked source still put = record {
   known = inr (inr refl);
   success = λ e. absurd (omega (arith, e));
   sink_fault = λ e. absurd (omega (arith, e));
@@ -56,7 +61,7 @@ starved one sum words (Make transactions sessions true) a on asked source still 
   disk = still;
   complete = λ calm. inr refl;
 }
-starved one sum words Threads a on asked source still put = absurd (cc on)
+starved one sum starves words Threads a on asked source still put = absurd (cc on)
 
 -- so ends what the words ask for, which is one command
 pub ends : (words : List (String Global)) (command : Command) (status : ℕ) (a : Around) → is_on command ≡ true → IsCommand words command
@@ -69,7 +74,7 @@ ends words command status a on asked only is = record {
 
 -- the usage line was printed
 pub ends_misused : (words : List (String Global)) (a : Around) → AskForNothing words → LeavesSource a → LeavesDisk a
-    → Prints (line_text line.Usage) a.written_before a.written_after a.sink_before a.sink_after → Ends words 2 a
+    → Prints usage_text a.written_before a.written_after a.sink_before a.sink_after → Ends words 2 a
 ends_misused words a none source still put = record {
   ended = λ command on asked. absurd (none command on asked);
   misused = λ _. record { known = inl refl; usage = λ e. put; no_memory = λ e. absurd (omega (arith, e)); source = source; disk = still };
@@ -77,10 +82,10 @@ ends_misused words a none source still put = record {
 }
 
 -- or no memory was left for the words
-pub ends_starved : OneRecovery → CountsAddUp → (words : List (String Global)) (a : Around) → LeavesSource a → LeavesDisk a
+pub ends_starved : OneRecovery → CountsAddUp → StarvingEnds → (words : List (String Global)) (a : Around) → LeavesSource a → LeavesDisk a
     → Prints (line_text line.NoMemory) a.written_before a.written_after a.sink_before a.sink_after → Ends words 8 a
-ends_starved one sum words a source still put = record {
-  ended = λ command on asked. starved one sum words command a on asked source still put;
+ends_starved one sum starves words a source still put = record {
+  ended = λ command on asked. starved one sum starves words command a on asked source still put;
   misused = λ none. record { known = inr refl; usage = λ e. absurd (omega (arith, e)); no_memory = λ e. put; source = source; disk = still };
   usage = λ two. absurd (omega (arith, two));
 }

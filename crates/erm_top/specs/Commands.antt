@@ -1,5 +1,5 @@
 -- The commands that the program has.
-use Rattle.std.specs.Prelude.{◌≡◌, ◌<◌, ◌≤◌, Bool, true, false, List}
+use Rattle.std.specs.Prelude.{◌≡◌, ◌<◌, ◌≤◌, ◌++◌, ◌∷◌, [], ℕ, Bool, true, false, List, codes}
 use Rattle.std.specs.Prelude.{String}
 use Rattle.std.specs.declared.alloc.Global.{Global}
 use Rattle.erm_command_line.specs.CommandLine.{IsCommand}
@@ -11,6 +11,10 @@ use Rattle.erm_command_line.specs.declared.command.TheConstants.{MOST_SESSIONS, 
 abbrev pub is_on : Command → Bool
 is_on Threads = false
 is_on command = true
+
+-- the line that says how the program is used
+abbrev pub usage_text : List ℕ
+usage_text = codes "usage: erm run | threads | make --count N --sessions K [--text] | recover | audit | checkpoint | ship | follow" ++ 10 ∷ []
 
 -- the words ask for no command that the program has
 abbrev pub AskForNothing : List (String Global) → Type 0

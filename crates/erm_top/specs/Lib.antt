@@ -6,4 +6,5 @@ pub mod Outcomes
 pub mod Runs
 pub mod Scripts
 pub mod Stopped
+pub mod Streams
 pub mod Told

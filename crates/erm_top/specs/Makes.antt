@@ -12,6 +12,7 @@ use Rattle.erm_made.specs.declared.counts.Made.{Made}
 use Rattle.erm_made.specs.Counts.{count, is_commit, is_exclusion, is_pair, leaves_open, made_lines, meets_owner, tells}
 use Rattle.erm_disk_run.specs.declared.stops.DiskStop.TheVariants as disk
 use Rattle.erm_disk_run.specs.Found.{IsFound}
+use Rattle.erm_disk_run.specs.Limits.{in_lists}
 use Rattle.erm_disk_run.specs.Runs.{WasCutOn, WasRunOn, WasStarvedOn}
 use Rattle.erm_disk_run.specs.Stops.{OnlyOpens, StopsFor}
 use Rattle.erm_top.specs.Around.{Around, LeavesDisk, LeavesSource, PrintsLine, PutsCut, PutsWhole}
@@ -33,7 +34,7 @@ pub record TellsMade (transactions sessions : ℕ) (a : Around) (text : List ℕ
   pub state : State
   pub found : IsFound a.told_before state
   pub lines : List Line
-  pub ran : WasRunOn a.told_before a.told_after state (names_of transactions sessions) (lines_of transactions sessions) lines
+  pub ran : WasRunOn in_lists a.told_before a.told_after state (names_of transactions sessions) (lines_of transactions sessions) lines
   pub made : Made
   pub counts : AreCountsOf lines made
   -- where no line leaves a transaction open, each of them is counted: the sixteen that load, and the others
@@ -44,12 +45,12 @@ pub record TellsMade (transactions sessions : ℕ) (a : Around) (text : List ℕ
 abbrev pub FailsMaking : ℕ → ℕ → Around → Type 0
 FailsMaking transactions sessions a = OnlyOpens a.told_before a.told_after
     ⊎ ((state : State) × IsFound a.told_before state
-    × ((lines : List Line) × WasCutOn a.told_before a.told_after state (names_of transactions sessions) (lines_of transactions sessions) lines))
+    × ((lines : List Line) × WasCutOn in_lists a.told_before a.told_after state (names_of transactions sessions) (lines_of transactions sessions) lines))
 
 -- What is left on the disk where memory ran out: it is as it was, or no more was done than to open its log, or the workload was run up to some line.
 abbrev pub LeftByMaking : ℕ → ℕ → Around → Type 0
 LeftByMaking transactions sessions a = OnlyOpens a.told_before a.told_after
-    ⊎ ((state : State) × IsFound a.told_before state × WasStarvedOn a.told_before a.told_after state (names_of transactions sessions) (lines_of transactions sessions))
+    ⊎ ((state : State) × IsFound a.told_before state × WasStarvedOn in_lists a.told_before a.told_after state (names_of transactions sessions) (lines_of transactions sessions))
 
 -- what each status means of `make` where the workload is run
 pub record MakeEnds (transactions sessions status : ℕ) (a : Around) : Type 0 where

@@ -7,17 +7,18 @@ use Rattle.erm_inspect.specs.Audits.{HasAuditForm, IsAudit}
 use Rattle.erm_inspect.specs.Recoveries.{HasRecoveryForm, IsRecovery}
 use Rattle.erm_command_line.specs.CommandLine.{IsCommand}
 use Rattle.erm_command_line.specs.declared.command.Command.{Command}
-use Rattle.erm_command_line.specs.declared.command.Command.TheVariants.{Audit, Checkpoint, Make, Recover, Run, Threads}
-use Rattle.erm_top.specs.Around.{Around, LeavesDisk, LeavesSource, PrintsLine}
-use Rattle.erm_top.specs.Commands.{AskForNothing, is_on}
+use Rattle.erm_command_line.specs.declared.command.Command.TheVariants.{Audit, Checkpoint, Follow, Make, Recover, Run, Ship, Threads}
+use Rattle.erm_top.specs.Around.{Around, LeavesDisk, LeavesSource, PrintsLine, PrintsText}
+use Rattle.erm_top.specs.Commands.{AskForNothing, is_on, usage_text}
 use Rattle.erm_top.specs.Inspections.{CheckpointEnds, InspectionEnds}
 use Rattle.erm_top.specs.Makes.{MakeCommandEnds}
 use Rattle.erm_top.specs.Runs.{RunEnds}
+use Rattle.erm_top.specs.Streams.{FollowingEnds, ShippingEnds}
 
 -- the usage line was printed, or memory ran out, in place of a report: source and disk were left alone
 pub record Misused (status : ℕ) (a : Around) : Type 0 where
   pub known : (status ≡ 2) ⊎ (status ≡ 8)
-  pub usage : status ≡ 2 → PrintsLine line.Usage a
+  pub usage : status ≡ 2 → PrintsText usage_text a
   pub no_memory : status ≡ 8 → PrintsLine line.NoMemory a
   pub source : LeavesSource a
   pub disk : LeavesDisk a
@@ -28,6 +29,8 @@ CommandEnds Run status a = RunEnds status a
 CommandEnds Recover status a = InspectionEnds IsRecovery HasRecoveryForm status a
 CommandEnds Audit status a = InspectionEnds IsAudit HasAuditForm status a
 CommandEnds Checkpoint status a = CheckpointEnds status a
+CommandEnds Ship status a = ShippingEnds status a
+CommandEnds Follow status a = FollowingEnds status a
 CommandEnds (Make transactions sessions as_text) status a = MakeCommandEnds transactions sessions as_text status a
 CommandEnds Threads status a = ⊥
 

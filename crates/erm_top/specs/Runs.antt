@@ -13,6 +13,7 @@ use Rattle.erm_script.specs.Faults.{IsFirstBadLine}
 use Rattle.erm_script.specs.Script.{IsScript}
 use Rattle.erm_disk_run.specs.declared.stops.DiskStop.TheVariants as disk
 use Rattle.erm_disk_run.specs.Found.{IsFound, ReadsAs}
+use Rattle.erm_disk_run.specs.Limits.{in_table}
 use Rattle.erm_disk_run.specs.Runs.{WasCutOn, WasRunOn, WasStarvedOn}
 use Rattle.erm_disk_run.specs.Stops.{OnlyOpens, StopsFor}
 use Rattle.erm_top.specs.Around.{Around, LeavesDisk, PrintsLine, PrintsText, PutsCut, PutsWhole, TakesAtMost, TakesMore, WasReadWith}
@@ -27,7 +28,7 @@ pub record Reports (a : Around) (bytes text : List ℕ) : Type 0 where
   pub state : State
   pub found : IsFound a.told_before state
   pub lines : List Line
-  pub ran : WasRunOn a.told_before a.told_after state names script lines
+  pub ran : WasRunOn in_table a.told_before a.told_after state names script lines
   pub text_is : text ≡ text_of lines
 
 -- Bytes spell a script, which was run on the disk until it failed: a text is that of its report up to then.
@@ -38,7 +39,7 @@ pub record ReportsCut (a : Around) (bytes text : List ℕ) : Type 0 where
   pub state : State
   pub found : IsFound a.told_before state
   pub lines : List Line
-  pub cut : WasCutOn a.told_before a.told_after state names script lines
+  pub cut : WasCutOn in_table a.told_before a.told_after state names script lines
   pub text_is : text ≡ text_of lines
 
 -- Bytes spell a script, which was run on the disk up to some of its lines, or to its end: memory ran out meanwhile, or for its report.
@@ -48,7 +49,7 @@ pub record Starved (a : Around) (bytes : List ℕ) : Type 0 where
   pub spelled : IsScript run_grammar bytes names script
   pub state : State
   pub found : IsFound a.told_before state
-  pub was : WasStarvedOn a.told_before a.told_after state names script
+  pub was : WasStarvedOn in_table a.told_before a.told_after state names script
 
 -- What is left on the disk where memory ran out: it is as it was, or no more was done than to open its log, or a script was run up to some line.
 abbrev pub LeftByMemory : Around → Type 0

@@ -17,6 +17,7 @@ use Rattle.erm_recover.specs.declared.stop.RecoverStop.{RecoverStop}
 use Rattle.erm_recover.specs.declared.stop.RecoverStop.TheVariants as recover
 use Rattle.erm_disk_run.specs.declared.stops.DiskStop.TheVariants as disk
 use Rattle.erm_disk_run.specs.Found.{IsFound}
+use Rattle.erm_disk_run.specs.Limits.{Limits, in_lists, in_table}
 use Rattle.erm_disk_run.specs.Runs.{WasCutOn, WasRunOn, WasStarvedOn}
 use Rattle.erm_disk_run.specs.Saved.{WasCheckpointed}
 use Rattle.erm_disk_run.specs.Stops.{KeepsMap, OnlyOpens, StopsFor}
@@ -65,25 +66,26 @@ pub record TellsRun (before after : Option (List Step)) (names : List (List ℕ)
   pub state : State
   pub found : IsFound before state
   pub lines : List Line
-  pub ran : WasRunOn before after state names script lines
+  pub ran : WasRunOn in_table before after state names script lines
   pub text_is : text ≡ text_of lines
 
 pub record TellsCut (before after : Option (List Step)) (names : List (List ℕ)) (script : List ScriptLine) (text : List ℕ) : Type 0 where
   pub state : State
   pub found : IsFound before state
   pub lines : List Line
-  pub cut : WasCutOn before after state names script lines
+  pub cut : WasCutOn in_table before after state names script lines
   pub text_is : text ≡ text_of lines
 
--- no memory was left to tell of a script: nothing was run of it, and no more was done to the disk than to open its log, or it was run up to some line
-abbrev pub LeavesScript : List (List ℕ) → List ScriptLine → Option (List Step) → Option (List Step) → Type 0
-LeavesScript names script before after = OnlyOpens before after ⊎ ((state : State) × IsFound before state × WasStarvedOn before after state names script)
+-- no memory was left to tell of a script: nothing was run of it, and no more was done to the disk than to open its log, or it was run up to some line, over a
+-- world with these limits
+abbrev pub LeavesScript : Limits → List (List ℕ) → List ScriptLine → Option (List Step) → Option (List Step) → Type 0
+LeavesScript limits names script before after = OnlyOpens before after ⊎ ((state : State) × IsFound before state × WasStarvedOn limits before after state names script)
 
 -- What there is to tell of a script's run. Where memory runs out, the disk may have failed before.
 abbrev pub TellsRan : Result (List ℕ) Stop → List (List ℕ) → List ScriptLine → Option (List Step) → Option (List Step) → ℕ → ℕ → Type 0
 TellsRan (Ok text) names script before after faults now = TellsRun before after names script text × (now ≡ faults)
 TellsRan (Err (stop.Cut text)) names script before after faults now = TellsCut before after names script text × Rose faults now
-TellsRan (Err stop.Memory) names script before after faults now = LeavesScript names script before after × ((now ≡ faults) ⊎ Rose faults now)
+TellsRan (Err stop.Memory) names script before after faults now = LeavesScript in_table names script before after × ((now ≡ faults) ⊎ Rose faults now)
 TellsRan (Err stop) names script before after faults now = NotOpened stop before after faults now
 
 -- what there is to tell of what was found on a disk
@@ -110,15 +112,15 @@ pub record TellsCounts (transactions sessions : ℕ) (before after : Option (Lis
   pub state : State
   pub found : IsFound before state
   pub lines : List Line
-  pub ran : WasRunOn before after state (names_of transactions sessions) (lines_of transactions sessions) lines
+  pub ran : WasRunOn in_lists before after state (names_of transactions sessions) (lines_of transactions sessions) lines
   pub counted : TellsCounted transactions sessions lines text
 
 -- What there is to tell of a workload's run. Where memory runs out, the disk may have failed before.
 abbrev pub TellsMaking : ℕ → ℕ → Result (List ℕ) Stop → Option (List Step) → Option (List Step) → ℕ → ℕ → Type 0
 TellsMaking transactions sessions (Ok text) before after faults now = TellsCounts transactions sessions before after text × (now ≡ faults)
 TellsMaking transactions sessions (Err stop.DiskFault) before after faults now = (OnlyOpens before after
-    ⊎ ((state : State) × IsFound before state × (lines : List Line) × WasCutOn before after state (names_of transactions sessions) (lines_of transactions sessions) lines))
+    ⊎ ((state : State) × IsFound before state × (lines : List Line) × WasCutOn in_lists before after state (names_of transactions sessions) (lines_of transactions sessions) lines))
     × Rose faults now
-TellsMaking transactions sessions (Err stop.Memory) before after faults now = LeavesScript (names_of transactions sessions) (lines_of transactions sessions) before after
+TellsMaking transactions sessions (Err stop.Memory) before after faults now = LeavesScript in_lists (names_of transactions sessions) (lines_of transactions sessions) before after
     × ((now ≡ faults) ⊎ Rose faults now)
 TellsMaking transactions sessions (Err stop) before after faults now = NotOpened stop before after faults now

@@ -6,6 +6,10 @@ ghost use Rattle.erm_top.specs.Commands.{AskForNothing, IsSized, is_on};
 use erm_command_line::{Command, command_of};
 use std::alloc::{AllocError, Global};
 
+/// The line that says how the program is used.
+pub const USAGE: &[u8] =
+    b"usage: erm run | threads | make --count N --sessions K [--text] | recover | audit | checkpoint | ship | follow\n";
+
 /// The command that the words ask for: none where they ask for no command that the program has.
 pub fn command_on(alloc: Global, words: &[String]) -> Result<Option<Command>, AllocError>
     ensures asked { (command : Command) → result ≡ Ok (Some command) → (is_on command ≡ true) × IsCommand words.now command }

@@ -8,6 +8,7 @@ mod make;
 mod printing;
 mod reading;
 mod run;
+mod stream;
 mod texts;
 mod top;
 

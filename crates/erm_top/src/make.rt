@@ -3,6 +3,7 @@ ghost use Rattle.std.specs.Prelude.{◌≡◌, ◌≤◌, ℕ, List, Option, IfO
 ghost use Rattle.std.specs.List.{All};
 ghost use Rattle.erm_command_line.specs.declared.command.TheConstants.{MOST_SESSIONS, MOST_TRANSACTIONS};
 ghost use Rattle.erm_disk_run.specs.Found.{IsKept};
+ghost use Rattle.erm_disk_run.specs.Limits.{in_lists};
 ghost use Rattle.erm_disk_run.specs.Runs.{AreInTables, CountsRun, EndsRun, LeavesUntold};
 ghost use Rattle.erm_make.specs.Workload.{names_of};
 ghost use Rattle.erm_outside.specs.Disk.{Step};
@@ -13,7 +14,7 @@ ghost use Rattle.erm_top.specs.Stopped.{TellsCounted, TellsMaking};
 use crate::Ended;
 use crate::printing::{Answered, STARVED, Stop, print, put_report, put_told};
 use crate::texts::{lines_text, not_opened, try_each_text};
-use erm_disk_run::{OnDisk, RunStop, run_on_disk};
+use erm_disk_run::{OnDisk, RunStop, run_in_lists};
 use erm_made::{counts_of, each_transaction_is_counted, made_lines};
 use erm_make::{make, text_but_flushes, workloads_are_scripts};
 use erm_model::Seat;
@@ -22,7 +23,7 @@ use erm_recover::SoundTest;
 use erm_report::{Line, NO_MEMORY, Text};
 use std::alloc::{AllocError, Global};
 
-/// Makes the workload of so many transactions and sessions, runs it on the disk, and tells the counts of its report.
+/// Makes the workload of so many transactions and sessions, runs it on the disk, over the world in lists, and tells the counts of its report.
 pub fn make_and_run<K: Sink, D: Disk>(
     alloc: Global,
     sink: &mut K,
@@ -102,7 +103,8 @@ fn workload_text(alloc: Global, count: u32, sessions: Seat) -> Result<Vec<u8>, A
     text_but_flushes(alloc, &script)
 }
 
-// Makes the workload of so many transactions and sessions, runs it on the disk, and makes the text that tells the counts.
+// Makes the workload of so many transactions and sessions, runs it on the disk, and makes the text that tells the counts. In lists no line is
+// answered that cells are full.
 fn made<D: Disk>(alloc: Global, disk: D, count: u32, sessions: Seat) -> Answered<D>
     requires some { 1 ≤ count }
     requires most { count ≤ MOST_TRANSACTIONS }
@@ -114,7 +116,7 @@ fn made<D: Disk>(alloc: Global, disk: D, count: u32, sessions: Seat) -> Answered
     workloads_are_scripts();
     match make(alloc, count, sessions) {
         Ok(script) => {
-            let OnDisk { disk, ended } = run_on_disk(alloc, disk, &script.names, &script.lines);
+            let OnDisk { disk, ended } = run_in_lists(alloc, disk, &script.names, &script.lines);
             Answered {
                 disk,
                 told: made_text(alloc, count, sessions, ended),
@@ -135,8 +137,8 @@ fn made_text(
     ended: Result<Vec<Line>, RunStop>,
 ) -> Result<Text, Stop>
     requires { AreInTables ended }
-    ensures { (before after : Option (List Step)) (faults now : ℕ) → EndsRun ended before after (names_of count sessions) (lines_of count sessions)
-        → LeavesUntold ended before after (names_of count sessions) (lines_of count sessions) → CountsRun ended faults now → TellsMaking count sessions result before after faults now }
+    ensures { (before after : Option (List Step)) (faults now : ℕ) → EndsRun in_lists ended before after (names_of count sessions) (lines_of count sessions)
+        → LeavesUntold in_lists ended before after (names_of count sessions) (lines_of count sessions) → CountsRun ended faults now → TellsMaking count sessions result before after faults now }
 {
     match ended {
         Ok(lines) => Ok(counts_text(alloc, count, sessions, &lines)?),

@@ -1,6 +1,7 @@
 //! The command `run`.
 ghost use Rattle.std.specs.Prelude.{◌≡◌, ℕ, ◌+◌, ◌≤◌, ◌⊎◌, List, length, IfErr, IfOk, IfSome, Option};
 ghost use Rattle.erm_disk_run.specs.Found.{IsKept};
+ghost use Rattle.erm_disk_run.specs.Limits.{in_table};
 ghost use Rattle.erm_disk_run.specs.Runs.{AreInTables, CountsRun, EndsRun, LeavesUntold};
 ghost use Rattle.erm_outside.specs.Disk.{Step};
 ghost use Rattle.erm_report.specs.Texts.{line_text};
@@ -141,7 +142,7 @@ fn run_script<D: Disk>(alloc: Global, disk: D, script: &Script) -> Answered<D>
 fn run_text(alloc: Global, ended: Result<Vec<Line>, RunStop>) -> Result<Text, Stop>
     requires { AreInTables ended }
     ensures { (names : List (List ℕ)) (script : List ScriptLine) (before after : Option (List Step)) (faults now : ℕ)
-        → EndsRun ended before after names script → LeavesUntold ended before after names script → CountsRun ended faults now → TellsRan result names script before after faults now }
+        → EndsRun in_table ended before after names script → LeavesUntold in_table ended before after names script → CountsRun ended faults now → TellsRan result names script before after faults now }
 {
     match ended {
         Ok(lines) => Ok(lines_text(alloc, &lines)?),

@@ -5,16 +5,18 @@ ghost use Rattle.erm_top.specs.Commands.{IsSized, is_on};
 ghost use Rattle.erm_top.specs.Outcomes.{CommandEnds, Ends};
 
 use crate::checkpoint::checkpoint;
-use crate::commands::command_on;
+use crate::commands::{USAGE, command_on};
 use crate::inspect::{audit, recover};
 use crate::make::{make_and_run, make_text};
 use crate::printing::{MISUSED, STARVED, print};
 use crate::run::run;
+use crate::stream::{follow_stream, ship_log};
 use erm_command_line::Command;
+use erm_follow_run::starving_is_an_end;
 use erm_made::each_transaction_is_counted;
 use erm_outside::{Disk, Gate, Sink, Source};
 use erm_recover::SoundTest;
-use erm_report::{NO_MEMORY, USAGE};
+use erm_report::NO_MEMORY;
 use std::alloc::Global;
 use std::sync::Wait;
 use std::thread::Threads;
@@ -36,12 +38,14 @@ pub struct Ended<D> {
 /// - 2 where the words ask for no command that the program has, those that ask for help too; the usage line was printed;
 /// - 3 where the script is not in the grammar; the first bad line was printed, with its first kind of fault;
 /// - 4 where the source failed;
-/// - 5 where the sink failed while the report was put;
-/// - 6 where the disk failed; the report up to then was printed;
+/// - 5 where the sink failed while the report, the stream or the lines were put;
+/// - 6 where the disk failed; the report or the stream up to then was printed;
 /// - 7 where there are bytes on the disk, but no place to start from;
 /// - 8 where memory ran out;
 /// - 9 where the source has more than 16,777,216 bytes;
-/// - 10 where no run, or no place of the log, comes behind what the disk holds.
+/// - 10 where no run, or no place of the log, comes behind what the disk holds;
+/// - 11 where what stands in the stream is no item, whatever follows;
+/// - 12 where a commit of the stream breaks a safe stamp.
 ///
 /// Each clause on content stands where source, sink and disk tell their content. A disk that tells it must be one that may be opened: nothing is
 /// pending on it but of what an opening waits for, and behind what it recovers to there is no block of a later run. The disk that a whole run
@@ -100,6 +104,7 @@ pub fn run_to_end<S: Source, K: Sink, D: Disk>(
 {
     erm_ckpt::one_recovery::<SoundTest>();
     each_transaction_is_counted();
+    starving_is_an_end();
     match command_on(alloc, words) {
         Ok(Some(command)) => run_command(alloc, command, source, sink, disk),
         Ok(None) => {
@@ -150,6 +155,11 @@ fn run_command<S: Source, K: Sink, D: Disk>(
         Command::Recover => recover(alloc, sink, disk),
         Command::Audit => audit(alloc, sink, disk),
         Command::Checkpoint => checkpoint(alloc, sink, disk),
+        Command::Ship => ship_log(alloc, sink, disk),
+        Command::Follow => Ended {
+            status: follow_stream(alloc, source, sink),
+            disk,
+        },
         Command::Make {
             count,
             sessions,

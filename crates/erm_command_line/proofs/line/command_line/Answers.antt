@@ -11,4 +11,6 @@ returns c =
     let make = c.in_ok-subcommand-3.ensures.shape c.in_ok-make.ensures.1 ∙ ap₂ with_subcommand threads c.in_ok-make.ensures.0 in
     let recover = c.in_ok-subcommand-4.ensures.shape c.new-4.ensures.local ∙ ap₂ with_subcommand make (ap (λ (a : App). a.top) c.new-4.ensures.app) in
     let audit = c.in_ok-subcommand-5.ensures.shape c.new-5.ensures.local ∙ ap₂ with_subcommand recover (ap (λ (a : App). a.top) c.new-5.ensures.app) in
-    IfOk-weaker c.subcommand-6.result _ _ (λ r h. h.shape c.new-6.ensures.local ∙ ap₂ with_subcommand audit (ap (λ (a : App). a.top) c.new-6.ensures.app)) c.subcommand-6.ensures
+    let checkpoint = c.in_ok-subcommand-6.ensures.shape c.new-6.ensures.local ∙ ap₂ with_subcommand audit (ap (λ (a : App). a.top) c.new-6.ensures.app) in
+    let ship = c.in_ok-subcommand-7.ensures.shape c.new-7.ensures.local ∙ ap₂ with_subcommand checkpoint (ap (λ (a : App). a.top) c.new-7.ensures.app) in
+    IfOk-weaker c.subcommand-8.result _ _ (λ r h. h.shape c.new-8.ensures.local ∙ ap₂ with_subcommand ship (ap (λ (a : App). a.top) c.new-8.ensures.app)) c.subcommand-8.ensures

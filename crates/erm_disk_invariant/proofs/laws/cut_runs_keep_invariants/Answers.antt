@@ -9,7 +9,7 @@ use Rattle.erm_disk_invariant.proofs.Crashes.{outliving_keeps}
 use Rattle.erm_disk_invariant.proofs.laws.cut_runs_keep_invariants.Goals as goal
 
 pub returns : goal.returns
-returns g c invariant before after state names script lines was holds keep =
+returns g c invariant limits before after state names script lines was holds keep =
     let Invariant = g.I.Invariant.holds invariant in
     let commits = commits_told names script was.cut.answers was.closed in
     let fronts = subst (EachFrontRuns commits) was.starts.map was.fronts in (

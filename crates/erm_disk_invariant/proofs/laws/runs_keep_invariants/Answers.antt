@@ -11,7 +11,7 @@ use Rattle.erm_disk_invariant.proofs.Crashes.{end_keeps, outliving_keeps}
 use Rattle.erm_disk_invariant.proofs.laws.runs_keep_invariants.Goals as goal
 
 pub returns : goal.returns
-returns g c invariant before after state names script lines was holds keep =
+returns g c invariant limits before after state names script lines was holds keep =
     let Invariant = g.I.Invariant.holds invariant in
     let good = was.tight.good in
     let report = good.report in

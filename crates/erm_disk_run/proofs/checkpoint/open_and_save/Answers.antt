@@ -1,23 +1,28 @@
-use Rattle.std.proofs.Common.{◌≡◌, ℕ, ◌+◌, [], ◌∷◌, Err, sym, ap, ◌∙◌, subst, inr}
+use Rattle.std.proofs.Common.{◌≡◌, ℕ, ◌+◌, [], ◌∷◌, Err, sym, ap, ◌∙◌, subst, inr, arith}
 use Rattle.std.proofs.lemmas.Result.{err_from_is_err_and}
 use Rattle.erm_checkpoint.specs.declared.stops.CheckpointStop.{CheckpointStop}
 use Rattle.erm_checkpoint.specs.Taken.{Counts, HoldsLog}
 use Rattle.erm_log_run.proofs.Held.{told_after}
 use Rattle.erm_node.specs.Sound.{sound_law}
 use Rattle.erm_outside.specs.Faults.{Rose}
-use Rattle.erm_plain.specs.Logs.{plain_log}
-use Rattle.erm_plain.specs.Stands.{plain_view}
 use Rattle.erm_report.specs.declared.line.Line.TheVariants as line
+use Rattle.erm_table_world.specs.Logs.{view_kept}
+use Rattle.erm_table_world.specs.Stands.{table_log, world_view}
+use Rattle.erm_disk_run.specs.Limits.{AreLimits, in_table}
 use Rattle.erm_disk_run.specs.Opened.{OpensLog}
 use Rattle.erm_disk_run.proofs.Opened.{once_told, stops_for}
-use Rattle.erm_disk_run.proofs.SavedAt.{commits_told, goes_on, only_faults, saved_told, tail_is, turned_world}
+use Rattle.erm_disk_run.proofs.SavedAt.{commits_told, goes_on, older_kept, only_faults, saved_told, tail_is, turned_world}
 use Rattle.erm_disk_run.proofs.checkpoint.open_and_save.Goals as goal
+
+-- the table has cells enough
+table_limits : AreLimits in_table
+table_limits = record { least = omega arith; most = omega arith }
 
 pub checkpoint_turn-requires-clause-holds : goal.checkpoint_turn-requires-clause-holds
 checkpoint_turn-requires-clause-holds g c = λ well.
     let o = c.in_ok-world.field-0 in
     let was = c.in_ok-world.ensures.opened.1 in
-    told_after (HoldsLog sound_law.meets (plain_log o.world) o.slots) (OpensLog c.in_ok-world.ensures.opened.0 (plain_log o.world) o.slots) (g.D.Disk.told c.args.disk.now) (g.D.Disk.told c.open_disk.new.disk)
+    told_after (HoldsLog sound_law.meets (table_log o.world) o.slots) (OpensLog c.in_ok-world.ensures.opened.0 (table_log o.world) o.slots) (g.D.Disk.told c.args.disk.now) (g.D.Disk.told c.open_disk.new.disk)
     (λ old new opens. opens.holds) was.disk
 
 pub returns-in_err-world-clause-ended : goal.returns-in_err-world-clause-ended
@@ -35,11 +40,12 @@ returns-in-Ok-clause-ended g c =
     let mid = g.D.Disk.told c.open_disk.new.disk in
     let after = g.D.Disk.told c.checkpoint_turn.new.disk in
     let did = c.in-Ok.ensures.checkpoints in
-    let turned = turned_world state o.world new was.world c.in_ok-world.ensures.stands c.checkpoint_turn.ensures.stands c.checkpoint_turn.ensures.keeps did.2 in
-    let v = plain_view o.world in
-    let t = plain_view new in
-    let l = plain_log o.world in
-    let m = plain_log new in
+    let v = world_view o.world in
+    let t = world_view new in
+    let l = table_log o.world in
+    let m = table_log new in
+    let stands = c.checkpoint_turn.ensures.stands in
+    let turned = turned_world in_table table_limits state v t l m was.world c.in_ok-world.ensures.stands.log_of_view stands.log_of_view stands.log (view_kept sound_law o.world new c.checkpoint_turn.ensures.keeps) did.2 in
     let keeps = commits_told state v t l m turned before mid after o.slots was.disk c.checkpoints_keep.ensures c.kept_images_may_open.ensures was.found.low o.start.run (c.in-Ok.ensures.any_moment was.well) in
     let place : c.in-Ok.place ≡ state.at + 5 = sym did.3 ∙ tail_is state v t l m turned in (
       state,
@@ -64,18 +70,20 @@ returns-in-Err-clause-ended g c =
     let new = c.checkpoint_turn.new.world in
     let state = c.in_ok-world.ensures.opened.0 in
     let was = c.in_ok-world.ensures.opened.1 in
-    let v = plain_view o.world in
-    let t = plain_view new in
-    let l = plain_log o.world in
-    let m = plain_log new in
+    let v = world_view o.world in
+    let t = world_view new in
+    let l = table_log o.world in
+    let m = table_log new in
     let goes = goes_on l m c.in-Err.field-0 o.flusher c.checkpoint_turn.new.flusher was.well c.in-Err.ensures.checkpoints in
-    let turned = turned_world state o.world new was.world c.in_ok-world.ensures.stands c.checkpoint_turn.ensures.stands c.checkpoint_turn.ensures.keeps goes in
+    let stands = c.checkpoint_turn.ensures.stands in
+    let turned = turned_world in_table table_limits state v t l m was.world c.in_ok-world.ensures.stands.log_of_view stands.log_of_view stands.log (view_kept sound_law o.world new c.checkpoint_turn.ensures.keeps) goes in
     inr (
       state,
       was.found,
       once_told state (g.D.Disk.told c.args.disk.now) (g.D.Disk.told c.checkpoint_turn.new.disk)
           (commits_told state v t l m turned (g.D.Disk.told c.args.disk.now) (g.D.Disk.told c.open_disk.new.disk) (g.D.Disk.told c.checkpoint_turn.new.disk) o.slots was.disk c.checkpoints_keep.ensures
           c.kept_images_may_open.ensures was.found.low o.start.run (c.in-Err.ensures.any_moment was.well)),
+      older_kept state v t l m turned (g.D.Disk.told c.args.disk.now) (g.D.Disk.told c.open_disk.new.disk) (g.D.Disk.told c.checkpoint_turn.new.disk) o.slots was.disk o.start.run (c.in-Err.ensures.any_moment was.well),
     )
 
 pub returns-in-Err-clause-counts : goal.returns-in-Err-clause-counts
@@ -84,12 +92,13 @@ returns-in-Err-clause-counts g c =
     let new = c.checkpoint_turn.new.world in
     let state = c.in_ok-world.ensures.opened.0 in
     let was = c.in_ok-world.ensures.opened.1 in
-    let v = plain_view o.world in
-    let t = plain_view new in
-    let l = plain_log o.world in
-    let m = plain_log new in
+    let v = world_view o.world in
+    let t = world_view new in
+    let l = table_log o.world in
+    let m = table_log new in
     let goes = goes_on l m c.in-Err.field-0 o.flusher c.checkpoint_turn.new.flusher was.well c.in-Err.ensures.checkpoints in
-    let turned = turned_world state o.world new was.world c.in_ok-world.ensures.stands c.checkpoint_turn.ensures.stands c.checkpoint_turn.ensures.keeps goes in
+    let stands = c.checkpoint_turn.ensures.stands in
+    let turned = turned_world in_table table_limits state v t l m was.world c.in_ok-world.ensures.stands.log_of_view stands.log_of_view stands.log (view_kept sound_law o.world new c.checkpoint_turn.ensures.keeps) goes in
     let fault = only_faults state v t l m turned c.in-Err.field-0 o.flusher c.checkpoint_turn.new.flusher was.well c.in-Err.ensures.checkpoints in
     subst (λ (n : ℕ). Rose n (g.D.Disk.faults c.checkpoint_turn.new.disk)) c.in_ok-world.ensures.sound
     (subst (λ (cause : CheckpointStop). Counts {T = ℕ} (Err cause) (g.D.Disk.faults c.open_disk.new.disk) (g.D.Disk.faults c.checkpoint_turn.new.disk)) fault c.in-Err.ensures.counts)

@@ -18,7 +18,7 @@ returns-clause-opened g c =
         found = found_told (g.D.Disk.told c.args.disk.now) r read.recovered (omega (arith, low, above)) read.end read.run read.meets;
         world = c.in_ok-world.ensures.opened;
         disk =
-            subst (λ (before : Option (List Step)). OpensTold (state_recovered r) c.in_ok-world.world r.slots before (g.D.Disk.told c.open_on.new.disk)) read.told
+            subst (λ (before : Option (List Step)). OpensTold (state_recovered r) (g.W.LogWorld.log c.in_ok-world.world) r.slots before (g.D.Disk.told c.open_on.new.disk)) read.told
             c.in_ok-world.ensures.disk;
         map = c.in_ok-room.ensures.map ∙ ap (λ (rows : List (List ℕ)). map_of_rows (rows_of rows)) c.deref.ensures.value;
         stamp = refl;

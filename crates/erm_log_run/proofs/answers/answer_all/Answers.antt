@@ -1,4 +1,4 @@
-use Rattle.std.proofs.Common.{◌≡◌, ℕ, ◌+◌, ◌∷◌, [], ◌++◌, List, length, take, Some, refl, ap, sym, ◌∙◌, subst, arith}
+use Rattle.std.proofs.Common.{◌≡◌, ℕ, ◌+◌, ◌∷◌, [], ◌++◌, List, length, take, None, Some, refl, ap, sym, ◌∙◌, subst, arith}
 use Rattle.std.specs.List.{slice_get}
 use Rattle.std.proofs.lemmas.List.{take_more, length-append, length-take}
 use Rattle.std.proofs.lemmas.Option.{slice_get-get_or}
@@ -10,17 +10,19 @@ use Rattle.erm_report.specs.declared.answer.Answer.{Answer}
 use Rattle.erm_script.specs.declared.script.ScriptLine.{ScriptLine}
 use Rattle.erm_lines.specs.Executions.{IsExecution, Move, line_moves, move_of}
 use Rattle.erm_good_report.specs.Stamps.{place_told}
+use Rattle.erm_ckpt.specs.Slots.{removal_end}
+use Rattle.erm_outside.specs.Disk.{Tells}
 use Rattle.erm_log_run.specs.Acknowledged.{EndsAt}
 use Rattle.erm_log_run.specs.Keeping.{Keeper, KeepsOn, keeper_of}
 use Rattle.erm_log_run.specs.Lines.{IsLineOf}
-use Rattle.erm_log_run.specs.Saving.{AreSaved, OlderStay, saved_at}
+use Rattle.erm_log_run.specs.Saving.{AreRemoved, AreSaved, end_by, end_of_command, removed_to, removing_to, saved_at}
 use Rattle.erm_log_run.specs.Starving.{Starves}
 use Rattle.erm_log_run.proofs.Answering.{line_moves_front, line_moves_more}
 use Rattle.erm_log_run.proofs.Closing.{execution_more}
 use Rattle.erm_log_run.proofs.Leaving.{on_itself, on_then}
 use Rattle.erm_log_run.proofs.Lined.{line_of_too}
 use Rattle.erm_log_run.proofs.Serial.{serializable_too}
-use Rattle.erm_log_run.proofs.Older.{older_itself, stay_more}
+use Rattle.erm_log_run.proofs.Older.{most_next, older_itself, removed_below, stay_more, stop_removes}
 use Rattle.erm_log_run.proofs.Saving.{saved_more}
 use Rattle.erm_log_run.proofs.Starving.{starved_behind, starved_so, stop_starves}
 use Rattle.erm_log_run.proofs.Stopped.{stop_keeps, stop_ran}
@@ -40,7 +42,8 @@ loop-line-init g c = record {
   keeps = on_itself g.W.LogWorld.rows_law.meets _;
   told = λ place is. absurd (none_in_nil is.answer (subst (λ (xs : List Answer). is.answer ∈ xs) c.requires.none is.given));
   saves = subst (λ (xs : List Answer). AreSaved (saved_at xs) (g.D.Disk.told c.args.store.now.disk) c.args.store.now.slots c.args.store.now.slots) (sym c.requires.none) refl;
-  older = subst (λ (xs : List Answer). OlderStay (saved_at xs) (g.W.LogWorld.log c.args.world.now).flushed (g.D.Disk.told c.args.store.now.disk) (g.D.Disk.told c.args.store.now.disk)) (sym c.requires.none) (older_itself (g.W.LogWorld.log c.args.world.now).flushed (g.D.Disk.told c.args.store.now.disk));
+  older = subst (λ (xs : List Answer). Tells (AreRemoved (removed_to c.args.store.now.slots xs) (g.W.LogWorld.log c.args.world.now).flushed (g.W.LogWorld.log c.args.world.now).flushed) (g.D.Disk.told c.args.store.now.disk) (g.D.Disk.told c.args.store.now.disk)) (sym c.requires.none)
+      (older_itself (g.W.LogWorld.log c.args.world.now).flushed (g.W.LogWorld.log c.args.world.now).flushed (g.D.Disk.told c.args.store.now.disk));
   faults = refl;
 }
 
@@ -105,8 +108,8 @@ loop-line-preserved g c =
           (all_kept_more sound c.kept_logs_begin.ensures first was is c.loop-line.answers.items a c.requires.held kept.keeps keeps.1 further keeps.0 reaches c.in_ok-answer.ensures.saves c.in_ok-answer.ensures.removes kept.told);
       saves = subst (λ (xs : List Answer). AreSaved (saved_at xs) first.told first.slots is.slots) (sym pushed)
           (saved_more sound c.kept_logs_begin.ensures first was is c.loop-line.answers.items a c.requires.held further kept.saves c.in_ok-answer.ensures.saves);
-      older = subst (λ (xs : List Answer). OlderStay (saved_at xs) first.log.flushed first.told is.told) (sym pushed)
-          (stay_more c.loop-line.answers.items a first.log.flushed was.log.flushed first.told was.told is.told kept.keeps.further kept.older c.in_ok-answer.ensures.older);
+      older = subst (λ (xs : List Answer). Tells (AreRemoved (removed_to first.slots xs) first.log.flushed is.log.flushed) first.told is.told) (sym pushed)
+          (stay_more first.slots was.slots c.loop-line.answers.items a first.log.flushed was.log.flushed is.log.flushed first.told was.told is.told kept.keeps.further keeps.1.further kept.saves kept.older c.in_ok-answer.ensures.older);
       faults = c.in_ok-answer.ensures.counts ∙ kept.faults;
     }
 
@@ -147,6 +150,25 @@ returns-in_err-answer-clause-told g c =
     let p = err_from_is_err_and c.from_residual.result c.from_residual.ensures.1 in
     rw (p.1, p.2) (stop_told Answer (Unit {0}) g.W.LogWorld.rows_law.meets c.in_err-answer.field-0.0 first.told c.loop-line.answers.items was is kept.told c.in_err-answer.ensures.keeps)
 
+pub returns-in_err-answer-clause-older : goal.returns-in_err-answer-clause-older
+returns-in_err-answer-clause-older g c =
+    let kept = c.loop-line.invariant in
+    let first : Keeper = keeper_of (g.W.LogWorld.log c.args.world.now) c.args.store.now (g.D.Disk.told c.args.store.now.disk) in
+    let was : Keeper = keeper_of (g.W.LogWorld.log c.loop-line.world) c.loop-line.store (g.D.Disk.told c.loop-line.store.disk) in
+    let is : Keeper = keeper_of (g.W.LogWorld.log c.run_line.new.world) c.run_line.new.store (g.D.Disk.told c.run_line.new.store.disk) in
+    let answers = c.loop-line.answers.items in
+    let script = c.args.script.now in
+    let k = c.loop-line.line-index in
+    let l = c.line-item.result in
+    let p = err_from_is_err_and c.from_residual.result c.from_residual.ensures.1 in
+    let at : slice_get script (length answers) ≡ Some l =
+    ap (λ (n : ℕ). slice_get script n) kept.many ∙ slice_get-get_or script k l c.loop-line-test.true ∙ ap (λ (x : ScriptLine). Some x) (sym c.line-item.is)
+    in
+    rw (p.1, p.2)
+    (stop_removes Answer (Unit {0}) c.in_err-answer.field-0.0 (end_by was.slots None) (λ x. removed_to first.slots answers) (removed_to first.slots answers) (end_of_command l.command (removal_end was.slots))
+    (removing_to first.slots script answers) first.log.flushed was.log.flushed is.log.flushed first.told was.told is.told (removed_below first.slots script answers)
+    (most_next first.slots was.slots script l answers first.told at kept.saves) kept.keeps.further kept.older c.in_err-answer.ensures.older)
+
 pub returns-in_err-answer-clause-starved : goal.returns-in_err-answer-clause-starved
 returns-in_err-answer-clause-starved g c =
     let v = g.W.RowWorld.view c.args.world.now in
@@ -166,7 +188,7 @@ returns-in_err-answer-clause-starved g c =
     (λ same.
     starved_behind sound v before script answers first was told (omega (arith, fewer, many)) (subst (λ (ms : List Move). IsExecution v ms before) (line_moves_front script c.loop-line.line-index answers many) kept.ran)
     (g.met.W.ScriptWorld.one_log c.loop-line.world kept.stands) (g.met.W.LogWorld.is_log c.loop-line.world (g.met.W.ScriptWorld.may_flush c.loop-line.world kept.stands))
-    (rw same) kept.keeps)
+    (rw same) kept.keeps kept.older)
     c.in_err-answer.ensures.spared)
 
 pub returns-in_err-push-clause-starved : goal.returns-in_err-push-clause-starved
@@ -202,4 +224,5 @@ returns-in_err-push-clause-starved g c =
     starved_so _ (Starves sound v script first is.told)
     (starved_behind sound v after script answers first is is.told (omega (arith, fewer, more)) (subst (λ (ms : List Move). IsExecution v ms after) (sym moves) goes)
     (g.met.W.ScriptWorld.one_log new stands) (g.met.W.LogWorld.is_log new (g.met.W.ScriptWorld.may_flush new stands)) refl
-    (on_then sound first was is kept.keeps c.in_ok-answer.ensures.keeps.1))
+    (on_then sound first was is kept.keeps c.in_ok-answer.ensures.keeps.1)
+    (stay_more first.slots was.slots c.loop-line.answers.items a first.log.flushed was.log.flushed is.log.flushed first.told was.told is.told kept.keeps.further c.in_ok-answer.ensures.keeps.1.further kept.saves kept.older c.in_ok-answer.ensures.older))

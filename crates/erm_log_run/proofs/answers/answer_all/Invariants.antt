@@ -1,9 +1,10 @@
 use Rattle.std.proofs.Common.{◌≡◌, length, take}
+use Rattle.erm_outside.specs.Disk.{Tells}
 use Rattle.erm_lines.specs.Executions.{IsExecution, line_moves}
 use Rattle.erm_lines.specs.Whole.{AreRunsNow}
 use Rattle.erm_log_run.specs.Keeping.{IsHeld, KeepsOn, keeper_of}
 use Rattle.erm_log_run.specs.Lines.{AreReceipts}
-use Rattle.erm_log_run.specs.Saving.{AreSaved, OlderStay, saved_at}
+use Rattle.erm_log_run.specs.Saving.{AreRemoved, AreSaved, removed_to, saved_at}
 use Rattle.erm_log_run.proofs.Told.{AreKept}
 use Rattle.erm_log_run.proofs.answers.answer_all.Given as goal
 
@@ -20,6 +21,6 @@ invariant-loop-line g l = record {
   keeps : KeepsOn g.W.LogWorld.rows_law.meets (keeper_of (g.W.LogWorld.log l.fn.world) l.fn.store (g.D.Disk.told l.fn.store.disk)) (keeper_of (g.W.LogWorld.log l.world) l.store (g.D.Disk.told l.store.disk));
   told : AreKept g.W.LogWorld.rows_law.meets (g.D.Disk.told l.fn.store.disk) l.answers.items (keeper_of (g.W.LogWorld.log l.world) l.store (g.D.Disk.told l.store.disk));
   saves : AreSaved (saved_at l.answers.items) (g.D.Disk.told l.fn.store.disk) l.fn.store.slots l.store.slots;
-  older : OlderStay (saved_at l.answers.items) (g.W.LogWorld.log l.fn.world).flushed (g.D.Disk.told l.fn.store.disk) (g.D.Disk.told l.store.disk);
+  older : Tells (AreRemoved (removed_to l.fn.store.slots l.answers.items) (g.W.LogWorld.log l.fn.world).flushed (g.W.LogWorld.log l.world).flushed) (g.D.Disk.told l.fn.store.disk) (g.D.Disk.told l.store.disk);
   faults : g.D.Disk.faults l.store.disk ≡ g.D.Disk.faults l.fn.store.disk;
 }

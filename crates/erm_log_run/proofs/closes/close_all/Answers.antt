@@ -1,7 +1,8 @@
-use Rattle.std.proofs.Common.{◌≡◌, length, None, Option, List, Vec, refl, replicate, sym, ap, ◌∙◌, subst, arith}
+use Rattle.std.proofs.Common.{◌≡◌, ◌≤◌, length, None, Some, IfSome, Option, List, Vec, refl, replicate, sym, ap, ◌∙◌, subst, arith}
 use Rattle.std.proofs.lemmas.List.{length-replicate}
 use Rattle.std.proofs.lemmas.Result.{err_from_is_err_and}
 use Rattle.std.specs.declared.alloc.Global.{Global}
+use Rattle.erm_outside.specs.Disk.{Step}
 use Rattle.erm_report.specs.declared.answer.Answer.{Answer}
 use Rattle.erm_node.specs.Sound.{sound_law}
 use Rattle.erm_world.specs.World.{Opening}
@@ -9,12 +10,17 @@ use Rattle.erm_log_run.specs.Closing.{IsClosing}
 use Rattle.erm_log_run.specs.Keeping.{Keeper, keeper_of}
 use Rattle.erm_log_run.proofs.Closing.{flushed_too, none_closed}
 use Rattle.erm_log_run.proofs.Leaving.{SessionLaws, on_itself, on_then, session_keeps}
-use Rattle.erm_log_run.proofs.Older.{older_itself, older_then}
+use Rattle.erm_log_run.proofs.Older.{older_itself, older_later, older_then, stop_removes}
 use Rattle.erm_log_run.proofs.Progress.{all_idle, first_count, idle_after, none_left, same_count, turn_taken}
 use Rattle.erm_log_run.proofs.Serial.{serializable_too}
 use Rattle.erm_log_run.proofs.Starving.{stop_starves}
 use Rattle.erm_log_run.proofs.Stopped.{stop_closes}
 use Rattle.erm_log_run.proofs.closes.close_all.Goals as goal
+
+-- none may be removed
+none_more : (told : Option (List Step)) → IfSome told (λ steps. 0 ≤ 0)
+none_more None = tt
+none_more (Some steps) = omega arith
 
 pub loop-init : goal.loop-init
 loop-init g c =
@@ -30,7 +36,7 @@ loop-init g c =
       held = c.requires.held;
       keeps = on_itself g.W.LogWorld.rows_law.meets _;
       slots = refl;
-      older = older_itself (g.W.LogWorld.log c.args.world.now).flushed (g.D.Disk.told c.args.store.now.disk);
+      older = older_itself (g.W.LogWorld.log c.args.world.now).flushed (g.W.LogWorld.log c.args.world.now).flushed (g.D.Disk.told c.args.store.now.disk);
       faults = refl;
     }
 
@@ -75,7 +81,8 @@ loop-preserved g c =
       held = keeps.0;
       keeps = on_then law.meets first k m (on_then law.meets first was k kept.keeps flushes.1) keeps.1;
       slots = c.in_ok-flush_up.ensures.slots ∙ kept.slots;
-      older = older_then first.log.flushed was.log.flushed first.told was.told k.told kept.keeps.further kept.older c.in_ok-flush_up.ensures.older;
+      older = older_later first.log.flushed k.log.flushed m.log.flushed first.told k.told
+          (older_then first.log.flushed was.log.flushed k.log.flushed first.told was.told k.told kept.keeps.further flushes.1.further kept.older c.in_ok-flush_up.ensures.older);
       faults = c.in_ok-flush_up.ensures.counts ∙ kept.faults;
     }
 
@@ -105,8 +112,28 @@ pub returns-clause-older : goal.returns-clause-older
 returns-clause-older g c =
     let kept = c.loop.invariant in
     let place = (g.W.LogWorld.log c.args.world.now).flushed in
-    older_then place (g.W.LogWorld.log c.loop.world).flushed (g.D.Disk.told c.args.store.now.disk) (g.D.Disk.told c.loop.store.disk) (g.D.Disk.told c.flush_up-2.new.store.disk)
-    kept.keeps.further kept.older c.in_ok-flush_up-2.ensures.older
+    older_then place (g.W.LogWorld.log c.loop.world).flushed (g.W.LogWorld.log c.flush_up-2.new.world).flushed (g.D.Disk.told c.args.store.now.disk) (g.D.Disk.told c.loop.store.disk) (g.D.Disk.told c.flush_up-2.new.store.disk)
+    kept.keeps.further c.in_ok-flush_up-2.ensures.keeps.1.further kept.older c.in_ok-flush_up-2.ensures.older
+
+pub returns-in_err-flush_up-clause-older : goal.returns-in_err-flush_up-clause-older
+returns-in_err-flush_up-clause-older g c =
+    let kept = c.loop.invariant in
+    let place = (g.W.LogWorld.log c.args.world.now).flushed in
+    let p = err_from_is_err_and c.from_residual-in_err-flush_up.result c.from_residual-in_err-flush_up.ensures.1 in
+    rw (p.1, p.2)
+    (stop_removes (Unit {0}) (Vec (Option Answer) Global) c.in_err-flush_up.field-0.0 (λ x. 0) (λ x. 0) 0 0 0 place (g.W.LogWorld.log c.loop.world).flushed (g.W.LogWorld.log c.flush_up.new.world).flushed
+    (g.D.Disk.told c.args.store.now.disk) (g.D.Disk.told c.loop.store.disk) (g.D.Disk.told c.flush_up.new.store.disk) (omega arith) (none_more (g.D.Disk.told c.args.store.now.disk)) kept.keeps.further kept.older
+    c.in_err-flush_up.ensures.older)
+
+pub returns-in_err-flush_up-2-clause-older : goal.returns-in_err-flush_up-2-clause-older
+returns-in_err-flush_up-2-clause-older g c =
+    let kept = c.loop.invariant in
+    let place = (g.W.LogWorld.log c.args.world.now).flushed in
+    let p = err_from_is_err_and c.from_residual-in_err-flush_up-2.result c.from_residual-in_err-flush_up-2.ensures.1 in
+    rw (p.1, p.2)
+    (stop_removes (Unit {0}) (Vec (Option Answer) Global) c.in_err-flush_up-2.field-0.0 (λ x. 0) (λ x. 0) 0 0 0 place (g.W.LogWorld.log c.loop.world).flushed (g.W.LogWorld.log c.flush_up-2.new.world).flushed
+    (g.D.Disk.told c.args.store.now.disk) (g.D.Disk.told c.loop.store.disk) (g.D.Disk.told c.flush_up-2.new.store.disk) (omega arith) (none_more (g.D.Disk.told c.args.store.now.disk)) kept.keeps.further kept.older
+    c.in_err-flush_up-2.ensures.older)
 
 pub returns-in_err-flush_up-clause-closes : goal.returns-in_err-flush_up-clause-closes
 returns-in_err-flush_up-clause-closes g c =

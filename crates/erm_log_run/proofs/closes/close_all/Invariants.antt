@@ -1,7 +1,8 @@
-use Rattle.std.proofs.Common.{◌≡◌, ◌+◌, ◌≤◌, None, length}
+use Rattle.std.proofs.Common.{◌≡◌, ◌+◌, ◌≤◌, length}
+use Rattle.erm_outside.specs.Disk.{Tells}
 use Rattle.erm_log_run.specs.Closing.{IsClosing, count_open}
 use Rattle.erm_log_run.specs.Keeping.{IsHeld, KeepsOn, keeper_of}
-use Rattle.erm_log_run.specs.Saving.{OlderStay}
+use Rattle.erm_log_run.specs.Saving.{AreRemoved}
 use Rattle.erm_log_run.proofs.closes.close_all.Given as goal
 
 -- with each turn one session at least was closed, where one wasn't idle, and the log is kept
@@ -15,6 +16,6 @@ invariant-loop g l = record {
   held : IsHeld g.W.LogWorld.rows_law.meets (keeper_of (g.W.LogWorld.log l.world) l.store (g.D.Disk.told l.store.disk));
   keeps : KeepsOn g.W.LogWorld.rows_law.meets (keeper_of (g.W.LogWorld.log l.fn.world) l.fn.store (g.D.Disk.told l.fn.store.disk)) (keeper_of (g.W.LogWorld.log l.world) l.store (g.D.Disk.told l.store.disk));
   slots : l.store.slots ≡ l.fn.store.slots;
-  older : OlderStay None (g.W.LogWorld.log l.fn.world).flushed (g.D.Disk.told l.fn.store.disk) (g.D.Disk.told l.store.disk);
+  older : Tells (AreRemoved 0 (g.W.LogWorld.log l.fn.world).flushed (g.W.LogWorld.log l.world).flushed) (g.D.Disk.told l.fn.store.disk) (g.D.Disk.told l.store.disk);
   faults : g.D.Disk.faults l.store.disk ≡ g.D.Disk.faults l.fn.store.disk;
 }

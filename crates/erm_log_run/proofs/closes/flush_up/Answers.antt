@@ -3,7 +3,7 @@ use Rattle.erm_world.specs.Log.{IsStop}
 use Rattle.erm_log_run.specs.Keeping.{Keeper, keeper_of}
 use Rattle.erm_log_run.proofs.Flushed.{Flushes, FlushLaws, fault_keeps, flush_keeps}
 use Rattle.erm_log_run.proofs.Flushing.{all_when_idle, did_flush, up_from}
-use Rattle.erm_log_run.proofs.Older.{flushed_older}
+use Rattle.erm_log_run.proofs.Older.{flushed_may, flushed_older}
 use Rattle.erm_log_run.proofs.closes.flush_up.Goals as goal
 
 pub returns-in-Empty : goal.returns-in-Empty
@@ -30,7 +30,7 @@ returns-in-Empty g c =
       flushes = tt;
       up = up_from g.W.RowWorld.law (g.W.RowWorld.view new) n (g.met.W.RowWorld.serializable new stay.0) after stops;
       slots = refl;
-      older = flushed_older sound l.flushed n k.told m.told f.writes;
+      older = flushed_older sound l.flushed n.flushed n k.told m.told f.writes;
       all = all_when_idle (g.W.RowWorld.view new) n after stops;
       keeps = flush_keeps sound laws k m f turn.1 stops (c.in-Empty.ensures.lasts turn.1) (c.in-Empty.ensures.ready turn.1);
       counts = c.in-Empty.ensures.counts;
@@ -61,7 +61,7 @@ returns-in-Unfilled g c =
       flushes = tt;
       up = up_from g.W.RowWorld.law (g.W.RowWorld.view new) n (g.met.W.RowWorld.serializable new stay.0) after stops;
       slots = refl;
-      older = flushed_older sound l.flushed n k.told m.told f.writes;
+      older = flushed_older sound l.flushed n.flushed n k.told m.told f.writes;
       all = all_when_idle (g.W.RowWorld.view new) n after stops;
       keeps = flush_keeps sound laws k m f turn.1 stops (c.in-Unfilled.ensures.lasts turn.1) (c.in-Unfilled.ensures.ready turn.1);
       counts = c.in-Unfilled.ensures.counts;
@@ -89,7 +89,7 @@ returns-in-DiskFault g c =
       flushes = did_flush (g.W.RowWorld.view w) (g.W.RowWorld.view new) l n (g.met.W.ScriptWorld.one_log w c.requires.stands) (g.met.W.ScriptWorld.one_log new stay.0) stay.1 turn.2.further;
       up = tt;
       slots = tt;
-      older = tt;
+      older = flushed_may sound l.flushed 0 n k.told m.told f.writes;
       all = tt;
       keeps = fault_keeps sound laws k m f;
       counts = c.in-DiskFault.ensures.counts;

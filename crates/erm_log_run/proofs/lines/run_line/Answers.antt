@@ -1,12 +1,14 @@
-use Rattle.std.proofs.Common.{◌≡◌, IfOk, inl, inr, refl, subst}
+use Rattle.std.proofs.Common.{◌≡◌, IfOk, None, inl, inr, refl, sym, subst}
 use Rattle.std.proofs.lemmas.Result.{IfOk-weaker}
 use Rattle.erm_script.specs.declared.script.Command.{Command}
 use Rattle.erm_script.specs.declared.script.Command.TheVariants as command
+use Rattle.erm_ckpt.specs.Slots.{removal_end}
 use Rattle.erm_lines.specs.Executions.{DidLogLine}
 use Rattle.erm_lines.proofs.Moved.{line_moved, log_flushes}
 use Rattle.erm_told.proofs.Lines.{turn_line}
 use Rattle.erm_log_run.specs.Keeping.{Keeper, keeper_of}
 use Rattle.erm_log_run.specs.Lines.{Names}
+use Rattle.erm_log_run.specs.Saving.{RemovesTo, end_by, end_of_command}
 use Rattle.erm_log_run.proofs.Leaving.{SessionLaws, session_keeps, turn_leaves}
 use Rattle.erm_log_run.proofs.Lined.{checkpoint_moved, flush_moved, log_line, names_session}
 use Rattle.erm_log_run.proofs.Older.{session_older}
@@ -26,6 +28,10 @@ returns-in-Flush g c =
     let is : l.command ≡ command.Flush = c.in-Flush.is in
     let none : l.session ≡ 0 = subst (λ (d : Command). Names v d l.session) is c.requires.line.session in
     let r = c.flush_line.result in
+    let older_is = λ (d : Command) (same : l.command ≡ d).
+    subst (λ (x : Command). RemovesTo r (end_by c.args.store.now.slots None) (end_of_command x (removal_end c.args.store.now.slots)) (g.W.LogWorld.log c.args.world.now).flushed (g.W.LogWorld.log c.flush_line.new.world).flushed
+    (g.D.Disk.told c.args.store.now.disk) (g.D.Disk.told c.flush_line.new.store.disk)) (sym same)
+    in
     let logged : IfOk r (λ a. DidLogLine v l a t) = IfOk-weaker r _ _ (λ a did. log_line v l a t command.Flush is none did) c.flush_line.ensures.answered in
     record {
       stands = c.flush_line.ensures.stands;
@@ -38,7 +44,7 @@ returns-in-Flush g c =
       keeps = c.flush_line.ensures.keeps;
       saves = c.flush_line.ensures.saves;
       removes = c.flush_line.ensures.removes;
-      older = c.flush_line.ensures.older;
+      older = older_is command.Flush is c.flush_line.ensures.older;
       counts = c.flush_line.ensures.counts;
       spared = starved_weaker r ⊥ (c.flush_line.new.store ≡ c.args.store.now) (λ no. absurd no) c.flush_line.ensures.fed;
     }
@@ -52,6 +58,10 @@ returns-in-Checkpoint g c =
     let is : l.command ≡ command.Checkpoint = c.in-Checkpoint.is in
     let none : l.session ≡ 0 = subst (λ (d : Command). Names v d l.session) is c.requires.line.session in
     let r = c.checkpoint_line.result in
+    let older_is = λ (d : Command) (same : l.command ≡ d).
+    subst (λ (x : Command). RemovesTo r (end_by c.args.store.now.slots None) (end_of_command x (removal_end c.args.store.now.slots)) (g.W.LogWorld.log c.args.world.now).flushed (g.W.LogWorld.log c.checkpoint_line.new.world).flushed
+    (g.D.Disk.told c.args.store.now.disk) (g.D.Disk.told c.checkpoint_line.new.store.disk)) (sym same)
+    in
     let logged : IfOk r (λ a. DidLogLine v l a t) = IfOk-weaker r _ _ (λ a did. log_line v l a t command.Checkpoint is none did) c.checkpoint_line.ensures.answered in
     record {
       stands = c.checkpoint_line.ensures.stands;
@@ -64,7 +74,7 @@ returns-in-Checkpoint g c =
       keeps = c.checkpoint_line.ensures.keeps;
       saves = c.checkpoint_line.ensures.saves;
       removes = c.checkpoint_line.ensures.removes;
-      older = c.checkpoint_line.ensures.older;
+      older = older_is command.Checkpoint is c.checkpoint_line.ensures.older;
       counts = c.checkpoint_line.ensures.counts;
       spared = starved_weaker r ⊥ (c.checkpoint_line.new.store ≡ c.args.store.now) (λ no. absurd no) c.checkpoint_line.ensures.fed;
     }
@@ -113,7 +123,7 @@ returns-in_ok-session_line-in_default g c =
           c.requires.held refl refl refl refl;
       saves = session_saved v t l a (g.D.Disk.told s.disk) s.slots did;
       removes = session_removes law.meets v t l a (g.D.Disk.told s.disk) s.slots did;
-      older = session_older a k.log.flushed (g.D.Disk.told s.disk);
+      older = session_older v t l a s.slots k.log.flushed m.log.flushed (g.D.Disk.told s.disk) did;
       counts = refl;
       spared = tt;
     }

@@ -1,11 +1,12 @@
 use Rattle.std.proofs.Common.{inl, ℕ, Err, refl, sym, ◌∙◌, subst}
 use Rattle.erm_checkpoint.specs.declared.stops.CheckpointStop.{CheckpointStop}
-use Rattle.erm_checkpoint.specs.Taken.{Counts}
+use Rattle.erm_checkpoint.specs.Taken.{Counts, slot_at_end}
 use Rattle.erm_checkpoint.specs.Taken as taken
 use Rattle.erm_log_run.specs.Keeping.{Keeper, keeper_of}
 use Rattle.erm_log_run.proofs.Flushed.{CheckpointLaws, Checkpoints, checkpoint_fault_keeps, checkpoint_keeps}
 use Rattle.erm_log_run.proofs.Flushing.{did_flush}
 use Rattle.erm_log_run.proofs.Logged.{all_decided, checkpointed_did, none_waits}
+use Rattle.erm_log_run.proofs.Older.{checkpoint_may, checkpoint_older}
 use Rattle.erm_log_run.proofs.Saving.{checkpoint_removes, checkpoint_saved}
 use Rattle.erm_log_run.proofs.log_lines.checkpoint_flushed.Goals as goal
 
@@ -33,7 +34,7 @@ returns-in-Ok g c =
       keeps = checkpoint_keeps sound laws k m f c.in-Ok.place did.1 did.4 (inl (did.4 ∙ sym did.3)) (c.in-Ok.ensures.stays did.1) c.in-Ok.ensures.lasts;
       removes = checkpoint_removes sound l.flushed n s.slots c.checkpoint_turn.new.slots s.run c.in-Ok.place (g.D.Disk.told s.disk) (g.D.Disk.told c.checkpoint_turn.new.disk) did.3 c.in-Ok.ensures.put c.in-Ok.ensures.saved;
       saves = checkpoint_saved sound n c.checkpoint_turn.new.slots c.in-Ok.place (g.D.Disk.told c.checkpoint_turn.new.disk) c.in-Ok.ensures.lasts;
-      older = tt;
+      older = checkpoint_older sound l.flushed n s.slots (slot_at_end n s.run s.slots) (g.D.Disk.told s.disk) (g.D.Disk.told c.checkpoint_turn.new.disk) c.in-Ok.ensures.saved;
       counts = c.in-Ok.ensures.counts;
       fed = tt;
     }
@@ -79,7 +80,7 @@ returns-in-Err-DiskFault g c =
       keeps = checkpoint_fault_keeps sound laws k m f;
       saves = tt;
       removes = tt;
-      older = tt;
+      older = checkpoint_may sound l.flushed n s.slots (slot_at_end n s.run s.slots) (g.D.Disk.told s.disk) (g.D.Disk.told c.checkpoint_turn.new.disk) f.takes;
       counts = subst (λ (stop : CheckpointStop). Counts {T = ℕ} (Err stop) (g.D.Disk.faults s.disk) (g.D.Disk.faults c.checkpoint_turn.new.disk)) c.in-Err-DiskFault.field-0-is c.in-Err-DiskFault.ensures.counts;
       fed = tt;
     }

@@ -1,12 +1,13 @@
 use Rattle.std.proofs.Common.{inl, inr, ◌≡◌, ℕ, None, refl, sym, ◌∙◌, subst}
 use Rattle.std.proofs.lemmas.Result.{IfOk-weaker}
+use Rattle.erm_ckpt.specs.Slots.{removal_end}
 use Rattle.erm_world.specs.Log.{IsStop}
 use Rattle.erm_log_run.specs.Keeping.{Keeper, keeper_of}
-use Rattle.erm_log_run.specs.Saving.{saved_by}
+use Rattle.erm_log_run.specs.Saving.{end_by}
 use Rattle.erm_log_run.proofs.Flushed.{Flushes, FlushLaws, fault_keeps, flush_keeps}
 use Rattle.erm_log_run.proofs.Flushing.{did_flush, flushes_then}
 use Rattle.erm_log_run.proofs.Logged.{checkpoint_behind, unfinished_did}
-use Rattle.erm_log_run.proofs.Older.{flushed_older, stay_then}
+use Rattle.erm_log_run.proofs.Older.{flushed_may, flushed_older, flushed_spares, removes_then}
 use Rattle.erm_log_run.proofs.Results.{counts_then, keeps_then}
 use Rattle.erm_log_run.proofs.Saving.{writes_on}
 use Rattle.erm_log_run.proofs.Told.{removed_since}
@@ -66,7 +67,7 @@ returns-in-Empty g c =
       keeps = keeps_then r sound k m last keeps.1 did.keeps;
       saves = did.saves;
       removes = IfOk-weaker r _ _ (λ a removed. removed_since sound a k.told m.told last.told s.slots z.slots (writes_on sound l.flushed n k.told m.told f.writes) removed) did.removes;
-      older = IfOk-weaker r _ _ (λ a stays. stay_then (saved_by a None) l.flushed n.flushed k.told m.told last.told turn.2.further (flushed_older sound l.flushed n k.told m.told f.writes) stays) did.older;
+      older = removes_then r (end_by s.slots None) (removal_end s.slots) l.flushed n.flushed last.log.flushed k.told m.told last.told turn.2.further (flushed_spares sound l.flushed n k.told m.told f.writes) did.older;
       counts = counts_then r _ _ _ c.in-Empty.ensures.counts did.counts;
       fed = did.fed;
     }
@@ -96,7 +97,7 @@ returns-in-Unfilled g c =
       keeps = flush_keeps sound laws k m f turn.1 stops (c.in-Unfilled.ensures.lasts turn.1) (c.in-Unfilled.ensures.ready turn.1);
       saves = refl;
       removes = tt;
-      older = flushed_older sound l.flushed n k.told m.told f.writes;
+      older = flushed_older sound l.flushed n.flushed n k.told m.told f.writes;
       counts = c.in-Unfilled.ensures.counts;
       fed = tt;
     }
@@ -123,7 +124,7 @@ returns-in-DiskFault g c =
       keeps = fault_keeps sound laws k m f;
       saves = tt;
       removes = tt;
-      older = tt;
+      older = flushed_may sound l.flushed (removal_end s.slots) n k.told m.told f.writes;
       counts = c.in-DiskFault.ensures.counts;
       fed = tt;
     }

@@ -7,7 +7,7 @@ use Rattle.erm_log_run.specs.Keeping.{Keeper, keeper_of}
 use Rattle.erm_log_run.proofs.Flushed.{Flushes, FlushLaws, fault_keeps, flush_keeps, idle_keeps}
 use Rattle.erm_log_run.proofs.Flushing.{did_flush}
 use Rattle.erm_log_run.proofs.Logged.{empty_did, flushed_did, unfilled_did}
-use Rattle.erm_log_run.proofs.Older.{flushed_older}
+use Rattle.erm_log_run.proofs.Older.{flushed_may, flushed_older}
 use Rattle.erm_log_run.proofs.log_lines.flush_line.Goals as goal
 
 pub returns-in-Ok : goal.returns-in-Ok
@@ -35,7 +35,7 @@ returns-in-Ok g c =
       keeps = flush_keeps sound laws k m f turn.1 stops c.in-Ok.ensures.lasts (c.in-Ok.ensures.ready turn.1);
       saves = refl;
       removes = tt;
-      older = flushed_older sound l.flushed n (g.D.Disk.told s.disk) (g.D.Disk.told c.flush_turn.new.disk) f.writes;
+      older = flushed_older sound l.flushed n.flushed n (g.D.Disk.told s.disk) (g.D.Disk.told c.flush_turn.new.disk) f.writes;
       counts = c.in-Ok.ensures.counts;
       fed = tt;
     }
@@ -66,7 +66,7 @@ returns-in-Err-Empty g c =
       keeps = idle_keeps sound laws k m f turn.1 stops turn.2 stays;
       saves = refl;
       removes = tt;
-      older = flushed_older sound l.flushed n (g.D.Disk.told s.disk) (g.D.Disk.told c.flush_turn.new.disk) f.writes;
+      older = flushed_older sound l.flushed n.flushed n (g.D.Disk.told s.disk) (g.D.Disk.told c.flush_turn.new.disk) f.writes;
       counts = subst (λ (stop : FlushStop). Counts (Err stop) (g.D.Disk.faults s.disk) (g.D.Disk.faults c.flush_turn.new.disk)) c.in-Err-Empty.field-0-is c.in-Err-Empty.ensures.counts;
       fed = tt;
     }
@@ -97,7 +97,7 @@ returns-in-Err-Unfilled g c =
       keeps = idle_keeps sound laws k m f turn.1 stops turn.2 stays;
       saves = refl;
       removes = tt;
-      older = flushed_older sound l.flushed n (g.D.Disk.told s.disk) (g.D.Disk.told c.flush_turn.new.disk) f.writes;
+      older = flushed_older sound l.flushed n.flushed n (g.D.Disk.told s.disk) (g.D.Disk.told c.flush_turn.new.disk) f.writes;
       counts = subst (λ (stop : FlushStop). Counts (Err stop) (g.D.Disk.faults s.disk) (g.D.Disk.faults c.flush_turn.new.disk)) c.in-Err-Unfilled.field-0-is c.in-Err-Unfilled.ensures.counts;
       fed = tt;
     }
@@ -124,7 +124,7 @@ returns-in-Err-DiskFault g c =
       keeps = fault_keeps sound laws k m f;
       saves = tt;
       removes = tt;
-      older = tt;
+      older = flushed_may sound l.flushed 0 n (g.D.Disk.told s.disk) (g.D.Disk.told c.flush_turn.new.disk) f.writes;
       counts = subst (λ (stop : FlushStop). Counts (Err stop) (g.D.Disk.faults s.disk) (g.D.Disk.faults c.flush_turn.new.disk)) c.in-Err-DiskFault.field-0-is c.in-Err-DiskFault.ensures.counts;
       fed = tt;
     }

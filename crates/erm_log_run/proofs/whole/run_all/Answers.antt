@@ -5,9 +5,9 @@ use Rattle.erm_model.specs.declared.outcome.Phase.TheVariants.{Active, Idle}
 use Rattle.erm_report.specs.declared.answer.Answer.{Answer}
 use Rattle.erm_world.specs.World.{Opening, Session, phase_of}
 use Rattle.erm_log_run.specs.Keeping.{Keeper, keeper_of}
-use Rattle.erm_log_run.specs.Saving.{saved_at}
+use Rattle.erm_log_run.specs.Saving.{removed_to, removing_to, saved_at}
 use Rattle.erm_log_run.specs.Starving.{Starves}
-use Rattle.erm_log_run.proofs.Older.{stay_behind}
+use Rattle.erm_log_run.proofs.Older.{removed_below, stay_behind, stop_removes_too}
 use Rattle.erm_log_run.proofs.Receipts.{none_received}
 use Rattle.erm_log_run.proofs.Leaving.{on_itself}
 use Rattle.erm_log_run.proofs.Results.{all_ran, counts_then, cut_ran, keeps_then}
@@ -41,7 +41,8 @@ returns-in_err-answer_all g c =
       keeps = rw (p.1, p.2) (stop_keeps (Unit {0}) (Vec (Option Answer) Global) sound stop first first mid (on_itself sound first) c.in_err-answer_all.ensures.keeps);
       told = rw (p.1, p.2) (stop_told_too (Unit {0}) (Vec (Option Answer) Global) sound stop first.told c.answer_all.new.answers.items mid c.in_err-answer_all.ensures.told);
       saves = rw p.1 tt;
-      older = rw p.1 tt;
+      older = rw (p.1, p.2) (stop_removes_too (Unit {0}) (Vec (Option Answer) Global) stop (λ x. removed_to first.slots c.answer_all.new.answers.items) (λ x. removed_to first.slots c.answer_all.new.answers.items) (removing_to first.slots c.args.script.now c.answer_all.new.answers.items)
+          first.log.flushed mid.log.flushed first.told mid.told c.in_err-answer_all.ensures.older);
       starved = rw (p.1, p.2) (stop_starves (Unit {0}) (Vec (Option Answer) Global) stop (Starves sound v c.args.script.now first mid.told) (Starves sound v c.args.script.now first mid.told) (λ starved. starved) c.in_err-answer_all.ensures.starved);
       counts = rw (p.1, p.2) (stop_counts (Unit {0}) (Vec (Option Answer) Global) stop (g.D.Disk.faults c.args.store.now.disk) (g.D.Disk.faults c.args.store.now.disk) (g.D.Disk.faults c.answer_all.new.store.disk) refl c.in_err-answer_all.ensures.counts);
     }
@@ -72,13 +73,14 @@ returns g c =
       keeps = keeps_then r g.W.LogWorld.rows_law.meets first mid last c.in_ok-answer_all.ensures.keeps.1 c.close_all.ensures.keeps;
       told = told_then r g.W.LogWorld.rows_law.meets first.told c.answer_all.new.answers.items mid last c.in_ok-answer_all.ensures.told c.close_all.ensures.keeps;
       saves = saved_then r (saved_at c.answer_all.new.answers.items) first.told first.slots mid.slots last.slots c.in_ok-answer_all.ensures.saves c.close_all.ensures.slots;
-      older = stay_behind r (saved_at c.answer_all.new.answers.items) first.log.flushed mid.log.flushed first.told mid.told last.told c.in_ok-answer_all.ensures.keeps.1.further c.in_ok-answer_all.ensures.older c.close_all.ensures.older;
+      older = stay_behind r sound mid last (removed_to first.slots c.answer_all.new.answers.items) (removing_to first.slots c.args.script.now c.answer_all.new.answers.items) first.log.flushed first.told (removed_below first.slots c.args.script.now c.answer_all.new.answers.items) c.in_ok-answer_all.ensures.keeps.1.further
+          c.close_all.ensures.keeps c.in_ok-answer_all.ensures.older c.close_all.ensures.older;
       counts = counts_then r _ _ _ c.in_ok-answer_all.ensures.counts c.close_all.ensures.counts;
       starved = starved_weaker r (c.close_all.new.store ≡ c.answer_all.new.store) (Starves sound v c.args.script.now first last.told)
           (λ same.
           starved_behind sound v u c.args.script.now c.answer_all.new.answers.items first mid last.told (let each = ran.0 in omega (arith, each)) ran.2
           (g.met.W.ScriptWorld.one_log c.answer_all.new.world stands) (g.met.W.LogWorld.is_log c.answer_all.new.world (g.met.W.ScriptWorld.may_flush c.answer_all.new.world stands))
-          (rw same) c.in_ok-answer_all.ensures.keeps.1)
+          (rw same) c.in_ok-answer_all.ensures.keeps.1 c.in_ok-answer_all.ensures.older)
           c.close_all.ensures.spared;
     }
 

@@ -12,6 +12,7 @@ use Rattle.erm_log_run.specs.Acknowledged.{KeepsTold}
 use Rattle.erm_log_run.specs.Closing.{closes_from}
 use Rattle.erm_log_run.specs.Keeping.{CountsFaults, IsKept, Keeper, Keeps, keeper_of}
 use Rattle.erm_log_run.specs.Runs.{RanAll, WasCut, WasRun}
+use Rattle.erm_log_run.specs.Saving.{RemovesTo, removed_to, removing_to}
 use Rattle.erm_log_run.specs.Starving.{Starves, WasStarved, WhereStarved}
 use Rattle.erm_log_run.proofs.Good.{CutLaws, RunLaws, is_run, told_cut, told_tight}
 use Rattle.erm_log_run.proofs.Kept.{first_kept, moments_at_fault, moments_of}
@@ -147,6 +148,8 @@ returns-in-Err-DiskFault g c =
     let ran = subst (λ (stop : LineStop). RanAll (Err stop) v (length names) script answers t) c.in-Err-DiskFault.field-0-is c.in-Err-DiskFault.ensures.ran in
     let keeps = subst (λ (stop : LineStop). Keeps {T = Vec (Option Answer) Global} sound (Err stop) k m) c.in-Err-DiskFault.field-0-is c.in-Err-DiskFault.ensures.keeps in
     let told = subst (λ (stop : LineStop). KeepsTold {T = Vec (Option Answer) Global} sound (Err stop) answers k.told m) c.in-Err-DiskFault.field-0-is c.in-Err-DiskFault.ensures.told in
+    let older = subst (λ (stop : LineStop). RemovesTo {T = Vec (Option Answer) Global} (Err stop) (λ x. removed_to s.slots answers) (removing_to s.slots script answers) k.log.flushed m.log.flushed k.told m.told)
+    c.in-Err-DiskFault.field-0-is c.in-Err-DiskFault.ensures.older in
     let counts = subst (λ (stop : LineStop). CountsFaults {T = Vec (Option Answer) Global} (Err stop) (g.D.Disk.faults s.disk) (g.D.Disk.faults z.disk)) c.in-Err-DiskFault.field-0-is c.in-Err-DiskFault.ensures.counts in
     let rows = count_rows v.opening.rows in
     let opening : report.Opening = opening_at c.args.start rows v.opening.first in
@@ -189,7 +192,7 @@ returns-in-Err-DiskFault g c =
       tail = tt;
       moments = moments;
       acknowledged = all_last_at_fault sound k m answers lines keeps told (cut_tells lines c.args.start.stamp c.args.start.run script answers was.fault was.lines_ok) moments;
-      cut = (was, λ fits. told_cut laws v t script opening is names c.requires.sessions lines was fits);
+      cut = (was, (λ fits. told_cut laws v t script opening is names c.requires.sessions lines was fits), older);
       fault = counts;
       sound = tt;
       starved = tt;
@@ -206,7 +209,7 @@ returns-in_err-answers-clause-starved g c =
     let kept : IsKept sound k.told k.log.flushed k = first_kept sound k c.requires.holds c.requires.none_gathered (of.at ∙ sym c.requires.opened.flushed ∙ sym of.flushed) in
     let script = c.args.script.now in
     let short = c.requires.short in
-    memory_so _ (WasStarved sound v script k.log k.told k.told)
+    memory_so _ (WasStarved sound v script k.log k.slots k.told k.told)
     (was_starved sound v script k k.told c.requires.opened c.requires.ranges (omega (arith, short)) kept
     (starved_first sound v script k of (g.met.W.LogWorld.is_log w (g.met.W.ScriptWorld.may_flush w c.requires.stands))))
 
@@ -221,7 +224,7 @@ returns-in_err-lines-clause-starved g c =
     let kept : IsKept sound k.told k.log.flushed k = first_kept sound k c.requires.holds c.requires.none_gathered (of.at ∙ sym c.requires.opened.flushed ∙ sym of.flushed) in
     let script = c.args.script.now in
     let short = c.requires.short in
-    memory_so _ (WasStarved sound v script k.log k.told k.told)
+    memory_so _ (WasStarved sound v script k.log k.slots k.told k.told)
     (was_starved sound v script k k.told c.requires.opened c.requires.ranges (omega (arith, short)) kept
     (starved_first sound v script k of (g.met.W.LogWorld.is_log w (g.met.W.ScriptWorld.may_flush w c.requires.stands))))
 
@@ -268,10 +271,10 @@ returns-in_err-closed-in-Ok-clause-starved g c =
     let m : Keeper = keeper_of (g.W.LogWorld.log new) z (g.D.Disk.told z.disk) in
     let stands = c.run_all.ensures.stands in
     let ran = c.in-Ok.ensures.ran in
-    memory_so _ (WasStarved sound v script k.log k.told m.told)
+    memory_so _ (WasStarved sound v script k.log k.slots k.told m.told)
     (was_starved sound v script k m.told c.requires.opened c.requires.ranges (omega (arith, short)) kept
     (starved_last sound v ran.1.0 (g.W.RowWorld.view new) _ script c.run_all.new.answers.items c.in-Ok.ends.items k m ran.0 ran.1.1 ran.1.2
-    (g.met.W.ScriptWorld.one_log new stands) (g.met.W.LogWorld.is_log new (g.met.W.ScriptWorld.may_flush new stands)) c.in-Ok.ensures.keeps.1))
+    (g.met.W.ScriptWorld.one_log new stands) (g.met.W.LogWorld.is_log new (g.met.W.ScriptWorld.may_flush new stands)) c.in-Ok.ensures.keeps.1 c.in-Ok.ensures.older))
 
 pub returns-in_err-report_of-in-Ok-clause-starved : goal.returns-in_err-report_of-in-Ok-clause-starved
 returns-in_err-report_of-in-Ok-clause-starved g c =
@@ -289,7 +292,7 @@ returns-in_err-report_of-in-Ok-clause-starved g c =
     let m : Keeper = keeper_of (g.W.LogWorld.log new) z (g.D.Disk.told z.disk) in
     let stands = c.run_all.ensures.stands in
     let ran = c.in-Ok.ensures.ran in
-    memory_so _ (WasStarved sound v script k.log k.told m.told)
+    memory_so _ (WasStarved sound v script k.log k.slots k.told m.told)
     (was_starved sound v script k m.told c.requires.opened c.requires.ranges (omega (arith, short)) kept
     (starved_last sound v ran.1.0 (g.W.RowWorld.view new) _ script c.run_all.new.answers.items c.in-Ok.ends.items k m ran.0 ran.1.1 ran.1.2
-    (g.met.W.ScriptWorld.one_log new stands) (g.met.W.LogWorld.is_log new (g.met.W.ScriptWorld.may_flush new stands)) c.in-Ok.ensures.keeps.1))
+    (g.met.W.ScriptWorld.one_log new stands) (g.met.W.LogWorld.is_log new (g.met.W.ScriptWorld.may_flush new stands)) c.in-Ok.ensures.keeps.1 c.in-Ok.ensures.older))

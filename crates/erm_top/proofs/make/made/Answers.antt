@@ -6,8 +6,8 @@ use Rattle.erm_top.specs.Scripts.{run_grammar}
 use Rattle.erm_top.proofs.Spelled.{can_be_run}
 use Rattle.erm_top.proofs.make.made.Goals as goal
 
-pub run_on_disk-disk-requires-clause-script : goal.run_on_disk-disk-requires-clause-script
-run_on_disk-disk-requires-clause-script g c =
+pub run_in_lists-disk-requires-clause-script : goal.run_in_lists-disk-requires-clause-script
+run_in_lists-disk-requires-clause-script g c =
     let names = names_of c.args.count c.args.sessions in
     let lines = lines_of c.args.count c.args.sessions in
     let short = rw c.in-Ok.ensures.lines at c.in-Ok.ensures.short in

@@ -1,6 +1,7 @@
 use Rattle.std.proofs.Common.{Ok, Err, ap, ◌∙◌}
 use Rattle.std.proofs.lemmas.Result.{err_from_is_err_and}
 use Rattle.erm_disk_run.specs.declared.stops.RunStop.TheVariants as run
+use Rattle.erm_disk_run.specs.Limits.{in_table}
 use Rattle.erm_top.proofs.Texted.{tells_cut, tells_run, tells_stop, untold_run}
 use Rattle.erm_top.proofs.run.run_text.Goals as goal
 
@@ -23,13 +24,13 @@ returns-in_ok-lines_text-in-Err-DiskFault c = λ names script before after fault
 pub returns-in_err-lines_text-in-Ok : goal.returns-in_err-lines_text-in-Ok
 returns-in_err-lines_text-in-Ok c = λ names script before after faults now ends left counts.
     let p = err_from_is_err_and c.from_residual.result c.from_residual.ensures.1 in
-    rw (p.1, p.2) (untold_run (Ok c.in-Ok.lines) c.args.ended c.in-Ok.is before after faults now names script left counts tt)
+    rw (p.1, p.2) (untold_run in_table (Ok c.in-Ok.lines) c.args.ended c.in-Ok.is before after faults now names script left counts tt)
 
 pub returns-in_err-lines_text-in-Err-DiskFault : goal.returns-in_err-lines_text-in-Err-DiskFault
 returns-in_err-lines_text-in-Err-DiskFault c = λ names script before after faults now ends left counts.
     let p = err_from_is_err_and c.from_residual-in_err-lines_text-in-Err-DiskFault.result c.from_residual-in_err-lines_text-in-Err-DiskFault.ensures.1 in
-    rw (p.1, p.2) (untold_run (Err (run.DiskFault c.in-Err-DiskFault.lines)) c.args.ended (c.in-Err-DiskFault.is ∙ ap (λ s. Err s) c.in-Err-DiskFault.field-0-is) before after faults now names script left counts tt)
+    rw (p.1, p.2) (untold_run in_table (Err (run.DiskFault c.in-Err-DiskFault.lines)) c.args.ended (c.in-Err-DiskFault.is ∙ ap (λ s. Err s) c.in-Err-DiskFault.field-0-is) before after faults now names script left counts tt)
 
 pub returns-in-Err-Memory : goal.returns-in-Err-Memory
 returns-in-Err-Memory c = λ names script before after faults now ends left counts.
-    untold_run (Err run.Memory) c.args.ended (c.in-Err-Memory.is ∙ ap (λ s. Err s) c.in-Err-Memory.field-0-is) before after faults now names script left counts tt
+    untold_run in_table (Err run.Memory) c.args.ended (c.in-Err-Memory.is ∙ ap (λ s. Err s) c.in-Err-Memory.field-0-is) before after faults now names script left counts tt
