@@ -1,7 +1,9 @@
 #!/usr/bin/env bash
 # Runs the worked examples of crates/erm_examples by the built program on real folders, each in an empty one of its own, and compares
-# status and bytes; and a workload of 20,000 transactions twice. Examples in which a call of the disk fails, or a crash follows one, are passed over; so are the lines that tell what
+# status and bytes; and a workload of 20,000 transactions twice, and one of 200 over both worlds. Examples in which a call of the disk fails, or a crash follows one, are passed over; so are the lines that tell what
 # holds where a call is stopped. Then what a real folder may hold beside the disk's files, and what else the system may do: strange names, links, pipes, a limit on a file's size.
+# Input and output that fail, the longest script, a disk that is full at each byte, and tables, ring and cells used up.
+# And streams: of folders, cut at each byte, with each byte changed, with as many rows as there may be, too long, and noise.
 #   .ci/rows.sh [PROGRAM]     PROGRAM is the one that the gate leaves, unless another is given
 set -u
 top=$(cd "$(dirname "$(readlink -f "${BASH_SOURCE[0]}")")/.." && pwd) || exit 1
@@ -16,8 +18,12 @@ if ! command -v python3 >/dev/null; then
 fi
 exec python3 - "$(readlink -f "$program")" "$top/crates/erm_examples/data" <<'PYTHON'
 import fcntl
+import hashlib
 import os
+import random
+import resource
 import shutil
+import struct
 import subprocess
 import sys
 import tempfile
@@ -112,6 +118,29 @@ def made_twice(count):
     return status == 0 and said[1] == said[0] and ended == 16 + int(count) and counts.get("pairs") == "64"
 
 
+def made_both_ways(_):
+    """A workload that is printed and run over the word table ends as it does where it is made over the world in lists."""
+    words = ["make", "--count", "200", "--sessions", "4"]
+    status, counts = call(words, b"")
+    shutil.rmtree("erm-data")
+    printed = call([*words, "--text"], b"")[1]
+    ran, report = call(["run"], printed)
+    answers = [line.split() for line in report.decode().splitlines()]
+    ends = [sum(answer[1] == end for answer in answers if len(answer) > 1 and answer[0].isdigit()) for end in ("committed", "excluded", "owned")]
+    pairs = sum(answer[0] == "pair" for answer in answers)
+    told = "made 200 sessions 4\ncommitted %d\nexcluded %d\nowned %d\npairs %d\nend\n" % (*ends, pairs)
+    return (status, ran) == (0, 0) and counts == told.encode() and ends[0] > 200
+
+
+USAGE = b"usage: erm run | threads | make --count N --sessions K [--text] | recover | audit | checkpoint | ship | follow\n"
+NO_COMMANDS = [], ["frob"], ["Run"], ["threads"], ["run", "x.erm"], ["ship", "erm-data"], ["follow", "stream"], ["make", "--count", "1"], ["--help"]
+
+
+def words_for_no_command(_):
+    """Words that ask for no command end with 2 and the usage line, and no folder is made."""
+    return all(call(words, b"") == (2, USAGE) for words in NO_COMMANDS) and not os.path.exists("erm-data")
+
+
 WRITES = b"a begin\na put 1 2 aa\na commit\nflush\ncheckpoint\n"
 READS = b"a begin\na get 1 2\na commit\nflush\ncheckpoint\n"
 SEGMENT = os.path.join("erm-data", "log" + "0" * 16)
@@ -193,11 +222,220 @@ def shared_folder(_):
     alone = call(["recover"], b"")
     folder = os.open("erm-data", os.O_RDONLY)
     fcntl.flock(folder, fcntl.LOCK_SH)
-    beside = call(["recover"], b""), call(["audit"], b"")[0], call(["run"], READS)[0], call(["checkpoint"], b"")[0]
+    beside = call(["recover"], b""), [call([word], b"")[0] for word in ("audit", "ship", "run", "checkpoint")]
     fcntl.flock(folder, fcntl.LOCK_EX)
-    behind = call(["recover"], b"")[0]
+    behind = [call([word], b"")[0] for word in ("recover", "ship", "follow")]
     os.close(folder)
-    return beside == (alone, 0, 6, 6) and behind == 6
+    return beside == (alone, [0, 0, 6, 6]) and behind == [6, 6, 0]
+
+
+TWO_PUTS = text("two_puts.script")
+TWO_PUTS_REPORT = text("two_puts.report").partition(b"\n")[2]
+
+
+def input_that_fails(_):
+    """Where the standard input can't be read nothing but that is told, and no folder is made."""
+    folder = os.open(".", os.O_RDONLY)
+    ends = [subprocess.run([PROGRAM, word], stdin=folder, stdout=subprocess.PIPE, timeout=SECONDS) for word in ("run", "follow")]
+    os.close(folder)
+    return [(it.returncode, it.stdout) for it in ends] == [(4, b"read fault\n")] * 2 and not os.path.exists("erm-data")
+
+
+def output_that_fails(_):
+    """Where the standard output takes nothing the status tells it, and the disk has what the script did."""
+    with open("/dev/full", "wb") as full:
+        ran = subprocess.run([PROGRAM, "run"], input=TWO_PUTS, stdout=full, timeout=SECONDS)
+    return ran.returncode == 5 and call(["recover"], b"") == (0, b"recovered 38 run 1\nmap 2\npair 0 10 aa\npair 0 20 bb\nend\n")
+
+
+def longest_script(_):
+    """A script has 16,777,216 bytes at most."""
+    comment = b"#" * 16777216
+    return call(["run"], comment) == (0, text("empty_script.report").partition(b"\n")[2]) and call(["run"], comment + b"#") == (9, b"too long\n")
+
+
+def disk_full_at_a_byte(_):
+    """Where a file may have no more than so many bytes, the report goes as far as the log did, and the disk recovers to a place of it."""
+    whole = TWO_PUTS_REPORT.replace(b"order 1\n", b"5 flushed 38\norder 1\n")
+    for limit in (*range(0, 304, 23), 303, 304):
+        shutil.rmtree("erm-data", ignore_errors=True)
+        limited = {"restore_signals": False, "preexec_fn": lambda: resource.setrlimit(resource.RLIMIT_FSIZE, (limit, limit))}
+        ran = subprocess.run([PROGRAM, "run"], input=TWO_PUTS + b"flush\n", stdout=subprocess.PIPE, timeout=SECONDS, **limited)
+        front = whole.partition(b"5 ")[0] + b"5 " if limit >= 104 else b""
+        ends = (0, whole) if limit == 304 else (6, front + b"disk fault\n")
+        place = b"38 run 1" if limit == 304 else b"13 run 1" if limit >= 104 else b"8 run 0"
+        if (ran.returncode, ran.stdout) != ends or not call(["recover"], b"")[1].startswith(b"recovered " + place):
+            return False
+    return True
+
+
+def answers(script):
+    """The status of a run, and its answers without their numbers."""
+    status, report = call(["run"], b"".join(script))
+    return status, [line.split(b" ", 1)[1] for line in report.splitlines() if line[:1].isdigit()]
+
+
+def ring_used_up(_):
+    """With 6,553 commits the log has no room for another block until it is flushed."""
+    status, told = answers([b"a begin\na commit\n"] * 6554 + [b"flush\na settle\n"])
+    return status == 0 and told[-3:] == [b"wait ring 13", b"flushed 32778", b"committed 32778 succ 32778 pred 0"] and b"committed 32773 succ 32773 pred 0" in told
+
+
+def objects_used_up(_):
+    """With 16,384 objects a put of a new key is refused, and the transaction goes on: it may write the keys that are there."""
+    puts = [b"a begin\n" + b"".join(b"a put 0 %d aa\n" % (8 * first + at) for at in range(8)) + b"a commit\n" for first in range(1600)]
+    flushed = [b"".join(puts[at : at + 50]) + b"flush\n" for at in range(0, 1600, 50)]
+    status, told = answers([*flushed, b"a begin\na put 0 99999 aa\na put 0 1 bb\na get 0 1\na commit\n"])
+    refused = told[-4:-1]
+    return status == 0 and refused == [b"oids full 16384", b"ok", b"value bb"] and told[-1].startswith(b"committed ")
+
+
+def cells_used_up(_):
+    """While a session is active that began before them, versions fill the 65,536 cells; once it is over the cells are used again."""
+    new = [b"a begin\na put 0 %d aa\na commit\n" % key for key in range(100)]
+    puts = [b"a begin\n" + b"".join(b"a put 0 %d bb\n" % key for key in range(100)) + b"a commit\n"] * 50 + [b"flush\n"]
+    status, told = answers([*new, b"flush\nb begin\n", *puts * 10, b"b abort\na begin\na put 0 1 cc\na get 0 1\na commit\n"])
+    taken = told.index(b"cells full 65536") if b"cells full 65536" in told else 0
+    return status == 0 and told[:taken].count(b"ok") > 49152 and told[-3:-1] == [b"ok", b"value cc"]
+
+
+FAULTS = input_that_fails, output_that_fails, longest_script, disk_full_at_a_byte, ring_used_up, objects_used_up, cells_used_up
+
+
+# Streams, spelled and read here once more.
+OPEN, COMMIT = 3, 4
+RACE = text("audit_by_serial_order.steps").split(b"\n>")[0]
+RACE = b"".join(line[2:] + b"\n" for line in RACE.splitlines() if line.startswith(b"<"))
+
+
+def with_digest(words):
+    return words + hashlib.sha256(words).digest()[:8]
+
+
+def base(stamp, run, count=0, rows=b""):
+    """What a stream begins with: a checkpoint in format 2, and before it how many words that has."""
+    slot = with_digest(struct.pack("<5Q", 2, stamp, run, 0, count) + rows)
+    return struct.pack("<Q", len(slot) // 8) + slot
+
+
+def block(kind, at, succ=0, name=0, run=1):
+    """A block without rows."""
+    return with_digest(struct.pack("<4Q", kind | 5 << 4 | run << 20, at, succ, name))
+
+
+def items(stream):
+    """The items of a stream: where each begins and ends, and its kind, stamp, successor stamp and name."""
+    end = 8 + 8 * struct.unpack_from("<Q", stream)[0]
+    found = [(0, end, 0, 0, 0, 0)]
+    while end < len(stream):
+        begin, (header, stamp, succ, name) = end, struct.unpack_from("<4Q", stream, end)
+        end += 8 * (header >> 4 & 0xFFFF)
+        found.append((begin, end, header & 15, stamp, succ, name))
+    return found
+
+
+def followed(stream, count):
+    """The lines that are due in the front of a stream that has so many bytes, and those of its end."""
+    lines, waiting, left = [], [], count
+    for begin, end, kind, stamp, succ, name in items(stream):
+        if end > count:
+            break
+        left = count - end
+        if kind == COMMIT:
+            waiting.append((succ, -stamp, name))
+        elif kind == OPEN:
+            lines += sorted(it for it in waiting if -it[1] < stamp)
+            waiting = [it for it in waiting if -it[1] >= stamp]
+    lines = [f"commit {name & 255} {name >> 24} stamp {-stamp} succ {succ}" for succ, stamp, name in lines]
+    return lines, [f"pending {len(waiting)}"] + [f"rest {left}"] * (left > 0) + ["end"]
+
+
+def lines_of(*parts):
+    return "".join(line + "\n" for part in parts for line in part).encode()
+
+
+def empty_stream(_):
+    """Where there is no folder the stream of an empty disk is put, and no folder is made."""
+    return call(["ship"], b"") == (0, base(8, 0)) and not os.path.exists("erm-data")
+
+
+def shipped():
+    """The stream of a run of three commits and a run without any."""
+    if call(["run"], RACE)[0] != 0 or call(["run"], b"")[0] != 0:
+        return b""
+    return call(["ship"], b"")[1]
+
+
+def stream_cut_anywhere(_):
+    """Of each front of a stream just the commits below its safe stamps are told, in the order of an audit."""
+    stream = shipped()
+    told = [call(["follow"], stream[:count]) for count in range(len(stream) + 1)]
+    audit = [line for line in call(["audit"], b"")[1].decode().splitlines() if line.startswith("commit ")]
+    return len(audit) == 3 and told[-1] == (0, lines_of(audit, ["pending 0", "end"])) and told == [
+        (0, lines_of(*followed(stream, count))) for count in range(len(stream) + 1)
+    ]
+
+
+def byte_of_a_stream_changed(_):
+    """Where a byte is another, all before its item is told, and then that it is bad, or how many bytes are left."""
+    stream = shipped()
+    for begin, end, *_ in items(stream):
+        lines, (pending, *_) = followed(stream, begin)
+        left = [pending, f"rest {len(stream) - begin}", "end"]
+        allowed = (11, lines_of(lines, [f"bad stream {begin // 8}"])), (0, lines_of(lines, left))
+        for at in range(begin, end):
+            changed = stream[:at] + bytes([stream[at] ^ 1]) + stream[at + 1 :]
+            if call(["follow"], changed) not in allowed:
+                return False
+    return len(stream) > 300
+
+
+def broken_stamp(_):
+    """A commit whose successor stamp lies below a safe stamp is told as such, and so is each later front of the stream."""
+    stream = base(8, 0) + block(OPEN, 8) + block(COMMIT, 13, 1, 1 | 1 << 24) + block(COMMIT, 18, 18, 1 | 2 << 24)
+    return call(["follow"], stream) == (12, b"broken mark 8 commit 13\n")
+
+
+def largest_checkpoint(_):
+    """A checkpoint of 16,384 rows of sixteen words is read; one word more is none."""
+    rows = b"".join(struct.pack("<17Q", 16 << 32 | at, *[at + 1] * 16) for at in range(16384))
+    stream = base(13, 1, 16384, rows)
+    more = struct.pack("<Q", 278535) + stream[8:]
+    return call(["follow"], stream) == (0, b"pending 0\nend\n") and call(["follow"], more) == (11, b"bad stream 0\n")
+
+
+def filled_disk(_):
+    """A disk with nearly as many objects as there may be is put as a stream, from its checkpoint on."""
+    script = b"".join(
+        b"a begin\n" + b"".join(b"a put 0 %d %0224d\n" % (key, key) for key in range(first, first + 40)) + b"a commit\nflush\n"
+        for first in range(0, 10000, 40)
+    )
+    if call(["run"], script)[0] != 0 or call(["checkpoint"], b"")[0] != 0:
+        return False
+    status, stream = call(["ship"], b"")
+    (_, end, *_), *others = items(stream)
+    return status == 0 and end > 1000000 and not others and call(["follow"], stream) == (0, b"pending 0\nend\n")
+
+
+def noise(_):
+    """Twenty million bytes of noise are no stream, alone and behind one."""
+    bytes_ = random.Random(1).randbytes(20000000)
+    stream = base(8, 0) + block(OPEN, 8)
+    return call(["follow"], bytes_) == (11, b"bad stream 0\n") and call(["follow"], stream + bytes_) == (11, b"bad stream 12\n")
+
+
+def long_stream(_):
+    """A stream of more than 16,777,216 bytes is too long, behind the lines of what was due: those of a first run, since a second began."""
+    blocks = [block(OPEN, 8)] + [block(COMMIT, at, at, 1 | 1 << 24) for at in range(13, 13 + 5 * 1000, 5)]
+    blocks.append(block(OPEN, 13 + 5 * 1000, run=2))
+    front = base(8, 0) + b"".join(blocks)
+    at = 8 + 5 * len(blocks)
+    behind = b"".join(block(COMMIT, place, place, 1 | 1 << 24, run=2) for place in range(at, at + 5 * 419500, 5))
+    lines, _ = followed(front, len(front))
+    return len(lines) == 1000 and call(["follow"], front + behind) == (9, lines_of(lines, ["too long"]))
+
+
+STREAMS = empty_stream, stream_cut_anywhere, byte_of_a_stream_changed, broken_stamp, largest_checkpoint, filled_disk, noise, long_stream
 
 
 def is_passed_over(name):
@@ -218,7 +456,7 @@ rows = [(row, name) for name in text("rows.txt").decode().split()]
 disks = text("disks.txt").decode().split()
 rows += [(disk, name) for name in disks if not is_passed_over(name)]
 rows.append((made_twice, "20000"))
-rows += [(check, check.__name__) for check in (strange_names, linked_segment, pipe_for_a_slot, limited_file, full_pipe, shared_folder)]
+rows += [(check, check.__name__) for check in (made_both_ways, words_for_no_command, strange_names, linked_segment, pipe_for_a_slot, limited_file, full_pipe, shared_folder, *FAULTS, *STREAMS)]
 passed = sum(holds(check, name) for check, name in rows)
 over = sum(map(is_passed_over, disks))
 print(f"rows on a folder: {passed} passed, {len(rows) - passed} failed, {over} passed over")

@@ -32,7 +32,7 @@ for script in "$examples"/*.erm; do
     count "$name, the gate's script" cmp "$script" "$data/example_$name.script"
     count "$name, the gate's report" cmp <(echo 0; cat "$examples/$name.out") "$data/example_$name.report"
 done
-for script in crash checkpoint; do
+for script in crash checkpoint stream; do
     "$examples/$script.sh" "$program" >"$folder/$script.out"
     count "$script" cmp "$folder/$script.out" "$examples/$script.out"
 done
@@ -55,8 +55,6 @@ fi
 
 # The launcher's words, where it is the program: a byte of the block that opens the run is changed, and it stops, until --go-on.
 if [[ $program == "$(readlink -f "$top/erm")" ]]; then
-    "$examples/stream.sh" "$program" >"$folder/stream.out"
-    count "stream" cmp "$folder/stream.out" "$examples/stream.out"
     says() {
         local status=$1 text=$2
         shift 2

@@ -1,6 +1,6 @@
 #!/usr/bin/env bash
 # Two runs, whose log is shipped and followed. It runs in a folder of its own, which it removes at the end.
-#   examples/stream.sh [PROGRAM]     PROGRAM is the launcher at the top, unless another is given that knows its words
+#   examples/stream.sh [PROGRAM]     PROGRAM is the launcher at the top, unless another is given
 set -u
 examples=$(cd "$(dirname "$(readlink -f "${BASH_SOURCE[0]}")")" && pwd)
 program=$(readlink -f "${1:-$examples/../erm}")

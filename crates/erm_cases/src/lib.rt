@@ -11,6 +11,10 @@ mod histories;
 #[cfg(test)]
 mod layout;
 #[cfg(test)]
+mod made;
+#[cfg(test)]
+mod make;
+#[cfg(test)]
 mod outside;
 #[cfg(test)]
 mod report;
@@ -18,3 +22,5 @@ mod report;
 mod script;
 #[cfg(test)]
 mod segment;
+#[cfg(test)]
+mod summary;

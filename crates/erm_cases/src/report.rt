@@ -3,8 +3,7 @@ ghost use Rattle.std.specs.Prelude.{◌≤◌, length};
 
 use erm_model::{Key, LAST_RUN, NAME_BYTES, Name, Pair, Pairs, Reply, STOP, VALUE_BYTES, Value};
 use erm_report::{
-    Answer, DISK_FAULT, Line, NO_BASE, NO_MEMORY, READ_FAULT, TOO_LONG, Text, USAGE,
-    texts_determine_lines,
+    Answer, DISK_FAULT, Line, NO_BASE, NO_MEMORY, READ_FAULT, TOO_LONG, Text, texts_determine_lines,
 };
 use erm_script::FaultKind;
 use std::alloc::{AllocError, Global};
@@ -248,12 +247,7 @@ fn other_lines(rt: HostRuntime) -> Result<(), Fail> {
 #[test]
 fn kept_texts(rt: HostRuntime) -> Result<(), Fail> {
     for (line, kept, wanted) in [
-        (
-            Line::Usage,
-            USAGE,
-            b"usage: erm run | threads | make --count N --sessions K [--text] | recover | audit | checkpoint\n".as_slice(),
-        ),
-        (Line::ReadFault, READ_FAULT, b"read fault\n"),
+        (Line::ReadFault, READ_FAULT, b"read fault\n".as_slice()),
         (Line::TooLong, TOO_LONG, b"too long\n"),
         (Line::NoMemory, NO_MEMORY, b"no memory\n"),
         (Line::NoBase, NO_BASE, b"no base\n"),

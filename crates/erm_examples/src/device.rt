@@ -56,6 +56,12 @@ impl Device {
         Ok(Self::over(self.disk.image(Pick::All)?.stop_at(calls)))
     }
 
+    /// A disk of the same bytes, of which the call with this number, from 1, fails, and no other.
+    pub fn failing_at(&self, alloc: Global, number: u64) -> Result<Self, AllocError> {
+        let failing = Vec::from_slice(alloc, &[number])?;
+        Ok(Self::over(self.disk.image(Pick::All)?.failing(failing)))
+    }
+
     /// The same disk, with all that was left pending, of which no call fails any more.
     pub fn going_on(self) -> Self {
         Self::over(self.disk.stop_at(u64::MAX))

@@ -1,4 +1,4 @@
-//! The longest script, words and what they ask for, objects and the ring used up, and faults of source and sink.
+//! The longest script, words and what they ask for, and objects and the ring used up.
 ghost use Rattle.std.specs.Prelude.{◌<◌, ◌≤◌};
 
 use crate::device::Device;
@@ -14,7 +14,7 @@ const SCRIPT_BYTES: usize = 16_777_216;
 
 /// The usage line.
 const USAGE: &str =
-    "usage: erm run | threads | make --count N --sessions K [--text] | recover | audit | checkpoint\n";
+    "usage: erm run | threads | make --count N --sessions K [--text] | recover | audit | checkpoint | ship | follow\n";
 
 /// The report of a script without lines.
 const EMPTY_REPORT: &str = "open 8 run 1\norder 0\nmap 0\nend\n";
@@ -26,7 +26,7 @@ const CHECKPOINT_REPORT: &str = "open 8 run 1\ncheckpoint 13\nend\n";
 const MADE_REPORT: &str = "made 1 sessions 1\ncommitted 17\nexcluded 0\nowned 0\npairs 64\nend\n";
 
 /// Words that ask for a command, and what it prints where nothing is read and the disk has no files.
-const COMMANDS: [(&str, &str); 11] = [
+const COMMANDS: [(&str, &str); 13] = [
     ("erm run", EMPTY_REPORT),
     (" run", EMPTY_REPORT),
     ("run run", EMPTY_REPORT),
@@ -35,13 +35,15 @@ const COMMANDS: [(&str, &str); 11] = [
     ("erm audit", "audit 8 to 8 run 0\norder 0\nmap 0\nend\n"),
     ("erm checkpoint", CHECKPOINT_REPORT),
     ("erm checkpoint --", CHECKPOINT_REPORT),
+    ("erm follow", "pending 0\nend\n"),
+    ("erm follow --", "pending 0\nend\n"),
     ("erm make --count 1 --sessions 1", MADE_REPORT),
     ("erm make --sessions 1 --count 1", MADE_REPORT),
     ("erm make --count=1 --sessions=1", MADE_REPORT),
 ];
 
 /// Words that ask for no command that the program has.
-const OTHERS: [&str; 24] = [
+const OTHERS: [&str; 26] = [
     "erm",
     "run",
     "erm ",
@@ -66,14 +68,8 @@ const OTHERS: [&str; 24] = [
     "erm make --count 01 --sessions 1",
     "erm make --count 1 --count 1 --sessions 1",
     "erm recover --count 1",
-];
-
-/// Calls at which the source and the sink fail where a script of one line is run, five bytes a call; the status and what
-/// was put.
-const FAULTS: [(&[u64], &[u64], u8, &str); 3] = [
-    (&[2], &[], 4, "read fault\n"),
-    (&[], &[3], 5, "open 8 run"),
-    (&[1], &[1], 4, ""),
+    "erm ship erm-data",
+    "erm follow stream",
 ];
 
 /// How many puts are refused for the owner, each of which makes three objects: 26 + 3 * 5,452 is 16,382, so two are left.
@@ -126,8 +122,7 @@ pub fn check<R: Threads + Wait + Sync>(rt: &R, alloc: Global) -> Result<()> {
     check_comment(rt, alloc, SCRIPT_BYTES + 1, 9, "too long\n")?;
     check_words(rt, alloc)?;
     check_row(rt, alloc, "objects used up", objects(alloc)?)?;
-    check_row(rt, alloc, "ring used up", ring(alloc)?)?;
-    check_faults(rt, alloc)
+    check_row(rt, alloc, "ring used up", ring(alloc)?)
 }
 
 // A script of a comment that has so many bytes.
@@ -232,30 +227,4 @@ fn answers_of(alloc: Global, number: u32, ends: &str) -> Result<String, AllocErr
     let line = 2 * number;
     let stamp = 8 + 5 * number;
     format!(in alloc; "{} begin {stamp}\n{line} committed {ends}", line - 1)
-}
-
-// Source and sink that fail at a call.
-fn check_faults<R: Threads + Wait + Sync>(rt: &R, alloc: Global) -> Result<()> {
-    for (taking, putting, status, report) in FAULTS {
-        let ended = with_faults(rt, alloc, taking, putting)?;
-        ensure!(
-            ended.is(status, report),
-            "{report}: faults of source or sink"
-        );
-    }
-    Ok(())
-}
-
-// Runs a script of one line, five bytes a call, where these calls of source and sink fail.
-fn with_faults<R: Threads + Wait + Sync>(
-    rt: &R,
-    alloc: Global,
-    taking: &[u64],
-    putting: &[u64],
-) -> Result<Outcome, AllocError> {
-    let script = Vec::from_slice(alloc, b"a begin\n")?;
-    let source = MemSource::new(script, 5).failing(Vec::from_slice(alloc, taking)?);
-    let sink = MemSink::new(alloc, 5).failing(Vec::from_slice(alloc, putting)?);
-    let words = words_of(alloc, "erm run")?;
-    call(rt, alloc, &words, source, sink, Device::new(alloc))
 }

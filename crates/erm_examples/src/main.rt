@@ -3,12 +3,13 @@
 //! `rows.txt` lists those that run a script on an empty disk: `NAME.script` has the script and, in `NAME.report`, a line with
 //! the status comes before the bytes that are to be put. `disks.txt` lists those that call the program several times on one
 //! disk: `NAME.steps` has the calls, what they are to print, and what befalls the disk between them. Then come the longest
-//! script, words and what they ask for, objects and log used up, and faults of source and sink.
+//! script, words and what they ask for, and objects and log used up; and each call of source and sink that fails.
 #![tactic(auto)]
 
 mod changes;
 mod device;
 mod edges;
+mod faults;
 mod memory;
 mod steps;
 mod stops;
@@ -28,6 +29,8 @@ fn main(rt: HostRuntime) -> Result<()> {
     check_disks(&rt, rt.alloc())?;
     edges::check(&rt, rt.alloc())?;
     println!(rt; "edges: as expected")?;
+    faults::check(&rt, rt.alloc())?;
+    println!(rt; "faults of source and sink: as expected")?;
     Ok(())
 }
 

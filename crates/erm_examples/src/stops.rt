@@ -39,7 +39,8 @@ enum Next {
     Run,
 }
 
-/// Stops a call of the program at each call of the disk in turn, until none is left. It prints its report up to there.
+/// Stops a call of the program at each call of the disk in turn, until none is left. It prints its report up to there, as it does where
+/// that call of the disk fails alone.
 /// What calls then tell of what a crash leaves are the lines that are named, in this order: first where nothing is kept of what was not
 /// waited for, then where all of it is, then where marks of it are. Of lines that follow one another and are the same one is named.
 /// So are those of what is told where a run goes on before the crash.
@@ -49,8 +50,30 @@ pub fn check<R: Threads + Wait + Sync>(
     device: &Device,
     call: &Call,
 ) -> Result<()> {
+    if !call.behind.is_empty() {
+        fail_each(rt, alloc, device, call)?;
+    }
     check_next(rt, alloc, device, call, Next::Crash, &call.behind)?;
     check_next(rt, alloc, device, call, Next::Run, &call.later)
+}
+
+// Fails each call of the disk alone, until none is left: the call of the program ends there too, though the next ones would pass.
+fn fail_each<R: Threads + Wait + Sync>(
+    rt: &R,
+    alloc: Global,
+    device: &Device,
+    call: &Call,
+) -> Result<()> {
+    for number in 1..MOST_CALLS {
+        let failing = device.failing_at(alloc, number)?;
+        let script = call.script.as_bytes();
+        let ended = call_over(rt, alloc, &call.words, script, PER_CALL, failing)?;
+        if ended.status != DISK_FAULT {
+            return Ok(());
+        }
+        ensure!(is_cut(&call.report, ended.text()), "other bytes, {number}");
+    }
+    bail!("too many calls of the disk")
 }
 
 // The same with what comes right behind the stop, where lines are named.

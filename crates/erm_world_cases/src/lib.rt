@@ -1,6 +1,9 @@
-//! Cases of the tree's calls over worlds of sessions: sessions that read and change one table, and stand in each other's way.
+//! Cases of worlds of sessions: of the calls of a world that is a map, and of the tree's calls over worlds in lists, where sessions that read and
+//! change one table stand in each other's way.
 #![tactic(auto)]
 
+#[cfg(test)]
+mod map_world;
 mod sessions;
 #[cfg(test)]
 mod tests;

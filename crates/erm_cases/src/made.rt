@@ -1,0 +1,75 @@
+//! The counts of a report by hand, and the text of those of the least workload.
+use erm_made::{Made, counts_of, made_lines};
+use erm_model::{Key, Name, Pair, Value};
+use erm_report::{Answer, Line, Text};
+use std::test::Fail;
+
+// What the least workload prints, as a model apart from this one prints it.
+const LEAST: &[u8] = b"made 1 sessions 1
+committed 17
+excluded 0
+owned 0
+pairs 64
+end
+";
+
+// A report with an answer of each kind that is counted, to lines and to a session at the end, and others beside them.
+fn report() -> [Line; 12] {
+    let (stamp, succ, pred) = (13, 13, 0);
+    let value = Value::new(&[]).unwrap();
+    [
+        Line::Open { stamp: 8, run: 1 },
+        answered(1, Answer::Began(13)),
+        answered(2, Answer::Committed { stamp, succ, pred }),
+        answered(3, Answer::Excluded { stamp, succ, pred }),
+        answered(4, Answer::ExcludedEarly { succ, pred }),
+        answered(5, Answer::Owned { seat: 1, number: 1 }),
+        answered(6, Answer::Newer { stamp }),
+        closed(Answer::Committed { stamp, succ, pred }),
+        Line::Order { commits: 2 },
+        Line::Map { pairs: 1 },
+        Line::Pair(Pair {
+            key: Key { table: 0, key: 10 },
+            value,
+        }),
+        Line::End,
+    ]
+}
+
+fn answered(line: u32, answer: Answer) -> Line {
+    Line::Answer { line, answer }
+}
+
+fn closed(answer: Answer) -> Line {
+    Line::Close {
+        session: Name::empty(),
+        answer,
+    }
+}
+
+#[test]
+fn answers_and_pairs_are_counted(rt: HostRuntime) -> Result<(), Fail> {
+    let lines = report();
+    let made = counts_of(&lines);
+    assert_eq!(rt; made.committed, 2);
+    assert_eq!(rt; made.excluded, 2);
+    assert_eq!(rt; made.owned, 1);
+    assert_eq!(rt; made.pairs, 1);
+    Ok(())
+}
+
+#[test]
+fn counts_are_printed(rt: HostRuntime) -> Result<(), Fail> {
+    let made = Made {
+        committed: 17,
+        excluded: 0,
+        owned: 0,
+        pairs: 64,
+    };
+    let mut text = Text::new(rt.alloc());
+    for line in &made_lines(rt.alloc(), 1, 1, &made)? {
+        text.add(line)?;
+    }
+    assert_eq!(rt; text.as_slice(), LEAST);
+    Ok(())
+}

@@ -1,0 +1,250 @@
+//! Two reports by hand: write skew, and one whose serial order is not that of the stamps.
+ghost use Rattle.std.specs.Prelude.{◌≤◌, length};
+
+use erm_model::{Map, Reply, SESSIONS, Stamp, VALUE_BYTES, Value};
+use erm_report::{Answer, Text};
+use erm_script::{Grammar, parse};
+use erm_summary::{ClosedSession, Start, report_of};
+use std::alloc::{AllocError, Global};
+use std::test::Fail;
+
+// All sessions and commands.
+const ALL: Grammar = Grammar {
+    sessions: SESSIONS,
+    index: true,
+    log: true,
+    checkpoints: true,
+    threads: false,
+};
+
+const SKEW: &[u8] = b"a begin
+a put 0 10 aa
+a put 0 20 bb
+a commit
+a begin
+b begin
+a get 0 10
+a get 0 20
+b get 0 10
+b get 0 20
+a put 0 10 a1
+b put 0 20 b1
+a commit
+b commit
+";
+
+const SKEW_REPORT: &[u8] = b"open 8 run 1
+1 begin 13
+2 ok
+3 ok
+4 committed 13 succ 13 pred 0
+5 begin 38
+6 begin 38
+7 value aa
+8 value bb
+9 value aa
+10 value bb
+11 ok
+12 ok
+13 committed 38 succ 38 pred 13
+14 excluded at 47 succ 38 pred 38
+order 2
+commit a 1 stamp 13 succ 13 pred 0
+commit a 2 stamp 38 succ 38 pred 13
+map 2
+pair 0 10 a1
+pair 0 20 bb
+end
+";
+
+// Three sessions: one reads what another overwrites, and commits later; one meets an owner; two are closed at the end.
+const THREE: &[u8] = b"a begin
+b begin
+c begin
+a get 1 5
+b put 1 5 01
+b put 1 6 02
+c put 1 5 03
+c put 1 7 04
+b commit
+a put 1 7 06
+a commit
+b begin
+b del 1 6
+b put 2 0 -
+b seal
+b put 2 1 07
+c begin
+c del 1 5
+flush
+";
+
+const THREE_REPORT: &[u8] = b"open 104 run 2
+1 begin 113
+2 begin 113
+3 begin 113
+4 none
+5 ok
+6 ok
+7 owned 2 1
+8 no transaction
+9 committed 113 succ 113 pred 0
+10 ok
+11 committed 140 succ 113 pred 0
+12 begin 160
+13 ok
+14 ok
+15 sealed 160
+16 is sealed
+17 begin 180
+18 ok
+19 flushed 160
+close b committed 160 succ 160 pred 113
+close c aborted
+order 3
+commit a 1 stamp 140 succ 113 pred 0
+commit b 1 stamp 113 succ 113 pred 0
+commit b 2 stamp 160 succ 160 pred 113
+map 4
+pair 1 5 01
+pair 1 7 06
+pair 2 0 -
+pair 3 1 ff
+end
+";
+
+fn value(bytes: &[u8]) -> Value
+    requires { length bytes.now ≤ VALUE_BYTES }
+{
+    Value::new(bytes).unwrap()
+}
+
+fn found(bytes: &[u8]) -> Answer
+    requires { length bytes.now ≤ VALUE_BYTES }
+{
+    Answer::Replied(Reply::Value(Some(value(bytes))))
+}
+
+fn done() -> Answer {
+    Answer::Replied(Reply::Done)
+}
+
+fn committed(stamp: Stamp, succ: Stamp, pred: Stamp) -> Answer {
+    Answer::Committed { stamp, succ, pred }
+}
+
+fn skew_answers() -> [Answer; 14] {
+    [
+        Answer::Began(13),
+        done(),
+        done(),
+        committed(13, 13, 0),
+        Answer::Began(38),
+        Answer::Began(38),
+        found(b"\xaa"),
+        found(b"\xbb"),
+        found(b"\xaa"),
+        found(b"\xbb"),
+        done(),
+        done(),
+        committed(38, 38, 13),
+        Answer::Excluded {
+            stamp: 47,
+            succ: 38,
+            pred: 38,
+        },
+    ]
+}
+
+fn three_answers() -> [Answer; 19] {
+    [
+        Answer::Began(113),
+        Answer::Began(113),
+        Answer::Began(113),
+        Answer::Replied(Reply::Value(None)),
+        done(),
+        done(),
+        Answer::Owned { seat: 2, number: 1 },
+        Answer::NoTransaction,
+        committed(113, 113, 0),
+        done(),
+        committed(140, 113, 0),
+        Answer::Began(160),
+        done(),
+        done(),
+        Answer::Sealed(160),
+        Answer::IsSealed,
+        Answer::Began(180),
+        done(),
+        Answer::Flushed(160),
+    ]
+}
+
+fn three_closed() -> [ClosedSession; 2] {
+    [
+        ClosedSession {
+            session: 2,
+            answer: committed(160, 160, 113),
+        },
+        ClosedSession {
+            session: 3,
+            answer: Answer::Aborted,
+        },
+    ]
+}
+
+// The text of the report of a script.
+fn report(
+    alloc: Global,
+    start: Start,
+    script: &[u8],
+    answers: Vec<Answer>,
+    closed: Vec<ClosedSession>,
+) -> Result<Text, Fail> {
+    if script.len() > 1000 || closed.len() > 1000 {
+        return Err(Fail::new("too long"));
+    }
+    let Ok(script) = parse(alloc, script, ALL) else {
+        return Err(Fail::new("no script"));
+    };
+    if script.names.len() > 100 {
+        return Err(Fail::new("too many sessions"));
+    }
+    let lines = report_of(alloc, start, &script.names, &script.lines, answers, closed)?;
+    let mut text = Text::new(alloc);
+    for line in &lines {
+        text.add(line)?;
+    }
+    Ok(text)
+}
+
+#[test]
+fn write_skew(rt: HostRuntime) -> Result<(), Fail> {
+    let alloc = rt.alloc();
+    let start = Start {
+        map: Map::new(alloc),
+        stamp: 8,
+        run: 1,
+    };
+    let answers = Vec::from_array(alloc, skew_answers())?;
+    let text = report(alloc, start, SKEW, answers, Vec::new(alloc))?;
+    assert_eq!(rt; text.as_slice(), SKEW_REPORT);
+    Ok(())
+}
+
+#[test]
+fn an_order_that_is_not_that_of_stamps(rt: HostRuntime) -> Result<(), Fail> {
+    let alloc = rt.alloc();
+    let mut map = Map::new(alloc);
+    map.insert(3, 1, value(b"\xff"))?;
+    let start = Start {
+        map,
+        stamp: 104,
+        run: 2,
+    };
+    let answers = Vec::from_array(alloc, three_answers())?;
+    let closed = Vec::from_array(alloc, three_closed())?;
+    let text = report(alloc, start, THREE, answers, closed)?;
+    assert_eq!(rt; text.as_slice(), THREE_REPORT);
+    Ok(())
+}

@@ -1,0 +1,12 @@
+//! Cases of files and folders, of slots, and of logs that are read back, opened and told: their words come from another program. They stand
+//! apart, so that no crate is proved a second time with its tests.
+#![tactic(auto)]
+
+#[cfg(test)]
+mod ckpt;
+#[cfg(test)]
+mod inspect;
+#[cfg(test)]
+mod outside_real;
+#[cfg(test)]
+mod recover;

@@ -1,0 +1,12 @@
+//! Cases of the world in lists: calls of three sessions in turn, the limits of a transaction, of the objects and of the ring, and flush
+//! turns and pins between commits. They stand apart, so that no crate is proved a second time with its tests.
+#![tactic(auto)]
+
+#[cfg(test)]
+mod calls;
+#[cfg(test)]
+mod fills;
+#[cfg(test)]
+mod flushes;
+#[cfg(test)]
+mod rows;

@@ -1,0 +1,176 @@
+//! Calls of several sessions in turn, worked out by hand.
+use crate::calls::{Call, Reply, Turn, is_answered, world};
+use erm_model::{RowStop, STOP};
+use erm_world::BeginStop;
+use std::test::Fail;
+
+// A seal moves the log's end on by five words, and an abort leaves it. A settle commits what read nothing. No object is made twice.
+const SESSIONS: [Turn; 13] = [
+    Turn(1, Call::Begin, Reply::At(13)),
+    Turn(2, Call::Begin, Reply::At(13)),
+    Turn(1, Call::Fresh, Reply::Made(16)),
+    Turn(1, Call::Seal, Reply::At(13)),
+    Turn(1, Call::Begin, Reply::OutOfPhase),
+    Turn(1, Call::Abort, Reply::OutOfPhase),
+    Turn(3, Call::Begin, Reply::At(18)),
+    Turn(2, Call::Abort, Reply::Done),
+    Turn(2, Call::Abort, Reply::OutOfPhase),
+    Turn(2, Call::Begin, Reply::At(18)),
+    Turn(2, Call::Fresh, Reply::Made(17)),
+    Turn(1, Call::Settle, Reply::Commits([1, 13, 18, 13, 0])),
+    Turn(1, Call::Begin, Reply::At(18)),
+];
+
+// Two sessions want one object: the first owns it; the second waits for its row, and the third comes too late.
+const ONE_OBJECT: [Turn; 16] = [
+    Turn(1, Call::Begin, Reply::At(13)),
+    Turn(2, Call::Begin, Reply::At(13)),
+    Turn(3, Call::Begin, Reply::At(13)),
+    Turn(1, Call::Claim(16), Reply::Done),
+    Turn(
+        2,
+        Call::Claim(16),
+        Reply::Stopped(RowStop::Owned { seat: 1, number: 1 }),
+    ),
+    Turn(2, Call::Claim(16), Reply::OutOfPhase),
+    Turn(1, Call::Write(16, 7), Reply::Done),
+    Turn(1, Call::Seal, Reply::At(13)),
+    Turn(2, Call::Begin, Reply::At(20)),
+    Turn(
+        2,
+        Call::Read(16),
+        Reply::Stopped(RowStop::NotYet { seat: 1, seen: 13 }),
+    ),
+    Turn(2, Call::Read(17), Reply::First(0)),
+    Turn(1, Call::Settle, Reply::Commits([1, 13, 20, 13, 0])),
+    Turn(2, Call::Read(16), Reply::First(7)),
+    Turn(
+        3,
+        Call::Claim(16),
+        Reply::Stopped(RowStop::Newer { stamp: 13 }),
+    ),
+    Turn(3, Call::Claim(16), Reply::OutOfPhase),
+    Turn(0, Call::Begin, Reply::OutOfPhase),
+];
+
+// A write skew: each of two transactions reads both objects, and writes one.
+pub(crate) const WRITE_SKEW: [Turn; 17] = [
+    Turn(1, Call::Begin, Reply::At(13)),
+    Turn(1, Call::Write(16, 1), Reply::Done),
+    Turn(1, Call::Write(17, 2), Reply::Done),
+    Turn(1, Call::Seal, Reply::At(13)),
+    Turn(1, Call::Settle, Reply::Commits([1, 13, 22, 13, 0])),
+    Turn(1, Call::Begin, Reply::At(22)),
+    Turn(2, Call::Begin, Reply::At(22)),
+    Turn(1, Call::Read(16), Reply::First(1)),
+    Turn(1, Call::Read(17), Reply::First(2)),
+    Turn(2, Call::Read(16), Reply::First(1)),
+    Turn(2, Call::Read(17), Reply::First(2)),
+    Turn(1, Call::Write(16, 3), Reply::Done),
+    Turn(2, Call::Write(17, 4), Reply::Done),
+    Turn(1, Call::Seal, Reply::At(22)),
+    Turn(1, Call::Settle, Reply::Commits([2, 22, 29, 22, 13])),
+    Turn(2, Call::Seal, Reply::At(29)),
+    Turn(2, Call::Settle, Reply::Excluded([29, 22, 22])),
+];
+
+// A transaction that only reads has seen the later of two, and not the earlier one, which is excluded.
+const READ_ONLY: [Turn; 20] = [
+    Turn(1, Call::Begin, Reply::At(13)),
+    Turn(1, Call::Write(16, 1), Reply::Done),
+    Turn(1, Call::Write(17, 2), Reply::Done),
+    Turn(1, Call::Seal, Reply::At(13)),
+    Turn(1, Call::Settle, Reply::Commits([1, 13, 22, 13, 0])),
+    Turn(2, Call::Begin, Reply::At(22)),
+    Turn(2, Call::Read(16), Reply::First(1)),
+    Turn(2, Call::Read(17), Reply::First(2)),
+    Turn(2, Call::Write(16, 3), Reply::Done),
+    Turn(1, Call::Begin, Reply::At(22)),
+    Turn(1, Call::Write(17, 4), Reply::Done),
+    Turn(1, Call::Seal, Reply::At(22)),
+    Turn(1, Call::Settle, Reply::Commits([2, 22, 29, 22, 13])),
+    Turn(3, Call::Begin, Reply::At(29)),
+    Turn(3, Call::Read(16), Reply::First(1)),
+    Turn(3, Call::Read(17), Reply::First(4)),
+    Turn(3, Call::Seal, Reply::At(29)),
+    Turn(3, Call::Settle, Reply::Commits([1, 29, 34, 29, 22])),
+    Turn(2, Call::Seal, Reply::At(34)),
+    Turn(2, Call::Settle, Reply::Excluded([34, 22, 29])),
+];
+
+// A read is overwritten by one whose other row a third has read: its reader is excluded at its claim, before it seals.
+const EARLY: [Turn; 19] = [
+    Turn(1, Call::Begin, Reply::At(13)),
+    Turn(1, Call::Write(16, 1), Reply::Done),
+    Turn(1, Call::Write(17, 2), Reply::Done),
+    Turn(1, Call::Seal, Reply::At(13)),
+    Turn(1, Call::Settle, Reply::Commits([1, 13, 22, 13, 0])),
+    Turn(2, Call::Begin, Reply::At(22)),
+    Turn(2, Call::Read(16), Reply::First(1)),
+    Turn(1, Call::Begin, Reply::At(22)),
+    Turn(1, Call::Write(17, 4), Reply::Done),
+    Turn(1, Call::Seal, Reply::At(22)),
+    Turn(1, Call::Settle, Reply::Commits([2, 22, 29, 22, 13])),
+    Turn(3, Call::Begin, Reply::At(29)),
+    Turn(3, Call::Read(16), Reply::First(1)),
+    Turn(3, Call::Read(17), Reply::First(4)),
+    Turn(3, Call::Seal, Reply::At(29)),
+    Turn(3, Call::Settle, Reply::Commits([1, 29, 34, 29, 22])),
+    Turn(2, Call::Read(17), Reply::First(2)),
+    Turn(
+        2,
+        Call::Claim(16),
+        Reply::Stopped(RowStop::Excluded { succ: 22, pred: 29 }),
+    ),
+    Turn(2, Call::Seal, Reply::OutOfPhase),
+];
+
+// No transaction begins at the end of the log.
+const LOG_END: [Turn; 2] = [
+    Turn(
+        1,
+        Call::Begin,
+        Reply::NotBegun(BeginStop::LogEnd { tail: STOP }),
+    ),
+    Turn(1, Call::Seal, Reply::OutOfPhase),
+];
+
+#[test]
+fn calls_in_turn_are_answered(rt: HostRuntime) -> Result<(), Fail> {
+    assert!(rt;
+        is_answered(&mut world(rt.alloc(), false)?, &SESSIONS),
+        "begin, seal, settle and abort"
+    );
+    assert!(rt;
+        is_answered(&mut world(rt.alloc(), false)?, &ONE_OBJECT),
+        "one object"
+    );
+    assert!(rt;
+        is_answered(&mut world(rt.alloc(), false)?, &WRITE_SKEW),
+        "write skew"
+    );
+    assert!(rt;
+        is_answered(&mut world(rt.alloc(), false)?, &READ_ONLY),
+        "read only"
+    );
+    assert!(rt;
+        is_answered(&mut world(rt.alloc(), false)?, &EARLY),
+        "early exclusion"
+    );
+    assert!(rt;
+        is_answered(&mut world(rt.alloc(), true)?, &LOG_END),
+        "the log's end"
+    );
+    Ok(())
+}
+
+// The last commit's row of an object, one on which an excluded transaction left nothing, and one that nobody has written.
+#[test]
+fn commits_leave_the_final_rows(rt: HostRuntime) -> Result<(), Fail> {
+    let mut world = world(rt.alloc(), false)?;
+    assert!(rt; is_answered(&mut world, &WRITE_SKEW));
+    assert!(rt; world.row(16)[0] == 3, "the last commit's");
+    assert!(rt; world.row(17)[0] == 2, "not the excluded one's");
+    assert!(rt; world.row(18)[0] == 0, "the opening's");
+    Ok(())
+}

@@ -1,0 +1,4 @@
+pub mod Bare
+pub mod CellReads
+pub mod Racing
+pub mod Sessions
