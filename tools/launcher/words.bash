@@ -1,6 +1,6 @@
 # The words that the launcher answers by itself, with no program. A part of ../../erm.
 
-USAGE="usage: erm run | threads | make --count N --sessions K [--text] | recover | audit | checkpoint"
+USAGE="usage: erm run | threads | make --count N --sessions K [--text] | recover | audit | checkpoint | ship | follow"
 
 # The program's answer to words that ask for no command, and what is wrong with them.
 refuse() {
@@ -49,7 +49,7 @@ answer_alone() {
         --version | version | -V) print_version && exit 0 || exit 5 ;;
         copy) copy_folder "${@:2}" ;;
         try) [[ $# -ge 2 ]] || refuse "try is followed by a command, as in: erm try run < examples/first.erm" ;;
-        run | recover | audit | checkpoint) answer_more "$@" ;;
+        run | recover | audit | checkpoint | ship | follow) answer_more "$@" ;;
         threads) refuse "threads isn't there yet" ;; # once it is, it goes into the line before
         make) [[ " $* " != *" --help "* && " $* " != *" -h "* ]] || answer_alone help ;;
         "") refuse "there is no command" ;;
@@ -64,9 +64,10 @@ answer_more() {
     case $2 in
         -h | --help | help) cat "$top/tools/launcher/help.txt" && exit 0 || exit 5 ;;
     esac
-    if [[ $1 == run ]]; then
-        refuse "run takes no words: the script comes on standard input, as in: erm run < $2"
-    fi
+    case $1 in
+        run) refuse "run takes no words: the script comes on standard input, as in: erm run < $2" ;;
+        follow) refuse "follow takes no words: the stream comes on standard input, as in: erm follow < $2" ;;
+    esac
     refuse "$1 takes no words, and here is \"$2\""
 }
 
