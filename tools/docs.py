@@ -9,8 +9,8 @@ and the table of crates in docs/architecture.md. They come from crates.txt, from
 Made are also the words of docs/definitions.md: those of each row are the comments over the definitions that its first cell names, one
 after another. A row of which a definition has no comment, or can't be told from another of its name, is written by hand.
 Compared are: that each crate has its row in docs/crates.md, that the definitions of docs/definitions.md stand in specs/ or are
-items of the code, that the files it names are there, and that links of documents lead to files and headings that are there. How
-the lines of a document are broken is left open.
+items of the code, that the files it names are there, that the edits, tests and examples of docs/gate.md are there, and that links of
+documents lead to files and headings that are there. How the lines of a document are broken is left open.
 """
 
 import os
@@ -245,6 +245,19 @@ def contracts_faults(crates):
         yield f"docs/crates.md: there is no crate {it}"
 
 
+def gate_faults(crates):
+    """Edits, tests and examples that docs/gate.md names and that aren't there, and a count of edits that isn't theirs."""
+    text = text_of("docs/gate.md")
+    edits = {f"{name}/{os.path.basename(it)[:-5]}" for name in crates.uses for it in files_of(name, "must-fail", ".edit")}
+    examples = {os.path.basename(it).partition(".")[0] for it in files_of("erm_examples", "data", "")}
+    known = edits | examples | set(crates.uses) | defined(crates)
+    for it in sorted(set(re.findall(r"`([a-z0-9]+_[a-z0-9_]+(?:/[a-z0-9_]+)?)`", text)) - known):
+        yield f"docs/gate.md: there is no {it}"
+    said = f"There are {len(edits)} edits, in {len({it.split('/')[0] for it in edits})} crates"
+    if said not in text:
+        yield f"docs/gate.md: not said: {said}"
+
+
 def anchors_of(path):
     heads = re.findall(r"^#+ (.*)$", re.sub(r"^```.*?^```", "", text_of(path), flags=re.S | re.M), re.M)
     return {re.sub(r"[^a-z0-9 _-]", "", it.lower()).replace(" ", "-") for it in heads}
@@ -279,7 +292,7 @@ def main(words):
                 it.write(text)
         elif plain(text) != plain(text_of(path)):
             faults.append(f"{path}: a table isn't as tools/docs.py makes it")
-    faults += [*definitions_faults(crates), *contracts_faults(crates), *links_faults()]
+    faults += [*definitions_faults(crates), *contracts_faults(crates), *gate_faults(crates), *links_faults()]
     for it in faults:
         print(it)
     print(f"documents: {len(faults)} not as in the sources")
