@@ -45,7 +45,7 @@ use Rattle.erm_told_log.specs.Tail.{MeetsTail}
 use Rattle.erm_world.specs.Log.{Log}
 use Rattle.erm_disk_run.specs.Crashes.{KeepsCommits, KeepsOlder, RecoversBelow}
 use Rattle.erm_disk_run.specs.Found.{IsFound, IsKept, ReadsAs}
-use Rattle.erm_disk_run.specs.Opened.{OpensLog, stop_of_opening}
+use Rattle.erm_disk_run.specs.Opened.{OpensEachLog, OpensLog, stop_of_opening}
 use Rattle.erm_disk_run.specs.declared.stops.DiskStop.{DiskStop}
 use Rattle.erm_disk_run.specs.declared.stops.DiskStop.TheVariants as stop
 use Rattle.erm_disk_run.specs.Stops.{KeepsMap, OnlyOpens, StopsFor, StopsRun}
@@ -307,6 +307,33 @@ module _ (laws : OpeningLaws) (r : Recovered) (before after : Option (List Step)
       only_opens laws r found.are_sound low less before after kept is found s.any_moment
 
 -- ---- what is weaker
+
+-- where whatever log was just opened was opened on the disk, no more was done than that
+pub opened_only : MayOpenAll → (state : State) (slots : Slots) (before after : Option (List Step)) → IsFound before state → OpensEachLog state slots before after → OnlyOpens before after
+opened_only may state slots before after found opens = inr (state, found, writes, keeps)
+  where
+    log : Log
+    log = record {
+      opened = record { at = state.at + LEAST_BLOCK; run = state.run + 1; rows = state.rows };
+      tail = state.at + LEAST_BLOCK;
+      flushed = state.at + LEAST_BLOCK;
+      gathered = [];
+      undecided = λ place. None;
+      pinned = None;
+    }
+
+    told : Tells (OpensLog state log slots) before after
+    told = opens log (record { at = refl; run = refl; rows = λ oid less. refl; tail = refl; flushed = refl; gathered = refl; pinned = refl })
+
+    writes : OnlyWrites state.at (spelling (open_block state.at state.run)) before after
+    writes = tells_weaker (OpensLog state log slots) (WritesSome state.at (spelling (open_block state.at state.run))) before after (λ a b o. o.writes) told
+
+    keeps : Tells (OnceSettled (KeepsCommits [] state state.at)) before after
+    keeps =
+        tells_weaker (OpensLog state log slots) (OnceSettled (KeepsCommits [] state state.at)) before after
+        (λ a b o.
+        once_weaker (KeepsOpening sound_law.meets state o.pair) (KeepsCommits [] state state.at) a b (λ c d kept. opening_commits may [] state o.pair c d refl refl kept)
+        (once_since (KeepsOpening sound_law.meets state o.pair) a b o.keeps)) told
 
 -- what keeps the map found once nothing is pending does so where it may have been stopped before
 pub once_told : (state : State) (before after : Option (List Step)) → Tells (SinceSettled (KeepsCommits [] state state.at)) before after

@@ -1,7 +1,7 @@
 -- A disk's log that was just opened for the next run, and why none is.
-use Rattle.std.specs.Prelude.{◌≡◌, ℕ, ◌+◌, ◌<◌, ◌++◌, List, [], ◌∷◌, Option, false}
-use Rattle.erm_model.specs.Rows.{Rows}
-use Rattle.erm_model.specs.declared.limits.TheConstants.{LAST_RUN, LEAST_BLOCK, STOP}
+use Rattle.std.specs.Prelude.{◌≡◌, ℕ, ◌+◌, ◌<◌, ◌++◌, List, [], ◌∷◌, length, Option, false}
+use Rattle.erm_model.specs.Rows.{rows_of}
+use Rattle.erm_model.specs.declared.limits.TheConstants.{LAST_RUN, LEAST_BLOCK, OID_LIMIT, STOP}
 use Rattle.erm_block.specs.declared.block.Block.{Block}
 use Rattle.erm_block.specs.Spelling.{spelling}
 use Rattle.erm_log_disk.specs.Writes.{AllWriteWords}
@@ -22,8 +22,8 @@ use Rattle.erm_start.specs.Recovered.{IsOpenedLog, IsOpenedWith}
 use Rattle.erm_told_log.specs.Tail.{MeetsTail}
 use Rattle.erm_world.specs.Log.{Log}
 use Rattle.erm_world.specs.World.{View}
+use Rattle.erm_disk_run.specs.declared.log.OpenedLog.{OpenedLog}
 use Rattle.erm_disk_run.specs.declared.opening.Opened.{Opened}
-use Rattle.erm_disk_run.specs.declared.opening.Room.{Room}
 use Rattle.erm_disk_run.specs.declared.stops.DiskStop.{DiskStop}
 use Rattle.erm_disk_run.specs.declared.stops.DiskStop.TheVariants as stop
 use Rattle.erm_disk_run.specs.Found.{IsFound}
@@ -59,10 +59,23 @@ pub record IsOpenedWorld (limits : Limits) (state : State) (sessions : ℕ) (v :
   pub view : IsOpenedWith state.rows (state.at + LEAST_BLOCK) (state.run + 1) sessions limits.cells limits.cuts v
   pub log : IsOpenedLog state.rows (state.at + LEAST_BLOCK) (state.run + 1) l
 
--- a flusher that hasn't failed, and the map of these rows
-pub record IsRoomFor (rows : Rows) (room : Room) : Type 0 where
-  pub well : room.flusher ≡ false
-  pub map : room.map ≡ map_of_rows rows
+-- whatever log was just opened on a state's rows is the one that was opened on the disk, as far as it tells
+abbrev pub OpensEachLog : State → Slots → Option (List Step) → Option (List Step) → Type 0
+OpensEachLog state slots before after = (log : Log) → IsOpenedLog state.rows (state.at + LEAST_BLOCK) (state.run + 1) log → OpensTold state log slots before after
+
+-- A state was found on a disk and its log opened, below the end of runs and of the log. These are its rows, one for each object, and the place behind the block
+-- that opened the log. What a report starts from is the state's map, place and next run.
+pub record WasLogOpened (before after : Option (List Step)) (state : State) (o : OpenedLog) : Type 0 where
+  pub found : IsFound before state
+  pub low : state.at < STOP
+  pub run_low : state.run < LAST_RUN
+  pub rows : rows_of o.rows.items ≡ state.rows
+  pub many : length o.rows.items ≡ OID_LIMIT
+  pub tail : o.tail ≡ state.at + LEAST_BLOCK
+  pub disk : OpensEachLog state o.slots before after
+  pub map : o.start.map ≡ map_of_rows state.rows
+  pub stamp : o.start.stamp ≡ state.at
+  pub run : o.start.run ≡ state.run + 1
 
 -- A state was found on a disk and its log opened, with a world of so many sessions, which has these limits, this view and this log. What a report starts
 -- from is the state's map, place and next run, and the flusher hasn't failed.

@@ -3,6 +3,7 @@
 
 mod checkpoint;
 mod laws;
+mod log;
 mod opening;
 mod run;
 mod stops;
@@ -13,6 +14,7 @@ pub use laws::{
     greater_places_are_reached_later, next_runs_keep_what_was_acknowledged,
     stopped_runs_may_be_followed,
 };
+pub use log::{OpenedLog, open_log_on_disk};
 pub use run::{run_in_lists, run_on_disk};
 pub use stops::{DiskStop, OnDisk, RunStop};
 

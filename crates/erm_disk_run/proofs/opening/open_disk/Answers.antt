@@ -1,28 +1,11 @@
-use Rattle.std.proofs.Common.{List, ℕ, Option, refl, ap, ◌∙◌, subst, arith}
-use Rattle.erm_model.specs.Rows.{rows_of}
-use Rattle.erm_node.specs.TreeMap.{map_of_rows}
-use Rattle.erm_outside.specs.Disk.{Step}
-use Rattle.erm_recover.specs.Recovering.{state_recovered}
-use Rattle.erm_disk_run.specs.Opened.{OpensTold}
-use Rattle.erm_disk_run.proofs.Opened.{found_told}
+use Rattle.std.proofs.lemmas.Result.{err_from_is_err_and}
+use Rattle.erm_disk_run.proofs.Opened.{opened_only}
 use Rattle.erm_disk_run.proofs.opening.open_disk.Goals as goal
 
-pub returns-clause-opened : goal.returns-clause-opened
-returns-clause-opened g c =
-    let r = c.in_ok-recovered.recovered in
-    let read = c.in_ok-recovered.ensures in
-    let low = read.low in
-    let above = read.above in (
-      state_recovered r,
-      record {
-        found = found_told (g.D.Disk.told c.args.disk.now) r read.recovered (omega (arith, low, above)) read.end read.run read.meets;
-        world = c.in_ok-world.ensures.opened;
-        disk =
-            subst (λ (before : Option (List Step)). OpensTold (state_recovered r) (g.W.LogWorld.log c.in_ok-world.world) r.slots before (g.D.Disk.told c.open_on.new.disk)) read.told
-            c.in_ok-world.ensures.disk;
-        map = c.in_ok-room.ensures.map ∙ ap (λ (rows : List (List ℕ)). map_of_rows (rows_of rows)) c.deref.ensures.value;
-        stamp = refl;
-        run = refl;
-        well = c.in_ok-room.ensures.well;
-      },
-    )
+pub returns-in_err-world-clause-stops : goal.returns-in_err-world-clause-stops
+returns-in_err-world-clause-stops g c =
+    let state = c.in_ok-rows.ensures.opened.0 in
+    let was = c.in_ok-rows.ensures.opened.1 in
+    let p = err_from_is_err_and c.from_residual-in_err-world.result c.from_residual-in_err-world.ensures.1 in
+    rw (p.1, p.2)
+    (opened_only c.kept_images_may_open.ensures state c.in_ok-rows.field-0.slots (g.D.Disk.told c.args.disk.now) (g.D.Disk.told c.open_log_on_disk.new.disk) was.found was.disk)
