@@ -95,7 +95,7 @@ fn ran<R: Threads + Wait + Sync>(
     rt: &R,
     alloc: Global,
     fails: u64,
-) -> Result<Ran<Silent<MemDisk>>, Fail> {
+) -> Result<(Silent<MemDisk>, Ran), Fail> {
     zero_rows_are_sound();
     zero_rows_are_not_reached();
     let disk = MemDisk::new(alloc).failing(vec![in alloc; fails; 1]?);
@@ -117,10 +117,10 @@ fn ran<R: Threads + Wait + Sync>(
         rows: found.rows,
     };
     let parts = parts(alloc)?;
-    let ran = run_sessions::<SoundRows, Silent<MemDisk>, OpenGate, R>(
+    let (disk, ran) = run_sessions::<SoundRows, Silent<MemDisk>, OpenGate, R>(
         rt, alloc, &opening, disk, &OpenGate, parts,
-    )?;
-    Ok(ran)
+    );
+    Ok((disk, ran?))
 }
 
 // Whether a session did its lines: all of them, or those up to the one that the disk's failure cut.
@@ -165,14 +165,14 @@ fn count_own(map: &Map) -> u32 {
 fn ten_sessions_run(rt: HostRuntime) -> Result<(), Fail> {
     let alloc = rt.alloc();
     for (fails, failed) in CASES {
-        let ran = ran(&rt, alloc, fails)?;
+        let (disk, ran) = ran(&rt, alloc, fails)?;
         assert!(rt; ran.failed == failed, "{fails}");
         let works = ran.sessions?;
         assert!(rt; works.len() == SESSIONS as usize, "{fails}");
         for work in &works {
             assert!(rt; is_as(work, failed), "{fails}");
         }
-        let disk = ran.disk.disk.image(Pick::Nothing)?;
+        let disk = disk.disk.image(Pick::Nothing)?;
         let found = recovered(alloc, &mut Silent { disk })?;
         let own = count_own(&map_of(alloc, &found.rows)?);
         let want = if failed { 0 } else { 10 };

@@ -1,10 +1,9 @@
 -- A desk that was just set up.
 use Rattle.std.proofs.Common.{◌≡◌, ℕ, ◌^◌, ◌<◌, false, List, [], ◌∷◌, ◌++◌, Option, Some, None, IfSome, refl, subst, arith}
 use Rattle.erm_block.specs.declared.block.Block.{Block}
-use Rattle.erm_checkpoint.specs.Taken.{HoldsLog, state_at}
-use Rattle.erm_ckpt.specs.declared.slot.Slots.{Slots}
+use Rattle.erm_checkpoint.specs.Taken.{state_at}
 use Rattle.erm_ckpt.specs.declared.slot.TheConstants.{LOG_START}
-use Rattle.erm_crash.specs.Kept.{KeepsBlocks, KeepsSince}
+use Rattle.erm_crash.specs.Kept.{KeepsBlocks}
 use Rattle.erm_core_turns.proofs.Blocks.{flushed_upto}
 use Rattle.erm_gathered.proofs.Lasting.{has_none}
 use Rattle.erm_model.specs.RowTransaction.{Law}
@@ -14,13 +13,10 @@ use Rattle.erm_ring.specs.Turns.{MayGather}
 use Rattle.erm_rule.specs.declared.view.Book.{Book}
 use Rattle.erm_rule.specs.declared.view.Start.{Start}
 use Rattle.erm_rule.specs.Views.{MayJoin}
-use Rattle.erm_world.specs.Log.{IsLog, Log}
+use Rattle.erm_world.specs.Log.{IsLog}
 use Rattle.erm_desk.specs.Desk.{IsDesk, IsHeld, KeepsFronts, WritesSince}
 use Rattle.erm_desk.specs.Known.{IsFlushedTo, KnowsBlocks, flushed_log, opened_at}
-
--- what the crate below says of a log that a disk holds
-abbrev pub Begins : Law → Type 0
-Begins law = (log : Log) (slots : Slots) (steps : List Step) → HoldsLog law.meets log slots steps → KeepsSince law.meets log.flushed log slots steps steps
+use Rattle.erm_desk.proofs.Since.{Begins, all_held}
 
 none_front : (front rest : List Block) → [] ≡ front ++ rest → front ≡ []
 none_front [] rest same = refl
@@ -72,6 +68,7 @@ module _ (law : Law) (begins : Begins law) (o : Start) where
         knows_all = knows;
         keeps = keeps_now told held;
         writes = writes_now told;
+        since = all_held law begins o told told [] [] held (writes_now told);
         holds = λ _. (refl, held);
         sound = λ _. refl;
         rose = λ failed. absurd (cc);

@@ -14,3 +14,6 @@ pub mod PinFront
 pub mod PinKept
 pub mod Ended
 pub mod Pins
+pub mod Since
+pub mod Stepped
+pub mod TakenIn

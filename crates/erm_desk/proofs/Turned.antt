@@ -34,7 +34,7 @@ use Rattle.erm_rule.specs.Views.{MayJoin}
 use Rattle.erm_rule.proofs.Courses.{goes_both}
 use Rattle.erm_world.specs.declared.gathered.Gathered.TheVariants.{Empty, Unfilled, Words}
 use Rattle.erm_world.specs.Log.{IsLog, Log, gathered_to, place_behind, words_of}
-use Rattle.erm_desk.specs.Desk.{Fails, IsDesk, IsHeld, KeepsFronts, PinStays, Sees, TurnsTo, WritesSince}
+use Rattle.erm_desk.specs.Desk.{Fails, HeldSince, IsDesk, IsHeld, KeepsFronts, PinStays, Sees, TurnsTo, WritesSince}
 use Rattle.erm_desk.specs.Desk as desk_specs
 use Rattle.erm_desk.specs.Known.{AwaitsLog, HasEnded, HasPin, HasStopped, IsFlushedTo, KnowsBlocks, KnowsEnd, KnowsLog, ended_log, flushed_log, opened_at, pending_log}
 use Rattle.erm_desk.specs.Turns.{DidLook, DidStore}
@@ -43,6 +43,7 @@ use Rattle.erm_desk.proofs.Ended.{end_on}
 use Rattle.erm_desk.proofs.Looking.{goes, still}
 use Rattle.erm_desk.proofs.PinKept.{pin_after, pin_cleared, pin_gathered}
 use Rattle.erm_desk.proofs.Onward.{knows_after}
+use Rattle.erm_desk.proofs.Since.{Begins, all_held}
 
 -- a desk as contracts see it
 abbrev pub sees : Book → Option (List Step) → ℕ → Bool → Sees
@@ -60,6 +61,7 @@ pub record DeskLaws (law : Law) : Type 0 where
       → KeepsBlocks law.meets from blocks place a b → KeepsBlocks law.meets from (blocks ++ more) later b c → KeepsBlocks law.meets from (blocks ++ more) place a c
   pub held : (before now : Log) (slots : Slots) (old new : List Step) → HoldsLog law.meets before slots old → HoldsFrom law.meets before.flushed now old new → IsReady now new
       → GoesOn before now → IsLog law.meets now → LOG_START < now.opened.at → HoldsLog law.meets now slots new
+  pub begin : Begins law
   pub join : (at : ℕ) (xs ys : List ℕ) (first second : List Step) → AllWriteWords at xs first → AllWriteWords (at + length xs) ys second → AllWriteWords at (xs ++ ys) (second ++ first)
 
 -- before blocks were gathered that are known now
@@ -188,6 +190,7 @@ module _ (law : Law) (laws : DeskLaws law) (o : Start) (began : Option (List Ste
         knows_all = knows_after laws.stay law o s.book e (desk.blocks ++ desk.tried) after start desk.knows_all;
         keeps = desk.keeps;
         writes = desk.writes;
+        since = desk.since;
         holds = λ _. desk.holds fine;
         sound = λ _. desk.sound fine;
         rose = λ failed. absurd (cc);
@@ -237,6 +240,26 @@ module _ (law : Law) (laws : DeskLaws law) (o : Start) (began : Option (List Ste
         let from = holds_same law.meets o desk.blocks more slots now held in
         subst Kept (sym is_new)
         (moments now new kept (laws.keep before wrote slots now new from refl (more, refl) (pending_plain law.meets o desk.blocks more log) desk.behind writes))
+
+    -- before, the disk held what is flushed: since then each image recovers to it, and to a front of them
+    abbrev Tried : Option (List Step) → Type 0
+    Tried told = IfSome told (λ now. IfSome began (λ b. HeldSince law o desk.blocks more b now))
+
+    held_tried : (was told : Option (List Step)) → IfSome was (IsHeld law o desk.blocks) → IfSome was (λ now. IfSome began (λ b. WritesSince o (desk.blocks ++ desk.tried) b now))
+        → Tells (WritesFrom law.meets place wrote) was told → Tried told
+    held_tried None told held since writes = subst Tried (sym writes) tt
+    held_tried (Some now) told (slots, held) since (new, is_new, writes) =
+        let from = holds_same law.meets o desk.blocks more slots now held in
+        let kept = laws.keep before wrote slots now new from refl (more, refl) (pending_plain law.meets o desk.blocks more log) desk.behind writes in
+        subst Tried (sym is_new)
+        (all_some (λ b. WritesSince o (desk.blocks ++ desk.tried) b now) (λ b. HeldSince law o desk.blocks more b new) began
+        (λ b earlier. record {
+          mid = now;
+          moment = record { before = earlier.0; since = earlier.1; after = writes.writes.more; later = writes.writes.steps };
+          held = (slots, held);
+          keeps = kept;
+        })
+        since)
 
     -- nothing else was done than to write words of blocks: of these
     length_is : o.tail + length (words_of desk.blocks) ≡ place
@@ -330,6 +353,7 @@ module _ (law : Law) (laws : DeskLaws law) (o : Start) (began : Option (List Ste
           knows_all = knows;
           keeps = kept_tried fine more knows.log s.told told desk.keeps (desk.holds fine).1 writes;
           writes = since_tried fine more knows.log s.told told desk.writes writes;
+          since = held_tried fine more knows.log s.told told (desk.holds fine).1 desk.writes writes;
           holds = λ failed. absurd (cc);
           sound = λ failed. absurd (cc);
           rose = λ _. rose_from s.faults first faults (desk.sound fine) rose;
@@ -375,6 +399,7 @@ module _ (law : Law) (laws : DeskLaws law) (o : Start) (began : Option (List Ste
       told_ready law.meets next m.tail m.pinned told (subst (λ (x : Log). IfSome told (IsReady x)) is_next flushes.ready)
       in
       let disk = kept_flushed fine more knows.log s.told told desk.keeps (desk.holds fine).1 writes lasts ready in
+      let since = since_flushed fine more knows.log s.told told desk.writes writes in
       let nothing : (desk.blocks ++ more) ++ [] ≡ desk.blocks ++ more = append-nil (desk.blocks ++ more) in
       let clearable : ring.MayClear end mid.view = subst (λ (p : ℕ). ring.MayClear p mid.view) (sym did.end_is) (gathers_clears did.at did.count s.book words mid desk.may look.gathers) in
       let after = goes s.book mid look.gathers.0 did.at (did.at + did.count) (take did.count words) look.gathers.1 in (
@@ -391,7 +416,8 @@ module _ (law : Law) (laws : DeskLaws law) (o : Start) (began : Option (List Ste
           tried = [];
           knows_all = subst (KnowsBlocks law o e) (sym nothing) knows;
           keeps = subst (λ (bs : List Block). IfSome told (λ now. IfSome began (λ b. KeepsFronts law o bs b now))) (sym nothing) disk.0;
-          writes = subst (λ (bs : List Block). IfSome told (λ now. IfSome began (λ b. WritesSince o bs b now))) (sym nothing) (since_flushed fine more knows.log s.told told desk.writes writes);
+          writes = subst (λ (bs : List Block). IfSome told (λ now. IfSome began (λ b. WritesSince o bs b now))) (sym nothing) since;
+          since = all_held law laws.begin o told began (desk.blocks ++ more) (desk.blocks ++ more) disk.1 since;
           holds = λ _. (refl, disk.1);
           sound = λ _. desk.sound fine;
           rose = λ failed. absurd (cc);

@@ -5,6 +5,7 @@ use Rattle.erm_ckpt.specs.declared.slot.Slots.{Slots}
 use Rattle.erm_ckpt.specs.declared.slot.TheConstants.{LOG_START}
 use Rattle.erm_checkpoint.specs.Taken.{HoldsLog, state_at}
 use Rattle.erm_crash.specs.Kept.{KeepsBlocks}
+use Rattle.erm_crash.specs.Moments.{IsMoment}
 use Rattle.erm_flush.specs.declared.stops.FlushStop.{FlushStop}
 use Rattle.erm_flush.specs.declared.stops.FlushStop.TheVariants as stop
 use Rattle.erm_flush.specs.Turns.{HoldsFrom}
@@ -41,10 +42,19 @@ KeepsFronts law o blocks old now = KeepsBlocks law.meets (state_at (flushed_log 
 abbrev pub WritesSince : Start → List Block → List Step → List Step → Type 0
 WritesSince o blocks old now = (more : List Step) × (now ≡ more ++ old) × AllWriteWords o.tail (words_of blocks) more
 
+-- At a moment between two lists of steps the disk held the log as far as some blocks, and at each moment from then on each image recovers to a
+-- front of these and of those tried behind them, to all of the first at least.
+pub record HeldSince (law : Law) (o : Start) (blocks tried : List Block) (old now : List Step) : Type 0 where
+  pub mid : List Step
+  pub moment : IsMoment old now mid
+  pub held : IsHeld law o blocks mid
+  pub keeps : KeepsBlocks law.meets (state_at (flushed_log o (blocks ++ tried)) []) (blocks ++ tried) (place_behind o.tail blocks) mid now
+
 -- THE DESK. Its pass has the flush seat, which is between two turns. The log is flushed up to the end of these blocks, was met to end there or
 -- behind it, and may be pinned. And at each moment
 -- since it was set up each image of its disk recovers to a front of them, and of those that were gathered in a turn at which the disk
--- failed; nothing else was done to the disk than to write these. While it hasn't failed, the disk holds the log as far as it is flushed.
+-- failed; nothing else was done to the disk than to write these. The disk held the log as far as it is flushed at some moment, since when each
+-- image recovers to all of it at least; while the disk hasn't failed it holds it.
 pub record IsDesk (law : Law) (o : Start) (began : Option (List Step)) (faults : ℕ) (d : Sees) : Type 0 where
   pub behind : LOG_START < o.tail
   pub may : MayGather d.book.view
@@ -59,6 +69,7 @@ pub record IsDesk (law : Law) (o : Start) (began : Option (List Step)) (faults :
   pub knows_all : KnowsBlocks law o d.book (blocks ++ tried)
   pub keeps : IfSome d.told (λ now. IfSome began (λ old. KeepsFronts law o (blocks ++ tried) old now))
   pub writes : IfSome d.told (λ now. IfSome began (λ old. WritesSince o (blocks ++ tried) old now))
+  pub since : IfSome d.told (λ now. IfSome began (λ old. HeldSince law o blocks tried old now))
   pub holds : d.failed ≡ false → (tried ≡ []) × IfSome d.told (IsHeld law o blocks)
   pub sound : d.failed ≡ false → d.faults ≡ faults
   pub rose : d.failed ≡ true → Rose faults d.faults
@@ -108,3 +119,12 @@ TurnsTo law o (Err stop.Failed) s t = (s.failed ≡ true) × (t ≡ s)
 -- the flush seat's pin, if it has one, is as before
 abbrev pub PinStays : Book → Book → Type 0
 PinStays b e = (pin : Option ℕ) → HasPin b.view pin → HasPin e.view pin
+
+-- A pass has taken in others: the second book comes after the first, the flush seat is between two turns still, with its pin, and nothing was flushed.
+pub record TakesIn (b e : Book) : Type 0 where
+  pub start : e.start ≡ b.start
+  pub goes : IsAfter b e
+  pub gathers : MayGather e.view
+  pub joins : MayJoin e.view
+  pub pin : PinStays b e
+  pub flushed : (place : ℕ) → IsFlushedTo b place → IsFlushedTo e place

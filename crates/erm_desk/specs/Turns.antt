@@ -1,6 +1,7 @@
 -- What the calls of a turn of the flush seat do to its pass's book.
 use Rattle.std.specs.Prelude.{◌≡◌, ℕ, true, List}
 use Rattle.erm_entries.specs.Took.{TookWait}
+use Rattle.erm_machine.specs.declared.event.Kind.{Kind}
 use Rattle.erm_machine.specs.declared.event.Kind.TheVariants as kind
 use Rattle.erm_machine.specs.declared.limits.TheConstants.{FLUSH_SEAT}
 use Rattle.erm_machine.specs.Seat.{is_active}
@@ -13,7 +14,7 @@ use Rattle.erm_rule.specs.declared.view.Book.{Book}
 use Rattle.erm_rule.specs.declared.view.View.{View}
 use Rattle.erm_rule.specs.Steps.{Booked}
 use Rattle.erm_rule.specs.Views.{part_of}
-use Rattle.erm_rule.specs.Went.{IsLoadStep, Went}
+use Rattle.erm_rule.specs.Went.{IsLoadStep, Took, Went}
 use Rattle.erm_seats.specs.Took.{TookBegin}
 use Rattle.erm_world.specs.declared.gathered.Gathered.{Gathered}
 use Rattle.erm_world.specs.declared.gathered.SeatWait.{SeatWait}
@@ -60,3 +61,7 @@ pub record EndsPin (law : Law) (b e : Book) : Type 0 where
   pub found : ℕ
   pub step : Booked law b FLUSH_SEAT (kind.StoreBegin 0) found e
   pub unpins : DidUnpin b.view e.view
+
+-- some steps of the flush seat lead from one book to another
+abbrev pub FlushSteps : Law → Book → Book → Type 0
+FlushSteps law b e = (steps : List (Kind × ℕ)) × Took law FLUSH_SEAT steps b e

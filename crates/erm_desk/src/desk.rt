@@ -1,10 +1,11 @@
 //! The desk.
-ghost use Rattle.std.specs.Prelude.{◌≡◌, ◌<◌, ◌*◌, ◌^◌, false, IfOk, IfSome, []};
+ghost use Rattle.std.specs.Prelude.{◌≡◌, ◌<◌, ◌*◌, ◌^◌, false, IfSome, []};
 ghost use Rattle.erm_checkpoint.specs.Taken.{HoldsLog};
 ghost use Rattle.erm_ckpt.specs.declared.slot.TheConstants.{LOG_START};
 ghost use Rattle.erm_desk.specs.All.{TurnsAll};
 ghost use Rattle.erm_desk.specs.Desk.{IsDesk, IsHeld, Sees, TurnsTo};
 ghost use Rattle.erm_desk.specs.Known.{IsFlushedTo, opened_at};
+ghost use Rattle.erm_desk.specs.Turns.{FlushSteps};
 ghost use Rattle.erm_pin.specs.Pins.{IsUnpinned};
 ghost use Rattle.erm_ring.specs.Turns.{MayGather};
 ghost use Rattle.erm_rule.specs.Books.{book};
@@ -18,7 +19,6 @@ use erm_flush::{FlushStop, Flusher};
 use erm_model::{RowLaw, Stamp};
 use erm_outside::Disk;
 use erm_rule::{Pass, Table};
-use std::alloc::{AllocError, Global};
 use std::marker::{Model, PhantomData};
 
 /// What turns one after another did: so many flushed, and the next one stopped.
@@ -56,9 +56,10 @@ impl<L: RowLaw, D: Disk + Drop, B: Naming> Model for Desk<L, D, B> {
 }
 
 impl<L: RowLaw, D: Disk + Drop, B: Naming> Desk<L, D, B> {
-    /// A desk with a disk that holds the log where the opening begins it, and a pass that has the flush seat, with which nothing was
-    /// flushed yet. It has room for the words of the ring; no later call takes memory.
-    pub fn new(alloc: Global, disk: D, pass: Pass) -> Result<Desk<L, D, B>, AllocError>
+    /// A desk with a flusher that was just made, a disk that holds the log where the opening begins it, and a pass that has the flush seat, with
+    /// which nothing was flushed yet. No later call takes memory.
+    pub fn with(flusher: Flusher, disk: D, pass: Pass) -> Desk<L, D, B>
+        requires new { flusher ≡ false }
         requires fits { Fits B.table pass }
         requires may { MayGather (view pass) }
         requires joins { MayJoin (view pass) }
@@ -71,16 +72,30 @@ impl<L: RowLaw, D: Disk + Drop, B: Naming> Desk<L, D, B> {
         requires began { D.told disk ≡ B.began }
         requires faults { D.faults disk ≡ B.faults }
         requires holds { IfSome (D.told disk) (IsHeld L.law B.start []) }
-        ensures new { IfOk result (λ desk. desk ≡ record { book = book pass; told = B.began; faults = B.faults; failed = false }) }
+        ensures new { result ≡ record { book = book pass; told = B.began; faults = B.faults; failed = false } }
     {
         erm_crash::kept_logs_begin::<L>();
-        let flusher = Flusher::new(alloc)?;
-        Ok(Desk {
+        Desk {
             disk,
             pass,
             flusher,
             of: PhantomData,
-        })
+        }
+    }
+
+    /// The desk of these parts, where what is so of a desk is so of them.
+    pub fn of_parts(disk: D, pass: Pass, flusher: Flusher) -> Desk<L, D, B>
+        requires fits { Fits B.table pass }
+        requires unpinned { IsUnpinned (view pass) }
+        requires desk { IsDesk L.law B.start B.began B.faults (record { book = book pass; told = D.told disk; faults = D.faults disk; failed = flusher }) }
+        ensures same { result ≡ record { book = book pass; told = D.told disk; faults = D.faults disk; failed = flusher } }
+    {
+        Desk {
+            disk,
+            pass,
+            flusher,
+            of: PhantomData,
+        }
     }
 
     /// A turn: all that is decided of the log in order from the place flushed on is written to the disk, up to the first range that isn't or the
@@ -88,6 +103,7 @@ impl<L: RowLaw, D: Disk + Drop, B: Naming> Desk<L, D, B> {
     pub fn turn(&mut self, t: &Table<L>) -> Result<Stamp, FlushStop>
         requires table { t.now.words.shared.table_id ≡ B.table }
         ensures turns { TurnsTo L.law B.start result self.old self.new }
+        ensures steps { FlushSteps L.law self.old.book self.new.book }
     {
         turns_keep_desks::<L>();
         let mut seat = FlushSeat {
@@ -117,14 +133,13 @@ impl<L: RowLaw, D: Disk + Drop, B: Naming> Desk<L, D, B> {
         }
     }
 
-    /// The disk, the pass, and whether the disk failed: what was so of the desk is so of them.
-    pub fn into_parts(self) -> (D, Pass, bool)
+    /// The disk, the pass, and the flusher, which knows whether the disk failed: what was so of the desk is so of them.
+    pub fn into_parts(self) -> (D, Pass, Flusher)
         ensures fits { Fits B.table result.1 }
         ensures unpinned { IsUnpinned (view result.1) }
         ensures desk { IsDesk L.law B.start B.began B.faults (record { book = book result.1; told = D.told result.0; faults = D.faults result.0; failed = result.2 }) }
         ensures same { record { book = book result.1; told = D.told result.0; faults = D.faults result.0; failed = result.2 } ≡ self }
     {
-        let failed = self.flusher.has_failed();
-        (self.disk, self.pass, failed)
+        (self.disk, self.pass, self.flusher)
     }
 }

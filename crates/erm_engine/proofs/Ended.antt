@@ -1,13 +1,18 @@
 -- The last state of a table, as the world in which its sessions have ended.
-use Rattle.std.proofs.Common.{◌≡◌, ℕ, ⊎_elim, Bool, true, false, List, [], ◌∷◌, eqb, Some, None, refl, sym, ap, ◌∙◌, subst, eq-eqb, eqb-true}
+use Rattle.std.proofs.Common.{◌≡◌, ◌≢◌, ℕ, ◌+◌, ◌-◌, ◌<◌, ◌≤◌, arith, ⊎_elim, Bool, true, false, List, [], ◌∷◌, length, eqb, Some, None, refl, sym, ap, ◌∙◌, subst, eq-eqb, eqb-true}
 use Rattle.std.specs.Prelude.{if◌then◌else◌}
-use Rattle.erm_model.specs.declared.limits.TheConstants.{SESSIONS, TABLE_CELLS}
+use Rattle.std.specs.Prelude.{slice_get}
+use Rattle.std.proofs.lemmas.Bool.{cases_lt, ne_eqb}
+use Rattle.erm_model.specs.declared.limits.TheConstants.{LAST_RUN, SESSIONS, TABLE_CELLS}
 use Rattle.erm_model.specs.Member.{◌∈◌}
 use Rattle.erm_model.specs.RowTransaction.{Law}
-use Rattle.erm_model.proofs.Members.{none_in_nil, ∈-at, ∈-behind}
+use Rattle.erm_model.proofs.Members.{none_in_nil}
+use Rattle.erm_machine.specs.declared.attempt.Attempt.{Attempt}
+use Rattle.erm_machine.specs.declared.limits.TheConstants.{FLUSH_SEAT}
 use Rattle.erm_machine.specs.declared.part.Part.{Part}
 use Rattle.erm_machine.specs.declared.place.Place.TheVariants.{Idle}
-use Rattle.erm_machine.specs.Core.{Core, fresh_part}
+use Rattle.erm_machine.specs.Core.{Core, blank, fresh_part}
+use Rattle.erm_machine.specs.Life.{is_between}
 use Rattle.erm_machine.proofs.Listed.{∈-cons}
 use Rattle.erm_core_alone.specs.Alone.{ClaimsStandAlone}
 use Rattle.erm_core_alone.proofs.Kept.{kept, opening_alone}
@@ -17,134 +22,201 @@ use Rattle.erm_core_shown.specs.Shown.{HasOnly, NoneElse, given_up_of, shown_ses
 use Rattle.erm_core_shown.proofs.Only.{none_after, only_sessions}
 use Rattle.erm_core_shown.proofs.Parts.{shown_between}
 use Rattle.erm_core_stays.proofs.Numbers.{rises}
+use Rattle.erm_core_view.specs.Views.{IsQuiet, IsStill}
 use Rattle.erm_core_view.proofs.Moved.{changes_one}
 use Rattle.erm_sound.specs.Kept.{SoundUnder}
+use Rattle.erm_ring.specs.Turns.{MayGather}
+use Rattle.erm_ring.proofs.Gathering.{has_part}
+use Rattle.erm_rule.specs.declared.rule.Table.{Table}
 use Rattle.erm_rule.specs.declared.view.Book.{Book}
 use Rattle.erm_rule.specs.declared.view.Held.{Held}
 use Rattle.erm_rule.specs.declared.view.Opening.{Opening}
-use Rattle.erm_rule.specs.Books.{HasSeats, IsBookOf, past_of}
+use Rattle.erm_rule.specs.Books.{HasSeats, IsAfter, IsBookOf, book, past_of}
 use Rattle.erm_rule.specs.Openings.{start_rows}
 use Rattle.erm_rule.specs.Steps.{EndsUnder}
-use Rattle.erm_rule.specs.Views.{EachOnce, first_held, no_held, one_seat, part_among, part_in, part_of}
+use Rattle.erm_rule.specs.Views.{EachOnce, part_among, part_in, part_of}
 use Rattle.erm_rule.proofs.Parts.{found_among}
 use Rattle.erm_rule.proofs.Telling.{held_part}
 use Rattle.erm_beside.specs.Later.{IsLater}
 use Rattle.erm_lone.specs.Within.{later_itself}
 use Rattle.erm_world.specs.World.{Session}
+use Rattle.erm_shared_session.specs.declared.session.TableSession.{TableSession}
+use Rattle.erm_shared_session.specs.Stands.{seat_of}
 use Rattle.erm_own_view.specs.Own.{MayCall, WasOf, opening_of, own_view}
 use Rattle.erm_own_view.proofs.Along.{begins_of, none_of, of_book, opening_kept, seen_of, was_before, was_itself}
 use Rattle.erm_own_view.proofs.Lawful.{serializable}
 use Rattle.erm_own_view.proofs.Own.{between_held, own_given_is, own_is, session_in}
+use Rattle.erm_engine.specs.Closed.{AreJoined, HasIn, HaveClosed, HaveEnded}
 use Rattle.erm_engine.specs.Ended.{HasClosed, HasEnded, IsUntouched, world_of}
-use Rattle.erm_engine.specs.Taken.{HasTaken, behind}
+use Rattle.erm_engine.proofs.Resting.{Rests, idle_between, idle_blank, none_over, session_other}
+use Rattle.erm_engine.proofs.Seats.{idle_part, rests, seat_part}
 
--- SEATS, each of which stands once
-behind_in : (hs : List Held) (h : Held) → h ∈ behind hs → h ∈ hs
-behind_in [] h m = m
-behind_in (g ∷ hs) h m = ∈-behind g hs h m
+abbrev F : ℕ
+F = FLUSH_SEAT
 
-among_head : (b : Bool) (q : ℕ) (h : Held) (hs : List Held) → eqb h.seat q ≡ b → b ≡ true → (if b then Some h.part else part_among q hs) ≡ Some h.part
-among_head true q h hs at stands = refl
-among_head false q h hs at stands = absurd (cc)
+module _ {L : Type 0} (law : Law) (o : Opening) (t : Table L) (ss : List (TableSession L)) (e : Book) (tail : ℕ) (behind : 1 < o.tail) (low : o.run ≤ LAST_RUN) (gathers : MayGather e.view) (unpinned : (part_of e.view F).place ≡ Idle) (joined : AreJoined law t ss e)
+    (end : EndsUnder law o e tail)
+  where
+    abbrev pub core : Core
+    core = end.ends.core
 
-among_rest : (b : Bool) (q : ℕ) (h : Held) (hs : List Held) (x : Part) → (b ≡ true → ⊥) → part_among q hs ≡ Some x → (if b then Some h.part else part_among q hs) ≡ Some x
-among_rest true q h hs x other is = absurd (other refl)
-among_rest false q h hs x other is = is
+    flush_part : part_in e.view F ≡ Some (part_of e.view F)
+    flush_part = has_part e.view gathers.held
 
-among_there : (hs : List Held) → EachOnce hs → (h : Held) → h ∈ hs → part_among h.seat hs ≡ Some h.part
-among_there [] once h m = absurd (none_in_nil h m)
-among_there (g ∷ hs) once h m =
-    ⊎_elim
-    (λ (same : g ≡ h). subst (λ (k : Held). part_among k.seat (g ∷ hs) ≡ Some k.part) same (among_head (eqb g.seat g.seat) g.seat g hs refl (eq-eqb g.seat g.seat refl)))
-    (λ (later : h ∈ hs).
-    among_rest (eqb g.seat h.seat) h.seat g hs h.part (λ at. once.0 h later (sym (eqb-true g.seat h.seat at))) (among_there hs once.1 h later))
-    (∈-cons h g hs m)
+    has : HasSeats e.view
+    has = let h = found_among F e.view.held (part_of e.view F) flush_part in (h.0, h.1)
 
-module _ (law : Law) (o : Opening) (ms : List Book) (a b : Book) (tail : ℕ) (taken : HasTaken ms a b) (end : EndsUnder law o b tail) where
-  abbrev pub core : Core
-  core = end.ends.core
+    is : IsBookOf e core
+    is = record { sound = end.ends.sound; is_view = end.ends.is_view; course = end.ends.course has }
 
-  has : HasSeats b.view
-  has = (first_held b.view, ∈-at b.view.held 0 no_held taken.joins.some_held)
+    begins : BeginAtEnds core
+    begins = begins_of (λ c d q k sound at event. begins_kept c q k d sound at event) e core is
 
-  is : IsBookOf b core
-  is = record { sound = end.ends.sound; is_view = end.ends.is_view; course = end.ends.course has }
+    under : SoundUnder law core
+    under = record { sound = end.ends.sound; lawful = end.lawful; spelled = end.spelled; begins = begins }
 
-  begins : BeginAtEnds core
-  begins = begins_of (λ c d q k sound at e. begins_kept c q k d sound at e) b core is
+    none : NoneElse core
+    none = none_of none_after e core (λ q plain. refl) (was_itself e core is)
 
-  pub under : SoundUnder law core
-  under = record { sound = end.ends.sound; lawful = end.lawful; spelled = end.spelled; begins = begins }
+    only : HasOnly SESSIONS core
+    only = only_sessions core end.ends.sound none
 
-  none : NoneElse core
-  none = none_of none_after b core (λ q plain. refl) (was_itself b core is)
+    alone : ClaimsStandAlone core
+    alone =
+        of_book ClaimsStandAlone (λ c d passes so. kept c passes.1.0 passes.1.1 d passes.0 so passes.1.2) e core
+        (opening_alone e.start.sessions (start_rows e.start.rows) e.start.tail e.start.run e.start.first TABLE_CELLS) is
 
-  only : HasOnly SESSIONS core
-  only = only_sessions core end.ends.sound none
+    opened : (world_of core).opening ≡ opening_of e.start
+    opened = opening_kept changes_one e core (was_itself e core is)
 
-  alone : ClaimsStandAlone core
-  alone =
-      of_book ClaimsStandAlone (λ c d passes so. kept c passes.1.0 passes.1.1 d passes.0 so passes.1.2) b core
-      (opening_alone b.start.sessions (start_rows b.start.rows) b.start.tail b.start.run b.start.first TABLE_CELLS) is
+    was : (m : Book) → HasIn m e → WasOf m core
+    was m there =
+        let w = end.ends.past (past_of m) there.past in
+        record { state = w.state; is = record { sound = w.is.sound; is_view = w.is.is_view; course = w.is.course }; later = w.later }
 
-  opened : (world_of core).opening ≡ opening_of b.start
-  opened = opening_kept changes_one b core (was_itself b core is)
+    rest : (q : ℕ) → 0 < q → q ≤ SESSIONS → Rests (core.seats q)
+    rest = rests law t ss e joined end.ends.in_order.once core end.ends.is_view
 
-  pub closed : HasClosed law o a tail core
-  closed = record {
-    under = under;
-    only = only;
-    alone = alone;
-    flusher = was_before a b core taken.goes (was_itself b core is);
-    opening = opened ∙ ap opening_of (end.ends.start has);
-    tail_is = end.ends.tail_is;
-    serializable = serializable law core under only;
-  }
+    flush_is : core.seats F ≡ part_of e.view F
+    flush_is = end.ends.is_view F (part_of e.view F) flush_part
 
-  -- the seats of those taken in are as these had them
-  seat_part : (m : Book) (q : ℕ) (x : Part) → m ∈ ms → part_in m.view q ≡ Some x → core.seats q ≡ x
-  seat_part m q x there found =
-      let h = found_among q m.view.held x found in
-      let once = end.ends.in_order.once in
-      let now = behind_in b.view.held h.0 (taken.seats m there once h.0 h.1) in
-      ap (λ (n : ℕ). core.seats n) (sym h.2) ∙ end.ends.is_view h.0.seat h.0.part (among_there b.view.held once h.0 now) ∙ h.3
+    flush_still : IsStill (core.seats F)
+    flush_still =
+        let own = end.ends.sound.own F in
+        let idle_place : (core.seats F).place ≡ Idle = ap (λ (x : Part). x.place) flush_is ∙ unpinned in
+        let blank_now : (core.seats F).current ≡ blank = idle_blank (core.seats F).place (core.seats F).current idle_place own.ranges.current in
+        let run : (core.seats F).run ≡ o.run = own.lives.run ∙ end.ends.opened.run in
+        record {
+          over = none_over (core.seats F).over (own.lives.pins refl);
+          reads = ap (λ (a : Attempt). a.reads) blank_now;
+          writes = ap (λ (a : Attempt). a.writes) blank_now;
+          made = ap (λ (a : Attempt). a.made) blank_now;
+          run = omega (arith, run, low);
+          rests = idle_between (core.seats F).place (core.seats F).current (core.seats F).task idle_place own.task.fits;
+          turn = ap (λ (x : Part). is_between x.flushing) flush_is ∙ gathers.between;
+        }
 
-  was : (m : Book) → m ∈ ms → WasOf m core
-  was m there =
-      let w = end.ends.past (past_of m) (taken.pasts m there) in
-      record { state = w.state; is = record { sound = w.is.sound; is_view = w.is.is_view; course = w.is.course }; later = w.later }
+    onward : (o.tail ≤ core.shared.flushed) × (core.shared.flushed ≤ core.shared.tail)
+    onward =
+        let all = end.ends.sound.common.log.gathered.onward in
+        let first = all.0 in
+        let mid = all.1 in
+        let last = all.2 in
+        let from = end.ends.opened.tail in (
+          omega (arith, first, from),
+          omega (arith, mid, last),
+        )
 
-  pub ended : (q log flushed : ℕ) (m : Book) → m ∈ ms → MayCall law q log flushed m → HasEnded law q m (own_view q log flushed m) (world_of core)
-  ended q log flushed m there may =
-      let x = part_of m.view q in
-      let own = own_view q log flushed m in
-      let part : core.seats q ≡ x = seat_part m q x there (held_part m.view q (between_held x.place x.task may.between)) in
-      let same : (world_of core).session q ≡ own.session q = ap shown_session part ∙ shown_between x may.between ∙ sym (own_is q log flushed m) in
-      let seen = seen_of rises log flushed m core may.seen (was m there) in
-      record {
-        ends = record {
-          core = core;
-          was = was m there;
-          under = under;
-          shows = refl;
-          within = record {
-            session = session_in q may.session;
-            own = subst (λ (s : Session). IsLater (own.session q) s) (sym same) (later_itself (own.session q));
-            opening = opening_kept changes_one m core (was m there);
-            tail = seen.0;
-            flushed = seen.1;
+    quiet : IsQuiet SESSIONS core
+    quiet = record {
+      between = λ q some within. (rest q some within).between;
+      others = only.vacant;
+      unused = only.unused;
+      flusher = λ q is_f. subst (λ (n : ℕ). IsStill (core.seats n)) (sym (eqb-true q F is_f)) flush_still;
+      sized = λ q some within drawn. (rest q some within).sized (end.ends.sound.own q).ranges.current drawn;
+      few = λ q within. ne_eqb q F (λ flusher. let f : F ≡ 49 = refl in omega (arith, flusher, within, f));
+      opened = let from = end.ends.opened.tail in omega (arith, from, behind);
+      flushed = (end.ends.sound.common.log.gathered.onward.0, onward.1);
+    }
+
+    closed : HasClosed law o e tail core
+    closed = record {
+      under = under;
+      only = only;
+      quiet = quiet;
+      alone = alone;
+      flusher = was_itself e core is;
+      beyond = (let low_at = onward.0 in let high_at = onward.1 in omega (arith, low_at, high_at), onward.0);
+      flushed = λ place at. at core is;
+      opening = opened ∙ ap opening_of (end.ends.start has);
+      tail_is = end.ends.tail_is;
+      serializable = serializable law core under only;
+    }
+
+    ended : (q log flushed : ℕ) (m : Book) → HasIn m e → MayCall law q log flushed m → HasEnded law q m (own_view q log flushed m) (world_of core)
+    ended q log flushed m there may =
+        let x = part_of m.view q in
+        let own = own_view q log flushed m in
+        let part : core.seats q ≡ x = seat_part e m core q x end.ends.in_order.once end.ends.is_view there (session_other q may.session) (held_part m.view q (between_held x.place x.task may.between)) in
+        let same : (world_of core).session q ≡ own.session q = ap shown_session part ∙ shown_between x may.between ∙ sym (own_is q log flushed m) in
+        let seen = seen_of rises log flushed m core may.seen (was m there) in
+        record {
+          ends = record {
+            core = core;
+            was = was m there;
+            under = under;
+            shows = refl;
+            within = record {
+              session = session_in q may.session;
+              own = subst (λ (s : Session). IsLater (own.session q) s) (sym same) (later_itself (own.session q));
+              opening = opening_kept changes_one m core (was m there);
+              tail = seen.0;
+              flushed = seen.1;
+            };
           };
-        };
-        session = same;
-        given_up = ap given_up_of part ∙ sym (own_given_is q (given_up_of x));
-        tail = seen.0;
-        flushed = seen.1;
-      }
+          session = same;
+          given_up = ap given_up_of part ∙ sym (own_given_is q (given_up_of x));
+          tail = seen.0;
+          flushed = seen.1;
+        }
 
-  -- a session that did nothing
-  pub untouched : (q run place : ℕ) (m : Book) → m ∈ ms → m.view ≡ one_seat q (fresh_part Idle run place) → IsUntouched q (world_of core)
-  untouched q run place m there lone =
-      let x = fresh_part Idle run place in
-      let found : part_in m.view q ≡ Some x = ap (λ v. part_in v q) lone ∙ ap (λ (t : Bool). if t then Some x else None) (eq-eqb q q refl) in
-      let part : core.seats q ≡ x = seat_part m q x there found in
-      record { session = ap shown_session part; given_up = ap given_up_of part }
+    -- a session that did nothing
+    untouched : (seat : ℕ) → length ss < seat → seat ≤ SESSIONS → IsUntouched seat (world_of core)
+    untouched seat above within =
+        let i = idle_part law t ss e joined end.ends.in_order.once core end.ends.is_view seat above within in
+        record { session = ap shown_session i.2; given_up = ap given_up_of i.2 }
+
+    pub have_closed : HaveClosed law o ss e tail
+    have_closed = record {
+      ended = record {
+        core = core;
+        closed = closed;
+        each = λ k s at. ended s.session.seat s.tail s.flushed (book s.pass) (joined.sessions k s at) (joined.done k s at).0.may;
+        others = untouched;
+      };
+      is = is;
+      once = end.ends.in_order.once;
+    }
+
+-- the same of an earlier book of the pass, since which nothing was flushed
+pub ended_before : {L : Type 0} (law : Law) (o : Opening) (ss : List (TableSession L)) (a e : Book) (tail : ℕ) → IsAfter a e
+    → ((place : ℕ) → ((c : Core) → IsBookOf a c → c.shared.flushed ≡ place) → (c : Core) → IsBookOf e c → c.shared.flushed ≡ place) → HaveEnded law o ss e tail → HaveEnded law o ss a tail
+ended_before law o ss a e tail goes still ended =
+    let was = ended.closed in
+    record {
+      core = ended.core;
+      closed = record {
+        under = was.under;
+        only = was.only;
+        quiet = was.quiet;
+        alone = was.alone;
+        flusher = was_before a e ended.core goes was.flusher;
+        beyond = was.beyond;
+        flushed = λ place at. was.flushed place (still place at);
+        opening = was.opening;
+        tail_is = was.tail_is;
+        serializable = was.serializable;
+      };
+      each = ended.each;
+      others = ended.others;
+    }

@@ -4,3 +4,8 @@ pub mod Taken
 pub mod Tested
 pub mod Joined
 pub mod Unflushed
+pub mod Resting
+pub mod Joining
+pub mod Seats
+pub mod Ranges
+pub mod Flushed

@@ -29,7 +29,7 @@ between_still (flushing.Clears next to) between clears = absurd (cc)
 between_still _ between clears = clears
 
 -- while the flush seat is between two turns nothing is flushed
-still : (v : View) (place : ℕ) → MayGather v → (c d : Core) → IsView v c → Passes c d → c.shared.flushed ≡ place → d.shared.flushed ≡ place
+pub still : (v : View) (place : ℕ) → MayGather v → (c d : Core) → IsView v c → Passes c d → c.shared.flushed ≡ place → d.shared.flushed ≡ place
 still v place may c d is passes at =
     let here : turn_of c ≡ (part_of v F).flushing = ap (λ (x : Part). x.flushing) (is F (part_of v F) (has_part v may.held)) in
     flushed_kept c passes.1.0 passes.1.1 d passes.0 (λ clears. between_still (part_of v F).flushing may.between (subst IsClearing here clears)) passes.1.2 ∙ at

@@ -9,5 +9,5 @@ mod taking;
 #[cfg(test)]
 mod tests;
 
-pub use closing::close;
+pub use closing::{close, close_joined, join_all};
 pub use opening::{Opened, open};

@@ -1,9 +1,9 @@
 //! Tests of the beginning and the end.
-ghost use Rattle.std.specs.Prelude.{◌≡◌, ◌<◌, IfOk, length, vec_len};
+ghost use Rattle.std.specs.Prelude.{◌≡◌, ◌<◌, ◌≤◌, IfOk, length, vec_len};
 ghost use Rattle.erm_engine.specs.Closed.{AreDone};
 ghost use Rattle.erm_engine.specs.Opened.{IsOpened};
 ghost use Rattle.erm_model.specs.RowTransaction.{any_law};
-ghost use Rattle.erm_model.specs.declared.limits.TheConstants.{OID_LIMIT};
+ghost use Rattle.erm_model.specs.declared.limits.TheConstants.{LAST_RUN, OID_LIMIT};
 ghost use Rattle.erm_rule.specs.declared.view.Opening.{Opening as OpeningOf};
 ghost use Rattle.erm_shared_session.specs.Stands.{Stands, seat_of};
 
@@ -17,7 +17,7 @@ use std::test::Fail;
 
 // Two sessions on rows of zeros, without a law of rows, on a log that goes on at 13.
 fn two(alloc: Global) -> Result<Opened<AnyRows>, AllocError>
-    ensures { IfOk result (λ t. (o : OpeningOf) × IsOpened any_law o 2 t) }
+    ensures { IfOk result (λ t. (o : OpeningOf) × (1 < o.tail) × (o.run ≤ LAST_RUN) × IsOpened any_law o 2 t) }
 {
     let rows = Vec::from_elem(alloc, [0; ROW_WORDS], OID_LIMIT as usize)?;
     let opening = Opening {

@@ -1,3 +1,5 @@
 pub mod More
+pub mod Failed
 pub mod Worked
 pub mod Over
+pub mod Closing

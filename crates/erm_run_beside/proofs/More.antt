@@ -1,10 +1,11 @@
 -- Jobs, one after another.
-use Rattle.std.proofs.Common.{◌≡◌, ℕ, ◌+◌, ◌<◌, ⊎_elim, List, [], ◌∷◌, ◌++◌, length, map, refl, sym, ap, ◌∙◌, subst, arith}
+use Rattle.std.proofs.Common.{◌≡◌, ℕ, zero, suc, ◌+◌, ◌<◌, ◌≤◌, ⊎_elim, List, [], ◌∷◌, ◌++◌, length, map, refl, sym, ap, ◌∙◌, subst, arith}
 use Rattle.std.specs.Prelude.{slice_get, Some}
 use Rattle.std.proofs.lemmas.List.{length-append}
 use Rattle.erm_model.proofs.Members.{slice_get-push}
 use Rattle.erm_script.specs.declared.script.ScriptLine.{ScriptLine}
 use Rattle.erm_threads.specs.declared.job.Job.{Job}
+use Rattle.erm_threads.proofs.Jobs.{there_is}
 use Rattle.erm_run_beside.specs.Jobs.{AreJobs, IsJobOf}
 
 pub map_push : {X Y : Type 0} (f : X → Y) (xs : List X) (x : X) → map f (xs ++ x ∷ []) ≡ map f xs ++ f x ∷ []
@@ -63,6 +64,11 @@ none_left (x ∷ xs) none = absurd (omega (arith, none))
 pub whole_now : {X : Type 0} (gone left all : List X) → gone ++ left ≡ all → length left ≡ 0 → gone ≡ all
 whole_now {X} gone left all is none = sym (nil_behind gone) ∙ ap (λ (l : List X). gone ++ l) (sym (none_left left none)) ∙ is
 
+-- one that comes next stands behind those that came, within all
+pub comes_within : {X : Type 0} (gone left rest all : List X) (x : X) → gone ++ left ≡ all → left ≡ x ∷ rest → length gone < length all
+comes_within {X} gone left rest all x whole is =
+    let a = length-append gone left in let b = ap (λ (l : List X). length l) whole in let e = ap (λ (l : List X). length l) is in omega (arith, a, b, e)
+
 pub all_made : {S T P : Type 0} (items : P → List ScriptLine) (ss some : List S) (ps gone : List P) (left : List P) (js : List (Job S T)) → length ss ≡ length ps → some ≡ ss → gone ++ left ≡ ps
     → length gone ≡ length some → AreJobs some (map items gone) js → AreJobs ss (map items ps) js
 all_made {S} {T} {P} items ss some ps gone left js many same whole long are =
@@ -71,3 +77,23 @@ all_made {S} {T} {P} items ss some ps gone left js many same whole long are =
     let e = ap (λ (l : List S). length l) same in
     let none : length left ≡ 0 = omega (arith, a, b, e, many, long) in
     subst (λ (xs : List S). AreJobs xs (map items ps) js) same (subst (λ (xs : List P). AreJobs some (map items xs) js) (whole_now gone left ps whole none) are)
+
+-- AMOUNTS of all that came, put together: it is no less than that of each
+pub each_more : {X : Type 0} (amount : X → ℕ) (gone : List X) (x : X) (before now : ℕ) → ((k : ℕ) (y : X) → slice_get gone k ≡ Some y → amount y ≤ before) → now ≡ before + amount x
+    → (k : ℕ) (y : X) → slice_get (gone ++ x ∷ []) k ≡ Some y → amount y ≤ now
+each_more {X} amount gone x before now each is = λ k y at.
+    ⊎_elim (λ (old : (k < length gone) × (slice_get gone k ≡ Some y)). let was = each k y old.1 in omega (arith, was, is))
+    (λ (last : (k ≡ length gone) × (x ≡ y)). subst (λ (z : X). amount z ≤ now) last.1 (omega (arith, is))) (slice_get-push gone x y k at)
+
+pub each_of_all : {X : Type 0} (amount : X → ℕ) (gone all : List X) (now : ℕ) → gone ≡ all → ((k : ℕ) (y : X) → slice_get gone k ≡ Some y → amount y ≤ now)
+    → (k : ℕ) (y : X) → slice_get all k ≡ Some y → amount y ≤ now
+each_of_all {X} amount gone all now whole each = λ k y at. each k y (subst (λ (l : List X). slice_get l k ≡ Some y) (sym whole) at)
+
+-- AT A PLACE of a list, what is made from it
+pub map_to : {X Y : Type 0} (f : X → Y) (xs : List X) (k : ℕ) (x : X) → slice_get xs k ≡ Some x → slice_get (map f xs) k ≡ Some (f x)
+map_to f [] k x at = absurd (let less = there_is [] k x at in omega (arith, less))
+map_to {X} {Y} f (z ∷ xs) zero x at = cc
+map_to f (z ∷ xs) (suc k) x at = map_to f xs k x at
+
+pub made_from_all : {X Y : Type 0} (f : X → Y) (gone all : List X) (made : List Y) → gone ≡ all → made ≡ map f gone → made ≡ map f all
+made_from_all f gone all made whole is = is ∙ ap (λ (xs : List _). map f xs) whole

@@ -1,37 +1,39 @@
 -- What sessions did, once their table is closed.
-use Rattle.std.proofs.Common.{◌≡◌, ℕ, zero, suc, ◌+◌, List, [], ◌∷◌, length, map, refl, sym, ap, ◌∙◌, subst, arith}
-use Rattle.std.specs.Prelude.{slice_get, Some}
+use Rattle.std.proofs.Common.{◌≡◌, ℕ, ◌+◌, ◌<◌, ◌≤◌, Bool, true, false, List, Vec, length, map, Ok, inl, inr, refl, sym, ap, ◌∙◌, subst, arith}
+use Rattle.std.specs.Prelude.{slice_get, Option, Some, None}
+use Rattle.std.specs.declared.alloc.AllocError.{AllocError}
+use Rattle.std.specs.declared.alloc.Global.{Global}
 use Rattle.std.proofs.lemmas.List.{length-map}
+use Rattle.std.proofs.lemmas.Option.{slice_get_cases}
+use Rattle.erm_model.specs.declared.outcome.Phase.{Phase}
+use Rattle.erm_model.specs.declared.outcome.Phase.TheVariants.{Idle, Sealed}
 use Rattle.erm_model.specs.RowTransaction.{Law}
+use Rattle.erm_outside.specs.Disk.{Step}
+use Rattle.erm_report.specs.declared.answer.Answer.{Answer}
 use Rattle.erm_script.specs.declared.script.ScriptLine.{ScriptLine}
 use Rattle.erm_rule.specs.declared.rule.Table.{Table}
-use Rattle.erm_rule.specs.declared.view.Book.{Book}
 use Rattle.erm_rule.specs.declared.view.Opening.{Opening}
 use Rattle.erm_rule.specs.Books.{book}
 use Rattle.erm_rule.specs.Openings.{start_of}
 use Rattle.erm_shared_session.specs.declared.session.TableSession.{TableSession}
 use Rattle.erm_shared_session.specs.Stands.{Stands, own_of, seat_of}
-use Rattle.erm_world.specs.World.{View}
+use Rattle.erm_world.specs.Laws.{IsSerializable}
+use Rattle.erm_world.specs.World.{View, phase_at}
 use Rattle.erm_threads.specs.declared.job.Done.{Done}
-use Rattle.erm_threads.proofs.Jobs.{there_is}
-use Rattle.erm_engine.specs.Closed.{AreDone, HaveEnded}
-use Rattle.erm_engine.specs.Ended.{HasClosed, HasEnded, world_of}
+use Rattle.erm_threads.proofs.Closed.{closed_idle}
+use Rattle.erm_threads.proofs.Jobs.{map_from, there_is}
+use Rattle.erm_threads.specs.Work.{DidWork}
+use Rattle.erm_engine.specs.Closed.{AreDone}
+use Rattle.erm_engine.specs.Ended.{HasEnded, world_of}
 use Rattle.erm_engine.specs.Opened.{opened_view}
 use Rattle.erm_engine.proofs.Joined.{at_within}
+use Rattle.erm_run_beside.specs.declared.work.Ran.{Ran}
 use Rattle.erm_run_beside.specs.declared.work.SessionWork.{SessionWork}
-use Rattle.erm_run_beside.specs.Ended.{AreWorked, HasWorked}
-use Rattle.erm_run_beside.specs.Runs.{HaveRun, IsWork, work_of}
-
--- AT A PLACE of a list, what it was made from
-pub map_from : {X Y : Type 0} (f : X → Y) (xs : List X) (k : ℕ) (y : Y) → slice_get (map f xs) k ≡ Some y → (x : X) × (slice_get xs k ≡ Some x) × (f x ≡ y)
-map_from f [] k y at = absurd (let less = there_is [] k y at in omega (arith, less))
-map_from f (x ∷ xs) zero y at = (x, refl, cc)
-map_from f (x ∷ xs) (suc k) y at = map_from f xs k y at
-
-pub map_to : {X Y : Type 0} (f : X → Y) (xs : List X) (k : ℕ) (x : X) → slice_get xs k ≡ Some x → slice_get (map f xs) k ≡ Some (f x)
-map_to f [] k x at = absurd (let less = there_is [] k x at in omega (arith, less))
-map_to {X} {Y} f (z ∷ xs) zero x at = cc
-map_to f (z ∷ xs) (suc k) x at = map_to f xs k x at
+use Rattle.erm_run_beside.specs.Closing.{ClosesDesk}
+use Rattle.erm_run_beside.specs.Ended.{AreWholeUnless, AreWorked, HasWorked, IsWholeUnless}
+use Rattle.erm_run_beside.specs.Runs.{HaveRun, IsWork, RanBeside, work_of}
+use Rattle.erm_run_beside.proofs.Failed.{not_both}
+use Rattle.erm_run_beside.proofs.More.{map_to}
 
 -- ALL SESSIONS may be closed
 pub all_done : {L : Type 0} (law : Law) (table : Table L) (o : Opening) (parts : List (List ScriptLine)) (done : List (Done (TableSession L))) (ss : List (TableSession L))
@@ -43,24 +45,51 @@ all_done {L} law table o parts done ss is worked = λ k s at.
     let w = worked.each k p.0 d.0 p.1 d.1 in
     subst (λ (x : TableSession L). Stands law table x × (seat_of x ≡ k + 1)) d.2 (w.stands, w.seat_is)
 
+-- UNLESS THE DISK FAILED all lines of a session were answered, and it doesn't wait.
+all_answered : {L : Type 0} (failed : Bool) (seat : ℕ) (lines : List ScriptLine) (d : Done (TableSession L)) → length d.answers.items ≤ length lines → IsWholeUnless (failed ≡ true) seat lines d
+    → failed ≡ false → d.lacked ≡ false → length d.answers.items ≡ length lines
+all_answered failed seat lines d most unless sound had = elim (slice_get_cases lines (length d.answers.items)).1 [
+  | inl left ↦ absurd (not_both failed (unless.all had left.1) sound)
+  | inr past ↦ let least = past.0 in omega (arith, most, least)
+]
+
+is_decided : {L : Type 0} (failed : Bool) (seat : ℕ) (lines : List ScriptLine) (d : Done (TableSession L)) (f v : View) (closed : Option Answer) → d.closed ≡ closed
+    → DidWork f seat lines d.answers.items closed v (own_of d.session) → length d.answers.items ≡ length lines → IsWholeUnless (failed ≡ true) seat lines d → failed ≡ false → d.lacked ≡ false
+    → phase_at (own_of d.session) seat ≡ Sealed → ⊥
+is_decided failed seat lines d f v None is did all unless sound had sealed = not_both failed (unless.decided had is sealed) sound
+is_decided failed seat lines d f v (Some a) is did all unless sound had sealed =
+    let idle = closed_idle f seat lines d.answers.items a v (own_of d.session) did all in
+    let same : Sealed ≡ Idle = sym sealed ∙ idle in
+    cc
+
+-- for a weaker cause too
+pub unless_more : {L : Type 0} (so why : Type 0) (parts : List (List ScriptLine)) (done : List (Done (TableSession L))) → (so → why) → AreWholeUnless so parts done → AreWholeUnless why parts done
+unless_more so why parts done gives unless = λ k lines d at_p at_d.
+    let one = unless k lines d at_p at_d in record { all = λ some fewer. gives (one.all some fewer); decided = λ some none sealed. gives (one.decided some none sealed) }
+
 -- ONE SESSION at the end
-one_ran : {L : Type 0} (law : Law) (table : Table L) (o : Opening) (seat : ℕ) (lines : List ScriptLine) (d : Done (TableSession L)) (f : View) → HasWorked law table o seat lines d
-    → HasEnded law (seat_of d.session) (book d.session.pass) (own_of d.session) f → IsWork f seat (opened_view (start_of o)) lines (work_of d)
-one_ran {L} law table o seat lines d f w e =
+one_ran : {L : Type 0} (law : Law) (table : Table L) (o : Opening) (failed : Bool) (seat : ℕ) (lines : List ScriptLine) (d : Done (TableSession L)) (f : View) → HasWorked law table o seat lines d
+    → IsWholeUnless (failed ≡ true) seat lines d → HasEnded law (seat_of d.session) (book d.session.pass) (own_of d.session) f
+    → IsWork failed f seat (opened_view (start_of o)) lines (work_of d)
+one_ran {L} law table o failed seat lines d f w unless e =
     let here = subst (λ (q : ℕ). HasEnded law q (book d.session.pass) (own_of d.session) f) w.seat_is e in
     record {
       last = own_of d.session;
       at_end = record { own = sym here.session; given_up = sym here.given_up; tail = here.tail; flushed = here.flushed };
       rests = w.rests;
       most = w.most;
-      did = λ whole. w.did whole f e.ends;
+      did = λ some. w.did some f e.ends;
+      whole = λ sound had.
+          let all = all_answered failed seat lines d w.most unless sound had in
+          (all, is_decided failed seat lines d f (opened_view (start_of o)) d.closed refl (w.did had f e.ends) all unless sound had);
     }
 
 -- and all
-pub have_run : {L : Type 0} (law : Law) (table : Table L) (key o : Opening) (flush : Book) (tail : ℕ) (parts : List (List ScriptLine)) (done : List (Done (TableSession L))) (ss : List (TableSession L))
-    (works : List SessionWork) → key ≡ o → ss ≡ map (λ d. d.session) done → works ≡ map work_of done → HaveEnded law key ss flush tail → AreWorked law table o parts done
-    → HaveRun law o flush parts works
-have_run {L} law table key o flush tail parts done ss works same is are end worked =
+pub have_run : {L : Type 0} (law : Law) (table : Table L) (o : Opening) (began : Option (List Step)) (first : ℕ) (told : Option (List Step)) (faults : ℕ) (failed : Bool) (parts : List (List ScriptLine))
+    (done : List (Done (TableSession L))) (ss : List (TableSession L)) (works : List SessionWork) → ss ≡ map (λ d. d.session) done → works ≡ map work_of done
+    → (closes : ClosesDesk law o began first ss told faults failed) → AreWorked law table o parts done → AreWholeUnless (failed ≡ true) parts done → HaveRun law o failed closes.book parts works
+have_run {L} law table o began first told faults failed parts done ss works is are closes worked unless =
+    let end = closes.ended in
     let f = world_of end.core in
     let long = length-map done (λ (d : Done (TableSession L)). d.session) in
     let longer = length-map done (λ (d : Done (TableSession L)). work_of d) in
@@ -68,13 +97,32 @@ have_run {L} law table key o flush tail parts done ss works same is are end work
     let more = ap (λ (l : List SessionWork). length l) are in
     record {
       core = end.core;
-      tail = tail;
-      closed = subst (λ (x : Opening). HasClosed law x flush tail end.core) same end.closed;
+      tail = closes.tail;
+      closed = end.closed;
       many = more ∙ longer ∙ worked.many;
       each = λ k lines w at_p at_w.
           let d = map_from (λ (x : Done (TableSession L)). work_of x) done k w (subst (λ (l : List SessionWork). slice_get l k ≡ Some w) are at_w) in
           let at_s = subst (λ (l : List (TableSession L)). slice_get l k ≡ Some d.0.session) (sym is) (map_to (λ (x : Done (TableSession L)). x.session) done k d.0 d.1) in
-          subst (λ (x : SessionWork). IsWork f (k + 1) (opened_view (start_of o)) lines x) d.2
-          (one_ran law table o (k + 1) lines d.0 f (worked.each k lines d.0 at_p d.1) (end.each k d.0.session at_s));
+          subst (λ (x : SessionWork). IsWork failed f (k + 1) (opened_view (start_of o)) lines x) d.2
+          (one_ran law table o failed (k + 1) lines d.0 f (worked.each k lines d.0 at_p d.1) (unless k lines d.0 at_p d.1) (end.each k d.0.session at_s));
+      flushed = closes.flushed;
       others = λ seat above within. end.others seat (omega (arith, above, long, longer, many, more)) within;
     }
+
+-- so the desk's disk is that of sessions that ran
+pub ran_beside : {L V : Type 0} (law : Law) (table : Table L) (o : Opening) (began : Option (List Step)) (first : ℕ) (told : Option (List Step)) (faults : ℕ) (failed : Bool) (parts : List (List ScriptLine))
+    (done : List (Done (TableSession L))) (ss : List (TableSession L)) (items : V → List SessionWork) (works : V) → IsSerializable law (opened_view (start_of o)) → ss ≡ map (λ d. d.session) done → items works ≡ map work_of done
+    → ClosesDesk law o began first ss told faults failed → AreWorked law table o parts done → AreWholeUnless (failed ≡ true) parts done → RanBeside {E = AllocError} {V = V} law o began first parts told faults failed items (Ok works)
+ran_beside law table o began first told faults failed parts done ss items works begins is are closes worked unless = record {
+  begins = begins;
+  book = closes.book;
+  desk = closes.desk;
+  have_run = have_run law table o began first told faults failed parts done ss (items works) is are closes worked unless;
+}
+
+-- OF A PAIR that is another, what is so of the other's disk and of what ran
+pub ran_as : {D : Type 0} (law : Law) (o : Opening) (began : Option (List Step)) (first : ℕ) (parts : List (List ScriptLine)) (told : D → Option (List Step)) (faults : D → ℕ) (a b : D × Ran) → a ≡ b
+    → RanBeside {E = AllocError} {V = Vec SessionWork Global} law o began first parts (told b.0) (faults b.0) b.1.failed (λ works. works.items) b.1.sessions
+    → RanBeside {E = AllocError} {V = Vec SessionWork Global} law o began first parts (told a.0) (faults a.0) a.1.failed (λ works. works.items) a.1.sessions
+ran_as {D} law o began first parts told faults a b is ran =
+    subst (λ (r : D × Ran). RanBeside {E = AllocError} {V = Vec SessionWork Global} law o began first parts (told r.0) (faults r.0) r.1.failed (λ works. works.items) r.1.sessions) (sym is) ran

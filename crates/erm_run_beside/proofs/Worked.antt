@@ -1,9 +1,10 @@
 -- The jobs of sessions just opened may be worked, and what their workers did.
-use Rattle.std.proofs.Common.{◌≡◌, ℕ, ◌+◌, ◌≤◌, List, length, sym, ap, ◌∙◌, subst, arith}
-use Rattle.std.specs.Prelude.{vec_capacity, None}
+use Rattle.std.proofs.Common.{◌≡◌, ℕ, ◌+◌, ◌<◌, ◌≤◌, List, length, map, sym, ap, ◌∙◌, subst, arith}
+use Rattle.std.specs.Prelude.{slice_get, vec_capacity, None, Some}
 use Rattle.std.specs.List.{All}
+use Rattle.std.proofs.lemmas.List.{length-map}
 use Rattle.std.proofs.lemmas.Option.{slice_get-get_or}
-use Rattle.erm_model.specs.declared.outcome.Phase.TheVariants.{Active}
+use Rattle.erm_model.specs.declared.outcome.Phase.TheVariants.{Active, Sealed}
 use Rattle.erm_model.specs.Member.{◌∈◌}
 use Rattle.erm_model.specs.RowTransaction.{Law}
 use Rattle.erm_model.proofs.Members.{none_in_nil}
@@ -17,12 +18,13 @@ use Rattle.erm_world.specs.World.{View, phase_at}
 use Rattle.erm_worker.specs.Work.{IsReady, MayBeAsked}
 use Rattle.erm_threads.specs.declared.job.Done.{Done}
 use Rattle.erm_threads.specs.declared.job.Job.{Job}
-use Rattle.erm_threads.specs.Work.{AllWorked, DidWork, IsJob, Worked}
-use Rattle.erm_threads.proofs.Jobs.{there_is}
+use Rattle.erm_threads.specs.declared.job.Returned.{Returned}
+use Rattle.erm_threads.specs.Work.{AllLeftWhenTold, AllWorked, DidWork, IsJob, LeftWhenTold, Worked}
+use Rattle.erm_threads.proofs.Jobs.{map_from, there_is}
 use Rattle.erm_engine.specs.Opened.{AreNew, IsNew, opened_view}
 use Rattle.erm_engine.proofs.Joined.{at_within}
 use Rattle.erm_run_beside.specs.Jobs.{AreJobs, AreLines, IsJobOf}
-use Rattle.erm_run_beside.specs.Ended.{AreWorked, HasWorked}
+use Rattle.erm_run_beside.specs.Ended.{AreWholeUnless, AreWorked, HasWorked, IsWholeUnless}
 
 -- ONE JOB may be worked
 opened_ready : (o : Opening) (seat : ℕ) → IsReady ((opened_view (start_of o)).session seat) None
@@ -84,3 +86,34 @@ all_worked law table o count ss ps js done new are long worked = record {
       let j = at_within js k (omega (arith, less, long)) in
       one_worked law table o (k + 1) s.0 ls j.0 d (new.each k s.0 s.1) (are.each k s.0 ls j.0 s.1 at_p j.1) (worked k j.0 d j.1 at_d);
 }
+
+-- the same of what their workers gave back
+pub all_back : {L T : Type 0} (law : Law) (table : Table L) (o : Opening) (count : ℕ) (ss : List (TableSession L)) (ps : List (List ScriptLine)) (js : List (Job (TableSession L) T))
+    (back : List (Returned (TableSession L) T)) (done : List (Done (TableSession L))) → done ≡ map (λ b. b.done) back → AreNew law table o count ss → AreJobs ss ps js → length back ≡ length js
+    → AllWorked (Stands law table) seat_of own_of (Ends law) js (map (λ b. b.done) back) → AreWorked law table o ps done
+all_back {L} {T} law table o count ss ps js back done is new are long worked =
+    subst (λ (l : List (Done (TableSession L))). AreWorked law table o ps l) (sym is)
+    (all_worked law table o count ss ps js (map (λ (b : Returned (TableSession L) T). b.done) back) new are (length-map back (λ (b : Returned (TableSession L) T). b.done) ∙ long) worked)
+
+-- ONE SESSION is whole, unless its worker was told to stop
+one_whole : {L T : Type 0} (so : Type 0) (told : T → Type 0) (law : Law) (table : Table L) (o : Opening) (seat : ℕ) (s : TableSession L) (ls : List ScriptLine) (j : Job (TableSession L) T)
+    (b : Returned (TableSession L) T) → IsNew law table o seat s → IsJobOf s ls j → LeftWhenTold told seat_of own_of j b → (told b.turns → so) → IsWholeUnless so seat ls b.done
+one_whole {L} so told law table o seat s ls j b new is left why =
+    let place : seat_of j.session ≡ seat = ap (λ (x : TableSession L). seat_of x) is.session_is ∙ new.seat_is in
+    record {
+      all = λ some fewer. why (left.left some (subst (λ (xs : List ScriptLine). length b.done.answers.items < length xs) (sym is.lines_are) fewer));
+      decided = λ some none sealed. why (left.waits some none (subst (λ (q : ℕ). phase_at (own_of b.done.session) q ≡ Sealed) (sym place) sealed));
+    }
+
+pub all_whole : {L T : Type 0} (so : Type 0) (told : T → Type 0) (law : Law) (table : Table L) (o : Opening) (count : ℕ) (ss : List (TableSession L)) (ps : List (List ScriptLine))
+    (js : List (Job (TableSession L) T)) (back : List (Returned (TableSession L) T)) (done : List (Done (TableSession L))) → done ≡ map (λ b. b.done) back → AreNew law table o count ss
+    → AreJobs ss ps js → length back ≡ length js → AllLeftWhenTold told seat_of own_of js back → ((k : ℕ) (b : Returned (TableSession L) T) → slice_get back k ≡ Some b → told b.turns → so)
+    → AreWholeUnless so ps done
+all_whole {L} {T} so told law table o count ss ps js back done is new are long left why = λ k ls d at_p at_d.
+    let b = map_from (λ (x : Returned (TableSession L) T). x.done) back k d (subst (λ (l : List (Done (TableSession L))). slice_get l k ≡ Some d) is at_d) in
+    let less = there_is back k b.0 b.1 in
+    let many = are.many in
+    let s = at_within ss k (omega (arith, less, many, long)) in
+    let j = at_within js k (omega (arith, less, long)) in
+    subst (λ (x : Done (TableSession L)). IsWholeUnless so (k + 1) ls x) b.2
+    (one_whole so told law table o (k + 1) s.0 ls j.0 b.0 (new.each k s.0 s.1) (are.each k s.0 ls j.0 s.1 at_p j.1) (left k j.0 b.0 j.1 b.1) (why k b.0 b.1))

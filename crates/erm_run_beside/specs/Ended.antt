@@ -1,7 +1,7 @@
 -- Sessions after their workers.
-use Rattle.std.specs.Prelude.{◌≡◌, ℕ, ◌+◌, ◌≤◌, false, List, length, Some}
+use Rattle.std.specs.Prelude.{◌≡◌, ℕ, ◌+◌, ◌<◌, ◌≤◌, false, List, length, Some, None}
 use Rattle.std.specs.List.{slice_get}
-use Rattle.erm_model.specs.declared.outcome.Phase.TheVariants.{Active}
+use Rattle.erm_model.specs.declared.outcome.Phase.TheVariants.{Active, Sealed}
 use Rattle.erm_model.specs.RowTransaction.{Law}
 use Rattle.erm_script.specs.declared.script.ScriptLine.{ScriptLine}
 use Rattle.erm_rule.specs.declared.rule.Table.{Table}
@@ -31,3 +31,12 @@ pub record AreWorked {L : Type 0} (law : Law) (table : Table L) (o : Opening) (p
 -- so has each, whatever its lines were
 abbrev pub HaveWorked : {L : Type 0} → Law → Table L → Opening → List (Done (TableSession L)) → Type 0
 HaveWorked law table o done = (parts : List (List ScriptLine)) × AreWorked law table o parts done
+
+-- Where memory sufficed, a session of this seat answered fewer lines than it has, or is sealed behind them and wasn't closed, only where this is so.
+pub record IsWholeUnless {L : Type 0} (so : Type 0) (seat : ℕ) (lines : List ScriptLine) (d : Done (TableSession L)) : Type 0 where
+  pub all : d.lacked ≡ false → length d.answers.items < length lines → so
+  pub decided : d.lacked ≡ false → d.closed ≡ None → phase_at (own_of d.session) seat ≡ Sealed → so
+
+-- so it is with each session with its lines, in the order of the seats, from 1 on
+abbrev pub AreWholeUnless : {L : Type 0} → Type 0 → List (List ScriptLine) → List (Done (TableSession L)) → Type 0
+AreWholeUnless {L} so parts done = (k : ℕ) (lines : List ScriptLine) (d : Done (TableSession L)) → slice_get parts k ≡ Some lines → slice_get done k ≡ Some d → IsWholeUnless so (k + 1) lines d

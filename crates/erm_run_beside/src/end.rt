@@ -1,57 +1,108 @@
-//! The end of sessions that ran: the desk's last turns, and the close.
-ghost use Rattle.std.specs.Prelude.{◌≡◌, ℕ, IfOk, List, length, map};
-ghost use Rattle.erm_desk.specs.Desk.{IsDesk};
-ghost use Rattle.erm_engine.specs.Opened.{AreIdle};
-ghost use Rattle.erm_model.specs.declared.limits.TheConstants.{SESSIONS};
-ghost use Rattle.erm_rule.specs.Books.{book};
-ghost use Rattle.erm_rule.specs.Steps.{Fits};
-ghost use Rattle.erm_rule.specs.Views.{MayJoin, view};
+//! The end of sessions that ran: all passes are joined into the desk's, it takes its last turns, and the table is closed.
+ghost use Rattle.std.specs.Prelude.{◌≡◌, ◌<◌, ◌≤◌, ℕ, List, length, true};
+ghost use Rattle.erm_ckpt.specs.declared.slot.TheConstants.{LOG_START};
+ghost use Rattle.erm_engine.specs.Closed.{AreDone};
+ghost use Rattle.erm_engine.specs.Opened.{AreIdle, opened_view};
+ghost use Rattle.erm_model.specs.declared.limits.TheConstants.{LAST_RUN, SESSIONS};
+ghost use Rattle.erm_rule.specs.Openings.{start_of};
 ghost use Rattle.erm_script.specs.declared.script.ScriptLine.{ScriptLine};
-ghost use Rattle.erm_run_beside.specs.Ended.{AreWorked, HaveWorked};
-ghost use Rattle.erm_run_beside.specs.Runs.{HaveRun};
+ghost use Rattle.erm_world.specs.Laws.{IsSerializable};
+ghost use Rattle.erm_run_beside.specs.Closing.{ClosesDesk};
+ghost use Rattle.erm_run_beside.specs.Ended.{AreWholeUnless, AreWorked, HaveWorked};
+ghost use Rattle.erm_run_beside.specs.Runs.{RanBeside};
 
 use crate::apart::take_apart;
-use crate::work::SessionWork;
-use erm_desk::{Desk, Naming};
+use crate::work::Ran;
+use erm_desk::{Desk, Naming, desks_take_in};
+use erm_engine::{close_joined, join_all};
 use erm_model::RowLaw;
 use erm_outside::Disk;
 use erm_rule::{Opening, Pass, Table};
 use erm_shared_session::TableSession;
 use erm_threads::Done;
 use std::alloc::{AllocError, Global};
-use std::sync::Mutex;
 
-/// Takes turns until one stops, and then the desk apart: the disk, the pass of the flush seat, and whether the disk failed.
-pub(crate) fn end_desk<L: RowLaw, D: Disk + Drop, B: Naming>(
+/// The end where nothing is known of the sessions any more: turns until one stops.
+pub(crate) fn leave_sessions<L: RowLaw, D: Disk + Drop, B: Naming>(
+    _opening: &Opening,
     table: &Table<L>,
-    desk: Mutex<Desk<L, D, B>>,
-) -> (D, Pass, bool)
+    mut desk: Desk<L, D, B>,
+    lack: AllocError,
+) -> (D, Ran)
+    requires start { start_of _opening.now ≡ B.start }
+    requires begins { IsSerializable L.law (opened_view (start_of _opening.now)) }
     requires table { table.now.words.shared.table_id ≡ B.table }
-    ensures fits { Fits B.table result.1 }
-    ensures desk { IsDesk L.law B.start B.began B.faults (record { book = book result.1; told = D.told result.0; faults = D.faults result.0; failed = result.2 }) }
+    ensures failed { desk.failed ≡ true → result.1.failed ≡ true }
+    ensures ran { (parts : List (List ScriptLine)) → RanBeside L.law _opening.now B.began B.faults parts (D.told result.0) (D.faults result.0) result.1.failed (λ works. works.items) result.1.sessions }
 {
-    let mut desk = desk.into_inner();
     desk.turn_all(table);
-    desk.into_parts()
+    let (disk, _, flusher) = desk.into_parts();
+    let failed = flusher.has_failed();
+    (
+        disk,
+        Ran {
+            failed,
+            sessions: Err(lack),
+        },
+    )
 }
 
-/// Closes the table of sessions that worked: the work of each, in order.
-pub(crate) fn end_sessions<L: RowLaw>(
-    alloc: Global,
+// Joins the passes of sessions into the desk's, takes turns until one stops, and closes the table: the disk, and whether it failed.
+fn close_sessions<L: RowLaw, D: Disk + Drop, B: Naming>(
     _opening: &Opening,
     table: Table<L>,
+    desk: Desk<L, D, B>,
+    sessions: Vec<TableSession<L>>,
+    idle: Vec<Pass>,
+) -> (D, bool)
+    requires key { table.words.shared.key ≡ _opening.now }
+    requires start { start_of _opening.now ≡ B.start }
+    requires table { table.words.shared.table_id ≡ B.table }
+    requires behind { LOG_START < _opening.now.tail }
+    requires run_high { _opening.now.run ≤ LAST_RUN }
+    requires sessions { AreDone L.law table sessions.items }
+    requires idle { (run : ℕ) × (place : ℕ) × AreIdle table.words.shared.table_id run place (length sessions.items) SESSIONS idle.items }
+    ensures closes { ClosesDesk L.law _opening.now B.began B.faults sessions.items (D.told result.0) (D.faults result.0) result.1 }
+    ensures failed { desk.failed ≡ true → result.1 ≡ true }
+{
+    erm_core_stays::decided_blocks_stay();
+    desks_take_in::<L>();
+    let (disk, mut pass, flusher) = desk.into_parts();
+    join_all(&table, &mut pass, sessions, idle);
+    let mut desk = Desk::<L, D, B>::of_parts(disk, pass, flusher);
+    desk.turn_all(&table);
+    let (disk, pass, flusher) = desk.into_parts();
+    close_joined(table, pass);
+    (disk, flusher.has_failed())
+}
+
+/// Closes the table of sessions that worked, behind the last turns of the desk: the work of each, in order.
+pub(crate) fn end_sessions<L: RowLaw, D: Disk + Drop, B: Naming>(
+    alloc: Global,
+    opening: &Opening,
+    table: Table<L>,
+    desk: Desk<L, D, B>,
     done: Vec<Done<TableSession<L>>>,
     idle: Vec<Pass>,
-    flush: Pass,
-) -> Result<Vec<SessionWork>, AllocError>
-    requires key { table.words.shared.key ≡ _opening.now }
-    requires fits { Fits table.words.shared.table_id flush }
-    requires joins { MayJoin (view flush) }
-    requires worked { HaveWorked L.law table _opening.now done.items }
+) -> (D, Ran)
+    requires key { table.words.shared.key ≡ opening.now }
+    requires start { start_of opening.now ≡ B.start }
+    requires table { table.words.shared.table_id ≡ B.table }
+    requires behind { LOG_START < opening.now.tail }
+    requires run_high { opening.now.run ≤ LAST_RUN }
+    requires begins { IsSerializable L.law (opened_view (start_of opening.now)) }
+    requires worked { HaveWorked L.law table opening.now done.items }
     requires idle { (run : ℕ) × (place : ℕ) × AreIdle table.words.shared.table_id run place (length done.items) SESSIONS idle.items }
-    ensures run { IfOk result (λ works. (parts : List (List ScriptLine)) → AreWorked L.law table _opening.now parts done.items → HaveRun L.law _opening.now (book flush) parts works.items) }
+    ensures ran { (parts : List (List ScriptLine)) → AreWorked L.law table opening.now parts done.items → AreWholeUnless (result.1.failed ≡ true) parts done.items
+        → RanBeside L.law opening.now B.began B.faults parts (D.told result.0) (D.faults result.0) result.1.failed (λ works. works.items) result.1.sessions }
+    ensures failed { desk.failed ≡ true → result.1.failed ≡ true }
 {
-    let apart = take_apart(alloc, done)?;
-    erm_engine::close(table, apart.sessions, idle, flush);
-    Ok(apart.works)
+    match take_apart(alloc, done) {
+        Ok(apart) => {
+            let (disk, failed) = close_sessions(opening, table, desk, apart.sessions, idle);
+            let sessions = Ok(apart.works);
+            (disk, Ran { failed, sessions })
+        }
+        Err(lack) => leave_sessions(opening, &table, desk, lack),
+    }
 }

@@ -2,14 +2,17 @@
 #![tactic(auto)]
 
 mod apart;
+mod back;
 mod end;
 mod jobs;
 mod run;
 mod sessions;
+mod shared;
 mod turns;
 mod work;
 
 pub use run::work_beside;
 pub use sessions::{run_opened, run_sessions};
+pub use shared::SharedDesk;
 pub use turns::DeskTurns;
 pub use work::{Ran, SessionWork};

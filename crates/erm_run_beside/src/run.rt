@@ -1,14 +1,16 @@
 //! Sessions run on threads.
-ghost use Rattle.std.specs.Prelude.{◌≡◌, ◌≤◌, IfOk, map, vec_len};
+ghost use Rattle.std.specs.Prelude.{◌≡◌, ◌<◌, ◌≤◌, IfOk, map, vec_len};
 ghost use Rattle.erm_engine.specs.Opened.{AreNew};
 ghost use Rattle.erm_model.specs.declared.limits.TheConstants.{SESSIONS};
 ghost use Rattle.erm_model.specs.RowTransaction.{SameLaw};
 ghost use Rattle.erm_node.specs.Sound.{sound_law};
 ghost use Rattle.erm_run_beside.specs.Jobs.{AreLines};
-ghost use Rattle.erm_run_beside.specs.Ended.{AreWorked};
+ghost use Rattle.erm_run_beside.specs.Ended.{AreWholeUnless, AreWorked};
 
+use crate::back::take_back;
 use crate::jobs::make_jobs;
-use erm_desk::{Desk, Naming};
+use crate::shared::SharedDesk;
+use erm_desk::Naming;
 use erm_model::RowLaw;
 use erm_outside::{Disk, Gate};
 use erm_rule::{Opening, Table};
@@ -17,16 +19,18 @@ use erm_shared_session::TableSession;
 use erm_threads::{Done, work_all};
 use std::alloc::{AllocError, Global};
 use std::sync::atomic::AtomicU64;
+use std::sync::ledger::{Ledger, Share};
 use std::sync::{Mutex, Wait};
 use std::thread::Threads;
 
 /// Each session of a table just opened runs its lines, on a thread of its own where one can be made, while any of them takes turns of the
-/// desk: the sessions after their workers, in the order of their seats. `Err` where memory ran out outside of the workers; the desk stands
-/// under its lock all the same.
+/// desk: the sessions after their workers, in the order of their seats. Each worker has a part of the share, and what all of them have met is
+/// put together in it: each session whose memory sufficed is whole, unless one has met that the disk failed. `Err` where memory ran out
+/// outside of the workers; the desk stands under its lock all the same.
 pub fn work_beside<
     L: RowLaw + Send + Sync,
     D: Disk + Drop + Send,
-    B: Naming + Send,
+    B: Naming + Ledger + Send,
     G: Gate + Sync,
     R: Threads + Wait + Sync,
 >(
@@ -34,8 +38,9 @@ pub fn work_beside<
     alloc: Global,
     _opening: &Opening,
     table: &Table<L>,
-    desk: &Mutex<Desk<L, D, B>>,
+    desk: &Mutex<SharedDesk<L, D, B>>,
     gate: &G,
+    met: &mut Share<B>,
     sessions: Vec<TableSession<L>>,
     parts: Vec<Vec<ScriptLine>>,
 ) -> Result<Vec<Done<TableSession<L>>>, AllocError>
@@ -44,10 +49,14 @@ pub fn work_beside<
     requires new { AreNew L.law table.now _opening.now (vec_len parts) sessions.items }
     requires few { vec_len parts ≤ SESSIONS }
     requires lines { AreLines (map (λ p. p.items) parts.items) }
+    requires shares { vec_len parts ≤ met.old.parts }
+    requires none { met.old.amount ≡ 0 }
     ensures worked { IfOk result (λ done. AreWorked L.law table.now _opening.now (map (λ p. p.items) parts.items) done.items) }
+    ensures whole { IfOk result (λ done. AreWholeUnless (0 < met.new.amount) (map (λ p. p.items) parts.items) done.items) }
 {
     let halt = AtomicU64::new(0);
-    let jobs = make_jobs(rt, alloc, table, desk, gate, &halt, sessions, parts)?;
-    let done = work_all(rt, alloc, table, jobs)?;
+    let jobs = make_jobs(rt, alloc, table, desk, gate, &halt, met, sessions, parts)?;
+    let back = work_all(rt, alloc, table, jobs)?;
+    let done = take_back(alloc, back, met)?;
     Ok(done)
 }

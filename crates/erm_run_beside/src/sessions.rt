@@ -1,5 +1,5 @@
 //! Sessions on threads, from the opening of a table to its close.
-ghost use Rattle.std.specs.Prelude.{◌≡◌, ℕ, ◌+◌, ◌<◌, ◌≤◌, IfOk, IfSome, map, vec_len, []};
+ghost use Rattle.std.specs.Prelude.{◌≡◌, ℕ, ◌+◌, ◌<◌, ◌≤◌, IfErr, IfOk, IfSome, map, vec_len, []};
 ghost use Rattle.erm_ckpt.specs.declared.slot.TheConstants.{LOG_START};
 ghost use Rattle.erm_desk.specs.Desk.{IsHeld};
 ghost use Rattle.erm_engine.specs.Opened.{IsOpened, opened_view};
@@ -11,26 +11,30 @@ ghost use Rattle.erm_rule.specs.Openings.{start_of};
 ghost use Rattle.erm_run_beside.specs.Jobs.{AreLines};
 ghost use Rattle.erm_run_beside.specs.Runs.{RanBeside};
 
-use crate::end::{end_desk, end_sessions};
+use crate::end::{end_sessions, leave_sessions};
 use crate::run::work_beside;
+use crate::shared::SharedDesk;
 use crate::work::Ran;
 use erm_desk::{Desk, Naming};
 use erm_engine::{Opened, open};
+use erm_flush::Flusher;
 use erm_model::{RowLaw, Seat};
 use erm_outside::{Disk, Gate};
 use erm_rule::Opening;
 use erm_script::ScriptLine;
 use std::alloc::{AllocError, Global};
 use std::marker::Brand;
+use std::sync::ledger::{Blank, Ledger};
 use std::sync::{Mutex, Wait};
 use std::thread::Threads;
 
 /// The sessions of a table just opened run their lines, and the table is closed behind them: all threads agree on the table, on how it was
-/// opened, and on what the disk told. `Err` where there was no memory for a desk: the disk is dropped.
+/// opened, on what the disk told, and on the ledger of what workers meet, which has a part for each session. The disk comes back; `Err` where
+/// there was no memory for a desk: then nothing was done to it.
 pub fn run_opened<
     L: RowLaw + Send + Sync,
     D: Disk + Drop + Send,
-    B: Naming + Send,
+    B: Naming + Ledger + Send,
     G: Gate + Sync,
     R: Threads + Wait + Sync,
 >(
@@ -40,9 +44,12 @@ pub fn run_opened<
     opened: Opened<L>,
     disk: D,
     gate: &G,
+    blank: Blank,
     parts: Vec<Vec<ScriptLine>>,
-) -> Result<Ran<D>, AllocError>
+) -> (D, Result<Ran, AllocError>)
     requires law { SameLaw L.law sound_law }
+    requires ledger { (blank.name ≡ B.name) × (blank.parts ≡ B.parts) }
+    requires shares { vec_len parts ≤ blank.parts }
     requires table { opened.table.words.shared.table_id ≡ B.table }
     requires start { start_of opening.now ≡ B.start }
     requires began { D.told disk ≡ B.began }
@@ -51,35 +58,40 @@ pub fn run_opened<
     requires few { vec_len parts ≤ SESSIONS }
     requires behind { LOG_START < opening.now.tail }
     requires low { opening.now.tail ≤ STOP + 4 }
+    requires run_high { opening.now.run ≤ LAST_RUN }
     requires meets { L.law.meets (opened_view (start_of opening.now)).opening.rows }
     requires holds { IfSome (D.told disk) (IsHeld L.law (start_of opening.now) []) }
     requires lines { AreLines (map (λ p. p.items) parts.items) }
-    ensures ran { IfOk result (λ ran. RanBeside L.law opening.now B.began B.faults (map (λ p. p.items) parts.items) (D.told ran.disk) (D.faults ran.disk) ran.failed (λ works. works.items) ran.sessions) }
+    ensures ran { IfOk result.1 (λ ran. RanBeside L.law opening.now B.began B.faults (map (λ p. p.items) parts.items) (D.told result.0) (D.faults result.0) ran.failed (λ works. works.items) ran.sessions) }
+    ensures back { IfErr result.1 (λ _. (D.told result.0 ≡ D.told disk) × (D.faults result.0 ≡ D.faults disk)) }
 {
+    let flusher = match Flusher::new(alloc) {
+        Ok(flusher) => flusher,
+        Err(lack) => return (disk, Err(lack)),
+    };
     let Opened {
         table,
         sessions,
         idle,
         flush,
     } = opened;
-    let desk = Desk::<L, D, B>::new(alloc, disk, flush)?;
-    let desk = Mutex::new(desk);
-    let worked = work_beside(rt, alloc, opening, &table, &desk, gate, sessions, parts);
-    let (disk, pass, failed) = end_desk(&table, desk);
-    let sessions = match worked {
-        Ok(done) => end_sessions(alloc, opening, table, done, idle, pass),
-        Err(lack) => Err(lack),
+    let (book, mut met) = blank.open::<B>();
+    let desk = Desk::<L, D, B>::with(flusher, disk, flush);
+    let desk = Mutex::new(SharedDesk::new(desk, book));
+    let worked = work_beside(
+        rt, alloc, opening, &table, &desk, gate, &mut met, sessions, parts,
+    );
+    let desk = desk.into_inner().into_desk(&mut met);
+    let (disk, ran) = match worked {
+        Ok(done) => end_sessions(alloc, opening, table, desk, done, idle),
+        Err(lack) => leave_sessions(opening, &table, desk, lack),
     };
-    Ok(Ran {
-        disk,
-        failed,
-        sessions,
-    })
+    (disk, Ok(ran))
 }
 
 /// Opens a table, runs a session for each of these parts of a script on a thread of its own where one can be made, and closes the table
 /// behind them. The disk holds the log as far as the opening; behind that it has blocks that were decided, in order, as far as turns of the desk
-/// wrote them. `Err` where memory ran out before the first line: the disk is dropped.
+/// wrote them. The disk comes back; `Err` where memory ran out before the first line: then nothing was done to it.
 pub fn run_sessions<
     L: RowLaw + Send + Sync,
     D: Disk + Drop + Send,
@@ -92,7 +104,7 @@ pub fn run_sessions<
     disk: D,
     gate: &G,
     parts: Vec<Vec<ScriptLine>>,
-) -> Result<Ran<D>, AllocError>
+) -> (D, Result<Ran, AllocError>)
     requires law { SameLaw L.law sound_law }
     requires few { vec_len parts ≤ SESSIONS }
     requires none { opening.now.sessions ≡ 0 }
@@ -105,9 +117,15 @@ pub fn run_sessions<
     requires unreached { (oid : ℕ) → opening.now.first ≤ oid → L.law.reach (rows_of opening.now.rows.items) oid ≡ 0 }
     requires holds { IfSome (D.told disk) (IsHeld L.law (start_of opening.now) []) }
     requires lines { AreLines (map (λ p. p.items) parts.items) }
-    ensures ran { IfOk result (λ ran. RanBeside L.law opening.now (D.told disk) (D.faults disk) (map (λ p. p.items) parts.items) (D.told ran.disk) (D.faults ran.disk) ran.failed (λ works. works.items) ran.sessions) }
+    ensures ran { IfOk result.1 (λ ran. RanBeside L.law opening.now (D.told disk) (D.faults disk) (map (λ p. p.items) parts.items) (D.told result.0) (D.faults result.0) ran.failed (λ works. works.items) ran.sessions) }
+    ensures back { IfErr result.1 (λ _. (D.told result.0 ≡ D.told disk) × (D.faults result.0 ≡ D.faults disk)) }
 {
     L::respects_rows();
-    let opened = open::<L>(alloc, opening, parts.len() as Seat)?;
-    run_opened::<L, D, Brand, G, R>(rt, alloc, opening, opened, disk, gate, parts)
+    match open::<L>(alloc, opening, parts.len() as Seat) {
+        Ok(opened) => {
+            let blank = Blank::new(parts.len() as u64);
+            run_opened::<L, D, Brand, G, R>(rt, alloc, opening, opened, disk, gate, blank, parts)
+        }
+        Err(lack) => (disk, Err(lack)),
+    }
 }

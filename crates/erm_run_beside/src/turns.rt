@@ -1,43 +1,58 @@
 //! What the worker of a session over the word table does between its calls.
-ghost use Rattle.std.specs.Prelude.{◌≡◌, true};
+ghost use Rattle.std.specs.Prelude.{◌≡◌, ◌<◌, true};
 
+use crate::shared::SharedDesk;
 use crossbeam_utils::Backoff;
-use erm_desk::{Desk, Naming, turn_at};
+use erm_desk::Naming;
 use erm_flush::FlushStop;
 use erm_model::{RowLaw, Seat};
 use erm_outside::{Disk, Gate, Place};
 use erm_rule::Table;
 use erm_worker::{Turns, Why};
 use std::sync::atomic::{AtomicU64, Ordering};
+use std::sync::ledger::{Ledger, Share};
 use std::sync::{Mutex, Wait};
 
-/// A worker that waits by turns of the desk, and halts once one has met that the disk failed.
+/// A worker that waits by turns of the desk, and halts once it has met itself that the disk has failed: its share counts that.
 #[derive(Drop)]
-pub struct DeskTurns<'a, L: RowLaw, D: Disk + Drop, B: Naming, G: Gate, R: Wait> {
+pub struct DeskTurns<'a, L: RowLaw, D: Disk + Drop, B: Naming + Ledger, G: Gate, R: Wait> {
     rt: &'a R,
     table: &'a Table<L>,
-    desk: &'a Mutex<Desk<L, D, B>>,
+    desk: &'a Mutex<SharedDesk<L, D, B>>,
     gate: &'a G,
-    // 0 while all workers go on.
+    // Not 0 once a worker has met that the disk has failed: the others are to look for themselves.
     halt: &'a AtomicU64,
-    // Whether the worker was told to halt.
+    // How often a turn of this worker told that the disk has failed.
+    met: Share<B>,
+    // Whether one did.
     halted: bool,
     seat: Seat,
     backoff: Backoff,
     ghost named: { table.now.words.shared.table_id ≡ B.table },
+    ghost part: { 0 < met.parts },
+    ghost counted: { halted ≡ true → 0 < met.amount },
 }
 
-impl<'a, L: RowLaw, D: Disk + Drop, B: Naming, G: Gate, R: Wait> DeskTurns<'a, L, D, B, G, R> {
+impl<'a, L: RowLaw, D: Disk + Drop, B: Naming + Ledger, G: Gate, R: Wait> DeskTurns<
+    'a,
+    L,
+    D,
+    B,
+    G,
+    R,
+> {
     /// The turns of the worker of this seat.
     pub fn new(
         rt: &'a R,
         table: &'a Table<L>,
-        desk: &'a Mutex<Desk<L, D, B>>,
+        desk: &'a Mutex<SharedDesk<L, D, B>>,
         gate: &'a G,
         halt: &'a AtomicU64,
+        met: Share<B>,
         seat: Seat,
     ) -> Self
         requires table { table.now.words.shared.table_id ≡ B.table }
+        requires part { 0 < met.parts }
     {
         DeskTurns {
             rt,
@@ -45,25 +60,37 @@ impl<'a, L: RowLaw, D: Disk + Drop, B: Naming, G: Gate, R: Wait> DeskTurns<'a, L
             desk,
             gate,
             halt,
+            met,
             halted: false,
             seat,
             backoff: Backoff::new(),
         }
     }
 
-    // A turn of the desk. Where it flushed nothing the worker rests; where the disk has failed all workers are told to halt.
-    fn flush(&self) {
-        match turn_at(self.rt, self.table, self.desk) {
+    /// How often a turn of the worker told that the disk has failed.
+    pub fn into_met(self) -> Share<B>
+        ensures { result.amount ≡ self.entry.met.amount }
+    {
+        self.met
+    }
+
+    // A turn of the desk. Where it flushed nothing the worker rests; where the disk has failed it halts, and the others are to look.
+    fn flush(&mut self) {
+        let answer = self.desk.lock(self.rt).turn(self.table, &mut self.met);
+        match answer {
             Ok(_) => self.backoff.reset(),
             Err(FlushStop::Empty { .. } | FlushStop::Unfilled { .. }) => self.backoff.snooze(),
-            Err(FlushStop::DiskFault | FlushStop::Failed) => self.halt.store(1, Ordering::SeqCst),
+            Err(FlushStop::DiskFault | FlushStop::Failed) => {
+                self.halted = true;
+                self.halt.store(1, Ordering::SeqCst);
+            }
         }
     }
 }
 
-impl<'a, L: RowLaw, D: Disk + Drop, B: Naming, G: Gate, R: Wait> Turns
+impl<'a, L: RowLaw, D: Disk + Drop, B: Naming + Ledger, G: Gate, R: Wait> Turns
     for DeskTurns<'a, L, D, B, G, R> {
-    ghost told = { λ turns. turns.halted ≡ true };
+    ghost told = { λ turns. 0 < turns.met.amount };
 
     fn pass(&mut self, place: Place) {
         self.gate.pass(self.rt, self.seat, place);
@@ -78,7 +105,9 @@ impl<'a, L: RowLaw, D: Disk + Drop, B: Naming, G: Gate, R: Wait> Turns
     }
 
     fn goes_on(&mut self) -> bool {
-        self.halted = self.halt.load(Ordering::SeqCst) != 0;
+        if !self.halted && self.halt.load(Ordering::SeqCst) != 0 {
+            self.flush();
+        }
         !self.halted
     }
 }

@@ -13,10 +13,9 @@ pub struct SessionWork {
     pub lacked: bool,
 }
 
-/// What comes back from sessions that ran on threads.
+/// What is known of sessions that ran on threads.
 #[derive(Drop)]
-pub struct Ran<D> {
-    pub disk: D,
+pub struct Ran {
     /// Whether the disk failed.
     pub failed: bool,
     /// The work of each session, in the order of their seats. `Err` where memory ran out outside the workers.

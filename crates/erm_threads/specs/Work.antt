@@ -11,6 +11,7 @@ use Rattle.erm_beside.specs.Laws.{GoesOnward}
 use Rattle.erm_worker.specs.Work.{IsReady, MayBeAsked, RanLines, WasClosed}
 use Rattle.erm_threads.specs.declared.job.Done.{Done}
 use Rattle.erm_threads.specs.declared.job.Job.{Job}
+use Rattle.erm_threads.specs.declared.job.Returned.{Returned}
 
 -- these are lines of the session, which has committed nothing
 pub record MayWork (seat : ℕ) (v : View) (lines : List ScriptLine) : Type 0 where
@@ -51,12 +52,12 @@ pub record Worked {S T : Type 0} (stands : S → Type 0) (seat : S → ℕ) (own
 abbrev pub AllWorked : {S T : Type 0} → (S → Type 0) → (S → ℕ) → (S → View) → (S → View → Type 0) → List (Job S T) → List (Done S) → Type 0
 AllWorked {S} {T} stands seat own ends jobs done = (k : ℕ) (job : Job S T) (d : Done S) → slice_get jobs k ≡ Some job → slice_get done k ≡ Some d → Worked stands seat own ends job d
 
--- Where memory sufficed, a session that was left behind fewer answers than lines, or is sealed and wasn't closed, was so because what its worker waits by
--- told it to stop.
-pub record LeftWhenTold {S T : Type 0} (told : T → Type 0) (seat : S → ℕ) (own : S → View) (job : Job S T) (done : Done S) : Type 0 where
-  pub left : done.lacked ≡ false → length done.answers.items < length job.lines.items → (turns : T) × told turns
-  pub waits : done.lacked ≡ false → done.closed ≡ None → phase_at (own done.session) (seat job.session) ≡ Sealed → (turns : T) × told turns
+-- Where memory sufficed, a session that was left behind fewer answers than lines, or is sealed and wasn't closed, was so because what its worker waited
+-- by told it to stop.
+pub record LeftWhenTold {S T : Type 0} (told : T → Type 0) (seat : S → ℕ) (own : S → View) (job : Job S T) (back : Returned S T) : Type 0 where
+  pub left : back.done.lacked ≡ false → length back.done.answers.items < length job.lines.items → told back.turns
+  pub waits : back.done.lacked ≡ false → back.done.closed ≡ None → phase_at (own back.done.session) (seat job.session) ≡ Sealed → told back.turns
 
 -- so is each session after the worker of its job, in order
-abbrev pub AllLeftWhenTold : {S T : Type 0} → (T → Type 0) → (S → ℕ) → (S → View) → List (Job S T) → List (Done S) → Type 0
-AllLeftWhenTold {S} {T} told seat own jobs done = (k : ℕ) (job : Job S T) (d : Done S) → slice_get jobs k ≡ Some job → slice_get done k ≡ Some d → LeftWhenTold told seat own job d
+abbrev pub AllLeftWhenTold : {S T : Type 0} → (T → Type 0) → (S → ℕ) → (S → View) → List (Job S T) → List (Returned S T) → Type 0
+AllLeftWhenTold {S} {T} told seat own jobs back = (k : ℕ) (job : Job S T) (b : Returned S T) → slice_get jobs k ≡ Some job → slice_get back k ≡ Some b → LeftWhenTold told seat own job b

@@ -25,3 +25,10 @@ pub struct Done<S> {
     /// Whether memory ran out: then no more is known of what the session did.
     pub lacked: bool,
 }
+
+/// What a worker gives back: its session after it, and what it waited by.
+#[derive(Drop)]
+pub struct Returned<S, T> {
+    pub done: Done<S>,
+    pub turns: T,
+}

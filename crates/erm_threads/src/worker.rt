@@ -7,7 +7,7 @@ ghost use Rattle.erm_world.specs.World.{View, phase_at};
 ghost use Rattle.erm_beside.specs.Laws.{GoesOnward};
 ghost use Rattle.erm_threads.specs.Work.{DidWork, IsJob, LeftWhenTold, MayWork, WasEnded, Worked};
 
-use crate::{Done, Job};
+use crate::{Done, Job, Returned};
 use erm_beside::SharedSession;
 use erm_model::Phase;
 use erm_report::Answer;
@@ -78,16 +78,16 @@ fn run<S: SharedSession, T: Turns, R: Wait>(
 }
 
 /// Runs the lines of a session to their end, and closes it behind them, unless the worker is told to stop. Where memory runs out, the
-/// session comes back all the same.
+/// session comes back all the same; and so does what the worker waited by.
 pub fn work<S: SharedSession, T: Turns + Drop, R: Wait>(
     rt: &R,
     alloc: Global,
     shared: &S::Shared,
     job: Job<S, T>,
-) -> Done<S>
+) -> Returned<S, T>
     requires law { SameLaw S.law sound_law }
     requires job { IsJob (S.stands shared.now) S.seat S.own job }
-    ensures worked { Worked (S.stands shared.now) S.seat S.own S.ends job result }
+    ensures worked { Worked (S.stands shared.now) S.seat S.own S.ends job result.done }
     ensures told { LeftWhenTold T.told S.seat S.own job result }
 {
     let Job {
@@ -105,19 +105,25 @@ pub fn work<S: SharedSession, T: Turns + Drop, R: Wait>(
         lines.as_slice(),
         &mut answers,
     ) {
-        Ok(closed) => Done {
-            session,
-            answers,
-            closed,
-            lacked: false,
+        Ok(closed) => Returned {
+            done: Done {
+                session,
+                answers,
+                closed,
+                lacked: false,
+            },
+            turns,
         },
         Err(AllocError) => {
             leave(&mut session, shared);
-            Done {
-                session,
-                answers,
-                closed: None,
-                lacked: true,
+            Returned {
+                done: Done {
+                    session,
+                    answers,
+                    closed: None,
+                    lacked: true,
+                },
+                turns,
             }
         }
     }

@@ -1,4 +1,5 @@
 use Rattle.erm_desk.proofs.Turned.{DeskLaws, knows_now, log_now, pin_turned, ready_now, turned}
+use Rattle.erm_desk.proofs.Stepped.{turn_steps}
 use Rattle.erm_desk.proofs.laws.turns_keep_desks.Goals as goal
 
 pub returns : goal.returns
@@ -11,8 +12,9 @@ returns g c o began first s t answer desk did counts known =
       keep = c.flushes_keep.ensures;
       go = c.moments_go_on.ensures;
       held = c.flushed_logs_are_held.ensures;
+      begin = c.kept_logs_begin.ensures;
       join = c.writes_join.ensures;
     } in
     let both = turned law laws o began first s desk answer t.book t.told t.faults t.failed did counts
     (known (log_now law o began first s desk) (knows_now law o began first s desk) (ready_now law o began first s desk)) in
-    (both.0, both.1, pin_turned law laws o began first s desk answer t.book t.told t.failed did)
+    (both.0, both.1, pin_turned law laws o began first s desk answer t.book t.told t.failed did, turn_steps law answer s.failed t.failed s.book t.book s.told t.told did)

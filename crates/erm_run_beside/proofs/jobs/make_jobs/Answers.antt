@@ -1,8 +1,23 @@
 use Rattle.std.proofs.Common.{◌≡◌, [], ◌∷◌, ◌++◌, length, sym, ap, ◌∙◌, arith}
 use Rattle.std.specs.Vec.Iter.{into_iter_items}
 use Rattle.erm_engine.proofs.Joined.{yields_on}
-use Rattle.erm_run_beside.proofs.More.{all_made, longer, more_jobs, whole_now}
+use Rattle.erm_run_beside.proofs.More.{all_made, comes_within, longer, more_jobs, whole_now}
 use Rattle.erm_run_beside.proofs.jobs.make_jobs.Goals as goal
+
+pub split_off-requires : goal.split_off-requires
+split_off-requires g c =
+    let at = c.loop-session in
+    let less = comes_within at.yielded _ _ _ c.in-Some.session at.invariant.0 c.in-Some.ensures.steps.0 in
+    let all = ap (λ l. length l) c.into_iter-session-iterator.ensures.into_iter_gives.0 in
+    let many = c.args.sessions.ok.0 in
+    let parts = at.invariant.4 in
+    let none = at.invariant.5 in
+    record {
+      has_parts = omega (arith, less, all, many, parts);
+      has_amount = omega arith;
+      left_backed = λ last. sym none;
+      given_backed = λ none. absurd (omega (arith, none));
+    }
 
 pub loop-session-preserved : goal.loop-session-preserved
 loop-session-preserved g c =
@@ -22,6 +37,8 @@ loop-session-preserved g c =
         (let was = at.invariant.3.2 in let long = longer at.yielded s in let more = longer gone p in omega (arith, was, long, more)),
         more_jobs _ at.yielded gone at.jobs.items _ s p c.in_ok-make_job.field-0 c.in_ok-push.ensures.items at.invariant.3.3 c.in_ok-make_job.ensures.job,
       ),
+      (let was = at.invariant.4 in let long = longer at.yielded s in let left = c.split_off.ensures.parts_left in omega (arith, was, long, left)),
+      (let none = at.invariant.5 in let left = c.split_off.ensures.amount_left in omega (arith, none, left)),
     )
 
 pub returns : goal.returns

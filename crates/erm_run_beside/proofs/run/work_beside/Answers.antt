@@ -1,5 +1,5 @@
-use Rattle.std.proofs.Common.{◌∙◌, sym}
-use Rattle.erm_run_beside.proofs.Worked.{all_jobs, all_worked}
+use Rattle.std.proofs.Common.{◌<◌, ◌∙◌, sym, arith}
+use Rattle.erm_run_beside.proofs.Worked.{all_back, all_jobs, all_whole}
 use Rattle.erm_run_beside.proofs.run.work_beside.Goals as goal
 
 pub work_all-requires-clause-jobs : goal.work_all-requires-clause-jobs
@@ -7,8 +7,14 @@ work_all-requires-clause-jobs g c κs within =
     all_jobs g.L.RowLaw.law c.args.table.now c.args._opening.now _ c.args.sessions.items _ c.in_ok-jobs.jobs.items c.requires.new c.requires.lines c.in_ok-jobs.ensures.jobs
 
 pub returns : goal.returns
-returns g c = record {
-  worked =
-      all_worked g.L.RowLaw.law c.args.table.now c.args._opening.now _ c.args.sessions.items _ c.in_ok-jobs.jobs.items c.in_ok-done.done.items c.requires.new c.in_ok-jobs.ensures.jobs
-      (sym c.in_ok-done.done.ok.0 ∙ c.in_ok-done.ensures.len ∙ c.in_ok-jobs.jobs.ok.0) c.in_ok-done.ensures.worked;
-}
+returns g c =
+    let long = sym c.in_ok-back.back.ok.0 ∙ c.in_ok-back.ensures.len ∙ c.in_ok-jobs.jobs.ok.0 in
+    record {
+      worked =
+          all_back g.L.RowLaw.law c.args.table.now c.args._opening.now _ c.args.sessions.items _ c.in_ok-jobs.jobs.items c.in_ok-back.back.items c.in_ok-done.done.items c.in_ok-done.ensures.done c.requires.new
+          c.in_ok-jobs.ensures.jobs long c.in_ok-back.ensures.worked;
+      whole =
+          all_whole _ (λ turns. 0 < turns.met.amount) g.L.RowLaw.law c.args.table.now c.args._opening.now _ c.args.sessions.items _ c.in_ok-jobs.jobs.items c.in_ok-back.back.items c.in_ok-done.done.items
+          c.in_ok-done.ensures.done c.requires.new c.in_ok-jobs.ensures.jobs long c.in_ok-back.ensures.told
+          (λ k b at some. let most = c.in_ok-done.ensures.met k b at in omega (arith, some, most));
+    }

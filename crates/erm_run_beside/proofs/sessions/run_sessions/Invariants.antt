@@ -1,5 +1,8 @@
 use Rattle.erm_rule.specs.Openings.{start_of}
 use Rattle.erm_run_beside.proofs.sessions.run_sessions.Given as goal
 
-abbrev pub ghosts-run_opened : goal.ghosts-run_opened
-ghosts-run_opened g a = record { table = a.opened.table.words.shared.table_id; start = start_of a.opening.now; began = g.D.Disk.told a.disk; faults = g.D.Disk.faults a.disk }
+abbrev pub ghosts-run_opened-B-Naming : goal.ghosts-run_opened-B-Naming
+ghosts-run_opened-B-Naming g a = record { table = a.opened.table.words.shared.table_id; start = start_of a.opening.now; began = g.D.Disk.told a.disk; faults = g.D.Disk.faults a.disk }
+
+abbrev pub ghosts-run_opened-B-Ledger : goal.ghosts-run_opened-B-Ledger
+ghosts-run_opened-B-Ledger g a = record { name = a.blank.name; parts = a.blank.parts }

@@ -18,7 +18,7 @@ returns-in-Ok g c =
         did = λ whole f end. subst (λ (ls : List ScriptLine). DidWork f seat ls answers c.in-Ok.closed v t) c.as_slice.ensures.value (c.in-Ok.ensures.did f end);
       };
       told = record {
-        left = λ whole fewer. (c.run.new.turns, c.in-Ok.ensures.left (subst (λ (ls : List ScriptLine). length answers < length ls) (sym c.as_slice.ensures.value) fewer));
-        waits = λ whole none sealed. (c.run.new.turns, c.in-Ok.ensures.waits none sealed);
+        left = λ whole fewer. c.in-Ok.ensures.left (subst (λ (ls : List ScriptLine). length answers < length ls) (sym c.as_slice.ensures.value) fewer);
+        waits = λ whole none sealed. c.in-Ok.ensures.waits none sealed;
       };
     }

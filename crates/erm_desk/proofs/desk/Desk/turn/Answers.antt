@@ -2,7 +2,7 @@ use Rattle.std.proofs.Common.{◌∙◌, subst, None}
 use Rattle.atomic_table.specs.Seated.{TableId}
 use Rattle.erm_desk.specs.Desk.{Sees, TurnsTo}
 use Rattle.erm_desk.specs.Known.{AwaitsLog, HasEnded, HasStopped, KnowsLog}
-use Rattle.erm_desk.specs.Turns.{DidLook, DidStore}
+use Rattle.erm_desk.specs.Turns.{DidLook, DidStore, FlushSteps}
 use Rattle.erm_desk.specs.declared.seat.FlushSeat.{FlushSeat}
 use Rattle.erm_desk.proofs.Turned.{sees}
 use Rattle.erm_flush.proofs.Images.{known_of, turns_of}
@@ -36,4 +36,7 @@ returns g c =
     c.turn_over.ensures.counts
     (λ l knows ready. known_of (λ (x : FlushSeat g.row.L.Denot). book x.pass.now) before after law.meets (KnowsLog law) (AwaitsLog law) HasEnded WasOpen HasStopped c.turn_over.result l _ c.turn_over.new.world
     (c.turn_over.ensures.known l knows ready))
-    in record { turns = subst (λ (s : Sees). TurnsTo law g.B.Naming.start c.turn_over.result s left) c.self.view_is both.1 }
+    in record {
+      turns = subst (λ (s : Sees). TurnsTo law g.B.Naming.start c.turn_over.result s left) c.self.view_is both.1;
+      steps = subst (λ (s : Sees). FlushSteps law s.book left.book) c.self.view_is both.3;
+    }

@@ -1,6 +1,10 @@
-use Rattle.std.proofs.Common.{◌∙◌, ◌<◌, ◌-◌, ◌^◌, arith}
+use Rattle.std.proofs.Common.{◌∙◌, ◌<◌, ◌-◌, ◌^◌, inl, refl, arith}
 use Rattle.erm_desk.proofs.Chained.{ends_low, goes_further, last_now, one_more}
+use Rattle.erm_desk.proofs.Stepped.{no_steps, steps_both}
 use Rattle.erm_desk.proofs.desk.Desk.turn_all.Goals as goal
+
+pub loop-end-init : goal.loop-end-init
+loop-end-init g c = record { turns = refl; few = omega arith; last = inl refl; steps = no_steps g.L.RowLaw.law c.args.self.now.book; same = refl }
 
 pub overflow_add-turns : goal.overflow_add-turns
 overflow_add-turns g c =
@@ -27,5 +31,6 @@ loop-end-preserved g c =
       turns = one_more law start c.loop-end.turns c.in-Ok.end c.args.self.now c.loop-end.self c.turn.new.self c.loop-end.invariant.turns did;
       few = omega (arith, few, further);
       last = last_now law start c.in-Ok.end c.loop-end.self c.turn.new.self did;
+      steps = steps_both law c.args.self.now.book c.loop-end.self.book c.turn.new.self.book c.loop-end.invariant.steps c.turn.ensures.steps;
       same = did.2 ∙ c.loop-end.invariant.same;
     }

@@ -1,5 +1,6 @@
 use Rattle.std.proofs.Common.{◌≡◌, ◌≤◌, ◌-◌, ◌^◌}
 use Rattle.erm_desk.specs.All.{FlushTurns}
+use Rattle.erm_desk.specs.Turns.{FlushSteps}
 use Rattle.erm_desk.proofs.Chained.{IsLast}
 use Rattle.erm_desk.proofs.desk.Desk.turn_all.Given as goal
 
@@ -9,6 +10,7 @@ invariant-loop-end g l = record {
   turns : FlushTurns g.L.RowLaw.law g.B.Naming.start l.turns l.fn.self l.self;
   few : l.turns ≤ l.flushed;
   last : IsLast l.flushed l.self;
+  steps : FlushSteps g.L.RowLaw.law l.fn.self.book l.self.book;
   same : l.self.faults ≡ l.fn.self.faults;
 }
 

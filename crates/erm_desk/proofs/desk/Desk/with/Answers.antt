@@ -3,7 +3,7 @@ use Rattle.erm_outside.specs.Disk.{Step}
 use Rattle.erm_desk.specs.Desk.{IsDesk}
 use Rattle.erm_desk.proofs.Begun.{begun}
 use Rattle.erm_desk.proofs.Turned.{sees}
-use Rattle.erm_desk.proofs.desk.Desk.new.Goals as goal
+use Rattle.erm_desk.proofs.desk.Desk.with.Goals as goal
 
 pub invariant_of-result : goal.invariant_of-result
 invariant_of-result g c =
@@ -14,7 +14,7 @@ invariant_of-result g c =
     in (
       c.requires.fits,
       c.requires.unpinned,
-      subst (λ (f : Bool). IsDesk g.L.RowLaw.law g.B.Naming.start g.B.Naming.began g.B.Naming.faults (sees c.args.pass.me.0 told faults f)) (sym c.in_ok-flusher.ensures)
+      subst (λ (f : Bool). IsDesk g.L.RowLaw.law g.B.Naming.start g.B.Naming.began g.B.Naming.faults (sees c.args.pass.me.0 told faults f)) (sym c.requires.new)
           (subst (λ (n : ℕ). IsDesk g.L.RowLaw.law g.B.Naming.start g.B.Naming.began n (sees c.args.pass.me.0 told faults false)) c.requires.faults
           (subst (λ (x : Option (List Step)). IsDesk g.L.RowLaw.law g.B.Naming.start x faults (sees c.args.pass.me.0 told faults false)) c.requires.began new)),
     )
