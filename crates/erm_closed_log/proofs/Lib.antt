@@ -1,0 +1,4 @@
+pub mod Apart
+pub mod Known
+pub mod Logs
+pub mod Shown

@@ -1,0 +1,212 @@
+-- Sessions that ran at once on a disk whose log was just opened: what a run leaves, whole, cut off or untold.
+use Rattle.std.proofs.Common.{◌≡◌, ℕ, ◌+◌, ◌<◌, ◌≤◌, List, [], ◌++◌, Option, Some, None, IfSome, append-nil, refl, sym, ap, ◌∙◌, subst, arith}
+use Rattle.std.specs.FinMap.{from_entries}
+use Rattle.erm_model.specs.Committed.{Committed, RunsInOrder, rank_of}
+use Rattle.erm_model.specs.Database.{Database, entries_of}
+use Rattle.erm_model.specs.Member.{◌∈◌}
+use Rattle.erm_model.specs.SerialOrder.{IsSerialOrder}
+use Rattle.erm_model.specs.declared.limits.TheConstants.{LEAST_BLOCK}
+use Rattle.erm_block.specs.declared.block.Block.{Block}
+use Rattle.erm_outside.specs.Disk.{Step, Tells}
+use Rattle.erm_ckpt.specs.Recovered.{State}
+use Rattle.erm_ckpt.specs.declared.slot.Slots.{Slots}
+use Rattle.erm_checkpoint.specs.Taken.{state_at}
+use Rattle.erm_node.specs.Sound.{sound_law}
+use Rattle.erm_node.specs.TreeMap.{map_of_rows}
+use Rattle.erm_report.specs.declared.answer.Answer.{Answer}
+use Rattle.erm_report.specs.declared.line.Line.{Line}
+use Rattle.erm_report.specs.declared.line.Line.TheVariants as line
+use Rattle.erm_script.specs.declared.script.ScriptLine.{ScriptLine}
+use Rattle.erm_world.specs.Log.{IsLog, Log, place_behind}
+use Rattle.erm_world.specs.Log as world
+use Rattle.erm_world.specs.World.{View}
+use Rattle.erm_told_crash.specs.Logged.{HasCommits}
+use Rattle.erm_good_at_once.specs.CutReports.{IsCutAtOnce, answered_of}
+use Rattle.erm_good_at_once.specs.GoodAtOnce.{IsGoodAtOnce}
+use Rattle.erm_good_report.specs.Opening.{Opening}
+use Rattle.erm_invariant.specs.Commits.{EachFrontRuns}
+use Rattle.erm_log_run.proofs.Held.{tells_and, tells_both, tells_join, tells_weaker}
+use Rattle.erm_log_run.proofs.Lasting.{TellsFor, cut_tells, report_tells}
+use Rattle.erm_crash.specs.Kept.{KeepsOpening}
+use Rattle.erm_recover.proofs.Waits.{since_then}
+use Rattle.erm_recover.specs.Waiting.{SinceSettled}
+use Rattle.erm_rule.specs.declared.view.Start.{Start}
+use Rattle.erm_start.specs.Recovered.{IsOpenedLog}
+use Rattle.erm_desk.specs.Desk.{HeldSince, IsDesk, IsHeld, KeepsFronts, Sees, WritesSince}
+use Rattle.erm_desk.specs.Known.{flushed_log, opened_at}
+use Rattle.erm_disk_run.specs.Crashes.{Outlives}
+use Rattle.erm_disk_run.specs.Found.{IsFound, StartsFrom}
+use Rattle.erm_disk_run.specs.Limits.{in_table}
+use Rattle.erm_disk_run.specs.Opened.{OpensEachLog, OpensLog}
+use Rattle.erm_disk_run.specs.Runs.{CutFew, commits_told}
+use Rattle.erm_disk_run.proofs.Left.{OrdersAreOne}
+use Rattle.erm_disk_run.proofs.Opened.{MayOpenAll}
+use Rattle.erm_disk_run.proofs.Outlived.{OpensAt}
+use Rattle.erm_disk_at_once.specs.Desks.{AreAcknowledged, DiskTells, HasLogged, OpensTable, StandFor}
+use Rattle.erm_disk_at_once.specs.Runs.{KeepsLogged, KeepsSegments, LeavesAll, WasCutAtOnce, WasRunAtOnce, WasStarvedAtOnce}
+use Rattle.erm_disk_at_once.proofs.Files.{KeepsFiles, desk_keeps, keeps_then, opened_keeps, told_of}
+use Rattle.erm_disk_at_once.proofs.Left.{leaves_all}
+use Rattle.erm_disk_at_once.proofs.Outlived.{outlives}
+use Rattle.erm_disk_at_once.proofs.Standing.{TellFronts, stand_for}
+use Rattle.erm_disk_at_once.proofs.Starved.{found_so, logged, opening_logged, with_rows}
+
+-- what the opening did to the disk
+abbrev pub OpensDisk : State → List Step → List Step → Type 0
+OpensDisk state old new = OpensAt state old new × KeepsFiles state.at old new
+
+-- what the desk did behind it
+pub record DeskDid (o : Start) (blocks tried : List Block) (old new : List Step) : Type 0 where
+  pub keeps : KeepsFronts sound_law o (blocks ++ tried) old new
+  pub writes : WritesSince o (blocks ++ tried) old new
+  pub since : HeldSince sound_law o blocks tried old new
+
+-- ---- what was opened, and what a desk did
+
+-- the log of a table that was just opened is one that was opened on the state
+opened_log : (state : State) (o : Start) → OpensTable state o → IsOpenedLog state.rows (state.at + LEAST_BLOCK) (state.run + 1) (flushed_log o [])
+opened_log state o t = record { at = t.tail; run = t.run; rows = t.rows; tail = t.tail; flushed = t.tail; gathered = refl; pinned = refl }
+
+pub disk_opened : (state : State) (o : Start) (slots : Slots) (before mid : Option (List Step)) → OpensTable state o → OpensEachLog state slots before mid → Tells (OpensDisk state) before mid
+disk_opened state o slots before mid t opens =
+    tells_weaker (OpensLog state (flushed_log o []) slots) (OpensDisk state) before mid
+    (λ a b is. ((is.pair, is.keeps), opened_keeps state (flushed_log o []) slots a b is)) (opens (flushed_log o []) (opened_log state o t))
+
+-- the disk holds the log of the table then
+pub disk_holds : (state : State) (o : Start) (slots : Slots) (before mid : Option (List Step)) → OpensTable state o → OpensEachLog state slots before mid → IfSome mid (IsHeld sound_law o [])
+disk_holds state o slots before mid t opens = by before (opens (flushed_log o []) (opened_log state o t))
+  where
+    by : (start : Option (List Step)) → Tells (OpensLog state (flushed_log o []) slots) start mid → IfSome mid (IsHeld sound_law o [])
+    by None told = subst (λ (x : Option (List Step)). IfSome x (IsHeld sound_law o [])) (sym told) tt
+    by (Some old) (new, told, is) = subst (λ (x : Option (List Step)). IfSome x (IsHeld sound_law o [])) (sym told) (slots, is.holds)
+
+pub desk_did : (o : Start) (began : Option (List Step)) (faults : ℕ) (d : Sees) (desk : IsDesk sound_law o began faults d) → DiskTells began d.told → Tells (DeskDid o desk.blocks desk.tried) began d.told
+desk_did o began faults d desk tells = by began tells desk.keeps desk.writes desk.since
+  where
+    by : (b : Option (List Step)) → DiskTells b d.told → IfSome d.told (λ now. IfSome b (λ old. KeepsFronts sound_law o (desk.blocks ++ desk.tried) old now))
+        → IfSome d.told (λ now. IfSome b (λ old. WritesSince o (desk.blocks ++ desk.tried) old now)) → IfSome d.told (λ now. IfSome b (λ old. HeldSince sound_law o desk.blocks desk.tried old now))
+        → Tells (DeskDid o desk.blocks desk.tried) b d.told
+    by b told keeps writes since =
+        let both = tells_both (KeepsFronts sound_law o (desk.blocks ++ desk.tried)) (WritesSince o (desk.blocks ++ desk.tried)) b d.told
+        (told_of (KeepsFronts sound_law o (desk.blocks ++ desk.tried)) b d.told told keeps) (told_of (WritesSince o (desk.blocks ++ desk.tried)) b d.told told writes) in
+        tells_weaker (λ x y. (KeepsFronts sound_law o (desk.blocks ++ desk.tried) x y × WritesSince o (desk.blocks ++ desk.tried) x y) × HeldSince sound_law o desk.blocks desk.tried x y)
+        (DeskDid o desk.blocks desk.tried) b d.told (λ x y all. record { keeps = all.0.0; writes = all.0.1; since = all.1 })
+        (tells_both (λ x y. KeepsFronts sound_law o (desk.blocks ++ desk.tried) x y × WritesSince o (desk.blocks ++ desk.tried) x y) (HeldSince sound_law o desk.blocks desk.tried) b d.told both
+        (told_of (HeldSince sound_law o desk.blocks desk.tried) b d.told told since))
+
+-- Where nothing was run behind the opening, or nothing is known of it but that the disk is as it was.
+pub was_unrun : MayOpenAll → (state : State) (o : Start) (slots : Slots) (before mid : Option (List Step)) → OpensTable state o → OpensEachLog state slots before mid → WasStarvedAtOnce before mid state
+was_unrun may state o slots before mid t opens =
+    let told = opens (flushed_log o []) (opened_log state o t) in
+    record {
+      low = t.low;
+      run_low = t.run_low;
+      blocks = [];
+      moments = tells_weaker (OpensLog state (flushed_log o []) slots) (SinceSettled (KeepsLogged [] state)) before mid
+          (λ a b is.
+          since_then (KeepsOpening sound_law.meets state is.pair) (KeepsLogged [] state) a b b
+          (λ first keeps. opening_logged state state.rows (λ oid few. refl) may [] is.pair first b keeps) is.keeps) told;
+      segments = tells_weaker (OpensLog state (flushed_log o []) slots) (KeepsSegments state) before mid
+          (λ a b is. (opened_keeps state (flushed_log o []) slots a b is).segments) told;
+    }
+
+-- ---- the log of the world that was left
+
+-- its blocks stand for the commits that it has
+pub logged_stand : (told : List Committed) (state : State) (o : Start) (blocks : List Block) (f : View) → OpensTable state o → (has : HasLogged o blocks f)
+    → (m : Database) → m ≡ map_of_rows state.rows → TellFronts m told has.log → HasCommits has.log told → StandFor told state (state_at (flushed_log o blocks) []) blocks
+logged_stand told state o blocks f t has m same fronts commits =
+    let log = has.log in
+    let at : log.opened.at ≡ state.at + LEAST_BLOCK = ap (λ (s : world.Start). s.at) has.opened ∙ t.tail in
+    let next : log.opened.run ≡ state.run + 1 = ap (λ (s : world.Start). s.run) has.opened ∙ t.run in
+    subst (λ (bs : List Block). StandFor told state (state_at (flushed_log o blocks) []) bs) has.gathered
+    (subst (λ (s : world.Start). StandFor told state (record { at = s.at; run = s.run; rows = s.rows }) log.gathered) has.opened
+    (stand_for told state log at next has.is (subst (λ (n : Database). TellFronts n told log) same fronts) commits))
+
+-- ---- the ends
+
+module _ (may : MayOpenAll) (state : State) (o : Start) (blocks tried : List Block) (before mid after : Option (List Step)) (t : OpensTable state o)
+    (opens : Tells (OpensDisk state) before mid) (did : Tells (DeskDid o blocks tried) mid after) where
+  low : state.at ≤ o.tail
+  low = let tail = t.tail in omega (arith, tail)
+
+  files : (a b c : List Step) → OpensDisk state a b → DeskDid o blocks tried b c → KeepsFiles state.at a c
+  files a b c opening desk = keeps_then state.at a b c opening.1 (desk_keeps state.at o (blocks ++ tried) b c low desk.writes)
+
+  -- the older segments are as they were
+  pub segments : Tells (KeepsSegments state) before after
+  segments = tells_join (OpensDisk state) (DeskDid o blocks tried) (KeepsSegments state) before mid after (λ a b c opening desk. (files a b c opening desk).segments) opens did
+
+  pub outlived : (told : List Committed) → StandFor told state (state_at (flushed_log o (blocks ++ tried)) []) (blocks ++ tried) → (lines : List Line) (answers : List Answer) → TellsFor lines answers
+      → AreAcknowledged (place_behind o.tail blocks) answers → Tells (Outlives told state lines) before after
+  outlived told stand lines answers of tells =
+      tells_join (OpensDisk state) (DeskDid o blocks tried) (Outlives told state lines) before mid after
+      (λ a b c opening desk. outlives may told state o blocks tried stand lines answers of tells a b c opening.0 desk.keeps desk.since) opens did
+
+  pub left : OrdersAreOne → (told : List Committed) → StandFor told state (state_at (flushed_log o blocks) []) blocks → (order : List Committed) (opening end : Database) → opening ≡ map_of_rows state.rows
+      → IsSerialOrder rank_of told order → RunsInOrder order opening end → ((c : Committed) → c ∈ told → c.stamp < place_behind o.tail blocks) → IfSome after (IsHeld sound_law o blocks)
+      → Tells (LeavesAll told state end) before after
+  left one told stand order opening end same serial run above held =
+      tells_join (OpensDisk state) (λ x y. IsHeld sound_law o blocks y × DeskDid o blocks tried x y) (LeavesAll told state end) before mid after
+      (λ a b c is both. leaves_all one told state o blocks stand order opening end same serial run above a c (files a b c is both.1) both.0) opens
+      (tells_and (IsHeld sound_law o blocks) (DeskDid o blocks tried) mid after held did)
+
+  -- Memory ran out, or nothing is told: of the state with the rows of the table.
+  pub was_starved : IsLog sound_law.meets (flushed_log o (blocks ++ tried)) → IsFound before state → (s : State) × IsFound before s × WasStarvedAtOnce before after s
+  was_starved is found =
+      let rows = (opened_at o).rows in
+      let s = with_rows state rows in (
+        s,
+        found_so state rows t.rows before is.opening found,
+        record {
+          low = t.low;
+          run_low = t.run_low;
+          blocks = blocks ++ tried;
+          moments = tells_join (OpensDisk state) (DeskDid o blocks tried) (SinceSettled (KeepsLogged (blocks ++ tried) s)) before mid after
+              (λ a b c opening desk. logged state rows t.rows may (flushed_log o (blocks ++ tried)) is t.tail t.run refl o.tail low a b c opening.0 desk.keeps) opens did;
+          segments = segments;
+        },
+      )
+
+  -- A whole run, of whose log all is flushed.
+  pub was_run : OrdersAreOne → (names : List (List ℕ)) (script : List ScriptLine) (lines : List Line) (opening : Opening) → StartsFrom state opening → (good : IsGoodAtOnce opening names script lines)
+      → CutFew in_table good.good.report.answers → EachFrontRuns (commits_told names script good.good.report.answers good.good.report.closed) opening.map
+      → tried ≡ [] → StandFor (commits_told names script good.good.report.answers good.good.report.closed) state (state_at (flushed_log o blocks) []) blocks
+      → AreAcknowledged (place_behind o.tail blocks) good.good.report.answers
+      → ((c : Committed) → c ∈ commits_told names script good.good.report.answers good.good.report.closed → c.stamp < place_behind o.tail blocks)
+      → IfSome after (IsHeld sound_law o blocks) → WasRunAtOnce before after state names script lines
+  was_run one names script lines opening starts good few fronts none stand tells above held =
+      let r = good.good.report in
+      let told : List Committed = commits_told names script r.answers r.closed in
+      let whole : blocks ≡ blocks ++ tried = sym (ap (λ (bs : List Block). blocks ++ bs) none ∙ append-nil blocks) in
+      let of : TellsFor lines r.answers = λ place is.
+      report_tells opening names script r (line.Answer is.number is.answer) place (subst (λ (ls : List Line). line.Answer is.number is.answer ∈ ls) good.good.lines_ok is.told) is.tells
+      in
+      record {
+        low = t.low;
+        run_low = t.run_low;
+        opening = opening;
+        starts = starts;
+        good = good;
+        few = few;
+        fronts = fronts;
+        outlives = outlived told (subst (λ (bs : List Block). StandFor told state (state_at (flushed_log o bs) []) bs) whole stand) lines r.answers of tells;
+        leaves = left one told stand r.order opening.map (from_entries (entries_of r.pairs)) starts.map good.good.order.serial good.good.order.run above held;
+      }
+
+  -- One that the disk's fault cut off.
+  pub was_cut : (names : List (List ℕ)) (script : List ScriptLine) (lines : List Line) (opening : Opening) → StartsFrom state opening → (cut : IsCutAtOnce opening names script lines)
+      → CutFew in_table cut.answers → EachFrontRuns (commits_told names (answered_of cut.counts script) cut.answers cut.closed) opening.map
+      → StandFor (commits_told names (answered_of cut.counts script) cut.answers cut.closed) state (state_at (flushed_log o (blocks ++ tried)) []) (blocks ++ tried)
+      → AreAcknowledged (place_behind o.tail blocks) cut.answers → WasCutAtOnce before after state names script lines
+  was_cut names script lines opening starts cut few fronts stand tells = record {
+    low = t.low;
+    run_low = t.run_low;
+    opening = opening;
+    starts = starts;
+    cut = cut;
+    few = few;
+    fronts = fronts;
+    outlives = outlived (commits_told names (answered_of cut.counts script) cut.answers cut.closed) stand lines cut.answers
+        (cut_tells lines opening.stamp opening.run (answered_of cut.counts script) cut.answers None cut.lines_ok) tells;
+    segments = segments;
+  }

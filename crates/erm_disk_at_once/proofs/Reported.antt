@@ -1,0 +1,192 @@
+-- The reports of sessions that ran at once, with the script's names alone, and what the log tells of their commits.
+use Rattle.std.proofs.Common.{◌≡◌, ℕ, List, [], ◌++◌, length, Option, IfSome, sym, ap, ◌∙◌, subst, arith}
+use Rattle.std.specs.List.{All}
+use Rattle.erm_model.specs.Committed.{Committed}
+use Rattle.erm_model.specs.Member.{◌∈◌}
+use Rattle.erm_model.specs.declared.limits.TheConstants.{TABLE_CELLS}
+use Rattle.erm_block.specs.declared.block.Block.{Block}
+use Rattle.erm_outside.specs.Disk.{Step, Tells}
+use Rattle.erm_ckpt.specs.Recovered.{State}
+use Rattle.erm_checkpoint.specs.Taken.{state_at}
+use Rattle.erm_node.specs.Sound.{sound_law}
+use Rattle.erm_report.specs.declared.answer.Answer.{Answer}
+use Rattle.erm_report.specs.declared.answer.Answer.TheVariants as answer
+use Rattle.erm_report.specs.declared.line.Line.{Line}
+use Rattle.erm_report.specs.Printable.{FitsTypes}
+use Rattle.erm_script.specs.declared.script.ScriptLine.{ScriptLine}
+use Rattle.erm_world.specs.Log.{place_behind}
+use Rattle.erm_world.specs.World.{View}
+use Rattle.erm_good_report.specs.GoodReport.{HaveTightWindows, Report, places_of}
+use Rattle.erm_good_report.specs.Opening.{Opening}
+use Rattle.erm_good_report.specs.Phases.{Closed}
+use Rattle.erm_good_report.specs.Transactions.{Said, Transaction, history_of, transactions_of}
+use Rattle.erm_good_at_once.specs.CutReports.{IsCutAtOnce, OwesInPart, answered_of}
+use Rattle.erm_good_at_once.specs.GoodAtOnce.{IsGoodAtOnce}
+use Rattle.erm_invariant.specs.Commits.{EachFrontRuns}
+use Rattle.erm_lines.specs.Executions.{IsOpeningOf}
+use Rattle.erm_cut_at_once.specs.Laws.{CutRunsCloseUnseen, CutRunsOwe, TellsCutAtOnce}
+use Rattle.erm_report_at_once.specs.Laws.{RunsAtOnceReportWell, TellsAtOnce}
+use Rattle.erm_tight_at_once.specs.Laws.{RunsAtOnceHaveTightWindows}
+use Rattle.erm_spare_names.specs.Spare.{NamesOnlyFirst, SpareNamesTellNothing}
+use Rattle.erm_told_log_at_once.specs.Laws.{AreCutsFew, AreFlushed, CutRunsCutFew, CutRunsLogCommits, CutRunsRunInFronts, CutRunsTellFlushed, CutRunsTellStates, RunsAtOnceCutFew, RunsAtOnceLogCommits, RunsAtOnceRunInFronts, RunsAtOnceTellFlushed, RunsAtOnceTellStates}
+use Rattle.erm_told_crash.specs.Logged.{HasCommits}
+use Rattle.erm_rule.specs.declared.view.Start.{Start}
+use Rattle.erm_desk.specs.Desk.{IsHeld}
+use Rattle.erm_desk.specs.Known.{flushed_log}
+use Rattle.erm_disk_run.specs.Found.{StartsFrom}
+use Rattle.erm_disk_run.specs.Limits.{in_table}
+use Rattle.erm_disk_run.specs.Runs.{CutFew, commits_told}
+use Rattle.erm_disk_run.proofs.Left.{OrdersAreOne}
+use Rattle.erm_disk_run.proofs.Opened.{MayOpenAll}
+use Rattle.erm_disk_at_once.specs.Desks.{AreAcknowledged, HasLogged, OpensTable, StandFor}
+use Rattle.erm_disk_at_once.specs.Runs.{WasCutAtOnce, WasRunAtOnce}
+use Rattle.erm_disk_at_once.proofs.AtOnce.{DeskDid, OpensDisk, logged_stand, was_cut, was_run}
+
+-- the laws that a whole run rests on: of reports, and of the log
+pub record WholeLaws : Type 0 where
+  pub well : RunsAtOnceReportWell
+  pub windows : RunsAtOnceHaveTightWindows
+  pub spare : SpareNamesTellNothing
+  pub states : RunsAtOnceTellStates
+  pub commits : RunsAtOnceLogCommits
+  pub fronts : RunsAtOnceRunInFronts
+  pub flushed : RunsAtOnceTellFlushed
+  pub few : RunsAtOnceCutFew
+
+-- and those of one that was cut off
+pub record CutLaws : Type 0 where
+  pub owe : CutRunsOwe
+  pub unseen : CutRunsCloseUnseen
+  pub spare : SpareNamesTellNothing
+  pub states : CutRunsTellStates
+  pub commits : CutRunsLogCommits
+  pub fronts : CutRunsRunInFronts
+  pub flushed : CutRunsTellFlushed
+  pub few : CutRunsCutFew
+
+-- ---- the script's names alone
+
+-- the commits that the answers to these lines tell, with names enough for each session
+abbrev all_told : View → List ScriptLine → List Answer → List Closed → List Committed
+all_told v part answers closed = history_of (transactions_of v.opening.sessions (places_of part answers closed))
+
+-- lines are a good report with these names, of these answers and closed sessions, and tell what they do with names enough
+pub record IsReported (v : View) (opening : Opening) (names : List (List ℕ)) (script : List ScriptLine) (answers : List Answer) (closed : List Closed) (lines : List Line) : Type 0 where
+  pub good : IsGoodAtOnce opening names script lines
+  pub answers_are : good.good.report.answers ≡ answers
+  pub told : commits_told names script good.good.report.answers good.good.report.closed ≡ all_told v script answers closed
+
+-- the same of a report that was cut off
+pub record IsCutReported (v : View) (opening : Opening) (names : List (List ℕ)) (script : List ScriptLine) (counts : ℕ → ℕ) (answers : List Answer) (closed : List Closed) (lines : List Line) : Type 0 where
+  pub cut : IsCutAtOnce opening names script lines
+  pub answers_are : cut.answers ≡ answers
+  pub told : commits_told names (answered_of cut.counts script) cut.answers cut.closed ≡ all_told v (answered_of counts script) answers closed
+
+-- fewer names tell the same
+told_with : (n m : ℕ) (said : List Said) → transactions_of n said ≡ transactions_of m said → history_of (transactions_of n said) ≡ history_of (transactions_of m said)
+told_with n m said same = ap (λ (ts : List Transaction). history_of ts) same
+
+module _ (v f : View) (script : List ScriptLine) (opening : Opening) (names spare : List (List ℕ)) (lines : List Line) (of : IsOpeningOf v opening)
+    (many : v.opening.sessions ≡ length (names ++ spare)) (first : NamesOnlyFirst (length names) script) (fits : All FitsTypes lines) where
+  pub reported : (laws : WholeLaws) → (was : TellsAtOnce v f opening (names ++ spare) script lines) → IsReported v opening names script was.answers was.closed lines
+  reported laws was =
+      let it = laws.well v f script opening (names ++ spare) lines of many was fits in
+      let full : IsGoodAtOnce opening (names ++ spare) script lines = record {
+        good = it.good;
+        rise = it.rise;
+        tight =
+            subst (λ (cs : List Closed). HaveTightWindows (transactions_of (length (names ++ spare)) (places_of script it.good.report.answers cs))) (sym it.closed_are)
+            (subst (λ (given : List Answer). HaveTightWindows (transactions_of (length (names ++ spare)) (places_of script given was.closed))) (sym it.answers_are)
+            (subst (λ (n : ℕ). HaveTightWindows (transactions_of n (places_of script was.answers was.closed))) many
+            (laws.windows v f script was.answers was.closed was.run)));
+      } in
+      let alone = laws.spare.good opening names spare script lines first full in
+      let same = alone.1 in
+      record {
+        good = alone.0;
+        answers_are = ap (λ (r : Report). r.answers) same ∙ it.answers_are;
+        told =
+            ap (λ (r : Report). commits_told names script r.answers r.closed) same
+            ∙ told_with (length names) (length (names ++ spare)) (places_of script it.good.report.answers it.good.report.closed) alone.2
+            ∙ ap (λ (given : List Answer). history_of (transactions_of (length (names ++ spare)) (places_of script given it.good.report.closed))) it.answers_are
+            ∙ ap (λ (cs : List Closed). history_of (transactions_of (length (names ++ spare)) (places_of script was.answers cs))) it.closed_are
+            ∙ ap (λ (n : ℕ). history_of (transactions_of n (places_of script was.answers was.closed))) (sym many);
+      }
+
+  pub cut_reported : (laws : CutLaws) → (was : TellsCutAtOnce v f opening script lines) → IsCutReported v opening names script was.counts was.answers was.closed lines
+  cut_reported laws was =
+      let part = answered_of was.counts script in
+      let full : IsCutAtOnce opening (names ++ spare) script lines = record {
+        counts = was.counts;
+        answers = was.answers;
+        each = was.run.each;
+        lines_ok = was.told;
+        fits = fits;
+        closed = was.closed;
+        once = λ i j d less within is. let ascend = was.run.ascend i j d less within in omega (arith, is, ascend);
+        unseen = laws.unseen v f script was.counts was.answers was.closed was.run;
+        owes =
+            subst (λ (n : ℕ). OwesInPart opening script part was.answers (transactions_of n (places_of part was.answers was.closed))) many
+            (laws.owe v f script was.counts was.answers was.closed opening was.run of);
+      } in
+      let alone = laws.spare.cut opening names spare script lines first full in
+      let cut = alone.0 in
+      record {
+        cut = cut;
+        answers_are = alone.2;
+        told =
+            ap (λ (counts : ℕ → ℕ). commits_told names (answered_of counts script) cut.answers cut.closed) alone.1
+            ∙ ap (λ (given : List Answer). commits_told names part given cut.closed) alone.2
+            ∙ ap (λ (cs : List Closed). commits_told names part was.answers cs) alone.3
+            ∙ told_with (length names) (length (names ++ spare)) (places_of part was.answers was.closed) alone.4
+            ∙ ap (λ (n : ℕ). history_of (transactions_of n (places_of part was.answers was.closed))) (sym many);
+      }
+
+-- ---- what the log tells
+
+flushed_answers : (f : View) (end : ℕ) (given answers : List Answer) → f.flushed ≡ end → given ≡ answers → AreFlushed f answers → AreAcknowledged end given
+flushed_answers f end given answers is same are a m place tells =
+    let it = are a (subst (λ (xs : List Answer). a ∈ xs) same m) place tells in
+    let low = it.2 in
+    (it.0, it.1, omega (arith, low, is))
+
+few_cuts : (v : View) (given answers : List Answer) → v.opening.cuts ≡ TABLE_CELLS → given ≡ answers → AreCutsFew v answers → CutFew in_table given
+few_cuts v given answers cuts same are n m = let few = are n (subst (λ (xs : List Answer). answer.Cut n ∈ xs) same m) in omega (arith, few, cuts)
+
+module _ (may : MayOpenAll) (state : State) (o : Start) (blocks tried : List Block) (before mid after : Option (List Step)) (t : OpensTable state o)
+    (opens : Tells (OpensDisk state) before mid) (did : Tells (DeskDid o blocks tried) mid after) (v f : View) (script : List ScriptLine) (opening : Opening) (starts : StartsFrom state opening)
+    (of : IsOpeningOf v opening) (cuts : v.opening.cuts ≡ TABLE_CELLS) (names spare : List (List ℕ)) (lines : List Line) (many : v.opening.sessions ≡ length (names ++ spare))
+    (first : NamesOnlyFirst (length names) script) (fits : All FitsTypes lines) (flushed : f.flushed ≡ place_behind o.tail blocks) where
+  -- A whole run, of which all is flushed.
+  pub run_at_once : OrdersAreOne → WholeLaws → (was : TellsAtOnce v f opening (names ++ spare) script lines) → tried ≡ [] → HasLogged o blocks f → f.flushed ≡ f.tail → IfSome after (IsHeld sound_law o blocks)
+      → WasRunAtOnce before after state names script lines
+  run_at_once one laws was none has ends held =
+      let r = reported v f script opening names spare lines of many first fits laws was in
+      let told : List Committed = all_told v script was.answers was.closed in
+      let commits : HasCommits has.log told = laws.commits v f script was.answers was.closed opening was.run of has.apart has.log has.of_view has.is in
+      let stand : StandFor told state (state_at (flushed_log o blocks) []) blocks =
+      logged_stand told state o blocks f t has opening.map starts.map (laws.states v f script was.answers was.closed opening was.run of has.apart has.log has.of_view has.is) commits
+      in
+      let tail = has.of_view.tail in
+      was_run may state o blocks tried before mid after t opens did one names script lines opening starts r.good
+      (few_cuts v r.good.good.report.answers was.answers cuts r.answers_are (laws.few v f script was.answers was.closed was.run))
+      (subst (λ (cs : List Committed). EachFrontRuns cs opening.map) (sym r.told) (laws.fronts v f script was.answers was.closed opening was.run of)) none
+      (subst (λ (cs : List Committed). StandFor cs state (state_at (flushed_log o blocks) []) blocks) (sym r.told) stand)
+      (flushed_answers f (place_behind o.tail blocks) r.good.good.report.answers was.answers flushed r.answers_are (laws.flushed v f script was.answers was.closed was.run))
+      (λ c m. let within = commits.within c (subst (λ (cs : List Committed). c ∈ cs) r.told m) in omega (arith, within.1, tail, ends, flushed)) held
+
+  -- One that the disk's fault cut off.
+  pub cut_at_once : CutLaws → (was : TellsCutAtOnce v f opening script lines) → HasLogged o (blocks ++ tried) f → WasCutAtOnce before after state names script lines
+  cut_at_once laws was has =
+      let r = cut_reported v f script opening names spare lines of many first fits laws was in
+      let told : List Committed = all_told v (answered_of was.counts script) was.answers was.closed in
+      let stand : StandFor told state (state_at (flushed_log o (blocks ++ tried)) []) (blocks ++ tried) =
+      logged_stand told state o (blocks ++ tried) f t has opening.map starts.map
+      (laws.states v f script was.counts was.answers was.closed opening was.run of has.apart has.log has.of_view has.is)
+      (laws.commits v f script was.counts was.answers was.closed opening was.run of has.apart has.log has.of_view has.is)
+      in
+      was_cut may state o blocks tried before mid after t opens did names script lines opening starts r.cut
+      (few_cuts v r.cut.answers was.answers cuts r.answers_are (laws.few v f script was.counts was.answers was.closed was.run))
+      (subst (λ (cs : List Committed). EachFrontRuns cs opening.map) (sym r.told) (laws.fronts v f script was.counts was.answers was.closed opening was.run of))
+      (subst (λ (cs : List Committed). StandFor cs state (state_at (flushed_log o (blocks ++ tried)) []) (blocks ++ tried)) (sym r.told) stand)
+      (flushed_answers f (place_behind o.tail blocks) r.cut.answers was.answers flushed r.answers_are (laws.flushed v f script was.counts was.answers was.closed was.run))

@@ -1,0 +1,5 @@
+use Rattle.erm_disk_at_once.proofs.Ends as ends
+use Rattle.erm_disk_at_once.proofs.openings_are_left.Goals as goal
+
+pub returns : goal.returns
+returns c = ends.openings_are_left c.kept_images_may_open.ensures

@@ -1,0 +1,133 @@
+-- A script whose sessions ran at once on a disk: what its report tells, and what a crash leaves.
+use Rattle.std.specs.Prelude.{◌≡◌, ◌+◌, ◌<◌, ◌≤◌, ◌⊎◌, ◌++◌, ℕ, List, length, Option, Result, Ok, Err, Vec}
+use Rattle.std.specs.FinMap.{from_entries}
+use Rattle.std.specs.List.{All}
+use Rattle.std.specs.declared.alloc.Global.{Global}
+use Rattle.erm_model.specs.Committed.{Committed}
+use Rattle.erm_model.specs.Database.{Database, entries_of}
+use Rattle.erm_model.specs.Member.{◌∈◌}
+use Rattle.erm_model.specs.declared.limits.TheConstants.{LAST_NUMBER, LAST_RUN, LEAST_BLOCK, SESSIONS, STOP}
+use Rattle.erm_block.specs.declared.block.Block.{Block}
+use Rattle.erm_ckpt.specs.Recovered.{Pair, Recovers, RecoversAt, State, base, slots_of}
+use Rattle.erm_ckpt.specs.States.{RecoversTo}
+use Rattle.erm_crash.specs.Moments.{AtMoments, TearsApart}
+use Rattle.erm_crash.specs.Stops.{MayStop}
+use Rattle.erm_log_words.specs.Kept.{MayOpen}
+use Rattle.erm_node.specs.Sound.{sound_law}
+use Rattle.erm_node.specs.TreeMap.{map_of_rows}
+use Rattle.erm_outside.specs.Disk.{Image, IsSettled, Step, Tells, contents}
+use Rattle.erm_recover.specs.Waiting.{SinceSettled}
+use Rattle.erm_report.specs.Printable.{FitsTypes}
+use Rattle.erm_report.specs.declared.line.Line.{Line}
+use Rattle.erm_script.specs.Script.{IsInRange}
+use Rattle.erm_script.specs.declared.script.ScriptLine.{ScriptLine}
+use Rattle.erm_world.specs.Log.{rows_behind}
+use Rattle.erm_worker.specs.Work.{MayBeAsked}
+use Rattle.erm_good_at_once.specs.CutReports.{IsCutAtOnce, answered_of}
+use Rattle.erm_good_at_once.specs.GoodAtOnce.{IsGoodAtOnce}
+use Rattle.erm_good_report.specs.Opening.{Opening}
+use Rattle.erm_invariant.specs.Commits.{EachFrontRuns}
+use Rattle.erm_log_run.specs.Saving.{SparesOlder}
+use Rattle.erm_disk_run.specs.Crashes.{Outlives}
+use Rattle.erm_disk_run.specs.Found.{IsFound, StartsFrom}
+use Rattle.erm_disk_run.specs.Limits.{in_table}
+use Rattle.erm_disk_run.specs.Runs.{CutFew, commits_told}
+use Rattle.erm_disk_run.specs.Stops.{StopsRun}
+use Rattle.erm_disk_run.specs.declared.stops.RunStop.{RunStop}
+use Rattle.erm_disk_run.specs.declared.stops.RunStop.TheVariants as run
+
+-- a line of one of so many sessions, whose command is one of a session
+pub record MayBeRunAtOnce (sessions : ℕ) (l : ScriptLine) : Type 0 where
+  pub session : (1 ≤ l.session) × (l.session ≤ sessions)
+  pub asked : MayBeAsked l.command
+  pub range : IsInRange l.command
+
+-- a script of so many sessions, not too long, each line of which is one of a session's own
+pub record IsScriptAtOnce (names : List (List ℕ)) (script : List ScriptLine) : Type 0 where
+  pub few : length names ≤ SESSIONS
+  pub short : length script + SESSIONS ≤ LAST_NUMBER
+  pub each : (l : ScriptLine) → l ∈ script → MayBeRunAtOnce (length names) l
+
+-- the log's segments below that of the place found are as they were
+abbrev pub KeepsSegments : State → List Step → List Step → Type 0
+KeepsSegments from old new = SparesOlder from.at old new
+
+-- At the end nothing is pending on a disk, so that a crash leaves what it reads: it recovers to this map, in the next run, behind all commits. The
+-- slots and the segments below that of the place found are those from before.
+pub record LeavesAll (commits : List Committed) (from : State) (m : Database) (old steps : List Step) : Type 0 where
+  pub settled : IsSettled steps
+  pub found : State
+  pub pair : Pair
+  pub there : RecoversTo sound_law.meets found pair (contents steps)
+  pub run : found.run ≡ from.run + 1
+  pub low : from.at + LEAST_BLOCK ≤ found.at
+  pub above : (c : Committed) → c ∈ commits → c.stamp < found.at
+  pub map : map_of_rows found.rows ≡ m
+  pub spared : (before : Pair) (blocks : List Block) → Recovers sound_law.meets (contents old) before blocks → slots_of pair ≡ slots_of before
+  pub segments : KeepsSegments from old steps
+
+-- A script's sessions ran at once on a disk from which a state was found, below the end of the log and of runs: these lines are a good report, whose
+-- windows are tight. The commits that it tells outlive a crash at any moment, those below any stamp are a serial run, and at the end the disk
+-- recovers to the map that it tells.
+pub record WasRunAtOnce (before after : Option (List Step)) (state : State) (names : List (List ℕ)) (script : List ScriptLine) (lines : List Line) : Type 0 where
+  pub low : state.at < STOP
+  pub run_low : state.run < LAST_RUN
+  pub opening : Opening
+  pub starts : StartsFrom state opening
+  pub good : IsGoodAtOnce opening names script lines
+  pub few : CutFew in_table good.good.report.answers
+  pub fronts : EachFrontRuns (commits_told names script good.good.report.answers good.good.report.closed) opening.map
+  pub outlives : Tells (Outlives (commits_told names script good.good.report.answers good.good.report.closed) state lines) before after
+  pub leaves : Tells (LeavesAll (commits_told names script good.good.report.answers good.good.report.closed) state (from_entries (entries_of good.good.report.pairs))) before after
+
+-- The disk failed while they ran: these lines are the report up to then, of each session's first lines. The commits that their answers and the
+-- sessions closed tell outlive a crash at any moment, and those below any stamp are a serial run.
+pub record WasCutAtOnce (before after : Option (List Step)) (state : State) (names : List (List ℕ)) (script : List ScriptLine) (lines : List Line) : Type 0 where
+  pub low : state.at < STOP
+  pub run_low : state.run < LAST_RUN
+  pub opening : Opening
+  pub starts : StartsFrom state opening
+  pub cut : IsCutAtOnce opening names script lines
+  pub few : CutFew in_table cut.answers
+  pub fronts : EachFrontRuns (commits_told names (answered_of cut.counts script) cut.answers cut.closed) opening.map
+  pub outlives : Tells (Outlives (commits_told names (answered_of cut.counts script) cut.answers cut.closed) state lines) before after
+  pub segments : Tells (KeepsSegments state) before after
+
+-- At a moment an image recovers to what a front of some blocks leaves of a state, in its run or the next. The image may be opened again.
+pub record RecoversLogged (blocks : List Block) (from : State) (now : List Step) (image : Image) : Type 0 where
+  pub found : State
+  pub pair : Pair
+  pub there : RecoversTo sound_law.meets found pair image
+  pub low : from.at ≤ found.at
+  pub run : (found.run ≡ from.run) ⊎ (found.run ≡ from.run + 1)
+  pub front : List Block
+  pub rest : List Block
+  pub split : blocks ≡ front ++ rest
+  pub map : map_of_rows found.rows ≡ map_of_rows (rows_behind from.rows front)
+  pub opens : MayOpen (RecoversAt sound_law.meets) image
+  pub stops : MayStop (base pair).at found.at now
+
+-- so does each image at each moment that shows each block and each slot whole, or none
+abbrev pub KeepsLogged : List Block → State → List Step → List Step → Type 0
+KeepsLogged blocks from old new = AtMoments (λ now image. TearsApart sound_law.meets now image → RecoversLogged blocks from now image) old new
+
+-- Memory ran out while the sessions ran, or what they did was told. Once nothing is pending of what was done before, each image at each moment recovers
+-- to what a front of the blocks leaves that came to the log, one behind another.
+pub record WasStarvedAtOnce (before after : Option (List Step)) (state : State) : Type 0 where
+  pub low : state.at < STOP
+  pub run_low : state.run < LAST_RUN
+  pub blocks : List Block
+  pub moments : Tells (SinceSettled (KeepsLogged blocks state)) before after
+  pub segments : Tells (KeepsSegments state) before after
+
+-- how a script at once ends on a disk before and after
+abbrev pub EndsAtOnce : Result (Vec Line Global) RunStop → Option (List Step) → Option (List Step) → List (List ℕ) → List ScriptLine → Type 0
+EndsAtOnce (Ok lines) before after names script = All FitsTypes lines.items → (state : State) × IsFound before state × WasRunAtOnce before after state names script lines.items
+EndsAtOnce (Err (run.DiskFault lines)) before after names script = All FitsTypes lines.items → (state : State) × IsFound before state × WasCutAtOnce before after state names script lines.items
+EndsAtOnce (Err (run.Unopened stop)) before after names script = StopsRun stop before after
+EndsAtOnce (Err run.Memory) before after names script = (state : State) × IsFound before state × WasStarvedAtOnce before after state
+
+-- what is left where the sessions ran, and nothing is told of it
+abbrev pub LeavesUntoldAtOnce : Result (Vec Line Global) RunStop → Option (List Step) → Option (List Step) → Type 0
+LeavesUntoldAtOnce (Err (run.Unopened stop)) before after = Unit {0}
+LeavesUntoldAtOnce ended before after = (state : State) × IsFound before state × WasStarvedAtOnce before after state

@@ -1,0 +1,219 @@
+-- A report of sessions at once with spare names is one with the script's names alone.
+use Rattle.std.proofs.Common.{◌≡◌, ℕ, ◌+◌, ◌-◌, ◌≤◌, Bool, not, List, [], ◌∷◌, ◌++◌, length, length-append, map, filter, None, inl, inr, refl, sym, ap, ◌∙◌, subst, arith}
+use Rattle.std.specs.Prelude.{nat_lt}
+use Rattle.std.specs.List.{AllByRecursion, range_with_len}
+use Rattle.std.proofs.lemmas.Bool.{cases_lt}
+use Rattle.std.proofs.lemmas.List.{get_or_append_left}
+use Rattle.std.proofs.lemmas.List.Elements.{All-from_recursion, recursion_from_All}
+use Rattle.std.proofs.lemmas.List.Sorted.{All-permutation}
+use Rattle.erm_model.specs.declared.outcome.Phase.{Phase}
+use Rattle.erm_model.specs.declared.outcome.Phase.TheVariants.{Idle, Sealed}
+use Rattle.erm_model.specs.Committed.{Committed, rank_of}
+use Rattle.erm_model.specs.SerialOrder.{IsSerialOrder}
+use Rattle.erm_report.specs.declared.answer.Answer.{Answer}
+use Rattle.erm_report.specs.declared.line.Line.{Line}
+use Rattle.erm_report.specs.declared.line.Line.TheVariants as line
+use Rattle.erm_script.specs.declared.script.ScriptLine.{ScriptLine}
+use Rattle.erm_script.specs.Script.{name_of}
+use Rattle.erm_good_report.specs.GoodReport.{HaveTightWindows, IsGoodReport, OrderAgrees, OwesToAnswers, Report, answer_lines, close_line, commit_line, places_of, report_lines}
+use Rattle.erm_good_report.specs.Opening.{AtOnce, Opening}
+use Rattle.erm_good_report.specs.Phases.{Closed, ClosesAgree, is_idle, phase_of}
+use Rattle.erm_good_report.specs.Transactions.{Said, Transaction, history_of, said_of, transactions_of}
+use Rattle.erm_good_at_once.specs.CutReports.{OwesInPart, answered_of, less}
+use Rattle.erm_good_at_once.specs.Rising.{StampsRise}
+use Rattle.erm_spare_names.specs.Spare.{CutWithoutSpare, GoodWithoutSpare, NamesOnlyFirst, SpareNamesTellNothing, TellNoMore}
+use Rattle.erm_spare_names.proofs.Seats.{IsSaidOfFirst, commits_of_seats, each_before, each_either, each_joined, each_mapped, each_member, each_weaker, filter_spare, filter_within, spare_is_idle, told_of_seats, told_without_spare}
+
+-- ---- places of a script's lines, and of sessions that were closed
+
+-- what a session says that is closed
+abbrev close_said : Closed → Said
+close_said c = record { session = c.session; asked = None; answer = c.answer }
+
+said_first : (sessions : ℕ) (script : List ScriptLine) (answers : List Answer) → AllByRecursion (λ l. l.session ≤ sessions) script → IsSaidOfFirst sessions (said_of script answers)
+said_first sessions [] answers first = tt
+said_first sessions (l ∷ ls) [] first = tt
+said_first sessions (l ∷ ls) (a ∷ answers) first = (first.0, said_first sessions ls answers first.1)
+
+places_first : (sessions : ℕ) (script : List ScriptLine) (answers : List Answer) (closed : List Closed) → AllByRecursion (λ l. l.session ≤ sessions) script
+    → AllByRecursion (λ c. c.session ≤ sessions) closed → IsSaidOfFirst sessions (places_of script answers closed)
+places_first sessions script answers closed first ends =
+    each_joined (λ s. s.session ≤ sessions) (said_of script answers) (map close_said closed) (said_first sessions script answers first)
+    (each_mapped close_said (λ s. s.session ≤ sessions) closed ends)
+
+answered_first : (sessions : ℕ) (counts : ℕ → ℕ) (script : List ScriptLine) → AllByRecursion (λ l. l.session ≤ sessions) script
+    → AllByRecursion (λ l. l.session ≤ sessions) (answered_of counts script)
+answered_first sessions counts [] first = tt
+answered_first sessions counts (l ∷ ls) first =
+    each_either (λ (k : ScriptLine). k.session ≤ sessions) (nat_lt 0 (counts l.session)) (l ∷ answered_of (less l.session counts) ls) (answered_of counts ls)
+    (first.0, answered_first sessions (less l.session counts) ls first.1) (answered_first sessions counts ls first.1)
+
+-- ---- the lines of a report
+
+same_mapped : {X Y : Type 0} (f g : X → Y) (xs : List X) → AllByRecursion (λ x. f x ≡ g x) xs → map f xs ≡ map g xs
+same_mapped f g [] all = refl
+same_mapped f g (x ∷ xs) all = ap (λ y. y ∷ map f xs) all.0 ∙ ap (λ ys. g x ∷ ys) (same_mapped f g xs all.1)
+
+module _ (names spare : List (List ℕ)) where
+  -- a session has one name, with spare names behind the others and without
+  abbrev IsNamedAlike : ℕ → Type 0
+  IsNamedAlike seat = name_of (names ++ spare) seat ≡ name_of names seat
+
+  named_alike : (seat : ℕ) → 1 ≤ seat → seat ≤ length names → IsNamedAlike seat
+  named_alike seat some few = get_or_append_left names spare [] (seat - 1) (omega (arith, some, few))
+
+  lines_without : (opening : Opening) (script : List ScriptLine) (r : Report) → AllByRecursion (λ c. IsNamedAlike c.session) r.closed → AllByRecursion (λ c. IsNamedAlike c.session) r.order
+      → report_lines opening (names ++ spare) script r ≡ report_lines opening names script r
+  lines_without opening script r closed order =
+      ap (λ (ends : List Line). lines ends (map (commit_line (names ++ spare)) r.order)) (same_mapped (close_line (names ++ spare)) (close_line names) r.closed ends_alike)
+      ∙ ap (λ (commits : List Line). lines (map (close_line names) r.closed) commits) (same_mapped (commit_line (names ++ spare)) (commit_line names) r.order commits_alike)
+    where
+      lines : (ends commits : List Line) → List Line
+      lines ends commits =
+          line.Open opening.stamp opening.run ∷ answer_lines script r.answers ++ ends
+          ++ line.Order (length r.order) ∷ commits
+          ++ line.Map (length r.pairs) ∷ map line.Pair r.pairs ++ line.End ∷ []
+
+      ends_alike : AllByRecursion (λ (c : Closed). close_line (names ++ spare) c ≡ close_line names c) r.closed
+      ends_alike =
+          each_weaker (λ (c : Closed). IsNamedAlike c.session) (λ (c : Closed). close_line (names ++ spare) c ≡ close_line names c)
+          (λ c same. ap (λ (name : List ℕ). line.Close name c.answer) same) r.closed closed
+
+      commits_alike : AllByRecursion (λ (c : Committed). commit_line (names ++ spare) c ≡ commit_line names c) r.order
+      commits_alike =
+          each_weaker (λ (c : Committed). IsNamedAlike c.session) (λ (c : Committed). commit_line (names ++ spare) c ≡ commit_line names c)
+          (λ c same. ap (λ (name : List ℕ). line.Commit name c.number c.stamp c.succ c.pred) same) r.order order
+
+  -- what is so of each commit is so in their order
+  in_order : (P : Committed → Type 0) (commits order : List Committed) → IsSerialOrder rank_of commits order → AllByRecursion P commits → AllByRecursion P order
+  in_order P commits order serial all = recursion_from_All P order (All-permutation P commits order serial.same (All-from_recursion P commits all))
+
+  -- ---- what was said of the first sessions
+
+  seats : length (names ++ spare) ≡ length names + length spare
+  seats = length-append names spare
+
+  module _ (said : List Said) (first : IsSaidOfFirst (length names) said) where
+    no_more : TellNoMore names spare said
+    no_more = sym (ap (λ (n : ℕ). transactions_of n said) seats ∙ told_without_spare (length names) (length spare) said first)
+
+    -- just the sessions that aren't idle are closed, and no spare one is among them
+    abbrev is_busy : ℕ → Bool
+    is_busy seat = not (is_idle (phase_of seat said))
+
+    closes_without : (closed : List Closed) → ClosesAgree (length (names ++ spare)) said closed → ClosesAgree (length names) said closed
+    closes_without closed agree = record {
+      each = agree.each ∙ ap (λ (n : ℕ). filter is_busy (range_with_len 1 n)) seats
+          ∙ filter_spare is_busy 1 (length names) (length spare) (λ seat low. ap (λ (phase : Phase). not (is_idle phase)) (spare_is_idle (length names) seat (omega (arith, low)) said first));
+      fits = agree.fits;
+    }
+
+    closed_of_seats : (P : ℕ → Type 0) → ((seat : ℕ) → 1 ≤ seat → seat ≤ length names → P seat) → (closed : List Closed) → ClosesAgree (length names) said closed
+        → AllByRecursion (λ c. P c.session) closed
+    closed_of_seats P is closed agree =
+        each_before (λ (c : Closed). c.session) P closed
+        (subst (λ (seats : List ℕ). AllByRecursion P seats) (sym agree.each) (filter_within P is_busy 1 (length names) (λ seat low high. is seat low (omega (arith, high)))))
+
+    -- a session that is sealed is none of a spare name
+    sealed_first : (seat : ℕ) → phase_of seat said ≡ Sealed → seat ≤ length names
+    sealed_first seat sealed = elim (cases_lt (length names) seat) as (λ _. seat ≤ length names) [
+      | inl behind ↦ let same : Idle ≡ Sealed = sym (spare_is_idle (length names) seat behind said first) ∙ sealed in absurd (cc)
+      | inr low ↦ low
+    ]
+
+-- ---- the laws
+
+good : (opening : Opening) (names spare : List (List ℕ)) (script : List ScriptLine) (lines : List Line) → NamesOnlyFirst (length names) script
+    → GoodWithoutSpare opening names spare script lines
+good opening names spare script lines few told = (
+  record {
+    good = record {
+      report = r;
+      lines_ok = g.lines_ok ∙ lines_without names spare opening script r ends_named order_named;
+      fits = g.fits;
+      each = g.each;
+      closes = closes;
+      owes = subst (λ (ts : List Transaction). OwesToAnswers AtOnce opening script r.answers ts) (sym same) g.owes;
+      order = subst (λ (ts : List Transaction). OrderAgrees (history_of ts) opening.map r) (sym same) g.order;
+    };
+    rise = subst (λ (ts : List Transaction). StampsRise AtOnce ts (said_of script r.answers)) (sym same) told.rise;
+    tight = subst HaveTightWindows (sym same) told.tight;
+  },
+  refl,
+  same,
+)
+  where
+    g : IsGoodReport AtOnce opening (names ++ spare) script lines
+    g = told.good
+
+    r : Report
+    r = told.good.report
+
+    places : List Said
+    places = places_of script r.answers r.closed
+
+    lines_first : AllByRecursion (λ (l : ScriptLine). l.session ≤ length names) script
+    lines_first = each_member (λ (l : ScriptLine). l.session ≤ length names) script few
+
+    said : IsSaidOfFirst (length names) (said_of script r.answers)
+    said = said_first (length names) script r.answers lines_first
+
+    closes : ClosesAgree (length names) (said_of script r.answers) r.closed
+    closes = closes_without names spare (said_of script r.answers) said r.closed g.closes
+
+    ends_first : AllByRecursion (λ (c : Closed). c.session ≤ length names) r.closed
+    ends_first = closed_of_seats names spare (said_of script r.answers) said (λ (seat : ℕ). seat ≤ length names) (λ seat some most. most) r.closed closes
+
+    same : TellNoMore names spare places
+    same = no_more names spare places (places_first (length names) script r.answers r.closed lines_first ends_first)
+
+    ends_named : AllByRecursion (λ (c : Closed). IsNamedAlike names spare c.session) r.closed
+    ends_named = closed_of_seats names spare (said_of script r.answers) said (IsNamedAlike names spare) (named_alike names spare) r.closed closes
+
+    told_named : AllByRecursion (λ (c : Committed). IsNamedAlike names spare c.session) (history_of (transactions_of (length names) places))
+    told_named =
+        commits_of_seats (IsNamedAlike names spare) (transactions_of (length names) places) (told_of_seats (IsNamedAlike names spare) (length names) places (named_alike names spare))
+
+    order_named : AllByRecursion (λ (c : Committed). IsNamedAlike names spare c.session) r.order
+    order_named =
+        in_order names spare (λ (c : Committed). IsNamedAlike names spare c.session) (history_of (transactions_of (length (names ++ spare)) places)) r.order g.order.serial
+        (subst (λ (ts : List Transaction). AllByRecursion (λ (c : Committed). IsNamedAlike names spare c.session) (history_of ts)) same told_named)
+
+cut : (opening : Opening) (names spare : List (List ℕ)) (script : List ScriptLine) (lines : List Line) → NamesOnlyFirst (length names) script
+    → CutWithoutSpare opening names spare script lines
+cut opening names spare script lines few told = (
+  record {
+    counts = told.counts;
+    answers = told.answers;
+    each = told.each;
+    lines_ok = told.lines_ok;
+    fits = told.fits;
+    closed = told.closed;
+    once = told.once;
+    unseen = told.unseen;
+    owes = subst (λ (ts : List Transaction). OwesInPart opening script part told.answers ts) (sym same) told.owes;
+  },
+  refl,
+  refl,
+  refl,
+  same,
+)
+  where
+    part : List ScriptLine
+    part = answered_of told.counts script
+
+    part_first : AllByRecursion (λ (l : ScriptLine). l.session ≤ length names) part
+    part_first = answered_first (length names) told.counts script (each_member (λ (l : ScriptLine). l.session ≤ length names) script few)
+
+    said : IsSaidOfFirst (length names) (said_of part told.answers)
+    said = said_first (length names) part told.answers part_first
+
+    ends_first : AllByRecursion (λ (c : Closed). c.session ≤ length names) told.closed
+    ends_first =
+        each_member (λ (c : Closed). c.session ≤ length names) told.closed (λ c m. sealed_first names spare (said_of part told.answers) said c.session (told.unseen c m).sealed)
+
+    same : TellNoMore names spare (places_of part told.answers told.closed)
+    same = no_more names spare (places_of part told.answers told.closed) (places_first (length names) part told.answers told.closed part_first ends_first)
+
+pub spare_tells_nothing : SpareNamesTellNothing
+spare_tells_nothing = record { good = good; cut = cut }

@@ -1,0 +1,162 @@
+-- Where the lines told leave a session of an execution that was cut off: its transaction may have been aborted behind them, having read more, or
+-- sealed with a stamp that none of them tells.
+use Rattle.std.proofs.Common.{◌≡◌, ℕ, Bool, true, false, List, [], ◌∷◌, ◌++◌, Option, Some, None, inl, inr, refl, sym, ap, ◌∙◌, subst}
+use Rattle.erm_model.specs.declared.outcome.Phase.TheVariants.{Active}
+use Rattle.erm_model.specs.Member.{◌∈◌}
+use Rattle.erm_model.proofs.Members.{none_in_nil}
+use Rattle.erm_machine.proofs.Listed.{∈-cons, ∈-either, ∈-first}
+use Rattle.erm_node.specs.Sound.{sound_law}
+use Rattle.erm_script.specs.declared.script.ScriptLine.{ScriptLine}
+use Rattle.erm_world.specs.Calls.{DidAbort, DidSeal}
+use Rattle.erm_world.specs.Laws.{IsSerializable}
+use Rattle.erm_world.specs.Whole.{HasStamps}
+use Rattle.erm_world.specs.World.{Finished, IsSession, Session, Stand, View, Work, phase_at, phase_of, work_at, work_of}
+use Rattle.erm_world.specs.World as world
+use Rattle.erm_world.proofs.Lists.{∈-last}
+use Rattle.erm_maps.specs.Runs.{IsRunOf}
+use Rattle.erm_good_report.specs.Transactions.{Aborts, Progress, Transaction, Unfinished, steps_of}
+use Rattle.erm_lines.specs.Told.{Tells, TellsNow}
+use Rattle.erm_beside.specs.Calls.{After, Passes}
+use Rattle.erm_lines_at_once.specs.CutRuns.{IsRest, Waited, aborted, drew, stood}
+use Rattle.erm_told.proofs.Sessions.{aborted_told}
+use Rattle.erm_told.proofs.Turns.{now_active}
+use Rattle.erm_causes_at_once.proofs.Called.{Kept, kept_same, tried_kept}
+use Rattle.erm_told_limits.proofs.Holds.{Laws}
+use Rattle.erm_told_limits.proofs.Ran.{active_with, same_work}
+use Rattle.erm_limits_at_once.proofs.Looked.{BeganIn, began_in}
+use Rattle.erm_cut_at_once.proofs.Closing.{closed_progress}
+use Rattle.erm_cut_at_once.proofs.Rereading.{HasReadMore, read_itself, tried_reads}
+use Rattle.erm_cut_at_once.proofs.Stands.{StandsFor, stands_itself, stands_reread, stands_unsealed}
+
+-- A session of the world that is left, for one of the world in which all end, whose transactions are told so: what of it was over and sealed is there,
+-- and it is sealed only where that is.
+pub record Leaves (f : View) (seat : ℕ) (p : Progress) (told : Session) (drawn : ℕ) (gone : Bool) : Type 0 where
+  pub stands : StandsFor drawn told (f.session seat)
+  pub tells : Tells seat (closed_progress gone p) told
+  pub unfinished : gone ≡ true → (t : Transaction) × (p.current ≡ Some t) × (t.ending ≡ Unfinished)
+  pub over : (of : Finished) (stamp succ : ℕ) → of ∈ (f.session seat).over → HasStamps of.fate stamp succ → of ∈ told.over
+  pub sealed : (w : Work) (stamp : ℕ) → told.stand ≡ world.sealed w stamp → (f.session seat).stand ≡ world.sealed w stamp
+
+pub record Leaving (f : View) (seat : ℕ) (p : Progress) : Type 0 where
+  pub told : Session
+  pub drawn : ℕ
+  pub gone : Bool
+  pub leaves : Leaves f seat p told drawn gone
+
+-- one in progress is told unfinished, and is the run of what is told
+told_active : (seat : ℕ) (current : Option Transaction) (stand : Stand) → TellsNow seat current stand → phase_of stand ≡ Active
+    → (t : Transaction) × (current ≡ Some t) × (t.ending ≡ Unfinished) × IsRunOf (work_of stand) (steps_of t)
+told_active seat None world.idle tells active = cc
+told_active seat None (world.active w) tells active = absurd tells
+told_active seat None (world.sealed w stamp) tells active = absurd tells
+told_active seat (Some t) world.idle tells active = absurd tells
+told_active seat (Some t) (world.active w) tells active = (t, refl, tells.0.unfinished, tells.0.ran)
+told_active seat (Some t) (world.sealed w stamp) tells active = cc
+
+-- an active session isn't sealed
+never_sealed : (stand : Stand) (w : Work) (stamp : ℕ) → phase_of stand ≡ Active → stand ≡ world.sealed w stamp → ⊥
+never_sealed world.idle w stamp active is = absurd (cc is)
+never_sealed (world.active u) w stamp active is = absurd (cc is)
+never_sealed (world.sealed u at) w stamp active is = absurd (cc active)
+
+-- with its transaction aborted, as this work
+abbrev ended_with : Session → Work → Session
+ended_with s w = record { over = s.over ++ record { work = w; fate = world.aborts } ∷ []; stand = world.idle }
+
+-- what was sealed is there whatever was aborted behind it
+sealed_there : (over : List Finished) (w u : Work) (of : Finished) (stamp succ : ℕ) → of ∈ (over ++ record { work = u; fate = world.aborts } ∷ []) → HasStamps of.fate stamp succ
+    → of ∈ (over ++ record { work = w; fate = world.aborts } ∷ [])
+sealed_there over w u of stamp succ m has =
+    let gone : Finished = record { work = u; fate = world.aborts } in
+    elim (∈-either over (gone ∷ []) of m) as (λ _. of ∈ (over ++ record { work = w; fate = world.aborts } ∷ [])) [
+      | inl old ↦ ∈-first over (record { work = w; fate = world.aborts } ∷ []) of old
+      | inr last ↦ elim (∈-cons of gone [] last) as (λ _. of ∈ (over ++ record { work = w; fate = world.aborts } ∷ [])) [
+        | inl is ↦ absurd (subst (λ (x : Finished). HasStamps x.fate stamp succ) (sym is) has)
+        | inr none ↦ absurd (none_in_nil of none)
+      ]
+    ]
+
+module _ (laws : Laws) (f : View) (seat : ℕ) (session : IsSession f seat) (holds : IsSerializable sound_law f) (next : Option ScriptLine) (p : Progress) (last end : View)
+    (tells : Tells seat p (last.session seat)) (ends : end.session seat ≡ f.session seat) where
+  abbrev here : Session
+  here = last.session seat
+
+  -- nothing was done
+  stood_there : Passes seat last end → Leaving f seat p
+  stood_there passes =
+      let same : here ≡ f.session seat = sym passes.own ∙ ends in record {
+        told = here;
+        drawn = 0;
+        gone = false;
+        leaves = record {
+          stands = subst (λ (s : Session). StandsFor 0 here s) same (stands_itself here);
+          tells = tells;
+          unfinished = λ no. absurd (cc no);
+          over = λ of stamp succ m has. subst (λ (s : Session). of ∈ s.over) (sym same) m;
+          sealed = λ w stamp is. sym (ap (λ (s : Session). s.stand) same) ∙ is;
+        };
+      }
+
+  -- its commit drew a stamp
+  drew_there : (stamp : ℕ) → phase_at last seat ≡ Active → After seat (λ u w. DidSeal u seat stamp w) last end → Leaving f seat p
+  drew_there stamp active (u, passes, did) =
+      let w = work_at last seat in
+      let sealed : f.session seat ≡ record { over = here.over; stand = world.sealed w stamp } =
+      sym ends ∙ did.own ∙ ap (λ (s : Session). record { over = s.over; stand = world.sealed (work_of s.stand) stamp }) passes.own
+      in
+      let own : here ≡ record { over = here.over; stand = world.active w } = ap (λ (stand : Stand). record { over = here.over; stand = stand }) (active_with here.stand active) in record {
+        told = here;
+        drawn = 1;
+        gone = false;
+        leaves = record {
+          stands = subst (λ (s : Session). StandsFor 1 here s) (sym sealed)
+              (subst (λ (s : Session). StandsFor 1 s (record { over = here.over; stand = world.sealed w stamp })) (sym own) (stands_unsealed here.over w stamp));
+          tells = tells;
+          unfinished = λ no. absurd (cc no);
+          over = λ of at succ m has. subst (λ (s : Session). of ∈ s.over) sealed m;
+          sealed = λ x at is. absurd (never_sealed here.stand x at active is);
+        };
+      }
+
+  -- the tries only read
+  wait_kept : (line : Option ScriptLine) (u : View) → phase_at last seat ≡ Active → Waited f seat line last u → Kept here (u.session seat)
+  wait_kept None u active passes = kept_same here (u.session seat) active passes.own
+  wait_kept (Some l) u active (n, tried) = tried_kept f seat l.command n last u active tried
+
+  reads_more : (line : Option ScriptLine) (u : View) → phase_at last seat ≡ Active → Waited f seat line last u → BeganIn (work_at u seat) → HasReadMore (work_at last seat) (work_at u seat)
+  reads_more None u active passes began = subst (λ (s : Session). HasReadMore (work_at last seat) (work_of s.stand)) (sym passes.own) (read_itself (work_at last seat))
+  reads_more (Some l) u active (n, tried) began =
+      let (t, current, unfinished, ran) = told_active seat p.current here.stand tells.now active in
+      tried_reads (work_at u seat) began f seat l.command n last u active tried (steps_of t) ran (same_work (work_at u seat))
+
+  -- its transaction was aborted
+  aborted_there : (u : View) → phase_at last seat ≡ Active → Waited f seat next last u → DidAbort u seat end → Leaving f seat p
+  aborted_there u active waited did =
+      let w = work_at last seat in
+      let y = work_at u seat in
+      let gone : Finished = record { work = y; fate = world.aborts } in
+      let kept = wait_kept next u active waited in
+      let ended : f.session seat ≡ ended_with here y =
+      sym ends ∙ did.own ∙ ap (λ (gs : List Finished). record { over = gs ++ gone ∷ []; stand = world.idle }) kept.over
+      in
+      let over : gone ∈ (f.session seat).over = subst (λ (s : Session). gone ∈ s.over) (sym ended) (∈-last here.over gone) in
+      let began = began_in laws f seat session holds y (inl (gone, over, refl)) in record {
+        told = ended_with here w;
+        drawn = 0;
+        gone = true;
+        leaves = record {
+          stands = subst (λ (s : Session). StandsFor 0 (ended_with here w) s) (sym ended) (stands_reread here.over w y (reads_more next u active waited began));
+          tells = record {
+            over = aborted_told seat Aborts p.over p.current here.over w w tt refl refl (λ steps answered. answered) tells.over (now_active seat p here active tells);
+            now = tt;
+          };
+          unfinished = λ is. let (t, current, unfinished, ran) = told_active seat p.current here.stand tells.now active in (t, current, unfinished);
+          over = λ of stamp succ m has. sealed_there here.over w y of stamp succ (subst (λ (s : Session). of ∈ s.over) ended m) has;
+          sealed = λ x at is. absurd (cc is);
+        };
+      }
+
+  pub leaving_by : IsRest f seat next last end → Leaving f seat p
+  leaving_by (stood passes) = stood_there passes
+  leaving_by (aborted u active waited did) = aborted_there u active waited did
+  leaving_by (drew l stamp active is commits did) = drew_there stamp active did

@@ -1,0 +1,171 @@
+-- The world that is left of an execution that was cut off, as its lines tell it: of the sessions whose transactions were aborted behind them it is said
+-- that they were closed, which leaves the commits as they are.
+use Rattle.std.proofs.Common.{◌≡◌, ◌⊎◌, ℕ, zero, suc, Bool, true, false, List, [], ◌∷◌, ◌++◌, Option, Some, option_to_list, inl, inr, refl, sym, ap, ◌∙◌, subst, arith}
+use Rattle.std.specs.List.{cons_option, range_with_len}
+use Rattle.std.proofs.lemmas.Bool.{cases_lt}
+use Rattle.std.proofs.lemmas.List.{append-nil}
+use Rattle.erm_model.specs.declared.outcome.Phase.TheVariants.{Idle}
+use Rattle.erm_model.specs.Committed.{Committed}
+use Rattle.erm_model.specs.Run.{Step}
+use Rattle.erm_report.specs.declared.answer.Answer.{Answer}
+use Rattle.erm_script.specs.declared.script.ScriptLine.{ScriptLine}
+use Rattle.erm_world.specs.Going.{Extends}
+use Rattle.erm_world.specs.World.{IsSession, Session, View, Work}
+use Rattle.erm_world.specs.World as world
+use Rattle.erm_maps.specs.Runs.{IsAnswered, IsRunOf}
+use Rattle.erm_good_report.specs.GoodReport.{places_of}
+use Rattle.erm_good_report.specs.Phases.{Closed}
+use Rattle.erm_good_report.specs.Transactions.{Aborts, Ending, Progress, Said, Transaction, Unfinished, committed_as, committed_of, ended, history_of, nothing, progress_of, transactions_of, with_ending}
+use Rattle.erm_good_at_once.specs.CutReports.{answered_of}
+use Rattle.erm_lines.specs.Told.{Tells}
+use Rattle.erm_lines_at_once.specs.CutRuns.{IsCutRunAtOnce, next_of}
+use Rattle.erm_lines_at_once.specs.Executions.{all_moves}
+use Rattle.erm_told.proofs.Executed.{still_session}
+use Rattle.erm_told.proofs.Ranges.{in_range}
+use Rattle.erm_told_order.specs.Told.{IsTold}
+use Rattle.erm_told_at_once.proofs.Runs.{all_say, first_known, knows_own}
+use Rattle.erm_told_limits.proofs.Holds.{Laws}
+use Rattle.erm_cut_at_once.proofs.Alike.{Alike, IsAs, alike_both, alike_flat, alike_itself}
+use Rattle.erm_cut_at_once.proofs.Closing.{closed_progress, gones, progress_with}
+use Rattle.erm_cut_at_once.proofs.World.{is_left, told_world}
+use Rattle.erm_told_log_at_once.specs.Left.{CutRunsLeaveWorlds, HasLogOf, LeavesWorld}
+use Rattle.erm_told_log_at_once.proofs.Leaving.{Leaves, Leaving, leaving_by}
+
+-- THE COMMITS told are the same where unfinished transactions are told to be aborted
+same_commit : (t u : Transaction) → IsAs t u → committed_of u ≡ committed_of t
+same_commit t u (inl is) = ap committed_of is
+same_commit t u (inr (unfinished, is)) = ap committed_of is ∙ sym (ap (λ (e : Ending). committed_as e t) unfinished)
+
+same_commits : (ts us : List Transaction) → Alike ts us → history_of us ≡ history_of ts
+same_commits [] [] alike = refl
+same_commits [] (u ∷ us) alike = absurd alike
+same_commits (t ∷ ts) [] alike = absurd alike
+same_commits (t ∷ ts) (u ∷ us) alike =
+    ap (λ (o : Option Committed). cons_option o (history_of us)) (same_commit t u alike.0) ∙ ap (λ (h : List Committed). cons_option (committed_of t) h) (same_commits ts us alike.1)
+
+-- a session's transactions, in the one telling and in the other
+abbrev all_in : Progress → List Transaction
+all_in p = p.over ++ option_to_list p.current
+
+alike_closed : (gone : Bool) (p : Progress) → (gone ≡ true → (t : Transaction) × (p.current ≡ Some t) × (t.ending ≡ Unfinished)) → Alike (all_in p) (all_in (closed_progress gone p))
+alike_closed false p now = alike_itself (all_in p)
+alike_closed true p now =
+    let (t, current, unfinished) = now refl in
+    subst (λ (c : Option Transaction). Alike (p.over ++ option_to_list c) (all_in (ended Aborts (record { over = p.over; current = c })))) (sym current)
+    (subst (λ (us : List Transaction). Alike (p.over ++ t ∷ []) us) (sym (append-nil (p.over ++ with_ending Aborts t ∷ [])))
+    (alike_both p.over p.over (t ∷ []) (with_ending Aborts t ∷ []) (alike_itself p.over) (inr (unfinished, refl), tt)))
+
+-- a number is that of a session, or of none
+abbrev Chosen : View → ℕ → Type 0
+Chosen v seat = IsSession v seat ⊎ (IsSession v seat → ⊥)
+
+chosen : (v : View) (seat : ℕ) → Chosen v seat
+chosen v zero = inr (λ session. omega (arith, session.0))
+chosen v (suc n) = elim (cases_lt n v.opening.sessions) as (λ _. Chosen v (suc n)) [
+  | inl within ↦ inl (omega arith, omega (arith, within))
+  | inr above ↦ inr (λ session. omega (arith, session.1, above))
+]
+
+module _ (laws : Laws) (runs : (number begin : ℕ) → IsRunOf (world.begun number begin) []) (stay : (w u : Work) (steps : List Step) → Extends w u → IsAnswered w steps → IsAnswered u steps)
+    (v f : View) (script : List ScriptLine) (counts : ℕ → ℕ) (answers : List Answer) (closed : List Closed) (run : IsCutRunAtOnce v script counts answers closed f) where
+  abbrev part : List ScriptLine
+  part = answered_of counts script
+
+  abbrev sessions : ℕ
+  sessions = v.opening.sessions
+
+  -- what is told of a session
+  abbrev progress : ℕ → Progress
+  progress seat = progress_of seat (places_of part answers closed)
+
+  known : (seat : ℕ) (session : IsSession v seat) → Tells seat (progress seat) ((run.own seat session).last.session seat)
+  known seat session =
+      let its = run.own seat session in
+      let knows = knows_own runs stay f seat (all_moves part answers closed) nothing Idle v its.last its.run (first_known seat v (run.opened.idle seat session)) in
+      subst (λ (said : List Said). Tells seat (progress_of seat said) (its.last.session seat)) (all_say part answers closed) knows.tells
+
+  leaving : (seat : ℕ) → IsSession v seat → Leaving f seat (progress seat)
+  leaving seat session =
+      let its = run.own seat session in
+      leaving_by laws f seat (still_session v f seat run.opening session) run.ends.serializable (next_of seat counts script) (progress seat) its.last its.end (known seat session) its.ends its.rest
+
+  -- OF EACH NUMBER
+  abbrev told_by : (seat : ℕ) → Chosen v seat → Session
+  told_by seat (inl session) = (leaving seat session).told
+  told_by seat (inr none) = f.session seat
+
+  abbrev drawn_by : (seat : ℕ) → Chosen v seat → ℕ
+  drawn_by seat (inl session) = (leaving seat session).drawn
+  drawn_by seat (inr none) = 0
+
+  abbrev gone_by : (seat : ℕ) → Chosen v seat → Bool
+  gone_by seat (inl session) = (leaving seat session).gone
+  gone_by seat (inr none) = false
+
+  leaves_by : (seat : ℕ) (choice : Chosen v seat) → IsSession v seat → Leaves f seat (progress seat) (told_by seat choice) (drawn_by seat choice) (gone_by seat choice)
+  leaves_by seat (inl session) its = (leaving seat session).leaves
+  leaves_by seat (inr none) its = absurd (none its)
+
+  abbrev told : ℕ → Session
+  told seat = told_by seat (chosen v seat)
+
+  abbrev drawn : ℕ → ℕ
+  drawn seat = drawn_by seat (chosen v seat)
+
+  abbrev gone : ℕ → Bool
+  gone seat = gone_by seat (chosen v seat)
+
+  leaves : (seat : ℕ) → IsSession v seat → Leaves f seat (progress seat) (told seat) (drawn seat) (gone seat)
+  leaves seat session = leaves_by seat (chosen v seat) session
+
+  in_v : (seat : ℕ) → IsSession f seat → IsSession v seat
+  in_v seat session = still_session f v seat (sym run.opening) session
+
+  -- THE WORLD that is left
+  abbrev g : View
+  g = told_world f told
+
+  abbrev said : List Said
+  said = places_of part answers (closed ++ gones gone sessions)
+
+  progress_said : (seat : ℕ) → IsSession v seat → progress_of seat said ≡ closed_progress (gone seat) (progress seat)
+  progress_said seat session = progress_with gone seat sessions part answers closed session.0 session.1
+
+  is_told : IsTold g said
+  is_told = record {
+    serializable = (is_left f told drawn (λ seat session. (leaves seat (in_v seat session)).stands) run.ends).serializable;
+    tells = λ seat session.
+        let its = in_v seat session in subst (λ (p : Progress). Tells seat p (told seat)) (sym (progress_said seat its)) (leaves seat its).tells;
+  }
+
+  has_log : HasLogOf f g
+  has_log = record {
+    opening = refl;
+    tail = refl;
+    flushed = refl;
+    pinned = refl;
+    over = λ seat of stamp succ session m has. (leaves seat (in_v seat session)).over of stamp succ m has;
+    sealed = λ seat w stamp session is. (leaves seat (in_v seat session)).sealed w stamp is;
+    stamped = λ seat w stamp session has. (leaves seat (in_v seat session)).stands.stamped w stamp has;
+  }
+
+  alike : Alike (transactions_of sessions (places_of part answers closed)) (transactions_of sessions said)
+  alike = alike_flat (λ (q : ℕ). all_in (progress q)) (λ (q : ℕ). all_in (progress_of q said)) (range_with_len 1 sessions)
+      (λ q m.
+      let bounds = in_range 1 sessions q m in
+      let session : IsSession v q = (bounds.0, omega (arith, bounds.1)) in
+      subst (λ (p : Progress). Alike (all_in (progress q)) (all_in p)) (sym (progress_said q session)) (alike_closed (gone q) (progress q) (leaves q session).unfinished))
+
+  left_world : LeavesWorld v f script counts answers closed
+  left_world = record {
+    left = g;
+    said = said;
+    told = is_told;
+    log = has_log;
+    commits =
+        ap (λ (o : world.Opening). history_of (transactions_of o.sessions said)) run.opening
+        ∙ same_commits (transactions_of sessions (places_of part answers closed)) (transactions_of sessions said) alike;
+  }
+
+pub cut_runs_leave : Laws → ((number begin : ℕ) → IsRunOf (world.begun number begin) []) → ((w u : Work) (steps : List Step) → Extends w u → IsAnswered w steps → IsAnswered u steps) → CutRunsLeaveWorlds
+cut_runs_leave laws runs stay v f script counts answers closed run = left_world laws runs stay v f script counts answers closed run

@@ -1,0 +1,6 @@
+pub mod Closings
+pub mod Cuts
+pub mod Moves
+pub mod Places
+pub mod Runs
+pub mod Sessions
