@@ -24,7 +24,7 @@ use Rattle.erm_sound.specs.Kept.{SoundUnder}
 use Rattle.erm_world.specs.World.{HasStamp, IsSession, Work, size_of}
 
 -- RANGES. Of two that lie end to end with others, the one that starts first ends where the other starts, or before.
-ranges_apart : (at end : ℕ) (rs : List Span) (r s : Span) → EndToEnd at rs end → r ∈ rs → s ∈ rs → r.start < s.start → r.start + r.size ≤ s.start
+pub ranges_apart : (at end : ℕ) (rs : List Span) (r s : Span) → EndToEnd at rs end → r ∈ rs → s ∈ rs → r.start < s.start → r.start + r.size ≤ s.start
 ranges_apart at end [] r s e m n less = absurd (none_in_nil r m)
 ranges_apart at end (q ∷ rs) r s e m n less =
     let start = e.0 in
@@ -43,11 +43,11 @@ ranges_apart at end (q ∷ rs) r s e m n less =
     (∈-cons s q rs n))
     (∈-cons r q rs m)
 
-range_ends : (at end : ℕ) (rs : List Span) → EndToEnd at rs end → at ≤ end
+pub range_ends : (at end : ℕ) (rs : List Span) → EndToEnd at rs end → at ≤ end
 range_ends at end [] e = let is : at ≡ end = e in omega (arith, is)
 range_ends at end (q ∷ rs) e = let rest = range_ends (at + q.size) end rs e.1 in omega (arith, rest)
 
-range_within : (at end : ℕ) (rs : List Span) (r : Span) → EndToEnd at rs end → r ∈ rs → r.start + r.size ≤ end
+pub range_within : (at end : ℕ) (rs : List Span) (r : Span) → EndToEnd at rs end → r ∈ rs → r.start + r.size ≤ end
 range_within at end [] r e m = absurd (none_in_nil r m)
 range_within at end (q ∷ rs) r e m =
     ⊎_elim
@@ -58,7 +58,7 @@ range_within at end (q ∷ rs) r e m =
     (λ (behind : r ∈ rs). range_within (at + q.size) end rs r e.1 behind) (∈-cons r q rs m)
 
 -- SIZES. The rows of a commit's entries are those of its claims.
-rows_of_entries : (ws : List VersionWritten) → map (λ (e : Entry). e.1) (entries_of Commit ws) ≡ map (λ (w : VersionWritten). w.row) ws
+pub rows_of_entries : (ws : List VersionWritten) → map (λ (e : Entry). e.1) (entries_of Commit ws) ≡ map (λ (w : VersionWritten). w.row) ws
 rows_of_entries [] = refl
 rows_of_entries (w ∷ ws) = ap (λ (rows : List (List ℕ)). w.row ∷ rows) (rows_of_entries ws)
 

@@ -16,12 +16,12 @@ ghost use Rattle.erm_world.specs.Log.{gathered_to};
 
 use erm_model::RowLaw;
 
-/// A table that was closed has a log, and its blocks are those that the book knows: the log is that of what the last state shows, so each block is that
-/// of a session's transaction that is over, and what isn't decided is what sessions have sealed. Where it is flushed to its end, it is gathered to
-/// its end.
+/// A table that was closed has a log, and its blocks are those that the book knows, flushed or tried: the log is that of what the last state shows, so
+/// each block is that of a session's transaction that is over, and what isn't decided is what sessions have sealed. Where it is flushed to its end,
+/// it is gathered to its end.
 pub fn closed_tables_have_logs<L: RowLaw>()
-    ensures log { (o : Start) (b : Book) (blocks : List Block) (core : Core) → WasClosed L.law o b blocks core → HasLog L.law o blocks core }
-    ensures whole { (o : Start) (blocks : List Block) (core : Core) → (has : HasLog L.law o blocks core) → core.shared.flushed ≡ core.shared.tail
+    ensures log { (o : Start) (b : Book) (blocks tried : List Block) (core : Core) → WasClosed L.law o b blocks tried core → HasLog L.law o blocks tried core }
+    ensures whole { (o : Start) (blocks tried : List Block) (core : Core) → (has : HasLog L.law o blocks tried core) → core.shared.flushed ≡ core.shared.tail
         → gathered_to has.log ≡ has.log.tail }
 {
     erm_core_view::steps_change_one_session();

@@ -17,6 +17,7 @@ use Rattle.erm_world.specs.Log.{IsLog}
 use Rattle.erm_desk.specs.Desk.{IsDesk, IsHeld, KeepsFronts, WritesSince}
 use Rattle.erm_desk.specs.Known.{IsFlushedTo, KnowsBlocks, flushed_log, opened_at}
 use Rattle.erm_desk.proofs.Since.{Begins, all_held}
+use Rattle.erm_desk.proofs.Telling.{tells_still}
 
 none_front : (front rest : List Block) → [] ≡ front ++ rest → front ≡ []
 none_front [] rest same = refl
@@ -68,6 +69,7 @@ module _ (law : Law) (begins : Begins law) (o : Start) where
         knows_all = knows;
         keeps = keeps_now told held;
         writes = writes_now told;
+        onward = tells_still told;
         since = all_held law begins o told told [] [] held (writes_now told);
         holds = λ _. (refl, held);
         sound = λ _. refl;

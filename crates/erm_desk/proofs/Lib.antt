@@ -3,6 +3,7 @@ pub mod Lawful
 pub mod Listed
 pub mod Fronts
 pub mod Onward
+pub mod Telling
 pub mod Turned
 pub mod Full
 pub mod Looking

@@ -26,6 +26,7 @@ taken_in stay law o began first s e desk takes = record {
   knows_all = knows_after stay law o s.book e (desk.blocks ++ desk.tried) takes.goes takes.start desk.knows_all;
   keeps = desk.keeps;
   writes = desk.writes;
+  onward = desk.onward;
   since = desk.since;
   holds = desk.holds;
   sound = desk.sound;

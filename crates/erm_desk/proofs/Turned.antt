@@ -44,6 +44,7 @@ use Rattle.erm_desk.proofs.Looking.{goes, still}
 use Rattle.erm_desk.proofs.PinKept.{pin_after, pin_cleared, pin_gathered}
 use Rattle.erm_desk.proofs.Onward.{knows_after}
 use Rattle.erm_desk.proofs.Since.{Begins, all_held}
+use Rattle.erm_desk.proofs.Telling.{tells_more}
 
 -- a desk as contracts see it
 abbrev pub sees : Book → Option (List Step) → ℕ → Bool → Sees
@@ -190,6 +191,7 @@ module _ (law : Law) (laws : DeskLaws law) (o : Start) (began : Option (List Ste
         knows_all = knows_after laws.stay law o s.book e (desk.blocks ++ desk.tried) after start desk.knows_all;
         keeps = desk.keeps;
         writes = desk.writes;
+        onward = desk.onward;
         since = desk.since;
         holds = λ _. desk.holds fine;
         sound = λ _. desk.sound fine;
@@ -353,6 +355,7 @@ module _ (law : Law) (laws : DeskLaws law) (o : Start) (began : Option (List Ste
           knows_all = knows;
           keeps = kept_tried fine more knows.log s.told told desk.keeps (desk.holds fine).1 writes;
           writes = since_tried fine more knows.log s.told told desk.writes writes;
+          onward = tells_more at (take count words) began s.told told desk.onward write.writes;
           since = held_tried fine more knows.log s.told told (desk.holds fine).1 desk.writes writes;
           holds = λ failed. absurd (cc);
           sound = λ failed. absurd (cc);
@@ -417,6 +420,7 @@ module _ (law : Law) (laws : DeskLaws law) (o : Start) (began : Option (List Ste
           knows_all = subst (KnowsBlocks law o e) (sym nothing) knows;
           keeps = subst (λ (bs : List Block). IfSome told (λ now. IfSome began (λ b. KeepsFronts law o bs b now))) (sym nothing) disk.0;
           writes = subst (λ (bs : List Block). IfSome told (λ now. IfSome began (λ b. WritesSince o bs b now))) (sym nothing) since;
+          onward = tells_more did.at (take did.count words) began s.told told desk.onward did.write.writes;
           since = all_held law laws.begin o told began (desk.blocks ++ more) (desk.blocks ++ more) disk.1 since;
           holds = λ _. (refl, disk.1);
           sound = λ _. desk.sound fine;

@@ -69,6 +69,7 @@ pub record IsDesk (law : Law) (o : Start) (began : Option (List Step)) (faults :
   pub knows_all : KnowsBlocks law o d.book (blocks ++ tried)
   pub keeps : IfSome d.told (λ now. IfSome began (λ old. KeepsFronts law o (blocks ++ tried) old now))
   pub writes : IfSome d.told (λ now. IfSome began (λ old. WritesSince o (blocks ++ tried) old now))
+  pub onward : Tells (λ old new. (more : List Step) × (new ≡ more ++ old)) began d.told
   pub since : IfSome d.told (λ now. IfSome began (λ old. HeldSince law o blocks tried old now))
   pub holds : d.failed ≡ false → (tried ≡ []) × IfSome d.told (IsHeld law o blocks)
   pub sound : d.failed ≡ false → d.faults ≡ faults
