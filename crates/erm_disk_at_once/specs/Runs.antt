@@ -16,6 +16,7 @@ use Rattle.erm_log_words.specs.Kept.{MayOpen}
 use Rattle.erm_node.specs.Sound.{sound_law}
 use Rattle.erm_node.specs.TreeMap.{map_of_rows}
 use Rattle.erm_outside.specs.Disk.{Image, IsSettled, Step, Tells, contents}
+use Rattle.erm_outside.specs.Faults.{Rose}
 use Rattle.erm_recover.specs.Waiting.{SinceSettled}
 use Rattle.erm_report.specs.Printable.{FitsTypes}
 use Rattle.erm_report.specs.declared.line.Line.{Line}
@@ -31,7 +32,7 @@ use Rattle.erm_log_run.specs.Saving.{SparesOlder}
 use Rattle.erm_disk_run.specs.Crashes.{Outlives}
 use Rattle.erm_disk_run.specs.Found.{IsFound, StartsFrom}
 use Rattle.erm_disk_run.specs.Limits.{in_table}
-use Rattle.erm_disk_run.specs.Runs.{CutFew, commits_told}
+use Rattle.erm_disk_run.specs.Runs.{CountsRun, CutFew, commits_told}
 use Rattle.erm_disk_run.specs.Stops.{StopsRun}
 use Rattle.erm_disk_run.specs.declared.stops.RunStop.{RunStop}
 use Rattle.erm_disk_run.specs.declared.stops.RunStop.TheVariants as run
@@ -131,3 +132,9 @@ EndsAtOnce (Err run.Memory) before after names script = (state : State) × IsFou
 abbrev pub LeavesUntoldAtOnce : Result (Vec Line Global) RunStop → Option (List Step) → Option (List Step) → Type 0
 LeavesUntoldAtOnce (Err (run.Unopened stop)) before after = Unit {0}
 LeavesUntoldAtOnce ended before after = (state : State) × IsFound before state × WasStarvedAtOnce before after state
+
+-- The disk's count of faults rose exactly where the disk is why there is no report, or none that is whole. Where memory ran out for one session the disk
+-- may have failed another.
+abbrev pub CountsAtOnce : Result (Vec Line Global) RunStop → ℕ → ℕ → Type 0
+CountsAtOnce (Err run.Memory) before now = (now ≡ before) ⊎ Rose before now
+CountsAtOnce ended before now = CountsRun ended before now

@@ -1,0 +1,82 @@
+-- How a script at once ends, whether its sessions ran or not.
+use Rattle.std.proofs.Common.{◌≡◌, ℕ, ◌++◌, List, Vec, length, Option, Result, Ok, Err, IfOk, inl, sym, subst}
+use Rattle.std.specs.Prelude.{IfErr}
+use Rattle.std.specs.declared.alloc.Global.{Global}
+use Rattle.erm_model.specs.Rows.{rows_of}
+use Rattle.erm_node.specs.Sound.{sound_law}
+use Rattle.erm_outside.specs.Disk.{Step}
+use Rattle.erm_ckpt.specs.Recovered.{State}
+use Rattle.erm_report.specs.declared.line.Line.{Line}
+use Rattle.erm_script.specs.declared.script.ScriptLine.{ScriptLine}
+use Rattle.erm_start.specs.Recovered.{IsFirstObject}
+use Rattle.erm_run_beside.specs.declared.work.Ran.{Ran}
+use Rattle.erm_run_beside.specs.Runs.{RanBeside}
+use Rattle.erm_disk_run.specs.Runs.{AreInTables}
+use Rattle.erm_disk_run.specs.declared.log.OpenedLog.{OpenedLog}
+use Rattle.erm_disk_run.specs.declared.stops.RunStop.{RunStop}
+use Rattle.erm_disk_run.specs.declared.stops.RunStop.TheVariants as run
+use Rattle.erm_disk_at_once.specs.Runs.{CountsAtOnce, EndsAtOnce, LeavesUntoldAtOnce}
+use Rattle.erm_run_at_once.specs.declared.room.Room.{Room}
+use Rattle.erm_run_at_once.specs.Laws.{EndLaws}
+use Rattle.erm_run_at_once.specs.Room.{MayRun, spare_names}
+use Rattle.erm_run_at_once.specs.Told.{MayTell, ToldOf}
+use Rattle.erm_run_at_once.proofs.Opened.{opening_on}
+use Rattle.erm_run_at_once.proofs.Parts.{lines_of}
+use Rattle.erm_run_at_once.proofs.Ran.{Starved, counts, ends, may_tell_in, opened_left, starved, tables, untold_of}
+
+-- what is answered of sessions that ran, or had no memory
+abbrev pub AnswersRan : {E : Type 0} → Result (Vec Line Global) RunStop → OpenedLog → Room → List ScriptLine → Result Ran E → Type 0
+AnswersRan r opened room script (Ok ran) = ToldOf r opened.start room.names.items script ran.failed ran.sessions
+AnswersRan r opened room script (Err lack) = r ≡ Err run.Memory
+
+pub answers_ok : {E : Type 0} (r told : Result (Vec Line Global) RunStop) (opened : OpenedLog) (room : Room) (script : List ScriptLine) (gave : Result Ran E) (ran : Ran) (names : List (List ℕ))
+    → gave ≡ Ok ran → r ≡ told → names ≡ room.names.items → ToldOf told opened.start names script ran.failed ran.sessions → AnswersRan r opened room script gave
+answers_ok r told opened room script gave ran names is same named so =
+    subst (AnswersRan r opened room script) (sym is)
+    (subst (λ (a : Result (Vec Line Global) RunStop). ToldOf a opened.start room.names.items script ran.failed ran.sessions) (sym same)
+    (subst (λ (all : List (List ℕ)). ToldOf told opened.start all script ran.failed ran.sessions) named so))
+
+pub answers_err : {E : Type 0} (r : Result (Vec Line Global) RunStop) (opened : OpenedLog) (room : Room) (script : List ScriptLine) (gave : Result Ran E) (lack : E)
+    → gave ≡ Err lack → r ≡ Err run.Memory → AnswersRan r opened room script gave
+answers_err r opened room script gave lack is same = subst (AnswersRan r opened room script) (sym is) same
+
+module _ (laws : EndLaws) (before mid : Option (List Step)) (state : State) (opened : OpenedLog) (names : List (List ℕ)) (script : List ScriptLine) (room : Room)
+    (may : MayRun before mid state opened names script room) (first : ℕ) (is_first : IsFirstObject (rows_of opened.rows.items) first)
+    (faults now : ℕ) (after : Option (List Step)) where
+  -- what is known of the sessions where they ran, and where memory ran out before
+  abbrev pub DidRun : {E : Type 0} → Result Ran E → Type 0
+  DidRun ran = IfOk ran (λ ran. RanBeside sound_law (opening_on opened first) mid faults (lines_of room.parts.items) after now ran.failed (λ works. works.items) ran.sessions)
+
+  abbrev pub HadNoMemory : {E : Type 0} → Result Ran E → Type 0
+  HadNoMemory ran = IfErr ran (λ _. (after ≡ mid) × (now ≡ faults))
+
+  told_names : (r : Result (Vec Line Global) RunStop) (ran : Ran) → ToldOf r opened.start room.names.items script ran.failed ran.sessions
+      → ToldOf r opened.start (names ++ spare_names (length names)) script ran.failed ran.sessions
+  told_names r ran told = subst (λ (all : List (List ℕ)). ToldOf r opened.start all script ran.failed ran.sessions) may.has_room.names_are told
+
+  pub may_report : {E : Type 0} (ran : Result Ran E) → DidRun ran → IfOk ran (λ ran. IfOk ran.sessions (λ works. MayTell ran.failed script works.items))
+  may_report (Ok ran) did = may_tell_in laws before mid state opened names script room may first is_first did.begins ran.failed did.book ran.sessions did.have_run
+  may_report (Err lack) did = tt
+
+  all_starved : {E : Type 0} (ran : Result Ran E) → DidRun ran → HadNoMemory ran → Starved before after
+  all_starved (Ok ran) did none = starved laws before mid state opened names script room may first is_first did.begins faults now after did.book ran.failed did.desk
+  all_starved (Err lack) did none = opened_left laws.left before mid state opened may.opens first after none.0
+
+  pub ended : {E : Type 0} (r : Result (Vec Line Global) RunStop) (ran : Result Ran E) → DidRun ran → HadNoMemory ran → AnswersRan r opened room script ran
+      → EndsAtOnce r before after names script
+  ended r (Ok ran) did none told =
+      ends laws before mid state opened names script room may first is_first did.begins faults now after did.book r ran.failed ran.sessions did.desk did.have_run (told_names r ran told)
+  ended r (Err lack) did none is =
+      subst (λ (a : Result (Vec Line Global) RunStop). EndsAtOnce a before after names script) (sym is) (opened_left laws.left before mid state opened may.opens first after none.0)
+
+  pub untold : {E : Type 0} (r : Result (Vec Line Global) RunStop) (ran : Result Ran E) → DidRun ran → HadNoMemory ran → LeavesUntoldAtOnce r before after
+  untold r ran did none = untold_of r before after (all_starved ran did none)
+
+  pub in_tables : {E : Type 0} (r : Result (Vec Line Global) RunStop) (ran : Result Ran E) → AnswersRan r opened room script ran → AreInTables r
+  in_tables r (Ok ran) told = tables laws before mid state opened names script room may first is_first r ran.failed ran.sessions (told_names r ran told)
+  in_tables r (Err lack) is = subst AreInTables (sym is) tt
+
+  pub counted : {E : Type 0} (r : Result (Vec Line Global) RunStop) (ran : Result Ran E) → DidRun ran → HadNoMemory ran → AnswersRan r opened room script ran → CountsAtOnce r faults now
+  counted r (Ok ran) did none told =
+      counts laws before mid state opened names script room may first is_first did.begins faults now after did.book r ran.failed ran.sessions did.desk (told_names r ran told)
+  counted r (Err lack) did none is = subst (λ (a : Result (Vec Line Global) RunStop). CountsAtOnce a faults now) (sym is) (inl none.1)

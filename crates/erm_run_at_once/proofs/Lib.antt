@@ -1,0 +1,6 @@
+mod Counts
+mod Finish
+mod Many
+mod Opened
+mod Parts
+mod Ran
