@@ -1,7 +1,7 @@
 #!/usr/bin/env python3
 """Says what is wrong with the first line of a script that isn't in the grammar, by name.
 
-    tools/bad_line.py SCRIPT [FROM]     FROM: the byte at which the script begins in the file
+    tools/bad_line.py SCRIPT [FROM [COMMAND]]     FROM: the byte at which the script begins in the file; COMMAND: run or threads
 
 It prints a line, or nothing where no line is bad, and ends with status 0. The launcher calls it behind status 3. The program
 has judged the script; this only finds words for it, and nothing of it is proved.
@@ -141,11 +141,11 @@ def arguments(words):
     return next((value(word) for what, word in zip(wanted, given) if what == "value" and value(word)), None)
 
 
-def fault(text, names):
-    """What is wrong with a line behind these names of sessions, or None. A new name is added."""
+def fault(text, names, at_once):
+    """What is wrong with a line behind these names of sessions, which run at once or not, or None. A new name is added."""
     words = text.split(" ")
     if words[0] in ALONE and len(words) == 1:
-        return None
+        return f"{words[0]} names no session: under threads each line is one of a session, and all is flushed at the end" if at_once else None
     wrong = letters(text) or name(words[0])
     if wrong:
         return wrong
@@ -155,13 +155,13 @@ def fault(text, names):
     return command(words) or arguments(words)
 
 
-def main(path, begin="0"):
+def main(path, begin="0", asked="run"):
     names = set()
     with open(path, "rb") as script:
         script.seek(int(begin))
         for count, line in enumerate(script, 1):
             text = (line[:-1] if line.endswith(b"\n") else line).decode("utf-8", "backslashreplace")
-            wrong = fault(text, names) if text and not text.startswith("#") else None
+            wrong = fault(text, names, asked == "threads") if text and not text.startswith("#") else None
             if wrong:
                 print(f"line {count}, {shown(text)}: {wrong}")
                 return

@@ -26,6 +26,11 @@ show_run() {
     done
 }
 
+# Whether the words ask for a command that reads a script.
+reads_script() {
+    [[ ${1-} == run || ${1-} == threads ]]
+}
+
 # Says why the script was refused, line and word by name.
 explain_line() {
     find_python && "$python" -I -S "$top/tools/bad_line.py" "$@" 2>/dev/null | while read -r line; do say "$line"; done
@@ -108,12 +113,12 @@ end_as_child() {
     exit "$status"
 }
 
-# Says what is wrong with a script that was refused, where it can be read once more.
+# Says what is wrong with a script that a command refused, where it can be read once more.
 explain_script() {
-    if [[ -n $1 ]]; then
-        explain_line "$1" "$2"
+    if [[ -n $2 ]]; then
+        explain_line "$2" "$3" "$1"
     else
-        say "the script came through a pipe: as a file, as in erm run < FILE, it is told what is wrong with the line"
+        say "the script came through a pipe: as a file, as in erm $1 < FILE, it is told what is wrong with the line"
     fi
 }
 
@@ -123,9 +128,9 @@ call_program() {
     if ! command -v setpriv >/dev/null || ! { : <&0; } 2>/dev/null; then
         exec "$program" "$@"
     fi
-    [[ ${1-} != run ]] || prepare_script
+    ! reads_script "$@" || prepare_script
     start_child "$@"
-    if [[ -t 2 ]] && is_writer "$@" && [[ $1 != run || ! -t 0 ]]; then
+    if [[ -t 2 ]] && is_writer "$@" && { ! reads_script "$@" || [[ ! -t 0 ]]; }; then
         show_run "$child" <&- &
         watcher=$!
     fi
@@ -133,7 +138,7 @@ call_program() {
     stop_watcher
     case $status in
         2) explain_words "$@" ;;
-        3) explain_script "${copy:-$script}" "$from" ;;
+        3) explain_script "$1" "${copy:-$script}" "$from" ;;
         6) explain_disk ;;
     esac
     end_as_child

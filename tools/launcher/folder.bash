@@ -15,7 +15,7 @@ find_python() {
 # Whether the words ask for a command that writes.
 is_writer() {
     case ${1-} in
-        run | checkpoint) ;;
+        run | threads | checkpoint) ;;
         make) [[ " $* " != *" --text "* ]] ;;
         *) return 1 ;;
     esac

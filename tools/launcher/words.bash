@@ -49,8 +49,7 @@ answer_alone() {
         --version | version | -V) print_version && exit 0 || exit 5 ;;
         copy) copy_folder "${@:2}" ;;
         try) [[ $# -ge 2 ]] || refuse "try is followed by a command, as in: erm try run < examples/first.erm" ;;
-        run | recover | audit | checkpoint | ship | follow) answer_more "$@" ;;
-        threads) refuse "threads isn't there yet" ;; # once it is, it goes into the line before
+        run | threads | recover | audit | checkpoint | ship | follow) answer_more "$@" ;;
         make) [[ " $* " != *" --help "* && " $* " != *" -h "* ]] || answer_alone help ;;
         "") refuse "there is no command" ;;
         --) ;;
@@ -65,7 +64,7 @@ answer_more() {
         -h | --help | help) cat "$top/tools/launcher/help.txt" && exit 0 || exit 5 ;;
     esac
     case $1 in
-        run) refuse "run takes no words: the script comes on standard input, as in: erm run < $2" ;;
+        run | threads) refuse "$1 takes no words: the script comes on standard input, as in: erm $1 < $2" ;;
         follow) refuse "follow takes no words: the stream comes on standard input, as in: erm follow < $2" ;;
     esac
     refuse "$1 takes no words, and here is \"$2\""
@@ -74,7 +73,7 @@ answer_more() {
 # The command that a word seems to mean, in brackets.
 nearest() {
     local word=${1,,} it
-    for it in run make recover audit checkpoint log ship follow explain help copy try; do
+    for it in run threads make recover audit checkpoint log ship follow explain help copy try; do
         if [[ $word == "$it" || $word == "-$it" || $word == "--$it" || ($word == "${it:0:3}"* && ${#word} -ge 3) ]]; then
             echo ": is it $it?"
             return

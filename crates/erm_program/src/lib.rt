@@ -23,7 +23,7 @@ use std::{env, io};
 /// aren't ready.
 pub fn program<
     R: AllocGlobal + Input + Print + Clock + Threads + Wait + Sync,
-    D: Disk + Send + Drop,
+    D: Disk + Drop + Send,
 >(rt: &R, words: &[String], disk: D) -> ExitCode
     requires kept { IfSome (D.told disk) IsKept }
 {
@@ -33,8 +33,9 @@ pub fn program<
     status
 }
 
-/// Runs the program on what it is given to its end, and answers the exit status and the disk.
-pub fn exit_with<R: Threads + Wait + Sync, S: Source, K: Sink, D: Disk + Send>(
+/// Runs the program on what it is given to its end, and answers the exit status and the disk. Where sessions run on threads, its clause
+/// is of what it returns, if it returns.
+pub fn exit_with<R: Threads + Wait + Sync, S: Source, K: Sink, D: Disk + Drop + Send>(
     rt: &R,
     alloc: Global,
     words: &[String],

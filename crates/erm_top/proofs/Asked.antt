@@ -1,13 +1,12 @@
 -- What the words ask for.
-use Rattle.std.proofs.Common.{◌≡◌, Result, Ok, Err, Option, Some, false, sym, ap, ◌∙◌, inl, inr, ◌⊎◌, List}
+use Rattle.std.proofs.Common.{◌≡◌, Result, Ok, Err, Option, Some, inl, inr, ◌⊎◌, List}
 use Rattle.std.specs.Prelude.{String, IsErr, None}
-use Rattle.std.proofs.lemmas.Bool.{true≢false}
 use Rattle.std.specs.declared.alloc.AllocError.{AllocError}
 use Rattle.std.specs.declared.alloc.Global.{Global}
 use Rattle.erm_command_line.specs.CommandLine.{IsCommand}
 use Rattle.erm_command_line.specs.declared.command.Command.{Command}
 use Rattle.erm_command_line.specs.declared.command.Command.TheVariants.{Make}
-use Rattle.erm_top.specs.Commands.{AskForNothing, IsSized, is_on}
+use Rattle.erm_top.specs.Commands.{IsSized}
 
 -- words ask for one command
 pub one_asked : (words : List (String Global)) (r : Result (Option Command) AllocError) (command other : Command) → r ≡ Ok (Some command) → (r ≡ Ok (Some other)) ⊎ IsErr r → other ≡ command
@@ -15,13 +14,6 @@ one_asked words (Err e) command other is found = absurd (cc)
 one_asked words (Ok None) command other is found = absurd (cc)
 one_asked words (Ok (Some first)) command other is (inl same) = cc
 one_asked words (Ok (Some first)) command other is (inr failed) = absurd (cc failed)
-
--- so words that ask for one that the program hasn't ask for none that it has
-pub off_asks_nothing : (words : List (String Global)) (r : Result (Option Command) AllocError) (off : Command) → r ≡ Ok (Some off) → is_on off ≡ false
-    → ((command : Command) → IsCommand words command → (r ≡ Ok (Some command)) ⊎ IsErr r) → AskForNothing words
-off_asks_nothing words r off is not_on found command on asked =
-    let one : command ≡ off = one_asked words r off command is (found command asked) in
-    true≢false (sym on ∙ ap is_on one ∙ not_on)
 
 -- the numbers of a command that is asked for are those that it may have
 pub is_sized : (words : List (String Global)) (command : Command) → IsCommand words command → IsSized command

@@ -1,15 +1,14 @@
--- How the command `run` ends.
+-- How the commands `run` and `threads` end.
 use Rattle.std.proofs.Common.{◌≡◌, ◌≢◌, ℕ, ◌+◌, ◌<◌, ◌≤◌, ◌⊎◌, List, [], length, drop, Option, Some, IfSome, Result, Ok, Err, subst, inl, inr, arith}
 use Rattle.erm_outside.specs.Faults.{Rose}
 use Rattle.erm_script.specs.Faults.{IsFirstBadLine}
 use Rattle.erm_script.specs.Script.{IsScript}
 use Rattle.erm_script.specs.declared.script.ScriptLine.{ScriptLine}
 use Rattle.erm_disk_run.specs.declared.stops.DiskStop.TheVariants as disk
-use Rattle.erm_disk_run.specs.Limits.{in_table}
 use Rattle.erm_disk_run.specs.Stops.{StopsFor}
 use Rattle.erm_top.specs.Around.{Around, PrintsText, TakesMore, WasReadWith}
-use Rattle.erm_top.specs.Runs.{IsAtEnd, LeftByMemory, NothingFailed, Refused, Reports, ReportsCut, RunEnds, SpellScript, Starved}
-use Rattle.erm_top.specs.Scripts.{run_grammar}
+use Rattle.erm_top.specs.Running.{Running}
+use Rattle.erm_top.specs.Runs.{IsAtEnd, LeftByMemory, NothingFailed, Refused, Reports, ReportsCut, ScriptEnds, SpellScript, Starved}
 use Rattle.erm_top.specs.Stopped.{LeavesScript, NotRead, TellsEnd, TellsRan}
 use Rattle.erm_top.specs.Told.{TookAtMost, WasRead}
 use Rattle.erm_top.specs.declared.printing.Stop.{Stop}
@@ -29,9 +28,9 @@ told_bytes Such a bytes is read =
     let told : IfSome (Some bytes) (λ left. (read.bytes ≡ left) × (a.left_after ≡ Some [])) = subst (λ (o : Option (List ℕ)). IfSome o (λ left. (read.bytes ≡ left) × (a.left_after ≡ Some []))) is read.read.all in
     subst Such told.0 read.such
 
-not_refused : (a : Around) (bytes : List ℕ) → a.left_before ≡ Some bytes → SpellScript bytes → Refused a → ⊥
-not_refused a bytes is spelled refused =
-    (told_bytes (λ bytes. IsFirstBadLine run_grammar bytes refused.number refused.kind) a bytes is refused.read).none spelled.0 spelled.1 spelled.2
+not_refused : (r : Running) (a : Around) (bytes : List ℕ) → a.left_before ≡ Some bytes → SpellScript r bytes → Refused r a → ⊥
+not_refused r a bytes is spelled refused =
+    (told_bytes (λ bytes. IsFirstBadLine r.grammar bytes refused.number refused.kind) a bytes is refused.read).none spelled.0 spelled.1 spelled.2
 
 not_more : (a : Around) (bytes : List ℕ) → a.left_before ≡ Some bytes → length bytes ≤ SCRIPT_BYTES → TakesMore SCRIPT_BYTES a → ⊥
 not_more a bytes is short more =
@@ -39,9 +38,9 @@ not_more a bytes is short more =
     subst (λ (o : Option (List ℕ)). IfSome o (λ bytes. (n : ℕ) × (SCRIPT_BYTES < n) × (n ≤ length bytes) × (a.left_after ≡ Some (drop n bytes)))) is more in
     omega (arith, told.1, told.2, short)
 
-module _ (one : OneRecovery) (status : ℕ) (a : Around) (taken : TookAtMost (SCRIPT_BYTES + 1) a.left_before a.left_after) where
+module _ (one : OneRecovery) (r : Running) (status : ℕ) (a : Around) (taken : TookAtMost (SCRIPT_BYTES + 1) a.left_before a.left_after) where
   abbrev Ran : Result (List ℕ) Stop → List (List ℕ) → List ScriptLine → Type 0
-  Ran told names script = TellsRan told names script a.told_before a.told_after a.disk_before a.disk_after
+  Ran told names script = TellsRan r told names script a.told_before a.told_after a.disk_before a.disk_after
 
   -- the disk did not fail with another status, where memory did not run out
   ran_soundly : (told : Result (List ℕ) Stop) (names : List (List ℕ)) (script : List ScriptLine) → Ran told names script → PutsAround told status a → status ≢ 6
@@ -57,27 +56,27 @@ module _ (one : OneRecovery) (status : ℕ) (a : Around) (taken : TookAtMost (SC
 
   -- a script was read, and run or not
   module _ (told : Result (List ℕ) Stop) (bytes : List ℕ) (names : List (List ℕ)) (script : List ScriptLine) (read : WasRead bytes a.left_before a.left_after)
-      (is : IsScript run_grammar bytes names script) (ran : Ran told names script) (put : PutsAround told status a) where
+      (is : IsScript r.grammar bytes names script) (ran : Ran told names script) (put : PutsAround told status a) where
     at : (t : Result (List ℕ) Stop) → told ≡ t → Ran t names script
     at t e = subst (λ (x : Result (List ℕ) Stop). Ran x names script) e ran
 
     reading : (Such : List ℕ → Type 0) → Such bytes → WasReadWith Such a
     reading Such such = record { bytes = bytes; read = read; such = such }
 
-    spelled : WasReadWith SpellScript a
-    spelled = reading SpellScript (names, script, is)
+    spelled : WasReadWith (SpellScript r) a
+    spelled = reading (SpellScript r) (names, script, is)
 
-    reports : (text : List ℕ) → told ≡ Ok text → WasReadWith (λ bytes. Reports a bytes text) a
+    reports : (text : List ℕ) → told ≡ Ok text → WasReadWith (λ bytes. Reports r a bytes text) a
     reports text e = let t = (at (Ok text) e).0 in
-        reading (λ bytes. Reports a bytes text) (record { names = names; script = script; spelled = is; state = t.state; found = t.found; lines = t.lines; ran = t.ran; text_is = t.text_is })
+        reading (λ bytes. Reports r a bytes text) (record { names = names; script = script; spelled = is; state = t.state; found = t.found; lines = t.lines; ran = t.ran; text_is = t.text_is })
 
-    reports_cut : (text : List ℕ) → told ≡ Err (stop.Cut text) → WasReadWith (λ bytes. ReportsCut a bytes text) a
+    reports_cut : (text : List ℕ) → told ≡ Err (stop.Cut text) → WasReadWith (λ bytes. ReportsCut r a bytes text) a
     reports_cut text e = let t = (at (Err (stop.Cut text)) e).0 in
-        reading (λ bytes. ReportsCut a bytes text) (record { names = names; script = script; spelled = is; state = t.state; found = t.found; lines = t.lines; cut = t.cut; text_is = t.text_is })
+        reading (λ bytes. ReportsCut r a bytes text) (record { names = names; script = script; spelled = is; state = t.state; found = t.found; lines = t.lines; cut = t.cut; text_is = t.text_is })
 
-    starved : LeavesScript in_table names script a.told_before a.told_after → LeftByMemory a
+    starved : LeavesScript r names script a.told_before a.told_after → LeftByMemory r a
     starved (inl keeps) = inl keeps
-    starved (inr was) = inr (reading (Starved a) (record { names = names; script = script; spelled = is; state = was.0; found = was.1; was = was.2 }))
+    starved (inr was) = inr (reading (Starved r a) (record { names = names; script = script; spelled = is; state = was.0; found = was.1; was = was.2 }))
 
     not_three : status ≢ 3
     not_three e = let p = bad_line status a told put e in at (Err (stop.BadLine p.0)) p.1
@@ -97,7 +96,7 @@ module _ (one : OneRecovery) (status : ℕ) (a : Around) (taken : TookAtMost (SC
     six : status ≡ 6 → Rose a.disk_before a.disk_after
     six e = elim (disk_fault status a told put e) [ inl p ↦ (at (Err stop.DiskFault) p.0).1 | inr p ↦ (at (Err (stop.Cut p.0)) p.1).1 ]
 
-    pub ran_ends : a.source_after ≡ a.source_before → RunEnds status a
+    pub ran_ends : a.source_after ≡ a.source_before → ScriptEnds r status a
     ran_ends sound = record {
       known = known status a told put;
       success = λ e. let p = success status a told put e in (p.0, reports p.0 p.1, p.2);
@@ -126,7 +125,7 @@ module _ (one : OneRecovery) (status : ℕ) (a : Around) (taken : TookAtMost (SC
   -- no script was read
   abbrev Unread : Result (List ℕ) Stop → Type 0
   Unread (Ok text) = ⊥
-  Unread (Err s) = NotRead s a.left_before a.left_after a.source_before a.source_after
+  Unread (Err s) = NotRead r.grammar s a.left_before a.left_after a.source_before a.source_after
 
   unread_soundly : (told : Result (List ℕ) Stop) → Unread told → PutsAround told status a → status ≢ 4 → a.source_after ≡ a.source_before
   unread_soundly (Ok text) unread put other = absurd unread
@@ -155,7 +154,7 @@ module _ (one : OneRecovery) (status : ℕ) (a : Around) (taken : TookAtMost (SC
     not_ten : status ≢ 10
     not_ten e = let p = at_end status a told put e in why (Err (stop.AtEnd p.0)) p.1
 
-    refused : status ≡ 3 → Refused a
+    refused : status ≡ 3 → Refused r a
     refused e =
         let p = bad_line status a told put e in
         let t = (why (Err (stop.BadLine p.0)) p.1).0 in
@@ -172,13 +171,13 @@ module _ (one : OneRecovery) (status : ℕ) (a : Around) (taken : TookAtMost (SC
     source_failed : status ≡ 4 → Rose a.source_before a.source_after
     source_failed e = why (Err stop.ReadFault) (read_fault status a told put e).0
 
-    completes : (bytes : List ℕ) → a.left_before ≡ Some bytes → length bytes ≤ SCRIPT_BYTES → SpellScript bytes → NothingFailed a
+    completes : (bytes : List ℕ) → a.left_before ≡ Some bytes → length bytes ≤ SCRIPT_BYTES → SpellScript r bytes → NothingFailed a
         → (status ≡ 0) ⊎ (status ≡ 7) ⊎ (status ≡ 8) ⊎ (status ≡ 10)
     completes bytes left short spell calm =
-        of_sound status (of_disk status (known status a told put) (λ e. not_refused a bytes left spell (refused e)) (λ e. calm.source (source_failed e)) (λ e. not_more a bytes left short (too_many e)))
+        of_sound status (of_disk status (known status a told put) (λ e. not_refused r a bytes left spell (refused e)) (λ e. calm.source (source_failed e)) (λ e. not_more a bytes left short (too_many e)))
         none_cut not_six
 
-    pub unread_ends : a.told_after ≡ a.told_before → a.disk_after ≡ a.disk_before → RunEnds status a
+    pub unread_ends : a.told_after ≡ a.told_before → a.disk_after ≡ a.disk_before → ScriptEnds r status a
     unread_ends still sound = record {
       known = known status a told put;
       success = λ e. absurd (none_reported e);

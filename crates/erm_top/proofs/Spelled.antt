@@ -2,24 +2,28 @@
 use Rattle.std.proofs.Common.{◌≡◌, ℕ, zero, suc, ◌+◌, ◌<◌, ◌≤◌, true, false, List, [], ◌∷◌, length, Some, IfSome, ap, subst, inl, inr, arith}
 use Rattle.std.specs.Prelude.{max}
 use Rattle.std.specs.List.{slice_get}
+use Rattle.std.proofs.lemmas.Bool.{true≢false}
 use Rattle.erm_model.specs.declared.limits.TheConstants.{LAST_NUMBER, SESSIONS, TABLES}
 use Rattle.erm_script.specs.Keywords.{names_session}
 use Rattle.erm_script.specs.Script.{AreNumbered, AreSpelled, IsInRange, IsScript, IsSpelled, kept_lines, keyword_of}
+use Rattle.erm_script.specs.declared.grammar.Grammar.{Grammar}
 use Rattle.erm_script.specs.declared.script.Command.{Command}
 use Rattle.erm_script.specs.declared.script.Command.TheVariants as command
 use Rattle.erm_script.specs.declared.script.ScriptLine.{ScriptLine}
 use Rattle.erm_good_report.specs.Transactions.{table_of}
+use Rattle.erm_worker.specs.Work.{IsOfSession}
+use Rattle.erm_disk_at_once.specs.Runs.{IsScriptAtOnce, MayBeRunAtOnce}
 use Rattle.erm_disk_run.specs.Runs.{IsScriptFor, MayBeRun, NamesOneOf}
-use Rattle.erm_top.specs.Scripts.{run_grammar}
+use Rattle.erm_top.specs.Scripts.{run_grammar, threads_grammar}
 
 -- each line is spelled by one of the bytes' lines
-spelled_at : (names : List (List ℕ)) (kept : List (ℕ × List ℕ)) (script : List ScriptLine) (k : ℕ) (l : ScriptLine) → AreSpelled run_grammar names kept script → slice_get script k ≡ Some l
-    → (line : List ℕ) × IsSpelled run_grammar names line l
-spelled_at names [] [] k l spelled at = absurd (cc)
-spelled_at names [] (x ∷ xs) k l spelled at = absurd spelled
-spelled_at names (y ∷ ys) [] k l spelled at = absurd spelled
-spelled_at names (y ∷ ys) (x ∷ xs) zero l spelled at = (y.1, let same : x ≡ l = (cc) in subst (IsSpelled run_grammar names y.1) same spelled.1)
-spelled_at names (y ∷ ys) (x ∷ xs) (suc k) l spelled at = spelled_at names ys xs k l spelled.2 at
+spelled_at : (g : Grammar) (names : List (List ℕ)) (kept : List (ℕ × List ℕ)) (script : List ScriptLine) (k : ℕ) (l : ScriptLine) → AreSpelled g names kept script → slice_get script k ≡ Some l
+    → (line : List ℕ) × IsSpelled g names line l
+spelled_at g names [] [] k l spelled at = absurd (cc)
+spelled_at g names [] (x ∷ xs) k l spelled at = absurd spelled
+spelled_at g names (y ∷ ys) [] k l spelled at = absurd spelled
+spelled_at g names (y ∷ ys) (x ∷ xs) zero l spelled at = (y.1, let same : x ≡ l = (cc) in subst (IsSpelled g names y.1) same spelled.1)
+spelled_at g names (y ∷ ys) (x ∷ xs) (suc k) l spelled at = spelled_at g names ys xs k l spelled.2 at
 
 -- sessions are no more than were seen at the end
 seen_le : (seen : ℕ) (script : List ScriptLine) (many : ℕ) → AreNumbered seen script many → seen ≤ many
@@ -65,10 +69,35 @@ may_be_run names line l spelled high = elim spelled as (λ _. MayBeRun (length n
   }
 ]
 
--- A script that is not too long can be run.
+-- A script that is not too long can be run, line by line.
 pub can_be_run : (bytes : List ℕ) (names : List (List ℕ)) (script : List ScriptLine) → IsScript run_grammar bytes names script → length script + SESSIONS ≤ LAST_NUMBER → IsScriptFor names script
 can_be_run bytes names script is short = record {
   few = is.few;
   short = short;
-  each = λ l at. let found = spelled_at names (kept_lines bytes) script at.0 l is.spelled at.1 in may_be_run names found.0 l found.1 (numbered_at 0 script (length names) at.0 l is.numbered at.1);
+  each = λ l at. let found = spelled_at run_grammar names (kept_lines bytes) script at.0 l is.spelled at.1 in may_be_run names found.0 l found.1 (numbered_at 0 script (length names) at.0 l is.numbered at.1);
+}
+
+-- a command whose lines name a session is one of a session
+of_session : (c : Command) → names_session (keyword_of c) ≡ true → IsOfSession c
+of_session command.Flush named = absurd (cc)
+of_session command.Checkpoint named = absurd (cc)
+of_session c named = tt
+
+-- where each session has a thread of its own, each line names one
+may_run_at_once : (names : List (List ℕ)) (line : List ℕ) (l : ScriptLine) → IsSpelled threads_grammar names line l → l.session ≤ length names → MayBeRunAtOnce (length names) l
+may_run_at_once names line l spelled high = elim spelled as (λ _. MayBeRunAtOnce (length names) l) [
+  | inl named ↦ record {
+    session = (named.0, high);
+    asked = record { of_session = of_session l.command named.1.named; table = names_table l.command named.1.command_ok.in_range };
+    range = named.1.command_ok.in_range;
+  }
+  | inr alone ↦ absurd (true≢false alone.1.one_thread)
+]
+
+-- So such a script that is not too long can be run, all sessions at once.
+pub can_run_at_once : (bytes : List ℕ) (names : List (List ℕ)) (script : List ScriptLine) → IsScript threads_grammar bytes names script → length script + SESSIONS ≤ LAST_NUMBER → IsScriptAtOnce names script
+can_run_at_once bytes names script is short = record {
+  few = is.few;
+  short = short;
+  each = λ l at. let found = spelled_at threads_grammar names (kept_lines bytes) script at.0 l is.spelled at.1 in may_run_at_once names found.0 l found.1 (numbered_at 0 script (length names) at.0 l is.numbered at.1);
 }

@@ -3,6 +3,7 @@ pub mod Commands
 pub mod Inspections
 pub mod Makes
 pub mod Outcomes
+pub mod Running
 pub mod Runs
 pub mod Scripts
 pub mod Stopped

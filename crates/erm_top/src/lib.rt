@@ -8,9 +8,11 @@ mod make;
 mod printing;
 mod reading;
 mod run;
+mod script;
 mod stream;
 mod texts;
+mod threads;
 mod top;
 
 pub use erm_command_line::Command;
-pub use top::{Ended, ermia, run_to_end};
+pub use top::{Ended, ermia};

@@ -1,17 +1,18 @@
 //! The top call.
-ghost use Rattle.std.specs.Prelude.{◌≡◌, IfSome, true};
+ghost use Rattle.std.specs.Prelude.{IfSome};
 ghost use Rattle.erm_disk_run.specs.Found.{IsKept};
-ghost use Rattle.erm_top.specs.Commands.{IsSized, is_on};
+ghost use Rattle.erm_top.specs.Commands.{IsSized};
 ghost use Rattle.erm_top.specs.Outcomes.{CommandEnds, Ends};
 
 use crate::checkpoint::checkpoint;
-use crate::commands::{USAGE, command_on};
+use crate::commands::USAGE;
 use crate::inspect::{audit, recover};
 use crate::make::{make_and_run, make_text};
 use crate::printing::{MISUSED, STARVED, print};
 use crate::run::run;
 use crate::stream::{follow_stream, ship_log};
-use erm_command_line::Command;
+use crate::threads::threads;
+use erm_command_line::{Command, command_of};
 use erm_follow_run::starving_is_an_end;
 use erm_made::each_transaction_is_counted;
 use erm_outside::{Disk, Gate, Sink, Source};
@@ -35,7 +36,7 @@ pub struct Ended<D> {
 /// `words` are the program's name and a command; `--` may stand behind them. The status is
 ///
 /// - 0 where the command ended and its report was put whole;
-/// - 2 where the words ask for no command that the program has, those that ask for help too; the usage line was printed;
+/// - 2 where the words ask for no command, those that ask for help too; the usage line was printed;
 /// - 3 where the script is not in the grammar; the first bad line was printed, with its first kind of fault;
 /// - 4 where the source failed;
 /// - 5 where the sink failed while the report, the stream or the lines were put;
@@ -50,41 +51,17 @@ pub struct Ended<D> {
 /// Each clause on content stands where source, sink and disk tell their content. A disk that tells it must be one that may be opened: nothing is
 /// pending on it but of what an opening waits for, and behind what it recovers to there is no block of a later run. The disk that a whole run
 /// leaves is such a one, and so is each image that a crash leaves.
-pub fn ermia<R: Threads + Wait + Sync, S: Source, K: Sink, D: Disk + Send, G: Gate + Sync>(
-    _rt: &R,
+///
+/// The command `threads` runs the sessions of its script on threads, which pass the gate on their way, and waits for them: there each clause is of
+/// what is returned, if it returns.
+pub fn ermia<R: Threads + Wait + Sync, S: Source, K: Sink, D: Disk + Drop + Send, G: Gate + Sync>(
+    rt: &R,
     alloc: Global,
     words: &[String],
     source: &mut S,
     sink: &mut K,
     disk: D,
-    _gate: &G,
-) -> Ended<D>
-    requires kept { IfSome (D.told disk) IsKept }
-    ensures { Ends words.now result.status (record {
-      left_before = S.left source.old;
-      left_after = S.left source.new;
-      source_before = S.faults source.old;
-      source_after = S.faults source.new;
-      written_before = K.written sink.old;
-      written_after = K.written sink.new;
-      sink_before = K.faults sink.old;
-      sink_after = K.faults sink.new;
-      told_before = D.told disk;
-      told_after = D.told result.disk;
-      disk_before = D.faults disk;
-      disk_after = D.faults result.disk;
-    }) }
-{
-    run_to_end(alloc, words, source, sink, disk)
-}
-
-/// The same for a program of one thread, which needs no threads: it never waits for another thread, and so it ends.
-pub fn run_to_end<S: Source, K: Sink, D: Disk>(
-    alloc: Global,
-    words: &[String],
-    source: &mut S,
-    sink: &mut K,
-    disk: D,
+    gate: &G,
 ) -> Ended<D>
     requires kept { IfSome (D.told disk) IsKept }
     ensures { Ends words.now result.status (record {
@@ -105,8 +82,8 @@ pub fn run_to_end<S: Source, K: Sink, D: Disk>(
     erm_ckpt::one_recovery::<SoundTest>();
     each_transaction_is_counted();
     starving_is_an_end();
-    match command_on(alloc, words) {
-        Ok(Some(command)) => run_command(alloc, command, source, sink, disk),
+    match command_of(alloc, words) {
+        Ok(Some(command)) => run_command(rt, alloc, command, source, sink, disk, gate),
         Ok(None) => {
             print(sink, USAGE);
             Ended {
@@ -124,15 +101,16 @@ pub fn run_to_end<S: Source, K: Sink, D: Disk>(
     }
 }
 
-// Runs a command that the program has.
-fn run_command<S: Source, K: Sink, D: Disk>(
+// Runs a command. Only `threads` waits.
+fn run_command<R: Threads + Wait + Sync, S: Source, K: Sink, D: Disk + Drop + Send, G: Gate + Sync>(
+    rt: &R,
     alloc: Global,
     command: Command,
     source: &mut S,
     sink: &mut K,
     disk: D,
+    gate: &G,
 ) -> Ended<D>
-    requires on { is_on command ≡ true }
     requires sized { IsSized command }
     requires kept { IfSome (D.told disk) IsKept }
     ensures { CommandEnds command result.status (record {
@@ -152,6 +130,7 @@ fn run_command<S: Source, K: Sink, D: Disk>(
 {
     match command {
         Command::Run => run(alloc, source, sink, disk),
+        Command::Threads => threads(rt, alloc, source, sink, disk, gate),
         Command::Recover => recover(alloc, sink, disk),
         Command::Audit => audit(alloc, sink, disk),
         Command::Checkpoint => checkpoint(alloc, sink, disk),
@@ -173,10 +152,5 @@ fn run_command<S: Source, K: Sink, D: Disk>(
             sessions,
             text: false,
         } => make_and_run(alloc, sink, disk, count, sessions),
-        // The program has no such command.
-        Command::Threads => Ended {
-            status: MISUSED,
-            disk,
-        },
     }
 }

@@ -26,16 +26,16 @@ pub returns-in_err-counts_text-in-Ok : goal.returns-in_err-counts_text-in-Ok
 returns-in_err-counts_text-in-Ok c = λ before after faults now ends left counts.
     let p = err_from_is_err_and c.from_residual.result c.from_residual.ensures.1 in
     rw (p.1, p.2)
-    (untold_run in_lists (Ok c.in-Ok.lines) c.args.ended c.in-Ok.is before after faults now (names_of c.args.count c.args.sessions) (lines_of c.args.count c.args.sessions) left counts tt)
+    (untold_run (Ok c.in-Ok.lines) c.args.ended c.in-Ok.is before after faults now (names_of c.args.count c.args.sessions) (lines_of c.args.count c.args.sessions) left counts tt)
 
 pub returns-in_err-try_each_text-in-Err-DiskFault : goal.returns-in_err-try_each_text-in-Err-DiskFault
 returns-in_err-try_each_text-in-Err-DiskFault c = λ before after faults now ends left counts.
     let p = err_from_is_err_and c.from_residual-in_err-try_each_text-in-Err-DiskFault.result c.from_residual-in_err-try_each_text-in-Err-DiskFault.ensures.1 in
     rw (p.1, p.2)
-    (untold_run in_lists (Err (run.DiskFault c.in-Err-DiskFault.lines)) c.args.ended (c.in-Err-DiskFault.is ∙ ap (λ s. Err s) c.in-Err-DiskFault.field-0-is) before after faults now
+    (untold_run (Err (run.DiskFault c.in-Err-DiskFault.lines)) c.args.ended (c.in-Err-DiskFault.is ∙ ap (λ s. Err s) c.in-Err-DiskFault.field-0-is) before after faults now
     (names_of c.args.count c.args.sessions) (lines_of c.args.count c.args.sessions) left counts tt)
 
 pub returns-in-Err-Memory : goal.returns-in-Err-Memory
 returns-in-Err-Memory c = λ before after faults now ends left counts.
-    untold_run in_lists (Err run.Memory) c.args.ended (c.in-Err-Memory.is ∙ ap (λ s. Err s) c.in-Err-Memory.field-0-is) before after faults now (names_of c.args.count c.args.sessions) (lines_of c.args.count c.args.sessions)
+    untold_run (Err run.Memory) c.args.ended (c.in-Err-Memory.is ∙ ap (λ s. Err s) c.in-Err-Memory.field-0-is) before after faults now (names_of c.args.count c.args.sessions) (lines_of c.args.count c.args.sessions)
     left counts tt

@@ -1,12 +1,18 @@
 use Rattle.std.proofs.Common.{Err, refl}
+use Rattle.erm_top.specs.Running.{running_in_turn}
 use Rattle.erm_top.proofs.Ran.{ran_ends, unread_ends}
 use Rattle.erm_top.proofs.run.run.Goals as goal
 
+pub run_script-answered-requires-clause-spelled : goal.run_script-answered-requires-clause-spelled
+run_script-answered-requires-clause-spelled g c = (c.in-Ok.ensures.script.0, rw c.run_grammar.ensures at c.in-Ok.ensures.script.2)
+
 pub returns-in-Ok : goal.returns-in-Ok
 returns-in-Ok g c =
-    ran_ends c.one_recovery.ensures c.put_told-status.result _ c.read_script.ensures.taken c.run_script-answered.result.told c.in-Ok.ensures.script.0 c.in-Ok.script.names.items c.in-Ok.script.lines.items
-    c.in-Ok.ensures.script.1 c.in-Ok.ensures.script.2 c.run_script-answered.ensures c.put_told-status.ensures c.in-Ok.ensures.sound
+    let is = rw c.run_grammar.ensures at c.in-Ok.ensures.script.2 in
+    ran_ends c.one_recovery.ensures running_in_turn c.put_told-status.result _ c.read_script.ensures.taken c.run_script-answered.result.told c.in-Ok.ensures.script.0 c.in-Ok.script.names.items c.in-Ok.script.lines.items
+    c.in-Ok.ensures.script.1 is c.run_script-answered.ensures c.put_told-status.ensures c.in-Ok.ensures.sound
 
 pub returns-in-Err : goal.returns-in-Err
 returns-in-Err g c =
-    unread_ends c.one_recovery.ensures c.put_told-status-in-Err.result _ c.read_script.ensures.taken (Err c.in-Err.stop) c.in-Err.ensures.stop c.put_told-status-in-Err.ensures refl refl
+    let unread = rw c.run_grammar.ensures at c.in-Err.ensures.stop in
+    unread_ends c.one_recovery.ensures running_in_turn c.put_told-status-in-Err.result _ c.read_script.ensures.taken (Err c.in-Err.stop) unread c.put_told-status-in-Err.ensures refl refl
