@@ -2,6 +2,7 @@
 # Runs the worked examples of crates/erm_examples by the built program on real folders, each in an empty one of its own, and compares
 # status and bytes; and a workload of 20,000 transactions twice, and one of 200 over both worlds. Examples in which a call of the disk fails, or a crash follows one, are passed over; so are the lines that tell what
 # holds where a call is stopped. Then what a real folder may hold beside the disk's files, and what else the system may do: strange names, links, pipes, a limit on a file's size.
+# The scripts of one session print the same with a thread for each session; of several the report is checked by definition.
 # Input and output that fail, the longest script, a disk that is full at each byte, and tables, ring and cells used up.
 # And streams: of folders, cut at each byte, with each byte changed, with as many rows as there may be, too long, and noise.
 #   .ci/rows.sh [PROGRAM]     PROGRAM is the one that the gate leaves, unless another is given
@@ -16,7 +17,7 @@ if ! command -v python3 >/dev/null; then
     echo "rows on a folder: skipped, since there is no python3"
     exit 0
 fi
-exec python3 - "$(readlink -f "$program")" "$top/crates/erm_examples/data" <<'PYTHON'
+exec python3 - "$(readlink -f "$program")" "$top/crates/erm_examples/data" "$top/tools/check_report.py" <<'PYTHON'
 import fcntl
 import hashlib
 import os
@@ -29,7 +30,7 @@ import sys
 import tempfile
 import time
 
-PROGRAM, DATA = sys.argv[1:]
+PROGRAM, DATA, CHECK = sys.argv[1:]
 SECONDS = 600
 PASSED_OVER = ("! fail", "! crash")
 
@@ -79,6 +80,24 @@ def row(name):
     """Runs a script on an empty folder."""
     status, _, report = text(f"{name}.report").partition(b"\n")
     return call(["run"], text(f"{name}.script")) == (int(status), report)
+
+
+def row_at_once(name):
+    """Runs a script on an empty folder with a thread for each session: one session prints the same, and the report of several is a good one."""
+    status, _, report = text(f"{name}.report").partition(b"\n")
+    script = text(f"{name}.script")
+    ended, said = call(["threads"], script)
+    if int(status) != 0 or len(sessions_of(script)) < 2:
+        return (ended, said) == (int(status), report)
+    with open("report", "wb") as it:
+        it.write(said)
+    checked = subprocess.run([sys.executable, CHECK, "--at-once", os.path.join(DATA, f"{name}.script"), "report"], stdout=subprocess.PIPE)
+    return (ended, checked.returncode) == (0, 0)
+
+
+def sessions_of(script):
+    """The first words of a script's lines."""
+    return {line.split(b" ")[0] for line in script.split(b"\n") if line and not line.startswith(b"#")}
 
 
 def disk(name):
@@ -133,7 +152,7 @@ def made_both_ways(_):
 
 
 USAGE = b"usage: erm run | threads | make --count N --sessions K [--text] | recover | audit | checkpoint | ship | follow\n"
-NO_COMMANDS = [], ["frob"], ["Run"], ["threads"], ["run", "x.erm"], ["ship", "erm-data"], ["follow", "stream"], ["make", "--count", "1"], ["--help"]
+NO_COMMANDS = [], ["frob"], ["Run"], ["run", "x.erm"], ["threads", "x.erm"], ["ship", "erm-data"], ["follow", "stream"], ["make", "--count", "1"], ["--help"]
 
 
 def words_for_no_command(_):
@@ -236,15 +255,20 @@ TWO_PUTS_REPORT = text("two_puts.report").partition(b"\n")[2]
 def input_that_fails(_):
     """Where the standard input can't be read nothing but that is told, and no folder is made."""
     folder = os.open(".", os.O_RDONLY)
-    ends = [subprocess.run([PROGRAM, word], stdin=folder, stdout=subprocess.PIPE, timeout=SECONDS) for word in ("run", "follow")]
+    ends = [subprocess.run([PROGRAM, word], stdin=folder, stdout=subprocess.PIPE, timeout=SECONDS) for word in ("run", "threads", "follow")]
     os.close(folder)
-    return [(it.returncode, it.stdout) for it in ends] == [(4, b"read fault\n")] * 2 and not os.path.exists("erm-data")
+    return [(it.returncode, it.stdout) for it in ends] == [(4, b"read fault\n")] * 3 and not os.path.exists("erm-data")
 
 
 def output_that_fails(_):
     """Where the standard output takes nothing the status tells it, and the disk has what the script did."""
+    return all(is_left_untold(word) for word in ("run", "threads"))
+
+
+def is_left_untold(word):
+    shutil.rmtree("erm-data", ignore_errors=True)
     with open("/dev/full", "wb") as full:
-        ran = subprocess.run([PROGRAM, "run"], input=TWO_PUTS, stdout=full, timeout=SECONDS)
+        ran = subprocess.run([PROGRAM, word], input=TWO_PUTS, stdout=full, timeout=SECONDS)
     return ran.returncode == 5 and call(["recover"], b"") == (0, b"recovered 38 run 1\nmap 2\npair 0 10 aa\npair 0 20 bb\nend\n")
 
 
@@ -256,22 +280,26 @@ def longest_script(_):
 
 def disk_full_at_a_byte(_):
     """Where a file may have no more than so many bytes, the report goes as far as the log did, and the disk recovers to a place of it."""
-    whole = TWO_PUTS_REPORT.replace(b"order 1\n", b"5 flushed 38\norder 1\n")
+    flushed = TWO_PUTS_REPORT.replace(b"order 1\n", b"5 flushed 38\norder 1\n")
+    front = TWO_PUTS_REPORT.partition(b"order ")[0]
+    return is_cut_by_a_limit("run", TWO_PUTS + b"flush\n", flushed, front + b"5 ") and is_cut_by_a_limit("threads", TWO_PUTS, TWO_PUTS_REPORT, front)
+
+
+def is_cut_by_a_limit(word, script, whole, front):
     for limit in (*range(0, 304, 23), 303, 304):
         shutil.rmtree("erm-data", ignore_errors=True)
         limited = {"restore_signals": False, "preexec_fn": lambda: resource.setrlimit(resource.RLIMIT_FSIZE, (limit, limit))}
-        ran = subprocess.run([PROGRAM, "run"], input=TWO_PUTS + b"flush\n", stdout=subprocess.PIPE, timeout=SECONDS, **limited)
-        front = whole.partition(b"5 ")[0] + b"5 " if limit >= 104 else b""
-        ends = (0, whole) if limit == 304 else (6, front + b"disk fault\n")
+        ran = subprocess.run([PROGRAM, word], input=script, stdout=subprocess.PIPE, timeout=SECONDS, **limited)
+        ends = (0, whole) if limit == 304 else (6, (front if limit >= 104 else b"") + b"disk fault\n")
         place = b"38 run 1" if limit == 304 else b"13 run 1" if limit >= 104 else b"8 run 0"
         if (ran.returncode, ran.stdout) != ends or not call(["recover"], b"")[1].startswith(b"recovered " + place):
             return False
     return True
 
 
-def answers(script):
+def answers(script, word="run"):
     """The status of a run, and its answers without their numbers."""
-    status, report = call(["run"], b"".join(script))
+    status, report = call([word], b"".join(script))
     return status, [line.split(b" ", 1)[1] for line in report.splitlines() if line[:1].isdigit()]
 
 
@@ -279,6 +307,12 @@ def ring_used_up(_):
     """With 6,553 commits the log has no room for another block until it is flushed."""
     status, told = answers([b"a begin\na commit\n"] * 6554 + [b"flush\na settle\n"])
     return status == 0 and told[-3:] == [b"wait ring 13", b"flushed 32778", b"committed 32778 succ 32778 pred 0"] and b"committed 32773 succ 32773 pred 0" in told
+
+
+def ring_used_up_at_once(_):
+    """On a thread of its own a session flushes the log itself where that has no room for its block."""
+    status, told = answers([b"a begin\na commit\n"] * 20000, "threads")
+    return status == 0 and told[1::2] == [b"committed %d succ %d pred 0" % (stamp, stamp) for stamp in range(13, 100013, 5)]
 
 
 def objects_used_up(_):
@@ -299,7 +333,7 @@ def cells_used_up(_):
     return status == 0 and told[:taken].count(b"ok") > 49152 and told[-3:-1] == [b"ok", b"value cc"]
 
 
-FAULTS = input_that_fails, output_that_fails, longest_script, disk_full_at_a_byte, ring_used_up, objects_used_up, cells_used_up
+FAULTS = input_that_fails, output_that_fails, longest_script, disk_full_at_a_byte, ring_used_up, ring_used_up_at_once, objects_used_up, cells_used_up
 
 
 # Streams, spelled and read here once more.
@@ -453,6 +487,7 @@ def holds(check, name):
 
 
 rows = [(row, name) for name in text("rows.txt").decode().split()]
+rows += [(row_at_once, name) for _, name in rows if not {b"flush", b"checkpoint"} & set(text(f"{name}.script").split(b"\n"))]
 disks = text("disks.txt").decode().split()
 rows += [(disk, name) for name in disks if not is_passed_over(name)]
 rows.append((made_twice, "20000"))

@@ -2,7 +2,7 @@
 ghost use Rattle.std.specs.Prelude.{◌<◌, ◌≤◌};
 
 use crate::device::Device;
-use crate::memory::{Outcome, call, run, words_of};
+use crate::memory::{Outcome, call, call_anew, words_of};
 use anyhow::{Result, ensure};
 use erm_outside_mem::{MemSink, MemSource};
 use std::alloc::{AllocError, Global};
@@ -26,11 +26,13 @@ const CHECKPOINT_REPORT: &str = "open 8 run 1\ncheckpoint 13\nend\n";
 const MADE_REPORT: &str = "made 1 sessions 1\ncommitted 17\nexcluded 0\nowned 0\npairs 64\nend\n";
 
 /// Words that ask for a command, and what it prints where nothing is read and the disk has no files.
-const COMMANDS: [(&str, &str); 13] = [
+const COMMANDS: [(&str, &str); 15] = [
     ("erm run", EMPTY_REPORT),
     (" run", EMPTY_REPORT),
     ("run run", EMPTY_REPORT),
     ("erm run --", EMPTY_REPORT),
+    ("erm threads", EMPTY_REPORT),
+    ("erm threads --", EMPTY_REPORT),
     ("erm recover", "recovered 8 run 0\nmap 0\nend\n"),
     ("erm audit", "audit 8 to 8 run 0\norder 0\nmap 0\nend\n"),
     ("erm checkpoint", CHECKPOINT_REPORT),
@@ -42,15 +44,16 @@ const COMMANDS: [(&str, &str); 13] = [
     ("erm make --count=1 --sessions=1", MADE_REPORT),
 ];
 
-/// Words that ask for no command that the program has.
-const OTHERS: [&str; 26] = [
+/// Words that ask for no command.
+const OTHERS: [&str; 27] = [
     "erm",
     "run",
     "erm ",
     "erm frob",
     "erm RUN",
-    "erm threads",
     "erm run run",
+    "erm threads run",
+    "erm threads --help",
     "erm run recover",
     "erm run -- --",
     "erm -- run",
@@ -92,11 +95,24 @@ const BEHIND_PUTS: (&str, &str) = (
 /// How many commits of five words each the ring takes.
 const RING_COMMITS: u32 = 6553;
 
-/// Lines behind these commits, and what is answered: the next commit waits until they are flushed.
-const BEHIND_COMMITS: (&str, &str) = (
-    "a begin\na commit\nflush\na settle\n",
-    "13107 begin 32778\n13108 wait ring 13\n13109 flushed 32778\n13110 committed 32778 succ 32778 pred 0\norder 6554\n",
-);
+/// The words of a call, and lines behind these commits with what is answered: the next commit waits until they are flushed. On a thread of
+/// its own the session flushes them itself.
+const BEHIND_COMMITS: [(&str, (&str, &str)); 2] = [
+    (
+        "erm run",
+        (
+            "a begin\na commit\nflush\na settle\n",
+            "13107 begin 32778\n13108 wait ring 13\n13109 flushed 32778\n13110 committed 32778 succ 32778 pred 0\norder 6554\n",
+        ),
+    ),
+    (
+        "erm threads",
+        (
+            "a begin\na commit\n",
+            "13107 begin 32778\n13108 committed 32778 succ 32778 pred 0\norder 6554\n",
+        ),
+    ),
+];
 
 /// The rest of the report.
 const BEHIND_ORDER: &str = "commit a 6554 stamp 32778 succ 32778 pred 0\nmap 0\nend\n";
@@ -121,8 +137,11 @@ pub fn check<R: Threads + Wait + Sync>(rt: &R, alloc: Global) -> Result<()> {
     check_comment(rt, alloc, SCRIPT_BYTES, 0, EMPTY_REPORT)?;
     check_comment(rt, alloc, SCRIPT_BYTES + 1, 9, "too long\n")?;
     check_words(rt, alloc)?;
-    check_row(rt, alloc, "objects used up", objects(alloc)?)?;
-    check_row(rt, alloc, "ring used up", ring(alloc)?)
+    check_row(rt, alloc, "erm run", "objects used up", objects(alloc)?)?;
+    for (line, behind) in BEHIND_COMMITS {
+        check_row(rt, alloc, line, "ring used up", ring(alloc, behind)?)?;
+    }
+    Ok(())
 }
 
 // A script of a comment that has so many bytes.
@@ -134,8 +153,10 @@ fn check_comment<R: Threads + Wait + Sync>(
     report: &str,
 ) -> Result<()> {
     let script = vec![in alloc; b'#'; count]?;
-    let ended = run(rt, alloc, &script, 65536)?;
-    ensure!(ended.is(status, report), "script of {count} bytes");
+    for line in ["erm run", "erm threads"] {
+        let ended = call_anew(rt, alloc, line, &script, 65536)?;
+        ensure!(ended.is(status, report), "{line}: script of {count} bytes");
+    }
     Ok(())
 }
 
@@ -177,10 +198,16 @@ fn call_with<R: Threads + Wait + Sync>(
     call(rt, alloc, words, source, sink, Device::new(alloc))
 }
 
-// A script and what it is to print.
-fn check_row<R: Threads + Wait + Sync>(rt: &R, alloc: Global, name: &str, row: Row) -> Result<()> {
-    let ended = run(rt, alloc, row.script.as_bytes(), 65536)?;
-    ensure!(ended.is(0, &row.report), "{name}");
+// A script that is given to a call with these words, and what it is to print.
+fn check_row<R: Threads + Wait + Sync>(
+    rt: &R,
+    alloc: Global,
+    line: &str,
+    name: &str,
+    row: Row,
+) -> Result<()> {
+    let ended = call_anew(rt, alloc, line, row.script.as_bytes(), 65536)?;
+    ensure!(ended.is(0, &row.report), "{line}: {name}");
     Ok(())
 }
 
@@ -200,8 +227,8 @@ fn objects(alloc: Global) -> Result<Row, AllocError> {
     Ok(row)
 }
 
-// Commits without a flush fill the ring.
-fn ring(alloc: Global) -> Result<Row, AllocError> {
+// Commits without a flush fill the ring, before other lines with what they are answered.
+fn ring(alloc: Global, behind: (&str, &str)) -> Result<Row, AllocError> {
     let mut order = String::new(alloc);
     let mut row = Row {
         script: String::new(alloc),
@@ -213,7 +240,7 @@ fn ring(alloc: Global) -> Result<Row, AllocError> {
         row.push("a begin\na commit\n", &answers_of(alloc, number, &ends)?)?;
         order.push_str(&format!(in alloc; "commit a {number} stamp {ends}")?)?;
     }
-    row.push(BEHIND_COMMITS.0, BEHIND_COMMITS.1)?;
+    row.push(behind.0, behind.1)?;
     row.push("", &order)?;
     row.push("", BEHIND_ORDER)?;
     Ok(row)

@@ -1,7 +1,8 @@
 //! Runs worked examples through the top call over memory, and prints a line for each.
 //!
 //! `rows.txt` lists those that run a script on an empty disk: `NAME.script` has the script and, in `NAME.report`, a line with
-//! the status comes before the bytes that are to be put. `disks.txt` lists those that call the program several times on one
+//! the status comes before the bytes that are to be put. Where all its lines are of one session it is run with a thread for each session
+//! too, and is to put the same. `disks.txt` lists those that call the program several times on one
 //! disk: `NAME.steps` has the calls, what they are to print, and what befalls the disk between them. Then come the longest
 //! script, words and what they ask for, and objects and log used up; and each call of source and sink that fails.
 #![tactic(auto)]
@@ -71,7 +72,47 @@ fn check_named_row<R: Files + AllocGlobal + Threads + Wait + Sync>(
 ) -> Result<()> {
     let script = read(rt, alloc, name, "script")?;
     let report = read(rt, alloc, name, "report")?;
-    check_row(rt, alloc, &script, &report)
+    check_row(rt, alloc, "erm run", &script, &report)?;
+    if !is_of_one_session(&script) {
+        return Ok(());
+    }
+    check_row(rt, alloc, "erm threads", &script, &report)
+}
+
+// Whether all lines of a script are of one session.
+fn is_of_one_session(script: &str) -> bool {
+    let name = first_name(script);
+    for line in script.lines() {
+        if is_read(line) && !is_of_session(line, name) {
+            return false;
+        }
+    }
+    true
+}
+
+// The first word of the first line that is read, or no bytes where none is.
+fn first_name(script: &str) -> &str {
+    for line in script.lines() {
+        if is_read(line) {
+            return first_word(line);
+        }
+    }
+    ""
+}
+
+// Whether a line is read: one without bytes isn't, and no comment.
+fn is_read(line: &str) -> bool {
+    !line.is_empty() && !line.starts_with('#')
+}
+
+// Whether a line is of the session of this name. Those of the log are of none.
+fn is_of_session(line: &str, name: &str) -> bool {
+    line != "flush" && line != "checkpoint" && first_word(line) == name
+}
+
+// The first word of a line.
+fn first_word(line: &str) -> &str {
+    line.split(' ').next().unwrap_or("")
 }
 
 // The text of an example's file.
@@ -80,27 +121,32 @@ fn read<R: Files + AllocGlobal>(rt: &R, alloc: Global, name: &str, kind: &str) -
     Ok(fs::read_to_string(rt, &file)?)
 }
 
-// Runs an example at each size of call, and compares status and bytes.
+// Calls the program with these words over an example at each size of call, and compares status and bytes.
 fn check_row<R: Threads + Wait + Sync>(
     rt: &R,
     alloc: Global,
+    words: &str,
     script: &str,
     report: &str,
 ) -> Result<()> {
     for per_call in PER_CALL {
-        let shown = show(rt, alloc, script, per_call)?;
-        ensure!(shown.as_str() == report, "other bytes at {per_call} a call");
+        let shown = show(rt, alloc, words, script, per_call)?;
+        ensure!(
+            shown.as_str() == report,
+            "{words}: other bytes at {per_call} a call"
+        );
     }
     Ok(())
 }
 
-// A line with the status of a script, and what it prints.
+// A line with the status of a call over a script, and what it prints.
 fn show<R: Threads + Wait + Sync>(
     rt: &R,
     alloc: Global,
+    words: &str,
     script: &str,
     per_call: usize,
 ) -> Result<String, AllocError> {
-    let ended = memory::run(rt, alloc, script.as_bytes(), per_call)?;
+    let ended = memory::call_anew(rt, alloc, words, script.as_bytes(), per_call)?;
     format!(in alloc; "{}\n{}", ended.status, ended.text())
 }

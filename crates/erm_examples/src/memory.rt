@@ -71,12 +71,13 @@ pub fn call_over<R: Threads + Wait + Sync>(
     call(rt, alloc, &words, source, sink, device)
 }
 
-/// Runs a script on an empty disk, with so many bytes a call of source and sink.
-pub fn run<R: Threads + Wait + Sync>(
+/// The same on an empty disk.
+pub fn call_anew<R: Threads + Wait + Sync>(
     rt: &R,
     alloc: Global,
+    line: &str,
     script: &[u8],
     per_call: usize,
 ) -> Result<Outcome, AllocError> {
-    call_over(rt, alloc, "erm run", script, per_call, Device::new(alloc))
+    call_over(rt, alloc, line, script, per_call, Device::new(alloc))
 }

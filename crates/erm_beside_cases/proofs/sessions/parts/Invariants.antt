@@ -1,6 +1,5 @@
-use Rattle.std.proofs.Common.{◌≡◌, ◌≤◌, length, map}
-use Rattle.erm_run_beside.specs.Jobs.{AreLines}
+use Rattle.std.proofs.Common.{◌≡◌, ◌≤◌, length}
 use Rattle.erm_beside_cases.proofs.sessions.parts.Given as goal
 
 abbrev pub invariant-loop-seat : goal.invariant-loop-seat
-invariant-loop-seat l = (length l.parts.items ≡ l.seat) × (l.seat ≤ 10) × AreLines (map (λ p. p.items) l.parts.items)
+invariant-loop-seat l = (length l.parts.items ≡ l.seat) × (l.seat ≤ 10)
