@@ -1,23 +1,43 @@
 #!/usr/bin/env python3
-"""Checks a report of `erm run` by definition, with no code of the program's own.
+"""Checks a report of `erm run` or of `erm threads` by definition, with no code of the program's own.
 
-    tools/check_report.py SCRIPT REPORT [MAP]
+    tools/check_report.py [--at-once] SCRIPT REPORT [MAP]
 
 SCRIPT is the script's file, REPORT the file of what was printed for it, and MAP, where the run began on a map that isn't empty, a report
-whose `pair` lines are that map. It checks, of the answers, the order and the map that are printed, that
+whose `pair` lines are that map. With --at-once it is a report of `threads`, whose sessions ran at once: of two lines of different sessions
+neither was before the other. It checks, of the answers, the order and the map that are printed, that
 
-- each line of the script has one answer, in order of lines;
+- each line of the script has one answer, in order of lines; at once none tells of a wait, or that a commit isn't flushed;
 - the commits of the order are just those that the answers and the sessions closed tell, each once, with the same numbers;
 - run one by one in the printed order over one map, the transactions committed give their printed replies and end in the printed map;
 - each transaction, whether or not it committed, was answered as on the map of the commits below its begin stamp, its own writes included;
 - the order has the commits by their successor stamps, and of those with one such stamp by their stamps, the greatest first;
 - a commit's successor stamp is the least of its own stamp and the successor stamps of the commits that overwrote, first, a version that it read;
-- a window is open where a transaction committed (the predecessor stamp is below the successor stamp), and closed where it was excluded.
+  its predecessor stamp is not below that of a commit which made a version that it read or overwrote;
+- a window is open where a transaction committed (the predecessor stamp is below the successor stamp), and closed where it was excluded;
+- the stamps of transactions differ, and none is below its transaction's begin, or within five words of the log's opening; `sealed` and
+  `durable` name the stamp of their session's transaction;
+- a begin is above the stamps of the commits that earlier lines tell, and of those that closed a window of one, and not below the begin of
+  a transaction that an earlier line names as the owner: of earlier lines of its own session, where the sessions ran at once.
 
 A tree's rows are shared by keys, so that windows and refusals may have causes in rows that no line names: what is said of them here is what
-follows from keys alone. It prints one line, and ends with status 0 where all is so.
+follows from keys alone. It takes time by the lines, and by how many of them there are for the logarithm. It prints one line, and ends with
+status 0 where all is so.
 """
+import bisect
+import re
 import sys
+
+WAITS = ["wait"], ["not", "flushed"]
+REPLIES = "ok", "value", "none", "pair", "pairs"
+NUMBER, DIGITS = "(?:0|[1-9][0-9]*)", "(?:-|(?:[0-9a-f]{2})+)"
+WINDOW = f"succ {NUMBER} pred {NUMBER}"
+ANSWER = re.compile(
+    f"ok|none|value {DIGITS}|pair {NUMBER} {DIGITS}|pairs {NUMBER}(?: {NUMBER} {DIGITS})*|committed {NUMBER} {WINDOW}|excluded (?:at {NUMBER} )?{WINDOW}"
+    f"|(?:begin|cut|sealed|newer|durable|flushed|empty|unfilled|checkpoint|not flushed|wait ring|log end|cells full|oids full) {NUMBER}"
+    f"|(?:owned|wait) {NUMBER} {NUMBER}|aborted|no transaction|is sealed|not sealed|not idle|no receipt|reads full|writes full|numbers end"
+)
+COMMIT = re.compile(f"commit [a-z0-9]+ {NUMBER} stamp {NUMBER} {WINDOW}")
 
 
 class Bad(Exception):
@@ -43,11 +63,95 @@ def script_of(path):
     return found
 
 
+def pairs_of(lines):
+    pairs = {}
+    for line in lines:
+        _, table, key, value = line.split(" ")
+        pairs[int(table), int(key)] = value
+    return pairs
+
+
+class Values:
+    """A map of values by table and key, with the keys of each table in order."""
+
+    def __init__(self, pairs):
+        self.values, self.keys = {}, {}
+        for place, value in pairs.items():
+            self.put(place, value)
+
+    def put(self, place, value):
+        """Sets the value of a key, or takes it away: None."""
+        keys = self.keys.setdefault(place[0], [])
+        if value is None:
+            if self.values.pop(place, None) is not None:
+                del keys[bisect.bisect_left(keys, place[1])]
+        else:
+            if place not in self.values:
+                bisect.insort(keys, place[1])
+            self.values[place] = value
+
+    def get(self, place):
+        return self.values.get(place)
+
+    def found(self, table, low, high):
+        """The keys from low to high, both too, that have a value, in order."""
+        keys = self.keys.get(table, [])
+        for at in range(bisect.bisect_left(keys, low), len(keys)):
+            if keys[at] > high:
+                return
+            yield keys[at]
+
+
+class Snapshot:
+    """A map below a transaction's own writes."""
+
+    def __init__(self, values):
+        self.values, self.own = values, {}
+
+    def put(self, place, value):
+        self.own[place] = value
+
+    def get(self, place):
+        return self.own[place] if place in self.own else self.values.get(place)
+
+    def found(self, table, low, high):
+        added = sorted(key for (at, key), value in self.own.items() if at == table and low <= key <= high and value is not None)
+        for key in self.values.found(table, low, high):
+            while added and added[0] < key:
+                yield added.pop(0)
+            if added and added[0] == key:
+                added.pop(0)
+            if self.get((table, key)) is not None:
+                yield key
+        yield from added
+
+
+def answered(values, words):
+    """What an operation is answered on a map, which it changes."""
+    table, low = int(words[1]), int(words[2])
+    if words[0] in ("put", "del"):
+        values.put((table, low), words[3] if words[0] == "put" else None)
+        return ["ok"]
+    if words[0] == "get":
+        value = values.get((table, low))
+        return ["none"] if value is None else ["value", value]
+    if words[0] == "next":
+        key = next(values.found(table, low, 2**64 - 1), None)
+        return ["none"] if key is None else ["pair", str(key), values.get((table, key))]
+    pairs = [it for key in values.found(table, low, int(words[3])) for it in (str(key), values.get((table, key)))]
+    return ["pairs", str(len(pairs) // 2), *pairs]
+
+
 class Transaction:
     def __init__(self, session, number, begin):
-        self.session, self.number, self.begin = session, number, begin
+        self.name, self.begin = (session, number), begin
         self.steps = []  # command, reply
-        self.ending = None  # ("committed", stamp, succ, pred), ("excluded", ..) or ("aborted",)
+        self.sealed = None
+        self.ending = None  # "committed", "excluded" or "aborted"
+        self.stamp = self.succ = self.pred = None
+
+    def end(self, ending, stamp=None, succ=None, pred=None):
+        self.ending, self.stamp, self.succ, self.pred = ending, stamp, succ, pred
 
     def writes(self):
         """The last value that it set of each key, or None where it took it away."""
@@ -57,167 +161,230 @@ class Transaction:
                 found[int(words[1]), int(words[2])] = words[3] if words[0] == "put" else None
         return found
 
-
-def reply_on(values, words):
-    """What an operation is answered on a map of values by table and key."""
-    if words[0] in ("put", "del"):
-        return ["ok"]
-    table, low = int(words[1]), int(words[2])
-    if words[0] == "get":
-        value = values.get((table, low))
-        return ["none"] if value is None else ["value", value]
-    keys = sorted(key for at, key in values if at == table and key >= low and values[at, key] is not None)
-    if words[0] == "next":
-        return ["pair", str(keys[0]), values[table, keys[0]]] if keys else ["none"]
-    high = int(words[3])
-    pairs = [it for key in keys if key <= high for it in (str(key), values[table, key])]
-    return ["pairs", str(len(pairs) // 2), *pairs]
+    def gets(self):
+        """The keys of its gets whose answer wasn't its own write."""
+        own, found = set(), set()
+        for words, reply in self.steps:
+            place = int(words[1]), int(words[2])
+            if reply == ["ok"]:
+                own.add(place)
+            elif words[0] == "get" and place not in own:
+                found.add(place)
+        return found
 
 
-def is_reply(answer):
-    return answer[0] in ("ok", "value", "none", "pair", "pairs")
+class Heard:
+    """What the answers so far tell: the transactions that are over, and those of each session in progress."""
+
+    def __init__(self, opened, at_once):
+        self.opened, self.at_once = opened, at_once
+        self.over, self.current, self.counts, self.last = [], {}, {}, {}
+        self.seats, self.begins, self.met, self.named = {}, {}, {}, []
+
+    def line(self, number, session, words, answer):
+        """The answer to a line of a session, or of none."""
+        if self.at_once and any(answer[: len(wait)] == wait for wait in WAITS):
+            raise Bad(f"line {number} waits")
+        if session is None:
+            return
+        self.seats.setdefault(session, len(self.seats) + 1)
+        if answer[0] == "begin":
+            self.begin(number, session, int(answer[1]))
+        elif answer[0] == "sealed":
+            self.current[session].sealed = int(answer[1])
+        elif answer[0] == "durable" and int(answer[1]) != self.last.get(session):
+            raise Bad(f"line {number} tells another commit than the session's last")
+        elif answer[0] in REPLIES:
+            self.current[session].steps.append((words, answer))
+        else:
+            self.end(number, session, answer)
+
+    def begin(self, number, session, stamp):
+        if session in self.current:
+            raise Bad(f"line {number} begins in a transaction")
+        count = self.counts[session] = self.counts.get(session, 0) + 1
+        self.current[session] = Transaction(session, count, stamp)
+        self.begins[session, count] = stamp
+        if stamp < self.opened + 5 or stamp <= self.met.get(session if self.at_once else None, 0):
+            raise Bad(f"line {number} begins below what its session met before")
+
+    def meet(self, session, stamp):
+        """A commit with this stamp was met by a line of the session."""
+        key = session if self.at_once else None
+        self.met[key] = max(self.met.get(key, 0), stamp)
+
+    def end(self, number, session, answer):
+        """The end of a session's transaction, if the answer tells one."""
+        if answer[0] not in ("committed", "excluded", "aborted", "owned", "newer"):
+            return
+        transaction = self.current.pop(session, None)
+        if transaction is None:
+            raise Bad(f"line {number} ends no transaction")
+        self.over.append(transaction)
+        if answer[0] == "committed":
+            transaction.end("committed", int(answer[1]), int(answer[3]), int(answer[5]))
+            self.last[session] = transaction.stamp
+            self.meet(session, transaction.stamp)
+        elif answer[:2] == ["excluded", "at"]:
+            transaction.end("excluded", int(answer[2]), int(answer[4]), int(answer[6]))
+        elif answer[0] == "excluded":
+            transaction.end("excluded", None, int(answer[2]), int(answer[4]))
+            self.meet(session, transaction.pred)
+        else:
+            transaction.end("aborted")
+            if answer[0] == "owned":
+                self.named.append((session, transaction.name[1], int(answer[1]), int(answer[2])))
+        if transaction.sealed not in (None, transaction.stamp):
+            raise Bad(f"line {number} tells another stamp than the seal")
 
 
-def check(script, report, opening):
+def heard(script, report, at_once):
+    """What the answers and the sessions closed tell, and where the order stands."""
+    told, at = Heard(int(report[0].split(" ")[1]), at_once), 1
+    for number, session, words in script:
+        front, _, answer = report[at].partition(" ")
+        if front != str(number) or not ANSWER.fullmatch(answer):
+            raise Bad(f"line {number} of the script has no answer: {report[at]!r}")
+        told.line(number, session, words, answer.split(" "))
+        at += 1
+    while report[at].startswith("close "):
+        _, session, answer = report[at].split(" ", 2)
+        told.end("of a close", session, answer.split(" "))
+        at += 1
+    if told.current:
+        raise Bad(f"sessions stand open at the end: {sorted(told.current)}")
+    return told, at
+
+
+def rows_at(report, at, word):
+    """The lines behind one that counts them."""
+    words = report[at].split(" ")
+    if words[0] != word:
+        raise Bad(f"no {word}: {report[at]!r}")
+    return report[at + 1 : at + 1 + int(words[1])]
+
+
+def check(script, report, opening, at_once):
     if not report or not report[0].startswith("open "):
         raise Bad("no opening line")
     if report[-2:] != ["end", ""]:
         raise Bad("the report isn't whole")
-    at = 1
-    current, counts, told, names = {}, {}, [], []
-
-    def end(session, ending):
-        transaction = current.pop(session)
-        transaction.ending = ending
-        told.append(transaction)
-
-    def heard(session, words, answer, line):
-        if answer[0] == "begin":
-            if session in current:
-                raise Bad(f"line {line} begins in a transaction")
-            counts[session] = counts.get(session, 0) + 1
-            current[session] = Transaction(session, counts[session], int(answer[1]))
-        elif answer[0] == "committed":
-            end(session, ("committed", int(answer[1]), int(answer[3]), int(answer[5])))
-        elif answer[0] == "excluded":
-            late = answer[1] == "at"
-            numbers = (int(answer[4]), int(answer[6])) if late else (int(answer[2]), int(answer[4]))
-            end(session, ("excluded", int(answer[2]) if late else None, *numbers))
-        elif answer[0] in ("aborted", "owned", "newer"):
-            end(session, ("aborted",))
-        elif words and is_reply(answer):
-            current[session].steps.append((words, answer))
-
-    for number, session, words in script:
-        front, _, answer = report[at].partition(" ")
-        if front != str(number):
-            raise Bad(f"line {number} of the script has no answer: {report[at]!r}")
-        if session is not None and session not in names:
-            names.append(session)
-        if session is not None:
-            heard(session, words, answer.split(" "), number)
-        at += 1
-    while report[at].startswith("close "):
-        _, session, answer = report[at].split(" ", 2)
-        heard(session, None, answer.split(" "), 0)
-        at += 1
-    if current:
-        raise Bad(f"sessions stand open at the end: {sorted(current)}")
+    told, at = heard(script, report, at_once)
     order = []
-    for line in report[at + 1 : at + 1 + int(report[at].split(" ")[1])]:
+    for line in rows_at(report, at, "order"):
         words = line.split(" ")
-        if words[0] != "commit":
+        if not COMMIT.fullmatch(line):
             raise Bad(f"no commit: {line!r}")
         order.append((words[1], int(words[2]), int(words[4]), int(words[6]), int(words[8])))
     at += 1 + len(order)
-    pairs = {}
-    for line in report[at + 1 : at + 1 + int(report[at].split(" ")[1])]:
-        _, table, key, value = line.split(" ")
-        pairs[int(table), int(key)] = value
-    if report[at + 1 + len(pairs) :] != ["end", ""]:
-        raise Bad("something stands behind the map")
-    committed = {(it.session, it.number, *it.ending[1:]): it for it in told if it.ending[0] == "committed"}
+    lines = rows_at(report, at, "map")
+    pairs = pairs_of(lines)
+    if report[at + 1 + len(lines) :] != ["end", ""] or len(pairs) < len(lines):
+        raise Bad("something stands behind the map, or twice in it")
+    committed = {(*it.name, it.stamp, it.succ, it.pred): it for it in told.over if it.ending == "committed"}
     if len(order) != len(set(order)) or set(order) != set(committed):
         raise Bad("the order's commits aren't those that the answers tell")
     check_order(order, committed, opening, pairs)
-    check_snapshots(told, committed, opening)
-    check_windows(told, committed)
-    return len(told), len(order)
+    check_snapshots(told.over, committed.values(), opening)
+    check_windows(told.over)
+    check_stamps(told)
+    return len(told.over), len(order)
 
 
 def check_order(order, committed, opening, pairs):
-    stamps = [it[2] for it in order]
-    if len(set(stamps)) != len(stamps):
-        raise Bad("two commits have one stamp")
     rank = [(it[3], -it[2]) for it in order]
     if rank != sorted(rank):
         raise Bad("the order isn't the serial order")
-    values = dict(opening)
+    values = Values(opening)
     for name in order:
         for words, reply in committed[name].steps:
-            if reply != reply_on(values, words):
-                raise Bad(f"{name}: {words} is answered {reply}, and by the order {reply_on(values, words)}")
-            if words[0] in ("put", "del"):
-                values[int(words[1]), int(words[2])] = words[3] if words[0] == "put" else None
-    left = {key: value for key, value in values.items() if value is not None}
-    if left != pairs:
+            owed = answered(values, words)
+            if reply != owed:
+                raise Bad(f"{name}: {words} is answered {reply}, and by the order {owed}")
+    if values.values != pairs:
         raise Bad("the printed map isn't the one behind the order")
 
 
 def check_snapshots(told, committed, opening):
-    by_stamp = sorted(committed.values(), key=lambda it: it.ending[1])
-    values, done = dict(opening), 0
+    by_stamp = sorted(committed, key=lambda it: it.stamp)
+    values, done = Values(opening), 0
     for transaction in sorted(told, key=lambda it: it.begin):
-        while done < len(by_stamp) and by_stamp[done].ending[1] < transaction.begin:
-            values.update(by_stamp[done].writes())
+        while done < len(by_stamp) and by_stamp[done].stamp < transaction.begin:
+            for place, value in by_stamp[done].writes().items():
+                values.put(place, value)
             done += 1
-        own = dict(values)
+        snapshot = Snapshot(values)
         for words, reply in transaction.steps:
-            if reply != reply_on(own, words):
-                raise Bad(f"{transaction.session} {transaction.number}: {words} is answered {reply}, and on its snapshot {reply_on(own, words)}")
-            if words[0] in ("put", "del"):
-                own[int(words[1]), int(words[2])] = words[3] if words[0] == "put" else None
+            owed = answered(snapshot, words)
+            if reply != owed:
+                raise Bad(f"{transaction.name}: {words} is answered {reply}, and on its snapshot {owed}")
 
 
-def check_windows(told, committed):
+def writers_of(told):
+    """The commits that wrote each key, by their stamps, and these stamps. Each overwrote a version that it saw."""
     made = {}
-    for it in committed.values():
-        for key in it.writes():
-            made.setdefault(key, []).append(it)
-    for writers in made.values():
-        writers.sort(key=lambda it: it.ending[1])
-        for one, other in zip(writers, writers[1:]):
-            if other.begin <= one.ending[1]:
-                raise Bad(f"{other.session} {other.number} overwrote a version of {one.session} {one.number} that it can't have seen")
+    for it in sorted((it for it in told if it.ending == "committed"), key=lambda it: it.stamp):
+        for place in it.writes():
+            its, stamps = made.setdefault(place, ([], []))
+            if stamps and it.begin <= stamps[-1]:
+                raise Bad(f"{it.name} overwrote a version of {its[-1].name} that it can't have seen")
+            its.append(it)
+            stamps.append(it.stamp)
+    return made
+
+
+def check_windows(told):
+    made = writers_of(told)
     for transaction in told:
-        if transaction.ending[0] == "aborted":
+        if transaction.ending == "aborted":
             continue
-        stamp, succ, pred = transaction.ending[1:]
-        if (transaction.ending[0] == "committed") != (pred < succ):
-            raise Bad(f"{transaction.session} {transaction.number}: the window {succ} {pred} doesn't fit {transaction.ending[0]}")
-        if transaction.ending[0] != "committed":
-            continue
-        if succ > stamp:
-            raise Bad(f"{transaction.session} {transaction.number}: its successor stamp is above its stamp")
-        keys = {(int(words[1]), int(words[2])) for words, _ in transaction.steps if words[0] == "get"}
-        for key in keys:
-            later = [it for it in made.get(key, []) if transaction.begin <= it.ending[1] < stamp and it is not transaction]
-            if later and later[0].ending[2] < succ:
-                raise Bad(f"{transaction.session} {transaction.number}: {later[0].session} {later[0].number} overwrote what it read, with a lower successor stamp")
+        if (transaction.ending == "committed") != (transaction.pred < transaction.succ):
+            raise Bad(f"{transaction.name}: its window doesn't fit {transaction.ending}")
+        if transaction.ending == "committed":
+            check_window(transaction, made)
+
+
+def check_window(it, made):
+    """The two ends of a commit's window, as far as keys tell them."""
+    if it.succ > it.stamp:
+        raise Bad(f"{it.name}: its successor stamp is above its stamp")
+    gets = it.gets()
+    for place in gets | it.writes().keys():
+        its, stamps = made.get(place, ([], []))
+        first = bisect.bisect_left(stamps, it.begin)
+        if first and stamps[first - 1] > it.pred:
+            raise Bad(f"{it.name}: {its[first - 1].name} made what it read or overwrote, with a greater stamp than its predecessor stamp")
+        if place in gets and first < len(its) and its[first].stamp < it.stamp and its[first].succ < it.succ:
+            raise Bad(f"{it.name}: {its[first].name} overwrote what it read, with a lower successor stamp")
+
+
+def check_stamps(told):
+    stamps = [it.stamp for it in told.over if it.stamp is not None]
+    if len(set(stamps)) != len(stamps):
+        raise Bad("two transactions have one stamp")
+    if any(it.stamp is not None and it.stamp < max(it.begin, told.opened + 5) for it in told.over):
+        raise Bad("a stamp lies below its transaction's begin")
+    lowest = {}
+    for (session, number), begin in sorted(told.begins.items(), reverse=True):
+        lowest[session, number] = min(begin, lowest.get((session, number + 1), begin))
+    names = {seat: session for session, seat in told.seats.items()}
+    for session, number, seat, owner in told.named:
+        begin = told.begins.get((names.get(seat), owner))
+        if begin is None:
+            raise Bad(f"{session} {number} met an owner that there isn't")
+        if lowest.get((session, number + 1), begin) < begin:
+            raise Bad(f"{session} begins below an owner that it met")
 
 
 def main():
-    script, report = script_of(sys.argv[1]), lines_of(sys.argv[2])
-    opening = {}
-    if len(sys.argv) > 3:
-        for line in lines_of(sys.argv[3]):
-            if line.startswith("pair "):
-                _, table, key, value = line.split(" ")
-                opening[int(table), int(key)] = value
+    words = sys.argv[1:]
+    at_once = words[0] == "--at-once"
+    script, report, *opening = words[1:] if at_once else words
+    opening = pairs_of(line for path in opening for line in lines_of(path) if line.startswith("pair "))
     try:
-        count, commits = check(script, report, opening)
-    except Bad as bad:
-        print(f"bad: {bad}")
+        count, commits = check(script_of(script), lines_of(report), opening, at_once)
+    except (Bad, IndexError, KeyError, ValueError) as bad:
+        print(f"bad: {bad!r}" if not isinstance(bad, Bad) else f"bad: {bad}")
         return 1
     print(f"good: {count} transactions, {commits} commits")
     return 0
