@@ -32,7 +32,7 @@ for script in "$examples"/*.erm; do
     count "$name, the gate's script" cmp "$script" "$data/example_$name.script"
     count "$name, the gate's report" cmp <(echo 0; cat "$examples/$name.out") "$data/example_$name.report"
 done
-for script in crash checkpoint stream; do
+for script in crash checkpoint stream threads; do
     "$examples/$script.sh" "$program" >"$folder/$script.out"
     count "$script" cmp "$folder/$script.out" "$examples/$script.out"
 done
@@ -66,6 +66,7 @@ if [[ $program == "$(readlink -f "$top/erm")" ]]; then
     count "--version" says 0 "log format 2" --version
     count "an unknown word" says 2 '"frob" is no command' frob
     count "run with a word" says 2 "the script comes on standard input" run x.erm
+    count "threads with a word" says 2 "erm threads < x.erm" threads x.erm
     count "copy" says 0 "copied 1 files" copy "$folder/copied"
     count "-C" says 0 "recovered 42 run 1" -C "$folder/copied" recover
     count "explain" says 0 "18: line 14 (a put 0 10) overwrites" explain "$examples/write_skew.erm" "$examples/write_skew.out"
