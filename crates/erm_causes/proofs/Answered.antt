@@ -15,7 +15,7 @@ use Rattle.erm_node.specs.Sound.{sound_law}
 use Rattle.erm_world.specs.Calls.{IsDone}
 use Rattle.erm_world.specs.Laws.{FitsWork, IsSerializable}
 use Rattle.erm_world.specs.Works.{claiming, reading}
-use Rattle.erm_world.specs.World.{Finished, Has, IsSession, Session, Stand, View, Work, history_of, phase_at, phase_of, stamp_of, work_at, work_of}
+use Rattle.erm_world.specs.World.{Finished, IsSession, Session, Stand, View, Work, history_of, phase_at, phase_of, stamp_of, work_at, work_of}
 use Rattle.erm_world.specs.World as world
 use Rattle.erm_world.proofs.Lists.{∈-before, ∈-last}
 use Rattle.erm_world.proofs.Works.{is_claimed-push, row_read-push}
@@ -29,7 +29,8 @@ use Rattle.erm_lines.specs.Operations.{AsksOf, FrontOf, WereCutOff}
 use Rattle.erm_causes.specs.Touched.{AreOfTables, Touches, WasClosed}
 use Rattle.erm_causes.proofs.Begun.{CommitsKeep}
 use Rattle.erm_causes.proofs.Coloured.{AskedOf, KeepsTables}
-use Rattle.erm_causes.proofs.Fine.{FineNow, FineOne, FineOver, IsFine, Turned, history_grows, over_later, over_one_more, still_session, touches_same, turned_then}
+use Rattle.erm_causes.proofs.Fine.{FineNow, FineOne, FineOver, IsFine, Turned, history_grows, over_later, still_session, touches_same, turned_then}
+use Rattle.erm_causes.proofs.Together.{together_one_more}
 use Rattle.erm_causes.proofs.Lines.{CutFine, commits_keep, current_in, cut_fine, names_line, ran_made, stays_keep, turned_by, whole_fine, writes_line}
 use Rattle.erm_causes.proofs.Made.{made_by_one, made_done}
 use Rattle.erm_causes.proofs.Operated.{EndsBy, GoesOnBy, Last, Operated, ShutAs}
@@ -180,7 +181,7 @@ ends_fine table v u seat c a p t ending w hears is turned done fine touches clos
       one = record { touches = touches_same table (with_line (Some c) a t) (with_ending ending (with_line (Some c) a t)) w refl touches; closed = closed };
       keeps = λ stamp at. cc;
     } in
-    let over = over_one_more table (history_of u) p.over (v.session seat).over _ _ (over_of table v u seat p turned fine) one in
+    let over = together_one_more (FineOne table (history_of u)) p.over (v.session seat).over _ _ (over_of table v u seat p turned fine) one in
     subst (λ (q : Progress). IsFine table (history_of u) q (u.session seat)) (sym (hears seat (Some c) p))
     (subst (λ (s : Session). IsFine table (history_of u) (ended ending (goes_on (Some c) a p)) s) (sym done) (record {
       over = subst (λ (r : Option Transaction). FineOver table (history_of u) (p.over ++ option_to_list (option_map (with_ending ending) (option_map (with_line (Some c) a) r)))

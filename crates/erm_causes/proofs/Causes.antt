@@ -2,20 +2,21 @@
 use Rattle.std.proofs.Common.{◌≡◌, ℕ, zero, suc, ◌<◌, ◌≤◌, ◌⊎◌, List, [], ◌∷◌, ◌++◌, Option, Some, None, slice_get, flat_map, option_to_list, inl, inr, refl, sym, ap, ◌∙◌, subst, arith}
 use Rattle.std.specs.List.{range_with_len}
 use Rattle.erm_model.specs.declared.history.TransactionRecord.{TransactionRecord}
-use Rattle.erm_model.specs.History.{History, IsPredecessorStamp, IsSuccessorStamp}
+use Rattle.erm_model.specs.History.{IsPredecessorStamp, IsSuccessorStamp}
 use Rattle.erm_model.specs.Member.{◌∈◌}
 use Rattle.erm_model.proofs.Members.{none_in_nil}
 use Rattle.erm_machine.proofs.Listed.{∈-either, ∈-first, ∈-second}
 use Rattle.erm_node.specs.Sound.{sound_law}
 use Rattle.erm_world.specs.Laws.{IsCommitOf, IsSerializable}
-use Rattle.erm_world.specs.World.{Fate, Finished, IsSession, Session, Stand, View, Work, history_of, record_of}
+use Rattle.erm_world.specs.World.{Fate, Finished, IsSession, Stand, View, history_of, record_of}
 use Rattle.erm_world.specs.World as world
 use Rattle.erm_world.proofs.Commits.{tells_commits}
 use Rattle.erm_good_report.specs.Causes.{CommitsBeside, HasCauseOf, HasWindow, OverwritesBeside}
 use Rattle.erm_good_report.specs.Transactions.{Aborts, Commits, Ending, Excludes, Unfinished, Said, Transaction, progress_of, transactions_of}
-use Rattle.erm_lines.specs.Told.{EndsAs, Tells, TellsNow, TellsOne, TellsOver}
+use Rattle.erm_lines.specs.Told.{EndsAs, Tells, TellsNow}
 use Rattle.erm_told.proofs.Ranges.{in_range, in_range_from}
-use Rattle.erm_causes.specs.Touched.{TouchesAll, TouchesOne, TouchesOver, WasClosed}
+use Rattle.erm_causes.specs.Touched.{TouchesAll, TouchesOne, WasClosed}
+use Rattle.erm_causes.proofs.Together.{Both, both_over, both_told, commits_as}
 use Rattle.erm_causes.proofs.Beside.{ToldCommit, commits_beside, overwrites_after, overwrites_beside, shows_closed}
 
 -- what stands in joined lists stands in one of them
@@ -31,35 +32,6 @@ from_flat f [] x y k at m = cc
 from_flat {X} {Y} f (z ∷ xs) x y zero at m =
     let same : z ≡ x = cc in ∈-first (f z) (flat_map f xs) y (subst (λ (q : X). y ∈ f q) (sym same) m)
 from_flat f (z ∷ xs) x y (suc k) at m = ∈-second (f z) (flat_map f xs) y (from_flat f xs x y k at m)
-
--- One told, beside the one of the world.
-pub record BothAt (seat : ℕ) (table : ℕ → ℕ) (h : History) (t : Transaction) (f : Finished) : Type 0 where
-  pub tells : TellsOne seat t f
-  pub touches : TouchesOne table h t f
-
-pub both_told : (seat : ℕ) (table : ℕ → ℕ) (h : History) (ts : List Transaction) (fs : List Finished) (k : ℕ) (t : Transaction) → TellsOver seat ts fs → TouchesOver table h ts fs
-    → slice_get ts k ≡ Some t → (f : Finished) × (slice_get fs k ≡ Some f) × BothAt seat table h t f
-both_told seat table h [] fs k t told touched at = cc
-both_told seat table h (u ∷ ts) [] k t told touched at = absurd told
-both_told seat table h (u ∷ ts) (f ∷ fs) zero t told touched at =
-    let same : u ≡ t = cc in (f, refl, subst (λ (x : Transaction). BothAt seat table h x f) same (record { tells = told.0; touches = touched.0 }))
-both_told seat table h (u ∷ ts) (f ∷ fs) (suc k) t told touched at = both_told seat table h ts fs k t told.1 touched.1 at
-
-pub both_over : (seat : ℕ) (table : ℕ → ℕ) (h : History) (ts : List Transaction) (fs : List Finished) (k : ℕ) (f : Finished) → TellsOver seat ts fs → TouchesOver table h ts fs
-    → slice_get fs k ≡ Some f → (t : Transaction) × (slice_get ts k ≡ Some t) × BothAt seat table h t f
-both_over seat table h ts [] k f told touched at = cc
-both_over seat table h [] (g ∷ fs) k f told touched at = absurd told
-both_over seat table h (t ∷ ts) (g ∷ fs) zero f told touched at =
-    let same : g ≡ f = cc in (t, refl, subst (λ (x : Finished). BothAt seat table h t x) same (record { tells = told.0; touches = touched.0 }))
-both_over seat table h (t ∷ ts) (g ∷ fs) (suc k) f told touched at = both_over seat table h ts fs k f told.1 touched.1 at
-
--- one that committed is told to have, with its stamps
-commits_as : (ending : Ending) (stamp succ pred : ℕ) → EndsAs ending (world.commits stamp succ pred) → ending ≡ Commits stamp succ pred
-commits_as Unfinished stamp succ pred ends = absurd ends
-commits_as (Commits s u p) stamp succ pred ends = ap (λ n. Commits n u p) ends.0 ∙ ap (λ n. Commits stamp n p) ends.1 ∙ ap (λ n. Commits stamp succ n) ends.2
-commits_as (Excludes None u p) stamp succ pred ends = absurd ends
-commits_as (Excludes (Some s) u p) stamp succ pred ends = absurd ends
-commits_as Aborts stamp succ pred ends = absurd ends
 
 -- one that is over is told
 pub over_told : (sessions : ℕ) (said : List Said) (seat : ℕ) → 0 < seat → seat ≤ sessions → (t : Transaction) → t ∈ (progress_of seat said).over → t ∈ transactions_of sessions said
@@ -88,7 +60,7 @@ module _ (v : View) (sessions : ℕ) (said : List Said) (table : ℕ → ℕ) (h
   commit_over u within =
       let own : IsCommitOf v u = (tells_commits v).only u within in
       let f : Finished = record { work = own.work; fate = world.commits own.stamp own.succ own.pred } in
-      let found = both_over own.seat table (history_of v) (progress_of own.seat said).over (v.session own.seat).over own.over.0 f
+      let found = both_over own.seat (TouchesOne table (history_of v)) (progress_of own.seat said).over (v.session own.seat).over own.over.0 f
       (tells own.seat own.session).over (touches own.seat own.session).over own.over.1 in
       let same = found.2.tells.work.session in
       subst (λ (r : TransactionRecord). OverCommit v table sessions said r) (sym own.is) (record {
@@ -97,7 +69,7 @@ module _ (v : View) (sessions : ℕ) (said : List Said) (table : ℕ → ℕ) (h
           of = told_over own.seat own.session found.0 (own.over.0, found.1);
           session = same;
           ending = commits_as found.0.ending own.stamp own.succ own.pred found.2.tells.ends;
-          touches = record { reads = found.2.touches.touches.reads; claims = found.2.touches.touches.claims };
+          touches = record { reads = found.2.so_is.touches.reads; claims = found.2.so_is.touches.claims };
         };
         session = subst (λ (q : ℕ). IsSession v q) (sym same) own.session;
         over = subst (λ (q : ℕ). found.0 ∈ (progress_of q said).over) (sym same) (own.over.0, found.1);
@@ -107,7 +79,7 @@ module _ (v : View) (sessions : ℕ) (said : List Said) (table : ℕ → ℕ) (h
   commit_told u within = (commit_over u within).told
 
   -- the window of a commit
-  module _ (seat : ℕ) (session : IsSession v seat) (t : Transaction) (f : Finished) (over : f ∈ (v.session seat).over) (both : BothAt seat table (history_of v) t f) where
+  module _ (seat : ℕ) (session : IsSession v seat) (t : Transaction) (f : Finished) (over : f ∈ (v.session seat).over) (both : Both seat (TouchesOne table (history_of v)) t f) where
     window_of : (stamp succ pred : ℕ) → f.fate ≡ world.commits stamp succ pred → HasWindow (transactions_of sessions said) t stamp succ pred
     window_of stamp succ pred is =
         let r = record_of seat f.work stamp succ pred in
@@ -136,11 +108,11 @@ module _ (v : View) (sessions : ℕ) (said : List Said) (table : ℕ → ℕ) (h
                   commit.by,
                   commit.of,
                   subst (λ (n : ℕ). OverwritesBeside commit.by t (Some stamp) n) (sym found.2)
-                      (overwrites_beside table (transactions_of sessions said) t f.work both.touches.touches found.0 commit (Some stamp) found.1.2
+                      (overwrites_beside table (transactions_of sessions said) t f.work both.so_is.touches found.0 commit (Some stamp) found.1.2
                       (omega (
                         arith,
                         both.tells.work.begin,
-                        overwrites_after table (transactions_of sessions said) t f.work both.touches.touches (history_of v) v.opening.rows holds.snapshots sees.reads found.0 found.1.0 found.1.2,
+                        overwrites_after table (transactions_of sessions said) t f.work both.so_is.touches (history_of v) v.opening.rows holds.snapshots sees.reads found.0 found.1.0 found.1.2,
                       ))
                       found.1.1),
                 )
@@ -154,7 +126,7 @@ module _ (v : View) (sessions : ℕ) (said : List Said) (table : ℕ → ℕ) (h
                   commit.of,
                   omega (arith, found.1.1, found.2),
                   subst (λ (n : ℕ). CommitsBeside commit.by t n) (sym found.2)
-                      (commits_beside table (transactions_of sessions said) t f.work both.touches.touches found.0 commit found.1.2),
+                      (commits_beside table (transactions_of sessions said) t f.work both.so_is.touches found.0 commit found.1.2),
                 )
           ];
         }
@@ -169,8 +141,8 @@ module _ (v : View) (sessions : ℕ) (said : List Said) (table : ℕ → ℕ) (h
     cause_as Unfinished is = tt
     cause_as (Commits stamp succ pred) is = committed_cause f.fate refl stamp succ pred (subst (λ (e : Ending). EndsAs e f.fate) is both.tells.ends)
     cause_as (Excludes stamp succ pred) is =
-        shows_closed table (transactions_of sessions said) t f.work both.touches.touches (history_of v) v.opening.rows holds.snapshots (holds.sees seat f.work session (inl (f, over, refl))).reads
-        commit_told both.tells.work.begin stamp succ pred (subst (λ (e : Ending). WasClosed (history_of v) e f.work) is both.touches.closed)
+        shows_closed table (transactions_of sessions said) t f.work both.so_is.touches (history_of v) v.opening.rows holds.snapshots (holds.sees seat f.work session (inl (f, over, refl))).reads
+        commit_told both.tells.work.begin stamp succ pred (subst (λ (e : Ending). WasClosed (history_of v) e f.work) is both.so_is.closed)
     cause_as Aborts is = tt
 
   now_cause : (seat : ℕ) (session : IsSession v seat) (current : Option Transaction) → TellsNow seat current (v.session seat).stand → (t : Transaction) → t ∈ option_to_list current → t.ending ≡ Unfinished
@@ -191,7 +163,7 @@ module _ (v : View) (sessions : ℕ) (said : List Said) (table : ℕ → ℕ) (h
       let session : IsSession v seat = (omega (arith, bounds.0), omega (arith, bounds.1, of)) in
       elim (∈-either (progress_of seat said).over (option_to_list (progress_of seat said).current) t found.2) as (λ _. HasCauseOf t.ending (transactions_of sessions said) t) [
         | inl over ↦
-            let both = both_told seat table (history_of v) (progress_of seat said).over (v.session seat).over over.0 t (tells seat session).over (touches seat session).over over.1 in
+            let both = both_told seat (TouchesOne table (history_of v)) (progress_of seat said).over (v.session seat).over over.0 t (tells seat session).over (touches seat session).over over.1 in
             cause_as seat session t both.0 (over.0, both.1) both.2 t.ending refl
         | inr now ↦
             subst (λ (e : Ending). HasCauseOf e (transactions_of sessions said) t) (sym (now_cause seat session (progress_of seat said).current (tells seat session).now t now)) tt

@@ -7,13 +7,13 @@ use Rattle.erm_model.specs.Member.{◌∈◌}
 use Rattle.erm_model.specs.Run.{Step}
 use Rattle.erm_machine.proofs.Listed.{∈-first}
 use Rattle.erm_world.specs.Laws.{IsCommitOf}
-use Rattle.erm_world.specs.World.{Fate, Finished, IsSession, Session, Stand, View, Work, history_of, stamp_of, work_of}
+use Rattle.erm_world.specs.World.{Finished, IsSession, Session, Stand, View, Work, history_of, stamp_of}
 use Rattle.erm_world.specs.World as world
 use Rattle.erm_world.proofs.Commits.{tells_commits}
 use Rattle.erm_maps.specs.Runs.{IsRunOf}
 use Rattle.erm_good_report.specs.Causes.{NamesTable, WritesTable}
 use Rattle.erm_good_report.specs.Transactions.{Ending, Excludes, Exchange, Progress, Transaction}
-use Rattle.erm_causes.specs.Touched.{Touches, TouchesAll, TouchesNow, TouchesOne, TouchesOver, WasClosed}
+use Rattle.erm_causes.specs.Touched.{Together, Touches, TouchesAll, TouchesNow, TouchesOne, TouchesOver, WasClosed}
 use Rattle.erm_causes.proofs.Coloured.{KeepsTables}
 
 -- one that is over, and keeps to its tables where it was sealed
@@ -22,10 +22,7 @@ pub record FineOne (table : ℕ → ℕ) (h : History) (t : Transaction) (f : Fi
   pub keeps : (stamp : ℕ) → stamp_of f.fate ≡ Some stamp → KeepsTables table f.work
 
 abbrev pub FineOver : (ℕ → ℕ) → History → List Transaction → List Finished → Type 0
-FineOver table h [] [] = Unit {0}
-FineOver table h [] (f ∷ fs) = ⊥
-FineOver table h (t ∷ ts) [] = ⊥
-FineOver table h (t ∷ ts) (f ∷ fs) = FineOne table h t f × FineOver table h ts fs
+FineOver table h ts fs = Together (FineOne table h) ts fs
 
 -- one in progress touches so, keeps to its tables, and is the run of some operations where it isn't sealed
 abbrev pub FineNow : (ℕ → ℕ) → Option Transaction → Stand → Type 0
@@ -82,13 +79,6 @@ over_later table h g more (t ∷ ts) (f ∷ fs) fine = (
   record { one = record { touches = fine.0.one.touches; closed = closed_later h g more t.ending f.work fine.0.one.closed }; keeps = fine.0.keeps },
   over_later table h g more ts fs fine.1,
 )
-
-pub over_one_more : (table : ℕ → ℕ) (h : History) (ts : List Transaction) (fs : List Finished) (t : Transaction) (f : Finished) → FineOver table h ts fs → FineOne table h t f
-    → FineOver table h (ts ++ t ∷ []) (fs ++ f ∷ [])
-over_one_more table h [] [] t f fine one = (one, tt)
-over_one_more table h [] (g ∷ fs) t f fine one = absurd fine
-over_one_more table h (u ∷ ts) [] t f fine one = absurd fine
-over_one_more table h (u ∷ ts) (g ∷ fs) t f fine one = (fine.0, over_one_more table h ts fs t f fine.1 one)
 
 keeps_at : (table : ℕ → ℕ) (h : History) (ts : List Transaction) (fs : List Finished) (k : ℕ) (f : Finished) (stamp : ℕ) → FineOver table h ts fs → slice_get fs k ≡ Some f
     → stamp_of f.fate ≡ Some stamp → KeepsTables table f.work

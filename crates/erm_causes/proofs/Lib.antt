@@ -22,4 +22,5 @@ pub mod Refusals
 pub mod Runs
 pub mod Shown
 pub mod Tables
+pub mod Together
 pub mod Waits

@@ -10,7 +10,7 @@ use Rattle.erm_model.specs.Member.{◌∈◌}
 use Rattle.erm_node.specs.Sound.{sound_law}
 use Rattle.erm_world.specs.Calls.{DidSeal, IsDone, Works}
 use Rattle.erm_world.specs.Laws.{IsCommitOf, IsSerializable}
-use Rattle.erm_world.specs.World.{Fate, Finished, IsSession, Session, Stand, View, Work, history_of, made_by_all, made_in, made_upto, phase_at, phase_of, stamp_of, work_at, work_of}
+use Rattle.erm_world.specs.World.{Fate, IsSession, Session, Stand, View, Work, history_of, made_by_all, made_in, made_upto, phase_at, phase_of, work_at, work_of}
 use Rattle.erm_world.specs.World as world
 use Rattle.erm_world.proofs.Commits.{tells_commits}
 use Rattle.erm_maps.specs.Runs.{IsRunOf}
@@ -26,7 +26,8 @@ use Rattle.erm_causes.specs.Touched.{AreOfTables, Touches, WasClosed}
 use Rattle.erm_causes.proofs.Answered.{done_turned, now_active, operated_fine, operated_made, operated_turned}
 use Rattle.erm_causes.proofs.Begun.{CommitsKeep}
 use Rattle.erm_causes.proofs.Coloured.{KeepsTables}
-use Rattle.erm_causes.proofs.Fine.{FineNow, FineOne, FineOver, IsFine, Turned, history_grows, over_keeps, over_later, over_one_more, still_session, touches_nothing, touches_same, turned_then}
+use Rattle.erm_causes.proofs.Fine.{FineNow, FineOne, FineOver, IsFine, Turned, history_grows, over_keeps, over_later, still_session, touches_nothing, touches_same, turned_then}
+use Rattle.erm_causes.proofs.Together.{together_one_more}
 use Rattle.erm_causes.proofs.Made.{made_by_one, made_done}
 use Rattle.erm_causes.proofs.Own.{TreeLaws}
 use Rattle.erm_causes.proofs.Quiet.{HasNow, Lined, Quiet, SameLines, SameNow, closed_quiet, lined}
@@ -145,7 +146,7 @@ module _ (table : ℕ → ℕ) where
       } in
       subst (λ (s : Session). IsFine table (history_of t) (ended ending p) s) (sym did.own) (record {
         over = subst (λ (r : Option Transaction). FineOver table (history_of t) (p.over ++ option_to_list (option_map (with_ending ending) r)) ((v.session seat).over ++ record { work = w; fate = fate } ∷ []))
-            (sym now.is) (over_one_more table (history_of t) p.over (v.session seat).over _ _ over one);
+            (sym now.is) (together_one_more (FineOne table (history_of t)) p.over (v.session seat).over _ _ over one);
         now = tt;
       })
 

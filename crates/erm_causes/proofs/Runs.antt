@@ -14,7 +14,7 @@ use Rattle.erm_good_report.specs.Transactions.{Progress, nothing, progress_of}
 use Rattle.erm_lines.specs.Executions.{AreClosed, IsCourse, IsExecution, Move, close, flush, line, line_moves, log}
 use Rattle.erm_told.proofs.Closing.{AreLast}
 use Rattle.erm_told.proofs.Runs.{executed_both, last_moves, same_progress}
-use Rattle.erm_script.specs.Script.{IsInRange}
+use Rattle.erm_told_limits.specs.Limits.{AreInRange}
 use Rattle.erm_causes.specs.Laws.{RunsTouchTables}
 use Rattle.erm_causes.specs.Touched.{TouchesAll}
 use Rattle.erm_causes.proofs.Fine.{fine_touches, still_session}
@@ -22,10 +22,6 @@ use Rattle.erm_causes.proofs.Moves.{move_range}
 use Rattle.erm_causes.proofs.Own.{TreeLaws}
 use Rattle.erm_causes.proofs.Tables.{AreMovesInRange, TableOf, heard_moves, heard_said, opened_fine, run_fine, run_opening, table_of_run}
 use Rattle.erm_told_limits.proofs.Given.{HistoryLaws}
-
--- the commands of a script are in range
-abbrev pub AreInRange : List ScriptLine → Type 0
-AreInRange script = (l : ScriptLine) → l ∈ script → IsInRange l.command
 
 -- lines in range, and what closes the sessions
 pub lines_range : (script : List ScriptLine) (answers : List Answer) (more : List Move) → AreInRange script → AreMovesInRange more → AreMovesInRange (line_moves script answers ++ more)

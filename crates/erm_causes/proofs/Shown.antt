@@ -42,7 +42,8 @@ use Rattle.erm_causes.proofs.Moves.{AllFine, move_opening, move_range, session_b
 use Rattle.erm_causes.proofs.Own.{TreeLaws}
 use Rattle.erm_causes.proofs.Refusals.{excluded_cause, newer_cause, outcome_cause, owned_cause, wait_ring, wait_seat}
 use Rattle.erm_causes.proofs.Refused.{Known, KnowsStamps}
-use Rattle.erm_causes.proofs.Runs.{AreInRange, table_at, whole_run}
+use Rattle.erm_told_limits.specs.Limits.{AreInRange}
+use Rattle.erm_causes.proofs.Runs.{table_at, whole_run}
 use Rattle.erm_causes.proofs.Tables.{AreMovesInRange, TableOf, heard_said, opened_fine, run_fine, run_opening}
 use Rattle.erm_causes.proofs.Waits.{Allowed, allowed, committed_by, excluded_by}
 

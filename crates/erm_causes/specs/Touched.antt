@@ -46,12 +46,16 @@ pub record TouchesOne (table : ℕ → ℕ) (h : History) (t : Transaction) (f :
   pub touches : Touches table t f.work
   pub closed : WasClosed h t.ending f.work
 
+-- This is so of transactions told and of those of the world that are over, each beside the other, in turn.
+abbrev pub Together : (Transaction → Finished → Type 0) → List Transaction → List Finished → Type 0
+Together so [] [] = Unit {0}
+Together so [] (f ∷ fs) = ⊥
+Together so (t ∷ ts) [] = ⊥
+Together so (t ∷ ts) (f ∷ fs) = so t f × Together so ts fs
+
 -- those that are over, in turn
 abbrev pub TouchesOver : (ℕ → ℕ) → History → List Transaction → List Finished → Type 0
-TouchesOver table h [] [] = Unit {0}
-TouchesOver table h [] (f ∷ fs) = ⊥
-TouchesOver table h (t ∷ ts) [] = ⊥
-TouchesOver table h (t ∷ ts) (f ∷ fs) = TouchesOne table h t f × TouchesOver table h ts fs
+TouchesOver table h ts fs = Together (TouchesOne table h) ts fs
 
 -- the one in progress
 abbrev pub TouchesNow : (ℕ → ℕ) → Option Transaction → Stand → Type 0

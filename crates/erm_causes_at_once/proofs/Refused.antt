@@ -14,7 +14,7 @@ use Rattle.erm_script.specs.declared.script.Command.{Command}
 use Rattle.erm_script.specs.declared.script.Command.TheVariants as command
 use Rattle.erm_script.specs.declared.script.ScriptLine.{ScriptLine}
 use Rattle.erm_world.specs.Going.{Extends}
-use Rattle.erm_world.specs.World.{Finished, IsCurrent, IsSession, Session, Stand, View, Work, history_of, phase_at, phase_of, work_at, work_of}
+use Rattle.erm_world.specs.World.{IsCurrent, IsSession, Stand, View, Work, history_of, phase_at, phase_of, work_at}
 use Rattle.erm_world.specs.World as world
 use Rattle.erm_world.specs.Works.{is_claimed}
 use Rattle.erm_maps.specs.Runs.{IsAnswered, IsRunOf}
@@ -42,10 +42,11 @@ use Rattle.erm_told.proofs.Runs.{said_first}
 use Rattle.erm_told_at_once.proofs.Runs.{at_first, knows_own, runs_tell}
 use Rattle.erm_told_at_once.proofs.Stamping.{no_wait}
 use Rattle.erm_causes.specs.Laws.{IsForOthers}
-use Rattle.erm_causes.specs.Touched.{AreOfTables, Touches, TouchesNow}
+use Rattle.erm_causes.specs.Touched.{AreOfTables, Touches, TouchesNow, TouchesOne}
 use Rattle.erm_causes.proofs.Answered.{shut_closed}
 use Rattle.erm_causes.proofs.Beside.{claimed_at, shows_closed_by}
-use Rattle.erm_causes.proofs.Causes.{both_over, over_told}
+use Rattle.erm_causes.proofs.Causes.{over_told}
+use Rattle.erm_causes.proofs.Together.{both_over}
 use Rattle.erm_causes.proofs.Coloured.{AskedOf}
 use Rattle.erm_causes.proofs.Lines.{CutFine}
 use Rattle.erm_causes.proofs.Moments.{the_told}
@@ -271,11 +272,11 @@ module _ (tree : TreeLaws) (laws : HistoryLaws) (begun : (number begin : ℕ) �
 
     claimed_told : is_claimed owned.work.claims oid ≡ true → world.Has f other owned.work → IsOwnedBy m c other number
     claimed_told claimed (inl (g, within, work_is)) =
-        let found = both_over other colour (history_of f) theirs.over (f.session other).over within.0 g
+        let found = both_over other (TouchesOne colour (history_of f)) theirs.over (f.session other).over within.0 g
         (told_there tree laws begun stay v f whole script answers closed run other owned.session).over (touches_all tree laws begun stay v f whole script answers closed run other owned.session).over within.1 in
         let tells = subst (λ (w : Work). TellsWork other found.0 w) work_is found.2.tells.work in
         owner_is m c k oid other number mode same named is owned.another found.0 (over_in found.0 (within.0, found.1)) tells.session (tells.number ∙ owned.number_is)
-        ((subst (λ (w : Work). Touches colour found.0 w) work_is found.2.touches.touches).claims oid claimed)
+        ((subst (λ (w : Work). Touches colour found.0 w) work_is found.2.so_is.touches).claims oid claimed)
     claimed_told claimed (inr now_is) =
         let (t, current, tells, touches) = now_told other colour theirs.current (f.session other).stand owned.work
         (told_there tree laws begun stay v f whole script answers closed run other owned.session).now (touches_all tree laws begun stay v f whole script answers closed run other owned.session).now now_is in

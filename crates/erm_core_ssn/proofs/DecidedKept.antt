@@ -1,5 +1,5 @@
 -- Each event keeps what is decided and what runs.
-use Rattle.std.proofs.Common.{◌≡◌, ℕ, ◌≤◌, Bool, true, false, Option, Some, None, refl, sym, arith}
+use Rattle.std.proofs.Common.{◌≡◌, ℕ, Bool, true, false, Option, Some, None, refl, sym, arith}
 use Rattle.std.specs.Prelude.{if◌then◌else◌}
 use Rattle.std.proofs.lemmas.Option.{same_Some}
 use Rattle.erm_machine.specs.declared.event.Kind.{Kind}
@@ -19,8 +19,9 @@ use Rattle.erm_machine.specs.Settling.{load_read_entry, load_settled_stamp, load
 use Rattle.erm_machine.specs.Sound.{Sound}
 use Rattle.erm_machine.specs.Step.{after_event, with_part, with_ring, shared_after}
 use Rattle.erm_machine.specs.Words.{put, begin_of}
+use Rattle.erm_machine.proofs.Versions.{tail_later}
 use Rattle.erm_machine.proofs.Guards.{when_then, if_then, unless_some}
-use Rattle.erm_machine.proofs.QuietKinds.{MeetsOne, Moves, moves, keeps_log}
+use Rattle.erm_machine.proofs.QuietKinds.{MeetsOne, Moves, moves}
 use Rattle.erm_core_ssn.proofs.DecidedCalm.{begin_word_leaves, load_entry_leaves, load_cell_leaves, swap_link_leaves, detached_leaves, load_counter_leaves, raise_leaves, store_succ_leaves, store_overwriter_leaves, clear_ring_leaves, store_flushed_leaves, load_ring_leaves}
 use Rattle.erm_core_ssn.proofs.DecidedCommits.{decide_kept}
 use Rattle.erm_core_ssn.proofs.DecidedDrawn.{add_tail_left}
@@ -88,11 +89,6 @@ leaves_of c p (kind.StoreFlushed value) d plain sound m = store_flushed_leaves c
 leaves_of c p kind.LoadFlushed d plain sound m = load_flushed_leaves c p sound c.shared.flushed (c.seats p).flushing m.part m.after
 leaves_of c p (kind.SwapLink v) d plain sound m = swap_link_leaves c p sound _ v (c.shared.objects v.oid) (c.seats p).task m.part refl m.after
 leaves_of c p (kind.LoadDetached v) d plain sound m = detached_leaves c p sound _ v (c.seats p).task m.part refl m.after
-
--- the tail is no smaller later
-tail_later : (c : Core) (p : ℕ) (k : Kind) → c.shared.tail ≤ (shared_after p k (word_at c (spot_of p k)) (c.seats p) c.shared).tail
-tail_later c p (kind.AddTail size) = omega arith
-tail_later c p k = let h = (keeps_log p k (word_at c (spot_of p k)) (c.seats p) c.shared tt).tail in omega (arith, h)
 
 plain_kept : (c : Core) (p : ℕ) (k : Kind) (d : Core) → Plainly k → Sound c → Moves c p k d → Kept d
 plain_kept c p k d plain sound m =

@@ -1,12 +1,10 @@
 -- Each step leaves the marks that aren't 0.
-use Rattle.std.proofs.Common.{◌≡◌, ℕ, ◌<◌, ◌≤◌, ⊎_elim, true, Bool, cond, length, Option, Some, None, refl, sym, ap, ◌∙◌, subst, arith}
+use Rattle.std.proofs.Common.{◌≡◌, ℕ, ◌<◌, ◌≤◌, ⊎_elim, Bool, cond, length, Option, Some, None, refl, sym, ap, ◌∙◌, subst, arith}
 use Rattle.std.proofs.lemmas.Bool.{and_parts, cases_lt, eqb-true, ltb-true, eq-eqb}
 use Rattle.std.proofs.lemmas.List.{get_or_past}
 use Rattle.erm_machine.specs.declared.event.Kind.{Kind}
 use Rattle.erm_machine.specs.declared.event.Kind.TheVariants as kind
 use Rattle.erm_machine.specs.declared.part.Part.{Part}
-use Rattle.erm_machine.specs.declared.place.Place.{Place}
-use Rattle.erm_machine.specs.declared.place.Place.TheVariants.{Decided}
 use Rattle.erm_machine.specs.declared.task.Task.{Task}
 use Rattle.erm_machine.specs.declared.task.Task.TheVariants as task
 use Rattle.erm_machine.specs.declared.version.Version.{Version}
@@ -16,11 +14,12 @@ use Rattle.erm_machine.specs.declared.version.VersionAt.{VersionAt}
 use Rattle.erm_machine.specs.Claims.{step_of}
 use Rattle.erm_machine.specs.Core.{Core, Object, spot_of, word_at, version_at, with_version, claim_at, no_version}
 use Rattle.erm_machine.specs.Facts.{over_of}
-use Rattle.erm_machine.specs.Seat.{is_decided, end_of}
+use Rattle.erm_machine.specs.Seat.{end_of}
 use Rattle.erm_machine.specs.Settling.{mark_overwritten}
 use Rattle.erm_machine.specs.Sound.{Sound}
 use Rattle.erm_machine.specs.Step.{installed, added, shared_after}
 use Rattle.erm_machine.specs.Words.{put, set_word}
+use Rattle.erm_machine.proofs.Versions.{ends_over}
 use Rattle.erm_machine.proofs.Frames.{at_cases}
 use Rattle.erm_machine.proofs.Guards.{when_then}
 use Rattle.erm_machine.proofs.Objects.{at_word, at_push-old, same_objects}
@@ -54,10 +53,6 @@ marks_installed head (Some v) o = record {
       absurd (let z : (version_at o place).words.overwriter ≡ 0 = ap (λ (u : Version). u.words.overwriter) (get_or_past o.versions place no_version past) in omega (arith, z, e, positive)))
       (cases_lt place (length o.versions));
 }
-
-ends_over : (pl : Place) (raised ended step cleared writes : ℕ) → is_decided pl ≡ true → over_of pl (task.Ends raised ended step cleared) writes ≡ ended
-ends_over (Decided tail stamp) raised ended step cleared writes e = refl
-ends_over _ raised ended step cleared writes e = absurd (cc)
 
 -- what an overwriter marks isn't marked
 unmarked : (c : Core) (p : ℕ) (v : VersionAt) (value wanted : ℕ) (u : Task) (y : Part) → Sound c → (c.seats p).task ≡ u → mark_overwritten 7 v value wanted (c.seats p) u ≡ Some y →

@@ -1,5 +1,5 @@
 -- What each step but a successor stamp's leaves of objects, and that an install's version is new.
-use Rattle.std.proofs.Common.{◌≡◌, ℕ, ◌+◌, ◌<◌, length, Option, Some, None, refl, sym, ap, ◌∙◌, subst, arith, length-set}
+use Rattle.std.proofs.Common.{◌≡◌, ℕ, ◌+◌, ◌<◌, length, Option, Some, None, refl, sym, ap, ◌∙◌, subst, arith}
 use Rattle.erm_machine.specs.declared.event.Kind.{Kind}
 use Rattle.erm_machine.specs.declared.event.Kind.TheVariants as kind
 use Rattle.erm_machine.specs.declared.part.Part.{Part}
@@ -10,30 +10,10 @@ use Rattle.erm_machine.specs.Core.{Object, Shared, version_at, with_version, new
 use Rattle.erm_machine.specs.Seat.{end_of}
 use Rattle.erm_machine.specs.Step.{installed, added, shared_after}
 use Rattle.erm_machine.specs.Words.{put, set_word}
+use Rattle.erm_machine.proofs.Versions.{AddsNone, as_many}
 use Rattle.erm_machine.proofs.Frames.{at_cases}
 use Rattle.erm_machine.proofs.Objects.{extends, extends_refl, at_word, at_push-old, same_objects}
 use Rattle.erm_core_ssn.proofs.MarksSteps.{Grown, Made}
-
--- kinds that add no version
-abbrev pub AddsNone : Kind → Type 0
-AddsNone (kind.Install oid head) = ⊥
-AddsNone _ = Unit {0}
-
-put_many : (f : ℕ → Object) (at : ℕ) (u : Object) (oid : ℕ) → length u.versions ≡ length (f at).versions → length (put f at u oid).versions ≡ length (f oid).versions
-put_many f at u oid e =
-    at_cases (λ z. length z.versions ≡ length (f oid).versions) f at u oid (λ same. subst (λ n. length u.versions ≡ length (f n).versions) (sym same) e) (λ _. refl)
-
--- each object has as many versions as before
-as_many : (p : ℕ) (k : Kind) (found : ℕ) (x : Part) (s : Shared) (oid : ℕ) → AddsNone k → length ((shared_after p k found x s).objects oid).versions ≡ length (s.objects oid).versions
-as_many p (kind.Install at head) found x s oid none = absurd none
-as_many p (kind.Claim at seen number) found x s oid none = put_many s.objects at _ oid refl
-as_many p (kind.SetReader v) found x s oid none = put_many s.objects v.oid _ oid (length-set (s.objects v.oid).versions v.place _)
-as_many p (kind.ClearReader v) found x s oid none = put_many s.objects v.oid _ oid (length-set (s.objects v.oid).versions v.place _)
-as_many p (kind.RaiseReader v value) found x s oid none = put_many s.objects v.oid _ oid (length-set (s.objects v.oid).versions v.place _)
-as_many p (kind.StoreSucc v value) found x s oid none = put_many s.objects v.oid _ oid (length-set (s.objects v.oid).versions v.place _)
-as_many p (kind.StoreOverwriter v value) found x s oid none = put_many s.objects v.oid _ oid (length-set (s.objects v.oid).versions v.place _)
-as_many p (kind.SwapLink v) found x s oid none = put_many s.objects v.oid _ oid (length-set (s.objects v.oid).versions v.place _)
-as_many p k found x s oid none = ap (λ (f : ℕ → Object). length (f oid).versions) (same_objects p k found x s tt)
 
 pub made_none : (p : ℕ) (k : Kind) (found : ℕ) (x : Part) (s : Shared) (seats : ℕ → Part) → AddsNone k → Made s (shared_after p k found x s) seats
 made_none p k found x s seats none = record {

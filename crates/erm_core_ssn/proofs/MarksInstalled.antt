@@ -1,16 +1,13 @@
 -- An install adds a version that its commit made, and a successor stamp is stored at a newest version.
-use Rattle.std.proofs.Common.{◌≡◌, ℕ, ◌+◌, ◌<◌, ◌≤◌, ⊎_elim, Bool, true, false, cond, length, Option, Some, None, refl, sym, ap, ◌∙◌, subst, arith}
+use Rattle.std.proofs.Common.{◌≡◌, ℕ, ◌+◌, ◌<◌, ◌≤◌, ⊎_elim, Bool, true, false, length, Option, Some, None, refl, sym, ap, ◌∙◌, subst, arith}
 use Rattle.std.specs.Prelude.{if◌then◌else◌}
-use Rattle.std.proofs.lemmas.Bool.{and_parts, eqb-true, ltb-true, eq-eqb}
-use Rattle.std.proofs.lemmas.Option.{same_Some}
+use Rattle.std.proofs.lemmas.Bool.{and_parts, eqb-true, ltb-true}
 use Rattle.erm_model.specs.Member.{◌∈◌}
 use Rattle.erm_machine.specs.declared.attempt.Attempt.{Attempt}
 use Rattle.erm_machine.specs.declared.attempt.Claim.{Claim}
 use Rattle.erm_machine.specs.declared.attempt.Decision.TheVariants.{Commit}
 use Rattle.erm_machine.specs.declared.event.Kind.TheVariants as kind
 use Rattle.erm_machine.specs.declared.part.Part.{Part}
-use Rattle.erm_machine.specs.declared.place.Place.{Place}
-use Rattle.erm_machine.specs.declared.place.Place.TheVariants.{Decided}
 use Rattle.erm_machine.specs.declared.task.Task.{Task}
 use Rattle.erm_machine.specs.declared.task.Task.TheVariants as task
 use Rattle.erm_machine.specs.declared.version.Version.{Version}
@@ -18,11 +15,12 @@ use Rattle.erm_machine.specs.Claims.{step_of}
 use Rattle.erm_machine.specs.Core.{Core, Object, Shared, newest, version_at, claim_at, own_words}
 use Rattle.erm_machine.specs.Facts.{all_of, over_of}
 use Rattle.erm_machine.specs.Marks.{HasOverwritten, OwnMarks, IsInstalled}
-use Rattle.erm_machine.specs.Seat.{is_decided, end_of, may_start}
+use Rattle.erm_machine.specs.Seat.{end_of}
 use Rattle.erm_machine.specs.Settling.{install_new, release_old, install_claim, install, adds_version, without_entry}
 use Rattle.erm_machine.specs.Sound.{Sound}
 use Rattle.erm_machine.specs.Step.{with_object, installed, added}
 use Rattle.erm_machine.specs.Words.{put}
+use Rattle.erm_machine.proofs.Versions.{AtLast, at_last}
 use Rattle.erm_machine.proofs.Frames.{at_cases, put_same}
 use Rattle.erm_machine.proofs.Guards.{when_then}
 use Rattle.erm_machine.proofs.Holders.{stands_in}
@@ -33,32 +31,6 @@ use Rattle.erm_core_ssn.proofs.MarksLists.{∈-last, ∈-set, ∈-set_here}
 use Rattle.erm_core_ssn.proofs.MarksMoved.{unclaim_left, release_left}
 use Rattle.erm_core_ssn.proofs.MarksSame.{Left, commit_is, goes_set}
 use Rattle.erm_core_ssn.proofs.MarksSteps.{Kept, Grown, Made, ClaimOk, ok_of, ok_stays, own_current, ahead_current, kept_from}
-
--- where an install has come to its last step, it is that of the claim in hand, and those before are over
-record AtLast (pl : Place) (u : Task) (writes ended : ℕ) : Type 0 where
-  pub step : step_of u ended ≡ 8
-  pub over : over_of pl u writes ≡ ended
-
-pub ends_over : (pl : Place) (raised ended step cleared writes : ℕ) → is_decided pl ≡ true → over_of pl (task.Ends raised ended step cleared) writes ≡ ended
-ends_over (Decided tail stamp) raised ended step cleared writes e = refl
-ends_over _ raised ended step cleared writes e = absurd (cc)
-
-at_last : (pl : Place) (u : Task) (writes : ℕ) (e : ℕ × ℕ × ℕ × ℕ) → is_decided pl ≡ true → end_of u ≡ Some e → e.2 ≡ 8 → AtLast pl u writes e.1
-at_last pl (task.Ends raised ended step cleared) writes e decided at last =
-    let same = same_Some _ _ at in
-    let place : ended ≡ e.1 = ap (λ (f : ℕ × ℕ × ℕ × ℕ). f.1) same in
-    let now : step ≡ 8 = ap (λ (f : ℕ × ℕ × ℕ × ℕ). f.2) same ∙ last in
-    record {
-      step = ap (λ (b : Bool). cond b step 0) (eq-eqb e.1 ended (sym place)) ∙ now;
-      over = ends_over pl raised ended step cleared writes decided ∙ place;
-    }
-at_last pl (task.Copies w) writes e decided at last = absurd (let z : ◌≡◌ {A = ℕ} 0 e.2 = ap (λ (f : ℕ × ℕ × ℕ × ℕ). f.2) (same_Some _ _ at) in omega (arith, z, last))
-at_last pl (task.Writes claim w) writes e decided at last = absurd (let z : ◌≡◌ {A = ℕ} 0 e.2 = ap (λ (f : ℕ × ℕ × ℕ × ℕ). f.2) (same_Some _ _ at) in omega (arith, z, last))
-at_last pl u writes e decided at last = by_test (may_start u) at
-  where
-    by_test : (b : Bool) → (if b then Some (0, 0, 0, 0) else None) ≡ Some e → AtLast pl u writes e.1
-    by_test true h = absurd (let z : ◌≡◌ {A = ℕ} 0 e.2 = ap (λ (f : ℕ × ℕ × ℕ × ℕ). f.2) (same_Some _ _ h) in omega (arith, z, last))
-    by_test false h = absurd (cc)
 
 -- the install of a commit's claim at its last step
 record Installs (c : Core) (p oid : ℕ) (n : ℕ × ℕ × ℕ × ℕ) : Type 0 where

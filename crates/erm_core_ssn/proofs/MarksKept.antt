@@ -24,8 +24,9 @@ use Rattle.erm_machine.proofs.Guards.{when_then, if_then, unless_some}
 use Rattle.erm_machine.proofs.Objects.{extends}
 use Rattle.erm_machine.proofs.QuietKinds.{Moves, MeetsOne, moves}
 use Rattle.erm_core_ssn.proofs.MarksCalm.{s_load_begin, s_load_state, s_split, s_join, s_load_entry, s_load_read_entry, s_set_reader, s_load_cell, s_swap_link, s_load_detached, s_load_counter, s_add_counter, s_raise_reader, s_store_succ, s_store_overwriter, s_store_cell, s_clear_reader, s_load_readers, s_load_stamp, s_store_ring, s_load_flushed, s_load_ring, s_clear_ring, s_store_flushed}
-use Rattle.erm_core_ssn.proofs.MarksGrown.{AddsNone, grown_kind, grown_refl, made_none, made_refl, succ_put, succ_newest}
-use Rattle.erm_core_ssn.proofs.MarksInstalled.{left_kept, install_kept, ends_over}
+use Rattle.erm_machine.proofs.Versions.{AddsNone, ends_over}
+use Rattle.erm_core_ssn.proofs.MarksGrown.{grown_kind, grown_refl, made_none, made_refl, succ_put, succ_newest}
+use Rattle.erm_core_ssn.proofs.MarksInstalled.{left_kept, install_kept}
 use Rattle.erm_core_ssn.proofs.MarksMoved.{left_calm, load_tail_left, add_tail_left, store_begin_left, store_state_left, decide_left, claim_left}
 use Rattle.erm_core_ssn.proofs.MarksSame.{Left, Same}
 use Rattle.erm_core_ssn.proofs.MarksSteps.{Kept, Grown}

@@ -1,28 +1,24 @@
 -- What each step leaves of the words of readers.
-use Rattle.std.proofs.Common.{◌≡◌, ℕ, ◌<◌, ◌≤◌, Bool, true, false, cond, length, Option, Some, None, refl, sym, ap, ◌∙◌, subst, inl, arith, length-set}
+use Rattle.std.proofs.Common.{◌≡◌, ℕ, ◌<◌, ◌≤◌, Bool, true, false, length, Option, Some, None, refl, sym, ap, ◌∙◌, subst, inl, arith, length-set}
 use Rattle.std.specs.Prelude.{if◌then◌else◌}
 use Rattle.std.specs.Int.{bit_at}
-use Rattle.std.proofs.lemmas.Bool.{and_parts, eqb-true, ltb-true, eq-eqb}
-use Rattle.std.proofs.lemmas.Option.{same_Some}
+use Rattle.std.proofs.lemmas.Bool.{and_parts, eqb-true, ltb-true}
 use Rattle.erm_machine.specs.declared.event.Kind.{Kind}
 use Rattle.erm_machine.specs.declared.event.Kind.TheVariants as kind
 use Rattle.erm_machine.specs.declared.part.Part.{Part}
-use Rattle.erm_machine.specs.declared.place.Place.{Place}
-use Rattle.erm_machine.specs.declared.place.Place.TheVariants.{Decided}
 use Rattle.erm_machine.specs.declared.task.Task.{Task}
 use Rattle.erm_machine.specs.declared.task.Task.TheVariants as task
 use Rattle.erm_machine.specs.declared.version.Cell.{Cell}
 use Rattle.erm_machine.specs.declared.version.CellWord.{CellWord}
 use Rattle.erm_machine.specs.declared.version.CellWord.TheVariants as word
 use Rattle.erm_machine.specs.declared.version.Version.{Version}
-use Rattle.erm_machine.specs.Claims.{step_of}
 use Rattle.erm_machine.specs.Core.{Core, Object, Shared, version_at, with_version, claim_at, own_words}
-use Rattle.erm_machine.specs.Facts.{over_of}
-use Rattle.erm_machine.specs.Seat.{is_decided, end_of, may_start}
+use Rattle.erm_machine.specs.Seat.{end_of}
 use Rattle.erm_machine.specs.Settling.{install, install_claim, install_new, release_old, adds_version}
 use Rattle.erm_machine.specs.Sound.{Sound}
 use Rattle.erm_machine.specs.Step.{installed, added, shared_after}
 use Rattle.erm_machine.specs.Words.{put, set_word}
+use Rattle.erm_machine.proofs.Versions.{at_last, branch_true}
 use Rattle.erm_machine.proofs.Frames.{at_cases}
 use Rattle.erm_machine.proofs.Guards.{when_then}
 use Rattle.erm_machine.proofs.Objects.{Extends, extends, at_word, at_push-old, at_push-new, length_installed, same_objects}
@@ -114,32 +110,6 @@ gentle p (kind.SwapLink v) found x s leaves oid =
     put_related (λ _. Gentle) (λ _. gentle_refl) s.objects v.oid _ (record { readers = e.readers; reader_stamp = e.reader_stamp; new = e.new }) oid
 gentle p k found x s leaves oid = subst (λ (f : ℕ → Object). Gentle (s.objects oid) (f oid)) (sym (same_objects p k found x s tt)) (gentle_refl (s.objects oid))
 
--- where an install has come to its last step, it is that of the claim in hand, of which none before is held
-record AtLast (pl : Place) (u : Task) (writes ended : ℕ) : Type 0 where
-  pub step : step_of u ended ≡ 8
-  pub over : over_of pl u writes ≡ ended
-
-ends_over : (pl : Place) (raised ended step cleared writes : ℕ) → is_decided pl ≡ true → over_of pl (task.Ends raised ended step cleared) writes ≡ ended
-ends_over (Decided tail stamp) raised ended step cleared writes e = refl
-ends_over _ raised ended step cleared writes e = absurd (cc)
-
-at_last : (pl : Place) (u : Task) (writes : ℕ) (e : ℕ × ℕ × ℕ × ℕ) → is_decided pl ≡ true → end_of u ≡ Some e → e.2 ≡ 8 → AtLast pl u writes e.1
-at_last pl (task.Ends raised ended step cleared) writes e decided at last =
-    let same = same_Some _ _ at in
-    let place : ended ≡ e.1 = ap (λ (f : ℕ × ℕ × ℕ × ℕ). f.1) same in
-    let now : step ≡ 8 = ap (λ (f : ℕ × ℕ × ℕ × ℕ). f.2) same ∙ last in
-    record {
-      step = ap (λ (b : Bool). cond b step 0) (eq-eqb e.1 ended (sym place)) ∙ now;
-      over = ends_over pl raised ended step cleared writes decided ∙ place;
-    }
-at_last pl (task.Copies w) writes e decided at last = absurd (let z : ◌≡◌ {A = ℕ} 0 e.2 = ap (λ (f : ℕ × ℕ × ℕ × ℕ). f.2) (same_Some _ _ at) in omega (arith, z, last))
-at_last pl (task.Writes claim w) writes e decided at last = absurd (let z : ◌≡◌ {A = ℕ} 0 e.2 = ap (λ (f : ℕ × ℕ × ℕ × ℕ). f.2) (same_Some _ _ at) in omega (arith, z, last))
-at_last pl u writes e decided at last = by_test (may_start u) at
-  where
-    by_test : (b : Bool) → (if b then Some (0, 0, 0, 0) else None) ≡ Some e → AtLast pl u writes e.1
-    by_test true h = absurd (let z : ◌≡◌ {A = ℕ} 0 e.2 = ap (λ (f : ℕ × ℕ × ℕ × ℕ). f.2) (same_Some _ _ h) in omega (arith, z, last))
-    by_test false h = absurd (cc)
-
 -- the version that an install adds
 unread_own : (c : Core) (p oid head : ℕ) (e : ℕ × ℕ × ℕ × ℕ) (y : Part) → Sound c → end_of (c.seats p).task ≡ Some e →
     install_new oid head (c.seats p) e ≡ Some y → IsUnread (record { cell = head; words = own_words (claim_at (c.seats p).current e.1).own })
@@ -170,10 +140,6 @@ gentle_installed head v o true unread = record {
       subst IsUnread (sym (at_push-new head v o k (omega (arith, many, late, within)))) (unread refl);
 }
 gentle_installed head v o false unread = gentle_many o _ refl
-
-branch_true : (b : Bool) (l r : Option Part) (y : Part) → b ≡ true → (if b then l else r) ≡ Some y → l ≡ Some y
-branch_true true l r y is e = e
-branch_true false l r y is e = absurd (cc)
 
 installed_claim : (c : Core) (p oid head : ℕ) (e : Option (ℕ × ℕ × ℕ × ℕ)) (y : Part) → Sound c → end_of (c.seats p).task ≡ e →
     install_claim oid head (c.seats p) e ≡ Some y → Gentle (c.shared.objects oid) (installed head (added head (c.seats p) e) (c.shared.objects oid))

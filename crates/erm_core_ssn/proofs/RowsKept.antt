@@ -1,5 +1,5 @@
 -- Each event keeps the rows of claims, of cells and of versions.
-use Rattle.std.proofs.Common.{◌≡◌, ℕ, ◌<◌, ◌≤◌, Bool, true, false, ltb, length, Option, Some, None, refl, sym, ap, ◌∙◌, subst, arith, length-set}
+use Rattle.std.proofs.Common.{◌≡◌, ℕ, ◌<◌, ◌≤◌, Bool, true, false, ltb, length, Option, Some, None, refl, sym, ap, ◌∙◌, subst, arith}
 use Rattle.std.specs.Prelude.{if◌then◌else◌}
 use Rattle.std.proofs.lemmas.Bool.{ltb-true}
 use Rattle.std.proofs.lemmas.Option.{same_Some}
@@ -18,35 +18,16 @@ use Rattle.erm_machine.specs.Sound.{Sound}
 use Rattle.erm_machine.specs.Step.{installed, added, shared_after, after_event, with_part}
 use Rattle.erm_machine.specs.Words.{put, begin_of, state_of}
 use Rattle.erm_machine.specs.Written.{OwnWritten}
+use Rattle.erm_machine.proofs.Versions.{AddsNone, as_many}
 use Rattle.erm_machine.proofs.Frames.{at_cases}
 use Rattle.erm_machine.proofs.Guards.{if_then, unless_some}
-use Rattle.erm_machine.proofs.Objects.{Extends, extends, extends_refl, at_push-new, length_installed, same_objects}
+use Rattle.erm_machine.proofs.Objects.{Extends, extends, extends_refl, at_push-new, length_installed}
 use Rattle.erm_machine.proofs.QuietKinds.{MeetsOne, Moves, moves}
 use Rattle.erm_core_ssn.proofs.RowsSteps.{Kept, goes_own, kept_from}
 use Rattle.erm_core_ssn.proofs.RowsGoes.{goes_load_begin, goes_load_state, goes_join, goes_load_entry, goes_set_reader, goes_load_cell, goes_load_detached, goes_load_counter, goes_load_read_entry, goes_load_readers, goes_store_ring, goes_raise_reader, goes_store_succ, goes_store_overwriter, goes_clear_reader, goes_load_flushed, goes_load_ring, goes_clear_ring, goes_store_flushed}
 use Rattle.erm_core_ssn.proofs.RowsStored.{Given, add_counter_own, load_stamp_own, store_cell_own}
 use Rattle.erm_core_ssn.proofs.RowsMoved.{load_tail_own, add_tail_own, store_begin_own, store_state_own, decide_own, split_own}
 use Rattle.erm_core_ssn.proofs.RowsInstalled.{install_own, added_left, added_size, claim_own, swap_own}
-
--- kinds that add no version
-abbrev pub AddsNone : Kind → Type 0
-AddsNone (kind.Install oid head) = ⊥
-AddsNone _ = Unit {0}
-
-put_many : (f : ℕ → Object) (at : ℕ) (u : Object) (oid : ℕ) → length u.versions ≡ length (f at).versions → length (put f at u oid).versions ≡ length (f oid).versions
-put_many f at u oid e = at_cases (λ z. length z.versions ≡ length (f oid).versions) f at u oid (λ same. subst (λ n. length u.versions ≡ length (f n).versions) (sym same) e) (λ _. refl)
-
--- each object has as many versions as before
-pub as_many : (p : ℕ) (k : Kind) (found : ℕ) (x : Part) (s : Shared) (oid : ℕ) → AddsNone k → length ((shared_after p k found x s).objects oid).versions ≡ length (s.objects oid).versions
-as_many p (kind.Install at head) found x s oid none = absurd none
-as_many p (kind.Claim at seen number) found x s oid none = put_many s.objects at _ oid refl
-as_many p (kind.SetReader v) found x s oid none = put_many s.objects v.oid _ oid (length-set (s.objects v.oid).versions v.place _)
-as_many p (kind.ClearReader v) found x s oid none = put_many s.objects v.oid _ oid (length-set (s.objects v.oid).versions v.place _)
-as_many p (kind.RaiseReader v value) found x s oid none = put_many s.objects v.oid _ oid (length-set (s.objects v.oid).versions v.place _)
-as_many p (kind.StoreSucc v value) found x s oid none = put_many s.objects v.oid _ oid (length-set (s.objects v.oid).versions v.place _)
-as_many p (kind.StoreOverwriter v value) found x s oid none = put_many s.objects v.oid _ oid (length-set (s.objects v.oid).versions v.place _)
-as_many p (kind.SwapLink v) found x s oid none = put_many s.objects v.oid _ oid (length-set (s.objects v.oid).versions v.place _)
-as_many p k found x s oid none = ap (λ (f : ℕ → Object). length (f oid).versions) (same_objects p k found x s tt)
 
 -- each new version's row has 16 words
 abbrev Sized : Object → Object → Type 0

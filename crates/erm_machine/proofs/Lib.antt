@@ -8,3 +8,4 @@ pub mod Objects
 pub mod OpeningRows
 pub mod Quiet
 pub mod QuietKinds
+pub mod Versions

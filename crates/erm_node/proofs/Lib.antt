@@ -8,4 +8,5 @@ pub mod Shapes
 pub mod TableValues
 pub mod Values
 pub mod Walks
+pub mod ZeroRows
 pub mod Zeros

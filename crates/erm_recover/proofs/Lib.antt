@@ -5,5 +5,4 @@ pub mod Recovering
 pub mod Replaced
 pub mod SetRows
 pub mod SlotFiles
-pub mod ZeroRows
 pub mod Waits

@@ -264,7 +264,7 @@ module _ (laws : HistoryLaws) (v : View) (sessions : ℕ) (said : List Said) (ho
         let after = next_known t it.one.work begin table key was next stamp next_succ writer in
         let makes = made t it.one.work begin table key was next stamp next_succ writer in
         let found = (rows_at.put by.by by.within (omega (arith, was.below, by.stamp_is, begin)) table key puts).0 in
-        let marks = it.both.marked.marks own (ap world.stamp_of is) in
+        let marks = it.both.so_is.marks own (ap world.stamp_of is) in
         let next_to = beside after.by after.within (omega (arith, before, after.stamp_is)) in
         elim (marks.touched rows_at.rows rows_at.sound (rows_at.fits it.seat it.one.work it.session has refl) table key puts.1.0 (got t table key gets) found) as (λ _. succ ≤ next_succ) [
           | inl read ↦

@@ -46,7 +46,7 @@ module _ (laws : HistoryLaws) (v : View) (sessions : ℕ) (said : List Said) (ho
         let fits = began.fits it.seat w it.session (inl (it.one, it.over, refl)) refl in
         let sees = holds.sees it.seat w it.session (inl (it.one, it.over, refl)) in
         let made = claimed_in by.by.writes x put.1 in
-        elim ((it.both.marked.marks own is).touched began.rows began.sound fits table key x line put.0) as (λ _. stamp ≤ pred) [
+        elim ((it.both.so_is.marks own is).touched began.rows began.sound fits table key x line put.0) as (λ _. stamp ≤ pred) [
           | inl read ↦
               let r = read_in w.reads x read in
               let newest = (sees.reads r.0 r.1).newest by.by by.within (made.0, made.1, made.2 ∙ sym r.2) below in
@@ -59,14 +59,14 @@ module _ (laws : HistoryLaws) (v : View) (sessions : ℕ) (said : List Said) (ho
 
     low_commit : (fate : Fate) → it.one.fate ≡ fate → (stamp succ pred : ℕ) → EndsAs (Commits stamp succ pred) fate → IsLowEnd all t pred
     low_commit (world.commits s u p) is stamp succ pred ends =
-        let bounded : AreBelow it.one.work p = subst (λ (f : Fate). IsBounded it.one.work f) is it.both.marked.bounded in
+        let bounded : AreBelow it.one.work p = subst (λ (f : Fate). IsBounded it.one.work f) is it.both.so_is.bounded in
         low_of s (ap stamp_of is) pred (subst (λ (n : ℕ). AreBelow it.one.work n) (sym ends.2) bounded)
     low_commit (world.excluded s u p) is stamp succ pred ends = absurd ends
     low_commit world.aborts is stamp succ pred ends = absurd ends
 
     low_excluded : (fate : Fate) → it.one.fate ≡ fate → (stamp succ pred : ℕ) → EndsAs (Excludes (Some stamp) succ pred) fate → IsLowEnd all t pred
     low_excluded (world.excluded s u p) is stamp succ pred ends =
-        let bounded : AreBelow it.one.work p = subst (λ (f : Fate). IsBounded it.one.work f) is it.both.marked.bounded in
+        let bounded : AreBelow it.one.work p = subst (λ (f : Fate). IsBounded it.one.work f) is it.both.so_is.bounded in
         low_of s (ap stamp_of is) pred (subst (λ (n : ℕ). AreBelow it.one.work n) (sym ends.2) bounded)
     low_excluded (world.commits s u p) is stamp succ pred ends = absurd ends
     low_excluded world.aborts is stamp succ pred ends = absurd ends

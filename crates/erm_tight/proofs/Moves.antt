@@ -22,6 +22,8 @@ use Rattle.erm_causes.proofs.Lines.{made_at_once}
 use Rattle.erm_causes.proofs.Moves.{IsMoveInRange, heard_move, heard_one, itself_turned, own_turned, session_before, work_now}
 use Rattle.erm_causes.proofs.Operated.{operated}
 use Rattle.erm_told_limits.proofs.Ran.{ran}
+use Rattle.erm_causes.specs.Touched.{Together}
+use Rattle.erm_causes.proofs.Together.{together_one_more}
 use Rattle.erm_causes.proofs.Tables.{AreMovesInRange, heard_moves}
 use Rattle.erm_causes.proofs.Quiet.{HasNow, SameLines, SameNow}
 use Rattle.erm_tight.proofs.Lines.{Called, called}
@@ -38,10 +40,7 @@ pub record MarkedOne (t : Transaction) (f : Finished) : Type 0 where
   pub bounded : IsBounded f.work f.fate
 
 abbrev pub MarkedOver : List Transaction → List Finished → Type 0
-MarkedOver [] [] = Unit {0}
-MarkedOver [] (f ∷ fs) = ⊥
-MarkedOver (t ∷ ts) [] = ⊥
-MarkedOver (t ∷ ts) (f ∷ fs) = MarkedOne t f × MarkedOver ts fs
+MarkedOver ts fs = Together MarkedOne ts fs
 
 abbrev pub MarkedNow : Option Transaction → Stand → Type 0
 MarkedNow None world.idle = Unit {0}
@@ -52,12 +51,6 @@ MarkedNow current stand = ⊥
 pub record IsMarked (p : Progress) (s : Session) : Type 0 where
   pub over : MarkedOver p.over s.over
   pub now : MarkedNow p.current s.stand
-
-over_one_more : (ts : List Transaction) (fs : List Finished) (t : Transaction) (f : Finished) → MarkedOver ts fs → MarkedOne t f → MarkedOver (ts ++ t ∷ []) (fs ++ f ∷ [])
-over_one_more [] [] t f marked one = (one, tt)
-over_one_more [] (g ∷ fs) t f marked one = absurd marked
-over_one_more (u ∷ ts) [] t f marked one = absurd marked
-over_one_more (u ∷ ts) (g ∷ fs) t f marked one = (marked.0, over_one_more ts fs t f marked.1 one)
 
 -- QUIET.
 pub now_same : (current other : Option Transaction) (stand : Stand) → SameNow current other → MarkedNow current stand → MarkedNow other stand
@@ -127,7 +120,7 @@ done_marked v t seat w fate ending p has did bounded marked =
     let one : MarkedOne (with_ending ending now.told) (record { work = w; fate = fate }) = record { marks = λ stamp at. now.marks; bounded = bounded } in
     subst (λ (s : Session). IsMarked (ended ending p) s) (sym did.own) (record {
       over = subst (λ (r : Option Transaction). MarkedOver (p.over ++ option_to_list (option_map (with_ending ending) r)) ((v.session seat).over ++ record { work = w; fate = fate } ∷ []))
-          (sym now.is) (over_one_more p.over (v.session seat).over _ _ marked.over one);
+          (sym now.is) (together_one_more MarkedOne p.over (v.session seat).over _ _ marked.over one);
       now = tt;
     })
 
@@ -178,7 +171,7 @@ module _ (v u : View) (seat : ℕ) (c : Command) (a : Answer) (k : ℕ) (session
       })
   called_marked (called.out w ending done hears) =
       let one : MarkedOne (with_ending ending (with_line (Some c) a going.told)) (record { work = w; fate = world.aborts }) = record { marks = λ stamp at. cc; bounded = tt } in
-      let over = over_one_more p.over (v.session seat).over _ _ marked.over one in
+      let over = together_one_more MarkedOne p.over (v.session seat).over _ _ marked.over one in
       subst (λ (q : Progress). IsMarked q (u.session seat)) (sym (hears seat (Some c) p))
       (subst (λ (s : Session). IsMarked (ended ending (goes_on (Some c) a p)) s) (sym done) (record {
         over = subst (λ (r : Option Transaction). MarkedOver (p.over ++ option_to_list (option_map (with_ending ending) (option_map (with_line (Some c) a) r)))

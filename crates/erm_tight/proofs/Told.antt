@@ -1,52 +1,24 @@
 -- The transactions that a report tells beside those of the world, with what their lines tell of the records that they touched.
-use Rattle.std.proofs.Common.{◌≡◌, ℕ, zero, suc, ◌⊎◌, List, [], ◌∷◌, ◌++◌, Option, Some, None, slice_get, option_to_list, inl, inr, refl, sym, ap, ◌∙◌, subst, arith}
+use Rattle.std.proofs.Common.{◌≡◌, ℕ, zero, suc, ◌⊎◌, List, ◌++◌, Option, Some, None, option_to_list, inl, inr, refl, sym, ap, ◌∙◌, subst, arith}
 use Rattle.std.specs.List.{range_with_len}
 use Rattle.erm_model.specs.declared.history.TransactionRecord.{TransactionRecord}
 use Rattle.erm_model.specs.Member.{◌∈◌}
 use Rattle.erm_model.proofs.Members.{none_in_nil}
 use Rattle.erm_machine.proofs.Listed.{∈-either, ∈-first}
 use Rattle.erm_world.specs.Laws.{IsCommitOf}
-use Rattle.erm_world.specs.World.{Fate, Finished, IsSession, Stand, View, Work, history_of, record_of}
+use Rattle.erm_world.specs.World.{Fate, Finished, IsSession, Stand, View, history_of, record_of}
 use Rattle.erm_world.specs.World as world
 use Rattle.erm_world.proofs.Commits.{tells_commits}
 use Rattle.erm_maps.proofs.Histories.{work_in}
-use Rattle.erm_good_report.specs.Transactions.{Aborts, Commits, Ending, Excludes, Unfinished, Said, Transaction, progress_of, transactions_of}
+use Rattle.erm_good_report.specs.Transactions.{Commits, Ending, Unfinished, Said, Transaction, progress_of, transactions_of}
 use Rattle.erm_good_report.specs.Windows.{IsCommit}
-use Rattle.erm_lines.specs.Told.{EndsAs, Tells, TellsNow, TellsOne, TellsOver}
+use Rattle.erm_lines.specs.Told.{EndsAs, Tells, TellsNow}
 use Rattle.erm_told.proofs.Ranges.{in_range, in_range_from}
 use Rattle.erm_tight.proofs.Marks.{Marks}
-use Rattle.erm_tight.proofs.Moves.{IsMarked, MarkedOne, MarkedOver}
+use Rattle.erm_tight.proofs.Moves.{IsMarked, MarkedOne}
 use Rattle.erm_tight.proofs.Serial.{IsTold}
 use Rattle.erm_causes.proofs.Causes.{from_flat, in_flat}
-
--- One told, beside the one of the world.
-pub record Both (seat : ℕ) (t : Transaction) (f : Finished) : Type 0 where
-  pub tells : TellsOne seat t f
-  pub marked : MarkedOne t f
-
-both_told : (seat : ℕ) (ts : List Transaction) (fs : List Finished) (k : ℕ) (t : Transaction) → TellsOver seat ts fs → MarkedOver ts fs
-    → slice_get ts k ≡ Some t → (f : Finished) × (slice_get fs k ≡ Some f) × Both seat t f
-both_told seat [] fs k t told marked at = cc
-both_told seat (u ∷ ts) [] k t told marked at = absurd told
-both_told seat (u ∷ ts) (f ∷ fs) zero t told marked at =
-    let same : u ≡ t = cc in (f, refl, subst (λ (x : Transaction). Both seat x f) same (record { tells = told.0; marked = marked.0 }))
-both_told seat (u ∷ ts) (f ∷ fs) (suc k) t told marked at = both_told seat ts fs k t told.1 marked.1 at
-
-both_over : (seat : ℕ) (ts : List Transaction) (fs : List Finished) (k : ℕ) (f : Finished) → TellsOver seat ts fs → MarkedOver ts fs
-    → slice_get fs k ≡ Some f → (t : Transaction) × (slice_get ts k ≡ Some t) × Both seat t f
-both_over seat ts [] k f told marked at = cc
-both_over seat [] (g ∷ fs) k f told marked at = absurd told
-both_over seat (t ∷ ts) (g ∷ fs) zero f told marked at =
-    let same : g ≡ f = cc in (t, refl, subst (λ (x : Finished). Both seat t x) same (record { tells = told.0; marked = marked.0 }))
-both_over seat (t ∷ ts) (g ∷ fs) (suc k) f told marked at = both_over seat ts fs k f told.1 marked.1 at
-
--- one that committed is told to have, with its stamps
-commits_as : (ending : Ending) (stamp succ pred : ℕ) → EndsAs ending (world.commits stamp succ pred) → ending ≡ Commits stamp succ pred
-commits_as Unfinished stamp succ pred ends = absurd ends
-commits_as (Commits s u p) stamp succ pred ends = ap (λ n. Commits n u p) ends.0 ∙ ap (λ n. Commits stamp n p) ends.1 ∙ ap (λ n. Commits stamp succ n) ends.2
-commits_as (Excludes None u p) stamp succ pred ends = absurd ends
-commits_as (Excludes (Some s) u p) stamp succ pred ends = absurd ends
-commits_as Aborts stamp succ pred ends = absurd ends
+use Rattle.erm_causes.proofs.Together.{Both, both_over, both_told, commits_as}
 
 -- A transaction of the world that is over and told.
 pub record IsOne (v : View) (t : Transaction) : Type 0 where
@@ -54,7 +26,7 @@ pub record IsOne (v : View) (t : Transaction) : Type 0 where
   pub session : IsSession v seat
   pub one : Finished
   pub over : one ∈ (v.session seat).over
-  pub both : Both seat t one
+  pub both : Both seat MarkedOne t one
 
 -- a commit told is one of the history, whose lines tell what it touched
 pub record IsCommitted (v : View) (t : Transaction) (stamp succ : ℕ) : Type 0 where
@@ -87,7 +59,7 @@ module _ (v : View) (sessions : ℕ) (said : List Said) (of : sessions ≡ v.ope
   commit_told r within =
       let own : IsCommitOf v r = (tells_commits v).only r within in
       let f : Finished = record { work = own.work; fate = world.commits own.stamp own.succ own.pred } in
-      let found = both_over own.seat (progress_of own.seat said).over (v.session own.seat).over own.over.0 f (tells own.seat own.session).over (marked own.seat own.session).over own.over.1 in
+      let found = both_over own.seat MarkedOne (progress_of own.seat said).over (v.session own.seat).over own.over.0 f (tells own.seat own.session).over (marked own.seat own.session).over own.over.1 in
       subst (λ (u : TransactionRecord). IsCommitTold (transactions_of sessions said) u) (sym own.is) (record {
         told = found.0;
         commit = record {
@@ -96,7 +68,7 @@ module _ (v : View) (sessions : ℕ) (said : List Said) (of : sessions ≡ v.ope
           ending = commits_as found.0.ending own.stamp own.succ own.pred found.2.tells.ends;
         };
         begin = found.2.tells.work.begin;
-        marks = found.2.marked.marks own.stamp refl;
+        marks = found.2.so_is.marks own.stamp refl;
       })
 
   pub record_told : (r : TransactionRecord) → r ∈ history_of v → IsTold r
@@ -119,7 +91,7 @@ module _ (v : View) (sessions : ℕ) (said : List Said) (of : sessions ≡ v.ope
       let session : IsSession v seat = (omega (arith, bounds.0), omega (arith, bounds.1, of)) in
       elim (∈-either (progress_of seat said).over (option_to_list (progress_of seat said).current) t found.2) as (λ _. IsOne v t ⊎ (t.ending ≡ Unfinished)) [
         | inl over ↦
-            let both = both_told seat (progress_of seat said).over (v.session seat).over over.0 t (tells seat session).over (marked seat session).over over.1 in
+            let both = both_told seat MarkedOne (progress_of seat said).over (v.session seat).over over.0 t (tells seat session).over (marked seat session).over over.1 in
             inl (record { seat = seat; session = session; one = both.0; over = (over.0, both.1); both = both.2 })
         | inr now ↦ inr (unfinished seat (progress_of seat said).current (v.session seat).stand (tells seat session).now t now)
       ]
@@ -142,7 +114,7 @@ module _ (v : View) (sessions : ℕ) (said : List Said) (of : sessions ≡ v.ope
         stamp_is = sym ends.0;
         succ_is = sym ends.1;
         begin = it.both.tells.work.begin;
-        marks = it.both.marked.marks s (ap world.stamp_of is);
+        marks = it.both.so_is.marks s (ap world.stamp_of is);
       }
   committed_as t it (world.excluded s u p) is stamp succ pred ends = absurd ends
   committed_as t it world.aborts is stamp succ pred ends = absurd ends

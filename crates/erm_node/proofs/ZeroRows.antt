@@ -1,19 +1,16 @@
--- Rows of zeros are sound.
-use Rattle.std.proofs.Common.{◌≡◌, ℕ, zero, suc, ◌+◌, ◌^◌, ◌<◌, ◌≤◌, true, false, List, [], length, replicate, Some, None, refl, sym, ap, ◌∙◌, subst, inl, inr, arith}
+-- Rows of zeros: sound ones.
+use Rattle.std.proofs.Common.{◌≡◌, ℕ, zero, suc, ◌^◌, ◌<◌, ◌≤◌, true, List, [], Some, None, refl, sym, ap, ◌∙◌, subst, inl, inr, arith}
 use Rattle.std.specs.Option.{option_map_or}
 use Rattle.std.proofs.lemmas.Bool.{cases_eq}
-use Rattle.erm_model.specs.declared.limits.TheConstants.{OID_LIMIT}
 use Rattle.erm_model.specs.Rows.{Rows}
 use Rattle.erm_node.specs.Node.{first_child, node_of, node_row, pairs_of}
-use Rattle.erm_node.specs.Sound.{IsSound, inner_levels, levels_of, reached, reached_below}
+use Rattle.erm_node.specs.Sound.{IsSound, inner_levels, levels_of, reached_below}
 use Rattle.erm_node.specs.Tree.{Fan, IsTree, same_oid, times, total}
 use Rattle.erm_node.proofs.Reached.{reached-is}
 use Rattle.erm_node.proofs.Walks.{same_oid-le, same_oid-other}
+use Rattle.erm_node.proofs.Zeros.{zeros}
 
 -- the row of zeros is the leaf without pairs
-abbrev pub zeros : List ℕ
-zeros = replicate 16 0
-
 leaf_zeros : node_of zeros ≡ Some (record { leaf = true; pairs = [] })
 unfolding node_of node_row
 leaf_zeros = refl
@@ -27,11 +24,11 @@ unfolding first_child node_of node_row
 child_zeros = refl
 
 -- an object's tree is that leaf
-one_level : (rows : Rows) (oid : ℕ) → rows oid ≡ zeros → levels_of rows oid ≡ 1
+pub one_level : (rows : Rows) (oid : ℕ) → rows oid ≡ zeros → levels_of rows oid ≡ 1
 unfolding levels_of
 one_level rows oid is = ap (λ row. suc (option_map_or (λ child. suc (inner_levels rows 10 child)) (first_child row) 0)) is ∙ ap (λ child. suc (option_map_or (λ child. suc (inner_levels rows 10 child)) child 0)) child_zeros
 
-no_pairs : (row : List ℕ) → row ≡ zeros → pairs_of row ≡ []
+pub no_pairs : (row : List ℕ) → row ≡ zeros → pairs_of row ≡ []
 no_pairs row is = ap pairs_of is ∙ pairs_zeros
 
 leaf : (rows : Rows) (oid hi : ℕ) → rows oid ≡ zeros → IsTree rows 1 0 oid 0 hi
