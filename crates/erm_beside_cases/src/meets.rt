@@ -1,5 +1,5 @@
 //! Two sessions on threads that are inside a call of theirs at once.
-ghost use Rattle.std.specs.Prelude.{◌≡◌, ◌<◌, IfOk};
+ghost use Rattle.std.specs.Prelude.{◌≡◌, ◌<◌, false, IfOk};
 ghost use Rattle.std.specs.List.{All};
 ghost use Rattle.erm_engine.specs.Opened.{AreNew, IsNew, IsOpened};
 ghost use Rattle.erm_node.specs.Sound.{sound_law};
@@ -41,6 +41,9 @@ impl Turns for Patience {
     // No patience is left.
     ghost told = { λ patience. patience.left ≡ 0 };
 
+    // Memory suffices the other one.
+    ghost starved = { λ patience. false };
+
     fn pass(&mut self, _place: Place) {}
 
     fn wait(&mut self, _why: Why) -> bool {
@@ -55,6 +58,12 @@ impl Turns for Patience {
     fn goes_on(&mut self) -> bool {
         self.left > 0
     }
+
+    fn is_starved(&self) -> bool {
+        false
+    }
+
+    fn tell_starved(&mut self) {}
 }
 
 // Two sessions over empty tables.

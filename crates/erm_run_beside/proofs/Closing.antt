@@ -1,5 +1,5 @@
 -- The last turns of a desk, whose pass has taken in all others, and the close.
-use Rattle.std.proofs.Common.{◌≡◌, ℕ, Bool, true, false, List, Option, Some, None, Err, unwrap_or, inl, inr, refl, sym, ap, ◌∙◌, subst}
+use Rattle.std.proofs.Common.{◌≡◌, ℕ, false, List, Option, Some, None, Err, unwrap_or, inl, inr, refl, sym, ap, ◌∙◌, subst}
 use Rattle.erm_cells.specs.Calls.{starts_anew}
 use Rattle.erm_flush.specs.declared.stops.FlushStop.{FlushStop}
 use Rattle.erm_flush.specs.declared.stops.FlushStop.TheVariants as stop
@@ -11,7 +11,6 @@ use Rattle.erm_machine.specs.Core.{fresh_part}
 use Rattle.erm_machine.specs.Seat.{is_active, saw}
 use Rattle.erm_model.specs.RowTransaction.{Law}
 use Rattle.erm_outside.specs.Disk.{Step}
-use Rattle.erm_pin.specs.Pins.{IsPinned, IsUnpinned}
 use Rattle.erm_ring.specs.Turns.{MayGather}
 use Rattle.erm_ring.proofs.Gathering.{has_part}
 use Rattle.erm_rule.specs.declared.rule.Table.{Table}
@@ -24,7 +23,6 @@ use Rattle.erm_rule.specs.Views.{EachOnce, part_in, part_of}
 use Rattle.erm_shared_session.specs.declared.session.TableSession.{TableSession}
 use Rattle.erm_desk.specs.All.{TurnsAll}
 use Rattle.erm_desk.specs.Desk.{IsDesk, PinStays, Sees, TakesIn, TurnsTo}
-use Rattle.erm_desk.specs.Known.{HasPin}
 use Rattle.erm_engine.specs.Closed.{AreJoined, HaveClosed}
 use Rattle.erm_engine.specs.Taken.{HasTaken}
 use Rattle.erm_engine.proofs.Flushed.{NoneSealed, all_flushed}

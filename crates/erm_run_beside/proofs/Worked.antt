@@ -1,5 +1,5 @@
 -- The jobs of sessions just opened may be worked, and what their workers did.
-use Rattle.std.proofs.Common.{◌≡◌, ℕ, ◌+◌, ◌<◌, ◌≤◌, List, length, map, sym, ap, ◌∙◌, subst, arith}
+use Rattle.std.proofs.Common.{◌≡◌, ℕ, ◌+◌, ◌<◌, ◌≤◌, ◌⊎◌, Bool, true, false, List, length, map, inl, inr, sym, ap, ◌∙◌, subst, arith}
 use Rattle.std.specs.Prelude.{slice_get, vec_capacity, None, Some}
 use Rattle.std.specs.List.{All}
 use Rattle.std.proofs.lemmas.List.{length-map}
@@ -117,3 +117,8 @@ all_whole {L} {T} so told law table o count ss ps js back done is new are long l
     let j = at_within js k (omega (arith, less, long)) in
     subst (λ (x : Done (TableSession L)). IsWholeUnless so (k + 1) ls x) b.2
     (one_whole so told law table o (k + 1) s.0 ls j.0 b.0 (new.each k s.0 s.1) (are.each k s.0 ls j.0 s.1 at_p j.1) (left k j.0 b.0 j.1 b.1) (why k b.0 b.1))
+
+-- a worker that was told and whose memory sufficed has met that the disk failed
+pub met_some : {amount most : ℕ} {starved : Bool} → ((0 < amount) ⊎ (starved ≡ true)) × (starved ≡ false) → amount ≤ most → 0 < most
+met_some {amount} {most} (inl met, fine) less = omega (arith, met, less)
+met_some (inr lacks, fine) less = let not : true ≡ false = sym lacks ∙ fine in cc

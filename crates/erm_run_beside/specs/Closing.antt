@@ -1,9 +1,7 @@
 -- What is asked of sessions that worked, where their table is closed behind the last turns of a desk.
-use Rattle.std.specs.Prelude.{◌≡◌, ℕ, ◌+◌, Bool, false, List, length, Some, Option}
-use Rattle.std.specs.List.{slice_get}
+use Rattle.std.specs.Prelude.{◌≡◌, ℕ, Bool, false, List, Option}
 use Rattle.erm_model.specs.declared.outcome.Phase.TheVariants.{Sealed}
 use Rattle.erm_model.specs.RowTransaction.{Law}
-use Rattle.erm_script.specs.declared.script.ScriptLine.{ScriptLine}
 use Rattle.erm_outside.specs.Disk.{Step}
 use Rattle.erm_rule.specs.declared.view.Book.{Book}
 use Rattle.erm_rule.specs.declared.view.Opening.{Opening}
@@ -11,8 +9,6 @@ use Rattle.erm_rule.specs.Openings.{start_of}
 use Rattle.erm_desk.specs.Desk.{IsDesk}
 use Rattle.erm_engine.specs.Closed.{HaveEnded}
 use Rattle.erm_shared_session.specs.declared.session.TableSession.{TableSession}
-use Rattle.erm_shared_session.specs.Stands.{own_of}
-use Rattle.erm_threads.specs.declared.job.Done.{Done}
 use Rattle.erm_world.specs.World.{IsSession, phase_at}
 use Rattle.erm_engine.specs.Ended.{world_of}
 

@@ -1,5 +1,5 @@
 //! What the worker of a session over the word table does between its calls.
-ghost use Rattle.std.specs.Prelude.{◌≡◌, ◌<◌, true};
+ghost use Rattle.std.specs.Prelude.{◌≡◌, ◌<◌, ◌⊎◌, true};
 
 use crate::shared::SharedDesk;
 use crossbeam_utils::Backoff;
@@ -13,19 +13,30 @@ use std::sync::atomic::{AtomicU64, Ordering};
 use std::sync::ledger::{Ledger, Share};
 use std::sync::{Mutex, Wait};
 
-/// A worker that waits by turns of the desk, and halts once it has met itself that the disk has failed: its share counts that.
+// What a worker leaves beside the lock: nothing; that it has met that the disk has failed, for which the others are to look themselves; or that
+// memory ran out for it.
+const NONE: u64 = 0;
+
+const FAILED: u64 = 1;
+
+const STARVED: u64 = 2;
+
+/// A worker that waits by turns of the desk, and halts once it has met itself that the disk has failed: its share counts that. It halts too where
+/// memory ran out for another one.
 #[derive(Drop)]
 pub struct DeskTurns<'a, L: RowLaw, D: Disk + Drop, B: Naming + Ledger, G: Gate, R: Wait> {
     rt: &'a R,
     table: &'a Table<L>,
     desk: &'a Mutex<SharedDesk<L, D, B>>,
     gate: &'a G,
-    // Not 0 once a worker has met that the disk has failed: the others are to look for themselves.
+    // Why workers are to halt.
     halt: &'a AtomicU64,
     // How often a turn of this worker told that the disk has failed.
     met: Share<B>,
     // Whether one did.
     halted: bool,
+    // Whether memory ran out for another worker.
+    starved: bool,
     seat: Seat,
     backoff: Backoff,
     ghost named: { table.now.words.shared.table_id ≡ B.table },
@@ -62,6 +73,7 @@ impl<'a, L: RowLaw, D: Disk + Drop, B: Naming + Ledger, G: Gate, R: Wait> DeskTu
             halt,
             met,
             halted: false,
+            starved: false,
             seat,
             backoff: Backoff::new(),
         }
@@ -82,7 +94,7 @@ impl<'a, L: RowLaw, D: Disk + Drop, B: Naming + Ledger, G: Gate, R: Wait> DeskTu
             Err(FlushStop::Empty { .. } | FlushStop::Unfilled { .. }) => self.backoff.snooze(),
             Err(FlushStop::DiskFault | FlushStop::Failed) => {
                 self.halted = true;
-                self.halt.store(1, Ordering::SeqCst);
+                self.halt.store(FAILED, Ordering::SeqCst);
             }
         }
     }
@@ -90,7 +102,9 @@ impl<'a, L: RowLaw, D: Disk + Drop, B: Naming + Ledger, G: Gate, R: Wait> DeskTu
 
 impl<'a, L: RowLaw, D: Disk + Drop, B: Naming + Ledger, G: Gate, R: Wait> Turns
     for DeskTurns<'a, L, D, B, G, R> {
-    ghost told = { λ turns. 0 < turns.met.amount };
+    ghost told = { λ turns. (0 < turns.met.amount) ⊎ (turns.starved ≡ true) };
+
+    ghost starved = { λ turns. turns.starved };
 
     fn pass(&mut self, place: Place) {
         self.gate.pass(self.rt, self.seat, place);
@@ -105,9 +119,23 @@ impl<'a, L: RowLaw, D: Disk + Drop, B: Naming + Ledger, G: Gate, R: Wait> Turns
     }
 
     fn goes_on(&mut self) -> bool {
-        if !self.halted && self.halt.load(Ordering::SeqCst) != 0 {
-            self.flush();
+        match self.halt.load(Ordering::SeqCst) {
+            NONE => {}
+            STARVED => self.starved = true,
+            _ => {
+                if !self.halted {
+                    self.flush();
+                }
+            }
         }
-        !self.halted
+        !self.halted && !self.starved
+    }
+
+    fn is_starved(&self) -> bool {
+        self.starved
+    }
+
+    fn tell_starved(&mut self) {
+        self.halt.store(STARVED, Ordering::SeqCst);
     }
 }

@@ -9,7 +9,7 @@ pub struct SessionWork {
     pub answers: Vec<Answer>,
     /// The answer of its closing behind the last line. `None` where it was idle, or was left.
     pub closed: Option<Answer>,
-    /// Whether memory ran out: then no more is known of what the session did.
+    /// Whether memory ran out, for this session or for another one that its worker halted for: then no more is known of what the session did.
     pub lacked: bool,
 }
 

@@ -52,8 +52,8 @@ pub record Worked {S T : Type 0} (stands : S → Type 0) (seat : S → ℕ) (own
 abbrev pub AllWorked : {S T : Type 0} → (S → Type 0) → (S → ℕ) → (S → View) → (S → View → Type 0) → List (Job S T) → List (Done S) → Type 0
 AllWorked {S} {T} stands seat own ends jobs done = (k : ℕ) (job : Job S T) (d : Done S) → slice_get jobs k ≡ Some job → slice_get done k ≡ Some d → Worked stands seat own ends job d
 
--- Where memory sufficed, a session that was left behind fewer answers than lines, or is sealed and wasn't closed, was so because what its worker waited
--- by told it to stop.
+-- Where memory sufficed, a session that was left behind fewer answers than lines, or is sealed and wasn't closed, was so because of what its worker was
+-- told by what it waited by.
 pub record LeftWhenTold {S T : Type 0} (told : T → Type 0) (seat : S → ℕ) (own : S → View) (job : Job S T) (back : Returned S T) : Type 0 where
   pub left : back.done.lacked ≡ false → length back.done.answers.items < length job.lines.items → told back.turns
   pub waits : back.done.lacked ≡ false → back.done.closed ≡ None → phase_at (own back.done.session) (seat job.session) ≡ Sealed → told back.turns

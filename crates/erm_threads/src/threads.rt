@@ -1,5 +1,5 @@
 //! All workers, each on a thread of its own.
-ghost use Rattle.std.specs.Prelude.{◌≡◌, ◌<◌, ℕ, Some, IfOk, length, map, vec_len};
+ghost use Rattle.std.specs.Prelude.{◌≡◌, ◌<◌, ℕ, false, Some, IfOk, length, map, vec_len};
 ghost use Rattle.std.specs.List.{All, slice_get};
 ghost use Rattle.erm_model.specs.RowTransaction.{SameLaw};
 ghost use Rattle.erm_node.specs.Sound.{sound_law};
@@ -26,14 +26,14 @@ where
     requires jobs { All (λ j. IsJob (S.stands shared.now) S.seat S.own j) jobs.items }
     ensures len { IfOk result (λ back. vec_len back ≡ vec_len jobs) }
     ensures worked { IfOk result (λ back. AllWorked (S.stands shared.now) S.seat S.own S.ends jobs.items (map (λ b. b.done) back.items)) }
-    ensures told { IfOk result (λ back. AllLeftWhenTold T.told S.seat S.own jobs.items back.items) }
+    ensures told { IfOk result (λ back. AllLeftWhenTold (λ turns. T.told turns × (T.starved turns ≡ false)) S.seat S.own jobs.items back.items) }
 {
     let back = thread::map_vec(
         rt,
         jobs,
         &|job: Job<S, T>| -> Returned<S, T>
             requires { SameLaw S.law sound_law × IsJob (S.stands shared.now) S.seat S.own job }
-            ensures { Worked (S.stands shared.entry.now) S.seat S.own S.ends job result.done × LeftWhenTold T.told S.seat S.own job result }
+            ensures { Worked (S.stands shared.entry.now) S.seat S.own S.ends job result.done × LeftWhenTold (λ turns. T.told turns × (T.starved turns ≡ false)) S.seat S.own job result }
         { work(rt, alloc, shared, job) },
     )?;
     Ok(back)

@@ -78,7 +78,7 @@ fn run<S: SharedSession, T: Turns, R: Wait>(
 }
 
 /// Runs the lines of a session to their end, and closes it behind them, unless the worker is told to stop. Where memory runs out, the
-/// session comes back all the same; and so does what the worker waited by.
+/// session comes back all the same, and the other workers are told; and so does what the worker waited by.
 pub fn work<S: SharedSession, T: Turns + Drop, R: Wait>(
     rt: &R,
     alloc: Global,
@@ -88,7 +88,7 @@ pub fn work<S: SharedSession, T: Turns + Drop, R: Wait>(
     requires law { SameLaw S.law sound_law }
     requires job { IsJob (S.stands shared.now) S.seat S.own job }
     ensures worked { Worked (S.stands shared.now) S.seat S.own S.ends job result.done }
-    ensures told { LeftWhenTold T.told S.seat S.own job result }
+    ensures told { LeftWhenTold (λ turns. T.told turns × (T.starved turns ≡ false)) S.seat S.own job result }
 {
     let Job {
         mut session,
@@ -110,12 +110,13 @@ pub fn work<S: SharedSession, T: Turns + Drop, R: Wait>(
                 session,
                 answers,
                 closed,
-                lacked: false,
+                lacked: turns.is_starved(),
             },
             turns,
         },
         Err(AllocError) => {
             leave(&mut session, shared);
+            turns.tell_starved();
             Returned {
                 done: Done {
                     session,

@@ -1,5 +1,5 @@
 //! What a worker does between its calls.
-ghost use Rattle.std.specs.Prelude.{◌≡◌, false};
+ghost use Rattle.std.specs.Prelude.{◌≡◌, Bool, false};
 
 use erm_outside::Place;
 use erm_world::Wait;
@@ -25,10 +25,14 @@ impl Why {
     }
 }
 
-/// What a worker does between its calls: no call of its session. Nothing else is said of it but that it tells the worker to stop.
+/// What a worker does between its calls: no call of its session. Nothing else is said of it but that it tells the worker to stop, and whether it has told
+/// it that memory ran out elsewhere.
 pub trait Turns {
     /// The worker was told to stop.
     ghost told: { Self → Type 0 };
+
+    /// The worker was told that memory ran out for another one.
+    ghost starved: { Self → Bool };
 
     /// Passes a place of its session, which may wait.
     fn pass(&mut self, place: Place);
@@ -40,4 +44,11 @@ pub trait Turns {
     /// Whether the worker goes on with its next line.
     fn goes_on(&mut self) -> bool
         ensures told { result ≡ false → told self.new };
+
+    /// Whether the worker was told that memory ran out for another one.
+    fn is_starved(&self) -> bool
+        ensures told { result ≡ starved self.now };
+
+    /// Tells the other workers that memory ran out for this one, so that they stop.
+    fn tell_starved(&mut self);
 }

@@ -1,5 +1,5 @@
 //! Two sessions of one world, whose workers work in turn.
-ghost use Rattle.std.specs.Prelude.{◌≡◌, IfOk};
+ghost use Rattle.std.specs.Prelude.{◌≡◌, false, IfOk};
 ghost use Rattle.erm_lines.specs.Executions.{IsOpened};
 ghost use Rattle.erm_plain.specs.Stands.{plain_view};
 
@@ -29,6 +29,9 @@ impl Turns for Patience {
     // No patience is left.
     ghost told = { λ patience. patience.waits ≡ 0 };
 
+    // Memory suffices the other one.
+    ghost starved = { λ patience. false };
+
     fn pass(&mut self, _place: Place) {}
 
     fn wait(&mut self, why: Why) -> bool {
@@ -47,6 +50,12 @@ impl Turns for Patience {
     fn goes_on(&mut self) -> bool {
         self.waits > 0
     }
+
+    fn is_starved(&self) -> bool {
+        false
+    }
+
+    fn tell_starved(&mut self) {}
 }
 
 // It waits so often.

@@ -1,4 +1,4 @@
-use Rattle.std.proofs.Common.{map, sym, ap, ◌∙◌}
+use Rattle.std.proofs.Common.{map, ap, ◌∙◌}
 use Rattle.erm_rule.specs.declared.view.Start.{Start}
 use Rattle.erm_run_beside.proofs.Over.{ran_as, unless_more}
 use Rattle.erm_run_beside.proofs.sessions.run_opened.Goals as goal

@@ -1,4 +1,4 @@
-use Rattle.std.proofs.Common.{◌≡◌, ◌∙◌, slice_index_or, sym, subst}
+use Rattle.std.proofs.Common.{◌≡◌, false, ◌∙◌, slice_index_or, sym, subst}
 use Rattle.std.proofs.lemmas.Option.{get_or_from_slice_get}
 use Rattle.erm_threads.specs.declared.job.Done.{Done}
 use Rattle.erm_threads.specs.declared.job.Job.{Job}
@@ -23,7 +23,7 @@ returns-clause-worked g c = λ k job d at done_at.
 
 pub returns-clause-told : goal.returns-clause-told
 returns-clause-told g c = λ k job b at back_at.
-    let told = g.T.Turns.told in
+    let told : g.row.T.Denot → Type 0 = λ turns. g.T.Turns.told turns × (g.T.Turns.starved turns ≡ false) in
     let seat = g.S.SharedSession.seat in
     let own = g.S.SharedSession.own in
     let gives = (c.in_ok-back.ensures.each k b (there_is c.args.jobs.items k job at)).1 in

@@ -1,4 +1,4 @@
-use Rattle.std.proofs.Common.{◌<◌, ◌≤◌, List, length, subst, sym}
+use Rattle.std.proofs.Common.{◌<◌, ◌≤◌, List, length, ◌∙◌, subst, sym}
 use Rattle.erm_script.specs.declared.script.ScriptLine.{ScriptLine}
 use Rattle.erm_threads.specs.Work.{DidWork}
 use Rattle.erm_threads.proofs.worker.work.Goals as goal
@@ -18,7 +18,7 @@ returns-in-Ok g c =
         did = λ whole f end. subst (λ (ls : List ScriptLine). DidWork f seat ls answers c.in-Ok.closed v t) c.as_slice.ensures.value (c.in-Ok.ensures.did f end);
       };
       told = record {
-        left = λ whole fewer. c.in-Ok.ensures.left (subst (λ (ls : List ScriptLine). length answers < length ls) (sym c.as_slice.ensures.value) fewer);
-        waits = λ whole none sealed. c.in-Ok.ensures.waits none sealed;
+        left = λ whole fewer. (c.in-Ok.ensures.left (subst (λ (ls : List ScriptLine). length answers < length ls) (sym c.as_slice.ensures.value) fewer), sym c.is_starved.ensures.told ∙ whole);
+        waits = λ whole none sealed. (c.in-Ok.ensures.waits none sealed, sym c.is_starved.ensures.told ∙ whole);
       };
     }
