@@ -30,9 +30,10 @@ use Rattle.erm_told.proofs.Ranges.{in_range}
 use Rattle.erm_told_at_once.proofs.Runs.{all_say, close_of, first_known, knows_own}
 use Rattle.erm_told_limits.proofs.Holds.{Laws}
 use Rattle.erm_limits_at_once.proofs.Chained.{knows_run}
+use Rattle.erm_limits_at_once.specs.Laws.{AreCellsFull, RunsInPartFillCells}
 use Rattle.erm_causes_at_once.specs.Laws.{RunsInPartTellLog}
 use Rattle.erm_owes_at_once.specs.Laws.{RunsInPartOwe}
-use Rattle.erm_cut_at_once.specs.Laws.{CutRunsOwe}
+use Rattle.erm_cut_at_once.specs.Laws.{CutRunsFillCells, CutRunsOwe}
 use Rattle.erm_cut_at_once.proofs.Alike.{Alike, alike_both, alike_flat, alike_itself, owes_here}
 use Rattle.erm_cut_at_once.proofs.Closing.{closed_progress, closes, gones, moves_with, own_join, progress_with}
 use Rattle.erm_cut_at_once.proofs.Left.{Left, LeftAs, left_of}
@@ -194,6 +195,13 @@ module _ (laws : Laws) (runs : (number begin : ℕ) → IsRunOf (world.begun num
       (owe v g script part answers (closed ++ others) opening in_part of)
       (λ i l a at answered. logs v g script part answers (closed ++ others) opening in_part of all i l a at answered)
 
+  -- cells are full at their number
+  pub fills : RunsInPartFillCells → AreCellsFull v script answers
+  fills fill = let each = run.each in fill v g script part answers (closed ++ others) in_part (omega (arith, each))
+
 pub cut_owe : Laws → ((number begin : ℕ) → IsRunOf (world.begun number begin) []) → ((w u : Work) (steps : List Step) → Extends w u → IsAnswered w steps → IsAnswered u steps) → RunsInPartOwe
     → RunsInPartTellLog → CutRunsOwe
 cut_owe laws runs stay owe logs v f script counts answers closed opening run of = owes laws runs stay v f script counts answers closed run owe logs opening of
+
+pub cut_fills : Laws → ((number begin : ℕ) → IsRunOf (world.begun number begin) []) → ((w u : Work) (steps : List Step) → Extends w u → IsAnswered w steps → IsAnswered u steps) → RunsInPartFillCells → CutRunsFillCells
+cut_fills laws runs stay fill v f script counts answers closed run = fills laws runs stay v f script counts answers closed run fill

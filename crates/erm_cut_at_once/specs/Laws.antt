@@ -15,6 +15,7 @@ use Rattle.erm_good_at_once.specs.CutReports.{IsCutAtOnce, IsUnseen, OwesInPart,
 use Rattle.erm_model.specs.Member.{◌∈◌}
 use Rattle.erm_lines.specs.Executions.{IsOpeningOf}
 use Rattle.erm_lines_at_once.specs.CutRuns.{IsCutRunAtOnce}
+use Rattle.erm_limits_at_once.specs.Laws.{AreCellsFull}
 
 -- All that a report owes to its answers is so of the lines answered, each line of the script having been run in part perhaps.
 abbrev pub CutRunsOwe : Type 0
@@ -26,6 +27,11 @@ CutRunsOwe = (v f : View) (script : List ScriptLine) (counts : ℕ → ℕ) (ans
 abbrev pub CutRunsCloseUnseen : Type 0
 CutRunsCloseUnseen = (v f : View) (script : List ScriptLine) (counts : ℕ → ℕ) (answers : List Answer) (closed : List Closed)
     → IsCutRunAtOnce v script counts answers closed f → (c : Closed) → c ∈ closed → IsUnseen script (answered_of counts script) answers c
+
+-- and cells are full at the number that the world has
+abbrev pub CutRunsFillCells : Type 0
+CutRunsFillCells = (v f : View) (script : List ScriptLine) (counts : ℕ → ℕ) (answers : List Answer) (closed : List Closed) → IsCutRunAtOnce v script counts answers closed f
+    → AreCellsFull v script answers
 
 -- Lines tell of an execution that was cut off: of its opening, of the answers, by the numbers of their lines, and of the fault.
 pub record TellsCutAtOnce (v f : View) (opening : Opening) (script : List ScriptLine) (lines : List Line) : Type 0 where

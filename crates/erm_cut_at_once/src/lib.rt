@@ -2,13 +2,14 @@
 //! law is the contract of a function that does nothing.
 #![tactic(auto)]
 
-ghost use Rattle.erm_cut_at_once.specs.Laws.{CutRunsCloseUnseen, CutRunsOwe, CutRunsReportWell};
+ghost use Rattle.erm_cut_at_once.specs.Laws.{CutRunsCloseUnseen, CutRunsFillCells, CutRunsOwe, CutRunsReportWell};
 
 /// Phases and stamps agree, each transaction told was answered on its snapshot, the commits told give their replies where they run in the
 /// serial order, each commit, exclusion and refusal told has its cause, and what was met lies below what is begun later. A transaction that was aborted behind the last answers is told unfinished, and what a
-/// waiting line read for it, or the stamp that a waiting commit drew, is told by no line.
+/// waiting line read for it, or the stamp that a waiting commit drew, is told by no line. Cells are full at the number that the world has.
 pub fn cut_runs_owe()
-    ensures { CutRunsOwe }
+    ensures owes { CutRunsOwe }
+    ensures cells { CutRunsFillCells }
 {
     erm_core_ssn::rows_run_serially();
     erm_core_ssn::serial_order_is_unique();
@@ -19,6 +20,7 @@ pub fn cut_runs_owe()
     erm_maps::answers_stay();
     erm_causes_at_once::runs_in_part_tell_log();
     erm_owes_at_once::runs_in_part_owe();
+    erm_limits_at_once::runs_in_part_refuse_for_room();
 }
 
 /// A session that was decided behind the last answers had all its lines answered, and they leave it sealed.

@@ -16,6 +16,7 @@ use Rattle.erm_rule.specs.Views.{MayJoin}
 use Rattle.erm_world.specs.Log.{IsLog}
 use Rattle.erm_desk.specs.Desk.{IsDesk, IsHeld, KeepsFronts, WritesSince}
 use Rattle.erm_desk.specs.Known.{IsFlushedTo, KnowsBlocks, flushed_log, opened_at}
+use Rattle.erm_desk.proofs.Meeting.{meets_still}
 use Rattle.erm_desk.proofs.Since.{Begins, all_held}
 use Rattle.erm_desk.proofs.Telling.{tells_still}
 
@@ -72,6 +73,7 @@ module _ (law : Law) (begins : Begins law) (o : Start) where
         onward = tells_still told;
         since = all_held law begins o told told [] [] held (writes_now told);
         holds = λ _. (refl, held);
+        meets = λ _. meets_still law o told;
         sound = λ _. refl;
         rose = λ failed. absurd (cc);
       }

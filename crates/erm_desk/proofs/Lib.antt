@@ -7,6 +7,7 @@ pub mod Telling
 pub mod Turned
 pub mod Full
 pub mod Looking
+pub mod Meeting
 pub mod Begun
 pub mod Unflushed
 pub mod Chained

@@ -29,6 +29,7 @@ taken_in stay law o began first s e desk takes = record {
   onward = desk.onward;
   since = desk.since;
   holds = desk.holds;
+  meets = desk.meets;
   sound = desk.sound;
   rose = desk.rose;
 }

@@ -43,6 +43,7 @@ use Rattle.erm_desk.proofs.Ended.{end_on}
 use Rattle.erm_desk.proofs.Looking.{goes, still}
 use Rattle.erm_desk.proofs.PinKept.{pin_after, pin_cleared, pin_gathered}
 use Rattle.erm_desk.proofs.Onward.{knows_after}
+use Rattle.erm_desk.proofs.Meeting.{MeetMore, meets_flushed}
 use Rattle.erm_desk.proofs.Since.{Begins, all_held}
 use Rattle.erm_desk.proofs.Telling.{tells_more}
 
@@ -63,6 +64,7 @@ pub record DeskLaws (law : Law) : Type 0 where
   pub held : (before now : Log) (slots : Slots) (old new : List Step) → HoldsLog law.meets before slots old → HoldsFrom law.meets before.flushed now old new → IsReady now new
       → GoesOn before now → IsLog law.meets now → LOG_START < now.opened.at → HoldsLog law.meets now slots new
   pub begin : Begins law
+  pub meet : MeetMore law
   pub join : (at : ℕ) (xs ys : List ℕ) (first second : List Step) → AllWriteWords at xs first → AllWriteWords (at + length xs) ys second → AllWriteWords at (xs ++ ys) (second ++ first)
 
 -- before blocks were gathered that are known now
@@ -194,6 +196,7 @@ module _ (law : Law) (laws : DeskLaws law) (o : Start) (began : Option (List Ste
         onward = desk.onward;
         since = desk.since;
         holds = λ _. desk.holds fine;
+        meets = λ _. desk.meets fine;
         sound = λ _. desk.sound fine;
         rose = λ failed. absurd (cc);
       }
@@ -358,6 +361,7 @@ module _ (law : Law) (laws : DeskLaws law) (o : Start) (began : Option (List Ste
           onward = tells_more at (take count words) began s.told told desk.onward write.writes;
           since = held_tried fine more knows.log s.told told (desk.holds fine).1 desk.writes writes;
           holds = λ failed. absurd (cc);
+          meets = λ failed. absurd (cc);
           sound = λ failed. absurd (cc);
           rose = λ _. rose_from s.faults first faults (desk.sound fine) rose;
         },
@@ -423,6 +427,7 @@ module _ (law : Law) (laws : DeskLaws law) (o : Start) (began : Option (List Ste
           onward = tells_more did.at (take did.count words) began s.told told desk.onward did.write.writes;
           since = all_held law laws.begin o told began (desk.blocks ++ more) (desk.blocks ++ more) disk.1 since;
           holds = λ _. (refl, disk.1);
+          meets = λ _. meets_flushed law laws.meet o desk.blocks more knows.log began s.told told (desk.meets fine) lasts disk.1;
           sound = λ _. desk.sound fine;
           rose = λ failed. absurd (cc);
         },

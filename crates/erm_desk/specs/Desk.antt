@@ -19,6 +19,7 @@ use Rattle.erm_rule.specs.declared.view.Book.{Book}
 use Rattle.erm_rule.specs.declared.view.Start.{Start}
 use Rattle.erm_rule.specs.Books.{HasState, IsAfter, IsBookOf}
 use Rattle.erm_rule.specs.Views.{MayJoin}
+use Rattle.erm_told_log.specs.Tail.{MeetsTail}
 use Rattle.erm_world.specs.Log.{place_behind, words_of}
 use Rattle.erm_desk.specs.Known.{HasPin, HasStopped, IsFlushedTo, KnowsBlocks, KnowsEnd, ended_log, flushed_log}
 
@@ -50,11 +51,18 @@ pub record HeldSince (law : Law) (o : Start) (blocks tried : List Block) (old no
   pub held : IsHeld law o blocks mid
   pub keeps : KeepsBlocks law.meets (state_at (flushed_log o (blocks ++ tried)) []) (blocks ++ tried) (place_behind o.tail blocks) mid now
 
+-- Where the disk held the log as it was opened, behind some earlier blocks, it holds it now as far as these blocks: of the earlier ones and of these
+-- recovery meets the last ones.
+abbrev pub MeetsMore : Law → Start → List Block → List Step → List Step → Type 0
+MeetsMore law o blocks old now = (earlier : List Block) (first : Slots) → MeetsTail law.meets earlier (flushed_log o []) first old
+    → (slots : Slots) × MeetsTail law.meets earlier (flushed_log o blocks) slots now
+
 -- THE DESK. Its pass has the flush seat, which is between two turns. The log is flushed up to the end of these blocks, was met to end there or
 -- behind it, and may be pinned. And at each moment
 -- since it was set up each image of its disk recovers to a front of them, and of those that were gathered in a turn at which the disk
 -- failed; nothing else was done to the disk than to write these. The disk held the log as far as it is flushed at some moment, since when each
--- image recovers to all of it at least; while the disk hasn't failed it holds it.
+-- image recovers to all of it at least; while the disk hasn't failed it holds it, and recovery
+-- meets these blocks behind those that it met before.
 pub record IsDesk (law : Law) (o : Start) (began : Option (List Step)) (faults : ℕ) (d : Sees) : Type 0 where
   pub behind : LOG_START < o.tail
   pub may : MayGather d.book.view
@@ -72,6 +80,7 @@ pub record IsDesk (law : Law) (o : Start) (began : Option (List Step)) (faults :
   pub onward : Tells (λ old new. (more : List Step) × (new ≡ more ++ old)) began d.told
   pub since : IfSome d.told (λ now. IfSome began (λ old. HeldSince law o blocks tried old now))
   pub holds : d.failed ≡ false → (tried ≡ []) × IfSome d.told (IsHeld law o blocks)
+  pub meets : d.failed ≡ false → IfSome d.told (λ now. IfSome began (λ old. MeetsMore law o blocks old now))
   pub sound : d.failed ≡ false → d.faults ≡ faults
   pub rose : d.failed ≡ true → Rose faults d.faults
 

@@ -52,4 +52,5 @@ pub(crate) fn turns_keep_desks<L: RowLaw>()
     erm_crash::kept_logs_begin::<L>();
     erm_checkpoint::flushed_logs_are_held::<L>();
     erm_log_disk::writes_join();
+    erm_told_log::flushed_logs_meet_more::<L>();
 }

@@ -1,5 +1,5 @@
 -- Sessions that ran at once on a disk whose log was just opened: what a run leaves, whole, cut off or untold.
-use Rattle.std.proofs.Common.{◌≡◌, ℕ, ◌+◌, ◌<◌, ◌≤◌, List, [], ◌++◌, Option, Some, None, IfSome, append-nil, refl, sym, ap, ◌∙◌, subst, arith}
+use Rattle.std.proofs.Common.{◌≡◌, ℕ, ◌+◌, ◌≤◌, List, [], ◌∷◌, ◌++◌, Option, Some, None, IfSome, append-nil, refl, sym, ap, ◌∙◌, subst, arith}
 use Rattle.std.specs.FinMap.{from_entries}
 use Rattle.erm_model.specs.Committed.{Committed, RunsInOrder, rank_of}
 use Rattle.erm_model.specs.Database.{Database, entries_of}
@@ -17,7 +17,7 @@ use Rattle.erm_report.specs.declared.answer.Answer.{Answer}
 use Rattle.erm_report.specs.declared.line.Line.{Line}
 use Rattle.erm_report.specs.declared.line.Line.TheVariants as line
 use Rattle.erm_script.specs.declared.script.ScriptLine.{ScriptLine}
-use Rattle.erm_world.specs.Log.{IsLog, Log, place_behind}
+use Rattle.erm_world.specs.Log.{IsLog, place_behind}
 use Rattle.erm_world.specs.Log as world
 use Rattle.erm_world.specs.World.{View}
 use Rattle.erm_told_crash.specs.Logged.{HasCommits}
@@ -25,21 +25,23 @@ use Rattle.erm_good_at_once.specs.CutReports.{IsCutAtOnce, answered_of}
 use Rattle.erm_good_at_once.specs.GoodAtOnce.{IsGoodAtOnce}
 use Rattle.erm_good_report.specs.Opening.{Opening}
 use Rattle.erm_invariant.specs.Commits.{EachFrontRuns}
-use Rattle.erm_log_run.proofs.Held.{tells_and, tells_both, tells_join, tells_weaker}
+use Rattle.erm_log_run.proofs.Held.{tells_both, tells_join, tells_weaker}
 use Rattle.erm_log_run.proofs.Lasting.{TellsFor, cut_tells, report_tells}
 use Rattle.erm_crash.specs.Kept.{KeepsOpening}
 use Rattle.erm_recover.proofs.Waits.{since_then}
 use Rattle.erm_recover.specs.Waiting.{SinceSettled}
 use Rattle.erm_rule.specs.declared.view.Start.{Start}
 use Rattle.erm_start.specs.Recovered.{IsOpenedLog}
-use Rattle.erm_desk.specs.Desk.{HeldSince, IsDesk, IsHeld, KeepsFronts, Sees, WritesSince}
+use Rattle.erm_desk.specs.Desk.{HeldSince, IsDesk, IsHeld, KeepsFronts, MeetsMore, Sees, WritesSince}
 use Rattle.erm_desk.specs.Known.{flushed_log, opened_at}
 use Rattle.erm_disk_run.specs.Crashes.{Outlives}
 use Rattle.erm_disk_run.specs.Found.{IsFound, StartsFrom}
 use Rattle.erm_disk_run.specs.Limits.{in_table}
 use Rattle.erm_disk_run.specs.Opened.{OpensEachLog, OpensLog}
-use Rattle.erm_disk_run.specs.Runs.{CutFew, commits_told}
+use Rattle.erm_disk_run.specs.Runs.{CutFew, HaveManyCells, commits_told}
 use Rattle.erm_disk_run.proofs.Left.{OrdersAreOne}
+use Rattle.erm_disk_run.proofs.Meeting.{MeetsFound, MetLaws}
+use Rattle.erm_recover.specs.Opening.{open_block}
 use Rattle.erm_disk_run.proofs.Opened.{MayOpenAll}
 use Rattle.erm_disk_run.proofs.Outlived.{OpensAt}
 use Rattle.erm_disk_at_once.specs.Desks.{AreAcknowledged, DiskTells, HasLogged, OpensTable, StandFor}
@@ -70,6 +72,13 @@ pub disk_opened : (state : State) (o : Start) (slots : Slots) (before mid : Opti
 disk_opened state o slots before mid t opens =
     tells_weaker (OpensLog state (flushed_log o []) slots) (OpensDisk state) before mid
     (λ a b is. ((is.pair, is.keeps), opened_keeps state (flushed_log o []) slots a b is)) (opens (flushed_log o []) (opened_log state o t))
+
+-- recovery meets then the blocks that it met before, and the one that opens the log
+pub disk_met : (state : State) (o : Start) (slots : Slots) (before mid : Option (List Step)) → OpensTable state o → OpensEachLog state slots before mid
+    → Tells (MeetsFound state (flushed_log o []) slots) before mid
+disk_met state o slots before mid t opens =
+    tells_weaker (OpensLog state (flushed_log o []) slots) (MeetsFound state (flushed_log o []) slots) before mid
+    (λ a b is. record { pair = is.found.pair; blocks = is.found.blocks; recovers = is.found.recovers; at = is.at; tail = is.tail }) (opens (flushed_log o []) (opened_log state o t))
 
 -- the disk holds the log of the table then
 pub disk_holds : (state : State) (o : Start) (slots : Slots) (before mid : Option (List Step)) → OpensTable state o → OpensEachLog state slots before mid → IfSome mid (IsHeld sound_law o [])
@@ -142,13 +151,18 @@ module _ (may : MayOpenAll) (state : State) (o : Start) (blocks tried : List Blo
       tells_join (OpensDisk state) (DeskDid o blocks tried) (Outlives told state lines) before mid after
       (λ a b c opening desk. outlives may told state o blocks tried stand lines answers of tells a b c opening.0 desk.keeps desk.since) opens did
 
-  pub left : OrdersAreOne → (told : List Committed) → StandFor told state (state_at (flushed_log o blocks) []) blocks → (order : List Committed) (opening end : Database) → opening ≡ map_of_rows state.rows
-      → IsSerialOrder rank_of told order → RunsInOrder order opening end → ((c : Committed) → c ∈ told → c.stamp < place_behind o.tail blocks) → IfSome after (IsHeld sound_law o blocks)
-      → Tells (LeavesAll told state end) before after
-  left one told stand order opening end same serial run above held =
-      tells_join (OpensDisk state) (λ x y. IsHeld sound_law o blocks y × DeskDid o blocks tried x y) (LeavesAll told state end) before mid after
-      (λ a b c is both. leaves_all one told state o blocks stand order opening end same serial run above a c (files a b c is both.1) both.0) opens
-      (tells_and (IsHeld sound_law o blocks) (DeskDid o blocks tried) mid after held did)
+  pub left : OrdersAreOne → MetLaws → (told : List Committed) → StandFor told state (state_at (flushed_log o blocks) []) blocks → IsLog sound_law.meets (flushed_log o blocks)
+      → HasCommits (flushed_log o blocks) told → (order : List Committed) (opening end : Database) → opening ≡ map_of_rows state.rows → IsSerialOrder rank_of told order → RunsInOrder order opening end
+      → (slots : Slots) → Tells (MeetsFound state (flushed_log o []) slots) before mid → Tells (MeetsMore sound_law o blocks) mid after → Tells (LeavesAll told state end) before after
+  left one laws told stand is has order opening end same serial run slots met more =
+      tells_join (λ x y. OpensDisk state x y × MeetsFound state (flushed_log o []) slots x y) (λ x y. DeskDid o blocks tried x y × MeetsMore sound_law o blocks x y) (LeavesAll told state end) before mid after
+      (λ a b c opened desk.
+      let found = opened.1 in
+      let later = desk.1 (found.blocks ++ open_block state.at state.run ∷ []) slots found.tail in
+      leaves_all one laws told state o blocks stand is has order opening end same serial run a c (files a b c opened.0 desk.0) later.0
+      (record { pair = found.pair; blocks = found.blocks; recovers = found.recovers; at = found.at; tail = later.1 }))
+      (tells_both (OpensDisk state) (MeetsFound state (flushed_log o []) slots) before mid opens met)
+      (tells_both (DeskDid o blocks tried) (MeetsMore sound_law o blocks) mid after did more)
 
   -- Memory ran out, or nothing is told: of the state with the rows of the table.
   pub was_starved : IsLog sound_law.meets (flushed_log o (blocks ++ tried)) → IsFound before state → (s : State) × IsFound before s × WasStarvedAtOnce before after s
@@ -168,13 +182,13 @@ module _ (may : MayOpenAll) (state : State) (o : Start) (blocks tried : List Blo
       )
 
   -- A whole run, of whose log all is flushed.
-  pub was_run : OrdersAreOne → (names : List (List ℕ)) (script : List ScriptLine) (lines : List Line) (opening : Opening) → StartsFrom state opening → (good : IsGoodAtOnce opening names script lines)
-      → CutFew in_table good.good.report.answers → EachFrontRuns (commits_told names script good.good.report.answers good.good.report.closed) opening.map
+  pub was_run : (names : List (List ℕ)) (script : List ScriptLine) (lines : List Line) (opening : Opening) → StartsFrom state opening → (good : IsGoodAtOnce opening names script lines)
+      → CutFew in_table good.good.report.answers → HaveManyCells in_table script good.good.report.answers → EachFrontRuns (commits_told names script good.good.report.answers good.good.report.closed) opening.map
       → tried ≡ [] → StandFor (commits_told names script good.good.report.answers good.good.report.closed) state (state_at (flushed_log o blocks) []) blocks
       → AreAcknowledged (place_behind o.tail blocks) good.good.report.answers
-      → ((c : Committed) → c ∈ commits_told names script good.good.report.answers good.good.report.closed → c.stamp < place_behind o.tail blocks)
-      → IfSome after (IsHeld sound_law o blocks) → WasRunAtOnce before after state names script lines
-  was_run one names script lines opening starts good few fronts none stand tells above held =
+      → Tells (LeavesAll (commits_told names script good.good.report.answers good.good.report.closed) state (from_entries (entries_of good.good.report.pairs))) before after
+      → WasRunAtOnce before after state names script lines
+  was_run names script lines opening starts good few celled fronts none stand tells leaves =
       let r = good.good.report in
       let told : List Committed = commits_told names script r.answers r.closed in
       let whole : blocks ≡ blocks ++ tried = sym (ap (λ (bs : List Block). blocks ++ bs) none ∙ append-nil blocks) in
@@ -188,23 +202,25 @@ module _ (may : MayOpenAll) (state : State) (o : Start) (blocks tried : List Blo
         starts = starts;
         good = good;
         few = few;
+        celled = celled;
         fronts = fronts;
         outlives = outlived told (subst (λ (bs : List Block). StandFor told state (state_at (flushed_log o bs) []) bs) whole stand) lines r.answers of tells;
-        leaves = left one told stand r.order opening.map (from_entries (entries_of r.pairs)) starts.map good.good.order.serial good.good.order.run above held;
+        leaves = leaves;
       }
 
   -- One that the disk's fault cut off.
   pub was_cut : (names : List (List ℕ)) (script : List ScriptLine) (lines : List Line) (opening : Opening) → StartsFrom state opening → (cut : IsCutAtOnce opening names script lines)
-      → CutFew in_table cut.answers → EachFrontRuns (commits_told names (answered_of cut.counts script) cut.answers cut.closed) opening.map
+      → CutFew in_table cut.answers → HaveManyCells in_table script cut.answers → EachFrontRuns (commits_told names (answered_of cut.counts script) cut.answers cut.closed) opening.map
       → StandFor (commits_told names (answered_of cut.counts script) cut.answers cut.closed) state (state_at (flushed_log o (blocks ++ tried)) []) (blocks ++ tried)
       → AreAcknowledged (place_behind o.tail blocks) cut.answers → WasCutAtOnce before after state names script lines
-  was_cut names script lines opening starts cut few fronts stand tells = record {
+  was_cut names script lines opening starts cut few celled fronts stand tells = record {
     low = t.low;
     run_low = t.run_low;
     opening = opening;
     starts = starts;
     cut = cut;
     few = few;
+    celled = celled;
     fronts = fronts;
     outlives = outlived (commits_told names (answered_of cut.counts script) cut.answers cut.closed) stand lines cut.answers
         (cut_tells lines opening.stamp opening.run (answered_of cut.counts script) cut.answers None cut.lines_ok) tells;

@@ -1,11 +1,14 @@
 -- The reports of sessions that ran at once, with the script's names alone, and what the log tells of their commits.
-use Rattle.std.proofs.Common.{◌≡◌, ℕ, List, [], ◌++◌, length, Option, IfSome, sym, ap, ◌∙◌, subst, arith}
+use Rattle.std.proofs.Common.{◌≡◌, ℕ, ◌<◌, List, [], ◌++◌, length, Option, sym, ap, ◌∙◌, subst, arith}
 use Rattle.std.specs.List.{All}
 use Rattle.erm_model.specs.Committed.{Committed}
 use Rattle.erm_model.specs.Member.{◌∈◌}
 use Rattle.erm_model.specs.declared.limits.TheConstants.{TABLE_CELLS}
 use Rattle.erm_block.specs.declared.block.Block.{Block}
 use Rattle.erm_outside.specs.Disk.{Step, Tells}
+use Rattle.std.specs.FinMap.{from_entries}
+use Rattle.erm_model.specs.Database.{entries_of}
+use Rattle.erm_ckpt.specs.declared.slot.Slots.{Slots}
 use Rattle.erm_ckpt.specs.Recovered.{State}
 use Rattle.erm_checkpoint.specs.Taken.{state_at}
 use Rattle.erm_node.specs.Sound.{sound_law}
@@ -14,7 +17,8 @@ use Rattle.erm_report.specs.declared.answer.Answer.TheVariants as answer
 use Rattle.erm_report.specs.declared.line.Line.{Line}
 use Rattle.erm_report.specs.Printable.{FitsTypes}
 use Rattle.erm_script.specs.declared.script.ScriptLine.{ScriptLine}
-use Rattle.erm_world.specs.Log.{place_behind}
+use Rattle.erm_world.specs.Log.{IsLog, gathered_to, place_behind}
+use Rattle.erm_world.specs.Log as world
 use Rattle.erm_world.specs.World.{View}
 use Rattle.erm_good_report.specs.GoodReport.{HaveTightWindows, Report, places_of}
 use Rattle.erm_good_report.specs.Opening.{Opening}
@@ -24,23 +28,25 @@ use Rattle.erm_good_at_once.specs.CutReports.{IsCutAtOnce, OwesInPart, answered_
 use Rattle.erm_good_at_once.specs.GoodAtOnce.{IsGoodAtOnce}
 use Rattle.erm_invariant.specs.Commits.{EachFrontRuns}
 use Rattle.erm_lines.specs.Executions.{IsOpeningOf}
-use Rattle.erm_cut_at_once.specs.Laws.{CutRunsCloseUnseen, CutRunsOwe, TellsCutAtOnce}
+use Rattle.erm_limits_at_once.specs.Laws.{AreCellsFull, RunsAtOnceFillCells}
+use Rattle.erm_cut_at_once.specs.Laws.{CutRunsCloseUnseen, CutRunsFillCells, CutRunsOwe, TellsCutAtOnce}
 use Rattle.erm_report_at_once.specs.Laws.{RunsAtOnceReportWell, TellsAtOnce}
 use Rattle.erm_tight_at_once.specs.Laws.{RunsAtOnceHaveTightWindows}
 use Rattle.erm_spare_names.specs.Spare.{NamesOnlyFirst, SpareNamesTellNothing}
 use Rattle.erm_told_log_at_once.specs.Laws.{AreCutsFew, AreFlushed, CutRunsCutFew, CutRunsLogCommits, CutRunsRunInFronts, CutRunsTellFlushed, CutRunsTellStates, RunsAtOnceCutFew, RunsAtOnceLogCommits, RunsAtOnceRunInFronts, RunsAtOnceTellFlushed, RunsAtOnceTellStates}
 use Rattle.erm_told_crash.specs.Logged.{HasCommits}
 use Rattle.erm_rule.specs.declared.view.Start.{Start}
-use Rattle.erm_desk.specs.Desk.{IsHeld}
+use Rattle.erm_desk.specs.Desk.{MeetsMore}
 use Rattle.erm_desk.specs.Known.{flushed_log}
 use Rattle.erm_disk_run.specs.Found.{StartsFrom}
 use Rattle.erm_disk_run.specs.Limits.{in_table}
-use Rattle.erm_disk_run.specs.Runs.{CutFew, commits_told}
+use Rattle.erm_disk_run.specs.Runs.{CutFew, HaveManyCells, commits_told}
 use Rattle.erm_disk_run.proofs.Left.{OrdersAreOne}
+use Rattle.erm_disk_run.proofs.Meeting.{MeetsFound, MetLaws}
 use Rattle.erm_disk_run.proofs.Opened.{MayOpenAll}
 use Rattle.erm_disk_at_once.specs.Desks.{AreAcknowledged, HasLogged, OpensTable, StandFor}
 use Rattle.erm_disk_at_once.specs.Runs.{WasCutAtOnce, WasRunAtOnce}
-use Rattle.erm_disk_at_once.proofs.AtOnce.{DeskDid, OpensDisk, logged_stand, was_cut, was_run}
+use Rattle.erm_disk_at_once.proofs.AtOnce.{DeskDid, OpensDisk, left, logged_stand, was_cut, was_run}
 
 -- the laws that a whole run rests on: of reports, and of the log
 pub record WholeLaws : Type 0 where
@@ -52,6 +58,8 @@ pub record WholeLaws : Type 0 where
   pub fronts : RunsAtOnceRunInFronts
   pub flushed : RunsAtOnceTellFlushed
   pub few : RunsAtOnceCutFew
+  pub cells : RunsAtOnceFillCells
+  pub met : MetLaws
 
 -- and those of one that was cut off
 pub record CutLaws : Type 0 where
@@ -63,6 +71,7 @@ pub record CutLaws : Type 0 where
   pub fronts : CutRunsRunInFronts
   pub flushed : CutRunsTellFlushed
   pub few : CutRunsCutFew
+  pub cells : CutRunsFillCells
 
 -- ---- the script's names alone
 
@@ -153,27 +162,62 @@ flushed_answers f end given answers is same are a m place tells =
 few_cuts : (v : View) (given answers : List Answer) → v.opening.cuts ≡ TABLE_CELLS → given ≡ answers → AreCutsFew v answers → CutFew in_table given
 few_cuts v given answers cuts same are n m = let few = are n (subst (λ (xs : List Answer). answer.Cut n ∈ xs) same m) in omega (arith, few, cuts)
 
+-- the log that the desk knows has the commits that the world's log has, where all of it is flushed
+has_flushed : (o : Start) (blocks : List Block) (f : View) (has : HasLogged o blocks f) (told : List Committed) → f.flushed ≡ f.tail → f.flushed ≡ place_behind o.tail blocks → HasCommits has.log told
+    → HasCommits (flushed_log o blocks) told
+has_flushed o blocks f has told ends flushed commits = record {
+  each = λ b m. commits.each b (subst (λ (bs : List Block). b ∈ bs) (sym has.gathered) m);
+  all = λ c m less.
+      let found = commits.all c m (subst (λ (n : ℕ). c.stamp < n) (sym to) less) in
+      (found.0, subst (λ (bs : List Block). found.0 ∈ bs) has.gathered found.1, found.2);
+  within = λ c m. let within = commits.within c m in (omega (arith, within.0, at), omega (arith, within.1, tail, ends, flushed));
+}
+  where
+    tail : has.log.tail ≡ f.tail
+    tail = has.of_view.tail
+
+    at : has.log.opened.at ≡ o.tail
+    at = ap (λ (s : world.Start). s.at) has.opened
+
+    to : gathered_to has.log ≡ place_behind o.tail blocks
+    to = ap (λ (n : ℕ). place_behind n has.log.gathered) at ∙ ap (λ (bs : List Block). place_behind o.tail bs) has.gathered
+
+-- cells are full at the table's number
+many_cells : (v : View) (script : List ScriptLine) (given answers : List Answer) → v.opening.cells ≡ TABLE_CELLS → given ≡ answers → AreCellsFull v script answers → HaveManyCells in_table script given
+many_cells v script given answers cells same are drawn m =
+    let full = are drawn (subst (λ (xs : List Answer). answer.CellsFull drawn ∈ xs) same m) in
+    ((omega (arith, full.0.0, cells), omega (arith, full.0.1, cells)), omega (arith, full.1, cells))
+
 module _ (may : MayOpenAll) (state : State) (o : Start) (blocks tried : List Block) (before mid after : Option (List Step)) (t : OpensTable state o)
     (opens : Tells (OpensDisk state) before mid) (did : Tells (DeskDid o blocks tried) mid after) (v f : View) (script : List ScriptLine) (opening : Opening) (starts : StartsFrom state opening)
-    (of : IsOpeningOf v opening) (cuts : v.opening.cuts ≡ TABLE_CELLS) (names spare : List (List ℕ)) (lines : List Line) (many : v.opening.sessions ≡ length (names ++ spare))
+    (of : IsOpeningOf v opening) (cuts : v.opening.cuts ≡ TABLE_CELLS) (cells : v.opening.cells ≡ TABLE_CELLS) (names spare : List (List ℕ)) (lines : List Line) (many : v.opening.sessions ≡ length (names ++ spare))
     (first : NamesOnlyFirst (length names) script) (fits : All FitsTypes lines) (flushed : f.flushed ≡ place_behind o.tail blocks) where
   -- A whole run, of which all is flushed.
-  pub run_at_once : OrdersAreOne → WholeLaws → (was : TellsAtOnce v f opening (names ++ spare) script lines) → tried ≡ [] → HasLogged o blocks f → f.flushed ≡ f.tail → IfSome after (IsHeld sound_law o blocks)
+  pub run_at_once : OrdersAreOne → WholeLaws → (was : TellsAtOnce v f opening (names ++ spare) script lines) → tried ≡ [] → HasLogged o blocks f → f.flushed ≡ f.tail
+      → IsLog sound_law.meets (flushed_log o blocks) → (slots : Slots) → Tells (MeetsFound state (flushed_log o []) slots) before mid → Tells (MeetsMore sound_law o blocks) mid after
       → WasRunAtOnce before after state names script lines
-  run_at_once one laws was none has ends held =
+  run_at_once one laws was none has ends is slots met more =
       let r = reported v f script opening names spare lines of many first fits laws was in
       let told : List Committed = all_told v script was.answers was.closed in
       let commits : HasCommits has.log told = laws.commits v f script was.answers was.closed opening was.run of has.apart has.log has.of_view has.is in
       let stand : StandFor told state (state_at (flushed_log o blocks) []) blocks =
       logged_stand told state o blocks f t has opening.map starts.map (laws.states v f script was.answers was.closed opening was.run of has.apart has.log has.of_view has.is) commits
       in
-      let tail = has.of_view.tail in
-      was_run may state o blocks tried before mid after t opens did one names script lines opening starts r.good
+      let good = r.good.good in
+      let here : HasCommits (flushed_log o blocks) (commits_told names script good.report.answers good.report.closed) =
+      subst (λ (cs : List Committed). HasCommits (flushed_log o blocks) cs) (sym r.told) (has_flushed o blocks f has told ends flushed commits)
+      in
+      let stands : StandFor (commits_told names script good.report.answers good.report.closed) state (state_at (flushed_log o blocks) []) blocks =
+      subst (λ (cs : List Committed). StandFor cs state (state_at (flushed_log o blocks) []) blocks) (sym r.told) stand
+      in
+      was_run may state o blocks tried before mid after t opens did names script lines opening starts r.good
       (few_cuts v r.good.good.report.answers was.answers cuts r.answers_are (laws.few v f script was.answers was.closed was.run))
+      (many_cells v script r.good.good.report.answers was.answers cells r.answers_are (laws.cells v f script was.answers was.closed was.run))
       (subst (λ (cs : List Committed). EachFrontRuns cs opening.map) (sym r.told) (laws.fronts v f script was.answers was.closed opening was.run of)) none
-      (subst (λ (cs : List Committed). StandFor cs state (state_at (flushed_log o blocks) []) blocks) (sym r.told) stand)
+      stands
       (flushed_answers f (place_behind o.tail blocks) r.good.good.report.answers was.answers flushed r.answers_are (laws.flushed v f script was.answers was.closed was.run))
-      (λ c m. let within = commits.within c (subst (λ (cs : List Committed). c ∈ cs) r.told m) in omega (arith, within.1, tail, ends, flushed)) held
+      (left may state o blocks tried before mid after t opens did one laws.met (commits_told names script good.report.answers good.report.closed) stands is here good.report.order opening.map
+      (from_entries (entries_of good.report.pairs)) starts.map good.order.serial good.order.run slots met more)
 
   -- One that the disk's fault cut off.
   pub cut_at_once : CutLaws → (was : TellsCutAtOnce v f opening script lines) → HasLogged o (blocks ++ tried) f → WasCutAtOnce before after state names script lines
@@ -187,6 +231,7 @@ module _ (may : MayOpenAll) (state : State) (o : Start) (blocks tried : List Blo
       in
       was_cut may state o blocks tried before mid after t opens did names script lines opening starts r.cut
       (few_cuts v r.cut.answers was.answers cuts r.answers_are (laws.few v f script was.counts was.answers was.closed was.run))
+      (many_cells v script r.cut.answers was.answers cells r.answers_are (laws.cells v f script was.counts was.answers was.closed was.run))
       (subst (λ (cs : List Committed). EachFrontRuns cs opening.map) (sym r.told) (laws.fronts v f script was.counts was.answers was.closed opening was.run of))
       (subst (λ (cs : List Committed). StandFor cs state (state_at (flushed_log o (blocks ++ tried)) []) (blocks ++ tried)) (sym r.told) stand)
       (flushed_answers f (place_behind o.tail blocks) r.cut.answers was.answers flushed r.answers_are (laws.flushed v f script was.counts was.answers was.closed was.run))

@@ -81,5 +81,6 @@ pub record StartsReport (state : State) (names spare : List (List ℕ)) (script 
   pub starts : StartsFrom state opening
   pub view : IsOpeningOf v opening
   pub cuts : v.opening.cuts ≡ TABLE_CELLS
+  pub cells : v.opening.cells ≡ TABLE_CELLS
   pub sessions : v.opening.sessions ≡ length (names ++ spare)
   pub first : NamesOnlyFirst (length names) script

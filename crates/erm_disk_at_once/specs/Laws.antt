@@ -1,9 +1,8 @@
 -- What sessions at once leave on a disk, whose log a desk writes: the laws, as statements.
-use Rattle.std.specs.Prelude.{◌≡◌, ℕ, ◌<◌, ◌++◌, List, [], Option, false}
+use Rattle.std.specs.Prelude.{◌≡◌, ℕ, ◌++◌, List, [], Option, false}
 use Rattle.std.specs.List.{All}
 use Rattle.erm_model.specs.Committed.{Committed, RunsInOrder, rank_of}
 use Rattle.erm_model.specs.Database.{Database}
-use Rattle.erm_model.specs.Member.{◌∈◌}
 use Rattle.erm_model.specs.SerialOrder.{IsSerialOrder}
 use Rattle.erm_outside.specs.Disk.{Step, Tells}
 use Rattle.erm_ckpt.specs.Recovered.{State}
@@ -23,6 +22,7 @@ use Rattle.erm_report_at_once.specs.Laws.{TellsAtOnce}
 use Rattle.erm_rule.specs.declared.view.Start.{Start}
 use Rattle.erm_desk.specs.Desk.{Sees}
 use Rattle.erm_desk.specs.Known.{flushed_log}
+use Rattle.erm_told_crash.specs.Logged.{HasCommits}
 use Rattle.erm_disk_run.specs.Crashes.{Outlives}
 use Rattle.erm_disk_run.specs.Found.{IsFound}
 use Rattle.erm_disk_run.specs.Opened.{OpensEachLog}
@@ -36,12 +36,12 @@ CommitsOutlive = (state : State) (slots : Slots) (o : Start) (before mid : Optio
     → (lines : List Line) (answers : List Answer) → AnswersTell answers lines → AreAcknowledged (place_behind o.tail has.desk.blocks) answers
     → Tells (Outlives told state lines) before d.told
 
--- Where a desk's disk hasn't failed, and all is flushed that the commits have of the log, a crash leaves the map behind the last of them.
+-- Where a desk's disk hasn't failed, and its log, all of which is flushed, has the commits, a crash leaves the map behind the last of them.
 abbrev pub CommitsAreLeft : Type 0
 CommitsAreLeft = (state : State) (slots : Slots) (o : Start) (before mid : Option (List Step)) (faults : ℕ) (d : Sees) (has : HasDesk state slots o before mid faults d) → d.failed ≡ false
     → (told : List Committed) → StandFor told state (state_at (flushed_log o has.desk.blocks) []) has.desk.blocks
     → (order : List Committed) (end : Database) → IsSerialOrder rank_of told order → RunsInOrder order (map_of_rows state.rows) end
-    → ((c : Committed) → c ∈ told → c.stamp < place_behind o.tail has.desk.blocks)
+    → HasCommits (flushed_log o has.desk.blocks) told
     → Tells (LeavesAll told state end) before d.told
 
 -- Whatever is told of sessions at once, a crash leaves a front of the desk's blocks behind the state found.

@@ -1,5 +1,5 @@
 -- A script whose sessions ran at once on a disk: what its report tells, and what a crash leaves.
-use Rattle.std.specs.Prelude.{◌≡◌, ◌+◌, ◌<◌, ◌≤◌, ◌⊎◌, ◌++◌, ℕ, List, length, Option, Result, Ok, Err, Vec}
+use Rattle.std.specs.Prelude.{◌≡◌, ◌+◌, ◌<◌, ◌≤◌, ◌⊎◌, ◌↔◌, ◌++◌, ℕ, List, length, Option, Result, Ok, Err, Vec}
 use Rattle.std.specs.FinMap.{from_entries}
 use Rattle.std.specs.List.{All}
 use Rattle.std.specs.declared.alloc.Global.{Global}
@@ -17,7 +17,9 @@ use Rattle.erm_node.specs.Sound.{sound_law}
 use Rattle.erm_node.specs.TreeMap.{map_of_rows}
 use Rattle.erm_outside.specs.Disk.{Image, IsSettled, Step, Tells, contents}
 use Rattle.erm_outside.specs.Faults.{Rose}
+use Rattle.erm_recover.specs.Opening.{open_block}
 use Rattle.erm_recover.specs.Waiting.{SinceSettled}
+use Rattle.erm_told_audit.specs.Audits.{AuditTells}
 use Rattle.erm_report.specs.Printable.{FitsTypes}
 use Rattle.erm_report.specs.declared.line.Line.{Line}
 use Rattle.erm_script.specs.Script.{IsInRange}
@@ -32,7 +34,7 @@ use Rattle.erm_log_run.specs.Saving.{SparesOlder}
 use Rattle.erm_disk_run.specs.Crashes.{Outlives}
 use Rattle.erm_disk_run.specs.Found.{IsFound, StartsFrom}
 use Rattle.erm_disk_run.specs.Limits.{in_table}
-use Rattle.erm_disk_run.specs.Runs.{CountsRun, CutFew, commits_told}
+use Rattle.erm_disk_run.specs.Runs.{CountsRun, CutFew, HaveManyCells, commits_told}
 use Rattle.erm_disk_run.specs.Stops.{StopsRun}
 use Rattle.erm_disk_run.specs.declared.stops.RunStop.{RunStop}
 use Rattle.erm_disk_run.specs.declared.stops.RunStop.TheVariants as run
@@ -53,8 +55,10 @@ pub record IsScriptAtOnce (names : List (List ℕ)) (script : List ScriptLine) :
 abbrev pub KeepsSegments : State → List Step → List Step → Type 0
 KeepsSegments from old new = SparesOlder from.at old new
 
--- At the end nothing is pending on a disk, so that a crash leaves what it reads: it recovers to this map, in the next run, behind all commits. The
--- slots and the segments below that of the place found are those from before.
+-- At the end nothing is pending on a disk, so that a crash leaves what it reads: it recovers to this map, in the next run, behind all commits. Of the
+-- commits in the blocks that recovery meets those from the place found on are just these. The slots and the segments below that of the place found are
+-- those from before. Of the blocks from the place on where recovery begins it meets the one that opens the run, and of those below the place found just the
+-- ones that it met before.
 pub record LeavesAll (commits : List Committed) (from : State) (m : Database) (old steps : List Step) : Type 0 where
   pub settled : IsSettled steps
   pub found : State
@@ -66,6 +70,10 @@ pub record LeavesAll (commits : List Committed) (from : State) (m : Database) (o
   pub map : map_of_rows found.rows ≡ m
   pub spared : (before : Pair) (blocks : List Block) → Recovers sound_law.meets (contents old) before blocks → slots_of pair ≡ slots_of before
   pub segments : KeepsSegments from old steps
+  pub logged : (best : Pair) (blocks : List Block) → Recovers sound_law.meets (contents steps) best blocks → AuditTells blocks (base best).at from.at commits
+  pub opening : (best : Pair) (blocks : List Block) → Recovers sound_law.meets (contents steps) best blocks → (base best).at ≤ from.at → open_block from.at from.run ∈ blocks
+  pub older : (before best : Pair) (met blocks : List Block) → Recovers sound_law.meets (contents old) before met → Recovers sound_law.meets (contents steps) best blocks
+      → (b : Block) → b.stamp < from.at → (b ∈ blocks) ↔ ((b ∈ met) × ((base best).at ≤ b.stamp))
 
 -- A script's sessions ran at once on a disk from which a state was found, below the end of the log and of runs: these lines are a good report, whose
 -- windows are tight. The commits that it tells outlive a crash at any moment, those below any stamp are a serial run, and at the end the disk
@@ -77,6 +85,7 @@ pub record WasRunAtOnce (before after : Option (List Step)) (state : State) (nam
   pub starts : StartsFrom state opening
   pub good : IsGoodAtOnce opening names script lines
   pub few : CutFew in_table good.good.report.answers
+  pub celled : HaveManyCells in_table script good.good.report.answers
   pub fronts : EachFrontRuns (commits_told names script good.good.report.answers good.good.report.closed) opening.map
   pub outlives : Tells (Outlives (commits_told names script good.good.report.answers good.good.report.closed) state lines) before after
   pub leaves : Tells (LeavesAll (commits_told names script good.good.report.answers good.good.report.closed) state (from_entries (entries_of good.good.report.pairs))) before after
@@ -90,6 +99,7 @@ pub record WasCutAtOnce (before after : Option (List Step)) (state : State) (nam
   pub starts : StartsFrom state opening
   pub cut : IsCutAtOnce opening names script lines
   pub few : CutFew in_table cut.answers
+  pub celled : HaveManyCells in_table script cut.answers
   pub fronts : EachFrontRuns (commits_told names (answered_of cut.counts script) cut.answers cut.closed) opening.map
   pub outlives : Tells (Outlives (commits_told names (answered_of cut.counts script) cut.answers cut.closed) state lines) before after
   pub segments : Tells (KeepsSegments state) before after
@@ -112,8 +122,8 @@ pub record RecoversLogged (blocks : List Block) (from : State) (now : List Step)
 abbrev pub KeepsLogged : List Block → State → List Step → List Step → Type 0
 KeepsLogged blocks from old new = AtMoments (λ now image. TearsApart sound_law.meets now image → RecoversLogged blocks from now image) old new
 
--- Memory ran out while the sessions ran, or what they did was told. Once nothing is pending of what was done before, each image at each moment recovers
--- to what a front of the blocks leaves that came to the log, one behind another.
+-- Memory ran out while the sessions ran, or what they did was told. There are blocks of which, once nothing is pending of what was done before, each image
+-- at each moment recovers to what a front of them leaves, one behind another.
 pub record WasStarvedAtOnce (before after : Option (List Step)) (state : State) : Type 0 where
   pub low : state.at < STOP
   pub run_low : state.run < LAST_RUN

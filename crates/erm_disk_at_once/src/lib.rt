@@ -13,12 +13,16 @@ pub fn commits_outlive()
     erm_crash::kept_images_may_open::<SoundRows>();
 }
 
-/// Where the disk hasn't failed and all is flushed, the disk recovers to the map behind the last commit, with nothing pending.
+/// Where the disk hasn't failed and all is flushed, the disk recovers to the map behind the last commit, with nothing pending, and the blocks that
+/// recovery meets tell just the commits.
 pub fn commits_are_left()
     ensures { CommitsAreLeft }
 {
     erm_crash::kept_images_may_open::<SoundRows>();
     erm_core_ssn::serial_order_is_unique();
+    erm_told_log::recovery_meets_the_run::<SoundRows>();
+    erm_told_log::recovery_meets_earlier_blocks::<SoundRows>();
+    erm_told_audit::audits_tell_the_commits();
 }
 
 /// Whatever is told of the sessions, each image at each moment recovers to what a front of the desk's blocks leaves of a state that was found.
@@ -49,7 +53,11 @@ pub fn runs_at_once_end_on_disk()
     erm_told_log_at_once::runs_at_once_log_commits();
     erm_told_log_at_once::runs_at_once_run_in_fronts();
     erm_told_log_at_once::runs_at_once_tell_flushed();
+    erm_told_log::recovery_meets_the_run::<SoundRows>();
+    erm_told_log::recovery_meets_earlier_blocks::<SoundRows>();
+    erm_told_audit::audits_tell_the_commits();
     erm_told_log_at_once::runs_at_once_cut_few();
+    erm_limits_at_once::runs_at_once_refuse_for_room();
 }
 
 /// The lines that tell of one that was cut off are a good report of what was run: the commits told, and those of sessions that were closed, outlive

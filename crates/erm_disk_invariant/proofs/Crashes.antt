@@ -10,6 +10,7 @@ use Rattle.erm_report.specs.declared.answer.Answer.{Answer}
 use Rattle.erm_report.specs.declared.line.Line.{Line}
 use Rattle.erm_log_run.proofs.Held.{tells_weaker}
 use Rattle.erm_disk_run.specs.Crashes.{KeepsCommits, Leaves, Outlives, RecoversBelow}
+use Rattle.erm_disk_at_once.specs.Runs.{LeavesAll}
 use Rattle.erm_crash_invariant.specs.Crashes.{KeepsInvariant, RecoversWith}
 use Rattle.erm_disk_invariant.specs.Runs.{CrashesKeep}
 
@@ -41,4 +42,11 @@ pub end_keeps : (Invariant : Database → Type 0) (commits : List Committed) (st
     → Tells (λ old new. Leaves commits state answers m old new) before after → Tells (λ old new. RecoversWith Invariant (contents new)) before after
 end_keeps Invariant commits state answers m before after holds told =
     tells_weaker (λ old new. Leaves commits state answers m old new) (λ old new. RecoversWith Invariant (contents new)) before after
+    (λ old new leaves. record { found = leaves.found; pair = leaves.pair; there = leaves.there; holds = subst Invariant (sym leaves.map) holds }) told
+
+-- and so it does where sessions ran at once
+pub end_at_once_keeps : (Invariant : Database → Type 0) (commits : List Committed) (state : State) (m : Database) (before after : Option (List Step)) → Invariant m → Tells (LeavesAll commits state m) before after
+    → Tells (λ old new. RecoversWith Invariant (contents new)) before after
+end_at_once_keeps Invariant commits state m before after holds told =
+    tells_weaker (LeavesAll commits state m) (λ old new. RecoversWith Invariant (contents new)) before after
     (λ old new leaves. record { found = leaves.found; pair = leaves.pair; there = leaves.there; holds = subst Invariant (sym leaves.map) holds }) told

@@ -1,6 +1,7 @@
 pub mod Cut
 pub mod Followed
 pub mod Left
+pub mod Meeting
 pub mod Opened
 pub mod Order
 pub mod Outlived

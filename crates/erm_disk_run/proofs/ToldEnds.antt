@@ -45,7 +45,7 @@ use Rattle.erm_disk_run.specs.Runs.{AreInTables, CountsRun, EndsRun, LeavesUntol
 use Rattle.erm_disk_run.specs.declared.stops.RunStop.{RunStop}
 use Rattle.erm_disk_run.specs.declared.stops.RunStop.TheVariants as run
 use Rattle.erm_disk_run.proofs.Cut.{whole_course}
-use Rattle.erm_disk_run.proofs.Left.{MeetsFound}
+use Rattle.erm_disk_run.proofs.Meeting.{MeetsFound}
 use Rattle.erm_disk_run.proofs.Outlived.{OpensAt}
 use Rattle.erm_disk_run.proofs.SlotsLeft.{OpenedOlder, may_from, opens_older}
 use Rattle.erm_disk_run.proofs.Told.{HasLimits, MapsAreTold, OpensOn, opens_on, same_map, starts_from}

@@ -41,7 +41,8 @@ use Rattle.erm_disk_run.specs.Limits.{Limits}
 use Rattle.erm_disk_run.specs.Owed.{CoursesOwe}
 use Rattle.erm_disk_run.specs.Runs.{AreUnseen, CutFew, HaveManyCells, HaveManyKeys, WasCutOn, WasRunOn, WasStarvedOn, commits_told}
 use Rattle.erm_disk_run.proofs.Cut.{HasUnseen, course_celled, course_cuts, course_keyed, has_unseen, run_cuts, whole_course}
-use Rattle.erm_disk_run.proofs.Left.{AuditLaws, MeetsFound, OrdersAreOne, leaves}
+use Rattle.erm_disk_run.proofs.Left.{AuditLaws, OrdersAreOne, leaves}
+use Rattle.erm_disk_run.proofs.Meeting.{MeetsFound}
 use Rattle.erm_disk_run.proofs.Opened.{MayOpenAll}
 use Rattle.erm_disk_run.proofs.Outlived.{OpensAt, outlives}
 use Rattle.erm_disk_run.proofs.SlotsLeft.{OpenedOlder, RemovedAs, SlotsLeft, older_told, removed_told, saved_told}

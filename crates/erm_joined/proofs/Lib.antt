@@ -1,5 +1,3 @@
 pub mod Answered
 pub mod Closes
-pub mod Cuts
 pub mod Order
-pub mod Runs

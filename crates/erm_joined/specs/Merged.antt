@@ -1,6 +1,7 @@
 -- What all workers answered, put together.
 use Rattle.std.specs.Prelude.{◌≡◌, ℕ, ◌+◌, ◌-◌, ◌≤◌, List, [], ◌∷◌, length, slice_get, slice_index_or, Option, Some, None}
 use Rattle.erm_report.specs.declared.answer.Answer.{Answer}
+use Rattle.erm_report.specs.declared.answer.Answer.TheVariants as answer
 use Rattle.erm_script.specs.declared.script.ScriptLine.{ScriptLine}
 use Rattle.erm_good_report.specs.Phases.{Closed}
 use Rattle.erm_threads.specs.Merged.{own_answers}
@@ -16,6 +17,11 @@ abbrev pub closes_from : ℕ → List (Option Answer) → List Closed
 closes_from seat [] = []
 closes_from seat (None ∷ closed) = closes_from (seat + 1) closed
 closes_from seat (Some a ∷ closed) = record { session = seat; answer = a } ∷ closes_from (seat + 1) closed
+
+-- how a session was closed, as an execution tells it that was cut off: of one that was aborted it tells nothing
+abbrev pub told_when_cut : Option Answer → Option Answer
+told_when_cut (Some answer.Aborted) = None
+told_when_cut closed = closed
 
 -- how many answers a session has
 abbrev pub counts_of : List (List Answer) → ℕ → ℕ

@@ -6,6 +6,7 @@ use Rattle.std.proofs.lemmas.Bool.Decides.{eqb_tells}
 use Rattle.std.proofs.lemmas.List.{length-append, length-map}
 use Rattle.erm_model.specs.declared.history.VersionRead.{VersionRead}
 use Rattle.erm_model.specs.declared.limits.TheConstants.{OID_LIMIT, READ_LIMIT, TABLES, WRITE_LIMIT}
+use Rattle.erm_model.specs.Member.{◌∈◌}
 use Rattle.erm_model.specs.declared.TheConstants.{ROW_WORDS}
 use Rattle.erm_model.specs.declared.outcome.Phase.TheVariants.{Idle}
 use Rattle.erm_model.specs.declared.row_stop.RowStop.{RowStop}
@@ -20,13 +21,14 @@ use Rattle.erm_script.specs.declared.script.ScriptLine.{ScriptLine}
 use Rattle.erm_world.specs.Calls.{AreAllDrawn, AreAllMade, IsJustAbove}
 use Rattle.erm_world.specs.Going.{Extends}
 use Rattle.erm_world.specs.Works.{row_read}
-use Rattle.erm_world.specs.World.{Finished, IsSession, Session, View, Work, claims_by_all, claims_in, claims_upto, phase_at, work_at, work_of}
+use Rattle.erm_world.specs.World.{IsSession, Session, View, Work, claims_by_all, claims_in, claims_upto, work_at, work_of}
 use Rattle.erm_world.specs.World as world
 use Rattle.erm_maps.specs.Runs.{IsAnswered, IsRunOf}
 use Rattle.erm_good_report.specs.GoodReport.{places_of}
 use Rattle.erm_good_report.specs.Opening.{Opening}
 use Rattle.erm_good_report.specs.Phases.{Closed}
-use Rattle.erm_good_report.specs.Refusals.{HasRefusalCause, IsOwn, claims_of, makes_of, total_of}
+use Rattle.erm_told_limits.proofs.Causes.{line_there}
+use Rattle.erm_good_report.specs.Refusals.{HasRefusalCause, IsCounted, IsOwn, claims_of, makes_of, total_of}
 use Rattle.erm_good_report.specs.Transactions.{Said, Transaction, nothing, progress_of, said_of, transactions_of, with_line}
 use Rattle.erm_good_at_once.specs.CutReports.{moment_in}
 use Rattle.erm_lines.specs.Executions.{IsOpeningOf, count_rows}
@@ -315,6 +317,13 @@ module _ (laws : Laws) (zeros : (rows : Rows) (x : ℕ) → IsSound rows → TAB
         made_few v.opening.first OID_LIMIT (all_made f)
         (λ q above below. has_made (all_made f) q (let some = what.2 q (omega (arith, first, above)) below in omega (arith, some, times_all f q))) in
         (what.1, omega (arith, most, length_all f, mades_less (stop.OidsFull drawn) refl stopping is what.0, run.counts makes_of))
+
+  -- cells are full at their number
+  pub cells_full : (drawn : ℕ) → answer.CellsFull drawn ∈ answers → length answers ≤ length script → IsCounted v.opening.cells v.opening.cells drawn × (v.opening.cells < OID_LIMIT + total_of claims_of whole)
+  cells_full drawn (i, answered) many =
+      let line = line_there script answers many i (answer.CellsFull drawn) answered in
+      let most = cells_cause i line.0 (answer.CellsFull drawn) line.1 answered drawn tt refl in
+      ((most.0.0, omega (arith, most.0.1)), most.1)
 
   -- EACH SUCH ANSWER
   pub for_room : (opening : Opening) → IsOpeningOf v opening → (i : ℕ) (l : ScriptLine) (a : Answer) → slice_get script i ≡ Some l → slice_get answers i ≡ Some a → IsFull a

@@ -2,11 +2,13 @@
 //! contract of a function that does nothing.
 #![tactic(auto)]
 
-ghost use Rattle.erm_limits_at_once.specs.Laws.{RunsAtOnceRefuseForRoom, RunsInPartRefuseForRoom};
+ghost use Rattle.erm_limits_at_once.specs.Laws.{RunsAtOnceFillCells, RunsAtOnceRefuseForRoom, RunsInPartFillCells, RunsInPartRefuseForRoom};
 
-/// Of an execution that is told in part: each answer to a line that had no room has its cause in the whole script.
+/// Of an execution that is told in part: each answer to a line that had no room has its cause in the whole script, and cells are full at the number
+/// that the world has.
 pub fn runs_in_part_refuse_for_room()
-    ensures { RunsInPartRefuseForRoom }
+    ensures room { RunsInPartRefuseForRoom }
+    ensures cells { RunsInPartFillCells }
 {
     erm_core_ssn::rows_run_serially();
     erm_core_ssn::serial_order_is_unique();
@@ -19,9 +21,10 @@ pub fn runs_in_part_refuse_for_room()
 }
 
 /// Each answer to a line that had no room has its cause in the script: for claims in the transaction's own lines so far, for reads in
-/// these and in the objects that there may be, for cells and objects in the lines of all sessions.
+/// these and in the objects that there may be, for cells and objects in the lines of all sessions. Cells are full at the number that the world has.
 pub fn runs_at_once_refuse_for_room()
-    ensures { RunsAtOnceRefuseForRoom }
+    ensures room { RunsAtOnceRefuseForRoom }
+    ensures cells { RunsAtOnceFillCells }
 {
     runs_in_part_refuse_for_room();
 }

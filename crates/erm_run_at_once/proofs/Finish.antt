@@ -22,7 +22,7 @@ use Rattle.erm_run_at_once.specs.Room.{MayRun, spare_names}
 use Rattle.erm_run_at_once.specs.Told.{MayTell, ToldOf}
 use Rattle.erm_run_at_once.proofs.Opened.{opening_on}
 use Rattle.erm_run_at_once.proofs.Parts.{lines_of}
-use Rattle.erm_run_at_once.proofs.Ran.{Starved, counts, ends, may_tell_in, opened_left, starved, tables, untold_of}
+use Rattle.erm_run_at_once.proofs.Ends.{Starved, counts, ends, may_tell_in, opened_left, starved, tables, untold_of}
 
 -- what is answered of sessions that ran, or had no memory
 abbrev pub AnswersRan : {E : Type 0} → Result (Vec Line Global) RunStop → OpenedLog → Room → List ScriptLine → Result Ran E → Type 0

@@ -1,6 +1,9 @@
 mod Counts
+mod Ends
 mod Finish
+mod Logs
 mod Many
 mod Opened
 mod Parts
-mod Ran
+mod Split
+mod Worked

@@ -7,7 +7,7 @@ use Rattle.erm_good_report.specs.Phases.{Closed}
 use Rattle.erm_summary.specs.declared.told.ClosedSession.{ClosedSession}
 use Rattle.erm_summary.specs.Told.{closed_of}
 use Rattle.erm_joined.specs.Merged.{closes_from}
-use Rattle.erm_ran_at_once.specs.Ran.{answers_of, closes_of}
+use Rattle.erm_run_at_once.specs.Ran.{answers_of, closes_of}
 use Rattle.erm_run_beside.specs.declared.work.SessionWork.{SessionWork}
 
 -- as many parts as works

@@ -135,6 +135,7 @@ module _ (before mid : Option (List Step)) (state : State) (opened : OpenedLog) 
       starts = starts_from;
       view = is_opening;
       cuts = refl;
+      cells = refl;
       sessions = all_names names is.few;
       first = λ l m. (is.each l m).session.1;
     }

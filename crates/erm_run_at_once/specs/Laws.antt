@@ -12,7 +12,7 @@ use Rattle.erm_works.specs.Cuts.{WorksAreACutRun}
 use Rattle.erm_works.specs.Runs.{WorksAreARun}
 use Rattle.erm_works.specs.Works.{CompleteWorksAreAll, WorksAreFirst}
 use Rattle.erm_disk_at_once.specs.Laws.{CutRunsAtOnceEndOnDisk, FrontsAreLeft, OpeningsAreLeft, RunsAtOnceEndOnDisk}
-use Rattle.erm_ran_at_once.specs.Ran.{ScriptsAreSplit, SessionsAreComplete, SessionsDidWorks, SessionsLeaveLogs}
+use Rattle.erm_run_at_once.specs.Ran.{ScriptsAreSplit, SessionsAreComplete, SessionsDidWorks, SessionsLeaveLogs}
 
 -- All of them: what is so of sessions that ran, of their answers put together, of what their desk leaves on the disk, and of the rows found.
 pub record EndLaws : Type 0 where

@@ -1,3 +1,4 @@
 pub mod Laws
+pub mod Ran
 pub mod Room
 pub mod Told

@@ -14,7 +14,7 @@ use Rattle.erm_summary.specs.Summary.{Summarizes, opening_at}
 use Rattle.erm_threads.specs.Parts.{IsSeatOf}
 use Rattle.erm_joined.specs.Merged.{AreAll, AreFirst, AreMerged, closes_from, counts_of}
 use Rattle.erm_run_beside.specs.declared.work.SessionWork.{SessionWork}
-use Rattle.erm_ran_at_once.specs.Ran.{NoneLacked, answers_of, closes_of}
+use Rattle.erm_run_at_once.specs.Ran.{NoneLacked, answers_of, closes_of}
 use Rattle.erm_disk_run.specs.declared.stops.RunStop.{RunStop}
 use Rattle.erm_disk_run.specs.declared.stops.RunStop.TheVariants as run
 

@@ -3,7 +3,7 @@ ghost use Rattle.std.specs.Prelude.{◌≡◌, ◌∷◌, ◌++◌, ◌≤◌, [
 ghost use Rattle.erm_model.specs.declared.limits.TheConstants.{SESSIONS};
 ghost use Rattle.erm_summary.specs.Told.{closed_of};
 ghost use Rattle.erm_joined.specs.Merged.{closes_from};
-ghost use Rattle.erm_ran_at_once.specs.Ran.{answers_of, closes_of};
+ghost use Rattle.erm_run_at_once.specs.Ran.{answers_of, closes_of};
 
 use erm_model::Seat;
 use erm_report::Answer;

@@ -1,14 +1,18 @@
 //! The laws by which a run at once ends on a disk as it does, gathered.
 ghost use Rattle.erm_run_at_once.specs.Laws.{EndLaws};
 
+use crate::ran::{
+    scripts_are_split, sessions_are_complete, sessions_did_works, sessions_leave_logs,
+};
+
 /// They hold: the function does nothing.
 pub(crate) fn ends_have_laws()
     ensures { EndLaws }
 {
-    erm_ran_at_once::scripts_are_split();
-    erm_ran_at_once::sessions_did_works();
-    erm_ran_at_once::sessions_are_complete();
-    erm_ran_at_once::sessions_leave_logs();
+    scripts_are_split();
+    sessions_did_works();
+    sessions_are_complete();
+    sessions_leave_logs();
     erm_works::works_are_a_run();
     erm_works::works_are_a_cut_run();
     erm_works::works_may_be_merged();

@@ -4,6 +4,7 @@
 mod apart;
 mod cut;
 mod laws;
+mod ran;
 mod report;
 mod room;
 mod run;

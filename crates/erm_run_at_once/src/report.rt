@@ -3,7 +3,7 @@ ghost use Rattle.std.specs.Prelude.{◌≡◌, ◌+◌, ◌≤◌, [], false, If
 ghost use Rattle.erm_model.specs.Member.{◌∈◌};
 ghost use Rattle.erm_model.specs.declared.limits.TheConstants.{LAST_NUMBER, SESSIONS};
 ghost use Rattle.erm_joined.specs.Merged.{AreAll, AreFirst};
-ghost use Rattle.erm_ran_at_once.specs.Ran.{NoneLacked, answers_of, closes_of};
+ghost use Rattle.erm_run_at_once.specs.Ran.{NoneLacked, answers_of, closes_of};
 ghost use Rattle.erm_script.specs.declared.script.ScriptLine.{ScriptLine as LineOfScript};
 ghost use Rattle.erm_threads.specs.Parts.{IsSeatOf};
 ghost use Rattle.erm_run_at_once.specs.Told.{MayTell, TellsCut, TellsWhole, ToldOf};

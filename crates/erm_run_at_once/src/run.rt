@@ -102,7 +102,7 @@ fn run_opened_log<D: Disk + Drop + Send, G: Gate + Sync, R: Threads + Wait + Syn
 /// can be made, over the word table. It gives the lines of the report, which is good and whose windows are tight, whatever the interleaving. A crash
 /// at any moment leaves the commits below one stamp: all that a line acknowledged, once it has, and all at the end. Where the disk fails,
 /// these are the lines of each session's first answers. Where no memory is left for a session, or for the report, a crash leaves a front of
-/// what came to the log.
+/// some blocks behind the state found.
 ///
 /// It waits for threads: its clauses are of what it returns, if it returns.
 pub fn run_at_once_on_disk<D: Disk + Drop + Send, G: Gate + Sync, R: Threads + Wait + Sync>(

@@ -81,7 +81,7 @@ module _ (laws : Laws) (zeros : (rows : Rows) (x : ℕ) → IsSound rows → TAB
   full_cause a e is u own = absurd is
 
 -- CELLS of the run's own world
-line_there : (script : List ScriptLine) (answers : List Answer) → length answers ≤ length script → (i : ℕ) (a : Answer) → slice_get answers i ≡ Some a → (l : ScriptLine) × (slice_get script i ≡ Some l)
+pub line_there : (script : List ScriptLine) (answers : List Answer) → length answers ≤ length script → (i : ℕ) (a : Answer) → slice_get answers i ≡ Some a → (l : ScriptLine) × (slice_get script i ≡ Some l)
 line_there script [] most i a e = absurd (cc)
 line_there [] (b ∷ answers) most i a e = absurd (omega (arith, most))
 line_there (l ∷ script) (b ∷ answers) most zero a e = (l, refl)

@@ -10,8 +10,7 @@ use Rattle.erm_report.specs.declared.answer.Answer.TheVariants as answer
 use Rattle.erm_world.specs.World.{View, phase_at}
 use Rattle.erm_good_report.specs.Phases.{Closed, Closes}
 use Rattle.erm_threads.specs.Work.{WasEnded}
-use Rattle.erm_joined.specs.Cuts.{told_when_cut}
-use Rattle.erm_joined.specs.Merged.{closes_from}
+use Rattle.erm_joined.specs.Merged.{closes_from, told_when_cut}
 
 pub the_one : {X : Type 0} (a b : X) → Some a ≡ Some b → a ≡ b
 the_one a b is = cc

@@ -16,8 +16,7 @@ use Rattle.erm_lines_at_once.specs.Executions.{all_moves}
 use Rattle.erm_threads.specs.Merged.{own_answers}
 use Rattle.erm_threads.specs.Parts.{own_lines}
 use Rattle.erm_threads.proofs.Merged.{own_all}
-use Rattle.erm_joined.specs.Cuts.{told_when_cut}
-use Rattle.erm_joined.specs.Merged.{AreMerged, closes_from, counts_of}
+use Rattle.erm_joined.specs.Merged.{AreMerged, closes_from, counts_of, told_when_cut}
 use Rattle.erm_joined.proofs.Closes.{ascending, closing_of, in_closes, none_closed, own_closed}
 use Rattle.erm_works.specs.Cuts.{WorksAreACutRun}
 use Rattle.erm_works.specs.Works.{AreWorks, IsSplit}

@@ -17,7 +17,7 @@ use Rattle.erm_worker.specs.Work.{RanLines, WasClosed}
 use Rattle.erm_worker.proofs.Parts.{closed as closed_part, given_up as aborted_part, left as left_part, whole as whole_part}
 use Rattle.erm_worker.proofs.Waits.{passes_itself, passes_phase}
 use Rattle.erm_threads.specs.Work.{WasEnded}
-use Rattle.erm_joined.specs.Cuts.{told_when_cut}
+use Rattle.erm_joined.specs.Merged.{told_when_cut}
 use Rattle.erm_joined.proofs.Closes.{closing_of}
 use Rattle.erm_works.specs.Works.{DidSession, IsComplete}
 use Rattle.erm_works.proofs.Closings.{closing_cases}

@@ -5,8 +5,7 @@ use Rattle.erm_script.specs.declared.script.ScriptLine.{ScriptLine}
 use Rattle.erm_world.specs.World.{View}
 use Rattle.erm_good_at_once.specs.CutReports.{answered_of}
 use Rattle.erm_lines_at_once.specs.CutRuns.{IsCutRunAtOnce}
-use Rattle.erm_joined.specs.Cuts.{told_when_cut}
-use Rattle.erm_joined.specs.Merged.{AreMerged, closes_from, counts_of}
+use Rattle.erm_joined.specs.Merged.{AreMerged, closes_from, counts_of, told_when_cut}
 use Rattle.erm_works.specs.Works.{AreWorks, IsSplit}
 
 -- THE LAW. Wherever sessions were left, the answers put together, to the first lines of each, and the sessions that were decided at the end are an

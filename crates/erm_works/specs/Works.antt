@@ -13,7 +13,6 @@ use Rattle.erm_worker.specs.Laws.{IsAtEnd}
 use Rattle.erm_threads.specs.Parts.{IsSeatOf, own_lines}
 use Rattle.erm_threads.specs.Work.{DidWork}
 use Rattle.erm_joined.specs.Merged.{AreAll, AreFirst}
-use Rattle.erm_joined.specs.Runs.{IsBeyond}
 
 -- A script split in a world that was just opened: by seat from 1 on, each part has the lines of a session.
 pub record IsSplit (v : View) (script : List ScriptLine) (parts : List (List ScriptLine)) : Type 0 where
@@ -31,6 +30,12 @@ pub record DidSession (f : View) (seat : ℕ) (v : View) (lines : List ScriptLin
   pub rests : phase_at last seat ≡ Active → ⊥
   pub most : length answers ≤ length lines
   pub did : DidWork f seat lines answers closed v last
+
+-- one world was opened as another, and its log has come as far at least
+pub record IsBeyond (v f : View) : Type 0 where
+  pub opening : f.opening ≡ v.opening
+  pub tail : v.tail ≤ f.tail
+  pub flushed : v.flushed ≤ f.flushed
 
 -- From the first world on all came to an end in the second: there each session with a part did its work, with its answers and its closing, and one
 -- without stands as before.

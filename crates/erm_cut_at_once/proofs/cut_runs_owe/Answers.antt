@@ -1,5 +1,5 @@
 use Rattle.erm_told_limits.proofs.Given.{HistoryLaws, given}
-use Rattle.erm_cut_at_once.proofs.Whole.{cut_owe}
+use Rattle.erm_cut_at_once.proofs.Whole.{cut_fills, cut_owe}
 use Rattle.erm_cut_at_once.proofs.cut_runs_owe.Goals as goal
 
 pub returns : goal.returns
@@ -16,4 +16,7 @@ returns c =
     in
     let ways = c.calls_stay_in_their_table.ensures in
     let laws = given histories (record { way = ways.way; met = ways.met; next = ways.next }) c.begun_transactions_are_runs.ensures in
-    cut_owe laws c.begun_transactions_are_runs.ensures c.answers_stay.ensures c.runs_in_part_owe.ensures c.runs_in_part_tell_log.ensures.log
+    record {
+      owes = cut_owe laws c.begun_transactions_are_runs.ensures c.answers_stay.ensures c.runs_in_part_owe.ensures c.runs_in_part_tell_log.ensures.log;
+      cells = cut_fills laws c.begun_transactions_are_runs.ensures c.answers_stay.ensures c.runs_in_part_refuse_for_room.ensures.cells;
+    }

@@ -3,7 +3,8 @@ use Rattle.erm_disk_at_once.proofs.cut_runs_at_once_end_on_disk.Goals as goal
 
 pub returns : goal.returns
 returns c = cut_runs_end c.kept_images_may_open.ensures record {
-  owe = c.cut_runs_owe.ensures;
+  owe = c.cut_runs_owe.ensures.owes;
+  cells = c.cut_runs_owe.ensures.cells;
   unseen = c.cut_runs_close_unseen.ensures;
   spare = c.spare_names_tell_nothing.ensures;
   states = c.cut_runs_tell_states.ensures;

@@ -13,6 +13,7 @@ returns g c o began first s t answer desk did counts known =
       go = c.moments_go_on.ensures;
       held = c.flushed_logs_are_held.ensures;
       begin = c.kept_logs_begin.ensures;
+      meet = c.flushed_logs_meet_more.ensures;
       join = c.writes_join.ensures;
     } in
     let both = turned law laws o began first s desk answer t.book t.told t.faults t.failed did counts

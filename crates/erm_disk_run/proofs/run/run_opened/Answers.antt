@@ -74,7 +74,10 @@ returns g c =
       courses = record { tell = c.executions_tell_sessions.ensures; go = c.executions_go_on.ensures; states = c.logs_tell_states.ensures; maps = maps };
       may = c.kept_images_may_open.ensures;
       one = c.serial_order_is_unique.ensures.unique_for_sessions;
-      audits = record { logged = c.logs_have_the_commits_told.ensures; meet = c.recovery_meets_the_run.ensures; audit = c.audits_tell_the_commits.ensures; earlier = c.recovery_meets_earlier_blocks.ensures };
+      audits = record {
+        logged = c.logs_have_the_commits_told.ensures;
+        met = record { meet = c.recovery_meets_the_run.ensures; audit = c.audits_tell_the_commits.ensures; earlier = c.recovery_meets_earlier_blocks.ensures };
+      };
       runs_few = c.runs_cut_few.ensures;
       parts_few = c.parts_cut_few.ensures;
       cells = c.cells_are_full.ensures;

@@ -6,7 +6,7 @@ use Rattle.erm_report.specs.declared.answer.Answer.{Answer}
 use Rattle.erm_good_report.specs.Phases.{Closed}
 use Rattle.erm_joined.specs.Merged.{closes_from}
 use Rattle.erm_joined.proofs.Closes.{closes_more}
-use Rattle.erm_ran_at_once.specs.Ran.{closes_of}
+use Rattle.erm_run_at_once.specs.Ran.{closes_of}
 use Rattle.erm_run_beside.specs.declared.work.SessionWork.{SessionWork}
 use Rattle.erm_run_at_once.proofs.apart.take_apart.Goals as goal
 

@@ -2,7 +2,7 @@ use Rattle.std.proofs.Common.{◌≡◌, ◌++◌, length, map}
 use Rattle.std.specs.Vec.Iter.{into_iter_items, into_iter_len}
 use Rattle.erm_summary.specs.Told.{closed_of}
 use Rattle.erm_joined.specs.Merged.{closes_from}
-use Rattle.erm_ran_at_once.specs.Ran.{answers_of, closes_of}
+use Rattle.erm_run_at_once.specs.Ran.{answers_of, closes_of}
 use Rattle.erm_run_at_once.proofs.apart.take_apart.Given as goal
 
 -- the works that were yielded are taken apart

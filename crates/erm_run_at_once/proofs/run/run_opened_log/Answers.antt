@@ -1,5 +1,5 @@
 use Rattle.std.proofs.Common.{refl}
-use Rattle.erm_run_at_once.proofs.Ran.{opened_left}
+use Rattle.erm_run_at_once.proofs.Ends.{opened_left}
 use Rattle.erm_run_at_once.proofs.run.run_opened_log.Goals as goal
 
 pub make_room-requires-clause-seats : goal.make_room-requires-clause-seats

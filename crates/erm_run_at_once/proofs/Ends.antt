@@ -23,8 +23,7 @@ use Rattle.erm_good_at_once.specs.CutReports.{answered_of}
 use Rattle.erm_lines.specs.Executions.{count_rows}
 use Rattle.erm_summary.specs.Tables.{KeysAreInTables}
 use Rattle.erm_start.specs.Recovered.{IsFirstObject}
-use Rattle.erm_joined.specs.Cuts.{told_when_cut}
-use Rattle.erm_joined.specs.Merged.{closes_from, counts_of}
+use Rattle.erm_joined.specs.Merged.{closes_from, counts_of, told_when_cut}
 use Rattle.erm_works.specs.Works.{IsSplit}
 use Rattle.erm_rule.specs.declared.view.Book.{Book}
 use Rattle.erm_rule.specs.declared.view.Opening.{Opening}
@@ -44,7 +43,7 @@ use Rattle.erm_disk_run.specs.declared.stops.RunStop.TheVariants as run
 use Rattle.erm_disk_at_once.specs.Desks.{HasDesk, HasLogged, StartsReport}
 use Rattle.erm_disk_at_once.specs.Laws.{OpeningsAreLeft}
 use Rattle.erm_disk_at_once.specs.Runs.{CountsAtOnce, EndsAtOnce, LeavesUntoldAtOnce, WasCutAtOnce, WasRunAtOnce, WasStarvedAtOnce}
-use Rattle.erm_ran_at_once.specs.Ran.{NoneLacked, answers_of, closes_of}
+use Rattle.erm_run_at_once.specs.Ran.{NoneLacked, answers_of, closes_of}
 use Rattle.erm_run_at_once.specs.declared.room.Room.{Room}
 use Rattle.erm_run_at_once.specs.Laws.{EndLaws}
 use Rattle.erm_run_at_once.specs.Room.{MayRun, spare_names}

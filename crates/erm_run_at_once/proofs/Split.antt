@@ -11,7 +11,7 @@ use Rattle.erm_rule.specs.Openings.{start_of}
 use Rattle.erm_engine.specs.Opened.{opened_view}
 use Rattle.erm_threads.specs.Parts.{AreParts, own_lines}
 use Rattle.erm_threads.proofs.Jobs.{there_is}
-use Rattle.erm_ran_at_once.specs.Ran.{ScriptsAreSplit}
+use Rattle.erm_run_at_once.specs.Ran.{ScriptsAreSplit}
 
 -- OPENED: nothing was done in that world
 opened_just : (o : Opening) → IsSerializable sound_law (opened_view (start_of o)) → IsOpened (opened_view (start_of o))

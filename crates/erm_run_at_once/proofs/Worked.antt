@@ -1,5 +1,5 @@
 -- What sessions did on threads, in the world in which all ended.
-use Rattle.std.proofs.Common.{◌≡◌, ℕ, ◌+◌, ◌-◌, ◌<◌, ◌≤◌, ⊎_elim, Bool, false, List, length, map, Option, Some, refl, sym, ap, ◌∙◌, subst, arith}
+use Rattle.std.proofs.Common.{◌≡◌, ℕ, ◌+◌, ◌-◌, ◌<◌, ◌≤◌, ⊎_elim, Bool, false, List, length, Option, Some, refl, sym, ap, ◌∙◌, subst, arith}
 use Rattle.std.specs.List.{slice_get}
 use Rattle.std.proofs.lemmas.Bool.{cases_lt}
 use Rattle.std.proofs.lemmas.List.{length-map}
@@ -21,13 +21,12 @@ use Rattle.erm_engine.specs.Ended.{HasClosed, IsUntouched, world_of}
 use Rattle.erm_engine.specs.Opened.{opened_view}
 use Rattle.erm_engine.proofs.Joined.{at_within}
 use Rattle.erm_threads.proofs.Jobs.{map_from}
-use Rattle.erm_joined.specs.Runs.{IsBeyond}
-use Rattle.erm_works.specs.Works.{AreComplete, DidSession, IsComplete}
+use Rattle.erm_works.specs.Works.{AreComplete, DidSession, IsBeyond, IsComplete}
 use Rattle.erm_works.proofs.Sessions.{phase_there}
 use Rattle.erm_run_beside.specs.declared.work.SessionWork.{SessionWork}
 use Rattle.erm_run_beside.specs.Runs.{HaveRun, IsWork}
 use Rattle.erm_run_beside.proofs.More.{map_to}
-use Rattle.erm_ran_at_once.specs.Ran.{NoneLacked, SessionsAreComplete, SessionsDidWorks, answers_of, closes_of}
+use Rattle.erm_run_at_once.specs.Ran.{NoneLacked, SessionsAreComplete, SessionsDidWorks, answers_of, closes_of}
 
 -- what a sound state shows is a world in which all may end
 abbrev pub ShownMayEnd : Type 0

@@ -1,6 +1,6 @@
 use Rattle.erm_model.specs.declared.limits.TheConstants.{SESSIONS}
-use Rattle.erm_ran_at_once.proofs.Logs.{leaves_log}
-use Rattle.erm_ran_at_once.proofs.sessions_leave_logs.Goals as goal
+use Rattle.erm_run_at_once.proofs.Logs.{leaves_log}
+use Rattle.erm_run_at_once.proofs.ran.sessions_leave_logs.Goals as goal
 
 pub returns : goal.returns
 returns c o began faults d parts works desk ran =

@@ -1,5 +1,0 @@
-use Rattle.erm_ran_at_once.proofs.Worked.{did_works}
-use Rattle.erm_ran_at_once.proofs.sessions_did_works.Goals as goal
-
-pub returns : goal.returns
-returns c = did_works c.shown_worlds_may_end.ensures
