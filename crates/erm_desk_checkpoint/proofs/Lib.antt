@@ -1,0 +1,12 @@
+pub mod Telling
+pub mod Steps
+pub mod Logs
+pub mod Flushed
+pub mod Past
+pub mod Turning
+pub mod Keeping
+pub mod Meeting
+pub mod Desks
+pub mod Saved
+pub mod Checkpointed
+pub mod TakenIn

@@ -1,0 +1,85 @@
+-- Turns that flush a log up to a place: what they do to a desk.
+use Rattle.std.specs.Prelude.{◌≡◌, ℕ, ◌+◌, ◌<◌, ◌≤◌, true, false, List, [], ◌++◌, length, Some, IfSome, Result, Ok, Err}
+use Rattle.erm_block.specs.declared.block.Block.{Block}
+use Rattle.erm_checkpoint.specs.declared.stops.CheckpointStop.{CheckpointStop}
+use Rattle.erm_checkpoint.specs.declared.stops.CheckpointStop.TheVariants.{DiskFault, Failed, NotYet, Unfilled}
+use Rattle.erm_checkpoint.specs.Taken.{HoldsLog, HoldsLogPast, state_at}
+use Rattle.erm_ckpt.specs.declared.slot.Slots.{Slots}
+use Rattle.erm_ckpt.specs.declared.slot.TheConstants.{LOG_START}
+use Rattle.erm_crash.specs.Kept.{KeepsBlocks}
+use Rattle.erm_desk.specs.Desk.{Sees}
+use Rattle.erm_desk.specs.Known.{KnowsBlocks, KnowsLog}
+use Rattle.erm_desk.specs.Turns.{FlushSteps}
+use Rattle.erm_log_disk.specs.Writes.{OnlyWrites}
+use Rattle.erm_model.specs.RowTransaction.{Law}
+use Rattle.erm_outside.specs.Disk.{Tells}
+use Rattle.erm_outside.specs.Faults.{Rose}
+use Rattle.erm_ring.specs.Turns.{MayGather, WasOpen}
+use Rattle.erm_rule.specs.declared.view.Start.{Start}
+use Rattle.erm_world.specs.Log.{Log, words_of}
+
+-- At each moment from one state of a desk, which knows this log, to another each image of its disk recovers to a front of the blocks known then, to
+-- all that was flushed before at least.
+pub record KeepsFlushed (law : Law) (o : Start) (log : Log) (s t : Sees) : Type 0 where
+  pub knew : KnowsLog law s.book log
+  pub blocks : List Block
+  pub knows : KnowsBlocks law o t.book (log.gathered ++ blocks)
+  pub keeps : Tells (KeepsBlocks law.meets (state_at log []) (log.gathered ++ blocks) log.flushed) s.told t.told
+
+-- a desk that hasn't failed knows this log, its flush seat is between two turns, and its disk holds the log as far as it is flushed, from these slots
+pub record HoldsKnown (law : Law) (slots : Slots) (l : Log) (s : Sees) : Type 0 where
+  pub knows : KnowsLog law s.book l
+  pub may : MayGather s.book.view
+  pub fine : s.failed ≡ false
+  pub holds : IfSome s.told (HoldsLog law.meets l slots)
+
+-- a log, which is pinned at this place, goes on behind where slots may name, and isn't flushed past the place
+pub record MayFlushPast (place : ℕ) (l : Log) : Type 0 where
+  pub behind : LOG_START < l.opened.at
+  pub pinned : l.pinned ≡ Some place
+  pub low : l.flushed ≤ place
+
+-- Turns that flushed lead from a desk that knows the first log to one that knows the second: some blocks more. Nothing else was done to the disk
+-- than to write their words behind the place flushed before, and to wait; and at each moment each image recovers to a front of all blocks, to all
+-- that was flushed before at least. The pass took steps of its flush seat alone.
+pub record FlushesOn (law : Law) (l m : Log) (s t : Sees) : Type 0 where
+  pub opened : m.opened ≡ l.opened
+  pub pinned : m.pinned ≡ l.pinned
+  pub blocks : List Block
+  pub more : m.gathered ≡ l.gathered ++ blocks
+  pub flushed : m.flushed ≡ l.flushed + length (words_of blocks)
+  pub writes : OnlyWrites l.flushed (words_of blocks) s.told t.told
+  pub keeps : Tells (KeepsBlocks law.meets (state_at m []) m.gathered l.flushed) s.told t.told
+  pub steps : FlushSteps law s.book t.book
+  pub faults : t.faults ≡ s.faults
+
+-- A turn found that a range began at this place, up to which the log is flushed, that wasn't decided: nothing was done to the disk.
+pub record FindsOpen (law : Law) (at : ℕ) (l : Log) (s t : Sees) : Type 0 where
+  pub knows : KnowsLog law t.book l
+  pub opened : WasOpen s.book at t.book
+  pub told : t.told ≡ s.told
+  pub faults : t.faults ≡ s.faults
+  pub fine : t.failed ≡ false
+  pub steps : FlushSteps law s.book t.book
+
+-- At a turn the disk failed: blocks were gathered behind those of the log that is known, and some of their words may be written; the log is flushed
+-- as far as before.
+pub record FailsOn (law : Law) (l : Log) (s t : Sees) : Type 0 where
+  pub knows : KnowsLog law t.book l
+  pub blocks : List Block
+  pub knows_all : KnowsBlocks law t.book.start t.book (l.gathered ++ blocks)
+  pub writes : OnlyWrites l.flushed (words_of blocks) s.told t.told
+  pub keeps : Tells (KeepsBlocks law.meets (state_at l []) (l.gathered ++ blocks) l.flushed) s.told t.told
+  pub steps : FlushSteps law s.book t.book
+  pub failed : t.failed ≡ true
+  pub rose : Rose s.faults t.faults
+
+-- What turns up to a place answer: the log is flushed up to it or past it, and the disk holds it; or it is flushed up to a place below, and the turn
+-- after that found that a range began there that wasn't decided; or the disk failed at one of them.
+abbrev pub FlushesPast : Law → Slots → Result Unit CheckpointStop → ℕ → Log → Sees → Sees → Type 0
+FlushesPast law slots (Ok _) place l s t = (m : Log) × FlushesOn law l m s t × HoldsKnown law slots m t × (place ≤ m.flushed) × IfSome t.told (HoldsLogPast law.meets m slots place)
+FlushesPast law slots (Err (Unfilled at)) place l s t =
+    (m : Log) × (last : Sees) × FlushesOn law l m s last × HoldsKnown law slots m last × (m.flushed ≡ at) × (at < place) × FindsOpen law at m last t
+FlushesPast law slots (Err DiskFault) place l s t = (m : Log) × (mid : Sees) × FlushesOn law l m s mid × HoldsKnown law slots m mid × FailsOn law m mid t
+FlushesPast law slots (Err (NotYet seat seen)) place l s t = ⊥
+FlushesPast law slots (Err Failed) place l s t = ⊥
