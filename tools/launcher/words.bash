@@ -1,6 +1,6 @@
 # The words that the launcher answers by itself, with no program. A part of ../../erm.
 
-USAGE="usage: erm run | threads | make --count N --sessions K [--text] | recover | audit | checkpoint | ship | follow"
+USAGE="usage: erm run | threads | make --count N --sessions K [--text] | recover | audit | checkpoint | ship | follow | replica"
 
 # The program's answer to words that ask for no command, and what is wrong with them.
 refuse() {
@@ -49,7 +49,7 @@ answer_alone() {
         --version | version | -V) print_version && exit 0 || exit 5 ;;
         copy) copy_folder "${@:2}" ;;
         try) [[ $# -ge 2 ]] || refuse "try is followed by a command, as in: erm try run < examples/first.erm" ;;
-        run | threads | recover | audit | checkpoint | ship | follow) answer_more "$@" ;;
+        run | threads | recover | audit | checkpoint | ship | follow | replica) answer_more "$@" ;;
         make) [[ " $* " != *" --help "* && " $* " != *" -h "* ]] || answer_alone help ;;
         "") refuse "there is no command" ;;
         --) ;;
@@ -66,6 +66,7 @@ answer_more() {
     case $1 in
         run | threads) refuse "$1 takes no words: the script comes on standard input, as in: erm $1 < $2" ;;
         follow) refuse "follow takes no words: the stream comes on standard input, as in: erm follow < $2" ;;
+        replica) refuse "replica takes no words: the stream comes on standard input, as in: erm replica < $2" ;;
     esac
     refuse "$1 takes no words, and here is \"$2\""
 }
@@ -73,7 +74,7 @@ answer_more() {
 # The command that a word seems to mean, in brackets.
 nearest() {
     local word=${1,,} it
-    for it in run threads make recover audit checkpoint log ship follow explain help copy try; do
+    for it in run threads make recover audit checkpoint log ship follow replica explain help copy try; do
         if [[ $word == "$it" || $word == "-$it" || $word == "--$it" || ($word == "${it:0:3}"* && ${#word} -ge 3) ]]; then
             echo ": is it $it?"
             return

@@ -22,7 +22,7 @@ use Rattle.clap.specs.declared.error.kind.ErrorKind.TheVariants as kind
 use Rattle.clap.proofs.OnLiterals.{clap_on_literals}
 use Rattle.erm_command_line.specs.CommandLine.{AreCommandWords, AreTaken, AreWritten, AskFor, IsCommand, IsNoCommand, IsReadAs, MakeOption, apart, command_line, counts_of, marks_of, sessions_of, word_of}
 use Rattle.erm_command_line.specs.declared.command.Command.{Command}
-use Rattle.erm_command_line.specs.declared.command.Command.TheVariants.{Run, Threads, Recover, Audit, Checkpoint, Ship, Follow, Make}
+use Rattle.erm_command_line.specs.declared.command.Command.TheVariants.{Run, Threads, Recover, Audit, Checkpoint, Ship, Follow, Replica, Make}
 use Rattle.erm_command_line.specs.declared.command.TheConstants.{MOST_SESSIONS, MOST_TRANSACTIONS}
 use Rattle.erm_command_line.proofs.FirstWords.{command_fault, command_found, command_kinds, leaf_words, level_of, named_first}
 use Rattle.erm_command_line.proofs.Levels.{decide, leaf, make, or_both, shape}
@@ -128,6 +128,7 @@ spelled_at Audit rest none read = plain_read (codes "audit") rest none
 spelled_at Checkpoint rest none read = plain_read (codes "checkpoint") rest none
 spelled_at Ship rest none read = plain_read (codes "ship") rest none
 spelled_at Follow rest none read = plain_read (codes "follow") rest none
+spelled_at Replica rest none read = plain_read (codes "replica") rest none
 spelled_at (Make transactions seats as_text) rest none read = make_read transactions seats as_text rest none read
 
 -- the command's word is the name that was read
@@ -139,6 +140,7 @@ read_name Audit name rows read = read
 read_name Checkpoint name rows read = read
 read_name Ship name rows read = read
 read_name Follow name rows read = read
+read_name Replica name rows read = read
 read_name (Make transactions seats as_text) name rows read = read.0
 
 args_spelled : (name : Text) (args : List Text) (command : Command) → fault_of command_line (name ∷ args) ≡ [] → IsReadAs (subcommand_of command_line (name ∷ args)) command → IsSpelled command args
@@ -263,6 +265,7 @@ taken_behind Audit args tail is ending = (tail, plain_taken (codes "audit") args
 taken_behind Checkpoint args tail is ending = (tail, plain_taken (codes "checkpoint") args tail is, (leaf_taken (codes "checkpoint") tail ending, refl, tt))
 taken_behind Ship args tail is ending = (tail, plain_taken (codes "ship") args tail is, (leaf_taken (codes "ship") tail ending, refl, tt))
 taken_behind Follow args tail is ending = (tail, plain_taken (codes "follow") args tail is, (leaf_taken (codes "follow") tail ending, refl, tt))
+taken_behind Replica args tail is ending = (tail, plain_taken (codes "replica") args tail is, (leaf_taken (codes "replica") tail ending, refl, tt))
 taken_behind (Make transactions seats as_text) args tail is ending =
     (is.1 ++ tail, ap (λ (a : List Text). a ++ tail) is.4, make_taken transactions seats as_text is.0 is.1 tail is.2 is.3 ending)
 
@@ -312,7 +315,8 @@ is_bare command = true
 abbrev command_at : Text → Command
 command_at word = if bytes_eq word (codes "run") then Run else (if bytes_eq word (codes "threads") then Threads else (if bytes_eq word (codes "recover") then Recover
     else (if bytes_eq word (codes "audit") then Audit else (if bytes_eq word (codes "checkpoint") then Checkpoint
-    else (if bytes_eq word (codes "ship") then Ship else (if bytes_eq word (codes "follow") then Follow else Make 0 0 false))))))
+    else (if bytes_eq word (codes "ship") then Ship else (if bytes_eq word (codes "follow") then Follow
+    else (if bytes_eq word (codes "replica") then Replica else Make 0 0 false)))))))
 
 at_word : (command : Command) → is_bare command ≡ true → command_at (word_of command) ≡ command
 at_word Run bare = refl
@@ -322,6 +326,7 @@ at_word Audit bare = refl
 at_word Checkpoint bare = refl
 at_word Ship bare = refl
 at_word Follow bare = refl
+at_word Replica bare = refl
 at_word (Make transactions seats as_text) bare = absurd (cc)
 
 with_options : (command : Command) → is_bare command ≡ false → (transactions : ℕ) × (seats : ℕ) × (as_text : Bool) × (command ≡ Make transactions seats as_text)
@@ -332,6 +337,7 @@ with_options Audit bare = absurd (cc)
 with_options Checkpoint bare = absurd (cc)
 with_options Ship bare = absurd (cc)
 with_options Follow bare = absurd (cc)
+with_options Replica bare = absurd (cc)
 with_options (Make transactions seats as_text) bare = (transactions, seats, as_text, refl)
 
 -- a command with options has another word than one without
@@ -398,6 +404,7 @@ meant_are_taken Audit args is = is
 meant_are_taken Checkpoint args is = is
 meant_are_taken Ship args is = is
 meant_are_taken Follow args is = is
+meant_are_taken Replica args is = is
 meant_are_taken (Make transactions seats as_text) args is = (is.0, flat_map apart is.0, is.1, apart_written is.0, is.2)
 
 pub meant_are_commands : (words : List (String Global)) (command : Command) (name : List ℕ) (args : List (List ℕ)) → AreCommandWords command args → map string_bytes words ≡ name ∷ args → IsCommand words command

@@ -13,7 +13,7 @@ use Rattle.clap.specs.Words.{subcommand_of}
 use Rattle.clap.proofs.OnLiterals.{clap_on_literals}
 use Rattle.erm_command_line.specs.CommandLine.{command_line, word_of}
 use Rattle.erm_command_line.specs.declared.command.Command.{Command}
-use Rattle.erm_command_line.specs.declared.command.Command.TheVariants.{Run, Threads, Recover, Audit, Checkpoint, Ship, Follow, Make}
+use Rattle.erm_command_line.specs.declared.command.Command.TheVariants.{Run, Threads, Recover, Audit, Checkpoint, Ship, Follow, Replica, Make}
 use Rattle.erm_command_line.proofs.Levels.{Level, decide, help, help_refused, holding, leaf, make, names, or_both, or_first, same_text, shape, top, trailing_refused, unflagged_refused, walking}
 
 -- ---- a word that is neither a command's nor `--`
@@ -103,6 +103,7 @@ command_fault Audit rest = ap₂ or_else (stopped_fault (codes "audit") [] rest)
 command_fault Checkpoint rest = ap₂ or_else (stopped_fault (codes "checkpoint") [] rest) (ap left_kinds (stopped_walk (codes "checkpoint") [] rest)) ∙ or_nothing _
 command_fault Ship rest = ap₂ or_else (stopped_fault (codes "ship") [] rest) (ap left_kinds (stopped_walk (codes "ship") [] rest)) ∙ or_nothing _
 command_fault Follow rest = ap₂ or_else (stopped_fault (codes "follow") [] rest) (ap left_kinds (stopped_walk (codes "follow") [] rest)) ∙ or_nothing _
+command_fault Replica rest = ap₂ or_else (stopped_fault (codes "replica") [] rest) (ap left_kinds (stopped_walk (codes "replica") [] rest)) ∙ or_nothing _
 command_fault (Make transactions seats as_text) rest = ap₂ or_else (stopped_fault (codes "make") [] rest) (ap left_kinds (stopped_walk (codes "make") [] rest)) ∙ or_nothing _
 
 -- what is found at that level
@@ -118,6 +119,7 @@ command_found Audit name rest = ap entered_by (stopped_walk (codes "audit") [] r
 command_found Checkpoint name rest = ap entered_by (stopped_walk (codes "checkpoint") [] rest)
 command_found Ship name rest = ap entered_by (stopped_walk (codes "ship") [] rest)
 command_found Follow name rest = ap entered_by (stopped_walk (codes "follow") [] rest)
+command_found Replica name rest = ap entered_by (stopped_walk (codes "replica") [] rest)
 command_found (Make transactions seats as_text) name rest = ap entered_by (stopped_walk (codes "make") [] rest)
 
 -- ---- other first words
@@ -135,11 +137,12 @@ record IsUnnamed (word : Text) : Type 0 where
   no_checkpoint : bytes_eq (codes "checkpoint") word ≡ false
   no_ship : bytes_eq (codes "ship") word ≡ false
   no_follow : bytes_eq (codes "follow") word ≡ false
+  no_replica : bytes_eq (codes "replica") word ≡ false
   no_help : bytes_eq (codes "help") word ≡ false
 
 unmet : (word : Text) → IsUnnamed word → find (answers_to word) names ≡ None
 unmet word is = if_false _ _ _ is.no_run ∙ if_false _ _ _ is.no_threads ∙ if_false _ _ _ is.no_make ∙ if_false _ _ _ is.no_recover ∙ if_false _ _ _ is.no_audit ∙ if_false _ _ _ is.no_checkpoint
-    ∙ if_false _ _ _ is.no_ship ∙ if_false _ _ _ is.no_follow ∙ if_false _ _ _ is.no_help
+    ∙ if_false _ _ _ is.no_ship ∙ if_false _ _ _ is.no_follow ∙ if_false _ _ _ is.no_replica ∙ if_false _ _ _ is.no_help
 
 top_turn : (word : Text) → IsUnnamed word → bytes_eq word (codes "--") ≡ false → turn_fault (shape top) names (walk_from nothing_held) word ≢ []
 top_turn word unnamed other =
@@ -177,8 +180,8 @@ named command word rest is = (command, rest, ap (λ (w : Text). w ∷ rest) (sym
 
 last_cases : (word : Text) (rest : List Text) → built_fault (built command_line) nothing_held (word ∷ rest) ≡ [] → bytes_eq (codes "run") word ≡ false → bytes_eq (codes "threads") word ≡ false → bytes_eq (codes "make") word ≡ false
     → bytes_eq (codes "recover") word ≡ false → bytes_eq (codes "audit") word ≡ false → bytes_eq (codes "checkpoint") word ≡ false
-    → bytes_eq (codes "ship") word ≡ false → bytes_eq (codes "follow") word ≡ false → IsNamedFirst (word ∷ rest)
-last_cases word rest none no_run no_threads no_make no_recover no_audit no_checkpoint no_ship no_follow = elim (decide (bytes_eq (codes "help") word)) [
+    → bytes_eq (codes "ship") word ≡ false → bytes_eq (codes "follow") word ≡ false → bytes_eq (codes "replica") word ≡ false → IsNamedFirst (word ∷ rest)
+last_cases word rest none no_run no_threads no_make no_recover no_audit no_checkpoint no_ship no_follow no_replica = elim (decide (bytes_eq (codes "help") word)) [
   | inl is ↦ absurd (help_first rest (subst (λ (w : Text). built_fault (built command_line) nothing_held (w ∷ rest) ≡ []) (sym (same_text (codes "help") word is)) none))
   | inr no_help ↦ elim (decide (bytes_eq word (codes "--"))) [
     | inl is ↦ absurd (ends_first rest (subst (λ (w : Text). built_fault (built command_line) nothing_held (w ∷ rest) ≡ []) (same_text word (codes "--") is) none))
@@ -191,6 +194,7 @@ last_cases word rest none no_run no_threads no_make no_recover no_audit no_check
       no_checkpoint = no_checkpoint;
       no_ship = no_ship;
       no_follow = no_follow;
+      no_replica = no_replica;
       no_help = no_help;
     }) other none)
   ]
@@ -214,7 +218,10 @@ named_first (word ∷ rest) none = elim (decide (bytes_eq (codes "run") word)) [
               | inl is ↦ named Ship word rest is
               | inr no_ship ↦ elim (decide (bytes_eq (codes "follow") word)) [
                 | inl is ↦ named Follow word rest is
-                | inr no_follow ↦ last_cases word rest none no_run no_threads no_make no_recover no_audit no_checkpoint no_ship no_follow
+                | inr no_follow ↦ elim (decide (bytes_eq (codes "replica") word)) [
+                  | inl is ↦ named Replica word rest is
+                  | inr no_replica ↦ last_cases word rest none no_run no_threads no_make no_recover no_audit no_checkpoint no_ship no_follow no_replica
+                ]
               ]
             ]
           ]

@@ -13,7 +13,7 @@ use Rattle.std.specs.Box.{box_value}
 use Rattle.clap.proofs.WalkLemmas.{first_value-rows}
 use Rattle.erm_command_line.specs.CommandLine.{IsReadAs}
 use Rattle.erm_command_line.specs.declared.command.Command.{Command}
-use Rattle.erm_command_line.specs.declared.command.Command.TheVariants.{Run, Threads, Recover, Audit, Checkpoint, Ship, Follow, Make}
+use Rattle.erm_command_line.specs.declared.command.Command.TheVariants.{Run, Threads, Recover, Audit, Checkpoint, Ship, Follow, Replica, Make}
 use Rattle.erm_command_line.specs.declared.command.TheConstants.{MOST_SESSIONS, MOST_TRANSACTIONS}
 
 -- a name and rows that were found stand together
@@ -51,6 +51,7 @@ at_make name rows Audit is other read = let bad : codes "make" ≡ codes "audit"
 at_make name rows Checkpoint is other read = let bad : codes "make" ≡ codes "checkpoint" = sym is ∙ read in absurd (cc)
 at_make name rows Ship is other read = let bad : false ≡ true = ap (λ (t : Text). bytes_eq t (codes "ship")) (sym is ∙ read) in absurd (cc)
 at_make name rows Follow is other read = let bad : codes "make" ≡ codes "follow" = sym is ∙ read in absurd (cc)
+at_make name rows Replica is other read = let bad : codes "make" ≡ codes "replica" = sym is ∙ read in absurd (cc)
 at_make name rows (Make transactions seats as_text) is other read = elim other [
   | inl no_count ↦ no_count transactions read.1.0 read.1.1 read.1.2
   | inr no_seats ↦ no_seats seats read.2.0 read.2.1 read.2.2

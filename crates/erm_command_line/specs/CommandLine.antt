@@ -9,7 +9,7 @@ use Rattle.clap.specs.Simple.{App, Shape, new_app, new_rule, with_rule, with_sub
 use Rattle.clap.specs.declared.builder.action.ArgAction.TheVariants.{SetTrue}
 use Rattle.erm_command_line.specs.declared.command.TheConstants.{MOST_SESSIONS, MOST_TRANSACTIONS}
 use Rattle.erm_command_line.specs.declared.command.Command.{Command}
-use Rattle.erm_command_line.specs.declared.command.Command.TheVariants.{Run, Threads, Recover, Audit, Checkpoint, Ship, Follow, Make}
+use Rattle.erm_command_line.specs.declared.command.Command.TheVariants.{Run, Threads, Recover, Audit, Checkpoint, Ship, Follow, Replica, Make}
 
 -- ---- the command line, as the library that reads it sees it
 
@@ -34,9 +34,9 @@ program = record (new_app (codes "erm")) { top = record (new_app (codes "erm")).
 
 -- the program's name, and its commands
 abbrev pub command_line : App
-command_line = with_subcommand (with_subcommand (with_subcommand (with_subcommand (with_subcommand (with_subcommand (with_subcommand (with_subcommand program (plain_shape (codes "run")))
+command_line = with_subcommand (with_subcommand (with_subcommand (with_subcommand (with_subcommand (with_subcommand (with_subcommand (with_subcommand (with_subcommand program (plain_shape (codes "run")))
     (plain_shape (codes "threads"))) make_shape) (plain_shape (codes "recover"))) (plain_shape (codes "audit"))) (plain_shape (codes "checkpoint")))
-    (plain_shape (codes "ship"))) (plain_shape (codes "follow"))
+    (plain_shape (codes "ship"))) (plain_shape (codes "follow"))) (plain_shape (codes "replica"))
 
 -- ---- the options of `make`
 
@@ -101,6 +101,7 @@ word_of Audit = codes "audit"
 word_of Checkpoint = codes "checkpoint"
 word_of Ship = codes "ship"
 word_of Follow = codes "follow"
+word_of Replica = codes "replica"
 word_of (Make transactions seats as_text) = codes "make"
 
 -- The words behind the program's name, as they are meant to be given: the command's word and nothing more, or `make` and its options, each value a

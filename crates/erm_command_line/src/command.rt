@@ -21,7 +21,7 @@ pub const MOST_SESSIONS: u32 = 16;
 pub enum Command {
     /// To read a script, run it and put its report.
     Run,
-    /// The same, each session on a thread of its own.
+    /// The same, each session on a thread of its own where one can be made.
     Threads,
     /// To tell what the disk recovers to.
     Recover,
@@ -33,6 +33,8 @@ pub enum Command {
     Ship,
     /// To read a stream, and to tell the commits below its safe stamps.
     Follow,
+    /// To read a stream, and to tell what its replica answers.
+    Replica,
     /// To make a script and run it, or to print its text.
     Make {
         /// How many transactions it has.
@@ -84,6 +86,7 @@ fn command_read(matches: &ArgMatches) -> Option<Command>
         "checkpoint" => Some(Command::Checkpoint),
         "ship" => Some(Command::Ship),
         "follow" => Some(Command::Follow),
+        "replica" => Some(Command::Replica),
         "make" => {
             let count = number(options.get_str("count")?, MOST_TRANSACTIONS)?;
             let sessions = number(options.get_str("sessions")?, MOST_SESSIONS)?;

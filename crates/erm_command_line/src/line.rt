@@ -21,7 +21,8 @@ pub fn command_line<'a>(alloc: Global) -> Result<Command<'a>, AllocError>
         .subcommand(Command::new(alloc, "audit"))?
         .subcommand(Command::new(alloc, "checkpoint"))?
         .subcommand(Command::new(alloc, "ship"))?
-        .subcommand(Command::new(alloc, "follow"))
+        .subcommand(Command::new(alloc, "follow"))?
+        .subcommand(Command::new(alloc, "replica"))
 }
 
 // The command `make`, with its options.

@@ -35,7 +35,7 @@ const FIVE_AS_TEXT: Option<Command> = Some(Command::Make {
     text: true,
 });
 
-static CASES: [(&str, Option<Command>); 50] = [
+static CASES: [(&str, Option<Command>); 52] = [
     ("erm run", Some(Command::Run)),
     (" run", Some(Command::Run)),
     ("run run", Some(Command::Run)),
@@ -48,6 +48,7 @@ static CASES: [(&str, Option<Command>); 50] = [
     ("erm ship", Some(Command::Ship)),
     ("erm ship --", Some(Command::Ship)),
     ("erm follow", Some(Command::Follow)),
+    ("erm replica", Some(Command::Replica)),
     ("erm make --count 1 --sessions 1", LEAST),
     ("erm make --sessions 16 --count 100000", GREATEST),
     ("erm make --text --count 5 --sessions 2", FIVE_AS_TEXT),
@@ -64,6 +65,7 @@ static CASES: [(&str, Option<Command>); 50] = [
     ("erm run run", None),
     ("erm ship erm-data", None),
     ("erm follow stream", None),
+    ("erm replica follow", None),
     ("erm ship follow", None),
     ("erm run -- --", None),
     ("erm -- run", None),

@@ -115,11 +115,11 @@ piece_ends_so (Err status) h s t f g text a b c k m n drains put sound ends = pi
 
 -- ---- from one piece to the next
 
-took_nothing : (left : Option (List ℕ)) → TookFront [] left left
+pub took_nothing : (left : Option (List ℕ)) → TookFront [] left left
 took_nothing None = tt
 took_nothing (Some bytes) = (bytes, refl, refl)
 
-took_more : (n : ℕ) (bytes buffer : List ℕ) (first now next : Option (List ℕ)) → TookFront bytes first now → IfSome now (λ left. Takes left n buffer next) → TookFront (bytes ++ take n buffer) first next
+pub took_more : (n : ℕ) (bytes buffer : List ℕ) (first now next : Option (List ℕ)) → TookFront bytes first now → IfSome now (λ left. Takes left n buffer next) → TookFront (bytes ++ take n buffer) first next
 took_more n bytes buffer None now next front takes = tt
 took_more n bytes buffer (Some all) now next front takes =
     let here : Takes front.0 n buffer next = subst (λ (x : Option (List ℕ)). IfSome x (λ left. Takes left n buffer next)) front.2 takes in (
@@ -129,7 +129,7 @@ took_more n bytes buffer (Some all) now next front takes =
       here.rest,
     )
 
-took_all : (bytes buffer : List ℕ) (first now next : Option (List ℕ)) → TookFront bytes first now → IfSome now (λ left. Takes left 0 buffer next) → TookAll bytes first next
+pub took_all : (bytes buffer : List ℕ) (first now next : Option (List ℕ)) → TookFront bytes first now → IfSome now (λ left. Takes left 0 buffer next) → TookAll bytes first next
 took_all bytes buffer None now next front takes = tt
 took_all bytes buffer (Some all) now next front takes =
     let here : Takes front.0 0 buffer next = subst (λ (x : Option (List ℕ)). IfSome x (λ left. Takes left 0 buffer next)) front.2 takes in

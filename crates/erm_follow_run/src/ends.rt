@@ -46,8 +46,8 @@ pub(crate) fn broken_text(alloc: Global, broken: &Broken) -> Result<Vec<u8>, All
     Ok(text)
 }
 
-// Adds words, a number, and the line's end.
-fn push_number(text: &mut Vec<u8>, words: &[u8], number: u64) -> Result<(), AllocError>
+/// Adds words, a number, and the line's end.
+pub fn push_number(text: &mut Vec<u8>, words: &[u8], number: u64) -> Result<(), AllocError>
     ensures { OnOk result (text.new.items ≡ text.old.items ++ number_text words.now number) }
 {
     push_count(text, words, number)?;
@@ -55,8 +55,8 @@ fn push_number(text: &mut Vec<u8>, words: &[u8], number: u64) -> Result<(), Allo
     Ok(())
 }
 
-// Adds words and a number.
-fn push_count(text: &mut Vec<u8>, words: &[u8], number: u64) -> Result<(), AllocError>
+/// Adds words and a number.
+pub fn push_count(text: &mut Vec<u8>, words: &[u8], number: u64) -> Result<(), AllocError>
     ensures { OnOk result (text.new.items ≡ text.old.items ++ (words.now ++ decimal number)) }
 {
     let mut buffer = Buffer::new();

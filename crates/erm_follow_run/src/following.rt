@@ -22,7 +22,7 @@ use std::alloc::Global;
 pub const STREAM_BYTES: usize = 16_777_216;
 
 /// How many bytes are asked for at a time.
-const CHUNK_BYTES: usize = 4096;
+pub const CHUNK_BYTES: usize = 4096;
 
 /// Follows the stream that a source has, and puts the lines of the commits below each safe stamp in the serial order: where the
 /// log keeps what its safe stamps promise, no later commit can come before them. It answers a status:
@@ -76,8 +76,13 @@ pub fn follow<S: Source, K: Sink>(alloc: Global, source: &mut S, sink: &mut K) -
     9
 }
 
-// Takes bytes of a source, of which so many were taken: no more in all than one more than a stream may have.
-fn take_chunk<S: Source>(source: &mut S, chunk: &mut [u8], taken: usize) -> Result<usize, Failed>
+/// Takes bytes of a source, of which so many were taken: no more in all than one more than a stream may have. It answers how many, 0 at the
+/// source's end.
+pub fn take_chunk<S: Source>(
+    source: &mut S,
+    chunk: &mut [u8],
+    taken: usize,
+) -> Result<usize, Failed>
     requires chunk { length chunk.old ≡ CHUNK_BYTES }
     requires few { taken ≤ STREAM_BYTES }
     ensures within { IfOk result (λ n. n ≤ length chunk.new) }
@@ -156,8 +161,8 @@ fn finish<K: Sink>(alloc: Global, sink: &mut K, pending: usize, rest: usize) -> 
     }
 }
 
-// Prints the place of what is no item, and answers the status.
-fn put_bad<K: Sink>(alloc: Global, sink: &mut K, place: u64) -> u8
+/// Prints the place of what is no item, and answers the status: 11, or 8 where memory ran out.
+pub fn put_bad<K: Sink>(alloc: Global, sink: &mut K, place: u64) -> u8
     ensures { EndsWith 11 (bad_text place) result (K.written sink.old) (K.written sink.new) (K.faults sink.old) (K.faults sink.new) }
 {
     match bad_text(alloc, place) {
@@ -182,8 +187,8 @@ fn put_broken<K: Sink>(alloc: Global, sink: &mut K, broken: &Broken) -> u8
     }
 }
 
-// Prints that memory ran out, and answers the status.
-fn starve<K: Sink>(sink: &mut K) -> u8
+/// Prints that memory ran out, and answers the status, 8.
+pub fn starve<K: Sink>(sink: &mut K) -> u8
     ensures status { result ≡ 8 }
     ensures printed { PrintsStarved (K.written sink.old) (K.written sink.new) (K.faults sink.old) (K.faults sink.new) }
 {
@@ -191,8 +196,8 @@ fn starve<K: Sink>(sink: &mut K) -> u8
     8
 }
 
-// Puts a text, or as much of it as the sink takes before it fails.
-fn print<K: Sink>(sink: &mut K, text: &[u8])
+/// Puts a text, or as much of it as the sink takes before it fails.
+pub fn print<K: Sink>(sink: &mut K, text: &[u8])
     ensures { PrintsTo text.now (K.written sink.old) (K.written sink.new) (K.faults sink.old) (K.faults sink.new) }
 {
     let _ = put_all(sink, text);

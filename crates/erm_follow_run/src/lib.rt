@@ -10,5 +10,6 @@ mod steps;
 #[cfg(test)]
 mod tests;
 
-pub use following::{STREAM_BYTES, follow};
+pub use ends::{push_count, push_number};
+pub use following::{CHUNK_BYTES, STREAM_BYTES, follow, print, put_bad, starve, take_chunk};
 pub use laws::starving_is_an_end;

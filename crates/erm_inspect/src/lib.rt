@@ -7,4 +7,5 @@ mod map_lines;
 mod recovery;
 
 pub use audit::audited;
+pub use map_lines::push_map;
 pub use recovery::recovered;

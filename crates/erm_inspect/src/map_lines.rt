@@ -10,7 +10,7 @@ use erm_report::Line;
 use std::alloc::{AllocError, Global};
 
 /// Adds the lines of the map of these rows, which are sound, and the end.
-pub(crate) fn push_map(alloc: Global, rows: &[Row], lines: &mut Vec<Line>) -> Result<(), AllocError>
+pub fn push_map(alloc: Global, rows: &[Row], lines: &mut Vec<Line>) -> Result<(), AllocError>
     ensures { OnOk result (EndsWithMap (map_of_rows (rows_of rows.now)) lines.old.items lines.new.items) }
 {
     let pairs = map_of(alloc, rows)?.pairs(alloc)?;

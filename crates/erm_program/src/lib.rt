@@ -75,6 +75,8 @@ pub fn words<R: AllocGlobal + Env>(rt: &R) -> Vec<String> {
 pub fn only_reads(alloc: Global, words: &[String]) -> bool {
     matches!(
         command_of(alloc, words),
-        Ok(Some(Command::Recover | Command::Audit | Command::Ship | Command::Follow))
+        Ok(Some(
+            Command::Recover | Command::Audit | Command::Ship | Command::Follow | Command::Replica
+        ))
     )
 }

@@ -45,7 +45,7 @@ same_kind Open block a b same = same
 same_kind CommitKind block a b same = same_entries block.rows.items a b same
 same_kind Skip block a b same = same
 
-same_after : (block : Block) (a b : Rows) → SameRows a b → SameRows (rows_after_block block a) (rows_after_block block b)
+pub same_after : (block : Block) (a b : Rows) → SameRows a b → SameRows (rows_after_block block a) (rows_after_block block b)
 same_after block a b same = same_kind block.kind block a b same
 
 -- a place of the log, a run, and rows

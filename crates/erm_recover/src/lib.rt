@@ -18,7 +18,7 @@ pub use list::{WINDOW_BYTES, WINDOW_WORDS, read_list};
 pub use open::{OpenStop, open_log};
 pub use recovered::Recovered;
 pub use recovery::recover;
-pub use rows::ReplaceTest;
+pub use rows::{ReplaceTest, set_block};
 pub use slots::SLOT_BYTES;
 pub use sound_rows::{SoundTest, zero_rows_are_sound};
 pub use stop::RecoverStop;

@@ -21,7 +21,7 @@ pub trait ReplaceTest: RowTest {
 
 /// Sets the rows of a block where the rows after it meet the law, as those before do, and answers whether they do. Where they
 /// don't, the rows stay.
-pub(crate) fn set_block<T: ReplaceTest>(test: &T, rows: &mut [Row], block: &Block) -> bool
+pub fn set_block<T: ReplaceTest>(test: &T, rows: &mut [Row], block: &Block) -> bool
     requires count { length rows.old ≡ OID_LIMIT }
     requires meets { T.law.meets (rows_of rows.old) }
     requires block { (at run_before : ℕ) × IsBlock block.now at run_before }

@@ -3,10 +3,12 @@ use Rattle.std.proofs.Common.{◌≡◌, ℕ, ◌+◌, ◌-◌, ◌≤◌, List,
 use Rattle.std.specs.Prelude.{IfSome}
 use Rattle.std.proofs.Math.Seq.{take-append-add}
 use Rattle.std.proofs.lemmas.List.{take-append-drop, length-take-le}
+use Rattle.erm_model.specs.Rows.{rows_of}
+use Rattle.erm_model.specs.RowTransaction.{SameRows}
 use Rattle.erm_block.specs.declared.block.Form.{Form}
 use Rattle.erm_block.specs.declared.block.Form.TheVariants.{Whole, Stored}
 use Rattle.erm_ckpt.specs.declared.slot.Slot.{Slot}
-use Rattle.erm_ckpt.specs.Checkpoint.{Checkpoint, IsCheckpoint, StandsIn, format_of, slot_words}
+use Rattle.erm_ckpt.specs.Checkpoint.{Checkpoint, IsCheckpoint, StandsIn, format_of, rows_of_checkpoint, slot_words}
 use Rattle.erm_ckpt.specs.Reading.{IsSlotOf}
 use Rattle.erm_replica.specs.Stream.{IsBase, start_checkpoint}
 
@@ -41,11 +43,11 @@ base_is words c stands none format first =
     )
 
 pub base_read : (words : List ℕ) (rows : List (List ℕ)) (r : Option Slot) → IfSome r (λ slot. IsSlotOf words rows slot) → ((d : Checkpoint) → StandsIn (but_last words) d → ⊥)
-    → get_or words 0 0 ≡ 2 → get_or words 3 0 ≡ 0 → IfSome r (λ slot. (c : Checkpoint) × IsBase c × (words ≡ slot_words c) × (slot ≡ c.slot))
+    → get_or words 0 0 ≡ 2 → get_or words 3 0 ≡ 0 → IfSome r (λ slot. (c : Checkpoint) × IsBase c × (words ≡ slot_words c) × (slot ≡ c.slot) × SameRows (rows_of rows) (rows_of_checkpoint c))
 base_read words rows None is none format first = tt
 base_read words rows (Some slot) is none format first =
     let found = base_is words is.checkpoint is.stands none format first in
-    (is.checkpoint, found.0, found.1, is.slot_is)
+    (is.checkpoint, found.0, found.1, is.slot_is, is.rows_are)
 
 module _ (one_slot : (a b : Checkpoint) (x y : List ℕ) → IsCheckpoint a → IsCheckpoint b → slot_words a ++ x ≡ slot_words b ++ y → a ≡ b) where
   -- a slot that takes up all of the words doesn't stand in all but the last

@@ -1,6 +1,8 @@
 //! What stands at the front of bytes.
-ghost use Rattle.std.specs.Prelude.{◌≡◌, ◌+◌, ◌*◌, ◌<◌, ◌≤◌, IfOk, IfSome, IsSome, true, false, Err, None, Some, length};
-ghost use Rattle.erm_ckpt.specs.Checkpoint.{Checkpoint, StandsIn, slot_words};
+ghost use Rattle.std.specs.Prelude.{◌≡◌, ◌≢◌, ◌+◌, ◌*◌, ◌<◌, ◌≤◌, IfOk, IfSome, IsSome, true, false, Err, None, Some, length};
+ghost use Rattle.erm_model.specs.Rows.{rows_of};
+ghost use Rattle.erm_model.specs.RowTransaction.{SameRows};
+ghost use Rattle.erm_ckpt.specs.Checkpoint.{Checkpoint, StandsIn, rows_of_checkpoint, slot_words, zero_rows};
 ghost use Rattle.erm_replica.specs.Found.{Finds};
 ghost use Rattle.erm_replica.specs.Stream.{IsBase, IsShort, IsUnreadable, StandsFirst, first_word, part_words, start_checkpoint};
 ghost use Rattle.erm_replica.specs.Stream.Part.{base, block};
@@ -11,20 +13,21 @@ use crate::{Item, LogPlace};
 use erm_block::{Block, read_block, spelling_size};
 use erm_bytes::{WORD_BYTES, digest_word, read_words};
 use erm_ckpt::{LOG_START, SLOT_WORDS, Slot, one_slot, read_slot, slots_are_bounded};
-use erm_model::{OID_LIMIT, Row};
+use erm_model::{OID_LIMIT, ROW_WORDS, Row};
 
 /// Why no item is found.
 #[derive(Clone, Copy)]
-pub(crate) enum Lack {
+pub enum Lack {
     /// Not all of it is there.
     Short,
-    /// It doesn't read.
+    /// What stands there is none, whatever follows.
     Unreadable,
 }
 
 /// An item at the front of bytes.
 #[derive(Drop)]
-pub(crate) struct Found {
+pub struct FoundItem {
+    /// The item.
     pub item: Item,
     /// How many words it has.
     pub size: usize,
@@ -32,16 +35,23 @@ pub(crate) struct Found {
     pub log: LogPlace,
 }
 
-/// The item at the front of the bytes, where the log goes on so.
-pub(crate) fn find(
+/// Finds the item at the front of the bytes, where the log goes on so: nowhere before the checkpoint. It leaves the rows of a checkpoint in
+/// `rows`; `words` is room for the words of an item. It takes no memory.
+///
+/// # Errors
+///
+/// `Short` where the item isn't all there, and `Unreadable` where what stands there is none, whatever follows. The rows are any then, unless
+/// a block was looked for.
+pub fn find(
     bytes: &[u8],
     log: Option<LogPlace>,
     words: &mut [u64],
     rows: &mut [Row],
-) -> Result<Found, Lack>
+) -> Result<FoundItem, Lack>
     requires words { length words.old ≡ SLOT_WORDS + 1 }
     requires rows { length rows.old ≡ OID_LIMIT }
-    ensures found { IfOk result (λ found. Finds log bytes.now found) }
+    ensures found { IfOk result (λ found. Finds log bytes.now rows.new found) }
+    ensures kept { log ≢ None → rows.new ≡ rows.old }
     ensures short { result ≡ Err Lack.Short → IsShort log bytes.now }
     ensures unreadable { result ≡ Err Lack.Unreadable → IsUnreadable log bytes.now }
 {
@@ -50,7 +60,7 @@ pub(crate) fn find(
     match log {
         None => {
             let (slot, size) = find_base(bytes, words, rows)?;
-            Ok(Found {
+            Ok(FoundItem {
                 item: Item::Base(slot),
                 size,
                 log: LogPlace {
@@ -61,7 +71,7 @@ pub(crate) fn find(
         }
         Some(log) => {
             let block = find_block(bytes, log, words)?;
-            Ok(Found {
+            Ok(FoundItem {
                 size: usize::from(block.size),
                 log: LogPlace {
                     at: block.stamp + u64::from(block.size),
@@ -73,12 +83,12 @@ pub(crate) fn find(
     }
 }
 
-// The checkpoint at the front of the bytes, and how many words it has, its own number among them.
+// The checkpoint at the front of the bytes, and how many words it has, its own number among them. It leaves its rows in `rows`.
 fn find_base(bytes: &[u8], words: &mut [u64], rows: &mut [Row]) -> Result<(Slot, usize), Lack>
     requires words { length words.old ≡ SLOT_WORDS + 1 }
     requires rows { length rows.old ≡ OID_LIMIT }
     ensures found { IfOk result (λ found. (checkpoint : Checkpoint) × StandsFirst None bytes.now (base checkpoint)
-        × (found.0 ≡ checkpoint.slot) × (found.1 ≡ length (part_words (base checkpoint)))) }
+        × (found.0 ≡ checkpoint.slot) × (found.1 ≡ length (part_words (base checkpoint))) × SameRows (rows_of rows.new) (rows_of_checkpoint checkpoint)) }
     ensures short { result ≡ Err Lack.Short → IsShort None bytes.now }
     ensures unreadable { result ≡ Err Lack.Unreadable → IsUnreadable None bytes.now }
 {
@@ -140,15 +150,17 @@ fn read_first(bytes: &[u8]) -> Option<u64>
     Some(word[0])
 }
 
-// What the slot of these words says, all of them, where a stream may begin with it.
+// What the slot of these words says, all of them, where a stream may begin with it. It leaves its rows in `rows`.
 fn base_of(words: &[u64], rows: &mut [Row]) -> Option<Slot>
     requires size { 6 ≤ length words.now }
     requires rows { length rows.old ≡ OID_LIMIT }
-    ensures found { IfSome result (λ slot. (checkpoint : Checkpoint) × IsBase checkpoint × (words.now ≡ slot_words checkpoint) × (slot ≡ checkpoint.slot)) }
+    ensures found { IfSome result (λ slot. (checkpoint : Checkpoint) × IsBase checkpoint × (words.now ≡ slot_words checkpoint) × (slot ≡ checkpoint.slot)
+        × SameRows (rows_of rows.new) (rows_of_checkpoint checkpoint)) }
     ensures given { (checkpoint : Checkpoint) → IsBase checkpoint → words.now ≡ slot_words checkpoint → IsSome result }
 {
     one_slot();
     if is_start(words) {
+        clear(rows);
         return Some(Slot {
             stamp: LOG_START,
             run: 0,
@@ -163,6 +175,16 @@ fn base_of(words: &[u64], rows: &mut [Row]) -> Option<Slot>
         return None;
     }
     read_slot(words, rows, &AllRows)
+}
+
+// Makes all rows zero.
+fn clear(rows: &mut [Row])
+    requires { length rows.old ≡ OID_LIMIT }
+    ensures { SameRows (rows_of rows.new) zero_rows }
+{
+    for row in rows.iter_mut() {
+        *row = [0; ROW_WORDS];
+    }
 }
 
 // Whether the words begin with a slot.

@@ -10,6 +10,7 @@ mod stream;
 #[cfg(test)]
 mod tests;
 
+pub use front::{FoundItem, Lack, find};
 pub use item::{Item, LogPlace, StreamStop};
 pub use laws::{cuts_do_not_matter, fronts_are_one, fronts_stay, parts_are_announced};
-pub use stream::Stream;
+pub use stream::{ITEM_WORDS, Stream, forget_read};

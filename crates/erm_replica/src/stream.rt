@@ -132,12 +132,13 @@ fn make_room(alloc: Global, words: &mut Vec<u64>, rows: &mut Vec<Row>) -> Result
     Ok(())
 }
 
-// Forgets bytes in front, where they are more than half of all, and answers how many of those that are left are before the others.
-fn forget_read(bytes: &mut Vec<u8>, read: usize) -> usize
+/// Forgets bytes in front, where they are more than half of all, and answers how many of those that are left are before the others.
+pub fn forget_read(bytes: &mut Vec<u8>, read: usize) -> usize
     requires { read ≤ vec_len bytes.old }
     ensures rest { drop result bytes.new.items ≡ drop read bytes.old.items }
     ensures within { result ≤ vec_len bytes.new }
     ensures fewer { vec_len bytes.new ≤ vec_len bytes.old }
+    ensures nearer { result ≤ read }
 {
     let left = bytes.len() - read;
     if read <= left {

@@ -1,15 +1,18 @@
--- How the commands end that put a stream, and that follow one.
+-- How the commands end that put a stream, that follow one, and that tell what its replica answers.
 use Rattle.std.proofs.Common.{◌≡◌, ◌≢◌, ℕ, ◌≤◌, ◌⊎◌, List, ◌++◌, length, Option, Some, None, refl, sym, ap, subst, ◌∙◌, inl, inr, arith, length-append}
 use Rattle.erm_follow_run.specs.declared.following.TheConstants.{STREAM_BYTES}
 use Rattle.erm_follow_run.specs.Ends.{FollowEnds, StarvesAtOnce, TookFront, Ways}
 use Rattle.erm_outside.specs.Disk.{Step}
+use Rattle.erm_replica_rows.specs.Replica.{IsBadAt}
+use Rattle.erm_replica_run.specs.Ends.{ReplicaEnds}
+use Rattle.erm_replica_run.specs.Texts.{IsGood}
 use Rattle.erm_report.specs.Texts.{line_text}
 use Rattle.erm_report.specs.declared.line.Line.TheVariants as line
 use Rattle.erm_ship.specs.Ends.{FailedToRead, ShipEnds}
 use Rattle.erm_top.specs.Around.{Around, LeavesDisk, LeavesSource}
 use Rattle.erm_top.specs.Runs.{NothingFailed}
 use Rattle.erm_top.specs.Told.{Prints}
-use Rattle.erm_top.specs.Streams.{FollowingEnds, ReadsWell, ShippingEnds, disk_and_sink, source_and_sink}
+use Rattle.erm_top.specs.Streams.{FollowingEnds, ReadsWell, ReplicatingEnds, ShippingEnds, disk_and_sink, source_and_sink}
 use Rattle.erm_top.proofs.Rooms.{recovers_from_some}
 
 -- ---- putting a stream
@@ -97,3 +100,38 @@ following_ends status a ends still = record {
 pub follow_starved : StarvingEnds → (a : Around) → LeavesSource a → LeavesDisk a → Prints (line_text line.NoMemory) a.written_before a.written_after a.sink_before a.sink_after → FollowingEnds 8 a
 follow_starved starves a source still put =
     following_ends 8 a (starves (source_and_sink a) (record { left = source.left; sound = source.sound; printed = put })) still
+
+-- ---- what its replica answers
+
+abbrev pub StarvedReplicaEnds : Type 0
+StarvedReplicaEnds = (a : Ways) → StarvesAtOnce a → ReplicaEnds 8 a
+
+module _ (stays : (bytes more : List ℕ) (place : ℕ) → IsBadAt bytes place → IsBadAt (bytes ++ more) place) where
+  replicated : (status : ℕ) (a : Around) (ends : ReplicaEnds status (source_and_sink a)) (bytes : List ℕ) → a.left_before ≡ Some bytes → length bytes ≤ STREAM_BYTES → IsGood bytes → NothingFailed a
+      → (status ≡ 0) ⊎ (status ≡ 4) ⊎ (status ≡ 5) ⊎ (status ≡ 8) ⊎ (status ≡ 9) ⊎ (status ≡ 11) → (status ≡ 0) ⊎ (status ≡ 8)
+  replicated status a ends bytes left few good calm (inl e) = inl e
+  replicated status a ends bytes left few good calm (inr (inl e)) = absurd (calm.source (ends.read_fault e).0)
+  replicated status a ends bytes left few good calm (inr (inr (inl e))) = absurd (calm.sink (ends.sink_fault e).0)
+  replicated status a ends bytes left few good calm (inr (inr (inr (inl e)))) = inr e
+  replicated status a ends bytes left few good calm (inr (inr (inr (inr (inl e))))) =
+      let long = ends.too_long e in
+      let cut = taken_front long.0 bytes a.left_before a.left_after left long.2.front in
+      absurd (omega (arith, few, long.1, ap (λ (xs : List ℕ). length xs) cut.1, length-append long.0 cut.0))
+  replicated status a ends bytes left few good calm (inr (inr (inr (inr (inr e))))) =
+      let bad = ends.bad e in
+      let cut = taken_front bad.bytes bytes a.left_before a.left_after left bad.front in
+      absurd (good bad.place (subst (λ (xs : List ℕ). IsBadAt xs bad.place) (sym cut.1) (stays bad.bytes cut.0 bad.place bad.bad)))
+
+  pub replicating_ends : (status : ℕ) (a : Around) → ReplicaEnds status (source_and_sink a) → LeavesDisk a → ReplicatingEnds status a
+  replicating_ends status a ends still = record {
+    replicates = ends;
+    disk = still;
+    complete = λ bytes left few good calm. replicated status a ends bytes left few good calm ends.known;
+  }
+
+pub replica_starved : StarvedReplicaEnds → (a : Around) → LeavesSource a → LeavesDisk a → Prints (line_text line.NoMemory) a.written_before a.written_after a.sink_before a.sink_after → ReplicatingEnds 8 a
+replica_starved starves a source still put = record {
+  replicates = starves (source_and_sink a) (record { left = source.left; sound = source.sound; printed = put });
+  disk = still;
+  complete = λ bytes left few good calm. inr refl;
+}

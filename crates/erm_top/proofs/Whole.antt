@@ -7,7 +7,7 @@ use Rattle.erm_report.specs.Texts.{line_text}
 use Rattle.erm_report.specs.declared.line.Line.TheVariants as line
 use Rattle.erm_command_line.specs.CommandLine.{IsCommand, IsNoCommand}
 use Rattle.erm_command_line.specs.declared.command.Command.{Command}
-use Rattle.erm_command_line.specs.declared.command.Command.TheVariants.{Run, Threads, Recover, Audit, Checkpoint, Ship, Follow, Make}
+use Rattle.erm_command_line.specs.declared.command.Command.TheVariants.{Run, Threads, Recover, Audit, Checkpoint, Ship, Follow, Replica, Make}
 use Rattle.erm_inspect.specs.Audits.{HasAuditForm, IsAudit}
 use Rattle.erm_inspect.specs.Recoveries.{HasRecoveryForm, IsRecovery}
 use Rattle.erm_top.specs.Around.{Around, LeavesDisk, LeavesSource}
@@ -23,7 +23,7 @@ use Rattle.erm_top.proofs.Disks.{checkpoint_ends, make_ends}
 use Rattle.erm_top.proofs.Inspected.{inspection_ends}
 use Rattle.erm_top.proofs.Ran.{unread_ends}
 use Rattle.erm_top.proofs.Rooms.{OneRecovery}
-use Rattle.erm_top.proofs.Streaming.{StarvingEnds, follow_starved, ship_starved}
+use Rattle.erm_top.proofs.Streaming.{StarvedReplicaEnds, StarvingEnds, follow_starved, replica_starved, ship_starved}
 
 -- no command has the status of words that ask for none
 no_usage : (command : Command) (status : ℕ) (a : Around) → CommandEnds command status a → status ≢ 2
@@ -34,6 +34,7 @@ no_usage Audit status a ends two = omega (arith, two, ends.known)
 no_usage Checkpoint status a ends two = omega (arith, two, ends.known)
 no_usage Ship status a ends two = omega (arith, two, ends.ships.known)
 no_usage Follow status a ends two = omega (arith, two, ends.follows.known)
+no_usage Replica status a ends two = omega (arith, two, ends.replicates.known)
 no_usage (Make transactions sessions true) status a ends two = omega (arith, two, ends.known)
 no_usage (Make transactions sessions false) status a ends two = omega (arith, two, ends.known)
 
@@ -48,18 +49,19 @@ starved_unread one r a source still put =
     unread_ends one r 8 a (subst (λ (o : Option (List ℕ)). TookAtMost (SCRIPT_BYTES + 1) a.left_before o) (sym source.left) (took_none a.left_before)) (Err stop.Memory) source.sound (refl, put) still.told still.sound
 
 -- memory ran out before anything was done
-pub starved : OneRecovery → CountsAddUp → StarvingEnds → (words : List (String Global)) (command : Command) (a : Around) → IsCommand words command → LeavesSource a → LeavesDisk a
+pub starved : OneRecovery → CountsAddUp → StarvingEnds → StarvedReplicaEnds → (words : List (String Global)) (command : Command) (a : Around) → IsCommand words command → LeavesSource a → LeavesDisk a
     → Prints (line_text line.NoMemory) a.written_before a.written_after a.sink_before a.sink_after → CommandEnds command 8 a
-starved one sum starves words Run a asked source still put = starved_unread one running_in_turn a source still put
-starved one sum starves words Threads a asked source still put = starved_unread one running_at_once a source still put
-starved one sum starves words Recover a asked source still put = inspection_ends IsRecovery HasRecoveryForm 8 a (Err stop.Memory) still.sound (refl, put) source still.told
-starved one sum starves words Audit a asked source still put = inspection_ends IsAudit HasAuditForm 8 a (Err stop.Memory) still.sound (refl, put) source still.told
-starved one sum starves words Checkpoint a asked source still put = checkpoint_ends one 8 a source (Err stop.Memory) (inl still.told, still.sound) (refl, put)
-starved one sum starves words Ship a asked source still put = ship_starved a source still put
-starved one sum starves words Follow a asked source still put = follow_starved starves a source still put
-starved one sum starves words (Make transactions sessions false) a asked source still put =
+starved one sum starves replicas words Run a asked source still put = starved_unread one running_in_turn a source still put
+starved one sum starves replicas words Threads a asked source still put = starved_unread one running_at_once a source still put
+starved one sum starves replicas words Recover a asked source still put = inspection_ends IsRecovery HasRecoveryForm 8 a (Err stop.Memory) still.sound (refl, put) source still.told
+starved one sum starves replicas words Audit a asked source still put = inspection_ends IsAudit HasAuditForm 8 a (Err stop.Memory) still.sound (refl, put) source still.told
+starved one sum starves replicas words Checkpoint a asked source still put = checkpoint_ends one 8 a source (Err stop.Memory) (inl still.told, still.sound) (refl, put)
+starved one sum starves replicas words Ship a asked source still put = ship_starved a source still put
+starved one sum starves replicas words Follow a asked source still put = follow_starved starves a source still put
+starved one sum starves replicas words Replica a asked source still put = replica_starved replicas a source still put
+starved one sum starves replicas words (Make transactions sessions false) a asked source still put =
     make_ends one sum transactions sessions (is_sized words (Make transactions sessions false) asked).2 8 a source (Err stop.Memory) (inl (inl still.told), inl still.sound) (refl, put)
-starved one sum starves words (Make transactions sessions true) a asked source still put = record {
+starved one sum starves replicas words (Make transactions sessions true) a asked source still put = record {
   known = inr (inr refl);
   success = λ e. absurd (omega (arith, e));
   sink_fault = λ e. absurd (omega (arith, e));
@@ -88,10 +90,10 @@ ends_misused words a none source still put = record {
 }
 
 -- or no memory was left for the words
-pub ends_starved : OneRecovery → CountsAddUp → StarvingEnds → (words : List (String Global)) (a : Around) → LeavesSource a → LeavesDisk a
+pub ends_starved : OneRecovery → CountsAddUp → StarvingEnds → StarvedReplicaEnds → (words : List (String Global)) (a : Around) → LeavesSource a → LeavesDisk a
     → Prints (line_text line.NoMemory) a.written_before a.written_after a.sink_before a.sink_after → Ends words 8 a
-ends_starved one sum starves words a source still put = record {
-  ended = λ command asked. starved one sum starves words command a asked source still put;
+ends_starved one sum starves replicas words a source still put = record {
+  ended = λ command asked. starved one sum starves replicas words command a asked source still put;
   misused = λ none. record { known = inr refl; usage = λ e. absurd (omega (arith, e)); no_memory = λ e. put; source = source; disk = still };
   usage = λ two. absurd (omega (arith, two));
 }

@@ -6,7 +6,7 @@ use Rattle.erm_command_line.specs.declared.command.TheConstants.{MOST_SESSIONS, 
 
 -- the line that says how the program is used
 abbrev pub usage_text : List ℕ
-usage_text = codes "usage: erm run | threads | make --count N --sessions K [--text] | recover | audit | checkpoint | ship | follow" ++ 10 ∷ []
+usage_text = codes "usage: erm run | threads | make --count N --sessions K [--text] | recover | audit | checkpoint | ship | follow | replica" ++ 10 ∷ []
 
 -- the numbers of a command are those that it may have
 abbrev pub IsSized : Command → Type 0

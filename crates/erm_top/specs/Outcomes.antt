@@ -7,13 +7,13 @@ use Rattle.erm_inspect.specs.Audits.{HasAuditForm, IsAudit}
 use Rattle.erm_inspect.specs.Recoveries.{HasRecoveryForm, IsRecovery}
 use Rattle.erm_command_line.specs.CommandLine.{IsCommand, IsNoCommand}
 use Rattle.erm_command_line.specs.declared.command.Command.{Command}
-use Rattle.erm_command_line.specs.declared.command.Command.TheVariants.{Audit, Checkpoint, Follow, Make, Recover, Run, Ship, Threads}
+use Rattle.erm_command_line.specs.declared.command.Command.TheVariants.{Audit, Checkpoint, Follow, Make, Recover, Replica, Run, Ship, Threads}
 use Rattle.erm_top.specs.Around.{Around, LeavesDisk, LeavesSource, PrintsLine, PrintsText}
 use Rattle.erm_top.specs.Commands.{usage_text}
 use Rattle.erm_top.specs.Inspections.{CheckpointEnds, InspectionEnds}
 use Rattle.erm_top.specs.Makes.{MakeCommandEnds}
 use Rattle.erm_top.specs.Runs.{RunEnds, ThreadsEnds}
-use Rattle.erm_top.specs.Streams.{FollowingEnds, ShippingEnds}
+use Rattle.erm_top.specs.Streams.{FollowingEnds, ReplicatingEnds, ShippingEnds}
 
 -- the usage line was printed, or memory ran out, in place of a report: source and disk were left alone
 pub record Misused (status : ℕ) (a : Around) : Type 0 where
@@ -32,6 +32,7 @@ CommandEnds Audit status a = InspectionEnds IsAudit HasAuditForm status a
 CommandEnds Checkpoint status a = CheckpointEnds status a
 CommandEnds Ship status a = ShippingEnds status a
 CommandEnds Follow status a = FollowingEnds status a
+CommandEnds Replica status a = ReplicatingEnds status a
 CommandEnds (Make transactions sessions as_text) status a = MakeCommandEnds transactions sessions as_text status a
 
 -- What each status means, by what the words ask for.

@@ -1,4 +1,4 @@
--- How the command ends that puts the log of a disk as a stream, and the one that follows a stream.
+-- How the commands end that put the log of a disk as a stream, that follow a stream, and that tell what its replica answers.
 use Rattle.std.specs.Prelude.{◌≡◌, ◌≢◌, ℕ, ◌≤◌, ◌⊎◌, List, ◌++◌, length, Some}
 use Rattle.erm_model.specs.declared.history.Commit.{Commit}
 use Rattle.erm_ckpt.specs.Recovered.{State}
@@ -10,6 +10,8 @@ use Rattle.erm_follow_run.specs.Ends.{FollowEnds, Ways}
 use Rattle.erm_follow_run.specs.Following.{Following}
 use Rattle.erm_outside.specs.Disk.{Step}
 use Rattle.erm_replica.specs.Stream.{IsUnreadable, Streamed}
+use Rattle.erm_replica_run.specs.Ends.{ReplicaEnds}
+use Rattle.erm_replica_run.specs.Texts.{IsGood}
 use Rattle.erm_ship.specs.Ends.{Around as ShipAround, ShipEnds}
 use Rattle.erm_top.specs.Around.{Around, LeavesDisk, LeavesSource}
 use Rattle.erm_top.specs.Runs.{NothingFailed, TellsState}
@@ -58,3 +60,10 @@ pub record FollowingEnds (status : ℕ) (a : Around) : Type 0 where
   pub disk : LeavesDisk a
   -- A stream that is not too long and reads well is followed to its end where nothing fails, unless memory runs out.
   pub complete : (bytes : List ℕ) → a.left_before ≡ Some bytes → length bytes ≤ STREAM_BYTES → ReadsWell bytes → NothingFailed a → (status ≡ 0) ⊎ (status ≡ 8)
+
+-- What each status of `replica` means. It leaves the disk alone.
+pub record ReplicatingEnds (status : ℕ) (a : Around) : Type 0 where
+  pub replicates : ReplicaEnds status (source_and_sink a)
+  pub disk : LeavesDisk a
+  -- A stream that is not too long, and at no place of which what stands is no item, is read to its end where nothing fails, unless memory runs out.
+  pub complete : (bytes : List ℕ) → a.left_before ≡ Some bytes → length bytes ≤ STREAM_BYTES → IsGood bytes → NothingFailed a → (status ≡ 0) ⊎ (status ≡ 8)

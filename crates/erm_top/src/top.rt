@@ -10,13 +10,14 @@ use crate::inspect::{audit, recover};
 use crate::make::{make_and_run, make_text};
 use crate::printing::{MISUSED, STARVED, print};
 use crate::run::run;
-use crate::stream::{follow_stream, ship_log};
+use crate::stream::{follow_stream, replicate_stream, ship_log};
 use crate::threads::threads;
 use erm_command_line::{Command, command_of};
 use erm_follow_run::starving_is_an_end;
 use erm_made::each_transaction_is_counted;
 use erm_outside::{Disk, Gate, Sink, Source};
 use erm_recover::SoundTest;
+use erm_replica_run::starved_replicas_end;
 use erm_report::NO_MEMORY;
 use std::alloc::Global;
 use std::sync::Wait;
@@ -52,8 +53,8 @@ pub struct Ended<D> {
 /// pending on it but of what an opening waits for, and behind what it recovers to there is no block of a later run. The disk that a whole run
 /// leaves is such a one, and so is each image that a crash leaves.
 ///
-/// The command `threads` runs the sessions of its script on threads, which pass the gate on their way, and waits for them: there each clause is of
-/// what is returned, if it returns.
+/// The command `threads` runs the sessions of its script on threads and waits for them: there each clause is of what is returned, if it returns. The
+/// threads tell the gate where they are, which may hold them; no clause says when.
 pub fn ermia<R: Threads + Wait + Sync, S: Source, K: Sink, D: Disk + Drop + Send, G: Gate + Sync>(
     rt: &R,
     alloc: Global,
@@ -82,6 +83,7 @@ pub fn ermia<R: Threads + Wait + Sync, S: Source, K: Sink, D: Disk + Drop + Send
     erm_ckpt::one_recovery::<SoundTest>();
     each_transaction_is_counted();
     starving_is_an_end();
+    starved_replicas_end();
     match command_of(alloc, words) {
         Ok(Some(command)) => run_command(rt, alloc, command, source, sink, disk, gate),
         Ok(None) => {
@@ -137,6 +139,10 @@ fn run_command<R: Threads + Wait + Sync, S: Source, K: Sink, D: Disk + Drop + Se
         Command::Ship => ship_log(alloc, sink, disk),
         Command::Follow => Ended {
             status: follow_stream(alloc, source, sink),
+            disk,
+        },
+        Command::Replica => Ended {
+            status: replicate_stream(alloc, source, sink),
             disk,
         },
         Command::Make {

@@ -13,4 +13,5 @@ returns c =
     let audit = c.in_ok-subcommand-5.ensures.shape c.new-5.ensures.local ∙ ap₂ with_subcommand recover (ap (λ (a : App). a.top) c.new-5.ensures.app) in
     let checkpoint = c.in_ok-subcommand-6.ensures.shape c.new-6.ensures.local ∙ ap₂ with_subcommand audit (ap (λ (a : App). a.top) c.new-6.ensures.app) in
     let ship = c.in_ok-subcommand-7.ensures.shape c.new-7.ensures.local ∙ ap₂ with_subcommand checkpoint (ap (λ (a : App). a.top) c.new-7.ensures.app) in
-    IfOk-weaker c.subcommand-8.result _ _ (λ r h. h.shape c.new-8.ensures.local ∙ ap₂ with_subcommand ship (ap (λ (a : App). a.top) c.new-8.ensures.app)) c.subcommand-8.ensures
+    let follow = c.in_ok-subcommand-8.ensures.shape c.new-8.ensures.local ∙ ap₂ with_subcommand ship (ap (λ (a : App). a.top) c.new-8.ensures.app) in
+    IfOk-weaker c.subcommand-9.result _ _ (λ r h. h.shape c.new-9.ensures.local ∙ ap₂ with_subcommand follow (ap (λ (a : App). a.top) c.new-9.ensures.app)) c.subcommand-9.ensures

@@ -14,7 +14,7 @@ returns-in-Some-base_of-clause-found c =
     let head = read_head bytes c.read_words.new.out size read (omega (arith, c.in-Some-base_size.ensures.next)) ∙ sym c.in-Some.ensures.some.1 in
     let found = c.in-Some-base_of.ensures.found in
     let has = has_base bytes c.read_words.new.out size c.in-Some.first found.0 read head c.in-Some-base_size.ensures.next found.1 (sym (take_rest c.read_words.new.out 1) ∙ found.2) in
-    (found.0, has.stands, found.3, has.size_is)
+    (found.0, has.stands, found.3, has.size_is, found.4)
 
 pub returns-in-None-clause-unreadable : goal.returns-in-None-clause-unreadable
 returns-in-None-clause-unreadable c = λ e.

@@ -19,4 +19,4 @@ returns-in-Ok-None g c =
 
 pub returns-in-Err : goal.returns-in-Err
 returns-in-Err g c =
-    ends_starved c.one_recovery.ensures c.each_transaction_is_counted.ensures.sum c.starving_is_an_end.ensures c.args.words.now _ (record { left = refl; sound = refl }) (record { told = refl; sound = refl }) c.print-in-Err.ensures
+    ends_starved c.one_recovery.ensures c.each_transaction_is_counted.ensures.sum c.starving_is_an_end.ensures c.starved_replicas_end.ensures c.args.words.now _ (record { left = refl; sound = refl }) (record { told = refl; sound = refl }) c.print-in-Err.ensures
