@@ -1,0 +1,6 @@
+pub mod Fronts
+pub mod GoingOn
+pub mod Kept
+pub mod Restored
+pub mod Runs
+pub mod StayingOps

@@ -1,0 +1,4 @@
+pub mod Claims
+pub mod Run
+pub mod Staying
+pub mod Transactions
