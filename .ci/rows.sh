@@ -2,8 +2,9 @@
 # Runs the worked examples of crates/erm_examples by the built program on real folders, each in an empty one of its own, and compares
 # status and bytes; and a workload of 20,000 transactions twice, and one of 200 over both worlds. Examples in which a call of the disk fails, or a crash follows one, are passed over; so are the lines that tell what
 # holds where a call is stopped. Then what a real folder may hold beside the disk's files, and what else the system may do: strange names, links, pipes, a limit on a file's size.
-# The scripts of one session print the same with a thread for each session; of several the report is checked by definition.
-# Input and output that fail, the longest script, a disk that is full at each byte, and tables, ring and cells used up.
+# The scripts of one session print the same with a thread for each session; of several the report and the log are checked by definition, and of
+# a larger one, over keys that are there, both ends of each window.
+# A run that is killed, input and output that fail, the longest script, a disk that is full at each byte, and tables, ring and cells used up.
 # And streams: of folders, cut at each byte, with each byte changed, with as many rows as there may be, too long, and noise.
 #   .ci/rows.sh [PROGRAM]     PROGRAM is the one that the gate leaves, unless another is given
 set -u
@@ -17,7 +18,7 @@ if ! command -v python3 >/dev/null; then
     echo "rows on a folder: skipped, since there is no python3"
     exit 0
 fi
-exec python3 - "$(readlink -f "$program")" "$top/crates/erm_examples/data" "$top/tools/check_report.py" <<'PYTHON'
+exec python3 - "$(readlink -f "$program")" "$top/crates/erm_examples/data" "$top/tools" <<'PYTHON'
 import fcntl
 import hashlib
 import os
@@ -30,7 +31,7 @@ import sys
 import tempfile
 import time
 
-PROGRAM, DATA, CHECK = sys.argv[1:]
+PROGRAM, DATA, TOOLS = sys.argv[1:]
 SECONDS = 600
 PASSED_OVER = ("! fail", "! crash")
 
@@ -83,16 +84,23 @@ def row(name):
 
 
 def row_at_once(name):
-    """Runs a script on an empty folder with a thread for each session: one session prints the same, and the report of several is a good one."""
+    """Runs a script on an empty folder with a thread for each session: one session prints the same, and the report and log of several are good."""
     status, _, report = text(f"{name}.report").partition(b"\n")
     script = text(f"{name}.script")
     ended, said = call(["threads"], script)
     if int(status) != 0 or len(sessions_of(script)) < 2:
         return (ended, said) == (int(status), report)
-    with open("report", "wb") as it:
-        it.write(said)
-    checked = subprocess.run([sys.executable, CHECK, "--at-once", os.path.join(DATA, f"{name}.script"), "report"], stdout=subprocess.PIPE)
-    return (ended, checked.returncode) == (0, 0)
+    return ended == 0 and is_good(script, said, "--at-once")
+
+
+def is_good(script, report, *words):
+    """Whether a report is good, by definition, and the log of the folder has just the blocks that it tells."""
+    for name, said in (("script", script), ("report", report)):
+        with open(name, "wb") as it:
+            it.write(said)
+    log_words = [word for word in words if word == "--at-once"]
+    checks = ["check_report.py", "script", "report", *words], ["check_log.py", "script", "report", *log_words]
+    return all(subprocess.run([sys.executable, "-B", os.path.join(TOOLS, tool), *more], stdout=subprocess.PIPE).returncode == 0 for tool, *more in checks)
 
 
 def sessions_of(script):
@@ -138,7 +146,7 @@ def made_twice(count):
 
 
 def made_both_ways(_):
-    """A workload that is printed and run over the word table ends as it does where it is made over the world in lists."""
+    """A workload that is printed and run over the word table has a good report, and ends as it does where it is made over the world in lists."""
     words = ["make", "--count", "200", "--sessions", "4"]
     status, counts = call(words, b"")
     shutil.rmtree("erm-data")
@@ -148,11 +156,34 @@ def made_both_ways(_):
     ends = [sum(answer[1] == end for answer in answers if len(answer) > 1 and answer[0].isdigit()) for end in ("committed", "excluded", "owned")]
     pairs = sum(answer[0] == "pair" for answer in answers)
     told = "made 200 sessions 4\ncommitted %d\nexcluded %d\nowned %d\npairs %d\nend\n" % (*ends, pairs)
-    return (status, ran) == (0, 0) and counts == told.encode() and ends[0] > 200
+    return (status, ran) == (0, 0) and counts == told.encode() and ends[0] > 200 and is_good(printed, report)
 
 
-USAGE = b"usage: erm run | threads | make --count N --sessions K [--text] | recover | audit | checkpoint | ship | follow\n"
-NO_COMMANDS = [], ["frob"], ["Run"], ["run", "x.erm"], ["threads", "x.erm"], ["ship", "erm-data"], ["follow", "stream"], ["make", "--count", "1"], ["--help"]
+def windows_at_once(_):
+    """Six sessions at once write sixteen keys that are there: both ends of each window are those of the definitions."""
+    pick = random.Random(1)
+    load = "a begin\n" + "".join(f"a put {at // 8} {at % 8} aa\n" for at in range(16)) + "a commit\n"
+    status, loaded = call(["run"], load.encode())
+    with open("loaded", "wb") as it:
+        it.write(loaded)
+
+    def operation():
+        key = f"{pick.randrange(2)} {pick.randrange(8)}"
+        kinds = f"get {key}", f"get {key}", f"put {key} {pick.randrange(256):02x}", f"del {key}", f"next {key}", f"scan {key} 7", f"tidy {key}"
+        return pick.choice(kinds)
+
+    def transaction():
+        return ["begin", *(operation() for _ in range(pick.randint(1, 4))), *pick.choice((["commit"], ["seal", "settle"]))]
+
+    parts = [[line for _ in range(100) for line in transaction()] for _ in range(6)]
+    lines = [f"s{seat} {part[at]}\n" for at in range(max(map(len, parts))) for seat, part in enumerate(parts) if at < len(part)]
+    script = "".join(lines).encode()
+    ended, report = call(["threads"], script)
+    return (status, ended) == (0, 0) and is_good(script, report, "loaded", "--at-once", "--exact")
+
+
+USAGE = b"usage: erm run | threads | make --count N --sessions K [--text] | recover | audit | checkpoint | ship | follow | replica\n"
+NO_COMMANDS = [], ["frob"], ["Run"], ["run", "x.erm"], ["threads", "x.erm"], ["ship", "erm-data"], ["follow", "stream"], ["replica", "stream"], ["make", "--count", "1"], ["--help"]
 
 
 def words_for_no_command(_):
@@ -246,6 +277,26 @@ def shared_folder(_):
     behind = [call([word], b"")[0] for word in ("recover", "ship", "follow")]
     os.close(folder)
     return beside == (alone, [0, 0, 6, 6]) and behind == [6, 6, 0]
+
+
+def killed_run(_):
+    """A run that is killed among its flushes leaves the commits of a front of its lines, and the next run goes on behind them."""
+    with open("script", "wb") as it:
+        it.writelines(b"a begin\na put 0 %d aa\na commit\nflush\n" % key for key in range(4000))
+    with open("script", "rb") as it:
+        run = subprocess.Popen([PROGRAM, "run"], stdin=it, stdout=subprocess.DEVNULL)
+    while run.poll() is None and (not os.path.exists(SEGMENT) or os.path.getsize(SEGMENT) < 8192):
+        time.sleep(0.001)
+    run.kill()
+    run.wait(SECONDS)
+    left = recovered_pairs()
+    front = [b"pair 0 %d aa" % key for key in range(len(left))]
+    return left == front != [] and is_run(WRITES, b"5 checkpoint ") and recovered_pairs() == [*front, b"pair 1 2 aa"]
+
+
+def recovered_pairs():
+    """The lines of the map that the folder recovers to."""
+    return [line for line in call(["recover"], b"")[1].splitlines() if line.startswith(b"pair ")]
 
 
 TWO_PUTS = text("two_puts.script")
@@ -491,7 +542,7 @@ rows += [(row_at_once, name) for _, name in rows if not {b"flush", b"checkpoint"
 disks = text("disks.txt").decode().split()
 rows += [(disk, name) for name in disks if not is_passed_over(name)]
 rows.append((made_twice, "20000"))
-rows += [(check, check.__name__) for check in (made_both_ways, words_for_no_command, strange_names, linked_segment, pipe_for_a_slot, limited_file, full_pipe, shared_folder, *FAULTS, *STREAMS)]
+rows += [(check, check.__name__) for check in (made_both_ways, windows_at_once, words_for_no_command, strange_names, linked_segment, pipe_for_a_slot, limited_file, full_pipe, shared_folder, killed_run, *FAULTS, *STREAMS)]
 passed = sum(holds(check, name) for check, name in rows)
 over = sum(map(is_passed_over, disks))
 print(f"rows on a folder: {passed} passed, {len(rows) - passed} failed, {over} passed over")

@@ -1,12 +1,13 @@
 #!/usr/bin/env bash
-# Runs `erm threads` on scripts of 48 sessions that work on the same 64 keys, and checks each report by definition: tools/check_report.py.
+# Runs `erm threads` on scripts of 48 sessions that work on the same 64 keys, and checks each report by definition, both ends of each window included:
+# tools/check_report.py; and the log, block by block from the run's opening to its end: tools/check_log.py.
 #   bench/stress.sh [PROGRAM [COUNT]]     PROGRAM is the launcher at the top, and COUNT, of scripts, is 100, unless others are given
 #   TRANSACTIONS=N bench/stress.sh ..     a script has N transactions in place of 100,000
 # The keys are sixteen of each of four tables. A transaction gets, scans, sets and deletes a few, tidies now and then, and ends by a commit, by a
-# seal and a settle, or by an abort; behind some commits its session waits until they last. A run before each script, line by line, sets all keys: a
-# put of a new key that is refused leaves an object used up.
-# It prints a row for each script: how its transactions ended, seconds and peak memory of the call, and what the check says. The folder of one whose
-# report isn't good, or whose disk then recovers to another map, is kept and named; then the status is 1. It needs python3.
+# seal and a settle, or by an abort; behind some commits its session waits until they last. A run before each script, line by line, sets all keys, so
+# that the rows written are those of keys, and no put of a new key that is refused leaves an object used up.
+# It prints a row for each script: how its transactions ended, seconds and peak memory of the call, and what the checks say. The folder of one whose
+# report or log isn't good, or whose disk then recovers to another map, is kept and named; then the status is 1. It needs python3.
 set -eu
 top=$(cd "$(dirname "$(readlink -f "${BASH_SOURCE[0]}")")/.." && pwd)
 program=$(readlink -f "${1:-$top/erm}")
@@ -15,7 +16,7 @@ command -v python3 >/dev/null || { echo "there is no python3: nothing is tried" 
 
 # The program is built before anything is tried: without words it does nothing else.
 "$program" </dev/null >/dev/null || [ $? = 2 ] || { echo "$program can't be run: nothing is tried" >&2; exit 1; }
-exec python3 - "$program" "$top/tools/check_report.py" "$count" "${TRANSACTIONS:-100000}" <<'PYTHON'
+exec python3 - "$program" "$top/tools" "$count" "${TRANSACTIONS:-100000}" <<'PYTHON'
 import collections
 import os
 import random
@@ -25,7 +26,7 @@ import sys
 import tempfile
 import time
 
-PROGRAM, CHECK = sys.argv[1:3]
+PROGRAM, TOOLS = sys.argv[1:3]
 COUNT, TRANSACTIONS = map(int, sys.argv[3:])
 LIMIT = 16_777_216
 SESSIONS = 48
@@ -88,6 +89,12 @@ def ends_of(name):
         return collections.Counter(word for word in words if word in ENDS)
 
 
+def said_by(tool, *words):
+    """What a tool says of the script and its report, with the sessions at once."""
+    ran = subprocess.run([sys.executable, os.path.join(TOOLS, tool), "--at-once", *words], stdout=subprocess.PIPE, text=True)
+    return ran.stdout.strip() or f"bad: {tool} says nothing"
+
+
 def tried(seed):
     """Runs a script in the working folder, prints its row, and answers whether all is good."""
     with open("load", "w") as it:
@@ -99,7 +106,9 @@ def tried(seed):
         it.write(script)
     call("run", "load", "loaded")
     status, seconds, kilobytes = call("threads", "script", "report")
-    checked = subprocess.run([sys.executable, CHECK, "--at-once", "script", "report", "loaded"], stdout=subprocess.PIPE, text=True).stdout.strip()
+    checked, log = said_by("check_report.py", "--exact", "script", "report", "loaded"), said_by("check_log.py", "script", "report")
+    if not log.startswith("good"):
+        checked = log
     call("recover", os.devnull, "recovered")
     if pairs("recovered") != pairs("report"):
         checked = "bad: the disk recovers to another map"

@@ -37,13 +37,16 @@ for script in crash checkpoint stream threads; do
     count "$script" cmp "$folder/$script.out" "$examples/$script.out"
 done
 
-# The tools: each log ends where its blocks end, no script has a bad line, and each picture is the one in docs/runs.
+# The tools: each log ends where its blocks end and has those that the report tells, each report is good by definition, no script has a bad line,
+# and each picture is the one in docs/runs.
 top="$examples/.."
 says_nothing() { [[ -z $("$@") ]]; }
 if command -v python3 >/dev/null; then
     for script in "$examples"/*.erm; do
         name=$(basename "$script" .erm)
         count "$name, its log's end" says_nothing "$top/tools/log_end.py" "$folder/$name/erm-data"
+        count "$name, its report" "$top/tools/check_report.py" "$script" "$folder/$name.out"
+        count "$name, its log" "$top/tools/check_log.py" "$script" "$folder/$name.out" "$folder/$name/erm-data"
         count "$name, no bad line" says_nothing "$top/tools/bad_line.py" "$script"
         [[ $name == empty ]] || count "$name, its picture" cmp <("$top/tools/picture" "$script" "$examples/$name.out") "$top/docs/runs/$name.svg"
     done

@@ -1,7 +1,7 @@
 #!/usr/bin/env python3
 """Checks a report of `erm run` or of `erm threads` by definition, with no code of the program's own.
 
-    tools/check_report.py [--at-once] SCRIPT REPORT [MAP]
+    tools/check_report.py [--at-once] [--exact] SCRIPT REPORT [MAP]
 
 SCRIPT is the script's file, REPORT the file of what was printed for it, and MAP, where the run began on a map that isn't empty, a report
 whose `pair` lines are that map. With --at-once it is a report of `threads`, whose sessions ran at once: of two lines of different sessions
@@ -21,15 +21,25 @@ neither was before the other. It checks, of the answers, the order and the map t
   a transaction that an earlier line names as the owner: of earlier lines of its own session, where the sessions ran at once.
 
 A tree's rows are shared by keys, so that windows and refusals may have causes in rows that no line names: what is said of them here is what
-follows from keys alone. It takes time by the lines, and by how many of them there are for the logarithm. It prints one line, and ends with
-status 0 where all is so.
+follows from keys alone. With --exact each key that the script writes or tidies is to have a value in MAP: then no node of a tree is written,
+the rows written are those of keys, and besides it checks that
+
+- both ends of the window of each transaction that has a stamp are those of the definitions, over all that committed below it: the successor stamp
+  is the least of its own stamp and of those of the commits that overwrote a version that it read; the predecessor stamp is the greatest stamp of a
+  commit that made a version that it read or overwrote, or read one that it overwrote, or 0. What a look for a key passes counts as read, and what
+  a tidy claims as overwritten;
+- each end of a window that was closed before a stamp was drawn is that of such a commit.
+
+It takes time by the lines, and by how many of them there are for the logarithm. It prints one line, and ends with status 0 where all is so.
 """
 import bisect
 import re
 import sys
 
 WAITS = ["wait"], ["not", "flushed"]
-REPLIES = "ok", "value", "none", "pair", "pairs"
+REPLIES = "ok", "value", "none", "pair", "pairs", "cut"
+WRITERS = "put", "del", "tidy"
+LAST_KEY = 2**64 - 1
 NUMBER, DIGITS = "(?:0|[1-9][0-9]*)", "(?:-|(?:[0-9a-f]{2})+)"
 WINDOW = f"succ {NUMBER} pred {NUMBER}"
 ANSWER = re.compile(
@@ -106,10 +116,11 @@ class Snapshot:
     """A map below a transaction's own writes."""
 
     def __init__(self, values):
-        self.values, self.own = values, {}
+        self.values, self.own, self.claimed = values, {}, set()
 
     def put(self, place, value):
         self.own[place] = value
+        self.claimed.add(place)
 
     def get(self, place):
         return self.own[place] if place in self.own else self.values.get(place)
@@ -132,26 +143,49 @@ def answered(values, words):
     if words[0] in ("put", "del"):
         values.put((table, low), words[3] if words[0] == "put" else None)
         return ["ok"]
+    if words[0] == "tidy":
+        return ["cut"]
     if words[0] == "get":
         value = values.get((table, low))
         return ["none"] if value is None else ["value", value]
     if words[0] == "next":
-        key = next(values.found(table, low, 2**64 - 1), None)
+        key = next(values.found(table, low, LAST_KEY), None)
         return ["none"] if key is None else ["pair", str(key), values.get((table, key))]
     pairs = [it for key in values.found(table, low, int(words[3])) for it in (str(key), values.get((table, key)))]
     return ["pairs", str(len(pairs) // 2), *pairs]
 
 
+def passed(snapshot, entries, words):
+    """The keys whose records an operation reads, unless they are claimed. A look passes the keys that have an entry, up to where it stops."""
+    table, low = int(words[1]), int(words[2])
+    if words[0] == "get":
+        yield table, low
+    if words[0] not in ("next", "scan"):
+        return
+    keys = entries.get(table, [])
+    for key in keys[bisect.bisect_left(keys, low) :]:
+        yield table, key
+        if snapshot.get((table, key)) is not None and (words[0] == "next" or key > int(words[3])):
+            return
+
+
 class Transaction:
     def __init__(self, session, number, begin):
         self.name, self.begin = (session, number), begin
-        self.steps = []  # command, reply
+        self.steps = []  # command, reply; that of a tidy is its first word
+        self.ended_by = None  # the command that ended it
+        self.reads = set()  # the keys whose records it read, where windows are told exactly
+        self.tidied, self.doubts = set(), set()  # the keys that its tidies claimed, and those that they may have claimed
         self.sealed = None
         self.ending = None  # "committed", "excluded" or "aborted"
         self.stamp = self.succ = self.pred = None
 
     def end(self, ending, stamp=None, succ=None, pred=None):
         self.ending, self.stamp, self.succ, self.pred = ending, stamp, succ, pred
+
+    def ended_early(self):
+        """Whether it was excluded by an operation, which read or claimed something before."""
+        return self.ending == "excluded" and self.stamp is None
 
     def writes(self):
         """The last value that it set of each key, or None where it took it away."""
@@ -161,12 +195,16 @@ class Transaction:
                 found[int(words[1]), int(words[2])] = words[3] if words[0] == "put" else None
         return found
 
+    def claims(self):
+        """The keys that it has written, or claimed by a tidy."""
+        return self.tidied | self.writes().keys()
+
     def gets(self):
         """The keys of its gets whose answer wasn't its own write."""
         own, found = set(), set()
         for words, reply in self.steps:
             place = int(words[1]), int(words[2])
-            if reply == ["ok"]:
+            if words[0] in WRITERS:
                 own.add(place)
             elif words[0] == "get" and place not in own:
                 found.add(place)
@@ -195,9 +233,9 @@ class Heard:
         elif answer[0] == "durable" and int(answer[1]) != self.last.get(session):
             raise Bad(f"line {number} tells another commit than the session's last")
         elif answer[0] in REPLIES:
-            self.current[session].steps.append((words, answer))
+            self.current[session].steps.append((words, answer[:1] if words[0] == "tidy" else answer))
         else:
-            self.end(number, session, answer)
+            self.end(number, session, answer, words)
 
     def begin(self, number, session, stamp):
         if session in self.current:
@@ -213,14 +251,15 @@ class Heard:
         key = session if self.at_once else None
         self.met[key] = max(self.met.get(key, 0), stamp)
 
-    def end(self, number, session, answer):
-        """The end of a session's transaction, if the answer tells one."""
+    def end(self, number, session, answer, words=None):
+        """The end of a session's transaction, if the answer, to these words, tells one."""
         if answer[0] not in ("committed", "excluded", "aborted", "owned", "newer"):
             return
         transaction = self.current.pop(session, None)
         if transaction is None:
             raise Bad(f"line {number} ends no transaction")
         self.over.append(transaction)
+        transaction.ended_by = words
         if answer[0] == "committed":
             transaction.end("committed", int(answer[1]), int(answer[3]), int(answer[5]))
             self.last[session] = transaction.stamp
@@ -264,7 +303,21 @@ def rows_at(report, at, word):
     return report[at + 1 : at + 1 + int(words[1])]
 
 
-def check(script, report, opening, at_once):
+def entries_of(script, report, opening):
+    """The keys of a map by table, in order, if no other key gets an entry, and no transaction goes on behind a line that was refused."""
+    for number, _, words in script:
+        if words[0] in WRITERS and (int(words[1]), int(words[2])) not in opening:
+            raise Bad(f"not to be told exactly: line {number} is of a key that has no value at first")
+    for line in report:
+        if re.match("[0-9]+ (?:wait [0-9]+ [0-9]+|(?:reads|writes|cells) full)", line):
+            raise Bad(f"not to be told exactly: a transaction goes on behind {line!r}")
+    entries = {}
+    for table, key in sorted(opening):
+        entries.setdefault(table, []).append(key)
+    return entries
+
+
+def check(script, report, opening, at_once, exact):
     if not report or not report[0].startswith("open "):
         raise Bad("no opening line")
     if report[-2:] != ["end", ""]:
@@ -284,9 +337,12 @@ def check(script, report, opening, at_once):
     committed = {(*it.name, it.stamp, it.succ, it.pred): it for it in told.over if it.ending == "committed"}
     if len(order) != len(set(order)) or set(order) != set(committed):
         raise Bad("the order's commits aren't those that the answers tell")
+    entries = entries_of(script, report, opening) if exact else None
     check_order(order, committed, opening, pairs)
-    check_snapshots(told.over, committed.values(), opening)
+    check_snapshots(told.over, committed.values(), opening, entries)
     check_windows(told.over)
+    if exact:
+        check_exactly(told.over)
     check_stamps(told)
     return len(told.over), len(order)
 
@@ -305,7 +361,19 @@ def check_order(order, committed, opening, pairs):
         raise Bad("the printed map isn't the one behind the order")
 
 
-def check_snapshots(told, committed, opening):
+def note(transaction, snapshot, entries, words):
+    """Notes what an operation reads and claims besides what it writes: exactly, where the keys with an entry are given."""
+    if entries is not None:
+        transaction.reads.update(it for it in passed(snapshot, entries, words) if it not in snapshot.claimed)
+    if words[0] == "tidy":
+        place = int(words[1]), int(words[2])
+        certain = entries is not None or place in snapshot.claimed or snapshot.get(place) is not None
+        (transaction.tidied if certain else transaction.doubts).add(place)
+        if certain:
+            snapshot.claimed.add(place)
+
+
+def check_snapshots(told, committed, opening, entries):
     by_stamp = sorted(committed, key=lambda it: it.stamp)
     values, done = Values(opening), 0
     for transaction in sorted(told, key=lambda it: it.begin):
@@ -315,16 +383,19 @@ def check_snapshots(told, committed, opening):
             done += 1
         snapshot = Snapshot(values)
         for words, reply in transaction.steps:
+            note(transaction, snapshot, entries, words)
             owed = answered(snapshot, words)
             if reply != owed:
                 raise Bad(f"{transaction.name}: {words} is answered {reply}, and on its snapshot {owed}")
+        if transaction.ended_early():
+            note(transaction, snapshot, entries, transaction.ended_by)
 
 
 def writers_of(told):
-    """The commits that wrote each key, by their stamps, and these stamps. Each overwrote a version that it saw."""
+    """The commits that claimed each key, by their stamps, and these stamps. Each overwrote a version that it saw."""
     made = {}
     for it in sorted((it for it in told if it.ending == "committed"), key=lambda it: it.stamp):
-        for place in it.writes():
+        for place in it.claims():
             its, stamps = made.setdefault(place, ([], []))
             if stamps and it.begin <= stamps[-1]:
                 raise Bad(f"{it.name} overwrote a version of {its[-1].name} that it can't have seen")
@@ -335,27 +406,77 @@ def writers_of(told):
 
 def check_windows(told):
     made = writers_of(told)
+    doubted = {place for it in told for place in it.doubts}
     for transaction in told:
         if transaction.ending == "aborted":
             continue
         if (transaction.ending == "committed") != (transaction.pred < transaction.succ):
             raise Bad(f"{transaction.name}: its window doesn't fit {transaction.ending}")
         if transaction.ending == "committed":
-            check_window(transaction, made)
+            check_window(transaction, made, doubted)
 
 
-def check_window(it, made):
+def check_window(it, made, doubted):
     """The two ends of a commit's window, as far as keys tell them."""
     if it.succ > it.stamp:
         raise Bad(f"{it.name}: its successor stamp is above its stamp")
-    gets = it.gets()
-    for place in gets | it.writes().keys():
+    gets = it.gets() - doubted
+    for place in gets | it.claims():
         its, stamps = made.get(place, ([], []))
         first = bisect.bisect_left(stamps, it.begin)
         if first and stamps[first - 1] > it.pred:
             raise Bad(f"{it.name}: {its[first - 1].name} made what it read or overwrote, with a greater stamp than its predecessor stamp")
         if place in gets and first < len(its) and its[first].stamp < it.stamp and its[first].succ < it.succ:
             raise Bad(f"{it.name}: {its[first].name} overwrote what it read, with a lower successor stamp")
+
+
+class Windows:
+    """What the ends of windows are, by the definitions, where the rows written are those of keys."""
+
+    def __init__(self, told):
+        self.made, self.readers = writers_of(told), {}
+        for it in told:
+            if it.ending == "committed":
+                for place in it.reads:
+                    self.readers.setdefault((place, self.version(place, it)), []).append(it)
+
+    def version(self, place, it):
+        """Which version of a key a transaction sees: how many commits below its begin made one."""
+        return bisect.bisect_left(self.made.get(place, ([], []))[1], it.begin)
+
+    def successors(self, it):
+        """The commits that overwrote a version that it read."""
+        for place in it.reads:
+            its, version = self.made.get(place, ([], []))[0], self.version(place, it)
+            if version < len(its) and its[version] is not it:
+                yield its[version]
+
+    def predecessors(self, it):
+        """The commits that made a version that it read or overwrote, or read one that it overwrote."""
+        claims = it.claims()
+        if it.ended_early() and it.ended_by[0] in WRITERS:
+            claims.add((int(it.ended_by[1]), int(it.ended_by[2])))
+        for place in it.reads | claims:
+            version = self.version(place, it)
+            if version:
+                yield self.made[place][0][version - 1]
+        for place in claims:
+            yield from (other for other in self.readers.get((place, self.version(place, it)), ()) if other is not it)
+
+
+def check_exactly(told):
+    windows = Windows(told)
+    for it in told:
+        if it.stamp is not None:
+            succ = min([it.stamp, *(other.succ for other in windows.successors(it) if other.stamp < it.stamp)])
+            pred = max([0, *(other.stamp for other in windows.predecessors(it) if other.stamp < it.stamp)])
+            if (it.succ, it.pred) != (succ, pred):
+                raise Bad(f"{it.name}: its window is told as succ {it.succ} pred {it.pred}, and by definition is succ {succ} pred {pred}")
+        elif it.ended_early():
+            if all(it.succ != other.succ for other in windows.successors(it)):
+                raise Bad(f"{it.name}: no commit that overwrote what it read has the successor stamp {it.succ}")
+            if all(it.pred != other.stamp for other in windows.predecessors(it)):
+                raise Bad(f"{it.name}: no commit with the stamp {it.pred} comes before it")
 
 
 def check_stamps(told):
@@ -377,12 +498,11 @@ def check_stamps(told):
 
 
 def main():
-    words = sys.argv[1:]
-    at_once = words[0] == "--at-once"
-    script, report, *opening = words[1:] if at_once else words
+    marks = {word for word in sys.argv[1:] if word in ("--at-once", "--exact")}
+    script, report, *opening = (word for word in sys.argv[1:] if word not in marks)
     opening = pairs_of(line for path in opening for line in lines_of(path) if line.startswith("pair "))
     try:
-        count, commits = check(script_of(script), lines_of(report), opening, at_once)
+        count, commits = check(script_of(script), lines_of(report), opening, "--at-once" in marks, "--exact" in marks)
     except (Bad, IndexError, KeyError, ValueError) as bad:
         print(f"bad: {bad!r}" if not isinstance(bad, Bad) else f"bad: {bad}")
         return 1

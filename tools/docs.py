@@ -9,8 +9,9 @@ and the table of crates in docs/architecture.md. They come from crates.txt, from
 Made are also the words of docs/definitions.md: those of each row are the comments over the definitions that its first cell names, one
 after another. A row of which a definition has no comment, or can't be told from another of its name, is written by hand.
 Compared are: that each crate has its row in docs/crates.md, that the definitions of docs/definitions.md stand in specs/ or are
-items of the code, that the files it names are there, that the edits, tests and examples of docs/gate.md are there, and that links of
-documents lead to files and headings that are there. How the lines of a document are broken is left open.
+items of the code, that the files it names are there, that the edits, tests and examples of docs/gate.md are there, that links of
+documents lead to files and headings that are there, and that what documents show of files and of calls stands in examples/. How the lines of a
+document are broken is left open.
 """
 
 import os
@@ -281,6 +282,32 @@ def links_faults():
                 yield f"{paper}: {link}: there is no such heading"
 
 
+def shown(paper):
+    """What a document shows behind a command: the line of the command, the command, and the lines behind it."""
+    found = []
+    for number, row in enumerate(text_of(paper).split("\n"), 1):
+        if row.startswith("    $ "):
+            found.append((number, row[6:].removeprefix("./"), []))
+        elif row.startswith("    ") and found and number == found[-1][0] + len(found[-1][2]) + 1:
+            found[-1][2].append(row[4:])
+    return found
+
+
+def examples_faults():
+    """What documents show that isn't so: a file, what a script of examples/ prints, and other lines of the program that no example prints."""
+    outs = [it for it in os.listdir(os.path.join(TOP, "examples")) if it.endswith(".out")]
+    printed = {row for it in outs for row in text_of(f"examples/{it}").split("\n")}
+    for paper in ("README.md", "docs/tour.md"):
+        for number, command, rows in shown(paper):
+            whole = re.fullmatch(r"(?:cat|erm run <) (examples/[a-z_]+)\.erm", command)
+            if whole:
+                true = rows == text_of(f"{whole[1]}.{'erm' if command.startswith('cat') else 'out'}").rstrip("\n").split("\n")
+            else:
+                true = not re.match("erm (?:run|recover|audit|ship)", command) or set(rows) <= printed | {"..."}
+            if not true:
+                yield f"{paper}:{number}: {command} doesn't show that"
+
+
 def main(words):
     crates = Crates()
     faults = [*crates.faults()]
@@ -292,7 +319,7 @@ def main(words):
                 it.write(text)
         elif plain(text) != plain(text_of(path)):
             faults.append(f"{path}: a table isn't as tools/docs.py makes it")
-    faults += [*definitions_faults(crates), *contracts_faults(crates), *gate_faults(crates), *links_faults()]
+    faults += [*definitions_faults(crates), *contracts_faults(crates), *gate_faults(crates), *links_faults(), *examples_faults()]
     for it in faults:
         print(it)
     print(f"documents: {len(faults)} not as in the sources")

@@ -14,7 +14,7 @@ const SCRIPT_BYTES: usize = 16_777_216;
 
 /// The usage line.
 const USAGE: &str =
-    "usage: erm run | threads | make --count N --sessions K [--text] | recover | audit | checkpoint | ship | follow\n";
+    "usage: erm run | threads | make --count N --sessions K [--text] | recover | audit | checkpoint | ship | follow | replica\n";
 
 /// The report of a script without lines.
 const EMPTY_REPORT: &str = "open 8 run 1\norder 0\nmap 0\nend\n";

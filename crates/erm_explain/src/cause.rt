@@ -29,7 +29,7 @@ pub enum Cause {
         /// What must come before: a line of it touched what an own one touched.
         before: Link,
     },
-    /// The report doesn't have the cause, so it isn't a good one.
+    /// The report doesn't have the cause, so it isn't a good one of a run whose lines were run in turn.
     Missing,
 }
 
