@@ -21,6 +21,7 @@ trap 'rm -rf "$folder"' EXIT
 cat >"$folder/refuse.c" <<'C'
 #include <errno.h>
 #include <stdlib.h>
+#include <sys/syscall.h>
 #include <unistd.h>
 
 void *__libc_malloc(size_t), *__libc_calloc(size_t, size_t), *__libc_realloc(void *, size_t), *__libc_memalign(size_t, size_t);
@@ -43,7 +44,7 @@ static int is_refused(void) {
     return 1;
 }
 
-__attribute__((destructor)) static void end(void) {
+static void tell(void) {
     char digits[24], *at = digits + sizeof digits;
     *--at = '\n';
     for (unsigned long left = calls; at > digits; left /= 10) {
@@ -52,6 +53,14 @@ __attribute__((destructor)) static void end(void) {
     }
     if (write(counted, at, digits + sizeof digits - at)) {}
 }
+
+/* A program that may have threads ends by this call, and then nothing else is run at its end. */
+void _exit(int status) {
+    tell();
+    for (;;) syscall(SYS_exit_group, status);
+}
+
+__attribute__((destructor)) static void end(void) { tell(); }
 
 void *malloc(size_t size) { return is_refused() ? 0 : __libc_malloc(size); }
 void *calloc(size_t count, size_t size) { return is_refused() ? 0 : __libc_calloc(count, size); }
@@ -72,7 +81,7 @@ import subprocess
 import sys
 
 PROGRAM, ROOM, DATA, *NAMES = sys.argv[1:]
-NAMES = NAMES or "two_puts tidy_cuts_a_version excluded_is_passed_over checkpoint_by_line made".split()
+NAMES = NAMES or "two_puts tidy_cuts_a_version excluded_is_passed_over checkpoint_by_line at_once_two_puts at_once_durable made".split()
 NONE, ALL = 0, 2**62
 EACH = int(os.environ.get("EACH", 1))
 USAGE = subprocess.run([PROGRAM], stdin=subprocess.DEVNULL, stdout=subprocess.PIPE).stdout
@@ -127,7 +136,7 @@ def lines_of(words, script):
     """The lines that a call runs."""
     if words[0] == "make":
         script = call([*words, "--text"], b"")[1]
-    return script.splitlines(keepends=True) if words[0] in ("run", "make") else []
+    return script.splitlines(keepends=True) if words[0] in ("run", "threads", "make") else []
 
 
 def allowed(kept, words, script):
