@@ -13,6 +13,7 @@ use crate::{Grammar, NO_SESSION, ScriptFault, ScriptLine};
 use erm_model::Name;
 use line::Asked;
 use std::alloc::{AllocError, Global};
+use thiserror::Error;
 
 /// A script: its sessions' names by the order of their first lines, and its lines but for those that are skipped.
 #[derive(Drop)]
@@ -22,11 +23,13 @@ pub struct Script {
 }
 
 /// Why bytes were not read as a script.
-#[derive(Drop)]
+#[derive(Clone, Copy, Debug, Error)]
 pub enum ParseError {
     /// Memory ran out.
+    #[error("memory ran out")]
     Memory,
     /// The first line that is not in the grammar, and what is wrong with it.
+    #[error("{0}")]
     Fault(ScriptFault),
 }
 
