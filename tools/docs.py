@@ -8,6 +8,7 @@ Made are, between two marks each: the table of layers in README.md, the list of 
 and the table of crates in docs/architecture.md. They come from crates.txt, from the crates' own first sentences and from their lines.
 Made are also the words of docs/definitions.md: those of each row are the comments over the definitions that its first cell names, one
 after another. A row of which a definition has no comment, or can't be told from another of its name, is written by hand.
+So are the list of calls that wait in docs/refusals.md, and the calls in the last column of its table, by tools/calls.py.
 Compared are: that each crate has its row in docs/crates.md, that the definitions of docs/definitions.md stand in specs/ or are
 items of the code, that the files it names are there, that the edits, tests and examples of docs/gate.md are there, that links of
 documents lead to files and headings that are there, and that what documents show of files and of calls stands in examples/. How the lines of a
@@ -17,6 +18,8 @@ document are broken is left open.
 import os
 import re
 import sys
+
+import calls
 
 TOP = os.path.dirname(os.path.dirname(os.path.abspath(__file__)))
 TEST_LAYER = "examples and cases"
@@ -118,7 +121,15 @@ def kit_list(crates):
     return [f"The kit's crates in the program: {', '.join(f'`{it}`' for it in kit)}; in other crates: {', '.join(f'`{it}`' for it in test)}."]
 
 
-MADE = {"README.md": {"layers": layers_table, "kit": kit_list}, "docs/architecture.md": {"crates": crates_table}}
+def waits_list(crates):
+    return [calls.names_of(calls.waiting(crates.uses)) + "."]
+
+
+MADE = {
+    "README.md": {"layers": layers_table, "kit": kit_list},
+    "docs/architecture.md": {"crates": crates_table},
+    "docs/refusals.md": {"waits": waits_list},
+}
 
 
 def made(path, crates):
@@ -130,6 +141,26 @@ def made(path, crates):
             sys.exit(f"{path}: the marks of {mark} are gone")
         text = pattern.sub(lambda it: it[1] + "\n".join([*make(crates), ""]) + it[2], text)
     return text
+
+
+def refusals_made(text, crates):
+    """The document of refusals with its last column as it is to be."""
+    by_type, rows = calls.refusals(crates.uses), []
+    for row in text.split("\n"):
+        cells = row.split(" | ")
+        if row.startswith("| `") and len(cells) == 4:
+            kinds = re.findall(r"`(\w+)`", cells[0])
+            cells[3] = calls.cell_of([it for kind in kinds for it in by_type.get(kind, ())]) + " |"
+            row = " | ".join(cells)
+        rows.append(row)
+    return "\n".join(rows)
+
+
+def refusals_faults(crates):
+    """Types by which public calls refuse and that docs/refusals.md has no row of, and the other way round."""
+    told = {kind for row in text_of("docs/refusals.md").split("\n") if row.startswith("| `") for kind in re.findall(r"`(\w+)`", row.split(" | ")[0])}
+    for kind in sorted(told ^ set(calls.refusals(crates.uses))):
+        yield f"docs/refusals.md: {kind} has no row, or no call answers it"
 
 
 def plain(text):
@@ -313,13 +344,14 @@ def main(words):
     faults = [*crates.faults()]
     texts = {path: made(path, crates) for path in MADE}
     texts["docs/definitions.md"] = definitions_made(crates)
+    texts["docs/refusals.md"] = refusals_made(texts["docs/refusals.md"], crates)
     for path, text in texts.items():
         if "--check" not in words:
             with open(os.path.join(TOP, path), "w", encoding="utf-8") as it:
                 it.write(text)
         elif plain(text) != plain(text_of(path)):
             faults.append(f"{path}: a table isn't as tools/docs.py makes it")
-    faults += [*definitions_faults(crates), *contracts_faults(crates), *gate_faults(crates), *links_faults(), *examples_faults()]
+    faults += [*definitions_faults(crates), *contracts_faults(crates), *refusals_faults(crates), *gate_faults(crates), *links_faults(), *examples_faults()]
     for it in faults:
         print(it)
     print(f"documents: {len(faults)} not as in the sources")
