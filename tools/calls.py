@@ -3,9 +3,12 @@
 last column of docs/refusals.md of it, and tells what that leaves out.
 
     tools/calls.py            prints the refusals, type by type, with the calls that answer them
+
+A call refuses where its answer is a `Result`, or names a type by which others do. A type whose name two crates have is told with its crate.
 """
 
 import collections
+import functools
 import os
 import re
 
@@ -17,18 +20,21 @@ MEMORY = "AllocError"
 class Call:
     """A public function, or a function of a public trait: its crate, name, parameters, answer, and clauses with their names."""
 
-    def __init__(self, crate, name, text):
-        self.crate, self.name = crate, name
+    def __init__(self, crate, name, text, owner, imports):
+        self.crate, self.name, self.owner, self.imports = crate, name, owner, imports
         head = " ".join(re.split(r"\n\s*(?:requires|ensures|ghost|//)", text)[0].split())
         self.takes, _, answer = head.partition("->")
         self.answer = re.sub(r" where .*|[;{]*$", "", answer).strip()
         self.clauses = re.findall(r"ensures (\w*) ?\{(.*?)\};?\n", text + "\n", re.S)
 
     def waits(self):
-        return bool(re.search(r"\brt: ", self.takes) and re.search(r"\bWait\b", self.takes))
+        """Whether it takes a right to wait, or its type holds one."""
+        return bool(re.search(r"\brt: ", self.takes) and re.search(r"\bWait\b", self.takes)) or bool(re.search(r"\bWait\b", self.owner))
 
     def refusal(self):
-        """The type of what it answers where it refuses, or None."""
+        """The type of what a `Result` has where it refuses, or None."""
+        if self.answer.startswith("io::Result<"):
+            return "io::Error"
         if not self.answer.startswith("Result<"):
             return None
         depth, last = 0, 7
@@ -38,28 +44,46 @@ class Call:
                 last = at + 1
         return self.answer[last:-1].strip()
 
+    def kind(self, bare):
+        """The name of a type as it is told."""
+        homes = homes_of(bare)
+        if len(homes) < 2:
+            return bare
+        named = [it for it in re.findall(rf"\buse (\w+)::(?:\w+::)*(?:\{{[^}}]*\b{bare}\b|{bare}\b)", self.imports) if it in homes]
+        return f"{(named or [self.crate])[0]}::{bare}"
+
     def tells(self):
         """The clauses that speak of a refusal: by itself, or with the answer as a whole."""
         return [name for name, text in self.clauses if re.search(r"\bresult\b", text) and (re.search(r"IfErr|\bErr\b", text) or not re.search(r"IfOk|OnOk|IsOk", text))]
 
 
-def calls_of(crate):
-    """The public calls of a crate, in the order of its files."""
+def sources_of(crate):
     for folder, _, files in sorted(os.walk(os.path.join(TOP, "crates", crate, "src"))):
         for file in sorted(it for it in files if it.endswith(".rt") and not it.startswith("tests")):
             with open(os.path.join(folder, file), encoding="utf-8") as it:
-                yield from calls_in(crate, it.read().split("\n"))
+                yield it.read()
 
 
-def calls_in(crate, rows):
-    in_trait = False
+@functools.cache
+def homes_of(name):
+    """The crates that have a public type of this name, but those of examples and cases."""
+    return tuple(crate for crate in sorted(os.listdir(os.path.join(TOP, "crates"))) if not re.search("_cases$|_bench$|_examples$", crate)
+                 for text in sources_of(crate) if re.search(rf"^pub (enum|struct) {name}\b", text, re.M))
+
+
+def calls_in(crate, text):
+    rows = text.split("\n")
+    imports = " ".join(re.findall(r"^use [^;]*;", text, re.M)).replace("\n", " ")
+    owner, in_trait = "", False
     for at, row in enumerate(rows):
         if re.match(r"(pub )?(impl|trait|struct|enum)\b", row):
-            in_trait = row.startswith("pub trait")
+            owner, in_trait = row, row.startswith("pub trait")
+        elif row.startswith("}"):
+            owner, in_trait = "", False
         found = re.match(r"( *)(pub )?fn (\w+)", row)
-        if found and (found[2] or in_trait):
-            end = next(i for i in range(at, len(rows)) if rows[i].rstrip().endswith((";", "{}")) or rows[i] == found[1] + "{" or (rows[i].endswith("{") and "fn " in rows[at] and not re.match(r"\s*(requires|ensures)", rows[i])))
-            yield Call(crate, found[3], "\n".join(rows[at : end + 1]))
+        if found and (found[2] or in_trait or (owner.startswith("impl") and re.search(r"\bWait\b", owner))):
+            end = next(i for i in range(at, len(rows)) if rows[i].rstrip().endswith((";", "{}")) or rows[i] == found[1] + "{" or (rows[i].endswith("{") and not re.match(r"\s*(requires|ensures)", rows[i])))
+            yield Call(crate, found[3], "\n".join(rows[at : end + 1]), owner if owner.startswith("impl") else "", imports)
 
 
 def program(uses):
@@ -73,38 +97,48 @@ def program(uses):
     return [name for name in uses if name in found]
 
 
+@functools.cache
+def calls_of(crates):
+    return tuple(call for crate in crates for text in sources_of(crate) for call in calls_in(crate, text))
+
+
 def refusals(uses):
     """The calls that refuse, by the type that they answer then."""
+    calls = calls_of(tuple(program(uses)))
+    known = {call.refusal() for call in calls} - {None, "u64"} | {"Stopped"}
     by_type = collections.defaultdict(list)
-    for crate in program(uses):
-        for call in calls_of(crate):
-            if call.refusal():
-                by_type[call.refusal()].append(call)
+    for call in calls:
+        bare = [call.refusal()] if call.refusal() else [it for it in re.findall(r"\w*Stop(?:ped)?\b", call.answer) if it in known]
+        for it in bare:
+            by_type[call.kind(it)].append(call)
     return by_type
 
 
 def waiting(uses):
-    return [call for crate in program(uses) for call in calls_of(crate) if call.waits()]
+    return [call for call in calls_of(tuple(program(uses))) if call.waits()]
+
+
+def by_crate(calls, tell):
+    told = collections.defaultdict(list)
+    for call in calls:
+        if tell(call) not in told[call.crate]:
+            told[call.crate].append(tell(call))
+    return "; ".join(f"`{crate}`: {', '.join(names)}" for crate, names in told.items())
 
 
 def cell_of(calls):
     """Calls as a cell of a table: crate by crate, each with the clauses that speak of its refusal."""
-    by_crate = collections.defaultdict(list)
-    for call in calls:
-        clauses = ", ".join(it or "the one clause" for it in call.tells()) or "**no clause**"
-        told = f"`{call.name}` ({clauses})"
-        if told not in by_crate[call.crate]:
-            by_crate[call.crate].append(told)
-    return "; ".join(f"`{crate}`: {', '.join(told)}" for crate, told in by_crate.items())
+
+    def tell(call):
+        clauses = ", ".join(it or "the one clause" for it in call.tells()) or ("" if call.refusal() in (MEMORY, "io::Error") else "**no clause**")
+        return f"`{call.name}` ({clauses})" if clauses else f"`{call.name}`"
+
+    return by_crate(calls, tell)
 
 
 def names_of(calls):
     """Calls by their names alone, crate by crate."""
-    by_crate = collections.defaultdict(list)
-    for call in calls:
-        if f"`{call.name}`" not in by_crate[call.crate]:
-            by_crate[call.crate].append(f"`{call.name}`")
-    return "; ".join(f"`{crate}`: {', '.join(names)}" for crate, names in by_crate.items())
+    return by_crate(calls, lambda call: f"`{call.name}`")
 
 
 if __name__ == "__main__":

@@ -149,7 +149,7 @@ def refusals_made(text, crates):
     for row in text.split("\n"):
         cells = row.split(" | ")
         if row.startswith("| `") and len(cells) == 4:
-            kinds = re.findall(r"`(\w+)`", cells[0])
+            kinds = re.findall(r"`([\w:]+)`", cells[0])
             cells[3] = calls.cell_of([it for kind in kinds for it in by_type.get(kind, ())]) + " |"
             row = " | ".join(cells)
         rows.append(row)
@@ -158,7 +158,7 @@ def refusals_made(text, crates):
 
 def refusals_faults(crates):
     """Types by which public calls refuse and that docs/refusals.md has no row of, and the other way round."""
-    told = {kind for row in text_of("docs/refusals.md").split("\n") if row.startswith("| `") for kind in re.findall(r"`(\w+)`", row.split(" | ")[0])}
+    told = {kind for row in text_of("docs/refusals.md").split("\n") if row.startswith("| `") for kind in re.findall(r"`([\w:]+)`", row.split(" | ")[0])}
     for kind in sorted(told ^ set(calls.refusals(crates.uses))):
         yield f"docs/refusals.md: {kind} has no row, or no call answers it"
 
