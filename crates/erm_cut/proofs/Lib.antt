@@ -4,5 +4,6 @@ pub mod Named
 pub mod Newest
 pub mod OffChain
 pub mod SpareCells
+pub mod Swaps
 pub mod Walk
 pub mod Took

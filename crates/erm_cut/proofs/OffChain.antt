@@ -106,13 +106,13 @@ module _ (v : View) (who : ℕ) (active : is_active (part_of v who).place ≡ tr
 
   -- THE SWAP
   module _ (cell : ℕ) (known : IsKnown v) (at : IsFoundCut (part_of v who).task cell) where
-    abbrev version : VersionAt
+    abbrev pub version : VersionAt
     version = in_hand x.task
 
     found : FoundCut x.task cell
     found = found_cut x.task cell at
 
-    abbrev swapped_part : ℕ → List OwnCell → Part
+    abbrev pub swapped_part : ℕ → List OwnCell → Part
     swapped_part link cut = record x { task = detached link version x; spare = x.spare ++ cut }
 
     named : IsNamed known.core.shared version
@@ -126,7 +126,7 @@ module _ (v : View) (who : ℕ) (active : is_active (part_of v who).place ≡ tr
     pub cell_found : (in_hand (part_of v who).task).cell ≡ cell
     cell_found = found.cell_is
 
-    after_swap : (link : ℕ) (s : Shared) → part_after who (swap_kind x) link s x ≡ Some (swapped_part link (cut_off version.place (s.objects version.oid)))
+    pub after_swap : (link : ℕ) (s : Shared) → part_after who (swap_kind x) link s x ≡ Some (swapped_part link (cut_off version.place (s.objects version.oid)))
     after_swap link s =
         subst (λ (t : Task). swap_link link version (s.objects version.oid) x t ≡ Some (swapped_part link (cut_off version.place (s.objects version.oid)))) (sym found.is)
         (when_true _ (swapped_part link (cut_off version.place (s.objects version.oid))) (both _ _ active (same_self version)))
@@ -137,7 +137,7 @@ module _ (v : View) (who : ℕ) (active : is_active (part_of v who).place ≡ tr
         (λ c sound. after_swap (word_at c (spot_of who (swap_kind x))) c.shared)
 
     module _ (link : ℕ) (w : View) (told : Told v who (swap_kind (part_of v who)) link w) where
-      abbrev o : Object
+      abbrev pub o : Object
       o = told.before.shared.objects version.oid
 
       before : told.before.seats who ≡ x
@@ -196,6 +196,9 @@ module _ (v : View) (who : ℕ) (active : is_active (part_of v who).place ≡ tr
         newest_after = newest_after;
       }
 
+      pub swapped_is : w ≡ with_part who (swapped_part link (cut_off version.place o)) v
+      swapped_is = told_is v who (swap_kind x) link w x (swapped_part link (cut_off version.place o)) (has v who active) told (after_swap link told.before.shared)
+
       pub starts_detaching : (cells : List ℕ) → SpareIs cells x → IsDetaching v who link 0 cells w
       starts_detaching cells spare =
           let chain = told.sound.common.chains.linked version.oid named_before.object in
@@ -212,7 +215,7 @@ module _ (v : View) (who : ℕ) (active : is_active (part_of v who).place ≡ tr
             count_is = omega arith;
             cells_are = spare ∙ sym (append-nil (numbers x.spare)) ∙ ap (λ (l : List OwnCell). numbers x.spare ++ reverse (numbers l)) (sym (drop-length (cut_off version.place o)));
             at = version;
-            view_is = told_is v who (swap_kind x) link w x (swapped_part link (cut_off version.place o)) (has v who active) told (after_swap link told.before.shared);
+            view_is = swapped_is;
             known = known_after v who (swap_kind x) link w told;
           }
 
@@ -224,7 +227,7 @@ module _ (v : View) (who : ℕ) (active : is_active (part_of v who).place ≡ tr
     has_here : part_in u who ≡ Some here_part
     has_here = changed_here v who u here_part x (has v who active) walk.view_is
 
-    here_is : part_of u who ≡ here_part
+    pub here_is : part_of u who ≡ here_part
     here_is = part_of-changed v who u here_part x (has v who active) walk.view_is
 
     pub held_here : part_in u who ≡ Some here_part
@@ -343,6 +346,12 @@ module _ (v : View) (who : ℕ) (active : is_active (part_of v who).place ≡ tr
         found_is : found ≡ link_to walk.cut last
         found_is = sym told.met ∙ sym there.link ∙ ap (λ (z : OwnCell). z.words.link) is_last ∙ walk.linked.links last last_within
 
+        next_is : w ≡ with_part who (next_part found) v
+        next_is = told_next v who (kind.LoadDetached hand) found u w here_part x (next_part found) (has v who active) walk.view_is told (after_detached found told.before.shared)
+
+        pub same_spare : (part_of w who).spare ≡ (part_of u who).spare
+        same_spare = ap (λ (z : Part). z.spare) (part_of-changed v who w (next_part found) x (has v who active) next_is) ∙ sym (ap (λ (z : Part). z.spare) here_is)
+
         pub detaches_next : (cell : ℕ) (more : List ℕ) → cell ≡ (link - 1) % 2 ^ 32 → more ≡ cells ++ cell ∷ [] → IsDetaching v who found (count + 1) more w
         detaches_next cell more is pushed =
             let back : suc last ≡ walk.left = let some_left = left_some in omega (arith, some_left) in
@@ -359,7 +368,7 @@ module _ (v : View) (who : ℕ) (active : is_active (part_of v who).place ≡ tr
                   pushed
                   ∙ one_more (numbers x.spare) cells walk.cut last cell (walk.cells_are ∙ ap (λ n. numbers x.spare ++ reverse (numbers (drop n walk.cut))) (sym back)) last_within (is ∙ named_cell);
               at = hand;
-              view_is = told_next v who (kind.LoadDetached hand) found u w here_part x (next_part found) (has v who active) walk.view_is told (after_detached found told.before.shared);
+              view_is = next_is;
               known = known_after u who (kind.LoadDetached hand) found w told;
             }
 
@@ -368,7 +377,7 @@ module _ (v : View) (who : ℕ) (active : is_active (part_of v who).place ≡ tr
       left_none : walk.left ≡ 0
       left_none = link_none walk.cut walk.left link walk.link_is none
 
-      all_cut : count ≡ length walk.cut
+      pub all_cut : count ≡ length walk.cut
       all_cut = let all = walk.count_is in let left = left_none in omega (arith, all, left)
 
       ended : here_part ≡ cut_part walk.cut x

@@ -32,11 +32,11 @@ all_loads tail (word ∷ words) = (tt, all_loads tail words)
 pub horizon_loads_alone : (law : Law) (who next least : ℕ) (b e : Book) → TookHorizon law who next least b e → Went law who IsLoadStep b e
 horizon_loads_alone law who next least b e so = record { steps = horizon_loads so.tail so.words; took = so.took; all = all_loads so.tail so.words }
 
-pub detach_still : (law : Law) (who : ℕ) (b e : Book) → TookDetach law who b e → Went law who IsStillStep b e
-detach_still law who b e took = went_more law who IsStillStep b took.swapped e (went_one law who IsStillStep _ took.link b took.swapped tt took.swap) (loads_still law who took.swapped e took.loads)
+pub detach_still : (law : Law) (who count : ℕ) (b e : Book) → TookDetach law who count b e → Went law who IsStillStep b e
+detach_still law who count b e took = went_more law who IsStillStep b took.swapped e (went_one law who IsStillStep _ took.link b took.swapped tt took.swap) (loads_still law who took.swapped e took.loads)
 
-pub cut_still : (law : Law) (who : ℕ) (b e : Book) → TookCut law who b e → Went law who IsStillStep b e
-cut_still law who b e took =
-    ⊎_elim (λ (t : Went law who IsLoadStep b e). loads_still law who b e t)
-    (λ (t : (m : Book) × Went law who IsLoadStep b m × TookDetach law who m e). went_more law who IsStillStep b t.0 e (loads_still law who b t.0 t.1) (detach_still law who t.0 e t.2))
+pub cut_still : (law : Law) (who count : ℕ) (b e : Book) → TookCut law who count b e → Went law who IsStillStep b e
+cut_still law who count b e took =
+    ⊎_elim (λ (t : (count ≡ 0) × Went law who IsLoadStep b e). loads_still law who b e t.1)
+    (λ (t : (m : Book) × Went law who IsLoadStep b m × TookDetach law who count m e). went_more law who IsStillStep b t.0 e (loads_still law who b t.0 t.1) (detach_still law who count t.0 e t.2))
     took

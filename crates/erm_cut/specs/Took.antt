@@ -1,11 +1,17 @@
 -- The steps of a horizon and of a cut, the last one first, with the words that they found.
-use Rattle.std.specs.Prelude.{◌≡◌, ◌⊎◌, ℕ, ◌+◌, List, [], ◌∷◌, length}
+use Rattle.std.specs.Prelude.{◌≡◌, ◌⊎◌, ℕ, ◌+◌, List, [], ◌∷◌, ◌++◌, length}
+use Rattle.erm_machine.specs.declared.attempt.OwnCell.{OwnCell}
 use Rattle.erm_machine.specs.declared.event.Kind.{Kind}
 use Rattle.erm_machine.specs.declared.event.Kind.TheVariants.{LoadBegin, LoadTail}
 use Rattle.erm_machine.specs.declared.event.TailUse.TheVariants.{Horizon}
+use Rattle.erm_machine.specs.declared.version.VersionAt.{VersionAt}
+use Rattle.erm_machine.specs.Core.{Core}
 use Rattle.erm_machine.specs.Life.{lower}
+use Rattle.erm_machine.specs.Reading.{cut_off}
 use Rattle.erm_model.specs.RowTransaction.{Law}
 use Rattle.erm_rule.specs.declared.view.Book.{Book}
+use Rattle.erm_rule.specs.Books.{WasSeen}
+use Rattle.erm_rule.specs.Hands.{in_hand}
 use Rattle.erm_rule.specs.Steps.{Booked}
 use Rattle.erm_rule.specs.Views.{part_of}
 use Rattle.erm_rule.specs.Went.{Took, Went, IsLoadStep}
@@ -29,13 +35,22 @@ pub record TookHorizon (law : Law) (who next least : ℕ) (b e : Book) : Type 0 
   pub least_is : least ≡ least_word tail words
   pub took : Took law who (horizon_loads tail words) b e
 
--- DETACH. The link of the version in hand was swapped, and then loads.
-pub record TookDetach (law : Law) (who : ℕ) (b e : Book) : Type 0 where
+-- these are the cells of all versions of the object that are attached and older than this one, the oldest first
+abbrev pub AreBehind : VersionAt → List OwnCell → Core → Type 0
+AreBehind version cut c = cut ≡ cut_off version.place (c.shared.objects version.oid)
+
+-- DETACH. The link of the version in hand was swapped, and then loads. Whatever state of the book the swap was taken in, these cells, so
+-- many, were those of the versions behind: they are the seat's last spare ones.
+pub record TookDetach (law : Law) (who count : ℕ) (b e : Book) : Type 0 where
   pub swapped : Book
   pub link : ℕ
   pub swap : Booked law b who (swap_kind (part_of b.view who)) link swapped
+  pub cut : List OwnCell
+  pub count_is : count ≡ length cut
+  pub cells : WasSeen b (AreBehind (in_hand (part_of b.view who).task) cut) swapped
+  pub spare : (part_of e.view who).spare ≡ (part_of b.view who).spare ++ cut
   pub loads : Went law who IsLoadStep swapped e
 
--- CUT. Loads; and then, where a version was found to cut behind, that.
-abbrev pub TookCut : Law → ℕ → Book → Book → Type 0
-TookCut law who b e = Went law who IsLoadStep b e ⊎ ((m : Book) × Went law who IsLoadStep b m × TookDetach law who m e)
+-- CUT. Loads, by which no cell became a spare one; and then, where a version was found to cut behind, that.
+abbrev pub TookCut : Law → (who count : ℕ) → Book → Book → Type 0
+TookCut law who count b e = ((count ≡ 0) × Went law who IsLoadStep b e) ⊎ ((m : Book) × Went law who IsLoadStep b m × TookDetach law who count m e)

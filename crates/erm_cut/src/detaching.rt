@@ -3,7 +3,7 @@ ghost use Rattle.std.specs.Prelude.{◌≡◌, ◌≤◌, true};
 ghost use Rattle.erm_cells.specs.Spare.{SpareIs};
 ghost use Rattle.erm_cut.specs.Calls.{DidCut, DidDetach, IsAtCut, IsFoundCut};
 ghost use Rattle.erm_machine.specs.Seat.{is_active};
-ghost use Rattle.erm_rule.specs.Books.{IsAfter, book};
+ghost use Rattle.erm_rule.specs.Books.{book};
 ghost use Rattle.erm_rule.specs.Hands.{IsKnown};
 ghost use Rattle.erm_rule.specs.Steps.{Fits};
 ghost use Rattle.erm_rule.specs.Views.{view, part_of};
@@ -25,8 +25,7 @@ pub fn detach<L: RowLaw>(t: &Table<L>, p: &mut Pass, who: Seat, cell: u32, spare
     ensures fits { Fits t.now.words.shared.table_id p.new }
     ensures detached { DidDetach (view p.old) who result (view p.new) }
     ensures spare { SpareIs spare.new (part_of (view p.new) who) }
-    ensures goes { IsAfter (book p.old) (book p.new) }
-    ensures took { TookDetach L.law who (book p.old) (book p.new) }
+    ensures took { TookDetach L.law who result (book p.old) (book p.new) }
 {
     let mut link = swap_link(t, p, who, cell);
     let mut count = 0_u32;
@@ -58,8 +57,7 @@ pub fn cut<L: RowLaw>(
     ensures fits { Fits t.now.words.shared.table_id p.new }
     ensures cut { DidCut (view p.old) who horizon result (view p.new) }
     ensures spare { SpareIs spare.new (part_of (view p.new) who) }
-    ensures goes { IsAfter (book p.old) (book p.new) }
-    ensures took { TookCut L.law who (book p.old) (book p.new) }
+    ensures took { TookCut L.law who result (book p.old) (book p.new) }
 {
     match find_cut(t, p, who, head, horizon) {
         Some(cell) => detach(t, p, who, cell, spare),

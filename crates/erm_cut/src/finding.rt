@@ -2,7 +2,7 @@
 ghost use Rattle.std.specs.Prelude.{◌≡◌, ◌-◌, ◌%◌, ◌^◌, ◌<◌, true, MatchOption};
 ghost use Rattle.erm_cut.specs.Calls.{DidFindCut, DidFindNone, IsAtCut};
 ghost use Rattle.erm_machine.specs.Seat.{is_active};
-ghost use Rattle.erm_rule.specs.Books.{IsAfter, book};
+ghost use Rattle.erm_rule.specs.Books.{book};
 ghost use Rattle.erm_rule.specs.Hands.{IsKnown};
 ghost use Rattle.erm_rule.specs.Steps.{Fits};
 ghost use Rattle.erm_rule.specs.Views.{view, part_of};
@@ -28,7 +28,6 @@ pub fn find_cut<L: RowLaw>(
     requires at { IsAtCut (part_of (view p.old) who).task head horizon }
     ensures fits { Fits t.now.words.shared.table_id p.new }
     ensures found { MatchOption result (DidFindNone (view p.old) who horizon (view p.new)) (λ cell. DidFindCut (view p.old) who horizon cell (view p.new)) }
-    ensures goes { IsAfter (book p.old) (book p.new) }
     ensures loads { Went L.law who IsLoadStep (book p.old) (book p.new) }
 {
     let mut cell = head;

@@ -3,7 +3,7 @@ ghost use Rattle.std.specs.Prelude.{◌≡◌, true};
 ghost use Rattle.erm_cut.specs.Calls.{DidHorizon, IsClaimed};
 ghost use Rattle.erm_machine.specs.Life as life_specs;
 ghost use Rattle.erm_machine.specs.Seat.{is_active};
-ghost use Rattle.erm_rule.specs.Books.{IsAfter, book};
+ghost use Rattle.erm_rule.specs.Books.{book};
 ghost use Rattle.erm_rule.specs.Steps.{Fits};
 ghost use Rattle.erm_rule.specs.Views.{view, part_of};
 ghost use Rattle.erm_cut.specs.Took.{TookHorizon};
@@ -21,7 +21,6 @@ pub fn horizon<L: RowLaw>(t: &Table<L>, p: &mut Pass, who: Seat) -> Stamp
     requires claimed { IsClaimed (part_of (view p.old) who).task }
     ensures fits { Fits t.now.words.shared.table_id p.new }
     ensures found { DidHorizon (view p.old) who result (view p.new) }
-    ensures goes { IsAfter (book p.old) (book p.new) }
     ensures took { TookHorizon L.law who ANNOUNCERS result (book p.old) (book p.new) }
 {
     let mut least = load_tail(t, p, who, TailUse::Horizon);

@@ -1,15 +1,19 @@
 -- The own bits are cleared one after another.
 use Rattle.std.proofs.Common.{◌≡◌, ℕ, ◌+◌, ◌<◌, true, ◌||◌, List, length, get_or, Option, Some, None, refl, sym, ap, ◌∙◌, subst, arith}
 use Rattle.erm_machine.specs.declared.attempt.Decision.TheVariants.{Commit}
+use Rattle.erm_machine.specs.declared.event.Kind.TheVariants as kind
 use Rattle.erm_machine.specs.declared.part.Part.{Part}
 use Rattle.erm_machine.specs.declared.task.Task.{Task}
 use Rattle.erm_machine.specs.declared.task.Task.TheVariants as task
 use Rattle.erm_machine.specs.Seat.{end_of, is_active, is_decided, read_at, with_task}
+use Rattle.erm_model.specs.RowTransaction.{Law}
+use Rattle.erm_rule.specs.declared.view.Book.{Book}
 use Rattle.erm_rule.specs.declared.view.View.{View}
 use Rattle.erm_rule.specs.Hands.{IsKnown}
+use Rattle.erm_rule.specs.Steps.{Booked}
 use Rattle.erm_rule.specs.Views.{part_in, part_of, with_part}
 use Rattle.erm_rule.proofs.Telling.{held_part}
-use Rattle.erm_cells.specs.Hands.{cleared_by, next_cleared}
+use Rattle.erm_cells.specs.Hands.{clear_kind, cleared_by, next_cleared}
 use Rattle.erm_readers.specs.Calls.{cleared_once, DidUnregister, IsClearing}
 use Rattle.erm_precommit.specs.declared.pre.KeptRead.{KeptRead}
 use Rattle.erm_precommit.specs.Pre.{no_read_kept}
@@ -81,6 +85,14 @@ module _ (v : View) (who : ℕ) (kept : List KeptRead) (known : IsKnown v) (may 
       };
       all_raised = loop.all_raised;
     }
+
+    -- the clear is of the read at this place
+    pub cleared_next : (law : Law) (m e : Book) (found : ℕ) → Booked law m who (clear_kind (part_of u who)) found e → (word : ℕ) × Booked law m who (kind.ClearReader (read_at x.current n).version) word e
+    cleared_next law m e found booked = (
+      found,
+      subst (λ (k : ℕ). Booked law m who (kind.ClearReader (read_at x.current k).version) found e) (cleared_there come.task ∙ ap cleared_at come.ends)
+          (subst (λ (z : Part). Booked law m who (clear_kind z) found e) here booked),
+    )
 
   pub did_clear_all : (u : View) (n : ℕ) → n ≡ length kept → ClearLoop v who n u → DidClearReads v who u
   did_clear_all u n all loop = record {

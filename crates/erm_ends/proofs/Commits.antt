@@ -1,36 +1,31 @@
 -- All claims of a commit are installed, and its end.
-use Rattle.std.proofs.Common.{◌≡◌, ℕ, add-one, ◌+◌, ◌<◌, ◌≤◌, ⊎_elim, List, length, get_or, Option, Some, None, refl, sym, ap, ◌∙◌, subst, arith}
-use Rattle.std.proofs.lemmas.Bool.{cases_lt}
-use Rattle.erm_machine.specs.declared.attempt.Attempt.{Attempt}
+use Rattle.std.proofs.Common.{◌≡◌, ℕ, add-one, ◌+◌, ◌<◌, List, length, get_or, Some, refl, sym, ap, ◌∙◌, subst, arith}
 use Rattle.erm_machine.specs.declared.attempt.Claim.{Claim}
 use Rattle.erm_machine.specs.declared.attempt.Decision.{Decision}
 use Rattle.erm_machine.specs.declared.attempt.Decision.TheVariants.{Commit}
-use Rattle.erm_machine.specs.declared.attempt.OwnCell.{OwnCell}
 use Rattle.erm_machine.specs.declared.part.Part.{Part}
 use Rattle.erm_machine.specs.declared.task.Task.{Task}
 use Rattle.erm_machine.specs.declared.task.Task.TheVariants as task
-use Rattle.erm_machine.specs.Core.{claim_at, own_words}
+use Rattle.erm_machine.specs.Core.{claim_at}
 use Rattle.erm_machine.specs.Seat.{is_decided, with_task}
+use Rattle.erm_model.specs.RowTransaction.{Law}
+use Rattle.erm_rule.specs.declared.view.Book.{Book}
 use Rattle.erm_rule.specs.declared.view.View.{View}
 use Rattle.erm_rule.specs.Hands.{IsKnown}
-use Rattle.erm_rule.specs.Views.{part_in, part_of, with_part, IsView}
+use Rattle.erm_rule.specs.Views.{part_in, part_of, with_part}
 use Rattle.erm_rule.proofs.Parts.{with_part-same}
 use Rattle.erm_rule.proofs.Telling.{changed_here, held_part, part_of-changed}
-use Rattle.erm_cells.specs.Heads.{with_own_head}
-use Rattle.erm_entries.specs.Ends.{HasFreeHead, installed_part, newest_version, next_install}
+use Rattle.erm_entries.specs.Ends.{installed_part, next_install}
 use Rattle.erm_precommit.specs.declared.pre.KeptClaim.{KeptClaim}
 use Rattle.erm_precommit.specs.declared.pre.Pre.{Pre}
 use Rattle.erm_precommit.specs.Pre.{IsClaimKept, IsPre, no_claim_kept}
-use Rattle.erm_ends.specs.Commits.{DidCommit, DidInstallClaim, DidInstallClaims, DidRaiseReads, installed_all, installed_to, IsNextCommit, MayCommit, MayInstallClaims, MayRaiseReads, WasInstalled}
+use Rattle.erm_ends.specs.Commits.{DidCommit, DidInstallClaim, DidInstallClaims, DidRaiseReads, installed_all, installed_to, IsNextCommit, MayCommit, MayInstallClaims, MayRaiseReads}
 use Rattle.erm_ends.specs.Ends.{claims_over, DidClearReads, DidLeave, left_part, MayClearReads, MayLeave}
+use Rattle.erm_ends.specs.Took.{TookBitClears, TookCommit, TookInstalls, TookLeave, TookRaises, WasInstalled}
 use Rattle.erm_ends.proofs.Going.{chain, ending_taken}
+use Rattle.erm_ends.proofs.Installed.{installed_for}
 use Rattle.erm_ends.proofs.Leaves.{decided_ends}
 use Rattle.erm_ends.proofs.Over.{over_length, over_more, over_next}
-
-same_head : (t u : Attempt) (w : Claim) (o : Option OwnCell) → u.stamp ≡ t.stamp → own_words (with_own_head u w o) ≡ own_words (with_own_head t w o)
-same_head t u w None e = refl
-same_head t u w (Some own) e =
-    ap (λ (n : ℕ). record own.words { stamp = n; link = w.version.cell + 1; readers = 0; reader_stamp = n; overwriter = 0; overwriter_succ = 0 }) e
 
 -- so many claims are installed
 abbrev pub come_to : ℕ → Part → Part
@@ -39,7 +34,6 @@ come_to n x = with_task (task.Ends (length x.current.reads) n 0 0) (installed_to
 pub record InstallLoop (v : View) (who n : ℕ) (u : View) : Type 0 where
   pub view_is : u ≡ with_part who (come_to n (part_of v who)) v
   pub known : IsKnown u
-  pub installed : (k : ℕ) → k < n → WasInstalled v who k (part_of v who).current (claim_at (part_of v who).current k)
 
 module _ (v : View) (who : ℕ) (kept : List KeptClaim) (stamp succ : ℕ) (known : IsKnown v) (may : MayInstallClaims kept stamp succ (part_of v who)) where
   abbrev x : Part
@@ -52,7 +46,6 @@ module _ (v : View) (who : ℕ) (kept : List KeptClaim) (stamp succ : ℕ) (know
   installs_start u same = record {
     view_is = same ∙ sym (ap (λ (t : Task). with_part who (with_task t x) v) (sym may.ends) ∙ with_part-same who x v known.in_order has);
     known = subst IsKnown (sym same) known;
-    installed = λ k less. absurd (omega (arith, less));
   }
 
   module _ (u : View) (n : ℕ) (low : n < length kept) (loop : InstallLoop v who n u) where
@@ -95,32 +88,16 @@ module _ (v : View) (who : ℕ) (kept : List KeptClaim) (stamp succ : ℕ) (know
         ∙ ap (λ (m : ℕ). record x { task = task.Ends (length x.current.reads) (n + 1) 0 0; current = record x.current { writes = claims_over m x.current.writes } }) (sym (add-one n))
 
     pub installs_go_on : (w : View) → DidInstallClaim u who claim.oid claim.own w → InstallLoop v who (n + 1) w
-    installs_go_on w did =
-        let is : w ≡ with_part who (come_to (n + 1) x) v = chain v who u w x y installed_part has loop.view_is did.view_is ∙ ap (λ (z : Part). with_part who z v) goes in
-        let words : (newest_version did.known.core claim.oid).words ≡ own_words (with_own_head x.current (claim_at x.current n) (claim_at x.current n).own) =
-        did.words ∙ ap (λ (z : Part). own_words (with_own_head z.current (next_install z) (next_install z).own)) here
-        ∙ ap (λ (w : Claim). own_words (with_own_head y.current w w.own)) next_claim ∙ same_head x.current y.current (claim_at x.current n) (claim_at x.current n).own refl
-        in
-        record {
-          view_is = is;
-          known = did.known;
-          installed = λ k less.
-              ⊎_elim
-              (λ (before : k < n). loop.installed k before)
-              (λ (not_before : n ≤ k).
-              let same : n ≡ k = omega (arith, less, not_before) in
-              subst (λ (m : ℕ). WasInstalled v who m x.current (claim_at x.current m)) same
-              (record {
-                own = claim.own;
-                own_is = is_kept.own;
-                core = did.known.core;
-                sound = did.known.sound;
-                is_view = subst (λ (t : View). IsView t did.known.core) is did.known.is_view;
-                is_head = subst (λ (m : ℕ). HasFreeHead did.known.core m claim.own) is_kept.oid did.is_head;
-                words = subst (λ (m : ℕ). (newest_version did.known.core m).words ≡ own_words (with_own_head x.current (claim_at x.current n) (claim_at x.current n).own)) is_kept.oid words;
-              }))
-              (cases_lt k n);
-        }
+    installs_go_on w did = record {
+      view_is = chain v who u w x y installed_part has loop.view_is did.view_is ∙ ap (λ (z : Part). with_part who z v) goes;
+      known = did.known;
+    }
+
+    -- the install is of the claim at this place
+    pub installed_next : (law : Law) (m e : Book) → WasInstalled law who (part_of u who).current (next_install (part_of u who)) m e → WasInstalled law who x.current (claim_at x.current n) m e
+    installed_next law m e was =
+        installed_for law who x.current y.current (claim_at x.current n) m e refl refl refl
+        (subst (λ (w : Claim). WasInstalled law who y.current w m e) next_claim (subst (λ (z : Part). WasInstalled law who z.current (next_install z) m e) here was))
 
   pub did_install_all : (u : View) (n : ℕ) → n ≡ length kept → InstallLoop v who n u → DidInstallClaims v who u
   did_install_all u n all loop =
@@ -128,7 +105,6 @@ module _ (v : View) (who : ℕ) (kept : List KeptClaim) (stamp succ : ℕ) (know
       record {
         view_is = subst (λ (m : ℕ). u ≡ with_part who (come_to m x) v) same loop.view_is;
         known = loop.known;
-        installed = λ k less. loop.installed k (omega (arith, same, less));
       }
 
 -- THE END
@@ -217,21 +193,20 @@ module _ (v : View) (who : ℕ) (pre : Pre) (kept : IsPre pre (part_of v who)) (
             chain v who w s z after_install (λ y. left_part y.current.decision y) has_z install_view from_w
             ∙ ap (λ (d : Decision). with_part who (left_part d (installed_all z)) v) may.committed
 
-        since : (k : ℕ) → WasInstalled u who k (part_of u who).current (claim_at (part_of u who).current k) → WasInstalled v who k z.current (claim_at z.current k)
-        since k was = subst (λ (y : Part). WasInstalled v who k y.current (claim_at y.current k)) in_u (record {
-          own = was.own;
-          own_is = was.own_is;
-          core = was.core;
-          sound = was.sound;
-          is_view = subst (λ (q : View). IsView q was.core) (chain v who u (with_part who (come_to (k + 1) (part_of u who)) u) z after_raise (come_to (k + 1)) has_z raised.view_is refl) was.is_view;
-          is_head = was.is_head;
-          words = was.words;
-        })
-
         pub did_commit : DidCommit v who s
-        did_commit = record {
-          view_is = committed_view;
-          known = left.known;
-          raised = raised.raised;
-          installed = λ k less. since k (installed.installed k (subst (λ (y : Part). k < length y.current.writes) (sym in_u) less));
+        did_commit = record { view_is = committed_view; known = left.known }
+
+    -- the steps, one after another
+    pub took_commit : (law : Law) (b raising installing clearing e : Book) → b.view ≡ v → TookRaises law who z.current b raising → TookInstalls law who (part_of u who).current raising installing
+        → TookBitClears law who (part_of w who).current installing clearing → TookLeave law who clearing e → TookCommit law who b e
+    took_commit law b raising installing clearing e is_v raises installs clears leaves =
+        let part : z ≡ part_of b.view who = ap (λ (q : View). part_of q who) (sym is_v) in
+        record {
+          raised = raising;
+          raises = subst (λ (y : Part). TookRaises law who y.current b raising) part raises;
+          installed = installing;
+          installs = subst (λ (y : Part). TookInstalls law who y.current raising installing) part (subst (λ (y : Part). TookInstalls law who y.current raising installing) in_u installs);
+          cleared = clearing;
+          clears = subst (λ (y : Part). TookBitClears law who y.current installing clearing) part (subst (λ (y : Part). TookBitClears law who y.current installing clearing) in_w clears);
+          leaves = leaves;
         }

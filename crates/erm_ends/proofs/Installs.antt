@@ -37,13 +37,13 @@ module _ (v : View) (who : ℕ) (kept : KeptClaim) (stamp succ : ℕ) (known : I
   abbrev x : Part
   x = part_of v who
 
-  has : part_in v who ≡ Some x
+  pub has : part_in v who ≡ Some x
   has = held_part v who (ending_taken x.place (decided_ends x.place next.decided))
 
-  abbrev n : ℕ
+  abbrev pub n : ℕ
   n = next.ended
 
-  abbrev claim : Claim
+  abbrev pub claim : Claim
   claim = claim_at x.current n
 
   installing : installs (length x.current.reads) n 0 x ≡ true
@@ -55,11 +55,11 @@ module _ (v : View) (who : ℕ) (kept : KeptClaim) (stamp succ : ℕ) (known : I
       subst (λ (t : Task). MayStoreHead kept.own stamp link x t) (sym next.ends)
       (refl, installing, next.claim.own, sym next.stamp_is, is ∙ ap (λ (m : ℕ). Some m) next.claim.overwritten)
 
-  abbrev new : Claim
+  abbrev pub new : Claim
   new = record claim { own = with_own_head x.current claim claim.own }
 
   -- the part once so many steps of the install are taken
-  abbrev at_step : ℕ → Part
+  abbrev pub at_step : ℕ → Part
   at_step step = record x { task = task.Ends (length x.current.reads) n step next.cleared; current = with_claim n new x.current }
 
   headed : headed_part (place_of kept.own x) x ≡ at_step 6
@@ -67,7 +67,7 @@ module _ (v : View) (who : ℕ) (kept : KeptClaim) (stamp succ : ℕ) (known : I
       ap (λ (m : ℕ). headed_part m x) (known_place v who x has known kept.own n next.claim.own)
       ∙ ap (λ (t : Task). record x { task = after_head t; current = with_claim n new x.current }) next.ends
 
-  new_there : (step : ℕ) → claim_at (at_step step).current n ≡ new
+  pub new_there : (step : ℕ) → claim_at (at_step step).current n ≡ new
   new_there step = claim_set x.current n new next.within
 
   module _ (u : View) (did : DidStoreHead v who kept.own u) where
@@ -100,7 +100,7 @@ module _ (v : View) (who : ℕ) (kept : KeptClaim) (stamp succ : ℕ) (known : I
     mark_succ = ap (λ (z : Part). z.current.succ) here ∙ next.succ_is
 
     module _ (t : View) (mark : DidMark u who t) where
-      is_marked : t ≡ with_part who (at_step 8) v
+      pub is_marked : t ≡ with_part who (at_step 8) v
       is_marked = chain v who u t x (at_step 6) (λ z. with_task (marked z.task) z) has is_headed mark.view_is
 
       there : part_of t who ≡ at_step 8
@@ -127,7 +127,7 @@ module _ (v : View) (who : ℕ) (kept : KeptClaim) (stamp succ : ℕ) (known : I
           ∙ ap (λ (c : Attempt). record x { task = task.Ends (length x.current.reads) (n + 1) 0 next.cleared; current = c }) (claim_again x.current n new (record claim { held = false; own = None }))
           ∙ sym (ap (λ (k : Task). installed_part (record x { task = k })) next.ends)
 
-      next_is : next_install x ≡ claim
+      pub next_is : next_install x ≡ claim
       next_is = ap (λ (k : Task). next_install (record x { task = k })) next.ends
 
       pub did_install : (w : View) → DidInstall t who kept.oid kept.own w → DidInstallClaim v who kept.oid kept.own w

@@ -15,9 +15,11 @@ use Rattle.erm_machine.specs.Life.{has_ended, store_begin, store_state}
 use Rattle.erm_machine.specs.Seat.{end_of, is_active, is_commit, is_decided, with_current, with_task}
 use Rattle.erm_machine.specs.Settling.{adds_version}
 use Rattle.erm_machine.specs.Words.{is_flusher, is_seat, is_session}
+use Rattle.erm_model.specs.RowTransaction.{Law}
+use Rattle.erm_rule.specs.declared.view.Book.{Book}
 use Rattle.erm_rule.specs.declared.view.View.{View}
 use Rattle.erm_rule.specs.Hands.{IsKnown}
-use Rattle.erm_rule.specs.Steps.{Ready, Told}
+use Rattle.erm_rule.specs.Steps.{Booked, Ready, Told}
 use Rattle.erm_rule.specs.Views.{part_in, part_of, with_part}
 use Rattle.erm_rule.proofs.Numbered.{known_after}
 use Rattle.erm_rule.proofs.Telling.{changed_here, held_part, is_held, part_of-changed}
@@ -29,6 +31,7 @@ use Rattle.erm_precommit.specs.declared.pre.KeptRead.{KeptRead}
 use Rattle.erm_precommit.specs.declared.pre.Pre.{Pre}
 use Rattle.erm_precommit.specs.Pre.{IsPre}
 use Rattle.erm_ends.specs.Ends.{AreReads, DidAbort, DidClearReads, DidLeave, DidReleaseClaims, DidSkip, HasCome, left_part, MayAbort, MayClearReads, MayLeave, MayReleaseClaims, MaySkip, released_all}
+use Rattle.erm_ends.specs.Took.{TookAbort, TookBitClears, TookLeave, TookReleases, TookSkip}
 use Rattle.erm_ends.proofs.Going.{chain, come_on, come_part, ending_taken}
 use Rattle.erm_ends.proofs.Over.{over_length}
 
@@ -115,6 +118,23 @@ module _ (v : View) (who : ℕ) (place : (is_decided (part_of v who).place || is
         reads = record { count = kept.count; each = kept.each };
       })
 
+  -- the steps, one after another
+  module _ (law : Law) (b releasing clearing e : Book) (same : b.view ≡ v) (releases : TookReleases law who z.current b releasing) (clears : TookBitClears law who (part_of u who).current releasing clearing) where
+    part_b : z ≡ part_of b.view who
+    part_b = ap (λ (q : View). part_of q who) (sym same)
+
+    all_releases : TookReleases law who (part_of b.view who).current b releasing
+    all_releases = subst (λ (y : Part). TookReleases law who y.current b releasing) part_b releases
+
+    all_clears : TookBitClears law who (part_of b.view who).current releasing clearing
+    all_clears = subst (λ (y : Part). TookBitClears law who y.current releasing clearing) part_b (subst (λ (y : Part). TookBitClears law who y.current releasing clearing) come_z clears)
+
+    pub took_skip : TookLeave law who clearing e → TookSkip law who b e
+    took_skip leaves = record { released = releasing; releases = all_releases; cleared = clearing; clears = all_clears; leaves = leaves }
+
+    pub took_abort : (begin : ℕ) → Booked law clearing who (kind.StoreBegin 0) begin e → TookAbort law who b e
+    took_abort begin leaves = record { released = releasing; releases = all_releases; cleared = clearing; clears = all_clears; begin = begin; leaves = leaves }
+
   -- and after the bits are cleared
   module _ (w : View) (cleared : DidClearReads u who w) where
     abbrev all_ended : ℕ × ℕ × ℕ × ℕ
@@ -138,7 +158,7 @@ module _ (v : View) (who : ℕ) (place : (is_decided (part_of v who).place || is
       skipped = chain v who w t z (with_task come_w.task (released_all z)) (λ y. left_part y.current.decision y) has_z come_w.view_is left.view_is
 
       pub did_skip : DidSkip v who t
-      did_skip = record { view_is = skipped; known = left.known; freed = did.freed }
+      did_skip = record { view_is = skipped; known = left.known }
 
       pub skip_spare : (spare : List ℕ) → SpareIs spare (part_of u who) → SpareIs spare (part_of t who)
       skip_spare spare is =
@@ -169,7 +189,7 @@ module _ (v : View) (who : ℕ) (place : (is_decided (part_of v who).place || is
         aborts = told_next v who (kind.StoreBegin 0) found w t y z (left_part Abort (released_all z)) has_z come_w.view_is told (abort_at z.place active session)
 
         pub did_abort : DidAbort v who t
-        did_abort = record { view_is = aborts; known = known_after w who (kind.StoreBegin 0) found t told; freed = did.freed }
+        did_abort = record { view_is = aborts; known = known_after w who (kind.StoreBegin 0) found t told }
 
         pub abort_spare : (spare : List ℕ) → SpareIs spare (part_of u who) → SpareIs spare (part_of t who)
         abort_spare spare is =

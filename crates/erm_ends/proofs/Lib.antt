@@ -1,8 +1,12 @@
 pub mod Clears
 pub mod Commits
+pub mod Freed
 pub mod Going
+pub mod Installed
 pub mod Installs
 pub mod Leaves
+pub mod Left
 pub mod Over
 pub mod Raises
 pub mod Releases
+pub mod Took

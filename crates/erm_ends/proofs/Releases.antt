@@ -1,7 +1,7 @@
 -- Claims are released one after another.
-use Rattle.std.proofs.Common.{◌≡◌, ℕ, suc, add-one, ◌+◌, ◌<◌, ◌≤◌, true, List, [], ◌∷◌, ◌++◌, length, get_or, map, Option, Some, None, is_some, unwrap_or, refl, sym, ap, ◌∙◌, subst, ⊎_elim, arith}
+use Rattle.std.proofs.Common.{◌≡◌, ℕ, suc, add-one, ◌+◌, ◌<◌, true, List, [], ◌∷◌, ◌++◌, length, get_or, map, Option, Some, None, is_some, unwrap_or, refl, sym, ap, ◌∙◌, subst, arith}
 use Rattle.std.specs.Prelude.{IsSome}
-use Rattle.std.proofs.lemmas.Bool.{cases_lt, eqb-true}
+use Rattle.std.proofs.lemmas.Bool.{eqb-true}
 use Rattle.erm_machine.specs.declared.attempt.Claim.{Claim}
 use Rattle.erm_machine.specs.declared.attempt.OwnCell.{OwnCell}
 use Rattle.erm_machine.specs.declared.limits.TheConstants.{OBJECT_LIMIT}
@@ -10,15 +10,18 @@ use Rattle.erm_machine.specs.declared.task.Task.TheVariants as task
 use Rattle.erm_machine.specs.Core.{claim_at}
 use Rattle.erm_machine.specs.Seat.{cells_of, is_own, with_task}
 use Rattle.erm_machine.specs.Settling.{given_back}
+use Rattle.erm_model.specs.RowTransaction.{Law}
+use Rattle.erm_rule.specs.declared.view.Book.{Book}
 use Rattle.erm_rule.specs.declared.view.View.{View}
 use Rattle.erm_rule.specs.Hands.{IsKnown}
-use Rattle.erm_rule.specs.Views.{part_in, part_of, with_part, IsView}
+use Rattle.erm_rule.specs.Views.{part_in, part_of, with_part}
 use Rattle.erm_rule.proofs.Telling.{changed_here, held_part, is_held, part_of-changed}
 use Rattle.erm_cells.specs.Spare.{SpareIs, spare_cells}
 use Rattle.erm_entries.specs.Ends.{DidRelease, end_from, IsNextRelease, next_release, released_part}
 use Rattle.erm_precommit.specs.declared.pre.KeptClaim.{KeptClaim}
 use Rattle.erm_precommit.specs.Pre.{IsClaimKept, no_claim_kept}
-use Rattle.erm_ends.specs.Ends.{cells_over, claims_over, DidReleaseClaims, HasCome, MayReleaseClaims, released_to, WasFreed}
+use Rattle.erm_ends.specs.Ends.{cells_over, claims_over, DidReleaseClaims, HasCome, MayReleaseClaims, released_to}
+use Rattle.erm_ends.specs.Took.{WasFreed}
 use Rattle.erm_ends.proofs.Going.{chain, claim_object, come_part, ending_taken, starts_there}
 use Rattle.erm_ends.proofs.Over.{append_twice, cells_mapped, cells_more, over_length, over_more, over_next}
 
@@ -54,7 +57,6 @@ module _ (v : View) (who oid head : ℕ) (next : IsNextRelease (part_of v who) o
 pub record ReleaseLoop (v : View) (who n : ℕ) (spare : List ℕ) (u : View) : Type 0 where
   pub come : HasCome v who (released_to n (part_of v who)) (0, n, 0, 0) u
   pub spare_is : SpareIs spare (part_of u who)
-  pub freed : (k : ℕ) → k < n → WasFreed v who k (claim_at (part_of v who).current k).version
 
 append_none : (xs : List OwnCell) → xs ++ [] ≡ xs
 append_none [] = refl
@@ -76,7 +78,6 @@ module _ (v : View) (who : ℕ) (kept : List KeptClaim) (known : IsKnown v) (may
       (record {
         come = subst (λ (y : Part). HasCome v who y (0, 0, 0, 0) v) (sym none_released) (starts_there v who (0, 0, 0, 0) has known may.ends);
         spare_is = spares;
-        freed = λ k less. absurd (omega (arith, less));
       })
 
   module _ (u : View) (n : ℕ) (spare : List ℕ) (low : n < length kept) (loop : ReleaseLoop v who n spare u) where
@@ -138,25 +139,17 @@ module _ (v : View) (who : ℕ) (kept : List KeptClaim) (known : IsKnown v) (may
         record {
           come = record { task = task.Ends 0 (n + 1) 0 0; ends = refl; view_is = is; known = did.known };
           spare_is = spares;
-          freed = λ k less.
-              ⊎_elim
-              (λ (before : k < n). loop.freed k before)
-              (λ (not_before : n ≤ k).
-              let same : n ≡ k = omega (arith, less, not_before) in
-              subst (λ (m : ℕ). WasFreed v who m (claim_at x.current m).version) same
-              (record {
-                core = did.known.core;
-                sound = did.known.sound;
-                is_view = subst (λ (t : View). IsView t did.known.core) is did.known.is_view;
-                is_head = rw (sym is_kept.oid, sym is_kept.overwritten) did.is_head;
-              }))
-              (cases_lt k n);
         }
+
+    -- the release is of the claim at this place
+    pub freed_next : (law : Law) (m e : Book) → WasFreed law who (part_of u who).current.number (next_release (part_of u who)).version m e → WasFreed law who x.current.number (claim_at x.current n).version m e
+    freed_next law m e was =
+        subst (λ (w : Claim). WasFreed law who x.current.number w.version m e) next_is
+        (subst (λ (z : Part). WasFreed law who z.current.number (next_release z).version m e) here was)
 
   pub did_release_all : (u : View) (n : ℕ) (spare : List ℕ) → n ≡ length kept → ReleaseLoop v who n spare u → DidReleaseClaims v who u
   did_release_all u n spare all loop =
       let same : n ≡ length x.current.writes = all ∙ may.claims.count in
       record {
         come = subst (λ (m : ℕ). HasCome v who (released_to m x) (0, m, 0, 0) u) same loop.come;
-        freed = λ k less. loop.freed k (omega (arith, same, less));
       }

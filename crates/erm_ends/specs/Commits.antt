@@ -1,23 +1,18 @@
 -- What the end of a commit asks of a seat's part, and what it leaves of a pass's view.
-use Rattle.std.specs.Prelude.{◌≡◌, ℕ, ◌+◌, ◌<◌, ◌≤◌, true, List, length}
-use Rattle.erm_machine.specs.declared.attempt.Attempt.{Attempt}
-use Rattle.erm_machine.specs.declared.attempt.Claim.{Claim}
+use Rattle.std.specs.Prelude.{◌≡◌, ℕ, ◌<◌, true, List, length}
 use Rattle.erm_machine.specs.declared.attempt.Decision.TheVariants.{Commit}
 use Rattle.erm_machine.specs.declared.part.Part.{Part}
 use Rattle.erm_machine.specs.declared.task.Task.TheVariants as task
-use Rattle.erm_machine.specs.declared.version.VersionAt.{VersionAt}
-use Rattle.erm_machine.specs.Core.{Core, claim_at, own_words}
-use Rattle.erm_machine.specs.Seat.{is_decided, is_own, read_at, with_task}
-use Rattle.erm_machine.specs.Sound.{Sound}
+use Rattle.erm_machine.specs.Core.{claim_at, own_words}
+use Rattle.erm_machine.specs.Seat.{is_decided, with_task}
 use Rattle.erm_cells.specs.Heads.{with_own_head}
 use Rattle.erm_entries.specs.Ends.{HasFreeHead, installed_part, newest_version, next_install}
 use Rattle.erm_precommit.specs.declared.pre.KeptClaim.{KeptClaim}
 use Rattle.erm_precommit.specs.declared.pre.KeptRead.{KeptRead}
 use Rattle.erm_precommit.specs.Pre.{IsClaimKept}
-use Rattle.erm_readers.specs.Calls.{words_of}
 use Rattle.erm_rule.specs.declared.view.View.{View}
 use Rattle.erm_rule.specs.Hands.{IsKnown}
-use Rattle.erm_rule.specs.Views.{part_of, with_part, IsView}
+use Rattle.erm_rule.specs.Views.{part_of, with_part}
 use Rattle.erm_ends.specs.Ends.{AreClaims, AreReads, claims_over, left_part}
 
 -- The transaction is committed with this stamp, its end may begin, and these are all versions that it has read.
@@ -28,19 +23,10 @@ pub record MayRaiseReads (kept : List KeptRead) (stamp : ℕ) (x : Part) : Type 
   pub reads : AreReads kept x.current
   pub stamp_is : x.current.stamp ≡ stamp
 
--- In some sound state with the seat's part as the raise at its read at this place left it, the version's reader stamp was at least this
--- stamp.
-pub record WasRaised (v : View) (who k : ℕ) (u : VersionAt) (stamp : ℕ) : Type 0 where
-  pub core : Core
-  pub sound : Sound core
-  pub is_view : IsView (with_part who (with_task (task.Ends (k + 1) 0 0 0) (part_of v who)) v) core
-  pub raised : stamp ≤ (words_of core u).reader_stamp
-
 -- all reader stamps are raised
 pub record DidRaiseReads (v : View) (who : ℕ) (w : View) : Type 0 where
   pub view_is : w ≡ with_part who (with_task (task.Ends (length (part_of v who).current.reads) 0 0 0) (part_of v who)) v
   pub known : IsKnown w
-  pub raised : (k : ℕ) → k < length (part_of v who).current.reads → WasRaised v who k (read_at (part_of v who).current k).version (part_of v who).current.stamp
 
 -- The transaction is committed with this stamp and this successor stamp, all reader stamps are raised, and this is the next claim to be
 -- installed.
@@ -80,22 +66,10 @@ installed_to n x = record x { current = record x.current { writes = claims_over 
 abbrev pub installed_all : Part → Part
 installed_all x = installed_to (length x.current.writes) x
 
--- In some sound state with the seat's part as the install of its claim at this place left it, the claim's own cell was the entry of its
--- object, without owner, and the newest version's, with the claim's row, and the other words of a new version of the transaction.
-pub record WasInstalled (v : View) (who k : ℕ) (t : Attempt) (w : Claim) : Type 0 where
-  pub own : ℕ
-  pub own_is : is_own own w.own ≡ true
-  pub core : Core
-  pub sound : Sound core
-  pub is_view : IsView (with_part who (with_task (task.Ends (length (part_of v who).current.reads) (k + 1) 0 0) (installed_to (k + 1) (part_of v who))) v) core
-  pub is_head : HasFreeHead core w.version.oid own
-  pub words : (newest_version core w.version.oid).words ≡ own_words (with_own_head t w w.own)
-
 -- all claims are installed
 pub record DidInstallClaims (v : View) (who : ℕ) (w : View) : Type 0 where
   pub view_is : w ≡ with_part who (with_task (task.Ends (length (part_of v who).current.reads) (length (part_of v who).current.writes) 0 0) (installed_all (part_of v who))) v
   pub known : IsKnown w
-  pub installed : (k : ℕ) → k < length (part_of v who).current.writes → WasInstalled v who k (part_of v who).current (claim_at (part_of v who).current k)
 
 -- END. The transaction was decided as a commit, and its end may begin.
 pub record MayCommit (x : Part) : Type 0 where
@@ -103,10 +77,7 @@ pub record MayCommit (x : Part) : Type 0 where
   pub committed : x.current.decision ≡ Commit
   pub ends : x.task ≡ task.Ends 0 0 0 0
 
--- The transaction is over, as a commit: the reader stamp of each version that it read was raised to at least its stamp, and each of its
--- claims installed.
+-- The transaction is over, as a commit.
 pub record DidCommit (v : View) (who : ℕ) (w : View) : Type 0 where
   pub view_is : w ≡ with_part who (left_part Commit (installed_all (part_of v who))) v
   pub known : IsKnown w
-  pub raised : (k : ℕ) → k < length (part_of v who).current.reads → WasRaised v who k (read_at (part_of v who).current k).version (part_of v who).current.stamp
-  pub installed : (k : ℕ) → k < length (part_of v who).current.writes → WasInstalled v who k (part_of v who).current (claim_at (part_of v who).current k)

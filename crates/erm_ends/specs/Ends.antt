@@ -1,5 +1,5 @@
 -- What the ends of transactions ask of a seat's part, and what they leave of a pass's view.
-use Rattle.std.specs.Prelude.{◌≡◌, ℕ, zero, suc, ◌+◌, ◌<◌, true, false, ◌||◌, List, [], ◌∷◌, ◌++◌, length, slice_index_or, None, Some}
+use Rattle.std.specs.Prelude.{◌≡◌, ℕ, zero, suc, ◌<◌, true, false, ◌||◌, List, [], ◌∷◌, ◌++◌, length, slice_index_or, None, Some}
 use Rattle.erm_machine.specs.declared.attempt.Attempt.{Attempt}
 use Rattle.erm_machine.specs.declared.attempt.Claim.{Claim}
 use Rattle.erm_machine.specs.declared.attempt.Decision.{Decision}
@@ -9,18 +9,15 @@ use Rattle.erm_machine.specs.declared.part.Part.{Part}
 use Rattle.erm_machine.specs.declared.place.Place.TheVariants.{Idle}
 use Rattle.erm_machine.specs.declared.task.Task.{Task}
 use Rattle.erm_machine.specs.declared.task.Task.TheVariants as task
-use Rattle.erm_machine.specs.declared.version.VersionAt.{VersionAt}
-use Rattle.erm_machine.specs.Core.{Core, claim_at}
+use Rattle.erm_machine.specs.Core.{claim_at}
 use Rattle.erm_machine.specs.Seat.{cells_of, end_of, is_active, is_decided, over, read_at, with_task}
 use Rattle.erm_machine.specs.Settling.{adds_version}
-use Rattle.erm_machine.specs.Sound.{Sound}
-use Rattle.erm_entries.specs.Ends.{HasFreeHead}
 use Rattle.erm_precommit.specs.declared.pre.KeptClaim.{KeptClaim}
 use Rattle.erm_precommit.specs.declared.pre.KeptRead.{KeptRead}
 use Rattle.erm_precommit.specs.Pre.{IsClaimKept, IsReadKept, no_claim_kept, no_read_kept}
 use Rattle.erm_rule.specs.declared.view.View.{View}
 use Rattle.erm_rule.specs.Hands.{IsKnown}
-use Rattle.erm_rule.specs.Views.{part_of, with_part, IsView}
+use Rattle.erm_rule.specs.Views.{part_of, with_part}
 
 -- these are the versions that the transaction has read, in order
 pub record AreReads (kept : List KeptRead) (t : Attempt) : Type 0 where
@@ -63,14 +60,6 @@ pub record HasCome (v : View) (who : ℕ) (y : Part) (e : ℕ × ℕ × ℕ × �
   pub view_is : w ≡ with_part who (with_task task y) v
   pub known : IsKnown w
 
--- In some sound state with the seat's part as the release of its claim at this place left it, the version's cell was the entry of its
--- object, without owner, and the newest version's.
-pub record WasFreed (v : View) (who k : ℕ) (u : VersionAt) : Type 0 where
-  pub core : Core
-  pub sound : Sound core
-  pub is_view : IsView (with_part who (with_task (task.Ends 0 (k + 1) 0 0) (released_to (k + 1) (part_of v who))) v) core
-  pub is_head : HasFreeHead core u.oid u.cell
-
 -- The end of the claims may begin: these are all claims of a transaction that was excluded or is active.
 pub record MayReleaseClaims (kept : List KeptClaim) (x : Part) : Type 0 where
   pub excluded : adds_version x ≡ false
@@ -81,7 +70,6 @@ pub record MayReleaseClaims (kept : List KeptClaim) (x : Part) : Type 0 where
 -- all claims were released
 pub record DidReleaseClaims (v : View) (who : ℕ) (w : View) : Type 0 where
   pub come : HasCome v who (released_all (part_of v who)) (0, length (part_of v who).current.writes, 0, 0) w
-  pub freed : (k : ℕ) → k < length (part_of v who).current.writes → WasFreed v who k (claim_at (part_of v who).current k).version
 
 -- All claims are over, and a committed transaction has raised all reader stamps: the own bits may be cleared at these versions, which
 -- are all that were read.
@@ -126,7 +114,6 @@ pub record MayAbort (reads : List KeptRead) (claims : List KeptClaim) (x : Part)
 pub record DidAbort (v : View) (who : ℕ) (w : View) : Type 0 where
   pub view_is : w ≡ with_part who (left_part Abort (released_all (part_of v who))) v
   pub known : IsKnown w
-  pub freed : (k : ℕ) → k < length (part_of v who).current.writes → WasFreed v who k (claim_at (part_of v who).current k).version
 
 -- END. The transaction was decided and excluded, and its end may begin.
 pub record MaySkip (x : Part) : Type 0 where
@@ -138,4 +125,3 @@ pub record MaySkip (x : Part) : Type 0 where
 pub record DidSkip (v : View) (who : ℕ) (w : View) : Type 0 where
   pub view_is : w ≡ with_part who (left_part (part_of v who).current.decision (released_all (part_of v who))) v
   pub known : IsKnown w
-  pub freed : (k : ℕ) → k < length (part_of v who).current.writes → WasFreed v who k (claim_at (part_of v who).current k).version

@@ -9,6 +9,7 @@ ghost use Rattle.erm_rule.specs.Views.{view, part_of};
 ghost use Rattle.erm_cells.specs.Took.{IsEndStep};
 ghost use Rattle.erm_rule.specs.Books.{book};
 ghost use Rattle.erm_rule.specs.Went.{Went};
+ghost use Rattle.erm_ends.specs.Took.{TookAbort};
 
 use crate::clearing::clear_reads;
 use crate::releasing::release_claims;
@@ -36,6 +37,7 @@ pub fn abort<L: RowLaw>(
     ensures aborted { DidAbort (view p.old) who (view p.new) }
     ensures spare { SpareIs spare.new (part_of (view p.new) who) }
     ensures ends { Went L.law who IsEndStep (book p.old) (book p.new) }
+    ensures took { TookAbort L.law who (book p.old) (book p.new) }
 {
     release_claims(t, p, who, spare, claims);
     clear_reads(t, p, who, reads);

@@ -5,9 +5,8 @@ ghost use Rattle.erm_machine.specs.Words.{is_session};
 ghost use Rattle.erm_rule.specs.Hands.{IsKnown};
 ghost use Rattle.erm_rule.specs.Steps.{Fits};
 ghost use Rattle.erm_rule.specs.Views.{view, part_of};
-ghost use Rattle.erm_cells.specs.Took.{IsEndStep};
 ghost use Rattle.erm_rule.specs.Books.{book};
-ghost use Rattle.erm_rule.specs.Went.{Went};
+ghost use Rattle.erm_ends.specs.Took.{TookBitClears};
 
 use erm_model::{RowLaw, Seat};
 use erm_precommit::KeptRead;
@@ -22,7 +21,7 @@ pub(crate) fn clear_reads<L: RowLaw>(t: &Table<L>, p: &mut Pass, who: Seat, read
     requires may { MayClearReads reads.now (part_of (view p.old) who) }
     ensures fits { Fits t.now.words.shared.table_id p.new }
     ensures cleared { DidClearReads (view p.old) who (view p.new) }
-    ensures ends { Went L.law who IsEndStep (book p.old) (book p.new) }
+    ensures took { TookBitClears L.law who (part_of (view p.old) who).current (book p.old) (book p.new) }
 {
     for k in 0..reads.len() {
         unregister(t, p, who, reads[k].cell);

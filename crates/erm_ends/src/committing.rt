@@ -9,6 +9,7 @@ ghost use Rattle.erm_rule.specs.Views.{view, part_of};
 ghost use Rattle.erm_cells.specs.Took.{IsEndStep};
 ghost use Rattle.erm_rule.specs.Books.{book};
 ghost use Rattle.erm_rule.specs.Went.{Went};
+ghost use Rattle.erm_ends.specs.Took.{TookCommit};
 
 use crate::clearing::clear_reads;
 use crate::installing::install_claims;
@@ -29,6 +30,7 @@ pub fn commit_end<L: RowLaw>(pre: &Pre, t: &Table<L>, p: &mut Pass, who: Seat)
     ensures fits { Fits t.now.words.shared.table_id p.new }
     ensures committed { DidCommit (view p.old) who (view p.new) }
     ensures ends { Went L.law who IsEndStep (book p.old) (book p.new) }
+    ensures took { TookCommit L.law who (book p.old) (book p.new) }
 {
     raise_reads(t, p, who, pre.reads.as_slice(), pre.stamp);
     install_claims(t, p, who, pre.claims.as_slice(), pre.stamp, pre.succ);

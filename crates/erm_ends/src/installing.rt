@@ -1,11 +1,11 @@
 //! A committed transaction installs its claims.
 ghost use Rattle.erm_ends.specs.Commits.{DidInstallClaim, DidInstallClaims, IsNextCommit, MayInstallClaims};
+ghost use Rattle.erm_entries.specs.Ends.{next_install};
 ghost use Rattle.erm_rule.specs.Hands.{IsKnown};
 ghost use Rattle.erm_rule.specs.Steps.{Fits};
 ghost use Rattle.erm_rule.specs.Views.{view, part_of};
-ghost use Rattle.erm_cells.specs.Took.{IsEndStep};
 ghost use Rattle.erm_rule.specs.Books.{book};
-ghost use Rattle.erm_rule.specs.Went.{Went};
+ghost use Rattle.erm_ends.specs.Took.{TookInstalls, WasInstalled};
 
 use erm_cells::store_head;
 use erm_entries::install;
@@ -28,7 +28,7 @@ fn install_claim<L: RowLaw>(
     requires next { IsNextCommit claim stamp succ (part_of (view p.old) who) }
     ensures fits { Fits t.now.words.shared.table_id p.new }
     ensures installed { DidInstallClaim (view p.old) who claim.oid claim.own (view p.new) }
-    ensures ends { Went L.law who IsEndStep (book p.old) (book p.new) }
+    ensures was { WasInstalled L.law who (part_of (view p.old) who).current (next_install (part_of (view p.old) who)) (book p.old) (book p.new) }
 {
     store_head(t, p, who, claim.own, stamp, Some(claim.overwritten));
     mark_overwritten(t, p, who, claim.overwritten, stamp, succ);
@@ -49,7 +49,7 @@ pub(crate) fn install_claims<L: RowLaw>(
     requires may { MayInstallClaims claims.now stamp succ (part_of (view p.old) who) }
     ensures fits { Fits t.now.words.shared.table_id p.new }
     ensures installed { DidInstallClaims (view p.old) who (view p.new) }
-    ensures ends { Went L.law who IsEndStep (book p.old) (book p.new) }
+    ensures took { TookInstalls L.law who (part_of (view p.old) who).current (book p.old) (book p.new) }
 {
     for k in 0..claims.len() {
         install_claim(t, p, who, claims[k], stamp, succ);

@@ -4,9 +4,8 @@ ghost use Rattle.erm_ends.specs.Ends.{DidLeave, MayLeave};
 ghost use Rattle.erm_machine.specs.Words.{is_session};
 ghost use Rattle.erm_rule.specs.Steps.{Fits};
 ghost use Rattle.erm_rule.specs.Views.{view, part_of};
-ghost use Rattle.erm_cells.specs.Took.{IsEndStep};
 ghost use Rattle.erm_rule.specs.Books.{book};
-ghost use Rattle.erm_rule.specs.Went.{Went};
+ghost use Rattle.erm_ends.specs.Took.{TookLeave};
 
 use erm_model::{RowLaw, Seat};
 use erm_rule::{Pass, Table, store_begin, store_state};
@@ -18,7 +17,7 @@ pub(crate) fn leave<L: RowLaw>(t: &Table<L>, p: &mut Pass, who: Seat)
     requires may { MayLeave (part_of (view p.old) who) }
     ensures fits { Fits t.now.words.shared.table_id p.new }
     ensures left { DidLeave (view p.old) who (view p.new) }
-    ensures ends { Went L.law who IsEndStep (book p.old) (book p.new) }
+    ensures took { TookLeave L.law who (book p.old) (book p.new) }
 {
     store_begin(t, p, who, 0);
     store_state(t, p, who, 0);

@@ -3,9 +3,8 @@ ghost use Rattle.erm_ends.specs.Commits.{DidRaiseReads, MayRaiseReads};
 ghost use Rattle.erm_rule.specs.Hands.{IsKnown};
 ghost use Rattle.erm_rule.specs.Steps.{Fits};
 ghost use Rattle.erm_rule.specs.Views.{view, part_of};
-ghost use Rattle.erm_cells.specs.Took.{IsEndStep};
 ghost use Rattle.erm_rule.specs.Books.{book};
-ghost use Rattle.erm_rule.specs.Went.{Went};
+ghost use Rattle.erm_ends.specs.Took.{TookRaises};
 
 use erm_model::{RowLaw, Seat, Stamp};
 use erm_precommit::KeptRead;
@@ -25,7 +24,7 @@ pub(crate) fn raise_reads<L: RowLaw>(
     requires may { MayRaiseReads reads.now stamp (part_of (view p.old) who) }
     ensures fits { Fits t.now.words.shared.table_id p.new }
     ensures raised { DidRaiseReads (view p.old) who (view p.new) }
-    ensures ends { Went L.law who IsEndStep (book p.old) (book p.new) }
+    ensures took { TookRaises L.law who (part_of (view p.old) who).current (book p.old) (book p.new) }
 {
     for k in 0..reads.len() {
         raise(t, p, who, reads[k].cell, stamp);

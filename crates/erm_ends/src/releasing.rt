@@ -7,9 +7,8 @@ ghost use Rattle.erm_machine.specs.Seat.{is_own};
 ghost use Rattle.erm_rule.specs.Hands.{IsKnown};
 ghost use Rattle.erm_rule.specs.Steps.{Fits};
 ghost use Rattle.erm_rule.specs.Views.{view, part_of};
-ghost use Rattle.erm_cells.specs.Took.{IsEndStep};
 ghost use Rattle.erm_rule.specs.Books.{book};
-ghost use Rattle.erm_rule.specs.Went.{Went};
+ghost use Rattle.erm_ends.specs.Took.{TookReleases, WasFreed};
 
 use erm_cells::{Spare, give_back};
 use erm_entries::release;
@@ -33,7 +32,7 @@ fn release_claim<L: RowLaw>(
     ensures fits { Fits t.now.words.shared.table_id p.new }
     ensures released { DidRelease (view p.old) who claim.oid claim.overwritten (view p.new) }
     ensures spare { SpareIs spare.new (part_of (view p.new) who) }
-    ensures ends { Went L.law who IsEndStep (book p.old) (book p.new) }
+    ensures freed { WasFreed L.law who (part_of (view p.old) who).current.number (next_release (part_of (view p.old) who)).version (book p.old) (book p.new) }
 {
     release(t, p, who, claim.oid, claim.overwritten);
     give_back(t, p, who, spare, claim.own);
@@ -54,7 +53,7 @@ pub(crate) fn release_claims<L: RowLaw>(
     ensures fits { Fits t.now.words.shared.table_id p.new }
     ensures released { DidReleaseClaims (view p.old) who (view p.new) }
     ensures spare { SpareIs spare.new (part_of (view p.new) who) }
-    ensures ends { Went L.law who IsEndStep (book p.old) (book p.new) }
+    ensures took { TookReleases L.law who (part_of (view p.old) who).current (book p.old) (book p.new) }
 {
     for k in 0..claims.len() {
         release_claim(t, p, who, spare, claims[k]);

@@ -10,6 +10,7 @@ ghost use Rattle.erm_rule.specs.Views.{view, part_of};
 ghost use Rattle.erm_cells.specs.Took.{IsEndStep};
 ghost use Rattle.erm_rule.specs.Books.{book};
 ghost use Rattle.erm_rule.specs.Went.{Went};
+ghost use Rattle.erm_ends.specs.Took.{TookSkip};
 
 use crate::clearing::clear_reads;
 use crate::leaving::leave;
@@ -32,6 +33,7 @@ pub fn skip_end<L: RowLaw>(pre: &Pre, t: &Table<L>, p: &mut Pass, who: Seat, spa
     ensures skipped { DidSkip (view p.old) who (view p.new) }
     ensures spare { SpareIs spare.new (part_of (view p.new) who) }
     ensures ends { Went L.law who IsEndStep (book p.old) (book p.new) }
+    ensures took { TookSkip L.law who (book p.old) (book p.new) }
 {
     release_claims(t, p, who, spare, pre.claims.as_slice());
     clear_reads(t, p, who, pre.reads.as_slice());

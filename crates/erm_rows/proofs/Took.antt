@@ -8,9 +8,10 @@ use Rattle.erm_machine.specs.declared.limits.TheConstants.{ANNOUNCERS, WRITE_LIM
 use Rattle.erm_machine.specs.declared.version.CellWord.TheVariants.{Stamp}
 use Rattle.erm_rule.specs.declared.view.Book.{Book}
 use Rattle.erm_rule.specs.declared.view.View.{View}
+use Rattle.erm_rule.specs.Books.{IsAfter}
 use Rattle.erm_rule.specs.Views.{part_of}
 use Rattle.erm_rule.specs.Went.{Took, Went, IsLoadStep, IsStillStep}
-use Rattle.erm_rule.proofs.Wents.{loads_still, went_more, went_none, went_one, went_step}
+use Rattle.erm_rule.proofs.Wents.{loads_still, went_goes, went_more, went_none, went_one, went_step}
 use Rattle.erm_cells.proofs.Took.{no_count_still}
 use Rattle.erm_cut.proofs.Took.{cut_still, horizon_loads_alone}
 use Rattle.erm_entries.specs.declared.entries.Entry.{Entry}
@@ -92,7 +93,11 @@ entry_still law who oid head b e took =
 
 cut_chain_still : (law : Law) (who count : ℕ) (b e : Book) → TookCutChain law who count b e → Went law who IsStillStep b e
 cut_chain_still law who count b e took =
-    went_more law who IsStillStep b took.at e (loads_still law who b took.at (horizon_loads_alone law who ANNOUNCERS took.horizon b took.at took.found)) (cut_still law who took.at e took.cut)
+    went_more law who IsStillStep b took.at e (loads_still law who b took.at (horizon_loads_alone law who ANNOUNCERS took.horizon b took.at took.found)) (cut_still law who count took.at e took.cut)
+
+-- the book after both comes after the one before
+pub tidied_goes : (law : Law) (who oid head count : ℕ) (b m e : Book) → TookEntry law who oid head b m → TookCutChain law who count m e → IsAfter b e
+tidied_goes law who oid head count b m e entry cut = went_goes law who IsStillStep b e (went_more law who IsStillStep b m e (entry_still law who oid head b m entry) (cut_chain_still law who count m e cut))
 
 pub claim_still : (law : Law) (who oid count : ℕ) (b e : Book) → TookClaim law who oid count b e → Went law who IsStillStep b e
 claim_still law who oid count b e took =

@@ -112,7 +112,7 @@ pub record TookCutChain (law : Law) (who count : ℕ) (b e : Book) : Type 0 wher
   pub horizon : ℕ
   pub at : Book
   pub found : TookHorizon law who ANNOUNCERS horizon b at
-  pub cut : TookCut law who at e
+  pub cut : TookCut law who count at e
   pub did : DidCutChain b.view who count e.view
 
 -- CLAIM. The entry was taken, and the chain cut, by which so many cells became spare ones; then the claim got its cell.

@@ -9,7 +9,7 @@ ghost use Rattle.erm_machine.specs.Seat.{is_active};
 ghost use Rattle.erm_machine.specs.Words.{is_session};
 ghost use Rattle.erm_rows.specs.Active.{IsActive, closed_window};
 ghost use Rattle.erm_rows.specs.Claims.{DidClaim, DidCutChain, DidFill, DidFindNoCell, DidNotClaim, IsClaimedHead, TellsCount, WasCells};
-ghost use Rattle.erm_rule.specs.Books.{IsAfter, book};
+ghost use Rattle.erm_rule.specs.Books.{book};
 ghost use Rattle.erm_rule.specs.Hands.{IsKnown};
 ghost use Rattle.erm_rule.specs.Steps.{Fits};
 ghost use Rattle.erm_rule.specs.Views.{view, part_of};
@@ -62,7 +62,6 @@ pub fn cut_chain<L: RowLaw>(
     ensures fits { Fits t.now.words.shared.table_id p.new }
     ensures cut { DidCutChain (view p.old) who result (view p.new) }
     ensures spare { SpareIs spare.new (part_of (view p.new) who) }
-    ensures goes { IsAfter (book p.old) (book p.new) }
     ensures took { TookCutChain L.law who result (book p.old) (book p.new) }
 {
     let bound = horizon(t, p, who);

@@ -8,7 +8,7 @@ ghost use Rattle.erm_machine.specs.Words.{head_of, is_session};
 ghost use Rattle.erm_model.specs.declared.row_stop.RowStop.TheVariants.{Owned};
 ghost use Rattle.erm_rows.specs.Active.{IsActive};
 ghost use Rattle.erm_rows.specs.Claims.{DidFindFree, DidNotExchange, DidNotFind, DidNotTake, DidTakeEntry};
-ghost use Rattle.erm_rule.specs.Books.{IsAfter, book};
+ghost use Rattle.erm_rule.specs.Books.{book};
 ghost use Rattle.erm_rule.specs.Steps.{Fits, Booked};
 ghost use Rattle.erm_rule.specs.Views.{view, part_of};
 ghost use Rattle.erm_machine.specs.declared.event.Kind.TheVariants.{Claim};
@@ -40,7 +40,6 @@ fn find_free<L: RowLaw>(
     ensures found { IfOk result (λ entry. DidFindFree (view p.old) who oid (word_of entry) (view p.new)) }
     ensures spelled { IfOk result (λ entry. entry_of (word_of entry) ≡ entry) }
     ensures refused { IfErr result (λ stop. DidNotFind (view p.old) who oid stop (view p.new)) }
-    ensures goes { IsAfter (book p.old) (book p.new) }
     ensures took { IfOk result (λ entry. TookFree L.law who oid (word_of entry) (book p.old) (book p.new)) }
     ensures took_none { IfErr result (λ stop. TookNotFree L.law who oid stop (book p.old) (book p.new)) }
 {
@@ -86,7 +85,6 @@ fn exchange<L: RowLaw>(
     ensures fits { Fits t.now.words.shared.table_id p.new }
     ensures taken { IfOk result (λ _. DidTake (view p.old) who oid (word_of seen.now) (view p.new)) }
     ensures lost { IfErr result (λ stop. DidNotExchange (view p.old) who oid (word_of seen.now) stop (view p.new)) }
-    ensures goes { IsAfter (book p.old) (book p.new) }
     ensures took { IfOk result (λ _. Booked L.law (book p.old) who (Claim oid (word_of seen.now) number) (word_of seen.now) (book p.new)) }
     ensures took_other { IfErr result (λ stop. TookOther L.law who oid (word_of seen.now) number stop (book p.old) (book p.new)) }
 {
@@ -124,7 +122,6 @@ pub fn take_entry<L: RowLaw>(
     ensures room { IfOk result (λ head. length txn.now.claims.items < WRITE_LIMIT) }
     ensures refused { IfErr result (λ stop. DidNotTake (view p.old) who oid stop (view p.new)) }
     ensures kept { IfErr result (λ stop. IsActive txn.now (part_of (view p.new) who)) }
-    ensures goes { IsAfter (book p.old) (book p.new) }
     ensures took { IfOk result (λ head. TookEntry L.law who oid head (book p.old) (book p.new)) }
     ensures took_none { IfErr result (λ stop. TookNoEntry L.law who oid stop (book p.old) (book p.new)) }
 {

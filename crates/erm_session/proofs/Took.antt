@@ -1,12 +1,11 @@
 -- The steps of a session's calls, by the classes that callers ask for.
-use Rattle.std.proofs.Common.{◌≡◌, ◌⊎◌, ⊎_elim, ℕ, Bool, true, false, [], ◌∷◌, refl, sym, subst}
+use Rattle.std.proofs.Common.{◌≡◌, ⊎_elim, ℕ, Bool, true, false, [], ◌∷◌, refl, sym, subst}
 use Rattle.erm_cells.specs.Took.{IsEndStep}
 use Rattle.erm_cells.proofs.Took.{ends_still, stores_still}
 use Rattle.erm_machine.specs.declared.event.Counter.TheVariants.{Objects}
 use Rattle.erm_machine.specs.declared.event.Kind.TheVariants.{AddCounter, Decide, LoadCounter, LoadFlushed}
-use Rattle.erm_model.specs.declared.row_stop.RowStop.{RowStop}
-use Rattle.erm_model.specs.declared.row_stop.RowStop.TheVariants as stop
 use Rattle.erm_ends.specs.Ends.{DidAbort}
+use Rattle.erm_ends.specs.Took.{TookAbort}
 use Rattle.erm_model.specs.declared.outcome.Outcome.{Outcome}
 use Rattle.erm_model.specs.RowTransaction.{Law}
 use Rattle.erm_precommit.specs.declared.answer.Wait.{Wait}
@@ -16,7 +15,7 @@ use Rattle.erm_ring.proofs.Took.{fills_still}
 use Rattle.erm_rows.specs.Took.{TookClaim, TookRead}
 use Rattle.erm_rows.proofs.Took.{claim_still, read_still}
 use Rattle.erm_rule.specs.declared.view.Book.{Book}
-use Rattle.erm_rule.specs.Went.{Took, Went, IsLoadStep, IsStillStep}
+use Rattle.erm_rule.specs.Went.{Went, IsStillStep}
 use Rattle.erm_rule.proofs.Wents.{loads_still, went_more, went_none, went_one, went_step}
 use Rattle.erm_seats.specs.declared.answer.BeginStop as seats_answer
 use Rattle.erm_seats.specs.declared.answer.BeginStop.TheVariants as seats
@@ -32,10 +31,10 @@ pub no_begin : (law : Law) (who : ℕ) (why : seats_answer.BeginStop) (b e : Boo
 no_begin law who (seats.LogEnd tail) b e r is took = subst (λ (z : BeginStop). TookNoBegin law who z b e) (sym is) took
 
 -- a call that was refused, and what was done then
-pub refused_then : (law : Law) (who : ℕ) (ends : Bool) (cause : Book → Type 0) (m e : Book) → cause m → (ends ≡ true → Went law who IsEndStep m e) → (ends ≡ true → DidAbort m.view who e.view) → (ends ≡ false → e ≡ m)
-    → TookWhere law who ends cause e
-refused_then law who true cause m e did ended aborted same = record { between = m; refused = did; ends = ended refl; aborted = aborted refl }
-refused_then law who false cause m e did ended aborted same = subst cause (sym (same refl)) did
+pub refused_then : (law : Law) (who : ℕ) (ends : Bool) (cause : Book → Type 0) (m e : Book) → cause m → (ends ≡ true → Went law who IsEndStep m e) → (ends ≡ true → TookAbort law who m e) → (ends ≡ true → DidAbort m.view who e.view)
+    → (ends ≡ false → e ≡ m) → TookWhere law who ends cause e
+refused_then law who true cause m e did ended took aborted same = record { between = m; refused = did; ends = ended refl; took = took refl; aborted = aborted refl }
+refused_then law who false cause m e did ended took aborted same = subst cause (sym (same refl)) did
 
 pub where_still : (law : Law) (who : ℕ) (ends : Bool) (b m e : Book) → Went law who IsStillStep b m → (ends ≡ true → Went law who IsEndStep m e) → (ends ≡ false → e ≡ m) → Went law who IsStillStep b e
 where_still law who true b m e still ended same = went_more law who IsStillStep b m e still (ends_still law who m e (ended refl))

@@ -5,6 +5,9 @@ use Rattle.erm_machine.specs.declared.event.Counter.TheVariants.{Objects}
 use Rattle.erm_machine.specs.declared.event.Kind.TheVariants.{AddCounter, Decide, LoadCounter}
 use Rattle.erm_machine.specs.declared.task.Task.TheVariants.{Settles}
 use Rattle.erm_ends.specs.Ends.{DidAbort}
+use Rattle.erm_ends.specs.Took.{TookAbort, TookCommit, TookSkip}
+use Rattle.erm_machine.specs.declared.attempt.Decision.{Decision}
+use Rattle.erm_machine.specs.declared.attempt.Decision.TheVariants.{Commit, Skip}
 use Rattle.erm_model.specs.declared.outcome.Outcome.{Outcome}
 use Rattle.erm_model.specs.declared.row_stop.RowStop.{RowStop}
 use Rattle.erm_model.specs.declared.row_stop.RowStop.TheVariants as stop
@@ -42,6 +45,7 @@ pub record TookEnd (law : Law) (who : ℕ) (cause : Book → Type 0) (e : Book) 
   pub between : Book
   pub refused : cause between
   pub ends : Went law who IsEndStep between e
+  pub took : TookAbort law who between e
   pub aborted : DidAbort between.view who e.view
 
 -- the transaction goes on after a refusal, or is ended
@@ -83,6 +87,12 @@ abbrev pub TookNoObject : Law → ℕ → RowStop → Book → Book → Type 0
 TookNoObject law who (stop.OidsFull drawn) b e = Took law who ((LoadCounter Objects, drawn) ∷ []) b e ⊎ TookObject law who drawn b e
 TookNoObject law who why b e = ⊥
 
+-- the steps of the end of a transaction that was decided so
+abbrev pub TookDecided : Decision → Law → ℕ → Book → Book → Type 0
+TookDecided Commit law who b e = TookCommit law who b e
+TookDecided Skip law who b e = TookSkip law who b e
+TookDecided d law who b e = ⊥
+
 -- SETTLE. The words of the block were stored, then its header, which decides the transaction, and then it was ended.
 pub record TookFinish (law : Law) (who : ℕ) (b e : Book) : Type 0 where
   pub filled : Book
@@ -93,6 +103,7 @@ pub record TookFinish (law : Law) (who : ℕ) (b e : Book) : Type 0 where
   pub decided : Book
   pub step : Booked law filled who (Decide at header) word decided
   pub ends : Went law who IsEndStep decided e
+  pub last : TookDecided (part_of decided.view who).current.decision law who decided e
 
 -- By loads all versions were passed, and then the transaction was finished.
 pub record TookDecision (law : Law) (who : ℕ) (outcome : Outcome) (b e : Book) : Type 0 where

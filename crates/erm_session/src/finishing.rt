@@ -18,7 +18,7 @@ ghost use Rattle.erm_ring.specs.Took.{IsFillStep};
 ghost use Rattle.erm_rule.specs.declared.view.Book.{Book};
 ghost use Rattle.erm_rule.specs.Books.{book};
 ghost use Rattle.erm_rule.specs.Went.{Went};
-ghost use Rattle.erm_session.specs.Took.{TookFinish};
+ghost use Rattle.erm_session.specs.Took.{TookDecided, TookFinish};
 
 use crate::session::{Session, Stage};
 use arrayvec::ArrayVec;
@@ -162,6 +162,7 @@ impl Session {
         ensures room_read { vec_capacity self.new.rows_read ≡ vec_capacity self.old.rows_read }
         ensures room_claimed { vec_capacity self.new.rows_claimed ≡ vec_capacity self.old.rows_claimed }
         ensures ended { Went L.law self.old.seat IsEndStep (book p.old) (book p.new) }
+        ensures took { TookDecided (if commits then Commit else Skip) L.law self.old.seat (book p.old) (book p.new) }
     {
         self.rows_read.clear();
         self.rows_claimed.clear();

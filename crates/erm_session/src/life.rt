@@ -1,6 +1,7 @@
 //! A transaction's begin, and its end by an abort.
 ghost use Rattle.std.specs.Prelude.{◌≡◌, ℕ, true, false, [], IfErr, IfOk};
 ghost use Rattle.erm_ends.specs.Ends.{DidAbort};
+ghost use Rattle.erm_ends.specs.Took.{TookAbort};
 ghost use Rattle.erm_model.specs.declared.outcome.Phase.TheVariants as phase;
 ghost use Rattle.erm_rule.specs.declared.view.View.{View};
 ghost use Rattle.erm_rule.specs.Books.{book};
@@ -68,6 +69,7 @@ impl Session {
         ensures aborted { DidAbort (view p.old) self.old.seat (view p.new) }
         ensures idle { phase_of self.new.stage ≡ phase.Idle }
         ensures ends { Went L.law self.old.seat IsEndStep (book p.old) (book p.new) }
+        ensures took { TookAbort L.law self.old.seat (book p.old) (book p.new) }
     {
         self.end(t, p);
     }
@@ -84,6 +86,7 @@ impl Session {
         ensures aborted { DidAbort (view p.old) self.old.seat (view p.new) }
         ensures idle { phase_of self.new.stage ≡ phase.Idle }
         ensures ends { Went L.law self.old.seat IsEndStep (book p.old) (book p.new) }
+        ensures took { TookAbort L.law self.old.seat (book p.old) (book p.new) }
     {
         let Stage::Active(txn) = mem::replace(&mut self.stage, Stage::Idle) else {
             unreachable!()
@@ -110,6 +113,7 @@ impl Session {
         ensures same { is_end why ≡ false → book p.new ≡ book p.old }
         ensures phase { IsRefusedPhase why (phase_of self.new.stage) }
         ensures ends { is_end why ≡ true → Went L.law self.old.seat IsEndStep (book p.old) (book p.new) }
+        ensures took { is_end why ≡ true → TookAbort L.law self.old.seat (book p.old) (book p.new) }
     {
         if is_end(why) {
             self.end(t, p);

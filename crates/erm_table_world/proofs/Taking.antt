@@ -44,7 +44,7 @@ entry_went law who oid head b e took =
 pub cut_went : (law : Law) (who count : ℕ) (b e : Book) → TookCutChain law who count b e → Went law who IsStillStep b e
 cut_went law who count b e took =
     went_more law who IsStillStep b took.at e (loads_still law who b took.at (horizon_loads_alone law who ANNOUNCERS took.horizon b took.at took.found))
-    (cut_still law who took.at e took.cut)
+    (cut_still law who count took.at e took.cut)
 
 -- the cells that were cut off are among the seat's spare ones
 pub cut_few : (fit : SparesFit) (law : Law) (who count : ℕ) (b e : Book) → IsStateful law b → IsStateful law e → is_seat who ≡ true → DidCutChain b.view who count e.view → count ≤ TABLE_CELLS

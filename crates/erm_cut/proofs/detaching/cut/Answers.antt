@@ -1,5 +1,4 @@
-use Rattle.std.proofs.Common.{inl, inr}
-use Rattle.erm_rule.proofs.Courses.{goes_both}
+use Rattle.std.proofs.Common.{inl, inr, refl}
 use Rattle.erm_cut.proofs.Cutting.{active_found, at_found, spare_found, did_cut, cut_none, spare_none}
 use Rattle.erm_cut.proofs.detaching.cut.Goals as goal
 
@@ -29,11 +28,8 @@ returns-in-None-clause-cut g c = cut_none c.args.p.now.me.0.view c.args.who c.ar
 pub returns-in-None-clause-spare : goal.returns-in-None-clause-spare
 returns-in-None-clause-spare g c = spare_none c.args.p.now.me.0.view c.args.who c.args.horizon c.requires.active c.find_cut.new.p.me.0.view c.in-None.ensures.found c.args.spare.now c.requires.spare
 
-pub returns-in-Some-clause-goes : goal.returns-in-Some-clause-goes
-returns-in-Some-clause-goes g c = goes_both c.args.p.now.me.0 c.find_cut.new.p.me.0 c.detach.new.p.me.0 c.find_cut.ensures.goes c.detach.ensures.goes
-
 pub returns-in-Some-clause-took : goal.returns-in-Some-clause-took
 returns-in-Some-clause-took g c = inr (c.find_cut.new.p.me.0, c.find_cut.ensures.loads, c.detach.ensures.took)
 
 pub returns-in-None-clause-took : goal.returns-in-None-clause-took
-returns-in-None-clause-took g c = inl c.find_cut.ensures.loads
+returns-in-None-clause-took g c = inl (refl, c.find_cut.ensures.loads)

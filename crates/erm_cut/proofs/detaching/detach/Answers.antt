@@ -1,11 +1,10 @@
 use Rattle.std.proofs.Common.{◌<◌, arith}
 use Rattle.erm_model.specs.declared.limits.TheConstants.{TABLE_CELLS}
-use Rattle.erm_rule.proofs.Courses.{goes_both, goes_step}
 use Rattle.erm_rule.proofs.Telling.{is_held}
 use Rattle.erm_cells.proofs.Heads.{has}
 use Rattle.erm_cut.proofs.OffChain.{object_found, cell_found, ready_swap, starts_detaching, held_here, count_within, room, count_room, object_here, cell_here, ready_detached, detaches_next, did_detach, spare_is, one_less}
 use Rattle.erm_cut.proofs.detaching.detach.Goals as goal
-use Rattle.erm_rule.proofs.Wents.{went_none, went_step}
+use Rattle.erm_cut.proofs.Swaps.{swap_goes_on, swap_taken, took_detach}
 
 pub swap_link-link-requires-clause-held : goal.swap_link-link-requires-clause-held
 swap_link-link-requires-clause-held g c = is_held c.args.p.now.me.0.view c.args.who _ (has c.args.p.now.me.0.view c.args.who c.requires.active)
@@ -23,8 +22,7 @@ pub loop-link-init : goal.loop-link-init
 loop-link-init g c = record {
   fits = c.swap_link-link.ensures.fits;
   walk = starts_detaching c.args.p.now.me.0.view c.args.who c.requires.active c.args.cell c.requires.known c.requires.found c.swap_link-link.result _ c.swap_link-link.ensures.told.told c.args.spare.now c.requires.spare;
-  goes = goes_step _ _ _ _ _ _ c.swap_link-link.ensures.booked;
-  took = record { swapped = c.swap_link-link.new.p.me.0; link = c.swap_link-link.result; swap = c.swap_link-link.ensures.booked; loads = went_none _ _ _ _ };
+  took = swap_taken g.L.RowLaw.law c.args.who c.args.p.now.me.0 c.requires.active c.args.cell c.requires.known c.requires.found c.swap_link-link.result c.swap_link-link.new.p.me.0 c.swap_link-link.ensures.booked;
 }
 
 pub push-requires : goal.push-requires
@@ -68,13 +66,9 @@ loop-link-preserved g c = record {
   walk =
       detaches_next c.args.p.now.me.0.view c.args.who c.requires.active c.loop-link.link c.loop-link.count c.loop-link.spare c.loop-link.p.me.0.view c.loop-link.invariant.walk c.loop-link-test.true
       c.load_detached-link.result c.load_detached-link.new.p.me.0.view c.load_detached-link.ensures.told.told c.linked_cell-older.result c.push.new.self c.linked_cell-older.ensures c.push.ensures;
-  goes = goes_both c.args.p.now.me.0 c.loop-link.p.me.0 c.load_detached-link.new.p.me.0 c.loop-link.invariant.goes (goes_step _ _ _ _ _ _ c.load_detached-link.ensures.booked);
-  took = record {
-    swapped = c.loop-link.invariant.took.swapped;
-    link = c.loop-link.invariant.took.link;
-    swap = c.loop-link.invariant.took.swap;
-    loads = went_step _ _ _ _ _ _ _ _ c.loop-link.invariant.took.loads tt c.load_detached-link.ensures.booked;
-  };
+  took =
+      swap_goes_on g.L.RowLaw.law c.args.who c.args.p.now.me.0 c.requires.active c.loop-link.link c.loop-link.count c.loop-link.spare c.loop-link.p.me.0 c.loop-link.invariant.walk c.loop-link.invariant.took c.loop-link-test.true
+      c.load_detached-link.result c.load_detached-link.new.p.me.0 c.load_detached-link.ensures.booked;
 }
 
 pub reverse_end-requires : goal.reverse_end-requires
@@ -90,4 +84,5 @@ returns-clause-spare g c =
     spare_is c.args.p.now.me.0.view c.args.who c.requires.active c.loop-link.link c.loop-link.count c.loop-link.spare c.loop-link.p.me.0.view c.loop-link.invariant.walk c.loop-link-test.false c.reverse_end.new.self c.reverse_end.ensures
 
 pub returns-clause-took : goal.returns-clause-took
-returns-clause-took g c = c.loop-link.invariant.took
+returns-clause-took g c =
+    took_detach g.L.RowLaw.law c.args.who c.args.p.now.me.0 c.requires.active c.loop-link.link c.loop-link.count c.loop-link.spare c.loop-link.p.me.0 c.loop-link.invariant.walk c.loop-link.invariant.took c.loop-link-test.false

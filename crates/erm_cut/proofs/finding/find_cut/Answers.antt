@@ -1,11 +1,10 @@
-use Rattle.erm_rule.proofs.Courses.{goes_both, goes_step, seen_nothing}
 use Rattle.erm_rule.proofs.Telling.{is_held}
 use Rattle.erm_cut.proofs.Walk.{starts_walking, has_walks, object_walked, cell_walked, ready_stamp, did_find, has_passed, known_passed, object_passed, cell_passed, ready_link, did_find_none, goes_less, goes_on}
 use Rattle.erm_cut.proofs.finding.find_cut.Goals as goal
 use Rattle.erm_rule.proofs.Wents.{went_none, went_step}
 
 pub walk-init : goal.walk-init
-walk-init g c = record { fits = c.requires.fits; walking = starts_walking c.args.p.now.me.0.view c.args.who c.requires.active c.args.horizon c.args.head c.requires.known c.requires.at; goes = seen_nothing c.args.p.now.me.0; loads = went_none _ _ _ _ }
+walk-init g c = record { fits = c.requires.fits; walking = starts_walking c.args.p.now.me.0.view c.args.who c.requires.active c.args.horizon c.args.head c.requires.known c.requires.at; loads = went_none _ _ _ _ }
 
 pub load_walked-stamp-requires-clause-held : goal.load_walked-stamp-requires-clause-held
 load_walked-stamp-requires-clause-held g c = is_held c.walk.p.me.0.view c.args.who _ (has_walks c.args.p.now.me.0.view c.args.who c.requires.active c.args.horizon c.walk.cell c.walk.p.me.0.view c.walk.invariant.walking)
@@ -50,18 +49,8 @@ pub walk-preserved : goal.walk-preserved
 walk-preserved g c = record {
   fits = c.load_walked-link.ensures.fits;
   walking = goes_on c.args.p.now.me.0.view c.args.who c.requires.active c.args.horizon c.walk.cell c.walk.p.me.0.view c.walk.invariant.walking c.load_walked-stamp.result c.load_walked-stamp.new.p.me.0.view c.load_walked-stamp.ensures.told.told c.if-stamp-horizon.false c.load_walked-link.result c.load_walked-link.new.p.me.0.view c.load_walked-link.ensures.told.told c.linked_cell-cell.result c.if-link-eq0.false c.linked_cell-cell.ensures;
-  goes = goes_both c.args.p.now.me.0 c.load_walked-stamp.new.p.me.0 c.load_walked-link.new.p.me.0
-      (goes_both c.args.p.now.me.0 c.walk.p.me.0 c.load_walked-stamp.new.p.me.0 c.walk.invariant.goes (goes_step _ _ _ _ _ _ c.load_walked-stamp.ensures.booked)) (goes_step _ _ _ _ _ _ c.load_walked-link.ensures.booked);
   loads = went_step _ _ _ _ _ _ _ _ (went_step _ _ _ _ _ _ _ _ c.walk.invariant.loads tt c.load_walked-stamp.ensures.booked) tt c.load_walked-link.ensures.booked;
 }
-
-pub returns-then-stamp-horizon-clause-goes : goal.returns-then-stamp-horizon-clause-goes
-returns-then-stamp-horizon-clause-goes g c = goes_both c.args.p.now.me.0 c.walk.p.me.0 c.load_walked-stamp.new.p.me.0 c.walk.invariant.goes (goes_step _ _ _ _ _ _ c.load_walked-stamp.ensures.booked)
-
-pub returns-then-link-eq0-clause-goes : goal.returns-then-link-eq0-clause-goes
-returns-then-link-eq0-clause-goes g c =
-    goes_both c.args.p.now.me.0 c.load_walked-stamp.new.p.me.0 c.load_walked-link.new.p.me.0
-    (goes_both c.args.p.now.me.0 c.walk.p.me.0 c.load_walked-stamp.new.p.me.0 c.walk.invariant.goes (goes_step _ _ _ _ _ _ c.load_walked-stamp.ensures.booked)) (goes_step _ _ _ _ _ _ c.load_walked-link.ensures.booked)
 
 pub returns-then-stamp-horizon-clause-loads : goal.returns-then-stamp-horizon-clause-loads
 returns-then-stamp-horizon-clause-loads g c = went_step _ _ _ _ _ _ _ _ c.walk.invariant.loads tt c.load_walked-stamp.ensures.booked

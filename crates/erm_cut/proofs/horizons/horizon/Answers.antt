@@ -1,5 +1,4 @@
 use Rattle.std.proofs.Common.{ℕ, ◌+◌, sym, subst}
-use Rattle.erm_rule.proofs.Courses.{goes_both, goes_step}
 use Rattle.erm_rule.proofs.Telling.{is_held}
 use Rattle.erm_cut.specs.Calls.{HasLoaded}
 use Rattle.erm_cut.proofs.Loads.{seat_here, ready_tail, tail_loaded, has_looking, ready_begin, begin_loaded}
@@ -13,7 +12,6 @@ pub loop-seat-init : goal.loop-seat-init
 loop-seat-init g c = record {
   fits = c.load_tail-least.ensures.fits;
   loaded = tail_loaded c.args.p.now.me.0.view c.args.who c.requires.active c.requires.claimed c.load_tail-least.result _ c.load_tail-least.ensures.told.told;
-  goes = goes_step _ _ _ _ _ _ c.load_tail-least.ensures.booked;
   took = horizon_starts g.L.RowLaw.law c.args.who c.load_tail-least.result c.args.p.now.me.0 c.load_tail-least.new.p.me.0 c.load_tail-least.ensures.booked;
 }
 
@@ -35,7 +33,6 @@ loop-seat-preserved g c = record {
   loaded =
       subst (λ (n : ℕ). HasLoaded c.args.p.now.me.0.view c.args.who (c.loop-seat.seat + 1) n c.load_begin.new.p.me.0.view) (sym c.lower-least.ensures)
       (begin_loaded c.args.p.now.me.0.view c.args.who c.requires.active c.requires.claimed c.loop-seat.seat c.loop-seat.least c.loop-seat.p.me.0.view c.loop-seat.invariant.loaded c.loop-seat-test.true c.load_begin.result c.load_begin.new.p.me.0.view c.load_begin.ensures.told.told);
-  goes = goes_both c.args.p.now.me.0 c.loop-seat.p.me.0 c.load_begin.new.p.me.0 c.loop-seat.invariant.goes (goes_step _ _ _ _ _ _ c.load_begin.ensures.booked);
   took =
       horizon_goes_on g.L.RowLaw.law c.args.who c.loop-seat.seat c.loop-seat.least c.load_begin.result c.lower-least.result c.args.p.now.me.0 c.loop-seat.p.me.0 c.load_begin.new.p.me.0
       c.loop-seat.invariant.took c.load_begin.ensures.booked c.lower-least.ensures;

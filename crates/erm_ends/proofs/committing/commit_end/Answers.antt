@@ -1,7 +1,8 @@
+use Rattle.std.proofs.Common.{refl}
 use Rattle.erm_rule.specs.Views.{part_of}
-use Rattle.erm_ends.proofs.Commits.{did_commit, may_clear_committed, may_install, may_leave_committed, may_raise}
+use Rattle.erm_ends.proofs.Commits.{did_commit, may_clear_committed, may_install, may_leave_committed, may_raise, took_commit}
 use Rattle.erm_ends.proofs.committing.commit_end.Goals as goal
-use Rattle.erm_rule.proofs.Wents.{went_more}
+use Rattle.erm_ends.proofs.Took.{commit_ends}
 
 pub raise_reads-requires-clause-may : goal.raise_reads-requires-clause-may
 raise_reads-requires-clause-may g c = rw c.as_slice.ensures.value (may_raise c.args.pre.now (part_of c.args.p.now.me.0.view c.args.who) c.requires.kept c.requires.may)
@@ -27,6 +28,10 @@ pub returns-clause-committed : goal.returns-clause-committed
 returns-clause-committed g c =
     did_commit c.args.p.now.me.0.view c.args.who c.args.pre.now c.requires.kept c.requires.may _ c.raise_reads.ensures.raised _ c.install_claims.ensures.installed _ c.clear_reads.ensures.cleared _ c.leave.ensures.left
 
+pub returns-clause-took : goal.returns-clause-took
+returns-clause-took g c =
+    took_commit c.args.p.now.me.0.view c.args.who c.args.pre.now c.requires.kept c.requires.may _ c.raise_reads.ensures.raised _ c.install_claims.ensures.installed
+    g.L.RowLaw.law c.args.p.now.me.0 c.raise_reads.new.p.me.0 c.install_claims.new.p.me.0 c.clear_reads.new.p.me.0 c.leave.new.p.me.0 refl c.raise_reads.ensures.took c.install_claims.ensures.took c.clear_reads.ensures.took c.leave.ensures.took
+
 pub returns-clause-ends : goal.returns-clause-ends
-returns-clause-ends g c =
-    went_more _ _ _ _ _ _ (went_more _ _ _ _ _ _ (went_more _ _ _ _ _ _ c.raise_reads.ensures.ends c.install_claims.ensures.ends) c.clear_reads.ensures.ends) c.leave.ensures.ends
+returns-clause-ends g c = commit_ends g.L.RowLaw.law c.args.who c.args.p.now.me.0 c.leave.new.p.me.0 (returns-clause-took g c)

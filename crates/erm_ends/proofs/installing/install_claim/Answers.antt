@@ -1,8 +1,7 @@
 use Rattle.std.proofs.Common.{refl}
 use Rattle.erm_ends.proofs.Installs.{did_install, head_may, install_next, install_object, mark_cell, mark_committed, mark_decided, mark_marking, mark_stamp, mark_succ}
 use Rattle.erm_ends.proofs.installing.install_claim.Goals as goal
-use Rattle.erm_rule.proofs.Wents.{went_more, went_step}
-use Rattle.erm_cells.proofs.Took.{stores_end}
+use Rattle.erm_ends.proofs.Installed.{was_installed}
 
 pub store_head-requires-clause-may : goal.store_head-requires-clause-may
 store_head-requires-clause-may g c = head_may c.args.p.now.me.0.view c.args.who c.args.claim c.args.stamp c.args.succ c.requires.known c.requires.next _ refl
@@ -40,7 +39,7 @@ pub returns-clause-installed : goal.returns-clause-installed
 returns-clause-installed g c =
     did_install c.args.p.now.me.0.view c.args.who c.args.claim c.args.stamp c.args.succ c.requires.known c.requires.next _ c.store_head.ensures.stored _ c.mark_overwritten.ensures.marked _ c.install.ensures.installed
 
-pub returns-clause-ends : goal.returns-clause-ends
-returns-clause-ends g c =
-    went_step _ _ _ _ _ _ _ _
-    (went_more _ _ _ _ _ _ (stores_end g.L.RowLaw.law c.args.who c.args.p.now.me.0 c.store_head.new.p.me.0 c.store_head.ensures.stores) c.mark_overwritten.ensures.ends) tt c.install.ensures.booked.1
+pub returns-clause-was : goal.returns-clause-was
+returns-clause-was g c =
+    was_installed g.L.RowLaw.law c.args.who c.args.p.now.me.0 c.store_head.new.p.me.0 c.mark_overwritten.new.p.me.0 c.install.new.p.me.0 c.args.claim c.args.stamp c.args.succ c.requires.known c.requires.next c.store_head.ensures.stored
+    c.mark_overwritten.ensures.marked c.install.ensures.installed c.install.ensures.booked.0 c.install.ensures.booked.1 c.store_head.ensures.stores c.mark_overwritten.ensures.ends

@@ -1,8 +1,9 @@
 use Rattle.erm_rule.specs.Steps.{Fits}
 use Rattle.erm_ends.proofs.Commits.{InstallLoop}
 use Rattle.erm_ends.proofs.installing.install_claims.Given as goal
-use Rattle.erm_cells.specs.Took.{IsEndStep}
-use Rattle.erm_rule.specs.Went.{Went}
+use Rattle.erm_rule.specs.Views.{part_of}
+use Rattle.erm_machine.specs.Core.{claim_at}
+use Rattle.erm_ends.specs.Took.{InTurn, WasInstalled}
 
 abbrev pub invariant-loop-k : goal.invariant-loop-k
-invariant-loop-k g l = Fits l.t.words.shared.table_id l.p × InstallLoop l.fn.p.me.0.view l.who l.k l.p.me.0.view × Went g.L.RowLaw.law l.who IsEndStep l.fn.p.me.0 l.p.me.0
+invariant-loop-k g l = Fits l.t.words.shared.table_id l.p × InstallLoop l.fn.p.me.0.view l.who l.k l.p.me.0.view × InTurn (λ k m n. WasInstalled g.L.RowLaw.law l.who (part_of l.fn.p.me.0.view l.who).current (claim_at (part_of l.fn.p.me.0.view l.who).current k) m n) l.k l.fn.p.me.0 l.p.me.0

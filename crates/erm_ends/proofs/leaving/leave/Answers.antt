@@ -1,7 +1,6 @@
 use Rattle.std.proofs.Common.{refl}
 use Rattle.erm_ends.proofs.Leaves.{did_leave, leave_begin, leave_held, leave_held_2, leave_state, session_seat}
 use Rattle.erm_ends.proofs.leaving.leave.Goals as goal
-use Rattle.erm_rule.proofs.Wents.{went_one, went_step}
 
 pub store_begin-requires-clause-held : goal.store_begin-requires-clause-held
 store_begin-requires-clause-held g c = leave_held c.args.p.now.me.0.view c.args.who c.requires.may
@@ -24,5 +23,5 @@ store_state-requires-clause-ready g c = leave_state c.args.p.now.me.0.view c.arg
 pub returns-clause-left : goal.returns-clause-left
 returns-clause-left g c = did_leave c.args.p.now.me.0.view c.args.who c.requires.may c.store_begin.ensures.told.0 _ c.store_begin.ensures.told.1.told c.store_state.ensures.told.0 _ c.store_state.ensures.told.1.told
 
-pub returns-clause-ends : goal.returns-clause-ends
-returns-clause-ends g c = went_step _ _ _ _ _ _ _ _ (went_one _ _ _ _ _ _ _ refl c.store_begin.ensures.booked.1) refl c.store_state.ensures.booked.1
+pub returns-clause-took : goal.returns-clause-took
+returns-clause-took g c = (c.store_begin.ensures.booked.0, c.store_state.ensures.booked.0, (_, (_, refl, c.store_begin.ensures.booked.1), c.store_state.ensures.booked.1))

@@ -1,7 +1,8 @@
+use Rattle.std.proofs.Common.{refl}
 use Rattle.erm_rule.specs.Views.{part_of}
-use Rattle.erm_ends.proofs.Leaves.{decided_ends, did_skip, may_clear, may_leave, skip_claims, skip_excluded, skip_reads, skip_spare}
+use Rattle.erm_ends.proofs.Leaves.{decided_ends, did_skip, may_clear, may_leave, skip_claims, skip_excluded, skip_reads, skip_spare, took_skip}
 use Rattle.erm_ends.proofs.skipping.skip_end.Goals as goal
-use Rattle.erm_rule.proofs.Wents.{went_more}
+use Rattle.erm_ends.proofs.Took.{skip_ends}
 
 pub release_claims-requires-clause-may : goal.release_claims-requires-clause-may
 release_claims-requires-clause-may g c = rw c.as_slice.ensures.value (skip_claims c.args.pre.now (part_of c.args.p.now.me.0.view c.args.who) c.requires.kept c.requires.may)
@@ -30,5 +31,10 @@ returns-clause-spare g c =
     skip_spare c.args.p.now.me.0.view c.args.who (decided_ends _ c.requires.may.decided) (skip_excluded (part_of c.args.p.now.me.0.view c.args.who) c.requires.may.decided c.requires.may.excluded) _ c.release_claims.ensures.released
     _ c.clear_reads.ensures.cleared _ c.leave.ensures.left _ c.release_claims.ensures.spare
 
+pub returns-clause-took : goal.returns-clause-took
+returns-clause-took g c =
+    took_skip c.args.p.now.me.0.view c.args.who (decided_ends _ c.requires.may.decided) (skip_excluded (part_of c.args.p.now.me.0.view c.args.who) c.requires.may.decided c.requires.may.excluded) _ c.release_claims.ensures.released
+    g.L.RowLaw.law c.args.p.now.me.0 c.release_claims.new.p.me.0 c.clear_reads.new.p.me.0 c.leave.new.p.me.0 refl c.release_claims.ensures.took c.clear_reads.ensures.took c.leave.ensures.took
+
 pub returns-clause-ends : goal.returns-clause-ends
-returns-clause-ends g c = went_more _ _ _ _ _ _ (went_more _ _ _ _ _ _ c.release_claims.ensures.ends c.clear_reads.ensures.ends) c.leave.ensures.ends
+returns-clause-ends g c = skip_ends g.L.RowLaw.law c.args.who c.args.p.now.me.0 c.leave.new.p.me.0 (returns-clause-took g c)

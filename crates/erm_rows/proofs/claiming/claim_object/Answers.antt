@@ -1,10 +1,10 @@
 use Rattle.std.proofs.lemmas.Result.{err_from_is_err_and}
 use Rattle.std.proofs.Common.{◌≡◌}
-use Rattle.erm_rule.proofs.Courses.{goes_both, seen_after}
+use Rattle.erm_rule.proofs.Courses.{seen_after}
 use Rattle.erm_rows.proofs.Whole.{active_taken, active_tidied, base_tidied, did_claim, did_lack, draws_tidied, head_taken, kept_claimed, kept_lack, oid_tidied, spare_taken, tells_nothing, untaken}
 use Rattle.erm_rows.proofs.Taken.{spare_stopped}
 use Rattle.erm_rows.proofs.claiming.claim_object.Goals as goal
-use Rattle.erm_rows.proofs.Took.{no_entry_stop}
+use Rattle.erm_rows.proofs.Took.{no_entry_stop, tidied_goes}
 
 pub returns-in_err-head-clause-refused : goal.returns-in_err-head-clause-refused
 returns-in_err-head-clause-refused g c =
@@ -58,7 +58,7 @@ returns-in_err-head-clause-counted g c =
 pub returns-in-Err-clause-counted : goal.returns-in-Err-clause-counted
 returns-in-Err-clause-counted g c =
     seen_after c.args.p.now.me.0 c.cut_chain-cut.new.p.me.0 (λ s. s.shared.cells_drawn ≡ c.in-Err.drawn) c.fill_claim.new.p.me.0
-    (goes_both c.args.p.now.me.0 c.take_entry.new.p.me.0 c.cut_chain-cut.new.p.me.0 c.take_entry.ensures.goes c.cut_chain-cut.ensures.goes) c.in-Err.ensures.counted
+    (tidied_goes g.L.RowLaw.law c.args.who c.args.oid c.in_ok-head.head c.cut_chain-cut.result c.args.p.now.me.0 c.take_entry.new.p.me.0 c.cut_chain-cut.new.p.me.0 c.in_ok-head.ensures.took c.cut_chain-cut.ensures.took) c.in-Err.ensures.counted
 
 pub returns-in_err-head-clause-took_none : goal.returns-in_err-head-clause-took_none
 returns-in_err-head-clause-took_none g c =

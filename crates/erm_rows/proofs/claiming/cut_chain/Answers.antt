@@ -1,4 +1,3 @@
-use Rattle.erm_rule.proofs.Courses.{goes_both}
 use Rattle.erm_rows.proofs.Chain.{active_there, at_head, did_cut_chain, head_claimed, spare_there}
 use Rattle.erm_rows.proofs.claiming.cut_chain.Goals as goal
 
@@ -16,9 +15,6 @@ cut-requires-clause-spare g c = spare_there c.args.p.now.me.0.view c.args.who c.
 
 pub returns-clause-cut : goal.returns-clause-cut
 returns-clause-cut g c = did_cut_chain c.args.p.now.me.0.view c.args.who c.args.head c.requires.active c.requires.claimed c.horizon-bound.result _ c.horizon-bound.ensures.found c.cut.result _ c.cut.ensures.cut
-
-pub returns-clause-goes : goal.returns-clause-goes
-returns-clause-goes g c = goes_both c.args.p.now.me.0 c.horizon-bound.new.p.me.0 c.cut.new.p.me.0 c.horizon-bound.ensures.goes c.cut.ensures.goes
 
 pub returns-clause-took : goal.returns-clause-took
 returns-clause-took g c = record { horizon = c.horizon-bound.result; at = c.horizon-bound.new.p.me.0; found = c.horizon-bound.ensures.took; cut = c.cut.ensures.took; did = returns-clause-cut g c }

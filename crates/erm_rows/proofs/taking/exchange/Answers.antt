@@ -1,4 +1,3 @@
-use Rattle.erm_rule.proofs.Courses.{goes_both, goes_step}
 use Rattle.std.proofs.Common.{ap, sym, subst, ◌∙◌, refl}
 use Rattle.erm_model.specs.declared.row_stop.RowStop.{RowStop}
 use Rattle.erm_rule.proofs.Telling.{is_held}
@@ -46,9 +45,6 @@ returns-clause-lost g c =
     did_meet c.args.p.now.me.0.view c.args.who c.requires.active c.args.oid (word_of c.args.seen.now) (word_of c.in-Err.found) c.requires.object c.claim.new.p.me.0.view c.in-Err.ensures.lost.loses
     (ap (λ (e : Entry). e.owner) c.in-Err.ensures.lost.spelled ∙ c.if-found-ne0.false) c.in-Err.ensures.lost.other c.requires.plain
     c.load_walked-stamp.result _ c.load_walked-stamp.ensures.told.told
-
-pub returns-clause-goes : goal.returns-clause-goes
-returns-clause-goes g c = goes_both c.args.p.now.me.0 c.claim.new.p.me.0 c.load_walked-stamp.new.p.me.0 c.claim.ensures.goes (goes_step _ _ _ _ _ _ c.load_walked-stamp.ensures.booked)
 
 pub returns-then-found-ne0-clause-took_other : goal.returns-then-found-ne0-clause-took_other
 returns-then-found-ne0-clause-took_other g c =

@@ -1,4 +1,3 @@
-use Rattle.erm_rule.proofs.Courses.{goes_both, seen_nothing}
 use Rattle.std.proofs.lemmas.Result.{err_from_is_err_and}
 use Rattle.std.proofs.Common.{ap, ◌∙◌}
 use Rattle.erm_entries.specs.declared.entries.Entry.{Entry}
@@ -51,15 +50,6 @@ returns-in_err-exchange-clause-kept g c =
 
 pub exchange-requires-clause-plain : goal.exchange-requires-clause-plain
 exchange-requires-clause-plain g c = c.in_ok-seen.ensures.found.walk.plain
-
-pub returns-then-len-eq-WRITE_LIMIT-clause-goes : goal.returns-then-len-eq-WRITE_LIMIT-clause-goes
-returns-then-len-eq-WRITE_LIMIT-clause-goes g c = seen_nothing c.args.p.now.me.0
-
-pub returns-clause-goes : goal.returns-clause-goes
-returns-clause-goes g c = goes_both c.args.p.now.me.0 c.find_free.new.p.me.0 c.exchange.new.p.me.0 c.find_free.ensures.goes c.exchange.ensures.goes
-
-pub returns-in_err-exchange-clause-goes : goal.returns-in_err-exchange-clause-goes
-returns-in_err-exchange-clause-goes g c = goes_both c.args.p.now.me.0 c.find_free.new.p.me.0 c.exchange.new.p.me.0 c.find_free.ensures.goes c.exchange.ensures.goes
 
 pub returns-in_err-seen-clause-took_none : goal.returns-in_err-seen-clause-took_none
 returns-in_err-seen-clause-took_none g c =
