@@ -11,42 +11,25 @@ ghost use Rattle.erm_session.specs.Opening.{StandsAt};
 
 use crate::session::Session;
 use crate::tests::opening::{Player, Table, open_three, opening_on};
-use erm_machine::{OBJECT_LIMIT, RING_WORDS, WRITE_LIMIT};
+use erm_machine::{OBJECT_LIMIT, RING_WORDS};
 use erm_model::{Oid, Outcome, ROW_WORDS, RowStop, TABLE_CELLS};
 use erm_ring::{clear, gather};
 use erm_rule::Pass;
 use erm_world::Gathered;
 use std::test::Fail;
 
-// How many objects each transaction writes.
-const WRITES: u32 = WRITE_LIMIT as u32;
+// How many transactions draw all cells that aren't drawn at opening, each one.
+const PLAYS: u32 = TABLE_CELLS - OBJECT_LIMIT;
 
-// How many transactions draw all cells that aren't drawn at opening.
-const PLAYS: u32 = (TABLE_CELLS - OBJECT_LIMIT) / WRITES;
-
-// Writes as many objects as a transaction may, from this number on.
-fn write_all(t: &Table, session: &mut Session, pass: &mut Pass, from: u32) -> Option<()>
-    requires known { IsKnown (view pass.old) }
-    requires stands { Fits t.now.words.shared.table_id pass.old × StandsAt session.old (view pass.old) phase.Active }
-    requires low { from ≤ TABLE_CELLS }
-    ensures known { IfSome result (λ _. IsKnown (view pass.new)) }
-    ensures stands { IfSome result (λ _. Fits t.now.words.shared.table_id pass.new × StandsAt session.new (view pass.new) phase.Active) }
-{
-    for k in 0..WRITES {
-        let oid = (from + k) % OBJECT_LIMIT;
-        session.write(t, pass, oid, &[1; ROW_WORDS]).ok()?;
-    }
-    Some(())
-}
-
-// A transaction writes as many objects as it may, from this number on, and commits.
-fn commit_all(t: &Table, session: &mut Session, pass: &mut Pass, from: u32) -> Option<()>
+// A transaction writes one object, the one of this number where there are so many, and commits.
+fn commit_one(t: &Table, session: &mut Session, pass: &mut Pass, number: u32) -> Option<()>
     requires stands { Fits t.now.words.shared.table_id pass.old × StandsAt session.old (view pass.old) phase.Idle }
-    requires low { from ≤ TABLE_CELLS }
     ensures stands { IfSome result (λ _. Fits t.now.words.shared.table_id pass.new × StandsAt session.new (view pass.new) phase.Idle) }
 {
     session.begin(t, pass).ok()?;
-    write_all(t, session, pass, from)?;
+    session
+        .write(t, pass, number % OBJECT_LIMIT, &[1; ROW_WORDS])
+        .ok()?;
     session.seal(t, pass);
     match session.settle(t, pass) {
         Ok(Outcome::Committed(_)) => Some(()),
@@ -86,7 +69,7 @@ fn draw_all(t: &Table, player: Player, mut rest: Pass, words: &mut [u64]) -> (u3
 {
     let (mut session, mut pass) = player;
     for committed in 0..PLAYS {
-        if commit_all(t, &mut session, &mut pass, committed * WRITES).is_none() {
+        if commit_one(t, &mut session, &mut pass, committed).is_none() {
             return (committed, None);
         }
         flush(t, &mut rest, words);
@@ -106,7 +89,7 @@ fn no_cell_is_left_at_65536(rt: HostRuntime) -> Result<(), Fail> {
     let (committed, stop) = draw_all(&table, first, rest, words.as_mut_slice());
     assert_eq!(rt;
         committed,
-        384,
+        49_152,
         "a transaction didn't commit after {committed} that did"
     );
     let drawn = match stop {

@@ -1,10 +1,12 @@
 use Rattle.std.proofs.Common.{sym, arith, ℕ, ap, subst}
-use Rattle.erm_rule.specs.Views.{view}
+use Rattle.erm_machine.specs.declared.attempt.Decision.{Decision}
+use Rattle.erm_rule.specs.Views.{view, part_of}
 use Rattle.erm_session.proofs.Deciding.{block_ends, finished, known_left, may_be_decided, may_leave, stands_idle}
 use Rattle.erm_session.proofs.session.Session.finish.Goals as goal
 use Rattle.erm_cells.specs.Took.{IsEndStep}
 use Rattle.erm_rule.specs.Went.{Went}
 use Rattle.erm_session.specs.declared.session.Session.{Session}
+use Rattle.erm_session.specs.Took.{TookDecided}
 
 pub store_block-requires-clause-may : goal.store_block-requires-clause-may
 store_block-requires-clause-may g c =
@@ -51,4 +53,7 @@ returns-clause-took g c = record {
   decided = c.store_block.new.p.me.0;
   step = c.store_block.ensures.took.4;
   ends = subst (λ (n : ℕ). Went g.L.RowLaw.law n IsEndStep c.store_block.new.p.me.0 c.leave.new.p.me.0) (ap (λ (s : Session). s.seat) c.store_block.ensures.same) c.leave.ensures.ended;
+  last = subst (λ (n : ℕ). TookDecided (part_of c.store_block.new.p.me.0.view n).current.decision g.L.RowLaw.law n c.store_block.new.p.me.0 c.leave.new.p.me.0) (ap (λ (s : Session). s.seat) c.store_block.ensures.same)
+      (subst (λ (d : Decision). TookDecided d g.L.RowLaw.law c.store_block.new.self.seat c.store_block.new.p.me.0 c.leave.new.p.me.0) (sym (may_leave c.args.self.now c.in-Sealed.pre (view c.args.p.now) c.args.succ c.args.pred c.requires.known c.requires.stands (sym c.in-Sealed.ensures.value) c.requires.ready
+      c.replace.new.dest c.store_block.new.self c.store_block.ensures.same (view c.store_block.new.p) c.store_block.ensures.stored).decision) c.leave.ensures.took);
 }

@@ -139,7 +139,7 @@ pub returns-in-Err-clause-took_none : goal.returns-in-Err-clause-took_none
 returns-in-Err-clause-took_none g c =
     refused_then g.L.RowLaw.law c.args.self.now.seat (is_end c.in-Err.why)
     (λ (m : Book). TookNotRead g.L.RowLaw.law c.args.self.now.seat c.args.oid c.in-Err.why c.args.p.now.me.0 m × DidNotRead c.args.p.now.me.0.view c.args.self.now.seat c.args.oid c.in-Err.why m.view)
-    c.read_first.new.p.me.0 c.end_where.new.p.me.0 (c.in-Err.ensures.took_none, c.in-Err.ensures.refused) c.end_where.ensures.ends c.end_where.ensures.ended c.end_where.ensures.same
+    c.read_first.new.p.me.0 c.end_where.new.p.me.0 (c.in-Err.ensures.took_none, c.in-Err.ensures.refused) c.end_where.ensures.ends c.end_where.ensures.took c.end_where.ensures.ended c.end_where.ensures.same
 
 pub returns-in-Err-clause-still : goal.returns-in-Err-clause-still
 returns-in-Err-clause-still g c =

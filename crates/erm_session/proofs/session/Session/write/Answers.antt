@@ -1,7 +1,6 @@
 use Rattle.std.proofs.Common.{subst}
 use Rattle.erm_session.specs.Calls.{SetsRow}
 use Rattle.erm_session.proofs.session.Session.write.Goals as goal
-use Rattle.erm_session.specs.Took.{TookWrite}
 use Rattle.erm_rule.specs.Went.{Went}
 use Rattle.erm_session.proofs.Took.{write_still}
 use Rattle.erm_cells.specs.Took.{IsStoreStep}
