@@ -17,6 +17,8 @@ neither was before the other. It checks, of the answers, the order and the map t
 - a window is open where a transaction committed (the predecessor stamp is below the successor stamp), and closed where it was excluded;
 - the stamps of transactions differ, and none is below its transaction's begin, or within five words of the log's opening; `sealed` and
   `durable` name the stamp of their session's transaction;
+- no begin lies further on than the lines so far can have moved the log's end, by a block of the most words for each `seal` and `commit`; nor does the
+  end of such a block behind a stamp, by the lines up to the one that drew it, whichever line tells it: at once, by all lines of the script;
 - a begin is above the stamps of the commits that earlier lines tell, and of those that closed a window of one, and not below the begin of
   a transaction that an earlier line names as the owner: of earlier lines of its own session, where the sessions ran at once.
 
@@ -39,6 +41,9 @@ import sys
 WAITS = ["wait"], ["not", "flushed"]
 REPLIES = "ok", "value", "none", "pair", "pairs", "cut"
 WRITERS = "put", "del", "tidy"
+DRAWERS = "seal", "commit"
+# The words of the least block of the log, and of the greatest one.
+LEAST_BLOCK, GREATEST_BLOCK = 5, 2181
 LAST_KEY = 2**64 - 1
 NUMBER, DIGITS = "(?:0|[1-9][0-9]*)", "(?:-|(?:[0-9a-f]{2})+)"
 WINDOW = f"succ {NUMBER} pred {NUMBER}"
@@ -177,6 +182,7 @@ class Transaction:
         self.reads = set()  # the keys whose records it read, where windows are told exactly
         self.tidied, self.doubts = set(), set()  # the keys that its tidies claimed, and those that they may have claimed
         self.sealed = None
+        self.within = None  # where the block of its stamp ends at the latest
         self.ending = None  # "committed", "excluded" or "aborted"
         self.stamp = self.succ = self.pred = None
 
@@ -218,6 +224,11 @@ class Heard:
         self.opened, self.at_once = opened, at_once
         self.over, self.current, self.counts, self.last = [], {}, {}, {}
         self.seats, self.begins, self.met, self.named = {}, {}, {}, []
+        self.draws = 0  # how many lines may have drawn a range of the log by then
+
+    def log_end(self):
+        """How far the log's end may have come by then."""
+        return self.opened + LEAST_BLOCK + GREATEST_BLOCK * self.draws
 
     def line(self, number, session, words, answer):
         """The answer to a line of a session, or of none."""
@@ -226,10 +237,13 @@ class Heard:
         if session is None:
             return
         self.seats.setdefault(session, len(self.seats) + 1)
+        if words[0] in DRAWERS and answer[0] in ("sealed", "committed", "excluded", "wait"):
+            self.current[session].within = self.log_end()
         if answer[0] == "begin":
             self.begin(number, session, int(answer[1]))
         elif answer[0] == "sealed":
             self.current[session].sealed = int(answer[1])
+            self.check_reach(number, self.current[session].within, int(answer[1]))
         elif answer[0] == "durable" and int(answer[1]) != self.last.get(session):
             raise Bad(f"line {number} tells another commit than the session's last")
         elif answer[0] in REPLIES:
@@ -243,8 +257,17 @@ class Heard:
         count = self.counts[session] = self.counts.get(session, 0) + 1
         self.current[session] = Transaction(session, count, stamp)
         self.begins[session, count] = stamp
-        if stamp < self.opened + 5 or stamp <= self.met.get(session if self.at_once else None, 0):
+        if stamp > self.log_end():
+            raise Bad(f"line {number} begins further on than the log can have come")
+        if stamp < self.opened + LEAST_BLOCK or stamp <= self.met.get(session if self.at_once else None, 0):
             raise Bad(f"line {number} begins below what its session met before")
+
+    def check_reach(self, number, within, stamp):
+        """Whether a stamp was drawn, and at a line by which the log can have come to the end of its block."""
+        if within is None:
+            raise Bad(f"line {number} tells a stamp that wasn't drawn")
+        if stamp + GREATEST_BLOCK > within:
+            raise Bad(f"line {number} tells a stamp further on than the log can have come")
 
     def meet(self, session, stamp):
         """A commit with this stamp was met by a line of the session."""
@@ -273,6 +296,8 @@ class Heard:
             transaction.end("aborted")
             if answer[0] == "owned":
                 self.named.append((session, transaction.name[1], int(answer[1]), int(answer[2])))
+        if transaction.stamp is not None:
+            self.check_reach(number, transaction.within, transaction.stamp)
         if transaction.sealed not in (None, transaction.stamp):
             raise Bad(f"line {number} tells another stamp than the seal")
 
@@ -280,7 +305,9 @@ class Heard:
 def heard(script, report, at_once):
     """What the answers and the sessions closed tell, and where the order stands."""
     told, at = Heard(int(report[0].split(" ")[1]), at_once), 1
+    told.draws = sum(words[0] in DRAWERS for _, _, words in script) if at_once else 0
     for number, session, words in script:
+        told.draws += not at_once and words[0] in DRAWERS
         front, _, answer = report[at].partition(" ")
         if front != str(number) or not ANSWER.fullmatch(answer):
             raise Bad(f"line {number} of the script has no answer: {report[at]!r}")
@@ -483,7 +510,7 @@ def check_stamps(told):
     stamps = [it.stamp for it in told.over if it.stamp is not None]
     if len(set(stamps)) != len(stamps):
         raise Bad("two transactions have one stamp")
-    if any(it.stamp is not None and it.stamp < max(it.begin, told.opened + 5) for it in told.over):
+    if any(it.stamp is not None and it.stamp < max(it.begin, told.opened + LEAST_BLOCK) for it in told.over):
         raise Bad("a stamp lies below its transaction's begin")
     lowest = {}
     for (session, number), begin in sorted(told.begins.items(), reverse=True):

@@ -17,3 +17,4 @@ pub mod OfWindows
 pub mod Reading
 pub mod Tests
 pub mod OfUntold
+pub mod OfWaiting

@@ -19,7 +19,7 @@ use Rattle.erm_good_report.specs.Refusals.{HasCause, HasCauses, moment_at}
 use Rattle.erm_good_report.specs.Transactions.{Transaction, history_of, said_of, stamp_of}
 use Rattle.erm_good_report.proofs.Parts.{each_in, each_place}
 use Rattle.erm_bad_reports.specs.CutReports.{BreaksCutAlone, AtLog, CutClause, FaultAt, Fitting, IsNoCutReport, MeetsCut, Once, OwesAllBut, Owing, Unseen, cut_lines_of, told_of_cut, closed_too_early, closed_twice, closed_with, cut_number_too_great, cut_without_begin, fault_at_begin, fault_outside, unfilled_below}
-use Rattle.erm_bad_reports.proofs.Tests.{ring_wait, first_snapshot, in_none, in_one, stamps_agree, reach_from_test}
+use Rattle.erm_bad_reports.proofs.Tests.{ring_wait, first_snapshot, in_none, in_one, stamps_agree, reach_from_test, untold_in_reach}
 
 -- ---- a fault outside the lines
 keeps_but_fault : (other : CutClause) → other ≢ FaultAt → MeetsCut other fault_outside
@@ -33,7 +33,11 @@ keeps_but_fault Owing not = record {
   stamps = stamps_agree fault_outside.opening [] [] refl refl refl refl refl refl (in_none _) (in_none _) (in_none _);
   snapshots = in_none _;
   causes = in_none _;
-  refusals = record { each = λ i l a at beside. absurd (cc beside); reach = λ i l a at beside. absurd (cc beside) };
+  refusals = record {
+    each = λ i l a at beside. absurd (cc beside);
+    reach = λ i l a at beside. absurd (cc beside);
+    untold = untold_in_reach InTurn fault_outside.opening fault_outside.script fault_outside.answers (told_of_cut fault_outside) refl;
+  };
 }
 
 no_line_failed : MeetsCut FaultAt fault_outside → ⊥
@@ -65,7 +69,11 @@ keeps_but_log Owing not = record {
   stamps = stamps_agree fault_at_begin.opening [] [] refl refl refl refl refl refl (in_none _) (in_none _) (in_none _);
   snapshots = in_none _;
   causes = in_none _;
-  refusals = record { each = λ i l a at beside. absurd (cc beside); reach = λ i l a at beside. absurd (cc beside) };
+  refusals = record {
+    each = λ i l a at beside. absurd (cc beside);
+    reach = λ i l a at beside. absurd (cc beside);
+    untold = untold_in_reach InTurn fault_at_begin.opening fault_at_begin.script fault_at_begin.answers (told_of_cut fault_at_begin) refl;
+  };
 }
 
 begin_of_log : IfSome (Some (record { line = 1; session = 1; command = command.Begin })) IsLineOfLog → ⊥
@@ -97,7 +105,7 @@ keeps_but_fitting Owing not = record {
   stamps = stamps_agree cut_number_too_great.opening [] [] refl refl refl refl refl refl (in_none _) (in_none _) (in_none _);
   snapshots = in_none _;
   causes = in_none _;
-  refusals = record { each = λ i l a at. absurd (cc); reach = λ i l a at. absurd (cc) };
+  refusals = record { each = λ i l a at. absurd (cc); reach = λ i l a at. absurd (cc); untold = untold_in_reach InTurn cut_number_too_great.opening cut_number_too_great.script cut_number_too_great.answers (told_of_cut cut_number_too_great) refl };
 }
 
 too_great : All FitsTypes (cut_lines_of cut_number_too_great) → ⊥
@@ -147,23 +155,21 @@ keeps_but_once Once not = absurd (not refl)
 keeps_but_once Unseen not = each_in (IsClosedUnseen closed_twice.script closed_twice.answers) closed_twice.closed (record { fits = tt; sealed = refl; answered = λ i l above at. absurd (none_left i l above at) }, (record { fits = tt; sealed = refl; answered = λ i l above at. absurd (none_left i l above at) }, tt))
 keeps_but_once Owing not = record {
   phases = record { fits = each_place (λ i l a. FitsPhase (phase_of l.session (take i (said_of closed_twice.script closed_twice.answers))) l.command a) closed_twice.script closed_twice.answers (tt, (tt, tt)) };
-  stamps = stamps_agree closed_twice.opening (told_of_cut closed_twice) (said_of closed_twice.script closed_twice.answers) refl refl refl refl refl refl (in_one _ _ (omega arith)) (in_one _ _ (omega arith)) (in_one _ _ tt);
+  stamps = stamps_agree closed_twice.opening (told_of_cut closed_twice) (said_of closed_twice.script closed_twice.answers) refl refl refl refl refl refl (in_one _ _ (omega arith)) (in_one _ _ (omega arith)) (in_one _ _ refl);
   snapshots = in_one _ _ (first_snapshot (history_of (told_of_cut closed_twice)) empty 13 [] refl tt);
   causes = in_one _ _ (record { opens = omega arith; closes = omega arith; succ_cause = inl refl; pred_cause = inl refl });
   refusals = record {
     each = each_place (λ i l a. HasCause (moment_at InTurn closed_twice.opening closed_twice.script closed_twice.answers (told_of_cut closed_twice) i l) l.command a) closed_twice.script closed_twice.answers (
       record { own = λ t is. tt; log = tt; unfilled = tt },
-      (
-        ring_wait _ refl refl (λ t. in_one (λ u. u.session ≡ t.session → u.number ≡ t.number → IfSome (stamp_of u) (λ told. told ≡ 40000)) _ (λ session number. refl)),
-        tt,
-      ),
+      (record { own = λ t is. tt; log = tt; unfilled = tt }, tt),
     );
     reach = reach_from_test (moment_at InTurn closed_twice.opening closed_twice.script closed_twice.answers (told_of_cut closed_twice)) closed_twice.script closed_twice.answers refl;
+    untold = untold_in_reach InTurn closed_twice.opening closed_twice.script closed_twice.answers (told_of_cut closed_twice) refl;
   };
 }
 
 pub once_breaks : BreaksCutAlone Once closed_twice
-once_breaks = record { breaks = λ once. let other : 1 ≢ 1 = once 0 1 (closed_with 0) (omega arith) (omega arith) in other refl; keeps = keeps_but_once }
+once_breaks = record { breaks = λ once. let other : 1 ≢ 1 = once 0 1 (closed_with 13) (omega arith) (omega arith) in other refl; keeps = keeps_but_once }
 
 -- ---- a session that is closed before its last line
 keeps_but_unseen : (other : CutClause) → other ≢ Unseen → MeetsCut other closed_too_early
@@ -174,23 +180,21 @@ keeps_but_unseen Once not = λ i j d less within. absurd (omega arith)
 keeps_but_unseen Unseen not = absurd (not refl)
 keeps_but_unseen Owing not = record {
   phases = record { fits = each_place (λ i l a. FitsPhase (phase_of l.session (take i (said_of closed_too_early.script closed_too_early.answers))) l.command a) closed_too_early.script closed_too_early.answers (tt, (tt, tt)) };
-  stamps = stamps_agree closed_too_early.opening (told_of_cut closed_too_early) (said_of closed_too_early.script closed_too_early.answers) refl refl refl refl refl refl (in_one _ _ (omega arith)) (in_one _ _ (omega arith)) (in_one _ _ tt);
+  stamps = stamps_agree closed_too_early.opening (told_of_cut closed_too_early) (said_of closed_too_early.script closed_too_early.answers) refl refl refl refl refl refl (in_one _ _ (omega arith)) (in_one _ _ (omega arith)) (in_one _ _ refl);
   snapshots = in_one _ _ (first_snapshot (history_of (told_of_cut closed_too_early)) empty 13 [] refl tt);
   causes = in_one _ _ (record { opens = omega arith; closes = omega arith; succ_cause = inl refl; pred_cause = inl refl });
   refusals = record {
     each = each_place (λ i l a. HasCause (moment_at InTurn closed_too_early.opening closed_too_early.script closed_too_early.answers (told_of_cut closed_too_early) i l) l.command a) closed_too_early.script closed_too_early.answers (
       record { own = λ t is. tt; log = tt; unfilled = tt },
-      (
-        ring_wait _ refl refl (λ t. in_one (λ u. u.session ≡ t.session → u.number ≡ t.number → IfSome (stamp_of u) (λ told. told ≡ 40000)) _ (λ session number. refl)),
-        tt,
-      ),
+      (record { own = λ t is. tt; log = tt; unfilled = tt }, tt),
     );
     reach = reach_from_test (moment_at InTurn closed_too_early.opening closed_too_early.script closed_too_early.answers (told_of_cut closed_too_early)) closed_too_early.script closed_too_early.answers refl;
+    untold = untold_in_reach InTurn closed_too_early.opening closed_too_early.script closed_too_early.answers (told_of_cut closed_too_early) refl;
   };
 }
 
 pub unseen_breaks : BreaksCutAlone Unseen closed_too_early
-unseen_breaks = record { breaks = λ unseen. (unseen (closed_with 40000) (0, refl)).answered 3 _ (omega arith) refl refl; keeps = keeps_but_unseen }
+unseen_breaks = record { breaks = λ unseen. (unseen (closed_with 13) (0, refl)).answered 3 _ (omega arith) refl refl; keeps = keeps_but_unseen }
 
 -- ---- a block that isn't decided below the place flushed
 keeps_but_unfilled : (other : CutClause) → other ≢ Owing → MeetsCut other unfilled_below

@@ -22,7 +22,7 @@ use Rattle.erm_good_report.proofs.Parts.{all_pairs_of_two, each_in, each_place}
 use Rattle.erm_bad_reports.specs.Clauses.{BreaksAlone, Clause, Meets, lines_of, told_of, IsLowAt, IsHighAt, Fit, Answered, Closes, Phases, Stamps, Snapshots, Causes, Refusals, Serial, Ascending, Runs, LowEnds, HighEnds}
 use Rattle.erm_bad_reports.specs.Cases.{begun_too_early, future_was_read}
 use Rattle.erm_bad_reports.proofs.Reading.{owes_of}
-use Rattle.erm_bad_reports.proofs.Tests.{byte, in_one, no_commit_ordered, one_commit_ordered, no_pair_ascends, first_snapshot, phases_kept, reach_from_test, refusals_kept}
+use Rattle.erm_bad_reports.proofs.Tests.{byte, in_one, no_commit_ordered, one_commit_ordered, no_pair_ascends, first_snapshot, phases_kept, reach_from_test, refusals_kept, untold_in_reach}
 
 -- ---- a begin within the opening's block
 keeps_but_least : (other : Clause) → other ≢ Stamps → Meets other begun_too_early
@@ -33,7 +33,7 @@ keeps_but_least Phases not = record { fits = each_place (λ i l a. FitsPhase (ph
 keeps_but_least Stamps not = absurd (not refl)
 keeps_but_least Snapshots not = in_one _ _ (first_snapshot [] begun_too_early.opening.map 12 [] refl tt)
 keeps_but_least Causes not = in_one _ _ tt
-keeps_but_least Refusals not = record { each = each_place (λ i l a. HasCause (moment_at InTurn begun_too_early.opening begun_too_early.script begun_too_early.report.answers (told_of begun_too_early) i l) l.command a) begun_too_early.script begun_too_early.report.answers (record { own = λ t is. tt; log = tt; unfilled = tt }, (record { own = λ t is. tt; log = tt; unfilled = tt }, tt)); reach = reach_from_test (moment_at InTurn begun_too_early.opening begun_too_early.script begun_too_early.report.answers (told_of begun_too_early)) begun_too_early.script begun_too_early.report.answers refl }
+keeps_but_least Refusals not = record { each = each_place (λ i l a. HasCause (moment_at InTurn begun_too_early.opening begun_too_early.script begun_too_early.report.answers (told_of begun_too_early) i l) l.command a) begun_too_early.script begun_too_early.report.answers (record { own = λ t is. tt; log = tt; unfilled = tt }, (record { own = λ t is. tt; log = tt; unfilled = tt }, tt)); reach = reach_from_test (moment_at InTurn begun_too_early.opening begun_too_early.script begun_too_early.report.answers (told_of begun_too_early)) begun_too_early.script begun_too_early.report.answers refl; untold = untold_in_reach InTurn begun_too_early.opening begun_too_early.script begun_too_early.report.answers (told_of begun_too_early) refl }
 keeps_but_least Serial not = no_commit_ordered
 keeps_but_least Ascending not = no_pair_ascends
 keeps_but_least Runs not = record { run = refl }

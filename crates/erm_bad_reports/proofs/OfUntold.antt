@@ -26,10 +26,10 @@ use Rattle.erm_bad_reports.proofs.Reading.{owes_of}
 use Rattle.erm_bad_reports.proofs.Tests.{begins_ascend, begins_stop, first_snapshot, flushed_begin, flushed_drawn, no_pair_ascends, one_commit_ordered, phases_kept, refusals_kept, stamps_ascend, stamps_begin, stamps_differ, stamps_drawn, untold_after, untold_before}
 
 -- no line of these transactions puts a key
-abbrev tidies : ℕ → List Exchange
+abbrev pub tidies : ℕ → List Exchange
 tidies key = record { asked = command.Tidy 0 key; answer = answer.Cut 0 } ∷ []
 
-no_put : (n table key : ℕ) (e : Exchange) → e ∈ tidies n → PutsKey table key e → ⊥
+pub no_put : (n table key : ℕ) (e : Exchange) → e ∈ tidies n → PutsKey table key e → ⊥
 no_put n table key e (zero, at) puts =
     let same : record { asked = command.Tidy 0 n; answer = answer.Cut 0 } ≡ e = cc in
     let asked : command.Tidy 0 n ≡ command.Put table key puts.0.0 = ap (λ (x : Exchange). x.asked) same ∙ puts.0.1 in
@@ -40,18 +40,18 @@ no_line : (e : Exchange) → e ∈ [] → ⊥
 no_line e (k, at) = cc
 
 -- the second session waits for the first one
-abbrev sealed_first : Transaction
+abbrev pub sealed_first : Transaction
 sealed_first = record { session = 1; number = 1; begin = 13; lines = tidies 1; sealed = Some 13; ending = Unfinished }
 
-abbrev waits_now : ℕ → Transaction
+abbrev pub waits_now : ℕ → Transaction
 waits_now begin = record { session = 2; number = 1; begin = begin; lines = tidies 2; sealed = None; ending = Unfinished }
 
 its_own : (begin : ℕ) (u : Transaction) → Some (waits_now begin) ≡ Some u → waits_now begin ≡ u
 its_own begin u is = cc
 
-seat_wait : (m : Moment) (begin : ℕ) → m.mode ≡ InTurn → m.session ≡ 2 → current_of m m.session ≡ Some (waits_now begin) → IsSealedWith m 1 13 sealed_first
-    → ((t : Transaction) → t.session ≡ 2 → MayHaveStamp m t 50) → HasCause m command.Commit (answer.WaitSeat 1 13)
-seat_wait m begin in_turn session current sealed stamp = record {
+pub seat_wait : (m : Moment) (begin stamp : ℕ) → 13 < stamp → m.mode ≡ InTurn → m.session ≡ 2 → current_of m m.session ≡ Some (waits_now begin) → IsSealedWith m 1 13 sealed_first
+    → ((t : Transaction) → t.session ≡ 2 → MayHaveStamp m t stamp) → HasCause m command.Commit (answer.WaitSeat 1 13)
+seat_wait m begin stamp above in_turn session current sealed told = record {
   own = λ t is.
       let own = its_own begin is.0 (sym current ∙ is.1) in
       let whole : with_line (Some command.Commit) (answer.WaitSeat 1 13) (waits_now begin) ≡ t = ap (λ u. with_line (Some command.Commit) (answer.WaitSeat 1 13) u) own ∙ sym is.2 in (
@@ -60,9 +60,9 @@ seat_wait m begin in_turn session current sealed stamp = record {
           another = λ same. let no : 1 ≡ 2 = same ∙ session in omega (arith, no);
           other = sealed_first;
           sealed = sealed;
-          own = 50;
-          own_is = stamp t (sym (ap (λ (u : Transaction). u.session) whole));
-          below = omega arith;
+          own = stamp;
+          own_is = told t (sym (ap (λ (u : Transaction). u.session) whole));
+          below = above;
           table = 0;
           line = record { line = _; of = (0, refl); names = refl };
           mine = subst (λ (u : Transaction). NamesTable u 0) whole (record { line = _; of = (0, refl); names = refl });
@@ -90,7 +90,7 @@ keeps_but_begun Snapshots not = each_in (λ t. HasSnapshotReplies (history_of (t
     (first_snapshot (history_of (told_of stamp_below_begin)) empty 13 [] refl tt, (record { snapshot = empty; below_begin = record { order = below 60 (history_of (told_of stamp_below_begin)); serial = both_ordered_begun; state = refl }; replies = tt }, tt))
 keeps_but_begun Causes not = each_in (λ t. HasCauseOf t.ending (told_of stamp_below_begin) t) (told_of stamp_below_begin)
     (record { opens = omega arith; closes = omega arith; succ_cause = inl refl; pred_cause = inl refl }, (record { opens = omega arith; closes = omega arith; succ_cause = inl refl; pred_cause = inl refl }, tt))
-keeps_but_begun Refusals not = refusals_kept stamp_below_begin refl (record { own = λ t is. tt; log = tt; unfilled = tt }, (record { own = λ t is. tt; log = tt; unfilled = tt }, (record { own = λ t is. tt; log = tt; unfilled = tt }, (record { own = λ t is. tt; log = tt; unfilled = tt }, (record { own = λ t is. tt; log = tt; unfilled = tt }, (seat_wait _ 60 refl refl refl (record { current = refl; sealed = refl; stamp_is = each_in (λ u. u.session ≡ 1 → u.number ≡ 1 → IfSome (stamp_of u) (λ told. told ≡ 13)) (told_of stamp_below_begin) (λ session number. refl, (λ session number. absurd (omega (arith, session)), tt)) }) (λ t is. each_in (λ u. u.session ≡ t.session → u.number ≡ t.number → IfSome (stamp_of u) (λ told. told ≡ 50)) (told_of stamp_below_begin) (λ session number. absurd (omega (arith, session, is)), (λ session number. refl, tt))), (record { own = λ t is. own_window _ t _; log = tt; unfilled = tt }, (record { own = λ t is. own_window _ t _; log = tt; unfilled = tt }, tt))))))))
+keeps_but_begun Refusals not = refusals_kept stamp_below_begin refl (record { own = λ t is. tt; log = tt; unfilled = tt }, (record { own = λ t is. tt; log = tt; unfilled = tt }, (record { own = λ t is. tt; log = tt; unfilled = tt }, (record { own = λ t is. tt; log = tt; unfilled = tt }, (record { own = λ t is. tt; log = tt; unfilled = tt }, (seat_wait _ 60 50 (omega arith) refl refl refl (record { current = refl; sealed = refl; stamp_is = each_in (λ u. u.session ≡ 1 → u.number ≡ 1 → IfSome (stamp_of u) (λ told. told ≡ 13)) (told_of stamp_below_begin) (λ session number. refl, (λ session number. absurd (omega (arith, session)), tt)) }) (λ t is. each_in (λ u. u.session ≡ t.session → u.number ≡ t.number → IfSome (stamp_of u) (λ told. told ≡ 50)) (told_of stamp_below_begin) (λ session number. absurd (omega (arith, session, is)), (λ session number. refl, tt))), (record { own = λ t is. own_window _ t _; log = tt; unfilled = tt }, (record { own = λ t is. own_window _ t _; log = tt; unfilled = tt }, tt))))))))
 keeps_but_begun Serial not = both_ordered_begun
 keeps_but_begun Ascending not = no_pair_ascends
 keeps_but_begun Runs not = record { run = (tt, (tt, refl)) }
@@ -145,7 +145,7 @@ keeps_but_untold_after Snapshots not = each_in (λ t. HasSnapshotReplies (histor
     (first_snapshot (history_of (told_of begun_above_untold)) empty 13 [] refl tt, (record { snapshot = empty; below_begin = record { order = below 40 (history_of (told_of begun_above_untold)); serial = one_commit_ordered _; state = refl }; replies = tt }, (record { snapshot = empty; below_begin = record { order = below 60 (history_of (told_of begun_above_untold)); serial = both_ordered_untold_after; state = refl }; replies = tt }, tt)))
 keeps_but_untold_after Causes not = each_in (λ t. HasCauseOf t.ending (told_of begun_above_untold) t) (told_of begun_above_untold)
     (record { opens = omega arith; closes = omega arith; succ_cause = inl refl; pred_cause = inl refl }, (record { opens = omega arith; closes = omega arith; succ_cause = inl refl; pred_cause = inl refl }, (tt, tt)))
-keeps_but_untold_after Refusals not = refusals_kept begun_above_untold refl (record { own = λ t is. tt; log = tt; unfilled = tt }, (record { own = λ t is. tt; log = tt; unfilled = tt }, (record { own = λ t is. tt; log = tt; unfilled = tt }, (record { own = λ t is. tt; log = tt; unfilled = tt }, (record { own = λ t is. tt; log = tt; unfilled = tt }, (record { own = λ t is. tt; log = tt; unfilled = tt }, (record { own = λ t is. tt; log = tt; unfilled = tt }, (seat_wait _ 40 refl refl refl (record { current = refl; sealed = refl; stamp_is = each_in (λ u. u.session ≡ 1 → u.number ≡ 1 → IfSome (stamp_of u) (λ told. told ≡ 13)) (told_of begun_above_untold) (λ session number. refl, (λ session number. absurd (omega (arith, session)), (λ session number. tt, tt))) }) (λ t is. each_in (λ u. u.session ≡ t.session → u.number ≡ t.number → IfSome (stamp_of u) (λ told. told ≡ 50)) (told_of begun_above_untold) (λ session number. absurd (omega (arith, session, is)), (λ session number. refl, (λ session number. tt, tt)))), (record { own = λ t is. own_window _ t _; log = tt; unfilled = tt }, (record { own = λ t is. own_window _ t _; log = tt; unfilled = tt }, tt))))))))))
+keeps_but_untold_after Refusals not = refusals_kept begun_above_untold refl (record { own = λ t is. tt; log = tt; unfilled = tt }, (record { own = λ t is. tt; log = tt; unfilled = tt }, (record { own = λ t is. tt; log = tt; unfilled = tt }, (record { own = λ t is. tt; log = tt; unfilled = tt }, (record { own = λ t is. tt; log = tt; unfilled = tt }, (record { own = λ t is. tt; log = tt; unfilled = tt }, (record { own = λ t is. tt; log = tt; unfilled = tt }, (seat_wait _ 40 50 (omega arith) refl refl refl (record { current = refl; sealed = refl; stamp_is = each_in (λ u. u.session ≡ 1 → u.number ≡ 1 → IfSome (stamp_of u) (λ told. told ≡ 13)) (told_of begun_above_untold) (λ session number. refl, (λ session number. absurd (omega (arith, session)), (λ session number. tt, tt))) }) (λ t is. each_in (λ u. u.session ≡ t.session → u.number ≡ t.number → IfSome (stamp_of u) (λ told. told ≡ 50)) (told_of begun_above_untold) (λ session number. absurd (omega (arith, session, is)), (λ session number. refl, (λ session number. tt, tt)))), (record { own = λ t is. own_window _ t _; log = tt; unfilled = tt }, (record { own = λ t is. own_window _ t _; log = tt; unfilled = tt }, tt))))))))))
 keeps_but_untold_after Serial not = both_ordered_untold_after
 keeps_but_untold_after Ascending not = no_pair_ascends
 keeps_but_untold_after Runs not = record { run = (tt, (tt, refl)) }
@@ -194,7 +194,7 @@ keeps_but_untold_before Snapshots not = each_in (λ t. HasSnapshotReplies (histo
     (first_snapshot (history_of (told_of begun_below_untold)) empty 13 [] refl tt, (record { snapshot = empty; below_begin = record { order = below 40 (history_of (told_of begun_below_untold)); serial = one_commit_ordered _; state = refl }; replies = tt }, (record { snapshot = empty; below_begin = record { order = below 45 (history_of (told_of begun_below_untold)); serial = one_commit_ordered _; state = refl }; replies = tt }, tt)))
 keeps_but_untold_before Causes not = each_in (λ t. HasCauseOf t.ending (told_of begun_below_untold) t) (told_of begun_below_untold)
     (record { opens = omega arith; closes = omega arith; succ_cause = inl refl; pred_cause = inl refl }, (record { opens = omega arith; closes = omega arith; succ_cause = inl refl; pred_cause = inl refl }, (tt, tt)))
-keeps_but_untold_before Refusals not = refusals_kept begun_below_untold refl (record { own = λ t is. tt; log = tt; unfilled = tt }, (record { own = λ t is. tt; log = tt; unfilled = tt }, (record { own = λ t is. tt; log = tt; unfilled = tt }, (record { own = λ t is. tt; log = tt; unfilled = tt }, (record { own = λ t is. tt; log = tt; unfilled = tt }, (seat_wait _ 40 refl refl refl (record { current = refl; sealed = refl; stamp_is = each_in (λ u. u.session ≡ 1 → u.number ≡ 1 → IfSome (stamp_of u) (λ told. told ≡ 13)) (told_of begun_below_untold) (λ session number. refl, (λ session number. absurd (omega (arith, session)), (λ session number. tt, tt))) }) (λ t is. each_in (λ u. u.session ≡ t.session → u.number ≡ t.number → IfSome (stamp_of u) (λ told. told ≡ 50)) (told_of begun_below_untold) (λ session number. absurd (omega (arith, session, is)), (λ session number. refl, (λ session number. tt, tt)))), (record { own = λ t is. tt; log = tt; unfilled = tt }, (record { own = λ t is. tt; log = tt; unfilled = tt }, (record { own = λ t is. own_window _ t _; log = tt; unfilled = tt }, (record { own = λ t is. own_window _ t _; log = tt; unfilled = tt }, tt))))))))))
+keeps_but_untold_before Refusals not = refusals_kept begun_below_untold refl (record { own = λ t is. tt; log = tt; unfilled = tt }, (record { own = λ t is. tt; log = tt; unfilled = tt }, (record { own = λ t is. tt; log = tt; unfilled = tt }, (record { own = λ t is. tt; log = tt; unfilled = tt }, (record { own = λ t is. tt; log = tt; unfilled = tt }, (seat_wait _ 40 50 (omega arith) refl refl refl (record { current = refl; sealed = refl; stamp_is = each_in (λ u. u.session ≡ 1 → u.number ≡ 1 → IfSome (stamp_of u) (λ told. told ≡ 13)) (told_of begun_below_untold) (λ session number. refl, (λ session number. absurd (omega (arith, session)), (λ session number. tt, tt))) }) (λ t is. each_in (λ u. u.session ≡ t.session → u.number ≡ t.number → IfSome (stamp_of u) (λ told. told ≡ 50)) (told_of begun_below_untold) (λ session number. absurd (omega (arith, session, is)), (λ session number. refl, (λ session number. tt, tt)))), (record { own = λ t is. tt; log = tt; unfilled = tt }, (record { own = λ t is. tt; log = tt; unfilled = tt }, (record { own = λ t is. own_window _ t _; log = tt; unfilled = tt }, (record { own = λ t is. own_window _ t _; log = tt; unfilled = tt }, tt))))))))))
 keeps_but_untold_before Serial not = both_ordered_untold_before
 keeps_but_untold_before Ascending not = no_pair_ascends
 keeps_but_untold_before Runs not = record { run = (tt, (tt, refl)) }

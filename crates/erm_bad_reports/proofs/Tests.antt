@@ -24,7 +24,7 @@ use Rattle.erm_good_report.specs.Stamps.{Told, StampsAgree, begin_told, place_to
 use Rattle.erm_good_report.specs.Transactions.{Exchange, Ending, Unfinished, Commits, Excludes, Aborts, Progress, Said, Transaction, heard, nothing, progress_of, said_of, stamp_of, stamp_of_ending}
 use Rattle.erm_good_report.specs.Windows.{HasLine, IsHighEnd, IsLowEnd}
 use Rattle.erm_bad_reports.specs.Clauses.{Case, Meets, Phases, Refusals, told_of, IsLowAt, IsHighAt}
-pub use Rattle.erm_good_report.proofs.StampTests.{after_side, before_side, begins_ascend, begins_stop, first_true, places_pass, reach_from_test, reach_pass, second_true, some_pass, stamps_ascend, stamps_begin, untold_after, untold_before, untold_pass}
+pub use Rattle.erm_good_report.proofs.StampTests.{after_side, before_side, begins_ascend, begins_stop, first_true, places_pass, reach_from_test, reach_pass, reach_side, second_true, some_pass, stamps_ascend, stamps_begin, untold_after, untold_before, untold_in_reach, untold_pass}
 use Rattle.erm_good_report.proofs.Parts.{EachPlace, each_in, each_place, all_pairs_from_test, all_pairs_of_none, all_pass, told_pass, told_from_test, pairs_pass}
 
 pub less_from : (m n : ℕ) → nat_lt m n ≡ true → m < n
@@ -196,14 +196,21 @@ pub phases_kept : (k : Case) → EachPlace (λ i l a. FitsPhase (phase_of l.sess
 phases_kept k each =
     record { fits = each_place (λ i l a. FitsPhase (phase_of l.session (take i (said_of k.script k.report.answers))) l.command a) k.script k.report.answers each }
 
--- no stamp is out of reach
+-- no stamp is out of reach: none that its line tells, nor that of a commit that waits
+abbrev pub reaches_at : Case → Bool
+reaches_at k = places_pass (λ i l a. reach_pass (moment_at k.mode k.opening k.script k.report.answers (told_of k) i l) l.command a) 0 k.script k.report.answers
+
+abbrev pub reaches_later : Case → Bool
+reaches_later k = untold_pass (reach_side k.mode k.opening k.script) (told_of k) (said_of k.script k.report.answers)
+
 abbrev pub reaches : Case → Bool
-reaches k = places_pass (λ i l a. reach_pass (moment_at k.mode k.opening k.script k.report.answers (told_of k) i l) l.command a) 0 k.script k.report.answers
+reaches k = reaches_at k && reaches_later k
 
 pub refusals_kept : (k : Case) → reaches k ≡ true → EachPlace (λ i l a. HasCause (moment_at k.mode k.opening k.script k.report.answers (told_of k) i l) l.command a) 0 k.script k.report.answers → Meets Refusals k
 refusals_kept k pass each = record {
   each = each_place (λ i l a. HasCause (moment_at k.mode k.opening k.script k.report.answers (told_of k) i l) l.command a) k.script k.report.answers each;
-  reach = reach_from_test (moment_at k.mode k.opening k.script k.report.answers (told_of k)) k.script k.report.answers pass;
+  reach = reach_from_test (moment_at k.mode k.opening k.script k.report.answers (told_of k)) k.script k.report.answers (first_true (reaches_at k) (reaches_later k) pass);
+  untold = untold_in_reach k.mode k.opening k.script k.report.answers (told_of k) (second_true (reaches_at k) (reaches_later k) pass);
 }
 
 -- a wait for the ring of a transaction whose stamp may be 40000

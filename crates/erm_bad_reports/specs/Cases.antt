@@ -99,6 +99,15 @@ begun_out_of_reach = case_of one_name (a_line command.Begin ∷ a_line command.A
 abbrev pub drawn_out_of_reach : Case
 drawn_out_of_reach = case_of one_name (a_line command.Begin ∷ a_line command.Commit ∷ []) (answer.Began 13 ∷ answer.Committed 18 18 0 ∷ []) (commit_by 1 1 13 18 18 0 [] ∷ []) []
 
+-- a commit waits for a session that is sealed, and the settle behind tells a stamp of it that is further on than two blocks may have moved the log
+abbrev pub waited_out_of_reach : Case
+waited_out_of_reach = case_of two_names
+    (a_line command.Begin ∷ a_line (command.Tidy 0 1) ∷ a_line command.Seal ∷ b_line command.Begin ∷ b_line (command.Tidy 0 2) ∷ b_line command.Commit
+    ∷ a_line command.Settle ∷ b_line command.Settle ∷ [])
+    (answer.Began 13 ∷ answer.Cut 0 ∷ answer.Sealed 13 ∷ answer.Began 40 ∷ answer.Cut 0 ∷ answer.WaitSeat 1 13
+    ∷ answer.Committed 13 13 0 ∷ answer.Committed 5000 5000 0 ∷ [])
+    (commit_by 1 1 13 13 13 0 [] ∷ commit_by 2 1 40 5000 5000 0 [] ∷ []) []
+
 -- ---- replies
 -- a transaction that aborts gets a value that no commit put
 abbrev pub value_from_nowhere : Case

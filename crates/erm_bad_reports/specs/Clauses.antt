@@ -1,11 +1,12 @@
 -- The clauses of a good report, one by one, and what it means for a report to break one of them alone.
 use Rattle.std.specs.Prelude.{◌≡◌, ◌≢◌, ℕ, List, length, Some}
-use Rattle.std.specs.List.{All}
+use Rattle.std.specs.List.{All, slice_get}
 use Rattle.std.specs.FinMap.{from_entries}
 use Rattle.erm_model.specs.Committed.{HasSnapshotReplies, RunsInOrder, rank_of}
 use Rattle.erm_model.specs.Database.{AscendByKey, entries_of}
 use Rattle.erm_model.specs.Member.{◌∈◌}
 use Rattle.erm_model.specs.SerialOrder.{IsSerialOrder}
+use Rattle.erm_report.specs.declared.answer.Answer.{Answer}
 use Rattle.erm_report.specs.declared.line.Line.{Line}
 use Rattle.erm_report.specs.Printable.{FitsTypes}
 use Rattle.erm_script.specs.declared.script.ScriptLine.{ScriptLine}
@@ -13,7 +14,7 @@ use Rattle.erm_good_report.specs.Causes.{HasCauseOf}
 use Rattle.erm_good_report.specs.GoodReport.{IsGoodReport, IsTightReport, Report, places_of, report_lines}
 use Rattle.erm_good_report.specs.Opening.{Mode, Opening}
 use Rattle.erm_good_report.specs.Phases.{ClosesAgree, PhasesAgree}
-use Rattle.erm_good_report.specs.Refusals.{HasCauses}
+use Rattle.erm_good_report.specs.Refusals.{HasCause, HasCauses, IsInReach, moment_at}
 use Rattle.erm_good_report.specs.Stamps.{StampsAgree}
 use Rattle.erm_good_report.specs.Transactions.{Ending, Commits, Excludes, Transaction, history_of, said_of, steps_of, transactions_of}
 use Rattle.erm_good_report.specs.Windows.{IsLowEnd, IsHighEnd}
@@ -87,3 +88,8 @@ pub record BreaksAlone (clause : Clause) (k : Case) : Type 0 where
   pub breaks : Meets clause k → ⊥
   pub keeps : (other : Clause) → other ≢ clause → Meets other k
   pub refused : IsGoodBy clause k → ⊥
+
+-- of the clause of refusals it keeps what is asked line by line: each answer has its cause, and what its line tells is in reach
+abbrev pub MeetsByLine : Case → Type 0
+MeetsByLine k = (i : ℕ) (l : ScriptLine) (a : Answer) → slice_get k.script i ≡ Some l → slice_get k.report.answers i ≡ Some a
+    → HasCause (moment_at k.mode k.opening k.script k.report.answers (told_of k) i l) l.command a × IsInReach (moment_at k.mode k.opening k.script k.report.answers (told_of k) i l) l.command a

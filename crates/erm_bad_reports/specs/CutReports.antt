@@ -102,7 +102,7 @@ cut_without_begin = record {
   closed = [];
 }
 
--- a session whose commit waits for the ring is closed twice
+-- a session that is sealed is closed twice
 abbrev pub closed_with : ℕ → Closed
 closed_with stamp = record { session = 1; answer = answer.Committed stamp stamp 0 }
 
@@ -110,10 +110,10 @@ abbrev pub closed_twice : CutCase
 closed_twice = record {
   opening = opening_at 8;
   names = one_name;
-  script = asked_from 1 (a_line command.Begin ∷ a_line command.Commit ∷ []);
-  answers = answer.Began 13 ∷ answer.WaitRing 13 ∷ [];
+  script = asked_from 1 (a_line command.Begin ∷ a_line command.Seal ∷ []);
+  answers = answer.Began 13 ∷ answer.Sealed 13 ∷ [];
   fault = None;
-  closed = closed_with 40000 ∷ closed_with 40000 ∷ [];
+  closed = closed_with 13 ∷ closed_with 13 ∷ [];
 }
 
 -- it is closed, and has a line left
@@ -121,10 +121,10 @@ abbrev pub closed_too_early : CutCase
 closed_too_early = record {
   opening = opening_at 8;
   names = one_name;
-  script = asked_from 1 (a_line command.Begin ∷ a_line command.Commit ∷ of_log command.Flush ∷ a_line command.Settle ∷ []);
-  answers = answer.Began 13 ∷ answer.WaitRing 13 ∷ [];
+  script = asked_from 1 (a_line command.Begin ∷ a_line command.Seal ∷ of_log command.Flush ∷ a_line command.Settle ∷ []);
+  answers = answer.Began 13 ∷ answer.Sealed 13 ∷ [];
   fault = Some (record { line = 3; session = 0; command = command.Flush });
-  closed = closed_with 40000 ∷ [];
+  closed = closed_with 13 ∷ [];
 }
 
 -- A commit waits for the ring, with a stamp that no line tells. A flush tells a place, and a checkpoint behind it that the block there isn't

@@ -3,9 +3,9 @@ ghost use Rattle.erm_good_report.specs.GoodReport.{IsGoodReport};
 ghost use Rattle.erm_good_report.specs.Opening.{InTurn, Opening};
 ghost use Rattle.erm_report.specs.declared.answer.Answer.TheVariants as answer;
 ghost use Rattle.std.specs.Prelude.{[]};
-ghost use Rattle.erm_bad_reports.specs.Clauses.{BreaksAlone, Fit, Answered, Closes, Phases, Stamps, Snapshots, Causes, Refusals, Serial, Ascending, Runs, LowEnds, HighEnds};
+ghost use Rattle.erm_bad_reports.specs.Clauses.{BreaksAlone, MeetsByLine, Fit, Answered, Closes, Phases, Stamps, Snapshots, Causes, Refusals, Serial, Ascending, Runs, LowEnds, HighEnds};
 ghost use Rattle.erm_bad_reports.specs.Cases.{commit_left_out, number_too_great, line_left_out, left_open, got_without_begin};
-ghost use Rattle.erm_bad_reports.specs.Cases.{begun_too_early, future_was_read, begun_out_of_reach, drawn_out_of_reach};
+ghost use Rattle.erm_bad_reports.specs.Cases.{begun_too_early, future_was_read, begun_out_of_reach, drawn_out_of_reach, waited_out_of_reach};
 ghost use Rattle.erm_bad_reports.specs.Cases.{value_from_nowhere, predecessor_unknown, excluded_alone, owned_by_nobody};
 ghost use Rattle.erm_bad_reports.specs.Cases.{order_turned_round, pairs_turned_round, pair_from_nowhere};
 ghost use Rattle.erm_bad_reports.specs.Cases.{predecessor_too_low, successor_too_high};
@@ -54,10 +54,12 @@ pub fn parts_of_stamps_are_needed()
     ensures untold_before { BreaksPartAlone UntoldBefore begun_below_untold }
 {}
 
-/// Reach: a begin, and a stamp, lie further on than the lines so far can have moved the log.
+/// Reach: a begin, and a stamp, lie further on than the lines so far can have moved the log; and so does the stamp of a commit that waits, which a later
+/// line tells. Of this one all that is asked line by line is there.
 pub fn reach_is_needed()
     ensures begins { BreaksAlone Refusals begun_out_of_reach }
     ensures draws { BreaksAlone Refusals drawn_out_of_reach }
+    ensures waits { BreaksAlone Refusals waited_out_of_reach × MeetsByLine waited_out_of_reach }
 {}
 
 /// Replies and causes: an aborted transaction gets what nobody put; a commit, an exclusion and a refusal have no cause.

@@ -24,3 +24,4 @@ pub mod Shown
 pub mod Tables
 pub mod Together
 pub mod Waits
+pub mod Drawing

@@ -31,7 +31,7 @@ use Rattle.erm_told.proofs.Ended.{stamp_later}
 use Rattle.erm_told.proofs.Runs.{said_first, said_lines, serializable_then}
 use Rattle.erm_told_limits.specs.Limits.{ClaimsAreFew, EndHasCause, FullHasCause, IsEnd, IsFull, StampsAreInReach}
 use Rattle.erm_told_limits.proofs.Given.{HistoryLaws}
-use Rattle.erm_causes.specs.Laws.{IsForOthers, IsOfLog, RefusesForOthers, RunsRefuseForOthers, RunsTellLog}
+use Rattle.erm_causes.specs.Laws.{IsForOthers, IsOfLog, RefusesForOthers, RunsDrawInReach, RunsRefuseForOthers, RunsTellLog}
 use Rattle.erm_causes.specs.Touched.{AreOfTables}
 use Rattle.erm_causes.proofs.Causes.{commit_over, over_told}
 use Rattle.erm_causes.proofs.Early.{EarlyCommit, over_later}
@@ -275,8 +275,8 @@ any_unfilled m command.Flush (answer.Unfilled place) log = log tt
 any_unfilled m command.Checkpoint (answer.Unfilled place) log = log tt
 any_unfilled m c a log = tt
 
-pub with_cause : RunsRefuseForOthers → FullHasCause → EndHasCause → RunsTellLog → StampsAreInReach → OfCourses (λ opening script answers closed told. HasCauses InTurn opening script answers told)
-with_cause others full end log reach v t script answers run closed opening are starts = record {
+pub with_cause : RunsRefuseForOthers → FullHasCause → EndHasCause → RunsTellLog → StampsAreInReach → RunsDrawInReach → OfCourses (λ opening script answers closed told. HasCauses InTurn opening script answers told)
+with_cause others full end log reach draws v t script answers run closed opening are starts = record {
   each = λ i l a at answered.
       let all = transactions_of v.opening.sessions (places_of script answers closed) in
       let of_log = log v t script answers run closed opening are starts i l a at answered in
@@ -288,4 +288,5 @@ with_cause others full end log reach v t script answers run closed opening are s
         unfilled = any_unfilled (moment_at InTurn opening script answers all i l) l.command a (λ is. (of_log is).1);
       };
   reach = λ i l a at answered. reach v t script answers run opening starts (transactions_of v.opening.sessions (places_of script answers closed)) i l a at answered tt;
+  untold = draws v t script answers run closed opening are starts;
 }

@@ -1,6 +1,7 @@
 -- What runs owe by the tables of their objects, whole or so far: the laws, as statements.
-use Rattle.std.specs.Prelude.{◌≡◌, ℕ, List, Some}
+use Rattle.std.specs.Prelude.{◌≡◌, ℕ, ◌+◌, ◌≤◌, List, Some}
 use Rattle.std.specs.List.{slice_get}
+use Rattle.erm_model.specs.declared.limits.TheConstants.{GREATEST_BLOCK}
 use Rattle.erm_report.specs.declared.answer.Answer.{Answer}
 use Rattle.erm_report.specs.declared.answer.Answer.TheVariants as answer
 use Rattle.erm_script.specs.declared.script.ScriptLine.{ScriptLine}
@@ -8,8 +9,9 @@ use Rattle.erm_world.specs.World.{IsSession, View, history_of}
 use Rattle.erm_good_report.specs.GoodReport.{places_of}
 use Rattle.erm_good_report.specs.Opening.{InTurn, Opening}
 use Rattle.erm_good_report.specs.Phases.{Closed}
-use Rattle.erm_good_report.specs.Refusals.{HasLogCause, HasRefusalCause, HasUnfilledCause, IsOwn, moment_at}
-use Rattle.erm_good_report.specs.Transactions.{Transaction, progress_of}
+use Rattle.erm_good_report.specs.Refusals.{HasLogCause, HasRefusalCause, HasUnfilledCause, IsOwn, moment_at, most_end}
+use Rattle.erm_good_report.specs.Stamps.{DrawsUntold}
+use Rattle.erm_good_report.specs.Transactions.{Transaction, progress_of, said_of}
 use Rattle.erm_lines.specs.Executions.{AreClosed, IsCourse}
 use Rattle.erm_lines.specs.Laws.{OfCourses}
 use Rattle.erm_causes.specs.Touched.{AreOfTables, TouchesAll}
@@ -60,3 +62,11 @@ RunsTellLog = OfCourses (λ opening script answers closed told. TellsLog opening
 
 abbrev pub RunsRefuseForOthers : Type 0
 RunsRefuseForOthers = OfCourses (λ opening script answers closed told. RefusesForOthers opening script answers told)
+
+-- A commit that waits draws its stamp in reach of the lines up to its own.
+abbrev pub DrawsInReach : Opening → List ScriptLine → List Answer → List Transaction → Type 0
+DrawsInReach opening script answers told = (i stamp : ℕ) (l : ScriptLine) → slice_get script i ≡ Some l → DrawsUntold told (said_of script answers) i stamp
+    → stamp + GREATEST_BLOCK ≤ most_end (moment_at InTurn opening script answers told i l)
+
+abbrev pub RunsDrawInReach : Type 0
+RunsDrawInReach = OfCourses (λ opening script answers closed told. DrawsInReach opening script answers told)

@@ -2,7 +2,7 @@
 //! contract of a function that does nothing.
 #![tactic(auto)]
 
-ghost use Rattle.erm_causes.specs.Laws.{RunsRefuseForOthers, RunsTellLog, RunsTouchTables};
+ghost use Rattle.erm_causes.specs.Laws.{RunsDrawInReach, RunsRefuseForOthers, RunsTellLog, RunsTouchTables};
 ghost use Rattle.erm_lines.specs.Laws.{PartsHaveCauses, PartsRefuseWithCause, RunsHaveCauses, RunsRefuseWithCause};
 
 /// Each object of a run has one table: that of the line that made it, or that whose tree reached it at the opening. Each
@@ -61,6 +61,16 @@ pub fn runs_tell_log()
     erm_told::executions_go_on();
 }
 
+/// Each commit of a run that waits has drawn a stamp in reach of the lines up to its own, where the report tells it, by a later line or by the end
+/// of its session.
+pub fn runs_draw_in_reach()
+    ensures { RunsDrawInReach }
+{
+    erm_told::executions_tell_sessions();
+    erm_told::executions_go_on();
+    erm_told_limits::ends_are_in_reach();
+}
+
 /// Each answer of a run that refuses, or that tells of the log, has its cause in the lines.
 pub fn runs_refuse_with_cause()
     ensures { RunsRefuseWithCause }
@@ -70,6 +80,7 @@ pub fn runs_refuse_with_cause()
     erm_told_limits::end_has_cause();
     runs_tell_log();
     erm_told_limits::stamps_are_in_reach();
+    runs_draw_in_reach();
 }
 
 /// The same of a run that was cut off.
@@ -81,4 +92,5 @@ pub fn parts_refuse_with_cause()
     erm_told_limits::end_has_cause();
     runs_tell_log();
     erm_told_limits::stamps_are_in_reach();
+    runs_draw_in_reach();
 }

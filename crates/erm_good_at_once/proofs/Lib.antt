@@ -1,1 +1,2 @@
+pub mod InReach
 pub mod OfCases

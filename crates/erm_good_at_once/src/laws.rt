@@ -1,4 +1,5 @@
 //! Laws of the definitions. Each holds as it stands, and its function does nothing.
+ghost use Rattle.erm_good_at_once.specs.InReach.{CutOnesAreWithin};
 ghost use Rattle.erm_good_at_once.specs.Cases.{BegunAtOneMet, BegunBelowItsOwner, GapIsAllowed, HoleIsRefused, OutOfPhaseIsRefused};
 
 /// What was met says more than the good report's clause on begins and the stamps printed: of two small reports the one begins at the stamp of a commit that closed
@@ -18,4 +19,10 @@ pub fn gaps_are_allowed()
 pub fn bad_cuts_are_refused()
     ensures hole { HoleIsRefused }
     ensures phase { OutOfPhaseIsRefused }
+{}
+
+/// No stamp that a report at once tells of a transaction, where the disk's fault cut it off, is further on than the script's lines can have moved the
+/// log: its seal tells it, or the line that drew it, since none waits.
+pub fn cut_stamps_are_in_reach()
+    ensures { CutOnesAreWithin }
 {}

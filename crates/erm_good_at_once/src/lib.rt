@@ -4,4 +4,6 @@
 
 mod laws;
 
-pub use laws::{bad_cuts_are_refused, clauses_at_once_are_needed, gaps_are_allowed};
+pub use laws::{
+    bad_cuts_are_refused, clauses_at_once_are_needed, cut_stamps_are_in_reach, gaps_are_allowed,
+};

@@ -1,7 +1,9 @@
 pub mod Decided
 pub mod Determining
+pub mod InReach
 pub mod Names
 pub mod OneWindow
 pub mod Parts
+pub mod Places
 pub mod StampTests
 pub mod WriteSkew

@@ -1,5 +1,5 @@
 -- Stamps of a report by tests: begins, stamps that lines draw, their reach, and commits that wait.
-use Rattle.std.proofs.Common.{◌≡◌, ◌≢◌, ℕ, zero, suc, ◌+◌, ◌<◌, ◌≤◌, ◌==◌, Bool, true, false, ◌&&◌, ◌||◌, not, nat_lt, nat_le, List, [], ◌∷◌, take, slice_get, Option, Some, None, refl, sym, ap, ◌∙◌, subst, eq-eqb, ne_eqb, arith}
+use Rattle.std.proofs.Common.{◌≡◌, ◌≢◌, ℕ, zero, suc, ◌+◌, ◌*◌, ◌<◌, ◌≤◌, ◌==◌, Bool, true, false, ◌&&◌, ◌||◌, not, nat_lt, nat_le, List, [], ◌∷◌, take, slice_get, Option, Some, None, refl, ap, ◌∙◌, subst, eq-eqb, ne_eqb, arith}
 use Rattle.std.specs.Prelude.{IfSome}
 use Rattle.std.specs.List.{AllPairs}
 use Rattle.std.proofs.lemmas.Bool.Decides.{nat_tests}
@@ -10,10 +10,10 @@ use Rattle.erm_report.specs.declared.answer.Answer.TheVariants as answer
 use Rattle.erm_script.specs.declared.script.Command.{Command}
 use Rattle.erm_script.specs.declared.script.Command.TheVariants as command
 use Rattle.erm_script.specs.declared.script.ScriptLine.{ScriptLine}
-use Rattle.erm_good_report.specs.Opening.{InTurn, Mode, is_before}
-use Rattle.erm_good_report.specs.Refusals.{IsInReach, Moment, most_end}
+use Rattle.erm_good_report.specs.Opening.{InTurn, Mode, Opening, is_before}
+use Rattle.erm_good_report.specs.Refusals.{IsInReach, Moment, draws_of, lines_by, moment_at, most_end, total_of}
 use Rattle.erm_good_report.specs.Stamps.{DrawsUntold, IsWait, LiesAbove, LiesBelow, Told, begin_told, place_told, stamp_drawn, stamp_printed}
-use Rattle.erm_good_report.specs.Transactions.{Said, Transaction, progress_of, stamp_of}
+use Rattle.erm_good_report.specs.Transactions.{Said, Transaction, progress_of, said_of, stamp_of}
 use Rattle.erm_good_report.proofs.Parts.{all_pairs_from_test, all_pass, pairs_pass, told_from_test, told_pass}
 
 least_from : (m n : ℕ) → nat_le m n ≡ true → m ≤ n
@@ -237,3 +237,12 @@ pub untold_before : (mode : Mode) (transactions : List Transaction) (said : List
     (drawn : DrawsUntold transactions said i stamp) → i < j → slice_get said j ≡ Some s → is_before mode drawn.line.session s.session ≡ true → LiesAbove s stamp
 untold_before mode transactions said pass i j stamp s drawn behind at first =
     lies_above s stamp (second_of (nat_lt i j) (above_pass s stamp) (untold_from before_side transactions said pass i stamp drawn j s at) (less_to i j behind))
+
+-- and that it is in reach
+abbrev pub reach_side : Mode → Opening → List ScriptLine → Side
+reach_side mode opening script i line stamp j s = nat_le (stamp + GREATEST_BLOCK) (opening.stamp + LEAST_BLOCK + GREATEST_BLOCK * total_of draws_of (lines_by mode i script))
+
+pub untold_in_reach : (mode : Mode) (opening : Opening) (script : List ScriptLine) (answers : List Answer) (all : List Transaction) → untold_pass (reach_side mode opening script) all (said_of script answers) ≡ true
+    → (i stamp : ℕ) (l : ScriptLine) → slice_get script i ≡ Some l → DrawsUntold all (said_of script answers) i stamp → stamp + GREATEST_BLOCK ≤ most_end (moment_at mode opening script answers all i l)
+untold_in_reach mode opening script answers all pass i stamp l at drawn =
+    least_from (stamp + GREATEST_BLOCK) (most_end (moment_at mode opening script answers all i l)) (untold_from (reach_side mode opening script) all (said_of script answers) pass i stamp drawn i drawn.line drawn.at)

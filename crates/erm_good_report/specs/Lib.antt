@@ -1,6 +1,7 @@
 pub mod Causes
 pub mod Determined
 pub mod GoodReport
+pub mod InReach
 pub mod Opening
 pub mod Phases
 pub mod Refusals

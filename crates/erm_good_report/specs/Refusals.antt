@@ -13,7 +13,7 @@ use Rattle.erm_script.specs.declared.script.ScriptLine.{ScriptLine}
 use Rattle.erm_good_report.specs.Causes.{CommitsBeside, EitherWrites, HasNoWindow, HasWindow, NamesTable, OverwritesBeside, WritesTable}
 use Rattle.erm_good_report.specs.Opening.{Mode, InTurn, AtOnce, Opening}
 use Rattle.erm_good_report.specs.Phases.{phase_of}
-use Rattle.erm_good_report.specs.Stamps.{begin_told, stamp_drawn}
+use Rattle.erm_good_report.specs.Stamps.{DrawsUntold, begin_told, stamp_drawn}
 use Rattle.erm_good_report.specs.Transactions.{Said, said_of, Ending, Commits, Transaction, progress_of, stamp_of, stamp_of_ending, table_of, with_line}
 
 -- how many objects a command makes at most, and how many it claims at most
@@ -279,9 +279,12 @@ pub record IsInReach (m : Moment) (c : Command) (a : Answer) : Type 0 where
   pub begin : IfSome (begin_told a) (λ begin. begin ≤ most_end m)
   pub drawn : IfSome (stamp_drawn (Some c) a) (λ stamp. stamp + GREATEST_BLOCK ≤ most_end m)
 
--- Refusal causes: each answer has its cause. And no stamp is further on than the lines so far can have moved the log.
+-- Refusal causes: each answer has its cause. And no stamp is further on than the lines so far can have moved the log: neither one that its line tells,
+-- nor that of a commit that waits, which a later line tells, or the end of its session.
 pub record HasCauses (mode : Mode) (opening : Opening) (script : List ScriptLine) (answers : List Answer) (all : List Transaction) : Type 0 where
   pub each : (i : ℕ) (l : ScriptLine) (a : Answer) → slice_get script i ≡ Some l → slice_get answers i ≡ Some a
       → HasCause (moment_at mode opening script answers all i l) l.command a
   pub reach : (i : ℕ) (l : ScriptLine) (a : Answer) → slice_get script i ≡ Some l → slice_get answers i ≡ Some a
       → IsInReach (moment_at mode opening script answers all i l) l.command a
+  pub untold : (i stamp : ℕ) (l : ScriptLine) → slice_get script i ≡ Some l → DrawsUntold all (said_of script answers) i stamp
+      → stamp + GREATEST_BLOCK ≤ most_end (moment_at mode opening script answers all i l)

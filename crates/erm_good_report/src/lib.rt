@@ -4,4 +4,4 @@
 
 mod laws;
 
-pub use laws::{reports_are_determined, write_skew_is_excluded};
+pub use laws::{reports_are_determined, stamps_told_are_in_reach, write_skew_is_excluded};

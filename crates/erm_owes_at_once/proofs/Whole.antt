@@ -7,6 +7,7 @@ use Rattle.erm_good_report.specs.GoodReport.{places_of}
 use Rattle.erm_good_report.specs.Opening.{Opening}
 use Rattle.erm_good_report.specs.Refusals.{HasRefusalCause, IsOwn}
 use Rattle.erm_good_report.specs.Transactions.{Transaction, transactions_of}
+use Rattle.erm_good_report.proofs.Places.{none_untold}
 use Rattle.erm_good_at_once.specs.CutReports.{moment_in}
 use Rattle.erm_lines_at_once.specs.Parts.{RunsInPartAreSerial, RunsInPartHavePhases, RunsInPartHaveSnapshots, RunsInPartHaveStamps, RunsInPartRise}
 use Rattle.erm_lines_at_once.proofs.Parts.{in_part}
@@ -60,7 +61,7 @@ owe in_parts v f script answers closed opening run of =
         stamps = owes.stamps;
         snapshots = owes.snapshots;
         causes = owes.causes;
-        refusals = record { each = owes.refusals; reach = owes.reach };
+        refusals = record { each = owes.refusals; reach = owes.reach; untold = none_untold opening script answers (transactions_of v.opening.sessions (places_of script answers closed)) owes.refusals };
       },
       owes.rise,
     )

@@ -27,7 +27,7 @@ stamp_told t (Excludes stamp succ pred) c at is = absurd (let no : None ≡ Some
 stamp_told t Aborts c at is = absurd (let no : None ≡ Some c = is in cc)
 
 -- a commit in the history is that of a transaction
-of_history : (ts : List Transaction) (c : Committed) → c ∈ history_of ts → (u : Transaction) × (u ∈ ts) × (committed_of u ≡ Some c)
+pub of_history : (ts : List Transaction) (c : Committed) → c ∈ history_of ts → (u : Transaction) × (u ∈ ts) × (committed_of u ≡ Some c)
 of_history [] c m = absurd (none_in_nil c m)
 of_history (t ∷ ts) c m = by_commit (λ there. of_history ts c there) (committed_of t) refl m
   where

@@ -13,6 +13,7 @@ use Rattle.erm_world.specs.World as world
 use Rattle.erm_good_report.specs.Phases.{Closed, FitsRefusal, phase_asked, refusal_in, refusal_of}
 use Rattle.erm_good_report.specs.Stamps.{DrawsUntold, IsWait, LiesAbove, LiesBelow, begin_told, place_told, stamp_drawn}
 use Rattle.erm_good_report.specs.Transactions.{Said, Transaction, progress_of, said_of, stamp_of}
+use Rattle.erm_good_report.proofs.Places.{Place, place_at, said_by}
 use Rattle.erm_lines.specs.Answers.{DidAsked, DidCommand, DidCommit, DidDecide, DidLine}
 use Rattle.erm_lines.specs.Executions.{AreClosed, DidLog, DidLogLine, DidMove, IsCourse, line_moves, move_of}
 use Rattle.erm_lines.specs.Laws.{ExecutionsGoOn, ExecutionsTell}
@@ -28,27 +29,6 @@ use Rattle.erm_told.proofs.Sealing.{line_tells, there as line_there}
 use Rattle.erm_told.proofs.Timing.{Earlier, Later, all_earlier, all_later}
 
 -- PLACES of a report, before and behind one of them
-abbrev said_by : ScriptLine → Answer → Said
-said_by l a = record { session = l.session; asked = Some l.command; answer = a }
-
-record Place (script : List ScriptLine) (answers : List Answer) (i : ℕ) (s : Said) : Type 0 where
-  line : ScriptLine
-  given : Answer
-  at : slice_get script i ≡ Some line
-  answered : slice_get answers i ≡ Some given
-  is : said_by line given ≡ s
-
-place_at : (script : List ScriptLine) (answers : List Answer) (i : ℕ) (s : Said) → slice_get (said_of script answers) i ≡ Some s → Place script answers i s
-place_at [] answers i s at = absurd (cc)
-place_at (l ∷ script) [] i s at = absurd (cc)
-place_at (l ∷ script) (a ∷ answers) zero s at = record { line = l; given = a; at = refl; answered = refl; is = the_one (said_by l a) s at }
-  where
-    the_one : (x y : Said) → Some x ≡ Some y → x ≡ y
-    the_one x y is = cc
-place_at (l ∷ script) (a ∷ answers) (suc i) s at =
-    let later = place_at script answers i s at in
-    record { line = later.line; given = later.given; at = later.at; answered = later.answered; is = later.is }
-
 taken : (script : List ScriptLine) (answers : List Answer) (i j : ℕ) (s : Said) → j < i → slice_get (said_of script answers) j ≡ Some s → s ∈ said_of (take i script) (take i answers)
 taken [] answers i j s before at = absurd (cc)
 taken (l ∷ script) [] i j s before at = absurd (cc)
@@ -99,9 +79,9 @@ tells_work seat t (world.active w) tells = tells.0.work
 tells_work seat t (world.sealed w stamp) tells = tells.0.work
 
 -- the stamp that is told of it later is the end of the log before the line, and the block goes behind it
-record Drawn (stamp m n : ℕ) : Type 0 where
-  begins : stamp ≡ m
-  fits : stamp + LEAST_BLOCK ≤ n
+pub record Drawn (stamp m n : ℕ) : Type 0 where
+  pub begins : stamp ≡ m
+  pub fits : stamp + LEAST_BLOCK ≤ n
 
 told_then : (o : Option ℕ) (P : ℕ → Type 0) (n : ℕ) → IfSome o P → o ≡ Some n → P n
 told_then o P n is some = subst (λ (x : Option ℕ). IfSome x P) some is
@@ -109,13 +89,13 @@ told_then o P n is some = subst (λ (x : Option ℕ). IfSome x P) some is
 module _ (tell : ExecutionsTell) (go : ExecutionsGoOn) (v t : View) (script : List ScriptLine) (answers : List Answer) (run : IsCourse v script answers t)
     (closed : List Closed) (are : AreClosed run.closing closed) (i stamp : ℕ)
     (drawn : DrawsUntold (reported tell go v t script answers run closed are) (said_of script answers) i stamp) where
-  place : Place script answers i drawn.line
+  pub place : Place script answers i drawn.line
   place = place_at script answers i drawn.line drawn.at
 
-  abbrev there : AtLine v script answers run.between i place.line place.given
+  abbrev pub there : AtLine v script answers run.between i place.line place.given
   there = line_there tell go v t script answers run closed are i place.line place.given place.at place.answered
 
-  asks : place.line.command ≡ command.Commit
+  pub asks : place.line.command ≡ command.Commit
   asks = the_command (ap (λ (s : Said). s.asked) place.is ∙ drawn.asks)
     where
       the_command : Some place.line.command ≡ Some command.Commit → place.line.command ≡ command.Commit
@@ -127,7 +107,7 @@ module _ (tell : ExecutionsTell) (go : ExecutionsGoOn) (v t : View) (script : Li
   opening_before : there.before.opening ≡ v.opening
   opening_before = (go v there.before (line_moves (take i script) (take i answers)) there.start).0
 
-  drawn_there : Drawn stamp there.before.tail there.after.tail
+  pub drawn_there : Drawn stamp there.before.tail there.after.tail
   drawn_there =
       let l = place.line in
       let seat = l.session in

@@ -1,6 +1,7 @@
 -- A line of a run: what is so before it.
-use Rattle.std.proofs.Common.{◌≡◌, ℕ, zero, suc, ◌+◌, ◌≤◌, true, List, [], ◌∷◌, ◌++◌, Some, length, take, slice_get, is_some, min, append-nil, append_assoc, refl, sym, ap, ◌∙◌, subst, inl, ⊎_elim, arith}
-use Rattle.erm_model.specs.declared.limits.TheConstants.{WRITE_LIMIT}
+use Rattle.std.proofs.Common.{◌≡◌, ℕ, zero, suc, ◌+◌, ◌*◌, ◌≤◌, true, List, [], ◌∷◌, ◌++◌, Some, length, take, slice_get, is_some, min, append-nil, append_assoc, refl, sym, ap, ◌∙◌, subst, inl, ⊎_elim, arith}
+use Rattle.std.proofs.lemmas.List.Sums.{sum_by-append}
+use Rattle.erm_model.specs.declared.limits.TheConstants.{GREATEST_BLOCK, WRITE_LIMIT}
 use Rattle.erm_model.specs.declared.outcome.Phase.TheVariants.{Active}
 use Rattle.erm_node.specs.Sound.{sound_law}
 use Rattle.erm_report.specs.declared.answer.Answer.{Answer}
@@ -9,6 +10,7 @@ use Rattle.erm_world.specs.Laws.{IsSerializable}
 use Rattle.erm_world.specs.Works.{row_read}
 use Rattle.erm_world.specs.World.{IsSession, Session, View, claims_in, phase_of, work_at, work_of}
 use Rattle.erm_world.specs.World as world
+use Rattle.erm_good_report.specs.Refusals.{draws_of, total_of}
 use Rattle.erm_good_report.specs.Transactions.{Said, Transaction, progress_of, said_of}
 use Rattle.erm_lines.specs.Answers.{DidLine}
 use Rattle.erm_lines.specs.Executions.{DidLogLine, DidMove, IsExecution, IsOpened, line_moves, move_of}
@@ -112,6 +114,21 @@ module _ (laws : Laws) (first : View) where
   claims_after (k ∷ script) (b ∷ answers) front said v end holds runs seat t session e =
       claims_after script answers (front ++ k ∷ []) (said ++ said_by k b ∷ []) runs.0 end (holds_moved laws front said v holds k b runs.0 runs.1 runs.2) runs.3 seat t session
       (subst (λ (s : List Said). (progress_of seat s).current ≡ Some t) (sym (append_assoc said (said_by k b ∷ []) (said_of script answers))) e)
+
+  -- where the log ends then
+  tail_here : (front more : List ScriptLine) (said : List Said) (v end : View) → Holds front said v → v.opening ≡ first.opening → end ≡ v → end.tail ≤ first.opening.tail + GREATEST_BLOCK * total_of draws_of (front ++ more)
+  tail_here front more said v end holds opening is =
+      let all = sum_by-append (λ (k : ScriptLine). draws_of k.command) front more in
+      omega (arith, all, holds.tail, ap (λ (x : View). x.tail) is, ap (λ (o : world.Opening). o.tail) opening)
+
+  pub tail_after : (script : List ScriptLine) (answers : List Answer) (front : List ScriptLine) (said : List Said) (v end : View) → Holds front said v → v.opening ≡ first.opening → IsExecution v (line_moves script answers) end
+      → end.tail ≤ first.opening.tail + GREATEST_BLOCK * total_of draws_of (front ++ script)
+  tail_after [] answers front said v end holds opening is = tail_here front [] said v end holds opening is
+  tail_after (k ∷ script) [] front said v end holds opening is = tail_here front (k ∷ script) said v end holds opening is
+  tail_after (k ∷ script) (b ∷ answers) front said v end holds opening runs =
+      let still : runs.0.opening ≡ first.opening = still_open front said v k b runs.0 holds runs.1 runs.2 ∙ opening in
+      subst (λ (ls : List ScriptLine). end.tail ≤ first.opening.tail + GREATEST_BLOCK * total_of draws_of ls) (append_assoc front (k ∷ []) script)
+      (tail_after script answers (front ++ k ∷ []) (said ++ said_by k b ∷ []) runs.0 end (holds_moved laws front said v holds k b runs.0 runs.1 runs.2) still runs.3)
 
 -- the lines up to one that has been run
 pub take_next : (script : List ScriptLine) (i : ℕ) (l : ScriptLine) → slice_get script i ≡ Some l → take (i + 1) script ≡ take i script ++ l ∷ []

@@ -1,7 +1,7 @@
 -- What a report owes of the limits, as statements on runs of scripts.
-use Rattle.std.specs.Prelude.{◌≡◌, ℕ, ◌+◌, ◌<◌, ◌≤◌, min, List, length, sum_by, Some}
+use Rattle.std.specs.Prelude.{◌≡◌, ℕ, ◌+◌, ◌*◌, ◌<◌, ◌≤◌, min, List, length, sum_by, Some}
 use Rattle.std.specs.List.{slice_get}
-use Rattle.erm_model.specs.declared.limits.TheConstants.{OID_LIMIT, WRITE_LIMIT}
+use Rattle.erm_model.specs.declared.limits.TheConstants.{GREATEST_BLOCK, OID_LIMIT, WRITE_LIMIT}
 use Rattle.erm_model.specs.Member.{◌∈◌}
 use Rattle.erm_report.specs.declared.answer.Answer.{Answer}
 use Rattle.erm_report.specs.declared.answer.Answer.TheVariants as answer
@@ -9,7 +9,7 @@ use Rattle.erm_script.specs.declared.script.ScriptLine.{ScriptLine}
 use Rattle.erm_script.specs.Script.{IsInRange}
 use Rattle.erm_world.specs.World.{IsSession, View, work_at}
 use Rattle.erm_good_report.specs.Opening.{Opening, InTurn}
-use Rattle.erm_good_report.specs.Refusals.{HasLogCause, HasRefusalCause, IsCounted, IsInReach, IsOwn, Moment, claims_of, moment_at, total_of}
+use Rattle.erm_good_report.specs.Refusals.{HasLogCause, HasRefusalCause, IsCounted, IsInReach, IsOwn, Moment, claims_of, draws_of, moment_at, total_of}
 use Rattle.erm_good_report.specs.Transactions.{Transaction, progress_of, said_of}
 use Rattle.erm_lines.specs.Executions.{IsCourse, IsExecution, IsOpened, IsOpeningOf, line_moves}
 
@@ -53,6 +53,11 @@ EndHasCause = OfLines IsEnd (λ m l a. HasLogCause m a)
 -- the begin and the stamp that a line tells are no further on than the lines so far may have moved the log
 abbrev pub StampsAreInReach : Type 0
 StampsAreInReach = OfLines (λ a. Unit {0}) (λ m l a. IsInReach m l.command a)
+
+-- After some lines of an execution the log's end is no further on than these lines may have moved it.
+abbrev pub EndsAreInReach : Type 0
+EndsAreInReach = (v u : View) (script : List ScriptLine) (answers : List Answer) → IsOpened v → IsExecution v (line_moves script answers) u
+    → u.tail ≤ v.opening.tail + GREATEST_BLOCK * total_of draws_of script
 
 -- After some lines of an execution a session's transaction that isn't over has claimed few objects, and no more than its lines so far may.
 abbrev pub ClaimsAreFew : Type 0

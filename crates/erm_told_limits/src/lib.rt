@@ -2,7 +2,7 @@
 //! a function that does nothing.
 #![tactic(auto)]
 
-ghost use Rattle.erm_told_limits.specs.Limits.{CellsAreFull, ClaimsAreFew, EndHasCause, FullHasCause, StampsAreInReach};
+ghost use Rattle.erm_told_limits.specs.Limits.{CellsAreFull, ClaimsAreFew, EndHasCause, EndsAreInReach, FullHasCause, StampsAreInReach};
 
 /// Each answer to a line that had no room has its cause in the lines so far: reads in the objects that there may be, claims in the
 /// transaction's own lines, cells and objects in those of all sessions.
@@ -46,6 +46,18 @@ pub fn end_has_cause()
 /// No line begins, or draws a stamp, further on than the lines so far may have moved the log: each of them that draws moves it by a block at most.
 pub fn stamps_are_in_reach()
     ensures { StampsAreInReach }
+{
+    erm_core_ssn::rows_run_serially();
+    erm_core_ssn::serial_order_is_unique();
+    erm_core_ssn::versions_are_unique();
+    erm_core_ssn::prefixes_stand_alone();
+    erm_tree::calls_stay_in_their_table();
+    erm_maps::begun_transactions_are_runs();
+}
+
+/// The log's end is no further on than the lines so far may have moved it.
+pub fn ends_are_in_reach()
+    ensures { EndsAreInReach }
 {
     erm_core_ssn::rows_run_serially();
     erm_core_ssn::serial_order_is_unique();
