@@ -15,11 +15,11 @@ use Rattle.erm_outside.specs.Disk.{AtEachMoment, contents, EachImage, Image, Ste
 use Rattle.erm_world.specs.Log.{IsLog, Log, Start}
 use Rattle.erm_ckpt.specs.declared.slot.Slots.{Slots}
 use Rattle.erm_ckpt.specs.declared.slot.TheConstants.{LOG_START}
-use Rattle.erm_ckpt.specs.Recovered.{State, best, end_at, state_behind}
-use Rattle.erm_ckpt.specs.States.{RecoversTo}
-use Rattle.erm_ckpt.proofs.Images.{goes_on, of_end, of_end-end_of, state_behind-append, state_grows}
+use Rattle.erm_ckpt.specs.Recovered.{State, base, best, end_at, state_behind}
+use Rattle.erm_ckpt.specs.States.{MeetsLast}
+use Rattle.erm_ckpt.proofs.Images.{RecoversMeeting, goes_on_meeting, meets_more, of_end, of_end-end_of, state_behind-append, state_grows}
 use Rattle.erm_checkpoint.specs.Taken.{HoldsLog, RecoversFlushing, state_at}
-use Rattle.erm_checkpoint.proofs.Taken.{All-front, end_state, not_empty, run_is, same_front}
+use Rattle.erm_checkpoint.proofs.Taken.{All-front, end_state, not_empty, run_is, same_front, there_from}
 
 each_weaker : (P Q : Image → Type 0) (old more : List Step) → ((image : Image) → P image → Q image) → EachImage P old more → EachImage Q old more
 each_weaker P Q old [] weaker each = λ image is. weaker image (each image is)
@@ -36,8 +36,7 @@ module _
       let states : state_at m h.front ≡ state_at l h.front = ap (λ (s : Start). state_behind (record { at = s.at; run = s.run; rows = s.rows }) h.front) opened in
       let fronts : h.front ≡ front = same_front short sound respects m h.front (h.rest ++ more.0) front blocks is long split (ap (λ (s : State). s.at) states ∙ h.to ∙ sym place) in
       let here : State = state_at m front in
-      let was : state_at l h.front ≡ here = sym states ∙ ap (state_at m) fronts in
-      let there : RecoversTo sound here h.pair (contents old) = subst (λ (s : State). RecoversTo sound s h.pair (contents old)) was h.there in
+      let there = there_from sound l m slots old h front opened fronts in
       let end : End = end_of (start_of m) front in
       let is_end : of_end end ≡ here = end_state m front in
       let end_at_is : end.at ≡ here.at = ap (λ (s : State). s.at) is_end in
@@ -62,14 +61,19 @@ module _
       let based : best h.pair ≡ None → (word : ℕ) × (word_at image LOG_START ≡ Some word) =
       λ none. let first = h.begins none in (first.0, spares.before LOG_START first.0 (omega (arith, begin, grown)) first.1) in
       let behind_at : (state_at m (front ++ some)).at ≡ (state_behind here some).at = ap (λ (s : State). s.at) joined in
+      let Meets : State → List Block → Type 0 = MeetsLast start (front ++ some) in
+      let goes : RecoversMeeting sound Meets (state_behind here some) h.pair image =
+      goes_on_meeting sound respects Meets (contents old) image here h.pair some (end_of end blocks).at there.0 spares
+      (λ none. let first = based none in inr (not_empty image first.0 first.1)) list fresh (meets_more start front (base h.pair) there.0.blocks some there.1) in
+      let behind : RecoversMeeting sound Meets (state_at m (front ++ some)) h.pair image = subst (λ (s : State). RecoversMeeting sound Meets s h.pair image) (sym joined) goes in
       record {
         front = front ++ some;
         rest = drop shown.0 blocks;
         split = cut;
         low = omega (arith, place, end_at_is, further, behind_at);
         pair = h.pair;
-        there = subst (λ (s : State). RecoversTo sound s h.pair image) (sym joined)
-            (goes_on sound respects (contents old) image here h.pair some (end_of end blocks).at there spares (λ none. let first = based none in inr (not_empty image first.0 first.1)) list fresh);
+        there = behind.0;
+        meets = behind.1;
       }
 
   pub flush_moments : (l m : Log) (slots : Slots) (old new : List Step) → HoldsLog sound l slots old → m.opened ≡ l.opened → (more : (rest : List Block) × (m.gathered ≡ l.gathered ++ rest))

@@ -16,12 +16,12 @@ use Rattle.erm_outside.specs.Disk.{AtEachMoment, Change, changes_of, contents, E
 use Rattle.erm_outside.specs.Disk.Change.{Wrote, Tried, Synced, Removed}
 use Rattle.erm_outside.proofs.Images.{changes-append, images_of_older, same_file-refl}
 use Rattle.erm_ckpt.specs.Checkpoint.{Checkpoint, Checks, slot_words}
-use Rattle.erm_ckpt.specs.Recovered.{Pair, Shows, State, base, best, state_behind}
+use Rattle.erm_ckpt.specs.Recovered.{Pair, Shows, State, base, best, put, state_behind, state_of}
 use Rattle.erm_ckpt.specs.States.{RecoversTo}
-use Rattle.erm_ckpt.proofs.Images.{stays}
+use Rattle.erm_ckpt.proofs.Images.{AnyBlocks, RecoversMeeting, stays_meeting}
 use Rattle.erm_checkpoint.specs.Phases.{IsSaved, MaySave, RecoversTorn, other_file}
 use Rattle.erm_checkpoint.specs.Steps.{AreThere, IsNextBelow, RemovesAll, RemovesPart, WritesPart, WritesSlot, did, removals, slot_written}
-use Rattle.erm_checkpoint.proofs.Phases.{base_behind, other_is_slot, same_word, some_best, torn_recovers, with_it}
+use Rattle.erm_checkpoint.proofs.Phases.{MeetsTorn, base_behind, other_is_slot, same_word, some_best, torn_meets, torn_recovers, with_it}
 
 -- ---- which files steps change
 
@@ -102,9 +102,25 @@ module _ (sound : Rows → Type 0) (respects : (a b : Rows) → SameRows a b →
             (λ f other. image_same (Is (other_file pair)) f old newer image may.settled each (is_other (other_file pair) f other) is)),
       )
 
-  pub saved : (from : State) (front rest : List Block) (pair : Pair) (c : Checkpoint) (old : List Step) → MaySave sound from front rest pair c old
-      → IsSaved sound (state_behind from (front ++ rest)) pair c old (slot_written (other_file pair) (bytes_of (slot_words c)) old)
-  saved from front rest pair c old may =
+  -- and the blocks that each image meets
+  pub meeting_moments : (Q : State → List Block → Type 0) (from : State) (front rest : List Block) (pair : Pair) (c : Checkpoint) (old new : List Step) (may : MaySave sound from front rest pair c old)
+      → Q (base pair) may.there.blocks → Q (state_of (Some c)) rest
+      → WritesPart (other_file pair) (bytes_of (slot_words c)) old new ⊎ WritesSlot (other_file pair) (bytes_of (slot_words c)) old new
+      → AtEachMoment (MeetsTorn sound Q (state_behind from (front ++ rest)) pair c (contents old)) old new
+  meeting_moments Q from front rest pair c old new may meets behind wrote =
+      let w = writing (other_file pair) (bytes_of (slot_words c)) old new wrote in (
+        w.more,
+        w.steps,
+        each_moment (Is (other_file pair)) (MeetsTorn sound Q (state_behind from (front ++ rest)) pair c (contents old)) old w.more w.each
+            (λ newer image each is. torn_meets sound respects Q from front rest pair c old image may
+            (λ f other. image_same (Is (other_file pair)) f old newer image may.settled each (is_other (other_file pair) f other) is) meets behind),
+      )
+
+  -- a checkpoint that is saved, and the blocks that the disk meets then
+  pub saved_meeting : (Q : State → List Block → Type 0) (from : State) (front rest : List Block) (pair : Pair) (c : Checkpoint) (old : List Step) (may : MaySave sound from front rest pair c old)
+      → Q (base pair) may.there.blocks → Q (state_of (Some c)) rest
+      → (s : IsSaved sound (state_behind from (front ++ rest)) pair c old (slot_written (other_file pair) (bytes_of (slot_words c)) old)) × Q (base (put pair c)) s.there.blocks
+  saved_meeting Q from front rest pair c old may meets behind =
       let file = other_file pair in
       let slot : List ℕ = bytes_of (slot_words c) in
       let new : List Step = slot_written file slot old in
@@ -112,13 +128,20 @@ module _ (sound : Rows → Type 0) (respects : (a b : Rows) → SameRows a b →
       λ f other. reads_same (Is file) f old (slot_written file slot []) (refl, (refl, tt)) (is_other file f other) in
       let here : contents new file ≡ patched (contents old file) 0 slot = rw (same_file-refl file) refl in
       let checks : Checks sound (contents new file) c = record { is = may.is; rows = may.are_sound; spelled = subst (λ (bytes : List ℕ). BeginsWith bytes slot) (sym here) (begins (contents old file) slot) } in
-      record {
-        settled = slot_settled file slot old may.settled;
-        there = with_it sound respects from front rest pair c old (contents new) may same checks;
-        some = some_best pair c may.newer;
-        from = base_behind pair c may.newer;
-        words = λ p. same_word (contents old) (contents new) p (same (Segment (p / SEGMENT_WORDS)) (other_is_slot pair.slot0 pair.slot1 (p / SEGMENT_WORDS)));
-      }
+      let there = with_it sound respects Q from front rest pair c old (contents new) may same checks meets behind in (
+        record {
+          settled = slot_settled file slot old may.settled;
+          there = there.0;
+          some = some_best pair c may.newer;
+          from = base_behind pair c may.newer;
+          words = λ p. same_word (contents old) (contents new) p (same (Segment (p / SEGMENT_WORDS)) (other_is_slot pair.slot0 pair.slot1 (p / SEGMENT_WORDS)));
+        },
+        there.1,
+      )
+
+  pub saved : (from : State) (front rest : List Block) (pair : Pair) (c : Checkpoint) (old : List Step) → MaySave sound from front rest pair c old
+      → IsSaved sound (state_behind from (front ++ rest)) pair c old (slot_written (other_file pair) (bytes_of (slot_words c)) old)
+  saved from front rest pair c old may = (saved_meeting AnyBlocks from front rest pair c old may tt tt).0
 
 -- ---- the removals
 
@@ -190,22 +213,32 @@ removing first end old new (inl part) = cases part.part
     }
 
 module _ (sound : Rows → Type 0) where
-  pub removal_moments : (state : State) (pair : Pair) (first end : ℕ) (old new : List Step) → IsSettled old → RecoversTo sound state pair (contents old) → best pair ≢ None
-      → end ≤ (base pair).at / SEGMENT_WORDS → RemovesPart first end old new ⊎ RemovesAll first end old new → AtEachMoment (RecoversTo sound state pair) old new
-  removal_moments state pair first end old new settled there some low removed =
+  pub meeting_removals : (Q : State → List Block → Type 0) (state : State) (pair : Pair) (first end : ℕ) (old new : List Step) → IsSettled old → RecoversMeeting sound Q state pair (contents old) → best pair ≢ None
+      → end ≤ (base pair).at / SEGMENT_WORDS → RemovesPart first end old new ⊎ RemovesAll first end old new → AtEachMoment (RecoversMeeting sound Q state pair) old new
+  meeting_removals Q state pair first end old new settled (there, meets) some low removed =
       let r = removing first end old new removed in (
         r.more,
         r.steps,
-        each_moment (Below end) (RecoversTo sound state pair) old r.more r.each (λ newer image each is.
+        each_moment (Below end) (RecoversMeeting sound Q state pair) old r.more r.each (λ newer image each is.
             let same0 : image Slot0 ≡ contents old Slot0 = image_same (Below end) Slot0 old newer image settled each (below_slot0 end) is in
             let same1 : image Slot1 ≡ contents old Slot1 = image_same (Below end) Slot1 old newer image settled each (below_slot1 end) is in
-            stays sound (contents old) image state pair pair there
+            stays_meeting sound Q (contents old) image state pair pair there
             (subst (λ (bytes : List ℕ). Shows sound bytes pair.slot0) (sym same0) there.recovers.slot0)
             (subst (λ (bytes : List ℕ). Shows sound bytes pair.slot1) (sym same1) there.recovers.slot1)
             refl (λ none. absurd (some none))
             (λ p behind. same_word (contents old) image p
-            (image_same (Below end) (Segment (p / SEGMENT_WORDS)) old newer image settled each (below_other end (p / SEGMENT_WORDS) (omega (arith, low, behind))) is))),
+            (image_same (Below end) (Segment (p / SEGMENT_WORDS)) old newer image settled each (below_other end (p / SEGMENT_WORDS) (omega (arith, low, behind))) is)) meets),
       )
+
+  each_first : (Q : State → List Block → Type 0) (state : State) (pair : Pair) (old more : List Step) → EachImage (RecoversMeeting sound Q state pair) old more → EachImage (RecoversTo sound state pair) old more
+  each_first Q state pair old [] each = λ image is. (each image is).0
+  each_first Q state pair old (step ∷ more) (here, each) = (λ image is. (here image is).0, each_first Q state pair old more each)
+
+  pub removal_moments : (state : State) (pair : Pair) (first end : ℕ) (old new : List Step) → IsSettled old → RecoversTo sound state pair (contents old) → best pair ≢ None
+      → end ≤ (base pair).at / SEGMENT_WORDS → RemovesPart first end old new ⊎ RemovesAll first end old new → AtEachMoment (RecoversTo sound state pair) old new
+  removal_moments state pair first end old new settled there some low removed =
+      let r = meeting_removals AnyBlocks state pair first end old new settled (there, tt) some low removed in
+      (r.0, r.1, each_first AnyBlocks state pair old r.0 r.2)
 
 pub removal_words : (first end : ℕ) (old new : List Step) → RemovesPart first end old new ⊎ RemovesAll first end old new → (p : ℕ) → end ≤ p / SEGMENT_WORDS
     → word_at (contents new) p ≡ word_at (contents old) p

@@ -24,18 +24,18 @@ use Rattle.erm_ckpt.specs.declared.slot.Slot.{Slot}
 use Rattle.erm_ckpt.specs.declared.slot.Slots.{Slots}
 use Rattle.erm_ckpt.specs.declared.slot.TheConstants.{LOG_START}
 use Rattle.erm_ckpt.specs.Checkpoint.{Checkpoint, IsCheckpoint, IsSlot, checkpoint_of, rows_of_checkpoint, slot_words}
-use Rattle.erm_ckpt.specs.Recovered.{State, base, end_at, put, state_behind}
+use Rattle.erm_ckpt.specs.Recovered.{State, base, end_at, put, state_behind, state_of}
 use Rattle.erm_ckpt.specs.Slots.{better_slot, first_left, next_first, put_slot, removal_end, segment_of_best}
-use Rattle.erm_ckpt.specs.States.{RecoversTo}
+use Rattle.erm_ckpt.specs.States.{MeetsLast, RecoversTo}
 use Rattle.erm_ckpt.proofs.Choices.{slots_put}
-use Rattle.erm_ckpt.proofs.Images.{list_behind, list_same, of_end, same_fresh, state_behind-append, state_grows}
+use Rattle.erm_ckpt.proofs.Images.{RecoversMeeting, list_behind, list_same, meets_rest, of_end, same_fresh, state_behind-append, state_grows}
 use Rattle.erm_checkpoint.specs.Phases.{IsSaved, MaySave, other_file}
 use Rattle.erm_checkpoint.specs.Saved.{AreRowsAt}
 use Rattle.erm_checkpoint.specs.Steps.{SavesAll, slot_written}
 use Rattle.erm_checkpoint.specs.Taken.{HoldsLog, HoldsLogFrom, HoldsLogPast, state_at}
-use Rattle.erm_checkpoint.proofs.Moments.{removal_moments, removal_words, removals_settle, saved}
+use Rattle.erm_checkpoint.proofs.Moments.{meeting_removals, removal_words, removals_settle, saved_meeting}
 use Rattle.erm_checkpoint.proofs.Phases.{base_behind}
-use Rattle.erm_checkpoint.proofs.Taken.{All-front, bounds, end_state, ends_within, flushed_holds, last_moment, not_empty, place_is, rows_are, run_is, said, slot_ok, sound_behind, stands_from}
+use Rattle.erm_checkpoint.proofs.Taken.{All-front, bounds, end_state, ends_within, flushed_holds, last_moment, met_same, not_empty, place_is, rows_are, run_is, said, slot_ok, sound_behind, stands_from}
 
 head_same : (x y : Block) (xs ys : List Block) → ◌≡◌ {A = List Block} (x ∷ xs) (y ∷ ys) → x ≡ y
 head_same x y xs ys e = cc
@@ -201,15 +201,19 @@ module _
       let here : State = state_at log h.front in
       let file : File = other_file h.pair in
       let wrote : List Step = slot_written file (bytes_of (slot_words c)) old in
-      let s : IsSaved sound here h.pair c old wrote =
-      subst (λ (x : State). IsSaved sound x h.pair c old wrote) (all_behind log slots c.slot.stamp old p) (saved sound respects (state_at log p.front) [] p.blocks h.pair c old may)
-      in
+      let start : State = state_at log [] in
+      let Meets : State → List Block → Type 0 = MeetsLast start h.front in
+      let is_saved : (s : IsSaved sound here h.pair c old wrote) × Meets (base (put h.pair c)) s.there.blocks =
+      subst (λ (x : State). (s : IsSaved sound x h.pair c old wrote) × Meets (base (put h.pair c)) s.there.blocks) (all_behind log slots c.slot.stamp old p)
+      (saved_meeting sound respects Meets (state_at log p.front) [] p.blocks h.pair c old may (met_same sound log slots old h (state_behind (state_at log p.front) p.blocks) may.there)
+      (meets_rest start h.front p.front p.blocks (state_of (Some c)) p.split may.state.at)) in
+      let s = is_saved.0 in
       let from = s.from in
       let stamp = past_low log slots c.slot.stamp old p in
       let low : removal_end slots ≤ (base (put h.pair c)).at / SEGMENT_WORDS = removals_under log slots c old h p.low in
-      let moments = removal_moments sound here (put h.pair c) 0 (removal_end slots) wrote new s.settled s.there s.some low (inr all) in
+      let moments = meeting_removals sound Meets here (put h.pair c) 0 (removal_end slots) wrote new s.settled (s.there, is_saved.1) s.some low (inr all) in
       let reads : IsImage (moments.0 ++ wrote) (contents new) = subst (λ (steps : List Step). IsImage steps (contents new)) moments.1 (λ f. reads_may_be _) in
-      let there : RecoversTo sound here (put h.pair c) (contents new) = last_moment (RecoversTo sound here (put h.pair c)) wrote moments.0 (contents new) moments.2 reads in
+      let there : RecoversMeeting sound Meets here (put h.pair c) (contents new) = last_moment (RecoversMeeting sound Meets here (put h.pair c)) wrote moments.0 (contents new) moments.2 reads in
       let words : (p : ℕ) → log.flushed ≤ p → word_at (contents new) p ≡ word_at (contents old) p =
       λ p more. removal_words 0 (removal_end slots) wrote new (inr all) p (omega (arith, low, from, stamp, more)) ∙ s.words p in
       record {
@@ -225,7 +229,8 @@ module _
           rest = h.rest;
           split = h.split;
           to = h.to;
-          there = there;
+          there = there.0;
+          meets = there.1;
         };
         some = s.some;
         from = s.from;

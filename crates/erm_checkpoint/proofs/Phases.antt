@@ -12,9 +12,12 @@ use Rattle.erm_outside.specs.Disk.{contents, Image, same_file, Step}
 use Rattle.erm_outside.proofs.Images.{same_file-refl}
 use Rattle.erm_ckpt.specs.Checkpoint.{Checkpoint, Checks}
 use Rattle.erm_ckpt.specs.Recovered.{HasBase, Pair, Shows, State, base, best, better, pair_with, put, state_behind, state_of}
-use Rattle.erm_ckpt.specs.States.{RecoversTo, SameChecks}
-use Rattle.erm_ckpt.proofs.Images.{by_slot, stays}
+use Rattle.erm_ckpt.specs.States.{SameChecks}
+use Rattle.erm_ckpt.proofs.Images.{AnyBlocks, RecoversMeeting, by_slot_meeting, stays_meeting}
 use Rattle.erm_ckpt.proofs.OneRecovery.{torn_shows}
+use Rattle.erm_bytes.specs.Bytes.{bytes_of}
+use Rattle.erm_log_words.specs.Tears.{ShowsSlot}
+use Rattle.erm_ckpt.specs.Checkpoint.{IsCheckedSlot, slot_words}
 use Rattle.erm_checkpoint.specs.Phases.{MaySave, RecoversTorn, other_file}
 
 true_isnt_false : true ≡ false → ⊥
@@ -117,6 +120,11 @@ module _ (sound : Rows → Type 0) where
     slot1 = subst (λ (bytes : List ℕ). Shows sound bytes pair.slot1) (sym (same Slot1 refl)) shows.slot1;
   }
 
+-- where an image shows the slot that is written, or such slots as stood there, or none that checks, it recovers to a state, and meets such blocks
+abbrev pub MeetsTorn : (Rows → Type 0) → (State → List Block → Type 0) → State → Pair → Checkpoint → Image → Image → Type 0
+MeetsTorn sound Q state pair checkpoint before image =
+    ShowsSlot (IsCheckedSlot sound) (before (other_file pair)) (bytes_of (slot_words checkpoint)) (image (other_file pair)) → (now : Pair) × RecoversMeeting sound Q state now image
+
 module _ (sound : Rows → Type 0) (respects : (a b : Rows) → SameRows a b → sound a ↔ sound b) where
   -- an image whose other slot alone may differ
   abbrev Others : Pair → Image → Image → Type 0
@@ -131,38 +139,45 @@ module _ (sound : Rows → Type 0) (respects : (a b : Rows) → SameRows a b →
   has_base pair old new same some = inr (λ none. some (sym (same (Segment 0) (other_is_slot pair.slot0 pair.slot1 0)) ∙ none))
 
   -- one whose best slot is the same
-  as_before : (from : State) (front rest : List Block) (pair now : Pair) (c : Checkpoint) (steps : List Step) (new : Image) → MaySave sound from front rest pair c steps
-      → Others pair (contents steps) new → ShowsPair sound new now → best now ≡ best pair → RecoversTo sound (state_behind from (front ++ rest)) now new
-  as_before from front rest pair now c steps new may same shows is_best =
-      stays sound (contents steps) new (state_behind from (front ++ rest)) pair now may.there shows.slot0 shows.slot1 is_best
+  as_before : (Q : State → List Block → Type 0) (from : State) (front rest : List Block) (pair now : Pair) (c : Checkpoint) (steps : List Step) (new : Image) (may : MaySave sound from front rest pair c steps)
+      → Others pair (contents steps) new → ShowsPair sound new now → best now ≡ best pair → Q (base pair) may.there.blocks → RecoversMeeting sound Q (state_behind from (front ++ rest)) now new
+  as_before Q from front rest pair now c steps new may same shows is_best meets =
+      stays_meeting sound Q (contents steps) new (state_behind from (front ++ rest)) pair now may.there shows.slot0 shows.slot1 is_best
       (λ none. has_base pair (contents steps) new same (may.begins (sym is_best ∙ none)))
-      (λ p low. all_words pair (contents steps) new same p)
+      (λ p low. all_words pair (contents steps) new same p) meets
 
-  -- one that shows the checkpoint
-  pub with_it : (from : State) (front rest : List Block) (pair : Pair) (c : Checkpoint) (steps : List Step) (new : Image) → MaySave sound from front rest pair c steps
-      → Others pair (contents steps) new → Checks sound (new (other_file pair)) c → RecoversTo sound (state_behind from (front ++ rest)) (put pair c) new
-  with_it from front rest pair c steps new may same checks =
+  -- one that shows the checkpoint: the blocks that it meets are those from before, or those behind the checkpoint
+  pub with_it : (Q : State → List Block → Type 0) (from : State) (front rest : List Block) (pair : Pair) (c : Checkpoint) (steps : List Step) (new : Image) (may : MaySave sound from front rest pair c steps)
+      → Others pair (contents steps) new → Checks sound (new (other_file pair)) c → Q (base pair) may.there.blocks → Q (state_of (Some c)) rest
+      → RecoversMeeting sound Q (state_behind from (front ++ rest)) (put pair c) new
+  with_it Q from front rest pair c steps new may same checks meets behind =
       let shows = shows_put sound (other_file pair) (contents steps) new pair (Some c) (other_is_slot pair.slot0 pair.slot1) (record { slot0 = may.there.recovers.slot0; slot1 = may.there.recovers.slot1 }) same checks in
       elim (best_behind pair.slot0 pair.slot1 c may.newer) [
-        | inl is_new ↦ by_slot sound respects (contents steps) new from front rest (put pair c) c may.list may.there.opens shows.slot0 shows.slot1 is_new may.state
-            (λ p low. all_words pair (contents steps) new same p)
-        | inr as_was ↦ as_before from front rest pair (put pair c) c steps new may same shows as_was.0
+        | inl is_new ↦ by_slot_meeting sound respects Q (contents steps) new from front rest (put pair c) c may.list may.there.opens shows.slot0 shows.slot1 is_new may.state
+            (λ p low. all_words pair (contents steps) new same p) behind
+        | inr as_was ↦ as_before Q from front rest pair (put pair c) c steps new may same shows as_was.0 meets
       ]
 
   -- one where the slot is torn
+  pub torn_meets : (Q : State → List Block → Type 0) (from : State) (front rest : List Block) (pair : Pair) (c : Checkpoint) (steps : List Step) (new : Image) (may : MaySave sound from front rest pair c steps)
+      → Others pair (contents steps) new → Q (base pair) may.there.blocks → Q (state_of (Some c)) rest → MeetsTorn sound Q (state_behind from (front ++ rest)) pair c (contents steps) new
+  torn_meets Q from front rest pair c steps new may same meets behind shows =
+      let was : ShowsPair sound (contents steps) pair = record { slot0 = may.there.recovers.slot0; slot1 = may.there.recovers.slot1 } in
+      elim (torn_shows sound (contents steps (other_file pair)) (new (other_file pair)) c may.is may.are_sound shows) [
+        | inl checks ↦ (put pair c, with_it Q from front rest pair c steps new may same checks meets behind)
+        | inr (inl checks) ↦ (pair, as_before Q from front rest pair pair c steps new may same (shows_as_before sound (other_file pair) (contents steps) new pair was same checks) refl meets)
+        | inr (inr none) ↦ (
+          pair_with pair (other_file pair) None,
+          as_before Q from front rest pair (pair_with pair (other_file pair) None) c steps new may same
+              (shows_put sound (other_file pair) (contents steps) new pair None (other_is_slot pair.slot0 pair.slot1) was same none) (none_is_best pair.slot0 pair.slot1) meets,
+        )
+      ]
+
   pub torn_recovers : (from : State) (front rest : List Block) (pair : Pair) (c : Checkpoint) (steps : List Step) (new : Image) → MaySave sound from front rest pair c steps
       → Others pair (contents steps) new → RecoversTorn sound (state_behind from (front ++ rest)) pair c (contents steps) new
   torn_recovers from front rest pair c steps new may same shows =
-      let was : ShowsPair sound (contents steps) pair = record { slot0 = may.there.recovers.slot0; slot1 = may.there.recovers.slot1 } in
-      elim (torn_shows sound (contents steps (other_file pair)) (new (other_file pair)) c may.is may.are_sound shows) [
-        | inl checks ↦ (put pair c, with_it from front rest pair c steps new may same checks)
-        | inr (inl checks) ↦ (pair, as_before from front rest pair pair c steps new may same (shows_as_before sound (other_file pair) (contents steps) new pair was same checks) refl)
-        | inr (inr none) ↦ (
-          pair_with pair (other_file pair) None,
-          as_before from front rest pair (pair_with pair (other_file pair) None) c steps new may same
-              (shows_put sound (other_file pair) (contents steps) new pair None (other_is_slot pair.slot0 pair.slot1) was same none) (none_is_best pair.slot0 pair.slot1),
-        )
-      ]
+      let r = torn_meets AnyBlocks from front rest pair c steps new may same tt tt shows in
+      (r.0, r.1.0)
 
 -- where recovery begins behind a checkpoint
 pub base_behind : (pair : Pair) (c : Checkpoint) → (base pair).at ≤ c.slot.stamp → (base (put pair c)).at ≡ c.slot.stamp

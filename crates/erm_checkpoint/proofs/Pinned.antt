@@ -110,6 +110,7 @@ module _ (sound : Rows → Type 0) where
     split = h.split;
     to = h.to;
     there = h.there;
+    meets = h.meets;
   }
 
   pub told_holds_other : (log now : Log) (tail : ℕ) (pinned : Option ℕ) (slots : Slots) (told : Option (List Step)) → now ≡ other_pin log tail pinned → IfSome told (HoldsLog sound log slots) → IfSome told (HoldsLog sound now slots)

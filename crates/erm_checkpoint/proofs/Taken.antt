@@ -9,7 +9,9 @@ use Rattle.erm_model.specs.Rows.{Rows, rows_of}
 use Rattle.erm_model.specs.RowTransaction.{SameRows}
 use Rattle.erm_bytes.specs.Bytes.{bytes_of}
 use Rattle.erm_record.specs.Stored.{stored_length}
+use Rattle.erm_record.proofs.StoredRows.{stored_length-le, stored_whole}
 use Rattle.erm_block.specs.declared.block.Block.{Block}
+use Rattle.erm_block.proofs.OneLogList.{same_log_list}
 use Rattle.erm_block.specs.LogList.{End, IsLogList, end_after, end_of, rows_after_block}
 use Rattle.erm_flush.specs.Turns.{GoesOn, HoldsFrom, IsReady, start_of}
 use Rattle.erm_flush.proofs.Flushes.{other_words}
@@ -29,14 +31,14 @@ use Rattle.erm_ckpt.specs.declared.slot.TheConstants.{LOG_START}
 use Rattle.erm_ckpt.specs.Checkpoint.{Checkpoint, IsCheckpoint, IsSlot, checkpoint_of, rows_of_checkpoint, slot_words}
 use Rattle.erm_ckpt.specs.Recovered.{Shows, State, base, best, better, end_at, put, state_behind, state_of}
 use Rattle.erm_ckpt.specs.Slots.{first_left, next_first, put_slot, removal_end, segment_of, segment_of_best, better_slot}
-use Rattle.erm_ckpt.specs.States.{RecoversTo}
+use Rattle.erm_ckpt.specs.States.{MeetsLast, RecoversTo}
 use Rattle.erm_ckpt.proofs.Choices.{slots_put}
-use Rattle.erm_ckpt.proofs.Images.{goes_on, list_behind, list_same, of_end, of_end-end_of, same_fresh, state_behind-append, state_grows}
+use Rattle.erm_ckpt.proofs.Images.{RecoversMeeting, goes_on_meeting, list_behind, list_same, meets_more, meets_rest, of_end, of_end-end_of, same_fresh, state_behind-append, state_grows}
 use Rattle.erm_checkpoint.specs.Phases.{IsSaved, MaySave, other_file}
 use Rattle.erm_checkpoint.specs.Saved.{AreRowsAt}
 use Rattle.erm_checkpoint.specs.Steps.{SavesAll, slot_written}
 use Rattle.erm_checkpoint.specs.Taken.{HoldsLog, HoldsLogFrom, state_at}
-use Rattle.erm_checkpoint.proofs.Moments.{removal_moments, removal_words, removals_settle, saved}
+use Rattle.erm_checkpoint.proofs.Moments.{meeting_removals, removal_words, removals_settle, saved_meeting}
 use Rattle.erm_checkpoint.proofs.Phases.{base_behind}
 
 -- ---- states of a log
@@ -137,6 +139,24 @@ pub last_moment : (Q : Image → Type 0) (old more : List Step) (image : Image) 
 last_moment Q old [] image each is = each image is
 last_moment Q old (step ∷ more) image each is = each.0 image is
 
+-- ---- the blocks that recovery meets
+
+-- a disk that holds a log recovers to its state, and meets its last blocks: so does it from one front on that is the same
+pub there_from : (sound : Rows → Type 0) (l m : Log) (slots : Slots) (old : List Step) (h : HoldsLog sound l slots old) (front : List Block) → m.opened ≡ l.opened → h.front ≡ front
+    → RecoversMeeting sound (MeetsLast (state_at m []) front) (state_at m front) h.pair (contents old)
+there_from sound l m slots old h front opened fronts =
+    let state : Start → List Block → State = λ s bs. state_behind (record { at = s.at; run = s.run; rows = s.rows }) bs in
+    let moved : RecoversMeeting sound (MeetsLast (state m.opened []) h.front) (state m.opened h.front) h.pair (contents old) =
+    subst (λ (s : Start). RecoversMeeting sound (MeetsLast (state s []) h.front) (state s h.front) h.pair (contents old)) (sym opened) (h.there, h.meets) in
+    subst (λ (bs : List Block). RecoversMeeting sound (MeetsLast (state_at m []) bs) (state_at m bs) h.pair (contents old)) fronts moved
+
+-- what another recovery from the same place meets
+pub met_same : (sound : Rows → Type 0) (log : Log) (slots : Slots) (steps : List Step) (h : HoldsLog sound log slots steps) (state : State) (there : RecoversTo sound state h.pair (contents steps))
+    → MeetsLast (state_at log []) h.front (base h.pair) there.blocks
+met_same sound log slots steps h state there =
+    subst (MeetsLast (state_at log []) h.front (base h.pair))
+    (same_log_list stored_length-le stored_whole sound (end_at (contents steps) (base h.pair)) h.there.blocks there.blocks h.there.recovers.list there.recovers.list) h.meets
+
 -- ---- a log that was flushed, and a checkpoint of it
 
 module _
@@ -154,8 +174,7 @@ module _
       let states : state_at m h.front ≡ state_at l h.front = ap (λ (s : Start). state_behind (record { at = s.at; run = s.run; rows = s.rows }) h.front) opened in
       let fronts : h.front ≡ f.front = same_front m h.front (h.rest ++ on.more.0) f.front (f.blocks ++ f.rest) is split f.split (ap (λ (s : State). s.at) states ∙ h.to ∙ sym f.from) in
       let here : State = state_at m f.front in
-      let was : state_at l h.front ≡ here = sym states ∙ ap (state_at m) fronts in
-      let there : RecoversTo sound here h.pair (contents old) = subst (λ (s : State). RecoversTo sound s h.pair (contents old)) was h.there in
+      let there = there_from sound l m slots old h f.front opened fronts in
       let end : End = end_of (start_of m) f.front in
       let is_end : of_end end ≡ here = end_state m f.front in
       let spares : Spares here.at (end_of end f.blocks).at (contents old) (contents mid) = subst (λ (s : State). Spares s.at (end_of end f.blocks).at (contents old) (contents mid)) is_end f.holds.others in
@@ -174,6 +193,11 @@ module _
       let grown : m.opened.at ≤ here.at = state_grows (record { at = m.opened.at; run = m.opened.run; rows = m.opened.rows }) f.front in
       let begins : best h.pair ≡ None → (word : ℕ) × (word_at (contents mid) LOG_START ≡ Some word) =
       λ none. let first = h.begins none in (first.0, spares.before LOG_START first.0 (omega (arith, begin, grown)) first.1) in
+      let Meets : State → List Block → Type 0 = MeetsLast (state_at m []) (f.front ++ f.blocks) in
+      let goes : RecoversMeeting sound Meets behind_all h.pair (contents mid) =
+      goes_on_meeting sound respects Meets (contents old) (contents mid) here h.pair f.blocks (end_of end f.blocks).at there.0 spares
+      (λ none. let first = begins none in inr (not_empty (contents mid) first.0 first.1)) list fresh (meets_more (state_at m []) f.front (base h.pair) there.0.blocks f.blocks there.1) in
+      let behind : RecoversMeeting sound Meets (state_at m (f.front ++ f.blocks)) h.pair (contents mid) = subst (λ (s : State). RecoversMeeting sound Meets s h.pair (contents mid)) (sym joined) goes in
       record {
         ready = ready;
         pair = h.pair;
@@ -183,9 +207,8 @@ module _
         rest = f.rest;
         split = whole;
         to = ap (λ (s : State). s.at) joined ∙ at_is;
-        there = subst (λ (s : State). RecoversTo sound s h.pair (contents mid)) (sym joined)
-            (goes_on sound respects (contents old) (contents mid) here h.pair f.blocks (end_of end f.blocks).at there spares
-            (λ none. let first = begins none in inr (not_empty (contents mid) first.0 first.1)) list fresh);
+        there = behind.0;
+        meets = behind.1;
       }
 
   pub may_save : (log : Log) (slots : Slots) (slot : Slot) (rows : List (List ℕ)) (steps : List Step) (h : HoldsLog sound log slots steps) → IsLog sound log
@@ -248,12 +271,17 @@ module _
       let here : State = state_at log h.front in
       let file : File = other_file h.pair in
       let wrote : List Step = slot_written file (bytes_of (slot_words c)) old in
-      let s : IsSaved sound here h.pair c old wrote = saved sound respects here [] [] h.pair c old may in
+      let start : State = state_at log [] in
+      let Meets : State → List Block → Type 0 = MeetsLast start h.front in
+      let is_saved : (s : IsSaved sound here h.pair c old wrote) × Meets (base (put h.pair c)) s.there.blocks =
+      saved_meeting sound respects Meets here [] [] h.pair c old may (met_same sound log slots old h here may.there)
+      (meets_rest start h.front h.front [] (state_of (Some c)) (sym (append-nil h.front)) may.state.at) in
+      let s = is_saved.0 in
       let from = s.from in
       let low : removal_end slots ≤ (base (put h.pair c)).at / SEGMENT_WORDS = removals_below log slots c old h may in
-      let moments = removal_moments sound here (put h.pair c) 0 (removal_end slots) wrote new s.settled s.there s.some low (inr all) in
+      let moments = meeting_removals sound Meets here (put h.pair c) 0 (removal_end slots) wrote new s.settled (s.there, is_saved.1) s.some low (inr all) in
       let reads : IsImage (moments.0 ++ wrote) (contents new) = subst (λ (steps : List Step). IsImage steps (contents new)) moments.1 (λ f. reads_may_be _) in
-      let there : RecoversTo sound here (put h.pair c) (contents new) = last_moment (RecoversTo sound here (put h.pair c)) wrote moments.0 (contents new) moments.2 reads in
+      let there : RecoversMeeting sound Meets here (put h.pair c) (contents new) = last_moment (RecoversMeeting sound Meets here (put h.pair c)) wrote moments.0 (contents new) moments.2 reads in
       let words : (p : ℕ) → log.flushed ≤ p → word_at (contents new) p ≡ word_at (contents old) p =
       λ p more. removal_words 0 (removal_end slots) wrote new (inr all) p (omega (arith, low, from, stamp, more)) ∙ s.words p in
       record {
@@ -269,7 +297,8 @@ module _
           rest = h.rest;
           split = h.split;
           to = h.to;
-          there = there;
+          there = there.0;
+          meets = there.1;
         };
         some = s.some;
         from = s.from;

@@ -17,7 +17,7 @@ use Rattle.erm_ckpt.specs.declared.slot.TheConstants.{LOG_START}
 use Rattle.erm_ckpt.specs.Checkpoint.{Checkpoint, slot_words}
 use Rattle.erm_ckpt.specs.Recovered.{Pair, State, base, best, end_at, slots_of, state_behind}
 use Rattle.erm_ckpt.specs.Slots.{next_first, removal_end}
-use Rattle.erm_ckpt.specs.States.{RecoversPast, RecoversTo}
+use Rattle.erm_ckpt.specs.States.{MeetsLast, RecoversPast, RecoversTo}
 use Rattle.erm_checkpoint.specs.declared.stops.CheckpointStop.{CheckpointStop}
 use Rattle.erm_checkpoint.specs.declared.stops.CheckpointStop.TheVariants.{DiskFault, Failed, NotYet, Unfilled}
 use Rattle.erm_checkpoint.specs.Phases.{MaySave, other_file}
@@ -28,7 +28,8 @@ abbrev pub state_at : Log → List Block → State
 state_at log front = state_behind (record { at = log.opened.at; run = log.opened.run; rows = log.opened.rows }) front
 
 -- A disk holds a log as far as it is flushed: nothing is pending, and the disk recovers from these slots to the state at the place
--- flushed, where no block of the log's run or a later one reads. Where no slot checks, the log's first word is there.
+-- flushed, where no block of the log's run or a later one reads. Where no slot checks, the log's first word is there. Of the log's blocks up to the
+-- place flushed recovery meets all, or those from the place on where it begins.
 pub record HoldsLog (sound : Rows → Type 0) (log : Log) (slots : Slots) (steps : List Step) : Type 0 where
   pub ready : IsReady log steps
   pub pair : Pair
@@ -39,6 +40,7 @@ pub record HoldsLog (sound : Rows → Type 0) (log : Log) (slots : Slots) (steps
   pub split : log.gathered ≡ front ++ rest
   pub to : (state_at log front).at ≡ log.flushed
   pub there : RecoversTo sound (state_at log front) pair (contents steps)
+  pub meets : MeetsLast (state_at log []) front (base pair) there.blocks
 
 -- and the best slot is of this place
 pub record HoldsLogFrom (sound : Rows → Type 0) (log : Log) (slots : Slots) (stamp : ℕ) (steps : List Step) : Type 0 where

@@ -7,8 +7,6 @@ mod reading;
 mod removing;
 mod saving;
 mod stops;
-#[cfg(test)]
-mod tests;
 
 pub use checkpointer::Checkpointer;
 pub use laws::{

@@ -1,5 +1,5 @@
 -- What an image recovers to where its slots or the words of its log are others.
-use Rattle.std.proofs.Common.{◌≡◌, ℕ, zero, suc, ◌+◌, ◌-◌, ◌≤◌, ◌↔◌, cond, List, [], ◌∷◌, ◌++◌, Option, Some, None, refl, sym, ap, ◌∙◌, subst, arith, length-append}
+use Rattle.std.proofs.Common.{◌≡◌, ℕ, zero, suc, ◌+◌, ◌-◌, ◌≤◌, ◌↔◌, cond, List, [], ◌∷◌, ◌++◌, Option, Some, None, refl, sym, ap, ◌∙◌, subst, arith, append_assoc, append-nil, length-append, inl, inr}
 use Rattle.std.proofs.Math.Dec.{eqb}
 use Rattle.erm_model.specs.declared.limits.TheConstants.{LOG_END}
 use Rattle.erm_model.specs.Rows.{Rows, set_row}
@@ -17,7 +17,15 @@ use Rattle.erm_log_words.specs.Words.{Spares, and_then, log_words, word_at, word
 use Rattle.erm_log_disk.proofs.Chains.{end_in, lists-joined, places_grow}
 use Rattle.erm_ckpt.specs.Checkpoint.{Checkpoint}
 use Rattle.erm_ckpt.specs.Recovered.{HasBase, Pair, Shows, State, base, best, end_at, state_behind, state_of}
-use Rattle.erm_ckpt.specs.States.{RecoversTo, SameState}
+use Rattle.erm_ckpt.specs.States.{MeetsLast, RecoversTo, SameState}
+
+-- an image recovers to a state, and the blocks that it meets from the place on where recovery begins are in a relation to that
+abbrev pub RecoversMeeting : (Rows → Type 0) → (State → List Block → Type 0) → State → Pair → Image → Type 0
+RecoversMeeting sound Q state pair image = (there : RecoversTo sound state pair image) × Q (base pair) there.blocks
+
+-- whatever they are
+abbrev pub AnyBlocks : State → List Block → Type 0
+AnyBlocks base blocks = Unit {0}
 
 -- ---- states
 
@@ -151,51 +159,66 @@ same_fresh run from old new same fresh p low block run_before later stands =
     fresh p low block run_before later (rw e at stands)
 
 module _ (sound : Rows → Type 0) where
-  -- an image whose best slot is the same, and which has the same words from its place on, recovers to the same
-  pub stays : (old new : Image) (state : State) (pair now : Pair) → RecoversTo sound state pair old → Shows sound (new Slot0) now.slot0 → Shows sound (new Slot1) now.slot1
-      → best now ≡ best pair → (best now ≡ None → HasBase new) → ((p : ℕ) → (base pair).at ≤ p → word_at new p ≡ word_at old p) → RecoversTo sound state now new
-  stays old new state pair now there shows0 shows1 same based words =
+  -- an image whose best slot is the same, and which has the same words from its place on, recovers to the same, and meets the same blocks
+  pub stays_meeting : (Q : State → List Block → Type 0) (old new : Image) (state : State) (pair now : Pair) (there : RecoversTo sound state pair old) → Shows sound (new Slot0) now.slot0
+      → Shows sound (new Slot1) now.slot1 → best now ≡ best pair → (best now ≡ None → HasBase new) → ((p : ℕ) → (base pair).at ≤ p → word_at new p ≡ word_at old p)
+      → Q (base pair) there.blocks → RecoversMeeting sound Q state now new
+  stays_meeting Q old new state pair now there shows0 shows1 same based words meets =
       let from : base now ≡ base pair = ap state_of same in
       let low : (base pair).at ≤ state.at = omega (arith, there.is.at, state_grows (base pair) there.blocks) in
-      let list = subst (λ (e : End). IsLogList sound e there.blocks) (sym (same_end old new (base pair) words)) there.recovers.list in
-      record {
-        blocks = there.blocks;
-        recovers = record { slot0 = shows0; slot1 = shows1; based = based; list = subst (λ (s : State). IsLogList sound (end_at new s) there.blocks) (sym from) list };
-        is = subst (λ (s : State). SameState (state_behind s there.blocks) state) (sym from) there.is;
-        opens = same_fresh (state.run + 1) state.at old new (λ p more. words p (omega (arith, low, more))) there.opens;
-      }
+      let list = subst (λ (e : End). IsLogList sound e there.blocks) (sym (same_end old new (base pair) words)) there.recovers.list in (
+        record {
+          blocks = there.blocks;
+          recovers = record { slot0 = shows0; slot1 = shows1; based = based; list = subst (λ (s : State). IsLogList sound (end_at new s) there.blocks) (sym from) list };
+          is = subst (λ (s : State). SameState (state_behind s there.blocks) state) (sym from) there.is;
+          opens = same_fresh (state.run + 1) state.at old new (λ p more. words p (omega (arith, low, more))) there.opens;
+        },
+        subst (λ (s : State). Q s there.blocks) (sym from) meets,
+      )
+
+  pub stays : (old new : Image) (state : State) (pair now : Pair) → RecoversTo sound state pair old → Shows sound (new Slot0) now.slot0 → Shows sound (new Slot1) now.slot1
+      → best now ≡ best pair → (best now ≡ None → HasBase new) → ((p : ℕ) → (base pair).at ≤ p → word_at new p ≡ word_at old p) → RecoversTo sound state now new
+  stays old new state pair now there shows0 shows1 same based words = (stays_meeting AnyBlocks old new state pair now there shows0 shows1 same based words tt).0
 
 module _ (sound : Rows → Type 0) (respects : (a b : Rows) → SameRows a b → sound a ↔ sound b) where
-  -- an image whose log list goes on from the state that an older one recovers to, recovers to the state behind
-  pub goes_on : (old new : Image) (state : State) (pair : Pair) (blocks : List Block) (to : ℕ) → RecoversTo sound state pair old → Spares state.at to old new
-      → (best pair ≡ None → HasBase new) → IsLogList sound (end_at new state) blocks → IsFresh ((state_behind state blocks).run + 1) new (state_behind state blocks).at
-      → RecoversTo sound (state_behind state blocks) pair new
-  goes_on old new state pair blocks to there spares based list fresh =
+  -- an image whose log list goes on from the state that an older one recovers to, recovers to the state behind, and meets the blocks of both
+  pub goes_on_meeting : (Q : State → List Block → Type 0) (old new : Image) (state : State) (pair : Pair) (blocks : List Block) (to : ℕ) (there : RecoversTo sound state pair old)
+      → Spares state.at to old new → (best pair ≡ None → HasBase new) → IsLogList sound (end_at new state) blocks → IsFresh ((state_behind state blocks).run + 1) new (state_behind state blocks).at
+      → Q (base pair) (there.blocks ++ blocks) → RecoversMeeting sound Q (state_behind state blocks) pair new
+  goes_on_meeting Q old new state pair blocks to there spares based list fresh meets =
       let xs : List Block = there.blocks in
       let from : State = base pair in
       let place : (end_of (plain from) xs).at ≡ state.at = ap (λ (s : State). s.at) (of_end-end_of (plain from) xs) ∙ there.is.at in
       let moved = list_same sound respects new state (state_behind from xs) blocks (turned (state_behind from xs) state there.is) list in
       let here = subst (λ (s : State). IsLogList sound (end_at new s) blocks) (sym (of_end-end_of (plain from) xs)) moved in
       let joined = lists-joined stored_length-le stored_whole sound old new (plain from) xs blocks to there.recovers.list.chain
-      (subst (λ (n : ℕ). Spares n to old new) (sym place) spares) here in
-      record {
-        blocks = xs ++ blocks;
-        recovers = record {
-          slot0 = subst (λ (file : List ℕ). Shows sound file pair.slot0) (sym spares.slot0) there.recovers.slot0;
-          slot1 = subst (λ (file : List ℕ). Shows sound file pair.slot1) (sym spares.slot1) there.recovers.slot1;
-          based = based;
-          list = joined;
-        };
-        is = subst (λ (s : State). SameState s (state_behind state blocks)) (sym (state_behind-append from xs blocks)) (states_same (state_behind from xs) state blocks there.is);
-        opens = fresh;
-      }
+      (subst (λ (n : ℕ). Spares n to old new) (sym place) spares) here in (
+        record {
+          blocks = xs ++ blocks;
+          recovers = record {
+            slot0 = subst (λ (file : List ℕ). Shows sound file pair.slot0) (sym spares.slot0) there.recovers.slot0;
+            slot1 = subst (λ (file : List ℕ). Shows sound file pair.slot1) (sym spares.slot1) there.recovers.slot1;
+            based = based;
+            list = joined;
+          };
+          is = subst (λ (s : State). SameState s (state_behind state blocks)) (sym (state_behind-append from xs blocks)) (states_same (state_behind from xs) state blocks there.is);
+          opens = fresh;
+        },
+        meets,
+      )
 
-  -- an image whose best slot has the state behind a front of the blocks from a state on recovers to the state behind all of them
-  pub by_slot : (old new : Image) (opened : State) (front rest : List Block) (now : Pair) (checkpoint : Checkpoint)
+  pub goes_on : (old new : Image) (state : State) (pair : Pair) (blocks : List Block) (to : ℕ) → RecoversTo sound state pair old → Spares state.at to old new
+      → (best pair ≡ None → HasBase new) → IsLogList sound (end_at new state) blocks → IsFresh ((state_behind state blocks).run + 1) new (state_behind state blocks).at
+      → RecoversTo sound (state_behind state blocks) pair new
+  goes_on old new state pair blocks to there spares based list fresh = (goes_on_meeting AnyBlocks old new state pair blocks to there spares based list fresh tt).0
+
+  -- An image whose best slot has the state behind a front of the blocks from a state on recovers to the state behind all of them, and meets those
+  -- behind the front.
+  pub by_slot_meeting : (Q : State → List Block → Type 0) (old new : Image) (opened : State) (front rest : List Block) (now : Pair) (checkpoint : Checkpoint)
       → IsLogList sound (end_at old opened) (front ++ rest) → IsFresh ((state_behind opened (front ++ rest)).run + 1) old (state_behind opened (front ++ rest)).at
       → Shows sound (new Slot0) now.slot0 → Shows sound (new Slot1) now.slot1 → best now ≡ Some checkpoint → SameState (state_of (Some checkpoint)) (state_behind opened front)
-      → ((p : ℕ) → checkpoint.slot.stamp ≤ p → word_at new p ≡ word_at old p) → RecoversTo sound (state_behind opened (front ++ rest)) now new
-  by_slot old new opened front rest now checkpoint list fresh shows0 shows1 is_best saved words =
+      → ((p : ℕ) → checkpoint.slot.stamp ≤ p → word_at new p ≡ word_at old p) → Q (state_of (Some checkpoint)) rest → RecoversMeeting sound Q (state_behind opened (front ++ rest)) now new
+  by_slot_meeting Q old new opened front rest now checkpoint list fresh shows0 shows1 is_best saved words meets =
       let slot : State = state_of (Some checkpoint) in
       let from : base now ≡ slot = ap state_of is_best in
       let behind = list_behind sound old opened front rest list in
@@ -204,18 +227,65 @@ module _ (sound : Rows → Type 0) (respects : (a b : Rows) → SameRows a b →
       let all : state_behind opened (front ++ rest) ≡ state_behind (state_behind opened front) rest = state_behind-append opened front rest in
       let ends : SameState (state_behind slot rest) (state_behind opened (front ++ rest)) =
       subst (λ (s : State). SameState (state_behind slot rest) s) (sym all) (states_same slot (state_behind opened front) rest saved) in
-      let low : slot.at ≤ (state_behind opened (front ++ rest)).at = omega (arith, ends.at, state_grows slot rest) in
-      record {
-        blocks = rest;
-        recovers = record {
-          slot0 = shows0;
-          slot1 = shows1;
-          based = λ no_slot. absurd (none_some (best now) checkpoint no_slot is_best);
-          list = subst (λ (s : State). IsLogList sound (end_at new s) rest) (sym from) here;
-        };
-        is = subst (λ (s : State). SameState (state_behind s rest) (state_behind opened (front ++ rest))) (sym from) ends;
-        opens = same_fresh _ _ old new (λ p more. words p (omega (arith, low, more))) fresh;
-      }
+      let low : slot.at ≤ (state_behind opened (front ++ rest)).at = omega (arith, ends.at, state_grows slot rest) in (
+        record {
+          blocks = rest;
+          recovers = record {
+            slot0 = shows0;
+            slot1 = shows1;
+            based = λ no_slot. absurd (none_some (best now) checkpoint no_slot is_best);
+            list = subst (λ (s : State). IsLogList sound (end_at new s) rest) (sym from) here;
+          };
+          is = subst (λ (s : State). SameState (state_behind s rest) (state_behind opened (front ++ rest))) (sym from) ends;
+          opens = same_fresh _ _ old new (λ p more. words p (omega (arith, low, more))) fresh;
+        },
+        subst (λ (s : State). Q s rest) (sym from) meets,
+      )
     where
       none_some : (b : Option Checkpoint) (c : Checkpoint) → b ≡ None → b ≡ Some c → ⊥
       none_some b c none some = cc
+
+  pub by_slot : (old new : Image) (opened : State) (front rest : List Block) (now : Pair) (checkpoint : Checkpoint)
+      → IsLogList sound (end_at old opened) (front ++ rest) → IsFresh ((state_behind opened (front ++ rest)).run + 1) old (state_behind opened (front ++ rest)).at
+      → Shows sound (new Slot0) now.slot0 → Shows sound (new Slot1) now.slot1 → best now ≡ Some checkpoint → SameState (state_of (Some checkpoint)) (state_behind opened front)
+      → ((p : ℕ) → checkpoint.slot.stamp ≤ p → word_at new p ≡ word_at old p) → RecoversTo sound (state_behind opened (front ++ rest)) now new
+  by_slot old new opened front rest now checkpoint list fresh shows0 shows1 is_best saved words =
+      (by_slot_meeting AnyBlocks old new opened front rest now checkpoint list fresh shows0 shows1 is_best saved words tt).0
+
+-- ---- the last blocks of a front
+
+-- a front and what recovery meets, both with the same blocks behind
+pub meets_more : (start : State) (front : List Block) (from : State) (met more : List Block) → MeetsLast start front from met → MeetsLast start (front ++ more) from (met ++ more)
+meets_more start front from met more m = record {
+  older = m.older;
+  passed = m.passed;
+  both = m.both ++ more;
+  met_is = ap (λ (bs : List Block). bs ++ more) m.met_is ∙ append_assoc m.older m.both more;
+  front_is = ap (λ (bs : List Block). bs ++ more) m.front_is ∙ append_assoc m.passed m.both more;
+  joins = m.joins;
+  one = m.one;
+}
+
+-- recovery begins behind a part of the front, and meets the others
+pub meets_rest : (start : State) (front passed both : List Block) (from : State) → front ≡ passed ++ both → from.at ≡ (state_behind start passed).at → MeetsLast start front from both
+meets_rest start front passed both from split at = record {
+  older = [];
+  passed = passed;
+  both = both;
+  met_is = refl;
+  front_is = split;
+  joins = at;
+  one = inl refl;
+}
+
+-- recovery meets older blocks, and nothing of the front is there yet
+pub meets_older : (start from : State) (met : List Block) → (state_behind from met).at ≡ start.at → MeetsLast start [] from met
+meets_older start from met at = record {
+  older = met;
+  passed = [];
+  both = [];
+  met_is = sym (append-nil met);
+  front_is = refl;
+  joins = at;
+  one = inr refl;
+}

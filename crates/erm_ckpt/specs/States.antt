@@ -1,5 +1,5 @@
 -- Disks and images that recover to a state of the log: that behind the blocks of this run of the engine, or behind a front of them.
-use Rattle.std.specs.Prelude.{◌≡◌, ℕ, ◌+◌, ◌≤◌, ◌↔◌, List, ◌++◌}
+use Rattle.std.specs.Prelude.{◌≡◌, ℕ, ◌+◌, ◌≤◌, ◌⊎◌, ◌↔◌, List, [], ◌++◌}
 use Rattle.erm_model.specs.Rows.{Rows}
 use Rattle.erm_model.specs.RowTransaction.{SameRows}
 use Rattle.erm_block.specs.declared.block.Block.{Block}
@@ -21,7 +21,19 @@ pub record RecoversTo (sound : Rows → Type 0) (state : State) (pair : Pair) (i
   pub is : SameState (state_behind (base pair) blocks) state
   pub opens : IsFresh (state.run + 1) image state.at
 
--- an image recovers to the state behind a front of these blocks, which stand from a state on: to all below a place at least
+-- Recovery that begins at a state meets blocks, of which the last ones are of a front that stands from another state on: the whole front, behind
+-- older blocks up to where the front begins; or no older ones, and of the front those from the place on where recovery begins.
+pub record MeetsLast (start : State) (front : List Block) (base : State) (met : List Block) : Type 0 where
+  pub older : List Block
+  pub passed : List Block
+  pub both : List Block
+  pub met_is : met ≡ older ++ both
+  pub front_is : front ≡ passed ++ both
+  pub joins : (state_behind base older).at ≡ (state_behind start passed).at
+  pub one : (older ≡ []) ⊎ (passed ≡ [])
+
+-- An image recovers to the state behind a front of these blocks, which stand from a state on: to all below a place at least. The blocks that it
+-- meets are, from there on, those of this front.
 pub record RecoversPast (sound : Rows → Type 0) (opened : State) (blocks : List Block) (flushed : ℕ) (image : Image) : Type 0 where
   pub front : List Block
   pub rest : List Block
@@ -29,6 +41,7 @@ pub record RecoversPast (sound : Rows → Type 0) (opened : State) (blocks : Lis
   pub low : flushed ≤ (state_behind opened front).at
   pub pair : Pair
   pub there : RecoversTo sound (state_behind opened front) pair image
+  pub meets : MeetsLast opened front (base pair) there.blocks
 
 -- nothing is pending on a disk, it recovers to this state, and behind it no block of this run or a later one reads
 pub record HoldsAll (sound : Rows → Type 0) (state : State) (pair : Pair) (steps : List Step) : Type 0 where

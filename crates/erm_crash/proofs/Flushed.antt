@@ -19,12 +19,12 @@ use Rattle.erm_outside.specs.declared.disk.File.TheVariants.{Slot0, Slot1}
 use Rattle.erm_log_disk.proofs.Trail.{images_spare}
 use Rattle.erm_ckpt.specs.Checkpoint.{Checkpoint}
 use Rattle.erm_ckpt.specs.Recovered.{Pair, Shows, State, base, better, end_at, state_behind, state_of}
-use Rattle.erm_ckpt.proofs.Images.{state_grows}
+use Rattle.erm_ckpt.proofs.Images.{RecoversMeeting, state_grows}
 use Rattle.erm_ckpt.proofs.OneRecovery.{same_shown}
-use Rattle.erm_ckpt.specs.States.{RecoversPast, RecoversTo}
+use Rattle.erm_ckpt.specs.States.{MeetsLast, RecoversPast, RecoversTo}
 use Rattle.erm_checkpoint.specs.Taken.{HoldsLog, RecoversFlushing, state_at}
 use Rattle.erm_checkpoint.proofs.Flushed.{flush_moments}
-use Rattle.erm_checkpoint.proofs.Taken.{end_state, same_front, stands_from}
+use Rattle.erm_checkpoint.proofs.Taken.{end_state, same_front, stands_from, there_from}
 use Rattle.erm_world.specs.Log.{IsLog, Log, Start, words_of}
 use Rattle.erm_crash.specs.Kept.{KeepsBlocks}
 use Rattle.erm_crash.specs.Moments.{IsMoment, TearsApart}
@@ -37,12 +37,12 @@ module _
   -- the disk recovered to the state behind the front from which blocks were written
   front_there : (l m : Log) (slots : Slots) (old : List Step) (front blocks : List Block) (h : HoldsLog sound l slots old) → m.opened ≡ l.opened
       → (more : (rest : List Block) × (m.gathered ≡ l.gathered ++ rest)) → IsLog sound m → m.gathered ≡ front ++ blocks → (end_of (start_of m) front).at ≡ l.flushed
-      → RecoversTo sound (state_at m front) h.pair (contents old)
+      → RecoversMeeting sound (MeetsLast (state_at m []) front) (state_at m front) h.pair (contents old)
   front_there l m slots old front blocks h opened more is split place =
       let long : m.gathered ≡ h.front ++ (h.rest ++ more.0) = more.1 ∙ ap (λ (bs : List Block). bs ++ more.0) h.split ∙ append_assoc h.front h.rest more.0 in
       let states : state_at m h.front ≡ state_at l h.front = ap (λ (s : Start). state_behind (record { at = s.at; run = s.run; rows = s.rows }) h.front) opened in
       let fronts : h.front ≡ front = same_front short sound respects m h.front (h.rest ++ more.0) front blocks is long split (ap (λ (s : State). s.at) states ∙ h.to ∙ sym place) in
-      subst (λ (s : State). RecoversTo sound s h.pair (contents old)) (sym states ∙ ap (state_at m) fronts) h.there
+      there_from sound l m slots old h front opened fronts
 
   -- an image shows each of the blocks that were written behind a state of this run or a later one, where no block of it or a later one read
   shows_written : (now : List Step) (image : Image) → TearsApart sound now image → (old more : List Step) (state : State) (pair : Pair) (blocks : List Block) (run : ℕ)
@@ -60,6 +60,7 @@ module _
   at_flush l m slots old new now h opened more is begin w moment [] none image is_image tears =
       let same : now ≡ old = moment.since ∙ ap (λ (ss : List Step). ss ++ old) none in
       let place : (state_at m w.front).at ≡ l.flushed = ap (λ (s : State). s.at) (sym (end_state m w.front)) ∙ w.place_is in
+      let there = front_there l m slots old w.front w.blocks h opened more is w.split w.place_is in
       settled_image (RecoversPast sound (state_at m []) m.gathered l.flushed) old image h.ready.settled (subst (λ (ss : List Step). IsImage ss image) same is_image)
       (record {
         front = w.front;
@@ -67,7 +68,8 @@ module _
         split = w.split;
         low = omega (arith, place);
         pair = h.pair;
-        there = front_there l m slots old w.front w.blocks h opened more is w.split w.place_is;
+        there = there.0;
+        meets = there.1;
       })
   at_flush l m slots old new now h opened more is begin w moment (s ∷ before) some image is_image tears =
       let end : End = end_of (start_of m) w.front in
@@ -82,7 +84,7 @@ module _
       last_write end.at (words_of w.blocks) moment.after moment.before (subst (AllWriteWords end.at (words_of w.blocks)) parts w.writes.writes) in
       let writes : AllWriteWords here.at (words_of w.blocks) moment.before = subst (λ (t : State). AllWriteWords t.at (words_of w.blocks) moment.before) is_end wrote in
       let done : moment.before ≢ [] = λ none. let e : s ∷ before ≡ [] = sym some ∙ none in absurd (cc) in
-      let there = front_there l m slots old w.front w.blocks h opened more is w.split w.place_is in
+      let there = (front_there l m slots old w.front w.blocks h opened more is w.split w.place_is).0 in
       let place : here.at ≡ l.flushed = ap (λ (t : State). t.at) (sym is_end) ∙ w.place_is in
       let fresh : IsFresh l.opened.run (contents old) here.at = subst (IsFresh l.opened.run (contents old)) (sym place) h.ready.fresh in
       let first : (start_of m).run ≤ end.run = runs_grow sound (start_of m) w.front (may_stand-front sound (start_of m) w.front w.blocks all) in

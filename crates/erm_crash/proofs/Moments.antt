@@ -146,6 +146,7 @@ stopped_more sound from blocks more place now image is =
         low = past.low;
         pair = past.pair;
         there = past.there;
+        meets = past.meets;
       };
       stops = is.stops;
     }
@@ -163,6 +164,7 @@ stopped_lower sound from blocks place later now image lower is =
         low = omega (arith, lower, low);
         pair = past.pair;
         there = past.there;
+        meets = past.meets;
       };
       stops = is.stops;
     }

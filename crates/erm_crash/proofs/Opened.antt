@@ -14,10 +14,10 @@ use Rattle.erm_log_words.specs.Words.{word_at}
 use Rattle.erm_outside.specs.Disk.{contents, Image, IsImage, IsSettled, Step}
 use Rattle.erm_ckpt.specs.declared.slot.TheConstants.{LOG_START}
 use Rattle.erm_ckpt.specs.Recovered.{Pair, State, base, best, end_at, slots_of}
-use Rattle.erm_ckpt.proofs.Images.{state_grows}
+use Rattle.erm_ckpt.proofs.Images.{meets_older, state_grows}
 use Rattle.erm_ckpt.specs.States.{HoldsAll, RecoversTo}
 use Rattle.erm_recover.specs.Opening.{Opens, RecoversEither, open_block, opened}
-use Rattle.erm_checkpoint.specs.Taken.{HoldsLog}
+use Rattle.erm_checkpoint.specs.Taken.{HoldsLog, state_at}
 use Rattle.erm_world.specs.Log.{Log, words_of}
 use Rattle.erm_crash.specs.Kept.{IsJustOpened, KeepsOpening}
 use Rattle.erm_crash.specs.Moments.{IsMoment, TearsApart}
@@ -100,4 +100,5 @@ module _ (sound : Rows → Type 0) where
           opens = subst (λ (at : ℕ). IsFresh (log.opened.run + 1) (contents steps) at) (sym just.at)
               (subst (λ (run : ℕ). IsFresh (run + 1) (contents steps) next.at) (sym just.run) holds.there.opens);
         };
+        meets = meets_older (state_at log []) (base pair) holds.there.blocks (holds.there.is.at ∙ sym just.at);
       }

@@ -1,5 +1,5 @@
 -- What each image recovers to while a checkpoint is taken.
-use Rattle.std.proofs.Common.{◌≡◌, ◌≢◌, ℕ, ◌/◌, ◌<◌, ◌≤◌, ◌⊎◌, ◌↔◌, List, [], ◌∷◌, length, refl, sym, ap, subst, arith, inl, inr}
+use Rattle.std.proofs.Common.{◌≡◌, ◌≢◌, ℕ, ◌/◌, ◌<◌, ◌≤◌, ◌⊎◌, ◌↔◌, List, [], ◌∷◌, length, append-nil, refl, sym, ap, subst, arith, inl, inr, Some}
 use Rattle.erm_model.specs.declared.limits.TheConstants.{SEGMENT_WORDS}
 use Rattle.erm_model.specs.Rows.{Rows}
 use Rattle.erm_model.specs.RowTransaction.{SameRows}
@@ -13,15 +13,17 @@ use Rattle.erm_ckpt.specs.declared.slot.Slot.{Slot}
 use Rattle.erm_ckpt.specs.declared.slot.Slots.{Slots}
 use Rattle.erm_ckpt.specs.declared.slot.TheConstants.{LOG_START}
 use Rattle.erm_ckpt.specs.Checkpoint.{Checkpoint, slot_words}
-use Rattle.erm_ckpt.specs.Recovered.{Pair, State, base, put, state_behind}
+use Rattle.erm_ckpt.specs.Recovered.{Pair, State, base, put, state_behind, state_of}
 use Rattle.erm_ckpt.specs.Slots.{removal_end}
-use Rattle.erm_ckpt.specs.States.{RecoversTo}
-use Rattle.erm_checkpoint.specs.Phases.{IsSaved, MaySave, Recovering, RecoversTorn, other_file}
+use Rattle.erm_ckpt.specs.States.{MeetsLast, RecoversTo}
+use Rattle.erm_ckpt.proofs.Images.{RecoversMeeting, meets_rest}
+use Rattle.erm_checkpoint.specs.Phases.{MaySave, other_file}
 use Rattle.erm_checkpoint.specs.Steps.{RemovesAll, RemovesPart, WritesPart, did, slot_written}
 use Rattle.erm_checkpoint.specs.Taken.{GoesOnTo, HoldsLog, SavesLog, SavesLogPast, Takes, state_at}
-use Rattle.erm_checkpoint.proofs.Moments.{removal_moments, saved, torn_moments}
+use Rattle.erm_checkpoint.proofs.Moments.{meeting_moments, meeting_removals, saved_meeting}
+use Rattle.erm_checkpoint.proofs.Phases.{MeetsTorn}
 use Rattle.erm_checkpoint.proofs.Past.{all_behind, removals_under}
-use Rattle.erm_checkpoint.proofs.Taken.{removals_below}
+use Rattle.erm_checkpoint.proofs.Taken.{met_same, removals_below}
 use Rattle.erm_world.specs.Log.{IsLog, Log}
 use Rattle.erm_crash.specs.Kept.{KeepsBlocks}
 use Rattle.erm_crash.specs.Moments.{AtMoments, IsMoment, TearsApart}
@@ -37,35 +39,44 @@ grown step steps same =
     absurd (omega (arith, long))
 
 module _ (sound : Rows → Type 0) (respects : (a b : Rows) → SameRows a b → sound a ↔ sound b) where
-  -- an image recovers to a state, and what is pending is what the next opening waits for
-  record Stopped (state : State) (now : List Step) (image : Image) : Type 0 where
+  -- an image recovers to a state and meets such blocks, and what is pending is what the next opening waits for
+  record Stopped (Q : State → List Block → Type 0) (state : State) (now : List Step) (image : Image) : Type 0 where
     pub pair : Pair
     pub there : RecoversTo sound state pair image
+    pub meets : Q (base pair) there.blocks
     pub stops : MayStop (base pair).at state.at now
 
   -- so it is where a crash tears the disk so
-  abbrev Torn : State → List Step → Image → Type 0
-  Torn state now image = TearsApart sound now image → Stopped state now image
+  abbrev Torn : (State → List Block → Type 0) → State → List Step → Image → Type 0
+  Torn Q state now image = TearsApart sound now image → Stopped Q state now image
+
+  -- from the slots that it shows
+  abbrev Meeting : (State → List Block → Type 0) → State → Image → Type 0
+  Meeting Q state image = (pair : Pair) × RecoversMeeting sound Q state pair image
 
   -- where nothing of the log is pending
-  still_torn : (state : State) (old new : List Step) → AtMoments (λ now image. TearsApart sound now image → Recovering sound state image) old new → AtMoments Still old new → AtMoments (Torn state) old new
-  still_torn state old new recovers still = (
+  still_torn : (Q : State → List Block → Type 0) (state : State) (old new : List Step) → AtMoments (λ now image. TearsApart sound now image → Meeting Q state image) old new → AtMoments Still old new
+      → AtMoments (Torn Q state) old new
+  still_torn Q state old new recovers still = (
     recovers.0,
     λ now m image is tears.
         let r = recovers.1 now m image is tears in
-        record { pair = r.0; there = r.1; stops = still_stops (base r.0).at state.at now (still.1 now m image is) },
+        record { pair = r.0; there = r.1.0; meets = r.1.1; stops = still_stops (base r.0).at state.at now (still.1 now m image is) },
   )
 
   -- and where segments below that of the place where recovery begins are being removed
-  calm_torn : (state : State) (pair : Pair) (end : ℕ) (old new : List Step) → end ≤ (base pair).at / SEGMENT_WORDS → AtMoments (λ now image. RecoversTo sound state pair image) old new → AtMoments (Calm end) old new
-      → AtMoments (Torn state) old new
-  calm_torn state pair end old new low recovers calm = (
+  calm_torn : (Q : State → List Block → Type 0) (state : State) (pair : Pair) (end : ℕ) (old new : List Step) → end ≤ (base pair).at / SEGMENT_WORDS
+      → AtMoments (λ now image. RecoversMeeting sound Q state pair image) old new → AtMoments (Calm end) old new → AtMoments (Torn Q state) old new
+  calm_torn Q state pair end old new low recovers calm = (
     recovers.0,
     λ now m image is tears.
-        record { pair = pair; there = recovers.1 now m image is; stops = calm_stops end (base pair).at state.at now low (calm.1 now m image is) },
+        let r = recovers.1 now m image is in
+        record { pair = pair; there = r.0; meets = r.1; stops = calm_stops end (base pair).at state.at now low (calm.1 now m image is) },
   )
 
-  module _ (from : State) (rest : List Block) (pair : Pair) (c : Checkpoint) (mid : List Step) (may : MaySave sound from [] rest pair c mid) where
+  module _
+      (Q : State → List Block → Type 0) (from : State) (rest : List Block) (pair : Pair) (c : Checkpoint) (mid : List Step) (may : MaySave sound from [] rest pair c mid)
+      (meets : Q (base pair) may.there.blocks) (behind : Q (state_of (Some c)) rest) where
     abbrev state : State
     state = state_behind from rest
 
@@ -74,18 +85,18 @@ module _ (sound : Rows → Type 0) (respects : (a b : Rows) → SameRows a b →
 
     -- an image recovers to the state, where a crash tears the disk so
     abbrev Back : List Step → Image → Type 0
-    Back now image = TearsApart sound now image → Recovering sound state image
+    Back now image = TearsApart sound now image → Meeting Q state image
 
     -- before the slot is written
     before_slot : (image : Image) → IsImage mid image → Back mid image
-    before_slot image is tears = (pair, settled_image (RecoversTo sound state pair) mid image may.settled is may.there)
+    before_slot image is tears = (pair, settled_image (RecoversMeeting sound Q state pair) mid image may.settled is (may.there, meets))
 
     -- a part of it was
     after_part : (now : List Step) → WritesPart (other_file pair) bytes mid now → now ≢ mid → (image : Image) → IsImage now image → Back now image
     after_part now part other image is tears =
-        let torn = torn_moments sound respects from [] rest pair c mid now may (inl part) in
+        let torn = meeting_moments sound respects Q from [] rest pair c mid now may meets behind (inl part) in
         let moment : IsMoment mid now now = record { before = torn.0; since = torn.1; after = []; later = refl } in
-        from_each (RecoversTorn sound state pair c (contents mid)) mid now now torn moment image is
+        from_each (MeetsTorn sound Q state pair c (contents mid)) mid now now torn moment image is
         (tears.slots mid state pair c other may.settled may.there may.is part)
 
     -- all of it was
@@ -108,27 +119,27 @@ module _ (sound : Rows → Type 0) (respects : (a b : Rows) → SameRows a b →
     -- and waited for
     slot_back : AtMoments Back mid (slot_written (other_file pair) bytes mid)
     slot_back =
-        let s : IsSaved sound state pair c mid (slot_written (other_file pair) bytes mid) = saved sound respects from [] rest pair c mid may in
+        let s = saved_meeting sound respects Q from [] rest pair c mid may meets behind in
         joined Back mid (did (other_file pair) (Wrote 0 bytes) mid) (slot_written (other_file pair) bytes mid) (part_back (did (other_file pair) (Wrote 0 bytes) mid) (inr (inr refl)))
         (at_both Back (record { file = other_file pair; change = Synced }) (did (other_file pair) (Wrote 0 bytes) mid) after_write
-        (λ image is tears. (put pair c, settled_image (RecoversTo sound state (put pair c)) (slot_written (other_file pair) bytes mid) image s.settled is s.there)))
+        (λ image is tears. (put pair c, settled_image (RecoversMeeting sound Q state (put pair c)) (slot_written (other_file pair) bytes mid) image s.0.settled is (s.0.there, s.1))))
 
     -- and nothing of the log is pending meanwhile
-    part_keeps : (new : List Step) → WritesPart (other_file pair) bytes mid new → AtMoments (Torn state) mid new
-    part_keeps new writes = still_torn state mid new (part_back new writes) (part_still pair bytes mid new (λ n. may.settled (Segment n)) writes)
+    part_keeps : (new : List Step) → WritesPart (other_file pair) bytes mid new → AtMoments (Torn Q state) mid new
+    part_keeps new writes = still_torn Q state mid new (part_back new writes) (part_still pair bytes mid new (λ n. may.settled (Segment n)) writes)
 
-    slot_keeps : AtMoments (Torn state) mid (slot_written (other_file pair) bytes mid)
-    slot_keeps = still_torn state mid (slot_written (other_file pair) bytes mid) slot_back (moments_still pair bytes mid (λ n. may.settled (Segment n)))
+    slot_keeps : AtMoments (Torn Q state) mid (slot_written (other_file pair) bytes mid)
+    slot_keeps = still_torn Q state mid (slot_written (other_file pair) bytes mid) slot_back (moments_still pair bytes mid (λ n. may.settled (Segment n)))
 
     -- and segments were removed
     all_keeps : (first end : ℕ) (new : List Step) → end ≤ (base (put pair c)).at / SEGMENT_WORDS
-        → RemovesPart first end (slot_written (other_file pair) bytes mid) new ⊎ RemovesAll first end (slot_written (other_file pair) bytes mid) new → AtMoments (Torn state) mid new
+        → RemovesPart first end (slot_written (other_file pair) bytes mid) new ⊎ RemovesAll first end (slot_written (other_file pair) bytes mid) new → AtMoments (Torn Q state) mid new
     all_keeps first end new low removes =
         let wrote : List Step = slot_written (other_file pair) bytes mid in
-        let s : IsSaved sound state pair c mid wrote = saved sound respects from [] rest pair c mid may in
-        let each = removal_moments sound state (put pair c) first end wrote new s.settled s.there s.some low removes in
-        joined (Torn state) mid wrote new slot_keeps
-        (calm_torn state (put pair c) end wrote new low (all_from_each (RecoversTo sound state (put pair c)) wrote new each)
+        let s = saved_meeting sound respects Q from [] rest pair c mid may meets behind in
+        let each = meeting_removals sound Q state (put pair c) first end wrote new s.0.settled (s.0.there, s.1) s.0.some low removes in
+        joined (Torn Q state) mid wrote new slot_keeps
+        (calm_torn Q state (put pair c) end wrote new low (all_from_each (RecoversMeeting sound Q state (put pair c)) wrote new each)
         (removed_calm first end wrote new (written_still pair bytes mid (λ n. may.settled (Segment n))) removes))
 
 module _
@@ -141,12 +152,17 @@ module _
       let c : Checkpoint = s.checkpoint in
       let below = removals_below short sound respects m slots c mid s.holds s.may in
       let to = s.holds.to in
-      let kept : AtMoments (Torn sound respects here) mid new = elim s.saves [
+      let h = s.holds in
+      let start : State = state_at m [] in
+      let Q : State → List Block → Type 0 = MeetsLast start h.front in
+      let meets = met_same sound m slots mid h here s.may.there in
+      let behind = meets_rest start h.front h.front [] (state_of (Some c)) (sym (append-nil h.front)) s.may.state.at in
+      let kept : AtMoments (Torn sound respects Q here) mid new = elim s.saves [
         | inl part ↦ elim part [
-          | inl writes ↦ part_keeps sound respects here [] pair c mid s.may new writes
-          | inr removes ↦ all_keeps sound respects here [] pair c mid s.may 0 (removal_end slots) new below (inl removes)
+          | inl writes ↦ part_keeps sound respects Q here [] pair c mid s.may meets behind new writes
+          | inr removes ↦ all_keeps sound respects Q here [] pair c mid s.may meets behind 0 (removal_end slots) new below (inl removes)
         ]
-        | inr all ↦ all_keeps sound respects here [] pair c mid s.may 0 (removal_end slots) new below (inr all)
+        | inr all ↦ all_keeps sound respects Q here [] pair c mid s.may meets behind 0 (removal_end slots) new below (inr all)
       ] in (
         kept.0,
         λ now moment image is tears.
@@ -159,6 +175,7 @@ module _
                 low = omega (arith, low, to);
                 pair = r.pair;
                 there = r.there;
+                meets = r.meets;
               };
               stops = r.stops;
             },
@@ -185,16 +202,21 @@ module _
       let is = all_behind short sound respects m slots slot.stamp mid p in
       let below = removals_under short sound respects m slots c mid h s.may.newer in
       let to = h.to in
-      let kept : AtMoments (Torn sound respects (state_behind from p.blocks)) mid new = elim s.saves [
+      let start : State = state_at m [] in
+      let Q : State → List Block → Type 0 = MeetsLast start h.front in
+      let meets = met_same sound m slots mid h (state_behind from p.blocks) s.may.there in
+      let behind = meets_rest start h.front p.front p.blocks (state_of (Some c)) p.split s.may.state.at in
+      let kept : AtMoments (Torn sound respects Q (state_behind from p.blocks)) mid new = elim s.saves [
         | inl part ↦ elim part [
-          | inl writes ↦ part_keeps sound respects from p.blocks pair c mid s.may new writes
-          | inr removes ↦ all_keeps sound respects from p.blocks pair c mid s.may 0 (removal_end slots) new below (inl removes)
+          | inl writes ↦ part_keeps sound respects Q from p.blocks pair c mid s.may meets behind new writes
+          | inr removes ↦ all_keeps sound respects Q from p.blocks pair c mid s.may meets behind 0 (removal_end slots) new below (inl removes)
         ]
-        | inr all ↦ all_keeps sound respects from p.blocks pair c mid s.may 0 (removal_end slots) new below (inr all)
+        | inr all ↦ all_keeps sound respects Q from p.blocks pair c mid s.may meets behind 0 (removal_end slots) new below (inr all)
       ] in (
         kept.0,
         λ now moment image is_image tears.
             let r = kept.1 now moment image is_image tears in
+            let there = subst (λ (x : State). RecoversMeeting sound Q x r.pair image) is (r.there, r.meets) in
             record {
               past = record {
                 front = h.front;
@@ -202,7 +224,8 @@ module _
                 split = h.split;
                 low = omega (arith, low, to);
                 pair = r.pair;
-                there = subst (λ (x : State). RecoversTo sound x r.pair image) is r.there;
+                there = there.0;
+                meets = there.1;
               };
               stops = subst (λ (x : State). MayStop (base r.pair).at x.at now) is r.stops;
             },

@@ -31,6 +31,7 @@ module _ (sound : Rows → Type 0) where
             low = omega (arith, to);
             pair = h.pair;
             there = h.there;
+            meets = h.meets;
           };
           stops = settled_stops (base h.pair).at (state_behind from h.front).at steps h.ready.settled;
         }));

@@ -11,7 +11,7 @@ use Rattle.erm_ckpt.specs.declared.slot.Slots.{Slots}
 use Rattle.erm_ckpt.specs.Recovered.{Pair, Recovers, RecoversAt, State, base, state_behind}
 use Rattle.erm_ckpt.specs.States.{RecoversTo}
 use Rattle.erm_checkpoint.specs.Taken.{HoldsLog, state_at}
-use Rattle.erm_checkpoint.proofs.Taken.{place_is}
+use Rattle.erm_checkpoint.proofs.Taken.{place_is, there_from}
 use Rattle.erm_world.specs.Laws.{IsSerializable}
 use Rattle.erm_world.specs.Log.{IsLog, Log, StandFrom, Start, place_behind}
 use Rattle.erm_world.specs.Whole.{IsBlockOf, IsLogOf}
@@ -56,15 +56,13 @@ module _ (law : Law) (v t : View) (is : IsSerializable law t) (leaves : LeavesLo
       one_list law t is t.opening.run now.opened.at front e.front stand stand_now are are_now
       (ap (λ (n : ℕ). place_behind n front) (sym at) ∙ to ∙ sym flushed_same ∙ e.behind)
 
-  states_same : (front : List Block) → front ≡ is_now.flushed.front → state_at before front ≡ state_at now is_now.flushed.front
-  states_same front same = ap (λ (s : Start). state_behind (record { at = s.at; run = s.run; rows = s.rows }) front) (sym opened_same) ∙ ap (state_at now) same
-
   pub held_stays : (slots : Slots) (steps : List Step) → HoldsLog law.meets before slots steps → HoldsLog law.meets now slots steps
   held_stays slots steps h =
       let e = is_now.flushed in
       let from : State = record { at = before.opened.at; run = before.opened.run; rows = before.opened.rows } in
       let fronts : h.front ≡ e.front = fronts_same h.front h.rest h.split (sym (place_is from h.front) ∙ h.to) in
       let run : before.opened.run ≡ now.opened.run = ap (λ (s : Start). s.run) (sym opened_same) in
+      let there = there_from law.meets before now slots steps h e.front opened_same fronts in
       record {
         ready = record {
           settled = h.ready.settled;
@@ -77,7 +75,8 @@ module _ (law : Law) (v t : View) (is : IsSerializable law t) (leaves : LeavesLo
         rest = e.rest;
         split = e.split;
         to = place_is (state_at now []) e.front ∙ sym e.behind;
-        there = subst (λ (s : State). RecoversTo law.meets s h.pair (contents steps)) (states_same h.front fronts) h.there;
+        there = there.0;
+        meets = there.1;
       }
 
   pub kept_stays : (place : ℕ) (slots : Slots) (old steps : List Step) → KeepsSince law.meets place before slots old steps → KeepsSince law.meets place now slots old steps

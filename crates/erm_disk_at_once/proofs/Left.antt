@@ -16,7 +16,7 @@ use Rattle.erm_rule.specs.declared.view.Start.{Start}
 use Rattle.erm_desk.specs.Known.{flushed_log}
 use Rattle.erm_told_crash.specs.Logged.{HasCommits}
 use Rattle.erm_disk_run.proofs.Left.{OrdersAreOne, run_state}
-use Rattle.erm_disk_run.proofs.Meeting.{MeetsFound, MetLaws, audit_from_place, older_found, opening_met}
+use Rattle.erm_disk_run.proofs.Meeting.{MeetsFound, MetLaws, audit_from_place, older_found, opening_met, opens_alone}
 use Rattle.erm_disk_at_once.specs.Desks.{StandFor}
 use Rattle.erm_disk_at_once.specs.Runs.{LeavesAll}
 use Rattle.erm_disk_at_once.proofs.Files.{KeepsFiles, slots_stay}
@@ -51,5 +51,6 @@ module _ (one : OrdersAreOne) (laws : MetLaws) (told : List Committed) (state : 
         segments = keeps.segments;
         logged = λ best blocks_met recovers. audit_from_place laws state log is behind slots old new met best blocks_met recovers told has refl refl;
         opening = λ best blocks_met recovers low. opening_met laws state log is behind slots old new met best blocks_met recovers low;
+        alone = λ best blocks_met recovers. opens_alone laws state log is behind slots old new met best blocks_met recovers;
         older = λ before best earlier blocks_met was recovers b low. older_found laws state log is behind slots old new met best blocks_met recovers before earlier was b low;
       }

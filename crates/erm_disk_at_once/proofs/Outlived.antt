@@ -21,7 +21,8 @@ use Rattle.erm_recover.proofs.Waits.{since_then}
 use Rattle.erm_rule.specs.declared.view.Start.{Start}
 use Rattle.erm_desk.specs.Desk.{HeldSince}
 use Rattle.erm_desk.specs.Known.{flushed_log}
-use Rattle.erm_disk_run.specs.Crashes.{KeepsCommits, KeepsSince, Outlives, RecoversBelow}
+use Rattle.erm_disk_run.specs.Crashes.{KeepsCommits, KeepsSince, KeepsTold, Outlives, RecoversBelow}
+use Rattle.erm_disk_run.proofs.Logged.{opening_told}
 use Rattle.erm_disk_run.proofs.Outlived.{OpensAt}
 use Rattle.erm_disk_run.proofs.Opened.{MayOpenAll, opening_commits}
 use Rattle.erm_disk_run.proofs.Told.{none_below}
@@ -65,6 +66,14 @@ module _ (may : MayOpenAll) (told : List Committed) (state start : State) (block
       joined _ first mid new (opening_commits may told state pair first mid (none_yet state.at (omega arith)) (none_yet (state.at + LEAST_BLOCK) (omega arith)) opens)
       (weaker _ _ mid new (λ now image is tears. below_lower state.at place now image low (below_past place now image (is tears))) keeps)) opening
 
+  -- and its blocks tell just these
+  pub logged : (place : ℕ) → (old mid new : List Step) → OpensAt state old mid → KeepsBlocks sound_law.meets start blocks place mid new → SinceSettled (KeepsTold told state) old new
+  logged place old mid new (pair, opening) keeps =
+      since_then (KeepsOpening sound_law.meets state pair) (KeepsTold told state) old mid new
+      (λ first opens.
+      joined _ first mid new (opening_told told state pair first mid (none_yet state.at (omega arith)) (none_yet (state.at + LEAST_BLOCK) (omega arith)) opens)
+      (weaker _ _ mid new (λ now image is tears. let r = is tears in stand.logged place image r.past) keeps)) opening
+
 module _ (may : MayOpenAll) (told : List Committed) (state : State) (o : Start) (blocks tried : List Block)
     (stand : StandFor told state (state_at (flushed_log o (blocks ++ tried)) []) (blocks ++ tried)) where
   abbrev all : List Block
@@ -103,6 +112,7 @@ module _ (may : MayOpenAll) (told : List Committed) (state : State) (o : Start) 
       → KeepsBlocks sound_law.meets start all o.tail mid new → HeldSince sound_law o blocks tried mid new → Outlives told state lines old new
   outlives lines answers of tells old mid new opening keeps since = record {
     moments = moments may told state start all stand o.tail (let behind = stand.behind in omega (arith, behind)) old mid new opening keeps;
+    logged = logged may told state start all stand o.tail old mid new opening keeps;
     acknowledged = λ place is.
         let t = tells is.answer (of place is) place is.tells in
         acknowledged is.answer t.0 place t.1 t.2 old mid new opening since;

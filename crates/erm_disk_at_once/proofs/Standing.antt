@@ -13,6 +13,7 @@ use Rattle.erm_node.specs.Sound.{sound_law}
 use Rattle.erm_node.specs.TreeMap.{map_of_rows}
 use Rattle.erm_world.specs.Log.{IsLog, Log, place_behind, rows_behind}
 use Rattle.erm_told_crash.specs.Logged.{HasCommits}
+use Rattle.erm_disk_run.proofs.Logged.{front_told}
 use Rattle.erm_disk_at_once.specs.Desks.{StandFor}
 
 -- at each front of a log's blocks the rows stand for the state, as commits tell it, below the place there
@@ -37,4 +38,5 @@ stand_for told state log at next is fronts has = record {
       (fronts front rest split));
   runs = λ front rest split. runs_of state log next is front rest split;
   later = λ c m. let within = has.within c m in omega (arith, within.0, at);
+  logged = λ place image past. front_told told state log is at has place image past;
 }

@@ -5,8 +5,9 @@ use Rattle.erm_model.specs.Member.{◌∈◌}
 use Rattle.erm_model.specs.RowTransaction.{SameRows}
 use Rattle.erm_model.specs.declared.limits.TheConstants.{LAST_RUN, LEAST_BLOCK, STOP, TABLE_CELLS}
 use Rattle.erm_block.specs.declared.block.Block.{Block}
-use Rattle.erm_outside.specs.Disk.{Step, Tells}
+use Rattle.erm_outside.specs.Disk.{Image, Step, Tells}
 use Rattle.erm_ckpt.specs.Recovered.{State, state_behind}
+use Rattle.erm_ckpt.specs.States.{RecoversPast}
 use Rattle.erm_ckpt.specs.declared.slot.Slots.{Slots}
 use Rattle.erm_node.specs.Sound.{sound_law}
 use Rattle.erm_node.specs.TreeMap.{map_of_rows}
@@ -26,6 +27,7 @@ use Rattle.erm_rule.specs.declared.view.Start.{Start}
 use Rattle.erm_desk.specs.Desk.{IsDesk, Sees}
 use Rattle.erm_desk.specs.Known.{opened_at}
 use Rattle.erm_spare_names.specs.Spare.{NamesOnlyFirst}
+use Rattle.erm_disk_run.specs.Crashes.{TellsCommits}
 use Rattle.erm_disk_run.specs.Found.{StartsFrom}
 use Rattle.erm_disk_run.specs.Opened.{OpensEachLog}
 
@@ -50,13 +52,15 @@ pub record HasDesk (state : State) (slots : Slots) (o : Start) (before mid : Opt
   pub tells : DiskTells mid d.told
 
 -- Blocks that stand from a start on stand for the commits told: behind each front of them the rows are those of the state below the place there, in the
--- run behind the one found. The start, and each commit, lies behind the block that opened the log.
+-- run behind the one found. The start, and each commit, lies behind the block that opened the log. An image that recovers to such a front has just the
+-- commits told below the place there.
 pub record StandFor (told : List Committed) (state start : State) (blocks : List Block) : Type 0 where
   pub behind : start.at ≡ state.at + LEAST_BLOCK
   pub states : (front rest : List Block) → blocks ≡ front ++ rest
       → IsStateBelow told (map_of_rows state.rows) (state_behind start front).at (map_of_rows (state_behind start front).rows)
   pub runs : (front rest : List Block) → blocks ≡ front ++ rest → (state_behind start front).run ≡ state.run + 1
   pub later : (c : Committed) → c ∈ told → state.at + LEAST_BLOCK ≤ c.stamp
+  pub logged : (place : ℕ) (image : Image) → RecoversPast sound_law.meets start blocks place image → TellsCommits told state image
 
 -- each place that lines acknowledge, one of these answers tells
 abbrev pub AnswersTell : List Answer → List Line → Type 0

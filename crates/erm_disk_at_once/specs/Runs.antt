@@ -8,6 +8,7 @@ use Rattle.erm_model.specs.Database.{Database, entries_of}
 use Rattle.erm_model.specs.Member.{◌∈◌}
 use Rattle.erm_model.specs.declared.limits.TheConstants.{LAST_NUMBER, LAST_RUN, LEAST_BLOCK, SESSIONS, STOP}
 use Rattle.erm_block.specs.declared.block.Block.{Block}
+use Rattle.erm_block.specs.declared.block.Kind.TheVariants as kind
 use Rattle.erm_ckpt.specs.Recovered.{Pair, Recovers, RecoversAt, State, base, slots_of}
 use Rattle.erm_ckpt.specs.States.{RecoversTo}
 use Rattle.erm_crash.specs.Moments.{AtMoments, TearsApart}
@@ -57,8 +58,8 @@ KeepsSegments from old new = SparesOlder from.at old new
 
 -- At the end nothing is pending on a disk, so that a crash leaves what it reads: it recovers to this map, in the next run, behind all commits. Of the
 -- commits in the blocks that recovery meets those from the place found on are just these. The slots and the segments below that of the place found are
--- those from before. Of the blocks from the place on where recovery begins it meets the one that opens the run, and of those below the place found just the
--- ones that it met before.
+-- those from before. Of the blocks from the place on where recovery begins it meets the one that opens the run, behind it none that opens another, and of those
+-- below the place found just the ones that it met before.
 pub record LeavesAll (commits : List Committed) (from : State) (m : Database) (old steps : List Step) : Type 0 where
   pub settled : IsSettled steps
   pub found : State
@@ -72,6 +73,7 @@ pub record LeavesAll (commits : List Committed) (from : State) (m : Database) (o
   pub segments : KeepsSegments from old steps
   pub logged : (best : Pair) (blocks : List Block) → Recovers sound_law.meets (contents steps) best blocks → AuditTells blocks (base best).at from.at commits
   pub opening : (best : Pair) (blocks : List Block) → Recovers sound_law.meets (contents steps) best blocks → (base best).at ≤ from.at → open_block from.at from.run ∈ blocks
+  pub alone : (best : Pair) (blocks : List Block) → Recovers sound_law.meets (contents steps) best blocks → (b : Block) → b ∈ blocks → b.kind ≡ kind.Open → b.stamp ≤ from.at
   pub older : (before best : Pair) (met blocks : List Block) → Recovers sound_law.meets (contents old) before met → Recovers sound_law.meets (contents steps) best blocks
       → (b : Block) → b.stamp < from.at → (b ∈ blocks) ↔ ((b ∈ met) × ((base best).at ≤ b.stamp))
 

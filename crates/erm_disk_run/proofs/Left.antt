@@ -28,7 +28,7 @@ use Rattle.erm_log_run.proofs.Held.{all_flushed}
 use Rattle.erm_disk_run.specs.Crashes.{Leaves}
 use Rattle.erm_disk_run.proofs.Told.{CourseLaws, RanOn, begins, commits, from_opening, stamps_within}
 use Rattle.erm_disk_run.proofs.Opened.{MayOpenAll}
-use Rattle.erm_disk_run.proofs.Meeting.{MeetsFound, MetLaws, audit_from_place, older_found, opening_met}
+use Rattle.erm_disk_run.proofs.Meeting.{MeetsFound, MetLaws, audit_from_place, older_found, opening_met, opens_alone}
 use Rattle.erm_disk_run.proofs.SlotsLeft.{RemovedAs, SlotsLeft, left_saved, left_spared}
 use Rattle.erm_disk_run.proofs.Outlived.{run_front, state_front}
 
@@ -64,7 +64,7 @@ module _ (laws : CourseLaws) (may : MayOpenAll) (one : OrdersAreOne) (audits : A
   told = commits laws state sessions v t log script answers closed ran
 
   -- the log has the commits told
-  has_commits : HasCommits log told
+  pub has_commits : HasCommits log told
   has_commits = subst (λ (n : ℕ). HasCommits log (history_of (transactions_of n (places_of script answers closed)))) ran.opened.sessions
       (audits.logged v t script answers ran.course closed ran.are log ran.log_of ran.is)
 
@@ -95,5 +95,6 @@ module _ (laws : CourseLaws) (may : MayOpenAll) (one : OrdersAreOne) (audits : A
         spared = left_spared answers slots old steps left h.pair h.names;
         removed = λ before blocks recovers. subst (λ (at : ℕ). AreRemoved (removed_to (slots_of before) answers) state.at at old steps) (sym h.to) (removed before blocks recovers);
         opening = λ best blocks recovers low. opening_met audits.met state log ran.is start slots old steps meets best blocks recovers low;
+        alone = λ best blocks recovers. opens_alone audits.met state log ran.is start slots old steps meets best blocks recovers;
         older = λ before best found blocks was recovers b low. older_found audits.met state log ran.is start slots old steps meets best blocks recovers before found was b low;
       }

@@ -1,6 +1,7 @@
 pub mod Cut
 pub mod Followed
 pub mod Left
+pub mod Logged
 pub mod Meeting
 pub mod Opened
 pub mod Order

@@ -1,12 +1,22 @@
 -- Which blocks recovery meets on a disk that holds a log all of which is flushed, and which commits they tell.
-use Rattle.std.proofs.Common.{inl, inr, ◌≡◌, ℕ, zero, suc, ◌+◌, ◌<◌, ◌≤◌, ◌↔◌, List, [], ◌∷◌, ◌++◌, refl, ap, subst, arith}
+use Rattle.std.proofs.Common.{inl, inr, ◌≡◌, ℕ, zero, suc, ◌+◌, ◌<◌, ◌≤◌, ◌↔◌, List, [], ◌∷◌, ◌++◌, refl, sym, ap, ◌∙◌, subst, arith}
+use Rattle.std.specs.List.{All}
+use Rattle.std.proofs.lemmas.List.Elements.{All-head, All-tail}
 use Rattle.erm_model.specs.Committed.{Committed}
 use Rattle.erm_model.specs.Member.{◌∈◌}
 use Rattle.erm_record.proofs.StoredRows.{stored_length-le, stored_whole}
 use Rattle.erm_block.proofs.OneLogList.{same_log_list}
 use Rattle.erm_model.specs.declared.limits.TheConstants.{LEAST_BLOCK}
+use Rattle.erm_model.specs.Rows.{Rows}
+use Rattle.erm_model.proofs.Members.{none_in_nil}
 use Rattle.erm_block.specs.declared.block.Block.{Block}
+use Rattle.erm_block.specs.declared.block.Kind.{Kind}
 use Rattle.erm_block.specs.declared.block.Kind.TheVariants as kind
+use Rattle.erm_block.specs.Block.{IsOpen, KeepsRulesOf}
+use Rattle.erm_block.specs.LogList.{End, end_after}
+use Rattle.erm_log_disk.specs.Chains.{MayStand}
+use Rattle.erm_flush.specs.Turns.{start_of}
+use Rattle.erm_checkpoint.proofs.Taken.{stands_from}
 use Rattle.erm_outside.specs.Disk.{Step, contents}
 use Rattle.erm_ckpt.specs.declared.slot.Slots.{Slots}
 use Rattle.erm_ckpt.specs.Recovered.{Pair, Recovers, State, base, state_behind}
@@ -33,6 +43,19 @@ pub record MeetsFound (state : State) (log : Log) (slots : Slots) (old steps : L
 the_one : (b only : Block) → b ∈ (only ∷ []) → b ≡ only
 the_one b only (zero, at) = cc
 the_one b only (suc k, at) = cc
+
+-- of blocks one after another that are all of one run, that of the block before them, none opens a run
+none_opens : (sound : Rows → Type 0) (end : End) (blocks : List Block) → MayStand sound end blocks → All (λ (b : Block). b.run ≡ end.run) blocks → (b : Block) → b ∈ blocks → b.kind ≡ kind.Open → ⊥
+none_opens sound end [] stand runs b m opens = none_in_nil b m
+none_opens sound end (x ∷ xs) (is, rows, others) runs b (zero, at) opens =
+    let here : x ≡ b = cc in
+    let opened : IsOpen x end.run = subst (λ (k : Kind). KeepsRulesOf k x end.run) (ap (λ (y : Block). y.kind) here ∙ opens) is.rules in
+    let later = opened.run in
+    let same : x.run ≡ end.run = All-head (λ (y : Block). y.run ≡ end.run) x xs runs in
+    omega (arith, later, same)
+none_opens sound end (x ∷ xs) (is, rows, others) runs b (suc k, at) opens =
+    let same : x.run ≡ end.run = All-head (λ (y : Block). y.run ≡ end.run) x xs runs in
+    none_opens sound (end_after x end) xs others (subst (λ (r : ℕ). All (λ (y : Block). y.run ≡ r) xs) (sym same) (All-tail (λ (y : Block). y.run ≡ end.run) x xs runs)) b (k, at) opens
 
 -- the laws of what recovery meets then
 pub record MetLaws : Type 0 where
@@ -81,6 +104,22 @@ module _ (laws : MetLaws) (state : State) (log : Log) (is : IsLog sound_law.meet
   older_found before found was b low =
       subst (λ (bs : List Block). (b ∈ blocks) ↔ ((b ∈ bs) × ((base best).at ≤ b.stamp)))
       (same_recovery sound_law.meets (same_log_list stored_length-le stored_whole sound_law.meets) (contents old) meets.pair before meets.blocks found meets.recovers was).1 (older_met b low)
+
+  -- behind the place found no block opens a run
+  pub opens_alone : (b : Block) → b ∈ blocks → b.kind ≡ kind.Open → b.stamp ≤ state.at
+  opens_alone b m opens =
+      let run : MeetsRun log (base best).at blocks = laws.meet (meets.blocks ++ opener ∷ []) log slots steps is meets.tail best blocks recovers in
+      elim (∈-parts run.older run.both b (subst (λ (bs : List Block). b ∈ bs) run.met_is m)) [
+        | inl earlier ↦ low (run.early b earlier)
+        | inr own ↦ absurd (none_opens sound_law.meets (start_of log) log.gathered (stands_from sound_law.meets log is) is.one_run b
+            (subst (λ (bs : List Block). b ∈ bs) (sym run.gathered) (∈-before (run.passed ++ run.both) run.rest b (∈-after run.passed run.both b own))) opens)
+      ]
+    where
+      low : b.stamp < log.opened.at → b.stamp ≤ state.at
+      low less = elim (∈-parts meets.blocks (opener ∷ []) b ((met_earlier b less).0 m).0) [
+        | inl before ↦ let below = below_place b before in omega (arith, below)
+        | inr only ↦ let same : b.stamp ≡ state.at = ap (λ (x : Block). x.stamp) (the_one b opener only) in omega (arith, same)
+      ]
 
   -- from the place found up to the log's start no other block begins
   opens_between : (b : Block) → b ∈ blocks → state.at ≤ b.stamp → b.stamp < state.at + LEAST_BLOCK → b.kind ≡ kind.Open

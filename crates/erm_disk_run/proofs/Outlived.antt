@@ -24,8 +24,10 @@ use Rattle.erm_log_run.specs.Acknowledged.{AllLast}
 use Rattle.erm_log_run.proofs.Told.{since_before, told_since}
 use Rattle.erm_recover.specs.Waiting.{SinceSettled}
 use Rattle.erm_recover.proofs.Waits.{since_then}
-use Rattle.erm_disk_run.specs.Crashes.{KeepsCommits, Outlives, RecoversBelow}
-use Rattle.erm_disk_run.proofs.Told.{CourseLaws, RanOn, commits, next_run, none_below, stamps_within, state_told}
+use Rattle.erm_told_crash.specs.Logged.{HasCommits}
+use Rattle.erm_disk_run.specs.Crashes.{KeepsCommits, KeepsTold, Outlives, RecoversBelow}
+use Rattle.erm_disk_run.proofs.Logged.{front_told, opening_told}
+use Rattle.erm_disk_run.proofs.Told.{CourseLaws, RanOn, begins, commits, next_run, none_below, stamps_within, state_told}
 use Rattle.erm_disk_run.proofs.Opened.{MayOpenAll, opening_commits}
 
 -- the rows behind blocks
@@ -85,14 +87,20 @@ module _ (laws : CourseLaws) (may : MayOpenAll) (state : State) (sessions : ℕ)
   none_yet : (bound : ℕ) → bound ≤ state.at + LEAST_BLOCK → below bound told ≡ []
   none_yet bound low = none_below bound told (λ c m. let within = stamps_within laws state sessions v t log script answers closed ran c m in omega (arith, within.0, low))
 
-  pub outlives : (lines : List Line) (place : ℕ) → state.at ≤ place → (old mid new : List Step) → OpensAt state old mid
+  pub outlives : HasCommits log told → (lines : List Line) (place : ℕ) → state.at ≤ place → (old mid new : List Step) → OpensAt state old mid
       → KeepsBlocks sound_law.meets start log.gathered place mid new × AllLast sound_law.meets start log.gathered lines mid new → Outlives told state lines old new
-  outlives lines place low old mid new (pair, opening) (keeps, last) = record {
+  outlives has lines place low old mid new (pair, opening) (keeps, last) = record {
     moments =
         since_then (KeepsOpening sound_law.meets state pair) (KeepsCommits told state state.at) old mid new
         (λ first opens.
         joined _ first mid new (opening_commits may told state pair first mid (none_yet state.at (omega arith)) (none_yet (state.at + LEAST_BLOCK) (omega arith)) opens)
         (weaker _ _ mid new (λ now image is tears. below_lower state.at place now image low (below_past place now image (is tears))) keeps)) opening;
+    logged =
+        since_then (KeepsOpening sound_law.meets state pair) (KeepsTold told state) old mid new
+        (λ first opens.
+        joined _ first mid new (opening_told told state pair first mid (none_yet state.at (omega arith)) (none_yet (state.at + LEAST_BLOCK) (omega arith)) opens)
+        (weaker _ _ mid new
+        (λ now image is tears. let r = is tears in front_told told state log ran.is (begins laws state sessions v t log script answers closed ran) has place image r.past) keeps)) opening;
     acknowledged = λ known tells.
         let since = last known tells in
         let steps = steps_since state pair old mid opening in

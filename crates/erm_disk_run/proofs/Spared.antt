@@ -25,7 +25,7 @@ use Rattle.erm_told_crash.proofs.Spare.{idle, no_transactions}
 use Rattle.erm_log_run.specs.Lines.{AreLinesOf, Names}
 use Rattle.erm_log_run.specs.Saving.{removing_to}
 use Rattle.erm_recover.specs.Waiting.{SinceSettled}
-use Rattle.erm_disk_run.specs.Crashes.{KeepsCommits, KeepsOlder, Leaves, Outlives}
+use Rattle.erm_disk_run.specs.Crashes.{KeepsCommits, KeepsOlder, KeepsTold, Leaves, Outlives}
 use Rattle.erm_disk_run.specs.Limits.{Limits}
 use Rattle.erm_disk_run.specs.Runs.{AreUnseen, CutFew, EndsRun, HaveManyCells, HaveManyKeys, IsScriptFor, LeavesUntold, MayBeRun, NamesOneOf, WasCutOn, WasRunOn, WasStarvedOn, commits_told}
 use Rattle.erm_disk_run.proofs.Cut.{keyed_without}
@@ -139,6 +139,7 @@ module _ (spare : SpareNamesTellNothing) (limits : Limits) (before after : Optio
         owes = subst (λ (ts : List Transaction). OwesToAnswers InTurn was.opening script was.answers ts) untold was.owes;
         fronts = subst (λ (cs : List Committed). EachFrontRuns cs was.opening.map) empty was.fronts;
         moments = subst (λ (cs : List Committed). Tells (SinceSettled (KeepsCommits cs state state.at)) before after) empty was.moments;
+        logged = subst (λ (cs : List Committed). Tells (SinceSettled (KeepsTold cs state)) before after) empty was.logged;
         older = was.older;
       }
 

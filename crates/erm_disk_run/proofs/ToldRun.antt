@@ -35,13 +35,13 @@ use Rattle.erm_log_run.specs.Runs.{IsCutReportOf, IsReportOf, WasCut, WasRun}
 use Rattle.erm_log_run.specs.Saving.{AreRemoved, AreSaved, MayBeRemoved, removed_to, removing_to, saved_at}
 use Rattle.erm_log_run.proofs.Held.{tells_both, tells_join, tells_weaker}
 use Rattle.erm_recover.specs.Waiting.{SinceSettled}
-use Rattle.erm_disk_run.specs.Crashes.{KeepsCommits, Leaves, Outlives}
+use Rattle.erm_disk_run.specs.Crashes.{KeepsCommits, KeepsTold, Leaves, Outlives}
 use Rattle.erm_disk_run.specs.Found.{StartsFrom}
 use Rattle.erm_disk_run.specs.Limits.{Limits}
 use Rattle.erm_disk_run.specs.Owed.{CoursesOwe}
 use Rattle.erm_disk_run.specs.Runs.{AreUnseen, CutFew, HaveManyCells, HaveManyKeys, WasCutOn, WasRunOn, WasStarvedOn, commits_told}
 use Rattle.erm_disk_run.proofs.Cut.{HasUnseen, course_celled, course_cuts, course_keyed, has_unseen, run_cuts, whole_course}
-use Rattle.erm_disk_run.proofs.Left.{AuditLaws, OrdersAreOne, leaves}
+use Rattle.erm_disk_run.proofs.Left.{AuditLaws, OrdersAreOne, has_commits, leaves}
 use Rattle.erm_disk_run.proofs.Meeting.{MeetsFound}
 use Rattle.erm_disk_run.proofs.Opened.{MayOpenAll}
 use Rattle.erm_disk_run.proofs.Outlived.{OpensAt, outlives}
@@ -115,7 +115,8 @@ module _ (laws : DiskLaws) (limits : Limits) (state : State) (names : List (List
   outlived answers closed ran =
       tells_join (OpensAt state) (λ b c. KeepsBlocks sound_law.meets (state_at log []) log.gathered begun.flushed b c × AllLast sound_law.meets (state_at log []) log.gathered lines b c)
       (Outlives (commits_told names script answers closed) state lines) before mid after
-      (outlives laws.courses laws.may state (length names) v t log script answers closed ran lines begun.flushed low) on.opens
+      (outlives laws.courses laws.may state (length names) v t log script answers closed ran
+      (has_commits laws.courses laws.may laws.one laws.audits state (length names) v t log script answers closed ran) lines begun.flushed low) on.opens
       (subst (λ (s : State). Tells (λ b c. KeepsBlocks sound_law.meets s log.gathered begun.flushed b c × AllLast sound_law.meets s log.gathered lines b c) mid after)
       (same_start answers closed ran)
       (tells_both (KeepsBlocks sound_law.meets (state_at begun []) log.gathered begun.flushed) (AllLast sound_law.meets (state_at begun []) log.gathered lines) mid after on.moments on.acknowledged))
@@ -236,6 +237,8 @@ module _ (laws : DiskLaws) (limits : Limits) (state : State) (names : List (List
     fronts = front_runs answers found.closed course found.are opening of;
     moments = tells_weaker (Outlives (commits_told names script answers found.closed) state lines) (SinceSettled (KeepsCommits (commits_told names script answers found.closed) state state.at)) before after
         (λ old new outlives. outlives.moments) (outlived answers found.closed (ran_on answers found.closed course found.are));
+    logged = tells_weaker (Outlives (commits_told names script answers found.closed) state lines) (SinceSettled (KeepsTold (commits_told names script answers found.closed) state)) before after
+        (λ old new outlives. outlives.logged) (outlived answers found.closed (ran_on answers found.closed course found.are));
     older = older_told state (λ slots. removing_to slots script answers) first begun.flushed before mid after low opened may;
   }
     where

@@ -27,7 +27,7 @@ use Rattle.erm_good_report.specs.Transactions.{history_of, said_of, table_of, tr
 use Rattle.erm_invariant.specs.Commits.{EachFrontRuns}
 use Rattle.erm_tight.specs.NewKeys.{HaveNewKeys}
 use Rattle.erm_log_run.specs.Saving.{removing_to}
-use Rattle.erm_disk_run.specs.Crashes.{KeepsCommits, KeepsOlder, Leaves, Outlives}
+use Rattle.erm_disk_run.specs.Crashes.{KeepsCommits, KeepsOlder, KeepsTold, Leaves, Outlives}
 use Rattle.erm_disk_run.specs.Found.{IsFound, StartsFrom}
 use Rattle.erm_disk_run.specs.Limits.{Limits}
 use Rattle.erm_disk_run.specs.Stops.{CountsStop, StopsRun}
@@ -115,8 +115,8 @@ pub record WasCutOn (limits : Limits) (before after : Option (List Step)) (state
 
 -- Memory ran out while a script was run on a disk, or was told: behind some of its lines, or behind all of them. These answers, of which no line tells,
 -- are what a report owes, with the sessions that were closed behind the last line. Once nothing is pending of what was done before, each image at each
--- moment recovers to the commits below a stamp that both tell; those below any stamp are a serial run. No more of the log's older segments are gone than
--- the checkpoints told were to remove, and one more where the line behind them is one.
+-- moment recovers to the commits below a stamp that both tell, and of the run's own its blocks tell just these; those below any stamp are a serial run. No
+-- more of the log's older segments are gone than the checkpoints told were to remove, and one more where the line behind them is one.
 pub record WasStarvedOn (limits : Limits) (before after : Option (List Step)) (state : State) (names : List (List ℕ)) (script : List ScriptLine) : Type 0 where
   pub low : state.at < STOP
   pub run_low : state.run < LAST_RUN
@@ -132,6 +132,7 @@ pub record WasStarvedOn (limits : Limits) (before after : Option (List Step)) (s
   pub owes : OwesToAnswers InTurn opening script answers (transactions_of (length names) (places_of script answers closed))
   pub fronts : EachFrontRuns (commits_told names script answers closed) opening.map
   pub moments : Tells (SinceSettled (KeepsCommits (commits_told names script answers closed) state state.at)) before after
+  pub logged : Tells (SinceSettled (KeepsTold (commits_told names script answers closed) state)) before after
   pub older : Tells (KeepsOlder state (λ slots. removing_to slots script answers)) before after
 
 -- how a run ends on a disk before and after, over a world with these limits

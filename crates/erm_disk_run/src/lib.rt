@@ -17,8 +17,3 @@ pub use laws::{
 pub use log::{OpenedLog, open_log_on_disk};
 pub use run::{run_in_lists, run_on_disk};
 pub use stops::{DiskStop, OnDisk, RunStop};
-
-#[cfg(test)]
-mod run_tests;
-#[cfg(test)]
-mod tests;

@@ -9,7 +9,8 @@ use Rattle.erm_outside.specs.declared.disk.File.{File}
 use Rattle.erm_world.specs.Log.{Log}
 use Rattle.erm_ckpt.specs.declared.slot.Slots.{Slots}
 use Rattle.erm_ckpt.specs.Recovered.{State, base}
-use Rattle.erm_ckpt.specs.States.{RecoversTo}
+use Rattle.erm_ckpt.specs.States.{MeetsLast}
+use Rattle.erm_ckpt.proofs.Images.{RecoversMeeting}
 use Rattle.erm_checkpoint.specs.Taken.{HoldsLog, state_at}
 use Rattle.erm_crash.specs.Kept.{KeepsBlocks, KeepsSince, RecoversStopped}
 use Rattle.erm_crash.specs.Moments.{IsMoment}
@@ -52,6 +53,9 @@ first_kept sound k holds none start = by k.told holds
         let one : now ≡ steps = one_moment steps now m in
         let here : IsImage steps image = subst (λ (x : List Step). IsImage x image) one is in
         let same : image ≡ contents steps = fun_ext (λ (file : File). h.ready.settled file (image file) (here file)) in
+        let held : RecoversMeeting sound (MeetsLast (state_at k.log []) []) (state_at k.log []) h.pair (contents steps) =
+        subst (λ (bs : List Block). RecoversMeeting sound (MeetsLast (state_at k.log []) bs) (state_at k.log bs) h.pair (contents steps)) (front_none steps h) (h.there, h.meets) in
+        let there = subst (λ (bytes : Image). RecoversMeeting sound (MeetsLast (state_at k.log []) []) (state_at k.log []) h.pair bytes) (sym same) held in
         record {
           past = record {
             front = [];
@@ -59,8 +63,8 @@ first_kept sound k holds none start = by k.told holds
             split = refl;
             low = omega (arith, start);
             pair = h.pair;
-            there = subst (λ (bytes : Image). RecoversTo sound (state_at k.log []) h.pair bytes) (sym same)
-                (subst (λ (bs : List Block). RecoversTo sound (state_at k.log bs) h.pair (contents steps)) (front_none steps h) h.there);
+            there = there.0;
+            meets = there.1;
           };
           stops = subst (MayStop (base h.pair).at (state_at k.log []).at) (sym one) (settled_stops (base h.pair).at (state_at k.log []).at steps h.ready.settled);
         }

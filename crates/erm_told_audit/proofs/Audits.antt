@@ -15,19 +15,19 @@ use Rattle.erm_told_crash.specs.Logged.{HasCommits, IsLogged}
 use Rattle.erm_told_audit.specs.Audits.{AuditTells, logged}
 
 -- the block of a commit
-record HasBlock (blocks : List Block) (x : Commit) : Type 0 where
+pub record HasBlock (blocks : List Block) (x : Commit) : Type 0 where
   pub block : Block
   pub of : block ∈ blocks
   pub tells : x ∈ commits_in block
 
-has_block : (blocks : List Block) (x : Commit) → x ∈ commits_of blocks → HasBlock blocks x
+pub has_block : (blocks : List Block) (x : Commit) → x ∈ commits_of blocks → HasBlock blocks x
 has_block [] x m = absurd (none_in_nil x m)
 has_block (b ∷ blocks) x m = elim (∈-parts (commits_in b) (commits_of blocks) x m) [
   | inl here ↦ record { block = b; of = (0, refl); tells = here }
   | inr later ↦ let there = has_block blocks x later in record { block = there.block; of = (suc there.of.0, there.of.1); tells = there.tells }
 ]
 
-told_by : (blocks : List Block) (b : Block) (x : Commit) → b ∈ blocks → x ∈ commits_in b → x ∈ commits_of blocks
+pub told_by : (blocks : List Block) (b : Block) (x : Commit) → b ∈ blocks → x ∈ commits_in b → x ∈ commits_of blocks
 told_by [] b x m tells = absurd (none_in_nil b m)
 told_by (c ∷ blocks) b x (zero, at) tells =
     let here : c ≡ b = cc in
@@ -39,7 +39,7 @@ in_one : (x y : Commit) → x ∈ (y ∷ []) → x ≡ y
 in_one x y (zero, at) = cc
 in_one x y (suc k, at) = cc
 
-of_kind : (k : Kind) (b : Block) (x : Commit) → x ∈ commits_in_kind k b → x ≡ commit_in b
+pub of_kind : (k : Kind) (b : Block) (x : Commit) → x ∈ commits_in_kind k b → x ≡ commit_in b
 of_kind kind.OldCommit b x m = in_one x (commit_in b) m
 of_kind kind.OldSkip b x m = absurd (none_in_nil x m)
 of_kind kind.Open b x m = absurd (none_in_nil x m)
@@ -91,6 +91,19 @@ audit_tells log commits from met has run ends flushed = record { only = only; al
           | inr there ↦ there
         ] in
         (told_by met b (logged c) (subst (λ (bs : List Block). b ∈ bs) (sym run.met_is) (∈-after run.older run.both b own)) (tells_it b c found.2), within.0)
+
+-- blocks below a start tell of no commit at or above it
+pub none_tell : (met : List Block) (from start : ℕ) → ((b : Block) → b ∈ met → b.stamp < start) → AuditTells met from start []
+none_tell met from start low = record {
+  only = λ x m above. absurd (
+      let found = has_block met x m in
+      let b : Block = found.block in
+      let stamp : x.stamp ≡ b.stamp = ap (λ (y : Commit). y.stamp) (of_kind b.kind b x found.tells) in
+      let less = low b found.of in
+      omega (arith, stamp, less, above)
+      );
+  all = λ c m above. absurd (none_in_nil c m);
+}
 
 -- what blocks tell from a place on they tell from a lower one, where in between only blocks begin that open runs
 pub audit_from : (met : List Block) (from low start : ℕ) (commits : List Committed) → low ≤ start → ((b : Block) → b ∈ met → low ≤ b.stamp → b.stamp < start → b.kind ≡ kind.Open)

@@ -1,3 +1,4 @@
+pub mod Images
 pub mod Opened
 pub mod Places
 pub mod Runs

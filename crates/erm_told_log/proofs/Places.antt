@@ -12,13 +12,14 @@ use Rattle.erm_block.specs.Spelling.{body_of}
 use Rattle.erm_block.proofs.OneSpelling.{length-spelling}
 use Rattle.erm_outside.specs.Disk.{Image}
 use Rattle.erm_log_disk.specs.Chains.{MayStand}
-use Rattle.erm_log_disk.proofs.Chains.{chain_may_stand, may_stand-front, places_grow}
+use Rattle.erm_log_disk.proofs.Chains.{chain_may_stand, end_of-append, may_stand-behind, may_stand-front, places_grow}
 use Rattle.erm_ckpt.specs.Recovered.{Pair, Recovers, State, base, end_at, state_behind}
 use Rattle.erm_ckpt.proofs.Images.{of_end-end_of}
 use Rattle.erm_checkpoint.specs.Taken.{state_at}
-use Rattle.erm_checkpoint.proofs.Taken.{end_state, stands_from}
+use Rattle.erm_checkpoint.proofs.Taken.{end_state, place_is, stands_from}
 use Rattle.erm_flush.specs.Turns.{start_of}
-use Rattle.erm_world.specs.Log.{IsLog, Log}
+use Rattle.erm_flush.proofs.Flushes.{same_place}
+use Rattle.erm_world.specs.Log.{IsLog, Log, gathered_to, place_behind}
 
 -- a block has words
 pub size_low : (block : Block) (at run : ℕ) → IsBlock block at run → 5 ≤ block.size
@@ -29,7 +30,7 @@ pub record Within (from to : ℕ) (block : Block) : Type 0 where
   pub above : from ≤ block.stamp
   pub below : block.stamp < to
 
-stand_within : (sound : Rows → Type 0) (end : End) (blocks : List Block) → MayStand sound end blocks → (block : Block) → block ∈ blocks → Within end.at (end_of end blocks).at block
+pub stand_within : (sound : Rows → Type 0) (end : End) (blocks : List Block) → MayStand sound end blocks → (block : Block) → block ∈ blocks → Within end.at (end_of end blocks).at block
 stand_within sound end [] stand block m = absurd (none_in_nil block m)
 stand_within sound end (b ∷ bs) (is, rows, others) block (zero, at) =
     let here : b ≡ block = cc in
@@ -54,6 +55,28 @@ log_within sound log front rest is split block m =
     let all : MayStand sound (start_of log) (front ++ rest) = subst (MayStand sound (start_of log)) split (stands_from sound log is) in
     subst (λ (s : State). Within log.opened.at s.at block) (end_state log front)
     (stand_within sound (start_of log) front (may_stand-front sound (start_of log) front rest all) block m)
+
+-- a front of a log's blocks begins below the place behind it, and the others at or above that, which is no greater than the place behind all
+pub front_below : (sound : Rows → Type 0) (log : Log) (front rest : List Block) → IsLog sound log → log.gathered ≡ front ++ rest → (block : Block) → block ∈ front
+    → block.stamp < place_behind log.opened.at front
+front_below sound log front rest is split block m =
+    let there = log_within sound log front rest is split block m in
+    let less = there.below in
+    omega (arith, less, place_is (state_at log []) front)
+
+pub rest_above : (sound : Rows → Type 0) (log : Log) (front rest : List Block) → IsLog sound log → log.gathered ≡ front ++ rest → (block : Block) → block ∈ rest
+    → place_behind log.opened.at front ≤ block.stamp
+rest_above sound log front rest is split block m =
+    let all : MayStand sound (start_of log) (front ++ rest) = subst (MayStand sound (start_of log)) split (stands_from sound log is) in
+    let there = stand_within sound (end_of (start_of log) front) rest (may_stand-behind sound (start_of log) front rest all) block m in
+    let above = there.above in
+    omega (arith, above, same_place (start_of log) front)
+
+pub front_low : (log : Log) (front rest : List Block) → log.gathered ≡ front ++ rest → place_behind log.opened.at front ≤ gathered_to log
+front_low log front rest split =
+    let whole : gathered_to log ≡ (end_of (end_of (start_of log) front) rest).at =
+    ap (place_behind log.opened.at) split ∙ same_place (start_of log) (front ++ rest) ∙ ap (λ (e : End). e.at) (end_of-append (start_of log) front rest) in
+    omega (arith, whole, same_place (start_of log) front, places_grow (end_of (start_of log) front) rest)
 
 -- no blocks stand from a place up to itself
 pub none_between : (sound : Rows → Type 0) (image : Image) (pair : Pair) (blocks : List Block) → Recovers sound image pair blocks → (state_behind (base pair) blocks).at ≡ (base pair).at → blocks ≡ []

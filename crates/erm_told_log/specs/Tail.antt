@@ -25,6 +25,10 @@ pub record MeetsTail (sound : Rows → Type 0) (earlier : List Block) (log : Log
   pub split : earlier ++ holds.front ≡ passed ++ holds.there.blocks
   pub low : BeginBelow (base holds.pair).at passed
 
+-- a log of whose blocks no more than a front is gathered, all of which is flushed
+abbrev pub log_to : Log → List Block → Log
+log_to log front = record log { tail = place_behind log.opened.at front; gathered = front; flushed = place_behind log.opened.at front }
+
 -- The blocks that recovery meets from a place on are, behind blocks below a log's start, just those of the log that are flushed and stand at
 -- or above that place.
 pub record MeetsRun (log : Log) (from : ℕ) (met : List Block) : Type 0 where

@@ -6,12 +6,12 @@ ghost use Rattle.std.specs.Prelude.{◌≡◌, ◌<◌, ◌≤◌, ◌↔◌, �
 ghost use Rattle.erm_block.specs.declared.block.Block.{Block};
 ghost use Rattle.erm_model.specs.Member.{◌∈◌};
 ghost use Rattle.erm_flush.specs.Turns.{HoldsFrom};
-ghost use Rattle.erm_outside.specs.Disk.{IsSettled, Step, contents};
+ghost use Rattle.erm_outside.specs.Disk.{Image, IsSettled, Step, contents};
 ghost use Rattle.erm_ckpt.specs.declared.slot.Slots.{Slots as DiskSlots};
 ghost use Rattle.erm_ckpt.specs.declared.slot.TheConstants.{LOG_START};
 ghost use Rattle.erm_ckpt.specs.Recovered.{Pair, Recovers, State, base, best, slots_of, state_behind};
-ghost use Rattle.erm_ckpt.specs.States.{HoldsAll, SameState};
-ghost use Rattle.erm_checkpoint.specs.Taken.{HoldsLog, HoldsLogFrom};
+ghost use Rattle.erm_ckpt.specs.States.{HoldsAll, RecoversPast, SameState};
+ghost use Rattle.erm_checkpoint.specs.Taken.{HoldsLog, HoldsLogFrom, state_at};
 ghost use Rattle.erm_log_words.specs.Words.{word_at};
 ghost use Rattle.erm_recover.specs.Opening.{Opens, open_block, opened};
 ghost use Rattle.erm_world.specs.Laws.{IsSerializable};
@@ -19,7 +19,7 @@ ghost use Rattle.erm_world.specs.Log.{IsLog, Log};
 ghost use Rattle.erm_world.specs.Whole.{IsLogOf};
 ghost use Rattle.erm_world.specs.World.{View};
 ghost use Rattle.erm_crash.specs.Kept.{IsJustOpened, LeavesLog};
-ghost use Rattle.erm_told_log.specs.Tail.{BeginBelow, MeetsRun, MeetsTail};
+ghost use Rattle.erm_told_log.specs.Tail.{BeginBelow, MeetsRun, MeetsTail, log_to};
 
 use erm_model::RowLaw;
 
@@ -59,6 +59,13 @@ pub fn met_logs_stay<L: RowLaw>()
 pub fn recovery_meets_the_run<L: RowLaw>()
     ensures { (earlier : List Block) (log : Log) (slots : DiskSlots) (steps : List Step) → IsLog L.law.meets log → MeetsTail L.law.meets earlier log slots steps
         → (pair : Pair) (blocks : List Block) → Recovers L.law.meets (contents steps) pair blocks → MeetsRun log (base pair).at blocks }
+{}
+
+/// The same of an image that a crash leaves in the middle of a run, and of the front of the log's blocks to which it recovers.
+pub fn images_meet_a_front<L: RowLaw>()
+    ensures { (log : Log) (place : ℕ) (image : Image) → IsLog L.law.meets log
+        → (past : RecoversPast L.law.meets (state_at log []) log.gathered place image)
+        → (pair : Pair) (blocks : List Block) → Recovers L.law.meets image pair blocks → MeetsRun (log_to log past.front) (base pair).at blocks }
 {}
 
 /// Of the blocks behind which a log was opened recovery meets just those that it doesn't pass.

@@ -1,4 +1,0 @@
-use Rattle.erm_disk_run.proofs.run_tests.runs_go_on.Goals as goal
-
-pub tells-requires : goal.tells-requires
-tells-requires g c = record { script = c.writes.ensures c.unwrap.result }
