@@ -32,12 +32,12 @@ gathered_steps law tail from count words b e took =
     in
     ⊎_elim (λ ended. subst (FlushSteps law b) (sym ended.1) all) (λ open_here. ((kind.LoadRing (from + count), 0) ∷ all.0, (took.gathered, all.1, open_here.2))) took.stop
 
-look_steps : (law : Law) (g : Gathered) (words : List ℕ) (b e : Book) → TookGather law g words b e → FlushSteps law b e
+pub look_steps : (law : Law) (g : Gathered) (words : List ℕ) (b e : Book) → TookGather law g words b e → FlushSteps law b e
 look_steps law (Empty at) words b e took = gathered_steps law took.0 at 0 words b e took.2
 look_steps law (Unfilled at) words b e took = gathered_steps law took.0 at 0 words b e took.2
 look_steps law (Words at count) words b e took = gathered_steps law took.0 at count words b e took.2
 
-clear_steps : (law : Law) (to : ℕ) (b e : Book) → TookClear law to b e → FlushSteps law b e
+pub clear_steps : (law : Law) (to : ℕ) (b e : Book) → TookClear law to b e → FlushSteps law b e
 clear_steps law to b e took =
     let cleared = took.clears in
     let first : FlushSteps law b cleared.first = ((kind.LoadFlushed, took.from) ∷ [], took_one law F kind.LoadFlushed took.from b cleared.first cleared.load) in

@@ -95,9 +95,10 @@ holds_same sound o old more slots steps h = record {
   split = h.split;
   to = h.to;
   there = h.there;
+  meets = h.meets;
 }
 
-place_rises : (at : ℕ) (blocks : List Block) → at ≤ place_behind at blocks
+pub place_rises : (at : ℕ) (blocks : List Block) → at ≤ place_behind at blocks
 place_rises at [] = omega arith
 place_rises at (b ∷ bs) = let rest = place_rises (at + b.size) bs in omega (arith, rest)
 
@@ -108,7 +109,7 @@ place_append at (x ∷ xs) ys = place_append (at + x.size) xs ys
 rose_from : (was first now : ℕ) → was ≡ first → Rose was now → Rose first now
 rose_from was first now same rose = subst (λ (n : ℕ). Rose n now) same rose
 
-all_some : {A : Type 0} (P Q : A → Type 0) (o : Option A) → ((x : A) → P x → Q x) → IfSome o P → IfSome o Q
+pub all_some : {A : Type 0} (P Q : A → Type 0) (o : Option A) → ((x : A) → P x → Q x) → IfSome o P → IfSome o Q
 all_some P Q None map at = tt
 all_some P Q (Some x) map at = map x at
 
@@ -373,6 +374,7 @@ module _ (law : Law) (laws : DeskLaws law) (o : Start) (began : Option (List Ste
           stops = subst (λ (n : ℕ). HasStopped s.book n e) to tries.gathers.stops;
           from = desk.flushed;
           still = flushed;
+          knows_all = knows;
           rose = rose;
         },
       )

@@ -105,7 +105,8 @@ pub record LooksAt (at tail : ℕ) (s t : Sees) : Type 0 where
   pub began : (c : Core) → IsBookOf t.book c → Began s.book tail at c
   pub told : t.told ≡ s.told
 
--- Blocks were gathered, up to such a place, and the disk failed: some of their words may be written. The log is flushed as far as before.
+-- Blocks were gathered, up to such a place, and the disk failed: some of their words may be written. They are known behind those that are flushed, and
+-- the log is flushed as far as before.
 pub record Fails (law : Law) (o : Start) (s t : Sees) : Type 0 where
   pub goes : IsAfter s.book t.book
   pub front : List Block
@@ -114,6 +115,7 @@ pub record Fails (law : Law) (o : Start) (s t : Sees) : Type 0 where
   pub stops : HasStopped s.book (place_behind o.tail (front ++ blocks)) t.book
   pub from : IsFlushedTo s.book (place_behind o.tail front)
   pub still : IsFlushedTo t.book (place_behind o.tail front)
+  pub knows_all : KnowsBlocks law o t.book (front ++ blocks)
   pub rose : Rose s.faults t.faults
 
 -- What a turn answers. It answers `Failed` exactly where the disk failed at an earlier turn, and then does nothing. It answers `Empty`

@@ -1,5 +1,5 @@
--- A desk that takes checkpoints is a desk at each moment at which it hasn't failed, and its turns are a desk's.
-use Rattle.std.proofs.Common.{◌≡◌, ℕ, ◌^◌, ◌<◌, ◌≤◌, false, List, [], ◌++◌, Option, None, IfSome, Result, Ok, Err, refl, sym, ap, ◌∙◌, subst, append-nil, arith}
+-- A desk that takes checkpoints might be set up as a desk at each moment at which it hasn't failed, and its turns answer as a desk's.
+use Rattle.std.proofs.Common.{◌≡◌, ℕ, ◌^◌, ◌<◌, ◌≤◌, false, List, [], ◌++◌, Option, None, IfSome, Result, Ok, Err, inl, refl, sym, ap, ◌∙◌, subst, append-nil, arith}
 use Rattle.erm_block.specs.declared.block.Block.{Block}
 use Rattle.erm_checkpoint.specs.Taken.{HoldsLog, state_at}
 use Rattle.erm_ckpt.specs.declared.slot.Slots.{Slots}
@@ -11,7 +11,7 @@ use Rattle.erm_desk.specs.Desk.{HeldSince, IsDesk, IsHeld, KeepsFronts, MeetsMor
 use Rattle.erm_desk.specs.Known.{IsFlushedTo, KnowsBlocks, KnowsEnd, KnowsLog, ended_log, flushed_log, opened_at}
 use Rattle.erm_desk.specs.Turns.{FlushSteps}
 use Rattle.erm_desk.proofs.Since.{Begins}
-use Rattle.erm_desk.proofs.Turned.{DeskLaws, knows_now, log_now, pin_turned, ready_now, turned}
+use Rattle.erm_desk.proofs.Turned.{DeskLaws, all_some, knows_now, log_now, pin_turned, place_rises, ready_now, turned}
 use Rattle.erm_flush.specs.declared.stops.FlushStop.{FlushStop}
 use Rattle.erm_flush.specs.declared.stops.FlushStop.TheVariants as stop
 use Rattle.erm_gathered.proofs.Lasting.{has_none}
@@ -24,14 +24,16 @@ use Rattle.erm_rule.specs.declared.view.Start.{Start}
 use Rattle.erm_rule.specs.Views.{MayJoin}
 use Rattle.erm_world.specs.Log.{IsLog, Log, place_behind}
 use Rattle.erm_world.specs.Log as world
+use Rattle.erm_desk_checkpoint.specs.Does.{DidSince}
 use Rattle.erm_desk_checkpoint.specs.Kept.{IsKept, KeepsLog, MayLie, sees_of}
-use Rattle.erm_desk_checkpoint.specs.Turns.{FlushesOn, HoldsKnown, KeepsFlushed}
+use Rattle.erm_desk_checkpoint.specs.Turns.{HoldsKnown, MayTurn}
 use Rattle.erm_desk_checkpoint.proofs.Flushed.{failed_on, flushed_on, held_now, held_on, still_held, still_on}
-use Rattle.erm_desk_checkpoint.proofs.Keeping.{More, from_here, go_laws, goes_failed, goes_fine, held_since, place_up}
+use Rattle.erm_desk_checkpoint.proofs.Doing.{nothing_does}
+use Rattle.erm_desk_checkpoint.proofs.Keeping.{More, does_more, does_on, from_here, go_laws, goes_failed, goes_fine, held_since}
 use Rattle.erm_desk_checkpoint.proofs.Logs.{known_all, known_blocks, known_is, known_opened, known_place, plain_held, state_from}
 use Rattle.erm_desk_checkpoint.proofs.Meeting.{meets_here}
 use Rattle.erm_desk_checkpoint.proofs.Steps.{steps_start}
-use Rattle.erm_desk_checkpoint.proofs.Telling.{if_map, tells_here, tells_since}
+use Rattle.erm_desk_checkpoint.proofs.Telling.{tells_here, tells_since}
 use Rattle.erm_desk_checkpoint.proofs.Turning.{Turns, ready_held, steps_of}
 
 -- THE DESK that it is
@@ -48,7 +50,7 @@ module _ (law : Law) (begins : Begins law) (o : Start) (began : Option (List Ste
 
     fronts_here : (now : List Step) → Held now → KeepsFronts law o (l.gathered ++ []) now now
     fronts_here now had =
-        let up = place_up o.tail l.gathered in
+        let up = place_rises o.tail l.gathered in
         let at = known_place law s.book l k.knows o k.start in
         let from = state_from (opened_at o) in
         subst (λ (bs : List Block). KeepsFronts law o bs now now) (no_more l.gathered)
@@ -83,7 +85,7 @@ module _ (law : Law) (begins : Begins law) (o : Start) (began : Option (List Ste
       writes = tells_since (WritesSince o (l.gathered ++ [])) s.told s.told (tells_here Held (WritesSince o (l.gathered ++ [])) s.told (λ now had. ([], refl, tt)) held);
       onward = tells_here Held More s.told (λ now had. ([], refl)) held;
       since = tells_since (HeldSince law o l.gathered []) s.told s.told (tells_here Held (HeldSince law o l.gathered []) s.told since_here held);
-      holds = λ _. (refl, if_map Held (IsHeld law o l.gathered) s.told (λ now had. (slots, plain_held law s.book l k.knows o k.start slots now had)) held);
+      holds = λ _. (refl, all_some Held (IsHeld law o l.gathered) s.told (λ now had. (slots, plain_held law s.book l k.knows o k.start slots now had)) held);
       meets = λ _. tells_since (MeetsMore law o l.gathered) s.told s.told (tells_here Held (MeetsMore law o l.gathered) s.told met_here held);
       sound = k.sound;
       rose = k.rose;
@@ -104,14 +106,18 @@ module _ (law : Law) (laws : DeskLaws law) (o : Start) (began : Option (List Ste
     begins = subst (λ (x : world.Start). LOG_START < x.at) (sym (known_opened law s.book l k.knows o k.start)) k.lies.behind
 
     low : o.tail ≤ l.flushed
-    low = let up = place_up o.tail l.gathered in let at = known_place law s.book l k.knows o k.start in omega (arith, up, at)
+    low = let up = place_rises o.tail l.gathered in let at = known_place law s.book l k.knows o k.start in omega (arith, up, at)
 
     -- a turn that gathered nothing
     unmoved : (t : Sees) (know : KnowsLog law t.book l) → t.told ≡ s.told → t.faults ≡ s.faults → t.failed ≡ false → MayGather t.book.view → FlushSteps law s.book t.book → IsKept law o began faults slots t
     unmoved t know told same good may steps =
         let on = still_on law laws slots l s t knows_held know told same steps in
-        let now = still_held law laws slots l s t knows_held know told good may in
-        (l, [], goes_fine law (go_laws law laws) o began faults slots l s k fine t steps may slots l know on.blocks on.more l.flushed low on.keeps now.holds good same)
+        let now = still_held law laws slots l s t knows_held know told good may in (
+          l,
+          [],
+          goes_fine law (go_laws law laws) o began faults slots l s k fine t steps may slots l know on.blocks on.more l.flushed low on.keeps (inl refl)
+              (does_on law (go_laws law laws) o began faults slots l s k fine l on.blocks t.told on.more on.writes) now.holds good same,
+        )
 
     -- WHAT A TURN LEAVES
     pub left : (answer : Result ℕ FlushStop) (t : Sees) → Turns law answer s t → IsKept law o began faults slots t
@@ -119,8 +125,12 @@ module _ (law : Law) (laws : DeskLaws law) (o : Start) (began : Option (List Ste
         let (m, know, did) = turn.known l k.knows (ready_held law slots l s knows_held) in
         let steps = steps_of law (Ok end) s t turn in
         let on = flushed_on law laws slots l s t knows_held begins end m know did turn.counts steps in
-        let now = held_on law laws slots l s t knows_held begins end m know did turn.did.1 turn.may in
-        (m, [], goes_fine law (go_laws law laws) o began faults slots l s k fine t steps turn.may slots m know on.blocks on.more l.flushed low on.keeps now.holds turn.did.1 turn.counts)
+        let now = held_on law laws slots l s t knows_held begins end m know did turn.did.1 turn.may in (
+          m,
+          [],
+          goes_fine law (go_laws law laws) o began faults slots l s k fine t steps turn.may slots m know on.blocks on.more l.flushed low on.keeps (inl refl)
+              (does_on law (go_laws law laws) o began faults slots l s k fine m on.blocks t.told on.more on.writes) now.holds turn.did.1 turn.counts,
+        )
     left (Err (stop.Empty at)) t turn =
         let known = turn.known l k.knows (ready_held law slots l s knows_held) in
         unmoved t known.1 known.3 turn.counts turn.did.1 turn.may (steps_of law (Err (stop.Empty at)) s t turn)
@@ -136,44 +146,10 @@ module _ (law : Law) (laws : DeskLaws law) (o : Start) (began : Option (List Ste
           l,
           fails.blocks,
           goes_failed law (go_laws law laws) o began faults slots l s k fine t steps turn.may fails.knows fails.blocks
-              (subst (λ (x : Start). KnowsBlocks law x t.book (l.gathered ++ fails.blocks)) start fails.knows_all) fails.keeps fails.failed fails.rose,
+              (subst (λ (x : Start). KnowsBlocks law x t.book (l.gathered ++ fails.blocks)) start fails.knows_all) fails.keeps
+              (does_more law (go_laws law laws) o began faults slots l s k fine fails.blocks t.told fails.writes) fails.failed fails.rose,
         )
     left (Err stop.Failed) t turn = let was = turn.did.0 in absurd (cc)
-
-    -- what each image recovers to meanwhile
-    went_on : (m : Log) (t : Sees) → FlushesOn law l m s t → KnowsLog law t.book m → KeepsFlushed law o l s t
-    went_on m t on know =
-        let start = steps_start law s.book t.book on.steps ∙ k.start in
-        record {
-          knew = k.knows;
-          blocks = on.blocks;
-          knows = subst (KnowsBlocks law o t.book) on.more (known_all law t.book m know o start);
-          keeps = subst (λ (bs : List Block). Tells (KeepsBlocks law.meets (state_at l []) bs l.flushed) s.told t.told) on.more
-              (subst (λ (x : world.Start). Tells (KeepsBlocks law.meets (state_from x) m.gathered l.flushed) s.told t.told) on.opened on.keeps);
-        }
-
-    pub meanwhile : (answer : Result ℕ FlushStop) (t : Sees) → Turns law answer s t → KeepsFlushed law o l s t
-    meanwhile (Ok end) t turn =
-        let (m, know, did) = turn.known l k.knows (ready_held law slots l s knows_held) in
-        went_on m t (flushed_on law laws slots l s t knows_held begins end m know did turn.counts (steps_of law (Ok end) s t turn)) know
-    meanwhile (Err (stop.Empty at)) t turn =
-        let known = turn.known l k.knows (ready_held law slots l s knows_held) in
-        went_on l t (still_on law laws slots l s t knows_held known.1 known.3 turn.counts (steps_of law (Err (stop.Empty at)) s t turn)) known.1
-    meanwhile (Err (stop.Unfilled at)) t turn =
-        let known = turn.known l k.knows (ready_held law slots l s knows_held) in
-        went_on l t (still_on law laws slots l s t knows_held known.1 known.3 turn.counts (steps_of law (Err (stop.Unfilled at)) s t turn)) known.1
-    meanwhile (Err stop.DiskFault) t turn =
-        let (n, awaits, tries) = turn.known l k.knows (ready_held law slots l s knows_held) in
-        let did = turn.did.2 in
-        let steps = steps_of law (Err stop.DiskFault) s t turn in
-        let fails = failed_on law laws slots l s t knows_held begins did.0 did.1 did.2 n awaits tries turn.did.1 turn.counts steps in
-        record {
-          knew = k.knows;
-          blocks = fails.blocks;
-          knows = subst (λ (x : Start). KnowsBlocks law x t.book (l.gathered ++ fails.blocks)) (steps_start law s.book t.book steps ∙ k.start) fails.knows_all;
-          keeps = fails.keeps;
-        }
-    meanwhile (Err stop.Failed) t turn = let was = turn.did.0 in absurd (cc)
 
     -- and what it answers
     pub answered : (answer : Result ℕ FlushStop) (t : Sees) → Turns law answer s t → TurnsTo law o answer s t
@@ -187,7 +163,7 @@ module _ (law : Law) (laws : DeskLaws law) (o : Start) (began : Option (List Ste
     pub turns : TurnsTo law o answer s t
     pub steps : FlushSteps law s.book t.book
     pub unpinned : IsUnpinned t.book.view
-    pub keeps : s.failed ≡ false → (log : Log) × KeepsFlushed law o log s t
+    pub known : s.failed ≡ false → (l : Log) × MayTurn law o slots l s
 
   at_failed : (s t : Sees) → IsKept law o began faults slots s → IsUnpinned s.book.view → Turns law (Err stop.Failed) s t → Turned (Err stop.Failed) s t
   at_failed s t k idle turn =
@@ -201,7 +177,7 @@ module _ (law : Law) (laws : DeskLaws law) (o : Start) (began : Option (List Ste
         turns = (did.0, sym is);
         steps = steps_of law (Err stop.Failed) s t turn;
         unpinned = subst (λ (x : Sees). IsUnpinned x.book.view) is idle;
-        keeps = λ fine. let was = did.0 in absurd (cc);
+        known = λ fine. let was = did.0 in absurd (cc);
       }
 
   at_fine : (answer : Result ℕ FlushStop) (s t : Sees) → IsKept law o began faults slots s → IsUnpinned s.book.view → s.failed ≡ false → Turns law answer s t → Turned answer s t
@@ -212,7 +188,7 @@ module _ (law : Law) (laws : DeskLaws law) (o : Start) (began : Option (List Ste
         turns = answered l s own fine answer t turn;
         steps = steps_of law answer s t turn;
         unpinned = pin_turned law laws o s.told faults s (desk l s own fine) answer t.book t.told t.failed turn.did None idle;
-        keeps = λ _. (l, meanwhile l s own fine answer t turn);
+        known = λ _. (l, record { start = k.start; behind = begins l s own fine; holds = knows_held l s own fine });
       }
 
   pub turn_kept : (answer : Result ℕ FlushStop) (s t : Sees) → IsKept law o began faults slots s → IsUnpinned s.book.view → Turns law answer s t → Turned answer s t
@@ -256,7 +232,8 @@ module _ (law : Law) (begins : Begins law) (o : Start) (began : Option (List Ste
       let onward : Tells More told told = tells_here H More told (λ now had. ([], refl)) held in
       let keeps = tells_since (KeepsFronts law o []) told told (tells_here H (KeepsFronts law o []) told fronts held) in
       let since = tells_since (HeldSince law o [] []) told told (tells_here H (HeldSince law o [] []) told
-      (λ now had. held_since law o slots b log knows start [] now now now ([], refl) had (held_now law begins log slots now had)) held) in (
+      (λ now had. held_since law o slots b log knows start [] now now now ([], refl) had (held_now law begins log slots now had)) held) in
+      let did = tells_since (DidSince o [] slots) told told (tells_here H (DidSince o [] slots) told (λ now had. ([], nothing_does o [] slots now)) held) in (
         log,
         [],
         record {
@@ -269,6 +246,7 @@ module _ (law : Law) (begins : Begins law) (o : Start) (began : Option (List Ste
           onward = subst (λ (x : Option (List Step)). Tells More x told) same onward;
           keeps = subst (λ (x : Option (List Step)). IfSome told (λ now. IfSome x (λ old. KeepsFronts law o [] old now))) same keeps;
           since = subst (λ (x : Option (List Step)). IfSome told (λ now. IfSome x (λ old. HeldSince law o [] [] old now))) same since;
+          did = subst (λ (x : Option (List Step)). IfSome told (λ now. IfSome x (λ old. DidSince o [] slots old now))) same did;
           holds = λ _. (refl, held);
           sound = λ _. refl;
           rose = λ failed. absurd (cc);

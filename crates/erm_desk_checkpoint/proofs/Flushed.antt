@@ -20,7 +20,7 @@ use Rattle.erm_desk.proofs.Looking.{goes, still}
 use Rattle.erm_desk.proofs.PinKept.{pin_gathered}
 use Rattle.erm_desk.proofs.Since.{Begins}
 use Rattle.erm_desk.proofs.Stepped.{steps_both}
-use Rattle.erm_desk.proofs.Turned.{DeskLaws}
+use Rattle.erm_desk.proofs.Turned.{DeskLaws, all_some}
 use Rattle.erm_flush.specs.Over.{DidWrite, Flushes, Tries}
 use Rattle.erm_flush.specs.Turns.{GoesOn, HoldsFrom, IsReady, WritesFrom, start_of}
 use Rattle.erm_flush.proofs.Flushes.{same_place}
@@ -36,7 +36,7 @@ use Rattle.erm_world.specs.Log.{IsEnd, IsLog, Log, gathered_to, place_behind, wo
 use Rattle.erm_world.specs.Log as world
 use Rattle.erm_desk_checkpoint.specs.Turns.{FailsOn, FlushesOn, HoldsKnown}
 use Rattle.erm_desk_checkpoint.proofs.Logs.{known_flushed, state_from, words_both, words_end}
-use Rattle.erm_desk_checkpoint.proofs.Telling.{if_both, if_map, tells_here, tells_if, tells_join, tells_map}
+use Rattle.erm_desk_checkpoint.proofs.Telling.{if_both, tells_here, tells_if, tells_join, tells_map}
 
 -- at a moment at which a disk holds a log, each image recovers to all that is flushed
 pub held_now : (law : Law) → Begins law → (l : Log) (slots : Slots) (now : List Step) → HoldsLog law.meets l slots now → KeepsBlocks law.meets (state_at l []) l.gathered l.flushed now now
@@ -149,7 +149,7 @@ module _ (law : Law) (laws : DeskLaws law) where
           knows = know;
           may = may;
           fine = fine;
-          holds = if_map (Lasted slots l s k begin m blocks_more did.gathers.log did.gathers.more.1 is_log) (HoldsLog law.meets m slots) t.told
+          holds = all_some (Lasted slots l s k begin m blocks_more did.gathers.log did.gathers.more.1 is_log) (HoldsLog law.meets m slots) t.told
               (λ new d. held_lasted slots l s k begin m blocks_more did.gathers.log did.gathers.more.1 is_log (omega (arith, up)) new d) lasts_now;
         }
 
@@ -173,21 +173,47 @@ module _ (law : Law) (laws : DeskLaws law) where
     pub still_held : t.failed ≡ false → MayGather t.book.view → HoldsKnown law slots l t
     still_held fine may = record { knows = know; may = may; fine = fine; holds = subst (λ (x : Option (List Step)). IfSome x (HoldsLog law.meets l slots)) (sym told) k.holds }
 
+  -- BEHIND TURNS THAT FLUSHED words of blocks more were written
+  module _ (l m : Log) (s u t : Sees) (first : FlushesOn law l m s u) (blocks : List Block) where
+    abbrev all_blocks : List Block
+    all_blocks = first.blocks ++ blocks
+
+    wrote_both : (x y z : List Step) → ((later : List Step) × (y ≡ later ++ x) × AllWriteWords l.flushed (words_of first.blocks) later)
+        → ((later : List Step) × (z ≡ later ++ y) × AllWriteWords m.flushed (words_of blocks) later)
+        → (later : List Step) × (z ≡ later ++ x) × AllWriteWords l.flushed (words_of all_blocks) later
+    wrote_both x y z one two =
+        let there : AllWriteWords (l.flushed + length (words_of first.blocks)) (words_of blocks) two.0 = subst (λ (at : ℕ). AllWriteWords at (words_of blocks) two.0) first.flushed two.2 in
+        let all = laws.join l.flushed (words_of first.blocks) (words_of blocks) one.0 two.0 one.2 there in (
+          two.0 ++ one.0,
+          two.1 ∙ ap (λ (ss : List Step). two.0 ++ ss) one.1 ∙ sym (append_assoc two.0 one.0 x),
+          subst (λ (ws : List ℕ). AllWriteWords l.flushed ws (two.0 ++ one.0)) (sym (flat_map-append spelling first.blocks blocks)) all,
+        )
+
+    pub wrote_on : OnlyWrites m.flushed (words_of blocks) u.told t.told → OnlyWrites l.flushed (words_of all_blocks) s.told t.told
+    wrote_on second =
+        tells_join (λ old new. (later : List Step) × (new ≡ later ++ old) × AllWriteWords l.flushed (words_of first.blocks) later)
+        (λ old new. (later : List Step) × (new ≡ later ++ old) × AllWriteWords m.flushed (words_of blocks) later)
+        (λ old new. (later : List Step) × (new ≡ later ++ old) × AllWriteWords l.flushed (words_of all_blocks) later) s.told u.told t.told wrote_both first.writes second
+
+    kept_both : (x y z : List Step) → KeepsBlocks law.meets (state_at m []) m.gathered l.flushed x y → KeepsBlocks law.meets (state_at m []) (m.gathered ++ blocks) m.flushed y z
+        → KeepsBlocks law.meets (state_at l []) (l.gathered ++ all_blocks) l.flushed x z
+    kept_both x y z one two =
+        let up = first.flushed in
+        let all : m.gathered ++ blocks ≡ l.gathered ++ all_blocks = ap (λ (bs : List Block). bs ++ blocks) first.more ∙ append_assoc l.gathered first.blocks blocks in
+        subst (λ (o : world.Start). KeepsBlocks law.meets (state_from o) (l.gathered ++ all_blocks) l.flushed x z) first.opened
+        (subst (λ (bs : List Block). KeepsBlocks law.meets (state_at m []) bs l.flushed x z) all
+        (laws.go (state_at m []) m.gathered blocks l.flushed m.flushed x y z (omega (arith, up)) one two))
+
+    pub kept_on : Tells (KeepsBlocks law.meets (state_at m []) (m.gathered ++ blocks) m.flushed) u.told t.told
+        → Tells (KeepsBlocks law.meets (state_at l []) (l.gathered ++ all_blocks) l.flushed) s.told t.told
+    kept_on second =
+        tells_join (KeepsBlocks law.meets (state_at m []) m.gathered l.flushed) (KeepsBlocks law.meets (state_at m []) (m.gathered ++ blocks) m.flushed)
+        (KeepsBlocks law.meets (state_at l []) (l.gathered ++ all_blocks) l.flushed) s.told u.told t.told kept_both first.keeps second
+
   -- ONE AFTER ANOTHER
   module _ (l m n : Log) (s u t : Sees) (first : FlushesOn law l m s u) (second : FlushesOn law m n u t) where
     abbrev both_blocks : List Block
     both_blocks = first.blocks ++ second.blocks
-
-    wrote_both : (x y z : List Step) → ((later : List Step) × (y ≡ later ++ x) × AllWriteWords l.flushed (words_of first.blocks) later)
-        → ((later : List Step) × (z ≡ later ++ y) × AllWriteWords m.flushed (words_of second.blocks) later)
-        → (later : List Step) × (z ≡ later ++ x) × AllWriteWords l.flushed (words_of both_blocks) later
-    wrote_both x y z one two =
-        let there : AllWriteWords (l.flushed + length (words_of first.blocks)) (words_of second.blocks) two.0 = subst (λ (at : ℕ). AllWriteWords at (words_of second.blocks) two.0) first.flushed two.2 in
-        let all = laws.join l.flushed (words_of first.blocks) (words_of second.blocks) one.0 two.0 one.2 there in (
-          two.0 ++ one.0,
-          two.1 ∙ ap (λ (ss : List Step). two.0 ++ ss) one.1 ∙ sym (append_assoc two.0 one.0 x),
-          subst (λ (ws : List ℕ). AllWriteWords l.flushed ws (two.0 ++ one.0)) (sym (flat_map-append spelling first.blocks second.blocks)) all,
-        )
 
     keeps_both : (x y z : List Step) → KeepsBlocks law.meets (state_at m []) m.gathered l.flushed x y → KeepsBlocks law.meets (state_at n []) n.gathered m.flushed y z
         → KeepsBlocks law.meets (state_at n []) n.gathered l.flushed x z
@@ -210,9 +236,7 @@ module _ (law : Law) (laws : DeskLaws law) where
           blocks = both_blocks;
           more = second.more ∙ ap (λ (bs : List Block). bs ++ second.blocks) first.more ∙ append_assoc l.gathered first.blocks second.blocks;
           flushed = omega (arith, one, two, long);
-          writes = tells_join (λ old new. (later : List Step) × (new ≡ later ++ old) × AllWriteWords l.flushed (words_of first.blocks) later)
-              (λ old new. (later : List Step) × (new ≡ later ++ old) × AllWriteWords m.flushed (words_of second.blocks) later)
-              (λ old new. (later : List Step) × (new ≡ later ++ old) × AllWriteWords l.flushed (words_of both_blocks) later) s.told u.told t.told wrote_both first.writes second.writes;
+          writes = wrote_on l m s u t first second.blocks second.writes;
           keeps = tells_join (KeepsBlocks law.meets (state_at m []) m.gathered l.flushed) (KeepsBlocks law.meets (state_at n []) n.gathered m.flushed)
               (KeepsBlocks law.meets (state_at n []) n.gathered l.flushed) s.told u.told t.told keeps_both first.keeps second.keeps;
           steps = steps_both law s.book u.book t.book first.steps second.steps;

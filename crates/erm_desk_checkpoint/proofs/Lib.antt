@@ -4,6 +4,8 @@ pub mod Logs
 pub mod Flushed
 pub mod Past
 pub mod Turning
+pub mod Behind
+pub mod Doing
 pub mod Keeping
 pub mod Meeting
 pub mod Desks

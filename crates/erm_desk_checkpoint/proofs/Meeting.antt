@@ -12,13 +12,13 @@ use Rattle.erm_ckpt.specs.Recovered.{Pair, base, state_behind}
 use Rattle.erm_ckpt.proofs.OneRecovery.{same_recovery}
 use Rattle.erm_desk.specs.Desk.{MeetsMore}
 use Rattle.erm_desk.specs.Known.{flushed_log}
+use Rattle.erm_desk.proofs.Turned.{place_rises}
 use Rattle.erm_model.specs.RowTransaction.{Law}
 use Rattle.erm_outside.specs.Disk.{Step, contents}
 use Rattle.erm_record.proofs.StoredRows.{stored_length-le, stored_whole}
 use Rattle.erm_rule.specs.declared.view.Start.{Start}
 use Rattle.erm_told_log.specs.Tail.{BeginBelow, MeetsTail}
 use Rattle.erm_world.specs.Log.{IsLog, place_behind, words_of}
-use Rattle.erm_desk_checkpoint.proofs.Keeping.{place_up}
 
 -- a front that is there has an end behind its start
 none_first : (sound : _) (end : End) (place : ℕ) (front rest : List Block) → IsChain sound end (front ++ rest) → place_behind place front ≡ place → front ≡ []
@@ -26,7 +26,7 @@ none_first sound end place [] rest chain same = refl
 none_first sound end place (b ∷ bs) rest chain same =
     let block : IsBlock b end.at end.run = chain.0.stands.is in
     let size = length-spelling stored_length-le b end.at end.run block in
-    let up = place_up (place + b.size) bs in
+    let up = place_rises (place + b.size) bs in
     absurd (omega (arith, size, up, same))
 
 module _ (law : Law) (o : Start) (blocks : List Block) (log : IsLog law.meets (flushed_log o blocks)) (slots : Slots) (now : List Step) (held : HoldsLog law.meets (flushed_log o blocks) slots now) where

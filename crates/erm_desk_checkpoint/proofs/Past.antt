@@ -7,7 +7,7 @@ use Rattle.erm_desk.specs.Desk.{Sees}
 use Rattle.erm_desk.specs.Known.{HasEnded, HasStopped, KnowsLog}
 use Rattle.erm_desk.specs.Turns.{DidLook}
 use Rattle.erm_desk.proofs.Stays.{tail_later}
-use Rattle.erm_desk.proofs.Turned.{DeskLaws}
+use Rattle.erm_desk.proofs.Turned.{DeskLaws, all_some}
 use Rattle.erm_flush.specs.Over as over
 use Rattle.erm_flush.specs.Turns.{GoesOn, HoldsFrom, IsReady}
 use Rattle.erm_model.specs.RowTransaction.{Law}
@@ -18,7 +18,6 @@ use Rattle.erm_world.specs.Log.{IsEnd, IsLog, Log, gathered_to}
 use Rattle.erm_desk_checkpoint.specs.Turns.{HoldsKnown, MayFlushPast}
 use Rattle.erm_desk_checkpoint.proofs.Flushed.{Lasted, goes_on, begins, lasts_now, rises}
 use Rattle.erm_desk_checkpoint.proofs.Logs.{known_flushed}
-use Rattle.erm_desk_checkpoint.proofs.Telling.{if_map}
 
 -- what the crate below says of a log that was flushed to a place or past it, and of one at its place flushed
 abbrev pub Passes : Law → Type 0
@@ -50,7 +49,7 @@ module _ (law : Law) (laws : DeskLaws law) (slots : Slots) (l : Log) (s t : Sees
       let pin : m.pinned ≡ Some place = ap (λ (x : Log). x.pinned) g.log ∙ may.pinned in
       let is = know.end.is_log in
       let far : place ≤ m.flushed = omega (arith, high, to) in
-      if_map (Lasted law laws slots l s k may.behind m g.more.0 g.log g.more.1 is) (HoldsLogPast law.meets m slots place) t.told
+      all_some (Lasted law laws slots l s k may.behind m g.more.0 g.log g.more.1 is) (HoldsLogPast law.meets m slots place) t.told
       (λ new d. passes (record l { tail = m.tail }) m slots d.old new place d.held d.from d.ready (goes_on law laws slots l s k may.behind m g.more.0 g.log g.more.1 is (omega (arith, up))) is
       (begins law laws slots l s k may.behind m g.more.0 g.log g.more.1 is) may.low far (pin_end law t.book m place know pin far))
       (lasts_now law laws slots l s t k may.behind end m know did)
@@ -60,7 +59,7 @@ module _ (law : Law) (laws : DeskLaws law) (slots : Slots) (l : Log) (s t : Sees
   past_here stands now high =
       let low = may.low in
       let same : l.flushed ≡ place = omega (arith, low, high) in
-      if_map (HoldsLog law.meets l slots) (HoldsLogPast law.meets l slots place) t.told
+      all_some (HoldsLog law.meets l slots) (HoldsLogPast law.meets l slots place) t.told
       (λ new held. subst (λ (p : ℕ). HoldsLogPast law.meets l slots p new) same (stands l slots new held)) now.holds
 
   -- where nothing more was to gather at the log's end, it is flushed up to the pin

@@ -1,5 +1,5 @@
 -- A checkpoint turn: what it leaves of a desk, and what it answers.
-use Rattle.std.proofs.Common.{◌≡◌, ℕ, ◌<◌, ◌≤◌, false, List, [], ◌++◌, Option, Some, IfSome, Result, Ok, Err, inl, inr, sym, ap, ◌∙◌, subst, append-nil, append_assoc, arith}
+use Rattle.std.proofs.Common.{◌≡◌, ℕ, ◌<◌, ◌≤◌, false, List, [], ◌++◌, Option, Some, IfSome, Result, Ok, Err, inl, inr, refl, sym, ap, ◌∙◌, subst, append-nil, append_assoc, arith}
 use Rattle.erm_block.specs.declared.block.Block.{Block}
 use Rattle.erm_checkpoint.specs.declared.stops.CheckpointStop.{CheckpointStop}
 use Rattle.erm_checkpoint.specs.declared.stops.CheckpointStop.TheVariants as why
@@ -14,6 +14,7 @@ use Rattle.erm_desk.specs.Desk.{Sees}
 use Rattle.erm_desk.specs.Known.{HasPin, KnowsBlocks, KnowsLog}
 use Rattle.erm_desk.specs.Turns.{FlushSteps}
 use Rattle.erm_desk.proofs.Stepped.{steps_both}
+use Rattle.erm_desk.proofs.Turned.{all_some, place_rises}
 use Rattle.erm_model.specs.RowTransaction.{Law}
 use Rattle.erm_model.specs.declared.limits.TheConstants.{LOG_END}
 use Rattle.erm_outside.specs.Disk.{Step, Tells}
@@ -23,12 +24,14 @@ use Rattle.erm_rule.specs.declared.view.Start.{Start}
 use Rattle.erm_world.specs.Log.{Log, gathered_to}
 use Rattle.erm_world.specs.Log as world
 use Rattle.erm_desk_checkpoint.specs.Checkpoints.{FlushesAndSaves, SavesBehind, SavesOn}
+use Rattle.erm_desk_checkpoint.specs.Does.{DoesWith}
 use Rattle.erm_desk_checkpoint.specs.Kept.{KeepsLog}
 use Rattle.erm_desk_checkpoint.specs.Turns.{FailsOn, FlushesOn, HoldsKnown}
-use Rattle.erm_desk_checkpoint.proofs.Keeping.{GoLaws, goes_failed, goes_fine, place_up}
+use Rattle.erm_desk_checkpoint.proofs.Doing.{saved_does, saves_does}
+use Rattle.erm_desk_checkpoint.proofs.Keeping.{GoLaws, does_more, does_on, goes_failed, goes_fine}
 use Rattle.erm_desk_checkpoint.proofs.Logs.{known_all, known_place, state_from}
 use Rattle.erm_desk_checkpoint.proofs.Steps.{steps_start}
-use Rattle.erm_desk_checkpoint.proofs.Telling.{if_map, tells_join, tells_map}
+use Rattle.erm_desk_checkpoint.proofs.Telling.{tells_join, tells_map}
 
 -- what the crate below says of a save below the place flushed
 abbrev pub Below : Law → Type 0
@@ -86,12 +89,13 @@ module _ (law : Law) (laws : GoLaws law) (below : Below law) (o : Start) (began 
       pub steps : FlushSteps law s.book t.book
 
     low : o.tail ≤ l.flushed
-    low = let up = place_up o.tail l.gathered in let at = known_place law s.book l k.knows o k.start in omega (arith, up, at)
+    low = let up = place_rises o.tail l.gathered in let at = known_place law s.book l k.knows o k.start in omega (arith, up, at)
 
     -- the log as it went on
     module _ (m : Log) (mid : Sees) (on : FlushesOn law l m s mid) (held : HoldsKnown law slots m mid) where
       kept_mid : KeepsLog law o began faults slots m [] mid
-      kept_mid = goes_fine law laws o began faults slots l s k fine mid on.steps held.may slots m held.knows on.blocks on.more l.flushed low on.keeps held.holds held.fine on.faults
+      kept_mid = goes_fine law laws o began faults slots l s k fine mid on.steps held.may slots m held.knows on.blocks on.more l.flushed low on.keeps (inl refl)
+          (does_on law laws o began faults slots l s k fine m on.blocks mid.told on.more on.writes) held.holds held.fine on.faults
 
       none_more : m.gathered ++ [] ≡ l.gathered ++ on.blocks
       none_more = append-nil m.gathered ∙ on.more
@@ -121,10 +125,11 @@ module _ (law : Law) (laws : GoLaws law) (below : Below law) (o : Start) (began 
           let all_steps = steps_both law s.book mid.book t.book on.steps steps in
           let keeps = subst (Tells (KeepsBlocks law.meets (state_at m []) m.gathered l.flushed) s.told) (sym told) on.keeps in
           let holds = subst (λ (x : Option (List Step)). IfSome x (HoldsLog law.meets m slots)) (sym told) held.holds in
+          let does = subst (Tells (DoesWith o m.gathered slots) s.told) (sym told) (does_on law laws o began faults slots l s k fine m on.blocks mid.told on.more on.writes) in
           record {
             log = m;
             tried = [];
-            kept = goes_fine law laws o began faults slots l s k fine t all_steps may slots m know on.blocks on.more l.flushed low keeps holds good (same ∙ on.faults);
+            kept = goes_fine law laws o began faults slots l s k fine t all_steps may slots m know on.blocks on.more l.flushed low keeps (inl refl) does holds good (same ∙ on.faults);
             blocks = on.blocks;
             all = none_more;
             keeps = tells_map (λ now. HoldsLog law.meets l slots now) (KeepsBlocks law.meets (state_at m []) m.gathered l.flushed)
@@ -141,7 +146,7 @@ module _ (law : Law) (laws : GoLaws law) (below : Below law) (o : Start) (began 
             log = m;
             tried = f.blocks;
             kept = goes_failed law laws o began faults slots m mid kept_mid held.fine t f.steps may f.knows f.blocks
-                (subst (λ (x : Start). KnowsBlocks law x t.book (m.gathered ++ f.blocks)) start f.knows_all) f.keeps f.failed f.rose;
+                (subst (λ (x : Start). KnowsBlocks law x t.book (m.gathered ++ f.blocks)) start f.knows_all) f.keeps (does_more law laws o began faults slots m mid kept_mid held.fine f.blocks t.told f.writes) f.failed f.rose;
             blocks = on.blocks ++ f.blocks;
             all = all_more f.blocks;
             keeps = keeps_more f.blocks t f.keeps;
@@ -171,8 +176,10 @@ module _ (law : Law) (laws : GoLaws law) (below : Below law) (o : Start) (began 
             log = m;
             tried = [];
             kept = goes_fine law laws o began faults slots m mid kept_mid held.fine t save.steps may (put_slot slots slot) m save.knows [] (sym (append-nil m.gathered)) m.flushed
-                (omega (arith, up, under)) keeps
-                (if_map (HoldsLogFrom law.meets m (put_slot slots slot) slot.stamp) (HoldsLog law.meets m (put_slot slots slot)) t.told (λ now from. from.holds) save.known.1) save.saves save.counts;
+                (omega (arith, up, under)) keeps (inr (slot, refl))
+                (tells_map (λ now. HoldsLog law.meets m slots now) (SavedLogPast law.meets m slots slot) (DoesWith o m.gathered slots) mid.told t.told
+                (λ old new had p. saved_does o m.gathered slots law.meets m slot old new p) held.holds save.known.0)
+                (all_some (HoldsLogFrom law.meets m (put_slot slots slot) slot.stamp) (HoldsLog law.meets m (put_slot slots slot)) t.told (λ now from. from.holds) save.known.1) save.saves save.counts;
             blocks = on.blocks ++ [];
             all = all_more [];
             keeps = keeps_more [] t (with_none t keeps);
@@ -187,7 +194,10 @@ module _ (law : Law) (laws : GoLaws law) (below : Below law) (o : Start) (began 
             log = m;
             tried = [];
             kept = goes_failed law laws o began faults slots m mid kept_mid held.fine t save.steps may save.knows []
-                (subst (KnowsBlocks law o t.book) (sym (append-nil m.gathered)) (known_all law t.book m save.knows o start)) keeps save.saves save.counts;
+                (subst (KnowsBlocks law o t.book) (sym (append-nil m.gathered)) (known_all law t.book m save.knows o start)) keeps
+                (tells_map (λ now. HoldsLog law.meets m slots now) (SavesLogPast law.meets m slots slot) (DoesWith o (m.gathered ++ []) slots) mid.told t.told
+                (λ old new had p. saves_does o (m.gathered ++ []) slots law.meets m slot old new p) held.holds save.known)
+                save.saves save.counts;
             blocks = on.blocks ++ [];
             all = all_more [];
             keeps = keeps_more [] t keeps;

@@ -1,12 +1,10 @@
 -- Steps of the flush seat leave a pass that may be joined as before.
-use Rattle.std.proofs.Common.{◌≡◌, ℕ, ◌⊎◌, ⊎_elim, inl, inr, true, false, List, [], ◌∷◌, length, Option, Some, None, Result, Ok, Err, IfOk, IfErr, refl, sym, ap, ◌∙◌, subst}
+use Rattle.std.proofs.Common.{◌≡◌, ℕ, ◌⊎◌, ⊎_elim, inl, inr, true, false, List, [], ◌∷◌, Option, Some, None, Result, Ok, Err, IfOk, IfErr, refl, sym, ap, ◌∙◌, subst}
 use Rattle.erm_desk.specs.Known.{HasPin}
-use Rattle.erm_desk.specs.Turns.{DidLook, DidPin, DidRead, DidWait, EndsPin, FlushSteps}
+use Rattle.erm_desk.specs.Turns.{DidPin, DidRead, DidWait, EndsPin, FlushSteps}
 use Rattle.erm_desk.proofs.Lawful.{took_start}
 use Rattle.erm_desk.proofs.PinKept.{pin_held}
 use Rattle.erm_desk.proofs.Stays.{took_goes}
-use Rattle.erm_desk.proofs.Stepped.{steps_both, turn_steps}
-use Rattle.erm_flush.specs.declared.stops.FlushStop.TheVariants as stop
 use Rattle.erm_gathered.proofs.Turns.{joins_still}
 use Rattle.erm_machine.specs.declared.event.Kind.{Kind}
 use Rattle.erm_machine.specs.declared.event.Kind.TheVariants as kind
@@ -17,8 +15,6 @@ use Rattle.erm_machine.specs.declared.place.Place.{Place}
 use Rattle.erm_machine.specs.declared.place.Place.TheVariants.{Active}
 use Rattle.erm_machine.specs.Seat.{is_active, is_vacant}
 use Rattle.erm_model.specs.RowTransaction.{Law}
-use Rattle.erm_model.specs.declared.limits.TheConstants.{RING_WORDS}
-use Rattle.erm_ring.specs.Took.{TookClear}
 use Rattle.erm_rule.specs.declared.view.Book.{Book}
 use Rattle.erm_rule.specs.declared.view.View.{View}
 use Rattle.erm_rule.specs.Books.{IsAfter}
@@ -26,9 +22,6 @@ use Rattle.erm_rule.specs.Views.{MayJoin, part_of, with_part}
 use Rattle.erm_rule.specs.Went.{Took}
 use Rattle.erm_rule.proofs.Parts.{with_part-again}
 use Rattle.erm_rule.proofs.Telling.{part_of-changed}
-use Rattle.erm_rule.proofs.Wents.{took_one}
-use Rattle.erm_world.specs.declared.gathered.Gathered.{Gathered}
-use Rattle.erm_world.specs.declared.gathered.Gathered.TheVariants.{Empty, Unfilled, Words}
 use Rattle.erm_world.specs.declared.gathered.SeatWait.{SeatWait}
 
 abbrev F : ℕ
@@ -70,19 +63,6 @@ steps_join law b e p q steps before after may =
     (changes law steps.0 b e steps.1)
 
 -- THE STEPS OF ITS CALLS
-pub look_steps : (law : Law) (g : Gathered) (words : List ℕ) (b e : Book) → DidLook law b g words e → length words ≡ RING_WORDS → FlushSteps law b e
-look_steps law (Empty at) words b e look room = turn_steps law (Err (stop.Empty at)) false false b e None None (refl, refl, ((words, look), refl))
-look_steps law (Unfilled at) words b e look room = turn_steps law (Err (stop.Unfilled at)) false false b e None None (refl, refl, ((words, look), refl))
-look_steps law (Words at count) words b e look room =
-    turn_steps law (Err stop.DiskFault) false true b e None None (refl, refl, (at, count, record { words = words; room = room; looks = look; writes = refl }))
-
-pub clear_steps : (law : Law) (to : ℕ) (b e : Book) → TookClear law to b e → FlushSteps law b e
-clear_steps law to b e took =
-    let cleared = took.clears in
-    let first : FlushSteps law b cleared.first = ((kind.LoadFlushed, took.from) ∷ [], took_one law F kind.LoadFlushed took.from b cleared.first cleared.load) in
-    let all = steps_both law b cleared.first took.cleared first (cleared.clears.steps, cleared.clears.took) in
-    ((kind.StoreFlushed to, took.word) ∷ all.0, (took.cleared, all.1, took.step))
-
 pub pin_steps : (law : Law) (b e : Book) (place : ℕ) → DidPin law b place e → FlushSteps law b e
 pin_steps law b e place did =
     ((kind.LoadTail purpose.Begin, place) ∷ (kind.StoreBegin did.took.announced, did.took.word) ∷ (kind.LoadTail purpose.Begin, did.took.announced) ∷ [], did.took.took)

@@ -27,6 +27,7 @@ taken_in stay law o began faults slots s e (log, tried, k) takes = (
     onward = k.onward;
     keeps = k.keeps;
     since = k.since;
+    did = k.did;
     holds = k.holds;
     sound = k.sound;
     rose = k.rose;

@@ -1,14 +1,11 @@
 -- What a disk tells before and after: what follows from it, and how it joins.
 use Rattle.std.proofs.Common.{◌≡◌, List, Option, Some, None, IfSome, refl, sym, subst}
+use Rattle.erm_desk.proofs.Turned.{all_some}
 use Rattle.erm_outside.specs.Disk.{Step, Tells}
 
 -- a relation of what is told before and after
 abbrev pub Relation : Type 1
 Relation = List Step → List Step → Type 0
-
-pub if_map : {A : Type 0} (P Q : A → Type 0) (o : Option A) → ((x : A) → P x → Q x) → IfSome o P → IfSome o Q
-if_map P Q None map at = tt
-if_map P Q (Some x) map at = map x at
 
 pub if_both : {A : Type 0} (P Q R : A → Type 0) (o : Option A) → ((x : A) → P x → Q x → R x) → IfSome o P → IfSome o Q → IfSome o R
 if_both P Q R None map one two = tt
@@ -34,7 +31,7 @@ module _ (H : List Step → Type 0) where
   since_then X Y P began None after map had older told = subst (λ (x : Option (List Step)). IfSome x (λ now. IfSome began (λ old. Y old now))) (sym told) tt
   since_then X Y P began (Some mid) after map had older (new, is, p) =
       subst (λ (x : Option (List Step)). IfSome x (λ now. IfSome began (λ old. Y old now))) (sym is)
-      (if_map (λ old. X old mid) (λ old. Y old new) began (λ old x. map old mid new had x p) older)
+      (all_some (λ old. X old mid) (λ old. Y old new) began (λ old x. map old mid new had x p) older)
 
 pub tells_join : (P Q R : Relation) (a b c : Option (List Step)) → ((x y z : List Step) → P x y → Q y z → R x z) → Tells P a b → Tells Q b c → Tells R a c
 tells_join P Q R None b c join first second = subst (λ (x : Option (List Step)). Tells Q x c) first second

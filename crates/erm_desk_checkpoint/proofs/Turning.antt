@@ -8,7 +8,7 @@ use Rattle.erm_desk.specs.Desk.{Sees}
 use Rattle.erm_desk.specs.Known.{AwaitsLog, HasEnded, HasStopped, KnowsLog}
 use Rattle.erm_desk.specs.Turns.{DidLook, DidStore, FlushSteps}
 use Rattle.erm_desk.proofs.Stepped.{no_steps, turn_steps}
-use Rattle.erm_desk.proofs.Turned.{DeskLaws}
+use Rattle.erm_desk.proofs.Turned.{DeskLaws, all_some}
 use Rattle.erm_flush.specs.declared.stops.FlushStop.{FlushStop}
 use Rattle.erm_flush.specs.declared.stops.FlushStop.TheVariants as stop
 use Rattle.erm_flush.specs.Over.{TurnsKnown, TurnsOver}
@@ -18,10 +18,9 @@ use Rattle.erm_outside.specs.Disk.{IsSettled}
 use Rattle.erm_ring.specs.Turns.{MayGather, WasOpen}
 use Rattle.erm_world.specs.Log.{Log}
 use Rattle.erm_world.specs.Log as world
-use Rattle.erm_desk_checkpoint.specs.Turns.{FlushesOn, FlushesPast, HoldsKnown, MayFlushPast}
+use Rattle.erm_desk_checkpoint.specs.Turns.{FlushesOn, FlushesPast, HoldsKnown, MayFlushPast, TurnsOn}
 use Rattle.erm_desk_checkpoint.proofs.Flushed.{both_on, failed_on, flushed_on, held_on, still_held, still_on}
 use Rattle.erm_desk_checkpoint.proofs.Past.{Passes, Stands, ended_past, past_here, past_now}
-use Rattle.erm_desk_checkpoint.proofs.Telling.{if_map}
 
 -- what a turn did, and what that means for each log that is known
 pub record Turns (law : Law) (answer : Result ℕ FlushStop) (s t : Sees) : Type 0 where
@@ -33,17 +32,46 @@ pub record Turns (law : Law) (answer : Result ℕ FlushStop) (s t : Sees) : Type
 
 -- nothing is pending before
 pub settled_held : (law : Law) (slots : Slots) (l : Log) (s : Sees) → HoldsKnown law slots l s → IfSome s.told IsSettled
-settled_held law slots l s k = if_map (HoldsLog law.meets l slots) IsSettled s.told (λ now held. held.ready.settled) k.holds
+settled_held law slots l s k = all_some (HoldsLog law.meets l slots) IsSettled s.told (λ now held. held.ready.settled) k.holds
 
 -- nothing is done yet
 pub nothing_on : (law : Law) (laws : DeskLaws law) (slots : Slots) (l : Log) (s : Sees) → HoldsKnown law slots l s → FlushesOn law l l s s
 nothing_on law laws slots l s k = still_on law laws slots l s s k k.knows refl refl (no_steps law s.book)
 
 pub ready_held : (law : Law) (slots : Slots) (l : Log) (s : Sees) → HoldsKnown law slots l s → s.failed ≡ false → IfSome s.told (IsReady l)
-ready_held law slots l s k fine = if_map (HoldsLog law.meets l slots) (IsReady l) s.told (λ now held. record { settled = held.ready.settled; fresh = held.ready.fresh }) k.holds
+ready_held law slots l s k fine = all_some (HoldsLog law.meets l slots) (IsReady l) s.told (λ now held. record { settled = held.ready.settled; fresh = held.ready.fresh }) k.holds
 
 pub steps_of : (law : Law) (answer : Result ℕ FlushStop) (s t : Sees) → Turns law answer s t → FlushSteps law s.book t.book
 steps_of law answer s t turn = turn_steps law answer s.failed t.failed s.book t.book s.told t.told turn.did
+
+-- WHAT A TURN MAKES of a log that is known
+module _ (law : Law) (laws : DeskLaws law) (slots : Slots) (l : Log) (s : Sees) (k : HoldsKnown law slots l s) (behind : LOG_START < l.opened.at) where
+  idle : (t : Sees) (know : KnowsLog law t.book l) → t.told ≡ s.told → t.faults ≡ s.faults → t.failed ≡ false → MayGather t.book.view → FlushSteps law s.book t.book
+      → FlushesOn law l l s t × HoldsKnown law slots l t
+  idle t know told faults fine gathers steps = (still_on law laws slots l s t k know told faults steps, still_held law laws slots l s t k know told fine gathers)
+
+  pub turned_on : (answer : Result ℕ FlushStop) (t : Sees) → Turns law answer s t → TurnsOn law slots answer l s t
+  turned_on (Ok end) t turn =
+      let (m, know, did) = turn.known l k.knows (ready_held law slots l s k) in (
+        m,
+        flushed_on law laws slots l s t k behind end m know did turn.counts (steps_of law (Ok end) s t turn),
+        held_on law laws slots l s t k behind end m know did turn.did.1 turn.may,
+        did.flushed,
+      )
+  turned_on (Err (stop.Empty at)) t turn =
+      let known = turn.known l k.knows (ready_held law slots l s k) in
+      idle t known.1 known.3 turn.counts turn.did.1 turn.may (steps_of law (Err (stop.Empty at)) s t turn)
+  turned_on (Err (stop.Unfilled at)) t turn =
+      let known = turn.known l k.knows (ready_held law slots l s k) in
+      idle t known.1 known.3 turn.counts turn.did.1 turn.may (steps_of law (Err (stop.Unfilled at)) s t turn)
+  turned_on (Err stop.DiskFault) t turn =
+      let (n, awaits, tries) = turn.known l k.knows (ready_held law slots l s k) in
+      let did = turn.did.2 in
+      failed_on law laws slots l s t k behind did.0 did.1 did.2 n awaits tries turn.did.1 turn.counts (steps_of law (Err stop.DiskFault) s t turn)
+  turned_on (Err stop.Failed) t turn =
+      let was = turn.did.0 in
+      let fine = k.fine in
+      absurd (cc)
 
 module _ (law : Law) (laws : DeskLaws law) (slots : Slots) (l : Log) (s : Sees) (k : HoldsKnown law slots l s) (place : ℕ) (may : MayFlushPast place l) where
   -- IT FLUSHED

@@ -15,6 +15,7 @@ use Rattle.erm_rule.specs.declared.view.Book.{Book}
 use Rattle.erm_rule.specs.declared.view.Start.{Start}
 use Rattle.erm_rule.specs.Views.{MayJoin}
 use Rattle.erm_world.specs.Log.{Log}
+use Rattle.erm_desk_checkpoint.specs.Does.{DidSince}
 
 -- a desk of this book, of a disk that tells this, with this count of faults, which failed or not
 abbrev pub sees_of : Book → Option (List Step) → ℕ → Bool → Sees
@@ -35,7 +36,9 @@ pub record MayLie (o : Start) : Type 0 where
 -- A DESK THAT TAKES CHECKPOINTS. Its pass has the flush seat, which is between two turns, and knows this log, all blocks of which are flushed. At each
 -- moment since it was set up each image of its disk recovers to a front of them, and of those that were tried at a turn at which the disk failed. At
 -- some moment the disk held the log as far as it is flushed, and since then each image recovers to all of it at least; while the disk hasn't failed,
--- it holds it now, from these slots.
+-- it holds it now, from these slots. Since it was set up
+-- nothing else was done to the disk than to write words of those blocks, each at its place, to save checkpoints, one after another, each from the slots
+-- that were known then, or to begin to, and to wait.
 pub record KeepsLog (law : Law) (o : Start) (began : Option (List Step)) (faults : ℕ) (slots : Slots) (log : Log) (tried : List Block) (d : Sees) : Type 0 where
   pub lies : MayLie o
   pub start : d.book.start ≡ o
@@ -46,6 +49,7 @@ pub record KeepsLog (law : Law) (o : Start) (began : Option (List Step)) (faults
   pub onward : Tells (λ old new. (more : List Step) × (new ≡ more ++ old)) began d.told
   pub keeps : IfSome d.told (λ now. IfSome began (λ old. KeepsFronts law o (log.gathered ++ tried) old now))
   pub since : IfSome d.told (λ now. IfSome began (λ old. HeldSince law o log.gathered tried old now))
+  pub did : IfSome d.told (λ now. IfSome began (λ old. DidSince o (log.gathered ++ tried) slots old now))
   pub holds : d.failed ≡ false → (tried ≡ []) × IfSome d.told (HoldsLog law.meets log slots)
   pub sound : d.failed ≡ false → d.faults ≡ faults
   pub rose : d.failed ≡ true → Rose faults d.faults

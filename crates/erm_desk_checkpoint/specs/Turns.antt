@@ -10,6 +10,8 @@ use Rattle.erm_crash.specs.Kept.{KeepsBlocks}
 use Rattle.erm_desk.specs.Desk.{Sees}
 use Rattle.erm_desk.specs.Known.{KnowsBlocks, KnowsLog}
 use Rattle.erm_desk.specs.Turns.{FlushSteps}
+use Rattle.erm_flush.specs.declared.stops.FlushStop.{FlushStop}
+use Rattle.erm_flush.specs.declared.stops.FlushStop.TheVariants as stop
 use Rattle.erm_log_disk.specs.Writes.{OnlyWrites}
 use Rattle.erm_model.specs.RowTransaction.{Law}
 use Rattle.erm_outside.specs.Disk.{Tells}
@@ -26,12 +28,28 @@ pub record KeepsFlushed (law : Law) (o : Start) (log : Log) (s t : Sees) : Type 
   pub knows : KnowsBlocks law o t.book (log.gathered ++ blocks)
   pub keeps : Tells (KeepsBlocks law.meets (state_at log []) (log.gathered ++ blocks) log.flushed) s.told t.told
 
+-- From one state of a desk, which knows this log, to another nothing else was done to its disk than to write words of some blocks behind the place
+-- flushed before, each at its place, and to wait. Those blocks are known then, and at each moment each image recovers to a front of all blocks, to all
+-- that was flushed before at least.
+pub record WritesBehind (law : Law) (o : Start) (log : Log) (s t : Sees) : Type 0 where
+  pub knew : KnowsLog law s.book log
+  pub blocks : List Block
+  pub knows : KnowsBlocks law o t.book (log.gathered ++ blocks)
+  pub writes : OnlyWrites log.flushed (words_of blocks) s.told t.told
+  pub keeps : Tells (KeepsBlocks law.meets (state_at log []) (log.gathered ++ blocks) log.flushed) s.told t.told
+
 -- a desk that hasn't failed knows this log, its flush seat is between two turns, and its disk holds the log as far as it is flushed, from these slots
 pub record HoldsKnown (law : Law) (slots : Slots) (l : Log) (s : Sees) : Type 0 where
   pub knows : KnowsLog law s.book l
   pub may : MayGather s.book.view
   pub fine : s.failed ≡ false
   pub holds : IfSome s.told (HoldsLog law.meets l slots)
+
+-- the same of a table that was made so, whose log goes on behind where slots may name
+pub record MayTurn (law : Law) (o : Start) (slots : Slots) (l : Log) (s : Sees) : Type 0 where
+  pub start : s.book.start ≡ o
+  pub behind : LOG_START < l.opened.at
+  pub holds : HoldsKnown law slots l s
 
 -- a log, which is pinned at this place, goes on behind where slots may name, and isn't flushed past the place
 pub record MayFlushPast (place : ℕ) (l : Log) : Type 0 where
@@ -83,3 +101,13 @@ FlushesPast law slots (Err (Unfilled at)) place l s t =
 FlushesPast law slots (Err DiskFault) place l s t = (m : Log) × (mid : Sees) × FlushesOn law l m s mid × HoldsKnown law slots m mid × FailsOn law m mid t
 FlushesPast law slots (Err (NotYet seat seen)) place l s t = ⊥
 FlushesPast law slots (Err Failed) place l s t = ⊥
+
+-- What a flush turn of a desk that hasn't failed makes of a log that it knows, by what it answers. `Ok`: blocks more are flushed, up to the place that it
+-- answers; `Empty` and `Unfilled`: the log is known as before; `DiskFault`: blocks more are gathered. Whatever it answers, nothing else was done to the
+-- disk than to write their words behind the place flushed before, and to wait.
+abbrev pub TurnsOn : Law → Slots → Result ℕ FlushStop → Log → Sees → Sees → Type 0
+TurnsOn law slots (Ok end) l s t = (m : Log) × FlushesOn law l m s t × HoldsKnown law slots m t × (m.flushed ≡ end)
+TurnsOn law slots (Err (stop.Empty at)) l s t = FlushesOn law l l s t × HoldsKnown law slots l t
+TurnsOn law slots (Err (stop.Unfilled at)) l s t = FlushesOn law l l s t × HoldsKnown law slots l t
+TurnsOn law slots (Err stop.DiskFault) l s t = FailsOn law l s t
+TurnsOn law slots (Err stop.Failed) l s t = ⊥

@@ -8,7 +8,7 @@ ghost use Rattle.erm_desk.specs.Known.{IsFlushedTo, flushed_log, opened_at};
 ghost use Rattle.erm_desk.specs.Turns.{FlushSteps};
 ghost use Rattle.erm_desk_checkpoint.specs.Checkpoints.{CheckpointsTo, slot_of};
 ghost use Rattle.erm_desk_checkpoint.specs.Kept.{IsKept, MayLie, SeesSlots, sees_of};
-ghost use Rattle.erm_desk_checkpoint.specs.Turns.{KeepsFlushed};
+ghost use Rattle.erm_desk_checkpoint.specs.Turns.{MayTurn, TurnsOn, WritesBehind};
 ghost use Rattle.erm_pin.specs.Pins.{IsUnpinned};
 ghost use Rattle.erm_ring.specs.Turns.{MayGather};
 ghost use Rattle.erm_rule.specs.Books.{book};
@@ -100,7 +100,9 @@ impl<L: RowLaw, D: Disk + Drop, B: Naming> CheckpointDesk<L, D, B> {
     pub fn turn(&mut self, t: &Table<L>) -> Result<Stamp, FlushStop>
         requires table { t.now.words.shared.table_id ≡ B.table }
         ensures turns { TurnsTo L.law B.start result self.old.desk self.new.desk }
-        ensures keeps { self.old.desk.failed ≡ false → (log : Log) × KeepsFlushed L.law B.start log self.old.desk self.new.desk }
+        // Where the disk hasn't failed, a log is known; and of each that is: nothing else was done than to write blocks behind what was flushed of it.
+        ensures known { self.old.desk.failed ≡ false → (log : Log) × MayTurn L.law B.start self.old.slots log self.old.desk }
+        ensures writes { (log : Log) → MayTurn L.law B.start self.old.slots log self.old.desk → TurnsOn L.law self.old.slots result log self.old.desk self.new.desk }
         ensures steps { FlushSteps L.law self.old.desk.book self.new.desk.book }
         ensures slots { self.new.slots ≡ self.old.slots }
     {
@@ -120,8 +122,17 @@ impl<L: RowLaw, D: Disk + Drop, B: Naming> CheckpointDesk<L, D, B> {
     pub fn turn_all(&mut self, t: &Table<L>) -> Stopped
         requires table { t.now.words.shared.table_id ≡ B.table }
         ensures turns { TurnsAll L.law B.start result.turns result.stop self.old.desk self.new.desk }
+        ensures writes { self.old.desk.failed ≡ false → (log : Log) × WritesBehind L.law B.start log self.old.desk self.new.desk }
         ensures slots { self.new.slots ≡ self.old.slots }
     {
+        stored_words_tell_the_row();
+        erm_core_stays::decided_blocks_stay();
+        erm_crash::flushes_keep::<L>();
+        erm_crash::moments_go_on::<L>();
+        erm_crash::kept_logs_begin::<L>();
+        erm_checkpoint::flushed_logs_are_held::<L>();
+        erm_log_disk::writes_join();
+        erm_told_log::flushed_logs_meet_more::<L>();
         let mut turns = 0;
         let mut flushed = 0;
         loop {
@@ -148,10 +159,12 @@ impl<L: RowLaw, D: Disk + Drop, B: Naming> CheckpointDesk<L, D, B> {
         if self.flusher.has_failed() {
             return Err(CheckpointStop::Failed);
         }
+        stored_words_tell_the_row();
         erm_core_stays::decided_blocks_stay();
         erm_crash::moments_go_on::<L>();
         erm_crash::kept_logs_begin::<L>();
         erm_crash::checkpoints_below_keep::<L>();
+        erm_log_disk::writes_join();
         let stamp = erm_pin::pin(t, &mut self.pass);
         let slot = Slot {
             stamp,

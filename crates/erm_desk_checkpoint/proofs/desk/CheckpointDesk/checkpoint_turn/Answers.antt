@@ -15,7 +15,13 @@ pub save_behind-saved-requires-clause-may : goal.save_behind-saved-requires-clau
 save_behind-saved-requires-clause-may g c =
     let law = g.L.RowLaw.law in
     let o = g.B.Naming.start in
-    let laws : GoLaws law = record { stay = c.decided_blocks_stay.ensures.event; go = c.moments_go_on.ensures; begin = c.kept_logs_begin.ensures } in
+    let laws : GoLaws law = record {
+      stay = c.decided_blocks_stay.ensures.event;
+      go = c.moments_go_on.ensures;
+      begin = c.kept_logs_begin.ensures;
+      join = c.writes_join.ensures;
+      short = c.stored_words_tell_the_row.ensures.short;
+    } in
     let slots = c.self.inside.slots in
     let s = sees_of (book c.self.inside.pass) (g.D.Disk.told c.self.inside.disk) (g.D.Disk.faults c.self.inside.disk) c.self.inside.flusher in
     let fine : s.failed ≡ false = sym c.has_failed.ensures ∙ c.if-has_failed.false in
@@ -28,7 +34,13 @@ pub save_behind-saved-requires-clause-held : goal.save_behind-saved-requires-cla
 save_behind-saved-requires-clause-held g c =
     let law = g.L.RowLaw.law in
     let o = g.B.Naming.start in
-    let laws : GoLaws law = record { stay = c.decided_blocks_stay.ensures.event; go = c.moments_go_on.ensures; begin = c.kept_logs_begin.ensures } in
+    let laws : GoLaws law = record {
+      stay = c.decided_blocks_stay.ensures.event;
+      go = c.moments_go_on.ensures;
+      begin = c.kept_logs_begin.ensures;
+      join = c.writes_join.ensures;
+      short = c.stored_words_tell_the_row.ensures.short;
+    } in
     let slots = c.self.inside.slots in
     let s = sees_of (book c.self.inside.pass) (g.D.Disk.told c.self.inside.disk) (g.D.Disk.faults c.self.inside.disk) c.self.inside.flusher in
     let fine : s.failed ≡ false = sym c.has_failed.ensures ∙ c.if-has_failed.false in
@@ -41,7 +53,13 @@ pub unpin-requires-clause-pinned : goal.unpin-requires-clause-pinned
 unpin-requires-clause-pinned g c =
     let law = g.L.RowLaw.law in
     let o = g.B.Naming.start in
-    let laws : GoLaws law = record { stay = c.decided_blocks_stay.ensures.event; go = c.moments_go_on.ensures; begin = c.kept_logs_begin.ensures } in
+    let laws : GoLaws law = record {
+      stay = c.decided_blocks_stay.ensures.event;
+      go = c.moments_go_on.ensures;
+      begin = c.kept_logs_begin.ensures;
+      join = c.writes_join.ensures;
+      short = c.stored_words_tell_the_row.ensures.short;
+    } in
     let slots = c.self.inside.slots in
     let s = sees_of (book c.self.inside.pass) (g.D.Disk.told c.self.inside.disk) (g.D.Disk.faults c.self.inside.disk) c.self.inside.flusher in
     let fine : s.failed ≡ false = sym c.has_failed.ensures ∙ c.if-has_failed.false in
@@ -56,7 +74,13 @@ pub invariant_of-self : goal.invariant_of-self
 invariant_of-self g c =
     let law = g.L.RowLaw.law in
     let o = g.B.Naming.start in
-    let laws : GoLaws law = record { stay = c.decided_blocks_stay.ensures.event; go = c.moments_go_on.ensures; begin = c.kept_logs_begin.ensures } in
+    let laws : GoLaws law = record {
+      stay = c.decided_blocks_stay.ensures.event;
+      go = c.moments_go_on.ensures;
+      begin = c.kept_logs_begin.ensures;
+      join = c.writes_join.ensures;
+      short = c.stored_words_tell_the_row.ensures.short;
+    } in
     let slots = c.self.inside.slots in
     let s = sees_of (book c.self.inside.pass) (g.D.Disk.told c.self.inside.disk) (g.D.Disk.faults c.self.inside.disk) c.self.inside.flusher in
     let fine : s.failed ≡ false = sym c.has_failed.ensures ∙ c.if-has_failed.false in
@@ -74,7 +98,13 @@ pub returns-in-Err-clause-checkpoints : goal.returns-in-Err-clause-checkpoints
 returns-in-Err-clause-checkpoints g c =
     let law = g.L.RowLaw.law in
     let o = g.B.Naming.start in
-    let laws : GoLaws law = record { stay = c.decided_blocks_stay.ensures.event; go = c.moments_go_on.ensures; begin = c.kept_logs_begin.ensures } in
+    let laws : GoLaws law = record {
+      stay = c.decided_blocks_stay.ensures.event;
+      go = c.moments_go_on.ensures;
+      begin = c.kept_logs_begin.ensures;
+      join = c.writes_join.ensures;
+      short = c.stored_words_tell_the_row.ensures.short;
+    } in
     let slots = c.self.inside.slots in
     let s = sees_of (book c.self.inside.pass) (g.D.Disk.told c.self.inside.disk) (g.D.Disk.faults c.self.inside.disk) c.self.inside.flusher in
     let fine : s.failed ≡ false = sym c.has_failed.ensures ∙ c.if-has_failed.false in
@@ -93,7 +123,13 @@ pub invariant_of-self-2 : goal.invariant_of-self-2
 invariant_of-self-2 g c =
     let law = g.L.RowLaw.law in
     let o = g.B.Naming.start in
-    let laws : GoLaws law = record { stay = c.decided_blocks_stay.ensures.event; go = c.moments_go_on.ensures; begin = c.kept_logs_begin.ensures } in
+    let laws : GoLaws law = record {
+      stay = c.decided_blocks_stay.ensures.event;
+      go = c.moments_go_on.ensures;
+      begin = c.kept_logs_begin.ensures;
+      join = c.writes_join.ensures;
+      short = c.stored_words_tell_the_row.ensures.short;
+    } in
     let slots = c.self.inside.slots in
     let s = sees_of (book c.self.inside.pass) (g.D.Disk.told c.self.inside.disk) (g.D.Disk.faults c.self.inside.disk) c.self.inside.flusher in
     let fine : s.failed ≡ false = sym c.has_failed.ensures ∙ c.if-has_failed.false in
@@ -112,7 +148,13 @@ pub returns-clause-checkpoints : goal.returns-clause-checkpoints
 returns-clause-checkpoints g c =
     let law = g.L.RowLaw.law in
     let o = g.B.Naming.start in
-    let laws : GoLaws law = record { stay = c.decided_blocks_stay.ensures.event; go = c.moments_go_on.ensures; begin = c.kept_logs_begin.ensures } in
+    let laws : GoLaws law = record {
+      stay = c.decided_blocks_stay.ensures.event;
+      go = c.moments_go_on.ensures;
+      begin = c.kept_logs_begin.ensures;
+      join = c.writes_join.ensures;
+      short = c.stored_words_tell_the_row.ensures.short;
+    } in
     let slots = c.self.inside.slots in
     let s = sees_of (book c.self.inside.pass) (g.D.Disk.told c.self.inside.disk) (g.D.Disk.faults c.self.inside.disk) c.self.inside.flusher in
     let fine : s.failed ≡ false = sym c.has_failed.ensures ∙ c.if-has_failed.false in

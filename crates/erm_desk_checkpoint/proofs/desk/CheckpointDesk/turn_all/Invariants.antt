@@ -2,6 +2,7 @@ use Rattle.std.proofs.Common.{◌≡◌, ◌≤◌, ◌-◌, ◌^◌}
 use Rattle.erm_desk.specs.All.{FlushTurns}
 use Rattle.erm_desk.specs.Turns.{FlushSteps}
 use Rattle.erm_desk.proofs.Chained.{IsLast}
+use Rattle.erm_desk_checkpoint.proofs.Behind.{SoFar}
 use Rattle.erm_desk_checkpoint.proofs.desk.CheckpointDesk.turn_all.Given as goal
 
 -- the turns so far flushed, as far as the last one
@@ -11,6 +12,7 @@ invariant-loop-end g l = record {
   few : l.turns ≤ l.flushed;
   last : IsLast l.flushed l.self.desk;
   steps : FlushSteps g.L.RowLaw.law l.fn.self.desk.book l.self.desk.book;
+  known : SoFar g.L.RowLaw.law g.B.Naming.start l.fn.self.slots l.fn.self.desk l.self.desk;
   same : l.self.desk.faults ≡ l.fn.self.desk.faults;
   slots : l.self.slots ≡ l.fn.self.slots;
 }

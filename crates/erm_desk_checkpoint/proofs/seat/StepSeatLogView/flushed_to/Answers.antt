@@ -1,5 +1,5 @@
+use Rattle.erm_desk.proofs.Stepped.{clear_steps}
 use Rattle.erm_rule.specs.Books.{book}
-use Rattle.erm_desk_checkpoint.proofs.Steps.{clear_steps}
 use Rattle.erm_desk_checkpoint.proofs.seat.StepSeatLogView.flushed_to.Goals as goal
 
 pub returns-clause-keeps : goal.returns-clause-keeps
