@@ -17,7 +17,7 @@ use Rattle.erm_replica.proofs.Cuts.{fed_twice, reads_more}
 use Rattle.erm_follow_run.specs.declared.halt.Halt.{Halt}
 use Rattle.erm_follow_run.specs.declared.halt.Halt.TheVariants as halt
 use Rattle.erm_follow_run.specs.Draining.{AreLines, DrainsTo, HasFront, Leads}
-use Rattle.erm_follow_run.specs.Ends.{EndsHalt, EndsPiece, Finishes, FollowEnds, HearsPiece, PrintsStarved, PrintsTo, Runs, TakesAtMost, TellsBad, TellsBroken, TellsCut, TellsFront, TellsSoFar, TellsStarved, TellsWhole, TookAll, TookFront, Ways, StarvesAtOnce}
+use Rattle.erm_follow_run.specs.Ends.{EndsHalt, EndsPiece, Finishes, FollowEnds, HearsPiece, PrintsStarved, PrintsTo, Runs, TakesAtMost, TellsBad, TellsBroken, TellsCut, TellsFront, TellsSoFar, TellsStarved, TellsWhole, TookAll, TookFront, WasReadBut, Ways, StarvesAtOnce}
 use Rattle.erm_follow_run.specs.Following.{Following}
 use Rattle.erm_follow_run.specs.Texts.{bad_text, broken_text, end_text, lines_text}
 use Rattle.erm_follow_run.proofs.Puts.{prints_join, prints_same, puts_front, puts_join, puts_nothing}
@@ -314,6 +314,20 @@ module _ (stays : (log : Option LogPlace) (bytes more : List ℕ) (part : Part) 
     sink_sound = λ e. absurd (omega (arith, e));
   }
 
+  -- all items were read of all these bytes
+  all_read : (bytes : List ℕ) (s : Streamed) (f : Followed) (lines : List Commit) → Following bytes s f lines → IsShort s.log s.rest → WasReadBut 4096 bytes
+  all_read bytes s f lines following short = record {
+    earlier = bytes;
+    last = [];
+    bytes_are = sym (append-nil bytes);
+    few = omega arith;
+    s = s;
+    f = f;
+    lines = lines;
+    following = following;
+    short = short;
+  }
+
   -- the source came to its end
   pub ends_whole : (a : Ways) (status : ℕ) (now b : Option (List ℕ)) (buffer : List ℕ) (taken rest pending m : ℕ) (s : Streamed) (f : Followed) → Runs a.left_before now a.written_before b taken rest s f
       → taken ≤ 16777216 → IfSome now (λ left. Takes left 0 buffer a.left_after) → pending ≡ length f.waiting → a.source_after ≡ a.source_before → m ≡ a.sink_before
@@ -342,6 +356,7 @@ module _ (stays : (log : Option LogPlace) (bytes more : List ℕ) (part : Part) 
           | inr starved ↦ subst (λ (n : ℕ). FollowEnds n a) (sym starved.0) (ends_8 a all (record {
             bytes = runs.bytes;
             front = front;
+            before = all_read runs.bytes s f runs.lines runs.following runs.short;
             text = told;
             told = record { s = s; f = f; lines = runs.lines; following = runs.following; front = record { front = runs.lines; rest = []; split = sym (append-nil runs.lines); added = refl } };
             printed = prints_join told (line_text line.NoMemory) a.written_before b a.written_after a.sink_before m a.sink_after runs.put sound starved.1;
@@ -353,10 +368,21 @@ module _ (stays : (log : Option LogPlace) (bytes more : List ℕ) (part : Part) 
 
   -- a piece ended it
   pub ends_piece : (a : Ways) (status : ℕ) (now b : Option (List ℕ)) (buffer : List ℕ) (taken rest n m : ℕ) (s : Streamed) (f : Followed) → Runs a.left_before now a.written_before b taken rest s f
-      → n ≤ length buffer → taken + n ≤ 16777217 → IfSome now (λ left. Takes left n buffer a.left_after) → a.source_after ≡ a.source_before → m ≡ a.sink_before
+      → n ≤ length buffer → n ≤ 4096 → taken + n ≤ 16777217 → IfSome now (λ left. Takes left n buffer a.left_after) → a.source_after ≡ a.source_before → m ≡ a.sink_before
       → EndsPiece (fed s (take n buffer)) f status b a.written_after m a.sink_after → FollowEnds status a
-  ends_piece a status now b buffer taken rest n m s f runs few room takes source sound ends =
+  ends_piece a status now b buffer taken rest n m s f runs few most room takes source sound ends =
       let bytes : List ℕ = runs.bytes ++ take n buffer in
+      let before : WasReadBut 4096 bytes = record {
+        earlier = runs.bytes;
+        last = take n buffer;
+        bytes_are = refl;
+        few = omega (arith, length-take-le n buffer few, most);
+        s = s;
+        f = f;
+        lines = runs.lines;
+        following = runs.following;
+        short = runs.short;
+      } in
       let front : TookFront bytes a.left_before a.left_after = took_more n runs.bytes buffer a.left_before now a.left_after runs.front takes in
       let all : TakesAtMost 16777217 a.left_before a.left_after = (bytes, front, omega (arith, length-append runs.bytes (take n buffer), length-take-le n buffer few, runs.count, room)) in
       let lines : List Commit = runs.lines ++ ends.new in
@@ -370,14 +396,15 @@ module _ (stays : (log : Option LogPlace) (bytes more : List ℕ) (part : Part) 
       let so_far : ends.text ≡ lines_text ends.new → TellsSoFar bytes ends.t ends.g text =
       λ is. record { lines = lines; following = following; text_is = ap (λ (xs : List ℕ). first ++ xs) is ∙ sym (lines_more runs.lines ends.new) } in
       elim ends.how [
-        | inl cut ↦ subst (λ (k : ℕ). FollowEnds k a) (sym cut.0) (ends_5 a text all (inr (record { bytes = bytes; front = front; told = told }))
+        | inl cut ↦ subst (λ (k : ℕ). FollowEnds k a) (sym cut.0) (ends_5 a text all (inr (record { bytes = bytes; front = front; before = before; told = told }))
             (puts_front first ends.text a.written_before b a.written_after runs.put cut.1) (subst (λ (x : ℕ). Rose x a.sink_after) sound cut.2) source)
         | inr others ↦ elim others [
-          | inl starved ↦ subst (λ (k : ℕ). FollowEnds k a) (sym starved.0) (ends_8 a all (record { bytes = bytes; front = front; text = text; told = told; printed = prints (line_text line.NoMemory) starved.1 }) source)
+          | inl starved ↦ subst (λ (k : ℕ). FollowEnds k a) (sym starved.0) (ends_8 a all (record { bytes = bytes; front = front; before = before; text = text; told = told; printed = prints (line_text line.NoMemory) starved.1 }) source)
           | inr more ↦ elim more [
             | inl bad ↦ subst (λ (k : ℕ). FollowEnds k a) (sym bad.0) (ends_11 a all (record {
               bytes = bytes;
               front = front;
+              before = before;
               s = ends.t;
               f = ends.g;
               text = text;
@@ -388,6 +415,7 @@ module _ (stays : (log : Option LogPlace) (bytes more : List ℕ) (part : Part) 
             | inr broken ↦ subst (λ (k : ℕ). FollowEnds k a) (sym broken.0) (ends_12 a all (record {
               bytes = bytes;
               front = front;
+              before = before;
               s = ends.t;
               f = ends.g;
               text = text;
@@ -413,6 +441,20 @@ runs_first given left written = record {
   put = puts_nothing written;
 }
 
+-- no bytes were taken
+all_read_first : Following [] start (follow_start 8) [] → WasReadBut 4096 []
+all_read_first following = record {
+  earlier = [];
+  last = [];
+  bytes_are = refl;
+  few = omega arith;
+  s = start;
+  f = follow_start 8;
+  lines = [];
+  following = following;
+  short = inl (omega arith);
+}
+
 -- and where memory runs out before a byte is taken
 pub starved_first : HasGiven 8 [] [] (follow_start 8) → (a : Ways) → StarvesAtOnce a → FollowEnds 8 a
 starved_first given a starves =
@@ -421,6 +463,7 @@ starved_first given a starves =
     ends_8 a ([], front, omega arith) (record {
       bytes = [];
       front = front;
+      before = all_read_first following;
       text = [];
       told = record { s = start; f = follow_start 8; lines = []; following = following; front = record { front = []; rest = []; split = refl; added = refl } };
       printed = starves.printed;

@@ -13,7 +13,7 @@ use Rattle.erm_follow_run.specs.Following.{Following}
 use Rattle.erm_follow_run.specs.declared.halt.Halt.{Halt}
 use Rattle.erm_follow_run.specs.declared.halt.Halt.TheVariants as halt
 use Rattle.erm_follow_run.specs.Texts.{bad_text, broken_text, end_text, lines_text}
-use Rattle.erm_follow_run.specs.declared.following.TheConstants.{STREAM_BYTES}
+use Rattle.erm_follow_run.specs.declared.following.TheConstants.{CHUNK_BYTES, STREAM_BYTES}
 
 -- what a source and a sink tell before and after, and how often each has failed
 pub record Ways : Type 0 where
@@ -71,16 +71,31 @@ pub record TellsWhole (a : Ways) (text : List ℕ) : Type 0 where
   pub short : IsShort s.log s.rest
   pub text_is : text ≡ told ++ end_text (length f.waiting) (length s.rest)
 
--- the sink failed on the way, or at the end
+-- All items in front of the last of these bytes were read, and there are at most so many behind them: what stands next is one that isn't
+-- all there, so none before is no item, and none breaks a safe stamp.
+pub record WasReadBut (most : ℕ) (bytes : List ℕ) : Type 0 where
+  pub earlier : List ℕ
+  pub last : List ℕ
+  pub bytes_are : bytes ≡ earlier ++ last
+  pub few : length last ≤ most
+  pub s : Streamed
+  pub f : Followed
+  pub lines : List Commit
+  pub following : Following earlier s f lines
+  pub short : IsShort s.log s.rest
+
+-- the sink failed on the way, or at the end: at the piece that was taken last
 pub record TellsCut (a : Ways) (text : List ℕ) : Type 0 where
   pub bytes : List ℕ
   pub front : TookFront bytes a.left_before a.left_after
+  pub before : WasReadBut CHUNK_BYTES bytes
   pub told : TellsFront bytes text
 
--- memory ran out, which is told behind lines of commits that are due
+-- Memory ran out, which is told behind lines of commits that are due. Nothing was taken behind the piece for which it ran out.
 pub record TellsStarved (a : Ways) : Type 0 where
   pub bytes : List ℕ
   pub front : TookFront bytes a.left_before a.left_after
+  pub before : WasReadBut CHUNK_BYTES bytes
   pub text : List ℕ
   pub told : TellsFront bytes text
   pub printed : Prints (text ++ line_text line.NoMemory) a
@@ -95,10 +110,11 @@ pub record TellsLine (a : Ways) (bytes : List ℕ) (l : List ℕ) : Type 0 where
   pub short : IsShort s.log s.rest
   pub printed : Prints (text ++ l) a
 
--- what stands at a place of the stream is no item
+-- What stands at a place of the stream is no item, and nothing was taken behind the piece that shows it.
 pub record TellsBad (a : Ways) : Type 0 where
   pub bytes : List ℕ
   pub front : TookFront bytes a.left_before a.left_after
+  pub before : WasReadBut CHUNK_BYTES bytes
   pub s : Streamed
   pub f : Followed
   pub text : List ℕ
@@ -106,10 +122,11 @@ pub record TellsBad (a : Ways) : Type 0 where
   pub bad : IsUnreadable s.log s.rest
   pub printed : Prints (text ++ bad_text s.place) a
 
--- the next commit or safe stamp shows that a safe stamp is broken
+-- The next commit or safe stamp shows that a safe stamp is broken, and nothing was taken behind the piece that shows it.
 pub record TellsBroken (a : Ways) : Type 0 where
   pub bytes : List ℕ
   pub front : TookFront bytes a.left_before a.left_after
+  pub before : WasReadBut CHUNK_BYTES bytes
   pub s : Streamed
   pub f : Followed
   pub text : List ℕ

@@ -35,7 +35,8 @@ pub const CHUNK_BYTES: usize = 4096;
 /// - 11 where what stands in the stream is no item, whatever follows;
 /// - 12 where a commit breaks a safe stamp.
 ///
-/// With 4, 8, 9, 11 and 12 a line that says so was put behind the lines of commits.
+/// With 4, 8, 9, 11 and 12 a line that says so was put behind the lines of commits. Where it ends with 5, 8, 11 or 12 nothing was
+/// taken behind the piece for which it ends, of at most 4096 bytes. Where memory is lacking for the line of 11 or 12, it is 8.
 pub fn follow<S: Source, K: Sink>(alloc: Global, source: &mut S, sink: &mut K) -> u8
     ensures { FollowEnds result (record {
       left_before = S.left source.old;
@@ -86,6 +87,7 @@ pub fn take_chunk<S: Source>(
     requires chunk { length chunk.old ≡ CHUNK_BYTES }
     requires few { taken ≤ STREAM_BYTES }
     ensures within { IfOk result (λ n. n ≤ length chunk.new) }
+    ensures most { IfOk result (λ n. n ≤ CHUNK_BYTES) }
     ensures room { IfOk result (λ n. taken + n ≤ STREAM_BYTES + 1) }
     ensures takes { IfOk result (λ n. IfSome (S.left source.old) (λ bytes. Takes bytes n chunk.new (S.left source.new))) }
     ensures kept { OnErr result (S.left source.new ≡ S.left source.old) }

@@ -7,8 +7,6 @@ mod following;
 mod halt;
 mod laws;
 mod steps;
-#[cfg(test)]
-mod tests;
 
 pub use ends::{push_count, push_number};
 pub use following::{CHUNK_BYTES, STREAM_BYTES, follow, print, put_bad, starve, take_chunk};

@@ -1,19 +1,21 @@
 -- How replicating goes on, and ends.
-use Rattle.std.proofs.Common.{◌≡◌, ℕ, ◌+◌, ◌<◌, ◌≤◌, true, false, List, [], ◌++◌, length, take, Option, refl, sym, ◌∙◌, arith, length-append, inl, inr, subst}
+use Rattle.std.proofs.Common.{◌≡◌, ℕ, ◌+◌, ◌<◌, ◌≤◌, true, false, List, [], ◌++◌, length, take, Option, None, refl, sym, ◌∙◌, arith, length-append, inl, inr, subst}
 use Rattle.std.specs.Prelude.{IfSome}
+use Rattle.std.proofs.lemmas.Bool.{false≢true}
 use Rattle.std.proofs.lemmas.List.{length-take-le}
+use Rattle.erm_model.proofs.Members.{none_in_nil}
 use Rattle.erm_outside.specs.Faults.{Rose}
 use Rattle.erm_outside.specs.Sink.{Puts, PutsFront}
 use Rattle.erm_outside.specs.Source.{Takes}
 use Rattle.erm_report.specs.Texts.{line_text}
 use Rattle.erm_report.specs.declared.line.Line.TheVariants as line
-use Rattle.erm_follow_run.specs.Ends.{EndsWith, Prints, PrintsStarved, PrintsTo, TakesAtMost, TookFront, Ways}
+use Rattle.erm_follow_run.specs.Ends.{EndsWith, PrintsStarved, PrintsTo, StarvesAtOnce, TakesAtMost, TookFront, Ways}
 use Rattle.erm_follow_run.specs.Texts.{bad_text}
 use Rattle.erm_follow_run.proofs.Ending.{took_all, took_more, took_nothing}
 use Rattle.erm_replica_rows.specs.Keeping.{Keeps, Replicated, TakesPiece, shown}
 use Rattle.erm_replica_rows.specs.Replica.{IsBadAt, IsReplicaOf}
-use Rattle.erm_replica_run.specs.Ends.{Finishes, PrintsBad, ReplicaEnds, Runs, TellsWhole}
-use Rattle.erm_replica_run.specs.Texts.{IsGood, TellsShown}
+use Rattle.erm_replica_run.specs.Ends.{Finishes, PrintsBad, PrintsNoMemory, ReplicaEnds, Runs, TellsWhole}
+use Rattle.erm_replica_run.specs.Texts.{IsGood, IsGoodBut, TellsShown}
 
 -- ---- from one piece to the next
 
@@ -38,10 +40,48 @@ runs_more first now next taken n buffer r t runs few takes fed good = record {
 
 -- ---- how it ends
 
+-- a replica that was fed nothing keeps what no bytes tell
+nothing : Replicated
+nothing = record {
+  kept = record {
+    stream = record { place = 0; log = None; rest = [] };
+    rows = [];
+    since = record { place = 0; log = None; rest = [] };
+    safe_rows = [];
+    base = 0;
+    safe = None;
+  };
+  is_bad = false;
+}
+
+nothing_keeps : Keeps [] nothing
+unfolding nothing
+nothing_keeps = record {
+  taken = [];
+  passed = [];
+  bytes_are = refl;
+  holds = record {
+    below = [];
+    others = [];
+    reads = refl;
+    goes_on = refl;
+    sound = tt;
+    rows = tt;
+    safe_rows = tt;
+    base_is = λ c m. absurd (none_in_nil _ m);
+    safe = λ stamp names. none_in_nil names.part names.there;
+    are_below = tt;
+    from = tt;
+    none = λ e. refl;
+  };
+  good = λ so. (refl, inl (omega arith));
+  bad = λ so. absurd (false≢true so);
+}
+
 prints_at : (text : List ℕ) (a b c : Option (List ℕ)) (k m n : ℕ) → b ≡ a → m ≡ k → PrintsTo text b c m n → PrintsTo text a c k n
 prints_at text a b c k m n written sound printed = subst (λ (x : Option (List ℕ)). PrintsTo text x c k n) written (subst (λ (x : ℕ). PrintsTo text b c x n) sound printed)
 
-pub ends_8 : (a : Ways) → TakesAtMost 16777217 a.left_before a.left_after → a.source_after ≡ a.source_before → Prints (line_text line.NoMemory) a → ReplicaEnds 8 a
+ends_8 : (a : Ways) → TakesAtMost 16777217 a.left_before a.left_after → a.source_after ≡ a.source_before → PrintsNoMemory a → ReplicaEnds 8 a
 ends_8 a taken source printed = record {
   known = inr (inr (inr (inl refl)));
   success = λ e. absurd (omega (arith, e));
@@ -154,6 +194,32 @@ module _ (answers : (bytes : List ℕ) (r : Replicated) → Keeps bytes r → Is
     sink_sound = λ e. absurd (omega (arith, e));
   }
 
+  -- nothing is met in no bytes that is no item
+  first_good : IsGood []
+  unfolding nothing
+  first_good = λ place bad. good_at [] nothing place nothing_keeps refl bad
+
+  -- memory ran out before a byte was taken
+  pub ends_starved_first : (a : Ways) (status : ℕ) → status ≡ 8 → StarvesAtOnce a → ReplicaEnds status a
+  ends_starved_first a status is starves =
+      let front : TookFront [] a.left_before a.left_after = subst (λ (x : Option (List ℕ)). TookFront [] a.left_before x) (sym starves.left) (took_nothing a.left_before) in
+      subst (λ (k : ℕ). ReplicaEnds k a) (sym is) (ends_8 a ([], front, omega arith) starves.sound (record {
+        bytes = [];
+        front = front;
+        before = record { earlier = []; last = []; bytes_are = refl; few = omega arith; good = first_good };
+        printed = starves.printed;
+      }))
+
+  -- so far nothing was met that is no item
+  good_so_far : (first now : Option (List ℕ)) (buffer : List ℕ) (taken n : ℕ) (r : Replicated) (runs : Runs first now taken r) → n ≤ length buffer → n ≤ 4096 → IsGoodBut 4096 (runs.bytes ++ take n buffer)
+  good_so_far first now buffer taken n r runs few most = record {
+    earlier = runs.bytes;
+    last = take n buffer;
+    bytes_are = refl;
+    few = omega (arith, length-take-le n buffer few, most);
+    good = is_good first now taken r runs;
+  }
+
   -- a piece that was taken of the source
   took_piece : (a : Ways) (now : Option (List ℕ)) (buffer : List ℕ) (taken n : ℕ) (r : Replicated) (runs : Runs a.left_before now taken r) → n ≤ length buffer → taken + n ≤ 16777217
       → IfSome now (λ left. Takes left n buffer a.left_after) → TakesAtMost 16777217 a.left_before a.left_after
@@ -164,28 +230,34 @@ module _ (answers : (bytes : List ℕ) (r : Replicated) → Keeps bytes r → Is
   )
 
   -- memory ran out for a piece
-  pub ends_starved : (a : Ways) (status : ℕ) (now b : Option (List ℕ)) (buffer : List ℕ) (taken n m : ℕ) (r : Replicated) → Runs a.left_before now taken r → n ≤ length buffer → taken + n ≤ 16777217
+  pub ends_starved : (a : Ways) (status : ℕ) (now b : Option (List ℕ)) (buffer : List ℕ) (taken n m : ℕ) (r : Replicated) → Runs a.left_before now taken r → n ≤ length buffer → n ≤ 4096 → taken + n ≤ 16777217
       → IfSome now (λ left. Takes left n buffer a.left_after) → a.source_after ≡ a.source_before → b ≡ a.written_before → m ≡ a.sink_before
       → status ≡ 8 → PrintsStarved b a.written_after m a.sink_after → ReplicaEnds status a
-  ends_starved a status now b buffer taken n m r runs few room takes source written sound is printed =
+  ends_starved a status now b buffer taken n m r runs few most room takes source written sound is printed =
       subst (λ (k : ℕ). ReplicaEnds k a) (sym is)
-      (ends_8 a (took_piece a now buffer taken n r runs few room takes) source (prints_at (line_text line.NoMemory) a.written_before b a.written_after a.sink_before m a.sink_after written sound printed))
+      (ends_8 a (took_piece a now buffer taken n r runs few room takes) source (record {
+        bytes = runs.bytes ++ take n buffer;
+        front = took_more n runs.bytes buffer a.left_before now a.left_after runs.front takes;
+        before = good_so_far a.left_before now buffer taken n r runs few most;
+        printed = prints_at (line_text line.NoMemory) a.written_before b a.written_after a.sink_before m a.sink_after written sound printed;
+      }))
 
   -- a piece shows what is no item
-  pub ends_bad : (a : Ways) (status : ℕ) (now b : Option (List ℕ)) (buffer : List ℕ) (taken n m place : ℕ) (r t : Replicated) → Runs a.left_before now taken r → n ≤ length buffer → taken + n ≤ 16777217
+  pub ends_bad : (a : Ways) (status : ℕ) (now b : Option (List ℕ)) (buffer : List ℕ) (taken n m place : ℕ) (r t : Replicated) → Runs a.left_before now taken r → n ≤ length buffer → n ≤ 4096 → taken + n ≤ 16777217
       → IfSome now (λ left. Takes left n buffer a.left_after) → a.source_after ≡ a.source_before → b ≡ a.written_before → m ≡ a.sink_before
       → t.is_bad ≡ true → place ≡ t.kept.stream.place → TakesPiece r (take n buffer) t → EndsWith 11 (bad_text place) status b a.written_after m a.sink_after → ReplicaEnds status a
-  ends_bad a status now b buffer taken n m place r t runs few room takes source written sound bad place_is fed ends =
+  ends_bad a status now b buffer taken n m place r t runs few most room takes source written sound bad place_is fed ends =
       let all = took_piece a now buffer taken n r runs few room takes in
       elim ends [
         | inl own ↦ subst (λ (k : ℕ). ReplicaEnds k a) (sym own.0) (ends_11 a all source (record {
           bytes = runs.bytes ++ take n buffer;
           front = took_more n runs.bytes buffer a.left_before now a.left_after runs.front takes;
+          before = good_so_far a.left_before now buffer taken n r runs few most;
           place = place;
           bad = subst (λ (p : ℕ). IsBadAt (runs.bytes ++ take n buffer) p) (sym place_is) (bad_at (runs.bytes ++ take n buffer) t (fed runs.bytes runs.keeps) bad);
           printed = prints_at (bad_text place) a.written_before b a.written_after a.sink_before m a.sink_after written sound own.1;
         }))
-        | inr starved ↦ ends_starved a status now b buffer taken n m r runs few room takes source written sound starved.0 starved.1
+        | inr starved ↦ ends_starved a status now b buffer taken n m r runs few most room takes source written sound starved.0 starved.1
       ]
 
   -- the source came to its end
@@ -206,6 +278,6 @@ module _ (answers : (bytes : List ℕ) (r : Replicated) → Keeps bytes r → Is
         | inr others ↦ elim others [
           | inl cut ↦ subst (λ (k : ℕ). ReplicaEnds k a) (sym cut.0)
               (ends_5 a cut.1.0 all source (whole cut.1.0 cut.1.1) (subst (λ (x : Option (List ℕ)). PutsFront cut.1.0 x a.written_after) written cut.1.2) (subst (λ (x : ℕ). Rose x a.sink_after) sound cut.2))
-          | inr starved ↦ ends_starved a status now b buffer taken 0 m r runs (omega arith) (omega (arith, few)) takes source written sound starved.0 starved.1
+          | inr starved ↦ ends_starved a status now b buffer taken 0 m r runs (omega arith) (omega arith) (omega (arith, few)) takes source written sound starved.0 starved.1
         ]
       ]

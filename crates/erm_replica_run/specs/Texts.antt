@@ -1,5 +1,5 @@
 -- What is printed of a replica.
-use Rattle.std.specs.Prelude.{◌≡◌, ℕ, ◌++◌, List, [], codes, Option, Some, None, unwrap_or}
+use Rattle.std.specs.Prelude.{◌≡◌, ℕ, ◌≤◌, ◌++◌, List, [], length, codes, Option, Some, None, unwrap_or}
 use Rattle.std.specs.Fmt.{decimal}
 use Rattle.erm_model.specs.declared.map.Pair.{Pair}
 use Rattle.erm_model.specs.Rows.{Rows}
@@ -28,6 +28,14 @@ pub record TellsShown (shown : Shown) (text : List ℕ) : Type 0 where
 -- what stands next is no item at no place
 abbrev pub IsGood : List ℕ → Type 0
 IsGood bytes = (place : ℕ) → IsBadAt bytes place → ⊥
+
+-- In front of the last of these bytes, at most so many, nothing is met that is no item.
+pub record IsGoodBut (most : ℕ) (bytes : List ℕ) : Type 0 where
+  pub earlier : List ℕ
+  pub last : List ℕ
+  pub bytes_are : bytes ≡ earlier ++ last
+  pub few : length last ≤ most
+  pub good : IsGood earlier
 
 -- a text has what a replica of these bytes answers, all of which may be items
 pub record TellsReplica (bytes : List ℕ) (text : List ℕ) : Type 0 where

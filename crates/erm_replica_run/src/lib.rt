@@ -3,9 +3,7 @@
 
 mod laws;
 mod replicating;
-#[cfg(test)]
-mod tests;
 mod texts;
 
-pub use laws::starved_replicas_end;
+pub use laws::{bad_streams_end_it, starved_replicas_end};
 pub use replicating::replicate;

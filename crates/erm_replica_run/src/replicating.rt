@@ -19,7 +19,8 @@ use std::alloc::Global;
 /// - 9 where the source has more than 16,777,216 bytes;
 /// - 11 where what stands in the stream is no item, whatever follows.
 ///
-/// With 4, 8, 9 and 11 a line that says so alone was put: the first of these that was met.
+/// With 4, 8, 9 and 11 a line that says so alone was put. With 4 and 9 nothing that is no item was met; with 8 and 11 none was met
+/// before the piece that was taken last, of at most 4096 bytes. Where memory is lacking for the line of 11, it is 8.
 pub fn replicate<S: Source, K: Sink>(alloc: Global, source: &mut S, sink: &mut K) -> u8
     ensures { ReplicaEnds result (record {
       left_before = S.left source.old;

@@ -44,7 +44,7 @@ chunks-preserved g c =
 pub returns-in-Err-hear_piece : goal.returns-in-Err-hear_piece
 returns-in-Err-hear_piece g c =
     ends_piece c.fronts_stay.ensures.part (λ log bytes part stands. (c.parts_are_announced.ensures log bytes part stands).1) _ c.in-Err-hear_piece.status (g.S.Source.left c.chunks.source) (g.K.Sink.written c.chunks.sink) c.take_chunk.new.chunk
-    c.chunks.taken c.chunks.rest c.in-Ok.count (g.K.Sink.faults c.chunks.sink) c.chunks.stream c.chunks.follow c.chunks.invariant.runs c.in-Ok.ensures.within c.in-Ok.ensures.room c.in-Ok.ensures.takes (c.in-Ok.ensures.sound ∙ c.chunks.invariant.source) c.chunks.invariant.sink
+    c.chunks.taken c.chunks.rest c.in-Ok.count (g.K.Sink.faults c.chunks.sink) c.chunks.stream c.chunks.follow c.chunks.invariant.runs c.in-Ok.ensures.within c.in-Ok.ensures.most c.in-Ok.ensures.room c.in-Ok.ensures.takes (c.in-Ok.ensures.sound ∙ c.chunks.invariant.source) c.chunks.invariant.sink
     c.in-Err-hear_piece.ensures.ends
 
 pub returns-in-Err : goal.returns-in-Err
