@@ -1,5 +1,5 @@
 -- Transactions that save and go back, as runs of their operations.
-use Rattle.std.proofs.Common.{◌≡◌, refl, ℕ, suc, inl, inr, List, [], ◌∷◌, ◌++◌, Option, Some, map, sym, ap, ◌∙◌, subst, arith}
+use Rattle.std.proofs.Common.{◌≡◌, refl, ℕ, suc, inl, inr, List, [], ◌∷◌, ◌++◌, Option, None, Some, map, sym, ap, ◌∙◌, subst, arith}
 use Rattle.std.specs.List.{slice_get}
 use Rattle.std.specs.Option.{option_map}
 use Rattle.std.proofs.lemmas.List.{map-append, take-map}
@@ -17,10 +17,10 @@ use Rattle.erm_world.specs.Laws.{FitsWork, IsLawfulWork}
 use Rattle.erm_world.specs.World.{Work}
 use Rattle.erm_saves.specs.declared.operation.Op.TheVariants.{Back, Save}
 use Rattle.erm_saves.specs.Claims.{Agree, HasClaimed, restored}
-use Rattle.erm_saves.specs.Run.{Saving, Step, after, back_to, begins}
+use Rattle.erm_saves.specs.Run.{Saving, Step, after, back_to, begins, saved_as}
 use Rattle.erm_saves.specs.Transactions.{AreSavesOf, IsRunOf, Kept, going_back, maps_seen, saving, with_claims}
 use Rattle.erm_saves.proofs.Restored.{Agree-before, Agree-saved, HasClaimed-itself, HasClaimed-restored, OnceOf-restored, seen_restored}
-use Rattle.erm_saves.proofs.Runs.{RunsFrom-push, after_from-ops_of-push}
+use Rattle.erm_saves.proofs.Runs.{RunsFrom-push, after_from-ops_of-push, saved_as-map}
 use Rattle.erm_saves.proofs.StayingOps.{slice_get-take}
 
 -- a transaction that may have begun on rows may have begun on them without claims that it makes, or with those that found the same
@@ -61,6 +61,22 @@ IsRunOf-saving k steps run = record {
   once = run.once;
   saves = saves_once_more k.work k.saves run.saves;
   lawful_saves = lawful_once_more k steps run;
+}
+
+-- a way back to where there is no savepoint
+pub IsRunOf-back_to_none : (k : Kept) (steps : List Step) (n : ℕ) → IsRunOf k steps → saved_as n k.saves ≡ None → IsRunOf k (steps ++ back_step n ∷ [])
+IsRunOf-back_to_none k steps n run none = record {
+  run = λ rows sound fits. RunsFrom-push (begins (map_of_rows rows)) steps (back_step n) (run.run rows sound fits) refl;
+  after = λ rows sound fits.
+      let f : List VersionWritten → Database = λ claims. map_of_rows (after_writes claims rows) in
+      let found : saved_as n (map f k.saves) ≡ None = saved_as-map f n k.saves ∙ ap (option_map f) none in
+      after_from-ops_of-push steps (back_step n) (begins (map_of_rows rows))
+      ∙ ap (after (Back n)) (run.after rows sound fits)
+      ∙ ap (λ (old : Option Database). back_to n old (maps_seen k rows)) found;
+  lawful = run.lawful;
+  once = run.once;
+  saves = run.saves;
+  lawful_saves = run.lawful_saves;
 }
 
 module _ (k : Kept) (steps : List Step) (run : IsRunOf k steps) (n : ℕ) (saved : List VersionWritten) (at : slice_get k.saves n ≡ Some saved) where

@@ -1,6 +1,7 @@
 pub mod Fronts
 pub mod GoingOn
 pub mod Kept
+pub mod Places
 pub mod Restored
 pub mod Runs
 pub mod StayingOps

@@ -19,7 +19,8 @@ in_turn-append : {X S : Type 0} (does : X → S → S) (xs ys : List X) (s : S) 
 in_turn-append does [] ys s = refl
 in_turn-append does (x ∷ xs) ys s = in_turn-append does xs ys (does x s)
 
-front_more : {X : Type 0} (xs : List X) (i : ℕ) (x : X) → i < length xs → x ≡ get_or xs i x → take (i + 1) xs ≡ take i xs ++ x ∷ []
+-- up to a place and what stands there
+pub front_more : {X : Type 0} (xs : List X) (i : ℕ) (x : X) → i < length xs → x ≡ get_or xs i x → take (i + 1) xs ≡ take i xs ++ x ∷ []
 front_more xs i x within is = take_more xs i x within ∙ ap (λ y. take i xs ++ y ∷ []) (sym is)
 
 -- steps up to a place and the one at that place

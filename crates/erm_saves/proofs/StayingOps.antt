@@ -19,7 +19,7 @@ slice_get-take (suc n) (y ∷ xs) zero x at = at
 slice_get-take (suc n) (y ∷ xs) (suc j) x at = slice_get-take n xs j x at
 
 -- what was saved as the n-th is one of what was saved
-saved_in : {X : Type 0} (n : ℕ) (saved : List X) (x : X) → saved_as n saved ≡ Some x → x ∈ saved
+pub saved_in : {X : Type 0} (n : ℕ) (saved : List X) (x : X) → saved_as n saved ≡ Some x → x ∈ saved
 saved_in zero saved x is = absurd (cc)
 saved_in (suc k) saved x is = (k, is)
 

@@ -1,5 +1,5 @@
 //! Laws of savepoints. Each holds for every value, and its function does nothing.
-ghost use Rattle.std.specs.Prelude.{◌≡◌, ◌↔◌, ℕ, suc, List, [], ◌∷◌, ◌++◌, Some, map};
+ghost use Rattle.std.specs.Prelude.{◌≡◌, ◌↔◌, ℕ, suc, List, [], ◌∷◌, ◌++◌, None, Some, map};
 ghost use Rattle.std.specs.List.{slice_get};
 ghost use Rattle.erm_model.specs.declared.history.VersionWritten.{VersionWritten};
 ghost use Rattle.erm_model.specs.declared.operation.Op as plain_operation;
@@ -12,7 +12,8 @@ ghost use Rattle.erm_model.specs.Run as plain;
 ghost use Rattle.erm_saves.specs.declared.operation.Op.{Op};
 ghost use Rattle.erm_saves.specs.declared.operation.Op.TheVariants as operation;
 ghost use Rattle.erm_saves.specs.Claims.{Agree, HasClaimed, OnceOf, back_claims, restored, saved_of};
-ghost use Rattle.erm_saves.specs.Run.{RepliesAreDetermined, RunsFrom, Saving, Step, after_all, after_from, kept_ops, ops_of, plainly};
+ghost use Rattle.erm_saves.specs.Run.{RepliesAreDetermined, RunsFrom, Saving, Step, after_all, after_from, kept_ops, ops_of, plainly, saved_as};
+ghost use Rattle.erm_saves.specs.Staying.{AreAscending, places_kept};
 ghost use Rattle.erm_saves.specs.Transactions.{GoesOnBy, IsRunOf, Kept, going_back, saving, with_claims};
 ghost use Rattle.erm_maps.specs.Runs as unsaved;
 ghost use Rattle.erm_world.specs.Going.{Extends};
@@ -22,6 +23,11 @@ ghost use Rattle.erm_world.specs.World.{View, Work};
 /// A transaction's operations have one list of replies on a database map, whatever answers them.
 pub fn replies_are_determined()
     ensures { RepliesAreDetermined }
+{}
+
+/// The places of the operations that stay ascend, each once.
+pub fn kept_places_ascend()
+    ensures { (ops : List Op) → AreAscending (places_kept ops) }
 {}
 
 /// The map after a transaction's operations is that after those of them that stay once it has gone back wherever it did.
@@ -49,6 +55,12 @@ pub fn backs_are_runs()
     ensures { (k : Kept) (steps : List Step) (n : ℕ) (saved : List VersionWritten) → IsRunOf k steps
         → slice_get k.saves n ≡ Some saved
         → IsRunOf (going_back (suc n) saved k) (steps ++ record { op = operation.Back (suc n); reply = reply.Done } ∷ []) }
+{}
+
+/// And that of one `Back` more to where there is no savepoint: it leaves all as it is.
+pub fn backs_to_none_are_runs()
+    ensures { (k : Kept) (steps : List Step) (n : ℕ) → IsRunOf k steps → saved_as n k.saves ≡ None
+        → IsRunOf k (steps ++ record { op = operation.Back n; reply = reply.Done } ∷ []) }
 {}
 
 /// And that of more steps on the map, once it has gone on by them. Its savepoints stay.

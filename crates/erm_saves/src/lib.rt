@@ -11,9 +11,10 @@ mod tests;
 
 pub use claims::{Saved, back};
 pub use laws::{
-    backs_are_runs, backs_go_on, backs_restore, kept_operations_leave_the_map,
-    plain_steps_are_runs, plain_steps_run_as_before, replies_are_determined, restored_seen,
-    runs_without_savepoints, saves_are_runs,
+    backs_are_runs, backs_go_on, backs_restore, backs_to_none_are_runs,
+    kept_operations_leave_the_map, kept_places_ascend, plain_steps_are_runs,
+    plain_steps_run_as_before, replies_are_determined, restored_seen, runs_without_savepoints,
+    saves_are_runs,
 };
 pub use operation::Op;
 pub use run::run_one;

@@ -3,15 +3,17 @@ ghost use Rattle.std.specs.Prelude.{◌≡◌, [], ◌∷◌, ◌++◌, IfOk, On
 ghost use Rattle.std.specs.List.{slice_get};
 ghost use Rattle.erm_saves.specs.declared.operation.Op.TheVariants as operation;
 ghost use Rattle.erm_saves.specs.Run.{after_by, back_to, kept_ops, saved_as};
-ghost use Rattle.erm_saves.specs.Staying.{AreLengthsOf, fronts};
+ghost use Rattle.erm_saves.specs.Staying.{AreLengthsOf, fronts, places_kept};
 
 use crate::Op;
 use std::alloc::{AllocError, Global};
 
-/// The places of the operations on the map that stay, in order: a way back drops those since its savepoint. Applied to a map one
-/// after another, they leave the map that the transaction leaves, and no map is copied.
+/// The places of the operations on the map that stay, ascending: each such operation is told by its own place, also where others
+/// are equal to it. A way back drops those since its savepoint. Applied to a map one after another, they leave the map that the
+/// transaction leaves, and no map is copied.
 pub fn kept_places(alloc: Global, ops: &[Op]) -> Result<Vec<usize>, AllocError>
-    ensures { IfOk result (λ places. map (λ i. slice_get ops.now i) places.items ≡ map (λ op. Some (operation.Plain op)) (kept_ops ops.now)) }
+    ensures places { IfOk result (λ places. places.items ≡ places_kept ops.now) }
+    ensures found { IfOk result (λ places. map (λ i. slice_get ops.now i) places.items ≡ map (λ op. Some (operation.Plain op)) (kept_ops ops.now)) }
 {
     let mut places = Vec::new(alloc);
     let mut lengths = Vec::new(alloc);
