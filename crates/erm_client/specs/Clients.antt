@@ -1,0 +1,52 @@
+-- Clients: what is so of one between its calls, and how it goes on from one call to the next.
+use Rattle.std.specs.Prelude.{◌≡◌, ℕ, List, Option}
+use Rattle.erm_beside.specs.Laws.{GoesOnward}
+use Rattle.erm_client.specs.declared.client.Client.{Client}
+use Rattle.erm_client.specs.declared.transcript.Standing.{Standing}
+use Rattle.erm_client.specs.declared.transcript.Standing.TheVariants as standing
+use Rattle.erm_client.specs.declared.transcript.Transcript.{Transcript}
+use Rattle.erm_client.specs.Transcripts.{IsTranscript}
+use Rattle.erm_lines.specs.Executions.{line_moves}
+use Rattle.erm_lines_at_once.specs.Executions.{IsOwnRun}
+use Rattle.erm_report.specs.declared.answer.Answer.{Answer}
+use Rattle.erm_script.specs.declared.script.ScriptLine.{ScriptLine}
+use Rattle.erm_threads.specs.Work.{DidWork}
+use Rattle.erm_worker.specs.Work.{IsReady, RanLines}
+use Rattle.erm_world.specs.World.{View}
+
+-- The lines were answered in order, with others going on between, and the session was left where its client was told to stop. Where memory ran out
+-- it did these lines, and no more is known.
+abbrev pub RanUpTo : Standing → View → ℕ → List ScriptLine → List Answer → View → View → Type 0
+RanUpTo standing.Open f seat lines answers v t = RanLines f seat lines answers v t
+RanUpTo standing.Stopped f seat lines answers v t = RanLines f seat lines answers v t
+RanUpTo standing.Starved f seat lines answers v t = (last : View) × IsOwnRun f seat v (line_moves lines answers) last
+
+-- From the first view on the session did what the transcript tells, and stands in the second.
+abbrev pub HasRun : View → View → Transcript → View → Type 0
+HasRun f v c t = RanUpTo c.standing f c.seat c.lines.items c.answers.items v t
+
+-- Whatever it began with: where the session had done what the one transcript tells, it has done what the other one tells.
+abbrev pub RunsOn : (View → Type 0) → Transcript → View → (View → Type 0) → Transcript → View → Type 0
+RunsOn before c u after d t = (v : View) → ((f : View) → before f → HasRun f v c u) → (f : View) → after f → HasRun f v d t
+
+-- Of sessions that stand so on what they share, are of such seats and know so much: a client between its calls. Where it isn't over, its session is ready
+-- for the next line.
+pub record IsClient {S T X : Type 0} (stands : X → S → Type 0) (seat : S → ℕ) (own : S → View) (c : Client S T X) : Type 0 where
+  pub stands_so : stands c.shared.now c.session
+  pub seat_is : c.transcript.seat ≡ seat c.session
+  pub transcript_ok : IsTranscript c.transcript
+  pub ready : c.transcript.standing ≡ standing.Open → IsReady ((own c.session).session (seat c.session)) c.receipt
+
+-- A client goes on, whatever it is answered. Where it is told to stop, it was so by what it waits by; and from then on it stays as it is.
+pub record GoesOn {S T X : Type 0} (stands : X → S → Type 0) (seat : S → ℕ) (own : S → View) (ends : S → View → Type 0) (told : T → Type 0) (c d : Client S T X) : Type 0 where
+  pub client : IsClient stands seat own d
+  pub same : d.shared ≡ c.shared
+  pub onward : GoesOnward (seat c.session) (seat d.session) (ends c.session) (ends d.session)
+  pub ran : RunsOn (ends c.session) c.transcript (own c.session) (ends d.session) d.transcript (own d.session)
+  pub stops : c.transcript.standing ≡ standing.Open → d.transcript.standing ≡ standing.Stopped → told d.turns
+  pub over : (c.transcript.standing ≡ standing.Open → ⊥) → d ≡ c
+
+-- Whatever it began with: where the session had done what the transcript tells, unless memory ran out, it did this work, and was closed so behind it.
+abbrev pub FinishesWork : (View → Type 0) → View → (View → Type 0) → View → Transcript → Option Answer → Type 0
+FinishesWork before u after t c closed = (c.standing ≡ standing.Starved → ⊥) → (v : View) → ((f : View) → before f → HasRun f v c u) → (f : View) → after f
+    → DidWork f c.seat c.lines.items c.answers.items closed v t

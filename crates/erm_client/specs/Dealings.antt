@@ -1,0 +1,23 @@
+-- The transactions of a session, as its client's transcript tells them.
+use Rattle.std.specs.Prelude.{◌≡◌, ℕ, List, Some}
+use Rattle.erm_client.specs.declared.transcript.Transcript.{Transcript}
+use Rattle.erm_good_report.specs.Transactions.{Commits, Progress, Transaction, progress_of, said_of, steps_of}
+use Rattle.erm_model.specs.Member.{◌∈◌}
+use Rattle.erm_model.specs.Run.{Step}
+
+-- the session's transactions: those that are over, and the one that is not
+abbrev pub dealings_of : Transcript → Progress
+dealings_of c = progress_of c.seat (said_of c.lines.items c.answers.items)
+
+-- the transaction in progress, with the operations that were answered
+pub record IsAt (c : Transcript) (steps : List Step) : Type 0 where
+  pub current : Transaction
+  pub is : (dealings_of c).current ≡ Some current
+  pub steps_are : steps_of current ≡ steps
+
+-- each transaction that is over and committed is of a kind, by its operations that were answered
+abbrev pub AllOver : (List Step → Type 0) → Progress → Type 0
+AllOver Kind p = (t : Transaction) (stamp succ pred : ℕ) → t ∈ p.over → t.ending ≡ Commits stamp succ pred → Kind (steps_of t)
+
+abbrev pub AllCommitted : (List Step → Type 0) → Transcript → Type 0
+AllCommitted Kind c = AllOver Kind (dealings_of c)

@@ -1,0 +1,5 @@
+pub mod Clients
+pub mod Dealings
+pub mod Laws
+pub mod Refusals
+pub mod Transcripts

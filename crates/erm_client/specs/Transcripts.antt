@@ -1,0 +1,110 @@
+-- What a client's transcript has: the lines that were asked of its session, in order, and their answers.
+use Rattle.std.specs.Prelude.{◌≡◌, ℕ, ◌+◌, ◌<◌, List, [], ◌∷◌, ◌++◌, length, Option, Some, None, vec_capacity, vec_len}
+use Rattle.std.specs.List.{slice_get}
+use Rattle.erm_client.specs.declared.refusal.Refusal.{Refusal}
+use Rattle.erm_client.specs.declared.refusal.Refusal.TheVariants as refusal
+use Rattle.erm_client.specs.declared.transcript.Standing.{Standing}
+use Rattle.erm_client.specs.declared.transcript.Standing.TheVariants as standing
+use Rattle.erm_client.specs.declared.transcript.Transcript.{Transcript}
+use Rattle.erm_client.specs.Refusals.{IsOfClient, MayTell, refusal_told}
+use Rattle.erm_model.specs.Member.{◌∈◌}
+use Rattle.erm_model.specs.declared.operation.Reply.{Reply}
+use Rattle.erm_report.specs.declared.answer.Answer.{Answer}
+use Rattle.erm_report.specs.declared.answer.Answer.TheVariants as answer
+use Rattle.erm_script.specs.declared.script.Command.{Command}
+use Rattle.erm_script.specs.declared.script.ScriptLine.{ScriptLine}
+use Rattle.erm_script.specs.Script.{IsInRange}
+use Rattle.erm_worker.specs.Work.{MayBeAsked}
+
+-- a line that a client of this seat may ask
+pub record IsLine (seat : ℕ) (l : ScriptLine) : Type 0 where
+  pub own : l.session ≡ seat
+  pub may : MayBeAsked l.command
+  pub of_client : IsOfClient l.command
+  pub range : IsInRange l.command
+
+-- how many answers there are to so many lines: one for each, unless the client was told to stop at the last one
+abbrev pub HasAnswers : Standing → ℕ → ℕ → Type 0
+HasAnswers standing.Open lines answers = answers ≡ lines
+HasAnswers standing.Stopped lines answers = answers + 1 ≡ lines
+HasAnswers standing.Starved lines answers = answers ≡ lines
+
+-- A transcript as clients write it.
+pub record IsTranscript (c : Transcript) : Type 0 where
+  pub own : (l : ScriptLine) → l ∈ c.lines.items → IsLine c.seat l
+  pub each : HasAnswers c.standing (length c.lines.items) (length c.answers.items)
+  pub told : (k : ℕ) (l : ScriptLine) (a : Answer) → slice_get c.lines.items k ≡ Some l → slice_get c.answers.items k ≡ Some a → MayTell l.command a
+
+-- nothing was asked yet
+pub record IsNew (seat : ℕ) (c : Transcript) : Type 0 where
+  pub seat_is : c.seat ≡ seat
+  pub lines : c.lines.items ≡ []
+  pub answers : c.answers.items ≡ []
+  pub opened : c.standing ≡ standing.Open
+
+-- there is room for one line more and its answer
+pub record HasRoom (c : Transcript) : Type 0 where
+  pub lines : vec_len c.lines < vec_capacity c.lines
+  pub answers : vec_len c.answers < vec_capacity c.answers
+
+-- no line was asked
+pub record IsSame (c d : Transcript) : Type 0 where
+  pub seat : d.seat ≡ c.seat
+  pub lines : d.lines.items ≡ c.lines.items
+  pub answers : d.answers.items ≡ c.answers.items
+  pub standing_so : d.standing ≡ c.standing
+
+-- the transcript has this line more, with its answer
+pub record HasMore (c : Transcript) (l : ScriptLine) (a : Answer) (d : Transcript) : Type 0 where
+  pub seat : d.seat ≡ c.seat
+  pub lines : d.lines.items ≡ c.lines.items ++ l ∷ []
+  pub answers : d.answers.items ≡ c.answers.items ++ a ∷ []
+  pub standing_so : d.standing ≡ c.standing
+
+-- it ends with this line, which has no answer
+pub record EndsWith (c : Transcript) (l : ScriptLine) (d : Transcript) : Type 0 where
+  pub seat : d.seat ≡ c.seat
+  pub lines : d.lines.items ≡ c.lines.items ++ l ∷ []
+  pub answers : d.answers.items ≡ c.answers.items
+  pub standing_so : d.standing ≡ standing.Stopped
+
+-- memory ran out while a line was run, of which it has nothing
+pub record Starves (c d : Transcript) : Type 0 where
+  pub seat : d.seat ≡ c.seat
+  pub lines : d.lines.items ≡ c.lines.items
+  pub answers : d.answers.items ≡ c.answers.items
+  pub standing_so : d.standing ≡ standing.Starved
+
+-- The command was asked, and answered so: the transcript has just this line more, and its answer.
+pub record IsAnswered (c : Transcript) (asked : Command) (a : Answer) (d : Transcript) : Type 0 where
+  pub opened : c.standing ≡ standing.Open
+  pub number : ℕ
+  pub more : HasMore c (record { line = number; session = c.seat; command = asked }) a d
+  pub tells : MayTell asked a
+
+-- it was answered
+pub record IsAsked (c : Transcript) (asked : Command) (d : Transcript) : Type 0 where
+  pub answer : Answer
+  pub answered : IsAnswered c asked answer d
+
+-- the refusal of a client that is asked no more
+abbrev pub over_told : Standing → Option Refusal
+over_told standing.Open = None
+over_told standing.Stopped = Some refusal.Stopped
+over_told standing.Starved = Some refusal.Memory
+
+-- Why a command was refused, and what the transcript has of it.
+pub data IsRefused (c : Transcript) (asked : Command) (why : Refusal) (d : Transcript) : Type 0 where
+  -- it was answered by the refusal
+  answered : (a : Answer) → IsAnswered c asked a d → refusal_told a ≡ Some why → IsRefused c asked why d
+  -- it was answered by a reply, and there was no memory for what its caller is to be given
+  untold : (r : Reply) → IsAnswered c asked (answer.Replied r) d → why ≡ refusal.Memory → IsRefused c asked why d
+  -- the client was told to stop before it was answered: it is asked no more
+  stopped : (number : ℕ) → c.standing ≡ standing.Open → why ≡ refusal.Stopped → EndsWith c (record { line = number; session = c.seat; command = asked }) d
+      → IsRefused c asked why d
+  -- memory ran out while it was run: the client is asked no more
+  starved : c.standing ≡ standing.Open → why ≡ refusal.Memory → Starves c d → IsRefused c asked why d
+  -- there was no memory for the line itself, and so it wasn't asked
+  unasked : c.standing ≡ standing.Open → why ≡ refusal.Memory → IsSame c d → IsRefused c asked why d
+  -- the client is asked no more
+  over : over_told c.standing ≡ Some why → IsSame c d → IsRefused c asked why d

@@ -1,0 +1,16 @@
+//! Laws of what clients do: each holds as it stands, and its function does nothing.
+ghost use Rattle.erm_client.specs.Laws.{ClosedClientIsAPart, OpenClientIsAPart, StoppedClientIsACutPart, TranscriptsAreARun};
+
+/// What a client did is its session's part of an execution of all sessions at once, whole or cut off, where the session then stands as in the
+/// world in which all end.
+pub fn client_is_a_part()
+    ensures opened { OpenClientIsAPart }
+    ensures closed { ClosedClientIsAPart }
+    ensures stopped { StoppedClientIsACutPart }
+{}
+
+/// The transcripts of all sessions, one behind another, are a script that was run at once, with its answers: so what is proved of scripts is
+/// proved of programs.
+pub fn transcripts_are_a_run()
+    ensures { TranscriptsAreARun }
+{}

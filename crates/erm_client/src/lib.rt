@@ -1,0 +1,62 @@
+//! Transactions for programs: a session of a world, asked by calls, which keeps the transcript of what was asked and answered.
+//!
+//! A program that has a session makes a `Client` of it, and calls it: `begin`, `get`, `put`, `del`, `next`, `scan`, `commit`, `abort` and `durable`.
+//! Each call is one line of a script, whose command is made here; the line and its answer go into the client's `Transcript`, for which the memory is taken
+//! before the line is run, so that nothing is run that isn't recorded. What the call gives is what the answer says, or a `Refusal`, which names the cause
+//! and has a sentence of its own. So what is proved of scripts is proved of programs: the transcripts of all clients, one behind another, are a script
+//! that was run at once (`transcripts_are_a_run`).
+//!
+//! A transfer between two keys, which is begun again where another session was in its way:
+//!
+//! ```text
+//! fn transfer<S: SharedSession, T: Turns, R: Wait>(
+//!     rt: &R,
+//!     client: &mut Client<'_, S, T>,
+//!     payer: u64,
+//!     payee: u64,
+//!     amount: u64,
+//! ) -> Result<bool, Refusal> {
+//!     client.begin(rt)?;
+//!     let own = balance_in(client.get(rt, 0, payer)?);
+//!     let there = balance_in(client.get(rt, 0, payee)?);
+//!     let (Some(left), Some(more)) = (own.checked_sub(amount), there.checked_add(amount)) else {
+//!         client.abort(rt)?;
+//!         return Ok(false);
+//!     };
+//!     client.put(rt, 0, payer, value_of(left))?;
+//!     client.put(rt, 0, payee, value_of(more))?;
+//!     client.commit(rt)?;
+//!     Ok(true)
+//! }
+//!
+//! let outcome = match transfer(rt, client, payer, payee, amount) {
+//!     Err(Refusal::Owned { .. } | Refusal::Newer { .. } | Refusal::Excluded { .. }) => {
+//!         transfer(rt, client, payer, payee, amount)
+//!     }
+//!     outcome => outcome,
+//! };
+//! ```
+//!
+//! After `Owned`, `Newer` and `Excluded` the transaction has ended and leaves nothing. After `ReadsFull`, `WritesFull`, `CellsFull`, `OidsFull` and
+//! `Memory` it may go on without what was asked: abort it, unless what was done so far is what you mean to commit. After `Stopped` the client is asked no
+//! more, and after a `Memory` for which memory ran out within a line neither: each further call is refused in the same way, and asks nothing.
+//! `close` gives the session back, with the transcript.
+//!
+//! The contract of each call says so in these terms. The client goes on (`GoesOn`): it is a client still (`IsClient`), its session did what its transcript
+//! tells, from whatever view it began with (`RunsOn`), and where it was told to stop it was so by what it waits by. With `Ok` the transcript has just this
+//! line more, and its answer, which is what the call gave (`IsAnswered`); with an error it says why, and what the transcript has of it (`IsRefused`).
+//! That a call succeeds, or how long it waits, no contract says.
+#![tactic(auto)]
+
+mod client;
+mod laws;
+mod line;
+mod refusal;
+mod replies;
+mod transcript;
+
+pub use client::{Client, Finished};
+pub use laws::{client_is_a_part, transcripts_are_a_run};
+pub use refusal::Refusal;
+pub use replies::Commit;
+pub use transcript::{Standing, Transcript};

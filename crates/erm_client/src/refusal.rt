@@ -1,0 +1,94 @@
+//! Why a call is refused.
+ghost use Rattle.std.specs.Prelude.{◌≡◌, Some};
+ghost use Rattle.erm_client.specs.Refusals.{IsRefusal, refusal_told};
+
+use erm_model::{Seat, Stamp};
+use erm_report::Answer;
+use thiserror::Error;
+
+/// Why a call of a client is refused.
+#[derive(Clone, Copy, Debug, PartialEq, Eq, Error)]
+pub enum Refusal {
+    /// A transaction is begun, and the last one isn't over. It goes on as before.
+    #[error("the session has a transaction already")]
+    NotIdle,
+    /// There is no transaction.
+    #[error("the session has no transaction")]
+    NoTransaction,
+    /// The transaction is sealed, and isn't decided.
+    #[error("the session's transaction is sealed")]
+    IsSealed,
+    /// No transaction begins any more, since the log has come as far as this, in words.
+    #[error("the log has come to its end, at {tail}")]
+    LogEnd { tail: Stamp },
+    /// The session has no number left for a transaction.
+    #[error("the session has no number left for a transaction")]
+    NumbersEnd,
+    /// The transaction of this seat and number has written the key, or a node on the way to it. The own one has ended, and leaves nothing: it may be
+    /// begun again.
+    #[error("transaction {number} of session {seat} has written there")]
+    Owned { seat: Seat, number: u32 },
+    /// The commit of this stamp, not below the own begin, has written the key, or a node on the way to it. The own transaction has ended, and
+    /// leaves nothing: it may be begun again.
+    #[error("the commit of stamp {stamp} has written there since the begin")]
+    Newer { stamp: Stamp },
+    /// Its exclusion window is closed, `succ <= pred`, so that it might have no place in the serial order. It has ended, and leaves nothing: it
+    /// may be begun again.
+    #[error("the transaction's exclusion window is closed, from {succ} to {pred}")]
+    Excluded { succ: Stamp, pred: Stamp },
+    /// The transaction has read as many objects as it may. It goes on as before.
+    #[error("the transaction has read as many objects as it may")]
+    ReadsFull,
+    /// The transaction has written as many objects as it may. It goes on as before, without this.
+    #[error("the transaction has written as many objects as it may")]
+    WritesFull,
+    /// No cell is left for a new version, so many being drawn. The transaction goes on as before, without this.
+    #[error("no cell is left for a new version, of {drawn} drawn")]
+    CellsFull { drawn: u64 },
+    /// All objects were given out, so many. The transaction goes on as before, without this.
+    #[error("all objects were given out, {drawn}")]
+    OidsFull { drawn: u64 },
+    /// The session has committed nothing that could be on the disk.
+    #[error("the session has committed nothing")]
+    NoReceipt,
+    /// The client was told to stop. It is asked no more; its transaction was given up, unless it is sealed.
+    #[error("the client was told to stop")]
+    Stopped,
+    /// Memory ran out: for the line, which then wasn't asked; while it was run, and then the client is asked no more; or for what was found,
+    /// and then the transcript has it.
+    #[error("memory ran out")]
+    Memory,
+}
+
+/// The refusal that an answer tells.
+pub fn refusal_in(answer: &Answer) -> Refusal
+    requires { IsRefusal answer.now }
+    ensures { refusal_told answer.now ≡ Some result }
+{
+    match answer {
+        Answer::NotIdle => Refusal::NotIdle,
+        Answer::NoTransaction => Refusal::NoTransaction,
+        Answer::IsSealed => Refusal::IsSealed,
+        Answer::LogEnd { tail } => Refusal::LogEnd { tail: *tail },
+        Answer::NumbersEnd => Refusal::NumbersEnd,
+        Answer::Owned { seat, number } => Refusal::Owned {
+            seat: *seat,
+            number: *number,
+        },
+        Answer::Newer { stamp } => Refusal::Newer { stamp: *stamp },
+        Answer::ExcludedEarly { succ, pred } => Refusal::Excluded {
+            succ: *succ,
+            pred: *pred,
+        },
+        Answer::Excluded { succ, pred, .. } => Refusal::Excluded {
+            succ: *succ,
+            pred: *pred,
+        },
+        Answer::ReadsFull => Refusal::ReadsFull,
+        Answer::WritesFull => Refusal::WritesFull,
+        Answer::CellsFull { drawn } => Refusal::CellsFull { drawn: *drawn },
+        Answer::OidsFull { drawn } => Refusal::OidsFull { drawn: *drawn },
+        Answer::NoReceipt => Refusal::NoReceipt,
+        _ => unreachable!(),
+    }
+}

@@ -1,0 +1,24 @@
+//! Laws of the transcripts of clients. Each holds for every value, and its function does nothing.
+ghost use Rattle.erm_client_invariant.specs.Laws.{ClientsKeep, InvariantLastsForClients};
+
+use erm_invariant::{Invariant, invariants_last_in_order};
+use erm_report_invariant::commits_keep_invariants;
+use erm_told_at_once::{runs_at_once_are_serial, runs_at_once_close_sessions};
+
+/// Where the transcripts of all clients are a script that was run at once, and each transaction that one of them tells to have committed keeps an
+/// invariant when it is run alone, each commit of the script keeps it: no session's closing has committed another.
+pub fn clients_keep_invariants<I: Invariant>()
+    ensures { (invariant : I) → ClientsKeep (I.holds invariant) }
+{
+    runs_at_once_close_sessions();
+    commits_keep_invariants::<I>();
+}
+
+/// So from a map that has the invariant it lasts: the map after each commit of the serial order has it, and each is answered on a map that has it.
+pub fn invariants_last_for_clients<I: Invariant>()
+    ensures { (invariant : I) → InvariantLastsForClients (I.holds invariant) }
+{
+    clients_keep_invariants::<I>();
+    runs_at_once_are_serial();
+    invariants_last_in_order::<I>();
+}

@@ -1,0 +1,101 @@
+//! A client's calls, with what they say of the transaction in progress and of those that are over.
+ghost use Rattle.std.specs.Prelude.{◌≡◌, ◌++◌, ◌∷◌, [], List, IfOk, OnOk};
+ghost use Rattle.erm_accounts.specs.Accounts.{reads, writes};
+ghost use Rattle.erm_client.specs.Clients.{GoesOn, IsClient};
+ghost use Rattle.erm_client.specs.Dealings.{AllCommitted, IsAt};
+ghost use Rattle.erm_model.specs.RowTransaction.{SameLaw};
+ghost use Rattle.erm_model.specs.Run.{Step};
+ghost use Rattle.erm_node.specs.Sound.{sound_law};
+ghost use Rattle.erm_tellers.specs.Tellers.{CommittedAt, IsOfTellers, account_of};
+
+use crate::Side;
+use erm_beside::SharedSession;
+use erm_client::{Client, Commit, Refusal};
+use erm_model::{Stamp, Value};
+use erm_worker::Turns;
+use std::sync::Wait;
+
+/// Begins a transaction.
+pub fn begin<'a, S: SharedSession, T: Turns, R: Wait>(
+    rt: &R,
+    client: &mut Client<'a, S, T>,
+) -> Result<Stamp, Refusal>
+    requires law { SameLaw S.law sound_law }
+    requires client { IsClient S.stands S.seat S.own client.old }
+    ensures on { GoesOn S.stands S.seat S.own S.ends T.told client.old client.new }
+    ensures kept { AllCommitted IsOfTellers client.old.transcript → AllCommitted IsOfTellers client.new.transcript }
+    ensures at { OnOk result (IsAt client.new.transcript []) }
+{
+    client.begin(rt)
+}
+
+/// Reads an account.
+pub fn read<'a, S: SharedSession, T: Turns, R: Wait>(
+    rt: &R,
+    client: &mut Client<'a, S, T>,
+    side: Side,
+    customer: u64,
+) -> Result<Option<Value>, Refusal>
+    requires law { SameLaw S.law sound_law }
+    requires client { IsClient S.stands S.seat S.own client.old }
+    ensures on { GoesOn S.stands S.seat S.own S.ends T.told client.old client.new }
+    ensures kept { AllCommitted IsOfTellers client.old.transcript → AllCommitted IsOfTellers client.new.transcript }
+    ensures at { IfOk result (λ value. (steps : List Step) → IsAt client.old.transcript steps → IsAt client.new.transcript (steps ++ reads (account_of side) customer value ∷ [])) }
+{
+    client.get(rt, side.table(), customer)
+}
+
+/// Writes an account.
+pub fn write<'a, S: SharedSession, T: Turns, R: Wait>(
+    rt: &R,
+    client: &mut Client<'a, S, T>,
+    side: Side,
+    customer: u64,
+    value: Value,
+) -> Result<(), Refusal>
+    requires law { SameLaw S.law sound_law }
+    requires client { IsClient S.stands S.seat S.own client.old }
+    ensures on { GoesOn S.stands S.seat S.own S.ends T.told client.old client.new }
+    ensures kept { AllCommitted IsOfTellers client.old.transcript → AllCommitted IsOfTellers client.new.transcript }
+    ensures at { OnOk result ((steps : List Step) → IsAt client.old.transcript steps → IsAt client.new.transcript (steps ++ writes (account_of side) customer value ∷ [])) }
+{
+    client.put(rt, side.table(), customer, value)
+}
+
+/// Commits the transaction, which is one of the tellers'.
+pub fn commit<'a, S: SharedSession, T: Turns, R: Wait>(
+    rt: &R,
+    client: &mut Client<'a, S, T>,
+) -> Result<Commit, Refusal>
+    requires law { SameLaw S.law sound_law }
+    requires client { IsClient S.stands S.seat S.own client.old }
+    requires kind { (steps : List Step) × IsAt client.old.transcript steps × IsOfTellers steps }
+    ensures on { GoesOn S.stands S.seat S.own S.ends T.told client.old client.new }
+    ensures kept { AllCommitted IsOfTellers client.old.transcript → AllCommitted IsOfTellers client.new.transcript }
+    ensures last { OnOk result ((steps : List Step) → IsAt client.old.transcript steps → CommittedAt steps client.new.transcript) }
+{
+    client.commit(rt)
+}
+
+// Aborts the transaction.
+fn end<'a, S: SharedSession, T: Turns, R: Wait>(
+    rt: &R,
+    client: &mut Client<'a, S, T>,
+) -> Result<(), Refusal>
+    requires law { SameLaw S.law sound_law }
+    requires client { IsClient S.stands S.seat S.own client.old }
+    ensures on { GoesOn S.stands S.seat S.own S.ends T.told client.old client.new }
+    ensures kept { AllCommitted IsOfTellers client.old.transcript → AllCommitted IsOfTellers client.new.transcript }
+{
+    client.abort(rt)
+}
+
+/// Gives the transaction up, where one is in progress.
+pub fn give_up<'a, S: SharedSession, T: Turns, R: Wait>(rt: &R, client: &mut Client<'a, S, T>)
+    requires law { SameLaw S.law sound_law }
+    requires client { IsClient S.stands S.seat S.own client.old }
+    ensures on { GoesOn S.stands S.seat S.own S.ends T.told client.old client.new }
+    ensures kept { AllCommitted IsOfTellers client.old.transcript → AllCommitted IsOfTellers client.new.transcript }
+{
+    let _ = end(rt, client);
+}

@@ -1,0 +1,233 @@
+//! What a teller is asked for.
+ghost use Rattle.std.specs.Prelude.{◌≡◌, ◌≢◌, ◌+◌, ◌≤◌, ◌^◌, IfSome, Some};
+ghost use Rattle.erm_accounts.specs.Accounts.{raised};
+ghost use Rattle.erm_client.specs.Clients.{GoesOn, IsClient};
+ghost use Rattle.erm_client.specs.Dealings.{AllCommitted};
+ghost use Rattle.erm_model.specs.RowTransaction.{SameLaw};
+ghost use Rattle.erm_node.specs.Sound.{sound_law};
+ghost use Rattle.erm_tellers.specs.Tellers.{Deposits, IsOfTellers, Serves, Transfers, WasDone, Withdraws};
+
+use crate::Side;
+use crate::dealing::{begin, commit, give_up, read, write};
+use crate::side::{added, taken};
+use erm_beside::SharedSession;
+use erm_client::{Client, Refusal};
+use erm_model::Value;
+use erm_worker::Turns;
+use std::sync::Wait;
+
+/// An account: whose, and which of the two.
+#[derive(Clone, Copy, Debug, PartialEq, Eq)]
+pub struct Holder {
+    /// The customer's number.
+    pub customer: u64,
+    pub side: Side,
+}
+
+/// What a teller is asked for.
+#[derive(Clone, Copy, Debug, PartialEq, Eq)]
+pub enum Task {
+    /// Takes an amount from an account, where the customer's two cover it.
+    Withdraw {
+        holder: Holder,
+        amount: u64,
+    },
+    /// Adds an amount to an account.
+    Deposit {
+        holder: Holder,
+        amount: u64,
+    },
+    /// Takes an amount from an account, where the customer's two cover it, and adds it to another customer's.
+    Transfer {
+        payer: Holder,
+        payee: Holder,
+        amount: u64,
+    },
+}
+
+/// What became of what a teller was asked for.
+#[derive(Clone, Copy, Debug, PartialEq, Eq)]
+pub enum Outcome {
+    /// It was done, and committed.
+    Done,
+    /// What is kept of the accounts doesn't allow it. Nothing was done.
+    Short,
+}
+
+/// Whether it may go otherwise when it is tried again: another session was in its way.
+pub fn is_passing(outcome: &Result<Outcome, Refusal>) -> bool {
+    matches!(
+        outcome,
+        Err(Refusal::Owned { .. } | Refusal::Newer { .. } | Refusal::Excluded { .. })
+    )
+}
+
+// Lowers an account where both of the customer cover the amount.
+fn take<'a, S: SharedSession, T: Turns, R: Wait>(
+    rt: &R,
+    client: &mut Client<'a, S, T>,
+    holder: Holder,
+    amount: u64,
+) -> Result<Outcome, Refusal>
+    requires law { SameLaw S.law sound_law }
+    requires client { IsClient S.stands S.seat S.own client.old }
+    requires kept { AllCommitted IsOfTellers client.old.transcript }
+    ensures on { GoesOn S.stands S.seat S.own S.ends T.told client.old client.new }
+    ensures kept { AllCommitted IsOfTellers client.new.transcript }
+    ensures done { result ≡ Ok Outcome.Done → WasDone (Withdraws holder amount) client.new.transcript }
+{
+    begin(rt, client)?;
+    let own = read(rt, client, holder.side, holder.customer)?;
+    let other = read(rt, client, holder.side.beside(), holder.customer)?;
+    let Some(left) = taken(&own, &other, amount) else {
+        return Ok(Outcome::Short);
+    };
+    write(rt, client, holder.side, holder.customer, left)?;
+    commit(rt, client)?;
+    Ok(Outcome::Done)
+}
+
+// Raises an account.
+fn add<'a, S: SharedSession, T: Turns, R: Wait>(
+    rt: &R,
+    client: &mut Client<'a, S, T>,
+    holder: Holder,
+    amount: u64,
+) -> Result<Outcome, Refusal>
+    requires law { SameLaw S.law sound_law }
+    requires client { IsClient S.stands S.seat S.own client.old }
+    requires kept { AllCommitted IsOfTellers client.old.transcript }
+    ensures on { GoesOn S.stands S.seat S.own S.ends T.told client.old client.new }
+    ensures kept { AllCommitted IsOfTellers client.new.transcript }
+    ensures done { result ≡ Ok Outcome.Done → WasDone (Deposits holder amount) client.new.transcript }
+{
+    begin(rt, client)?;
+    let own = read(rt, client, holder.side, holder.customer)?;
+    let Some(more) = added(&own, amount) else {
+        return Ok(Outcome::Short);
+    };
+    write(rt, client, holder.side, holder.customer, more)?;
+    commit(rt, client)?;
+    Ok(Outcome::Done)
+}
+
+// What is kept of both accounts after an amount is moved from the one to the other, or `None` where both are the same customer's, or what is kept doesn't
+// allow it.
+fn moved(
+    payer: Holder,
+    payee: Holder,
+    amount: u64,
+    own: &Option<Value>,
+    other: &Option<Value>,
+    there: &Option<Value>,
+) -> Option<(Value, Value)>
+    ensures apart { IfSome result (λ both. payer.customer ≢ payee.customer) }
+    ensures left { IfSome result (λ both. raised (Some both.0) + amount ≡ raised own.now) }
+    ensures covered { IfSome result (λ both. 2 ^ 64 + amount ≤ raised own.now + raised other.now) }
+    ensures more { IfSome result (λ both. raised (Some both.1) ≡ raised there.now + amount) }
+{
+    if payer.customer == payee.customer {
+        return None;
+    }
+    let left = taken(own, other, amount)?;
+    let more = added(there, amount)?;
+    Some((left, more))
+}
+
+// Lowers an account of the one customer, where both of his cover the amount, and raises one of another.
+fn transfer<'a, S: SharedSession, T: Turns, R: Wait>(
+    rt: &R,
+    client: &mut Client<'a, S, T>,
+    payer: Holder,
+    payee: Holder,
+    amount: u64,
+) -> Result<Outcome, Refusal>
+    requires law { SameLaw S.law sound_law }
+    requires client { IsClient S.stands S.seat S.own client.old }
+    requires kept { AllCommitted IsOfTellers client.old.transcript }
+    ensures on { GoesOn S.stands S.seat S.own S.ends T.told client.old client.new }
+    ensures kept { AllCommitted IsOfTellers client.new.transcript }
+    ensures done { result ≡ Ok Outcome.Done → WasDone (Transfers payer payee amount) client.new.transcript }
+{
+    begin(rt, client)?;
+    let own = read(rt, client, payer.side, payer.customer)?;
+    let other = read(rt, client, payer.side.beside(), payer.customer)?;
+    let there = read(rt, client, payee.side, payee.customer)?;
+    let Some(both) = moved(payer, payee, amount, &own, &other, &there) else {
+        return Ok(Outcome::Short);
+    };
+    let (left, more) = both;
+    write(rt, client, payer.side, payer.customer, left)?;
+    write(rt, client, payee.side, payee.customer, more)?;
+    commit(rt, client)?;
+    Ok(Outcome::Done)
+}
+
+// Does what is asked for, once.
+fn attempt<'a, S: SharedSession, T: Turns, R: Wait>(
+    rt: &R,
+    client: &mut Client<'a, S, T>,
+    task: Task,
+) -> Result<Outcome, Refusal>
+    requires law { SameLaw S.law sound_law }
+    requires client { IsClient S.stands S.seat S.own client.old }
+    requires kept { AllCommitted IsOfTellers client.old.transcript }
+    ensures on { GoesOn S.stands S.seat S.own S.ends T.told client.old client.new }
+    ensures kept { AllCommitted IsOfTellers client.new.transcript }
+    ensures done { result ≡ Ok Outcome.Done → WasDone (Serves task) client.new.transcript }
+{
+    match task {
+        Task::Withdraw { holder, amount } => take(rt, client, holder, amount),
+        Task::Deposit { holder, amount } => add(rt, client, holder, amount),
+        Task::Transfer {
+            payer,
+            payee,
+            amount,
+        } => transfer(rt, client, payer, payee, amount),
+    }
+}
+
+// The same, which leaves no transaction in progress.
+fn try_once<'a, S: SharedSession, T: Turns, R: Wait>(
+    rt: &R,
+    client: &mut Client<'a, S, T>,
+    task: Task,
+) -> Result<Outcome, Refusal>
+    requires law { SameLaw S.law sound_law }
+    requires client { IsClient S.stands S.seat S.own client.old }
+    requires kept { AllCommitted IsOfTellers client.old.transcript }
+    ensures on { GoesOn S.stands S.seat S.own S.ends T.told client.old client.new }
+    ensures kept { AllCommitted IsOfTellers client.new.transcript }
+    ensures done { result ≡ Ok Outcome.Done → WasDone (Serves task) client.new.transcript }
+{
+    let outcome = attempt(rt, client, task);
+    if let Ok(Outcome::Done) = outcome {
+        return outcome;
+    }
+    give_up(rt, client);
+    outcome
+}
+
+/// Does what is asked for. It is tried again while another session is in its way, so often in all, and once at least.
+pub fn serve<'a, S: SharedSession, T: Turns, R: Wait>(
+    rt: &R,
+    client: &mut Client<'a, S, T>,
+    task: Task,
+    tries: u32,
+) -> Result<Outcome, Refusal>
+    requires law { SameLaw S.law sound_law }
+    requires client { IsClient S.stands S.seat S.own client.old }
+    requires kept { AllCommitted IsOfTellers client.old.transcript }
+    ensures on { GoesOn S.stands S.seat S.own S.ends T.told client.old client.new }
+    ensures kept { AllCommitted IsOfTellers client.new.transcript }
+    ensures done { result ≡ Ok Outcome.Done → WasDone (Serves task) client.new.transcript }
+{
+    let mut outcome = try_once(rt, client, task);
+    'tries: for _ in 1..tries {
+        if !is_passing(&outcome) {
+            return outcome;
+        }
+        outcome = try_once(rt, client, task);
+    }
+    outcome
+}
