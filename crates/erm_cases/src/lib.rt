@@ -17,6 +17,8 @@ mod make;
 #[cfg(test)]
 mod outside;
 #[cfg(test)]
+mod phantom;
+#[cfg(test)]
 mod report;
 #[cfg(test)]
 mod script;

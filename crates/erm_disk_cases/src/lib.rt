@@ -1,7 +1,12 @@
-//! Cases of files and folders, of slots, and of logs that are read back, opened and told: their words come from another program. They stand
+//! Cases of files and folders, of slots, and of logs that are read back, opened and told, whose words come from another program; and of
+//! checkpoints and runs on a disk in memory. They stand
 //! apart, so that no crate is proved a second time with its tests.
 #![tactic(auto)]
 
+#[cfg(test)]
+mod checkpoint;
+#[cfg(test)]
+mod checkpoints;
 #[cfg(test)]
 mod ckpt;
 #[cfg(test)]
@@ -10,3 +15,5 @@ mod inspect;
 mod outside_real;
 #[cfg(test)]
 mod recover;
+#[cfg(test)]
+mod runs;

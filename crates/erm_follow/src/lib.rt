@@ -4,8 +4,6 @@
 mod follow;
 mod laws;
 mod seen;
-#[cfg(test)]
-mod tests;
 mod turn;
 
 pub use follow::Follow;

@@ -2,9 +2,6 @@
 //! database map. Each law is the contract of a function that does nothing.
 #![tactic(auto)]
 
-#[cfg(test)]
-mod tests;
-
 ghost use Rattle.std.specs.Prelude.{ℕ, List, [], ◌++◌};
 ghost use Rattle.erm_model.specs.History.{History, below, rank_of, rows_after};
 ghost use Rattle.erm_model.specs.RowTransaction.{SameLaw};

@@ -7,8 +7,6 @@ mod laws;
 mod rows;
 mod size;
 mod stream;
-#[cfg(test)]
-mod tests;
 
 pub use front::{FoundItem, Lack, find};
 pub use item::{Item, LogPlace, StreamStop};

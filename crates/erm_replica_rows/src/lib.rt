@@ -8,8 +8,6 @@ mod reader;
 mod replica;
 mod replica_rows;
 mod snapshot;
-#[cfg(test)]
-mod tests;
 
 pub use feed_stop::FeedStop;
 pub use laws::{

@@ -8,7 +8,5 @@ mod lead;
 mod put;
 mod shipping;
 mod stop;
-#[cfg(test)]
-mod tests;
 
 pub use shipping::ship;

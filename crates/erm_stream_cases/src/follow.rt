@@ -1,7 +1,7 @@
 //! A log of one commit, followed; and one whose safe stamp is broken.
 ghost use Rattle.std.specs.Prelude.{◌≡◌};
 
-use crate::{Follow, FollowStop, Seen};
+use erm_follow::{Follow, FollowStop, Seen};
 use erm_model::Commit;
 use std::test::*;
 

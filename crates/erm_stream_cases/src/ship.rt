@@ -1,8 +1,8 @@
 //! Streams of disks whose words another program worked out, and what stops them.
-use crate::ship;
 use erm_outside::{Disk, Failed, File};
 use erm_outside_mem::{MemDisk, MemSink, Silent};
 use erm_segment::place;
+use erm_ship::ship;
 use std::alloc::{AllocError, Global};
 use std::test::Fail;
 

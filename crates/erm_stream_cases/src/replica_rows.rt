@@ -2,8 +2,8 @@
 ghost use Rattle.std.specs.Prelude.{IfSome, ◌<◌};
 ghost use Rattle.erm_replica_rows.specs.Seeing.{AreWhole};
 
-use crate::{FeedStop, Replica, ReplicaRows, replica_rows_may_be_read};
 use erm_bytes::digest_word;
+use erm_replica_rows::{FeedStop, Replica, ReplicaRows, replica_rows_may_be_read};
 use erm_tree::get;
 use std::alloc::{AllocError, Global};
 use std::test::*;

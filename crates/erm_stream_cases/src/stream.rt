@@ -1,6 +1,6 @@
 //! A short stream, cut at every byte, and with each byte another.
-use crate::{Item, Stream, StreamStop};
 use erm_ckpt::LOG_START;
+use erm_replica::{Item, Stream, StreamStop};
 use std::alloc::{AllocError, Global};
 use std::test::*;
 

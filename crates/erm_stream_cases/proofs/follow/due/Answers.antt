@@ -1,7 +1,7 @@
 use Rattle.std.proofs.Common.{ap, arith}
 use Rattle.erm_model.specs.declared.history.Commit.{Commit}
 use Rattle.erm_follow.proofs.Due.{may_begin}
-use Rattle.erm_follow.proofs.tests.due.Goals as goal
+use Rattle.erm_stream_cases.proofs.follow.due.Goals as goal
 
 pub take-waits-requires : goal.take-waits-requires
 take-waits-requires g c =
