@@ -1,10 +1,12 @@
 #!/usr/bin/env bash
 # Measures `erm threads` with 1, 2, 4 and 16 sessions, and prints a table in Markdown: transactions committed a second, and how many of all failed.
-#   bench/threads.sh [PROGRAM [COUNT]]     PROGRAM is the launcher at the top, and COUNT, of transactions, is 20,000, unless others are given
+#   bench/threads.sh [PROGRAM [COUNT]]     PROGRAM is the launcher at the top, and COUNT, of transactions, is 100,000, unless others are given
 # A transaction reads two keys and sets the first. The keys are of 64 that all sessions share (`shared`), or of 64 of each session's own (`disjoint`):
 # in `erm` of a table of its own. Where commits are made durable, each client waits for the disk behind each 100th of its transactions, else only at the
 # end. A transaction that fails isn't begun again. The keys are set before. The seconds of `erm` are those of the whole call, from the script to the
 # report and the last flush.
+# Where strace is installed, `erm, its sessions` has the seconds from the start of the first session's thread to the end of the last one, without the script
+# and the report, which one thread reads and makes; one session stands beside another one there that has one line, so that it has a thread too.
 # Beside it, where they are installed, the same reads and writes of the same keys are done by
 #   postgres    SERIALIZABLE, a server of its own that ends with the table: pgbench with as many clients, and a process for each. A commit waits for
 #               the disk only in each 100th transaction, drawn at random
@@ -13,7 +15,7 @@
 set -eu
 top=$(cd "$(dirname "$(readlink -f "${BASH_SOURCE[0]}")")/.." && pwd)
 program=$(readlink -f "${1:-$top/erm}")
-count=${2:-20000}
+count=${2:-100000}
 folder=$(mktemp -d)
 server=$folder/server
 
@@ -79,7 +81,7 @@ def accesses(session):
 
 
 def row(seconds, committed, failed):
-    print(f"| {kind} | {sessions} | {keys} | {'each 100th' if each else 'at the end'} | {committed / seconds:,.0f} | {failed:,} of {SHARE * sessions:,} |", flush=True)
+    print(f"| {'erm, its sessions' if kind == 'alone' else kind} | {sessions} | {keys} | {'each 100th' if each else 'at the end'} | {committed / seconds:,.0f} | {failed:,} of {SHARE * sessions:,} |", flush=True)
 
 
 def lines_of(session):
@@ -97,28 +99,51 @@ def erm_load():
             yield from ("a begin", *(f"a put {table} {key} -" for key in range(low, low + 32)), "a commit")
 
 
-def erm_call(word, lines):
-    """The seconds of a call, and what it tells."""
+TRACE = ["strace", "-f", "-qq", "--seccomp-bpf", "-ttt", "-e", "trace=clone,clone3,exit", "-o"]
+
+
+def erm_call(word, lines, before=()):
+    """The seconds of a call, behind these words, and what it tells."""
     with open(os.path.join(room, "script"), "w") as it:
         it.writelines(line + "\n" for line in lines)
     with open(os.path.join(room, "script"), "rb") as given, open(os.path.join(room, "report"), "wb") as put:
         start = time.monotonic()
-        status = subprocess.run([program, word], stdin=given, stdout=put, cwd=room).returncode
+        status = subprocess.run([*before, program, word], stdin=given, stdout=put, cwd=room).returncode
         seconds = time.monotonic() - start
     if status != 0:
         sys.exit(f"erm {word}: status {status}")
     return seconds, os.path.join(room, "report")
 
 
-def erm():
+def seconds_between(trace):
+    """The seconds from the start of the first thread to the end of the last."""
+    with open(trace) as it:
+        steps = [line.split(None, 2) for line in it]
+    starts = [float(time) for _, time, step in steps if step.startswith("clone")]
+    ends = [float(time) for _, time, step in steps if step.startswith("exit(")]
+    return max(ends) - min(starts)
+
+
+def erm_sessions(traced):
+    """Loads the keys and runs the sessions; the seconds are those of the sessions alone where they are traced, else those of the call."""
     erm_call("run", erm_load())
     parts = [list(lines_of(session)) for session in range(sessions)]
-    turns = (f"s{session} {line}" for lines in zip(*parts) for session, line in enumerate(lines))
-    seconds, report = erm_call("threads", turns)
+    turns = [f"s{session} {line}" for lines in zip(*parts) for session, line in enumerate(lines)]
+    trace = os.path.join(room, "trace")
+    beside = ["beside abort"] if traced and sessions == 1 else []
+    seconds, report = erm_call("threads", turns + beside, [*TRACE, trace] if traced else [])
     with open(report) as it:
         ends = [line.split(" ", 2)[1] for line in it if line[:1].isdigit()]
     committed = sum(end == "committed" for end in ends)
-    row(seconds, committed, SHARE * sessions - committed)
+    row(seconds_between(trace) if traced else seconds, committed, SHARE * sessions - committed)
+
+
+def erm():
+    erm_sessions(False)
+
+
+def alone():
+    erm_sessions(True)
 
 
 def connection():
@@ -206,13 +231,14 @@ def postgres():
     row(seconds, SHARE * sessions - failed, failed)
 
 
-{"erm": erm, "sqlite": sqlite, "postgres": postgres}[kind]()
+{"erm": erm, "alone": alone, "sqlite": sqlite, "postgres": postgres}[kind]()
 PYTHON
 }
 
 # The program is built before anything is measured: without words it does nothing else.
 "$program" </dev/null >/dev/null || [ $? = 2 ] || { echo "$program can't be run: nothing is measured" >&2; exit 1; }
 kinds="erm"
+if command -v strace >/dev/null; then kinds="$kinds alone"; else echo "the sessions alone are skipped: strace isn't installed"; fi
 if start_postgres; then kinds="$kinds postgres"; else echo "postgres is skipped: not installed, or it didn't start"; fi
 if python3 -c 'import sqlite3' 2>/dev/null; then kinds="$kinds sqlite"; else echo "sqlite is skipped: not installed"; fi
 echo "| System | Sessions | Keys | On the disk | Committed a second | Failed |"
