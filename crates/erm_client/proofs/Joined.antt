@@ -1,16 +1,13 @@
 -- Transcripts one behind another: each session's own lines and answers in the script of all.
-use Rattle.std.proofs.Common.{◌≡◌, ◌≢◌, ℕ, zero, suc, ◌+◌, ◌<◌, ◌≤◌, ◌==◌, ◌⊎◌, Bool, true, false, cond, List, [], ◌∷◌, ◌++◌, length, filter, map, Option, Some, inl, inr, append-nil, refl, sym, ap, ◌∙◌, subst, arith}
+use Rattle.std.proofs.Common.{◌≡◌, ℕ, zero, suc, ◌+◌, ◌<◌, ◌≤◌, ◌==◌, ◌⊎◌, Bool, cond, List, [], ◌∷◌, ◌++◌, length, filter, map, Some, inl, inr, append-nil, refl, sym, ap, ◌∙◌, subst, arith}
 use Rattle.std.proofs.lemmas.Bool.Decides.{eqb_tells}
 use Rattle.std.proofs.lemmas.List.{length-append}
 use Rattle.std.proofs.lemmas.List.Elements.{filter-append}
 use Rattle.std.specs.List.{slice_get}
 use Rattle.erm_client.specs.declared.transcript.Transcript.{Transcript}
 use Rattle.erm_client.specs.Laws.{AreFrom, TranscriptsAreARun, answers_of, lines_of}
-use Rattle.erm_client.specs.Transcripts.{IsLine, IsTranscript}
-use Rattle.erm_joined.specs.Merged.{AreMerged}
-use Rattle.erm_lines.specs.Executions.{IsOpened}
+use Rattle.erm_client.specs.Transcripts.{IsLine}
 use Rattle.erm_model.proofs.Members.{none_in_nil, ∈-behind}
-use Rattle.erm_model.specs.declared.limits.TheConstants.{LAST_NUMBER}
 use Rattle.erm_model.specs.Member.{◌∈◌}
 use Rattle.erm_report.specs.declared.answer.Answer.{Answer}
 use Rattle.erm_script.specs.declared.script.ScriptLine.{ScriptLine}
@@ -18,8 +15,6 @@ use Rattle.erm_threads.proofs.Jobs.{map_from}
 use Rattle.erm_threads.specs.Merged.{own_answers}
 use Rattle.erm_threads.specs.Parts.{own_lines}
 use Rattle.erm_works.proofs.Runs.{are_a_run}
-use Rattle.erm_works.specs.Works.{AreComplete, AreWorks, IsSplit}
-use Rattle.erm_world.specs.World.{View}
 
 -- MEMBERS of lists behind one another
 split_at : {X : Type 0} (xs ys : List X) (x : X) (k : ℕ) → slice_get (xs ++ ys) k ≡ Some x → (x ∈ xs) ⊎ (x ∈ ys)

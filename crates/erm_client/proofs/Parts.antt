@@ -1,9 +1,8 @@
 -- What a client did, as its session's part of an execution.
-use Rattle.std.proofs.Common.{◌≡◌, ℕ, ◌<◌, ◌+◌, length, subst, arith}
+use Rattle.std.proofs.Common.{◌≡◌, ◌+◌, length, subst, arith}
 use Rattle.erm_client.proofs.Grown.{open_each}
 use Rattle.erm_client.specs.Clients.{RanUpTo}
 use Rattle.erm_client.specs.declared.transcript.Standing.{Standing}
-use Rattle.erm_client.specs.declared.transcript.Standing.TheVariants as standing
 use Rattle.erm_client.specs.Laws.{ClosedClientIsAPart, OpenClientIsAPart, StoppedClientIsACutPart}
 use Rattle.erm_client.specs.Transcripts.{HasAnswers}
 use Rattle.erm_worker.proofs.Parts.{closed, left, whole}

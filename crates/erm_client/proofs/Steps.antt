@@ -1,7 +1,6 @@
 -- One step of a client: a line was answered, it was told to stop, memory ran out, or nothing was asked.
-use Rattle.std.proofs.Common.{◌≡◌, ℕ, length, Option, Some, None, Result, Ok, Err, IfErr, IfOk, OnOk, List, [], ◌∷◌, ◌++◌, ◌⊎◌, ⊎_elim, refl, sym, ap, ◌∙◌, subst}
+use Rattle.std.proofs.Common.{◌≡◌, ℕ, length, Option, Some, None, Result, Ok, Err, IfErr, IfOk, OnOk, List, [], ◌∷◌, ◌++◌, ◌⊎◌, ⊎_elim, sym, ap, ◌∙◌, subst}
 use Rattle.erm_beside.specs.Laws.{GoesOnward}
-use Rattle.erm_beside.specs.Onward.{onward_itself}
 use Rattle.erm_client.proofs.Grown.{ended_transcript, more_transcript, open_each, run_ends, run_more, run_same, run_starves, same_transcript}
 use Rattle.erm_client.proofs.Told.{line_tells}
 use Rattle.erm_client.specs.Clients.{GoesOn, HasRun, IsClient}

@@ -1,5 +1,5 @@
 -- What a client's line is answered: what it asked for, or a refusal. It is never answered that it waits.
-use Rattle.std.proofs.Common.{◌≡◌, ℕ, Option, Some, None, refl, sym, subst}
+use Rattle.std.proofs.Common.{◌≡◌, ℕ, Some, refl, sym, subst}
 use Rattle.erm_client.specs.Refusals.{IsOfClient, MayTell, TellsAbort, TellsBegin, TellsCommit, TellsDone, TellsDurable, TellsFound, TellsPair, TellsValue}
 use Rattle.erm_good_report.specs.Phases.{FitsPhase, IsAnswerTo, refusal_of}
 use Rattle.erm_lines_at_once.specs.Answers.{DidAskedBeside, DidCommandBeside, DidLineBeside}

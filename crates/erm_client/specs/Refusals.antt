@@ -1,5 +1,5 @@
 -- What a client's lines may be answered, and which answers are refusals.
-use Rattle.std.specs.Prelude.{◌≡◌, ℕ, List, Option, Some, None, IsSome}
+use Rattle.std.specs.Prelude.{◌≡◌, Option, Some, None, IsSome}
 use Rattle.erm_client.specs.declared.refusal.Refusal.{Refusal}
 use Rattle.erm_client.specs.declared.refusal.Refusal.TheVariants as refusal
 use Rattle.erm_model.specs.declared.operation.Reply.{Reply}

@@ -1,5 +1,5 @@
 -- A session's transactions in the script of all transcripts: those of its own transcript.
-use Rattle.std.proofs.Common.{◌≡◌, ◌≢◌, ℕ, ◌+◌, ◌<◌, ◌==◌, Bool, true, false, cond, List, [], ◌∷◌, ◌++◌, length, map, Option, Some, None, inl, inr, refl, sym, ap, ◌∙◌, subst, arith}
+use Rattle.std.proofs.Common.{◌≡◌, ℕ, ◌+◌, ◌<◌, ◌==◌, Bool, true, false, cond, List, [], ◌∷◌, ◌++◌, length, map, Option, Some, None, inl, inr, refl, sym, ap, ◌∙◌, subst, arith}
 use Rattle.std.proofs.lemmas.Bool.{cases_eq}
 use Rattle.std.proofs.lemmas.Bool.Decides.{eqb_tells}
 use Rattle.std.proofs.lemmas.List.Sums.{fold-append}
@@ -8,11 +8,10 @@ use Rattle.std.specs.Option.{option_map}
 use Rattle.erm_client.proofs.Dealt.{all_heard}
 use Rattle.erm_client.proofs.Grown.{open_each}
 use Rattle.erm_client.proofs.Joined.{among}
-use Rattle.erm_client.specs.Dealings.{AllCommitted, AllOver, dealings_of}
+use Rattle.erm_client.specs.Dealings.{AllCommitted, AllOver}
 use Rattle.erm_client.specs.declared.transcript.Standing.TheVariants as standing
 use Rattle.erm_client.specs.declared.transcript.Transcript.{Transcript}
 use Rattle.erm_client.specs.Laws.{AreFrom, answers_of, lines_of}
-use Rattle.erm_good_report.specs.GoodReport.{places_of}
 use Rattle.erm_good_report.specs.Phases.{Closed}
 use Rattle.erm_good_report.specs.Transactions.{Commits, Progress, Said, Transaction, begun, heard, nothing, progress_of, said_of, steps_of, with_line, with_seal}
 use Rattle.erm_good_report.specs.Transactions as dealt

@@ -1,5 +1,5 @@
 -- No client leaves its session sealed: so a session that is closed behind it doesn't commit.
-use Rattle.std.proofs.Common.{◌≡◌, ◌≢◌, ℕ, zero, suc, ◌+◌, ◌==◌, Bool, true, false, cond, List, [], ◌∷◌, ◌++◌, length, Option, Some, None, refl, sym, ap, ◌∙◌, subst, arith}
+use Rattle.std.proofs.Common.{◌≡◌, ℕ, zero, suc, ◌+◌, ◌==◌, Bool, true, false, cond, List, [], ◌∷◌, Some, refl, sym, ap, ◌∙◌, subst}
 use Rattle.std.proofs.lemmas.List.Sums.{fold-append}
 use Rattle.std.specs.List.{fold, slice_get}
 use Rattle.erm_client.proofs.Grown.{open_each}
@@ -8,7 +8,7 @@ use Rattle.erm_client.specs.declared.transcript.Transcript.{Transcript}
 use Rattle.erm_client.specs.Laws.{AreFrom, answers_of, lines_of}
 use Rattle.erm_client.specs.Refusals.{IsOfClient, MayTell}
 use Rattle.erm_client_invariant.proofs.Alone.{said_append}
-use Rattle.erm_good_report.specs.Phases.{Closes, phase_after, phase_of}
+use Rattle.erm_good_report.specs.Phases.{Closes, phase_after}
 use Rattle.erm_good_report.specs.Transactions.{Said, said_of}
 use Rattle.erm_model.proofs.Members.{∈-behind}
 use Rattle.erm_model.specs.declared.outcome.Phase.{Phase}

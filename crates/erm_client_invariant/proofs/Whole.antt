@@ -1,7 +1,7 @@
 -- What clients' commits keep, all commits of their script keep.
-use Rattle.std.proofs.Common.{◌≡◌, ℕ, zero, suc, ◌==◌, ◌⊎◌, cond, List, [], ◌∷◌, ◌++◌, map, Option, Some, None, inl, inr, refl, sym, ap, ◌∙◌, subst}
+use Rattle.std.proofs.Common.{◌≡◌, ℕ, zero, suc, ◌==◌, cond, List, [], ◌∷◌, ◌++◌, map, Option, Some, None, inl, inr, sym, subst}
 use Rattle.std.proofs.lemmas.List.Sums.{fold-append}
-use Rattle.std.specs.List.{flat_map, range_with_len, slice_get}
+use Rattle.std.specs.List.{flat_map, range_with_len}
 use Rattle.std.specs.Option.{option_to_list}
 use Rattle.erm_client.specs.declared.transcript.Transcript.{Transcript}
 use Rattle.erm_client.specs.Dealings.{AllOver}
@@ -18,7 +18,7 @@ use Rattle.erm_invariant.specs.Invariant.{Keeps}
 use Rattle.erm_lines_at_once.specs.Laws.{RunsAtOnceAreSerial, RunsAtOnceCloseSessions}
 use Rattle.erm_machine.proofs.Listed.{∈-either}
 use Rattle.erm_model.proofs.Members.{none_in_nil}
-use Rattle.erm_model.specs.Committed.{Committed, state_after}
+use Rattle.erm_model.specs.Committed.{state_after}
 use Rattle.erm_model.specs.Database.{Database}
 use Rattle.erm_model.specs.declared.outcome.Phase.TheVariants.{Idle, Sealed}
 use Rattle.erm_model.specs.Member.{◌∈◌}

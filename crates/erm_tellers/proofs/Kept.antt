@@ -1,5 +1,5 @@
 -- What a client's calls say of the transaction in progress, and of those that are over.
-use Rattle.std.proofs.Common.{◌≡◌, ℕ, List, [], ◌∷◌, ◌++◌, Option, Some, Result, Ok, Err, IfErr, IfOk, OnOk, refl, sym, ap, ◌∙◌, subst}
+use Rattle.std.proofs.Common.{◌≡◌, ℕ, List, [], ◌∷◌, ◌++◌, Option, Result, Ok, Err, IfErr, IfOk, OnOk, refl, sym, ap, ◌∙◌, subst}
 use Rattle.std.specs.Option.{option_map, option_to_list}
 use Rattle.erm_accounts.specs.Accounts.{Account, reads, table_of, writes}
 use Rattle.erm_client.proofs.Dealt.{all_answered, all_refused, at_begun, at_replied, dealt_answered}
@@ -16,7 +16,7 @@ use Rattle.erm_report.specs.declared.answer.Answer.{Answer}
 use Rattle.erm_report.specs.declared.answer.Answer.TheVariants as answer
 use Rattle.erm_script.specs.declared.script.Command.{Command}
 use Rattle.erm_script.specs.declared.script.Command.TheVariants as command
-use Rattle.erm_tellers.specs.Tellers.{CommittedAt}
+use Rattle.erm_tellers.specs.Tellers.{CommittedAt, finds}
 
 module _ (Kind : List Step → Type 0) (c d : Transcript) (ok : IsTranscript c) where
   -- an answer that is no commit, or a refusal
@@ -51,6 +51,14 @@ module _ (c d : Transcript) (ok : IsTranscript c) where
       subst (λ (n : ℕ). IsAt d (steps ++ record { op = op.Get n customer; reply = reply.Value value } ∷ [])) is
       (at_replied c d (command.Get table customer) (reply.Value value) steps refl ok at answered)
   read_at account customer table (Err why) is answered = tt
+
+  pub found_at : (account : Account) (low high table : ℕ) (result : Result (List (ℕ × List ℕ)) Refusal) → table ≡ table_of account
+      → IfOk result (λ found. IsAnswered c (command.Scan table low high) (answer.Replied (reply.Found found)) d)
+      → IfOk result (λ found. (steps : List Step) → IsAt c steps → IsAt d (steps ++ finds account low high found ∷ []))
+  found_at account low high table (Ok found) is answered = λ steps at.
+      subst (λ (n : ℕ). IsAt d (steps ++ record { op = op.Scan n low high; reply = reply.Found found } ∷ [])) is
+      (at_replied c d (command.Scan table low high) (reply.Found found) steps refl ok at answered)
+  found_at account low high table (Err why) is answered = tt
 
   pub written_at : (account : Account) (customer table : ℕ) (value : List ℕ) (result : Result (Unit {0}) Refusal) → table ≡ table_of account
       → OnOk result (IsAnswered c (command.Put table customer value) (answer.Replied reply.Done) d)

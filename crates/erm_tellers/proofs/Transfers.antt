@@ -1,5 +1,5 @@
 -- A transfer leaves customers solvent.
-use Rattle.std.proofs.Common.{◌≡◌, ◌≢◌, ℕ, ◌+◌, ◌≤◌, ◌^◌, List, Option, Some, None, sym, ap, ◌∙◌, subst, ⊎_elim, arith}
+use Rattle.std.proofs.Common.{◌≡◌, ◌≢◌, ℕ, ◌+◌, ◌≤◌, ◌^◌, List, Option, Some, None, sym, ap, subst, ⊎_elim, arith}
 use Rattle.std.specs.FinMap.{insert}
 use Rattle.erm_accounts.proofs.Solvent.{stay_solvent}
 use Rattle.erm_accounts.specs.Accounts.{Account, AreSolvent, Current, IsOfBank, Savings, beside, kept, raised, table_of}

@@ -1,5 +1,5 @@
 -- What tellers keep, whatever the interleaving of their sessions.
-use Rattle.std.specs.Prelude.{◌≡◌, ℕ, List}
+use Rattle.std.specs.Prelude.{◌≡◌, List}
 use Rattle.erm_accounts.specs.Accounts.{AreSolvent}
 use Rattle.erm_client.specs.Dealings.{AllCommitted}
 use Rattle.erm_client.specs.declared.transcript.Standing.TheVariants as standing

@@ -1,9 +1,11 @@
 -- What tellers do: the bank's transactions, as a program issues them.
 use Rattle.std.specs.Prelude.{◌≡◌, ◌≢◌, ℕ, ◌+◌, ◌≤◌, ◌^◌, ◌⊎◌, List, [], ◌∷◌, ◌++◌, Option, Some}
-use Rattle.erm_accounts.specs.Accounts.{Account, Current, IsDeposit, IsOfBank, IsWithdrawal, Savings, beside, raised, reads, writes}
+use Rattle.erm_accounts.specs.Accounts.{Account, Current, IsDeposit, IsOfBank, IsWithdrawal, Savings, beside, raised, reads, table_of, writes}
 use Rattle.erm_client.specs.Dealings.{dealings_of}
 use Rattle.erm_client.specs.declared.transcript.Transcript.{Transcript}
 use Rattle.erm_good_report.specs.Transactions.{Commits, Transaction, steps_of}
+use Rattle.erm_model.specs.declared.operation.Op.TheVariants.{Scan}
+use Rattle.erm_model.specs.declared.operation.Reply.TheVariants as reply
 use Rattle.erm_model.specs.Run.{Step}
 use Rattle.erm_tellers.specs.declared.side.Side.{Side}
 use Rattle.erm_tellers.specs.declared.side.Side.TheVariants as side
@@ -15,6 +17,10 @@ use Rattle.erm_tellers.specs.declared.tellers.Task.TheVariants as task
 abbrev pub account_of : Side → Account
 account_of side.Current = Current
 account_of side.Savings = Savings
+
+-- a scan of accounts, with what was found
+abbrev pub finds : Account → ℕ → ℕ → List (ℕ × List ℕ) → Step
+finds account low high found = record { op = Scan (table_of account) low high; reply = reply.Found found }
 
 -- A transfer reads both accounts of who pays and one of who is paid. It lowers the one account and raises the other by the amount, where the two of who
 -- pays cover it.
@@ -59,6 +65,10 @@ pub record Transfers (payer payee : Holder) (amount : ℕ) (steps : List Step) :
   pub payee_is : is.payee ≡ payee.customer
   pub to_is : is.to ≡ account_of payee.side
   pub amount_is : is.amount ≡ amount
+
+-- the audit that was asked for: both accounts of customers with these numbers, in one state
+abbrev pub Audits : ℕ → ℕ → List (ℕ × List ℕ) → List (ℕ × List ℕ) → List Step → Type 0
+Audits low high current savings steps = steps ≡ finds Current low high current ∷ finds Savings low high savings ∷ []
 
 abbrev pub Serves : Task → List Step → Type 0
 Serves (task.Withdraw holder amount) steps = Withdraws holder amount steps

@@ -6,12 +6,12 @@ ghost use Rattle.erm_client.specs.Dealings.{AllCommitted, IsAt};
 ghost use Rattle.erm_model.specs.RowTransaction.{SameLaw};
 ghost use Rattle.erm_model.specs.Run.{Step};
 ghost use Rattle.erm_node.specs.Sound.{sound_law};
-ghost use Rattle.erm_tellers.specs.Tellers.{CommittedAt, IsOfTellers, account_of};
+ghost use Rattle.erm_tellers.specs.Tellers.{CommittedAt, IsOfTellers, account_of, finds};
 
 use crate::Side;
 use erm_beside::SharedSession;
 use erm_client::{Client, Commit, Refusal};
-use erm_model::{Stamp, Value};
+use erm_model::{Pairs, Stamp, Value};
 use erm_worker::Turns;
 use std::sync::Wait;
 
@@ -43,6 +43,23 @@ pub fn read<'a, S: SharedSession, T: Turns, R: Wait>(
     ensures at { IfOk result (λ value. (steps : List Step) → IsAt client.old.transcript steps → IsAt client.new.transcript (steps ++ reads (account_of side) customer value ∷ [])) }
 {
     client.get(rt, side.table(), customer)
+}
+
+/// Finds the accounts of customers with numbers from `low` to `high`, these two too, of which something is kept.
+pub fn find<'a, S: SharedSession, T: Turns, R: Wait>(
+    rt: &R,
+    client: &mut Client<'a, S, T>,
+    side: Side,
+    low: u64,
+    high: u64,
+) -> Result<Pairs, Refusal>
+    requires law { SameLaw S.law sound_law }
+    requires client { IsClient S.stands S.seat S.own client.old }
+    ensures on { GoesOn S.stands S.seat S.own S.ends T.told client.old client.new }
+    ensures kept { AllCommitted IsOfTellers client.old.transcript → AllCommitted IsOfTellers client.new.transcript }
+    ensures at { IfOk result (λ found. (steps : List Step) → IsAt client.old.transcript steps → IsAt client.new.transcript (steps ++ finds (account_of side) low high found ∷ [])) }
+{
+    client.scan(rt, side.table(), low, high)
 }
 
 /// Writes an account.

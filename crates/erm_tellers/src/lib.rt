@@ -8,4 +8,4 @@ mod tellers;
 
 pub use laws::{tellers_keep_solvency, tellers_stay_solvent};
 pub use side::Side;
-pub use tellers::{Holder, Outcome, Task, is_passing, serve};
+pub use tellers::{Holder, Outcome, Task, audit, serve};

@@ -1,4 +1,4 @@
-use Rattle.std.proofs.Common.{◌≡◌, ℕ, Some, refl, sym, subst}
+use Rattle.std.proofs.Common.{ℕ, Some, refl, sym, subst}
 use Rattle.erm_client.proofs.line.run_next.Goals as goal
 use Rattle.erm_worker.proofs.Left.{left_before}
 use Rattle.erm_worker.specs.Work.{WasLeft}

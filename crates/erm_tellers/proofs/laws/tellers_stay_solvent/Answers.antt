@@ -1,4 +1,3 @@
-use Rattle.std.proofs.Common.{List}
 use Rattle.erm_good_report.specs.Transactions.{steps_of}
 use Rattle.erm_tellers.proofs.laws.tellers_stay_solvent.Goals as goal
 

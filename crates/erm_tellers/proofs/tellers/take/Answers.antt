@@ -1,4 +1,4 @@
-use Rattle.std.proofs.Common.{◌≡◌, [], ◌∷◌, inl}
+use Rattle.std.proofs.Common.{[], ◌∷◌, inl}
 use Rattle.erm_accounts.specs.Accounts.{reads, writes}
 use Rattle.erm_client.proofs.Onward.{goes_then}
 use Rattle.erm_tellers.proofs.Served.{withdraws}

@@ -1,4 +1,4 @@
-use Rattle.std.proofs.Common.{◌≡◌, IfErr, refl, subst}
+use Rattle.std.proofs.Common.{IfErr, refl, subst}
 use Rattle.erm_beside.specs.Onward.{onward_itself}
 use Rattle.erm_client.proofs.client.Client.ask.Goals as goal
 use Rattle.erm_client.proofs.Steps.{if_refused, same_goes}

@@ -1,4 +1,4 @@
-use Rattle.std.proofs.Common.{◌≡◌, Option, Some, None, IfNone, IfSome, refl, sym, ◌∙◌, subst}
+use Rattle.std.proofs.Common.{Option, IfNone, IfSome, refl, sym, ◌∙◌, subst}
 use Rattle.erm_client.proofs.client.Client.run.Goals as goal
 use Rattle.erm_client.proofs.Steps.{answered_goes, ends_asked, more_asked, starved_goes, stopped_goes}
 use Rattle.erm_client.proofs.Told.{line_tells}

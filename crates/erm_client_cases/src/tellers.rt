@@ -1,0 +1,62 @@
+//! What two tellers are answered.
+ghost use Rattle.erm_client.specs.Clients.{IsClient};
+ghost use Rattle.erm_client.specs.Dealings.{AllCommitted};
+ghost use Rattle.erm_node.specs.Sound.{sound_law};
+ghost use Rattle.erm_shared_session.specs.Stands.{Stands, own_of, seat_of};
+ghost use Rattle.erm_tellers.specs.Tellers.{IsOfTellers};
+
+use crate::clients::{TableClient, opened, two};
+use erm_engine::Opened;
+use erm_tellers::{Holder, Outcome, Side, Task, serve};
+use std::sync::Wait;
+use std::test::Fail;
+
+// A deposit to one account of a customer.
+fn deposit() -> Task {
+    Task::Deposit {
+        holder: Holder {
+            customer: 7,
+            side: Side::Current,
+        },
+        amount: 100,
+    }
+}
+
+// A withdrawal from the other one.
+fn withdrawal() -> Task {
+    Task::Withdraw {
+        holder: Holder {
+            customer: 7,
+            side: Side::Savings,
+        },
+        amount: 100,
+    }
+}
+
+// What becomes of a task that is tried once, unless it is refused.
+fn served<'a, R: Wait>(rt: &R, client: &mut TableClient<'a>, task: Task) -> Option<Outcome>
+    requires client { IsClient (λ x s. Stands sound_law x s) seat_of own_of client.old }
+    requires kept { AllCommitted IsOfTellers client.old.transcript }
+    ensures client { IsClient (λ x s. Stands sound_law x s) seat_of own_of client.new }
+    ensures kept { AllCommitted IsOfTellers client.new.transcript }
+{
+    serve(rt, client, task, 1).ok()
+}
+
+// What a customer's accounts cover is withdrawn by one teller, and then no more by the other.
+#[test]
+fn of_two_withdrawals_one_is_covered(rt: HostRuntime) -> Result<(), Fail> {
+    let alloc = rt.alloc();
+    let Opened {
+        table,
+        sessions,
+        ..
+    } = opened(&rt, alloc)?;
+    let (mut first, mut second) = two(alloc, &table, sessions)?;
+    assert!(rt; served(&rt, &mut first, deposit()) == Some(Outcome::Done));
+    assert!(rt; served(&rt, &mut second, withdrawal()) == Some(Outcome::Done));
+    assert!(rt; served(&rt, &mut first, withdrawal()) == Some(Outcome::Short));
+    assert!(rt; first.transcript.lines.len() == 8);
+    assert!(rt; second.transcript.lines.len() == 5);
+    Ok(())
+}
