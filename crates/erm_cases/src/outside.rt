@@ -227,6 +227,28 @@ fn a_crash_leaves_images(rt: HostRuntime) -> Result<(), Fail> {
     Ok(())
 }
 
+// A wait for removals waits for those behind which nothing was done to the file, and for no write to another file.
+#[test]
+fn removals_are_waited_for(rt: HostRuntime) -> Result<(), Fail> {
+    let mut disk = MemDisk::new(rt.alloc());
+    for file in [File::Slot1, SEGMENT] {
+        disk.write(file, 0, b"old")?;
+        disk.sync(file)?;
+        disk.remove(file)?;
+    }
+    disk.write(File::Slot0, 0, b"new")?;
+    let mut image = disk.image(Pick::Nothing)?;
+    assert!(rt; has(&mut image, File::Slot1, b"old") && has(&mut image, SEGMENT, b"old"));
+    let mut stopped = disk.stop_at(0);
+    assert!(rt; stopped.sync_removals() == Err(Failed));
+    let mut disk = stopped.stop_at(u64::MAX);
+    assert!(rt; disk.sync_removals() == Ok(()));
+    let mut image = disk.image(Pick::Nothing)?;
+    assert!(rt; has(&mut image, File::Slot1, b"") && has(&mut image, SEGMENT, b""));
+    assert!(rt; has(&mut image, File::Slot0, b"") && has(&mut disk, File::Slot0, b"new"));
+    Ok(())
+}
+
 // Many calls end in good time: each write of a file lies behind the one before, and each tenth is synced.
 #[test]
 fn a_disk_takes_thousands_of_calls(rt: HostRuntime) -> Result<(), Fail> {

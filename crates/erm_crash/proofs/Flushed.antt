@@ -1,5 +1,5 @@
 -- What each image recovers to while a log is flushed.
-use Rattle.std.proofs.Common.{◌≡◌, ◌≢◌, ℕ, ◌<◌, ◌≤◌, ◌↔◌, ◌++◌, List, [], ◌∷◌, Option, length, refl, sym, ap, ◌∙◌, subst, arith, append_assoc, inl}
+use Rattle.std.proofs.Common.{◌≡◌, ◌≢◌, ℕ, ◌<◌, ◌≤◌, ◌↔◌, ◌++◌, List, [], ◌∷◌, Option, length, refl, sym, ap, ◌∙◌, subst, arith, append_assoc}
 use Rattle.erm_model.specs.Rows.{Rows}
 use Rattle.erm_model.specs.RowTransaction.{SameRows}
 use Rattle.erm_record.specs.Stored.{stored_length}
@@ -112,8 +112,8 @@ module _
       let to = h.to in
       let low = past.low in
       subst (MayStop (base past.pair).at (state_behind from past.front).at) (sym moment.since)
-      (inl (beyond_wider l.flushed (base past.pair).at l.flushed (state_behind from past.front).at (moment.before ++ old) (omega (arith, bases, grows, there, to)) low
-      (words_stop l.flushed words old moment.before w.few.1 writes h.ready.settled)))
+      (beyond_wider l.flushed (base past.pair).at l.flushed (state_behind from past.front).at (moment.before ++ old) (omega (arith, bases, grows, there, to)) low
+      (words_stop l.flushed words old moment.before w.few.1 writes h.ready.settled))
 
   pub flush_keeps : (l m : Log) (slots : Slots) (old new : List Step) → HoldsLog sound l slots old → m.opened ≡ l.opened → ((rest : List Block) × (m.gathered ≡ l.gathered ++ rest))
       → IsLog sound m → LOG_START < m.opened.at → WritesFrom sound l.flushed m old new → KeepsBlocks sound (state_at m []) m.gathered l.flushed old new

@@ -62,8 +62,8 @@ module _ (sound : Rows → Type 0) where
       let grows = state_grows (base pair) there.blocks in
       let at = there.is.at in
       subst (MayStop (base pair).at state.at) (sym m.since)
-      (inl (beyond_wider state.at (base pair).at state.at state.at (m.before ++ old) (omega (arith, grows, at)) (omega arith)
-      (words_stop state.at (spelling block) old m.before (omega (arith, size)) writes settled)))
+      (beyond_wider state.at (base pair).at state.at state.at (m.before ++ old) (omega (arith, grows, at)) (omega arith)
+      (words_stop state.at (spelling block) old m.before (omega (arith, size)) writes settled))
 
   pub opening_keeps : (state : State) (pair : Pair) (old new : List Step) → IsSettled old → RecoversTo sound state pair (contents old) → sound state.rows → state.at < STOP → state.run < LAST_RUN
       → Opens sound state pair old new → KeepsOpening sound state pair old new

@@ -64,14 +64,14 @@ module _ (sound : Rows → Type 0) (respects : (a b : Rows) → SameRows a b →
         record { pair = r.0; there = r.1.0; meets = r.1.1; stops = still_stops (base r.0).at state.at now (still.1 now m image is) },
   )
 
-  -- and where segments below that of the place where recovery begins are being removed
-  calm_torn : (Q : State → List Block → Type 0) (state : State) (pair : Pair) (end : ℕ) (old new : List Step) → end ≤ (base pair).at / SEGMENT_WORDS
-      → AtMoments (λ now image. RecoversMeeting sound Q state pair image) old new → AtMoments (Calm end) old new → AtMoments (Torn Q state) old new
-  calm_torn Q state pair end old new low recovers calm = (
+  -- and where segments are being removed
+  calm_torn : (Q : State → List Block → Type 0) (state : State) (pair : Pair) (old new : List Step)
+      → AtMoments (λ now image. RecoversMeeting sound Q state pair image) old new → AtMoments Calm old new → AtMoments (Torn Q state) old new
+  calm_torn Q state pair old new recovers calm = (
     recovers.0,
     λ now m image is tears.
         let r = recovers.1 now m image is in
-        record { pair = pair; there = r.0; meets = r.1; stops = calm_stops end (base pair).at state.at now low (calm.1 now m image is) },
+        record { pair = pair; there = r.0; meets = r.1; stops = calm_stops (base pair).at state.at now (calm.1 now m image is) },
   )
 
   module _
@@ -139,7 +139,7 @@ module _ (sound : Rows → Type 0) (respects : (a b : Rows) → SameRows a b →
         let s = saved_meeting sound respects Q from [] rest pair c mid may meets behind in
         let each = meeting_removals sound Q state (put pair c) first end wrote new s.0.settled (s.0.there, s.1) s.0.some low removes in
         joined (Torn Q state) mid wrote new slot_keeps
-        (calm_torn Q state (put pair c) end wrote new low (all_from_each (RecoversMeeting sound Q state (put pair c)) wrote new each)
+        (calm_torn Q state (put pair c) wrote new (all_from_each (RecoversMeeting sound Q state (put pair c)) wrote new each)
         (removed_calm first end wrote new (written_still pair bytes mid (λ n. may.settled (Segment n))) removes))
 
 module _

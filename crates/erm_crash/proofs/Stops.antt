@@ -1,9 +1,7 @@
 -- What is pending while a log is opened or flushed, and while a checkpoint is saved.
-use Rattle.std.proofs.Common.{◌≡◌, ◌≢◌, ℕ, ◌+◌, ◌/◌, ◌<◌, ◌≤◌, ◌⊎◌, ◌++◌, List, [], ◌∷◌, length, max, true, false, Bool, refl, sym, ap, subst, arith, inl, inr}
+use Rattle.std.proofs.Common.{◌≡◌, ◌≢◌, ℕ, ◌+◌, ◌/◌, ◌<◌, ◌≤◌, ◌⊎◌, ◌++◌, List, [], ◌∷◌, length, true, false, Bool, refl, sym, ap, subst, arith, inl, inr}
 use Rattle.std.specs.Prelude.{if◌then◌else◌}
-use Rattle.std.specs.List.{All}
 use Rattle.std.proofs.lemmas.Bool.Decides.{nat_tests}
-use Rattle.std.proofs.lemmas.List.Elements.{All-head, All-tail, All-weaker}
 use Rattle.erm_model.specs.declared.limits.TheConstants.{RING_WORDS, SEGMENT_WORDS}
 use Rattle.erm_log_disk.specs.Writes.{AllWriteWords, IsPiece, WritesWords}
 use Rattle.erm_outside.specs.declared.disk.File.{File}
@@ -14,7 +12,7 @@ use Rattle.erm_ckpt.specs.Recovered.{Pair}
 use Rattle.erm_checkpoint.specs.Phases.{other_file}
 use Rattle.erm_checkpoint.specs.Steps.{RemovesAll, RemovesPart, WritesPart, did, removals, slot_written}
 use Rattle.erm_checkpoint.proofs.Phases.{other_is_slot}
-use Rattle.erm_recover.specs.Waiting.{IsSettledBeyond}
+use Rattle.erm_recover.specs.Waiting.{IsSettledBeyond, IsSettledOrRemoved}
 use Rattle.erm_recover.proofs.Waits.{file_stays, one_wait}
 use Rattle.erm_crash.specs.Moments.{AtMoments}
 use Rattle.erm_crash.specs.Stops.{MayStop}
@@ -31,8 +29,7 @@ beyond_wider base lower place later now low high beyond n out = beyond n (by out
     by (inr above) = inr (omega (arith, high, above))
 
 pub stop_wider : (base place later : ℕ) (now : List Step) → place ≤ later → MayStop base place now → MayStop base later now
-stop_wider base place later now high (inl beyond) = inl (beyond_wider base base place later now (omega arith) high beyond)
-stop_wider base place later now high (inr (segment, before, removed, low, beyond)) = inr (segment, before, removed, low, beyond_wider base base place later before (omega arith) high beyond)
+stop_wider base place later now high stops = beyond_wider base base place later now (omega arith) high stops
 
 -- ---- words of the log
 
@@ -69,7 +66,7 @@ words_off at words n old (step ∷ more) few off (here, others) settled = step_o
 
 -- where nothing was pending, and a few words were written from a place on, what is pending is of its segment and the next one
 pub words_stop : (at : ℕ) (words : List ℕ) (old more : List Step) → length words ≤ RING_WORDS → AllWriteWords at words more → IsSettled old → IsSettledBeyond at at (more ++ old)
-words_stop at words old more few writes settled = λ n off. words_off at words n old more few off writes (settled (Segment n))
+words_stop at words old more few writes settled = λ n off. inl (words_off at words n old more few off writes (settled (Segment n)))
 
 -- ---- checkpoints
 
@@ -77,25 +74,24 @@ words_stop at words old more few writes settled = λ n off. words_off at words n
 abbrev pub IsStill : List Step → Type 0
 IsStill now = (n : ℕ) → IsFileSettled (changes_of (Segment n) now)
 
--- or it was so before a segment below an end was removed
-abbrev pub IsCalm : ℕ → List Step → Type 0
-IsCalm end now = IsStill now ⊎ ((segment : ℕ) × (before : List Step) × (now ≡ did (Segment segment) Removed before) × (segment < end) × IsStill before)
+-- or only removals are
+abbrev pub IsCalm : List Step → Type 0
+IsCalm now = (n : ℕ) → IsSettledOrRemoved (changes_of (Segment n) now)
 
-pub calm_stops : (end base place : ℕ) (now : List Step) → end ≤ base / SEGMENT_WORDS → IsCalm end now → MayStop base place now
-calm_stops end base place now low (inl still) = inl (λ n off. still n)
-calm_stops end base place now low (inr (segment, before, removed, less, still)) = inr (segment, before, removed, omega (arith, less, low), λ n off. still n)
+pub calm_stops : (base place : ℕ) (now : List Step) → IsCalm now → MayStop base place now
+calm_stops base place now calm = λ n off. calm n
 
 pub still_stops : (base place : ℕ) (now : List Step) → IsStill now → MayStop base place now
-still_stops base place now still = inl (λ n off. still n)
+still_stops base place now still = λ n off. inl (still n)
 
 pub settled_stops : (base place : ℕ) (now : List Step) → IsSettled now → MayStop base place now
-settled_stops base place now settled = inl (λ n off. settled (Segment n))
+settled_stops base place now settled = λ n off. inl (settled (Segment n))
 
 abbrev pub Still : List Step → Image → Type 0
 Still now image = IsStill now
 
-abbrev pub Calm : ℕ → List Step → Image → Type 0
-Calm end now image = IsCalm end now
+abbrev pub Calm : List Step → Image → Type 0
+Calm now image = IsCalm now
 
 -- a slot is no segment
 slot_still : (pair : Pair) (change : Change) (steps : List Step) → IsStill steps → IsStill (did (other_file pair) change steps)
@@ -121,7 +117,7 @@ moments_still pair bytes mid still =
     (at_both Still (record { file = other_file pair; change = Synced }) wrote (λ image is. slot_still pair (Wrote 0 bytes) mid still) (λ image is. written_still pair bytes mid still))
 
 -- a removal that was waited for
-pub removal_settled : (segment n : ℕ) (steps : List Step) → IsFileSettled (changes_of (Segment n) steps) → IsFileSettled (changes_of (Segment n) (did (Segment segment) Synced (did (Segment segment) Removed steps)))
+removal_settled : (segment n : ℕ) (steps : List Step) → IsFileSettled (changes_of (Segment n) steps) → IsFileSettled (changes_of (Segment n) (did (Segment segment) Synced (did (Segment segment) Removed steps)))
 removal_settled segment n steps settled = cases (same_file (Segment segment) (Segment n)) (changes_of (Segment n) steps) settled
   where
     cases : (same : Bool) (changes : List Change) → IsFileSettled changes
@@ -132,42 +128,50 @@ removal_settled segment n steps settled = cases (same_file (Segment segment) (Se
 removed_still : (segment : ℕ) (steps : List Step) → IsStill steps → IsStill (did (Segment segment) Synced (did (Segment segment) Removed steps))
 removed_still segment steps still n = removal_settled segment n steps (still n)
 
-begun_calm : (end segment : ℕ) (steps : List Step) → segment < end → IsStill steps → AtMoments (Calm end) steps (did (Segment segment) Removed steps)
-begun_calm end segment steps low still =
-    at_both (Calm end) (record { file = Segment segment; change = Removed }) steps (λ image is. inl still) (λ image is. inr (segment, steps, refl, low, still))
+still_calm : (now : List Step) → IsStill now → IsCalm now
+still_calm now still n = inl (still n)
+
+-- behind a removal
+removal_calm : (segment : ℕ) (steps : List Step) → IsStill steps → IsCalm (did (Segment segment) Removed steps)
+removal_calm segment steps still n = cases (same_file (Segment segment) (Segment n)) (changes_of (Segment n) steps) (still n)
+  where
+    cases : (same : Bool) (changes : List Change) → IsFileSettled changes → IsSettledOrRemoved (if same then (Removed ∷ changes) else changes)
+    cases true changes settled = inr tt
+    cases false changes settled = inl settled
+
+begun_calm : (segment : ℕ) (steps : List Step) → IsStill steps → AtMoments Calm steps (did (Segment segment) Removed steps)
+begun_calm segment steps still =
+    at_both Calm (record { file = Segment segment; change = Removed }) steps (λ image is. still_calm steps still) (λ image is. removal_calm segment steps still)
 
 removals_still : (segments : List ℕ) (steps : List Step) → IsStill steps → IsStill (removals segments steps)
 removals_still [] steps still = still
 removals_still (s ∷ ss) steps still = removed_still s (removals ss steps) (removals_still ss steps still)
 
-removals_calm : (end : ℕ) (segments : List ℕ) (steps : List Step) → All (λ segment. segment < end) segments → IsStill steps → AtMoments (Calm end) steps (removals segments steps)
-removals_calm end [] steps low still = at_once (Calm end) steps (λ image is. inl still)
-removals_calm end (s ∷ ss) steps low still =
+removals_calm : (segments : List ℕ) (steps : List Step) → IsStill steps → AtMoments Calm steps (removals segments steps)
+removals_calm [] steps still = at_once Calm steps (λ image is. still_calm steps still)
+removals_calm (s ∷ ss) steps still =
     let rest : List Step = removals ss steps in
     let here : IsStill rest = removals_still ss steps still in
     let begun : List Step = did (Segment s) Removed rest in
-    let less = All-head (λ (segment : ℕ). segment < end) s ss low in
-    joined (Calm end) steps rest (removals (s ∷ ss) steps) (removals_calm end ss steps (All-tail (λ (segment : ℕ). segment < end) s ss low) still)
-    (joined (Calm end) rest begun (removals (s ∷ ss) steps) (begun_calm end s rest less here)
-    (at_both (Calm end) (record { file = Segment s; change = Synced }) begun (λ image is. inr (s, rest, refl, less, here)) (λ image is. inl (removed_still s rest here))))
+    joined Calm steps rest (removals (s ∷ ss) steps) (removals_calm ss steps still)
+    (joined Calm rest begun (removals (s ∷ ss) steps) (begun_calm s rest here)
+    (at_both Calm (record { file = Segment s; change = Synced }) begun (λ image is. removal_calm s rest here) (λ image is. still_calm (removals (s ∷ ss) steps) (removed_still s rest here))))
 
-all_removed : (first from end : ℕ) (old new : List Step) → from ≤ max first end → IsStill old → RemovesAll first from old new → AtMoments (Calm end) old new × IsStill new
-all_removed first from end old new most still all = (
-  subst (AtMoments (Calm end) old) (sym all.steps)
-      (removals_calm end all.segments old
-      (All-weaker (λ segment. (first ≤ segment) × (segment < from)) (λ segment. segment < end) (λ segment within. let low = within.0 in let less = within.1 in omega (arith, low, less, most)) all.segments all.are.within) still),
+all_removed : (first from : ℕ) (old new : List Step) → IsStill old → RemovesAll first from old new → AtMoments Calm old new × IsStill new
+all_removed first from old new still all = (
+  subst (AtMoments Calm old) (sym all.steps) (removals_calm all.segments old still),
   subst IsStill (sym all.steps) (removals_still all.segments old still),
 )
 
-some_removed : (first end : ℕ) (old new : List Step) → IsStill old → RemovesPart first end old new → AtMoments (Calm end) old new
+some_removed : (first end : ℕ) (old new : List Step) → IsStill old → RemovesPart first end old new → AtMoments Calm old new
 some_removed first end old new still p =
-    let whole = all_removed first p.from end old p.mid p.most still p.all in
-    joined (Calm end) old p.mid new whole.0 (elim p.part [
-      | inl none ↦ subst (AtMoments (Calm end) p.mid) (sym none) (at_once (Calm end) p.mid (λ image is. inl whole.1))
-      | inr (segment, next, begun) ↦ subst (AtMoments (Calm end) p.mid) (sym begun) (begun_calm end segment p.mid next.1 whole.1)
+    let whole = all_removed first p.from old p.mid still p.all in
+    joined Calm old p.mid new whole.0 (elim p.part [
+      | inl none ↦ subst (AtMoments Calm p.mid) (sym none) (at_once Calm p.mid (λ image is. still_calm p.mid whole.1))
+      | inr (segment, next, begun) ↦ subst (AtMoments Calm p.mid) (sym begun) (begun_calm segment p.mid whole.1)
     ])
 
--- where segments are removed, each below an end
-pub removed_calm : (first end : ℕ) (old new : List Step) → IsStill old → RemovesPart first end old new ⊎ RemovesAll first end old new → AtMoments (Calm end) old new
+-- where segments are removed
+pub removed_calm : (first end : ℕ) (old new : List Step) → IsStill old → RemovesPart first end old new ⊎ RemovesAll first end old new → AtMoments Calm old new
 removed_calm first end old new still (inl part) = some_removed first end old new still part
-removed_calm first end old new still (inr all) = (all_removed first end end old new (omega arith) still all).0
+removed_calm first end old new still (inr all) = (all_removed first end old new still all).0

@@ -16,7 +16,7 @@ use Rattle.erm_crash.specs.Moments.{AtMoments, TearsApart}
 use Rattle.erm_crash.specs.Stops.{MayStop}
 
 -- At a moment an image recovers to the state behind a front of these blocks, which stand from a state on, to all below a place at least; and what is
--- pending then is what the next opening waits for, but for one removal where segments are being removed.
+-- pending then is what the next opening waits for.
 pub record RecoversStopped (sound : Rows → Type 0) (from : State) (blocks : List Block) (place : ℕ) (now : List Step) (image : Image) : Type 0 where
   pub past : RecoversPast sound from blocks place image
   pub stops : MayStop (base past.pair).at (state_behind from past.front).at now
@@ -26,7 +26,7 @@ abbrev pub KeepsBlocks : (Rows → Type 0) → State → List Block → ℕ → 
 KeepsBlocks sound from blocks place old new = AtMoments (λ now image. TearsApart sound now image → RecoversStopped sound from blocks place now image) old new
 
 -- at each moment of an opening each image recovers to a state, or to the same in the run that is opened, and what is pending is what the next opening
--- waits for (one removal might be pending besides: an opening makes none, but what is pending is said by the same words as behind it)
+-- waits for
 abbrev pub KeepsOpening : (Rows → Type 0) → State → Pair → List Step → List Step → Type 0
 KeepsOpening sound state pair old new =
     AtMoments (λ now image. TearsApart sound now image → (RecoversTo sound state pair image ⊎ RecoversTo sound (opened state) pair image) × MayStop (base pair).at state.at now) old new

@@ -1,7 +1,7 @@
 //! Checkpoints of disks in memory.
 use erm_disk_run::{DiskStop, checkpoint_on_disk};
 use erm_outside::{Disk, File};
-use erm_outside_mem::{MemDisk, Silent};
+use erm_outside_mem::{MemDisk, Pick, Silent};
 use erm_report::{Line, Text};
 use std::alloc::{AllocError, Global};
 use std::test::Fail;
@@ -43,9 +43,9 @@ fn checkpoints_go_on(rt: HostRuntime) -> Result<(), Fail> {
 #[test]
 fn faults_stop_checkpoints(rt: HostRuntime) -> Result<(), Fail> {
     let alloc = rt.alloc();
-    // Of an empty disk the slots are read, three lengths and the log; these files are waited for, and a segment more; and then the log
+    // Of an empty disk the slots are read, three lengths and the log; removals are waited for, these files, and a segment more; and then the log
     // and the slot are written, and each is waited for.
-    for calls in 0..14 {
+    for calls in 0..15 {
         let disk = Silent {
             disk: MemDisk::new(alloc).stop_at(calls),
         };
@@ -58,5 +58,23 @@ fn faults_stop_checkpoints(rt: HostRuntime) -> Result<(), Fail> {
     disk.write(File::Slot0, 0, b"x")?;
     let taken = checkpoint_on_disk(alloc, disk);
     assert!(rt; matches!(taken.ended, Err(DiskStop::NoBase)));
+    Ok(())
+}
+
+// Where the last thing done to a disk was to remove a segment that no opening can name, the next run waits for that before it writes.
+#[test]
+fn openings_wait_for_removals(rt: HostRuntime) -> Result<(), Fail> {
+    let alloc = rt.alloc();
+    let far = File::Segment(9);
+    let mut disk = MemDisk::new(alloc);
+    disk.write(far, 0, b"x")?;
+    disk.sync(far)?;
+    disk.remove(far)?;
+    let mut left = disk.image(Pick::Nothing)?;
+    assert!(rt; left.len(far) == Ok(1));
+    let taken = checkpoint_on_disk(alloc, Silent { disk });
+    assert!(rt; taken.ended.is_ok());
+    let mut left = taken.disk.disk.image(Pick::Nothing)?;
+    assert!(rt; left.len(far) == Ok(0));
     Ok(())
 }

@@ -273,9 +273,10 @@ fn a_stream_is_waited_for(rt: HostRuntime) -> Result<(), Fail> {
     Ok(())
 }
 
-// What is done to a disk that was used before by a process that is gone: it is opened, for which what is there is waited for;
+// What is done to a disk that was used before by a process that is gone: it is opened, for which what is there is waited for, and what is gone;
 // two segments are written; and a checkpoint is taken, behind which two segments are removed.
 fn use_disk<D: Disk>(disk: &mut D) -> Result<(), Failed> {
+    disk.sync_removals()?;
     for file in [File::Slot0, File::Slot1, File::Segment(6), File::Segment(7)] {
         disk.sync(file)?;
     }
@@ -300,9 +301,9 @@ fn use_disk<D: Disk>(disk: &mut D) -> Result<(), Failed> {
 // is waited for at its sync, and nothing is waited for twice.
 fn wanted(at: usize) -> Option<Call> {
     Some(match at {
-        0 => Call::Synced(File::Slot0),
-        1 => Call::FolderSynced,
-        2 => Call::ParentSynced,
+        0 => Call::FolderSynced,
+        1 => Call::ParentSynced,
+        2 => Call::Synced(File::Slot0),
         3 => Call::Missed(File::Slot1),
         4 => Call::Synced(File::Segment(6)),
         5 => Call::Synced(File::Segment(7)),

@@ -131,10 +131,10 @@ fn faults_cut_runs(rt: HostRuntime) -> Result<(), Fail> {
     let a = [Name::new(b"a").unwrap()];
     let mut is_cut = false;
 
-    // The run takes at most 16 calls of the disk, and the last ones are those of its flush.
+    // The run takes at most 17 calls of the disk, and the last ones are those of its flush.
     for fewer in 0..8 {
         let disk = Silent {
-            disk: MemDisk::new(alloc).stop_at(16 - fewer),
+            disk: MemDisk::new(alloc).stop_at(17 - fewer),
         };
         let OnDisk { disk: _, ended } = run_on_disk(alloc, disk, &a, &writes());
         let is_whole = ended.is_ok();

@@ -13,7 +13,8 @@ use Rattle.erm_block.specs.declared.block.TheConstants.{RUN_END}
 use Rattle.erm_block.specs.LogList.{IsChain}
 use Rattle.erm_block.specs.Spelling.{spelling}
 use Rattle.erm_outside.specs.declared.disk.File.TheVariants.{Segment}
-use Rattle.erm_outside.specs.Disk.{Image, IsSettled, Step, Tells, contents}
+use Rattle.erm_outside.specs.Disk.{Image, IsSettled, OnlyWaits, Step, Tells, contents}
+use Rattle.erm_outside.proofs.Waits.{reads_stay}
 use Rattle.erm_log_disk.specs.Writes.{OnlyWrites}
 use Rattle.erm_log_run.proofs.Held.{tells_weaker}
 use Rattle.erm_log_words.specs.Kept.{MayOpen}
@@ -38,8 +39,8 @@ use Rattle.erm_recover.specs.declared.open.OpenStop.{OpenStop}
 use Rattle.erm_recover.specs.declared.open.OpenStop.TheVariants as opening
 use Rattle.erm_recover.specs.Opening.{HoldsOpened, Opens, OpensTold as OpensDisk, StopsAs, open_block, opened}
 use Rattle.erm_recover.specs.Recovering.{IsRecovered, RecoveredTold, state_recovered}
-use Rattle.erm_recover.specs.Waiting.{IsSettledBeyond, MaySettle, OnceSettled, OnlyWaits, SinceSettled}
-use Rattle.erm_recover.proofs.Waits.{WritesSome, disk_stays, once_since, once_weaker, reads_stay, waits_before, waits_write_some, writes_behind}
+use Rattle.erm_recover.specs.Waiting.{IsSettledBeyond, MaySettle, OnceSettled, SinceSettled}
+use Rattle.erm_recover.proofs.Waits.{WritesSome, disk_stays, once_since, once_weaker, waits_before, waits_write_some, writes_behind}
 use Rattle.erm_start.specs.Recovered.{IsOpenedLog}
 use Rattle.erm_told_log.specs.Tail.{MeetsTail}
 use Rattle.erm_world.specs.Log.{Log}

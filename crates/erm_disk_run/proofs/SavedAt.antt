@@ -1,5 +1,5 @@
 -- A checkpoint of a log that was just opened: nothing is gathered, and the slot has the map found.
-use Rattle.std.proofs.Common.{◌≡◌, ℕ, ◌+◌, ◌/◌, ◌<◌, ◌≤◌, ◌++◌, false, List, [], ◌∷◌, Bool, IfSome, Option, Some, None, Err, refl, sym, ap, ◌∙◌, subst, arith, inl, inr}
+use Rattle.std.proofs.Common.{◌≡◌, ℕ, ◌+◌, ◌/◌, ◌<◌, ◌≤◌, ◌++◌, false, List, [], ◌∷◌, Bool, IfSome, Option, Some, None, Err, refl, sym, ap, ◌∙◌, subst, arith, inr}
 use Rattle.std.specs.List.{slice_get}
 use Rattle.erm_model.specs.Member.{◌∈◌}
 use Rattle.erm_model.specs.Rows.{Rows}
@@ -9,12 +9,11 @@ use Rattle.erm_record.proofs.StoredRows.{stored_length-le}
 use Rattle.erm_block.specs.declared.block.Block.{Block}
 use Rattle.erm_block.specs.LogList.{IsChain, rows_after_block}
 use Rattle.erm_block.proofs.OneSpelling.{length-spelling}
-use Rattle.erm_outside.specs.declared.disk.File.TheVariants.{Segment}
 use Rattle.erm_outside.specs.Disk.{Image, Step, Tells, contents}
 use Rattle.erm_log_words.specs.Tears.{IsFresh}
 use Rattle.erm_ckpt.specs.declared.slot.Slots.{Slots}
 use Rattle.erm_ckpt.specs.declared.slot.TheConstants.{LOG_START}
-use Rattle.erm_ckpt.specs.Recovered.{Pair, Recovers, State, base, end_at, slots_of, state_behind}
+use Rattle.erm_ckpt.specs.Recovered.{Pair, State, base, end_at, slots_of, state_behind}
 use Rattle.erm_ckpt.specs.Slots.{put_slot, removal_end}
 use Rattle.erm_ckpt.specs.States.{RecoversTo, SameState}
 use Rattle.erm_ckpt.proofs.Images.{state_grows}

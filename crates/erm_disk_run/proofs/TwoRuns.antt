@@ -13,7 +13,7 @@ use Rattle.erm_crash.specs.Moments.{IsMoment, TearsApart}
 use Rattle.erm_crash.proofs.Moments.{joined, weaker}
 use Rattle.erm_node.specs.Sound.{IsSound, sound_law}
 use Rattle.erm_node.specs.TreeMap.{map_of_rows}
-use Rattle.erm_recover.specs.Waiting.{OnlyWaits, SinceSettled}
+use Rattle.erm_recover.specs.Waiting.{SinceSettled}
 use Rattle.erm_recover.proofs.Waits.{images_stay, waits_before}
 use Rattle.erm_report.specs.declared.answer.Answer.{Answer}
 use Rattle.erm_disk_run.specs.Crashes.{KeepsCommits, KeepsSince, RecoversBelow}

@@ -24,8 +24,7 @@ use Rattle.erm_report.specs.declared.answer.Answer.{Answer}
 use Rattle.erm_report.specs.declared.line.Line.{Line}
 
 -- At a moment an image recovers to the map that some commits make below a stamp, from a state on. The stamp is at or above a place, and the run is
--- the state's or the next. The image may be opened again; and what is pending at the moment is what the next opening waits for, but for one removal of a
--- segment below, which a checkpoint has begun and not waited for yet.
+-- the state's or the next. The image may be opened again; and what is pending at the moment is what the next opening waits for.
 pub record RecoversBelow (commits : List Committed) (from : State) (place : ℕ) (now : List Step) (image : Image) : Type 0 where
   pub found : State
   pub pair : Pair

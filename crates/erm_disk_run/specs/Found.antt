@@ -31,9 +31,8 @@ pub record IsFound (disk : Option (List Step)) (state : State) : Type 0 where
   pub told : IfSome disk (ReadsAs state)
 
 -- A disk may be opened: behind the place that it recovers to as it reads no block of a later run reads. What was done to it may be pending
--- still, as a stop leaves it, but only of what an opening waits for: both slots, and the segments from the one where recovery begins up to the
--- one behind that of the place. A stop among the removals of a checkpoint leaves one removal more, of a segment below, and this isn't allowed here:
--- no opening knows which one to wait for, as the segment reads as empty.
+-- still, as a stop leaves it, but only of what an opening waits for: both slots, the segments from the one where recovery begins up to the
+-- one behind that of the place, and removals of others.
 pub record IsKept (steps : List Step) : Type 0 where
   pub beyond : (pair : Pair) (blocks : List Block) → Recovers sound_law.meets (contents steps) pair blocks
       → IsSettledBeyond (base pair).at (state_behind (base pair) blocks).at steps

@@ -1,16 +1,12 @@
 -- A run on the disk that an earlier one left, wherever that was stopped.
-use Rattle.std.specs.Prelude.{◌≡◌, ◌⊎◌, ℕ, ◌≤◌, List}
+use Rattle.std.specs.Prelude.{◌⊎◌, ℕ, ◌≤◌, List}
 use Rattle.erm_model.specs.Committed.{Committed, IsStateBelow}
 use Rattle.erm_ckpt.specs.Recovered.{State}
 use Rattle.erm_crash.specs.Moments.{AtMoments, TearsApart}
 use Rattle.erm_node.specs.Sound.{sound_law}
 use Rattle.erm_node.specs.TreeMap.{map_of_rows}
-use Rattle.erm_outside.specs.declared.disk.File.TheVariants.{Segment}
 use Rattle.erm_outside.specs.Disk.{Step}
-use Rattle.erm_outside.specs.Disk.Change.{Removed, Synced}
-use Rattle.erm_checkpoint.specs.Steps.{did}
 use Rattle.erm_disk_run.specs.Crashes.{RecoversBelow}
-use Rattle.erm_disk_run.specs.Found.{IsKept}
 
 -- A state is at or above a place, and its map is what some commits make below it, from another state on.
 pub record HasCommits (commits : List Committed) (from : State) (place : ℕ) (found : State) : Type 0 where
@@ -24,9 +20,3 @@ abbrev pub KeepsOfBoth : List Committed → State → ℕ → List Committed →
 KeepsOfBoth first from place second found entry new =
     AtMoments (λ now image. TearsApart sound_law.meets entry image → TearsApart sound_law.meets now image
     → RecoversBelow first from place entry image ⊎ RecoversBelow second found place now image) entry new
-
--- The next run may go on from a disk: it may be opened, or may be once a removal of a segment, which was the last thing done, has been waited for. No
--- opening waits for it by itself, but in a folder the first sync waits for all removals.
-abbrev pub MayBeFollowed : List Step → Type 0
-MayBeFollowed now = IsKept now
-    ⊎ ((segment : ℕ) × (before : List Step) × (now ≡ did (Segment segment) Removed before) × IsKept (did (Segment segment) Synced now))

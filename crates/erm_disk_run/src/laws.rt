@@ -11,7 +11,7 @@ ghost use Rattle.erm_log_run.specs.Acknowledged.{GoesOnFrom};
 ghost use Rattle.erm_disk_run.specs.Crashes.{KeepsCommits, KeepsSince};
 ghost use Rattle.erm_disk_run.specs.Found.{IsKept, ReadsAs};
 ghost use Rattle.erm_disk_run.specs.Owed.{CoursesOwe};
-ghost use Rattle.erm_disk_run.specs.TwoRuns.{HasCommits, KeepsOfBoth, MayBeFollowed};
+ghost use Rattle.erm_disk_run.specs.TwoRuns.{HasCommits, KeepsOfBoth};
 
 use erm_node::SoundRows;
 
@@ -41,13 +41,13 @@ pub fn greater_places_are_reached_later()
     erm_ckpt::one_recovery::<SoundRows>();
 }
 
-/// Wherever a run is stopped, the next one may go on from what it leaves, if the disk shows then each block and each slot that was written whole, or
-/// none: so it is of a whole run, and of one that was stopped while the log was being opened.
+/// Wherever a run is stopped, the disk that it leaves may be opened, if it shows then each block and each slot that was written whole, or none: so it
+/// is of a whole run, also right behind a removal of a segment, and of one that was stopped while the log was being opened.
 pub fn stopped_runs_may_be_followed()
     ensures runs { (commits : List Committed) (from : State) (old new now : List Step)
-        → IsKept old → SinceSettled (KeepsCommits commits from from.at) old new → IsMoment old new now → TearsApart sound_law.meets now (contents now) → MayBeFollowed now }
+        → IsKept old → SinceSettled (KeepsCommits commits from from.at) old new → IsMoment old new now → TearsApart sound_law.meets now (contents now) → IsKept now }
     ensures openings { (commits : List Committed) (from : State) (old new now : List Step)
-        → IsKept old → OnceSettled (KeepsCommits commits from from.at) old new → IsMoment old new now → TearsApart sound_law.meets now (contents now) → MayBeFollowed now }
+        → IsKept old → OnceSettled (KeepsCommits commits from from.at) old new → IsMoment old new now → TearsApart sound_law.meets now (contents now) → IsKept now }
 {
     erm_ckpt::one_recovery::<SoundRows>();
 }

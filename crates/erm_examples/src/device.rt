@@ -173,4 +173,11 @@ impl Disk for Device {
             Err(_) => Err(self.fail()),
         }
     }
+
+    fn sync_removals(&mut self) -> Result<(), Failed> {
+        match self.disk.sync_removals() {
+            Ok(()) => Ok(()),
+            Err(_) => Err(self.fail()),
+        }
+    }
 }

@@ -1,3 +1,4 @@
 pub mod Images
 mod Moments
 mod Puts
+pub mod Waits

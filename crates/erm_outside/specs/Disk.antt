@@ -94,6 +94,24 @@ IsSyncedLast _ = ⊥
 abbrev pub IsSettled : List Step → Type 0
 IsSettled steps = (file : File) → IsFileSettled (changes_of file steps)
 
+-- a file was removed, and nothing was done to it since, so that this isn't waited for
+abbrev pub IsRemovedLast : List Change → Type 0
+IsRemovedLast (Removed ∷ before) = Unit {0}
+IsRemovedLast _ = ⊥
+
+-- no file is so
+abbrev pub RemovalsLast : List Step → Type 0
+RemovalsLast steps = (file : File) → IsRemovedLast (changes_of file steps) → ⊥
+
+-- each of these steps waits
+abbrev pub AllWait : List Step → Type 0
+AllWait [] = Unit {0}
+AllWait (step ∷ steps) = (step.change ≡ Synced) × AllWait steps
+
+-- nothing else was done to a disk than to wait
+abbrev pub OnlyWaits : List Step → List Step → Type 0
+OnlyWaits old new = (more : List Step) × (new ≡ more ++ old) × AllWait more
+
 -- each image that a crash may leave has P: after the older steps, and after each step more
 abbrev pub EachImage : (Image → Type 0) → List Step → List Step → Type 0
 EachImage P old [] = (image : Image) → IsImage old image → P image

@@ -1,6 +1,6 @@
 //! Where the log and the checkpoints lie.
 ghost use Rattle.std.specs.Prelude.{◌≡◌, ◌≤◌, ◌⊎◌, ℕ, List, Option, length, IfOk, OnOk, OnErr, IfSome};
-ghost use Rattle.erm_outside.specs.Disk.{Change, Step, contents, Does, MayTry, Reads, IsNextSegment};
+ghost use Rattle.erm_outside.specs.Disk.{Change, Step, contents, Does, MayTry, OnlyWaits, Reads, RemovalsLast, Tells, IsNextSegment};
 ghost use Rattle.erm_outside.specs.Disk.Change.{Wrote, Synced, Removed};
 ghost use Rattle.erm_outside.specs.Faults.{Rose};
 
@@ -77,6 +77,14 @@ pub trait Disk {
     fn remove(&mut self, file: File) -> Result<(), Failed>
         ensures told { OnOk result (Does file Removed (told self.old) (told self.new)) }
         ensures tried { OnErr result ((told self.new ≡ told self.old) ⊎ Does file Removed (told self.old) (told self.new)) }
+        ensures sound { OnOk result (faults self.new ≡ faults self.old) }
+        ensures failed { OnErr result (Rose (faults self.old) (faults self.new)) };
+
+    /// Waits until each removal lasts behind which nothing was done to its file, of whatever file: also of one that the caller can't name,
+    /// as it reads as empty. It may wait for more; and nothing else is done, also by a call that fails.
+    fn sync_removals(&mut self) -> Result<(), Failed>
+        ensures waits { Tells OnlyWaits (told self.old) (told self.new) }
+        ensures last { OnOk result (IfSome (told self.new) RemovalsLast) }
         ensures sound { OnOk result (faults self.new ≡ faults self.old) }
         ensures failed { OnErr result (Rose (faults self.old) (faults self.new)) };
 }

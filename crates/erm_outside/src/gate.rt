@@ -16,3 +16,11 @@ pub trait Gate {
     /// Passes the gate, which may wait.
     fn pass<W: Wait>(&self, rt: &W, seat: Seat, place: Place);
 }
+
+/// A gate that holds nobody up.
+#[derive(Clone, Copy)]
+pub struct OpenGate;
+
+impl Gate for OpenGate {
+    fn pass<W: Wait>(&self, _rt: &W, _seat: Seat, _place: Place) {}
+}

@@ -9,7 +9,7 @@ mod sink;
 mod source;
 
 pub use disk::{Disk, File};
-pub use gate::{Gate, Place};
+pub use gate::{Gate, OpenGate, Place};
 pub use laws::{
     ImageLaw, files_stand_alone, moments_join, reads_are_an_image, syncs_settle, weaker_laws_hold,
 };

@@ -5,3 +5,4 @@ pub mod NotedSteps
 pub mod SyncCounts
 pub mod Picked
 pub mod Plays
+pub mod NotedWaits

@@ -1,5 +1,5 @@
 -- What a disk in memory keeps.
-use Rattle.std.specs.Prelude.{◌≡◌, ◌<◌, ◌⊎◌, ℕ, if◌then◌else◌, List, [], ◌∷◌, length, take, Option, None, Some, IfSome, Vec}
+use Rattle.std.specs.Prelude.{◌≡◌, ◌<◌, ◌≤◌, ◌⊎◌, ℕ, if◌then◌else◌, List, [], ◌∷◌, length, take, Option, None, Some, IfSome, Vec}
 use Rattle.std.specs.BTreeMap.{BTreeMap, get, is_at}
 use Rattle.std.specs.Map.{lookup}
 use Rattle.std.specs.Ordering.{nat_cmp}
@@ -55,6 +55,11 @@ change_of (work.Tried at bytes left) = Tried at bytes.items (take left bytes.ite
 change_of work.Synced = Synced
 change_of work.Removed = Removed
 
+-- it is that of a removal
+abbrev pub IsRemoval : Work → Type 0
+IsRemoval work.Removed = Unit {0}
+IsRemoval _ = ⊥
+
 -- a note as a step
 abbrev pub step_of : Done → Step
 step_of done = record { file = done.file; change = change_of done.work }
@@ -81,6 +86,11 @@ empty_disk = record { steps = []; room = 0; fronts = []; calls = no_calls; refus
 pub record WantsMemory (old new : DiskState) : Type 0 where
   pub nothing : new.steps ≡ old.steps
   pub counted : new.refused ≡ next old.refused
+
+-- memory for a note was refused, which was counted, as there was no room for it
+pub record WantsRoom (old new : DiskState) : Type 0 where
+  pub counted : new.refused ≡ next old.refused
+  pub full : old.room ≤ length new.steps
 
 -- this was done, without a refusal of memory
 pub record DidAll (steps : List Step) (old new : DiskState) : Type 0 where

@@ -10,17 +10,16 @@ mod mem_disk;
 mod mem_sink;
 mod mem_source;
 mod notes;
-mod open_gate;
 mod picks;
 mod silent;
 mod steady_source;
 mod syncs;
 
+pub use erm_outside::OpenGate;
 pub use hold_first::HoldFirst;
 pub use mem_disk::MemDisk;
 pub use mem_sink::MemSink;
 pub use mem_source::MemSource;
-pub use open_gate::OpenGate;
 pub use picks::Pick;
 pub use silent::Silent;
 pub use steady_source::SteadySource;

@@ -3,17 +3,17 @@ ghost use Rattle.std.specs.Prelude.{◌≡◌, ◌≤◌, ◌↔◌, ◌⊎◌, 
 ghost use Rattle.std.specs.List.Sorted.{IsPermutation};
 ghost use Rattle.erm_outside.specs.Faults.{next};
 ghost use Rattle.erm_outside.specs.declared.disk.File.{File as DiskFile};
-ghost use Rattle.erm_outside.specs.Disk.{Change, same_file, changes_of, bytes_after, contents as contents_after, patched, IsImage, IsSettled, IsNextSegment, MayTry, Reads, Same};
+ghost use Rattle.erm_outside.specs.Disk.{Change, same_file, changes_of, bytes_after, contents as contents_after, patched, IsImage, IsSettled, IsNextSegment, MayTry, OnlyWaits, Reads, RemovalsLast, Same};
 ghost use Rattle.erm_outside.specs.Disk.Change.{Wrote, Tried, Synced, Removed};
 ghost use Rattle.erm_outside_mem.specs.Calls.{no_calls, IsToFail, CountsCall, with_fault};
 ghost use Rattle.erm_outside_mem.specs.declared.picks.Pick.TheVariants.{All};
 ghost use Rattle.erm_outside_mem.specs.Picks.{landed as landed_of, removed_by, played, picked};
-ghost use Rattle.erm_outside_mem.specs.DiskNotes.{change_of, empty_disk, front_of, DidAll, Leaves, WantsMemory};
+ghost use Rattle.erm_outside_mem.specs.DiskNotes.{change_of, empty_disk, front_of, DidAll, Leaves, WantsMemory, WantsRoom};
 
 use crate::calls::{Calls, one_more};
 use crate::crash::play;
 use crate::files::{Files, contents, next_segment, read_from, write_file};
-use crate::notes::{Done, Work, forget, note};
+use crate::notes::{Done, Work, forget, note, note_removals};
 use crate::picks::{Pick, landed};
 use erm_outside::{Disk, Failed, File};
 use std::alloc::{AllocError, Global};
@@ -24,7 +24,8 @@ use std::marker::Model;
 ///
 /// A call fails where it is to fail, and else only where memory is refused, or a write would end behind 2^64 - 1: then it
 /// does nothing, and the refusal is counted beside the fault. `len`, `read` and `next_segment` take no memory; `sync` and
-/// `remove` take some for a note, and none while there is room for it.
+/// `remove` take some for a note, and none while there is room for it; so does `sync_removals` for each removal noted, and where it is refused
+/// it may have waited for some.
 #[derive(Drop)]
 pub struct MemDisk {
     alloc: Global,
@@ -152,6 +153,17 @@ impl MemDisk {
         ensures room { self.old.room ≤ self.new.room }
     {
         note(&mut self.done, file, work)
+    }
+
+    // Notes a wait for each file that was removed once.
+    fn note_removals(&mut self) -> Result<(), AllocError>
+        ensures waits { OnlyWaits self.old.steps self.new.steps }
+        ensures last { OnOk result (RemovalsLast self.new.steps) }
+        ensures full { OnErr result (self.old.room ≤ length self.new.steps) }
+        ensures others { self.new ≡ record self.old { steps = self.new.steps; room = self.new.room } }
+        ensures room { self.old.room ≤ self.new.room }
+    {
+        note_removals(&mut self.done)
     }
 
     // Removes a file, and notes it.
@@ -382,6 +394,22 @@ impl Disk for MemDisk {
     {
         self.calls.begin()?;
         match self.clear(file) {
+            Ok(()) => Ok(()),
+            Err(_) => Err(self.refuse()),
+        }
+    }
+
+    fn sync_removals(&mut self) -> Result<(), Failed>
+        ensures fails { IsToFail self.old.calls → IsErr result × DidAll self.old.steps self.old self.new }
+        ensures cause { IsErr result → IsToFail self.old.calls ⊎ WantsRoom self.old self.new }
+        ensures counted { CountsCall self.old.calls self.new.calls result }
+        ensures others { self.new ≡ record self.old { steps = self.new.steps; room = self.new.room; calls = self.new.calls; refused = self.new.refused } }
+        ensures room { self.old.room ≤ self.new.room }
+        ensures waits { OnlyWaits self.old.steps self.new.steps }
+        ensures last { OnOk result (RemovalsLast self.new.steps × (self.new.refused ≡ self.old.refused)) }
+    {
+        self.calls.begin()?;
+        match self.note_removals() {
             Ok(()) => Ok(()),
             Err(_) => Err(self.refuse()),
         }

@@ -1,6 +1,7 @@
 //! What was done to a disk in memory, as it notes it.
-ghost use Rattle.std.specs.Prelude.{◌≡◌, ◌≤◌, ◌++◌, [], ◌∷◌, List, length, OnOk, OnErr, vec_capacity};
-ghost use Rattle.erm_outside_mem.specs.DiskNotes.{change_of, steps_of};
+ghost use Rattle.std.specs.Prelude.{◌≡◌, ◌≤◌, ◌++◌, [], ◌∷◌, List, length, IsTrue, OnOk, OnErr, vec_capacity, ◌↔◌};
+ghost use Rattle.erm_outside.specs.Disk.{OnlyWaits, RemovalsLast};
+ghost use Rattle.erm_outside_mem.specs.DiskNotes.{IsRemoval, change_of, steps_of};
 ghost use Rattle.erm_outside_mem.specs.declared.notes.Done.{Done as DoneNote};
 
 use erm_outside::File;
@@ -43,6 +44,30 @@ pub fn note(done: &mut Vec<Done>, file: File, work: Work) -> Result<(), AllocErr
 {
     done.push(Done { file, work })?;
     Ok(())
+}
+
+/// Notes a wait for each file that was removed once.
+pub fn note_removals(done: &mut Vec<Done>) -> Result<(), AllocError>
+    ensures waits { OnlyWaits (steps_of done.old.items) (steps_of done.new.items) }
+    ensures last { OnOk result (RemovalsLast (steps_of done.new.items)) }
+    ensures full { OnErr result (vec_capacity done.old ≤ length (steps_of done.new.items)) }
+    ensures room { vec_capacity done.old ≤ vec_capacity done.new }
+{
+    for at in 0..done.len() {
+        let noted = &done[at];
+        let file = noted.file;
+        if is_removal(&noted.work) {
+            note(done, file, Work::Synced)?;
+        }
+    }
+    Ok(())
+}
+
+// Whether a note is that of a removal.
+fn is_removal(work: &Work) -> bool
+    ensures { IsTrue result ↔ IsRemoval work.now }
+{
+    matches!(work, Work::Removed)
 }
 
 /// Takes the last note back.

@@ -1,6 +1,6 @@
 //! A disk that tells nothing.
 ghost use Rattle.std.specs.Prelude.{◌≡◌, ◌≤◌, ◌⊎◌, length, None, IfOk, OnOk, OnErr, IfSome};
-ghost use Rattle.erm_outside.specs.Disk.{contents, Does, MayTry, Reads, IsNextSegment};
+ghost use Rattle.erm_outside.specs.Disk.{contents, Does, MayTry, OnlyWaits, Reads, RemovalsLast, Tells, IsNextSegment};
 ghost use Rattle.erm_outside.specs.Disk.Change.{Wrote, Synced, Removed};
 ghost use Rattle.erm_outside.specs.Faults.{Rose};
 
@@ -72,5 +72,14 @@ impl<D: Disk> Disk for Silent<D> {
         ensures failed { OnErr result (Rose (D.faults self.old.disk) (D.faults self.new.disk)) }
     {
         self.disk.remove(file)
+    }
+
+    fn sync_removals(&mut self) -> Result<(), Failed>
+        ensures waits { Tells OnlyWaits (D.told self.old.disk) (D.told self.new.disk) }
+        ensures last { OnOk result (IfSome (D.told self.new.disk) RemovalsLast) }
+        ensures sound { OnOk result (D.faults self.new.disk ≡ D.faults self.old.disk) }
+        ensures failed { OnErr result (Rose (D.faults self.old.disk) (D.faults self.new.disk)) }
+    {
+        self.disk.sync_removals()
     }
 }

@@ -216,6 +216,32 @@ impl<S: FileSystem + Drop> Folder<S> {
         self.sync_entries()
     }
 
+    /// Waits until each entry that was made or removed lasts, also by earlier processes: so does each removal, of whatever file. After a call
+    /// that failed each sync fails.
+    pub fn sync_removals(&mut self) -> io::Result<()>
+        ensures lasts { OnOk result (IfSome self.new.calls EntriesLast) }
+        ensures stuck { OnErr result (self.new.stuck ≡ true) }
+        ensures stays { self.old.stuck ≡ true → IsErr result }
+    {
+        if self.sync_failed {
+            return Err(io::Error::from(io::ErrorKind::Other));
+        }
+        let done = self.sync_found();
+        self.sync_failed = done.is_err();
+        done
+    }
+
+    // Syncs the folder where its entries may have changed, if it is there.
+    fn sync_found(&mut self) -> io::Result<()>
+        ensures lasts { OnOk result (IfSome self.new.calls EntriesLast) }
+        ensures stuck { self.new.stuck ≡ self.old.stuck }
+    {
+        if !self.is_there()? {
+            return Ok(());
+        }
+        self.sync_entries()
+    }
+
     // Syncs a file, if it is there.
     fn sync_bytes(&mut self, file: File) -> io::Result<()>
         requires { self.old.held ≡ true }

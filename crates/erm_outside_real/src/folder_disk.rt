@@ -1,6 +1,6 @@
 //! The disk in a folder of the system.
 ghost use Rattle.std.specs.Prelude.{◌≡◌, ◌≤◌, length, None, true, IfOk, IfSome, OnOk, OnErr, IsErr, Ok};
-ghost use Rattle.erm_outside_real.specs.Calls.{Lasts};
+ghost use Rattle.erm_outside_real.specs.Calls.{EntriesLast, Lasts};
 ghost use Rattle.erm_outside_real.specs.Faults.{CountsFault};
 ghost use Rattle.erm_outside_real.specs.FolderDisk.{opened};
 
@@ -152,6 +152,20 @@ impl<S: FileSystem + Drop> Disk for FolderDisk<S> {
         ensures stuck { self.new.stuck ≡ self.old.stuck }
     {
         let done = self.folder.remove(file);
+        self.counted(done)
+    }
+
+    fn sync_removals(&mut self) -> Result<(), Failed>
+        ensures counted { CountsFault self.old.faults self.new.faults result }
+
+        // Each entry of the folder is as it is and lasts, so that each removal does, of whatever file.
+        ensures lasts { OnOk result (IfSome self.new.calls EntriesLast) }
+
+        // After one that failed each fails.
+        ensures stuck { OnErr result (self.new.stuck ≡ true) }
+        ensures stays { self.old.stuck ≡ true → IsErr result }
+    {
+        let done = self.folder.sync_removals();
         self.counted(done)
     }
 }

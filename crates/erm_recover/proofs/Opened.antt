@@ -12,7 +12,7 @@ use Rattle.erm_block.specs.LogList.{End, IsChain, IsLogList, end_of}
 use Rattle.erm_block.specs.Spelling.{Spells, spelling}
 use Rattle.erm_block.proofs.OneSpelling.{length-spelling}
 use Rattle.erm_outside.specs.declared.disk.File.TheVariants.{Slot0, Slot1, Segment}
-use Rattle.erm_outside.specs.Disk.{EachImage, Image, IsImage, IsSettled, Step, Tells, changes_of, contents}
+use Rattle.erm_outside.specs.Disk.{EachImage, Image, IsImage, IsSettled, Step, Tells, changes_of, contents, OnlyWaits}
 use Rattle.erm_outside.proofs.Images.{reads_may_be}
 use Rattle.erm_log_words.specs.Tears.{IsFresh, ShowsBlock, Unread}
 use Rattle.erm_log_words.specs.Words.{Has, Spares, log_words}
@@ -28,8 +28,8 @@ use Rattle.erm_recover.specs.declared.recovered.Recovered.{Recovered}
 use Rattle.erm_recover.specs.Lists.{end_in}
 use Rattle.erm_recover.specs.Opening.{HoldsOpened, Opens, OpensTold, RecoversEither, open_block, opened}
 use Rattle.erm_recover.specs.Recovering.{IsRecovered, state_recovered}
-use Rattle.erm_recover.specs.Waiting.{OnlyWaits}
-use Rattle.erm_recover.proofs.Waits.{WaitsTold, reads_stay}
+use Rattle.erm_outside.proofs.Waits.{reads_stay}
+use Rattle.erm_recover.proofs.Waits.{WaitsTold}
 use Rattle.erm_recover.proofs.Chains.{IsChain-append, end_of-words, state_behind-append, state_behind-low}
 
 -- ---- the first segment keeps bytes

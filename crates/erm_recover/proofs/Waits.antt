@@ -1,4 +1,4 @@
--- Waiting changes nothing that reads give, and leaves nothing pending.
+-- Waiting leaves no more than before, and nothing pending.
 use Rattle.std.proofs.Common.{◌≡◌, ℕ, suc, ◌+◌, ◌<◌, ◌≤◌, ◌⊎◌, ◌++◌, Bool, true, false, if◌then◌else◌, List, [], ◌∷◌, Option, Some, None, refl, sym, ap, ◌∙◌, subst, inl, inr, arith, append_assoc}
 use Rattle.std.specs.Prelude.{IfSome, OnOk, Result, Ok, Err}
 use Rattle.std.specs.Option.{option_map}
@@ -6,35 +6,13 @@ use Rattle.std.proofs.lemmas.Bool.{cases_lt}
 use Rattle.std.proofs.lemmas.List.{append_cancel_right}
 use Rattle.erm_outside.specs.declared.disk.File.{File}
 use Rattle.erm_outside.specs.declared.disk.File.TheVariants.{Slot0, Slot1, Segment}
-use Rattle.erm_outside.specs.Disk.{Change, Does, Image, IsFileSettled, IsImage, IsSettled, MayBe, Step, Tells, bytes_after, changes_of, contents, same_file}
+use Rattle.erm_outside.specs.Disk.{AllWait, Change, Does, Image, IsFileSettled, IsImage, IsSettled, MayBe, OnlyWaits, RemovalsLast, Step, Tells, changes_of, same_file}
 use Rattle.erm_outside.specs.Disk.Change.{Synced}
 use Rattle.erm_outside.proofs.Images.{changes-same, reads_may_be}
+use Rattle.erm_outside.proofs.Waits.{removal_lasts, waited, waits_are}
 use Rattle.erm_log_disk.specs.Writes.{AllWriteWords, WritesWords}
 use Rattle.erm_log_disk.proofs.Trail.{pick}
-use Rattle.erm_recover.specs.Waiting.{AllWait, IsSettledBeyond, IsSettledIn, MaySettle, OnceSettled, OnlyWaits, Settles, SinceSettled, first_waited, last_waited}
-
--- a wait for a file
-abbrev pub waited : File → Step
-waited file = record { file = file; change = Synced }
-
-waits_are : (step : Step) → step.change ≡ Synced → step ≡ waited step.file
-waits_are step is = ap (λ (change : Change). let s : Step = record { file = step.file; change = change } in s) is
-
--- ---- what reads give
-
-reads_of_wait : (file other : File) (steps : List Step) → contents (waited other ∷ steps) file ≡ contents steps file
-reads_of_wait file other steps = pick (λ changes. bytes_after changes ≡ contents steps file) (same_file other file) (Synced ∷ changes_of file steps) (changes_of file steps) (λ same. refl) (λ not. refl)
-
-reads_wait : (more old : List Step) → AllWait more → (file : File) → contents (more ++ old) file ≡ contents old file
-reads_wait [] old waits file = refl
-reads_wait (step ∷ more) old (is, others) file =
-    ap (λ (s : Step). contents (s ∷ more ++ old) file) (waits_are step is) ∙ reads_of_wait file step.file (more ++ old) ∙ reads_wait more old others file
-
-same_reads : (more old : List Step) → AllWait more → contents (more ++ old) ≡ contents old
-same_reads more old waits = λ i file. reads_wait more old waits file i
-
-pub reads_stay : (old new : List Step) → OnlyWaits old new → contents new ≡ contents old
-reads_stay old new (more, split, waits) = ap (λ (s : List Step). contents s) split ∙ same_reads more old waits
+use Rattle.erm_recover.specs.Waiting.{IsSettledBeyond, IsSettledIn, IsSettledOrRemoved, MaySettle, OnceSettled, Settles, SinceSettled, first_waited, last_waited}
 
 -- ---- what a crash may leave
 
@@ -150,8 +128,34 @@ pub next_told : (first n : ℕ) (before after : Option (List Step)) → IfSome b
 next_told first n None after settled does = subst (λ (x : Option (List Step)). IfSome x (IsSettledIn first (n + 1))) (sym does) tt
 next_told first n (Some steps) after settled does = subst (λ (x : Option (List Step)). IfSome x (IsSettledIn first (n + 1))) (sym does) (settled_next first n steps settled)
 
+-- ---- removals
+
+-- nothing is pending but of the slots and of these segments
+abbrev IsSettledOff : ℕ → ℕ → List Step → Type 0
+IsSettledOff from place steps = (n : ℕ) → (n < first_waited from) ⊎ (last_waited place < n) → IsFileSettled (changes_of (Segment n) steps)
+
+either_wait : (file other : File) (steps : List Step) → IsSettledOrRemoved (changes_of file steps) → IsSettledOrRemoved (changes_of file (waited other ∷ steps))
+either_wait file other steps either = pick IsSettledOrRemoved (same_file other file) (Synced ∷ changes_of file steps) (changes_of file steps) (λ same. inl (λ left is. is)) (λ not. either)
+
+either_stays : (more old : List Step) → AllWait more → (file : File) → IsSettledOrRemoved (changes_of file old) → IsSettledOrRemoved (changes_of file (more ++ old))
+either_stays [] old waits file either = either
+either_stays (step ∷ more) old (is, others) file either =
+    subst (λ (s : Step). IsSettledOrRemoved (changes_of file (s ∷ more ++ old))) (sym (waits_are step is)) (either_wait file step.file (more ++ old) (either_stays more old others file either))
+
+-- while it is waited no more is pending than before
+pub beyond_stays : (from place : ℕ) (old new : List Step) → OnlyWaits old new → IsSettledBeyond from place old → IsSettledBeyond from place new
+beyond_stays from place old new (more, split, waits) beyond n out =
+    subst (λ (s : List Step). IsSettledOrRemoved (changes_of (Segment n) s)) (sym split) (either_stays more old waits (Segment n) (beyond n out))
+
+-- where removals were waited for, none of these segments has anything pending
+removals_last : (from place : ℕ) (old new : List Step) → OnlyWaits old new → RemovalsLast new → IsSettledBeyond from place old → IsSettledOff from place new
+removals_last from place old new waits last beyond n out = elim (beyond n out) [
+  | inl settled ↦ file_stays old new waits (Segment n) settled
+  | inr removed ↦ removal_lasts old new waits (Segment n) removed (last (Segment n))
+]
+
 -- and so the whole disk
-settled_all : (from place end : ℕ) (a b c d : List Step) → IsSettledBeyond from place a → b ≡ waited Slot0 ∷ a → c ≡ waited Slot1 ∷ b → OnlyWaits c d
+settled_all : (from place end : ℕ) (a b c d : List Step) → IsSettledOff from place a → b ≡ waited Slot0 ∷ a → c ≡ waited Slot1 ∷ b → OnlyWaits c d
     → IsSettledIn (first_waited from) end d → last_waited place < end → IsSettled d
 settled_all from place end a b c d beyond one other waits settled low Slot0 =
     file_stays c d waits Slot0 (subst (λ (s : List Step). IsFileSettled (changes_of Slot0 s)) (sym other)
@@ -171,18 +175,20 @@ settled_all from place end a b c d beyond one other waits settled low (Segment n
       ]
     ]
 
-pub all_told : (from place end : ℕ) (a b c d : Option (List Step)) → IfSome a (IsSettledBeyond from place) → Does Slot0 Synced a b → Does Slot1 Synced b c → WaitsTold c d
-    → IfSome d (IsSettledIn (first_waited from) end) → last_waited place < end → IfSome d IsSettled
-all_told from place end None b c d beyond one other waits settled low =
-    let at_b : b ≡ None = one in
+pub all_told : (from place end : ℕ) (z a b c d : Option (List Step)) → IfSome z (IsSettledBeyond from place) → WaitsTold z a → IfSome a RemovalsLast → Does Slot0 Synced a b → Does Slot1 Synced b c
+    → WaitsTold c d → IfSome d (IsSettledIn (first_waited from) end) → last_waited place < end → IfSome d IsSettled
+all_told from place end None a b c d beyond first last one other waits settled low =
+    let at_b : b ≡ None = one ∙ ap (option_map (λ (steps : List Step). waited Slot0 ∷ steps)) first in
     let at_c : c ≡ None = other ∙ ap (option_map (λ (steps : List Step). waited Slot1 ∷ steps)) at_b in
     let at_d : d ≡ None = subst (λ (x : Option (List Step)). WaitsTold x d) at_c waits in
     subst (λ (x : Option (List Step)). IfSome x IsSettled) (sym at_d) tt
-all_told from place end (Some old) b c d beyond one other waits settled low =
-    let at_c : c ≡ Some (waited Slot1 ∷ waited Slot0 ∷ old) = other ∙ ap (option_map (λ (steps : List Step). waited Slot1 ∷ steps)) one in
+all_told from place end (Some old) a b c d beyond (mid, told, first) last one other waits settled low =
+    let at_b : b ≡ Some (waited Slot0 ∷ mid) = one ∙ ap (option_map (λ (steps : List Step). waited Slot0 ∷ steps)) told in
+    let at_c : c ≡ Some (waited Slot1 ∷ waited Slot0 ∷ mid) = other ∙ ap (option_map (λ (steps : List Step). waited Slot1 ∷ steps)) at_b in
     let here = subst (λ (x : Option (List Step)). WaitsTold x d) at_c waits in
+    let off = removals_last from place old mid first (subst (λ (x : Option (List Step)). IfSome x RemovalsLast) told last) beyond in
     subst (λ (x : Option (List Step)). IfSome x IsSettled) (sym here.1)
-    (settled_all from place end old (waited Slot0 ∷ old) (waited Slot1 ∷ waited Slot0 ∷ old) here.0 beyond refl refl here.2
+    (settled_all from place end mid (waited Slot0 ∷ mid) (waited Slot1 ∷ waited Slot0 ∷ mid) here.0 off refl refl here.2
     (subst (λ (x : Option (List Step)). IfSome x (IsSettledIn (first_waited from) end)) here.1 settled) low)
 
 -- ---- what is so from the moment on at which nothing was pending

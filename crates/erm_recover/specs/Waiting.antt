@@ -1,18 +1,8 @@
 -- What an opening waits for before it writes.
-use Rattle.std.specs.Prelude.{◌≡◌, ℕ, ◌+◌, ◌/◌, ◌<◌, ◌≤◌, ◌⊎◌, List, [], ◌∷◌, ◌++◌}
+use Rattle.std.specs.Prelude.{ℕ, ◌+◌, ◌/◌, ◌<◌, ◌≤◌, ◌⊎◌, List}
 use Rattle.erm_model.specs.declared.limits.TheConstants.{SEGMENT_WORDS}
 use Rattle.erm_outside.specs.declared.disk.File.TheVariants.{Segment}
-use Rattle.erm_outside.specs.Disk.{IsFileSettled, IsSettled, Step, changes_of}
-use Rattle.erm_outside.specs.Disk.Change.{Synced}
-
--- each of these steps waits
-abbrev pub AllWait : List Step → Type 0
-AllWait [] = Unit {0}
-AllWait (step ∷ steps) = (step.change ≡ Synced) × AllWait steps
-
--- nothing else was done to a disk than to wait
-abbrev pub OnlyWaits : List Step → List Step → Type 0
-OnlyWaits old new = (more : List Step) × (new ≡ more ++ old) × AllWait more
+use Rattle.erm_outside.specs.Disk.{Change, IsFileSettled, IsRemovedLast, IsSettled, OnlyWaits, Step, changes_of}
 
 -- the first segment that an opening waits for, by the place where recovery begins: recovery reads none below
 abbrev pub first_waited : ℕ → ℕ
@@ -22,10 +12,15 @@ first_waited base = base / SEGMENT_WORDS
 abbrev pub last_waited : ℕ → ℕ
 last_waited place = place / SEGMENT_WORDS + 1
 
--- nothing is pending on a disk but of what an opening waits for: the slots, and the segments from the first such one to the last
+-- nothing of a file is pending, but where it was removed last: then the removal is, with what was pending before
+abbrev pub IsSettledOrRemoved : List Change → Type 0
+IsSettledOrRemoved changes = IsFileSettled changes ⊎ IsRemovedLast changes
+
+-- Nothing is pending on a disk but of what an opening waits for: the slots, the segments from the first such one to the last, and removals of
+-- others that were the last thing done to them.
 abbrev pub IsSettledBeyond : ℕ → ℕ → List Step → Type 0
 IsSettledBeyond base place steps =
-    (n : ℕ) → (n < first_waited base) ⊎ (last_waited place < n) → IsFileSettled (changes_of (Segment n) steps)
+    (n : ℕ) → (n < first_waited base) ⊎ (last_waited place < n) → IsSettledOrRemoved (changes_of (Segment n) steps)
 
 -- nothing is pending of the segments from one up to below another
 abbrev pub IsSettledIn : ℕ → ℕ → List Step → Type 0

@@ -1,7 +1,6 @@
 //! A law of waits. It holds for every value, and its function does nothing.
 ghost use Rattle.std.specs.Prelude.{◌≡◌, List};
-ghost use Rattle.erm_outside.specs.Disk.{Image, IsImage, IsSettled, Step, contents};
-ghost use Rattle.erm_recover.specs.Waiting.{OnlyWaits};
+ghost use Rattle.erm_outside.specs.Disk.{Image, IsImage, IsSettled, OnlyWaits, Step, contents};
 
 /// Where nothing was done to a disk but to wait, it reads as before, each image that a crash may leave is one that it might have left
 /// before, and where nothing was pending nothing is.

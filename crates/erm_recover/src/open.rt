@@ -81,7 +81,7 @@ fn open_words(at: Stamp, run: u64) -> [u64; FRAME_WORDS]
 }
 
 /// Opens the next run of a log: waits until all lasts that recovery read, both slots and the segments from the one where it began up
-/// to the one behind that of the place recovered; then writes its Open block there, and waits until it lasts. It answers the tail, the next
+/// to the one behind that of the place recovered, and each removal that an earlier run left pending; then writes its Open block there, and waits until it lasts. It answers the tail, the next
 /// free word behind the block. It takes no memory.
 pub fn open_log<D: Disk, L: RowLaw>(disk: &mut D, recovered: &Recovered) -> Result<Stamp, OpenStop>
     requires run { recovered.now.run < RUN_END }

@@ -1,4 +1,5 @@
-use Rattle.erm_recover.proofs.Waits.{disk_stays, images_stay, reads_stay}
+use Rattle.erm_outside.proofs.Waits.{reads_stay}
+use Rattle.erm_recover.proofs.Waits.{disk_stays, images_stay}
 use Rattle.erm_recover.proofs.laws.waits_add_nothing.Goals as goal
 
 pub returns-clause-reads : goal.returns-clause-reads

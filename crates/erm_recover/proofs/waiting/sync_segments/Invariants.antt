@@ -1,7 +1,7 @@
 use Rattle.std.proofs.Common.{◌≡◌}
 use Rattle.std.specs.Prelude.{IfSome}
-use Rattle.erm_outside.specs.Disk.{Tells}
-use Rattle.erm_recover.specs.Waiting.{IsSettledIn, OnlyWaits}
+use Rattle.erm_outside.specs.Disk.{OnlyWaits, Tells}
+use Rattle.erm_recover.specs.Waiting.{IsSettledIn}
 use Rattle.erm_recover.proofs.waiting.sync_segments.Given as goal
 
 -- those below `number` last
