@@ -1,5 +1,5 @@
 //! Two sessions on threads that are inside a call of theirs at once.
-ghost use Rattle.std.specs.Prelude.{◌≡◌, ◌<◌, false, IfOk};
+ghost use Rattle.std.specs.Prelude.{◌≡◌, ◌<◌, ◌≤◌, [], false, IfOk, length, vec_capacity};
 ghost use Rattle.std.specs.List.{All};
 ghost use Rattle.erm_engine.specs.Opened.{AreNew, IsNew, IsOpened};
 ghost use Rattle.erm_node.specs.Sound.{sound_law};
@@ -11,8 +11,9 @@ ghost use Rattle.erm_worker_cases.specs.Lines.{AreOf};
 use crate::meeting::{Meet, Meeting};
 use crate::runs::{line, put};
 use crossbeam_utils::Backoff;
-use erm_engine::{Opened, open};
-use erm_model::{OID_LIMIT, ROW_WORDS, Seat};
+use erm_beside::SharedSession;
+use erm_engine::{Opened, end_all, open};
+use erm_model::{OID_LIMIT, Phase, ROW_WORDS, Seat};
 use erm_node::{SoundRows, sound, zero_rows_are_not_reached};
 use erm_outside::Place;
 use erm_report::Answer;
@@ -83,10 +84,19 @@ fn two(rt: &impl Abort, alloc: Global) -> Result<Opened<SoundRows>, AllocError>
     open(alloc, &opening, 2)
 }
 
+// What a session is asked, with room for the answers.
+#[derive(Drop)]
+struct Part {
+    lines: Vec<ScriptLine>,
+    answers: Vec<Answer>,
+}
+
 // The transaction of a session, which puts in a table of its own: the first one in table 0.
-fn part(alloc: Global, seat: Seat) -> Result<Vec<ScriptLine>, Fail>
+fn part_of(alloc: Global, seat: Seat) -> Result<Part, Fail>
     requires seat { 0 < seat }
-    ensures { IfOk result (λ lines. AreOf seat lines.items) }
+    ensures lines { IfOk result (λ p. AreOf seat p.lines.items) }
+    ensures none { IfOk result (λ p. p.answers.items ≡ []) }
+    ensures room { IfOk result (λ p. length p.lines.items ≤ vec_capacity p.answers) }
 {
     let lines = vec![in alloc;
         line(seat, Command::Begin),
@@ -96,24 +106,25 @@ fn part(alloc: Global, seat: Seat) -> Result<Vec<ScriptLine>, Fail>
     if !are_of(&lines, seat) {
         return Err(Fail::new("these are no lines of a session"));
     }
-    Ok(lines)
+    let answers = room_for_answers(alloc, lines.as_slice())?;
+    Ok(Part { lines, answers })
 }
 
 // The job of a session that meets the other one.
 fn job<'a>(
-    alloc: Global,
     _table: &Table<SoundRows>,
     meeting: &'a Meeting,
     session: TableSession<SoundRows>,
-    seat: Seat,
-) -> Result<Job<Meet<'a, TableSession<SoundRows>>, Patience>, Fail>
-    requires new { (o : OpeningOf) × IsNew sound_law _table.now o seat session }
-    requires seat { 0 < seat }
-    ensures { IfOk result (λ j. IsJob (λ s. Stands sound_law _table.now s.session) (λ s. seat_of s.session) (λ s. own_of s.session) j) }
+    part: Part,
+    _seat: Seat,
+) -> Job<Meet<'a, TableSession<SoundRows>>, Patience>
+    requires new { (o : OpeningOf) × IsNew sound_law _table.now o _seat session }
+    requires lines { AreOf _seat part.lines.items }
+    requires none { part.answers.items ≡ [] }
+    requires room { length part.lines.items ≤ vec_capacity part.answers }
+    ensures { IsJob (λ s. Stands sound_law _table.now s.session) (λ s. seat_of s.session) (λ s. own_of s.session) result }
 {
-    let lines = part(alloc, seat)?;
-    let answers = room_for_answers(alloc, lines.as_slice())?;
-    Ok(Job {
+    Job {
         session: Meet {
             session,
             meeting,
@@ -123,49 +134,85 @@ fn job<'a>(
             left: MOST_WAITS,
             backoff: Backoff::new(),
         },
-        lines,
-        answers,
-    })
+        lines: part.lines,
+        answers: part.answers,
+        closed: None,
+        lacked: false,
+    }
 }
 
-// The jobs of two sessions that meet.
-fn jobs<'a>(
-    alloc: Global,
+// The jobs of two sessions that meet, for which there is room.
+fn put_jobs<'a>(
     table: &Table<SoundRows>,
     meeting: &'a Meeting,
     sessions: Vec<TableSession<SoundRows>>,
-) -> Result<Vec<Job<Meet<'a, TableSession<SoundRows>>, Patience>>, Fail>
+    first: Part,
+    second: Part,
+    jobs: &mut Vec<Job<Meet<'a, TableSession<SoundRows>>, Patience>>,
+)
     requires new { (o : OpeningOf) × AreNew sound_law table.now o 2 sessions.items }
-    ensures { IfOk result (λ jobs. All (λ j. IsJob (λ s. Stands sound_law table.now s.session) (λ s. seat_of s.session) (λ s. own_of s.session) j) jobs.items) }
+    requires first { AreOf 1 first.lines.items × (first.answers.items ≡ []) × (length first.lines.items ≤ vec_capacity first.answers) }
+    requires second { AreOf 2 second.lines.items × (second.answers.items ≡ []) × (length second.lines.items ≤ vec_capacity second.answers) }
+    requires none { jobs.old.items ≡ [] }
+    requires room { 2 ≤ vec_capacity jobs.old }
+    ensures { All (λ j. IsJob (λ s. Stands sound_law table.now s.session) (λ s. seat_of s.session) (λ s. own_of s.session) j) jobs.new.items }
 {
     let mut left = sessions.into_iter();
-    let Some(first) = left.next() else {
-        return Err(Fail::new("there is no session"));
+    let Some(one) = left.next() else {
+        unreachable!();
     };
-    let Some(second) = left.next() else {
-        return Err(Fail::new("there is one session"));
+    let Some(other) = left.next() else {
+        unreachable!();
     };
-    let first = job(alloc, table, meeting, first, 1)?;
-    let second = job(alloc, table, meeting, second, 2)?;
-    let jobs = vec![in alloc; first, second]?;
-    Ok(jobs)
+    left.destroy_empty();
+    jobs.push_reserved(job(table, meeting, one, first, 1));
+    jobs.push_reserved(job(table, meeting, other, second, 2));
+}
+
+// Each session has committed. It is idle, and given up.
+fn give_up<'a>(
+    rt: &impl Abort,
+    table: &Table<SoundRows>,
+    mut jobs: Vec<Job<Meet<'a, TableSession<SoundRows>>, Patience>>,
+)
+    requires stand { All (λ j. Stands sound_law table.now j.session.session) jobs.items }
+{
+    while let Some(job) = jobs.pop() {
+        let answer = job.answers.as_slice().last();
+        assert!(rt; matches!(answer, Some(Answer::Committed { .. })));
+        let Meet {
+            session,
+            meeting: _,
+            met: _,
+        } = job.session;
+        let Phase::Idle = session.phase(table) else {
+            panic!(rt; "a session that committed isn't idle");
+        };
+        session.into_pass();
+    }
+    jobs.destroy_empty();
 }
 
 // Each session enters its seal before the other one's is over: a lock round a call would keep it out.
 #[test]
 fn two_sessions_seal_at_once(rt: HostRuntime) -> Result<(), Fail> {
     let alloc = rt.alloc();
+    let first = part_of(alloc, 1)?;
+    let second = part_of(alloc, 2)?;
     let Opened {
         table,
         sessions,
-        ..
+        idle: _,
+        flush: _,
     } = two(&rt, alloc)?;
     let meeting = Meeting::new();
-    let jobs = jobs(alloc, &table, &meeting, sessions)?;
-    for back in &work_all(&rt, alloc, &table, jobs)? {
-        let answer = back.done.answers.as_slice().last();
-        assert!(rt; matches!(answer, Some(Answer::Committed { .. })));
-    }
+    let Ok(mut jobs) = Vec::with_capacity(alloc, 2) else {
+        end_all(sessions);
+        return Err(Fail::new("there is no room for jobs"));
+    };
+    put_jobs(&table, &meeting, sessions, first, second, &mut jobs);
+    work_all(&rt, alloc, &table, jobs.as_mut_slice());
+    give_up(&rt, &table, jobs);
     assert!(rt; !meeting.has_expired(), "both were entered");
     Ok(())
 }

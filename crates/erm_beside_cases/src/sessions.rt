@@ -17,7 +17,7 @@ const SESSIONS: Seat = 10;
 const LINES: usize = 8;
 
 // So many calls of an empty disk open its log.
-const OPENING: u64 = 12;
+const OPENING: u64 = 13;
 
 // A case: the call of the disk that fails, and whether one that the sessions' blocks need is among them. The first turn that finds a
 // block writes it, and then waits for it.

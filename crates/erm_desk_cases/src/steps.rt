@@ -1,5 +1,5 @@
 //! Steps of a desk that takes checkpoints, and of two sessions beside it, on one thread.
-ghost use Rattle.std.specs.Prelude.{◌≡◌, ◌≤◌, IfOk, None, vec_len};
+ghost use Rattle.std.specs.Prelude.{◌≡◌, ◌≤◌, IfOk, None, false, vec_len};
 ghost use Rattle.erm_engine.specs.Opened.{AreNew, IsOpened};
 ghost use Rattle.erm_model.specs.RowTransaction.{any_law};
 ghost use Rattle.erm_model.specs.declared.limits.TheConstants.{OID_LIMIT};
@@ -12,7 +12,7 @@ use erm_checkpoint::{CheckpointStop, Checkpointer};
 use erm_ckpt::{RowTest, Slot, Slots};
 use erm_desk::Naming;
 use erm_desk_checkpoint::CheckpointDesk;
-use erm_engine::{Opened, open};
+use erm_engine::{Opened, leave, open};
 use erm_flush::{FlushStop, Flusher};
 use erm_model::{AnyRows, OID_LIMIT, Oid, Outcome, Phase, ROW_WORDS, Row, RowLaw, Seat, Stamp};
 use erm_outside::Disk;
@@ -26,7 +26,7 @@ use std::marker::Brand;
 use std::test::Fail;
 
 /// So many calls of an empty disk open its log.
-pub const OPENING: u64 = 12;
+pub const OPENING: u64 = 13;
 
 // Where the log goes on once it is opened, and in which run.
 const TAIL: Stamp = 13;
@@ -200,13 +200,16 @@ fn crash_apart<B: Naming>(
     alloc: Global,
     desk: CheckpointDesk<AnyRows, Silent<MemDisk>, B>,
     pick: Pick,
-) -> Result<(CheckpointDesk<AnyRows, Silent<MemDisk>, B>, Told), Fail>
+) -> (
+    CheckpointDesk<AnyRows, Silent<MemDisk>, B>,
+    Result<Told, Fail>,
+)
     requires run { RUN ≡ B.start.run }
 {
     let (flusher, disk, pass, checkpointer, slots) = desk.into_parts();
-    let left = crash(alloc, &disk, pick)?;
+    let left = crash(alloc, &disk, pick);
     let desk = CheckpointDesk::of_parts(flusher, disk, pass, checkpointer, slots, RUN);
-    Ok((desk, left))
+    (desk, left)
 }
 
 // What the session of a seat does that is asked.
@@ -228,7 +231,7 @@ fn do_seat(
     do_session(table, second, SECOND, ask)
 }
 
-// A step of a desk and two sessions.
+// A step of a desk and two sessions. The desk comes back.
 fn step<B: Naming>(
     alloc: Global,
     table: &Table<AnyRows>,
@@ -236,7 +239,10 @@ fn step<B: Naming>(
     second: &mut TableSession<AnyRows>,
     mut desk: CheckpointDesk<AnyRows, Silent<MemDisk>, B>,
     ask: Ask,
-) -> Result<(CheckpointDesk<AnyRows, Silent<MemDisk>, B>, Told), Fail>
+) -> (
+    CheckpointDesk<AnyRows, Silent<MemDisk>, B>,
+    Result<Told, Fail>,
+)
     requires table { table.now.words.shared.table_id ≡ B.table }
     requires run { RUN ≡ B.start.run }
     requires first { Stands any_law table.now first.old }
@@ -247,24 +253,24 @@ fn step<B: Naming>(
     match ask {
         Ask::Turn => {
             let told = Told::Turned(desk.turn(table));
-            Ok((desk, told))
+            (desk, Ok(told))
         }
         Ask::Checkpoint => {
             let told = Told::Saved(desk.checkpoint_turn(table));
-            Ok((desk, told))
+            (desk, Ok(told))
         }
         Ask::Crash(pick) => crash_apart(alloc, desk, pick),
         Ask::Seal(seat, _) => {
             let did = do_seat(table, first, second, seat, ask);
-            Ok((desk, Told::Did(did)))
+            (desk, Ok(Told::Did(did)))
         }
         Ask::Settle(seat) => {
             let did = do_seat(table, first, second, seat, ask);
-            Ok((desk, Told::Did(did)))
+            (desk, Ok(Told::Did(did)))
         }
         Ask::Commit(seat, _) => {
             let did = do_seat(table, first, second, seat, ask);
-            Ok((desk, Told::Did(did)))
+            (desk, Ok(Told::Did(did)))
         }
     }
 }
@@ -273,31 +279,71 @@ fn step<B: Naming>(
 fn two_of(
     _table: &Table<AnyRows>,
     sessions: Vec<TableSession<AnyRows>>,
-) -> Result<(TableSession<AnyRows>, TableSession<AnyRows>), Fail>
+) -> (TableSession<AnyRows>, TableSession<AnyRows>)
     requires new { (o : OpeningOf) × AreNew any_law _table.now o 2 sessions.items }
-    ensures first { IfOk result (λ r. Stands any_law _table.now r.0) }
-    ensures second { IfOk result (λ r. Stands any_law _table.now r.1) }
+    ensures first { Stands any_law _table.now result.0 }
+    ensures second { Stands any_law _table.now result.1 }
 {
     let mut left = sessions.into_iter();
     let Some(first) = left.next() else {
-        return Err(Fail::new("there is no session"));
+        unreachable!();
     };
     let Some(second) = left.next() else {
-        return Err(Fail::new("there is one session"));
+        unreachable!();
     };
-    Ok((first, second))
+    left.destroy_empty();
+    (first, second)
 }
 
-// Sets a desk up beside two sessions, and takes the steps up to one of which the answer is another: its place, and that answer.
+// Takes the steps up to one of which the answer is another: its place, and that answer. The desk comes back.
+fn take_steps<B: Naming>(
+    alloc: Global,
+    table: &Table<AnyRows>,
+    first: &mut TableSession<AnyRows>,
+    second: &mut TableSession<AnyRows>,
+    mut desk: CheckpointDesk<AnyRows, Silent<MemDisk>, B>,
+    steps: &[Step],
+) -> (
+    CheckpointDesk<AnyRows, Silent<MemDisk>, B>,
+    Result<Option<(usize, Told)>, Fail>,
+)
+    requires table { table.now.words.shared.table_id ≡ B.table }
+    requires run { RUN ≡ B.start.run }
+    requires first { Stands any_law table.now first.old }
+    requires second { Stands any_law table.now second.old }
+    ensures first { Stands any_law table.now first.new }
+    ensures second { Stands any_law table.now second.new }
+{
+    for place in 0..steps.len() {
+        let (ask, want) = steps[place];
+        let (back, told) = step(alloc, table, first, second, desk, ask);
+        desk = back;
+        match told {
+            Ok(told) => {
+                if told != want {
+                    return (desk, Ok(Some((place, told))));
+                }
+            }
+            Err(fail) => return (desk, Err(fail)),
+        }
+    }
+    (desk, Ok(None))
+}
+
+// Sets a desk up beside two sessions, takes the steps up to one of which the answer is another, and gives the sessions up: its place, and that
+// answer.
 fn take<B: Naming>(
     alloc: Global,
     _opening: &Opening,
     opened: Opened<AnyRows>,
+    flusher: Flusher,
     disk: Silent<MemDisk>,
+    checkpointer: Checkpointer,
     slots: Slots,
     steps: &[Step],
 ) -> Result<Option<(usize, Told)>, Fail>
     requires opened { IsOpened any_law _opening.now 2 opened }
+    requires new { flusher ≡ false }
     requires tail { _opening.now.tail ≡ TAIL }
     requires run { _opening.now.run ≡ RUN }
     requires table { opened.table.words.shared.table_id ≡ B.table }
@@ -308,13 +354,11 @@ fn take<B: Naming>(
     let Opened {
         table,
         sessions,
+        idle: _,
         flush,
-        ..
     } = opened;
-    let (mut first, mut second) = two_of(&table, sessions)?;
-    let flusher = Flusher::new(alloc)?;
-    let checkpointer = Checkpointer::new(alloc)?;
-    let mut desk = CheckpointDesk::<AnyRows, Silent<MemDisk>, B>::with(
+    let (mut first, mut second) = two_of(&table, sessions);
+    let desk = CheckpointDesk::<AnyRows, Silent<MemDisk>, B>::with(
         flusher,
         disk,
         flush,
@@ -322,15 +366,11 @@ fn take<B: Naming>(
         slots,
         RUN,
     );
-    for place in 0..steps.len() {
-        let (ask, want) = steps[place];
-        let (back, told) = step(alloc, &table, &mut first, &mut second, desk, ask)?;
-        desk = back;
-        if told != want {
-            return Ok(Some((place, told)));
-        }
-    }
-    Ok(None)
+    let (desk, other) = take_steps(alloc, &table, &mut first, &mut second, desk, steps);
+    let (_, _, mut flush, _, _) = desk.into_parts();
+    leave(&table, &mut flush, first);
+    leave(&table, &mut flush, second);
+    other
 }
 
 // The opening of the log of an empty disk, whose slots say nothing.
@@ -374,6 +414,17 @@ pub fn first_other(
         .leaving(fronts);
     let mut disk = Silent { disk };
     let (opening, slots) = opened_log(alloc, &mut disk)?;
+    let flusher = Flusher::new(alloc)?;
+    let checkpointer = Checkpointer::new(alloc)?;
     let opened = open::<AnyRows>(alloc, &opening, 2)?;
-    take::<Brand>(alloc, &opening, opened, disk, slots, steps)
+    take::<Brand>(
+        alloc,
+        &opening,
+        opened,
+        flusher,
+        disk,
+        checkpointer,
+        slots,
+        steps,
+    )
 }

@@ -1,30 +1,20 @@
 -- The passes of sessions are taken in.
-use Rattle.std.proofs.Common.{◌≡◌, ℕ, zero, suc, ◌<◌, false, List, [], ◌∷◌, ◌++◌, length, map, append_assoc, refl, sym, ap, ◌∙◌, subst, arith}
+use Rattle.std.proofs.Common.{◌≡◌, ℕ, zero, suc, ◌<◌, List, [], ◌∷◌, ◌++◌, length, map, append_assoc, refl, sym, ap, ◌∙◌, subst, arith}
 use Rattle.std.specs.Prelude.{slice_get, Some}
 use Rattle.erm_model.specs.Member.{◌∈◌}
-use Rattle.erm_model.specs.RowTransaction.{Law}
 use Rattle.erm_machine.specs.declared.place.Place.TheVariants.{Idle}
 use Rattle.erm_machine.specs.Core.{fresh_part}
-use Rattle.erm_machine.specs.Seat.{is_vacant}
 use Rattle.erm_machine.proofs.Listed.{∈-head, ∈-second}
 use Rattle.erm_rule.specs.declared.view.Book.{Book}
 use Rattle.erm_rule.specs.declared.view.View.{View}
 use Rattle.erm_rule.specs.Books.{both_books}
-use Rattle.erm_rule.specs.Views.{MayJoin, one_seat, part_of}
-use Rattle.erm_own_view.specs.Own.{MayCall}
-use Rattle.erm_own_view.proofs.Own.{between_held}
+use Rattle.erm_rule.specs.Views.{MayJoin, one_seat}
 use Rattle.erm_engine.specs.Taken.{HasTaken}
 use Rattle.erm_engine.proofs.Taken.{one_taken, then_taken}
 
 -- A PASS OF ONE SEAT may be taken in.
-pub one_joins : (seat : ℕ) (v : View) → v ≡ one_seat seat (part_of v seat) → is_vacant (part_of v seat).place ≡ false → MayJoin v
-one_joins seat v lone here = subst MayJoin (sym lone) (record { some_held = omega arith; taken = here })
-
 pub idle_joins : (seat run place : ℕ) (v : View) → v ≡ one_seat seat (fresh_part Idle run place) → MayJoin v
 idle_joins seat run place v lone = subst MayJoin (sym lone) (record { some_held = omega arith; taken = refl })
-
-pub may_join : (law : Law) (seat tail flushed : ℕ) (b : Book) → MayCall law seat tail flushed b → MayJoin b.view
-may_join law seat tail flushed b may = one_joins seat b.view may.lone (between_held (part_of b.view seat).place (part_of b.view seat).task may.between)
 
 -- ONE MORE
 map_push : {X Y : Type 0} (f : X → Y) (xs : List X) (x : X) → map f (xs ++ x ∷ []) ≡ map f xs ++ f x ∷ []

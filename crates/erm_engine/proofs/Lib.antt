@@ -6,6 +6,7 @@ pub mod Joined
 pub mod Unflushed
 pub mod Resting
 pub mod Joining
+pub mod GivenUp
 pub mod Seats
 pub mod Ranges
 pub mod Flushed

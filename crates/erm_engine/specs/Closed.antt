@@ -3,6 +3,8 @@ use Rattle.std.specs.Prelude.{◌≡◌, ◌≢◌, ℕ, ◌+◌, ◌<◌, ◌�
 use Rattle.atomic_table.specs.declared.shared.Seat.{Seat}
 use Rattle.atomic_table.specs.Seated.{TableId}
 use Rattle.erm_model.specs.declared.limits.TheConstants.{SESSIONS}
+use Rattle.erm_model.specs.declared.outcome.Phase.TheVariants as Phase
+use Rattle.erm_model.specs.declared.outcome.Phase.TheVariants.{Active}
 use Rattle.erm_model.specs.RowTransaction.{Law}
 use Rattle.erm_model.specs.Member.{◌∈◌}
 use Rattle.erm_machine.specs.declared.limits.TheConstants.{FLUSH_SEAT}
@@ -17,11 +19,20 @@ use Rattle.erm_rule.specs.Steps.{Fits}
 use Rattle.erm_rule.specs.Views.{EachOnce, MayJoin, one_seat, view}
 use Rattle.erm_shared_session.specs.declared.session.TableSession.{TableSession}
 use Rattle.erm_shared_session.specs.Stands.{Stands, own_of, seat_of}
+use Rattle.erm_world.specs.World.{phase_at}
 use Rattle.erm_engine.specs.Ended.{HasClosed, HasEnded, IsUntouched, world_of}
 
 -- each may be called on the table, and they stand in the order of their seats, from 1 on
 abbrev pub AreDone : {L : Type 0} → Law → Table L → List (TableSession L) → Type 0
 AreDone {L} law table ss = (k : ℕ) (s : TableSession L) → slice_get ss k ≡ Some s → Stands law table s × (seat_of s ≡ k + 1)
+
+-- none has a transaction in progress
+abbrev pub AllRest : {L : Type 0} → List (TableSession L) → Type 0
+AllRest {L} ss = (k : ℕ) (s : TableSession L) → slice_get ss k ≡ Some s → phase_at (own_of s) (seat_of s) ≡ Active → ⊥
+
+-- all are idle
+abbrev pub AllIdle : {L : Type 0} → List (TableSession L) → Type 0
+AllIdle {L} ss = (k : ℕ) (s : TableSession L) → slice_get ss k ≡ Some s → phase_at (own_of s) (seat_of s) ≡ Phase.Idle
 
 -- each is one of the table's passes, and may be taken in
 abbrev pub MayBeTaken : TableId → List (Seat (Unit {0}) Book) → Type 0

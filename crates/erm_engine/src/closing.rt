@@ -1,6 +1,6 @@
 //! The end: all passes are joined, and the table is closed.
 ghost use Rattle.std.specs.Prelude.{◌≡◌, ℕ, ◌<◌, ◌≤◌, ◌++◌, length, map};
-ghost use Rattle.erm_engine.specs.Closed.{AreDone, AreJoined, ClosesJoined, HaveEnded};
+ghost use Rattle.erm_engine.specs.Closed.{AllRest, AreDone, AreJoined, ClosesJoined, HaveEnded};
 ghost use Rattle.erm_engine.specs.Opened.{AreIdle};
 ghost use Rattle.erm_engine.specs.Taken.{HasTaken};
 ghost use Rattle.erm_machine.specs.declared.limits.TheConstants.{FLUSH_SEAT};
@@ -17,7 +17,7 @@ use erm_rule::{Pass, Table};
 use erm_shared_session::TableSession;
 
 /// Takes the passes of all sessions into that of the flush seat, which is between two turns and has no pin: once the sessions have run,
-/// each may stand wherever it may be called.
+/// each may stand wherever it may be called, and has no transaction in progress.
 pub fn join_all<L: RowLaw>(
     table: &Table<L>,
     flush: &mut Pass,
@@ -29,6 +29,7 @@ pub fn join_all<L: RowLaw>(
     requires gathers { MayGather (view flush.old) }
     requires unpinned { (part_of (view flush.old) FLUSH_SEAT).place ≡ Idle }
     requires sessions { AreDone L.law table.now sessions.items }
+    requires rests { AllRest sessions.items }
     requires idle { (run : ℕ) × (place : ℕ) × AreIdle table.now.words.shared.table_id run place (length sessions.items) SESSIONS idle.items }
     ensures fits { Fits table.now.words.shared.table_id flush.new }
     ensures joined { AreJoined L.law table.now sessions.items (book flush.new) }
@@ -51,8 +52,8 @@ pub fn close_joined<L: RowLaw>(table: Table<L>, pass: Pass) -> Stamp
     erm_rule::close(table, pass)
 }
 
-/// Closes a table, once its sessions have run: each may stand wherever it may be called, and where it is sealed its commit isn't decided. The flush
-/// seat is between two turns, and has no pin. The answer is the log's end. There is one world in which all have ended, each with what it
+/// Closes a table, once its sessions have run: each may stand wherever it may be called, and has no transaction in progress; where it is sealed its
+/// commit isn't decided. The flush seat is between two turns, and has no pin. The answer is the log's end. There is one world in which all have ended, each with what it
 /// has done as it knows it.
 pub fn close<L: RowLaw>(
     table: Table<L>,
@@ -67,6 +68,7 @@ pub fn close<L: RowLaw>(
     requires gathers { MayGather (view flush) }
     requires unpinned { (part_of (view flush) FLUSH_SEAT).place ≡ Idle }
     requires sessions { AreDone L.law table sessions.items }
+    requires rests { AllRest sessions.items }
     requires idle { (run : ℕ) × (place : ℕ) × AreIdle table.words.shared.table_id run place (length sessions.items) SESSIONS idle.items }
     ensures { HaveEnded L.law table.words.shared.key sessions.items (book flush) result }
 {

@@ -3,6 +3,7 @@ ghost use Rattle.std.specs.Prelude.{◌≡◌, ◌+◌, ◌<◌, ◌≤◌, IfOk
 ghost use Rattle.erm_engine.specs.Opened.{AreIdle, AreNew, HasGiven, IsGiven};
 ghost use Rattle.erm_model.specs.declared.limits.TheConstants.{LAST_RUN, SESSIONS};
 
+use crate::leaving::end_all;
 use erm_machine::SESSIONS;
 use erm_model::{RowLaw, Seat};
 use erm_rule::{Opening, Pass, Table, split};
@@ -42,9 +43,17 @@ pub(crate) fn give_sessions<L: RowLaw>(
 {
     let mut sessions = Vec::with_capacity(alloc, count as usize)?;
     for q in 0..count {
-        let session = Session::new(alloc, q + 1, opening.run)?;
-        let pass = give(t, p, opening, q);
-        sessions.push_reserved(TableSession::new(t, session, pass, opening.tail, opening.tail));
+        match Session::new(alloc, q + 1, opening.run) {
+            Ok(session) => {
+                let pass = give(t, p, opening, q);
+                let given = TableSession::new(t, session, pass, opening.tail, opening.tail);
+                sessions.push_reserved(given);
+            }
+            Err(lack) => {
+                end_all(sessions);
+                return Err(lack);
+            }
+        }
     }
     Ok(sessions)
 }

@@ -4,10 +4,12 @@
 
 mod closing;
 mod giving;
+mod leaving;
 mod opening;
 mod taking;
 #[cfg(test)]
 mod tests;
 
 pub use closing::{close, close_joined, join_all};
+pub use leaving::{end_all, leave};
 pub use opening::{Opened, open};

@@ -6,13 +6,14 @@ ghost use Rattle.erm_model.specs.declared.TheConstants.{ROW_WORDS};
 ghost use Rattle.erm_model.specs.Rows.{rows_of};
 
 use crate::giving::{give_idle, give_sessions};
+use crate::leaving::end_all;
 use erm_model::{Row, RowLaw, Seat};
 use erm_rule::{Opening, Pass, Table};
 use erm_shared_session::TableSession;
 use std::alloc::{AllocError, Global};
 
-/// A table that was just opened, its sessions, each with the pass of its own seat, and the pass of the flush seat.
-#[derive(Drop)]
+/// A table that was just opened, its sessions, each with the pass of its own seat, and the pass of the flush seat. It is taken apart, and can't be let
+/// go, as its sessions can't.
 pub struct Opened<L: RowLaw> {
     pub table: Table<L>,
     /// The sessions that run, in the order of their seats, from 1 on.
@@ -53,11 +54,16 @@ pub fn open<L: RowLaw>(
     rows_are_whole(opening.rows.as_slice());
     let (table, mut flush) = erm_rule::open(alloc, opening)?;
     let given = give_sessions(alloc, &table, &mut flush, opening, sessions)?;
-    let idle = give_idle(alloc, &table, &mut flush, opening, sessions)?;
-    Ok(Opened {
-        table,
-        sessions: given,
-        idle,
-        flush,
-    })
+    match give_idle(alloc, &table, &mut flush, opening, sessions) {
+        Ok(idle) => Ok(Opened {
+            table,
+            sessions: given,
+            idle,
+            flush,
+        }),
+        Err(lack) => {
+            end_all(given);
+            Err(lack)
+        }
+    }
 }

@@ -1,7 +1,8 @@
 //! A pass takes in those of sessions.
-ghost use Rattle.std.specs.Prelude.{map};
-ghost use Rattle.erm_engine.specs.Closed.{AreDone, MayBeTaken};
+ghost use Rattle.std.specs.Prelude.{◌≡◌, map};
+ghost use Rattle.erm_engine.specs.Closed.{AreDone, AllRest, MayBeTaken};
 ghost use Rattle.erm_engine.specs.Taken.{HasTaken};
+ghost use Rattle.erm_ring.specs.Turns.{MayGather};
 ghost use Rattle.erm_rule.specs.Books.{book};
 ghost use Rattle.erm_rule.specs.Steps.{Fits};
 ghost use Rattle.erm_rule.specs.Views.{MayJoin, view};
@@ -10,17 +11,21 @@ use erm_model::RowLaw;
 use erm_rule::{Pass, Table, join};
 use erm_shared_session::TableSession;
 
-// Takes in the passes of sessions, which are given up.
+// Takes the passes of sessions, which are given up, into that of the flush seat.
 pub(crate) fn take_sessions<L: RowLaw>(t: &Table<L>, p: &mut Pass, sessions: Vec<TableSession<L>>)
     requires fits { Fits t.now.words.shared.table_id p.old }
     requires joins { MayJoin (view p.old) }
+    requires gathers { MayGather (view p.old) }
     requires stand { AreDone L.law t.now sessions.items }
+    requires rests { AllRest sessions.items }
     ensures fits { Fits t.now.words.shared.table_id p.new }
     ensures taken { HasTaken (map (λ s. book s.pass) sessions.items) (book p.old) (book p.new) }
 {
-    for session in sessions {
-        join(t, p, session.into_pass());
+    let mut left = sessions.into_iter();
+    while let Some(session) = left.next() {
+        session.join_into(t, p);
     }
+    left.destroy_empty();
 }
 
 // Takes in passes of single seats.

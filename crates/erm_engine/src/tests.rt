@@ -1,11 +1,13 @@
 //! Tests of the beginning and the end.
 ghost use Rattle.std.specs.Prelude.{◌≡◌, ◌<◌, ◌≤◌, IfOk, length, vec_len};
-ghost use Rattle.erm_engine.specs.Closed.{AreDone};
+ghost use Rattle.erm_engine.specs.Closed.{AllRest, AreDone};
 ghost use Rattle.erm_engine.specs.Opened.{IsOpened};
 ghost use Rattle.erm_model.specs.RowTransaction.{any_law};
 ghost use Rattle.erm_model.specs.declared.limits.TheConstants.{LAST_RUN, OID_LIMIT};
+ghost use Rattle.erm_model.specs.declared.outcome.Phase.TheVariants.{Active};
 ghost use Rattle.erm_rule.specs.declared.view.Opening.{Opening as OpeningOf};
-ghost use Rattle.erm_shared_session.specs.Stands.{Stands, seat_of};
+ghost use Rattle.erm_shared_session.specs.Stands.{Stands, own_of, seat_of};
+ghost use Rattle.erm_world.specs.World.{phase_at};
 
 use crate::{Opened, close, open};
 use erm_beside::SharedSession;
@@ -159,6 +161,30 @@ fn row_at(
     row_of(table, &mut sessions[place], oid)
 }
 
+// Aborts the session's transaction where it is in progress.
+fn rest(table: &Table<AnyRows>, session: &mut TableSession<AnyRows>)
+    requires stands { Stands any_law table.now session.old }
+    ensures stands { Stands any_law table.now session.new }
+    ensures seat { seat_of session.new ≡ seat_of session.old }
+    ensures rests { phase_at (own_of session.new) (seat_of session.new) ≡ Active → ⊥ }
+{
+    if let Phase::Active = session.phase(table) {
+        session.abort(table);
+    }
+}
+
+// So do all.
+fn rest_all(table: &Table<AnyRows>, sessions: &mut Vec<TableSession<AnyRows>>)
+    requires done { AreDone any_law table.now sessions.old.items }
+    ensures done { AreDone any_law table.now sessions.new.items }
+    ensures count { vec_len sessions.new ≡ vec_len sessions.old }
+    ensures rests { AllRest sessions.new.items }
+{
+    for place in 0..sessions.len() {
+        rest(table, &mut sessions[place]);
+    }
+}
+
 // Each of two sessions commits a row, and reads the other's. Then all passes are joined, and the table is closed where its log ends.
 #[test]
 fn sessions_commit_and_end(rt: HostRuntime) -> Result<(), Fail> {
@@ -180,6 +206,7 @@ fn sessions_commit_and_end(rt: HostRuntime) -> Result<(), Fail> {
     );
     assert!(rt; row_at(&table, &mut sessions, 0, 8) == Some([80; ROW_WORDS]));
     assert!(rt; row_at(&table, &mut sessions, 1, 7) == Some([70; ROW_WORDS]));
+    rest_all(&table, &mut sessions);
     let end = close(table, sessions, idle, flush);
     assert!(rt; end > 13, "behind both blocks");
     Ok(())

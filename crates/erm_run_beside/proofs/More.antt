@@ -1,6 +1,6 @@
 -- Jobs, one after another.
-use Rattle.std.proofs.Common.{◌≡◌, ℕ, zero, suc, ◌+◌, ◌<◌, ◌≤◌, ⊎_elim, List, [], ◌∷◌, ◌++◌, length, map, refl, sym, ap, ◌∙◌, subst, arith}
-use Rattle.std.specs.Prelude.{slice_get, Some}
+use Rattle.std.proofs.Common.{◌≡◌, ℕ, zero, suc, ◌+◌, ◌<◌, ◌≤◌, ⊎_elim, true, false, List, [], ◌∷◌, ◌++◌, length, map, take, drop, refl, sym, ap, ◌∙◌, subst, arith}
+use Rattle.std.specs.Prelude.{slice_get, ◌↔◌, IsSome, Option, None, Some}
 use Rattle.std.proofs.lemmas.List.{length-append}
 use Rattle.erm_model.proofs.Members.{slice_get-push}
 use Rattle.erm_script.specs.declared.script.ScriptLine.{ScriptLine}
@@ -69,6 +69,12 @@ pub comes_within : {X : Type 0} (gone left rest all : List X) (x : X) → gone +
 comes_within {X} gone left rest all x whole is =
     let a = length-append gone left in let b = ap (λ (l : List X). length l) whole in let e = ap (λ (l : List X). length l) is in omega (arith, a, b, e)
 
+-- what gives nothing has nothing left
+pub none_came : {X : Type 0} (r : Option X) (left : ℕ) → (IsSome r ↔ (0 < left)) → ((x : X) → r ≡ Some x → ⊥) → left ≡ 0
+none_came None zero is not = refl
+none_came None (suc left) is not = absurd (let no : false ≡ true = is.1 (omega arith) in cc)
+none_came (Some x) left is not = absurd (not x refl)
+
 pub all_made : {S T P : Type 0} (items : P → List ScriptLine) (ss some : List S) (ps gone : List P) (left : List P) (js : List (Job S T)) → length ss ≡ length ps → some ≡ ss → gone ++ left ≡ ps
     → length gone ≡ length some → AreJobs some (map items gone) js → AreJobs ss (map items ps) js
 all_made {S} {T} {P} items ss some ps gone left js many same whole long are =
@@ -77,6 +83,18 @@ all_made {S} {T} {P} items ss some ps gone left js many same whole long are =
     let e = ap (λ (l : List S). length l) same in
     let none : length left ≡ 0 = omega (arith, a, b, e, many, long) in
     subst (λ (xs : List S). AreJobs xs (map items ps) js) same (subst (λ (xs : List P). AreJobs some (map items xs) js) (whole_now gone left ps whole none) are)
+
+-- IN PLACE of a vector's items, as many others
+pub put_back : {X : Type 0} (n : ℕ) (xs ys : List X) → length xs ≡ length ys → n ≡ length ys → take n (xs ++ drop (length xs) ys) ≡ xs
+put_back {X} n [] [] long is = let none : List X = [] in subst (λ (m : ℕ). take m none ≡ none) (sym is) refl
+put_back n [] (y ∷ ys) long is = absurd (omega (arith, long))
+put_back n (x ∷ xs) [] long is = absurd (omega (arith, long))
+put_back zero (x ∷ xs) (y ∷ ys) long is = absurd (omega (arith, is))
+put_back {X} (suc n) (x ∷ xs) (y ∷ ys) long is = ap (λ (l : List X). x ∷ l) (put_back n xs ys (omega (arith, long)) (omega (arith, is)))
+
+-- the same jobs, of the same lines
+pub same_jobs : {S T : Type 0} (ss : List S) (ps qs : List (List ScriptLine)) (js ys : List (Job S T)) → qs ≡ ps → js ≡ ys → AreJobs ss qs ys → AreJobs ss ps js
+same_jobs {S} {T} ss ps qs js ys lines same are = subst (λ (ls : List (List ScriptLine)). AreJobs ss ls js) lines (subst (λ (xs : List (Job S T)). AreJobs ss qs xs) (sym same) are)
 
 -- AMOUNTS of all that came, put together: it is no less than that of each
 pub each_more : {X : Type 0} (amount : X → ℕ) (gone : List X) (x : X) (before now : ℕ) → ((k : ℕ) (y : X) → slice_get gone k ≡ Some y → amount y ≤ before) → now ≡ before + amount x

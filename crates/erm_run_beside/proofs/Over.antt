@@ -5,7 +5,7 @@ use Rattle.std.specs.declared.alloc.AllocError.{AllocError}
 use Rattle.std.specs.declared.alloc.Global.{Global}
 use Rattle.std.proofs.lemmas.List.{length-map}
 use Rattle.std.proofs.lemmas.Option.{slice_get_cases}
-use Rattle.erm_model.specs.declared.outcome.Phase.TheVariants.{Idle, Sealed}
+use Rattle.erm_model.specs.declared.outcome.Phase.TheVariants.{Active, Idle, Sealed}
 use Rattle.erm_model.specs.RowTransaction.{Law}
 use Rattle.erm_outside.specs.Disk.{Step}
 use Rattle.erm_report.specs.declared.answer.Answer.{Answer}
@@ -22,7 +22,7 @@ use Rattle.erm_threads.specs.declared.job.Done.{Done}
 use Rattle.erm_threads.proofs.Closed.{closed_idle}
 use Rattle.erm_threads.proofs.Jobs.{map_from, there_is}
 use Rattle.erm_threads.specs.Work.{DidWork}
-use Rattle.erm_engine.specs.Closed.{AreDone}
+use Rattle.erm_engine.specs.Closed.{AllRest, AreDone}
 use Rattle.erm_engine.specs.Ended.{HasEnded, world_of}
 use Rattle.erm_engine.specs.Opened.{opened_view}
 use Rattle.erm_engine.proofs.Joined.{at_within}
@@ -43,6 +43,18 @@ all_done {L} law table o parts done ss is worked = λ k s at.
     let p = at_within parts k (let many = worked.many in omega (arith, less, many)) in
     let w = worked.each k p.0 d.0 p.1 d.1 in
     subst (λ (x : TableSession L). Stands law table x × (seat_of x ≡ k + 1)) d.2 (w.stands, w.seat_is)
+
+-- and none of them has a transaction in progress
+pub all_rest : {L : Type 0} (law : Law) (table : Table L) (o : Opening) (parts : List (List ScriptLine)) (done : List (Done (TableSession L))) (ss : List (TableSession L))
+    → ss ≡ map (λ d. d.session) done → AreWorked law table o parts done → AllRest ss
+all_rest {L} law table o parts done ss is worked = λ k s at active.
+    let d = map_from (λ (x : Done (TableSession L)). x.session) done k s (subst (λ (l : List (TableSession L)). slice_get l k ≡ Some s) is at) in
+    let less = there_is done k d.0 d.1 in
+    let p = at_within parts k (let many = worked.many in omega (arith, less, many)) in
+    let w = worked.each k p.0 d.0 p.1 d.1 in
+    w.rests
+    (subst (λ (q : ℕ). phase_at (own_of d.0.session) q ≡ Active) w.seat_is
+    (subst (λ (x : TableSession L). phase_at (own_of x) (seat_of x) ≡ Active) (sym d.2) active))
 
 -- UNLESS THE DISK FAILED all lines of a session were answered, and it doesn't wait.
 all_answered : {L : Type 0} (failed : Bool) (seat : ℕ) (lines : List ScriptLine) (d : Done (TableSession L)) → length d.answers.items ≤ length lines → IsWholeUnless (failed ≡ true) seat lines d

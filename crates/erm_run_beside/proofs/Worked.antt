@@ -1,5 +1,5 @@
 -- The jobs of sessions just opened may be worked, and what their workers did.
-use Rattle.std.proofs.Common.{◌≡◌, ℕ, ◌+◌, ◌<◌, ◌≤◌, ◌⊎◌, Bool, true, false, List, length, map, inl, inr, sym, ap, ◌∙◌, subst, arith}
+use Rattle.std.proofs.Common.{◌≡◌, ℕ, ◌+◌, ◌<◌, ◌≤◌, ◌⊎◌, Bool, true, false, List, ◌++◌, length, map, take, drop, inl, inr, sym, ap, ◌∙◌, subst, arith}
 use Rattle.std.specs.Prelude.{slice_get, vec_capacity, None, Some}
 use Rattle.std.specs.List.{All}
 use Rattle.std.proofs.lemmas.List.{length-map}
@@ -18,12 +18,12 @@ use Rattle.erm_world.specs.World.{View, phase_at}
 use Rattle.erm_worker.specs.Work.{IsReady, MayBeAsked}
 use Rattle.erm_threads.specs.declared.job.Done.{Done}
 use Rattle.erm_threads.specs.declared.job.Job.{Job}
-use Rattle.erm_threads.specs.declared.job.Returned.{Returned}
-use Rattle.erm_threads.specs.Work.{AllLeftWhenTold, AllWorked, DidWork, IsJob, LeftWhenTold, Worked}
+use Rattle.erm_threads.specs.Work.{AllLeftWhenTold, AllWorked, DidWork, IsJob, LeftWhenTold, Worked, done_of}
 use Rattle.erm_threads.proofs.Jobs.{map_from, there_is}
 use Rattle.erm_engine.specs.Opened.{AreNew, IsNew, opened_view}
 use Rattle.erm_engine.proofs.Joined.{at_within}
 use Rattle.erm_run_beside.specs.Jobs.{AreJobs, AreLines, IsJobOf}
+use Rattle.erm_run_beside.proofs.More.{put_back}
 use Rattle.erm_run_beside.specs.Ended.{AreWholeUnless, AreWorked, HasWorked, IsWholeUnless}
 
 -- ONE JOB may be worked
@@ -74,49 +74,60 @@ one_worked {L} law table o seat s ls j d new is w =
           (subst (λ (v : View). DidWork f (seat_of j.session) j.lines.items d.answers.items d.closed v (own_of d.session)) own (w.did whole f end)));
     }
 
-pub all_worked : {L T : Type 0} (law : Law) (table : Table L) (o : Opening) (count : ℕ) (ss : List (TableSession L)) (ps : List (List ScriptLine)) (js : List (Job (TableSession L) T))
-    (done : List (Done (TableSession L))) → AreNew law table o count ss → AreJobs ss ps js → length done ≡ length js → AllWorked (Stands law table) seat_of own_of (Ends law) js done
-    → AreWorked law table o ps done
-all_worked law table o count ss ps js done new are long worked = record {
-  many = long ∙ are.lines;
+-- and all of them, which their workers left in their jobs
+all_back : {L T : Type 0} (law : Law) (table : Table L) (o : Opening) (count : ℕ) (ss : List (TableSession L)) (ps : List (List ScriptLine)) (js : List (Job (TableSession L) T))
+    (back : List (Job (TableSession L) T)) (done : List (Done (TableSession L))) → done ≡ map done_of back → AreNew law table o count ss → AreJobs ss ps js → length back ≡ length js
+    → AllWorked (Stands law table) seat_of own_of (Ends law) js back → AreWorked law table o ps done
+all_back {L} {T} law table o count ss ps js back done is new are long worked = record {
+  many = ap (λ (l : List (Done (TableSession L))). length l) is ∙ length-map back (λ (b : Job (TableSession L) T). done_of b) ∙ long ∙ are.lines;
   each = λ k ls d at_p at_d.
-      let less = there_is done k d at_d in
+      let b = map_from (λ (x : Job (TableSession L) T). done_of x) back k d (subst (λ (l : List (Done (TableSession L))). slice_get l k ≡ Some d) is at_d) in
+      let less = there_is back k b.0 b.1 in
       let many = are.many in
       let s = at_within ss k (omega (arith, less, many, long)) in
       let j = at_within js k (omega (arith, less, long)) in
-      one_worked law table o (k + 1) s.0 ls j.0 d (new.each k s.0 s.1) (are.each k s.0 ls j.0 s.1 at_p j.1) (worked k j.0 d j.1 at_d);
+      subst (λ (x : Done (TableSession L)). HasWorked law table o (k + 1) ls x) b.2
+      (one_worked law table o (k + 1) s.0 ls j.0 (done_of b.0) (new.each k s.0 s.1) (are.each k s.0 ls j.0 s.1 at_p j.1) (worked k j.0 b.0 j.1 b.1));
 }
 
--- the same of what their workers gave back
-pub all_back : {L T : Type 0} (law : Law) (table : Table L) (o : Opening) (count : ℕ) (ss : List (TableSession L)) (ps : List (List ScriptLine)) (js : List (Job (TableSession L) T))
-    (back : List (Returned (TableSession L) T)) (done : List (Done (TableSession L))) → done ≡ map (λ b. b.done) back → AreNew law table o count ss → AreJobs ss ps js → length back ≡ length js
-    → AllWorked (Stands law table) seat_of own_of (Ends law) js (map (λ b. b.done) back) → AreWorked law table o ps done
-all_back {L} {T} law table o count ss ps js back done is new are long worked =
-    subst (λ (l : List (Done (TableSession L))). AreWorked law table o ps l) (sym is)
-    (all_worked law table o count ss ps js (map (λ (b : Returned (TableSession L) T). b.done) back) new are (length-map back (λ (b : Returned (TableSession L) T). b.done) ∙ long) worked)
+-- the same, where the jobs stand in a vector in whose place others were put
+pub all_in_place : {L T : Type 0} (law : Law) (table : Table L) (o : Opening) (count n : ℕ) (ss : List (TableSession L)) (ps : List (List ScriptLine)) (js ys back : List (Job (TableSession L) T)) (done : List (Done (TableSession L)))
+    → js ≡ ys → length back ≡ length js → n ≡ length ys → done ≡ map done_of (take n (back ++ drop (length back) ys)) → AreNew law table o count ss → AreJobs ss ps js
+    → AllWorked (Stands law table) seat_of own_of (Ends law) js back → AreWorked law table o ps done
+all_in_place {L} {T} law table o count n ss ps js ys back done same long full is new are worked =
+    let here = put_back n back ys (long ∙ ap (λ (l : List (Job (TableSession L) T)). length l) same) full in
+    all_back law table o count ss ps js back done (is ∙ ap (λ (l : List (Job (TableSession L) T)). map done_of l) here) new are long worked
 
 -- ONE SESSION is whole, unless its worker was told to stop
 one_whole : {L T : Type 0} (so : Type 0) (told : T → Type 0) (law : Law) (table : Table L) (o : Opening) (seat : ℕ) (s : TableSession L) (ls : List ScriptLine) (j : Job (TableSession L) T)
-    (b : Returned (TableSession L) T) → IsNew law table o seat s → IsJobOf s ls j → LeftWhenTold told seat_of own_of j b → (told b.turns → so) → IsWholeUnless so seat ls b.done
+    (b : Job (TableSession L) T) → IsNew law table o seat s → IsJobOf s ls j → LeftWhenTold told seat_of own_of j b → (told b.turns → so) → IsWholeUnless so seat ls (done_of b)
 one_whole {L} so told law table o seat s ls j b new is left why =
     let place : seat_of j.session ≡ seat = ap (λ (x : TableSession L). seat_of x) is.session_is ∙ new.seat_is in
     record {
-      all = λ some fewer. why (left.left some (subst (λ (xs : List ScriptLine). length b.done.answers.items < length xs) (sym is.lines_are) fewer));
-      decided = λ some none sealed. why (left.waits some none (subst (λ (q : ℕ). phase_at (own_of b.done.session) q ≡ Sealed) (sym place) sealed));
+      all = λ some fewer. why (left.left some (subst (λ (xs : List ScriptLine). length b.answers.items < length xs) (sym is.lines_are) fewer));
+      decided = λ some none sealed. why (left.waits some none (subst (λ (q : ℕ). phase_at (own_of b.session) q ≡ Sealed) (sym place) sealed));
     }
 
-pub all_whole : {L T : Type 0} (so : Type 0) (told : T → Type 0) (law : Law) (table : Table L) (o : Opening) (count : ℕ) (ss : List (TableSession L)) (ps : List (List ScriptLine))
-    (js : List (Job (TableSession L) T)) (back : List (Returned (TableSession L) T)) (done : List (Done (TableSession L))) → done ≡ map (λ b. b.done) back → AreNew law table o count ss
-    → AreJobs ss ps js → length back ≡ length js → AllLeftWhenTold told seat_of own_of js back → ((k : ℕ) (b : Returned (TableSession L) T) → slice_get back k ≡ Some b → told b.turns → so)
+all_whole : {L T : Type 0} (so : Type 0) (told : T → Type 0) (law : Law) (table : Table L) (o : Opening) (count : ℕ) (ss : List (TableSession L)) (ps : List (List ScriptLine))
+    (js : List (Job (TableSession L) T)) (back : List (Job (TableSession L) T)) (done : List (Done (TableSession L))) → done ≡ map done_of back → AreNew law table o count ss
+    → AreJobs ss ps js → length back ≡ length js → AllLeftWhenTold told seat_of own_of js back → ((k : ℕ) (b : Job (TableSession L) T) → slice_get back k ≡ Some b → told b.turns → so)
     → AreWholeUnless so ps done
 all_whole {L} {T} so told law table o count ss ps js back done is new are long left why = λ k ls d at_p at_d.
-    let b = map_from (λ (x : Returned (TableSession L) T). x.done) back k d (subst (λ (l : List (Done (TableSession L))). slice_get l k ≡ Some d) is at_d) in
+    let b = map_from (λ (x : Job (TableSession L) T). done_of x) back k d (subst (λ (l : List (Done (TableSession L))). slice_get l k ≡ Some d) is at_d) in
     let less = there_is back k b.0 b.1 in
     let many = are.many in
     let s = at_within ss k (omega (arith, less, many, long)) in
     let j = at_within js k (omega (arith, less, long)) in
     subst (λ (x : Done (TableSession L)). IsWholeUnless so (k + 1) ls x) b.2
     (one_whole so told law table o (k + 1) s.0 ls j.0 b.0 (new.each k s.0 s.1) (are.each k s.0 ls j.0 s.1 at_p j.1) (left k j.0 b.0 j.1 b.1) (why k b.0 b.1))
+
+pub whole_in_place : {L T : Type 0} (so : Type 0) (told : T → Type 0) (law : Law) (table : Table L) (o : Opening) (count n : ℕ) (ss : List (TableSession L)) (ps : List (List ScriptLine)) (js ys back : List (Job (TableSession L) T))
+    (done : List (Done (TableSession L))) → js ≡ ys → length back ≡ length js → n ≡ length ys → done ≡ map done_of (take n (back ++ drop (length back) ys)) → AreNew law table o count ss → AreJobs ss ps js
+    → AllLeftWhenTold told seat_of own_of js back → ((k : ℕ) (b : Job (TableSession L) T) → slice_get (take n (back ++ drop (length back) ys)) k ≡ Some b → told b.turns → so) → AreWholeUnless so ps done
+whole_in_place {L} {T} so told law table o count n ss ps js ys back done same long full is new are left why =
+    let here = put_back n back ys (long ∙ ap (λ (l : List (Job (TableSession L) T)). length l) same) full in
+    all_whole so told law table o count ss ps js back done (is ∙ ap (λ (l : List (Job (TableSession L) T)). map done_of l) here) new are long left
+    (λ k b at. why k b (subst (λ (l : List (Job (TableSession L) T)). slice_get l k ≡ Some b) (sym here) at))
 
 -- a worker that was told and whose memory sufficed has met that the disk failed
 pub met_some : {amount most : ℕ} {starved : Bool} → ((0 < amount) ⊎ (starved ≡ true)) × (starved ≡ false) → amount ≤ most → 0 < most

@@ -5,10 +5,16 @@ use Rattle.erm_model.specs.Member.{◌∈◌}
 use Rattle.erm_script.specs.declared.script.ScriptLine.{ScriptLine}
 use Rattle.erm_threads.specs.declared.job.Job.{Job}
 use Rattle.erm_worker.specs.Work.{MayBeAsked}
+use Rattle.erm_run_beside.specs.declared.jobs.Part.{Part}
 
 -- the lines of each session, in the order of the seats, from 1 on: each may be asked of a session
 abbrev pub AreLines : List (List ScriptLine) → Type 0
 AreLines parts = (k : ℕ) (lines : List ScriptLine) → slice_get parts k ≡ Some lines → (l : ScriptLine) → l ∈ lines → (l.session ≡ k + 1) × MayBeAsked l.command
+
+-- none of its lines is answered, and there is room for an answer to each of them
+pub record HasRoom (p : Part) : Type 0 where
+  pub none : p.answers.items ≡ []
+  pub room : length p.lines.items ≤ vec_capacity p.answers
 
 -- the job of a session with these lines, with room for their answers
 pub record IsJobOf {S T : Type 0} (session : S) (lines : List ScriptLine) (j : Job S T) : Type 0 where

@@ -1,5 +1,5 @@
 -- What is so once sessions have run on threads, and the table is closed.
-use Rattle.std.specs.Prelude.{◌≡◌, ℕ, ◌+◌, ◌<◌, ◌≤◌, Bool, false, List, length, Some, Option, IfOk, Result}
+use Rattle.std.specs.Prelude.{◌≡◌, ℕ, ◌+◌, ◌<◌, ◌≤◌, Bool, false, List, [], length, Some, Option, IfOk, Result, vec_capacity}
 use Rattle.std.specs.List.{slice_get}
 use Rattle.erm_model.specs.declared.limits.TheConstants.{SESSIONS}
 use Rattle.erm_model.specs.declared.outcome.Phase.TheVariants.{Active, Sealed}
@@ -18,11 +18,19 @@ use Rattle.erm_engine.specs.Ended.{HasClosed, IsUntouched, world_of}
 use Rattle.erm_engine.specs.Opened.{opened_view}
 use Rattle.erm_desk.specs.Desk.{IsDesk}
 use Rattle.erm_threads.specs.declared.job.Done.{Done}
+use Rattle.erm_run_beside.specs.declared.apart.Apart.{Apart}
 use Rattle.erm_run_beside.specs.declared.work.SessionWork.{SessionWork}
 
 -- the work of a session after its worker
 abbrev pub work_of : {S : Type 0} → Done S → SessionWork
 work_of d = record { answers = d.answers; closed = d.closed; lacked = d.lacked }
+
+-- it has no session yet, and room for so many
+pub record IsRoomFor {S : Type 0} (many : ℕ) (a : Apart S) : Type 0 where
+  pub no_session : a.sessions.items ≡ []
+  pub no_work : a.works.items ≡ []
+  pub sessions : many ≤ vec_capacity a.sessions
+  pub works : many ≤ vec_capacity a.works
 
 -- A session with these lines stands in this world as it was left, which wasn't with a transaction in progress. It did its work, from the world as it was
 -- opened, unless memory ran out: and all of it, unless the disk failed too, so that it doesn't wait.

@@ -1,7 +1,7 @@
 //! The end of sessions that ran: all passes are joined into the desk's, it takes its last turns, and the table is closed.
-ghost use Rattle.std.specs.Prelude.{◌≡◌, ◌<◌, ◌≤◌, ℕ, List, length, true};
+ghost use Rattle.std.specs.Prelude.{◌≡◌, ◌<◌, ◌≤◌, ℕ, List, length, true, vec_len};
 ghost use Rattle.erm_ckpt.specs.declared.slot.TheConstants.{LOG_START};
-ghost use Rattle.erm_engine.specs.Closed.{AreDone};
+ghost use Rattle.erm_engine.specs.Closed.{AllRest, AreDone};
 ghost use Rattle.erm_engine.specs.Opened.{AreIdle, opened_view};
 ghost use Rattle.erm_model.specs.declared.limits.TheConstants.{LAST_RUN, SESSIONS};
 ghost use Rattle.erm_rule.specs.Openings.{start_of};
@@ -9,9 +9,9 @@ ghost use Rattle.erm_script.specs.declared.script.ScriptLine.{ScriptLine};
 ghost use Rattle.erm_world.specs.Laws.{IsSerializable};
 ghost use Rattle.erm_run_beside.specs.Closing.{ClosesDesk};
 ghost use Rattle.erm_run_beside.specs.Ended.{AreWholeUnless, AreWorked, HaveWorked};
-ghost use Rattle.erm_run_beside.specs.Runs.{RanBeside};
+ghost use Rattle.erm_run_beside.specs.Runs.{IsRoomFor, RanBeside};
 
-use crate::apart::take_apart;
+use crate::apart::Apart;
 use crate::work::Ran;
 use erm_desk::{Desk, Naming, desks_take_in};
 use erm_engine::{close_joined, join_all};
@@ -20,9 +20,9 @@ use erm_outside::Disk;
 use erm_rule::{Opening, Pass, Table};
 use erm_shared_session::TableSession;
 use erm_threads::Done;
-use std::alloc::{AllocError, Global};
+use std::alloc::AllocError;
 
-/// The end where nothing is known of the sessions any more: turns until one stops.
+/// The end where no session began: turns until one stops.
 pub(crate) fn leave_sessions<L: RowLaw, D: Disk + Drop, B: Naming>(
     _opening: &Opening,
     table: &Table<L>,
@@ -61,6 +61,7 @@ fn close_sessions<L: RowLaw, D: Disk + Drop, B: Naming>(
     requires behind { LOG_START < _opening.now.tail }
     requires run_high { _opening.now.run ≤ LAST_RUN }
     requires sessions { AreDone L.law table sessions.items }
+    requires rests { AllRest sessions.items }
     requires idle { (run : ℕ) × (place : ℕ) × AreIdle table.words.shared.table_id run place (length sessions.items) SESSIONS idle.items }
     ensures closes { ClosesDesk L.law _opening.now B.began B.faults sessions.items (D.told result.0) (D.faults result.0) result.1 }
     ensures failed { desk.failed ≡ true → result.1 ≡ true }
@@ -78,12 +79,12 @@ fn close_sessions<L: RowLaw, D: Disk + Drop, B: Naming>(
 
 /// Closes the table of sessions that worked, behind the last turns of the desk: the work of each, in order.
 pub(crate) fn end_sessions<L: RowLaw, D: Disk + Drop, B: Naming>(
-    alloc: Global,
     opening: &Opening,
     table: Table<L>,
     desk: Desk<L, D, B>,
     done: Vec<Done<TableSession<L>>>,
     idle: Vec<Pass>,
+    mut apart: Apart<TableSession<L>>,
 ) -> (D, Ran)
     requires key { table.words.shared.key ≡ opening.now }
     requires start { start_of opening.now ≡ B.start }
@@ -92,17 +93,15 @@ pub(crate) fn end_sessions<L: RowLaw, D: Disk + Drop, B: Naming>(
     requires run_high { opening.now.run ≤ LAST_RUN }
     requires begins { IsSerializable L.law (opened_view (start_of opening.now)) }
     requires worked { HaveWorked L.law table opening.now done.items }
+    requires room { IsRoomFor (vec_len done) apart }
     requires idle { (run : ℕ) × (place : ℕ) × AreIdle table.words.shared.table_id run place (length done.items) SESSIONS idle.items }
     ensures ran { (parts : List (List ScriptLine)) → AreWorked L.law table opening.now parts done.items → AreWholeUnless (result.1.failed ≡ true) parts done.items
         → RanBeside L.law opening.now B.began B.faults parts (D.told result.0) (D.faults result.0) result.1.failed (λ works. works.items) result.1.sessions }
     ensures failed { desk.failed ≡ true → result.1.failed ≡ true }
 {
-    match take_apart(alloc, done) {
-        Ok(apart) => {
-            let (disk, failed) = close_sessions(opening, table, desk, apart.sessions, idle);
-            let sessions = Ok(apart.works);
-            (disk, Ran { failed, sessions })
-        }
-        Err(lack) => leave_sessions(opening, &table, desk, lack),
-    }
+    apart.take(done);
+    let Apart { sessions, works } = apart;
+    let (disk, failed) = close_sessions(opening, table, desk, sessions, idle);
+    let sessions = Ok(works);
+    (disk, Ran { failed, sessions })
 }

@@ -8,9 +8,10 @@ ghost use Rattle.erm_run_beside.specs.Jobs.{AreLines};
 ghost use Rattle.erm_run_beside.specs.Ended.{AreWholeUnless, AreWorked};
 
 use crate::back::take_back;
-use crate::jobs::make_jobs;
+use crate::jobs::{Room, make_jobs, make_room};
 use crate::shared::SharedDesk;
 use erm_desk::Naming;
+use erm_engine::end_all;
 use erm_model::RowLaw;
 use erm_outside::{Disk, Gate};
 use erm_rule::{Opening, Table};
@@ -25,8 +26,8 @@ use std::thread::Threads;
 
 /// Each session of a table just opened runs its lines, on a thread of its own where one can be made, while any of them takes turns of the
 /// desk: the sessions after their workers, in the order of their seats. Each worker has a part of the share, and what all of them have met is
-/// put together in it: each session whose memory sufficed is whole, unless one has met that the disk failed. `Err` where memory ran out
-/// outside of the workers; the desk stands under its lock all the same.
+/// put together in it: each session whose memory sufficed is whole, unless one has met that the disk failed. `Err` where memory ran out before
+/// any session began, and all were given up; the desk stands under its lock all the same.
 pub fn work_beside<
     L: RowLaw + Send + Sync,
     D: Disk + Drop + Send,
@@ -55,8 +56,21 @@ pub fn work_beside<
     ensures whole { IfOk result (λ done. AreWholeUnless (0 < met.new.amount) (map (λ p. p.items) parts.items) done.items) }
 {
     let halt = AtomicU64::new(0);
-    let jobs = make_jobs(rt, alloc, table, desk, gate, &halt, met, sessions, parts)?;
-    let back = work_all(rt, alloc, table, jobs)?;
-    let done = take_back(alloc, back, met)?;
+    let Room {
+        parts,
+        mut jobs,
+        mut done,
+    } = match make_room(alloc, parts) {
+        Ok(room) => room,
+        Err(lack) => {
+            end_all(sessions);
+            return Err(lack);
+        }
+    };
+    make_jobs(
+        rt, table, desk, gate, &halt, met, sessions, parts, &mut jobs,
+    );
+    work_all(rt, alloc, table, jobs.as_mut_slice());
+    take_back(jobs, met, &mut done);
     Ok(done)
 }

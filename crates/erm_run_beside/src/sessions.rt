@@ -1,5 +1,5 @@
 //! Sessions on threads, from the opening of a table to its close.
-ghost use Rattle.std.specs.Prelude.{◌≡◌, ℕ, ◌+◌, ◌<◌, ◌≤◌, IfErr, IfOk, IfSome, map, vec_len, []};
+ghost use Rattle.std.specs.Prelude.{◌≡◌, ℕ, ◌+◌, ◌<◌, ◌≤◌, IfErr, IfOk, IfSome, false, map, vec_len, []};
 ghost use Rattle.erm_ckpt.specs.declared.slot.TheConstants.{LOG_START};
 ghost use Rattle.erm_desk.specs.Desk.{IsHeld};
 ghost use Rattle.erm_engine.specs.Opened.{IsOpened, opened_view};
@@ -9,14 +9,15 @@ ghost use Rattle.erm_model.specs.Rows.{rows_of};
 ghost use Rattle.erm_node.specs.Sound.{sound_law};
 ghost use Rattle.erm_rule.specs.Openings.{start_of};
 ghost use Rattle.erm_run_beside.specs.Jobs.{AreLines};
-ghost use Rattle.erm_run_beside.specs.Runs.{RanBeside};
+ghost use Rattle.erm_run_beside.specs.Runs.{IsRoomFor, RanBeside};
 
+use crate::apart::Apart;
 use crate::end::{end_sessions, leave_sessions};
 use crate::run::work_beside;
 use crate::shared::SharedDesk;
 use crate::work::Ran;
 use erm_desk::{Desk, Naming};
-use erm_engine::{Opened, open};
+use erm_engine::{Opened, end_all, open};
 use erm_flush::Flusher;
 use erm_model::{RowLaw, Seat};
 use erm_outside::{Disk, Gate};
@@ -27,6 +28,16 @@ use std::marker::Brand;
 use std::sync::ledger::{Blank, Ledger};
 use std::sync::{Mutex, Wait};
 use std::thread::Threads;
+
+// A flusher, and room for so many sessions after their workers.
+fn make_ready<S>(alloc: Global, many: usize) -> Result<(Flusher, Apart<S>), AllocError>
+    ensures new { IfOk result (λ ready. ready.0 ≡ false) }
+    ensures room { IfOk result (λ ready. IsRoomFor many ready.1) }
+{
+    let flusher = Flusher::new(alloc)?;
+    let apart = Apart::room(alloc, many)?;
+    Ok((flusher, apart))
+}
 
 /// The sessions of a table just opened run their lines, and the table is closed behind them: all threads agree on the table, on how it was
 /// opened, on what the disk told, and on the ledger of what workers meet, which has a part for each session. The disk comes back; `Err` where
@@ -65,16 +76,19 @@ pub fn run_opened<
     ensures ran { IfOk result.1 (λ ran. RanBeside L.law opening.now B.began B.faults (map (λ p. p.items) parts.items) (D.told result.0) (D.faults result.0) ran.failed (λ works. works.items) ran.sessions) }
     ensures back { IfErr result.1 (λ _. (D.told result.0 ≡ D.told disk) × (D.faults result.0 ≡ D.faults disk)) }
 {
-    let flusher = match Flusher::new(alloc) {
-        Ok(flusher) => flusher,
-        Err(lack) => return (disk, Err(lack)),
-    };
     let Opened {
         table,
         sessions,
         idle,
         flush,
     } = opened;
+    let (flusher, apart) = match make_ready(alloc, parts.len()) {
+        Ok(ready) => ready,
+        Err(lack) => {
+            end_all(sessions);
+            return (disk, Err(lack));
+        }
+    };
     let (book, mut met) = blank.open::<B>();
     let desk = Desk::<L, D, B>::with(flusher, disk, flush);
     let desk = Mutex::new(SharedDesk::new(desk, book));
@@ -83,8 +97,11 @@ pub fn run_opened<
     );
     let desk = desk.into_inner().into_desk(&mut met);
     let (disk, ran) = match worked {
-        Ok(done) => end_sessions(alloc, opening, table, desk, done, idle),
-        Err(lack) => leave_sessions(opening, &table, desk, lack),
+        Ok(done) => end_sessions(opening, table, desk, done, idle, apart),
+        Err(lack) => {
+            apart.give_up();
+            leave_sessions(opening, &table, desk, lack)
+        }
     };
     (disk, Ok(ran))
 }

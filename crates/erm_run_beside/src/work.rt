@@ -18,6 +18,6 @@ pub struct SessionWork {
 pub struct Ran {
     /// Whether the disk failed.
     pub failed: bool,
-    /// The work of each session, in the order of their seats. `Err` where memory ran out outside the workers.
+    /// The work of each session, in the order of their seats. `Err` where memory ran out before the first line.
     pub sessions: Result<Vec<SessionWork>, AllocError>,
 }

@@ -19,3 +19,4 @@ pub mod Settling
 pub mod Standing
 pub mod Tidying
 pub mod Handing
+pub mod Leaving

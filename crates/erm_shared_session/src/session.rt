@@ -11,9 +11,10 @@ ghost use Rattle.erm_own_view.specs.Own.{MayCall, own_view};
 ghost use Rattle.erm_own_view.proofs.Lawful.{ends_last, own_views_end, own_views_sound};
 ghost use Rattle.erm_rows.specs.Claims.{TellsCount};
 ghost use Rattle.erm_rows.specs.Reads.{WasOwnerMet};
-ghost use Rattle.erm_rule.specs.Books.{WasFlushed, book};
+ghost use Rattle.erm_ring.specs.Turns.{MayGather};
+ghost use Rattle.erm_rule.specs.Books.{WasFlushed, book, both_books};
 ghost use Rattle.erm_rule.specs.Steps.{Fits};
-ghost use Rattle.erm_rule.specs.Views.{part_of, view};
+ghost use Rattle.erm_rule.specs.Views.{MayJoin, part_of, view};
 ghost use Rattle.erm_seats.specs.Took.{TookBegin};
 ghost use Rattle.erm_session.specs.Session.{IsSession};
 ghost use Rattle.erm_session.specs.Took.{TookClaimStop};
@@ -27,13 +28,13 @@ ghost use Rattle.erm_world.specs.declared.stops.BeginStop.TheVariants as begin_s
 use crate::met::{done_of, flushed_after, flushed_met, settled_of, tail_after, tail_met};
 use erm_beside::SharedSession;
 use erm_model::{Oid, Outcome, Phase, Receipt, Row, RowLaw, RowStop, Stamp};
-use erm_rule::{Pass, Table};
+use erm_rule::{Pass, Table, join};
 use erm_session::Session;
 use erm_world::{BeginStop, NotFlushed, Wait};
 use std::marker::PhantomData;
 
-/// A session of the word table, with the pass of its seat alone. Its rows keep the law of `L`.
-#[derive(Drop)]
+/// A session of the word table, with the pass of its seat alone. Its rows keep the law of `L`. It can't be let go: one that is idle gives its
+/// pass back, and one that is sealed gives it to the flush seat's pass, by which the table is closed. One in progress is aborted first.
 pub struct TableSession<L: RowLaw> {
     session: Session,
     pass: Pass,
@@ -69,11 +70,40 @@ impl<L: RowLaw> TableSession<L> {
         }
     }
 
-    /// The pass of its seat: the session is given up.
+    /// The pass of its seat: the session, which is idle, is given up.
     pub fn into_pass(self) -> Pass
+        requires idle { phase_at (own_of self) (seat_of self) ≡ Idle }
         ensures { result ≡ self.pass }
     {
-        self.pass
+        let TableSession {
+            session: _,
+            pass,
+            tail: _,
+            flushed: _,
+            law: _,
+        } = self;
+        pass
+    }
+
+    /// The pass of the flush seat, between two of its turns, takes in that of the session, which is given up. Its transaction isn't in progress;
+    /// where it is sealed it stays undecided.
+    pub fn join_into(self, shared: &Table<L>, flush: &mut Pass)
+        requires stands { Stands L.law shared.now self }
+        requires rests { phase_at (own_of self) (seat_of self) ≡ Active → ⊥ }
+        requires fits { Fits shared.now.words.shared.table_id flush.old }
+        requires gathers { MayGather (view flush.old) }
+        requires joins { MayJoin (view flush.old) }
+        ensures fits { Fits shared.now.words.shared.table_id flush.new }
+        ensures joined { book flush.new ≡ both_books (book flush.old) (book self.pass) }
+    {
+        let TableSession {
+            session: _,
+            pass,
+            tail: _,
+            flushed: _,
+            law: _,
+        } = self;
+        join(shared, flush, pass);
     }
 }
 

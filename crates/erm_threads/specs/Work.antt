@@ -11,7 +11,6 @@ use Rattle.erm_beside.specs.Laws.{GoesOnward}
 use Rattle.erm_worker.specs.Work.{IsReady, MayBeAsked, RanLines, WasClosed}
 use Rattle.erm_threads.specs.declared.job.Done.{Done}
 use Rattle.erm_threads.specs.declared.job.Job.{Job}
-use Rattle.erm_threads.specs.declared.job.Returned.{Returned}
 
 -- these are lines of the session, which has committed nothing
 pub record MayWork (seat : ℕ) (v : View) (lines : List ScriptLine) : Type 0 where
@@ -38,6 +37,10 @@ pub record IsJob {S T : Type 0} (stands : S → Type 0) (seat : S → ℕ) (own 
   pub none : job.answers.items ≡ []
   pub room : length job.lines.items ≤ vec_capacity job.answers
 
+-- the session of a job after its worker
+abbrev pub done_of : {S T : Type 0} → Job S T → Done S
+done_of job = record { session = job.session; answers = job.answers; closed = job.closed; lacked = job.lacked }
+
 -- A session after its worker stands, is of its seat and isn't active: it did its work, in each world in which all may end as far as it knows, unless
 -- memory ran out.
 pub record Worked {S T : Type 0} (stands : S → Type 0) (seat : S → ℕ) (own : S → View) (ends : S → View → Type 0) (job : Job S T) (done : Done S) : Type 0 where
@@ -49,15 +52,15 @@ pub record Worked {S T : Type 0} (stands : S → Type 0) (seat : S → ℕ) (own
       → DidWork f (seat job.session) job.lines.items done.answers.items done.closed (own job.session) (own done.session)
 
 -- so is each session after the worker of its job, in order
-abbrev pub AllWorked : {S T : Type 0} → (S → Type 0) → (S → ℕ) → (S → View) → (S → View → Type 0) → List (Job S T) → List (Done S) → Type 0
-AllWorked {S} {T} stands seat own ends jobs done = (k : ℕ) (job : Job S T) (d : Done S) → slice_get jobs k ≡ Some job → slice_get done k ≡ Some d → Worked stands seat own ends job d
+abbrev pub AllWorked : {S T : Type 0} → (S → Type 0) → (S → ℕ) → (S → View) → (S → View → Type 0) → List (Job S T) → List (Job S T) → Type 0
+AllWorked {S} {T} stands seat own ends jobs back = (k : ℕ) (job b : Job S T) → slice_get jobs k ≡ Some job → slice_get back k ≡ Some b → Worked stands seat own ends job (done_of b)
 
 -- Where memory sufficed, a session that was left behind fewer answers than lines, or is sealed and wasn't closed, was so because of what its worker was
 -- told by what it waited by.
-pub record LeftWhenTold {S T : Type 0} (told : T → Type 0) (seat : S → ℕ) (own : S → View) (job : Job S T) (back : Returned S T) : Type 0 where
-  pub left : back.done.lacked ≡ false → length back.done.answers.items < length job.lines.items → told back.turns
-  pub waits : back.done.lacked ≡ false → back.done.closed ≡ None → phase_at (own back.done.session) (seat job.session) ≡ Sealed → told back.turns
+pub record LeftWhenTold {S T : Type 0} (told : T → Type 0) (seat : S → ℕ) (own : S → View) (job back : Job S T) : Type 0 where
+  pub left : back.lacked ≡ false → length back.answers.items < length job.lines.items → told back.turns
+  pub waits : back.lacked ≡ false → back.closed ≡ None → phase_at (own back.session) (seat job.session) ≡ Sealed → told back.turns
 
 -- so is each session after the worker of its job, in order
-abbrev pub AllLeftWhenTold : {S T : Type 0} → (T → Type 0) → (S → ℕ) → (S → View) → List (Job S T) → List (Returned S T) → Type 0
-AllLeftWhenTold {S} {T} told seat own jobs back = (k : ℕ) (job : Job S T) (b : Returned S T) → slice_get jobs k ≡ Some job → slice_get back k ≡ Some b → LeftWhenTold told seat own job b
+abbrev pub AllLeftWhenTold : {S T : Type 0} → (T → Type 0) → (S → ℕ) → (S → View) → List (Job S T) → List (Job S T) → Type 0
+AllLeftWhenTold {S} {T} told seat own jobs back = (k : ℕ) (job b : Job S T) → slice_get jobs k ≡ Some job → slice_get back k ≡ Some b → LeftWhenTold told seat own job b

@@ -1,8 +1,8 @@
-//! What a worker is given, and what it gives back.
+//! What a worker is given, and what it leaves there.
 use erm_report::Answer;
 use erm_script::ScriptLine;
 
-/// A session with its lines.
+/// A session with its lines, and what its worker did.
 #[derive(Drop)]
 pub struct Job<S, T> {
     pub session: S,
@@ -10,8 +10,11 @@ pub struct Job<S, T> {
     pub turns: T,
     /// The lines of a script that are the session's, in order.
     pub lines: Vec<ScriptLine>,
-    /// Empty, with room for an answer to each of them.
+    /// Empty at first, with room for an answer to each of them. Behind the worker, as in `Done`.
     pub answers: Vec<Answer>,
+    /// Behind the worker, as in `Done`; so it is with the next one.
+    pub closed: Option<Answer>,
+    pub lacked: bool,
 }
 
 /// A session after its worker.
@@ -24,11 +27,4 @@ pub struct Done<S> {
     pub closed: Option<Answer>,
     /// Whether memory ran out, for this session or for another one, so that its worker was told to stop: then no more is known of what the session did.
     pub lacked: bool,
-}
-
-/// What a worker gives back: its session after it, and what it waited by.
-#[derive(Drop)]
-pub struct Returned<S, T> {
-    pub done: Done<S>,
-    pub turns: T,
 }

@@ -8,7 +8,7 @@ mod parts;
 mod threads;
 mod worker;
 
-pub use job::{Done, Job, Returned};
+pub use job::{Done, Job};
 pub use laws::own_moves_are_of_own_lines;
 pub use parts::{room_for_answers, split};
 pub use threads::work_all;

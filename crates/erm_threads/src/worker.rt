@@ -5,9 +5,9 @@ ghost use Rattle.erm_model.specs.RowTransaction.{SameLaw};
 ghost use Rattle.erm_node.specs.Sound.{sound_law};
 ghost use Rattle.erm_world.specs.World.{View, phase_at};
 ghost use Rattle.erm_beside.specs.Laws.{GoesOnward};
-ghost use Rattle.erm_threads.specs.Work.{DidWork, IsJob, LeftWhenTold, MayWork, WasEnded, Worked};
+ghost use Rattle.erm_threads.specs.Work.{DidWork, IsJob, LeftWhenTold, MayWork, WasEnded, Worked, done_of};
 
-use crate::{Done, Job, Returned};
+use crate::Job;
 use erm_beside::SharedSession;
 use erm_model::Phase;
 use erm_report::Answer;
@@ -78,54 +78,36 @@ fn run<S: SharedSession, T: Turns, R: Wait>(
 }
 
 /// Runs the lines of a session to their end, and closes it behind them, unless the worker is told to stop. Where memory runs out, the
-/// session comes back all the same, and the other workers are told; and so does what the worker waited by.
-pub fn work<S: SharedSession, T: Turns + Drop, R: Wait>(
+/// session stays all the same, and the other workers are told; and so does what the worker waited by.
+pub fn work<S: SharedSession, T: Turns, R: Wait>(
     rt: &R,
     alloc: Global,
     shared: &S::Shared,
-    job: Job<S, T>,
-) -> Returned<S, T>
+    job: &mut Job<S, T>,
+)
     requires law { SameLaw S.law sound_law }
-    requires job { IsJob (S.stands shared.now) S.seat S.own job }
-    ensures worked { Worked (S.stands shared.now) S.seat S.own S.ends job result.done }
-    ensures told { LeftWhenTold (λ turns. T.told turns × (T.starved turns ≡ false)) S.seat S.own job result }
+    requires job { IsJob (S.stands shared.now) S.seat S.own job.old }
+    ensures worked { Worked (S.stands shared.now) S.seat S.own S.ends job.old (done_of job.new) }
+    ensures told { LeftWhenTold (λ turns. T.told turns × (T.starved turns ≡ false)) S.seat S.own job.old job.new }
 {
-    let Job {
-        mut session,
-        mut turns,
-        lines,
-        mut answers,
-    } = job;
     match run(
         rt,
         alloc,
-        &mut session,
+        &mut job.session,
         shared,
-        &mut turns,
-        lines.as_slice(),
-        &mut answers,
+        &mut job.turns,
+        job.lines.as_slice(),
+        &mut job.answers,
     ) {
-        Ok(closed) => Returned {
-            done: Done {
-                session,
-                answers,
-                closed,
-                lacked: turns.is_starved(),
-            },
-            turns,
-        },
+        Ok(closed) => {
+            job.closed = closed;
+            job.lacked = job.turns.is_starved();
+        }
         Err(AllocError) => {
-            leave(&mut session, shared);
-            turns.tell_starved();
-            Returned {
-                done: Done {
-                    session,
-                    answers,
-                    closed: None,
-                    lacked: true,
-                },
-                turns,
-            }
+            leave(&mut job.session, shared);
+            job.turns.tell_starved();
+            job.closed = None;
+            job.lacked = true;
         }
     }
 }

@@ -4,16 +4,20 @@ use Rattle.erm_rule.specs.Books.{book}
 use Rattle.erm_own_view.specs.Own.{own_view}
 use Rattle.erm_session.specs.Session.{IsSession}
 use Rattle.erm_engine.specs.Opened.{AreNew, HasGiven}
+use Rattle.erm_engine.proofs.GivenUp.{new_idle}
 use Rattle.erm_engine.proofs.Handed.{idle_part, new_more, own_opened}
 use Rattle.erm_engine.proofs.giving.give_sessions.Goals as goal
 
-pub new-requires-in-loop-q-clause-session : goal.new-requires-in-loop-q-clause-session
-new-requires-in-loop-q-clause-session g c =
+pub new-given-requires-clause-session : goal.new-given-requires-clause-session
+new-given-requires-clause-session g c =
     let o = c.args.opening.now in
-    let s = c.in_ok-session.session in
+    let s = c.in-Ok.session in
     subst (λ (x : Part). IsSession s x)
-    (sym (idle_part c.args.t.now.words.shared.table_id o.run o.tail (c.loop-q.q + 1) s.seat c.give-pass.result c.give-pass.ensures.given.idle c.in_ok-session.ensures.seat))
-    (c.in_ok-session.ensures.idle o.tail)
+    (sym (idle_part c.args.t.now.words.shared.table_id o.run o.tail (c.loop-q.q + 1) s.seat c.give-pass.result c.give-pass.ensures.given.idle c.in-Ok.ensures.seat))
+    (c.in-Ok.ensures.idle o.tail)
+
+pub end_all-requires : goal.end_all-requires
+end_all-requires g c = record { idle = new_idle g.L.RowLaw.law c.args.t.now c.args.opening.now c.loop-q.q c.loop-q.sessions.items c.loop-q.invariant.1 }
 
 pub loop-q-preserved : goal.loop-q-preserved
 loop-q-preserved g c =
@@ -23,13 +27,13 @@ loop-q-preserved g c =
     let n = c.loop-q.q in
     let b = book c.give-pass.result in
     let given = c.give-pass.ensures.given in
-    let s = c.new-in-loop-q.result in (
+    let s = c.new-given.result in (
       c.give-pass.ensures.rest,
       subst (λ l. AreNew law t o (n + 1) l) (sym c.push_reserved.ensures.items)
           (new_more law t o n c.loop-q.sessions.items s c.loop-q.invariant.1 (record {
-            stands = c.new-in-loop-q.ensures.stands;
-            seat_is = c.new-in-loop-q.ensures.seat ∙ c.in_ok-session.ensures.seat;
-            own = c.new-in-loop-q.ensures.own ∙ ap (λ (q : ℕ). own_view q o.tail o.tail b) c.in_ok-session.ensures.seat ∙ own_opened o (n + 1) b given.start given.idle.view_is;
+            stands = c.new-given.ensures.stands;
+            seat_is = c.new-given.ensures.seat ∙ c.in-Ok.ensures.seat;
+            own = c.new-given.ensures.own ∙ ap (λ (q : ℕ). own_view q o.tail o.tail b) c.in-Ok.ensures.seat ∙ own_opened o (n + 1) b given.start given.idle.view_is;
           })),
       (let room = c.loop-q.invariant.2 in let same = c.push_reserved.ensures.capacity in omega (arith, room, same)),
     )

@@ -12,6 +12,7 @@ use Rattle.erm_shared_session.specs.Handing.{HasHandedOut}
 use Rattle.erm_sound.specs.Kept.{SoundUnder}
 use Rattle.erm_table_world.proofs.Opening.{first_meets, first_unreached, row_wide}
 use Rattle.erm_engine.specs.Opened.{IsUnflushed}
+use Rattle.erm_engine.proofs.GivenUp.{new_idle}
 use Rattle.erm_engine.proofs.Handed.{opened_rows, opened_serializable, rest_gathers, rest_joins, rest_unpinned}
 use Rattle.erm_engine.proofs.Unflushed.{first_unflushed}
 use Rattle.erm_engine.proofs.opening.open.Goals as goal
@@ -34,8 +35,11 @@ give_sessions-requires-clause-given g c =
       unflushed = subst (λ (b : Book). IsUnflushed o b) (sym c.in_ok-table.ensures.book) (first_unflushed o);
     }
 
-pub returns : goal.returns
-returns g c =
+pub end_all-requires : goal.end_all-requires
+end_all-requires g c = record { idle = new_idle g.L.RowLaw.law c.in_ok-table.table c.args.opening.now c.args.sessions c.in_ok-given.given.items c.in_ok-given.ensures.sessions }
+
+pub returns-in-Ok : goal.returns-in-Ok
+returns-in-Ok g c =
     let o = c.args.opening.now in
     let law = g.L.RowLaw.law in
     let r = c.requires in
@@ -50,11 +54,11 @@ returns g c =
     c.openings_are_lawful.ensures o.sessions (first_rows o) o.tail o.run o.first TABLE_CELLS sound (first_meets o count law c.respects_rows.ensures r.meets)
     (first_unreached o count law c.respects_rows.ensures r.meets r.unreached)
     in
-    let rest = c.in_ok-idle.ensures.rest in
+    let rest = c.in-Ok.ensures.rest in
     record {
       key = c.in_ok-table.ensures.opening;
       sessions = c.in_ok-given.ensures.sessions;
-      idle = c.in_ok-idle.ensures.idle;
+      idle = c.in-Ok.ensures.idle;
       fits = rest.fits;
       gathers = subst MayGather (sym rest.handed.view_is) (rest_gathers o SESSIONS (omega arith));
       unpinned = subst (λ (v : View). (part_of v FLUSH_SEAT).place ≡ Idle) (sym rest.handed.view_is) (rest_unpinned o SESSIONS (omega arith));

@@ -1,20 +1,31 @@
-use Rattle.std.proofs.Common.{◌≡◌, ◌<◌, ◌⊎◌, true, false, ◌∙◌, sym}
-use Rattle.erm_run_beside.proofs.Worked.{all_back, all_jobs, all_whole, met_some}
+use Rattle.std.proofs.Common.{◌≡◌, ◌<◌, ◌⊎◌, true, false, map}
+use Rattle.erm_engine.proofs.GivenUp.{new_idle}
+use Rattle.erm_run_beside.proofs.More.{same_jobs}
+use Rattle.erm_run_beside.proofs.Worked.{all_in_place, all_jobs, met_some, whole_in_place}
 use Rattle.erm_run_beside.proofs.run.work_beside.Goals as goal
+
+pub end_all-requires : goal.end_all-requires
+end_all-requires g c = record { idle = new_idle g.L.RowLaw.law c.args.table.now c.args._opening.now _ c.args.sessions.items c.requires.new }
 
 pub work_all-requires-clause-jobs : goal.work_all-requires-clause-jobs
 work_all-requires-clause-jobs g c κs within =
-    all_jobs g.L.RowLaw.law c.args.table.now c.args._opening.now _ c.args.sessions.items _ c.in_ok-jobs.jobs.items c.requires.new c.requires.lines c.in_ok-jobs.ensures.jobs
+    all_jobs g.L.RowLaw.law c.args.table.now c.args._opening.now _ c.args.sessions.items _ c.as_mut_slice.result.now c.requires.new c.requires.lines
+    (same_jobs c.args.sessions.items (map (λ p. p.items) c.args.parts.items) _ c.as_mut_slice.result.now c.make_jobs.new.jobs.items c.in-Ok.ensures.lines c.as_mut_slice.ensures.value c.make_jobs.ensures.jobs)
 
 pub returns : goal.returns
 returns g c =
-    let long = sym c.in_ok-back.back.ok.0 ∙ c.in_ok-back.ensures.len ∙ c.in_ok-jobs.jobs.ok.0 in
+    let ss = c.args.sessions.items in
+    let ps = map (λ p. p.items) c.args.parts.items in
+    let js = c.as_mut_slice.result.now in
+    let ys = c.make_jobs.new.jobs.items in
+    let same = c.as_mut_slice.ensures.value in
+    let jobs = same_jobs ss ps _ js ys c.in-Ok.ensures.lines same c.make_jobs.ensures.jobs in
     record {
       worked =
-          all_back g.L.RowLaw.law c.args.table.now c.args._opening.now _ c.args.sessions.items _ c.in_ok-jobs.jobs.items c.in_ok-back.back.items c.in_ok-done.done.items c.in_ok-done.ensures.done c.requires.new
-          c.in_ok-jobs.ensures.jobs long c.in_ok-back.ensures.worked;
+          all_in_place g.L.RowLaw.law c.args.table.now c.args._opening.now _ c.make_jobs.new.jobs.len ss ps js ys c.work_all.new.jobs c.take_back.new.done.items same c.work_all.auto.jobs c.make_jobs.new.jobs.ok.0
+          c.take_back.ensures.done c.requires.new jobs c.work_all.ensures.worked;
       whole =
-          all_whole _ (λ turns. ((0 < turns.met.amount) ⊎ (turns.starved ≡ true)) × (turns.starved ≡ false)) g.L.RowLaw.law c.args.table.now c.args._opening.now _ c.args.sessions.items _ c.in_ok-jobs.jobs.items c.in_ok-back.back.items c.in_ok-done.done.items
-          c.in_ok-done.ensures.done c.requires.new c.in_ok-jobs.ensures.jobs long c.in_ok-back.ensures.told
-          (λ k b at some. met_some some (c.in_ok-done.ensures.met k b at));
+          whole_in_place _ (λ turns. ((0 < turns.met.amount) ⊎ (turns.starved ≡ true)) × (turns.starved ≡ false)) g.L.RowLaw.law c.args.table.now c.args._opening.now _ c.make_jobs.new.jobs.len ss ps js ys c.work_all.new.jobs
+          c.take_back.new.done.items same c.work_all.auto.jobs c.make_jobs.new.jobs.ok.0 c.take_back.ensures.done c.requires.new jobs c.work_all.ensures.told
+          (λ k b at some. met_some some (c.take_back.ensures.met k b at));
     }

@@ -1,8 +1,12 @@
 use Rattle.std.proofs.Common.{map, ap, ◌∙◌}
 use Rattle.erm_rule.specs.declared.view.Start.{Start}
+use Rattle.erm_engine.proofs.GivenUp.{new_idle}
 use Rattle.erm_run_beside.proofs.Over.{ran_as, unless_more}
 use Rattle.erm_run_beside.proofs.sessions.run_opened.Goals as goal
 use Rattle.erm_run_beside.proofs.sessions.run_opened.Goals.{in-Ok-worked, in-Err-worked}
+
+pub end_all-requires : goal.end_all-requires
+end_all-requires g c = record { idle = new_idle g.L.RowLaw.law c.args.opened.table c.args.opening.now _ c.args.opened.sessions.items c.requires.opened.sessions }
 
 pub with-desk-requires-clause-flushed : goal.with-desk-requires-clause-flushed
 with-desk-requires-clause-flushed g c d is = c.requires.opened.unflushed d is ∙ ap (λ (s : Start). s.tail) c.requires.start
