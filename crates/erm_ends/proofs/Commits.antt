@@ -108,7 +108,7 @@ module _ (v : View) (who : ℕ) (kept : List KeptClaim) (stamp succ : ℕ) (know
       }
 
 -- THE END
-pub may_raise : (pre : Pre) (x : Part) → IsPre pre x → MayCommit x → MayRaiseReads pre.reads.items pre.stamp x
+pub may_raise : (pre : Pre) (x : Part) → IsPre pre x → MayCommit x → MayRaiseReads pre.reads.value.items pre.stamp x
 may_raise pre x kept may = record {
   decided = may.decided;
   committed = may.committed;
@@ -130,9 +130,9 @@ module _ (v : View) (who : ℕ) (pre : Pre) (kept : IsPre pre (part_of v who)) (
   in_u : part_of u who ≡ after_raise
   in_u = part_of-changed v who u after_raise z has_z raised.view_is
 
-  pub may_install : MayInstallClaims pre.claims.items pre.stamp pre.succ (part_of u who)
+  pub may_install : MayInstallClaims pre.claims.value.items pre.stamp pre.succ (part_of u who)
   may_install =
-      subst (MayInstallClaims pre.claims.items pre.stamp pre.succ) (sym in_u)
+      subst (MayInstallClaims pre.claims.value.items pre.stamp pre.succ) (sym in_u)
       (record {
         decided = may.decided;
         committed = may.committed;
@@ -152,9 +152,9 @@ module _ (v : View) (who : ℕ) (pre : Pre) (kept : IsPre pre (part_of v who)) (
     in_w : part_of w who ≡ after_install
     in_w = part_of-changed v who w after_install z has_z install_view
 
-    pub may_clear_committed : MayClearReads pre.reads.items (part_of w who)
+    pub may_clear_committed : MayClearReads pre.reads.value.items (part_of w who)
     may_clear_committed =
-        subst (MayClearReads pre.reads.items) (sym in_w)
+        subst (MayClearReads pre.reads.value.items) (sym in_w)
         (record {
           raised = length z.current.reads;
           step = 0;

@@ -238,7 +238,7 @@ may_release claims reads x may = record {
   claims = may.claims_kept;
 }
 
-pub skip_claims : (pre : Pre) (x : Part) → IsPre pre x → MaySkip x → MayReleaseClaims pre.claims.items x
+pub skip_claims : (pre : Pre) (x : Part) → IsPre pre x → MaySkip x → MayReleaseClaims pre.claims.value.items x
 skip_claims pre x kept may = record {
   excluded = may.excluded;
   place = decided_ending x.place may.decided;
@@ -246,5 +246,5 @@ skip_claims pre x kept may = record {
   claims = record { count = kept.claim_count; each = kept.claims };
 }
 
-pub skip_reads : (pre : Pre) (x : Part) → IsPre pre x → AreReads pre.reads.items x.current
+pub skip_reads : (pre : Pre) (x : Part) → IsPre pre x → AreReads pre.reads.value.items x.current
 skip_reads pre x kept = record { count = kept.read_count; each = kept.reads }

@@ -18,10 +18,10 @@ pub record Passes (first : View) (who : ℕ) (pre : Pre) (v : View) (t : Task) :
 
 module _ (pre new : Pre) (v w : View) (who : ℕ) (stands : Stands pre v who) (went : WentOn v who w) (now : Stands new w who) where
   -- the versions kept are as many as before
-  pub reads_same : length new.reads.items ≡ length pre.reads.items
+  pub reads_same : length new.reads.value.items ≡ length pre.reads.value.items
   reads_same = now.kept.read_count ∙ ap (λ (z : Part). length z.current.reads) (part_is v who stands.sealed w went) ∙ sym stands.kept.read_count
 
-  pub claims_same : length new.claims.items ≡ length pre.claims.items
+  pub claims_same : length new.claims.value.items ≡ length pre.claims.value.items
   claims_same = now.kept.claim_count ∙ ap (λ (z : Part). length z.current.writes) (part_is v who stands.sealed w went) ∙ sym stands.kept.claim_count
 
 -- readers are left, or none

@@ -38,7 +38,7 @@ module _ (pre : Pre) (v : View) (who : ℕ) (stands : Stands pre v who) (place :
   cell_of within = sym (ap (λ (k : KeptClaim). k.overwritten) claim_is ∙ (stands.kept.claims place within).overwritten)
 
   -- the reader bits
-  module _ (at : task_of v who ≡ task.Settles (length pre.reads.items) place) (within : place < length pre.claims.items) where
+  module _ (at : task_of v who ≡ task.Settles (length pre.reads.value.items) place) (within : place < length pre.claims.value.items) where
     inside : place < length x.current.writes
     inside = subst (λ (n : ℕ). place < n) stands.kept.claim_count within
 
@@ -164,9 +164,9 @@ module _ (pre : Pre) (v : View) (who : ℕ) (stands : Stands pre v who) (place :
       pub made_went : WentOn v who w
       made_went = went v who stands.sealed _ _ _ _ _ w made_leads
 
-      pub made_passed : (new : Pre) → new ≡ record pre { pred = max pre.pred found } → task_of w who ≡ task.Settles (length new.reads.items) (place + 1)
+      pub made_passed : (new : Pre) → new ≡ record pre { pred = max pre.pred found } → task_of w who ≡ task.Settles (length new.reads.value.items) (place + 1)
       made_passed new e =
-          comes_to v who stands.sealed _ _ _ _ _ w made_leads ∙ ap (λ (n : ℕ). task.Settles n (place + 1)) (sym stands.kept.read_count ∙ sym (ap (λ (t : Pre). length t.reads.items) e))
+          comes_to v who stands.sealed _ _ _ _ _ w made_leads ∙ ap (λ (n : ℕ). task.Settles n (place + 1)) (sym stands.kept.read_count ∙ sym (ap (λ (t : Pre). length t.reads.value.items) e))
 
       pub made_stands : (new : Pre) → new ≡ record pre { pred = max pre.pred found } → Stands new w who
       made_stands new e =

@@ -37,7 +37,7 @@ module _ (pre : Pre) (v : View) (who : ℕ) (stands : Stands pre v who) (place :
   x = part_of v who
 
   -- the entry
-  module _ (at : task_of v who ≡ task.Settles place 0) (within : place < length pre.reads.items) where
+  module _ (at : task_of v who ≡ task.Settles place 0) (within : place < length pre.reads.value.items) where
     inside : place < length x.current.reads
     inside = subst (λ (n : ℕ). place < n) stands.kept.read_count within
 

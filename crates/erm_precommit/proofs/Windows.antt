@@ -99,12 +99,12 @@ module _ (c : Core) (p : ℕ) (sound : Sound c) (sealed : is_sealed (c.seats p).
           running.pred_readers u m low (w.place, all_writes w.place w.within, w.within, (over.0, over.1, oid, stamp))
 
 -- all versions are passed: the numbers kept are the definitions'
-module _ (pre : Pre) (v : View) (who : ℕ) (stands : Stands pre v who) (passed : task_of v who ≡ task.Settles (length pre.reads.items) (length pre.claims.items)) where
+module _ (pre : Pre) (v : View) (who : ℕ) (stands : Stands pre v who) (passed : task_of v who ≡ task.Settles (length pre.reads.value.items) (length pre.claims.value.items)) where
   abbrev x : Part
   x = part_of v who
 
   passed_all : task_of v who ≡ task.Settles (length x.current.reads) (length x.current.writes)
-  passed_all = passed ∙ ap (λ (n : ℕ). task.Settles n (length pre.claims.items)) stands.kept.read_count ∙ ap (λ (n : ℕ). task.Settles (length x.current.reads) n) stands.kept.claim_count
+  passed_all = passed ∙ ap (λ (n : ℕ). task.Settles n (length pre.claims.value.items)) stands.kept.read_count ∙ ap (λ (n : ℕ). task.Settles (length x.current.reads) n) stands.kept.claim_count
 
   window : (c : Core) → Sound c → IsView v c → HasWindow c who pre.succ pre.pred
   window c sound is =

@@ -15,14 +15,14 @@ abbrev pub no_read_kept : KeptRead
 no_read_kept = record { oid = 0; cell = 0 }
 
 abbrev pub read_kept : Pre → ℕ → KeptRead
-read_kept t place = slice_index_or t.reads.items place no_read_kept
+read_kept t place = slice_index_or t.reads.value.items place no_read_kept
 
 -- the claim at a place
 abbrev pub no_claim_kept : KeptClaim
 no_claim_kept = record { oid = 0; overwritten = 0; own = 0 }
 
 abbrev pub claim_kept : Pre → ℕ → KeptClaim
-claim_kept t place = slice_index_or t.claims.items place no_claim_kept
+claim_kept t place = slice_index_or t.claims.value.items place no_claim_kept
 
 -- the ring has room for the block
 abbrev pub fits_ring : Pre → ℕ → Bool
@@ -44,9 +44,9 @@ pub record IsClaimKept (kept : KeptClaim) (w : Claim) : Type 0 where
 pub record IsPre (t : Pre) (x : Part) : Type 0 where
   pub stamp : t.stamp ≡ x.current.stamp
   pub size : t.size ≡ x.current.size
-  pub read_count : length t.reads.items ≡ length x.current.reads
+  pub read_count : length t.reads.value.items ≡ length x.current.reads
   pub reads : (k : ℕ) → k < length x.current.reads → IsReadKept (read_kept t k) (read_at x.current k)
-  pub claim_count : length t.claims.items ≡ length x.current.writes
+  pub claim_count : length t.claims.value.items ≡ length x.current.writes
   pub claims : (k : ℕ) → k < length x.current.writes → IsClaimKept (claim_kept t k) (claim_at x.current k)
   pub succ : t.succ ≡ x.current.succ
   pub pred : t.pred ≡ x.current.pred

@@ -14,5 +14,5 @@ pub use laws::{
     one_of_two_is_ready, ready_beside_a_commit_is_closed, skewed_commits_exclude_one_another,
     snapshots_of_one_begin_agree,
 };
-pub use pre::{KeptClaim, KeptRead, Pre};
+pub use pre::{KeptClaim, KeptClaims, KeptRead, KeptReads, Pre};
 pub use settling::settle;

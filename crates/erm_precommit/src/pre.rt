@@ -21,6 +21,12 @@ pub struct KeptClaim {
     pub own: u32,
 }
 
+/// The versions read, apart from what keeps them: a move of the list moves a pointer.
+pub type KeptReads = Box<ArrayVec<KeptRead, READ_LIMIT>>;
+
+/// The objects claimed, apart from what keeps them.
+pub type KeptClaims = Box<ArrayVec<KeptClaim, WRITE_LIMIT>>;
+
 /// A sealed transaction as its session keeps it.
 #[derive(Drop)]
 pub struct Pre {
@@ -29,9 +35,9 @@ pub struct Pre {
     /// The size of its range, in words.
     pub size: u64,
     /// In order of first read.
-    pub reads: ArrayVec<KeptRead, READ_LIMIT>,
+    pub reads: KeptReads,
     /// In order of claim.
-    pub claims: ArrayVec<KeptClaim, WRITE_LIMIT>,
+    pub claims: KeptClaims,
     /// The least of the successor stamps found so far, at most the own stamp.
     pub succ: Stamp,
     /// The greatest of the predecessors' stamps found so far, or 0.

@@ -43,7 +43,7 @@ fn load_head<L: RowLaw>(
     requires fits { Fits t.now.words.shared.table_id p.old }
     requires stands { Stands pre.now (view p.old) who }
     requires task { task_of (view p.old) who ≡ Settles place 0 }
-    requires place { place < length pre.now.reads.items }
+    requires place { place < length pre.now.reads.value.items }
     ensures fits { Fits t.now.words.shared.table_id p.new }
     ensures went { WentOn (view p.old) who (view p.new) }
     ensures stands { Stands pre.now (view p.new) who }
@@ -97,7 +97,7 @@ fn pass_owner<L: RowLaw>(
     requires fits { Fits t.now.words.shared.table_id p.old }
     requires stands { Stands pre.now (view p.old) who }
     requires task { task_of (view p.old) who ≡ Settles place 0 }
-    requires place { place < length pre.now.reads.items }
+    requires place { place < length pre.now.reads.value.items }
     ensures fits { Fits t.now.words.shared.table_id p.new }
     ensures went { WentOn (view p.old) who (view p.new) }
     ensures stands { Stands pre.now (view p.new) who }
@@ -190,7 +190,7 @@ fn pass_read<L: RowLaw>(
     requires fits { Fits t.now.words.shared.table_id p.old }
     requires stands { Stands pre.old (view p.old) who }
     requires task { task_of (view p.old) who ≡ Settles place 0 }
-    requires place { place < length pre.old.reads.items }
+    requires place { place < length pre.old.reads.value.items }
     ensures fits { Fits t.now.words.shared.table_id p.new }
     ensures went { WentOn (view p.old) who (view p.new) }
     ensures stands { Stands pre.new (view p.new) who }
@@ -219,7 +219,7 @@ pub(crate) fn pass_reads<L: RowLaw>(
     ensures fits { Fits t.now.words.shared.table_id p.new }
     ensures went { WentOn (view p.old) who (view p.new) }
     ensures stands { Stands pre.new (view p.new) who }
-    ensures passed { OnOk result (task_of (view p.new) who ≡ Settles (length pre.new.reads.items) 0) }
+    ensures passed { OnOk result (task_of (view p.new) who ≡ Settles (length pre.new.reads.value.items) 0) }
     ensures waits { IfErr result (λ wait. WaitsForSeat (view p.old) who wait.seat wait.seen (view p.new)) }
     ensures goes { IsAfter (book p.old) (book p.new) }
     ensures met { IfErr result (λ wait. WasState (book p.old) wait.seat wait.seen (book p.new)) }

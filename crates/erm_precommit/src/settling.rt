@@ -52,7 +52,7 @@ fn pass_all<L: RowLaw>(pre: &mut Pre, t: &Table<L>, p: &mut Pass, who: Seat) -> 
     ensures fits { Fits t.now.words.shared.table_id p.new }
     ensures went { WentOn (view p.old) who (view p.new) }
     ensures stands { Stands pre.new (view p.new) who }
-    ensures passed { OnOk result (task_of (view p.new) who ≡ Settles (length pre.new.reads.items) (length pre.new.claims.items)) }
+    ensures passed { OnOk result (task_of (view p.new) who ≡ Settles (length pre.new.reads.value.items) (length pre.new.claims.value.items)) }
     ensures waits { IfErr result (λ wait. WaitsForSeat (view p.old) who wait.seat wait.seen (view p.new)) }
     ensures goes { IsAfter (book p.old) (book p.new) }
     ensures met { IfErr result (λ wait. WasState (book p.old) wait.seat wait.seen (book p.new)) }

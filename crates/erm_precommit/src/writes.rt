@@ -24,8 +24,8 @@ use erm_seats::look;
 fn load_others<L: RowLaw>(pre: &Pre, t: &Table<L>, p: &mut Pass, who: Seat, place: usize) -> u64
     requires fits { Fits t.now.words.shared.table_id p.old }
     requires stands { Stands pre.now (view p.old) who }
-    requires task { task_of (view p.old) who ≡ Settles (length pre.now.reads.items) place }
-    requires place { place < length pre.now.claims.items }
+    requires task { task_of (view p.old) who ≡ Settles (length pre.now.reads.value.items) place }
+    requires place { place < length pre.now.claims.value.items }
     ensures fits { Fits t.now.words.shared.table_id p.new }
     ensures went { WentOn (view p.old) who (view p.new) }
     ensures stands { Stands pre.now (view p.new) who }
@@ -81,8 +81,8 @@ fn pass_readers<L: RowLaw>(
 ) -> Result<(), SeatWait>
     requires fits { Fits t.now.words.shared.table_id p.old }
     requires stands { Stands pre.now (view p.old) who }
-    requires task { task_of (view p.old) who ≡ Settles (length pre.now.reads.items) place }
-    requires place { place < length pre.now.claims.items }
+    requires task { task_of (view p.old) who ≡ Settles (length pre.now.reads.value.items) place }
+    requires place { place < length pre.now.claims.value.items }
     ensures fits { Fits t.now.words.shared.table_id p.new }
     ensures went { WentOn (view p.old) who (view p.new) }
     ensures stands { Stands pre.now (view p.new) who }
@@ -125,7 +125,7 @@ fn rate_readers<L: RowLaw>(pre: &mut Pre, t: &Table<L>, p: &mut Pass, who: Seat,
     ensures fits { Fits t.now.words.shared.table_id p.new }
     ensures went { WentOn (view p.old) who (view p.new) }
     ensures stands { Stands pre.new (view p.new) who }
-    ensures passed { task_of (view p.new) who ≡ Settles (length pre.new.reads.items) (place + 1) }
+    ensures passed { task_of (view p.new) who ≡ Settles (length pre.new.reads.value.items) (place + 1) }
     ensures goes { IsAfter (book p.old) (book p.new) }
     ensures loads { Went L.law who IsLoadStep (book p.old) (book p.new) }
 {
@@ -144,12 +144,12 @@ fn pass_write<L: RowLaw>(
 ) -> Result<(), SeatWait>
     requires fits { Fits t.now.words.shared.table_id p.old }
     requires stands { Stands pre.old (view p.old) who }
-    requires task { task_of (view p.old) who ≡ Settles (length pre.old.reads.items) place }
-    requires place { place < length pre.old.claims.items }
+    requires task { task_of (view p.old) who ≡ Settles (length pre.old.reads.value.items) place }
+    requires place { place < length pre.old.claims.value.items }
     ensures fits { Fits t.now.words.shared.table_id p.new }
     ensures went { WentOn (view p.old) who (view p.new) }
     ensures stands { Stands pre.new (view p.new) who }
-    ensures passed { OnOk result (task_of (view p.new) who ≡ Settles (length pre.new.reads.items) (place + 1)) }
+    ensures passed { OnOk result (task_of (view p.new) who ≡ Settles (length pre.new.reads.value.items) (place + 1)) }
     ensures waits { IfErr result (λ wait. WaitsForSeat (view p.old) who wait.seat wait.seen (view p.new)) }
     ensures goes { IsAfter (book p.old) (book p.new) }
     ensures met { IfErr result (λ wait. WasState (book p.old) wait.seat wait.seen (book p.new)) }
@@ -171,11 +171,11 @@ pub(crate) fn pass_writes<L: RowLaw>(
 ) -> Result<(), SeatWait>
     requires fits { Fits t.now.words.shared.table_id p.old }
     requires stands { Stands pre.old (view p.old) who }
-    requires task { task_of (view p.old) who ≡ Settles (length pre.old.reads.items) 0 }
+    requires task { task_of (view p.old) who ≡ Settles (length pre.old.reads.value.items) 0 }
     ensures fits { Fits t.now.words.shared.table_id p.new }
     ensures went { WentOn (view p.old) who (view p.new) }
     ensures stands { Stands pre.new (view p.new) who }
-    ensures passed { OnOk result (task_of (view p.new) who ≡ Settles (length pre.new.reads.items) (length pre.new.claims.items)) }
+    ensures passed { OnOk result (task_of (view p.new) who ≡ Settles (length pre.new.reads.value.items) (length pre.new.claims.value.items)) }
     ensures waits { IfErr result (λ wait. WaitsForSeat (view p.old) who wait.seat wait.seen (view p.new)) }
     ensures goes { IsAfter (book p.old) (book p.new) }
     ensures met { IfErr result (λ wait. WasState (book p.old) wait.seat wait.seen (book p.new)) }

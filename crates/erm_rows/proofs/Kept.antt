@@ -1,8 +1,9 @@
 -- What the session keeps follows the machine's part.
-use Rattle.std.proofs.Common.{◌≡◌, ℕ, ◌<◌, ◌≤◌, ⊎_elim, Bool, true, false, List, [], ◌∷◌, ◌++◌, length, get_or, max, Option, Some, None, refl, sym, ap, ◌∙◌, subst, eqb, arith}
+use Rattle.std.proofs.Common.{Box, ◌≡◌, ℕ, ◌<◌, ◌≤◌, ⊎_elim, Bool, true, false, List, [], ◌∷◌, ◌++◌, length, get_or, max, Option, Some, None, refl, sym, ap, ◌∙◌, subst, eqb, arith}
 use Rattle.std.specs.Prelude.{if◌then◌else◌}
 use Rattle.std.proofs.lemmas.Bool.{cases_lt}
 use Rattle.std.proofs.lemmas.List.{get_or_append_left, get_or_push, length_push}
+use Rattle.std.specs.declared.alloc.Global.{Global}
 use Rattle.arrayvec.specs.ArrayVec.{ArrayVec}
 use Rattle.erm_machine.specs.declared.attempt.Attempt.{Attempt}
 use Rattle.erm_machine.specs.declared.attempt.Read.{Read}
@@ -26,9 +27,9 @@ kept_same t x y same is = record {
   begin = is.begin ∙ ap (λ (n : Attempt). n.begin) same;
   number = is.number ∙ ap (λ (n : Attempt). n.number) same;
   read_count = is.read_count ∙ ap (λ (n : Attempt). length n.reads) same;
-  reads = subst (λ (n : Attempt). (k : ℕ) → k < length n.reads → IsReadKept (get_or t.reads.items k no_read_kept) (get_or n.reads k no_read)) same is.reads;
+  reads = subst (λ (n : Attempt). (k : ℕ) → k < length n.reads → IsReadKept (get_or t.reads.value.items k no_read_kept) (get_or n.reads k no_read)) same is.reads;
   claim_count = is.claim_count ∙ ap (λ (n : Attempt). length n.writes) same;
-  claims = subst (λ (n : Attempt). (k : ℕ) → k < length n.writes → IsClaimKept (get_or t.claims.items k no_claim_kept) (claim_at n k)) same is.claims;
+  claims = subst (λ (n : Attempt). (k : ℕ) → k < length n.writes → IsClaimKept (get_or t.claims.value.items k no_claim_kept) (claim_at n k)) same is.claims;
   succ = is.succ ∙ ap (λ (n : Attempt). n.succ) same;
   pred = is.pred ∙ ap (λ (n : Attempt). n.pred) same;
 }
@@ -86,23 +87,23 @@ module _ (old new : Active) (x : Part) (r : Read) (words : Cell) (notes : List �
   abbrev y : Bool → Part
   y none = record x { task = task.Rated r.version; clear = notes; current = if none then read_so else with_succ words.overwriter_succ words.overwriter read_so }
 
-  count_is : length new.reads.items ≡ length (x.current.reads ++ r ∷ [])
+  count_is : length new.reads.value.items ≡ length (x.current.reads ++ r ∷ [])
   count_is =
-      let a = length_push old.reads.items kept in
+      let a = length_push old.reads.value.items kept in
       let b = length_push x.current.reads r in
       let c = is.read_count in
       ap (λ (l : List KeptRead). length l) adds.reads ∙ omega (arith, a, b, c)
 
-  reads_are : (k : ℕ) → k < length (x.current.reads ++ r ∷ []) → IsReadKept (get_or new.reads.items k no_read_kept) (get_or (x.current.reads ++ r ∷ []) k no_read)
+  reads_are : (k : ℕ) → k < length (x.current.reads ++ r ∷ []) → IsReadKept (get_or new.reads.value.items k no_read_kept) (get_or (x.current.reads ++ r ∷ []) k no_read)
   reads_are k within =
       subst (λ (l : List KeptRead). IsReadKept (get_or l k no_read_kept) (get_or (x.current.reads ++ r ∷ []) k no_read)) (sym adds.reads)
-      (push_read old.reads.items x.current.reads kept r is.read_count is.reads one k within)
+      (push_read old.reads.value.items x.current.reads kept r is.read_count is.reads one k within)
 
-  claims_are : (k : ℕ) → k < length x.current.writes → IsClaimKept (get_or new.claims.items k no_claim_kept) (claim_at x.current k)
-  claims_are k within = subst (λ (c : ArrayVec KeptClaim). IsClaimKept (get_or c.items k no_claim_kept) (claim_at x.current k)) (sym adds.claims) (is.claims k within)
+  claims_are : (k : ℕ) → k < length x.current.writes → IsClaimKept (get_or new.claims.value.items k no_claim_kept) (claim_at x.current k)
+  claims_are k within = subst (λ (c : Box (ArrayVec KeptClaim) Global). IsClaimKept (get_or c.value.items k no_claim_kept) (claim_at x.current k)) (sym adds.claims) (is.claims k within)
 
-  claim_count_is : length new.claims.items ≡ length x.current.writes
-  claim_count_is = ap (λ (c : ArrayVec KeptClaim). length c.items) adds.claims ∙ is.claim_count
+  claim_count_is : length new.claims.value.items ≡ length x.current.writes
+  claim_count_is = ap (λ (c : Box (ArrayVec KeptClaim) Global). length c.value.items) adds.claims ∙ is.claim_count
 
   pred_so : new.pred ≡ max x.current.pred r.stamp
   pred_so = adds.pred_is ∙ ap (λ (n : ℕ). max n stamp) is.pred ∙ ap (λ (n : ℕ). max x.current.pred n) (sym stamp_is)

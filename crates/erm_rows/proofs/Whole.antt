@@ -1,9 +1,10 @@
 -- A whole claim: its entry is taken, its chain cut, and it has a cell; or it is given up.
-use Rattle.std.proofs.Common.{◌≡◌, ℕ, ◌-◌, ◌<◌, ◌≤◌, ⊎_elim, true, List, [], ◌∷◌, ◌++◌, length, take, get_or, set, is_none, refl, sym, ap, ◌∙◌, subst, arith}
+use Rattle.std.proofs.Common.{Box, ◌≡◌, ℕ, ◌-◌, ◌<◌, ◌≤◌, ⊎_elim, true, List, [], ◌∷◌, ◌++◌, length, take, get_or, set, is_none, refl, sym, ap, ◌∙◌, subst, arith}
 use Rattle.std.specs.Prelude.{if◌then◌else◌}
 use Rattle.std.proofs.lemmas.Bool.{cases_lt, eq-eqb}
 use Rattle.std.proofs.lemmas.List.{get_or_append_left, get_or_push, length_push}
 use Rattle.std.proofs.Math.Seq.{set-append_seam, take-append_seam}
+use Rattle.std.specs.declared.alloc.Global.{Global}
 use Rattle.arrayvec.specs.ArrayVec.{ArrayVec}
 use Rattle.erm_model.specs.declared.row_stop.RowStop.{RowStop}
 use Rattle.erm_model.specs.declared.row_stop.RowStop.TheVariants as stop
@@ -80,16 +81,16 @@ kept_claim : (old new : Active) (x : Part) (claim : Claim) (spare : List OwnCell
 kept_claim old new x claim spare tail readers kept is adds one = record {
   begin = adds.begin ∙ is.begin;
   number = adds.number ∙ is.number;
-  read_count = ap (λ (r : ArrayVec KeptRead). length r.items) adds.reads ∙ is.read_count;
-  reads = λ k within. subst (λ (r : ArrayVec KeptRead). IsReadKept (get_or r.items k no_read_kept) (read_at x.current k)) (sym adds.reads) (is.reads k within);
+  read_count = ap (λ (r : Box (ArrayVec KeptRead) Global). length r.value.items) adds.reads ∙ is.read_count;
+  reads = λ k within. subst (λ (r : Box (ArrayVec KeptRead) Global). IsReadKept (get_or r.value.items k no_read_kept) (read_at x.current k)) (sym adds.reads) (is.reads k within);
   claim_count =
-      let a = length_push old.claims.items kept in
+      let a = length_push old.claims.value.items kept in
       let b = length_push x.current.writes claim in
       let c = is.claim_count in
       ap (λ (l : List KeptClaim). length l) adds.claims ∙ omega (arith, a, b, c);
   claims = λ k within.
       subst (λ (l : List KeptClaim). IsClaimKept (get_or l k no_claim_kept) (get_or (x.current.writes ++ claim ∷ []) k no_claim)) (sym adds.claims)
-      (push_claim old.claims.items x.current.writes kept claim is.claim_count is.claims one k within);
+      (push_claim old.claims.value.items x.current.writes kept claim is.claim_count is.claims one k within);
   succ = adds.succ_is ∙ is.succ;
   pred = let e = is.pred in let f = adds.pred_is in grind (arith, e, f);
 }

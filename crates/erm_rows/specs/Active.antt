@@ -13,10 +13,10 @@ use Rattle.erm_rows.specs.declared.active.Active.{Active}
 pub record IsActive (t : Active) (x : Part) : Type 0 where
   pub begin : t.begin ≡ x.current.begin
   pub number : t.number ≡ x.current.number
-  pub read_count : length t.reads.items ≡ length x.current.reads
-  pub reads : (k : ℕ) → k < length x.current.reads → IsReadKept (slice_index_or t.reads.items k no_read_kept) (read_at x.current k)
-  pub claim_count : length t.claims.items ≡ length x.current.writes
-  pub claims : (k : ℕ) → k < length x.current.writes → IsClaimKept (slice_index_or t.claims.items k no_claim_kept) (claim_at x.current k)
+  pub read_count : length t.reads.value.items ≡ length x.current.reads
+  pub reads : (k : ℕ) → k < length x.current.reads → IsReadKept (slice_index_or t.reads.value.items k no_read_kept) (read_at x.current k)
+  pub claim_count : length t.claims.value.items ≡ length x.current.writes
+  pub claims : (k : ℕ) → k < length x.current.writes → IsClaimKept (slice_index_or t.claims.value.items k no_claim_kept) (claim_at x.current k)
   pub succ : t.succ ≡ x.current.succ
   pub pred : t.pred ≡ x.current.pred
 
@@ -29,7 +29,7 @@ least_with (Some succ) least = if (least == 0) || nat_lt succ least then succ el
 pub record Adds (old : Active) (read : KeptRead) (stamp : ℕ) (succ : Option ℕ) (new : Active) : Type 0 where
   pub begin : new.begin ≡ old.begin
   pub number : new.number ≡ old.number
-  pub reads : new.reads.items ≡ old.reads.items ++ read ∷ []
+  pub reads : new.reads.value.items ≡ old.reads.value.items ++ read ∷ []
   pub claims : new.claims ≡ old.claims
   pub succ_is : new.succ ≡ least_with succ old.succ
   pub pred_is : new.pred ≡ max old.pred stamp
@@ -39,7 +39,7 @@ pub record AddsClaim (old : Active) (claim : KeptClaim) (readers : ℕ) (new : A
   pub begin : new.begin ≡ old.begin
   pub number : new.number ≡ old.number
   pub reads : new.reads ≡ old.reads
-  pub claims : new.claims.items ≡ old.claims.items ++ claim ∷ []
+  pub claims : new.claims.value.items ≡ old.claims.value.items ++ claim ∷ []
   pub succ_is : new.succ ≡ old.succ
   pub pred_is : new.pred ≡ max old.pred readers
 

@@ -5,10 +5,9 @@ ghost use Rattle.erm_precommit.specs.Pre.{IsPre};
 ghost use Rattle.erm_rows.specs.Active.{Adds, AddsClaim, IsActive, closed_window, least_with};
 ghost use Rattle.erm_seats.specs.Calls.{sealed_part};
 
-use arrayvec::ArrayVec;
 use erm_machine::{READ_LIMIT, WRITE_LIMIT};
 use erm_model::{Oid, Stamp};
-use erm_precommit::{KeptClaim, KeptRead, Pre};
+use erm_precommit::{KeptClaim, KeptClaims, KeptRead, KeptReads, Pre};
 
 /// An active transaction as its session keeps it.
 #[derive(Drop)]
@@ -18,9 +17,9 @@ pub struct Active {
     /// The transaction's number in its session.
     pub number: u32,
     /// In order of first read.
-    pub reads: ArrayVec<KeptRead, READ_LIMIT>,
+    pub reads: KeptReads,
     /// In order of claim.
-    pub claims: ArrayVec<KeptClaim, WRITE_LIMIT>,
+    pub claims: KeptClaims,
     /// The least of the successor stamps found so far, or 0 for none.
     pub succ: Stamp,
     /// The greatest of the predecessors' stamps found so far, or 0.
@@ -66,7 +65,7 @@ impl Active {
 
     /// One more version is read, of this stamp; its overwriter has this successor stamp, if there is one.
     pub(crate) fn add_read(&mut self, read: KeptRead, stamp: Stamp, succ: Option<Stamp>)
-        requires { length self.old.reads.items < READ_LIMIT }
+        requires { length self.old.reads.value.items < READ_LIMIT }
         ensures { Adds self.old read stamp succ self.new }
     {
         self.reads.push(read);
@@ -76,7 +75,7 @@ impl Active {
 
     /// One more object is claimed; the version overwritten has this reader stamp.
     pub(crate) fn add_claim(&mut self, claim: KeptClaim, readers: Stamp)
-        requires { length self.old.claims.items < WRITE_LIMIT }
+        requires { length self.old.claims.value.items < WRITE_LIMIT }
         ensures { AddsClaim self.old claim readers self.new }
     {
         self.claims.push(claim);

@@ -42,7 +42,7 @@ fn read_version<L: RowLaw>(
     requires session { is_session who ≡ true }
     requires active { is_active (part_of (view p.old) who).place ≡ true }
     requires kept { IsActive txn.old (part_of (view p.old) who) }
-    requires room { length txn.old.reads.items < READ_LIMIT }
+    requires room { length txn.old.reads.value.items < READ_LIMIT }
     requires walks { IsWalking (part_of (view p.old) who).task head }
     requires object { (in_hand (part_of (view p.old) who).task).oid ≡ oid }
     requires unread { has_read oid (part_of (view p.old) who).current ≡ false }
@@ -73,7 +73,7 @@ fn read_object<L: RowLaw>(
     requires session { is_session who ≡ true }
     requires active { is_active (part_of (view p.old) who).place ≡ true }
     requires kept { IsActive txn.old (part_of (view p.old) who) }
-    requires room { length txn.old.reads.items < READ_LIMIT }
+    requires room { length txn.old.reads.value.items < READ_LIMIT }
     requires starts { starts_anew (part_of (view p.old) who).task ≡ true }
     requires object { oid < OBJECT_LIMIT }
     requires unread { has_read oid (part_of (view p.old) who).current ≡ false }

@@ -119,7 +119,7 @@ pub fn take_entry<L: RowLaw>(
     requires unclaimed { Holds (part_of (view p.old) who) oid → ⊥ }
     ensures fits { Fits t.now.words.shared.table_id p.new }
     ensures taken { IfOk result (λ head. DidTakeEntry (view p.old) who oid head (view p.new)) }
-    ensures room { IfOk result (λ head. length txn.now.claims.items < WRITE_LIMIT) }
+    ensures room { IfOk result (λ head. length txn.now.claims.value.items < WRITE_LIMIT) }
     ensures refused { IfErr result (λ stop. DidNotTake (view p.old) who oid stop (view p.new)) }
     ensures kept { IfErr result (λ stop. IsActive txn.now (part_of (view p.new) who)) }
     ensures took { IfOk result (λ head. TookEntry L.law who oid head (book p.old) (book p.new)) }

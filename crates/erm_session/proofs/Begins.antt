@@ -1,5 +1,5 @@
 -- A begin: the session keeps a transaction that has done nothing yet.
-use Rattle.std.proofs.Common.{◌≡◌, ℕ, ◌+◌, ◌≤◌, Bool, List, [], length, vec_capacity, Vec, Some, refl, sym, ap, ◌∙◌, subst, arith}
+use Rattle.std.proofs.Common.{◌≡◌, ℕ, ◌+◌, ◌≤◌, Bool, List, [], length, vec_capacity, Vec, Option, None, Some, refl, sym, ap, ◌∙◌, subst, arith}
 use Rattle.std.specs.Prelude.{if◌then◌else◌}
 use Rattle.std.specs.declared.alloc.Global.{Global}
 use Rattle.erm_model.specs.declared.outcome.Phase.TheVariants as phase
@@ -19,10 +19,11 @@ use Rattle.erm_rows.specs.Active.{IsActive}
 use Rattle.erm_seats.specs.declared.answer.BeginStop.{BeginStop}
 use Rattle.erm_seats.specs.declared.answer.BeginStop.TheVariants as seats
 use Rattle.erm_seats.specs.Calls.{begun_part, DidBegin, DidStop}
+use Rattle.erm_session.specs.declared.room.Room.{Room}
 use Rattle.erm_session.specs.declared.session.Session.{Session}
 use Rattle.erm_session.specs.declared.session.Stage.{Stage}
 use Rattle.erm_session.specs.declared.session.Stage.TheVariants as stage
-use Rattle.erm_session.specs.Session.{phase_of, IsSession, StageIs}
+use Rattle.erm_session.specs.Session.{phase_of, HasRoom, IsSession, StageIs}
 use Rattle.erm_session.proofs.Goes.{open_idle}
 
 -- an idle session's seat is idle
@@ -40,8 +41,15 @@ idle_still stage.Idle x y same e is = same ∙ is
 idle_still (stage.Active t) x y same e is = absurd (cc)
 idle_still (stage.Sealed t) x y same e is = absurd (cc)
 
+-- an idle session has room
+pub room_idle : (s : Stage) (room : Option Room) → phase_of s ≡ phase.Idle → HasRoom s room → room ≡ None → ⊥
+room_idle stage.Idle None e has none = has
+room_idle stage.Idle (Some room) e has none = absurd (cc)
+room_idle (stage.Active t) room e has none = absurd (cc)
+room_idle (stage.Sealed t) room e has none = absurd (cc)
+
 -- a transaction that has done nothing yet
-new_active : (t : Active) (x : Part) (who announced begin : ℕ) → t.begin ≡ begin → t.number ≡ next_number who x.number → t.reads.items ≡ [] → t.claims.items ≡ []
+new_active : (t : Active) (x : Part) (who announced begin : ℕ) → t.begin ≡ begin → t.number ≡ next_number who x.number → t.reads.value.items ≡ [] → t.claims.value.items ≡ []
     → t.succ ≡ 0 → t.pred ≡ 0 → IsActive t (begun_part who announced begin x)
 new_active t x who announced begin begin_is number_is reads claims succ pred = record {
   begin = begin_is;
@@ -75,6 +83,7 @@ module _ (s : Session) (v : View) (is : IsSession s (part_of v s.seat)) (idle : 
           low = is.kept.low;
           number = is.kept.number;
           stage = idle_still s.stage x (saw tail x) refl idle is.kept.stage;
+          room = is.kept.room;
           spare = is.kept.spare;
           room_read = is.kept.room_read;
           room_claimed = is.kept.room_claimed;
@@ -86,14 +95,14 @@ module _ (s : Session) (v : View) (is : IsSession s (part_of v s.seat)) (idle : 
       })
 
   -- one that began, and keeps this transaction
-  module _ (t : Active) (rows_read rows_claimed : Vec (List ℕ) Global) (begin : ℕ) (w : View) (did : DidBegin v s.seat begin w) where
+  module _ (t : Active) (room : Option Room) (rows_read rows_claimed : Vec (List ℕ) Global) (begin : ℕ) (w : View) (did : DidBegin v s.seat begin w) where
     abbrev y : Part
     y = begun_part s.seat did.announced begin x
 
     abbrev n : Session
-    n = record s { number = s.number + 1; stage = stage.Active t; rows_read = rows_read; rows_claimed = rows_claimed }
+    n = record s { number = s.number + 1; stage = stage.Active t; room = room; rows_read = rows_read; rows_claimed = rows_claimed }
 
-    pub begun_session : t.begin ≡ begin → t.number ≡ s.number + 1 → t.reads.items ≡ [] → t.claims.items ≡ [] → t.succ ≡ 0 → t.pred ≡ 0
+    pub begun_session : t.begin ≡ begin → t.number ≡ s.number + 1 → t.reads.value.items ≡ [] → t.claims.value.items ≡ [] → t.succ ≡ 0 → t.pred ≡ 0
         → rows_read.items ≡ [] → vec_capacity rows_read ≡ vec_capacity s.rows_read → rows_claimed.items ≡ [] → vec_capacity rows_claimed ≡ vec_capacity s.rows_claimed
         → IsSession n (part_of w s.seat)
     begun_session begin_is number_is reads claims succ pred no_read room_read no_claimed room_claimed =
@@ -105,6 +114,7 @@ module _ (s : Session) (v : View) (is : IsSession s (part_of v s.seat)) (idle : 
             low = is.kept.low;
             number = sym next;
             stage = (refl, refl, new_active t x s.seat did.announced begin begin_is (number_is ∙ sym next) reads claims succ pred, refl);
+            room = tt;
             spare = is.kept.spare;
             room_read = subst (λ (m : ℕ). READ_LIMIT ≤ m) (sym room_read) is.kept.room_read;
             room_claimed = subst (λ (m : ℕ). WRITE_LIMIT ≤ m) (sym room_claimed) is.kept.room_claimed;

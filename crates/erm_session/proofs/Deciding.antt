@@ -1,5 +1,5 @@
 -- A sealed transaction that has passed all versions is decided, and ends.
-use Rattle.std.proofs.Common.{◌≡◌, ℕ, ◌≤◌, ◌+◌, Bool, true, false, ltb, List, [], length, sym, ap, ◌∙◌, subst, arith}
+use Rattle.std.proofs.Common.{◌≡◌, ℕ, ◌≤◌, ◌+◌, Bool, true, false, ltb, List, [], length, Some, sym, ap, ◌∙◌, subst, arith}
 use Rattle.std.specs.Prelude.{if◌then◌else◌, vec_capacity}
 use Rattle.erm_block.specs.declared.block.TheConstants.{BLOCK_WORDS}
 use Rattle.erm_cells.specs.Spare.{SpareIs}
@@ -22,11 +22,13 @@ use Rattle.erm_rule.specs.declared.view.View.{View}
 use Rattle.erm_rule.specs.Hands.{IsKnown}
 use Rattle.erm_rule.specs.Views.{part_of}
 use Rattle.erm_rule.proofs.Telling.{held_part, part_of-changed}
+use Rattle.erm_session.specs.declared.room.Room.{Room}
 use Rattle.erm_session.specs.declared.session.Session.{Session}
 use Rattle.erm_session.specs.declared.session.Stage.{Stage}
 use Rattle.erm_session.specs.declared.session.Stage.TheVariants as stage
 use Rattle.erm_session.specs.Session.{IsSession, StageIs, phase_of}
 use Rattle.erm_session.specs.Settle.{EndsAs, Finishes, MayBeDecided, MayEnd, StoresBlock}
+use Rattle.erm_session.proofs.Goes.{has_room}
 use Rattle.erm_session.proofs.Ending.{HasLeft, Leaves, leaves, left_session}
 use Rattle.erm_session.proofs.Storing.{decided_is, ends_low, may_end}
 
@@ -112,6 +114,7 @@ went_session s t u v w stands at went now =
         low = stands.kept.low;
         number = stands.kept.number;
         stage = (sealed, may, kept, here.3, here.4);
+        room = tt;
         spare = stands.kept.spare;
         room_read = stands.kept.room_read;
         room_claimed = stands.kept.room_claimed;
@@ -131,7 +134,7 @@ module _ (s : Session) (t : Pre) (v : View) (succ pred : ℕ) (known : IsKnown v
   block_ends = ends_low v s.seat s.run s.number t s.rows_claimed.items (ltb pred succ) known may
 
   -- its block was stored, and it is decided: then a is kept
-  module _ (st : Stage) (a : Session) (first : a ≡ record s { stage = st; block = a.block }) (u : View) (stored : StoresBlock v s.seat u) where
+  module _ (st : Stage) (a : Session) (first : a ≡ record s { stage = st; decided = a.decided; block = a.block }) (u : View) (stored : StoresBlock v s.seat u) where
     seat : a.seat ≡ s.seat
     seat = ap (λ (z : Session). z.seat) first
 
@@ -167,10 +170,10 @@ module _ (s : Session) (t : Pre) (v : View) (succ pred : ℕ) (known : IsKnown v
           (subst (λ (q : ℕ). MayBeDecided s.seat s.run q t s.rows_claimed.items (ltb pred succ) (part_of v s.seat)) (sym number) may)
           u stored may_leave_own.decision w ends outcome is
 
-      pub stands_idle : st ≡ stage.Idle → SpareIs n.spare (part_of w a.seat) → vec_capacity n.rows_read ≡ vec_capacity a.rows_read
+      pub stands_idle : (room : Room) → st ≡ stage.Idle → SpareIs n.spare (part_of w a.seat) → vec_capacity n.rows_read ≡ vec_capacity a.rows_read
           → vec_capacity n.rows_claimed ≡ vec_capacity a.rows_claimed → length a.block.items ≡ BLOCK_WORDS → n.rows_read.items ≡ [] → n.rows_claimed.items ≡ []
-          → IsSession n (part_of w s.seat)
-      stands_idle idle spare room_read room_claimed block no_read no_claimed =
+          → IsSession (record n { room = Some room }) (part_of w s.seat)
+      stands_idle room idle spare room_read room_claimed block no_read no_claimed =
           let x = part_of v s.seat in
           let y = part_of w s.seat in
           let old = stands.kept in
@@ -190,6 +193,7 @@ module _ (s : Session) (t : Pre) (v : View) (succ pred : ℕ) (known : IsKnown v
           let low = old.low in
           let most_read = old.room_read in
           let most_claimed = old.room_claimed in
-          left_session n x y gone (ap is_session seat_kept ∙ old.session) (run ∙ old.run) (omega (arith, run, low)) (number ∙ old.number) phase_is
+          left_session (record n { room = Some room }) x y gone (ap is_session seat_kept ∙ old.session) (run ∙ old.run) (omega (arith, run, low)) (number ∙ old.number) phase_is
+          (has_room n.stage room)
           (subst (λ (q : ℕ). SpareIs n.spare (part_of w q)) seat spare) (omega (arith, most_read, room_read, reads)) (omega (arith, most_claimed, room_claimed, writes)) words
           no_read no_claimed

@@ -26,7 +26,7 @@ use Rattle.erm_rule.proofs.Telling.{held_part, part_of-changed}
 use Rattle.erm_session.specs.declared.session.Session.{Session}
 use Rattle.erm_session.specs.declared.session.Stage.{Stage}
 use Rattle.erm_session.specs.declared.session.Stage.TheVariants as stage
-use Rattle.erm_session.specs.Session.{IsSession, StageIs, phase_of}
+use Rattle.erm_session.specs.Session.{HasRoom, IsSession, StageIs, phase_of}
 use Rattle.erm_session.specs.Settle.{EndsAs}
 use Rattle.erm_session.proofs.Goes.{open_idle}
 
@@ -74,16 +74,17 @@ spare_stays v who w cells decided did is =
     subst (SpareIs cells) (sym (part_of-changed v who w (left_part Commit (installed_all x)) x (decided_held v who decided) did.view_is)) is
 
 -- what a session keeps once its seat has left its transaction
-pub left_session : (s : Session) (x y : Part) → HasLeft x y → is_session s.seat ≡ true → s.run ≡ x.run → s.run ≤ LAST_RUN → s.number ≡ x.number → phase_of s.stage ≡ phase.Idle
+pub left_session : (s : Session) (x y : Part) → HasLeft x y → is_session s.seat ≡ true → s.run ≡ x.run → s.run ≤ LAST_RUN → s.number ≡ x.number → phase_of s.stage ≡ phase.Idle → HasRoom s.stage s.room
     → SpareIs s.spare y → READ_LIMIT ≤ vec_capacity s.rows_read → WRITE_LIMIT ≤ vec_capacity s.rows_claimed → length s.block.items ≡ BLOCK_WORDS
     → s.rows_read.items ≡ [] → s.rows_claimed.items ≡ [] → IsSession s y
-left_session s x y left session run low number idle spare room_read room_claimed block no_read no_claimed = record {
+left_session s x y left session run low number idle room spare room_read room_claimed block no_read no_claimed = record {
   kept = record {
     session = session;
     run = run ∙ sym left.run;
     low = low;
     number = number ∙ sym left.number;
     stage = idle_stage s.stage y idle left.place;
+    room = room;
     spare = spare;
     room_read = room_read;
     room_claimed = room_claimed;

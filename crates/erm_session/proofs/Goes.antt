@@ -1,5 +1,5 @@
 -- What a session keeps follows its seat's part through its transaction.
-use Rattle.std.proofs.Common.{◌≡◌, ℕ, ◌≤◌, Bool, true, false, ◌&&◌, length, map, leb, ltb, None, Some, refl, sym, ap, ◌∙◌, subst}
+use Rattle.std.proofs.Common.{◌≡◌, ℕ, ◌≤◌, Bool, true, false, ◌&&◌, length, map, leb, ltb, Option, None, Some, refl, sym, ap, ◌∙◌, subst}
 use Rattle.std.specs.Prelude.{if◌then◌else◌, vec_capacity}
 use Rattle.erm_cells.specs.Calls.{starts_anew}
 use Rattle.erm_cells.specs.Spare.{SpareIs}
@@ -17,11 +17,12 @@ use Rattle.erm_rows.specs.declared.active.Active.{Active}
 use Rattle.erm_rows.specs.Active.{IsActive, closed_window}
 use Rattle.erm_rule.specs.declared.view.View.{View}
 use Rattle.erm_rule.specs.Hands.{IsKnown}
+use Rattle.erm_session.specs.declared.room.Room.{Room}
 use Rattle.erm_session.specs.declared.session.Session.{Session}
 use Rattle.erm_session.specs.declared.session.Stage.{Stage}
 use Rattle.erm_session.specs.declared.session.Stage.TheVariants as stage
 use Rattle.erm_session.specs.Calls.{EndsWhere}
-use Rattle.erm_session.specs.Session.{IsKept, IsOpen, IsSession, StageIs, has_closed, phase_of}
+use Rattle.erm_session.specs.Session.{HasRoom, IsKept, IsOpen, IsSession, StageIs, has_closed, phase_of}
 
 -- the seat's part after a step in the course of its transaction: it may start a call again
 pub record Goes (x y : Part) : Type 0 where
@@ -68,15 +69,28 @@ module _ (s : Session) (x : Part) (is : IsKept s x) (t : Active) (at : s.stage �
   pub stage_goes : (y : Part) → Goes x y → IsActive t y → StageIs s.stage y
   stage_goes y goes acts = subst (λ (g : Stage). StageIs g y) (sym at) (stage_on t t x y stands goes acts)
 
+-- there is room
+pub has_room : (s : Stage) (room : Room) → HasRoom s (Some room)
+has_room stage.Idle room = tt
+has_room (stage.Active t) room = tt
+has_room (stage.Sealed t) room = tt
+
+-- a session that isn't idle needs no room for its next transaction
+pub room_at : (s : Stage) (room : Option Room) → phase_of s ≡ phase.Active → HasRoom s room
+room_at (stage.Active t) room e = tt
+room_at stage.Idle room e = absurd (cc)
+room_at (stage.Sealed t) room e = absurd (cc)
+
 -- what a session keeps, where its seat went on and its transaction kept follows
-pub goes_on : (s new : Session) (x y : Part) → IsKept s x → Goes x y → StageIs new.stage y → SpareIs new.spare y → new.seat ≡ s.seat → new.run ≡ s.run → new.number ≡ s.number
+pub goes_on : (s new : Session) (x y : Part) → IsKept s x → Goes x y → StageIs new.stage y → phase_of new.stage ≡ phase.Active → SpareIs new.spare y → new.seat ≡ s.seat → new.run ≡ s.run → new.number ≡ s.number
     → READ_LIMIT ≤ vec_capacity new.rows_read → WRITE_LIMIT ≤ vec_capacity new.rows_claimed → length new.block.items ≡ length s.block.items → IsKept new y
-goes_on s new x y is goes stage_is spare seat run number room_read room_claimed block = record {
+goes_on s new x y is goes stage_is active_is spare seat run number room_read room_claimed block = record {
   session = ap is_session seat ∙ is.session;
   run = run ∙ is.run ∙ sym goes.run;
   low = subst (λ (n : ℕ). n ≤ LAST_RUN) (sym run) is.low;
   number = number ∙ is.number ∙ sym goes.number;
   stage = stage_is;
+  room = room_at new.stage new.room active_is;
   spare = spare;
   room_read = room_read;
   room_claimed = room_claimed;

@@ -26,6 +26,7 @@ made_session s t made x stands is = record {
     low = is.kept.low;
     number = is.kept.number;
     stage = stands;
+    room = is.kept.room;
     spare = is.kept.spare;
     room_read = is.kept.room_read;
     room_claimed = is.kept.room_claimed;

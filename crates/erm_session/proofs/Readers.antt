@@ -27,11 +27,11 @@ module _ (pre : Pre) (s : Session) (v w : View) (flushed : ℕ) (stage_is : s.st
   begun_stands = start_stands pre v s.seat was.0 was.1 was.2 flushed w told room
 
   -- it has read nothing, and claimed something
-  module _ (unread : length pre.reads.items ≡ 0) (claims : List KeptClaim) (claims_are : claims ≡ pre.claims.items) (some : 0 < length claims) where
-    claimed : 0 < length pre.claims.items
+  module _ (unread : length pre.reads.value.items ≡ 0) (claims : List KeptClaim) (claims_are : claims ≡ pre.claims.value.items) (some : 0 < length claims) where
+    claimed : 0 < length pre.claims.value.items
     claimed = subst (λ (l : List KeptClaim). 0 < length l) claims_are some
 
-    at : task_of w s.seat ≡ task.Settles (length pre.reads.items) 0
+    at : task_of w s.seat ≡ task.Settles (length pre.reads.value.items) 0
     at = start_comes pre v s.seat was.0 was.1 was.2 flushed w told room ∙ ap (λ (n : ℕ). task.Settles n 0) (sym unread)
 
     pub at_readers : IsAtReaders (part_of w s.seat).current (part_of w s.seat).task

@@ -17,10 +17,11 @@ use Rattle.erm_ends.specs.Ends.{left_part, released_all, AreClaims, AreReads, Di
 use Rattle.erm_precommit.specs.declared.pre.KeptClaim.{KeptClaim}
 use Rattle.erm_precommit.specs.declared.pre.KeptRead.{KeptRead}
 use Rattle.erm_rows.specs.declared.active.Active.{Active}
+use Rattle.erm_session.specs.declared.room.Room.{Room}
 use Rattle.erm_session.specs.declared.session.Session.{Session}
 use Rattle.erm_session.specs.declared.session.Stage.{Stage}
 use Rattle.erm_session.specs.declared.session.Stage.TheVariants as stage
-use Rattle.erm_session.specs.Session.{IsKept, IsOpen, IsSession, StageIs}
+use Rattle.erm_session.specs.Session.{HasRoom, IsKept, IsOpen, IsSession, StageIs}
 
 -- where a call may start anew an active transaction may begin to end
 ends_anew : (t : Task) → starts_anew t ≡ true → end_of t ≡ Some (0, 0, 0, 0)
@@ -41,7 +42,7 @@ active_stage s t x kept e = subst (λ (a : Stage). StageIs a x) e kept.stage
 
 -- its end may begin
 pub may_abort : (s : Session) (t : Active) (x : Part) (reads : List KeptRead) (claims : List KeptClaim) → IsKept s x → s.stage ≡ stage.Active t
-    → reads ≡ t.reads.items → claims ≡ t.claims.items → MayAbort reads claims x
+    → reads ≡ t.reads.value.items → claims ≡ t.claims.value.items → MayAbort reads claims x
 may_abort s t x reads claims kept e reads_are claims_are =
     let at = active_stage s t x kept e in
     record {
@@ -53,7 +54,7 @@ may_abort s t x reads claims kept e reads_are claims_are =
 
 -- the transaction is over, and the session keeps no rows of it
 module _ (s : Session) (t : Active) (v : View) (kept : IsKept s (part_of v s.seat)) (stage_is : s.stage ≡ stage.Active t)
-    (after : Stage) (after_is : after ≡ stage.Idle) (spare : List ℕ) (rows_read rows_claimed : Vec (List ℕ) Global) where
+    (after : Stage) (after_is : after ≡ stage.Idle) (room : Room) (spare : List ℕ) (rows_read rows_claimed : Vec (List ℕ) Global) where
   abbrev x : Part
   x = part_of v s.seat
 
@@ -61,7 +62,7 @@ module _ (s : Session) (t : Active) (v : View) (kept : IsKept s (part_of v s.sea
   y = left_part Abort (released_all x)
 
   abbrev n : Session
-  n = record s { stage = after; spare = spare; rows_read = rows_read; rows_claimed = rows_claimed }
+  n = record s { stage = after; room = Some room; spare = spare; rows_read = rows_read; rows_claimed = rows_claimed }
 
   pub ended_session : (w : View) → DidAbort v s.seat w → SpareIs spare (part_of w s.seat)
       → rows_read.items ≡ [] → vec_capacity rows_read ≡ vec_capacity s.rows_read → rows_claimed.items ≡ [] → vec_capacity rows_claimed ≡ vec_capacity s.rows_claimed
@@ -76,6 +77,7 @@ module _ (s : Session) (t : Active) (v : View) (kept : IsKept s (part_of v s.sea
           low = kept.low;
           number = kept.number;
           stage = subst (λ (a : Stage). StageIs a y) (sym after_is) refl;
+          room = subst (λ (a : Stage). HasRoom a (Some room)) (sym after_is) tt;
           spare = subst (λ (z : Part). SpareIs spare z) is spare_is;
           room_read = subst (λ (m : ℕ). READ_LIMIT ≤ m) (sym room_read) kept.room_read;
           room_claimed = subst (λ (m : ℕ). WRITE_LIMIT ≤ m) (sym room_claimed) kept.room_claimed;

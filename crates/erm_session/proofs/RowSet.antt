@@ -60,7 +60,7 @@ claims_kept xs ws place w old new k within = by (eqb k place) refl
 
 module _ (v : View) (who : ℕ) (active : is_active (part_of v who).place ≡ true) (known : IsKnown v) (t : Active) (is : IsActive t (part_of v who))
     (starts : starts_anew (part_of v who).task ≡ true) (place : ℕ) (within : place < length (part_of v who).current.writes) (cell : ℕ)
-    (cell_is : cell ≡ (get_or t.claims.items place no_claim_kept).own) where
+    (cell_is : cell ≡ (get_or t.claims.value.items place no_claim_kept).own) where
   abbrev x : Part
   x = part_of v who
 
@@ -96,10 +96,10 @@ module _ (v : View) (who : ℕ) (active : is_active (part_of v who).place ≡ tr
     pub spare_set : (cells : List ℕ) → SpareIs cells x → SpareIs cells (part_of w who)
     spare_set cells kept = subst (λ (z : Part). SpareIs cells z) (sym here) kept
 
-    claim_now : IsClaimKept (get_or t.claims.items place no_claim_kept) c
+    claim_now : IsClaimKept (get_or t.claims.value.items place no_claim_kept) c
     claim_now =
         let old = is.claims place within in
-        record { oid = old.oid; overwritten = old.overwritten; own = own_same (get_or t.claims.items place no_claim_kept).own row (claim_at x.current place).own ∙ old.own }
+        record { oid = old.oid; overwritten = old.overwritten; own = own_same (get_or t.claims.value.items place no_claim_kept).own row (claim_at x.current place).own ∙ old.own }
 
     pub kept_set : IsActive t (part_of w who)
     kept_set =
@@ -110,7 +110,7 @@ module _ (v : View) (who : ℕ) (active : is_active (part_of v who).place ≡ tr
           read_count = is.read_count;
           reads = is.reads;
           claim_count = is.claim_count ∙ sym (length-set x.current.writes place c);
-          claims = claims_kept t.claims.items x.current.writes place c is.claims claim_now;
+          claims = claims_kept t.claims.value.items x.current.writes place c is.claims claim_now;
           succ = is.succ;
           pred = is.pred;
         })

@@ -47,6 +47,7 @@ module _ (s : Session) (t : Active) (v : View) (is : IsSession s (part_of v s.se
             low = is.kept.low;
             number = is.kept.number;
             stage = (refl, refl, seals x at.2, at.3, size_there);
+            room = tt;
             spare = is.kept.spare;
             room_read = is.kept.room_read;
             room_claimed = is.kept.room_claimed;

@@ -3,6 +3,7 @@ use Rattle.std.proofs.Common.{◌≡◌, ◌≢◌, ℕ, zero, suc, ◌<◌, Boo
 use Rattle.std.specs.List.{list_any}
 use Rattle.std.proofs.lemmas.List.{get_or-map}
 use Rattle.std.proofs.lemmas.Option.{get_or_from_slice_get, slice_get_within}
+use Rattle.arrayvec.specs.ArrayVec.{ArrayVec}
 use Rattle.erm_machine.specs.declared.attempt.Claim.{Claim}
 use Rattle.erm_machine.specs.declared.attempt.Read.{Read}
 use Rattle.erm_machine.specs.declared.part.Part.{Part}
@@ -16,6 +17,10 @@ use Rattle.erm_precommit.specs.Pre.{no_claim_kept, no_read_kept}
 use Rattle.erm_rows.specs.declared.active.Active.{Active}
 use Rattle.erm_rows.specs.Active.{IsActive}
 use Rattle.erm_session.specs.Calls.{HasClaimed, HasRead, IsClaimedAt, IsUnclaimed, IsUnread}
+
+-- the items of a list that lies in a box
+pub in_box : {T : Type 0} {v w : ArrayVec T} {items : List T} → items ≡ v.items → v ≡ w → items ≡ w.items
+in_box {T} are same = are ∙ ap (λ (u : ArrayVec T). u.items) same
 
 neither : (a b : Bool) → (a ≡ true → ⊥) → b ≡ false → (a || b) ≡ false
 neither true b none e = absurd (none refl)
@@ -42,18 +47,18 @@ has_row x oid place at = record { place = place; claimed = at; row_is = refl }
 
 module _ (t : Active) (x : Part) (is : IsActive t x) (oid : ℕ) where
   -- nothing was found
-  pub unclaimed : (claims : List KeptClaim) → claims ≡ t.claims.items → ((k : ℕ) → k < length claims → (get_or claims k no_claim_kept).oid ≢ oid) → IsUnclaimed x oid
+  pub unclaimed : (claims : List KeptClaim) → claims ≡ t.claims.value.items → ((k : ℕ) → k < length claims → (get_or claims k no_claim_kept).oid ≢ oid) → IsUnclaimed x oid
   unclaimed claims claims_are none k within same =
       let count = ap (λ (l : List KeptClaim). length l) claims_are ∙ is.claim_count in
       none k (omega (arith, count, within)) (ap (λ (l : List KeptClaim). (get_or l k no_claim_kept).oid) claims_are ∙ (is.claims k within).oid ∙ same)
 
-  pub unread : (reads : List KeptRead) → reads ≡ t.reads.items → ((k : ℕ) → k < length reads → (get_or reads k no_read_kept).oid ≢ oid) → IsUnread x oid
+  pub unread : (reads : List KeptRead) → reads ≡ t.reads.value.items → ((k : ℕ) → k < length reads → (get_or reads k no_read_kept).oid ≢ oid) → IsUnread x oid
   unread reads reads_are none k within same =
       let count = ap (λ (l : List KeptRead). length l) reads_are ∙ is.read_count in
       none k (omega (arith, count, within)) (ap (λ (l : List KeptRead). (get_or l k no_read_kept).oid) reads_are ∙ (is.reads k within).oid ∙ same)
 
   -- its claim was found at a place, with its row
-  module _ (claims : List KeptClaim) (claims_are : claims ≡ t.claims.items) (place : ℕ) (within : place < length claims) (found : (get_or claims place no_claim_kept).oid ≡ oid) where
+  module _ (claims : List KeptClaim) (claims_are : claims ≡ t.claims.value.items) (place : ℕ) (within : place < length claims) (found : (get_or claims place no_claim_kept).oid ≡ oid) where
     claim_within : place < length x.current.writes
     claim_within = let count = ap (λ (l : List KeptClaim). length l) claims_are ∙ is.claim_count in omega (arith, count, within)
 
@@ -74,7 +79,7 @@ module _ (t : Active) (x : Part) (is : IsActive t x) (oid : ℕ) where
     }
 
   -- its read was
-  module _ (reads : List KeptRead) (reads_are : reads ≡ t.reads.items) (place : ℕ) (within : place < length reads) (found : (get_or reads place no_read_kept).oid ≡ oid) where
+  module _ (reads : List KeptRead) (reads_are : reads ≡ t.reads.value.items) (place : ℕ) (within : place < length reads) (found : (get_or reads place no_read_kept).oid ≡ oid) where
     read_within : place < length x.current.reads
     read_within = let count = ap (λ (l : List KeptRead). length l) reads_are ∙ is.read_count in omega (arith, count, within)
 

@@ -112,7 +112,7 @@ module _ (v : View) (who run number : ℕ) (t : Pre) (rows : List (List ℕ)) (c
   pub size_most : t.size ≤ BLOCK_WORDS
   size_most = let a = facts.most in let b = may.kept.size in omega (arith, a, b)
 
-  pub claims_few : length t.claims.items ≤ WRITE_LIMIT
+  pub claims_few : length t.claims.value.items ≤ WRITE_LIMIT
   claims_few = let a = facts.few in let b = may.kept.claim_count in omega (arith, a, b)
 
   pub ends_low : t.stamp + t.size ≤ LOG_END
@@ -132,8 +132,8 @@ module _ (v : View) (who run number : ℕ) (t : Pre) (rows : List (List ℕ)) (c
     count = may.kept.claim_count;
     size = may.kept.size;
     rows =
-        rows_by commits (entries_kept t.claims.items rows) x.current.writes
-        (ap (entries_kept t.claims.items) may.rows_are ∙ same_entries t.claims.items x.current.writes may.kept.claim_count may.kept.claims)
+        rows_by commits (entries_kept t.claims.value.items rows) x.current.writes
+        (ap (entries_kept t.claims.value.items) may.rows_are ∙ same_entries t.claims.value.items x.current.writes may.kept.claim_count may.kept.claims)
         ∙ sym (ap (λ (d : Decision). entries_of d (map written_of x.current.writes)) decision_is);
   }
 

@@ -41,7 +41,7 @@ module _ (s : Session) (v : View) (is : IsSession s (part_of v s.seat)) (t : Act
   tidied_session on spare spare_is =
       let same = ap (λ (z : Part). z.current) y_is in
       same_rows s (record s { spare = spare }) x (part_of w s.seat) is on
-      (goes_on s (record s { spare = spare }) x (part_of w s.seat) is.kept goes (stage_goes s x is.kept t at (part_of w s.seat) goes (kept_same t x (part_of w s.seat) (sym same) (kept s x is.kept t at))) spare_is refl refl refl
+      (goes_on s (record s { spare = spare }) x (part_of w s.seat) is.kept goes (stage_goes s x is.kept t at (part_of w s.seat) goes (kept_same t x (part_of w s.seat) (sym same) (kept s x is.kept t at))) on spare_is refl refl refl
       is.kept.room_read is.kept.room_claimed refl) (same_current x (part_of w s.seat) same) refl refl
 
 -- where the object wasn't claimed it is now

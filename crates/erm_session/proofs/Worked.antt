@@ -37,6 +37,7 @@ module _ (s : Session) (old new : Pre) (v w : View) (stage_is : s.stage ≡ stag
         ap (λ (z : Part). z.current.number) there ∙ was.3 ∙ sym (ap (λ (z : Part). z.number) there),
         ap (λ (z : Part). z.current.size) there ∙ was.4 ∙ sym (ap (λ (z : Part). block_words (map (λ (c : Claim). c.row) z.current.writes)) there),
       );
+      room = tt;
       spare = subst (λ (z : Part). SpareIs s.spare z) (sym there) is.kept.spare;
       room_read = is.kept.room_read;
       room_claimed = is.kept.room_claimed;

@@ -1,5 +1,5 @@
 -- A session as it keeps itself beside its pass, and as the machine has its seat.
-use Rattle.std.specs.Prelude.{◌≡◌, ◌≤◌, Bool, true, false, ◌&&◌, nat_le, nat_lt, length, map, vec_capacity}
+use Rattle.std.specs.Prelude.{◌≡◌, ◌≤◌, Bool, true, false, ◌&&◌, nat_le, nat_lt, length, map, Option, None, vec_capacity}
 use Rattle.erm_block.specs.declared.block.TheConstants.{BLOCK_WORDS}
 use Rattle.erm_cells.specs.Calls.{starts_anew}
 use Rattle.erm_cells.specs.Spare.{SpareIs}
@@ -18,6 +18,7 @@ use Rattle.erm_model.specs.declared.outcome.Phase.TheVariants as phase
 use Rattle.erm_precommit.specs.Pre.{IsPre}
 use Rattle.erm_record.specs.Stored.{block_words}
 use Rattle.erm_rows.specs.Active.{IsActive}
+use Rattle.erm_session.specs.declared.room.Room.{Room}
 use Rattle.erm_session.specs.declared.session.Session.{Session}
 use Rattle.erm_session.specs.declared.session.Stage.{Stage}
 use Rattle.erm_session.specs.declared.session.Stage.TheVariants as stage
@@ -37,6 +38,11 @@ StageIs (stage.Sealed t) x =
     (is_sealed x.place ≡ true) × (may_settle x.task ≡ true) × IsPre t x × (x.current.number ≡ x.number)
     × (x.current.size ≡ block_words (map (λ (w : Claim). w.row) x.current.writes))
 
+-- an idle session has the room of its next transaction
+abbrev pub HasRoom : Stage → Option Room → Type 0
+HasRoom stage.Idle None = ⊥
+HasRoom g room = Unit {0}
+
 -- What the session keeps is its seat's, but for the rows, for which there is room.
 pub record IsKept (s : Session) (x : Part) : Type 0 where
   pub session : is_session s.seat ≡ true
@@ -44,6 +50,7 @@ pub record IsKept (s : Session) (x : Part) : Type 0 where
   pub low : s.run ≤ LAST_RUN
   pub number : s.number ≡ x.number
   pub stage : StageIs s.stage x
+  pub room : HasRoom s.stage s.room
   pub spare : SpareIs s.spare x
   pub room_read : READ_LIMIT ≤ vec_capacity s.rows_read
   pub room_claimed : WRITE_LIMIT ≤ vec_capacity s.rows_claimed

@@ -78,9 +78,9 @@ own_block seat run number t rows commits = record {
   succ = t.succ;
   seat = seat;
   number = number;
-  n = length t.claims.items;
+  n = length t.claims.value.items;
   size = t.size;
-  rows = record { items = if commits then entries_kept t.claims.items rows else [] };
+  rows = record { items = if commits then entries_kept t.claims.value.items rows else [] };
 }
 
 -- What a session keeps is its seat's sealed transaction, with the rows of its claims. Its settle has passed all versions, and it commits

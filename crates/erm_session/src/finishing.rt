@@ -20,6 +20,7 @@ ghost use Rattle.erm_rule.specs.Books.{book};
 ghost use Rattle.erm_rule.specs.Went.{Went};
 ghost use Rattle.erm_session.specs.Took.{TookDecided, TookFinish};
 
+use crate::room::Room;
 use crate::session::{Session, Stage};
 use arrayvec::ArrayVec;
 use erm_block::{BLOCK_ROWS, Block, Kind, encode_into};
@@ -42,30 +43,34 @@ fn add_entries(claims: &[KeptClaim], rows: &[Row], entries: &mut ArrayVec<(Oid, 
     }
 }
 
-// The block of the transaction, as it is decided.
-fn block_of(seat: Seat, run: u64, number: u32, pre: &Pre, rows: &[Row], commits: bool) -> Block
+// Makes the block that of the transaction, as it is decided.
+fn set_block(
+    block: &mut Block,
+    seat: Seat,
+    run: u64,
+    number: u32,
+    pre: &Pre,
+    rows: &[Row],
+    commits: bool,
+)
     requires size { pre.now.size ≤ GREATEST_BLOCK }
-    requires few { length pre.now.claims.items ≤ WRITE_LIMIT }
-    requires each { length rows.now ≡ length pre.now.claims.items }
-    ensures is { result ≡ own_block seat run number pre.now rows.now commits }
-    ensures number { result.number < 2 ^ 32 }
+    requires few { length pre.now.claims.value.items ≤ WRITE_LIMIT }
+    requires each { length rows.now ≡ length pre.now.claims.value.items }
+    ensures is { block.new ≡ own_block seat run number pre.now rows.now commits }
+    ensures number { block.new.number < 2 ^ 32 }
 {
-    let mut block = Block {
-        kind: Kind::Skip,
-        run,
-        stamp: pre.stamp,
-        succ: pre.succ,
-        seat,
-        number,
-        n: pre.claims.len() as u16,
-        size: pre.size as u16,
-        rows: ArrayVec::new(),
-    };
+    block.kind = if commits { Kind::Commit } else { Kind::Skip };
+    block.run = run;
+    block.stamp = pre.stamp;
+    block.succ = pre.succ;
+    block.seat = seat;
+    block.number = number;
+    block.n = pre.claims.len() as u16;
+    block.size = pre.size as u16;
+    block.rows.clear();
     if commits {
-        block.kind = Kind::Commit;
         add_entries(pre.claims.as_slice(), rows, &mut block.rows);
     }
-    block
 }
 
 // What becomes of the transaction.
@@ -120,7 +125,12 @@ impl Session {
         let commits = pred < succ;
         self.store_block(t, p, &pre, commits);
         self.leave(t, p, &pre, commits);
-        outcome_of(self.number, &pre, commits)
+        let outcome = outcome_of(self.number, &pre, commits);
+        self.room = Some(Room {
+            reads: pre.reads,
+            claims: pre.claims,
+        });
+        outcome
     }
 
     // Stores the words of the transaction's block, and then its header, which decides it.
@@ -131,14 +141,23 @@ impl Session {
             (part_of (view p.old) self.old.seat) }
         requires room { length self.old.block.items ≡ BLOCK_WORDS }
         ensures fits { Fits t.now.words.shared.table_id p.new }
-        ensures same { self.new ≡ record self.old { block = self.new.block } }
+        ensures same { self.new ≡ record self.old { decided = self.new.decided; block = self.new.block } }
         ensures room { length self.new.block.items ≡ BLOCK_WORDS }
         ensures stored { StoresBlock (view p.old) self.old.seat (view p.new) }
         ensures took { (filled : Book) × Went L.law self.old.seat IsFillStep (book p.old) filled × (header : ℕ) × (word : ℕ) × Booked L.law filled self.old.seat (Decide pre.now.stamp header) word (book p.new) }
     {
         let rows = self.rows_claimed.as_slice();
-        let block = block_of(self.seat, self.run, self.number, pre, rows, commits);
-        let size = encode_into(&mut self.block, &block);
+        let decided = &mut *self.decided;
+        set_block(
+            decided,
+            self.seat,
+            self.run,
+            self.number,
+            pre,
+            rows,
+            commits,
+        );
+        let size = encode_into(&mut self.block, decided);
         let words = self.block.as_slice();
         fill(t, p, self.seat, pre.stamp, &words[1..size]);
         decide(t, p, self.seat, pre.stamp, words[0]);

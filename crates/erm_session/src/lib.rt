@@ -7,6 +7,7 @@ mod finishing;
 mod life;
 mod making;
 mod reading;
+mod room;
 mod sealing;
 mod session;
 mod settling;

@@ -1,5 +1,5 @@
 //! A transaction's begin, and its end by an abort.
-ghost use Rattle.std.specs.Prelude.{◌≡◌, ℕ, true, false, [], IfErr, IfOk};
+ghost use Rattle.std.specs.Prelude.{◌≡◌, ℕ, true, false, IfErr, IfOk};
 ghost use Rattle.erm_ends.specs.Ends.{DidAbort};
 ghost use Rattle.erm_ends.specs.Took.{TookAbort};
 ghost use Rattle.erm_model.specs.declared.outcome.Phase.TheVariants as phase;
@@ -16,11 +16,10 @@ ghost use Rattle.erm_rule.specs.Went.{Went};
 ghost use Rattle.erm_seats.specs.Took.{TookBegin};
 ghost use Rattle.erm_session.specs.Took.{stop_of, TookNoBegin};
 
+use crate::room::Room;
 use crate::session::{Session, Stage};
-use arrayvec::ArrayVec;
 use erm_machine::LAST_NUMBER;
 use erm_model::{RowLaw, RowStop, Stamp};
-use erm_rows::Active;
 use erm_rule::{Pass, Table};
 use erm_seats::{answer, begin_steps};
 use erm_world::BeginStop;
@@ -50,10 +49,13 @@ impl Session {
             Ok(begin) => begin,
             Err(stop) => return Err(begin_stop(stop)),
         };
+        let Some(room) = self.room.take() else {
+            unreachable!()
+        };
         self.number += 1;
         self.rows_read.clear();
         self.rows_claimed.clear();
-        self.stage = Stage::Active(new_transaction(begin, self.number));
+        self.stage = Stage::Active(room.begin(begin, self.number));
         Ok(begin)
     }
 
@@ -96,6 +98,10 @@ impl Session {
         erm_ends::abort(t, p, self.seat, &mut self.spare, reads, claims);
         self.rows_read.clear();
         self.rows_claimed.clear();
+        self.room = Some(Room {
+            reads: txn.reads,
+            claims: txn.claims,
+        });
     }
 
     /// Ends the active transaction where it may not go on after this refusal.
@@ -137,24 +143,5 @@ fn is_end(why: RowStop) -> bool
     match why {
         RowStop::Owned { .. } | RowStop::Newer { .. } | RowStop::Excluded { .. } => true,
         _ => false,
-    }
-}
-
-// A transaction that has done nothing yet.
-fn new_transaction(begin: Stamp, number: u32) -> Active
-    ensures begin { result.begin ≡ begin }
-    ensures number { result.number ≡ number }
-    ensures reads { result.reads.items ≡ [] }
-    ensures claims { result.claims.items ≡ [] }
-    ensures succ { result.succ ≡ 0 }
-    ensures pred { result.pred ≡ 0 }
-{
-    Active {
-        begin,
-        number,
-        reads: ArrayVec::new(),
-        claims: ArrayVec::new(),
-        succ: 0,
-        pred: 0,
     }
 }

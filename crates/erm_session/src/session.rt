@@ -5,7 +5,8 @@ ghost use Rattle.erm_machine.specs.Core.{fresh_part};
 ghost use Rattle.erm_machine.specs.declared.place.Place.TheVariants.{Idle};
 ghost use Rattle.erm_session.specs.Session.{IsSession, phase_of};
 
-use erm_block::BLOCK_WORDS;
+use crate::room::{Room, empty_block};
+use erm_block::{BLOCK_WORDS, Block};
 use erm_cells::Spare;
 use erm_machine::{READ_LIMIT, WRITE_LIMIT};
 use erm_model::{LAST_RUN, Phase, Row, Seat};
@@ -34,12 +35,15 @@ pub struct Session {
     // The number of the last transaction begun.
     pub(crate) number: u32,
     pub(crate) stage: Stage,
+    // Room for what the next transaction reads and claims, while there is none.
+    pub(crate) room: Option<Room>,
     pub(crate) spare: Spare,
     // The rows read, in order of first read.
     pub(crate) rows_read: Vec<Row>,
     // The rows of the objects claimed, in order of claim.
     pub(crate) rows_claimed: Vec<Row>,
-    // The words of a block.
+    // The block of the last transaction decided, and the words of one.
+    pub(crate) decided: Box<Block>,
     pub(crate) block: Vec<u64>,
 }
 
@@ -51,18 +55,22 @@ impl Session {
         ensures seat { IfOk result (λ s. s.seat ≡ seat) }
         ensures idle { IfOk result (λ s. (tail : ℕ) → IsSession s (fresh_part Idle run tail)) }
     {
+        let room = Room::new(alloc)?;
         let spare = Spare::new(alloc)?;
         let rows_read = Vec::with_capacity(alloc, READ_LIMIT)?;
         let rows_claimed = Vec::with_capacity(alloc, WRITE_LIMIT)?;
+        let decided = Box::new(alloc, empty_block())?;
         let block = vec![in alloc; 0; BLOCK_WORDS]?;
         Ok(Session {
             seat,
             run,
             number: 0,
             stage: Stage::Idle,
+            room: Some(room),
             spare,
             rows_read,
             rows_claimed,
+            decided,
             block,
         })
     }

@@ -29,7 +29,7 @@ module _ (v w1 w2 : View) (who begin size stamp : ℕ) (idle : (part_of v who).p
   pub bare_starts : may_settle (part_of w2 who).task ≡ true
   bare_starts = ap (λ (z : Part). may_settle z.task) sealed_is
 
-  pub bare_kept : (pre : Pre) → pre.stamp ≡ stamp → pre.size ≡ size → pre.reads.items ≡ [] → pre.claims.items ≡ [] → pre.succ ≡ stamp → pre.pred ≡ 0 → IsPre pre (part_of w2 who)
+  pub bare_kept : (pre : Pre) → pre.stamp ≡ stamp → pre.size ≡ size → pre.reads.value.items ≡ [] → pre.claims.value.items ≡ [] → pre.succ ≡ stamp → pre.pred ≡ 0 → IsPre pre (part_of w2 who)
   bare_kept pre at words reads claims succ pred =
       subst (λ (z : Part). IsPre pre z) (sym sealed_is) (record {
         stamp = at;

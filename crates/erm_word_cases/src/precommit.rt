@@ -7,7 +7,7 @@ ghost use Rattle.erm_seats.specs.Race.{idle_part};
 use arrayvec::ArrayVec;
 use erm_machine::{LEAST_BLOCK, OBJECT_LIMIT};
 use erm_model::{AnyRows, ROW_WORDS, Seat, Stamp};
-use erm_precommit::{Pre, Settled, settle};
+use erm_precommit::{KeptClaims, KeptReads, Pre, Settled, settle};
 use erm_rule::{Opening, Pass, open, sessions_are_handed_out, split};
 use erm_seats::{begin_steps, seal_steps};
 use std::alloc::{AllocError, Global};
@@ -15,6 +15,9 @@ use std::test::Fail;
 
 // A table whose rows may be any.
 type Table = erm_rule::Table<AnyRows>;
+
+// Room for what a transaction reads and claims.
+type Room = (KeptReads, KeptClaims);
 
 // An opening on rows of zeros, whose log begins at 13.
 fn opening_of_zeros(alloc: Global) -> Result<Opening, AllocError>
@@ -48,20 +51,30 @@ fn open_one(alloc: Global, opening: &Opening) -> Result<(Table, Pass), AllocErro
     Ok((table, first))
 }
 
-// A transaction sealed at this stamp that has read and claimed nothing.
-fn bare(stamp: Stamp) -> Pre
+// Takes the memory of a room.
+fn room(alloc: Global) -> Result<Room, AllocError> {
+    let reads = Box::new(alloc, ArrayVec::new())?;
+    let claims = Box::new(alloc, ArrayVec::new())?;
+    Ok((reads, claims))
+}
+
+// A transaction sealed at this stamp that has read and claimed nothing, with this room.
+fn bare(stamp: Stamp, room: Room) -> Pre
     ensures stamp { result.stamp ≡ stamp }
     ensures size { result.size ≡ LEAST_BLOCK }
-    ensures reads { result.reads.items ≡ [] }
-    ensures claims { result.claims.items ≡ [] }
+    ensures reads { result.reads.value.items ≡ [] }
+    ensures claims { result.claims.value.items ≡ [] }
     ensures succ { result.succ ≡ stamp }
     ensures pred { result.pred ≡ 0 }
 {
+    let (mut reads, mut claims) = room;
+    reads.clear();
+    claims.clear();
     Pre {
         stamp,
         size: LEAST_BLOCK,
-        reads: ArrayVec::new(),
-        claims: ArrayVec::new(),
+        reads,
+        claims,
         succ: stamp,
         pred: 0,
     }
@@ -73,6 +86,7 @@ fn settle_bare(
     mut pass: Pass,
     opening: &Opening,
     who: Seat,
+    room: Room,
 ) -> Option<(Stamp, Stamp, Settled)>
     requires fits { Fits t.now.words.shared.table_id pass }
     requires idle { view pass ≡ one_seat who (idle_part opening.now) }
@@ -80,7 +94,7 @@ fn settle_bare(
 {
     let begin = begin_steps(t, &mut pass, who).ok()?;
     let stamp = seal_steps(t, &mut pass, who, LEAST_BLOCK);
-    let mut pre = bare(stamp);
+    let mut pre = bare(stamp, room);
     let settled = settle(&mut pre, t, &mut pass, who);
     Some((begin, stamp, settled))
 }
@@ -89,7 +103,8 @@ fn settle_bare(
 fn settles_what_read_and_claimed_nothing(rt: HostRuntime) -> Result<(), Fail> {
     let opening = opening_of_zeros(rt.alloc())?;
     let (table, first) = open_one(rt.alloc(), &opening)?;
-    let found = settle_bare(&table, first, &opening, 1);
+    let room = room(rt.alloc())?;
+    let found = settle_bare(&table, first, &opening, 1, room);
     let ready = Settled::Ready { succ: 13, pred: 0 };
     assert_eq!(rt; found, Some((13, 13, ready)));
     Ok(())

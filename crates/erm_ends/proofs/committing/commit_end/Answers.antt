@@ -5,20 +5,20 @@ use Rattle.erm_ends.proofs.committing.commit_end.Goals as goal
 use Rattle.erm_ends.proofs.Took.{commit_ends}
 
 pub raise_reads-requires-clause-may : goal.raise_reads-requires-clause-may
-raise_reads-requires-clause-may g c = rw c.as_slice.ensures.value (may_raise c.args.pre.now (part_of c.args.p.now.me.0.view c.args.who) c.requires.kept c.requires.may)
+raise_reads-requires-clause-may g c = rw (c.as_slice.ensures.value, c.deref.ensures) (may_raise c.args.pre.now (part_of c.args.p.now.me.0.view c.args.who) c.requires.kept c.requires.may)
 
 pub install_claims-requires-clause-known : goal.install_claims-requires-clause-known
 install_claims-requires-clause-known g c = c.raise_reads.ensures.raised.known
 
 pub install_claims-requires-clause-may : goal.install_claims-requires-clause-may
-install_claims-requires-clause-may g c = rw c.as_slice-2.ensures.value (may_install c.args.p.now.me.0.view c.args.who c.args.pre.now c.requires.kept c.requires.may _ c.raise_reads.ensures.raised)
+install_claims-requires-clause-may g c = rw (c.as_slice-2.ensures.value, c.deref-2.ensures) (may_install c.args.p.now.me.0.view c.args.who c.args.pre.now c.requires.kept c.requires.may _ c.raise_reads.ensures.raised)
 
 pub clear_reads-requires-clause-known : goal.clear_reads-requires-clause-known
 clear_reads-requires-clause-known g c = c.install_claims.ensures.installed.known
 
 pub clear_reads-requires-clause-may : goal.clear_reads-requires-clause-may
 clear_reads-requires-clause-may g c =
-    rw c.as_slice-3.ensures.value (may_clear_committed c.args.p.now.me.0.view c.args.who c.args.pre.now c.requires.kept c.requires.may _ c.raise_reads.ensures.raised _ c.install_claims.ensures.installed)
+    rw (c.as_slice-3.ensures.value, c.deref-3.ensures) (may_clear_committed c.args.p.now.me.0.view c.args.who c.args.pre.now c.requires.kept c.requires.may _ c.raise_reads.ensures.raised _ c.install_claims.ensures.installed)
 
 pub leave-requires-clause-may : goal.leave-requires-clause-may
 leave-requires-clause-may g c =

@@ -5,16 +5,16 @@ use Rattle.erm_ends.proofs.skipping.skip_end.Goals as goal
 use Rattle.erm_ends.proofs.Took.{skip_ends}
 
 pub release_claims-requires-clause-may : goal.release_claims-requires-clause-may
-release_claims-requires-clause-may g c = rw c.as_slice.ensures.value (skip_claims c.args.pre.now (part_of c.args.p.now.me.0.view c.args.who) c.requires.kept c.requires.may)
+release_claims-requires-clause-may g c = rw (c.as_slice.ensures.value, c.deref.ensures) (skip_claims c.args.pre.now (part_of c.args.p.now.me.0.view c.args.who) c.requires.kept c.requires.may)
 
 pub clear_reads-requires-clause-known : goal.clear_reads-requires-clause-known
 clear_reads-requires-clause-known g c = c.release_claims.ensures.released.come.known
 
 pub clear_reads-requires-clause-may : goal.clear_reads-requires-clause-may
 clear_reads-requires-clause-may g c =
-    rw c.as_slice-2.ensures.value
+    rw (c.as_slice-2.ensures.value, c.deref-2.ensures)
     (may_clear c.args.p.now.me.0.view c.args.who (decided_ends _ c.requires.may.decided) (skip_excluded (part_of c.args.p.now.me.0.view c.args.who) c.requires.may.decided c.requires.may.excluded) _ c.release_claims.ensures.released
-    c.args.pre.now.reads.items (skip_reads c.args.pre.now (part_of c.args.p.now.me.0.view c.args.who) c.requires.kept))
+    c.args.pre.now.reads.value.items (skip_reads c.args.pre.now (part_of c.args.p.now.me.0.view c.args.who) c.requires.kept))
 
 pub leave-requires-clause-may : goal.leave-requires-clause-may
 leave-requires-clause-may g c =

@@ -1,7 +1,9 @@
 use Rattle.std.proofs.Common.{◌≡◌, ℕ, length, arith, ap, ◌∙◌}
+use Rattle.arrayvec.specs.ArrayVec.{ArrayVec}
 use Rattle.erm_machine.specs.declared.task.Task.TheVariants as task
 use Rattle.std.proofs.lemmas.Result.{err_from_is_err_and}
 use Rattle.erm_rule.proofs.Courses.{goes_both, seen_after, seen_nothing}
+use Rattle.erm_precommit.specs.declared.pre.KeptClaim.{KeptClaim}
 use Rattle.erm_precommit.proofs.Causes.{waits_since}
 use Rattle.erm_precommit.proofs.Loops.{claims_same}
 use Rattle.erm_precommit.proofs.Standing.{stays, then_on}
@@ -17,7 +19,8 @@ pub pass_write-requires-clause-place : goal.pass_write-requires-clause-place
 pass_write-requires-clause-place g c =
     let i = c.loop-place.invariant.1 in
     let same = claims_same c.args.pre.now c.loop-place.pre c.args.p.now.me.0.view c.loop-place.p.me.0.view c.args.who c.requires.stands i.went i.stands in
-    omega (arith, same)
+    let there = ap (λ (l : ArrayVec KeptClaim). length l.items) c.deref.ensures in
+    omega (arith, same, there)
 
 pub loop-place-preserved : goal.loop-place-preserved
 loop-place-preserved g c =
@@ -44,8 +47,9 @@ pub returns-clause-passed : goal.returns-clause-passed
 returns-clause-passed g c =
     let i = c.loop-place.invariant.1 in
     let same = claims_same c.args.pre.now c.loop-place.pre c.args.p.now.me.0.view c.loop-place.p.me.0.view c.args.who c.requires.stands i.went i.stands in
-    let all : c.loop-place.place ≡ length c.loop-place.pre.claims.items = omega (arith, same) in
-    i.task ∙ ap (λ (n : ℕ). task.Settles (length c.loop-place.pre.reads.items) n) all
+    let there = ap (λ (l : ArrayVec KeptClaim). length l.items) c.deref.ensures in
+    let all : c.loop-place.place ≡ length c.loop-place.pre.claims.value.items = omega (arith, same, there) in
+    i.task ∙ ap (λ (n : ℕ). task.Settles (length c.loop-place.pre.reads.value.items) n) all
 
 pub returns-in_err-pass_write-clause-goes : goal.returns-in_err-pass_write-clause-goes
 returns-in_err-pass_write-clause-goes g c = goes_both c.args.p.now.me.0 _ _ c.loop-place.invariant.2 c.pass_write.ensures.goes

@@ -8,4 +8,4 @@ use Rattle.erm_rule.specs.Went.{IsLoadStep, Went}
 
 -- so many versions are passed
 abbrev pub invariant-loop-place : goal.invariant-loop-place
-invariant-loop-place g l = Fits l.t.words.shared.table_id l.p × Passes l.fn.p.me.0.view l.who l.pre l.p.me.0.view (task.Settles (length l.pre.reads.items) l.place) × IsAfter l.fn.p.me.0 l.p.me.0 × Went g.L.RowLaw.law l.who IsLoadStep l.fn.p.me.0 l.p.me.0
+invariant-loop-place g l = Fits l.t.words.shared.table_id l.p × Passes l.fn.p.me.0.view l.who l.pre l.p.me.0.view (task.Settles (length l.pre.reads.value.items) l.place) × IsAfter l.fn.p.me.0 l.p.me.0 × Went g.L.RowLaw.law l.who IsLoadStep l.fn.p.me.0 l.p.me.0

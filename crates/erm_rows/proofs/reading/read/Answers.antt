@@ -1,5 +1,7 @@
-use Rattle.std.proofs.Common.{◌≡◌, ◌<◌, ◌≤◌, ℕ, arith, ◌∙◌}
+use Rattle.std.proofs.Common.{◌≡◌, ◌<◌, ◌≤◌, ℕ, length, arith, ap, ◌∙◌}
+use Rattle.arrayvec.specs.ArrayVec.{ArrayVec}
 use Rattle.erm_machine.specs.declared.limits.TheConstants.{READ_LIMIT}
+use Rattle.erm_precommit.specs.declared.pre.KeptRead.{KeptRead}
 use Rattle.erm_rows.proofs.Closed.{excludes, closed_in}
 use Rattle.erm_rows.proofs.reading.read.Goals as goal
 use Rattle.erm_rule.proofs.Wents.{went_none, loads_still}
@@ -35,4 +37,4 @@ returns-in-None-clause-still g c = read_still g.L.RowLaw.law c.args.who c.args.o
 
 pub returns-in-Err-clause-took_none : goal.returns-in-Err-clause-took_none
 returns-in-Err-clause-took_none g c =
-    (reads_left c.len.result _ c.len.ensures.fits c.if-len-eq-READ_LIMIT.false (c.len.ensures.value ∙ c.requires.kept.read_count), c.in-Err.ensures.took_wait)
+    (reads_left c.len.result _ c.len.ensures.fits c.if-len-eq-READ_LIMIT.false (c.len.ensures.value ∙ ap (λ (l : ArrayVec KeptRead). length l.items) c.deref.ensures ∙ c.requires.kept.read_count), c.in-Err.ensures.took_wait)

@@ -1,6 +1,8 @@
 use Rattle.std.proofs.lemmas.Result.{err_from_is_err_and}
-use Rattle.std.proofs.Common.{ap, ◌∙◌}
+use Rattle.std.proofs.Common.{length, ap, ◌∙◌}
+use Rattle.arrayvec.specs.ArrayVec.{ArrayVec}
 use Rattle.erm_entries.specs.declared.entries.Entry.{Entry}
+use Rattle.erm_precommit.specs.declared.pre.KeptClaim.{KeptClaim}
 use Rattle.erm_rows.proofs.Taken.{active_found, head_found, kept_stopped, misses, number_found, room_found, room_left, stops, takes, unclaimed_found}
 use Rattle.erm_rows.proofs.taking.take_entry.Goals as goal
 use Rattle.erm_entries.specs.Spelling.{word_of}
@@ -26,7 +28,7 @@ exchange-requires-clause-number g c = number_found c.args.p.now.me.0.view c.args
 pub exchange-requires-clause-room : goal.exchange-requires-clause-room
 exchange-requires-clause-room g c =
     room_found c.args.p.now.me.0.view c.args.who c.args.oid c.requires.active c.requires.object c.requires.unclaimed _ _ c.in_ok-seen.ensures.found
-    (room_left c.len.result _ c.len.ensures.fits c.if-len-eq-WRITE_LIMIT.false (c.len.ensures.value ∙ c.requires.kept.claim_count))
+    (room_left c.len.result _ c.len.ensures.fits c.if-len-eq-WRITE_LIMIT.false (c.len.ensures.value ∙ ap (λ (l : ArrayVec KeptClaim). length l.items) c.deref.ensures ∙ c.requires.kept.claim_count))
 
 pub exchange-requires-clause-head : goal.exchange-requires-clause-head
 exchange-requires-clause-head g c = head_found c.args.p.now.me.0.view c.args.who c.args.oid c.requires.active c.requires.object c.requires.unclaimed _ _ c.in_ok-seen.ensures.found
@@ -55,7 +57,7 @@ pub returns-in_err-seen-clause-took_none : goal.returns-in_err-seen-clause-took_
 returns-in_err-seen-clause-took_none g c =
     let p = err_from_is_err_and c.from_residual.result c.from_residual.ensures.1 in
     rw (p.1, p.2) (not_free_stop g.L.RowLaw.law c.args.who c.args.oid _ c.args.p.now.me.0 c.find_free.new.p.me.0
-    (room_left c.len.result _ c.len.ensures.fits c.if-len-eq-WRITE_LIMIT.false (c.len.ensures.value ∙ c.requires.kept.claim_count)) c.in_err-seen.ensures.took_none)
+    (room_left c.len.result _ c.len.ensures.fits c.if-len-eq-WRITE_LIMIT.false (c.len.ensures.value ∙ ap (λ (l : ArrayVec KeptClaim). length l.items) c.deref.ensures ∙ c.requires.kept.claim_count)) c.in_err-seen.ensures.took_none)
 
 pub returns-clause-took : goal.returns-clause-took
 returns-clause-took g c = record {
@@ -71,7 +73,7 @@ pub returns-in_err-exchange-clause-took_none : goal.returns-in_err-exchange-clau
 returns-in_err-exchange-clause-took_none g c =
     let p = err_from_is_err_and c.from_residual-in_err-exchange.result c.from_residual-in_err-exchange.ensures.1 in
     rw (p.1, p.2) (missed_stop g.L.RowLaw.law c.args.who c.args.oid _ c.args.p.now.me.0 c.exchange.new.p.me.0
-    (room_left c.len.result _ c.len.ensures.fits c.if-len-eq-WRITE_LIMIT.false (c.len.ensures.value ∙ c.requires.kept.claim_count)) (record {
+    (room_left c.len.result _ c.len.ensures.fits c.if-len-eq-WRITE_LIMIT.false (c.len.ensures.value ∙ ap (λ (l : ArrayVec KeptClaim). length l.items) c.deref.ensures ∙ c.requires.kept.claim_count)) (record {
       entry = word_of c.in_ok-seen.seen;
       number = c.args.txn.now.number;
       at = c.find_free.new.p.me.0;

@@ -4,7 +4,7 @@ use Rattle.erm_rule.specs.Views.{part_of}
 use Rattle.erm_session.specs.Calls.{before, now, is_end}
 use Rattle.erm_session.proofs.Goes.{active, goes_on, kept, known_where, same_rows, starts, with_rows}
 use Rattle.erm_session.proofs.RowsClaimed.{claimed_last, count_told, goes_claimed, goes_unclaimed, known_unclaimed, refuses_claim, room_claimed, rows_claimed, rows_stay, same_unclaimed}
-use Rattle.erm_session.proofs.Sought.{claimed, has_row, unclaimed}
+use Rattle.erm_session.proofs.Sought.{claimed, has_row, in_box, unclaimed}
 use Rattle.erm_session.proofs.session.Session.claim_at.Goals as goal
 use Rattle.erm_rows.specs.Claims.{DidNotClaim}
 use Rattle.erm_rows.specs.Took.{TookNoClaim}
@@ -16,7 +16,7 @@ pub claim_first-requires-clause-unclaimed : goal.claim_first-requires-clause-unc
 claim_first-requires-clause-unclaimed g c =
     let s = c.args.self.now in
     let x = part_of c.args.p.now.me.0.view s.seat in
-    unclaimed c.in-Active.txn x (kept s x c.requires.stands.kept c.in-Active.txn c.in-Active.is) c.args.oid _ c.as_slice.ensures.value c.in_default-find_claim.ensures.none
+    unclaimed c.in-Active.txn x (kept s x c.requires.stands.kept c.in-Active.txn c.in-Active.is) c.args.oid _ (in_box c.as_slice.ensures.value c.deref.ensures) c.in_default-find_claim.ensures.none
 
 pub push_reserved-requires : goal.push_reserved-requires
 push_reserved-requires g c =
@@ -44,7 +44,7 @@ end_where-requires-clause-kept g c =
     let is = c.requires.stands.kept in
     let on = active s x is c.in-Active.txn c.in-Active.is in
     goes_on s _ x _ is (goes_unclaimed v s.seat c.args.oid on (starts s x is c.in-Active.txn c.in-Active.is) c.in-Err.why _ c.in-Err.ensures.refused) c.claim_first.ensures.stands
-    c.claim_first.ensures.spare refl refl refl is.room_read is.room_claimed refl
+    c.claim_first.ensures.active c.claim_first.ensures.spare refl refl refl is.room_read is.room_claimed refl
 
 pub end_where-requires-clause-stands : goal.end_where-requires-clause-stands
 end_where-requires-clause-stands g c = λ goes.
@@ -59,7 +59,7 @@ pub returns-in-Some-clause-place : goal.returns-in-Some-clause-place
 returns-in-Some-clause-place g c =
     let s = c.args.self.now in
     let x = part_of c.args.p.now.me.0.view s.seat in
-    claimed c.in-Active.txn x (kept s x c.requires.stands.kept c.in-Active.txn c.in-Active.is) c.args.oid _ c.as_slice.ensures.value c.in-Some.place c.in-Some.ensures.found.0
+    claimed c.in-Active.txn x (kept s x c.requires.stands.kept c.in-Active.txn c.in-Active.is) c.args.oid _ (in_box c.as_slice.ensures.value c.deref.ensures) c.in-Some.place c.in-Some.ensures.found.0
     c.in-Some.ensures.found.1
 
 pub returns-in-Some-clause-claimed : goal.returns-in-Some-clause-claimed
@@ -76,7 +76,7 @@ returns-in-Ok-clause-stands g c =
     let on = active s x is c.in-Active.txn c.in-Active.is in
     let did = c.in-Ok.ensures.claimed in
     with_rows _ _
-    (goes_on s _ x _ is (goes_claimed v s.seat c.args.oid on c.in-Ok.claimed.row _ did) c.claim_first.ensures.stands c.claim_first.ensures.spare refl refl refl is.room_read
+    (goes_on s _ x _ is (goes_claimed v s.seat c.args.oid on c.in-Ok.claimed.row _ did) c.claim_first.ensures.stands c.claim_first.ensures.active c.claim_first.ensures.spare refl refl refl is.room_read
     (subst (λ n. WRITE_LIMIT ≤ n) (sym c.push_reserved.ensures.capacity) is.room_claimed) refl)
     (rows_stay v s.seat c.args.oid on c.in-Ok.claimed.row _ did s.rows_read.items c.requires.stands.rows_read)
     (rows_claimed v s.seat c.args.oid on c.in-Ok.claimed.row _ did s.rows_claimed.items _ c.requires.stands.rows_claimed c.push_reserved.ensures.items) c.in-Ok.ensures.window
@@ -86,7 +86,7 @@ returns-in-Ok-clause-claimed g c =
     let s = c.args.self.now in
     let x = part_of c.args.p.now.me.0.view s.seat in
     let acts = kept s x c.requires.stands.kept c.in-Active.txn c.in-Active.is in
-    now (unclaimed c.in-Active.txn x acts c.args.oid _ c.as_slice.ensures.value c.in_default-find_claim.ensures.none) c.in-Ok.claimed.row c.in-Ok.ensures.claimed
+    now (unclaimed c.in-Active.txn x acts c.args.oid _ (in_box c.as_slice.ensures.value c.deref.ensures) c.in_default-find_claim.ensures.none) c.in-Ok.claimed.row c.in-Ok.ensures.claimed
 
 pub returns-in-Ok-clause-place : goal.returns-in-Ok-clause-place
 returns-in-Ok-clause-place g c =
@@ -112,7 +112,7 @@ returns-in-Err-clause-refused g c =
     let x = part_of v s.seat in
     let on = active s x c.requires.stands.kept c.in-Active.txn c.in-Active.is in
     let acts = kept s x c.requires.stands.kept c.in-Active.txn c.in-Active.is in
-    refuses_claim v s.seat c.args.oid on (unclaimed c.in-Active.txn x acts c.args.oid _ c.as_slice.ensures.value c.in_default-find_claim.ensures.none) c.in-Err.why _ _
+    refuses_claim v s.seat c.args.oid on (unclaimed c.in-Active.txn x acts c.args.oid _ (in_box c.as_slice.ensures.value c.deref.ensures) c.in_default-find_claim.ensures.none) c.in-Err.why _ _
     c.in-Err.ensures.refused c.end_where.ensures.ended c.end_where.ensures.stays
 
 pub returns-in-Err-clause-counted : goal.returns-in-Err-clause-counted

@@ -17,8 +17,8 @@ leave-requires-clause-may g c =
     may_leave c.args.self.now c.in-Sealed.pre (view c.args.p.now) c.args.succ c.args.pred c.requires.known c.requires.stands (sym c.in-Sealed.ensures.value) c.requires.ready
     c.replace.new.dest c.store_block.new.self c.store_block.ensures.same (view c.store_block.new.p) c.store_block.ensures.stored
 
-pub outcome_of-requires : goal.outcome_of-requires
-outcome_of-requires g c =
+pub outcome_of-outcome-requires : goal.outcome_of-outcome-requires
+outcome_of-outcome-requires g c =
     let low = block_ends c.args.self.now c.in-Sealed.pre (view c.args.p.now) c.args.succ c.args.pred c.requires.known c.requires.stands (sym c.in-Sealed.ensures.value) c.requires.ready in
     record { end = omega (arith, low) }
 
@@ -33,14 +33,14 @@ returns-clause-finished g c =
     finished c.args.self.now c.in-Sealed.pre (view c.args.p.now) c.args.succ c.args.pred c.requires.known c.requires.stands (sym c.in-Sealed.ensures.value) c.requires.ready
     c.replace.new.dest c.store_block.new.self c.store_block.ensures.same (view c.store_block.new.p) c.store_block.ensures.stored
     (view c.leave.new.p) c.leave.ensures.ends c.leave.new.self c.leave.ensures.same
-    c.outcome_of.result c.outcome_of.ensures
+    c.outcome_of-outcome.result c.outcome_of-outcome.ensures
 
 pub returns-clause-stands : goal.returns-clause-stands
 returns-clause-stands g c =
     stands_idle c.args.self.now c.in-Sealed.pre (view c.args.p.now) c.args.succ c.args.pred c.requires.known c.requires.stands (sym c.in-Sealed.ensures.value) c.requires.ready
     c.replace.new.dest c.store_block.new.self c.store_block.ensures.same (view c.store_block.new.p) c.store_block.ensures.stored
     (view c.leave.new.p) c.leave.ensures.ends c.leave.new.self c.leave.ensures.same
-    c.replace.ensures.after c.leave.ensures.spare c.leave.ensures.room_read c.leave.ensures.room_claimed c.store_block.ensures.room c.leave.ensures.no_read
+    _ c.replace.ensures.after c.leave.ensures.spare c.leave.ensures.room_read c.leave.ensures.room_claimed c.store_block.ensures.room c.leave.ensures.no_read
     c.leave.ensures.no_claimed
 
 pub returns-clause-took : goal.returns-clause-took

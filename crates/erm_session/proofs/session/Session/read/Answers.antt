@@ -4,7 +4,7 @@ use Rattle.erm_rule.specs.Views.{part_of}
 use Rattle.erm_session.specs.Calls.{again, first, own, is_end}
 use Rattle.erm_session.proofs.Goes.{active, goes_on, kept, known_where, same_current, same_rows, starts, with_rows}
 use Rattle.erm_session.proofs.RowsRead.{goes_read, goes_unread, known_unread, owner_met, refuses_read, room_read, rows_read, rows_stay, same_unread, spare_read, spare_unread}
-use Rattle.erm_session.proofs.Sought.{has_claimed, has_read_row, unclaimed, unread}
+use Rattle.erm_session.proofs.Sought.{has_claimed, has_read_row, in_box, unclaimed, unread}
 use Rattle.erm_session.proofs.session.Session.read.Goals as goal
 use Rattle.erm_rows.specs.Reads.{DidNotRead}
 use Rattle.erm_rows.specs.Took.{TookNotRead}
@@ -17,7 +17,7 @@ returns-in-Some-clause-read g c =
     let s = c.args.self.now in
     let x = part_of c.args.p.now.me.0.view s.seat in
     own refl
-    (has_claimed c.in-Active.txn x (kept s x c.requires.stands.kept c.in-Active.txn c.in-Active.is) c.args.oid _ c.as_slice.ensures.value c.in-Some.place c.in-Some.ensures.found.0
+    (has_claimed c.in-Active.txn x (kept s x c.requires.stands.kept c.in-Active.txn c.in-Active.is) c.args.oid _ (in_box c.as_slice.ensures.value c.deref.ensures) c.in-Some.place c.in-Some.ensures.found.0
     c.in-Some.ensures.found.1 s.rows_claimed.items _ c.index.ensures c.requires.stands.rows_claimed)
 
 pub returns-in-Some-find_read-clause-read : goal.returns-in-Some-find_read-clause-read
@@ -25,21 +25,21 @@ returns-in-Some-find_read-clause-read g c =
     let s = c.args.self.now in
     let x = part_of c.args.p.now.me.0.view s.seat in
     let acts = kept s x c.requires.stands.kept c.in-Active.txn c.in-Active.is in
-    again refl (unclaimed c.in-Active.txn x acts c.args.oid _ c.as_slice.ensures.value c.in_default-find_claim.ensures.none)
-    (has_read_row c.in-Active.txn x acts c.args.oid _ c.as_slice-2.ensures.value c.in-Some-find_read.place c.in-Some-find_read.ensures.found.0 c.in-Some-find_read.ensures.found.1
+    again refl (unclaimed c.in-Active.txn x acts c.args.oid _ (in_box c.as_slice.ensures.value c.deref.ensures) c.in_default-find_claim.ensures.none)
+    (has_read_row c.in-Active.txn x acts c.args.oid _ (in_box c.as_slice-2.ensures.value c.deref-2.ensures) c.in-Some-find_read.place c.in-Some-find_read.ensures.found.0 c.in-Some-find_read.ensures.found.1
     s.rows_read.items _ c.index-in-Some-find_read.ensures c.requires.stands.rows_read)
 
 pub read_first-requires-clause-unread : goal.read_first-requires-clause-unread
 read_first-requires-clause-unread g c =
     let s = c.args.self.now in
     let x = part_of c.args.p.now.me.0.view s.seat in
-    unread c.in-Active.txn x (kept s x c.requires.stands.kept c.in-Active.txn c.in-Active.is) c.args.oid _ c.as_slice-2.ensures.value c.in_default-find_read.ensures.none
+    unread c.in-Active.txn x (kept s x c.requires.stands.kept c.in-Active.txn c.in-Active.is) c.args.oid _ (in_box c.as_slice-2.ensures.value c.deref-2.ensures) c.in_default-find_read.ensures.none
 
 pub read_first-requires-clause-unclaimed : goal.read_first-requires-clause-unclaimed
 read_first-requires-clause-unclaimed g c =
     let s = c.args.self.now in
     let x = part_of c.args.p.now.me.0.view s.seat in
-    unclaimed c.in-Active.txn x (kept s x c.requires.stands.kept c.in-Active.txn c.in-Active.is) c.args.oid _ c.as_slice.ensures.value c.in_default-find_claim.ensures.none
+    unclaimed c.in-Active.txn x (kept s x c.requires.stands.kept c.in-Active.txn c.in-Active.is) c.args.oid _ (in_box c.as_slice.ensures.value c.deref.ensures) c.in_default-find_claim.ensures.none
 
 pub push_reserved-requires : goal.push_reserved-requires
 push_reserved-requires g c =
@@ -65,7 +65,7 @@ end_where-requires-clause-kept g c =
     let is = c.requires.stands.kept in
     let on = active s x is c.in-Active.txn c.in-Active.is in
     goes_on s _ x _ is (goes_unread v s.seat c.args.oid on (starts s x is c.in-Active.txn c.in-Active.is) c.in-Err.why _ c.in-Err.ensures.refused) c.read_first.ensures.stands
-    (spare_unread v s.seat c.args.oid on s.spare is.spare c.in-Err.why _ c.in-Err.ensures.refused) refl refl refl is.room_read is.room_claimed refl
+    c.read_first.ensures.active (spare_unread v s.seat c.args.oid on s.spare is.spare c.in-Err.why _ c.in-Err.ensures.refused) refl refl refl is.room_read is.room_claimed refl
 
 pub end_where-requires-clause-stands : goal.end_where-requires-clause-stands
 end_where-requires-clause-stands g c = λ goes.
@@ -85,7 +85,7 @@ returns-in-Ok-clause-stands g c =
     let on = active s x is c.in-Active.txn c.in-Active.is in
     let did = c.in-Ok.ensures.read in
     with_rows _ _
-    (goes_on s _ x _ is (goes_read v s.seat c.args.oid on c.in-Ok.row _ did) c.read_first.ensures.stands (spare_read v s.seat c.args.oid on c.in-Ok.row _ did s.spare is.spare) refl refl refl
+    (goes_on s _ x _ is (goes_read v s.seat c.args.oid on c.in-Ok.row _ did) c.read_first.ensures.stands c.read_first.ensures.active (spare_read v s.seat c.args.oid on c.in-Ok.row _ did s.spare is.spare) refl refl refl
     (subst (λ n. READ_LIMIT ≤ n) (sym c.push_reserved.ensures.capacity) is.room_read) is.room_claimed refl)
     (rows_read v s.seat c.args.oid on c.in-Ok.row _ did s.rows_read.items _ c.requires.stands.rows_read c.push_reserved.ensures.items)
     (rows_stay v s.seat c.args.oid on c.in-Ok.row _ did s.rows_claimed.items c.requires.stands.rows_claimed) c.in-Ok.ensures.window
@@ -95,8 +95,8 @@ returns-in-Ok-clause-read g c =
     let s = c.args.self.now in
     let x = part_of c.args.p.now.me.0.view s.seat in
     let acts = kept s x c.requires.stands.kept c.in-Active.txn c.in-Active.is in
-    first (unclaimed c.in-Active.txn x acts c.args.oid _ c.as_slice.ensures.value c.in_default-find_claim.ensures.none)
-    (unread c.in-Active.txn x acts c.args.oid _ c.as_slice-2.ensures.value c.in_default-find_read.ensures.none) c.in-Ok.ensures.read
+    first (unclaimed c.in-Active.txn x acts c.args.oid _ (in_box c.as_slice.ensures.value c.deref.ensures) c.in_default-find_claim.ensures.none)
+    (unread c.in-Active.txn x acts c.args.oid _ (in_box c.as_slice-2.ensures.value c.deref-2.ensures) c.in_default-find_read.ensures.none) c.in-Ok.ensures.read
 
 pub returns-in-Err-clause-known : goal.returns-in-Err-clause-known
 returns-in-Err-clause-known g c =
@@ -113,8 +113,8 @@ returns-in-Err-clause-refused g c =
     let on = active s x c.requires.stands.kept c.in-Active.txn c.in-Active.is in
     let acts = kept s x c.requires.stands.kept c.in-Active.txn c.in-Active.is in
     refuses_read v s.seat c.args.oid on
-    (unclaimed c.in-Active.txn x acts c.args.oid _ c.as_slice.ensures.value c.in_default-find_claim.ensures.none)
-    (unread c.in-Active.txn x acts c.args.oid _ c.as_slice-2.ensures.value c.in_default-find_read.ensures.none) c.in-Err.why _ _ c.in-Err.ensures.refused
+    (unclaimed c.in-Active.txn x acts c.args.oid _ (in_box c.as_slice.ensures.value c.deref.ensures) c.in_default-find_claim.ensures.none)
+    (unread c.in-Active.txn x acts c.args.oid _ (in_box c.as_slice-2.ensures.value c.deref-2.ensures) c.in_default-find_read.ensures.none) c.in-Err.why _ _ c.in-Err.ensures.refused
     c.end_where.ensures.ended c.end_where.ensures.stays
 
 pub returns-in-Err-clause-met : goal.returns-in-Err-clause-met

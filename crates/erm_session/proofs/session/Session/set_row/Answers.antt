@@ -4,6 +4,7 @@ use Rattle.erm_precommit.specs.Pre.{no_claim_kept}
 use Rattle.erm_rule.specs.Views.{part_of}
 use Rattle.erm_session.proofs.Goes.{active, goes_on, kept, stage_goes, starts, with_rows}
 use Rattle.erm_session.proofs.RowSet.{goes_set, kept_set, may_store, open_set, rows_set, rows_stay, sets, spare_set}
+use Rattle.erm_session.proofs.Sought.{in_box}
 use Rattle.erm_session.proofs.session.Session.set_row.Goals as goal
 
 pub store_row-requires-clause-may : goal.store_row-requires-clause-may
@@ -15,7 +16,7 @@ store_row-requires-clause-may g c =
     let t = c.in-Active.txn in
     let at = c.in-Active.is in
     may_store v s.seat (active s x is t at) c.requires.known t (kept s x is t at) (starts s x is t at) c.args.place c.requires.place.1.within _
-    (ap (λ (l : List KeptClaim). (get_or l c.args.place no_claim_kept).own) c.deref.ensures.0) c.args.row.now
+    (ap (λ (l : List KeptClaim). (get_or l c.args.place no_claim_kept).own) (in_box c.deref-2.ensures.0 c.deref.ensures)) c.args.row.now
 
 pub returns-clause-stands : goal.returns-clause-stands
 returns-clause-stands g c =
@@ -29,12 +30,12 @@ returns-clause-stands g c =
     let acts = kept s x is t at in
     let anew = starts s x is t at in
     let inside = c.requires.place.1.within in
-    let own = ap (λ (l : List KeptClaim). (get_or l c.args.place no_claim_kept).own) c.deref.ensures.0 in
+    let own = ap (λ (l : List KeptClaim). (get_or l c.args.place no_claim_kept).own) (in_box c.deref-2.ensures.0 c.deref.ensures) in
     let did = c.store_row.ensures.stored in
     let goes = goes_set v s.seat on c.requires.known t acts anew c.args.place inside _ own c.args.row.now _ did in
     with_rows _ _
     (goes_on s _ x _ is goes (stage_goes s x is t at _ goes (kept_set v s.seat on c.requires.known t acts anew c.args.place inside _ own c.args.row.now _ did))
-    (spare_set v s.seat on c.requires.known t acts anew c.args.place inside _ own c.args.row.now _ did s.spare is.spare) refl refl refl is.room_read is.room_claimed refl)
+    c.requires.active (spare_set v s.seat on c.requires.known t acts anew c.args.place inside _ own c.args.row.now _ did s.spare is.spare) refl refl refl is.room_read is.room_claimed refl)
     (rows_stay v s.seat on c.requires.known t acts anew c.args.place inside _ own c.args.row.now _ did s.rows_read.items c.requires.stands.rows_read)
     (rows_set v s.seat on c.requires.known t acts anew c.args.place inside _ own c.args.row.now _ did s.rows_claimed.items _ c.requires.stands.rows_claimed refl)
     (open_set v s.seat on c.requires.known t acts anew c.args.place inside _ own c.args.row.now _ did s.stage c.requires.active c.requires.stands.window)
@@ -48,4 +49,4 @@ returns-clause-set g c =
     let t = c.in-Active.txn in
     let at = c.in-Active.is in
     sets v s.seat (active s x is t at) c.requires.known t (kept s x is t at) (starts s x is t at) c.args.place c.requires.place.1.within _
-    (ap (λ (l : List KeptClaim). (get_or l c.args.place no_claim_kept).own) c.deref.ensures.0) c.args.row.now _ c.store_row.ensures.stored
+    (ap (λ (l : List KeptClaim). (get_or l c.args.place no_claim_kept).own) (in_box c.deref-2.ensures.0 c.deref.ensures)) c.args.row.now _ c.store_row.ensures.stored

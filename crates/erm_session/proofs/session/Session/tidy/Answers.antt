@@ -2,7 +2,7 @@ use Rattle.std.proofs.Common.{inl}
 use Rattle.erm_rule.specs.Views.{part_of}
 use Rattle.erm_session.specs.Calls.{again_tidied}
 use Rattle.erm_session.proofs.Goes.{active, kept, starts}
-use Rattle.erm_session.proofs.Sought.{claimed, unclaimed}
+use Rattle.erm_session.proofs.Sought.{claimed, in_box, unclaimed}
 use Rattle.erm_session.proofs.Tidied.{claims_too, tidied_session, took_too}
 use Rattle.erm_session.proofs.session.Session.tidy.Goals as goal
 
@@ -25,7 +25,7 @@ pub tidy_claimed-requires-clause-claimed : goal.tidy_claimed-requires-clause-cla
 tidy_claimed-requires-clause-claimed g c =
     let s = c.args.self.now in
     let x = part_of c.args.p.now.me.0.view s.seat in
-    let at = claimed c.in-Active.txn x (kept s x c.requires.stands.kept c.in-Active.txn c.in-Active.is) c.args.oid _ c.as_slice.ensures.value c.in-Some.field-0 c.in-Some.ensures.found.0 c.in-Some.ensures.found.1 in
+    let at = claimed c.in-Active.txn x (kept s x c.requires.stands.kept c.in-Active.txn c.in-Active.is) c.args.oid _ (in_box c.as_slice.ensures.value c.deref.ensures) c.in-Some.field-0 c.in-Some.ensures.found.0 c.in-Some.ensures.found.1 in
     (c.in-Some.field-0, at.within, at.oid_is)
 
 pub returns-in-Some-clause-known : goal.returns-in-Some-clause-known
@@ -40,7 +40,7 @@ pub returns-in-Some-clause-tidied : goal.returns-in-Some-clause-tidied
 returns-in-Some-clause-tidied g c =
     let s = c.args.self.now in
     let x = part_of c.args.p.now.me.0.view s.seat in
-    let at = claimed c.in-Active.txn x (kept s x c.requires.stands.kept c.in-Active.txn c.in-Active.is) c.args.oid _ c.as_slice.ensures.value c.in-Some.field-0 c.in-Some.ensures.found.0 c.in-Some.ensures.found.1 in
+    let at = claimed c.in-Active.txn x (kept s x c.requires.stands.kept c.in-Active.txn c.in-Active.is) c.args.oid _ (in_box c.as_slice.ensures.value c.deref.ensures) c.in-Some.field-0 c.in-Some.ensures.found.0 c.in-Some.ensures.found.1 in
     again_tidied (c.in-Some.field-0, at.within, at.oid_is) c.tidy_claimed.ensures.tidied
 
 pub returns-in-Some-clause-took : goal.returns-in-Some-clause-took
@@ -51,7 +51,7 @@ returns-in-None-clause-tidied g c =
     let s = c.args.self.now in
     let x = part_of c.args.p.now.me.0.view s.seat in
     claims_too c.args.p.now.me.0.view s.seat c.args.oid c.claim.new.p.me.0.view
-    (unclaimed c.in-Active.txn x (kept s x c.requires.stands.kept c.in-Active.txn c.in-Active.is) c.args.oid _ c.as_slice.ensures.value c.in-None.ensures.none) c.claim.result c.claim.ensures.claimed
+    (unclaimed c.in-Active.txn x (kept s x c.requires.stands.kept c.in-Active.txn c.in-Active.is) c.args.oid _ (in_box c.as_slice.ensures.value c.deref.ensures) c.in-None.ensures.none) c.claim.result c.claim.ensures.claimed
 
 pub returns-in-None-clause-took : goal.returns-in-None-clause-took
 returns-in-None-clause-took g c = took_too g.L.RowLaw.law c.args.self.now.seat c.args.oid c.args.p.now.me.0 c.claim.new.p.me.0 c.claim.result c.claim.ensures.took
