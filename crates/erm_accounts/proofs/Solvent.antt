@@ -16,7 +16,7 @@ abbrev value_in : Reply → Option (List ℕ)
 value_in (reply.Value v) = v
 value_in r = None
 
-value_is : (v w : Option (List ℕ)) → reply.Value v ≡ reply.Value w → v ≡ w
+pub value_is : (v w : Option (List ℕ)) → reply.Value v ≡ reply.Value w → v ≡ w
 value_is v w same = ap value_in same
 
 -- of the accounts of a customer, one and the other
@@ -42,13 +42,13 @@ module _ (m : Database) (account : Account) (customer : ℕ) (left : List ℕ) w
   abbrev put : Database
   put = insert m (at (table_of account) customer) left
 
-  beside_stays : (c : ℕ) → kept put (beside account) c ≡ kept m (beside account) c
+  pub beside_stays : (c : ℕ) → kept put (beside account) c ≡ kept m (beside account) c
   beside_stays c = value_at-insert_other m (table_of account) customer left (table_of (beside account)) c (other_table account customer c)
 
-  own_is : kept put account customer ≡ Some left
+  pub own_is : kept put account customer ≡ Some left
   own_is = value_at-insert_same m (table_of account) customer left
 
-  others_stay : (c : ℕ) → c ≢ customer → kept put account c ≡ kept m account c
+  pub others_stay : (c : ℕ) → c ≢ customer → kept put account c ≡ kept m account c
   others_stay c other = value_at-insert_other m (table_of account) customer left (table_of account) c (other_customer (table_of account) customer c other)
 
   -- where what is put covers, with the other account, all are solvent

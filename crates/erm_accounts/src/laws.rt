@@ -1,5 +1,6 @@
 //! Laws of the bank's transactions. Each holds for every value, and its function does nothing.
 ghost use Rattle.erm_accounts.specs.Accounts.{AreSolvent, CustomersStaySolvent, IsDeposit, IsOfBank, IsWithdrawal, ReportsShowSolventCustomers, SnapshotsMaySkew};
+ghost use Rattle.erm_accounts.specs.Totals.{AuditsLeaveTotals, DepositsRaiseTotals, FoundTotalsAreTotals, WithdrawalsLowerTotals};
 ghost use Rattle.erm_invariant.specs.Invariant.{Keeps};
 ghost use Rattle.erm_model.specs.Run.{Step};
 ghost use Rattle.std.specs.Prelude.{List};
@@ -54,4 +55,24 @@ pub fn reports_show_solvent_customers()
 /// Two withdrawals that are each answered from one snapshot may leave a customer that isn't solvent.
 pub fn snapshots_may_skew()
     ensures { SnapshotsMaySkew }
+{}
+
+/// A deposit that is run alone raises the total of the customers of each range by its amount, where its own customer is one of them.
+pub fn deposits_raise_totals()
+    ensures { DepositsRaiseTotals }
+{}
+
+/// A withdrawal lowers it so.
+pub fn withdrawals_lower_totals()
+    ensures { WithdrawalsLowerTotals }
+{}
+
+/// An audit leaves it.
+pub fn audits_leave_totals()
+    ensures { AuditsLeaveTotals }
+{}
+
+/// Of what scans of both tables find of a range of customers in a map the total is theirs in that map.
+pub fn found_totals_are_totals()
+    ensures { FoundTotalsAreTotals }
 {}

@@ -22,7 +22,7 @@ split_at [] ys x k at = inr (k, at)
 split_at (z ∷ xs) ys x zero at = inl (zero, at)
 split_at (z ∷ xs) ys x (suc k) at = elim (split_at xs ys x k at) [ inl here ↦ inl (suc here.0, here.1) | inr there ↦ inr there ]
 
-in_either : {X : Type 0} (xs ys : List X) (x : X) → x ∈ (xs ++ ys) → (x ∈ xs) ⊎ (x ∈ ys)
+pub in_either : {X : Type 0} (xs ys : List X) (x : X) → x ∈ (xs ++ ys) → (x ∈ xs) ⊎ (x ∈ ys)
 in_either xs ys x there = split_at xs ys x there.0 there.1
 
 -- OF ONE SESSION

@@ -1,3 +1,4 @@
+pub mod Commits
 pub mod Dealt
 pub mod Grown
 pub mod Joined
@@ -5,4 +6,5 @@ pub mod Onward
 pub mod Parts
 pub mod Runs
 pub mod Steps
+pub mod Stretched
 pub mod Told

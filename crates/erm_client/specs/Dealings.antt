@@ -1,9 +1,12 @@
 -- The transactions of a session, as its client's transcript tells them.
-use Rattle.std.specs.Prelude.{◌≡◌, ℕ, List, Some}
+use Rattle.std.specs.Prelude.{◌≡◌, ℕ, List, Some, sum_by}
 use Rattle.erm_client.specs.declared.transcript.Transcript.{Transcript}
-use Rattle.erm_good_report.specs.Transactions.{Commits, Progress, Transaction, progress_of, said_of, steps_of}
+use Rattle.erm_good_report.specs.Transactions.{Commits, Progress, Transaction, history_of, progress_of, said_of, steps_of}
+use Rattle.erm_model.specs.Committed.{Committed}
 use Rattle.erm_model.specs.Member.{◌∈◌}
 use Rattle.erm_model.specs.Run.{Step}
+use Rattle.erm_script.specs.declared.script.Command.{Command}
+use Rattle.erm_script.specs.declared.script.Command.TheVariants as command
 
 -- the session's transactions: those that are over, and the one that is not
 abbrev pub dealings_of : Transcript → Progress
@@ -21,3 +24,15 @@ AllOver Kind p = (t : Transaction) (stamp succ pred : ℕ) → t ∈ p.over → 
 
 abbrev pub AllCommitted : (List Step → Type 0) → Transcript → Type 0
 AllCommitted Kind c = AllOver Kind (dealings_of c)
+
+-- the session's commits, in turn
+abbrev pub commits_told : Transcript → List Committed
+commits_told c = history_of (dealings_of c).over
+
+-- how many of its lines are begins, whatever they were answered
+abbrev pub begins_by : Command → ℕ
+begins_by command.Begin = 1
+begins_by c = 0
+
+abbrev pub begins_in : Transcript → ℕ
+begins_in c = sum_by (λ l. begins_by l.command) c.lines.items

@@ -7,18 +7,20 @@ ghost use Rattle.erm_node.specs.Sound.{sound_law};
 ghost use Rattle.erm_rule.specs.declared.view.Opening.{Opening as OpeningOf};
 ghost use Rattle.erm_shared_session.specs.Stands.{Stands, own_of, seat_of};
 
-use erm_client::Client;
+use erm_beside::SharedSession;
+use erm_client::{Client, Finished, Transcript};
 use erm_engine::{Opened, open};
-use erm_model::{OID_LIMIT, ROW_WORDS, Seat};
+use erm_model::{OID_LIMIT, Phase, ROW_WORDS, Seat};
 use erm_node::{SoundRows, sound, zero_rows_are_not_reached};
 use erm_outside::Place;
+use erm_report::Answer;
 use erm_rule::{Opening, Table};
 use erm_shared_session::TableSession;
 use erm_start::first_object;
 use erm_worker::{Turns, Why};
 use std::alloc::{AllocError, Global};
 use std::process::Abort;
-use std::test::Fail;
+use std::sync::Wait;
 
 // How often a client waits before it is told to stop.
 const MOST_WAITS: u32 = 1_000;
@@ -97,20 +99,39 @@ pub fn two<'a>(
     alloc: Global,
     table: &'a Table<SoundRows>,
     sessions: Vec<TableSession<SoundRows>>,
-) -> Result<(TableClient<'a>, TableClient<'a>), Fail>
+) -> (TableClient<'a>, TableClient<'a>)
     requires new { (o : OpeningOf) × AreNew sound_law table.now o 2 sessions.items }
-    ensures first { IfOk result (λ r. IsClient (λ x s. Stands sound_law x s) seat_of own_of r.0) }
-    ensures second { IfOk result (λ r. IsClient (λ x s. Stands sound_law x s) seat_of own_of r.1) }
-    ensures unasked { IfOk result (λ r. IsUnasked 1 r.0.transcript × IsUnasked 2 r.1.transcript) }
+    ensures first { IsClient (λ x s. Stands sound_law x s) seat_of own_of result.0 }
+    ensures second { IsClient (λ x s. Stands sound_law x s) seat_of own_of result.1 }
+    ensures unasked { IsUnasked 1 result.0.transcript × IsUnasked 2 result.1.transcript }
 {
     let mut left = sessions.into_iter();
     let Some(first) = left.next() else {
-        return Err(Fail::new("there is no session"));
+        unreachable!();
     };
     let Some(second) = left.next() else {
-        return Err(Fail::new("there is one session"));
+        unreachable!();
     };
+    left.destroy_empty();
     let first = client(alloc, table, first, 1);
     let second = client(alloc, table, second, 2);
-    Ok((first, second))
+    (first, second)
+}
+
+/// Closes a client and gives its session up, which is idle then: its transcript, and the answer of its closing.
+pub fn finish<'a, R: Wait + Abort>(rt: &R, client: TableClient<'a>) -> (Transcript, Option<Answer>)
+    requires client { IsClient (λ x s. Stands sound_law x s) seat_of own_of client }
+{
+    let table = client.shared;
+    let Finished {
+        session,
+        turns: _,
+        transcript,
+        closed,
+    } = client.close(rt);
+    let Phase::Idle = session.phase(table) else {
+        panic!(rt; "a session that was closed isn't idle");
+    };
+    session.into_pass();
+    (transcript, closed)
 }

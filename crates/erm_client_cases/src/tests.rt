@@ -1,7 +1,7 @@
 //! What two clients are answered whose calls come one between another.
 use crate::calls::{Ask, Step, Told, first_other};
-use crate::clients::{opened, two};
-use erm_client::{Finished, Refusal, Transcript};
+use crate::clients::{finish, opened, two};
+use erm_client::{Refusal, Transcript};
 use erm_engine::Opened;
 use erm_report::Answer;
 use std::test::Fail;
@@ -88,13 +88,16 @@ fn a_client_sees_what_the_other_committed(rt: HostRuntime) -> Result<(), Fail> {
     let Opened {
         table,
         sessions,
-        ..
+        idle: _,
+        flush: _,
     } = opened(&rt, alloc)?;
-    let (mut first, mut second) = two(alloc, &table, sessions)?;
+    let (mut first, mut second) = two(alloc, &table, sessions);
     let other = first_other(&rt, &mut first, &mut second, &SEEN);
     assert!(rt; other.is_none(), "{other:?}");
-    assert!(rt; has_lines(&first.transcript, 7));
-    assert!(rt; has_lines(&second.transcript, 13));
+    let (lines, _) = finish(&rt, first);
+    assert!(rt; has_lines(&lines, 7));
+    let (lines, _) = finish(&rt, second);
+    assert!(rt; has_lines(&lines, 13));
     Ok(())
 }
 
@@ -105,12 +108,14 @@ fn of_two_skewed_withdrawals_one_commits(rt: HostRuntime) -> Result<(), Fail> {
     let Opened {
         table,
         sessions,
-        ..
+        idle: _,
+        flush: _,
     } = opened(&rt, alloc)?;
-    let (mut first, mut second) = two(alloc, &table, sessions)?;
+    let (mut first, mut second) = two(alloc, &table, sessions);
     let other = first_other(&rt, &mut first, &mut second, &SKEWED);
     assert!(rt; other.is_none(), "{other:?}");
-    let Finished { closed, .. } = second.close(&rt);
+    finish(&rt, first);
+    let (_, closed) = finish(&rt, second);
     assert!(rt; matches!(closed, Some(Answer::Aborted)));
     Ok(())
 }
@@ -122,18 +127,16 @@ fn of_two_that_set_a_key_one_begins_again(rt: HostRuntime) -> Result<(), Fail> {
     let Opened {
         table,
         sessions,
-        ..
+        idle: _,
+        flush: _,
     } = opened(&rt, alloc)?;
-    let (mut first, mut second) = two(alloc, &table, sessions)?;
+    let (mut first, mut second) = two(alloc, &table, sessions);
     let other = first_other(&rt, &mut first, &mut second, &CLAIMED);
     assert!(rt; other.is_none(), "{other:?}");
-    assert!(rt; has_lines(&second.transcript, 6));
-    let Finished {
-        transcript,
-        closed,
-        ..
-    } = first.close(&rt);
-    assert!(rt; transcript.lines.len() == 4 && transcript.answers.len() == 3);
+    let (lines, _) = finish(&rt, second);
+    assert!(rt; has_lines(&lines, 6));
+    let (lines, closed) = finish(&rt, first);
+    assert!(rt; lines.lines.len() == 4 && lines.answers.len() == 3);
     assert!(rt; closed.is_none());
     Ok(())
 }

@@ -38,10 +38,10 @@ one_other q p s other = elim (eqb_tells s.session q) as (λ _. cond (s.session =
 ]
 
 -- a session's transactions after more places
-abbrev hears : ℕ → Progress → List Said → Progress
+abbrev pub hears : ℕ → Progress → List Said → Progress
 hears q p said = fold (λ (p : Progress) (s : Said). cond (s.session == q) (heard q s.asked s.answer p) p) p said
 
-others : (q : ℕ) (p : Progress) (lines : List ScriptLine) (answers : List Answer) → ((l : ScriptLine) → l ∈ lines → l.session ≡ q → ⊥) → hears q p (said_of lines answers) ≡ p
+pub others : (q : ℕ) (p : Progress) (lines : List ScriptLine) (answers : List Answer) → ((l : ScriptLine) → l ∈ lines → l.session ≡ q → ⊥) → hears q p (said_of lines answers) ≡ p
 others q p [] answers other = refl
 others q p (l ∷ lines) [] other = refl
 others q p (l ∷ lines) (a ∷ answers) other =

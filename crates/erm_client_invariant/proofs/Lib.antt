@@ -1,3 +1,4 @@
 pub mod Alone
+pub mod There
 pub mod Unsealed
 pub mod Whole

@@ -1,5 +1,7 @@
 //! Laws of the transcripts of clients. Each holds for every value, and its function does nothing.
-ghost use Rattle.erm_client_invariant.specs.Laws.{ClientsKeep, InvariantLastsForClients};
+ghost use Rattle.erm_client_invariant.specs.Laws.{ClientsAreSerial, ClientsKeep, CommitsAreOfKind, InvariantLastsForClients, ToldCommitsAreThere};
+ghost use Rattle.erm_model.specs.Run.{Step};
+ghost use Rattle.std.specs.Prelude.{List};
 
 use erm_invariant::{Invariant, invariants_last_in_order};
 use erm_report_invariant::commits_keep_invariants;
@@ -21,4 +23,29 @@ pub fn invariants_last_for_clients<I: Invariant>()
     clients_keep_invariants::<I>();
     runs_at_once_are_serial();
     invariants_last_in_order::<I>();
+}
+
+/// A kind of transactions, by their operations that were answered, with the replies.
+pub trait Kind {
+    /// The operations that are of the kind.
+    ghost has: { Self → List Step → Type 0 };
+}
+
+/// Where each transaction that a client's transcript tells to have committed is of a kind, each commit of the script of all is.
+pub fn commits_are_of_kind<K: Kind>()
+    ensures { (kind : K) → CommitsAreOfKind (K.has kind) }
+{
+    runs_at_once_close_sessions();
+}
+
+/// Each commit that a client's transcript tells is a commit of the script of all.
+pub fn told_commits_are_there()
+    ensures { ToldCommitsAreThere }
+{}
+
+/// The commits of all clients are a serial run: one after another, in their serial order, they give the replies that were answered.
+pub fn clients_are_serial()
+    ensures { ClientsAreSerial }
+{
+    runs_at_once_are_serial();
 }

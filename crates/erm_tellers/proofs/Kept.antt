@@ -1,14 +1,16 @@
--- What a client's calls say of the transaction in progress, and of those that are over.
-use Rattle.std.proofs.Common.{◌≡◌, ℕ, List, [], ◌∷◌, ◌++◌, Option, Result, Ok, Err, IfErr, IfOk, OnOk, refl, sym, ap, ◌∙◌, subst}
+-- What a client's calls say of the transaction in progress, and of the stretch of its transcript.
+use Rattle.std.proofs.Common.{◌≡◌, ℕ, List, [], ◌∷◌, ◌++◌, Option, Result, Ok, Err, IfErr, IfOk, OnOk, refl, ap, ◌∙◌, subst}
 use Rattle.std.specs.Option.{option_map, option_to_list}
 use Rattle.erm_accounts.specs.Accounts.{Account, reads, table_of, writes}
-use Rattle.erm_client.proofs.Dealt.{all_answered, all_refused, at_begun, at_replied, dealt_answered}
-use Rattle.erm_client.specs.Dealings.{AllCommitted, IsAt, dealings_of}
+use Rattle.erm_client.proofs.Dealt.{at_begun, at_replied, dealt_answered}
+use Rattle.erm_client.proofs.Stretched.{refused_now, went_answered, went_committed, went_refused}
+use Rattle.erm_client.specs.Dealings.{IsAt, begins_by, dealings_of}
 use Rattle.erm_client.specs.declared.refusal.Refusal.{Refusal}
 use Rattle.erm_client.specs.declared.replies.Commit.{Commit}
 use Rattle.erm_client.specs.declared.transcript.Transcript.{Transcript}
+use Rattle.erm_client.specs.Stretches.{WasRefused, Went}
 use Rattle.erm_client.specs.Transcripts.{IsAnswered, IsRefused, IsTranscript}
-use Rattle.erm_good_report.specs.Transactions.{Commits, Progress, Transaction, steps_of, with_ending}
+use Rattle.erm_good_report.specs.Transactions.{Commits, Progress, Transaction, with_ending}
 use Rattle.erm_model.specs.declared.operation.Op.TheVariants as op
 use Rattle.erm_model.specs.declared.operation.Reply.TheVariants as reply
 use Rattle.erm_model.specs.Run.{Step}
@@ -16,28 +18,28 @@ use Rattle.erm_report.specs.declared.answer.Answer.{Answer}
 use Rattle.erm_report.specs.declared.answer.Answer.TheVariants as answer
 use Rattle.erm_script.specs.declared.script.Command.{Command}
 use Rattle.erm_script.specs.declared.script.Command.TheVariants as command
+use Rattle.erm_tellers.specs.Served as served
 use Rattle.erm_tellers.specs.Tellers.{CommittedAt, finds}
 
-module _ (Kind : List Step → Type 0) (c d : Transcript) (ok : IsTranscript c) where
+module _ (c d : Transcript) (ok : IsTranscript c) where
   -- an answer that is no commit, or a refusal
-  pub kept_by : {Y : Type 0} (P : Y → Answer) (asked : Command) (result : Result Y Refusal) → ((y : Y) (stamp succ pred : ℕ) → P y ≡ answer.Committed stamp succ pred → ⊥)
-      → IfOk result (λ y. IsAnswered c asked (P y) d) → IfErr result (λ why. IsRefused c asked why d) → AllCommitted Kind c → AllCommitted Kind d
-  kept_by P asked (Ok y) plain answered refused all = all_answered Kind c d asked (P y) ok all answered (λ stamp succ pred t is now. absurd (plain y stamp succ pred is))
-  kept_by P asked (Err why) plain answered refused all = all_refused Kind c d asked why ok all refused
+  pub went_by : {Y : Type 0} (P : Y → Answer) (asked : Command) (result : Result Y Refusal) → ((y : Y) (stamp succ pred : ℕ) → P y ≡ answer.Committed stamp succ pred → ⊥)
+      → IfOk result (λ y. IsAnswered c asked (P y) d) → IfErr result (λ why. IsRefused c asked why d) → Went (begins_by asked) [] c d
+  went_by P asked (Ok y) plain answered refused = went_answered c d ok asked (P y) (plain y) answered
+  went_by P asked (Err why) plain answered refused = went_refused c d ok asked why refused
 
-  pub done_kept : (P : Answer) (asked : Command) (result : Result (Unit {0}) Refusal) → ((stamp succ pred : ℕ) → P ≡ answer.Committed stamp succ pred → ⊥)
-      → OnOk result (IsAnswered c asked P d) → IfErr result (λ why. IsRefused c asked why d) → AllCommitted Kind c → AllCommitted Kind d
-  done_kept P asked (Ok y) plain answered refused all = all_answered Kind c d asked P ok all answered (λ stamp succ pred t is now. absurd (plain stamp succ pred is))
-  done_kept P asked (Err why) plain answered refused all = all_refused Kind c d asked why ok all refused
+  pub done_by : (P : Answer) (asked : Command) (result : Result (Unit {0}) Refusal) → ((stamp succ pred : ℕ) → P ≡ answer.Committed stamp succ pred → ⊥)
+      → OnOk result (IsAnswered c asked P d) → IfErr result (λ why. IsRefused c asked why d) → Went (begins_by asked) [] c d
+  done_by P asked (Ok y) plain answered refused = went_answered c d ok asked P plain answered
+  done_by P asked (Err why) plain answered refused = went_refused c d ok asked why refused
 
-  -- a commit of the kind
-  pub committed_kept : (result : Result Commit Refusal) (steps : List Step) → IsAt c steps → Kind steps
-      → IfOk result (λ x. IsAnswered c command.Commit (answer.Committed x.stamp x.succ x.pred) d) → IfErr result (λ why. IsRefused c command.Commit why d) → AllCommitted Kind c → AllCommitted Kind d
-  committed_kept (Ok x) steps at kind answered refused all =
-      all_answered Kind c d command.Commit (answer.Committed x.stamp x.succ x.pred) ok all answered (λ stamp succ pred t is now.
-      let same : at.current ≡ t = let both = sym at.is ∙ now in cc in
-      subst Kind (sym at.steps_are ∙ ap steps_of same) kind)
-  committed_kept (Err why) steps at kind answered refused all = all_refused Kind c d command.Commit why ok all refused
+  pub refused_by : {Y : Type 0} (asked : Command) (result : Result Y Refusal) → IfErr result (λ why. IsRefused c asked why d) → IfErr result (λ why. WasRefused why c d)
+  refused_by asked (Ok y) refused = tt
+  refused_by asked (Err why) refused = refused_now c d ok asked why refused
+
+  pub undone_by : {Y : Type 0} (asked : Command) (result : Result Y Refusal) → IfErr result (λ why. IsRefused c asked why d) → IfErr result (λ _. Went (begins_by asked) [] c d)
+  undone_by asked (Ok y) refused = tt
+  undone_by asked (Err why) refused = went_refused c d ok asked why refused
 
 module _ (c d : Transcript) (ok : IsTranscript c) where
   pub begun_at : (result : Result ℕ Refusal) → IfOk result (λ stamp. IsAnswered c command.Begin (answer.Began stamp) d) → OnOk result (IsAt d [])
@@ -68,9 +70,8 @@ module _ (c d : Transcript) (ok : IsTranscript c) where
       (at_replied c d (command.Put table customer value) reply.Done steps refl ok at answered)
   written_at account customer table value (Err why) is answered = tt
 
-  pub committed_at : (result : Result Commit Refusal) → IfOk result (λ x. IsAnswered c command.Commit (answer.Committed x.stamp x.succ x.pred) d)
-      → OnOk result ((steps : List Step) → IsAt c steps → CommittedAt steps d)
-  committed_at (Ok x) answered = λ steps at. record {
+  committed_at : (x : Commit) (steps : List Step) → IsAnswered c command.Commit (answer.Committed x.stamp x.succ x.pred) d → IsAt c steps → CommittedAt steps d
+  committed_at x steps answered at = record {
     front = (dealings_of c).over;
     last = with_ending (Commits x.stamp x.succ x.pred) at.current;
     over = ap (λ (p : Progress). p.over) (dealt_answered c d command.Commit (answer.Committed x.stamp x.succ x.pred) ok answered)
@@ -78,4 +79,10 @@ module _ (c d : Transcript) (ok : IsTranscript c) where
     commits = (x.stamp, x.succ, x.pred, refl);
     steps_are = at.steps_are;
   }
-  committed_at (Err why) answered = tt
+
+  pub committed_by : (result : Result Commit Refusal) → IfOk result (λ x. IsAnswered c command.Commit (answer.Committed x.stamp x.succ x.pred) d)
+      → OnOk result ((steps : List Step) → IsAt c steps → served.Commits steps c d)
+  committed_by (Ok x) answered = λ steps at.
+      let one = went_committed c d ok x.stamp x.succ x.pred steps at answered in
+      record { commit = one.0; steps_are = one.1; went = one.2; last = committed_at x steps answered at }
+  committed_by (Err why) answered = tt

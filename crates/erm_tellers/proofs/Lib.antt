@@ -1,3 +1,6 @@
+pub mod Asked
+pub mod Balance
+pub mod Behind
 pub mod Kept
-pub mod Served
+pub mod Placed
 pub mod Transfers

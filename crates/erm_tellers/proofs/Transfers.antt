@@ -17,14 +17,14 @@ abbrev value_in : Reply → Option (List ℕ)
 value_in (reply.Value v) = v
 value_in r = None
 
-value_is : (v w : Option (List ℕ)) → reply.Value v ≡ reply.Value w → v ≡ w
+pub value_is : (v w : Option (List ℕ)) → reply.Value v ≡ reply.Value w → v ≡ w
 value_is v w same = ap value_in same
 
 covers : (m : Database) (account : Account) (customer : ℕ) → AreSolvent m → 2 ^ 64 ≤ raised (kept m account customer) + raised (kept m (beside account) customer)
 covers m Current customer solvent = solvent customer
 covers m Savings customer solvent = omega (arith, solvent customer)
 
-other_key : (table customer there c : ℕ) → c ≢ customer → at there c ≢ at table customer
+pub other_key : (table customer there c : ℕ) → c ≢ customer → at there c ≢ at table customer
 other_key table customer there c other same = other (ap (λ (k : Key). k.key) same)
 
 pub transfers : (steps : List Step) → IsTransfer steps → Keeps AreSolvent steps

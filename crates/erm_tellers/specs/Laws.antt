@@ -1,7 +1,8 @@
--- What tellers keep, whatever the interleaving of their sessions.
-use Rattle.std.specs.Prelude.{◌≡◌, List}
-use Rattle.erm_accounts.specs.Accounts.{AreSolvent}
-use Rattle.erm_client.specs.Dealings.{AllCommitted}
+-- What tellers keep, move and show, whatever the interleaving of their sessions.
+use Rattle.std.specs.Prelude.{◌≡◌, ℕ, ◌+◌, ◌<◌, ◌≤◌, ◌^◌, List, ◌∷◌, ◌++◌, length}
+use Rattle.erm_accounts.specs.Accounts.{AreSolvent, Current, Savings, table_of}
+use Rattle.erm_accounts.specs.Totals.{IsFoundTotal, total}
+use Rattle.erm_client.specs.Dealings.{AllCommitted, commits_told}
 use Rattle.erm_client.specs.declared.transcript.Standing.TheVariants as standing
 use Rattle.erm_client.specs.declared.transcript.Transcript.{Transcript}
 use Rattle.erm_client.specs.Laws.{AreFrom, answers_of, lines_of}
@@ -13,9 +14,11 @@ use Rattle.erm_invariant.specs.Invariant.{Lasts}
 use Rattle.erm_lines.specs.Executions.{IsOpeningOf}
 use Rattle.erm_lines_at_once.specs.Executions.{IsRunAtOnce}
 use Rattle.erm_model.specs.Committed.{Committed, rank_of, state_after}
+use Rattle.erm_model.specs.Database.{AreFound, Database}
 use Rattle.erm_model.specs.Member.{◌∈◌}
 use Rattle.erm_model.specs.SerialOrder.{IsSerialOrder}
-use Rattle.erm_tellers.specs.Tellers.{IsOfTellers}
+use Rattle.erm_tellers.specs.Moves.{AreOfTellers, MovesAmong, all_came, all_gone}
+use Rattle.erm_tellers.specs.Tellers.{Audits, IsOfTellers}
 use Rattle.erm_world.specs.World.{View}
 
 -- Transcripts of tellers, of sessions with seats from 1 on: each tells only tellers' transactions among its commits, and none was told to stop.
@@ -30,3 +33,37 @@ abbrev pub TellersStaySolvent : Type 0
 TellersStaySolvent = (v f : View) (all : List Transcript) (closed : List Closed) (opening : Opening) → IsRunAtOnce v (lines_of all) (answers_of all) closed f → IsOpeningOf v opening
     → AreTellers all → AreSolvent opening.map → (order : List Committed) → IsSerialOrder rank_of (commits_of v.opening.sessions all closed) order
     → Lasts AreSolvent (transactions_in order) opening.map (state_after order opening.map)
+
+-- THE LAW of totals. So run, the commits so far have moved the total of each range of customers from the opening's by what came to them and what went.
+abbrev pub TellersMoveTotals : Type 0
+TellersMoveTotals = (v f : View) (all : List Transcript) (closed : List Closed) (opening : Opening) → IsRunAtOnce v (lines_of all) (answers_of all) closed f → IsOpeningOf v opening
+    → AreTellers all → (order : List Committed) → IsSerialOrder rank_of (commits_of v.opening.sessions all closed) order
+    → (front rest : List Committed) → order ≡ front ++ rest → (low high : ℕ)
+    → (are : AreOfTellers front) × (total (state_after front opening.map) low high + all_gone low high front are ≡ total opening.map low high + all_came low high front are)
+
+-- the same transcripts, where all commits are transfers among customers from low to high, and audits
+pub record AreMoving (low high : ℕ) (all : List Transcript) : Type 0 where
+  pub from_first : AreFrom 1 all
+  pub opened : (c : Transcript) → c ∈ all → c.standing ≡ standing.Open
+  pub kept : (c : Transcript) → c ∈ all → AllCommitted (MovesAmong low high) c
+
+-- They keep the total: the map after each of them has it, and each found it.
+abbrev pub TransfersKeepTotals : Type 0
+TransfersKeepTotals = (v f : View) (all : List Transcript) (closed : List Closed) (opening : Opening) → IsRunAtOnce v (lines_of all) (answers_of all) closed f → IsOpeningOf v opening
+    → (low high n : ℕ) → AreMoving low high all → total opening.map low high ≡ n → (order : List Committed) → IsSerialOrder rank_of (commits_of v.opening.sessions all closed) order
+    → Lasts (λ m. total m low high ≡ n) (transactions_in order) opening.map (state_after order opening.map)
+
+-- What an audit answered is what a map has of the customers from low to high, and their total by it is theirs there.
+pub record ShowsTotal (m : Database) (low high : ℕ) (current savings : List (ℕ × List ℕ)) : Type 0 where
+  pub current_is : AreFound m (table_of Current) low high current
+  pub savings_is : AreFound m (table_of Savings) low high savings
+  pub total_is : (found : ℕ) → IsFoundTotal low high current savings found → found ≡ total m low high
+
+-- THE LAW of audits. Each audit that a transcript tells among its commits shows the map that the commits before it in their serial order leave.
+abbrev pub AuditsShowTotals : Type 0
+AuditsShowTotals = (v f : View) (all : List Transcript) (closed : List Closed) (opening : Opening) → IsRunAtOnce v (lines_of all) (answers_of all) closed f → IsOpeningOf v opening
+    → AreFrom 1 all → ((c : Transcript) → c ∈ all → c.standing ≡ standing.Open) → length all ≤ v.opening.sessions
+    → (order : List Committed) → IsSerialOrder rank_of (commits_of v.opening.sessions all closed) order
+    → (c : Transcript) → c ∈ all → (x : Committed) → x ∈ commits_told c
+    → (low high : ℕ) (current savings : List (ℕ × List ℕ)) → high < 2 ^ 64 → Audits low high current savings x.steps
+    → (front : List Committed) × (rest : List Committed) × (order ≡ front ++ x ∷ rest) × ShowsTotal (state_after front opening.map) low high current savings

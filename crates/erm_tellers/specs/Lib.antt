@@ -1,2 +1,5 @@
+pub mod Denials
 pub mod Laws
+pub mod Moves
+pub mod Served
 pub mod Tellers

@@ -1,12 +1,14 @@
-//! A client's calls, with what they say of the transaction in progress and of those that are over.
-ghost use Rattle.std.specs.Prelude.{◌≡◌, ◌++◌, ◌∷◌, [], List, IfOk, OnOk};
+//! A client's calls, with what they say of the transaction in progress, and of the stretch of its transcript.
+ghost use Rattle.std.specs.Prelude.{◌≡◌, ◌++◌, ◌∷◌, [], List, IfErr, IfOk, OnOk};
 ghost use Rattle.erm_accounts.specs.Accounts.{reads, writes};
 ghost use Rattle.erm_client.specs.Clients.{GoesOn, IsClient};
-ghost use Rattle.erm_client.specs.Dealings.{AllCommitted, IsAt};
+ghost use Rattle.erm_client.specs.Dealings.{IsAt};
+ghost use Rattle.erm_client.specs.Stretches.{WasRefused, Went};
 ghost use Rattle.erm_model.specs.RowTransaction.{SameLaw};
 ghost use Rattle.erm_model.specs.Run.{Step};
 ghost use Rattle.erm_node.specs.Sound.{sound_law};
-ghost use Rattle.erm_tellers.specs.Tellers.{CommittedAt, IsOfTellers, account_of, finds};
+ghost use Rattle.erm_tellers.specs.Served.{Commits};
+ghost use Rattle.erm_tellers.specs.Tellers.{account_of, finds};
 
 use crate::Side;
 use erm_beside::SharedSession;
@@ -23,8 +25,9 @@ pub fn begin<'a, S: SharedSession, T: Turns, R: Wait>(
     requires law { SameLaw S.law sound_law }
     requires client { IsClient S.stands S.seat S.own client.old }
     ensures on { GoesOn S.stands S.seat S.own S.ends T.told client.old client.new }
-    ensures kept { AllCommitted IsOfTellers client.old.transcript → AllCommitted IsOfTellers client.new.transcript }
+    ensures went { Went 1 [] client.old.transcript client.new.transcript }
     ensures at { OnOk result (IsAt client.new.transcript []) }
+    ensures err { IfErr result (λ why. WasRefused why client.old.transcript client.new.transcript) }
 {
     client.begin(rt)
 }
@@ -39,8 +42,9 @@ pub fn read<'a, S: SharedSession, T: Turns, R: Wait>(
     requires law { SameLaw S.law sound_law }
     requires client { IsClient S.stands S.seat S.own client.old }
     ensures on { GoesOn S.stands S.seat S.own S.ends T.told client.old client.new }
-    ensures kept { AllCommitted IsOfTellers client.old.transcript → AllCommitted IsOfTellers client.new.transcript }
+    ensures went { Went 0 [] client.old.transcript client.new.transcript }
     ensures at { IfOk result (λ value. (steps : List Step) → IsAt client.old.transcript steps → IsAt client.new.transcript (steps ++ reads (account_of side) customer value ∷ [])) }
+    ensures err { IfErr result (λ why. WasRefused why client.old.transcript client.new.transcript) }
 {
     client.get(rt, side.table(), customer)
 }
@@ -56,8 +60,9 @@ pub fn find<'a, S: SharedSession, T: Turns, R: Wait>(
     requires law { SameLaw S.law sound_law }
     requires client { IsClient S.stands S.seat S.own client.old }
     ensures on { GoesOn S.stands S.seat S.own S.ends T.told client.old client.new }
-    ensures kept { AllCommitted IsOfTellers client.old.transcript → AllCommitted IsOfTellers client.new.transcript }
+    ensures went { Went 0 [] client.old.transcript client.new.transcript }
     ensures at { IfOk result (λ found. (steps : List Step) → IsAt client.old.transcript steps → IsAt client.new.transcript (steps ++ finds (account_of side) low high found ∷ [])) }
+    ensures err { IfErr result (λ why. WasRefused why client.old.transcript client.new.transcript) }
 {
     client.scan(rt, side.table(), low, high)
 }
@@ -73,23 +78,24 @@ pub fn write<'a, S: SharedSession, T: Turns, R: Wait>(
     requires law { SameLaw S.law sound_law }
     requires client { IsClient S.stands S.seat S.own client.old }
     ensures on { GoesOn S.stands S.seat S.own S.ends T.told client.old client.new }
-    ensures kept { AllCommitted IsOfTellers client.old.transcript → AllCommitted IsOfTellers client.new.transcript }
+    ensures went { Went 0 [] client.old.transcript client.new.transcript }
     ensures at { OnOk result ((steps : List Step) → IsAt client.old.transcript steps → IsAt client.new.transcript (steps ++ writes (account_of side) customer value ∷ [])) }
+    ensures err { IfErr result (λ why. WasRefused why client.old.transcript client.new.transcript) }
 {
     client.put(rt, side.table(), customer, value)
 }
 
-/// Commits the transaction, which is one of the tellers'.
+/// Commits the transaction.
 pub fn commit<'a, S: SharedSession, T: Turns, R: Wait>(
     rt: &R,
     client: &mut Client<'a, S, T>,
 ) -> Result<Commit, Refusal>
     requires law { SameLaw S.law sound_law }
     requires client { IsClient S.stands S.seat S.own client.old }
-    requires kind { (steps : List Step) × IsAt client.old.transcript steps × IsOfTellers steps }
     ensures on { GoesOn S.stands S.seat S.own S.ends T.told client.old client.new }
-    ensures kept { AllCommitted IsOfTellers client.old.transcript → AllCommitted IsOfTellers client.new.transcript }
-    ensures last { OnOk result ((steps : List Step) → IsAt client.old.transcript steps → CommittedAt steps client.new.transcript) }
+    ensures undone { IfErr result (λ _. Went 0 [] client.old.transcript client.new.transcript) }
+    ensures done { OnOk result ((steps : List Step) → IsAt client.old.transcript steps → Commits steps client.old.transcript client.new.transcript) }
+    ensures err { IfErr result (λ why. WasRefused why client.old.transcript client.new.transcript) }
 {
     client.commit(rt)
 }
@@ -102,7 +108,7 @@ fn end<'a, S: SharedSession, T: Turns, R: Wait>(
     requires law { SameLaw S.law sound_law }
     requires client { IsClient S.stands S.seat S.own client.old }
     ensures on { GoesOn S.stands S.seat S.own S.ends T.told client.old client.new }
-    ensures kept { AllCommitted IsOfTellers client.old.transcript → AllCommitted IsOfTellers client.new.transcript }
+    ensures went { Went 0 [] client.old.transcript client.new.transcript }
 {
     client.abort(rt)
 }
@@ -112,7 +118,7 @@ pub fn give_up<'a, S: SharedSession, T: Turns, R: Wait>(rt: &R, client: &mut Cli
     requires law { SameLaw S.law sound_law }
     requires client { IsClient S.stands S.seat S.own client.old }
     ensures on { GoesOn S.stands S.seat S.own S.ends T.told client.old client.new }
-    ensures kept { AllCommitted IsOfTellers client.old.transcript → AllCommitted IsOfTellers client.new.transcript }
+    ensures went { Went 0 [] client.old.transcript client.new.transcript }
 {
     let _ = end(rt, client);
 }

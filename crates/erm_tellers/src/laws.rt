@@ -2,12 +2,20 @@
 ghost use Rattle.erm_accounts.specs.Accounts.{AreSolvent};
 ghost use Rattle.erm_invariant.specs.Invariant.{Keeps};
 ghost use Rattle.erm_model.specs.Run.{Step};
-ghost use Rattle.erm_tellers.specs.Laws.{TellersStaySolvent};
+ghost use Rattle.erm_tellers.specs.Laws.{AuditsShowTotals, TellersMoveTotals, TellersStaySolvent, TransfersKeepTotals};
+ghost use Rattle.erm_tellers.specs.Moves.{TransactionsMoveTotals};
 ghost use Rattle.erm_tellers.specs.Tellers.{IsOfTellers};
 ghost use Rattle.std.specs.Prelude.{List};
 
-use erm_accounts::{Solvency, transactions_keep_solvency};
-use erm_client_invariant::invariants_last_for_clients;
+use erm_accounts::{
+    Solvency, audits_leave_totals, deposits_raise_totals, found_totals_are_totals,
+    transactions_keep_solvency, withdrawals_lower_totals,
+};
+use erm_client_invariant::{
+    Kind, clients_are_serial, commits_are_of_kind, invariants_last_for_clients,
+    told_commits_are_there,
+};
+use erm_invariant::Invariant;
 
 /// Each of the tellers' transactions leaves each customer solvent, where it is run alone.
 pub fn tellers_keep_solvency()
@@ -22,4 +30,63 @@ pub fn tellers_stay_solvent()
 {
     tellers_keep_solvency();
     invariants_last_for_clients::<Solvency>();
+}
+
+/// The tellers' transactions, as a kind.
+pub struct Tellers;
+
+impl Kind for Tellers {
+    ghost use Rattle.erm_tellers.specs.Tellers.{IsOfTellers};
+
+    ghost has = { λ _ steps. IsOfTellers steps };
+}
+
+/// The invariant that customers with numbers from `low` to `high` have this total.
+pub struct Total {
+    pub low: u64,
+    pub high: u64,
+    pub total: u128,
+}
+
+impl Invariant for Total {
+    ghost use Rattle.std.specs.Prelude.{◌≡◌};
+    ghost use Rattle.erm_accounts.specs.Totals.{total};
+
+    ghost holds = { λ t m. total m t.low t.high ≡ t.total };
+}
+
+/// Each of the tellers' transactions that is run alone moves the total of the customers of each range by what it brings to them and takes from them: a
+/// deposit raises it, a withdrawal lowers it, and a transfer among them, as an audit, leaves it.
+pub fn transactions_move_totals()
+    ensures { TransactionsMoveTotals }
+{
+    deposits_raise_totals();
+    withdrawals_lower_totals();
+    audits_leave_totals();
+}
+
+/// So whatever the interleaving, after each of the commits in their serial order the total is the opening's with what came and what went so far.
+pub fn tellers_move_totals()
+    ensures { TellersMoveTotals }
+{
+    transactions_move_totals();
+    commits_are_of_kind::<Tellers>();
+    clients_are_serial();
+}
+
+/// And where all commits are transfers among these customers, and audits, it is kept.
+pub fn transfers_keep_totals()
+    ensures { TransfersKeepTotals }
+{
+    transactions_move_totals();
+    invariants_last_for_clients::<Total>();
+}
+
+/// Each audit that committed shows the customers' accounts, and so their total, as they were at its place in the serial order.
+pub fn audits_show_totals()
+    ensures { AuditsShowTotals }
+{
+    told_commits_are_there();
+    clients_are_serial();
+    found_totals_are_totals();
 }

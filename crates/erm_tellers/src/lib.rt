@@ -3,9 +3,14 @@
 
 mod dealing;
 mod laws;
+mod shown;
 mod side;
 mod tellers;
 
-pub use laws::{tellers_keep_solvency, tellers_stay_solvent};
+pub use laws::{
+    Tellers, Total, audits_show_totals, tellers_keep_solvency, tellers_move_totals,
+    tellers_stay_solvent, transactions_move_totals, transfers_keep_totals,
+};
+pub use shown::total_of;
 pub use side::Side;
 pub use tellers::{Holder, Outcome, Task, audit, serve};

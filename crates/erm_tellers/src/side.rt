@@ -1,6 +1,7 @@
 //! The two accounts of a customer, and what they hold.
-ghost use Rattle.std.specs.Prelude.{◌≡◌, ◌+◌, ◌≤◌, ◌^◌, IfSome, Some};
+ghost use Rattle.std.specs.Prelude.{◌≡◌, ◌+◌, ◌<◌, ◌≤◌, ◌^◌, ◌⊎◌, IfNone, IfSome, Some};
 ghost use Rattle.erm_accounts.specs.Accounts.{beside, raised, table_of};
+ghost use Rattle.erm_tellers.specs.Denials.{IsUnreadable, MayNotAdd, MayNotTake};
 ghost use Rattle.erm_tellers.specs.Tellers.{account_of};
 
 use erm_model::Value;
@@ -34,17 +35,25 @@ impl Side {
     }
 }
 
-// The balance of an account, with 2 ^ 63 added to it, by the value that is kept; or `None` where that isn't one of eight bytes. Where none is kept the
-// balance is zero.
-fn raised_in(value: &Option<Value>) -> Option<u64>
-    ensures { IfSome result (λ balance. raised value.now ≡ balance) }
+/// The balance that a value keeps, with 2 ^ 63 added to it; or `None` where it isn't one of eight bytes.
+pub fn balance_in(value: &Value) -> Option<u64>
+    ensures some { IfSome result (λ balance. raised (Some value.now) ≡ balance) }
+    ensures none { IfNone result (IsUnreadable (Some value.now)) }
 {
-    let Some(value) = value else {
-        return Some(1 << 63);
-    };
     match <[u8; 8]>::try_from(value.as_slice()) {
         Ok(bytes) => Some(u64::from_be_bytes(bytes)),
         Err(_) => None,
+    }
+}
+
+// The balance of an account, by what is kept: where nothing is, it is zero.
+fn raised_in(value: &Option<Value>) -> Option<u64>
+    ensures some { IfSome result (λ balance. raised value.now ≡ balance) }
+    ensures none { IfNone result (IsUnreadable value.now) }
+{
+    match value {
+        Some(value) => balance_in(value),
+        None => Some(1 << 63),
     }
 }
 
@@ -59,6 +68,7 @@ fn value_of(balance: u64) -> Value
 fn lowered(own: u64, other: u64, amount: u64) -> Option<u64>
     ensures left { IfSome result (λ left. left + amount ≡ own) }
     ensures covered { IfSome result (λ left. 2 ^ 64 + amount ≤ own + other) }
+    ensures none { IfNone result ((own < amount) ⊎ (own + other < 2 ^ 64 + amount)) }
 {
     let left = own.checked_sub(amount)?;
     if other <= u64::MAX - left {
@@ -71,6 +81,7 @@ fn lowered(own: u64, other: u64, amount: u64) -> Option<u64>
 pub fn taken(own: &Option<Value>, other: &Option<Value>, amount: u64) -> Option<Value>
     ensures left { IfSome result (λ left. raised (Some left) + amount ≡ raised own.now) }
     ensures covered { IfSome result (λ left. 2 ^ 64 + amount ≤ raised own.now + raised other.now) }
+    ensures none { IfNone result (MayNotTake amount own.now other.now) }
 {
     let balance = raised_in(own)?;
     let beside = raised_in(other)?;
@@ -80,7 +91,8 @@ pub fn taken(own: &Option<Value>, other: &Option<Value>, amount: u64) -> Option<
 
 /// What is kept of an account after an amount is added to it, or `None` where what is kept of it doesn't allow it.
 pub fn added(own: &Option<Value>, amount: u64) -> Option<Value>
-    ensures { IfSome result (λ more. raised (Some more) ≡ raised own.now + amount) }
+    ensures more { IfSome result (λ more. raised (Some more) ≡ raised own.now + amount) }
+    ensures none { IfNone result (MayNotAdd amount own.now) }
 {
     let balance = raised_in(own)?;
     let more = balance.checked_add(amount)?;

@@ -1,11 +1,13 @@
 //! What a teller is asked for.
-ghost use Rattle.std.specs.Prelude.{◌≡◌, ◌≢◌, ◌+◌, ◌≤◌, ◌^◌, IfOk, IfSome, Some};
+ghost use Rattle.std.specs.Prelude.{◌≡◌, ◌≢◌, ◌+◌, ◌≤◌, ◌^◌, ◌⊎◌, IfNone, IfOk, IfSome, IsErr, Some, false, max, true};
 ghost use Rattle.erm_accounts.specs.Accounts.{raised};
 ghost use Rattle.erm_client.specs.Clients.{GoesOn, IsClient};
 ghost use Rattle.erm_client.specs.Dealings.{AllCommitted};
 ghost use Rattle.erm_model.specs.RowTransaction.{SameLaw};
 ghost use Rattle.erm_node.specs.Sound.{sound_law};
-ghost use Rattle.erm_tellers.specs.Tellers.{Audits, Deposits, IsOfTellers, Serves, Transfers, WasDone, Withdraws};
+ghost use Rattle.erm_tellers.specs.Denials.{MayNotAdd, MayNotTake};
+ghost use Rattle.erm_tellers.specs.Served.{Audited, Served};
+ghost use Rattle.erm_tellers.specs.Tellers.{Audits, IsOfTellers, Serves, WasDone};
 
 use crate::Side;
 use crate::dealing::{begin, commit, find, give_up, read, write};
@@ -54,8 +56,17 @@ pub enum Outcome {
     Short,
 }
 
+// Whether it was done.
+fn is_done(outcome: &Result<Outcome, Refusal>) -> bool
+    ensures { result ≡ false → outcome.now ≢ Ok Outcome.Done }
+{
+    matches!(outcome, Ok(Outcome::Done))
+}
+
 // Whether it may go otherwise when it is tried again: another session was in its way.
-fn is_passing(outcome: &Result<Outcome, Refusal>) -> bool {
+fn is_passing(outcome: &Result<Outcome, Refusal>) -> bool
+    ensures { result ≡ true → IsErr outcome.now }
+{
     matches!(
         outcome,
         Err(Refusal::Owned { .. } | Refusal::Newer { .. } | Refusal::Excluded { .. })
@@ -71,10 +82,8 @@ fn take<'a, S: SharedSession, T: Turns, R: Wait>(
 ) -> Result<Outcome, Refusal>
     requires law { SameLaw S.law sound_law }
     requires client { IsClient S.stands S.seat S.own client.old }
-    requires kept { AllCommitted IsOfTellers client.old.transcript }
     ensures on { GoesOn S.stands S.seat S.own S.ends T.told client.old client.new }
-    ensures kept { AllCommitted IsOfTellers client.new.transcript }
-    ensures done { result ≡ Ok Outcome.Done → WasDone (Withdraws holder amount) client.new.transcript }
+    ensures ended { Served (Task.Withdraw holder amount) 1 result client.old.transcript client.new.transcript }
 {
     begin(rt, client)?;
     let own = read(rt, client, holder.side, holder.customer)?;
@@ -96,10 +105,8 @@ fn add<'a, S: SharedSession, T: Turns, R: Wait>(
 ) -> Result<Outcome, Refusal>
     requires law { SameLaw S.law sound_law }
     requires client { IsClient S.stands S.seat S.own client.old }
-    requires kept { AllCommitted IsOfTellers client.old.transcript }
     ensures on { GoesOn S.stands S.seat S.own S.ends T.told client.old client.new }
-    ensures kept { AllCommitted IsOfTellers client.new.transcript }
-    ensures done { result ≡ Ok Outcome.Done → WasDone (Deposits holder amount) client.new.transcript }
+    ensures ended { Served (Task.Deposit holder amount) 1 result client.old.transcript client.new.transcript }
 {
     begin(rt, client)?;
     let own = read(rt, client, holder.side, holder.customer)?;
@@ -125,6 +132,7 @@ fn moved(
     ensures left { IfSome result (λ both. raised (Some both.0) + amount ≡ raised own.now) }
     ensures covered { IfSome result (λ both. 2 ^ 64 + amount ≤ raised own.now + raised other.now) }
     ensures more { IfSome result (λ both. raised (Some both.1) ≡ raised there.now + amount) }
+    ensures none { IfNone result ((payer.customer ≡ payee.customer) ⊎ MayNotTake amount own.now other.now ⊎ MayNotAdd amount there.now) }
 {
     if payer.customer == payee.customer {
         return None;
@@ -144,10 +152,8 @@ fn transfer<'a, S: SharedSession, T: Turns, R: Wait>(
 ) -> Result<Outcome, Refusal>
     requires law { SameLaw S.law sound_law }
     requires client { IsClient S.stands S.seat S.own client.old }
-    requires kept { AllCommitted IsOfTellers client.old.transcript }
     ensures on { GoesOn S.stands S.seat S.own S.ends T.told client.old client.new }
-    ensures kept { AllCommitted IsOfTellers client.new.transcript }
-    ensures done { result ≡ Ok Outcome.Done → WasDone (Transfers payer payee amount) client.new.transcript }
+    ensures ended { Served (Task.Transfer payer payee amount) 1 result client.old.transcript client.new.transcript }
 {
     begin(rt, client)?;
     let own = read(rt, client, payer.side, payer.customer)?;
@@ -171,10 +177,8 @@ fn attempt<'a, S: SharedSession, T: Turns, R: Wait>(
 ) -> Result<Outcome, Refusal>
     requires law { SameLaw S.law sound_law }
     requires client { IsClient S.stands S.seat S.own client.old }
-    requires kept { AllCommitted IsOfTellers client.old.transcript }
     ensures on { GoesOn S.stands S.seat S.own S.ends T.told client.old client.new }
-    ensures kept { AllCommitted IsOfTellers client.new.transcript }
-    ensures done { result ≡ Ok Outcome.Done → WasDone (Serves task) client.new.transcript }
+    ensures ended { Served task 1 result client.old.transcript client.new.transcript }
 {
     match task {
         Task::Withdraw { holder, amount } => take(rt, client, holder, amount),
@@ -195,13 +199,11 @@ fn try_once<'a, S: SharedSession, T: Turns, R: Wait>(
 ) -> Result<Outcome, Refusal>
     requires law { SameLaw S.law sound_law }
     requires client { IsClient S.stands S.seat S.own client.old }
-    requires kept { AllCommitted IsOfTellers client.old.transcript }
     ensures on { GoesOn S.stands S.seat S.own S.ends T.told client.old client.new }
-    ensures kept { AllCommitted IsOfTellers client.new.transcript }
-    ensures done { result ≡ Ok Outcome.Done → WasDone (Serves task) client.new.transcript }
+    ensures ended { Served task 1 result client.old.transcript client.new.transcript }
 {
     let outcome = attempt(rt, client, task);
-    if let Ok(Outcome::Done) = outcome {
+    if is_done(&outcome) {
         return outcome;
     }
     give_up(rt, client);
@@ -220,10 +222,11 @@ pub fn serve<'a, S: SharedSession, T: Turns, R: Wait>(
     requires kept { AllCommitted IsOfTellers client.old.transcript }
     ensures on { GoesOn S.stands S.seat S.own S.ends T.told client.old client.new }
     ensures kept { AllCommitted IsOfTellers client.new.transcript }
+    ensures ended { Served task (max tries 1) result client.old.transcript client.new.transcript }
     ensures done { result ≡ Ok Outcome.Done → WasDone (Serves task) client.new.transcript }
 {
     let mut outcome = try_once(rt, client, task);
-    'tries: for _ in 1..tries {
+    'tries: for _tried in 1..tries {
         if !is_passing(&outcome) {
             return outcome;
         }
@@ -241,10 +244,8 @@ fn look<'a, S: SharedSession, T: Turns, R: Wait>(
 ) -> Result<(Pairs, Pairs), Refusal>
     requires law { SameLaw S.law sound_law }
     requires client { IsClient S.stands S.seat S.own client.old }
-    requires kept { AllCommitted IsOfTellers client.old.transcript }
     ensures on { GoesOn S.stands S.seat S.own S.ends T.told client.old client.new }
-    ensures kept { AllCommitted IsOfTellers client.new.transcript }
-    ensures done { IfOk result (λ both. WasDone (Audits low high both.0 both.1) client.new.transcript) }
+    ensures ended { Audited low high result client.old.transcript client.new.transcript }
 {
     begin(rt, client)?;
     let current = find(rt, client, Side::Current, low, high)?;
@@ -266,6 +267,7 @@ pub fn audit<'a, S: SharedSession, T: Turns, R: Wait>(
     requires kept { AllCommitted IsOfTellers client.old.transcript }
     ensures on { GoesOn S.stands S.seat S.own S.ends T.told client.old client.new }
     ensures kept { AllCommitted IsOfTellers client.new.transcript }
+    ensures ended { Audited low high result client.old.transcript client.new.transcript }
     ensures done { IfOk result (λ both. WasDone (Audits low high both.0 both.1) client.new.transcript) }
 {
     match look(rt, client, low, high) {

@@ -1,10 +1,12 @@
+use Rattle.erm_script.specs.declared.script.Command.TheVariants as command
 use Rattle.erm_tellers.proofs.dealing.commit.Goals as goal
-use Rattle.erm_tellers.proofs.Kept.{committed_at, committed_kept}
-use Rattle.erm_tellers.specs.Tellers.{IsOfTellers}
+use Rattle.erm_tellers.proofs.Kept.{committed_by, refused_by, undone_by}
 
-pub returns-clause-kept : goal.returns-clause-kept
-returns-clause-kept g c = committed_kept IsOfTellers c.args.client.now.transcript c.commit.new.self.transcript c.requires.client.transcript_ok c.commit.result
-    c.requires.kind.0 c.requires.kind.1 c.requires.kind.2 c.commit.ensures.ok c.commit.ensures.err
+pub returns-clause-undone : goal.returns-clause-undone
+returns-clause-undone g c = undone_by c.args.client.now.transcript c.commit.new.self.transcript c.requires.client.transcript_ok command.Commit c.commit.result c.commit.ensures.err
 
-pub returns-clause-last : goal.returns-clause-last
-returns-clause-last g c = committed_at c.args.client.now.transcript c.commit.new.self.transcript c.requires.client.transcript_ok c.commit.result c.commit.ensures.ok
+pub returns-clause-done : goal.returns-clause-done
+returns-clause-done g c = committed_by c.args.client.now.transcript c.commit.new.self.transcript c.requires.client.transcript_ok c.commit.result c.commit.ensures.ok
+
+pub returns-clause-err : goal.returns-clause-err
+returns-clause-err g c = refused_by c.args.client.now.transcript c.commit.new.self.transcript c.requires.client.transcript_ok command.Commit c.commit.result c.commit.ensures.err

@@ -1,8 +1,19 @@
-use Rattle.erm_client.proofs.Onward.{goes_then}
+use Rattle.std.proofs.Common.{Err, Ok}
+use Rattle.erm_tellers.proofs.Behind.{audited_done, audited_kept, gave_up_over, goes}
 use Rattle.erm_tellers.proofs.tellers.audit.Goals as goal
 
+pub returns-in-Ok-clause-kept : goal.returns-in-Ok-clause-kept
+returns-in-Ok-clause-kept g c = audited_kept c.args.low c.args.high (Ok c.in-Ok.both) c.args.client.now.transcript c.look.new.client.transcript c.in-Ok.ensures.ended c.requires.kept
+
+pub returns-in-Ok-clause-done : goal.returns-in-Ok-clause-done
+returns-in-Ok-clause-done g c = audited_done c.args.low c.args.high (Ok c.in-Ok.both) c.args.client.now.transcript c.look.new.client.transcript c.in-Ok.ensures.ended
+
 pub returns-in-Err-clause-on : goal.returns-in-Err-clause-on
-returns-in-Err-clause-on g c = goes_then g.S.SharedSession.stands g.S.SharedSession.seat g.S.SharedSession.own g.S.SharedSession.ends g.T.Turns.told c.args.client.now c.look.new.client c.give_up.new.client c.look.ensures.on c.give_up.ensures.on
+returns-in-Err-clause-on g c = goes c.look.ensures.on c.give_up.ensures.on
+
+pub returns-in-Err-clause-ended : goal.returns-in-Err-clause-ended
+returns-in-Err-clause-ended g c = gave_up_over c.in-Err.ensures.ended c.give_up.ensures.went
 
 pub returns-in-Err-clause-kept : goal.returns-in-Err-clause-kept
-returns-in-Err-clause-kept g c = c.give_up.ensures.kept c.look.ensures.kept
+returns-in-Err-clause-kept g c =
+    audited_kept c.args.low c.args.high (Err c.in-Err.why) c.args.client.now.transcript c.give_up.new.client.transcript (gave_up_over c.in-Err.ensures.ended c.give_up.ensures.went) c.requires.kept

@@ -1,51 +1,38 @@
-use Rattle.std.proofs.Common.{◌≡◌, [], ◌∷◌, inl, inr, refl}
-use Rattle.std.proofs.lemmas.List.Elements.{All-cons, All-nil}
+use Rattle.std.proofs.Common.{[], ◌∷◌, refl}
 use Rattle.erm_accounts.specs.Accounts.{Current, Savings}
-use Rattle.erm_client.proofs.Onward.{goes_then}
-use Rattle.erm_invariant.specs.Invariant.{IsRead}
-use Rattle.erm_model.specs.Run.{Step}
+use Rattle.erm_client.proofs.Stretched.{went_then}
+use Rattle.erm_tellers.proofs.Behind.{audited_no, did_audit, gave_up, gave_up_now, goes}
 use Rattle.erm_tellers.proofs.tellers.look.Goals as goal
 use Rattle.erm_tellers.specs.Tellers.{finds}
 
-pub returns-in_err-begin-clause-kept : goal.returns-in_err-begin-clause-kept
-returns-in_err-begin-clause-kept g c = (c.begin.ensures.kept c.requires.kept)
+pub returns-in_err-begin-clause-ended : goal.returns-in_err-begin-clause-ended
+returns-in_err-begin-clause-ended g c = audited_no c.args.low c.args.high c.from_residual.result c.from_residual.ensures (gave_up_now c.begin.ensures.went c.in_err-begin.ensures.err)
 
-pub returns-in_err-current-clause-kept : goal.returns-in_err-current-clause-kept
-returns-in_err-current-clause-kept g c = (c.find.ensures.kept (c.begin.ensures.kept c.requires.kept))
+pub returns-in_err-current-clause-on : goal.returns-in_err-current-clause-on
+returns-in_err-current-clause-on g c = goes c.begin.ensures.on c.find.ensures.on
+
+pub returns-in_err-current-clause-ended : goal.returns-in_err-current-clause-ended
+returns-in_err-current-clause-ended g c = audited_no c.args.low c.args.high c.from_residual-in_err-current.result c.from_residual-in_err-current.ensures (gave_up c.begin.ensures.went c.find.ensures.went c.in_err-current.ensures.err)
 
 pub returns-in_err-savings-clause-on : goal.returns-in_err-savings-clause-on
-returns-in_err-savings-clause-on g c = (goes_then g.S.SharedSession.stands g.S.SharedSession.seat g.S.SharedSession.own g.S.SharedSession.ends g.T.Turns.told c.args.client.now c.find.new.client c.find-2.new.client (goes_then g.S.SharedSession.stands g.S.SharedSession.seat g.S.SharedSession.own g.S.SharedSession.ends g.T.Turns.told c.args.client.now c.begin.new.client c.find.new.client c.begin.ensures.on c.find.ensures.on) c.find-2.ensures.on)
+returns-in_err-savings-clause-on g c = goes (goes c.begin.ensures.on c.find.ensures.on) c.find-2.ensures.on
 
-pub returns-in_err-savings-clause-kept : goal.returns-in_err-savings-clause-kept
-returns-in_err-savings-clause-kept g c = (c.find-2.ensures.kept (c.find.ensures.kept (c.begin.ensures.kept c.requires.kept)))
+pub returns-in_err-savings-clause-ended : goal.returns-in_err-savings-clause-ended
+returns-in_err-savings-clause-ended g c = audited_no c.args.low c.args.high c.from_residual-in_err-savings.result c.from_residual-in_err-savings.ensures (gave_up (went_then c.begin.ensures.went c.find.ensures.went) c.find-2.ensures.went c.in_err-savings.ensures.err)
 
 pub returns-in_err-commit-clause-on : goal.returns-in_err-commit-clause-on
-returns-in_err-commit-clause-on g c = (goes_then g.S.SharedSession.stands g.S.SharedSession.seat g.S.SharedSession.own g.S.SharedSession.ends g.T.Turns.told c.args.client.now c.find-2.new.client c.commit.new.client (goes_then g.S.SharedSession.stands g.S.SharedSession.seat g.S.SharedSession.own g.S.SharedSession.ends g.T.Turns.told c.args.client.now c.find.new.client c.find-2.new.client (goes_then g.S.SharedSession.stands g.S.SharedSession.seat g.S.SharedSession.own g.S.SharedSession.ends g.T.Turns.told c.args.client.now c.begin.new.client c.find.new.client c.begin.ensures.on c.find.ensures.on) c.find-2.ensures.on) c.commit.ensures.on)
+returns-in_err-commit-clause-on g c = goes (goes (goes c.begin.ensures.on c.find.ensures.on) c.find-2.ensures.on) c.commit.ensures.on
 
-pub returns-in_err-commit-clause-kept : goal.returns-in_err-commit-clause-kept
-returns-in_err-commit-clause-kept g c = (c.commit.ensures.kept (c.find-2.ensures.kept (c.find.ensures.kept (c.begin.ensures.kept c.requires.kept))))
+pub returns-in_err-commit-clause-ended : goal.returns-in_err-commit-clause-ended
+returns-in_err-commit-clause-ended g c = audited_no c.args.low c.args.high c.from_residual-in_err-commit.result c.from_residual-in_err-commit.ensures (gave_up (went_then (went_then c.begin.ensures.went c.find.ensures.went) c.find-2.ensures.went) c.in_err-commit.ensures.undone c.in_err-commit.ensures.err)
 
 pub returns-clause-on : goal.returns-clause-on
-returns-clause-on g c = (goes_then g.S.SharedSession.stands g.S.SharedSession.seat g.S.SharedSession.own g.S.SharedSession.ends g.T.Turns.told c.args.client.now c.find-2.new.client c.commit.new.client (goes_then g.S.SharedSession.stands g.S.SharedSession.seat g.S.SharedSession.own g.S.SharedSession.ends g.T.Turns.told c.args.client.now c.find.new.client c.find-2.new.client (goes_then g.S.SharedSession.stands g.S.SharedSession.seat g.S.SharedSession.own g.S.SharedSession.ends g.T.Turns.told c.args.client.now c.begin.new.client c.find.new.client c.begin.ensures.on c.find.ensures.on) c.find-2.ensures.on) c.commit.ensures.on)
+returns-clause-on g c = goes (goes (goes c.begin.ensures.on c.find.ensures.on) c.find-2.ensures.on) c.commit.ensures.on
 
-pub returns-clause-kept : goal.returns-clause-kept
-returns-clause-kept g c = (c.commit.ensures.kept (c.find-2.ensures.kept (c.find.ensures.kept (c.begin.ensures.kept c.requires.kept))))
-
-pub commit-requires-clause-kind : goal.commit-requires-clause-kind
-commit-requires-clause-kind g c =
+pub returns-clause-ended : goal.returns-clause-ended
+returns-clause-ended g c =
     let one = finds Current c.args.low c.args.high c.in_ok-current.current in
     let two = finds Savings c.args.low c.args.high c.in_ok-savings.savings in
-    let first = c.in_ok-begin.ensures.at in
-    let second = c.in_ok-current.ensures.at [] first in
+    let second = c.in_ok-current.ensures.at [] c.in_ok-begin.ensures.at in
     let third = c.in_ok-savings.ensures.at (one ∷ []) second in
-    let reads = All-cons (λ (step : Step). IsRead step.op) one (two ∷ []) tt (All-cons (λ (step : Step). IsRead step.op) two [] tt (All-nil (λ (step : Step). IsRead step.op))) in
-    (one ∷ two ∷ [], third, inl (inr (inr reads)))
-
-pub returns-clause-done : goal.returns-clause-done
-returns-clause-done g c =
-    let one = finds Current c.args.low c.args.high c.in_ok-current.current in
-    let two = finds Savings c.args.low c.args.high c.in_ok-savings.savings in
-    let first = c.in_ok-begin.ensures.at in
-    let second = c.in_ok-current.ensures.at [] first in
-    let third = c.in_ok-savings.ensures.at (one ∷ []) second in
-    (one ∷ two ∷ [], refl, c.in_ok-commit.ensures.last (one ∷ two ∷ []) third)
+    did_audit (went_then (went_then c.begin.ensures.went c.find.ensures.went) c.find-2.ensures.went) (c.in_ok-commit.ensures.done (one ∷ two ∷ []) third) refl

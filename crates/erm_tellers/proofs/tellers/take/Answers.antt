@@ -1,66 +1,65 @@
-use Rattle.std.proofs.Common.{[], ◌∷◌, inl}
-use Rattle.erm_accounts.specs.Accounts.{reads, writes}
-use Rattle.erm_client.proofs.Onward.{goes_then}
-use Rattle.erm_tellers.proofs.Served.{withdraws}
+use Rattle.std.proofs.Common.{[], ◌∷◌, ap}
+use Rattle.erm_accounts.specs.Accounts.{Account, reads, writes}
+use Rattle.erm_client.proofs.Stretched.{went_then}
+use Rattle.erm_tellers.proofs.Behind.{did_serve, fell_short, gave_up, gave_up_now, goes, served_no}
+use Rattle.erm_tellers.proofs.Asked.{withdraws}
 use Rattle.erm_tellers.proofs.tellers.take.Goals as goal
+use Rattle.erm_tellers.specs.declared.tellers.Task.TheVariants as task
 use Rattle.erm_tellers.specs.Tellers.{account_of}
 
-pub returns-in_err-begin-clause-kept : goal.returns-in_err-begin-clause-kept
-returns-in_err-begin-clause-kept g c = (c.begin.ensures.kept c.requires.kept)
+pub returns-in_err-begin-clause-ended : goal.returns-in_err-begin-clause-ended
+returns-in_err-begin-clause-ended g c = served_no (task.Withdraw c.args.holder c.args.amount) c.from_residual.result c.from_residual.ensures (gave_up_now c.begin.ensures.went c.in_err-begin.ensures.err)
 
-pub returns-in_err-own-clause-kept : goal.returns-in_err-own-clause-kept
-returns-in_err-own-clause-kept g c = (c.read.ensures.kept (c.begin.ensures.kept c.requires.kept))
+pub returns-in_err-own-clause-on : goal.returns-in_err-own-clause-on
+returns-in_err-own-clause-on g c = goes c.begin.ensures.on c.read.ensures.on
+
+pub returns-in_err-own-clause-ended : goal.returns-in_err-own-clause-ended
+returns-in_err-own-clause-ended g c = served_no (task.Withdraw c.args.holder c.args.amount) c.from_residual-in_err-own.result c.from_residual-in_err-own.ensures (gave_up c.begin.ensures.went c.read.ensures.went c.in_err-own.ensures.err)
 
 pub returns-in_err-other-clause-on : goal.returns-in_err-other-clause-on
-returns-in_err-other-clause-on g c = (goes_then g.S.SharedSession.stands g.S.SharedSession.seat g.S.SharedSession.own g.S.SharedSession.ends g.T.Turns.told c.args.client.now c.read.new.client c.read-2.new.client (goes_then g.S.SharedSession.stands g.S.SharedSession.seat g.S.SharedSession.own g.S.SharedSession.ends g.T.Turns.told c.args.client.now c.begin.new.client c.read.new.client c.begin.ensures.on c.read.ensures.on) c.read-2.ensures.on)
+returns-in_err-other-clause-on g c = goes (goes c.begin.ensures.on c.read.ensures.on) c.read-2.ensures.on
 
-pub returns-in_err-other-clause-kept : goal.returns-in_err-other-clause-kept
-returns-in_err-other-clause-kept g c = (c.read-2.ensures.kept (c.read.ensures.kept (c.begin.ensures.kept c.requires.kept)))
-
-pub returns-in_default-clause-on : goal.returns-in_default-clause-on
-returns-in_default-clause-on g c = (goes_then g.S.SharedSession.stands g.S.SharedSession.seat g.S.SharedSession.own g.S.SharedSession.ends g.T.Turns.told c.args.client.now c.read.new.client c.read-2.new.client (goes_then g.S.SharedSession.stands g.S.SharedSession.seat g.S.SharedSession.own g.S.SharedSession.ends g.T.Turns.told c.args.client.now c.begin.new.client c.read.new.client c.begin.ensures.on c.read.ensures.on) c.read-2.ensures.on)
-
-pub returns-in_default-clause-kept : goal.returns-in_default-clause-kept
-returns-in_default-clause-kept g c = (c.read-2.ensures.kept (c.read.ensures.kept (c.begin.ensures.kept c.requires.kept)))
+pub returns-in_err-other-clause-ended : goal.returns-in_err-other-clause-ended
+returns-in_err-other-clause-ended g c = served_no (task.Withdraw c.args.holder c.args.amount) c.from_residual-in_err-other.result c.from_residual-in_err-other.ensures (gave_up (went_then c.begin.ensures.went c.read.ensures.went) c.read-2.ensures.went c.in_err-other.ensures.err)
 
 pub returns-in_err-write-clause-on : goal.returns-in_err-write-clause-on
-returns-in_err-write-clause-on g c = (goes_then g.S.SharedSession.stands g.S.SharedSession.seat g.S.SharedSession.own g.S.SharedSession.ends g.T.Turns.told c.args.client.now c.read-2.new.client c.write.new.client (goes_then g.S.SharedSession.stands g.S.SharedSession.seat g.S.SharedSession.own g.S.SharedSession.ends g.T.Turns.told c.args.client.now c.read.new.client c.read-2.new.client (goes_then g.S.SharedSession.stands g.S.SharedSession.seat g.S.SharedSession.own g.S.SharedSession.ends g.T.Turns.told c.args.client.now c.begin.new.client c.read.new.client c.begin.ensures.on c.read.ensures.on) c.read-2.ensures.on) c.write.ensures.on)
+returns-in_err-write-clause-on g c = goes (goes (goes c.begin.ensures.on c.read.ensures.on) c.read-2.ensures.on) c.write.ensures.on
 
-pub returns-in_err-write-clause-kept : goal.returns-in_err-write-clause-kept
-returns-in_err-write-clause-kept g c = (c.write.ensures.kept (c.read-2.ensures.kept (c.read.ensures.kept (c.begin.ensures.kept c.requires.kept))))
+pub returns-in_err-write-clause-ended : goal.returns-in_err-write-clause-ended
+returns-in_err-write-clause-ended g c = served_no (task.Withdraw c.args.holder c.args.amount) c.from_residual-in_err-write.result c.from_residual-in_err-write.ensures (gave_up (went_then (went_then c.begin.ensures.went c.read.ensures.went) c.read-2.ensures.went) c.write.ensures.went c.in_err-write.ensures.err)
 
 pub returns-in_err-commit-clause-on : goal.returns-in_err-commit-clause-on
-returns-in_err-commit-clause-on g c = (goes_then g.S.SharedSession.stands g.S.SharedSession.seat g.S.SharedSession.own g.S.SharedSession.ends g.T.Turns.told c.args.client.now c.write.new.client c.commit.new.client (goes_then g.S.SharedSession.stands g.S.SharedSession.seat g.S.SharedSession.own g.S.SharedSession.ends g.T.Turns.told c.args.client.now c.read-2.new.client c.write.new.client (goes_then g.S.SharedSession.stands g.S.SharedSession.seat g.S.SharedSession.own g.S.SharedSession.ends g.T.Turns.told c.args.client.now c.read.new.client c.read-2.new.client (goes_then g.S.SharedSession.stands g.S.SharedSession.seat g.S.SharedSession.own g.S.SharedSession.ends g.T.Turns.told c.args.client.now c.begin.new.client c.read.new.client c.begin.ensures.on c.read.ensures.on) c.read-2.ensures.on) c.write.ensures.on) c.commit.ensures.on)
+returns-in_err-commit-clause-on g c = goes (goes (goes (goes c.begin.ensures.on c.read.ensures.on) c.read-2.ensures.on) c.write.ensures.on) c.commit.ensures.on
 
-pub returns-in_err-commit-clause-kept : goal.returns-in_err-commit-clause-kept
-returns-in_err-commit-clause-kept g c = (c.commit.ensures.kept (c.write.ensures.kept (c.read-2.ensures.kept (c.read.ensures.kept (c.begin.ensures.kept c.requires.kept)))))
+pub returns-in_err-commit-clause-ended : goal.returns-in_err-commit-clause-ended
+returns-in_err-commit-clause-ended g c = served_no (task.Withdraw c.args.holder c.args.amount) c.from_residual-in_err-commit.result c.from_residual-in_err-commit.ensures (gave_up (went_then (went_then (went_then c.begin.ensures.went c.read.ensures.went) c.read-2.ensures.went) c.write.ensures.went) c.in_err-commit.ensures.undone c.in_err-commit.ensures.err)
+
+pub returns-in_default-clause-on : goal.returns-in_default-clause-on
+returns-in_default-clause-on g c = goes (goes c.begin.ensures.on c.read.ensures.on) c.read-2.ensures.on
+
+pub returns-in_default-clause-ended : goal.returns-in_default-clause-ended
+returns-in_default-clause-ended g c =
+    let holder = c.args.holder in
+    let account = account_of holder.side in
+    let one = reads account holder.customer c.in_ok-own.own in
+    let second = c.in_ok-own.ensures.at [] c.in_ok-begin.ensures.at in
+    let third = c.in_ok-other.ensures.at (one ∷ []) second in
+    let two = reads (account_of c.beside.result) holder.customer c.in_ok-other.other in
+    let steps_are = ap (λ (x : Account). one ∷ reads x holder.customer c.in_ok-other.other ∷ []) c.beside.ensures in
+    fell_short {steps = one ∷ two ∷ []} (went_then (went_then c.begin.ensures.went c.read.ensures.went) c.read-2.ensures.went) third (c.in_ok-own.own, c.in_ok-other.other, steps_are, c.in_default.ensures.none)
 
 pub returns-clause-on : goal.returns-clause-on
-returns-clause-on g c = (goes_then g.S.SharedSession.stands g.S.SharedSession.seat g.S.SharedSession.own g.S.SharedSession.ends g.T.Turns.told c.args.client.now c.write.new.client c.commit.new.client (goes_then g.S.SharedSession.stands g.S.SharedSession.seat g.S.SharedSession.own g.S.SharedSession.ends g.T.Turns.told c.args.client.now c.read-2.new.client c.write.new.client (goes_then g.S.SharedSession.stands g.S.SharedSession.seat g.S.SharedSession.own g.S.SharedSession.ends g.T.Turns.told c.args.client.now c.read.new.client c.read-2.new.client (goes_then g.S.SharedSession.stands g.S.SharedSession.seat g.S.SharedSession.own g.S.SharedSession.ends g.T.Turns.told c.args.client.now c.begin.new.client c.read.new.client c.begin.ensures.on c.read.ensures.on) c.read-2.ensures.on) c.write.ensures.on) c.commit.ensures.on)
+returns-clause-on g c = goes (goes (goes (goes c.begin.ensures.on c.read.ensures.on) c.read-2.ensures.on) c.write.ensures.on) c.commit.ensures.on
 
-pub returns-clause-kept : goal.returns-clause-kept
-returns-clause-kept g c = (c.commit.ensures.kept (c.write.ensures.kept (c.read-2.ensures.kept (c.read.ensures.kept (c.begin.ensures.kept c.requires.kept)))))
-
-pub commit-requires-clause-kind : goal.commit-requires-clause-kind
-commit-requires-clause-kind g c =
+pub returns-clause-ended : goal.returns-clause-ended
+returns-clause-ended g c =
     let holder = c.args.holder in
     let account = account_of holder.side in
-    let first = c.in_ok-begin.ensures.at in
-    let second = c.in_ok-own.ensures.at [] first in
-    let third = c.in_ok-other.ensures.at (reads account holder.customer c.in_ok-own.own ∷ []) second in
-    let fourth = c.in_ok-write.ensures.at (reads account holder.customer c.in_ok-own.own ∷ reads (account_of c.beside.result) holder.customer c.in_ok-other.other ∷ []) third in
-    let kind = withdraws holder c.args.amount (account_of c.beside.result) c.in_ok-own.own c.in_ok-other.other c.in-Some.left c.beside.ensures c.in-Some.ensures.left c.in-Some.ensures.covered in
-    let steps = reads account holder.customer c.in_ok-own.own ∷ reads (account_of c.beside.result) holder.customer c.in_ok-other.other ∷ writes account holder.customer c.in-Some.left ∷ [] in
-    (steps, fourth, inl (inl kind.is))
-
-pub returns-clause-done : goal.returns-clause-done
-returns-clause-done g c =
-    let holder = c.args.holder in
-    let account = account_of holder.side in
-    let first = c.in_ok-begin.ensures.at in
-    let second = c.in_ok-own.ensures.at [] first in
-    let third = c.in_ok-other.ensures.at (reads account holder.customer c.in_ok-own.own ∷ []) second in
-    let fourth = c.in_ok-write.ensures.at (reads account holder.customer c.in_ok-own.own ∷ reads (account_of c.beside.result) holder.customer c.in_ok-other.other ∷ []) third in
-    let kind = withdraws holder c.args.amount (account_of c.beside.result) c.in_ok-own.own c.in_ok-other.other c.in-Some.left c.beside.ensures c.in-Some.ensures.left c.in-Some.ensures.covered in
-    let steps = reads account holder.customer c.in_ok-own.own ∷ reads (account_of c.beside.result) holder.customer c.in_ok-other.other ∷ writes account holder.customer c.in-Some.left ∷ [] in
-    λ _. (steps, kind, c.in_ok-commit.ensures.last steps fourth)
+    let one = reads account holder.customer c.in_ok-own.own in
+    let two = reads (account_of c.beside.result) holder.customer c.in_ok-other.other in
+    let three = writes account holder.customer c.in-Some.left in
+    let second = c.in_ok-own.ensures.at [] c.in_ok-begin.ensures.at in
+    let third = c.in_ok-other.ensures.at (one ∷ []) second in
+    let fourth = c.in_ok-write.ensures.at (one ∷ two ∷ []) third in
+    did_serve (went_then (went_then (went_then c.begin.ensures.went c.read.ensures.went) c.read-2.ensures.went) c.write.ensures.went) (c.in_ok-commit.ensures.done (one ∷ two ∷ three ∷ []) fourth)
+    (withdraws holder c.args.amount (account_of c.beside.result) c.in_ok-own.own c.in_ok-other.other c.in-Some.left c.beside.ensures c.in-Some.ensures.left c.in-Some.ensures.covered)

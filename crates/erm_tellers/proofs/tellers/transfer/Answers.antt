@@ -1,60 +1,72 @@
-use Rattle.std.proofs.Common.{[], ◌∷◌, inr}
-use Rattle.erm_accounts.specs.Accounts.{reads, writes}
-use Rattle.erm_client.proofs.Onward.{goes_then}
-use Rattle.erm_tellers.proofs.Served.{transfers}
+use Rattle.std.proofs.Common.{[], ◌∷◌, ap}
+use Rattle.erm_accounts.specs.Accounts.{Account, reads, writes}
+use Rattle.erm_client.proofs.Stretched.{went_then}
+use Rattle.erm_tellers.proofs.Behind.{did_serve, fell_short, gave_up, gave_up_now, goes, served_no}
+use Rattle.erm_tellers.proofs.Asked.{transfers}
 use Rattle.erm_tellers.proofs.tellers.transfer.Goals as goal
+use Rattle.erm_tellers.specs.declared.tellers.Task.TheVariants as task
 use Rattle.erm_tellers.specs.Tellers.{account_of}
 
-pub returns-in_err-begin-clause-kept : goal.returns-in_err-begin-clause-kept
-returns-in_err-begin-clause-kept g c = (c.begin.ensures.kept c.requires.kept)
+pub returns-in_err-begin-clause-ended : goal.returns-in_err-begin-clause-ended
+returns-in_err-begin-clause-ended g c = served_no (task.Transfer c.args.payer c.args.payee c.args.amount) c.from_residual.result c.from_residual.ensures (gave_up_now c.begin.ensures.went c.in_err-begin.ensures.err)
 
-pub returns-in_err-own-clause-kept : goal.returns-in_err-own-clause-kept
-returns-in_err-own-clause-kept g c = (c.read.ensures.kept (c.begin.ensures.kept c.requires.kept))
+pub returns-in_err-own-clause-on : goal.returns-in_err-own-clause-on
+returns-in_err-own-clause-on g c = goes c.begin.ensures.on c.read.ensures.on
+
+pub returns-in_err-own-clause-ended : goal.returns-in_err-own-clause-ended
+returns-in_err-own-clause-ended g c = served_no (task.Transfer c.args.payer c.args.payee c.args.amount) c.from_residual-in_err-own.result c.from_residual-in_err-own.ensures (gave_up c.begin.ensures.went c.read.ensures.went c.in_err-own.ensures.err)
 
 pub returns-in_err-other-clause-on : goal.returns-in_err-other-clause-on
-returns-in_err-other-clause-on g c = (goes_then g.S.SharedSession.stands g.S.SharedSession.seat g.S.SharedSession.own g.S.SharedSession.ends g.T.Turns.told c.args.client.now c.read.new.client c.read-2.new.client (goes_then g.S.SharedSession.stands g.S.SharedSession.seat g.S.SharedSession.own g.S.SharedSession.ends g.T.Turns.told c.args.client.now c.begin.new.client c.read.new.client c.begin.ensures.on c.read.ensures.on) c.read-2.ensures.on)
+returns-in_err-other-clause-on g c = goes (goes c.begin.ensures.on c.read.ensures.on) c.read-2.ensures.on
 
-pub returns-in_err-other-clause-kept : goal.returns-in_err-other-clause-kept
-returns-in_err-other-clause-kept g c = (c.read-2.ensures.kept (c.read.ensures.kept (c.begin.ensures.kept c.requires.kept)))
+pub returns-in_err-other-clause-ended : goal.returns-in_err-other-clause-ended
+returns-in_err-other-clause-ended g c = served_no (task.Transfer c.args.payer c.args.payee c.args.amount) c.from_residual-in_err-other.result c.from_residual-in_err-other.ensures (gave_up (went_then c.begin.ensures.went c.read.ensures.went) c.read-2.ensures.went c.in_err-other.ensures.err)
 
 pub returns-in_err-there-clause-on : goal.returns-in_err-there-clause-on
-returns-in_err-there-clause-on g c = (goes_then g.S.SharedSession.stands g.S.SharedSession.seat g.S.SharedSession.own g.S.SharedSession.ends g.T.Turns.told c.args.client.now c.read-2.new.client c.read-3.new.client (goes_then g.S.SharedSession.stands g.S.SharedSession.seat g.S.SharedSession.own g.S.SharedSession.ends g.T.Turns.told c.args.client.now c.read.new.client c.read-2.new.client (goes_then g.S.SharedSession.stands g.S.SharedSession.seat g.S.SharedSession.own g.S.SharedSession.ends g.T.Turns.told c.args.client.now c.begin.new.client c.read.new.client c.begin.ensures.on c.read.ensures.on) c.read-2.ensures.on) c.read-3.ensures.on)
+returns-in_err-there-clause-on g c = goes (goes (goes c.begin.ensures.on c.read.ensures.on) c.read-2.ensures.on) c.read-3.ensures.on
 
-pub returns-in_err-there-clause-kept : goal.returns-in_err-there-clause-kept
-returns-in_err-there-clause-kept g c = (c.read-3.ensures.kept (c.read-2.ensures.kept (c.read.ensures.kept (c.begin.ensures.kept c.requires.kept))))
-
-pub returns-in_default-clause-on : goal.returns-in_default-clause-on
-returns-in_default-clause-on g c = (goes_then g.S.SharedSession.stands g.S.SharedSession.seat g.S.SharedSession.own g.S.SharedSession.ends g.T.Turns.told c.args.client.now c.read-2.new.client c.read-3.new.client (goes_then g.S.SharedSession.stands g.S.SharedSession.seat g.S.SharedSession.own g.S.SharedSession.ends g.T.Turns.told c.args.client.now c.read.new.client c.read-2.new.client (goes_then g.S.SharedSession.stands g.S.SharedSession.seat g.S.SharedSession.own g.S.SharedSession.ends g.T.Turns.told c.args.client.now c.begin.new.client c.read.new.client c.begin.ensures.on c.read.ensures.on) c.read-2.ensures.on) c.read-3.ensures.on)
-
-pub returns-in_default-clause-kept : goal.returns-in_default-clause-kept
-returns-in_default-clause-kept g c = (c.read-3.ensures.kept (c.read-2.ensures.kept (c.read.ensures.kept (c.begin.ensures.kept c.requires.kept))))
+pub returns-in_err-there-clause-ended : goal.returns-in_err-there-clause-ended
+returns-in_err-there-clause-ended g c = served_no (task.Transfer c.args.payer c.args.payee c.args.amount) c.from_residual-in_err-there.result c.from_residual-in_err-there.ensures (gave_up (went_then (went_then c.begin.ensures.went c.read.ensures.went) c.read-2.ensures.went) c.read-3.ensures.went c.in_err-there.ensures.err)
 
 pub returns-in_err-write-clause-on : goal.returns-in_err-write-clause-on
-returns-in_err-write-clause-on g c = (goes_then g.S.SharedSession.stands g.S.SharedSession.seat g.S.SharedSession.own g.S.SharedSession.ends g.T.Turns.told c.args.client.now c.read-3.new.client c.write.new.client (goes_then g.S.SharedSession.stands g.S.SharedSession.seat g.S.SharedSession.own g.S.SharedSession.ends g.T.Turns.told c.args.client.now c.read-2.new.client c.read-3.new.client (goes_then g.S.SharedSession.stands g.S.SharedSession.seat g.S.SharedSession.own g.S.SharedSession.ends g.T.Turns.told c.args.client.now c.read.new.client c.read-2.new.client (goes_then g.S.SharedSession.stands g.S.SharedSession.seat g.S.SharedSession.own g.S.SharedSession.ends g.T.Turns.told c.args.client.now c.begin.new.client c.read.new.client c.begin.ensures.on c.read.ensures.on) c.read-2.ensures.on) c.read-3.ensures.on) c.write.ensures.on)
+returns-in_err-write-clause-on g c = goes (goes (goes (goes c.begin.ensures.on c.read.ensures.on) c.read-2.ensures.on) c.read-3.ensures.on) c.write.ensures.on
 
-pub returns-in_err-write-clause-kept : goal.returns-in_err-write-clause-kept
-returns-in_err-write-clause-kept g c = (c.write.ensures.kept (c.read-3.ensures.kept (c.read-2.ensures.kept (c.read.ensures.kept (c.begin.ensures.kept c.requires.kept)))))
+pub returns-in_err-write-clause-ended : goal.returns-in_err-write-clause-ended
+returns-in_err-write-clause-ended g c = served_no (task.Transfer c.args.payer c.args.payee c.args.amount) c.from_residual-in_err-write.result c.from_residual-in_err-write.ensures (gave_up (went_then (went_then (went_then c.begin.ensures.went c.read.ensures.went) c.read-2.ensures.went) c.read-3.ensures.went) c.write.ensures.went c.in_err-write.ensures.err)
 
 pub returns-in_err-write-2-clause-on : goal.returns-in_err-write-2-clause-on
-returns-in_err-write-2-clause-on g c = (goes_then g.S.SharedSession.stands g.S.SharedSession.seat g.S.SharedSession.own g.S.SharedSession.ends g.T.Turns.told c.args.client.now c.write.new.client c.write-2.new.client (goes_then g.S.SharedSession.stands g.S.SharedSession.seat g.S.SharedSession.own g.S.SharedSession.ends g.T.Turns.told c.args.client.now c.read-3.new.client c.write.new.client (goes_then g.S.SharedSession.stands g.S.SharedSession.seat g.S.SharedSession.own g.S.SharedSession.ends g.T.Turns.told c.args.client.now c.read-2.new.client c.read-3.new.client (goes_then g.S.SharedSession.stands g.S.SharedSession.seat g.S.SharedSession.own g.S.SharedSession.ends g.T.Turns.told c.args.client.now c.read.new.client c.read-2.new.client (goes_then g.S.SharedSession.stands g.S.SharedSession.seat g.S.SharedSession.own g.S.SharedSession.ends g.T.Turns.told c.args.client.now c.begin.new.client c.read.new.client c.begin.ensures.on c.read.ensures.on) c.read-2.ensures.on) c.read-3.ensures.on) c.write.ensures.on) c.write-2.ensures.on)
+returns-in_err-write-2-clause-on g c = goes (goes (goes (goes (goes c.begin.ensures.on c.read.ensures.on) c.read-2.ensures.on) c.read-3.ensures.on) c.write.ensures.on) c.write-2.ensures.on
 
-pub returns-in_err-write-2-clause-kept : goal.returns-in_err-write-2-clause-kept
-returns-in_err-write-2-clause-kept g c = (c.write-2.ensures.kept (c.write.ensures.kept (c.read-3.ensures.kept (c.read-2.ensures.kept (c.read.ensures.kept (c.begin.ensures.kept c.requires.kept))))))
+pub returns-in_err-write-2-clause-ended : goal.returns-in_err-write-2-clause-ended
+returns-in_err-write-2-clause-ended g c = served_no (task.Transfer c.args.payer c.args.payee c.args.amount) c.from_residual-in_err-write-2.result c.from_residual-in_err-write-2.ensures (gave_up (went_then (went_then (went_then (went_then c.begin.ensures.went c.read.ensures.went) c.read-2.ensures.went) c.read-3.ensures.went) c.write.ensures.went) c.write-2.ensures.went c.in_err-write-2.ensures.err)
 
 pub returns-in_err-commit-clause-on : goal.returns-in_err-commit-clause-on
-returns-in_err-commit-clause-on g c = (goes_then g.S.SharedSession.stands g.S.SharedSession.seat g.S.SharedSession.own g.S.SharedSession.ends g.T.Turns.told c.args.client.now c.write-2.new.client c.commit.new.client (goes_then g.S.SharedSession.stands g.S.SharedSession.seat g.S.SharedSession.own g.S.SharedSession.ends g.T.Turns.told c.args.client.now c.write.new.client c.write-2.new.client (goes_then g.S.SharedSession.stands g.S.SharedSession.seat g.S.SharedSession.own g.S.SharedSession.ends g.T.Turns.told c.args.client.now c.read-3.new.client c.write.new.client (goes_then g.S.SharedSession.stands g.S.SharedSession.seat g.S.SharedSession.own g.S.SharedSession.ends g.T.Turns.told c.args.client.now c.read-2.new.client c.read-3.new.client (goes_then g.S.SharedSession.stands g.S.SharedSession.seat g.S.SharedSession.own g.S.SharedSession.ends g.T.Turns.told c.args.client.now c.read.new.client c.read-2.new.client (goes_then g.S.SharedSession.stands g.S.SharedSession.seat g.S.SharedSession.own g.S.SharedSession.ends g.T.Turns.told c.args.client.now c.begin.new.client c.read.new.client c.begin.ensures.on c.read.ensures.on) c.read-2.ensures.on) c.read-3.ensures.on) c.write.ensures.on) c.write-2.ensures.on) c.commit.ensures.on)
+returns-in_err-commit-clause-on g c = goes (goes (goes (goes (goes (goes c.begin.ensures.on c.read.ensures.on) c.read-2.ensures.on) c.read-3.ensures.on) c.write.ensures.on) c.write-2.ensures.on) c.commit.ensures.on
 
-pub returns-in_err-commit-clause-kept : goal.returns-in_err-commit-clause-kept
-returns-in_err-commit-clause-kept g c = (c.commit.ensures.kept (c.write-2.ensures.kept (c.write.ensures.kept (c.read-3.ensures.kept (c.read-2.ensures.kept (c.read.ensures.kept (c.begin.ensures.kept c.requires.kept)))))))
+pub returns-in_err-commit-clause-ended : goal.returns-in_err-commit-clause-ended
+returns-in_err-commit-clause-ended g c = served_no (task.Transfer c.args.payer c.args.payee c.args.amount) c.from_residual-in_err-commit.result c.from_residual-in_err-commit.ensures (gave_up (went_then (went_then (went_then (went_then (went_then c.begin.ensures.went c.read.ensures.went) c.read-2.ensures.went) c.read-3.ensures.went) c.write.ensures.went) c.write-2.ensures.went) c.in_err-commit.ensures.undone c.in_err-commit.ensures.err)
+
+pub returns-in_default-clause-on : goal.returns-in_default-clause-on
+returns-in_default-clause-on g c = goes (goes (goes c.begin.ensures.on c.read.ensures.on) c.read-2.ensures.on) c.read-3.ensures.on
+
+pub returns-in_default-clause-ended : goal.returns-in_default-clause-ended
+returns-in_default-clause-ended g c =
+    let payer = c.args.payer in
+    let payee = c.args.payee in
+    let one = reads (account_of payer.side) payer.customer c.in_ok-own.own in
+    let two = reads (account_of c.beside.result) payer.customer c.in_ok-other.other in
+    let three = reads (account_of payee.side) payee.customer c.in_ok-there.there in
+    let second = c.in_ok-own.ensures.at [] c.in_ok-begin.ensures.at in
+    let third = c.in_ok-other.ensures.at (one ∷ []) second in
+    let fourth = c.in_ok-there.ensures.at (one ∷ two ∷ []) third in
+    let steps_are = ap (λ (x : Account). one ∷ reads x payer.customer c.in_ok-other.other ∷ three ∷ []) c.beside.ensures in
+    fell_short {steps = one ∷ two ∷ three ∷ []} (went_then (went_then (went_then c.begin.ensures.went c.read.ensures.went) c.read-2.ensures.went) c.read-3.ensures.went) fourth (c.in_ok-own.own, c.in_ok-other.other, c.in_ok-there.there, steps_are, c.in_default.ensures.none)
 
 pub returns-clause-on : goal.returns-clause-on
-returns-clause-on g c = (goes_then g.S.SharedSession.stands g.S.SharedSession.seat g.S.SharedSession.own g.S.SharedSession.ends g.T.Turns.told c.args.client.now c.write-2.new.client c.commit.new.client (goes_then g.S.SharedSession.stands g.S.SharedSession.seat g.S.SharedSession.own g.S.SharedSession.ends g.T.Turns.told c.args.client.now c.write.new.client c.write-2.new.client (goes_then g.S.SharedSession.stands g.S.SharedSession.seat g.S.SharedSession.own g.S.SharedSession.ends g.T.Turns.told c.args.client.now c.read-3.new.client c.write.new.client (goes_then g.S.SharedSession.stands g.S.SharedSession.seat g.S.SharedSession.own g.S.SharedSession.ends g.T.Turns.told c.args.client.now c.read-2.new.client c.read-3.new.client (goes_then g.S.SharedSession.stands g.S.SharedSession.seat g.S.SharedSession.own g.S.SharedSession.ends g.T.Turns.told c.args.client.now c.read.new.client c.read-2.new.client (goes_then g.S.SharedSession.stands g.S.SharedSession.seat g.S.SharedSession.own g.S.SharedSession.ends g.T.Turns.told c.args.client.now c.begin.new.client c.read.new.client c.begin.ensures.on c.read.ensures.on) c.read-2.ensures.on) c.read-3.ensures.on) c.write.ensures.on) c.write-2.ensures.on) c.commit.ensures.on)
+returns-clause-on g c = goes (goes (goes (goes (goes (goes c.begin.ensures.on c.read.ensures.on) c.read-2.ensures.on) c.read-3.ensures.on) c.write.ensures.on) c.write-2.ensures.on) c.commit.ensures.on
 
-pub returns-clause-kept : goal.returns-clause-kept
-returns-clause-kept g c = (c.commit.ensures.kept (c.write-2.ensures.kept (c.write.ensures.kept (c.read-3.ensures.kept (c.read-2.ensures.kept (c.read.ensures.kept (c.begin.ensures.kept c.requires.kept)))))))
-
-pub commit-requires-clause-kind : goal.commit-requires-clause-kind
-commit-requires-clause-kind g c =
+pub returns-clause-ended : goal.returns-clause-ended
+returns-clause-ended g c =
     let payer = c.args.payer in
     let payee = c.args.payee in
     let one = reads (account_of payer.side) payer.customer c.in_ok-own.own in
@@ -62,31 +74,11 @@ commit-requires-clause-kind g c =
     let three = reads (account_of payee.side) payee.customer c.in_ok-there.there in
     let four = writes (account_of payer.side) payer.customer c.in-Some.both.0 in
     let five = writes (account_of payee.side) payee.customer c.in-Some.both.1 in
-    let first = c.in_ok-begin.ensures.at in
-    let second = c.in_ok-own.ensures.at [] first in
+    let second = c.in_ok-own.ensures.at [] c.in_ok-begin.ensures.at in
     let third = c.in_ok-other.ensures.at (one ∷ []) second in
     let fourth = c.in_ok-there.ensures.at (one ∷ two ∷ []) third in
     let fifth = c.in_ok-write.ensures.at (one ∷ two ∷ three ∷ []) fourth in
     let sixth = c.in_ok-write-2.ensures.at (one ∷ two ∷ three ∷ four ∷ []) fifth in
-    let kind = transfers payer payee c.args.amount (account_of c.beside.result) c.in_ok-own.own c.in_ok-other.other c.in_ok-there.there c.in-Some.both.0 c.in-Some.both.1 c.beside.ensures
-    c.in-Some.ensures.apart c.in-Some.ensures.left c.in-Some.ensures.covered c.in-Some.ensures.more in
-    (one ∷ two ∷ three ∷ four ∷ five ∷ [], sixth, inr kind.is)
-
-pub returns-clause-done : goal.returns-clause-done
-returns-clause-done g c =
-    let payer = c.args.payer in
-    let payee = c.args.payee in
-    let one = reads (account_of payer.side) payer.customer c.in_ok-own.own in
-    let two = reads (account_of c.beside.result) payer.customer c.in_ok-other.other in
-    let three = reads (account_of payee.side) payee.customer c.in_ok-there.there in
-    let four = writes (account_of payer.side) payer.customer c.in-Some.both.0 in
-    let five = writes (account_of payee.side) payee.customer c.in-Some.both.1 in
-    let first = c.in_ok-begin.ensures.at in
-    let second = c.in_ok-own.ensures.at [] first in
-    let third = c.in_ok-other.ensures.at (one ∷ []) second in
-    let fourth = c.in_ok-there.ensures.at (one ∷ two ∷ []) third in
-    let fifth = c.in_ok-write.ensures.at (one ∷ two ∷ three ∷ []) fourth in
-    let sixth = c.in_ok-write-2.ensures.at (one ∷ two ∷ three ∷ four ∷ []) fifth in
-    let kind = transfers payer payee c.args.amount (account_of c.beside.result) c.in_ok-own.own c.in_ok-other.other c.in_ok-there.there c.in-Some.both.0 c.in-Some.both.1 c.beside.ensures
-    c.in-Some.ensures.apart c.in-Some.ensures.left c.in-Some.ensures.covered c.in-Some.ensures.more in
-    λ _. (one ∷ two ∷ three ∷ four ∷ five ∷ [], kind, c.in_ok-commit.ensures.last (one ∷ two ∷ three ∷ four ∷ five ∷ []) sixth)
+    did_serve (went_then (went_then (went_then (went_then (went_then c.begin.ensures.went c.read.ensures.went) c.read-2.ensures.went) c.read-3.ensures.went) c.write.ensures.went) c.write-2.ensures.went) (c.in_ok-commit.ensures.done (one ∷ two ∷ three ∷ four ∷ five ∷ []) sixth)
+    (transfers payer payee c.args.amount (account_of c.beside.result) c.in_ok-own.own c.in_ok-other.other c.in_ok-there.there c.in-Some.both.0 c.in-Some.both.1 c.beside.ensures
+    c.in-Some.ensures.apart c.in-Some.ensures.left c.in-Some.ensures.covered c.in-Some.ensures.more)

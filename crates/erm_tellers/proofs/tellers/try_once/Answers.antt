@@ -1,4 +1,6 @@
+use Rattle.erm_tellers.proofs.Behind.{served_over}
 use Rattle.erm_tellers.proofs.tellers.try_once.Goals as goal
 
-pub returns-clause-kept : goal.returns-clause-kept
-returns-clause-kept g c = c.give_up.ensures.kept c.attempt-outcome.ensures.kept
+pub returns-clause-ended : goal.returns-clause-ended
+returns-clause-ended g c = served_over c.args.task 1 c.attempt-outcome.result c.args.client.now.transcript c.attempt-outcome.new.client.transcript c.give_up.new.client.transcript
+    c.attempt-outcome.ensures.ended (c.is_done.ensures c.if-is_done.false) c.give_up.ensures.went

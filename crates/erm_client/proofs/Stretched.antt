@@ -1,0 +1,167 @@
+-- A client's calls as stretches of its transcript, and stretches one behind another.
+use Rattle.std.proofs.Common.{◌≡◌, ℕ, ◌+◌, ◌≤◌, List, [], ◌∷◌, ◌++◌, append-nil, append_assoc, Option, Some, None, refl, sym, ap, ◌∙◌, subst, arith}
+use Rattle.std.proofs.lemmas.List.Elements.{filter_map-append}
+use Rattle.std.proofs.lemmas.List.Sums.{sum_by_push}
+use Rattle.std.specs.List.{cons_option, sum_by}
+use Rattle.std.specs.Option.{option_map, option_to_list}
+use Rattle.erm_client.proofs.Dealt.{dealt_answered, dealt_ends, dealt_same, dealt_starves}
+use Rattle.erm_client.proofs.Grown.{open_each}
+use Rattle.erm_client.specs.Dealings.{IsAt, begins_by, begins_in, commits_told, dealings_of}
+use Rattle.erm_client.specs.declared.refusal.Refusal.{Refusal}
+use Rattle.erm_client.specs.declared.transcript.Transcript.{Transcript}
+use Rattle.erm_client.specs.Refusals.{refusal_told}
+use Rattle.erm_client.specs.Stretches.{Grew, WasAt, WasRefused, Went}
+use Rattle.erm_client.specs.Transcripts.{EndsWith, HasMore, IsAnswered, IsRefused, IsSame, IsTranscript, Starves}
+use Rattle.erm_client.specs.Transcripts as refused
+use Rattle.erm_good_report.specs.Transactions.{Commits, Ending, Progress, Transaction, committed_of, heard, history_of, with_ending, with_line}
+use Rattle.erm_good_report.specs.Transactions as dealt
+use Rattle.erm_model.specs.Committed.{Committed}
+use Rattle.erm_model.specs.declared.operation.Reply.{Reply}
+use Rattle.erm_model.specs.Run.{Step}
+use Rattle.erm_report.specs.declared.answer.Answer.{Answer}
+use Rattle.erm_report.specs.declared.answer.Answer.TheVariants as answer
+use Rattle.erm_script.specs.declared.script.Command.{Command}
+use Rattle.erm_script.specs.declared.script.Command.TheVariants as command
+use Rattle.erm_script.specs.declared.script.ScriptLine.{ScriptLine}
+
+-- ONE BEHIND ANOTHER
+pub grew_itself : (c : Transcript) → Grew c c
+grew_itself c = record { seat = refl; lines = ([], sym (append-nil c.lines.items)); answers = ([], sym (append-nil c.answers.items)) }
+
+longer : {X : Type 0} (xs ys zs more rest : List X) → ys ≡ xs ++ more → zs ≡ ys ++ rest → zs ≡ xs ++ (more ++ rest)
+longer xs ys zs more rest first second = second ∙ ap (λ l. l ++ rest) first ∙ append_assoc xs more rest
+
+pub grew_then : {c d e : Transcript} → Grew c d → Grew d e → Grew c e
+grew_then {c} {d} {e} first second = record {
+  seat = second.seat ∙ first.seat;
+  lines = (first.lines.0 ++ second.lines.0, longer c.lines.items d.lines.items e.lines.items first.lines.0 second.lines.0 first.lines.1 second.lines.1);
+  answers = (first.answers.0 ++ second.answers.0, longer c.answers.items d.answers.items e.answers.items first.answers.0 second.answers.0 first.answers.1 second.answers.1);
+}
+
+pub went_itself : (c : Transcript) → Went 0 [] c c
+went_itself c = record { grew = grew_itself c; begins_are = omega arith; commits_are = sym (append-nil (commits_told c)) }
+
+pub went_then : {m n : ℕ} {xs ys : List Committed} {c d e : Transcript} → Went m xs c d → Went n ys d e → Went (m + n) (xs ++ ys) c e
+went_then {m} {n} {xs} {ys} {c} {d} {e} first second = record {
+  grew = grew_then first.grew second.grew;
+  begins_are = omega (arith, first.begins_are, second.begins_are);
+  commits_are = longer (commits_told c) (commits_told d) (commits_told e) xs ys first.commits_are second.commits_are;
+}
+
+pub went_within : {m n : ℕ} {xs : List Committed} {c d : Transcript} → m ≤ n → Went m xs c d → Went n xs c d
+went_within most went = record { grew = went.grew; begins_are = omega (arith, most, went.begins_are); commits_are = went.commits_are }
+
+pub refused_amid : {why : Refusal} {b c d e : Transcript} → Grew b c → WasRefused why c d → Grew d e → WasRefused why b e
+refused_amid first was last = record {
+  before = was.before;
+  after = was.after;
+  asked = was.asked;
+  since = grew_then first was.since;
+  refused = was.refused;
+  until = grew_then was.until last;
+}
+
+pub at_amid : {steps : List Step} {b c d e : Transcript} → Grew b c → WasAt steps c d → Grew d e → WasAt steps b e
+at_amid first was last = record { moment = was.moment; since = grew_then first was.since; is = was.is; until = grew_then was.until last }
+
+pub at_now : {steps : List Step} {c : Transcript} → IsAt c steps → WasAt steps c c
+at_now {steps} {c} is = record { moment = c; since = grew_itself c; is = is; until = grew_itself c }
+
+-- ONE LINE MORE, and none
+begins_more : (c d : Transcript) (l : ScriptLine) → d.lines.items ≡ c.lines.items ++ l ∷ [] → begins_in d ≡ begins_in c + begins_by l.command
+begins_more c d l more = ap (λ (ls : List ScriptLine). sum_by (λ (x : ScriptLine). begins_by x.command) ls) more ∙ sum_by_push (λ (x : ScriptLine). begins_by x.command) c.lines.items l
+
+begins_still : (c d : Transcript) → d.lines.items ≡ c.lines.items → begins_in d ≡ begins_in c
+begins_still c d same = ap (λ (ls : List ScriptLine). sum_by (λ (x : ScriptLine). begins_by x.command) ls) same
+
+more_grew : (c d : Transcript) (l : ScriptLine) (a : Answer) → HasMore c l a d → Grew c d
+more_grew c d l a more = record { seat = more.seat; lines = (l ∷ [], more.lines); answers = (a ∷ [], more.answers) }
+
+ends_grew : (c d : Transcript) (l : ScriptLine) → EndsWith c l d → Grew c d
+ends_grew c d l ends = record { seat = ends.seat; lines = (l ∷ [], ends.lines); answers = ([], ends.answers ∙ sym (append-nil c.answers.items)) }
+
+same_grew : (c d : Transcript) → IsSame c d → Grew c d
+same_grew c d same = record { seat = same.seat; lines = ([], same.lines ∙ sym (append-nil c.lines.items)); answers = ([], same.answers ∙ sym (append-nil c.answers.items)) }
+
+starves_grew : (c d : Transcript) → Starves c d → Grew c d
+starves_grew c d starves = record { seat = starves.seat; lines = ([], starves.lines ∙ sym (append-nil c.lines.items)); answers = ([], starves.answers ∙ sym (append-nil c.answers.items)) }
+
+-- COMMITS. One that is over otherwise is none.
+ended_still : (ending : Ending) (over : List Transaction) (current : Option Transaction) → ((t : Transaction) → committed_of (with_ending ending t) ≡ None)
+    → history_of (over ++ option_to_list (option_map (with_ending ending) current)) ≡ history_of over
+ended_still ending over None none = ap history_of (append-nil over)
+ended_still ending over (Some t) none =
+    filter_map-append committed_of over (with_ending ending t ∷ [])
+    ∙ ap (λ (o : Option Committed). history_of over ++ cons_option o []) (none t)
+    ∙ append-nil (history_of over)
+
+heard_still : (session : ℕ) (asked : Option Command) (a : Answer) (p : Progress) → ((stamp succ pred : ℕ) → a ≡ answer.Committed stamp succ pred → ⊥)
+    → history_of (heard session asked a p).over ≡ history_of p.over
+heard_still session asked (answer.Committed stamp succ pred) p plain = absurd (plain stamp succ pred refl)
+heard_still session asked (answer.Excluded stamp succ pred) p plain = ended_still (dealt.Excludes (Some stamp) succ pred) p.over p.current (λ t. refl)
+heard_still session asked (answer.ExcludedEarly succ pred) p plain =
+    ended_still (dealt.Excludes None succ pred) p.over (option_map (with_line asked (answer.ExcludedEarly succ pred)) p.current) (λ t. refl)
+heard_still session asked (answer.Owned seat number) p plain = ended_still dealt.Aborts p.over (option_map (with_line asked (answer.Owned seat number)) p.current) (λ t. refl)
+heard_still session asked (answer.Newer stamp) p plain = ended_still dealt.Aborts p.over (option_map (with_line asked (answer.Newer stamp)) p.current) (λ t. refl)
+heard_still session asked answer.Aborted p plain = ended_still dealt.Aborts p.over p.current (λ t. refl)
+heard_still session asked a p plain = refl
+
+commits_still : (c d : Transcript) → dealings_of d ≡ dealings_of c → commits_told d ≡ commits_told c ++ []
+commits_still c d same = ap (λ (p : Progress). history_of p.over) same ∙ sym (append-nil (commits_told c))
+
+module _ (c d : Transcript) (ok : IsTranscript c) where
+  -- an answer that is no commit
+  pub went_answered : (asked : Command) (a : Answer) → ((stamp succ pred : ℕ) → a ≡ answer.Committed stamp succ pred → ⊥) → IsAnswered c asked a d → Went (begins_by asked) [] c d
+  went_answered asked a plain answered =
+      let line : ScriptLine = record { line = answered.number; session = c.seat; command = asked } in
+      record {
+        grew = more_grew c d line a answered.more;
+        begins_are = omega (arith, begins_more c d line answered.more.lines);
+        commits_are = ap (λ (p : Progress). history_of p.over) (dealt_answered c d asked a ok answered) ∙ heard_still c.seat (Some asked) a (dealings_of c) plain ∙ sym (append-nil (commits_told c));
+      }
+
+  unrefused : (a : Answer) (stamp succ pred : ℕ) (why : Refusal) → a ≡ answer.Committed stamp succ pred → refusal_told a ≡ Some why → ⊥
+  unrefused a stamp succ pred why now is = let so : refusal_told (answer.Committed stamp succ pred) ≡ Some why = subst (λ (x : Answer). refusal_told x ≡ Some why) now is in cc
+
+  uncommitted : (r : Reply) (stamp succ pred : ℕ) → answer.Replied r ≡ answer.Committed stamp succ pred → ⊥
+  uncommitted r stamp succ pred now = cc
+
+  -- a refusal
+  pub went_refused : (asked : Command) (why : Refusal) → IsRefused c asked why d → Went (begins_by asked) [] c d
+  went_refused asked why (refused.answered a did is) = went_answered asked a (λ stamp succ pred now. unrefused a stamp succ pred why now is) did
+  went_refused asked why (refused.untold r did is) = went_answered asked (answer.Replied r) (uncommitted r) did
+  went_refused asked why (refused.stopped number opened is ends) =
+      let line : ScriptLine = record { line = number; session = c.seat; command = asked } in
+      record {
+        grew = ends_grew c d line ends;
+        begins_are = omega (arith, begins_more c d line ends.lines);
+        commits_are = commits_still c d (dealt_ends c d line (open_each c ok opened) ends);
+      }
+  went_refused asked why (refused.starved opened is starves) =
+      record { grew = starves_grew c d starves; begins_are = omega (arith, begins_still c d starves.lines); commits_are = commits_still c d (dealt_starves c d starves) }
+  went_refused asked why (refused.unasked opened is same) =
+      record { grew = same_grew c d same; begins_are = omega (arith, begins_still c d same.lines); commits_are = commits_still c d (dealt_same c d same) }
+  went_refused asked why (refused.over is same) =
+      record { grew = same_grew c d same; begins_are = omega (arith, begins_still c d same.lines); commits_are = commits_still c d (dealt_same c d same) }
+
+  -- a commit
+  pub went_committed : (stamp succ pred : ℕ) (steps : List Step) → IsAt c steps → IsAnswered c command.Commit (answer.Committed stamp succ pred) d
+      → (x : Committed) × (x.steps ≡ steps) × Went 0 (x ∷ []) c d
+  went_committed stamp succ pred steps at answered =
+      let line : ScriptLine = record { line = answered.number; session = c.seat; command = command.Commit } in
+      let t = at.current in
+      let x : Committed = record { session = t.session; number = t.number; begin = t.begin; stamp = stamp; succ = succ; pred = pred; steps = dealt.steps_of t } in (
+        x,
+        at.steps_are,
+        record {
+          grew = more_grew c d line (answer.Committed stamp succ pred) answered.more;
+          begins_are = omega (arith, begins_more c d line answered.more.lines);
+          commits_are =
+              ap (λ (p : Progress). history_of p.over) (dealt_answered c d command.Commit (answer.Committed stamp succ pred) ok answered)
+              ∙ ap (λ (o : Option Transaction). history_of ((dealings_of c).over ++ option_to_list (option_map (with_ending (Commits stamp succ pred)) o))) at.is
+              ∙ filter_map-append committed_of (dealings_of c).over (with_ending (Commits stamp succ pred) t ∷ []);
+        },
+      )
+
+  pub refused_now : (asked : Command) (why : Refusal) → IsRefused c asked why d → WasRefused why c d
+  refused_now asked why is = record { before = c; after = d; asked = asked; since = grew_itself c; refused = is; until = grew_itself d }

@@ -1,0 +1,108 @@
+-- What a client's transcript tells to be over, all transcripts tell.
+use Rattle.std.proofs.Common.{◌≡◌, ℕ, zero, suc, ◌+◌, ◌<◌, ◌≤◌, ◌==◌, Bool, true, false, cond, List, [], ◌∷◌, ◌++◌, length, map, Option, Some, None, inl, inr, refl, sym, ap, ◌∙◌, subst, arith}
+use Rattle.std.proofs.lemmas.Bool.{cases_eq}
+use Rattle.std.proofs.lemmas.List.Sums.{fold-append}
+use Rattle.std.specs.List.{flat_map, range_with_len}
+use Rattle.std.specs.Option.{option_map, option_to_list}
+use Rattle.erm_client.proofs.Commits.{from_history, in_history}
+use Rattle.erm_client.proofs.Grown.{open_each}
+use Rattle.erm_client.specs.Dealings.{dealings_of}
+use Rattle.erm_client.specs.declared.transcript.Standing.TheVariants as standing
+use Rattle.erm_client.specs.declared.transcript.Transcript.{Transcript}
+use Rattle.erm_client.specs.Laws.{AreFrom, answers_of, lines_of}
+use Rattle.erm_client_invariant.proofs.Alone.{hears, others, said_append}
+use Rattle.erm_client_invariant.specs.Laws.{ToldCommitsAreThere}
+use Rattle.erm_good_report.specs.GoodReport.{places_of}
+use Rattle.erm_good_report.specs.Phases.{Closed}
+use Rattle.erm_good_report.specs.Transactions.{Commits, Ending, Progress, Said, Transaction, heard, history_of, nothing, progress_of, said_of, transactions_of, with_ending, with_line}
+use Rattle.erm_good_report.specs.Transactions as dealt
+use Rattle.erm_machine.proofs.Listed.{∈-first, ∈-second}
+use Rattle.erm_model.proofs.Members.{none_in_nil, ∈-behind}
+use Rattle.erm_model.specs.Committed.{Committed}
+use Rattle.erm_model.specs.Member.{◌∈◌}
+use Rattle.erm_report.specs.declared.answer.Answer.{Answer}
+use Rattle.erm_report.specs.declared.answer.Answer.TheVariants as answer
+use Rattle.erm_script.specs.declared.script.Command.{Command}
+
+-- the seat of each
+seat_of : (s : ℕ) (all : List Transcript) → AreFrom s all → (c : Transcript) → c ∈ all → (s ≤ c.seat) × (c.seat < s + length all)
+seat_of s [] are c there = absurd (none_in_nil c there)
+seat_of s (d ∷ all) are c (zero, at) =
+    let same : d ≡ c = cc in
+    let seat : c.seat ≡ s = sym (ap (λ (x : Transcript). x.seat) same) ∙ are.0 in
+    (omega (arith, seat), omega (arith, seat))
+seat_of s (d ∷ all) are c (suc k, at) = let rest = seat_of (s + 1) all are.2 c (k, at) in (omega (arith, rest.0), omega (arith, rest.1))
+
+-- one transcript, and those behind it
+parts : (q s : ℕ) (d : Transcript) (all : List Transcript) → AreFrom s (d ∷ all) → d.standing ≡ standing.Open
+    → progress_of q (said_of (lines_of (d ∷ all)) (answers_of (d ∷ all))) ≡ hears q (progress_of q (said_of d.lines.items d.answers.items)) (said_of (lines_of all) (answers_of all))
+parts q s d all are is =
+    ap (λ (said : List Said). progress_of q said) (said_append d.lines.items (lines_of all) d.answers.items (answers_of all) (open_each d are.1 is))
+    ∙ fold-append (λ (p : Progress) (s : Said). cond (s.session == q) (heard q s.asked s.answer p) p) nothing (said_of d.lines.items d.answers.items) (said_of (lines_of all) (answers_of all))
+
+module _ (t : Transaction) where
+  -- what is over stays so
+  stays : (ending : Ending) (over : List Transaction) (current : Option Transaction) → t ∈ over → t ∈ (over ++ option_to_list (option_map (with_ending ending) current))
+  stays ending over current there = ∈-first over (option_to_list (option_map (with_ending ending) current)) t there
+
+  heard_there : (q : ℕ) (asked : Option Command) (a : Answer) (p : Progress) → t ∈ p.over → t ∈ (heard q asked a p).over
+  heard_there q asked (answer.Committed stamp succ pred) p there = stays (Commits stamp succ pred) p.over p.current there
+  heard_there q asked (answer.Excluded stamp succ pred) p there = stays (dealt.Excludes (Some stamp) succ pred) p.over p.current there
+  heard_there q asked (answer.ExcludedEarly succ pred) p there = stays (dealt.Excludes None succ pred) p.over (option_map (with_line asked (answer.ExcludedEarly succ pred)) p.current) there
+  heard_there q asked (answer.Owned seat number) p there = stays dealt.Aborts p.over (option_map (with_line asked (answer.Owned seat number)) p.current) there
+  heard_there q asked (answer.Newer stamp) p there = stays dealt.Aborts p.over (option_map (with_line asked (answer.Newer stamp)) p.current) there
+  heard_there q asked answer.Aborted p there = stays dealt.Aborts p.over p.current there
+  heard_there q asked a p there = there
+
+  hears_there : (q : ℕ) (said : List Said) (p : Progress) → t ∈ p.over → t ∈ (hears q p said).over
+  hears_there q [] p there = there
+  hears_there q (s ∷ said) p there = hears_there q said (cond (s.session == q) (heard q s.asked s.answer p) p) (either (s.session == q))
+    where
+      either : (b : Bool) → t ∈ (cond b (heard q s.asked s.answer p) p).over
+      either true = heard_there q s.asked s.answer p there
+      either false = there
+
+  -- the script of all has it
+  own_there : (s : ℕ) (all : List Transcript) → AreFrom s all → ((c : Transcript) → c ∈ all → c.standing ≡ standing.Open) → (c : Transcript) → c ∈ all
+      → t ∈ (dealings_of c).over → t ∈ (progress_of c.seat (said_of (lines_of all) (answers_of all))).over
+  own_there s [] are opened c there over = absurd (none_in_nil c there)
+  own_there s (d ∷ all) are opened c (zero, at) over =
+      let same : d ≡ c = cc in
+      subst (λ (x : Transcript). t ∈ (progress_of x.seat (said_of (lines_of (d ∷ all)) (answers_of (d ∷ all)))).over) same
+      (subst (λ (x : Progress). t ∈ x.over) (sym (parts d.seat s d all are (opened d (zero, refl))))
+      (hears_there d.seat (said_of (lines_of all) (answers_of all)) (dealings_of d) (subst (λ (x : Transcript). t ∈ (dealings_of x).over) (sym same) over)))
+  own_there s (d ∷ all) are opened c (suc k, at) over =
+      let rest = own_there (s + 1) all are.2 (λ x there. opened x (∈-behind d all x there)) c (k, at) over in
+      let seat = seat_of (s + 1) all are.2 c (k, at) in
+      let nobody : progress_of c.seat (said_of d.lines.items d.answers.items) ≡ nothing =
+      others c.seat nothing d.lines.items d.answers.items (λ l there own. let line = are.1.own l there in let first = are.0 in omega (arith, line.own, own, first, seat.0)) in
+      subst (λ (x : Progress). t ∈ x.over) (sym (parts c.seat s d all are (opened d (zero, refl)))) (subst (λ (x : Progress). t ∈ (hears c.seat x (said_of (lines_of all) (answers_of all))).over) (sym nobody) rest)
+
+-- of lists that are put together
+in_range : (a n q : ℕ) → a ≤ q → q < a + n → q ∈ range_with_len a n
+in_range a zero q low high = absurd (omega (arith, low, high))
+in_range a (suc n) q low high = elim (cases_eq a q) as (λ _. q ∈ range_with_len a (suc n)) [
+  | inl same ↦ subst (λ (x : ℕ). x ∈ range_with_len a (suc n)) same (zero, refl)
+  | inr another ↦ ∈-behind a (range_with_len (a + 1) n) q (in_range (a + 1) n q (omega (arith, low, another)) (omega (arith, high)))
+]
+
+from_flat : {X Y : Type 0} (f : X → List Y) (xs : List X) (x : X) (y : Y) → x ∈ xs → y ∈ f x → y ∈ flat_map f xs
+from_flat f [] x y there inside = absurd (none_in_nil x there)
+from_flat f (z ∷ xs) x y (zero, at) inside = let same : z ≡ x = cc in ∈-first (f z) (flat_map f xs) y (subst (λ q. y ∈ f q) (sym same) inside)
+from_flat f (z ∷ xs) x y (suc k, at) inside = ∈-second (f z) (flat_map f xs) y (from_flat f xs x y (k, at) inside)
+
+pub told_are_there : ToldCommitsAreThere
+told_are_there sessions all closed are opened enough c there x told =
+    let said = places_of (lines_of all) (answers_of all) closed in
+    let one = from_history (dealings_of c).over x told in
+    let seat = seat_of 1 all are c there in
+    let whole = fold-append (λ (p : Progress) (s : Said). cond (s.session == c.seat) (heard c.seat s.asked s.answer p) p) nothing (said_of (lines_of all) (answers_of all)) (map (λ (d : Closed). record { session = d.session; asked = None; answer = d.answer }) closed) in
+    let over : one.of ∈ (progress_of c.seat said).over =
+    subst (λ (p : Progress). one.of ∈ p.over) (sym whole)
+    (hears_there one.of c.seat (map (λ (d : Closed). record { session = d.session; asked = None; answer = d.answer }) closed) (progress_of c.seat (said_of (lines_of all) (answers_of all)))
+    (own_there one.of 1 all are opened c there one.there)) in
+    let among : one.of ∈ transactions_of sessions said =
+    from_flat (λ (q : ℕ). (progress_of q said).over ++ option_to_list (progress_of q said).current) (range_with_len 1 sessions) c.seat one.of
+    (in_range 1 sessions c.seat seat.0 (omega (arith, seat.1, enough)))
+    (∈-first (progress_of c.seat said).over (option_to_list (progress_of c.seat said).current) one.of over) in
+    subst (λ (y : Committed). y ∈ history_of (transactions_of sessions said)) one.same (in_history (transactions_of sessions said) one.of one.stamp one.succ one.pred among one.commits)
