@@ -14,7 +14,7 @@ pub use laws::{
     one_checkpoint, one_recovery, one_slot, put_slots_are_best, read_slots_show, recovery_goes_on,
     recovery_stays, slots_are_bounded, slots_recover, torn_slots_show,
 };
-pub use read::{RowTest, read_slot};
+pub use read::{RowTest, clear_rows, read_slot};
 pub use rules::Checkpoints;
 pub use slot::{
     LOG_START, SLOT_HEAD, SLOT_WORDS, Slot, Slots, best_of, is_slot, next_first, other_of,

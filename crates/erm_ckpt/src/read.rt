@@ -76,7 +76,7 @@ fn read_rows(words: &[u64], form: Form, count: u64, rows: &mut [Row]) -> Option<
     ensures found { IfSome result (λ size. BeginsWithRows form words.now rows.new count size) }
     ensures given { (size : ℕ) → HasRows form words.now count size → result ≡ Some size }
 {
-    clear(rows);
+    clear_rows(rows);
     let mut at = 0;
     let mut least = 0;
     for _row in 0..count {
@@ -91,8 +91,8 @@ fn read_rows(words: &[u64], form: Form, count: u64, rows: &mut [Row]) -> Option<
     Some(at)
 }
 
-// Makes all rows zero.
-fn clear(rows: &mut [Row])
+/// Makes all rows zero, one for each object that there may be.
+pub fn clear_rows(rows: &mut [Row])
     requires { length rows.old ≡ OID_LIMIT }
     ensures { SameRows (rows_of rows.new) zero_rows }
 {

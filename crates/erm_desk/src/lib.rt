@@ -4,12 +4,10 @@
 
 mod desk;
 mod laws;
-mod locked;
 mod naming;
 mod seat;
 
 pub use desk::{Desk, Stopped};
 pub use laws::{desks_take_in, first_passes_are_unflushed};
-pub use locked::{turn_all_at, turn_at};
 pub use naming::Naming;
 pub use seat::FlushSeat;

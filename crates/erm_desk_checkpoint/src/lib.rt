@@ -5,11 +5,9 @@
 mod desk;
 mod flushing;
 mod laws;
-mod locked;
 mod saving;
 mod seat;
 
 pub use desk::CheckpointDesk;
 pub use laws::{checkpoint_desks_are_desks, checkpoint_desks_take_in};
-pub use locked::{checkpoint_at, turn_all_at, turn_at};
 pub use seat::StepSeat;

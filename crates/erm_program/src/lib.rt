@@ -7,8 +7,7 @@ ghost use Rattle.erm_disk_run.specs.Found.{IsKept};
 ghost use Rattle.erm_top.specs.Outcomes.{Ends};
 
 use erm_command_line::{Command, command_of};
-use erm_outside::{Disk, Sink, Source};
-use erm_outside_mem::OpenGate;
+use erm_outside::{Disk, OpenGate, Sink, Source};
 use erm_outside_real::{Patient, ReaderSource, WriterSink};
 use erm_top::ermia;
 use std::alloc::Global;

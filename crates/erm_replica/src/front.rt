@@ -2,7 +2,7 @@
 ghost use Rattle.std.specs.Prelude.{◌≡◌, ◌≢◌, ◌+◌, ◌*◌, ◌<◌, ◌≤◌, IfOk, IfSome, IsSome, true, false, Err, None, Some, length};
 ghost use Rattle.erm_model.specs.Rows.{rows_of};
 ghost use Rattle.erm_model.specs.RowTransaction.{SameRows};
-ghost use Rattle.erm_ckpt.specs.Checkpoint.{Checkpoint, StandsIn, rows_of_checkpoint, slot_words, zero_rows};
+ghost use Rattle.erm_ckpt.specs.Checkpoint.{Checkpoint, StandsIn, rows_of_checkpoint, slot_words};
 ghost use Rattle.erm_replica.specs.Found.{Finds};
 ghost use Rattle.erm_replica.specs.Stream.{IsBase, IsShort, IsUnreadable, StandsFirst, first_word, part_words, start_checkpoint};
 ghost use Rattle.erm_replica.specs.Stream.Part.{base, block};
@@ -12,8 +12,8 @@ use crate::size::{base_size, block_size};
 use crate::{Item, LogPlace};
 use erm_block::{Block, read_block, spelling_size};
 use erm_bytes::{WORD_BYTES, digest_word, read_words};
-use erm_ckpt::{LOG_START, SLOT_WORDS, Slot, one_slot, read_slot, slots_are_bounded};
-use erm_model::{OID_LIMIT, ROW_WORDS, Row};
+use erm_ckpt::{LOG_START, SLOT_WORDS, Slot, clear_rows, one_slot, read_slot, slots_are_bounded};
+use erm_model::{OID_LIMIT, Row};
 
 /// Why no item is found.
 #[derive(Clone, Copy)]
@@ -160,7 +160,7 @@ fn base_of(words: &[u64], rows: &mut [Row]) -> Option<Slot>
 {
     one_slot();
     if is_start(words) {
-        clear(rows);
+        clear_rows(rows);
         return Some(Slot {
             stamp: LOG_START,
             run: 0,
@@ -175,16 +175,6 @@ fn base_of(words: &[u64], rows: &mut [Row]) -> Option<Slot>
         return None;
     }
     read_slot(words, rows, &AllRows)
-}
-
-// Makes all rows zero.
-fn clear(rows: &mut [Row])
-    requires { length rows.old ≡ OID_LIMIT }
-    ensures { SameRows (rows_of rows.new) zero_rows }
-{
-    for row in rows.iter_mut() {
-        *row = [0; ROW_WORDS];
-    }
 }
 
 // Whether the words begin with a slot.

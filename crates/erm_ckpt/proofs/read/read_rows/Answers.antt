@@ -8,7 +8,7 @@ use Rattle.erm_ckpt.proofs.ReadRows.{all_read, next, next_above, next_begins, no
 use Rattle.erm_ckpt.proofs.read.read_rows.Goals as goal
 
 pub loop-row-init : goal.loop-row-init
-loop-row-init c = none_read c.args.form c.args.words.now c.clear.new.rows c.clear.ensures
+loop-row-init c = none_read c.args.form c.args.words.now c.clear_rows.new.rows c.clear_rows.ensures
 
 pub returns-in_err-oid-clause-given : goal.returns-in_err-oid-clause-given
 returns-in_err-oid-clause-given c = λ size begins.

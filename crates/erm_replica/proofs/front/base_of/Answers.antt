@@ -4,7 +4,7 @@ use Rattle.erm_replica.proofs.Bases.{base_read, no_early}
 use Rattle.erm_replica.proofs.front.base_of.Goals as goal
 
 pub returns-then-is_start-clause-found : goal.returns-then-is_start-clause-found
-returns-then-is_start-clause-found c = (start_checkpoint, record { form = refl; first = refl; is = inl refl }, c.is_start.ensures.yes c.if-is_start.true, refl, c.clear.ensures)
+returns-then-is_start-clause-found c = (start_checkpoint, record { form = refl; first = refl; is = inl refl }, c.is_start.ensures.yes c.if-is_start.true, refl, c.clear_rows.ensures)
 
 pub returns-then-has_slot-clause-given : goal.returns-then-has_slot-clause-given
 returns-then-has_slot-clause-given c = λ checkpoint is e.

@@ -1,5 +1,5 @@
 use Rattle.std.proofs.Common.{◌≡◌, ℕ, ◌<◌, [], get_or, replicate}
-use Rattle.erm_ckpt.proofs.read.clear.Given as goal
+use Rattle.erm_ckpt.proofs.read.clear_rows.Given as goal
 
 -- the rows so far are zero
 abbrev pub invariant-loop-row : goal.invariant-loop-row
