@@ -1,3 +1,4 @@
+pub mod Backs
 pub mod Clears
 pub mod Commits
 pub mod Freed
