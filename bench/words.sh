@@ -11,4 +11,22 @@ if [ -z "$program" ]; then
     program=$folder/out/erm_session_bench
     (cd "$folder" && rt run -- 0 >/dev/null 2>&1) || { echo "$program wasn't built: 'rt run -- 0' in $folder says why" >&2; exit 1; }
 fi
-exec "$top/bench/plain.sh" "$program"
+[ -x "$program" ] || { echo "$program can't be run: nothing is measured" >&2; exit 1; }
+python3 - "$(readlink -f "$program")" <<'PYTHON'
+import os
+import subprocess
+import sys
+import time
+
+print(f"{'transactions':>12} {'commits':>9} {'seconds':>9} {'a second':>9} {'MiB':>9}")
+for count in (10_000, 100_000, 1_000_000):
+    start = time.monotonic()
+    run = subprocess.Popen([sys.argv[1], str(count)], stdout=subprocess.PIPE, text=True)
+    said = run.stdout.read().split()
+    _, ended, usage = os.wait4(run.pid, 0)
+    seconds = time.monotonic() - start
+    if os.waitstatus_to_exitcode(ended) != 0:
+        sys.exit(f"{count} transactions: the program failed")
+    rate = round(count / seconds)
+    print(f"{said[0]:>12} {said[2]:>9} {seconds:9.2f} {rate:>9} {usage.ru_maxrss / 1024:9.1f}", flush=True)
+PYTHON

@@ -87,24 +87,46 @@ fn reply(ask: Ask, found: Option<(u64, u8)>) -> Reply {
     }
 }
 
+fn ops_of(alloc: Global, transaction: u8) -> Result<Vec<Op>, AllocError> {
+    let mut ops = Vec::new(alloc);
+    for (of, ask, key, _) in &LINES {
+        if *of == transaction {
+            ops.push(op(*ask, *key))?;
+        }
+    }
+    Ok(ops)
+}
+
+fn replies_of(alloc: Global, transaction: u8) -> Result<Vec<Reply>, AllocError> {
+    let mut replies = Vec::new(alloc);
+    for (of, ask, _, found) in &LINES {
+        if *of == transaction {
+            replies.push(reply(*ask, *found))?;
+        }
+    }
+    Ok(replies)
+}
+
+fn transactions(alloc: Global) -> Result<Vec<Vec<Op>>, AllocError> {
+    let mut transactions = Vec::new(alloc);
+    for transaction in 0..4 {
+        transactions.push(ops_of(alloc, transaction)?)?;
+    }
+    Ok(transactions)
+}
+
+fn wanted(alloc: Global) -> Result<Vec<Vec<Reply>>, AllocError> {
+    let mut wanted = Vec::new(alloc);
+    for transaction in 0..4 {
+        wanted.push(replies_of(alloc, transaction)?)?;
+    }
+    Ok(wanted)
+}
+
 #[test]
 fn replays_transactions(rt: HostRuntime) -> Result<(), Fail> {
-    let mut transactions = Vec::new(rt.alloc());
-    let mut wanted = Vec::new(rt.alloc());
-    for transaction in 0..4 {
-        let mut ops = Vec::new(rt.alloc());
-        let mut replies = Vec::new(rt.alloc());
-        for (of, ask, key, found) in LINES {
-            if of == transaction {
-                ops.push(op(ask, key))?;
-                replies.push(reply(ask, found))?;
-            }
-        }
-        transactions.push(ops)?;
-        wanted.push(replies)?;
-    }
     let mut map = Map::new(rt.alloc());
-    assert!(rt; replay(rt.alloc(), &mut map, &transactions)? == wanted);
-    assert!(rt; map.len() == 1);
+    let replies = replay(rt.alloc(), &mut map, &transactions(rt.alloc())?)?;
+    assert!(rt; replies == wanted(rt.alloc())? && map.len() == 1);
     Ok(())
 }

@@ -278,18 +278,23 @@ fn has_edges(history: &[TransactionRecord], edges: &[(usize, usize)]) -> bool {
     true
 }
 
+// Whether a history has the stamps, the dependencies and the verdict of its story.
+fn is_so_told(alloc: Global, story: &Story) -> Result<bool, AllocError> {
+    let bare = history(alloc, story.sketches, false)?;
+    if !has_stamps(&bare, story.sketches) || !has_edges(&bare, story.edges) {
+        return Ok(false);
+    }
+    let carrying = history(alloc, story.sketches, true)?;
+    Ok(is_certified(&carrying) == story.certified)
+}
+
 #[test]
 fn small_histories(rt: HostRuntime) -> Result<(), Fail> {
     for (place, story) in STORIES.iter().enumerate() {
-        let bare = history(rt.alloc(), story.sketches, false)?;
-        let carrying = history(rt.alloc(), story.sketches, true)?;
-        assert!(rt; has_stamps(&bare, story.sketches), "stamps of {place}");
-        assert!(rt; has_edges(&bare, story.edges), "edges of {place}");
-        assert!(rt; is_certified(&carrying) == story.certified, "{place}");
+        assert!(rt; is_so_told(rt.alloc(), story)?, "history {place}");
     }
-    for sketches in UNCERTIFIED {
-        let carrying = history(rt.alloc(), sketches, true)?;
-        assert!(rt; !is_certified(&carrying));
+    for sketches in &UNCERTIFIED {
+        assert!(rt; !is_certified(&history(rt.alloc(), *sketches, true)?));
     }
     Ok(())
 }

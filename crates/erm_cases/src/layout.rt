@@ -3,7 +3,7 @@ use erm_layout::{WORDS, Word, index, word_of};
 use erm_machine::{CellWord, Counter};
 
 // All four first words, the first and the last word of each part, and all kinds of words of a cell with those beside it.
-const PLACES: [(usize, Word); 25] = [
+const PLACES: [(usize, Word); 27] = [
     (0, Word::Tail),
     (1, Word::Flushed),
     (2, Word::Counter(Counter::Objects)),
@@ -95,12 +95,14 @@ const PLACES: [(usize, Word); 25] = [
     ),
     (1_458_278, Word::Ring(0)),
     (1_491_045, Word::Ring(32_767)),
+    (1_491_046, Word::Back(1)),
+    (1_491_093, Word::Back(48)),
 ];
 
 #[test]
 fn numbers(rt: HostRuntime) {
-    assert!(rt; WORDS == 1_491_046);
-    assert!(rt; word_of(1_491_046).is_none() && word_of(usize::MAX).is_none());
+    assert!(rt; WORDS == 1_491_094);
+    assert!(rt; word_of(1_491_094).is_none() && word_of(usize::MAX).is_none());
     for (number, word) in PLACES {
         assert!(rt; word_of(number) == Some(word), "{number}");
     }

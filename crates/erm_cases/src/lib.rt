@@ -7,6 +7,8 @@ mod audit;
 #[cfg(test)]
 mod bytes;
 #[cfg(test)]
+mod command_line;
+#[cfg(test)]
 mod histories;
 #[cfg(test)]
 mod layout;
@@ -20,6 +22,8 @@ mod outside;
 mod phantom;
 #[cfg(test)]
 mod report;
+#[cfg(test)]
+mod saves;
 #[cfg(test)]
 mod script;
 #[cfg(test)]

@@ -49,12 +49,9 @@ fn closed(answer: Answer) -> Line {
 
 #[test]
 fn answers_and_pairs_are_counted(rt: HostRuntime) -> Result<(), Fail> {
-    let lines = report();
-    let made = counts_of(&lines);
-    assert_eq!(rt; made.committed, 2);
-    assert_eq!(rt; made.excluded, 2);
-    assert_eq!(rt; made.owned, 1);
-    assert_eq!(rt; made.pairs, 1);
+    let made = counts_of(&report());
+    assert!(rt; made.committed == 2 && made.excluded == 2);
+    assert!(rt; made.owned == 1 && made.pairs == 1);
     Ok(())
 }
 

@@ -1,7 +1,8 @@
 //! The text of the least workload, and cases of others, as a model apart from this one prints them.
 use erm_make::{MOST_TRANSACTIONS, make, text_but_flushes};
 use erm_model::{SESSIONS, Seat};
-use erm_script::{Command, ScriptLine};
+use erm_script::{Command, Script, ScriptLine};
+use std::alloc::{AllocError, Global};
 use std::test::Fail;
 
 // One transaction of one session.
@@ -212,23 +213,40 @@ fn one_transaction_is_written_out(rt: HostRuntime) -> Result<(), Fail> {
     Ok(())
 }
 
+// Whether a script has what is known of its workload.
+fn has_lines(script: &Script, case: &Case) -> bool {
+    script.names.len() == case.names
+        && script.lines.len() == case.lines
+        && script
+            .lines
+            .iter()
+            .all(|line| is_flush_at(line, case.flushes))
+}
+
+// Whether a text has so many bytes, and ends so.
+fn ends_so(text: &[u8], bytes: usize, end: &[u8]) -> bool {
+    text.len() == bytes && text.ends_with(end)
+}
+
+fn is_made_so(alloc: Global, case: &Case) -> Result<bool, AllocError> {
+    if case.count < 1 || MOST_TRANSACTIONS < case.count {
+        return Ok(false);
+    }
+    if case.sessions < 1 || SESSIONS < case.sessions {
+        return Ok(false);
+    }
+    let script = make(alloc, case.count, case.sessions)?;
+    if !has_lines(&script, case) {
+        return Ok(false);
+    }
+    let text = text_but_flushes(alloc, &script)?;
+    Ok(ends_so(text.as_slice(), case.bytes, case.end))
+}
+
 #[test]
 fn workloads_have_these_lines(rt: HostRuntime) -> Result<(), Fail> {
     for case in &CASES {
-        assert!(rt; 1 <= case.count && case.count <= MOST_TRANSACTIONS);
-        assert!(rt; 1 <= case.sessions && case.sessions <= SESSIONS);
-        let script = make(rt.alloc(), case.count, case.sessions)?;
-        assert_eq!(rt; script.names.len(), case.names);
-        assert_eq!(rt; script.lines.len(), case.lines);
-        assert!(rt;
-            script
-                .lines
-                .iter()
-                .all(|line| is_flush_at(line, case.flushes))
-        );
-        let text = text_but_flushes(rt.alloc(), &script)?;
-        assert_eq!(rt; text.len(), case.bytes);
-        assert!(rt; text.ends_with(case.end));
+        assert!(rt; is_made_so(rt.alloc(), case)?);
     }
     Ok(())
 }
@@ -236,10 +254,8 @@ fn workloads_have_these_lines(rt: HostRuntime) -> Result<(), Fail> {
 #[test]
 fn the_greatest_workload_is_made(rt: HostRuntime) -> Result<(), Fail> {
     let script = make(rt.alloc(), MOST_TRANSACTIONS, SESSIONS)?;
-    assert_eq!(rt; script.names.len(), 48);
-    assert_eq!(rt; script.lines.len(), 500_129);
+    assert!(rt; script.names.len() == 48 && script.lines.len() == 500_129);
     let text = text_but_flushes(rt.alloc(), &script)?;
-    assert_eq!(rt; text.len(), 7_560_010);
-    assert!(rt; text.ends_with(GREATEST_END));
+    assert!(rt; ends_so(text.as_slice(), 7_560_010, GREATEST_END));
     Ok(())
 }

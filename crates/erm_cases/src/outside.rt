@@ -118,20 +118,26 @@ fn ask<D: Disk>(disk: &mut D, file: File, call: Call, buf: &mut [u8; 8]) -> Resu
     }
 }
 
+// Whether a disk answers each call as is said, and leaves the buffer so.
+fn answers_so<D: Disk>(disk: &mut D) -> bool {
+    let mut buf = [b'.'; 8];
+    for (file, call, want, bytes) in &CALLS {
+        if ask(disk, *file, *call, &mut buf) != *want || buf != **bytes {
+            return false;
+        }
+    }
+    true
+}
+
 #[test]
 fn a_disk_keeps_its_files(rt: HostRuntime) -> Result<(), Fail> {
     let alloc = rt.alloc();
     let mut disk = MemDisk::with_room(alloc, 8)?.failing([10].to_vec(alloc)?);
+    assert!(rt; answers_so(&mut disk) && disk.refused() == 1);
     let mut silent = Silent {
         disk: MemDisk::new(alloc).failing([10].to_vec(alloc)?),
     };
-    let mut buf = [b'.'; 8];
-    let mut other = [b'.'; 8];
-    for (file, call, want, bytes) in CALLS {
-        assert!(rt; ask(&mut disk, file, call, &mut buf) == want && buf == *bytes);
-        assert!(rt; ask(&mut silent, file, call, &mut other) == want && other == *bytes);
-    }
-    assert!(rt; disk.refused() == 1);
+    assert!(rt; answers_so(&mut silent));
     OpenGate.pass(&rt, 1, Place::Begin);
     Ok(())
 }
@@ -210,17 +216,21 @@ fn has(disk: &mut MemDisk, file: File, bytes: &[u8]) -> bool {
     &buf[..count] == bytes
 }
 
+// Whether an image has these bytes, and this segment next.
+fn is_image(image: &mut MemDisk, slot0: &[u8], slot1: &[u8], segment: &[u8], next: u64) -> bool {
+    has(image, File::Slot0, slot0)
+        && has(image, File::Slot1, slot1)
+        && has(image, SEGMENT, segment)
+        && ask(image, SEGMENT, Call::Next(0), &mut [b'.'; 8]) == Ok(next)
+}
+
 #[test]
 fn a_crash_leaves_images(rt: HostRuntime) -> Result<(), Fail> {
     let mut disk = crashed(rt.alloc())?;
     assert!(rt; disk.len(File::Slot0) == Err(Failed));
     for (pick, slot0, slot1, segment, next) in IMAGES {
-        let mut image = disk.image(pick)?;
-        assert!(rt; has(&mut image, File::Slot0, slot0), "{pick:?}");
-        assert!(rt; has(&mut image, File::Slot1, slot1), "{pick:?}");
-        assert!(rt; has(&mut image, SEGMENT, segment), "{pick:?}");
         assert!(rt;
-            image.next_segment(0).map(|found| found.unwrap_or(u64::MAX)) == Ok(next),
+            is_image(&mut disk.image(pick)?, slot0, slot1, segment, next),
             "{pick:?}"
         );
     }
@@ -228,36 +238,59 @@ fn a_crash_leaves_images(rt: HostRuntime) -> Result<(), Fail> {
 }
 
 // A wait for removals waits for those behind which nothing was done to the file, and for no write to another file.
-#[test]
-fn removals_are_waited_for(rt: HostRuntime) -> Result<(), Fail> {
-    let mut disk = MemDisk::new(rt.alloc());
+// A disk from which two files are removed that were synced, and to which a third is written then.
+fn removed(alloc: Global) -> Result<MemDisk, Fail> {
+    let mut disk = MemDisk::new(alloc);
     for file in [File::Slot1, SEGMENT] {
         disk.write(file, 0, b"old")?;
         disk.sync(file)?;
         disk.remove(file)?;
     }
     disk.write(File::Slot0, 0, b"new")?;
+    Ok(disk)
+}
+
+// Whether what a crash leaves of nothing that wasn't waited for has these bytes in both files.
+fn are_left(disk: &mut MemDisk, bytes: &[u8]) -> Result<bool, AllocError> {
     let mut image = disk.image(Pick::Nothing)?;
-    assert!(rt; has(&mut image, File::Slot1, b"old") && has(&mut image, SEGMENT, b"old"));
+    Ok(
+        has(&mut image, File::Slot1, bytes)
+            && has(&mut image, SEGMENT, bytes)
+            && has(&mut image, File::Slot0, b""),
+    )
+}
+
+#[test]
+fn removals_are_waited_for(rt: HostRuntime) -> Result<(), Fail> {
+    let mut disk = removed(rt.alloc())?;
+    assert!(rt; are_left(&mut disk, b"old")?);
     let mut stopped = disk.stop_at(0);
     assert!(rt; stopped.sync_removals() == Err(Failed));
     let mut disk = stopped.stop_at(u64::MAX);
-    assert!(rt; disk.sync_removals() == Ok(()));
-    let mut image = disk.image(Pick::Nothing)?;
-    assert!(rt; has(&mut image, File::Slot1, b"") && has(&mut image, SEGMENT, b""));
-    assert!(rt; has(&mut image, File::Slot0, b"") && has(&mut disk, File::Slot0, b"new"));
+    assert!(rt; disk.sync_removals() == Ok(()) && are_left(&mut disk, b"")?);
+    assert!(rt; has(&mut disk, File::Slot0, b"new"));
     Ok(())
 }
 
 // Many calls end in good time: each write of a file lies behind the one before, and each tenth is synced.
+// Whether so many calls come through.
+fn takes(disk: &mut MemDisk, calls: u64) -> bool {
+    for call in 0..calls {
+        let file = File::Segment(call % 4);
+        if disk.write(file, call.wrapping_mul(16), &[7; 64]) != Ok(()) {
+            return false;
+        }
+        if call % 10 == 9 && disk.sync(file) != Ok(()) {
+            return false;
+        }
+    }
+    true
+}
+
 #[test]
 fn a_disk_takes_thousands_of_calls(rt: HostRuntime) -> Result<(), Fail> {
     let mut disk = MemDisk::new(rt.alloc());
-    for call in 0..10_000 {
-        let file = File::Segment(call % 4);
-        assert!(rt; disk.write(file, 16 * call, &[7; 64]) == Ok(()));
-        assert!(rt; call % 10 != 9 || disk.sync(file) == Ok(()));
-    }
+    assert!(rt; takes(&mut disk, 10_000));
     let mut image = disk.image(Pick::All)?;
     assert!(rt; image.len(File::Segment(3)) == Ok(16 * 9_999 + 64) && disk.refused() == 0);
     Ok(())
@@ -271,18 +304,30 @@ fn is_put(sink: &mut MemSink, piece: &[u8], want: Result<usize, Failed>) -> bool
     sink.put(piece) == want
 }
 
-// Three bytes a call come through, but for the second call of each.
+// Whether three bytes a call come through, but for the second call of each.
+fn come_through(source: &mut MemSource, sink: &mut MemSink) -> bool {
+    let mut buf = [b'.'; 8];
+    for want in [Ok(3), Err(Failed), Ok(3), Ok(3), Ok(2), Ok(0)] {
+        if !is_taken(source, &mut buf, want)
+            || !is_put(sink, &buf[..want.unwrap_or(0).min(8)], want)
+        {
+            return false;
+        }
+    }
+    true
+}
+
+fn is_steady(mut source: SteadySource) -> bool {
+    let mut buf = [b'.'; 8];
+    source.take(&mut buf) == Ok(8) && buf == *b"hello th"
+}
+
 #[test]
 fn bytes_come_through(rt: HostRuntime) -> Result<(), Fail> {
     let alloc = rt.alloc();
     let mut source = MemSource::new(b"hello there".to_vec(alloc)?, 3).failing([2].to_vec(alloc)?);
     let mut sink = MemSink::with_room(alloc, 3, 11)?.failing([2].to_vec(alloc)?);
-    let mut buf = [b'.'; 8];
-    for want in [Ok(3), Err(Failed), Ok(3), Ok(3), Ok(2), Ok(0)] {
-        assert!(rt; is_taken(&mut source, &mut buf, want));
-        assert!(rt; is_put(&mut sink, &buf[..want.unwrap_or(0).min(8)], want));
-    }
-    let mut steady = SteadySource::new(sink.as_slice().to_vec(alloc)?);
-    assert!(rt; steady.take(&mut buf) == Ok(8) && buf == *b"hello th");
+    assert!(rt; come_through(&mut source, &mut sink));
+    assert!(rt; is_steady(SteadySource::new(sink.as_slice().to_vec(alloc)?)));
     Ok(())
 }

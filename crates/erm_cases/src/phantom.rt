@@ -128,45 +128,63 @@ fn written(oid: Oid) -> VersionWritten {
     }
 }
 
-// Whether these, run one after another from the empty map, are answered as they were told: each found no key.
+// What a transaction asks, and what it was told: it found no key.
+fn ops(alloc: Global, sketch: &Sketch) -> Result<Option<Vec<Op>>, AllocError> {
+    let Some(value) = Value::new(&[7]) else {
+        return Ok(None);
+    };
+    let next = Op::Next {
+        table: sketch.scans,
+        from: 0,
+    };
+    let put = Op::Put {
+        table: sketch.puts,
+        key: 10,
+        value,
+    };
+    Ok(Some(Vec::from_array(alloc, [next, put])?))
+}
+
+fn are_told(replies: &[Reply]) -> bool {
+    matches!(replies, [Reply::Pair(None), Reply::Done])
+}
+
+// Whether these, run one after another from the empty map, are answered as they were told.
 fn are_as_told(alloc: Global, order: &[Sketch]) -> Result<bool, AllocError> {
-    let mut told = Vec::new(alloc);
-    told.push(Reply::Pair(None))?;
-    told.push(Reply::Done)?;
     let mut map = Map::new(alloc);
     for sketch in order {
-        let Some(value) = Value::new(&[7]) else {
+        let Some(ops) = ops(alloc, sketch)? else {
             return Ok(false);
         };
-        let mut ops = Vec::new(alloc);
-        ops.push(Op::Next {
-            table: sketch.scans,
-            from: 0,
-        })?;
-        ops.push(Op::Put {
-            table: sketch.puts,
-            key: 10,
-            value,
-        })?;
-        if run_one(alloc, &mut map, &ops)? != told {
+        if !are_told(&run_one(alloc, &mut map, &ops)?) {
             return Ok(false);
         }
     }
     Ok(true)
 }
 
+// Whether the second of both transactions has the stamps of a case, and commits or not.
+fn has_stamps(history: &[TransactionRecord], case: &Case) -> bool {
+    let Some(second) = history.get(1) else {
+        return false;
+    };
+    let succ = successor_stamp(history, 1);
+    let pred = predecessor_stamp(history, second);
+    succ == case.succ && pred == case.pred && (pred < succ) == case.commits
+}
+
+fn both(alloc: Global, case: &Case) -> Result<Vec<TransactionRecord>, AllocError> {
+    let mut history = Vec::new(alloc);
+    history.push(transaction(alloc, FIRST, case.registers.0)?)?;
+    history.push(transaction(alloc, SECOND, case.registers.1)?)?;
+    Ok(history)
+}
+
 #[test]
 fn phantoms(rt: HostRuntime) -> Result<(), Fail> {
-    for (place, case) in CASES.iter().enumerate() {
-        let mut history = Vec::new(rt.alloc());
-        history.push(transaction(rt.alloc(), FIRST, case.registers.0)?)?;
-        history.push(transaction(rt.alloc(), SECOND, case.registers.1)?)?;
-        let succ = successor_stamp(&history, 1);
-        let pred = predecessor_stamp(&history, &history[1]);
-        assert_eq!(rt; (succ, pred), (case.succ, case.pred), "stamps of {place}");
-        assert_eq!(rt; pred < succ, case.commits, "window of {place}");
-        let as_told = are_as_told(rt.alloc(), case.order)?;
-        assert_eq!(rt; as_told, case.as_told, "run of {place}");
+    for case in &CASES {
+        assert!(rt; has_stamps(&both(rt.alloc(), case)?, case));
+        assert!(rt; are_as_told(rt.alloc(), case.order)? == case.as_told);
     }
     Ok(())
 }

@@ -1,6 +1,8 @@
 //! One script, lines by their kinds of fault, and one session too many.
 use erm_model::{SESSIONS, Seat};
-use erm_script::{Command, FaultKind, Grammar, NO_SESSION, ParseError, Script, ScriptFault, parse};
+use erm_script::{
+    Command, FaultKind, Grammar, NO_SESSION, ParseError, Script, ScriptFault, ScriptLine, parse,
+};
 use std::alloc::Global;
 use std::test::Fail;
 
@@ -207,24 +209,38 @@ fn is_at(command: &Command, place: usize) -> bool {
     }
 }
 
+// Whether these are the lines of the script.
+fn are_lines(lines: &[ScriptLine]) -> bool {
+    for ((place, line), (number, session)) in lines.iter().enumerate().zip(PLACES) {
+        if line.line != number || line.session != session || !is_at(&line.command, place) {
+            return false;
+        }
+    }
+    lines.len() == PLACES.len()
+}
+
 #[test]
 fn one_script(rt: HostRuntime) -> Result<(), Fail> {
     let Ok(Script { names, lines }) = parse(rt.alloc(), SCRIPT, ALL) else {
         return Err(Fail::new("no script"));
     };
-    assert!(rt; names.len() == 2 && lines.len() == PLACES.len());
-    for ((place, line), (number, session)) in lines.iter().enumerate().zip(PLACES) {
-        assert!(rt; line.line == number && line.session == session);
-        assert!(rt; is_at(&line.command, place));
-    }
+    assert!(rt; names.len() == 2 && are_lines(&lines));
     Ok(())
+}
+
+// The first line with another fault than is said.
+fn first_other(alloc: Global) -> Option<&'static [u8]> {
+    for (line, grammar, want) in &LINES {
+        if fault(alloc, *line, *grammar).map(|fault| fault.kind) != *want {
+            return Some(*line);
+        }
+    }
+    None
 }
 
 #[test]
 fn lines_by_their_kinds_of_fault(rt: HostRuntime) {
-    for (line, grammar, want) in LINES {
-        assert!(rt; fault(rt.alloc(), line, grammar).map(|fault| fault.kind) == want);
-    }
+    assert_eq!(rt; first_other(rt.alloc()), None);
 }
 
 #[test]

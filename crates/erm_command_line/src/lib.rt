@@ -4,8 +4,6 @@
 mod command;
 mod line;
 mod number;
-#[cfg(test)]
-mod tests;
 
 pub use command::{
     Command, MOST_SESSIONS, MOST_TRANSACTIONS, command_of, command_words_are_commands,

@@ -1,9 +1,10 @@
 //! One small transaction, values at the edges of their length, and the limits as numbers.
 use erm_model::{
     COMMIT_KIND, GREATEST_BLOCK, Key, LAST_NUMBER, LAST_RUN, LEAST_BLOCK, LOG_END, MOST_CELLS, Map,
-    OID_LIMIT, Op, READ_LIMIT, RING_WORDS, RUN_UNIT, Reply, SEGMENT_WORDS, SESSIONS, SIZE_UNIT,
-    SKIP_KIND, STOP, TABLE_CELLS, TABLES, VALUE_BYTES, Value, WRITE_LIMIT, run_one,
+    OID_LIMIT, Op, Pair, READ_LIMIT, RING_WORDS, RUN_UNIT, Reply, SEGMENT_WORDS, SESSIONS,
+    SIZE_UNIT, SKIP_KIND, STOP, TABLE_CELLS, TABLES, VALUE_BYTES, Value, WRITE_LIMIT, run_one,
 };
+use std::alloc::{AllocError, Global};
 use std::test::Fail;
 
 const TABLE: u8 = 2;
@@ -76,38 +77,61 @@ fn reply(ask: Ask, found: Option<(u64, u8)>) -> Reply {
     }
 }
 
-#[test]
-fn one_transaction(rt: HostRuntime) -> Result<(), Fail> {
-    let mut map = Map::new(rt.alloc());
-    assert!(rt; map.is_empty());
+fn ops(alloc: Global) -> Result<Vec<Op>, AllocError> {
+    let mut ops = Vec::new(alloc);
+    for (ask, key, _) in TRANSACTION {
+        ops.push(op(ask, key))?;
+    }
+    Ok(ops)
+}
+
+// Whether these are the replies.
+fn are_replies(replies: &[Reply]) -> bool {
+    replies.len() == TRANSACTION.len()
+        && replies
+            .iter()
+            .zip(TRANSACTION)
+            .all(|(found, (ask, _, pair))| *found == reply(ask, pair))
+}
+
+// The map before.
+fn map_before(alloc: Global) -> Result<Map, AllocError> {
+    let mut map = Map::new(alloc);
     map.insert(TABLE, 7, value(b's'))?;
     map.insert(TABLE + 1, 0, value(b'o'))?;
-    let mut ops = Vec::new(rt.alloc());
-    let mut wanted = Vec::new(rt.alloc());
-    for (ask, key, found) in TRANSACTION {
-        ops.push(op(ask, key))?;
-        wanted.push(reply(ask, found))?;
-    }
-    let replies = run_one(rt.alloc(), &mut map, ops.as_slice())?;
-    assert!(rt; replies == wanted);
-    assert!(rt; map.len() == KEYS.len());
-    for (pair, key) in map.pairs(rt.alloc())?.iter().zip(KEYS) {
-        assert!(rt; pair.key == key);
-    }
+    Ok(map)
+}
+
+// Whether these are the keys with a value.
+fn are_keys(pairs: &[Pair]) -> bool {
+    pairs.len() == KEYS.len() && pairs.iter().zip(KEYS).all(|(pair, key)| pair.key == key)
+}
+
+#[test]
+fn one_transaction(rt: HostRuntime) -> Result<(), Fail> {
+    assert!(rt; Map::new(rt.alloc()).is_empty());
+    let mut map = map_before(rt.alloc())?;
+    let replies = run_one(rt.alloc(), &mut map, &ops(rt.alloc())?)?;
+    assert!(rt; are_replies(&replies) && map.len() == KEYS.len());
+    assert!(rt; are_keys(&map.pairs(rt.alloc())?));
     Ok(())
+}
+
+// Whether a value of so many bytes fits, or not, as is said, and has those bytes then.
+fn fits_so(length: usize, fits: bool) -> bool {
+    let bytes = [7; VALUE_BYTES + 1];
+    let Some(front) = bytes.get(..length) else {
+        return false;
+    };
+    match Value::new(front) {
+        Some(value) => fits && value.as_slice() == front && value.copied() == value,
+        None => !fits,
+    }
 }
 
 #[test]
 fn lengths_of_values(rt: HostRuntime) {
-    let bytes = [7; VALUE_BYTES + 1];
-    for (length, fits) in [(0, true), (112, true), (113, false)] {
-        let value = Value::new(&bytes[..length]);
-        assert!(rt; value.is_some() == fits);
-        if let Some(value) = value {
-            assert!(rt; value.as_slice() == &bytes[..length]);
-            assert!(rt; value.copied() == value);
-        }
-    }
+    assert!(rt; fits_so(0, true) && fits_so(112, true) && fits_so(113, false));
 }
 
 // Each limit, and the numbers of a header, spelled out.

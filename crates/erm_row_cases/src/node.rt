@@ -102,18 +102,28 @@ const OTHERS: [(Row, usize, u64); 22] = [
     (ABSENT, 0, 2),
 ];
 
+// Whether a row is a node's, a leaf's or not, with so many pairs.
+fn is_read_so(row: &Row, leaf: bool, count: usize) -> bool {
+    let Some(node) = read_node(row) else {
+        return false;
+    };
+    node.leaf == leaf && node.pairs.len() == count && row_of_node(&node) == *row
+}
+
+// Whether a row with a word changed is no node's.
+fn is_refused(row: Row, word: usize, value: u64) -> bool {
+    let mut other = row;
+    other[word % ROW_WORDS] = value;
+    read_node(&other).is_none()
+}
+
 #[test]
 fn strict_reading(rt: HostRuntime) {
-    for (row, leaf, count) in NODES {
-        let node = read_node(&row).expect(&rt, "it is a node");
-        assert!(rt; node.leaf == leaf);
-        assert!(rt; node.pairs.len() == count);
-        assert!(rt; row_of_node(&node) == row);
+    for (row, leaf, count) in &NODES {
+        assert!(rt; is_read_so(row, *leaf, *count));
     }
-    for (row, word, value) in OTHERS {
-        let mut other = row;
-        other[word % ROW_WORDS] = value;
-        assert!(rt; read_node(&other).is_none());
+    for (row, word, value) in &OTHERS {
+        assert!(rt; is_refused(*row, *word, *value));
     }
 }
 
@@ -281,8 +291,8 @@ const CHANGES: [(bool, Oid, Row); 28] = [
 ];
 
 fn set(rows: &mut [Row], oid: Oid, row: Row) {
-    if (oid as usize) < rows.len() {
-        rows[oid as usize] = row;
+    if let Some(place) = rows.get_mut(oid as usize) {
+        *place = row;
     }
 }
 
@@ -300,17 +310,24 @@ fn set_example(rows: &mut [Row]) {
     }
 }
 
+// The first change after which the example is sound, or isn't, unlike what is said.
+fn first_wrong(rows: &mut [Row]) -> Option<usize> {
+    for (place, (wanted, oid, row)) in CHANGES.iter().enumerate() {
+        set_example(rows);
+        set(rows, *oid, *row);
+        if rows.len() != OID_LIMIT as usize || sound(rows) != *wanted {
+            return Some(place);
+        }
+    }
+    None
+}
+
 #[test]
 fn soundness(rt: HostRuntime) -> Result<(), Fail> {
     let mut array = vec![in rt.alloc(); ZEROS; OID_LIMIT as usize]?;
     let rows = array.as_mut_slice();
     assert!(rt; rows.len() == OID_LIMIT as usize);
-    assert!(rt; sound(rows));
-    for (wanted, oid, row) in CHANGES {
-        set_example(rows);
-        set(rows, oid, row);
-        assert!(rt; sound(rows) == wanted);
-    }
+    assert!(rt; sound(rows) && first_wrong(rows).is_none());
     Ok(())
 }
 
@@ -337,6 +354,14 @@ fn byte_of(map: &Map, table: u8, key: u64) -> Option<u8> {
     map.get(table, key)?.as_slice().first().copied()
 }
 
+// Whether the map has the values of the example's keys.
+fn has_values(map: &Map) -> bool {
+    map.len() == 44
+        && VALUES
+            .iter()
+            .all(|(table, key, byte)| byte_of(map, *table, *key) == *byte)
+}
+
 #[test]
 fn map_of_example(rt: HostRuntime) -> Result<(), Fail> {
     let mut array = vec![in rt.alloc(); ZEROS; OID_LIMIT as usize]?;
@@ -344,10 +369,7 @@ fn map_of_example(rt: HostRuntime) -> Result<(), Fail> {
     assert!(rt; rows.len() == OID_LIMIT as usize);
     assert!(rt; map_of(rt.alloc(), rows)?.is_empty());
     set_example(rows);
-    let map = map_of(rt.alloc(), rows)?;
-    assert!(rt; map.len() == 44);
-    for (table, key, byte) in VALUES {
-        assert!(rt; byte_of(&map, table, key) == byte);
-    }
+    assert!(rt; rows.len() == OID_LIMIT as usize);
+    assert!(rt; has_values(&map_of(rt.alloc(), rows)?));
     Ok(())
 }

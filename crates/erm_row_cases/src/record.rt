@@ -4,16 +4,21 @@ use erm_record::{PRESENT, absent, one_value, record_values, row_of, stored_words
 
 const THREE: Row = [2, 3, 0x63_62_61, 0, 0, 0, 0, 0, 0, 0, 0, 0, 0, 0, 0, 0];
 
+// Whether the value of three bytes has its row, and none has another one.
+fn has_row(value: Value) -> bool {
+    row_of(&value) == THREE && value_of(&THREE) == Some(value)
+}
+
+fn have_no_value() -> bool {
+    absent() == [1, 0, 0, 0, 0, 0, 0, 0, 0, 0, 0, 0, 0, 0, 0, 0]
+        && value_of(&absent()).is_none()
+        && value_of(&[0; ROW_WORDS]).is_none()
+}
+
 #[test]
 fn three_bytes(rt: HostRuntime) {
-    let value = Value::new(b"abc").expect(&rt, "three bytes are a value");
-    assert!(rt; row_of(&value) == THREE);
-    assert!(rt; value_of(&THREE) == Some(value));
-    assert!(rt; absent() == [1, 0, 0, 0, 0, 0, 0, 0, 0, 0, 0, 0, 0, 0, 0, 0]);
-    assert!(rt; value_of(&absent()).is_none());
-    assert!(rt; value_of(&[0; ROW_WORDS]).is_none());
-    assert!(rt; stored_words(&THREE) == 4);
-    assert!(rt; stored_words(&[0; ROW_WORDS]) == 1);
+    assert!(rt; Value::new(b"abc").is_some_and(has_row) && have_no_value());
+    assert!(rt; stored_words(&THREE) == 4 && stored_words(&[0; ROW_WORDS]) == 1);
     one_value();
     record_values();
 }

@@ -6,8 +6,6 @@ mod laws;
 mod operation;
 mod run;
 mod staying;
-#[cfg(test)]
-mod tests;
 
 pub use claims::{Saved, back};
 pub use laws::{

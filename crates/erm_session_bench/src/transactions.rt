@@ -8,7 +8,7 @@ ghost use Rattle.erm_rule.specs.Views.{view};
 ghost use Rattle.erm_session.specs.Opening.{StandsAt};
 
 use erm_machine::{OBJECT_LIMIT, RING_WORDS};
-use erm_model::{AnyRows, Oid, Outcome, ROW_WORDS};
+use erm_model::{AnyRows, Oid, Outcome, ROW_WORDS, Row};
 use erm_ring::{clear, gather};
 use erm_rule::{Opening, Pass, open, sessions_are_handed_out, split};
 use erm_session::Session;
@@ -22,7 +22,14 @@ type Table = erm_rule::Table<AnyRows>;
 const FLUSH_EVERY: u64 = 100;
 
 // How far the two objects that a transaction reads are apart.
-const STRIDE: Oid = 379;
+const STRIDE: u64 = 379;
+
+// So many rows of zeros.
+fn rows_of_zeros(alloc: Global, count: usize) -> Result<Vec<Row>, AllocError>
+    ensures { IfOk result (λ rows. vec_len rows ≡ count) }
+{
+    vec![in alloc; [0; ROW_WORDS]; count]
+}
 
 // An opening of run 1 on rows of zeros, whose log begins at 13.
 fn opening_of_zeros(alloc: Global) -> Result<Opening, AllocError>
@@ -32,12 +39,13 @@ fn opening_of_zeros(alloc: Global) -> Result<Opening, AllocError>
     ensures first { IfOk result (λ o. o.first ≡ 16) }
     ensures rows { IfOk result (λ o. vec_len o.rows ≡ OBJECT_LIMIT) }
 {
+    let rows = rows_of_zeros(alloc, OBJECT_LIMIT as usize)?;
     Ok(Opening {
         sessions: 0,
         tail: 13,
         run: 1,
         first: 16,
-        rows: vec![in alloc; [0; ROW_WORDS]; OBJECT_LIMIT as usize]?,
+        rows,
     })
 }
 
@@ -77,15 +85,23 @@ fn commit_all(
     count
 }
 
+// The object that a number gives.
+fn object(number: u64) -> Oid
+    ensures { result < OBJECT_LIMIT }
+{
+    (number % u64::from(OBJECT_LIMIT)) as Oid
+}
+
 // A transaction reads two objects, which its number gives, writes the first of them, and commits.
 fn commit_one(t: &Table, session: &mut Session, pass: &mut Pass, number: u64) -> Option<()>
     requires stands { Fits t.now.words.shared.table_id pass.old × StandsAt session.old (view pass.old) phase.Idle }
     ensures stands { IfSome result (λ _. Fits t.now.words.shared.table_id pass.new × StandsAt session.new (view pass.new) phase.Idle) }
 {
-    let first = (number % u64::from(OBJECT_LIMIT)) as Oid;
+    let first = object(number);
+    let second = object(number.wrapping_add(STRIDE));
     session.begin(t, pass).ok()?;
     session.read(t, pass, first).ok()?;
-    session.read(t, pass, (first + STRIDE) % OBJECT_LIMIT).ok()?;
+    session.read(t, pass, second).ok()?;
     session.write(t, pass, first, &[number; ROW_WORDS]).ok()?;
     session.seal(t, pass);
     match session.settle(t, pass) {

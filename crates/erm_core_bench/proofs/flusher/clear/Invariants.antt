@@ -1,5 +1,0 @@
-use Rattle.erm_core.specs.Ready.{IsReady}
-use Rattle.erm_core_bench.proofs.flusher.clear.Given as goal
-
-abbrev pub invariant-loop-at : goal.invariant-loop-at
-invariant-loop-at l = IsReady l.driver.state

@@ -1,5 +1,0 @@
-use Rattle.erm_core.specs.Ready.{IsReady}
-use Rattle.erm_core_bench.proofs.rounds.write_all.Given as goal
-
-abbrev pub invariant-loop-writer : goal.invariant-loop-writer
-invariant-loop-writer l = IsReady l.driver.state

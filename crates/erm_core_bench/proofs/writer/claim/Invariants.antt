@@ -1,5 +1,0 @@
-use Rattle.erm_core.specs.Ready.{IsReady}
-use Rattle.erm_core_bench.proofs.writer.claim.Given as goal
-
-abbrev pub invariant-loop-k : goal.invariant-loop-k
-invariant-loop-k l = IsReady l.driver.state
