@@ -26,6 +26,10 @@ use Rattle.erm_cells.proofs.Views.{active_taken, active_unsealed, when_true, bot
 
 entry_guard : (seat oid found : ℕ) (o : Object) (x : Part) (t : Task) → starts_anew t ≡ true → is_active x.place ≡ true → load_entry seat oid found o x t ≡ Some (with_task (entered seat oid found o) x)
 entry_guard seat oid found o x (task.Cleared cleared) starts active = absurd (cc)
+entry_guard seat oid found o x task.Safe starts active = absurd (cc)
+entry_guard seat oid found o x (task.SafeWalks version) starts active = absurd (cc)
+entry_guard seat oid found o x (task.SafePassed version) starts active = absurd (cc)
+entry_guard seat oid found o x (task.SafeFound version) starts active = absurd (cc)
 entry_guard seat oid found o x _ starts active = when_true _ _ (both _ _ active starts)
 
 pub same_self : (v : VersionAt) → same_version v v ≡ true

@@ -24,6 +24,7 @@ IsEndStep (kind.StoreSucc version value) found = Unit {0}
 IsEndStep (kind.StoreOverwriter version value) found = Unit {0}
 IsEndStep (kind.Install oid head) found = Unit {0}
 IsEndStep (kind.ClearReader version) found = Unit {0}
+IsEndStep (kind.StoreBack value) found = Unit {0}
 IsEndStep (kind.StoreBegin value) found = value ≡ 0
 IsEndStep (kind.StoreState value) found = value ≡ 0
 IsEndStep k found = ⊥

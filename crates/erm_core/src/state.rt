@@ -172,6 +172,16 @@ impl State {
         }
     }
 
+    // The back word of a seat.
+    fn back_word(&self, seat: Seat) -> u64
+        ensures { result ≡ core_specs.word_at (core_of self.now) (core_specs.back_word seat) }
+    {
+        match self.seats.get(seat as usize) {
+            Some(x) => x.back,
+            None => 0,
+        }
+    }
+
     // The entry of an object.
     fn entry_word(&self, oid: Oid) -> u64
         ensures { result ≡ core_specs.word_at (core_of self.now) (core_specs.entry_word oid) }
@@ -231,6 +241,8 @@ impl State {
             Kind::StoreState { .. } => self.state_word(seat),
             Kind::LoadBegin { seat: other } => self.begin_word(other),
             Kind::LoadState { seat: other, .. } => self.state_word(other),
+            Kind::StoreBack { .. } => self.back_word(seat),
+            Kind::LoadBack { seat: other } => self.back_word(other),
             Kind::LoadCounter { counter } | Kind::AddCounter { counter } => {
                 self.counter_word(counter)
             }

@@ -19,6 +19,7 @@ use Rattle.erm_machine.specs.Sound.{Sound}
 use Rattle.erm_machine.specs.Step.{after_event, shared_after, with_part}
 use Rattle.erm_machine.specs.Words.{is_flusher, put}
 use Rattle.erm_machine.proofs.Frames.{each_seat}
+use Rattle.erm_machine.proofs.Backs.{active_begin_then}
 use Rattle.erm_machine.proofs.Guards.{either_way, when_then}
 use Rattle.erm_machine.proofs.QuietKinds.{IsQuiet, MeetsOne, Moves, moves, quiet_kind}
 use Rattle.erm_core_lives.proofs.Lasting.{lasting_kind}
@@ -49,8 +50,9 @@ module _ (run seat : ℕ) where
   s_store_begin : (value : ℕ) (x : Part) (pl : Place) (y : Part) → AllSpelled run seat x → store_begin seat value x pl ≡ Some y → AllSpelled run seat y
   s_store_begin value x (Begun tail) y old e = when_then (AllSpelled run seat) _ _ y e (λ _. spelled_stay run seat x _ refl refl old)
   s_store_begin value x (Active tail) y old e =
-      when_then (AllSpelled run seat) _ _ y e (λ _.
-      either_way (AllSpelled run seat) (is_flusher seat) _ _ (λ _. spelled_none run seat x _ refl refl old) (λ _. spelled_over run seat Abort x task.Rest (λ has. absurd has) old))
+      active_begin_then (AllSpelled run seat) seat value tail x y e
+      (λ _ _. either_way (AllSpelled run seat) (is_flusher seat) _ _ (λ _. spelled_none run seat x _ refl refl old) (λ _. spelled_over run seat Abort x task.Rest (λ has. absurd has) old))
+      (λ _ _ _ _. spelled_stay run seat x _ refl refl old)
   s_store_begin value x (Decided tail stamp) y old e = when_then (AllSpelled run seat) _ _ y e (λ _. spelled_stay run seat x _ refl refl old)
   s_store_begin value x _ y old e = absurd (cc)
 
@@ -61,8 +63,9 @@ module _ (run seat : ℕ) where
       when_then (AllSpelled run seat) _ _ y e (λ _. spelled_over run seat x.current.decision x x.task (old.each x.current (∈-last x.over x.current)) old)
   s_store_state value x _ y old e = absurd (cc)
 
-  s_load_begin : (other found : ℕ) (x : Part) (t : Task) (y : Part) → AllSpelled run seat x → load_begin other found x t ≡ Some y → AllSpelled run seat y
+  s_load_begin : (other found : ℕ) (x : Part) (t : Task) (y : Part) → AllSpelled run seat x → load_begin seat other found x t ≡ Some y → AllSpelled run seat y
   s_load_begin other found x (task.Horizon version least next) y old e = when_then (AllSpelled run seat) _ _ y e (λ _. spelled_stay run seat x _ refl refl old)
+  s_load_begin other found x (task.Surveys next) y old e = when_then (AllSpelled run seat) _ _ y e (λ _. spelled_stay run seat x _ refl refl old)
   s_load_begin other found x _ y old e = absurd (cc)
 
   s_load_state : (other bound found : ℕ) (x y : Part) → AllSpelled run seat x → load_state seat other bound found x ≡ Some y → AllSpelled run seat y

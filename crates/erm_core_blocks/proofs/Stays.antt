@@ -20,6 +20,7 @@ use Rattle.erm_machine.specs.Sound.{Sound}
 use Rattle.erm_machine.specs.Step.{after_event, shared_after, with_part}
 use Rattle.erm_machine.specs.Words.{is_flusher, put}
 use Rattle.erm_machine.proofs.Frames.{each_seat}
+use Rattle.erm_machine.proofs.Backs.{active_begin_then}
 use Rattle.erm_machine.proofs.Guards.{either_way, when_then}
 use Rattle.erm_machine.proofs.QuietKinds.{IsQuiet, MeetsOne, Moves, moves, quiet_kind}
 use Rattle.erm_core_lives.proofs.Lasting.{lasting_kind}
@@ -55,8 +56,9 @@ y_add_tail seat size found x _ y cur e = absurd (cc)
 y_store_begin : (seat value : ℕ) (x : Part) (pl : Place) (y : Part) → IsCurrent pl x.current → store_begin seat value x pl ≡ Some y → AllStay x y
 y_store_begin seat value x (Begun tail) y cur e = when_then (AllStay x) _ _ y e (λ _. same x _ refl refl)
 y_store_begin seat value x (Active tail) y cur e =
-    when_then (AllStay x) _ _ y e (λ _.
-    either_way (AllStay x) (is_flusher seat) _ _ (λ _. fresh x _ refl cur.decision) (λ _. stay_over Abort x task.Rest (λ has. absurd (subst HasBlock cur.decision has))))
+    active_begin_then (AllStay x) seat value tail x y e
+    (λ _ _. either_way (AllStay x) (is_flusher seat) _ _ (λ _. fresh x _ refl cur.decision) (λ _. stay_over Abort x task.Rest (λ has. absurd (subst HasBlock cur.decision has))))
+    (λ _ _ _ _. same x _ refl refl)
 y_store_begin seat value x (Decided tail stamp) y cur e = when_then (AllStay x) _ _ y e (λ _. same x _ refl refl)
 y_store_begin seat value x _ y cur e = absurd (cc)
 
@@ -66,9 +68,10 @@ y_store_state seat value x (Drawn tail stamp) y e = when_then (AllStay x) _ _ y 
 y_store_state seat value x (Leaving stamp) y e = when_then (AllStay x) _ _ y e (λ _. stay_over x.current.decision x x.task (λ _. refl))
 y_store_state seat value x _ y e = absurd (cc)
 
-y_load_begin : (other found : ℕ) (x : Part) (t : Task) (y : Part) → load_begin other found x t ≡ Some y → AllStay x y
-y_load_begin other found x (task.Horizon version least next) y e = when_then (AllStay x) _ _ y e (λ _. same x _ refl refl)
-y_load_begin other found x _ y e = absurd (cc)
+y_load_begin : (seat other found : ℕ) (x : Part) (t : Task) (y : Part) → load_begin seat other found x t ≡ Some y → AllStay x y
+y_load_begin seat other found x (task.Horizon version least next) y e = when_then (AllStay x) _ _ y e (λ _. same x _ refl refl)
+y_load_begin seat other found x (task.Surveys next) y e = when_then (AllStay x) _ _ y e (λ _. same x _ refl refl)
+y_load_begin seat other found x _ y e = absurd (cc)
 
 y_load_state : (seat other bound found : ℕ) (x y : Part) → load_state seat other bound found x ≡ Some y → AllStay x y
 y_load_state seat other bound found x y e = when_then (AllStay x) _ _ y e (λ _. same x _ refl refl)
@@ -140,7 +143,7 @@ stays c p (kind.StoreState value) d sound e =
     stays_moved c p (kind.StoreState value) d m (y_store_state p value (c.seats p) (c.seats p).place m.part m.after)
 stays c p (kind.LoadBegin other) d sound e =
     let m = moves c p (kind.LoadBegin other) d tt e in
-    stays_moved c p (kind.LoadBegin other) d m (y_load_begin other (word_at c (spot_of p (kind.LoadBegin other))) (c.seats p) (c.seats p).task m.part m.after)
+    stays_moved c p (kind.LoadBegin other) d m (y_load_begin p other (word_at c (spot_of p (kind.LoadBegin other))) (c.seats p) (c.seats p).task m.part m.after)
 stays c p (kind.LoadState other bound) d sound e =
     let m = moves c p (kind.LoadState other bound) d tt e in
     stays_moved c p (kind.LoadState other bound) d m (y_load_state p other bound (word_at c (spot_of p (kind.LoadState other bound))) (c.seats p) m.part m.after)

@@ -1,5 +1,5 @@
 -- How far a call may have come: the steps of an active transaction.
-use Rattle.std.proofs.Common.{◌≡◌, ℕ, ◌+◌, ◌<◌, Bool, true, false, eqb, ltb, length, Some, None, refl, subst, arith, length-set}
+use Rattle.std.proofs.Common.{◌≡◌, ℕ, ◌+◌, ◌<◌, Bool, true, false, eqb, ltb, length, Some, None, refl, sym, subst, arith, length-set}
 use Rattle.std.specs.Prelude.{if◌then◌else◌}
 use Rattle.std.proofs.lemmas.Bool.{eqb-false, ltb-true}
 use Rattle.erm_model.specs.declared.TheConstants.{ROW_WORDS}
@@ -15,11 +15,12 @@ use Rattle.erm_machine.specs.declared.version.CellWord.TheVariants as word
 use Rattle.erm_machine.specs.declared.version.VersionAt.{VersionAt}
 use Rattle.erm_machine.specs.Bounds.{IsBounded, OwnBounds}
 use Rattle.erm_machine.specs.Core.{Object}
-use Rattle.erm_machine.specs.Reading.{head_version, entered, lost, after_cut, detached, load_entry, claim, set_reader, load_walked_stamp, load_walked_link, load_cell, swap_link, load_detached, load_counter, add_counter, load_active_stamp, start_row, store_row_word}
+use Rattle.erm_machine.specs.Reading.{head_version, entered, lost, after_cut, detached, load_entry, claim, set_reader, load_walked_stamp, load_walked_link, load_cell, swap_link, load_detached, load_counter, add_counter, load_active_stamp, start_row, store_row_word, unset}
 use Rattle.erm_machine.specs.Seat.{is_active}
 use Rattle.erm_machine.specs.Settling.{store_active_word, unclaim}
 use Rattle.erm_machine.specs.Tasks.{OwnTask}
 use Rattle.erm_machine.specs.Words.{is_seat, owner_of}
+use Rattle.erm_machine.proofs.Backs.{entry_then, rest_is}
 use Rattle.erm_machine.proofs.Guards.{when_then, if_then, either_way}
 use Rattle.erm_core_calls.proofs.BoundsFrames.{first, second, positive_of, Ready, ready_active, Bound, bound_if, bound_from, goes_on, task_on}
 
@@ -51,7 +52,10 @@ module _ (p : ℕ) (x : Part) (own : OwnBounds p x) (fits : OwnTask x) where
   pub b_load_entry : (oid found : ℕ) (o : Object) (t : Task) (y : Part) → (0 < owner_of found → is_seat (owner_of found) ≡ true) → load_entry p oid found o x t ≡ Some y → OwnBounds p y
   b_load_entry oid found o (task.Cleared cleared) y words e =
       when_then (OwnBounds p) _ _ y e (λ g. task_on p x _ (active g) (either_way (Bound p x.current) (eqb oid cleared) (task.Walks (head_version oid found o) None) (entered p oid found o) (λ _. search (bound_from)) (λ _. entered_bound p oid found o x.current words)))
-  b_load_entry oid found o t y words e = when_then (OwnBounds p) _ _ y e (λ g. task_on p x _ (active (first _ _ g)) (entered_bound p oid found o x.current words))
+  b_load_entry oid found o t y words e =
+      entry_then (OwnBounds p) p oid found o x t y e
+      (λ _ at. task_on p x _ (active at) (search (bound_from)))
+      (λ g. task_on p x _ (active (first _ _ g)) (entered_bound p oid found o x.current words))
 
   pub b_claim : (oid seen number found : ℕ) (o : Object) (t : Task) (y : Part) → (0 < owner_of found → is_seat (owner_of found) ≡ true) → claim p oid seen number found o x t ≡ Some y → OwnBounds p y
   b_claim oid seen number found o (task.Found version stamp (Some entry)) y words e =
@@ -68,11 +72,13 @@ module _ (p : ℕ) (x : Part) (own : OwnBounds p x) (fits : OwnTask x) where
   b_walked_stamp : (found : ℕ) (v : VersionAt) (t : Task) (y : Part) → is_active x.place ≡ true → load_walked_stamp found v x t ≡ Some y → OwnBounds p y
   b_walked_stamp found v (task.Walks version head) y at e = when_then (OwnBounds p) _ _ y e (λ _. task_on p x _ (active at) (search (bound_if, bound_from)))
   b_walked_stamp found v (task.CutWalks version horizon) y at e = when_then (OwnBounds p) _ _ y e (λ _. task_on p x _ (active at) (search (bound_if, bound_from)))
+  b_walked_stamp found v (task.SafeWalks version) y at e = when_then (OwnBounds p) _ _ y e (λ _. task_on p x _ (active at) (search (bound_if, bound_from)))
   b_walked_stamp found v (task.Passed version) y at e = when_then (OwnBounds p) _ _ y e (λ _. task_on p x _ (active at) (search (bound_from)))
   b_walked_stamp found v _ y at e = absurd (cc)
 
   b_walked_link : (found : ℕ) (v : VersionAt) (t : Task) (y : Part) → is_active x.place ≡ true → load_walked_link found v x t ≡ Some y → OwnBounds p y
   b_walked_link found v (task.Passed version) y at e = when_then (OwnBounds p) _ _ y e (λ _. task_on p x _ (active at) (search (bound_from)))
+  b_walked_link found v (task.SafePassed version) y at e = when_then (OwnBounds p) _ _ y e (λ _. task_on p x _ (active at) (search (bound_from)))
   b_walked_link found v (task.CutPassed version horizon) y at e =
       when_then (OwnBounds p) _ _ y e (λ _. task_on p x _ (active at) (search (bound_if, bound_from, after_cut_bound)))
   b_walked_link found v _ y at e = absurd (cc)
@@ -146,6 +152,12 @@ module _ (p : ℕ) (x : Part) (own : OwnBounds p x) (fits : OwnTask x) where
   pub b_active_word : (place cell : ℕ) (w : CellWord) (value : ℕ) (y : Part) → is_active x.place ≡ true → store_active_word place cell w value x ≡ Some y → OwnBounds p y
   b_active_word place cell (word.Row k) value y at e = b_row_word place cell k value x.task y refl at e
   b_active_word place cell _ value y at e = absurd (cc)
+
+  pub b_unset : (place : ℕ) (y : Part) → unset place x ≡ Some y → OwnBounds p y
+  b_unset place y e =
+      when_then (OwnBounds p) _ _ y e (λ g.
+      let tests = first _ _ (first _ _ g) in
+      goes_on p x x.task _ x.spare (active (first _ _ tests)) refl refl refl (subst (Bound p _) (sym (rest_is x.task (second _ _ tests))) (bound_from p _ task.Rest tt tt)))
 
   pub b_unclaim : (oid head : ℕ) (y : Part) → unclaim oid head x ≡ Some y → OwnBounds p y
   b_unclaim oid head y e = when_then (OwnBounds p) _ _ y e (λ g. goes_on p x _ _ x.spare (active (first _ _ (first _ _ (first _ _ g)))) refl refl refl (search (bound_from)))

@@ -6,7 +6,7 @@ use Rattle.std.proofs.lemmas.Bool.{eqb-true, eqb-false, ltb-true, true_from_ne_f
 use Rattle.std.proofs.lemmas.Option.{same_Some}
 use Rattle.erm_model.specs.Member.{◌∈◌}
 use Rattle.erm_model.proofs.Members.{∈-push, ∈-at}
-use Rattle.erm_machine.specs.declared.limits.TheConstants.{ANNOUNCERS, OBJECT_LIMIT}
+use Rattle.erm_machine.specs.declared.limits.TheConstants.{ANNOUNCERS, OBJECT_LIMIT, SESSIONS}
 use Rattle.erm_machine.specs.declared.attempt.Attempt.{Attempt}
 use Rattle.erm_machine.specs.declared.attempt.Decision.TheVariants.{Abort}
 use Rattle.erm_machine.specs.declared.event.Kind.{Kind}
@@ -28,7 +28,7 @@ use Rattle.erm_machine.specs.Decided.{MarkInHand}
 use Rattle.erm_machine.specs.Core.{Core, Shared, spot_of, word_at, version_at, claim_at, blank}
 use Rattle.erm_machine.specs.Facts.{IsCurrent}
 use Rattle.erm_machine.specs.Flushing.{load_flushed, gathered_word, load_ring, clear_ring, store_flushed}
-use Rattle.erm_machine.specs.Life.{load_tail_to_begin, load_tail_for_horizon, load_tail, add_tail, store_begin, store_state, load_begin, after_clear, load_state, split, join, decide}
+use Rattle.erm_machine.specs.Life.{load_tail_to_begin, load_tail_for_horizon, load_tail, add_tail, store_begin, store_state, load_begin, load_back, store_back, after_passed, after_clear, load_state, split, join, decide}
 use Rattle.erm_machine.specs.Reading.{load_entry}
 use Rattle.erm_machine.specs.Seat.{end_of, no_read, over, with_range, is_active, is_sealed, is_vacant, read_at, same_version}
 use Rattle.erm_machine.specs.Settling.{load_read_entry, load_stamp, store_cell, install, filled}
@@ -37,13 +37,14 @@ use Rattle.erm_machine.specs.Step.{part_after, after_event, is_known, with_part}
 use Rattle.erm_machine.specs.Tasks.{TaskFits}
 use Rattle.erm_machine.specs.Words.{put, is_clear, is_flusher, is_seat, refuses, state_of, without_bit}
 use Rattle.erm_machine.proofs.Frames.{each_seat}
+use Rattle.erm_machine.proofs.Backs.{active_begin_then, decided_begin_then}
 use Rattle.erm_machine.proofs.Guards.{when_then, some_then, if_then, either_way, unless_some}
 use Rattle.erm_machine.proofs.Holders.{stands_in}
 use Rattle.erm_machine.proofs.QuietKinds.{MeetsOne, moves}
 use Rattle.erm_core_calls.proofs.Bits.{bit_left, left_other}
 use Rattle.erm_core_calls.proofs.Seats.{seat_low, last_member, owner_seat, reader_seat, range_size}
 use Rattle.erm_core_calls.proofs.BoundsFrames.{first, second, positive_of, Early, FillsNone, none_stored, Ready, ready_from, ready_active, Bound, bound_from, task_on}
-use Rattle.erm_core_calls.proofs.BoundsActive.{b_load_entry, b_claim, b_set_reader, b_load_cell, b_swap_link, b_load_detached, b_load_counter, b_add_counter, b_active_stamp, b_active_word, b_unclaim}
+use Rattle.erm_core_calls.proofs.BoundsActive.{b_load_entry, b_claim, b_set_reader, b_load_cell, b_swap_link, b_load_detached, b_load_counter, b_add_counter, b_active_stamp, b_active_word, b_unset, b_unclaim}
 use Rattle.erm_core_calls.proofs.BoundsSettled.{b_to_settle, b_load_read_entry, b_load_readers, b_settled_stamp, b_store_ring, b_raise_reader, b_mark, b_head_word, b_install_claim, b_clear_reader}
 
 -- a seat that moves on with no word stored
@@ -139,7 +140,8 @@ module _ (c : Core) (p : ℕ) (sound : Sound c) where
       moves_on p (c.seats p) _ (ready_at (Begun tail) is tt rest) tt (subst FillsNone (sym rest) tt) refl refl own.bounded own.begin_seen own.stamp_seen)
   k_store_begin value (Active tail) y is e =
       let low = (current_at (Active tail) is).stamp in
-      when_then (OwnBounds p) _ _ y e (λ _.
+      active_begin_then (OwnBounds p) p value tail (c.seats p) y e
+      (λ _ _.
       either_way (OwnBounds p) (is_flusher p) (record (c.seats p) { place = Idle; task = task.Rest; current = blank }) (over Abort (record (c.seats p) { place = Idle; task = task.Rest }))
       (λ _. record { bounded = tt; stored = refl; blocks = own.blocks; begin_seen = omega arith; stamp_seen = omega arith })
       (λ _. record {
@@ -149,8 +151,10 @@ module _ (c : Core) (p : ℕ) (sound : Sound c) where
         begin_seen = omega arith;
         stamp_seen = omega arith;
       }))
+      (λ _ _ _ _.
+      moves_on p (c.seats p) _ (ready_active p (c.seats p) own (sound.own p).task (ap is_active is)) tt tt refl refl (omega arith, omega arith) own.begin_seen own.stamp_seen)
   k_store_begin value (Decided tail stamp) y is e =
-      when_then (OwnBounds p) _ _ y e (λ _. record {
+      decided_begin_then (OwnBounds p) p value tail stamp (c.seats p) y e (λ _ _ _. record {
         bounded = tt;
         stored = subst (λ (pl : Place). length (c.seats p).current.block ≡ words_stored pl (c.seats p).task (c.seats p).current.size) is own.stored;
         blocks = own.blocks;
@@ -180,8 +184,17 @@ module _ (c : Core) (p : ℕ) (sound : Sound c) where
       })
   k_store_state value _ y is e = absurd (cc)
 
-  k_load_begin : (other found : ℕ) (t : Task) (y : Part) → load_begin other found (c.seats p) t ≡ Some y → OwnBounds p y
-  k_load_begin other found (task.Horizon version least next) y e =
+  -- a session that is passed, of those up to the last
+  passed_bound : (next : ℕ) → next ≤ SESSIONS → Bound p (c.seats p).current (after_passed next)
+  passed_bound next low =
+      either_way (Bound p (c.seats p).current) (eqb next SESSIONS) task.Safe (task.Surveys (next + 1)) (λ _. search (bound_from))
+      (λ more. bound_from p (c.seats p).current (task.Surveys (next + 1)) (omega arith, below next low (eqb-false next SESSIONS more)) tt)
+    where
+      below : (n : ℕ) → n ≤ SESSIONS → (n ≡ SESSIONS → ⊥) → n + 1 ≤ SESSIONS
+      below n low ne = grind arith
+
+  k_load_begin : (other found : ℕ) (t : Task) (y : Part) → (c.seats p).task ≡ t → load_begin p other found (c.seats p) t ≡ Some y → OwnBounds p y
+  k_load_begin other found (task.Horizon version least next) y is e =
       when_then (OwnBounds p) _ _ y e (λ g.
       let active : is_active (c.seats p).place ≡ true = first _ _ (first _ _ g) in
       let low : next < ANNOUNCERS = ltb-true next ANNOUNCERS (second _ (ltb next ANNOUNCERS) g) in
@@ -191,7 +204,33 @@ module _ (c : Core) (p : ℕ) (sound : Sound c) where
     where
       below : (n : ℕ) → n < ANNOUNCERS → (n + 1 ≡ ANNOUNCERS → ⊥) → n + 1 < ANNOUNCERS
       below n low ne = grind arith
-  k_load_begin other found _ y e = absurd (cc)
+  k_load_begin other found (task.Surveys next) y is e =
+      when_then (OwnBounds p) _ _ y e (λ g.
+      let active : is_active (c.seats p).place ≡ true = first _ _ g in
+      let old : IsBounded p (c.seats p).current (task.Surveys next) = subst (IsBounded p (c.seats p).current) is own.bounded in
+      task_on p (c.seats p) _ (ready_active p (c.seats p) own (sound.own p).task active)
+      (either_way (Bound p (c.seats p).current) (eqb next p) (after_passed next) _ (λ _. passed_bound next old.1)
+      (λ other. either_way (Bound p (c.seats p).current) _ (task.Behind next) (task.Surveys next)
+      (λ _. bound_from p (c.seats p).current (task.Behind next) (eqb-false next p other, old.0, old.1) tt)
+      (λ _. bound_from p (c.seats p).current (task.Surveys next) old tt))))
+  k_load_begin other found _ y is e = absurd (cc)
+
+  k_load_back : (other found : ℕ) (t : Task) (y : Part) → (c.seats p).task ≡ t → load_back other found (c.seats p) t ≡ Some y → OwnBounds p y
+  k_load_back other found (task.Behind next) y is e =
+      when_then (OwnBounds p) _ _ y e (λ g.
+      let active : is_active (c.seats p).place ≡ true = first _ _ g in
+      let old : IsBounded p (c.seats p).current (task.Behind next) = subst (IsBounded p (c.seats p).current) is own.bounded in
+      task_on p (c.seats p) _ (ready_active p (c.seats p) own (sound.own p).task active)
+      (either_way (Bound p (c.seats p).current) _ (after_passed next) (task.Behind next) (λ _. passed_bound next old.2)
+      (λ _. bound_from p (c.seats p).current (task.Behind next) old tt)))
+  k_load_back other found _ y is e = absurd (cc)
+
+  -- the back word alone changes
+  k_store_back : (value : ℕ) (pl : Place) (y : Part) → store_back value (c.seats p) pl ≡ Some y → OwnBounds p y
+  k_store_back value (Decided tail stamp) y e =
+      when_then (OwnBounds p) _ _ y e (λ _.
+      record { bounded = own.bounded; stored = own.stored; blocks = own.blocks; begin_seen = own.begin_seen; stamp_seen = own.stamp_seen })
+  k_store_back value _ y e = absurd (cc)
 
   k_decide : (at header : ℕ) (pl : Place) (t : Task) (y : Part) → (c.seats p).place ≡ pl → (c.seats p).task ≡ t → decide at header (c.seats p) pl t ≡ Some y → OwnBounds p y
   k_decide at header (Sealed tail stamp) (task.Fills words) y is on e =
@@ -331,7 +370,7 @@ module _ (c : Core) (p : ℕ) (sound : Sound c) where
   bounds_after (kind.AddTail size) y known e = k_add_tail size (c.seats p).place y refl e
   bounds_after (kind.StoreBegin value) y known e = k_store_begin value (c.seats p).place y refl e
   bounds_after (kind.StoreState value) y known e = k_store_state value (c.seats p).place y refl e
-  bounds_after (kind.LoadBegin other) y known e = k_load_begin other _ (c.seats p).task y e
+  bounds_after (kind.LoadBegin other) y known e = k_load_begin other _ (c.seats p).task y refl e
   bounds_after (kind.LoadState other bound) y known e = k_load_state other bound (state_of (c.seats other).place) y e
   bounds_after (kind.Split other) y known e = absurd (cc)
   bounds_after (kind.Join other) y known e = absurd (cc)
@@ -358,6 +397,9 @@ module _ (c : Core) (p : ℕ) (sound : Sound c) where
   bounds_after kind.LoadFlushed y known e = k_load_flushed _ (c.seats p).flushing y e
   bounds_after (kind.SwapLink v) y known e = b_swap_link p (c.seats p) own (sound.own p).task _ v (c.shared.objects v.oid) (c.seats p).task y e
   bounds_after (kind.LoadDetached v) y known e = b_load_detached p (c.seats p) own (sound.own p).task _ v (c.seats p).task y e
+  bounds_after (kind.StoreBack value) y known e = k_store_back value (c.seats p).place y e
+  bounds_after (kind.LoadBack other) y known e = k_load_back other _ (c.seats p).task y refl e
+  bounds_after (kind.Unset place) y known e = b_unset p (c.seats p) own (sound.own p).task place y e
 
   -- a seat that takes in another
   join_bounds : (other y : Part) → join (c.seats p) other ≡ Some y → OwnBounds p y

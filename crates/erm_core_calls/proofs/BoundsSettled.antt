@@ -18,7 +18,7 @@ use Rattle.erm_machine.specs.declared.version.CellWord.TheVariants as word
 use Rattle.erm_machine.specs.declared.version.VersionAt.{VersionAt}
 use Rattle.erm_machine.specs.Bounds.{IsOther, IsBounded, words_stored, OwnBounds}
 use Rattle.erm_machine.specs.Core.{claim_at}
-use Rattle.erm_machine.specs.Seat.{end_of, may_start, is_active, is_sealed, is_decided, read_at, same_version}
+use Rattle.erm_machine.specs.Seat.{end_of, may_start, is_active, is_sealed, is_snapshot, is_decided, read_at, same_version}
 use Rattle.erm_machine.specs.Settling.{may_settle, load_flushed_to_settle, load_read_entry, load_readers, load_settled_stamp, filled, store_ring, raise_reader, installs, store_head_word, mark_overwritten, install_claim, adds_version, install_new, release_old, clear_reader}
 use Rattle.erm_machine.specs.Tasks.{OwnTask}
 use Rattle.erm_machine.specs.Words.{is_seat, owner_of, without_bit}
@@ -62,7 +62,7 @@ within_end : (p : ℕ) (t : Attempt) (u : Task) (e : ℕ × ℕ × ℕ × ℕ) �
 within_end p t (task.Ends raised ended step cleared) e h b = subst (Within t) (same_Some _ _ h) (record { raised = b.0; ended = b.1; cleared = b.2 })
 within_end p t (task.Copies w) e h b = within_start t true e h
 within_end p t (task.Writes claim w) e h b = within_start t true e h
-within_end p t u e h b = within_start t (may_start u) e h
+within_end p t u e h b = within_start t (may_start u || is_snapshot u) e h
 
 module _ (p : ℕ) (x : Part) (own : OwnBounds p x) (fits : OwnTask x) where
   -- what is known of the task at hand

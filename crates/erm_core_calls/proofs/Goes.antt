@@ -1,7 +1,8 @@
 -- Calls go on: the step that each takes, by its place and its task.
-use Rattle.std.proofs.Common.{◌≡◌, ℕ, ◌<◌, ◌⊎◌, true, length, refl, sym, ap, subst, inl, arith, []}
+use Rattle.std.proofs.Common.{◌≡◌, ℕ, ◌<◌, ◌⊎◌, ⊎_elim, true, length, refl, sym, ap, subst, inl, inr, arith, []}
 use Rattle.std.proofs.lemmas.Bool.{and_from, eq-eqb, le-leb, lt-ltb, not_from_false}
 use Rattle.erm_machine.specs.declared.limits.TheConstants.{GREATEST_BLOCK, LEAST_BLOCK, OBJECT_LIMIT, READ_LIMIT, WRITE_LIMIT}
+use Rattle.erm_machine.specs.declared.event.Kind.{Kind}
 use Rattle.erm_machine.specs.declared.event.Kind.TheVariants as kind
 use Rattle.erm_machine.specs.declared.event.TailUse.TheVariants as purpose
 use Rattle.erm_machine.specs.declared.part.Part.{Part}
@@ -18,19 +19,24 @@ use Rattle.erm_machine.specs.Sound.{Sound}
 use Rattle.erm_machine.specs.Tasks.{TaskFits, InActive, InSettle, InEnd}
 use Rattle.erm_machine.specs.Words.{is_session}
 use Rattle.erm_machine.proofs.Frames.{put_same}
-use Rattle.erm_core_calls.specs.Going.{FitsAt, IsInCall, MovesOn, Waits, MayRegister, Registers, MayClaim, MayWrite, Claims, Written, next_active, next_at, next_end, next_kind, next_settle}
+use Rattle.erm_core_calls.specs.Going.{FitsAt, IsInCall, IsUnsafe, MovesOn, Waits, MayRegister, Registers, MayClaim, MayWrite, Claims, Written, next_active, next_at, next_end, next_kind, next_settle}
 use Rattle.erm_core_calls.proofs.GoesActive.{g_owned, g_cleared, g_walks, g_passed, g_registered, g_overtaken, g_leaves_numbers, g_numbers, g_claimed, g_horizon, g_cut_walks, g_cut_passed, g_cut_found, g_detaches}
 use Rattle.erm_core_calls.proofs.GoesClaims.{g_draws, g_pool, g_fetched, g_refused, g_copies, g_writes}
 use Rattle.erm_core_calls.proofs.GoesEnds.{aborts, ends}
+use Rattle.erm_core_calls.proofs.GoesSnapshots.{g_surveys, g_behind, g_safe_walks, g_safe_passed}
 use Rattle.erm_core_calls.proofs.GoesSettled.{header_fits, header_for, sizes, s_settles, s_read_owned, s_read_clear, s_read_overtaken, s_readers_left, s_write_clear, s_write_made, s_fills}
 use Rattle.erm_core_calls.proofs.Moving.{taken, met, to_place, same_self}
+
+-- a call goes on, or waits: so it goes on, waits or is unsafe
+or_waits : (c : Core) (p : ℕ) (k : Kind) → MovesOn c p k ⊎ Waits c p → MovesOn c p k ⊎ Waits c p ⊎ IsUnsafe c p
+or_waits c p k h = ⊎_elim (λ (m : MovesOn c p k). inl m) (λ (w : Waits c p). inr (inl w)) h
 
 module _ (c : Core) (p : ℕ) (sound : Sound c) where
   -- the calls of an active transaction
   active_goes : (b : Written) → ((c.seats p).task ≡ task.Numbers → is_session p ≡ true) → (tail : ℕ) (u : Task) → (c.seats p).place ≡ Active tail → (c.seats p).task ≡ u → InActive u → IsInCall (Active tail) u →
-      MovesOn c p (next_active b (c.seats p) u) ⊎ Waits c p
+      MovesOn c p (next_active b (c.seats p) u) ⊎ Waits c p ⊎ IsUnsafe c p
   active_goes b numbers tail task.Rest pl at fits call = absurd call
-  active_goes b numbers tail (task.Owned oid owner) pl at fits call = g_owned c p sound tail pl oid owner at
+  active_goes b numbers tail (task.Owned oid owner) pl at fits call = or_waits c p _ (g_owned c p sound tail pl oid owner at)
   active_goes b numbers tail (task.Cleared oid) pl at fits call = inl (g_cleared c p sound tail pl oid at)
   active_goes b numbers tail (task.Walks v head) pl at fits call = inl (g_walks c p sound tail pl v head at)
   active_goes b numbers tail (task.Passed v) pl at fits call = inl (g_passed c p sound tail pl v at)
@@ -39,6 +45,13 @@ module _ (c : Core) (p : ℕ) (sound : Sound c) where
   active_goes b numbers tail (task.Overtaken v overwriter) pl at fits call = inl (g_overtaken c p sound tail pl v overwriter at)
   active_goes b numbers tail (task.Rated v) pl at fits call = absurd call
   active_goes b numbers tail task.Numbers pl at fits call = inl (g_numbers c p sound tail pl (numbers at) at)
+  active_goes b numbers tail (task.Surveys next) pl at fits call = or_waits c p _ (g_surveys c p sound tail pl next at)
+  active_goes b numbers tail (task.Behind next) pl at fits call =
+      ⊎_elim (λ (m : MovesOn c p (kind.LoadBack next)). inl m) (λ (u : IsUnsafe c p). inr (inr u)) (g_behind c p sound tail pl next at)
+  active_goes b numbers tail task.Safe pl at fits call = absurd call
+  active_goes b numbers tail (task.SafeWalks v) pl at fits call = inl (g_safe_walks c p sound tail pl v at)
+  active_goes b numbers tail (task.SafePassed v) pl at fits call = inl (g_safe_passed c p sound tail pl v at)
+  active_goes b numbers tail (task.SafeFound v) pl at fits call = absurd call
   active_goes b numbers tail (task.Claimed v) pl at fits call = inl (g_claimed c p sound tail pl v at)
   active_goes b numbers tail (task.Horizon v least next) pl at fits call = inl (g_horizon c p sound tail pl v least next at)
   active_goes b numbers tail (task.CutWalks v horizon) pl at fits call = inl (g_cut_walks c p sound tail pl v horizon at)
@@ -69,14 +82,14 @@ module _ (c : Core) (p : ℕ) (sound : Sound c) where
   sealed_goes b tail stamp u pl at fits call block = absurd fits
 
   -- the end of a decided transaction
-  decided_goes : (tail stamp : ℕ) (u : Task) → (c.seats p).place ≡ Decided tail stamp → (c.seats p).task ≡ u → InEnd (c.seats p).current u → MovesOn c p (next_end (c.seats p).current u)
+  decided_goes : (tail stamp : ℕ) (u : Task) → (c.seats p).place ≡ Decided tail stamp → (c.seats p).task ≡ u → InEnd (c.seats p).current u → MovesOn c p (next_end (c.seats p).current (c.seats p).back u)
   decided_goes tail stamp (task.Ends raised ended step cleared) pl at fits = ends c p sound raised ended step cleared at tail stamp pl fits.0
   decided_goes tail stamp u pl at fits = absurd fits
 
   -- Each call goes on, where a seat that is to draw its range is a session's.
   goes_where : (b : Written) → ((tail : ℕ) → (c.seats p).place ≡ Sealing tail → is_session p ≡ true) → ((c.seats p).task ≡ task.Numbers → is_session p ≡ true) →
       (pl : Place) (u : Task) → (c.seats p).place ≡ pl → (c.seats p).task ≡ u → TaskFits pl (c.seats p).current u → IsInCall pl u → FitsAt b (c.seats p).current (c.seats p).run pl u →
-      MovesOn c p (next_at b (c.seats p) pl u) ⊎ Waits c p
+      MovesOn c p (next_at b (c.seats p) pl u) ⊎ Waits c p ⊎ IsUnsafe c p
   goes_where b session numbers Vacant u is at fits call block = absurd call
   goes_where b session numbers Idle u is at fits call block = absurd call
   goes_where b session numbers (Begun tail) u is at fits call block =
@@ -90,13 +103,13 @@ module _ (c : Core) (p : ℕ) (sound : Sound c) where
       (and_from _ _ (and_from _ _ (session tail is) (le-leb LEAST_BLOCK b.size block.0)) (le-leb b.size GREATEST_BLOCK block.1)) refl)
   goes_where b session numbers (Drawn tail stamp) u is at fits call block =
       inl (to_place c p (kind.StoreState stamp) (Drawn tail stamp) _ _ is tt refl (ap (store_state p stamp (c.seats p)) is) (eq-eqb stamp stamp refl) refl)
-  goes_where b session numbers (Sealed tail stamp) u is at fits call block = sealed_goes b tail stamp u is at fits call block
+  goes_where b session numbers (Sealed tail stamp) u is at fits call block = or_waits c p _ (sealed_goes b tail stamp u is at fits call block)
   goes_where b session numbers (Decided tail stamp) u is at fits call block = inl (decided_goes tail stamp u is at fits)
   goes_where b session numbers (Leaving stamp) u is at fits call block =
       inl (to_place c p (kind.StoreState 0) (Leaving stamp) _ _ is tt refl (ap (store_state p 0 (c.seats p)) is) refl refl)
 
   pub goes_from : (b : Written) → ((tail : ℕ) → (c.seats p).place ≡ Sealing tail → is_session p ≡ true) → ((c.seats p).task ≡ task.Numbers → is_session p ≡ true) →
-      IsInCall (c.seats p).place (c.seats p).task → MayWrite b (c.seats p) → MovesOn c p (next_kind b (c.seats p)) ⊎ Waits c p
+      IsInCall (c.seats p).place (c.seats p).task → MayWrite b (c.seats p) → MovesOn c p (next_kind b (c.seats p)) ⊎ Waits c p ⊎ IsUnsafe c p
   goes_from b session numbers call block = goes_where b session numbers (c.seats p).place (c.seats p).task refl refl (sound.own p).task.fits call block
 
   -- a block that fits: of the least size, with the header that the exclusion window wants

@@ -1,5 +1,6 @@
 -- The calls of an active transaction go on.
 use Rattle.std.proofs.Common.{◌≡◌, ◌≢◌, ℕ, ◌+◌, ◌-◌, ◌<◌, ◌≤◌, ◌⊎◌, ⊎_elim, true, false, eqb, Option, Some, None, refl, sym, ap, ◌∙◌, subst, inl, inr, arith}
+use Rattle.std.specs.Prelude.{◌&&◌, nat_lt}
 use Rattle.std.proofs.lemmas.Bool.{and_from, cases_Bool, eq-eqb, eqb-false, ne_eqb, lt-ltb, le-leb, cond-true, not_from_false}
 use Rattle.erm_machine.specs.declared.limits.TheConstants.{ANNOUNCERS, OBJECT_LIMIT}
 use Rattle.erm_machine.specs.declared.event.Kind.TheVariants as kind
@@ -11,11 +12,11 @@ use Rattle.erm_machine.specs.declared.task.Task.TheVariants as task
 use Rattle.erm_machine.specs.declared.version.CellWord.TheVariants as word
 use Rattle.erm_machine.specs.declared.version.VersionAt.{VersionAt}
 use Rattle.erm_machine.specs.Bounds.{IsBounded}
-use Rattle.erm_machine.specs.Chains.{NamedInHand, IsDetached, CutInHand}
+use Rattle.erm_machine.specs.Chains.{IsNamed, NamedInHand, IsDetached, CutInHand}
 use Rattle.erm_machine.specs.Core.{Core, Object, version_at}
 use Rattle.erm_machine.specs.Life.{load_tail_for_horizon, load_begin, lower, after_clear}
 use Rattle.erm_machine.specs.Reading.{head_version, entered, load_entry, load_walked_stamp, load_walked_link, older, after_cut, swap_link, load_detached, add_counter, load_active_stamp}
-use Rattle.erm_machine.specs.Seat.{is_active, is_sealed, is_vacant}
+use Rattle.erm_machine.specs.Seat.{is_active, is_sealed, is_vacant, same_version}
 use Rattle.erm_machine.specs.Snapshot.{InHand}
 use Rattle.erm_machine.specs.Sound.{Sound}
 use Rattle.erm_machine.specs.Words.{begin_of, is_clear, is_seat, is_session, owner_of, state_of}
@@ -80,10 +81,10 @@ module _ (c : Core) (p : ℕ) (sound : Sound c) where
         (branch _ _ _ _ active (ap (load_walked_stamp _ v (c.seats p)) at)) (same_self v)
         (search (unlike_if, unlike))
 
-    pub g_passed : (v : VersionAt) → (c.seats p).task ≡ task.Passed v → MovesOn c p (kind.LoadCell v word.Link)
-    g_passed v at =
-        let named = named_at (task.Passed v) at in
-        let in_hand : InHand c.shared (c.seats p).current.begin (task.Passed v) = subst (InHand c.shared (c.seats p).current.begin) at (sound.own p).snapshot.in_hand in
+    -- a version that isn't below the begin stamp isn't the oldest that is attached: its link leads on
+    pub leads_on : (v : VersionAt) → IsNamed c.shared v → InHand c.shared (c.seats p).current.begin (task.Passed v) →
+        (same_version v v && nat_lt 0 (version_at (c.shared.objects v.oid) v.place).words.link && nat_lt 0 v.place) ≡ true
+    leads_on v named in_hand =
         let linked = sound.common.chains.linked v.oid named.object in
         let begun = begun_active (c.seats p).place active in
         let low = (sound.own p).attached.below v.oid named.object begun in
@@ -92,13 +93,19 @@ module _ (c : Core) (p : ℕ) (sound : Sound c) where
         let above : (c.shared.objects v.oid).cut < v.place = above_cut (c.shared.objects v.oid).cut v.place cut (λ (same : (c.shared.objects v.oid).cut ≡ v.place).
         let h = ap (λ n. (version_at (c.shared.objects v.oid) n).words.stamp) same in omega (arith, low, high, h)) in
         let link = linked.older v.place above named.within in
-        to_task c p (kind.LoadCell v word.Link) (task.Passed v) _ _ at tt (and_from _ _ (lt-ltb v.oid OBJECT_LIMIT named.object) refl)
-        (branch _ _ _ _ active (ap (load_walked_link _ v (c.seats p)) at))
-        (and_from _ _ (and_from _ _ (same_self v) (lt-ltb 0 (version_at (c.shared.objects v.oid) v.place).words.link (omega (arith, link)))) (lt-ltb 0 v.place (omega (arith, above))))
-        (search unlike)
+        and_from _ _ (and_from _ _ (same_self v) (lt-ltb 0 (version_at (c.shared.objects v.oid) v.place).words.link (omega (arith, link)))) (lt-ltb 0 v.place (omega (arith, above)))
       where
         above_cut : (m n : ℕ) → m ≤ n → (m ≡ n → ⊥) → m < n
         above_cut m n le ne = grind arith
+
+    pub g_passed : (v : VersionAt) → (c.seats p).task ≡ task.Passed v → MovesOn c p (kind.LoadCell v word.Link)
+    g_passed v at =
+        let named = named_at (task.Passed v) at in
+        let in_hand : InHand c.shared (c.seats p).current.begin (task.Passed v) = subst (InHand c.shared (c.seats p).current.begin) at (sound.own p).snapshot.in_hand in
+        to_task c p (kind.LoadCell v word.Link) (task.Passed v) _ _ at tt (and_from _ _ (lt-ltb v.oid OBJECT_LIMIT named.object) refl)
+        (branch _ _ _ _ active (ap (load_walked_link _ v (c.seats p)) at))
+        (leads_on v named in_hand)
+        (search unlike)
 
     pub g_registered : (v : VersionAt) → (c.seats p).task ≡ task.Registered v → MovesOn c p (kind.LoadStamp v word.Overwriter)
     g_registered v at =
@@ -131,7 +138,7 @@ module _ (c : Core) (p : ℕ) (sound : Sound c) where
     pub g_horizon : (v : VersionAt) (least next : ℕ) → (c.seats p).task ≡ task.Horizon v least next → MovesOn c p (kind.LoadBegin next)
     g_horizon v least next at =
         let low : next < ANNOUNCERS = bound_at (task.Horizon v least next) at in
-        to_task c p (kind.LoadBegin next) (task.Horizon v least next) _ _ at tt refl (ap (load_begin next _ (c.seats p)) at)
+        to_task c p (kind.LoadBegin next) (task.Horizon v least next) _ _ at tt refl (ap (load_begin p next _ (c.seats p)) at)
         (and_from _ _ (and_from _ _ active (eq-eqb next next refl)) (lt-ltb next ANNOUNCERS low))
         (unlike_if (task.Horizon v least next) (eqb (next + 1) ANNOUNCERS) (task.CutWalks v (lower least (begin_of (c.seats next).place))) (task.Horizon v (lower least (begin_of (c.seats next).place)) (next + 1))
         (search unlike) (record { apart = λ e. more next (ap next_at e) }))

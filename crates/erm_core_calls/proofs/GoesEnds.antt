@@ -1,7 +1,7 @@
 -- The ends go on: of a transaction that is decided, and of one that aborts.
-use Rattle.std.proofs.Common.{◌≡◌, ℕ, ◌+◌, ◌<◌, ◌≤◌, ⊎_elim, true, false, not, ◌||◌, eqb, length, refl, sym, ap, ◌∙◌, subst, arith}
+use Rattle.std.proofs.Common.{◌≡◌, ℕ, ◌+◌, ◌<◌, ◌≤◌, ⊎_elim, Bool, true, false, not, ◌&&◌, ◌||◌, eqb, length, refl, sym, ap, ◌∙◌, subst, arith}
 use Rattle.std.specs.Prelude.{if◌then◌else◌, nat_lt, ◌==◌, slice_index_or}
-use Rattle.std.proofs.lemmas.Bool.{and_from, or_left, or_right, and_left, and_right, cases_eq, eq-eqb, lt-ltb, not_from_false}
+use Rattle.std.proofs.lemmas.Bool.{and_from, and_parts, or_left, or_right, and_left, and_right, cases_eq, eq-eqb, eqb-false, lt-ltb, not_from_false}
 use Rattle.erm_machine.specs.declared.limits.TheConstants.{OBJECT_LIMIT}
 use Rattle.erm_machine.specs.declared.attempt.Decision.TheVariants.{Abort}
 use Rattle.erm_machine.specs.declared.event.Kind.TheVariants as kind
@@ -10,19 +10,30 @@ use Rattle.erm_machine.specs.declared.place.Place.TheVariants.{Idle, Active, Dec
 use Rattle.erm_machine.specs.declared.task.Task.TheVariants as task
 use Rattle.erm_machine.specs.declared.version.CellWord.{CellWord}
 use Rattle.erm_machine.specs.declared.version.CellWord.TheVariants as word
+use Rattle.erm_machine.specs.Back.{goes_back}
 use Rattle.erm_machine.specs.Core.{Core, blank, claim_at}
 use Rattle.erm_machine.specs.Facts.{IsCurrent, over_of}
-use Rattle.erm_machine.specs.Life.{has_ended, store_begin}
+use Rattle.erm_machine.specs.Life.{has_ended, store_back, store_begin}
 use Rattle.erm_machine.specs.Seat.{end_of, over, is_active, is_commit, is_decided, is_own, read_at}
 use Rattle.erm_machine.specs.Settling.{adds_version, clear_reader, head_value, head_word, install, install_new, installs, mark_overwritten, raise_reader, release_old, store_head_word}
 use Rattle.erm_machine.specs.Sound.{Sound}
 use Rattle.erm_machine.specs.Words.{is_flusher}
 use Rattle.erm_machine.proofs.Guards.{either_way}
-use Rattle.erm_core_calls.specs.Going.{MovesOn, head_words, next_clear, next_commit, next_end, next_head_word, next_install, next_release, overwrites, own_at}
+use Rattle.erm_core_calls.specs.Going.{MovesOn, head_words, next_back, next_clear, next_commit, next_end, next_head_word, next_install, next_release, overwrites, own_at, wants_back}
 use Rattle.erm_core_calls.proofs.GoesActive.{bound_at}
 use Rattle.erm_core_calls.proofs.GoesClaims.{claim_cell}
 use Rattle.erm_core_calls.proofs.GoesSettled.{read_known}
-use Rattle.erm_core_calls.proofs.Moving.{Apart, placed, ends_at, more, to_task, to_place, below_way, same_way, same_self, branch, other_branch}
+use Rattle.erm_core_calls.proofs.Moving.{Apart, placed, ends_at, more, to_task, to_place, to_back, below_way, same_way, same_self, branch, other_branch}
+
+not_is : (b : Bool) → not b ≡ true → b ≡ false
+not_is true e = absurd (cc)
+not_is false e = refl
+
+-- what a commit that doesn't want to store its back word says of it
+no_more : (goes stands : Bool) → (goes && not stands) ≡ false → (not goes || stands) ≡ true
+no_more true true e = refl
+no_more true false e = absurd (cc)
+no_more false stands e = refl
 
 module _ (c : Core) (p : ℕ) (sound : Sound c) (raised ended step cleared : ℕ) (at : (c.seats p).task ≡ task.Ends raised ended step cleared) where
   -- an end that has come further
@@ -84,7 +95,7 @@ module _ (c : Core) (p : ℕ) (sound : Sound c) (raised ended step cleared : ℕ
       let cur : IsCurrent (Active tail) (c.seats p).current = subst (λ q. IsCurrent q (c.seats p).current) pl (sound.own p).ranges.current in
       releasing (and_left (is_decided (c.seats p).place) _ (ap is_decided pl)) (or_right (is_decided (c.seats p).place) (is_active (c.seats p).place) (ap is_active pl)) (ap is_commit cur.decision)
       (λ ends.
-      to_place c p (kind.StoreBegin 0) (Active tail) _ _ pl tt refl (ap (store_begin p 0 (c.seats p)) pl) (and_from _ _ refl ends)
+      to_place c p (kind.StoreBegin 0) (Active tail) _ _ pl tt refl (ap (store_begin p 0 (c.seats p)) pl) ends
       (either_way (λ (y : Part). eqb (placed y.place) 4 ≡ false) (is_flusher p) (record (c.seats p) { place = Idle; task = task.Rest; current = blank })
       (over Abort (record (c.seats p) { place = Idle; task = task.Rest })) (λ _. refl) (λ _. refl)))
 
@@ -95,8 +106,16 @@ module _ (c : Core) (p : ℕ) (sound : Sound c) (raised ended step cleared : ℕ
     ending : (is_decided (c.seats p).place || is_active (c.seats p).place) ≡ true
     ending = or_left (is_decided (c.seats p).place) (is_active (c.seats p).place) decided
 
-    leaves : has_ended (c.seats p).current (end_of (c.seats p).task) ≡ true → MovesOn c p (kind.StoreBegin 0)
-    leaves ends = to_place c p (kind.StoreBegin 0) (Decided tail stamp) _ _ pl tt refl (ap (store_begin p 0 (c.seats p)) pl) (and_from _ _ refl ends) refl
+    leaves : (not (goes_back (c.seats p).current) || eqb (c.seats p).back (c.seats p).current.stamp) ≡ true → has_ended (c.seats p).current (end_of (c.seats p).task) ≡ true → MovesOn c p (kind.StoreBegin 0)
+    leaves stands ends = to_place c p (kind.StoreBegin 0) (Decided tail stamp) _ _ pl tt refl (ap (store_begin p 0 (c.seats p)) pl) (and_from _ _ (and_from _ _ refl ends) stands) refl
+
+    -- a commit that goes back stores its stamp
+    stores_back : wants_back (c.seats p).current (c.seats p).back ≡ true → MovesOn c p (kind.StoreBack (c.seats p).current.stamp)
+    stores_back wants =
+        let value = (c.seats p).current.stamp in
+        let g = and_parts (goes_back (c.seats p).current) (not (eqb (c.seats p).back value)) wants in
+        to_back c p (kind.StoreBack value) _ _ tt refl (ap (store_back value (c.seats p)) pl) (and_from _ _ g.0 (eq-eqb value value refl))
+        (λ (same : value ≡ (c.seats p).back). eqb-false (c.seats p).back value (not_is _ g.1) (sym same))
 
     -- a commit raises a reader stamp
     raises : is_commit (c.seats p).current.decision ≡ true → raised < length (c.seats p).current.reads → MovesOn c p (kind.RaiseReader (read_at (c.seats p).current raised).version (c.seats p).current.stamp)
@@ -193,25 +212,29 @@ module _ (c : Core) (p : ℕ) (sound : Sound c) (raised ended step cleared : ℕ
           last_step : (n : ℕ) → n ≤ 8 → 6 ≤ n → (n ≡ 6 → ⊥) → (n ≡ 7 → ⊥) → n ≡ 8
           last_step n low past a b = grind arith
 
-    -- a commit: the reader stamps, the claims, the bits, and the begin word
-    commits : is_commit (c.seats p).current.decision ≡ true → step ≤ 8 → MovesOn c p (next_commit (c.seats p).current raised ended step cleared)
+    -- a commit: the reader stamps, the claims, the back word, the bits, and the begin word
+    commits : is_commit (c.seats p).current.decision ≡ true → step ≤ 8 → MovesOn c p (next_commit (c.seats p).current (c.seats p).back raised ended step cleared)
     commits commit low =
         let b = bound_at c p sound (task.Ends raised ended step cleared) at in
         let reads = b.0 in
         let writes = b.1 in
         let t = (c.seats p).current in
-        let later = if nat_lt ended (length t.writes) then next_install t ended step else next_clear t cleared in
+        let later = if nat_lt ended (length t.writes) then next_install t ended step else next_back t (c.seats p).back cleared in
         below_way (MovesOn c p) raised (length t.reads) (kind.RaiseReader (read_at t raised).version t.stamp) later
         (λ (within : raised < length t.reads). raises commit within)
         (λ (none : length t.reads ≤ raised).
         let all : raised ≡ length t.reads = omega (arith, none, reads) in
-        below_way (MovesOn c p) ended (length t.writes) (next_install t ended step) (next_clear t cleared)
+        below_way (MovesOn c p) ended (length t.writes) (next_install t ended step) (next_back t (c.seats p).back cleared)
         (λ (within : ended < length t.writes). steps commit all within low)
         (λ (over : length t.writes ≤ ended).
-        rest_of ending (omega (arith, over, writes)) (or_right (not (is_commit t.decision)) (eqb raised (length t.reads)) (eq-eqb raised (length t.reads) all)) leaves))
+        either_way (MovesOn c p) (wants_back t (c.seats p).back) (kind.StoreBack t.stamp) (next_clear t cleared) stores_back
+        (λ (none : wants_back t (c.seats p).back ≡ false).
+        rest_of ending (omega (arith, over, writes)) (or_right (not (is_commit t.decision)) (eqb raised (length t.reads)) (eq-eqb raised (length t.reads) all))
+        (leaves (no_more (goes_back t) (eqb (c.seats p).back t.stamp) none)))))
 
-    pub ends : step ≤ 8 → MovesOn c p (next_end (c.seats p).current (task.Ends raised ended step cleared))
+    pub ends : step ≤ 8 → MovesOn c p (next_end (c.seats p).current (c.seats p).back (task.Ends raised ended step cleared))
     ends low =
-        either_way (MovesOn c p) (is_commit (c.seats p).current.decision) (next_commit (c.seats p).current raised ended step cleared) (next_release (c.seats p).current ended cleared)
+        either_way (MovesOn c p) (is_commit (c.seats p).current.decision) (next_commit (c.seats p).current (c.seats p).back raised ended step cleared) (next_release (c.seats p).current ended cleared)
         (λ (commit : is_commit (c.seats p).current.decision ≡ true). commits commit low)
-        (λ (skip : is_commit (c.seats p).current.decision ≡ false). releasing (and_right (is_decided (c.seats p).place) (is_commit (c.seats p).current.decision) skip) ending skip leaves)
+        (λ (skip : is_commit (c.seats p).current.decision ≡ false). releasing (and_right (is_decided (c.seats p).place) (is_commit (c.seats p).current.decision) skip) ending skip
+        (leaves (or_left (not (goes_back (c.seats p).current)) (eqb (c.seats p).back (c.seats p).current.stamp) (not_from_false _ (and_left (is_commit (c.seats p).current.decision) _ skip)))))

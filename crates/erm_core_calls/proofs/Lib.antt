@@ -8,11 +8,13 @@ pub mod GoesActive
 pub mod GoesClaims
 pub mod GoesEnds
 pub mod GoesSettled
+pub mod GoesSnapshots
 pub mod Lasting
 pub mod Moving
 pub mod Nearer
 pub mod NearerActive
 pub mod NearerEnds
 pub mod NearerSettled
+pub mod NearerSnapshots
 pub mod Nearing
 pub mod Seats

@@ -67,6 +67,12 @@ rank (task.WriteClear write) = 27
 rank (task.WriteMade write) = 28
 rank (task.Fills words) = 29
 rank (task.Ends raised ended step cleared) = 30
+rank (task.Surveys next) = 31
+rank (task.Behind next) = 32
+rank task.Safe = 33
+rank (task.SafeWalks version) = 34
+rank (task.SafePassed version) = 35
+rank (task.SafeFound version) = 36
 
 -- which place it is
 abbrev pub placed : Place → ℕ
@@ -99,6 +105,7 @@ place_at _ = 0
 
 abbrev pub next_at : Task → ℕ
 next_at (task.Horizon version least next) = next
+next_at (task.Surveys next) = next
 next_at _ = 0
 
 abbrev pub word_come : Task → ℕ
@@ -130,7 +137,7 @@ pub to_task : (c : Core) (p : ℕ) (k : Kind) (t : Task) (b : Bool) (z : Part) �
 to_task c p k t b z at one known e guard other = record {
   after = stepped c p k z;
   taken = taken c p k z one known (met _ b z e guard);
-  moved = inr (subst (λ (y : Part). y.task ≢ (c.seats p).task) (sym (put_same c.seats p z)) (λ same. other.apart (same ∙ at)));
+  moved = inr (inl (subst (λ (y : Part). y.task ≢ (c.seats p).task) (sym (put_same c.seats p z)) (λ same. other.apart (same ∙ at))));
 }
 
 -- or to another place
@@ -140,6 +147,15 @@ to_place c p k pl b z at one known e guard other = record {
   after = stepped c p k z;
   taken = taken c p k z one known (met _ b z e guard);
   moved = inl (subst (λ (y : Part). y.place ≢ (c.seats p).place) (sym (put_same c.seats p z)) (λ same. eqb-false (placed z.place) (placed pl) other (ap placed (same ∙ at))));
+}
+
+-- or changes its back word
+pub to_back : (c : Core) (p : ℕ) (k : Kind) (b : Bool) (z : Part) → MeetsOne k → is_known k ≡ true →
+    part_after p k (word_at c (spot_of p k)) c.shared (c.seats p) ≡ when b z → b ≡ true → z.back ≢ (c.seats p).back → MovesOn c p k
+to_back c p k b z one known e guard other = record {
+  after = stepped c p k z;
+  taken = taken c p k z one known (met _ b z e guard);
+  moved = inr (inr (subst (λ (y : Part). y.back ≢ (c.seats p).back) (sym (put_same c.seats p z)) other));
 }
 
 -- one of two by a test whether a number is below another

@@ -92,7 +92,7 @@ module _ (c : Core) (p : ℕ) (sound : Sound c) (tail : ℕ) (pl : (c.seats p).p
   pub n_horizon : (v : VersionAt) (least next : ℕ) → (c.seats p).task ≡ task.Horizon v least next → (m : MovesOn c p (kind.LoadBegin next)) → ComesNearer c p (kind.LoadBegin next) m
   n_horizon v least next at m =
       let now = lower least (begin_of (c.seats next).place) in
-      stays (task.Horizon v least next) at (kind.LoadBegin next) tt m _ _ (ap (load_begin next _ (c.seats p)) at) pl
+      stays (task.Horizon v least next) at (kind.LoadBegin next) tt m _ _ (ap (load_begin p next _ (c.seats p)) at) pl
       (λ t g. either t _ (eqb (next + 1) ANNOUNCERS) (task.CutWalks v now) (task.Horizon v now (next + 1)) (λ _. fewer_stages (omega arith))
       (λ _. let low : next < ANNOUNCERS = ltb-true next ANNOUNCERS (second _ (ltb next ANNOUNCERS) g) in less_left refl (omega (arith, low))))
 

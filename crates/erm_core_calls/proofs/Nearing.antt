@@ -23,6 +23,7 @@ use Rattle.erm_core_calls.specs.Ending.{IsLess, ComesNearer, ahead_sealed, fewer
 use Rattle.erm_core_calls.specs.Going.{IsInCall, MovesOn, Written, next_active, next_at, next_end, next_kind, next_settle}
 use Rattle.erm_core_calls.proofs.Nearer.{from_to}
 use Rattle.erm_core_calls.proofs.NearerActive.{n_owned, n_cleared, n_walks, n_passed, n_registered, n_overtaken, n_numbers, n_claimed, n_horizon, n_cut_walks, n_cut_passed, n_cut_found, n_detaches, n_draws, n_pool, n_fetched, n_refused, n_copies, n_writes}
+use Rattle.erm_core_calls.proofs.NearerSnapshots.{n_surveys, n_behind, n_safe_walks, n_safe_passed}
 use Rattle.erm_core_calls.proofs.NearerEnds.{n_aborts, n_ends}
 use Rattle.erm_core_calls.proofs.NearerSettled.{n_settles, n_read_owned, n_read_clear, n_read_overtaken, n_readers_left, n_write_clear, n_write_made, n_fills}
 
@@ -40,6 +41,12 @@ module _ (c : Core) (p : ℕ) (sound : Sound c) (b : Written) where
   active_nears tail (task.Overtaken v overwriter) pl at fits call = n_overtaken c p sound tail pl v overwriter at
   active_nears tail (task.Rated v) pl at fits call = absurd call
   active_nears tail task.Numbers pl at fits call = n_numbers c p sound tail pl at
+  active_nears tail (task.Surveys next) pl at fits call = n_surveys c p sound tail pl next at
+  active_nears tail (task.Behind next) pl at fits call = n_behind c p sound tail pl next at
+  active_nears tail task.Safe pl at fits call = absurd call
+  active_nears tail (task.SafeWalks v) pl at fits call = n_safe_walks c p sound tail pl v at
+  active_nears tail (task.SafePassed v) pl at fits call = n_safe_passed c p sound tail pl v at
+  active_nears tail (task.SafeFound v) pl at fits call = absurd call
   active_nears tail (task.Claimed v) pl at fits call = n_claimed c p sound tail pl v at
   active_nears tail (task.Horizon v least next) pl at fits call = n_horizon c p sound tail pl v least next at
   active_nears tail (task.CutWalks v horizon) pl at fits call = n_cut_walks c p sound tail pl v horizon at
@@ -70,8 +77,8 @@ module _ (c : Core) (p : ℕ) (sound : Sound c) (b : Written) where
   sealed_nears tail stamp u pl at fits call = absurd fits
 
   -- the end of a decided transaction
-  decided_nears : (tail stamp : ℕ) (u : Task) → (c.seats p).place ≡ Decided tail stamp → (c.seats p).task ≡ u → InEnd (c.seats p).current u → (m : MovesOn c p (next_end (c.seats p).current u)) →
-      ComesNearer c p (next_end (c.seats p).current u) m
+  decided_nears : (tail stamp : ℕ) (u : Task) → (c.seats p).place ≡ Decided tail stamp → (c.seats p).task ≡ u → InEnd (c.seats p).current u → (m : MovesOn c p (next_end (c.seats p).current (c.seats p).back u)) →
+      ComesNearer c p (next_end (c.seats p).current (c.seats p).back u) m
   decided_nears tail stamp (task.Ends raised ended step cleared) pl at fits = n_ends c p raised ended step cleared at tail stamp pl fits.0
   decided_nears tail stamp u pl at fits = absurd fits
 

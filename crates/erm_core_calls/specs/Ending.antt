@@ -1,8 +1,8 @@
 -- What it means that a call of several steps comes to its end: a pair of numbers that each of its steps lowers.
-use Rattle.std.specs.Prelude.{◌≡◌, ◌⊎◌, ◌≤◌, ℕ, ◌+◌, ◌-◌, ◌*◌, ◌<◌, length}
+use Rattle.std.specs.Prelude.{◌≡◌, ◌⊎◌, ◌≤◌, ℕ, ◌+◌, ◌-◌, ◌*◌, ◌<◌, if◌then◌else◌, length}
 use Rattle.erm_machine.specs.declared.attempt.Attempt.{Attempt}
 use Rattle.erm_machine.specs.declared.event.Kind.{Kind}
-use Rattle.erm_machine.specs.declared.limits.TheConstants.{ANNOUNCERS}
+use Rattle.erm_machine.specs.declared.limits.TheConstants.{ANNOUNCERS, SESSIONS}
 use Rattle.erm_machine.specs.declared.part.Part.{Part}
 use Rattle.erm_machine.specs.declared.place.Place.{Place}
 use Rattle.erm_machine.specs.declared.place.Place.TheVariants.{Begun, Announced, Active, Sealing, Drawn, Sealed, Decided, Leaving}
@@ -10,7 +10,7 @@ use Rattle.erm_machine.specs.declared.task.Task.{Task}
 use Rattle.erm_machine.specs.declared.task.Task.TheVariants as task
 use Rattle.erm_machine.specs.Core.{Core}
 use Rattle.erm_machine.specs.Sound.{Sound}
-use Rattle.erm_core_calls.specs.Going.{IsInCall, MovesOn, Written, next_kind}
+use Rattle.erm_core_calls.specs.Going.{IsInCall, MovesOn, Written, next_kind, wants_back}
 
 -- What lies ahead in a call: so many stages, and so much of the present one.
 pub record Ahead : Type 0 where
@@ -29,8 +29,12 @@ pub data IsLess (a b : Ahead) : Type 0 where
 abbrev pub end_left : Attempt → (raised ended step cleared : ℕ) → ℕ
 end_left t raised ended step cleared = (length t.reads - raised) + (9 * (length t.writes - ended) - step) + (length t.reads - cleared)
 
+-- and a back word to store
+abbrev pub back_left : Attempt → (back : ℕ) → ℕ
+back_left t back = if wants_back t back then 1 else 0
+
 -- Active: a walk comes down its chain by the place of the version in hand, in two steps for each; a horizon has come to a
--- seat, and a row to a word.
+-- seat, and a row to a word. A snapshot has come to a session, whose begin word it loads and then its back word.
 abbrev pub ahead_active : Attempt → Task → Ahead
 ahead_active t (task.Owned oid owner) = ahead_by 3 0
 ahead_active t (task.Cleared oid) = ahead_by 2 0
@@ -39,6 +43,10 @@ ahead_active t (task.Passed version) = ahead_by 1 (2 * version.place)
 ahead_active t (task.Registered version) = ahead_by 2 0
 ahead_active t (task.Overtaken version overwriter) = ahead_by 1 0
 ahead_active t task.Numbers = ahead_by 1 0
+ahead_active t (task.Surveys next) = ahead_by 1 (2 * (SESSIONS + 1 - next) + 1)
+ahead_active t (task.Behind next) = ahead_by 1 (2 * (SESSIONS + 1 - next))
+ahead_active t (task.SafeWalks version) = ahead_by 1 (2 * version.place + 1)
+ahead_active t (task.SafePassed version) = ahead_by 1 (2 * version.place)
 ahead_active t (task.Claimed version) = ahead_by 10 0
 ahead_active t (task.Horizon version least next) = ahead_by 9 (ANNOUNCERS - next)
 ahead_active t (task.CutWalks version horizon) = ahead_by 8 (2 * version.place + 1)
@@ -71,25 +79,25 @@ ahead_sealed t (task.WriteMade write) = ahead_by (passing (length t.writes - (wr
 ahead_sealed t (task.Fills words) = ahead_by 3 (t.size - words)
 ahead_sealed t u = ahead_by 0 0
 
-abbrev pub ahead_decided : Attempt → Task → Ahead
-ahead_decided t (task.Ends raised ended step cleared) = ahead_by 2 (end_left t raised ended step cleared)
-ahead_decided t u = ahead_by 0 0
+abbrev pub ahead_decided : Attempt → (back : ℕ) → Task → Ahead
+ahead_decided t back (task.Ends raised ended step cleared) = ahead_by 2 (back_left t back + end_left t raised ended step cleared)
+ahead_decided t back u = ahead_by 0 0
 
 -- A begin has three steps, and a seal. A settle goes on to the end of its transaction.
-abbrev pub ahead_at : Attempt → Place → Task → Ahead
-ahead_at t (Begun tail) u = ahead_by 2 0
-ahead_at t (Announced tail) u = ahead_by 1 0
-ahead_at t (Active tail) u = ahead_active t u
-ahead_at t (Sealing tail) u = ahead_by 2 0
-ahead_at t (Drawn tail stamp) u = ahead_by 1 0
-ahead_at t (Sealed tail stamp) u = ahead_sealed t u
-ahead_at t (Decided tail stamp) u = ahead_decided t u
-ahead_at t (Leaving stamp) u = ahead_by 1 0
-ahead_at t p u = ahead_by 0 0
+abbrev pub ahead_at : Attempt → (back : ℕ) → Place → Task → Ahead
+ahead_at t back (Begun tail) u = ahead_by 2 0
+ahead_at t back (Announced tail) u = ahead_by 1 0
+ahead_at t back (Active tail) u = ahead_active t u
+ahead_at t back (Sealing tail) u = ahead_by 2 0
+ahead_at t back (Drawn tail stamp) u = ahead_by 1 0
+ahead_at t back (Sealed tail stamp) u = ahead_sealed t u
+ahead_at t back (Decided tail stamp) u = ahead_decided t back u
+ahead_at t back (Leaving stamp) u = ahead_by 1 0
+ahead_at t back p u = ahead_by 0 0
 
 -- what lies ahead of a seat in its call: nothing where it is in none
 abbrev pub ahead : Part → Ahead
-ahead x = ahead_at x.current x.place x.task
+ahead x = ahead_at x.current x.back x.place x.task
 
 -- a step that moves a seat on leaves less ahead of it
 abbrev pub ComesNearer : (c : Core) (seat : ℕ) (step : Kind) → MovesOn c seat step → Type 0

@@ -1,6 +1,6 @@
 -- What it means that a call of several steps goes on, and by which step.
 use Rattle.std.specs.Int.{w64, trailing_zeros}
-use Rattle.std.specs.Prelude.{◌≡◌, ◌≢◌, ◌⊎◌, ℕ, ◌+◌, ◌<◌, ◌≤◌, ◌==◌, nat_lt, if◌then◌else◌, true, false, List, [], ◌∷◌, length, slice_index, slice_index_or, Option, Some, None}
+use Rattle.std.specs.Prelude.{◌≡◌, ◌≢◌, ◌⊎◌, ℕ, ◌+◌, ◌<◌, ◌≤◌, Bool, ◌&&◌, not, ◌==◌, nat_lt, if◌then◌else◌, true, false, List, [], ◌∷◌, length, slice_index, slice_index_or, Option, Some, None}
 use Rattle.erm_machine.specs.declared.attempt.Attempt.{Attempt}
 use Rattle.erm_machine.specs.declared.attempt.OwnCell.{OwnCell}
 use Rattle.erm_machine.specs.declared.event.Counter.TheVariants.{Objects, Cells}
@@ -16,22 +16,25 @@ use Rattle.erm_machine.specs.declared.task.Task.TheVariants as task
 use Rattle.erm_machine.specs.declared.version.CellWord.{CellWord}
 use Rattle.erm_machine.specs.declared.version.CellWord.TheVariants as word
 use Rattle.erm_machine.specs.declared.version.VersionAt.{VersionAt}
+use Rattle.erm_machine.specs.Back.{goes_back}
 use Rattle.erm_machine.specs.Core.{Core, claim_at}
 use Rattle.erm_machine.specs.Life.{is_header}
 use Rattle.erm_machine.specs.Reading.{has_read}
 use Rattle.erm_machine.specs.Seat.{is_active, is_commit, last_claim, read_at}
 use Rattle.erm_machine.specs.Settling.{head_value}
 use Rattle.erm_machine.specs.Step.{after_event}
-use Rattle.erm_machine.specs.Words.{is_clear, is_least_bit, is_session, state_of}
+use Rattle.erm_machine.specs.Words.{begin_of, is_clear, is_least_bit, is_session, state_of}
 
 -- The seat is in a call that has a next step of its own. Between calls it isn't; nor where a version is found, which its caller
--- may register or claim, or is rated, so that the read is answered.
+-- may register or claim, or is rated, so that the read is answered; nor where a snapshot is safe, or has found a version.
 abbrev pub IsInCall : Place → Task → Type 0
 IsInCall Vacant u = ⊥
 IsInCall Idle u = ⊥
 IsInCall (Active tail) task.Rest = ⊥
 IsInCall (Active tail) (task.Found version stamp head) = ⊥
 IsInCall (Active tail) (task.Rated version) = ⊥
+IsInCall (Active tail) task.Safe = ⊥
+IsInCall (Active tail) (task.SafeFound version) = ⊥
 IsInCall (Sealed tail stamp) task.Rest = ⊥
 IsInCall p u = Unit {0}
 
@@ -101,17 +104,25 @@ next_install t ended step =
     else if step == 7 then kind.StoreOverwriter (overwrites t ended) t.stamp
     else kind.Install (overwrites t ended).oid (own_at t ended)
 
--- END of a commit: reader stamps are raised, and then claims are installed
-abbrev pub next_commit : Attempt → (raised ended step cleared : ℕ) → Kind
-next_commit t raised ended step cleared =
+-- END of a commit that goes back: its stamp is to be stored in the own back word, where it doesn't stand there
+abbrev pub wants_back : Attempt → (back : ℕ) → Bool
+wants_back t back = goes_back t && not (back == t.stamp)
+
+abbrev pub next_back : Attempt → (back cleared : ℕ) → Kind
+next_back t back cleared = if wants_back t back then kind.StoreBack t.stamp else next_clear t cleared
+
+-- END of a commit: reader stamps are raised, then claims are installed, and then the own back word may be stored
+abbrev pub next_commit : Attempt → (back raised ended step cleared : ℕ) → Kind
+next_commit t back raised ended step cleared =
     if nat_lt raised (length t.reads) then kind.RaiseReader (read_at t raised).version t.stamp
     else if nat_lt ended (length t.writes) then next_install t ended step
-    else next_clear t cleared
+    else next_back t back cleared
 
 -- the next step of a decided transaction
-abbrev pub next_end : Attempt → Task → Kind
-next_end t (task.Ends raised ended step cleared) = if is_commit t.decision then next_commit t raised ended step cleared else next_release t ended cleared
-next_end t u = kind.LoadFlushed
+abbrev pub next_end : Attempt → (back : ℕ) → Task → Kind
+next_end t back (task.Ends raised ended step cleared) =
+    if is_commit t.decision then next_commit t back raised ended step cleared else next_release t ended cleared
+next_end t back u = kind.LoadFlushed
 
 -- SETTLE: the next word of the block behind its header, so many of which are stored
 abbrev pub next_word : Written → Attempt → ℕ → Kind
@@ -145,6 +156,10 @@ next_active b x (task.Passed version) = kind.LoadCell version word.Link
 next_active b x (task.Registered version) = kind.LoadStamp version word.Overwriter
 next_active b x (task.Overtaken version overwriter) = kind.LoadStamp version word.OverwriterSucc
 next_active b x task.Numbers = kind.AddCounter Objects
+next_active b x (task.Surveys next) = kind.LoadBegin next
+next_active b x (task.Behind next) = kind.LoadBack next
+next_active b x (task.SafeWalks version) = kind.LoadCell version word.Stamp
+next_active b x (task.SafePassed version) = kind.LoadCell version word.Link
 next_active b x (task.Claimed version) = kind.LoadTail purpose.Horizon
 next_active b x (task.Horizon version least next) = kind.LoadBegin next
 next_active b x (task.CutWalks version horizon) = kind.LoadCell version word.Stamp
@@ -171,20 +186,22 @@ next_at b x (Active tail) u = next_active b x u
 next_at b x (Sealing tail) u = kind.AddTail b.size
 next_at b x (Drawn tail stamp) u = kind.StoreState stamp
 next_at b x (Sealed tail stamp) u = next_settle b x.current u
-next_at b x (Decided tail stamp) u = next_end x.current u
+next_at b x (Decided tail stamp) u = next_end x.current x.back u
 next_at b x (Leaving stamp) u = kind.StoreState 0
 
 abbrev pub next_kind : Written → Part → Kind
 next_kind b x = next_at b x x.place x.task
 
--- the seat's step of this kind is taken, and moves it to another place or task
+-- the seat's step of this kind is taken, and moves it to another place or task, or changes its back word
 pub record MovesOn (c : Core) (seat : ℕ) (step : Kind) : Type 0 where
   pub after : Core
   pub taken : after_event c seat step ≡ Some after
   pub moved : ((after.seats seat).place ≢ (c.seats seat).place) ⊎ ((after.seats seat).task ≢ (c.seats seat).task)
+      ⊎ ((after.seats seat).back ≢ (c.seats seat).back)
 
 -- The seat waits for another one that isn't clear for its bound: the owner of the entry that it reads, the one that may
--- overwrite a version that it has read, or a reader of a version that it overwrites.
+-- overwrite a version that it has read, or a reader of a version that it overwrites. A snapshot that looks whether it is safe waits for
+-- a session in which a transaction has begun below its begin stamp.
 pub data Waits (c : Core) (seat : ℕ) : Type 0 where
   for_owner : (oid owner : ℕ) → (c.seats seat).task ≡ task.Owned oid owner
       → is_clear (state_of (c.seats owner).place) (c.seats seat).current.begin ≡ false → Waits c seat
@@ -192,6 +209,14 @@ pub data Waits (c : Core) (seat : ℕ) : Type 0 where
       → is_clear (state_of (c.seats owner).place) (c.seats seat).current.stamp ≡ false → Waits c seat
   for_reader : (write bits reader : ℕ) → (c.seats seat).task ≡ task.ReadersLeft write bits → is_least_bit bits reader ≡ true
       → is_clear (state_of (c.seats reader).place) (c.seats seat).current.stamp ≡ false → Waits c seat
+  for_begin : (other : ℕ) → (c.seats seat).task ≡ task.Surveys other → other ≢ seat → 0 < begin_of (c.seats other).place
+      → begin_of (c.seats other).place < (c.seats seat).current.begin → Waits c seat
+
+-- The seat's snapshot is unsafe: this session's back word, which tells a commit that goes back, is at or above its begin stamp.
+pub record IsUnsafe (c : Core) (seat : ℕ) : Type 0 where
+  pub other : ℕ
+  pub behind : (c.seats seat).task ≡ task.Behind other
+  pub back : (c.seats seat).current.begin ≤ (c.seats other).back
 
 -- a version is found, which the transaction has room to register
 pub record MayRegister (seat : ℕ) (x : Part) : Type 0 where

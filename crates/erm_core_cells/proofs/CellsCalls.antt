@@ -17,10 +17,11 @@ use Rattle.erm_machine.specs.declared.version.VersionAt.{VersionAt}
 use Rattle.erm_machine.specs.Cells.{MayWant, WantsCell}
 use Rattle.erm_machine.specs.Core.{Object, claim_at, no_claim}
 use Rattle.erm_machine.specs.Flushing.{load_flushed}
-use Rattle.erm_machine.specs.Reading.{entered, after_cut, detached, older, new_claim, load_entry, claim, set_reader, load_walked_stamp, load_walked_link, load_cell, load_detached, load_active_stamp, with_spare, rated_claim, with_own_word, stored_own, stored_row, start_row, store_row_word}
-use Rattle.erm_machine.specs.Seat.{end_of, is_active, is_sealed, is_own, last_claim, may_start}
+use Rattle.erm_machine.specs.Reading.{entered, after_cut, detached, older, new_claim, load_entry, claim, set_reader, load_walked_stamp, load_walked_link, load_cell, load_detached, load_active_stamp, with_spare, rated_claim, with_own_word, stored_own, stored_row, start_row, store_row_word, without_row, unset}
+use Rattle.erm_machine.specs.Seat.{end_of, is_active, is_safe, is_sealed, is_own, last_claim, may_start}
 use Rattle.erm_machine.specs.Words.{blank_cell}
 use Rattle.erm_machine.specs.Settling.{filled, may_settle, load_flushed_to_settle, load_read_entry, load_readers, load_settled_stamp, load_stamp, store_ring, raise_reader, store_head_word, store_active_word, store_cell, mark_overwritten, store_succ, store_overwriter, clear_reader}
+use Rattle.erm_machine.proofs.Backs.{entry_then, rest_is}
 use Rattle.erm_machine.proofs.Guards.{when_then, some_then, if_then, either_way}
 use Rattle.erm_core_cells.proofs.CellsCounts.{count_set, count_last}
 use Rattle.erm_core_cells.proofs.CellsLeaves.{times_in, times_set, times_more, Leaves, Plain, plain_from, plain_if, KeepsTask, keeps_plain, keeps_want, keeps_if, BareAt, bare_given, bare_quits, bare_wants, no_more_same, no_more_set, leaves_task, leaves_plain, leaves_want, leaves_aside, leaves_current}
@@ -47,6 +48,19 @@ starts_bare task.Draws e h = absurd (cc)
 starts_bare task.Pool e h = absurd (cc)
 starts_bare task.Refused e h = absurd (cc)
 starts_bare _ e h = h
+
+-- nor does a safe snapshot
+safe_bare : (t : Task) → is_safe t ≡ true → MayWant t → ⊥
+safe_bare (task.Claimed version) e h = absurd (cc)
+safe_bare (task.Horizon version least next) e h = absurd (cc)
+safe_bare (task.CutWalks version horizon) e h = absurd (cc)
+safe_bare (task.CutPassed version horizon) e h = absurd (cc)
+safe_bare (task.CutFound version horizon) e h = absurd (cc)
+safe_bare (task.Detaches version) e h = absurd (cc)
+safe_bare task.Draws e h = absurd (cc)
+safe_bare task.Pool e h = absurd (cc)
+safe_bare task.Refused e h = absurd (cc)
+safe_bare _ e h = h
 
 -- how far an end has come
 abbrev pub EndIs : Option (ℕ × ℕ × ℕ × ℕ) → Type 0
@@ -80,7 +94,9 @@ settles_bare _ e h = h
 pub load_entry_leaves : (seat oid found : ℕ) (o : Object) (x : Part) (t : Task) (y : Part) → load_entry seat oid found o x t ≡ Some y → Leaves x t y
 load_entry_leaves seat oid found o x (task.Cleared cleared) y e =
     when_then (Leaves x _) _ _ y e (λ _. leaves_plain x _ _ (search (plain_if, plain_from, entered_plain)) (λ h. h))
-load_entry_leaves seat oid found o x t y e = when_then (Leaves x t) _ _ y e (λ g. leaves_plain x t _ (entered_plain seat oid found o) (starts_bare t (and_parts _ _ g).1))
+load_entry_leaves seat oid found o x t y e =
+    entry_then (Leaves x t) seat oid found o x t y e (λ safe _. leaves_plain x t _ (plain_from _ tt) (safe_bare t safe))
+    (λ g. leaves_plain x t _ (entered_plain seat oid found o) (starts_bare t (and_parts _ _ g).1))
 
 -- a new claim has no cell yet
 times_claimed : (cell : ℕ) (b : Bool) (ws : List Claim) (v : VersionAt) (stamp : ℕ) (row : List ℕ) → times_in cell (if b then ws ++ new_claim v stamp row ∷ [] else ws) ≡ times_in cell ws
@@ -132,11 +148,13 @@ walked_stamp_leaves : (found : ℕ) (v : VersionAt) (x : Part) (t : Task) (y : P
 walked_stamp_leaves found v x (task.Walks version head) y e = when_then (Leaves x _) _ _ y e (λ _. leaves_plain x _ _ (search (plain_if, plain_from)) (λ h. h))
 walked_stamp_leaves found v x (task.CutWalks version horizon) y e =
     when_then (Leaves x _) _ _ y e (λ _. leaves_want x _ _ (search (plain_if, plain_from)) (either_way MayWant (ltb found horizon) (task.CutFound version horizon) (task.CutPassed version horizon) (λ _. tt) (λ _. tt)))
+walked_stamp_leaves found v x (task.SafeWalks version) y e = when_then (Leaves x _) _ _ y e (λ _. leaves_plain x _ _ (search (plain_if, plain_from)) (λ h. h))
 walked_stamp_leaves found v x (task.Passed version) y e = when_then (Leaves x _) _ _ y e (λ _. leaves_plain x _ _ (plain_from _ tt) (λ h. h))
 walked_stamp_leaves found v x _ y e = absurd (cc)
 
 walked_link_leaves : (found : ℕ) (v : VersionAt) (x : Part) (t : Task) (y : Part) → Cutting x t → load_walked_link found v x t ≡ Some y → Leaves x t y
 walked_link_leaves found v x (task.Passed version) y cut e = when_then (Leaves x _) _ _ y e (λ _. leaves_plain x _ _ (plain_from _ tt) (λ h. h))
+walked_link_leaves found v x (task.SafePassed version) y cut e = when_then (Leaves x _) _ _ y e (λ _. leaves_plain x _ _ (plain_from _ tt) (λ h. h))
 walked_link_leaves found v x (task.CutPassed version horizon) y cut e =
     when_then (Leaves x _) _ _ y e (λ _.
     let t : Task = task.CutPassed version horizon in
@@ -301,6 +319,17 @@ active_word_leaves place cell _ value x y e = absurd (cc)
 pub store_cell_leaves : (place cell : ℕ) (w : CellWord) (value : ℕ) (x : Part) (y : Part) → store_cell place cell w value x ≡ Some y → Leaves x x.task y
 store_cell_leaves place cell w value x y e =
     if_then (Leaves x x.task) _ _ _ y e (λ _ h. active_word_leaves place cell w value x y h) (λ _ h. head_word_leaves place cell w value x x.task y h)
+
+-- the row of a claim is undone between calls
+pub unset_leaves : (place : ℕ) (x y : Part) → unset place x ≡ Some y → Leaves x x.task y
+unset_leaves place x y e =
+    when_then (Leaves x x.task) _ _ y e (λ g.
+    let rest : x.task ≡ task.Rest = rest_is x.task (and_parts _ _ (and_parts _ _ (and_parts _ _ g).0).0).1 in
+    let w : Claim = record (claim_at x.current place) { row = (claim_at x.current place).base; is_set = false } in
+    leaves_current x x.task x.task (without_row place x.current) (subst Plain (sym rest) (plain_from task.Rest tt)) refl
+    (λ cell. times_set cell x.current place w refl)
+    (bare_quits x.current.writes (without_row place x.current).writes x.task x.task (λ h. subst MayWant rest h)
+    (no_more_set x.current.writes place w (λ h. h) (λ h. h))))
 
 pub clear_reader_leaves : (v : VersionAt) (x : Part) (t : Task) (o : Option (ℕ × ℕ × ℕ × ℕ)) (y : Part) → end_of t ≡ o → clear_reader v x o ≡ Some y → Leaves x t y
 clear_reader_leaves v x t None y is e = absurd (cc)

@@ -16,13 +16,14 @@ use Rattle.erm_machine.specs.declared.task.Task.TheVariants as task
 use Rattle.erm_machine.specs.Cells.{MayWant}
 use Rattle.erm_machine.specs.Core.{claim_at}
 use Rattle.erm_machine.specs.Facts.{IsCurrent, over_of}
-use Rattle.erm_machine.specs.Life.{load_tail, load_tail_to_begin, load_tail_for_horizon, add_tail, has_ended, store_begin, store_state, load_begin, after_clear, load_state, split, join, decide}
+use Rattle.erm_machine.specs.Life.{load_tail, load_tail_to_begin, load_tail_for_horizon, add_tail, has_ended, after_passed, after_survey, store_begin, store_state, load_begin, load_back, store_back, after_clear, load_state, split, join, decide}
 use Rattle.erm_machine.specs.Seat.{end_of}
 use Rattle.erm_machine.specs.Tasks.{TaskFits}
 use Rattle.erm_machine.specs.Words.{is_flusher}
+use Rattle.erm_machine.proofs.Backs.{active_begin_then}
 use Rattle.erm_machine.proofs.Guards.{when_then, either_way}
 use Rattle.erm_core_cells.proofs.CellsCalls.{EndIs, ends_bare, starts_bare}
-use Rattle.erm_core_cells.proofs.CellsLeaves.{times_in, Leaves, Plain, plain_from, plain_if, KeepsTask, keeps_plain, keeps_want, keeps_same, keeps_if, leaves_task, leaves_want, leaves_aside, leaves_over, leaves_dropped}
+use Rattle.erm_core_cells.proofs.CellsLeaves.{times_in, Leaves, Plain, plain_from, plain_if, KeepsTask, keeps_plain, keeps_want, keeps_same, keeps_if, leaves_task, leaves_plain, leaves_want, leaves_aside, leaves_over, leaves_dropped}
 
 -- a begin: there was no transaction
 begun_leaves : (seat found : ℕ) (x : Part) (pl : Place) (y : Part) → IsCurrent pl x.current → load_tail_to_begin seat found x pl ≡ Some y → Leaves x x.task y
@@ -80,15 +81,17 @@ pub store_begin_leaves : (seat value : ℕ) (x : Part) (pl : Place) (t : Task) (
     → store_begin seat value x pl ≡ Some y → Leaves x x.task y
 store_begin_leaves seat value x (Begun tail) t y at on unmade none e = when_then (Leaves x x.task) _ _ y e (λ _. leaves_aside x _ refl refl refl refl)
 store_begin_leaves seat value x (Active tail) t y at on unmade none e =
-    when_then (Leaves x x.task) _ _ y e (λ g.
-    let done : has_ended x.current (end_of t) ≡ true = subst (λ u. has_ended x.current (end_of u) ≡ true) on (and_parts _ _ g).1 in
+    active_begin_then (Leaves x x.task) seat value tail x y e (λ _ ended.
+    let done : has_ended x.current (end_of t) ≡ true = subst (λ u. has_ended x.current (end_of u) ≡ true) on ended in
     let all = all_over x.current (end_of t) _ done (over_is t tail (length x.current.writes)) in
     let bare : (k : ℕ) → k < length x.current.writes → (claim_at x.current k).own ≡ None = λ k within. none k within (subst (λ n. k < n) (sym all) within) in
     either_way (Leaves x x.task) (is_flusher seat) _ _ (λ flusher. leaves_dropped x x.task task.Rest (plain_from task.Rest tt) (unmade flusher) bare)
     (λ _. leaves_over Abort x x.task task.Rest (plain_from task.Rest tt) bare))
+    (λ _ _ _ rest. leaves_task x x.task _ refl refl refl
+    (keeps_plain x x.task (task.Surveys 1) (plain_from (task.Surveys 1) tt) (λ h. subst MayWant rest h)))
 store_begin_leaves seat value x (Decided tail stamp) t y at on unmade none e =
     when_then (Leaves x x.task) _ _ y e (λ g.
-    leaves_task x x.task _ refl refl refl (keeps_plain x x.task task.Rest (plain_from task.Rest tt) (ended_bare x.current (end_of x.task) x.task refl (and_parts _ _ g).1)))
+    leaves_task x x.task _ refl refl refl (keeps_plain x x.task task.Rest (plain_from task.Rest tt) (ended_bare x.current (end_of x.task) x.task refl (and_parts _ _ (and_parts _ _ g).0).1)))
 store_begin_leaves seat value x _ t y at on unmade none e = absurd (cc)
 
 -- SEAL stores its state; the last step of a sealed transaction clears it
@@ -103,11 +106,29 @@ store_state_leaves seat value x (Leaving stamp) y at fits none e =
     leaves_over x.current.decision x x.task x.task (subst Plain (sym fits) (plain_from task.Rest tt)) (λ k within. none k within within))
 store_state_leaves seat value x _ y at fits none e = absurd (cc)
 
--- CUT loads a begin word
-pub load_begin_leaves : (other found : ℕ) (x : Part) (t : Task) (y : Part) → load_begin other found x t ≡ Some y → Leaves x t y
-load_begin_leaves other found x (task.Horizon version least next) y e = when_then (Leaves x _) _ _ y e (λ _.
+after_passed_plain : (next : ℕ) → Plain (after_passed next)
+after_passed_plain next = search (plain_if, plain_from)
+
+after_survey_plain : (seat begin found next : ℕ) → Plain (after_survey seat begin found next)
+after_survey_plain seat begin found next = search (plain_if, plain_from, after_passed_plain)
+
+-- CUT loads a begin word, and so does SAFE
+pub load_begin_leaves : (seat other found : ℕ) (x : Part) (t : Task) (y : Part) → load_begin seat other found x t ≡ Some y → Leaves x t y
+load_begin_leaves seat other found x (task.Horizon version least next) y e = when_then (Leaves x _) _ _ y e (λ _.
     leaves_want x _ _ (search (plain_if, plain_from)) (either_way MayWant (eqb (next + 1) ANNOUNCERS) _ _ (λ _. tt) (λ _. tt)))
-load_begin_leaves other found x _ y e = absurd (cc)
+load_begin_leaves seat other found x (task.Surveys next) y e =
+    when_then (Leaves x _) _ _ y e (λ _. leaves_plain x _ _ (after_survey_plain seat x.current.begin found next) (λ h. h))
+load_begin_leaves seat other found x _ y e = absurd (cc)
+
+-- SAFE loads a back word; an end stores the own one
+pub load_back_leaves : (other found : ℕ) (x : Part) (t : Task) (y : Part) → load_back other found x t ≡ Some y → Leaves x t y
+load_back_leaves other found x (task.Behind next) y e =
+    when_then (Leaves x _) _ _ y e (λ _. leaves_plain x _ _ (search (plain_if, plain_from, after_passed_plain)) (λ h. h))
+load_back_leaves other found x _ y e = absurd (cc)
+
+pub store_back_leaves : (value : ℕ) (x : Part) (pl : Place) (y : Part) → store_back value x pl ≡ Some y → Leaves x x.task y
+store_back_leaves value x (Decided tail stamp) y e = when_then (Leaves x x.task) _ _ y e (λ _. leaves_aside x _ refl refl refl refl)
+store_back_leaves value x _ y e = absurd (cc)
 
 -- LOOK
 clear_keeps : (other bound : ℕ) (x : Part) (t : Task) → KeepsTask x t (after_clear other bound x t)

@@ -13,9 +13,9 @@ use Rattle.erm_machine.specs.Step.{part_after}
 use Rattle.erm_machine.specs.Tasks.{TaskFits}
 use Rattle.erm_machine.specs.Words.{is_flusher}
 use Rattle.erm_machine.proofs.Guards.{if_then, unless_some}
-use Rattle.erm_core_cells.proofs.CellsCalls.{Cutting, load_entry_leaves, claim_leaves, set_reader_leaves, load_cell_leaves, load_detached_leaves, load_stamp_leaves, load_read_entry_leaves, load_readers_leaves, store_ring_leaves, raise_reader_leaves, store_succ_leaves, store_overwriter_leaves, store_cell_leaves, clear_reader_leaves, load_flushed_leaves}
+use Rattle.erm_core_cells.proofs.CellsCalls.{Cutting, load_entry_leaves, claim_leaves, set_reader_leaves, load_cell_leaves, load_detached_leaves, load_stamp_leaves, load_read_entry_leaves, load_readers_leaves, store_ring_leaves, raise_reader_leaves, store_succ_leaves, store_overwriter_leaves, store_cell_leaves, unset_leaves, clear_reader_leaves, load_flushed_leaves}
 use Rattle.erm_core_cells.proofs.CellsLeaves.{Leaves}
-use Rattle.erm_core_cells.proofs.CellsLife.{load_tail_leaves, add_tail_leaves, store_begin_leaves, store_state_leaves, load_begin_leaves, load_state_leaves, decide_leaves}
+use Rattle.erm_core_cells.proofs.CellsLife.{load_tail_leaves, add_tail_leaves, store_begin_leaves, store_state_leaves, load_begin_leaves, load_back_leaves, store_back_leaves, load_state_leaves, decide_leaves}
 use Rattle.erm_core_cells.proofs.CellsDisk.{load_ring_leaves, clear_ring_leaves, store_flushed_leaves}
 
 -- what a seat's step is given: what the seat's place and task say
@@ -42,7 +42,7 @@ leaves p (kind.LoadTail reason) found s x y q g e = load_tail_leaves p reason fo
 leaves p (kind.AddTail size) found s x y q g e = add_tail_leaves p size found x x.place y e
 leaves p (kind.StoreBegin value) found s x y q g e = store_begin_leaves p value x x.place x.task y refl refl g.unmade g.none e
 leaves p (kind.StoreState value) found s x y q g e = store_state_leaves p value x x.place y refl g.fits g.none e
-leaves p (kind.LoadBegin other) found s x y q g e = load_begin_leaves other found x x.task y e
+leaves p (kind.LoadBegin other) found s x y q g e = load_begin_leaves p other found x x.task y e
 leaves p (kind.LoadState other bound) found s x y q g e = load_state_leaves p other bound found x y e
 leaves p (kind.Split other) found s x y q g e = absurd q
 leaves p (kind.Join other) found s x y q g e = absurd q
@@ -70,3 +70,6 @@ leaves p (kind.StoreFlushed value) found s x y q g e = store_flushed_leaves valu
 leaves p kind.LoadFlushed found s x y q g e = load_flushed_leaves found x x.flushing y e
 leaves p (kind.SwapLink v) found s x y q g e = absurd q
 leaves p (kind.LoadDetached v) found s x y q g e = load_detached_leaves found v x x.task y g.cutting e
+leaves p (kind.StoreBack value) found s x y q g e = store_back_leaves value x x.place y e
+leaves p (kind.LoadBack other) found s x y q g e = load_back_leaves other found x x.task y e
+leaves p (kind.Unset place) found s x y q g e = unset_leaves place x y e

@@ -168,6 +168,9 @@ module _ (s t : Shared) (e : (oid : ℕ) → Extends (s.objects oid) (t.objects 
   named_kept (task.Registered version) n = name_kept version n
   named_kept (task.Overtaken version overwriter) n = name_kept version n
   named_kept (task.Rated version) n = name_kept version n
+  named_kept (task.SafeWalks version) n = name_kept version n
+  named_kept (task.SafePassed version) n = name_kept version n
+  named_kept (task.SafeFound version) n = name_kept version n
   named_kept (task.Claimed version) n = name_kept version n
   named_kept (task.Horizon version least next) n = name_kept version n
   named_kept (task.CutWalks version horizon) n = name_kept version n

@@ -247,7 +247,7 @@ kept c p (kind.LoadTail reason) d sound e = tail_kept c p reason d sound e
 kept c p (kind.LoadBegin other) d sound e =
     let m = moves c p (kind.LoadBegin other) d tt e in
     plain_kept c p (kind.LoadBegin other) d tt tt sound m
-    (load_begin_hand c.shared other (word_at c (spot_of p (kind.LoadBegin other))) (c.seats p) (c.seats p).task m.part (own_hand c p sound) m.after)
+    (load_begin_hand c.shared p other (word_at c (spot_of p (kind.LoadBegin other))) (c.seats p) (c.seats p).task m.part (own_hand c p sound) m.after)
 kept c p (kind.LoadState other bound) d sound e =
     let m = moves c p (kind.LoadState other bound) d tt e in
     plain_kept c p (kind.LoadState other bound) d tt tt sound m

@@ -15,13 +15,14 @@ use Rattle.erm_machine.specs.declared.version.VersionAt.{VersionAt}
 use Rattle.erm_machine.specs.Chains.{IsNamed, NamedInHand, IsAttached, IsDetached, CutInHand, HeadInHand, OwnChains}
 use Rattle.erm_machine.specs.Core.{Core, Object, Shared, spot_of, word_at, version_at}
 use Rattle.erm_machine.specs.Facts.{Holds, HasBegun}
-use Rattle.erm_machine.specs.Life.{load_tail_for_horizon, after_begin_word, load_begin, after_clear, load_state}
+use Rattle.erm_machine.specs.Life.{load_tail_for_horizon, after_begin_word, after_passed, after_survey, load_begin, after_clear, load_state}
 use Rattle.erm_machine.specs.Reading.{head_version, older, entered, lost, after_cut, detached, load_entry, load_walked_stamp, load_walked_link, load_cell, load_detached, load_active_stamp}
 use Rattle.erm_machine.specs.Seat.{is_active, is_sealed}
 use Rattle.erm_machine.specs.Settling.{load_settled_stamp, load_stamp}
 use Rattle.erm_machine.specs.Snapshot.{InHand}
 use Rattle.erm_machine.specs.Sound.{Sound}
 use Rattle.erm_machine.specs.Words.{owner_of, is_clear}
+use Rattle.erm_machine.proofs.Backs.{entry_then}
 use Rattle.erm_machine.proofs.Guards.{when_then, if_then, either_way}
 use Rattle.erm_machine.proofs.QuietKinds.{begun_active}
 use Rattle.erm_core_cells.proofs.ChainsFrames.{grows_refl, cut_kept, same_name}
@@ -100,10 +101,18 @@ begin_word_hand : (s : Shared) (x : Part) (version : VersionAt) (least next : �
 begin_word_hand s x version least next n a =
     hand_if s x _ (task.CutWalks version least) (task.Horizon version least next) (λ _. record { named = n; cut = a; head = tt }) (λ _. record { named = n; cut = a; head = tt })
 
-pub load_begin_hand : (s : Shared) (other found : ℕ) (x : Part) (t : Task) (y : Part) → Hand s x t → load_begin other found x t ≡ Some y → OwnChains s y
-load_begin_hand s other found x (task.Horizon version least next) y h e =
+after_passed_bare : (next : ℕ) → Bare (after_passed next)
+after_passed_bare next = search (bare_if, bare_from)
+
+after_survey_bare : (seat begin found next : ℕ) → Bare (after_survey seat begin found next)
+after_survey_bare seat begin found next = search (bare_if, bare_from, after_passed_bare)
+
+pub load_begin_hand : (s : Shared) (seat other found : ℕ) (x : Part) (t : Task) (y : Part) → Hand s x t → load_begin seat other found x t ≡ Some y → OwnChains s y
+load_begin_hand s seat other found x (task.Horizon version least next) y h e =
     when_then (OwnChains s) _ _ y e (λ _. with_hand s x _ (begin_word_hand s x version _ _ h.named h.cut))
-load_begin_hand s other found x _ y h e = absurd (cc)
+load_begin_hand s seat other found x (task.Surveys next) y h e =
+    when_then (OwnChains s) _ _ y e (λ _. with_hand s x _ (bare_hand s x _ (after_survey_bare seat x.current.begin found next)))
+load_begin_hand s seat other found x _ y h e = absurd (cc)
 
 -- LOOK
 clear_hand : (s : Shared) (other bound : ℕ) (x : Part) (t : Task) → Hand s x t → Hand s x (after_clear other bound x t)
@@ -186,7 +195,10 @@ module _ (c : Core) (p : ℕ) (sound : Sound c) where
       when_then (OwnChains c.shared) _ _ y e (λ _. with_hand c.shared (c.seats p) _
       (hand_if c.shared (c.seats p) _ (task.Walks (head_version oid (c.shared.objects oid).entry (c.shared.objects oid)) None) _
       (λ _. record { named = head_named oid known; cut = tt; head = tt }) (λ _. entered_hand oid known)))
-  load_entry_hand oid t y known e = when_then (OwnChains c.shared) _ _ y e (λ _. with_hand c.shared (c.seats p) _ (entered_hand oid known))
+  load_entry_hand oid t y known e =
+      entry_then (OwnChains c.shared) p oid (c.shared.objects oid).entry (c.shared.objects oid) (c.seats p) t y e
+      (λ _ _. with_hand c.shared (c.seats p) _ (record { named = head_named oid known; cut = tt; head = tt }))
+      (λ _. with_hand c.shared (c.seats p) _ (entered_hand oid known))
 
   abbrev pub stamp_of : VersionAt → ℕ
   stamp_of v = (version_at (c.shared.objects v.oid) v.place).words.stamp
@@ -207,16 +219,20 @@ module _ (c : Core) (p : ℕ) (sound : Sound c) where
       (hand_if c.shared (c.seats p) _ (task.CutFound version horizon) (task.CutPassed version horizon)
       (λ below. record { named = h.named; cut = (h.cut, subst (λ n. stamp_of n < horizon) (same_name v version g) (ltb-true _ _ below)); head = tt })
       (λ _. record { named = h.named; cut = h.cut; head = tt })))
+  walked_stamp_hand v (task.SafeWalks version) y at e =
+      let h = hand_of c.shared (c.seats p) (task.SafeWalks version) at (sound.own p).chains in
+      when_then (OwnChains c.shared) _ _ y e (λ _. with_hand c.shared (c.seats p) _
+      (hand_if c.shared (c.seats p) _ (task.SafeFound version) (task.SafePassed version)
+      (λ _. record { named = h.named; cut = tt; head = tt }) (λ _. record { named = h.named; cut = tt; head = tt })))
   walked_stamp_hand v (task.Passed version) y at e =
       let h = hand_of c.shared (c.seats p) (task.Passed version) at (sound.own p).chains in
       when_then (OwnChains c.shared) _ _ y e (λ _. with_hand c.shared (c.seats p) (task.Passed version) (record { named = h.named; cut = tt; head = tt }))
   walked_stamp_hand v _ y at e = absurd (cc)
 
-  -- a version that a read has passed isn't the oldest one attached
-  passed_above : (version : VersionAt) → (c.seats p).task ≡ task.Passed version → HasBegun (c.seats p).place → IsNamed c.shared version → (c.shared.objects version.oid).cut < version.place
-  passed_above version at begun n =
-      let in_hand : InHand c.shared (c.seats p).current.begin (task.Passed version) = subst (InHand c.shared (c.seats p).current.begin) at (sound.own p).snapshot.in_hand in
-      let above = in_hand.1 in
+  -- a version that a read has passed, whose stamp isn't below the begin stamp, isn't the oldest one attached
+  passed_above : (version : VersionAt) → (c.seats p).current.begin ≤ stamp_of version → HasBegun (c.seats p).place → IsNamed c.shared version
+      → (c.shared.objects version.oid).cut < version.place
+  passed_above version above begun n =
       let below = (sound.own p).attached.below version.oid n.object begun in
       newer_by_stamp (c.shared.objects version.oid) (c.shared.objects version.oid).cut version.place (sound.common.claims.objects version.oid n.object).ascend
       (sound.common.chains.linked version.oid n.object).attached (omega (arith, above, below))
@@ -240,8 +256,14 @@ module _ (c : Core) (p : ℕ) (sound : Sound c) where
   walked_link_hand : (v : VersionAt) (t : Task) (y : Part) → HasBegun (c.seats p).place → (c.seats p).task ≡ t → load_walked_link (link_of v) v (c.seats p) t ≡ Some y → OwnChains c.shared y
   walked_link_hand v (task.Passed version) y begun at e =
       let h = hand_of c.shared (c.seats p) (task.Passed version) at (sound.own p).chains in
+      let in_hand : InHand c.shared (c.seats p).current.begin (task.Passed version) = subst (InHand c.shared (c.seats p).current.begin) at (sound.own p).snapshot.in_hand in
       when_then (OwnChains c.shared) _ _ y e (λ g. with_hand c.shared (c.seats p) (task.Walks (older version (link_of v)) None)
-      (record { named = older_hand v version (same_name v version (and_parts _ _ (and_parts _ _ g).0).0) h.named (passed_above version at begun h.named); cut = tt; head = tt }))
+      (record { named = older_hand v version (same_name v version (and_parts _ _ (and_parts _ _ g).0).0) h.named (passed_above version in_hand.1 begun h.named); cut = tt; head = tt }))
+  walked_link_hand v (task.SafePassed version) y begun at e =
+      let h = hand_of c.shared (c.seats p) (task.SafePassed version) at (sound.own p).chains in
+      let in_hand : InHand c.shared (c.seats p).current.begin (task.SafePassed version) = subst (InHand c.shared (c.seats p).current.begin) at (sound.own p).snapshot.in_hand in
+      when_then (OwnChains c.shared) _ _ y e (λ g. with_hand c.shared (c.seats p) (task.SafeWalks (older version (link_of v)))
+      (record { named = older_hand v version (same_name v version (and_parts _ _ (and_parts _ _ g).0).0) h.named (passed_above version in_hand.1 begun h.named); cut = tt; head = tt }))
   walked_link_hand v (task.CutPassed version horizon) y begun at e =
       let h = hand_of c.shared (c.seats p) (task.CutPassed version horizon) at (sound.own p).chains in
       when_then (OwnChains c.shared) _ _ y e (λ g. with_hand c.shared (c.seats p) _

@@ -1,6 +1,7 @@
 -- Which steps leave the version in hand, or let it go; and when a seat begins.
 use Rattle.std.proofs.Common.{◌≡◌, ℕ, ◌⊎◌, Bool, Option, Some, None, refl, sym, subst, inl, inr}
 use Rattle.std.specs.Prelude.{if◌then◌else◌}
+use Rattle.std.proofs.lemmas.Bool.{and_parts}
 use Rattle.erm_machine.specs.declared.event.Counter.{Counter}
 use Rattle.erm_machine.specs.declared.event.Counter.TheVariants.{Objects, Cells}
 use Rattle.erm_machine.specs.declared.event.Kind.{Kind}
@@ -21,13 +22,14 @@ use Rattle.erm_machine.specs.Chains.{NamedInHand, CutInHand, HeadInHand, OwnChai
 use Rattle.erm_machine.specs.Core.{Core, Shared, spot_of, word_at}
 use Rattle.erm_machine.specs.Facts.{HasBegun}
 use Rattle.erm_machine.specs.Flushing.{load_flushed, gathered_word, load_ring, clear_ring, store_flushed}
-use Rattle.erm_machine.specs.Life.{load_tail_to_begin, load_tail_for_horizon, load_tail_to_gather, load_tail, add_tail, store_begin, store_state, load_begin, load_state, decide}
-use Rattle.erm_machine.specs.Reading.{load_counter, add_counter, start_row, store_row_word}
+use Rattle.erm_machine.specs.Life.{load_tail_to_begin, load_tail_for_horizon, load_tail_to_gather, load_tail, add_tail, after_passed, store_begin, store_state, load_begin, load_back, store_back, load_state, decide}
+use Rattle.erm_machine.specs.Reading.{load_counter, add_counter, start_row, store_row_word, unset}
 use Rattle.erm_machine.specs.Seat.{end_of, with_task}
 use Rattle.erm_machine.specs.Settling.{load_flushed_to_settle, load_read_entry, load_readers, load_settled_stamp, store_ring, raise_reader, store_head_word, store_active_word, store_cell, mark_overwritten, install_claim, adds_version, install_new, release_old, unclaim, install, clear_reader, filled}
 use Rattle.erm_machine.specs.Step.{part_after}
 use Rattle.erm_machine.specs.Tasks.{TaskFits, OwnTask}
 use Rattle.erm_machine.specs.Words.{is_flusher}
+use Rattle.erm_machine.proofs.Backs.{active_begin_then, rest_is}
 use Rattle.erm_machine.proofs.Guards.{when_then, some_then, if_then, either_way}
 use Rattle.erm_machine.proofs.Quiet.{Quiet}
 use Rattle.erm_machine.proofs.QuietKinds.{IsQuiet, quiet_kind}
@@ -48,6 +50,9 @@ IsBare (task.CutWalks version horizon) = ⊥
 IsBare (task.CutPassed version horizon) = ⊥
 IsBare (task.CutFound version horizon) = ⊥
 IsBare (task.Detaches version) = ⊥
+IsBare (task.SafeWalks version) = ⊥
+IsBare (task.SafePassed version) = ⊥
+IsBare (task.SafeFound version) = ⊥
 IsBare _ = Unit {0}
 
 pub record Bare (t : Task) : Type 0 where
@@ -75,6 +80,9 @@ bare_named s (task.CutWalks version horizon) b = absurd b
 bare_named s (task.CutPassed version horizon) b = absurd b
 bare_named s (task.CutFound version horizon) b = absurd b
 bare_named s (task.Detaches version) b = absurd b
+bare_named s (task.SafeWalks version) b = absurd b
+bare_named s (task.SafePassed version) b = absurd b
+bare_named s (task.SafeFound version) b = absurd b
 bare_named s _ b = tt
 
 bare_cut : (s : Shared) (x : Part) (t : Task) → IsBare t → CutInHand s x t
@@ -217,6 +225,23 @@ s_store_flushed : (value : ℕ) (x : Part) (f : Flushing) (y : Part) → store_f
 s_store_flushed value x (flushing.Clears next to) y e = when_then (Stays x) _ _ y e (λ _. stays_same x _ refl refl refl)
 s_store_flushed value x _ y e = absurd (cc)
 
+-- a back word is stored, or loaded; a row is undone between calls
+s_store_back : (value : ℕ) (x : Part) (pl : Place) (y : Part) → store_back value x pl ≡ Some y → Stays x y
+s_store_back value x (Decided tail stamp) y e = when_then (Stays x) _ _ y e (λ _. stays_same x _ refl refl refl)
+s_store_back value x _ y e = absurd (cc)
+
+after_passed_bare : (next : ℕ) → Bare (after_passed next)
+after_passed_bare next = search (bare_if, bare_from)
+
+s_load_back : (other found : ℕ) (x : Part) (t : Task) (y : Part) → load_back other found x t ≡ Some y → Stays x y
+s_load_back other found x (task.Behind next) y e = when_then (Stays x) _ _ y e (λ _. lets_go x _ (search (bare_if, bare_from, after_passed_bare)))
+s_load_back other found x _ y e = absurd (cc)
+
+s_unset : (place : ℕ) (x y : Part) → unset place x ≡ Some y → Stays x y
+s_unset place x y e =
+    when_then (Stays x) _ _ y e (λ g.
+    lets_go_from x _ (subst IsBare (sym (rest_is x.task (and_parts _ _ (and_parts _ _ (and_parts _ _ g).0).0).1)) tt))
+
 -- steps that move the seat on in its life
 s_begin : (seat found : ℕ) (x : Part) (pl : Place) (y : Part) → load_tail_to_begin seat found x pl ≡ Some y → Stays x y
 s_begin seat found x Idle y e = when_then (Stays x) _ _ y e (λ _. stays_same x _ refl refl refl)
@@ -233,7 +258,8 @@ s_add_tail seat size found x _ y e = absurd (cc)
 s_store_begin : (seat value : ℕ) (x : Part) (pl : Place) (y : Part) → store_begin seat value x pl ≡ Some y → Stays x y
 s_store_begin seat value x (Begun tail) y e = when_then (Stays x) _ _ y e (λ _. stays_same x _ refl refl refl)
 s_store_begin seat value x (Active tail) y e =
-    when_then (Stays x) _ _ y e (λ _. either_way (Stays x) (is_flusher seat) _ _ (λ _. lets_go_from x _ tt) (λ _. lets_go_from x _ tt))
+    active_begin_then (Stays x) seat value tail x y e (λ _ _. either_way (Stays x) (is_flusher seat) _ _ (λ _. lets_go_from x _ tt) (λ _. lets_go_from x _ tt))
+    (λ _ _ _ _. lets_go_from x _ tt)
 s_store_begin seat value x (Decided tail stamp) y e = when_then (Stays x) _ _ y e (λ _. lets_go_from x _ tt)
 s_store_begin seat value x _ y e = absurd (cc)
 
@@ -297,6 +323,9 @@ stays_kind p (kind.StoreFlushed value) found s x y n own e = s_store_flushed val
 stays_kind p kind.LoadFlushed found s x y n own e = s_load_flushed found x x.flushing y e
 stays_kind p (kind.SwapLink v) found s x y n own e = absurd n
 stays_kind p (kind.LoadDetached v) found s x y n own e = absurd n
+stays_kind p (kind.StoreBack value) found s x y n own e = s_store_back value x x.place y e
+stays_kind p (kind.LoadBack other) found s x y n own e = s_load_back other found x x.task y e
+stays_kind p (kind.Unset place) found s x y n own e = s_unset place x y e
 
 -- a seat begins with a begin stamp that is the tail
 pub record Starts (now : ℕ) (x y : Part) : Type 0 where
@@ -329,13 +358,14 @@ b_add_tail : (seat size now found : ℕ) (x : Part) (pl : Place) (y : Part) → 
 b_add_tail seat size now found x (Sealing tail) y is e = when_then (Starts now x) _ _ y e (λ _. record { starts = λ _. inl (subst HasBegun (sym is) tt, refl) })
 b_add_tail seat size now found x _ y is e = absurd (cc)
 
-b_store_begin : (seat value now : ℕ) (x : Part) (pl : Place) (y : Part) → store_begin seat value x pl ≡ Some y → Starts now x y
-b_store_begin seat value now x (Begun tail) y e = when_then (Starts now x) _ _ y e (λ _. record { starts = λ h. absurd h })
-b_store_begin seat value now x (Active tail) y e =
-    when_then (Starts now x) _ _ y e (λ _.
-    either_way (Starts now x) (is_flusher seat) _ _ (λ _. record { starts = λ h. absurd h }) (λ _. record { starts = λ h. absurd h }))
-b_store_begin seat value now x (Decided tail stamp) y e = when_then (Starts now x) _ _ y e (λ _. record { starts = λ h. absurd h })
-b_store_begin seat value now x _ y e = absurd (cc)
+b_store_begin : (seat value now : ℕ) (x : Part) (pl : Place) (y : Part) → x.place ≡ pl → store_begin seat value x pl ≡ Some y → Starts now x y
+b_store_begin seat value now x (Begun tail) y is e = when_then (Starts now x) _ _ y e (λ _. record { starts = λ h. absurd h })
+b_store_begin seat value now x (Active tail) y is e =
+    active_begin_then (Starts now x) seat value tail x y e
+    (λ _ _. either_way (Starts now x) (is_flusher seat) _ _ (λ _. record { starts = λ h. absurd h }) (λ _. record { starts = λ h. absurd h }))
+    (λ _ _ _ _. record { starts = λ _. inl (subst HasBegun (sym is) tt, refl) })
+b_store_begin seat value now x (Decided tail stamp) y is e = when_then (Starts now x) _ _ y e (λ _. record { starts = λ h. absurd h })
+b_store_begin seat value now x _ y is e = absurd (cc)
 
 b_store_state : (seat value now : ℕ) (x : Part) (pl : Place) (y : Part) → x.place ≡ pl → store_state seat value x pl ≡ Some y → Starts now x y
 b_store_state seat value now x (Active tail) y is e = when_then (Starts now x) _ _ y e (λ _. record { starts = λ _. inl (subst HasBegun (sym is) tt, refl) })
@@ -343,9 +373,10 @@ b_store_state seat value now x (Drawn tail stamp) y is e = when_then (Starts now
 b_store_state seat value now x (Leaving stamp) y is e = when_then (Starts now x) _ _ y e (λ _. record { starts = λ h. absurd h })
 b_store_state seat value now x _ y is e = absurd (cc)
 
-b_load_begin : (other found now : ℕ) (x : Part) (t : Task) (y : Part) → load_begin other found x t ≡ Some y → Starts now x y
-b_load_begin other found now x (task.Horizon version least next) y e = when_then (Starts now x) _ _ y e (λ _. starts_same now x _ refl refl)
-b_load_begin other found now x _ y e = absurd (cc)
+b_load_begin : (seat other found now : ℕ) (x : Part) (t : Task) (y : Part) → load_begin seat other found x t ≡ Some y → Starts now x y
+b_load_begin seat other found now x (task.Horizon version least next) y e = when_then (Starts now x) _ _ y e (λ _. starts_same now x _ refl refl)
+b_load_begin seat other found now x (task.Surveys next) y e = when_then (Starts now x) _ _ y e (λ _. starts_same now x _ refl refl)
+b_load_begin seat other found now x _ y e = absurd (cc)
 
 b_load_state : (seat other bound found now : ℕ) (x : Part) (y : Part) → load_state seat other bound found x ≡ Some y → Starts now x y
 b_load_state seat other bound found now x y e = when_then (Starts now x) _ _ y e (λ _. starts_same now x _ refl refl)
@@ -360,9 +391,9 @@ b_quiet p k now found s x y q e = starts_quiet now x y (quiet_kind p k found s x
 pub starts_kind : (p : ℕ) (k : Kind) (c : Core) (y : Part) → part_after p k (word_at c (spot_of p k)) c.shared (c.seats p) ≡ Some y → Starts c.shared.tail (c.seats p) y
 starts_kind p (kind.LoadTail reason) c y e = b_load_tail p reason c.shared.tail (c.seats p) y e
 starts_kind p (kind.AddTail size) c y e = b_add_tail p size c.shared.tail c.shared.tail (c.seats p) (c.seats p).place y refl e
-starts_kind p (kind.StoreBegin value) c y e = b_store_begin p value c.shared.tail (c.seats p) (c.seats p).place y e
+starts_kind p (kind.StoreBegin value) c y e = b_store_begin p value c.shared.tail (c.seats p) (c.seats p).place y refl e
 starts_kind p (kind.StoreState value) c y e = b_store_state p value c.shared.tail (c.seats p) (c.seats p).place y refl e
-starts_kind p (kind.LoadBegin other) c y e = b_load_begin other (word_at c (spot_of p (kind.LoadBegin other))) c.shared.tail (c.seats p) (c.seats p).task y e
+starts_kind p (kind.LoadBegin other) c y e = b_load_begin p other (word_at c (spot_of p (kind.LoadBegin other))) c.shared.tail (c.seats p) (c.seats p).task y e
 starts_kind p (kind.LoadState other bound) c y e = b_load_state p other bound (word_at c (spot_of p (kind.LoadState other bound))) c.shared.tail (c.seats p) y e
 starts_kind p (kind.Split other) c y e = absurd (cc)
 starts_kind p (kind.Join other) c y e = absurd (cc)

@@ -27,6 +27,7 @@ use Rattle.erm_machine.specs.Sound.{Sound}
 use Rattle.erm_machine.specs.Step.{after_event, with_part}
 use Rattle.erm_machine.specs.Words.{is_flusher, put, refuses}
 use Rattle.erm_machine.proofs.Frames.{at_cases}
+use Rattle.erm_machine.proofs.Backs.{active_begin_then}
 use Rattle.erm_machine.proofs.Guards.{either_way, some_then, when_then}
 use Rattle.erm_machine.proofs.Listed.{∈-first, ∈-second, ∈-head}
 use Rattle.erm_machine.proofs.QuietKinds.{IsQuiet, MeetsOne, Moves, moves, quiet_kind}
@@ -87,9 +88,10 @@ b_horizon : (found : ℕ) (x : Part) (t : Task) (y : Part) → load_tail_for_hor
 b_horizon found x (task.Claimed version) y e = when_then (SameBoth x) _ _ y e (λ _. same_both x _ refl refl)
 b_horizon found x _ y e = absurd (cc)
 
-b_begin : (other found : ℕ) (x : Part) (t : Task) (y : Part) → load_begin other found x t ≡ Some y → SameBoth x y
-b_begin other found x (task.Horizon version least next) y e = when_then (SameBoth x) _ _ y e (λ _. same_both x _ refl refl)
-b_begin other found x _ y e = absurd (cc)
+b_begin : (seat other found : ℕ) (x : Part) (t : Task) (y : Part) → load_begin seat other found x t ≡ Some y → SameBoth x y
+b_begin seat other found x (task.Horizon version least next) y e = when_then (SameBoth x) _ _ y e (λ _. same_both x _ refl refl)
+b_begin seat other found x (task.Surveys next) y e = when_then (SameBoth x) _ _ y e (λ _. same_both x _ refl refl)
+b_begin seat other found x _ y e = absurd (cc)
 
 b_flushed : (found : ℕ) (x : Part) (f : Flushing) (y : Part) → load_flushed found x f ≡ Some y → SameBoth x y
 b_flushed found x (flushing.Tail tail) y e = some_then (SameBoth x) _ y e (same_both x _ refl refl)
@@ -140,10 +142,12 @@ module _ (c : Core) (sound : Sound c) (p : ℕ) where
   announces value (Begun tail) y at e = when_then (KeepsDecided (c.seats p)) _ _ y e (λ _. keeps_both (c.seats p) _ (same_both (c.seats p) _ refl refl))
   announces value (Active tail) y at e =
       let cur = current_at (Active tail) at in
-      when_then (KeepsDecided (c.seats p)) _ _ y e (λ _.
+      active_begin_then (KeepsDecided (c.seats p)) p value tail (c.seats p) y e
+      (λ _ _.
       either_way (KeepsDecided (c.seats p)) (is_flusher p) (with_current blank (record (c.seats p) { place = Idle; task = task.Rest })) (over Abort (record (c.seats p) { place = Idle; task = task.Rest }))
       (λ _. undecided_kept _ cur.decision refl)
       (λ _. over_grown (c.seats p) _ (record (c.seats p).current { decision = Abort }) refl (λ _ decided. absurd (decided cur.decision))))
+      (λ _ _ _ _. keeps_both (c.seats p) _ (same_both (c.seats p) _ refl refl))
   announces value (Decided tail stamp) y at e = when_then (KeepsDecided (c.seats p)) _ _ y e (λ _. keeps_both (c.seats p) _ (same_both (c.seats p) _ refl refl))
   announces value _ y at e = absurd (cc)
 
@@ -244,7 +248,7 @@ forth c p (kind.StoreBegin value) d sound e =
 forth c p (kind.StoreState value) d sound e =
     let m = moves c p (kind.StoreState value) d tt e in moved_kept c p (kind.StoreState value) d m (seals c sound p value (c.seats p).place m.part refl m.after)
 forth c p (kind.LoadBegin other) d sound e =
-    let m = moves c p (kind.LoadBegin other) d tt e in moved_kept c p (kind.LoadBegin other) d m (keeps_both (c.seats p) m.part (b_begin other _ (c.seats p) (c.seats p).task m.part m.after))
+    let m = moves c p (kind.LoadBegin other) d tt e in moved_kept c p (kind.LoadBegin other) d m (keeps_both (c.seats p) m.part (b_begin p other _ (c.seats p) (c.seats p).task m.part m.after))
 forth c p (kind.LoadState other bound) d sound e =
     let m = moves c p (kind.LoadState other bound) d tt e in
     moved_kept c p (kind.LoadState other bound) d m (keeps_both (c.seats p) m.part (when_then (SameBoth (c.seats p)) _ _ m.part m.after (λ _. same_both (c.seats p) _ refl refl)))

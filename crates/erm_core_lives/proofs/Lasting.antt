@@ -14,6 +14,7 @@ use Rattle.erm_machine.specs.declared.part.Flushing.{Flushing}
 use Rattle.erm_machine.specs.declared.part.Flushing.TheVariants as flushing
 use Rattle.erm_machine.specs.declared.part.Part.{Part}
 use Rattle.erm_machine.specs.declared.place.Place.{Place}
+use Rattle.erm_machine.specs.declared.place.Place.TheVariants.{Decided}
 use Rattle.erm_machine.specs.declared.task.Task.{Task}
 use Rattle.erm_machine.specs.declared.task.Task.TheVariants as task
 use Rattle.erm_machine.specs.declared.version.CellWord.{CellWord}
@@ -22,10 +23,12 @@ use Rattle.erm_machine.specs.declared.version.VersionAt.{VersionAt}
 use Rattle.erm_machine.specs.Core.{Object, Shared, claim_at, no_claim}
 use Rattle.erm_machine.specs.Decided.{written_of}
 use Rattle.erm_machine.specs.Flushing.{load_flushed, gathered_word, load_ring, clear_ring, store_flushed}
-use Rattle.erm_machine.specs.Reading.{load_entry, claim, set_reader, load_walked_stamp, load_walked_link, load_cell, swap_link, load_detached, load_counter, add_counter, load_active_stamp, start_row, store_row_word}
+use Rattle.erm_machine.specs.Life.{load_back, store_back}
+use Rattle.erm_machine.specs.Reading.{load_entry, claim, set_reader, load_walked_stamp, load_walked_link, load_cell, swap_link, load_detached, load_counter, add_counter, load_active_stamp, start_row, store_row_word, unset}
 use Rattle.erm_machine.specs.Seat.{end_of, is_active, is_sealed, with_claim}
 use Rattle.erm_machine.specs.Settling.{load_flushed_to_settle, load_read_entry, load_readers, load_settled_stamp, load_stamp, store_ring, raise_reader, store_head_word, store_active_word, store_cell, mark_overwritten, install_claim, adds_version, install_new, release_old, unclaim, install, clear_reader, filled}
 use Rattle.erm_machine.specs.Step.{part_after}
+use Rattle.erm_machine.proofs.Backs.{entry_then}
 use Rattle.erm_machine.proofs.Guards.{when_then, some_then, if_then, either_way, unless_some}
 use Rattle.erm_machine.proofs.QuietKinds.{IsQuiet}
 
@@ -85,7 +88,8 @@ first a b h = (and_parts a b h).0
 
 l_load_entry : (seat oid found : ℕ) (o : Object) (x : Part) (t : Task) (y : Part) → load_entry seat oid found o x t ≡ Some y → Lasting x y
 l_load_entry seat oid found o x (task.Cleared cleared) y e = when_then (Lasting x) _ _ y e (λ _. lasts x _ refl refl refl)
-l_load_entry seat oid found o x _ y e = when_then (Lasting x) _ _ y e (λ _. lasts x _ refl refl refl)
+l_load_entry seat oid found o x t y e =
+    entry_then (Lasting x) seat oid found o x t y e (λ _ _. lasts x _ refl refl refl) (λ _. lasts x _ refl refl refl)
 
 l_claim : (seat oid seen number found : ℕ) (o : Object) (x : Part) (t : Task) (y : Part) → claim seat oid seen number found o x t ≡ Some y → Lasting x y
 l_claim seat oid seen number found o x (task.Found version stamp (Some entry)) y e =
@@ -100,11 +104,13 @@ l_set_reader seat v o x _ y e = absurd (cc)
 l_walked_stamp : (found : ℕ) (v : VersionAt) (x : Part) (t : Task) (y : Part) → load_walked_stamp found v x t ≡ Some y → Lasting x y
 l_walked_stamp found v x (task.Walks version head) y e = when_then (Lasting x) _ _ y e (λ _. lasts x _ refl refl refl)
 l_walked_stamp found v x (task.CutWalks version horizon) y e = when_then (Lasting x) _ _ y e (λ _. lasts x _ refl refl refl)
+l_walked_stamp found v x (task.SafeWalks version) y e = when_then (Lasting x) _ _ y e (λ _. lasts x _ refl refl refl)
 l_walked_stamp found v x (task.Passed version) y e = when_then (Lasting x) _ _ y e (λ _. lasts x _ refl refl refl)
 l_walked_stamp found v x _ y e = absurd (cc)
 
 l_walked_link : (found : ℕ) (v : VersionAt) (x : Part) (t : Task) (y : Part) → load_walked_link found v x t ≡ Some y → Lasting x y
 l_walked_link found v x (task.Passed version) y e = when_then (Lasting x) _ _ y e (λ _. lasts x _ refl refl refl)
+l_walked_link found v x (task.SafePassed version) y e = when_then (Lasting x) _ _ y e (λ _. lasts x _ refl refl refl)
 l_walked_link found v x (task.CutPassed version horizon) y e = when_then (Lasting x) _ _ y e (λ _. lasts x _ refl refl refl)
 l_walked_link found v x _ y e = absurd (cc)
 
@@ -251,6 +257,17 @@ l_store_flushed : (value : ℕ) (x : Part) (f : Flushing) (y : Part) → store_f
 l_store_flushed value x (flushing.Clears next to) y e = when_then (Lasting x) _ _ y e (λ _. lasts x _ refl refl refl)
 l_store_flushed value x _ y e = absurd (cc)
 
+l_store_back : (value : ℕ) (x : Part) (p : Place) (y : Part) → store_back value x p ≡ Some y → Lasting x y
+l_store_back value x (Decided tail stamp) y e = when_then (Lasting x) _ _ y e (λ _. lasts x _ refl refl refl)
+l_store_back value x _ y e = absurd (cc)
+
+l_load_back : (other found : ℕ) (x : Part) (t : Task) (y : Part) → load_back other found x t ≡ Some y → Lasting x y
+l_load_back other found x (task.Behind next) y e = when_then (Lasting x) _ _ y e (λ _. lasts x _ refl refl refl)
+l_load_back other found x _ y e = absurd (cc)
+
+l_unset : (place : ℕ) (x y : Part) → unset place x ≡ Some y → Lasting x y
+l_unset place x y e = when_then (Lasting x) _ _ y e (λ g. works x _ refl refl (first _ _ (first _ _ (first _ _ g))))
+
 pub lasting_kind : (p : ℕ) (k : Kind) (found : ℕ) (s : Shared) (x y : Part) → IsQuiet k → part_after p k found s x ≡ Some y → Lasting x y
 lasting_kind p (kind.LoadTail reason) found s x y q e = absurd q
 lasting_kind p (kind.AddTail size) found s x y q e = absurd q
@@ -284,3 +301,6 @@ lasting_kind p (kind.StoreFlushed value) found s x y q e = l_store_flushed value
 lasting_kind p kind.LoadFlushed found s x y q e = l_load_flushed found x x.flushing y e
 lasting_kind p (kind.SwapLink v) found s x y q e = l_swap_link found v (s.objects v.oid) x x.task y e
 lasting_kind p (kind.LoadDetached v) found s x y q e = l_load_detached found v x x.task y e
+lasting_kind p (kind.StoreBack value) found s x y q e = l_store_back value x x.place y e
+lasting_kind p (kind.LoadBack other) found s x y q e = l_load_back other found x x.task y e
+lasting_kind p (kind.Unset place) found s x y q e = l_unset place x y e

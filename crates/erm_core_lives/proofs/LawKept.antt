@@ -143,7 +143,7 @@ module _ (law : Law) where
   law_kept c p (kind.StoreState value) d sound old draws e =
       let m = moves c p (kind.StoreState value) d tt e in law_moved c p (kind.StoreState value) d old tt m (r_store_state p value (c.seats p) (c.seats p).place m.part m.after)
   law_kept c p (kind.LoadBegin other) d sound old draws e =
-      let m = moves c p (kind.LoadBegin other) d tt e in law_moved c p (kind.LoadBegin other) d old tt m (r_load_begin other (word_at c (spot_of p (kind.LoadBegin other))) (c.seats p) (c.seats p).task m.part m.after)
+      let m = moves c p (kind.LoadBegin other) d tt e in law_moved c p (kind.LoadBegin other) d old tt m (r_load_begin p other (word_at c (spot_of p (kind.LoadBegin other))) (c.seats p) (c.seats p).task m.part m.after)
   law_kept c p (kind.LoadState other bound) d sound old draws e =
       let m = moves c p (kind.LoadState other bound) d tt e in law_moved c p (kind.LoadState other bound) d old tt m (r_load_state p other bound (word_at c (spot_of p (kind.LoadState other bound))) (c.seats p) m.part m.after)
   law_kept c p (kind.Split other) d sound old draws e = split_kept c p other d old e

@@ -21,6 +21,7 @@ use Rattle.erm_machine.specs.Life.{next_number, load_tail_to_begin, load_tail_fo
 use Rattle.erm_machine.specs.Lives.{in_progress, IsBeginning, IsPin, OwnLives}
 use Rattle.erm_machine.specs.Seat.{has_number, is_vacant, over, with_current, with_range}
 use Rattle.erm_machine.specs.Words.{is_flusher, is_session, refuses}
+use Rattle.erm_machine.proofs.Backs.{active_begin_then}
 use Rattle.erm_machine.proofs.Guards.{when_then, either_way}
 use Rattle.erm_core_lives.proofs.LivesLists.{∈-last, ∈-front}
 
@@ -235,9 +236,10 @@ module _ (s : Shared) (p : ℕ) (x : Part) (own : OwnLives s p x) where
         pinned = λ _. tt;
       }) own)
   announces_lives value (Active tail) y at e =
-      when_then (OwnLives s p) _ _ y e (λ _.
-      either_way (OwnLives s p) (is_flusher p) (with_current blank (record x { place = Idle; task = task.Rest })) (over Abort (record x { place = Idle; task = task.Rest }))
+      active_begin_then (OwnLives s p) p value tail x y e
+      (λ _ _. either_way (OwnLives s p) (is_flusher p) (with_current blank (record x { place = Idle; task = task.Rest })) (over Abort (record x { place = Idle; task = task.Rest }))
       (λ flusher. dropped_lives task.Rest flusher) (λ session. over_lives Abort task.Rest session (ap in_progress at) (λ ne. absurd (ne refl))))
+      (λ _ _ _ _. stays_at _ refl refl refl (sym (ap in_progress at)) refl refl refl (λ h. h) (λ _. tt))
   announces_lives value (Decided tail stamp) y at e =
       when_then (OwnLives s p) _ _ y e (λ _.
       stays_at _ refl refl refl (sym (ap in_progress at)) refl refl refl (λ h. h) (λ f. absurd (pinned_at (Decided tail stamp) at f)))
@@ -300,8 +302,9 @@ module _ (s : Shared) (p : ℕ) (x : Part) (own : OwnLives s p x) where
   horizon_lives found (task.Claimed version) y e = when_then (OwnLives s p) _ _ y e (λ _. calm_lives _ refl refl refl refl refl refl refl)
   horizon_lives found _ y e = absurd (cc)
 
-  pub load_begin_lives : (other found : ℕ) (t : Task) (y : Part) → load_begin other found x t ≡ Some y → OwnLives s p y
+  pub load_begin_lives : (other found : ℕ) (t : Task) (y : Part) → load_begin p other found x t ≡ Some y → OwnLives s p y
   load_begin_lives other found (task.Horizon version least next) y e = when_then (OwnLives s p) _ _ y e (λ _. calm_lives _ refl refl refl refl refl refl refl)
+  load_begin_lives other found (task.Surveys next) y e = when_then (OwnLives s p) _ _ y e (λ _. calm_lives _ refl refl refl refl refl refl refl)
   load_begin_lives other found _ y e = absurd (cc)
 
   pub load_state_lives : (other bound found : ℕ) (y : Part) → load_state p other bound found x ≡ Some y → OwnLives s p y

@@ -17,6 +17,7 @@ use Rattle.erm_machine.specs.Facts.{IsCurrent, all_of}
 use Rattle.erm_machine.specs.Life.{load_tail_to_begin, load_tail_for_horizon, load_tail, store_begin, store_state, load_begin, load_state, split, join, decide}
 use Rattle.erm_machine.specs.Seat.{is_active, over}
 use Rattle.erm_machine.specs.Words.{is_flusher}
+use Rattle.erm_machine.proofs.Backs.{active_begin_then}
 use Rattle.erm_machine.proofs.Guards.{when_then, either_way}
 use Rattle.erm_machine.proofs.Quiet.{Steady}
 use Rattle.erm_core_lives.proofs.Lasting.{SameRecord, Lasting, same_record}
@@ -94,7 +95,9 @@ r_load_tail seat purpose.Gather found x y e = when_then (Recalls x) _ _ y e (λ 
 pub r_store_begin : (seat value : ℕ) (x : Part) (pl : Place) (y : Part) → store_begin seat value x pl ≡ Some y → Recalls x y
 r_store_begin seat value x (Begun tail) y e = when_then (Recalls x) _ _ y e (λ _. recalls_same x _ refl refl)
 r_store_begin seat value x (Active tail) y e =
-    when_then (Recalls x) _ _ y e (λ _. either_way (Recalls x) (is_flusher seat) _ _ (λ _. recalls_from x _ refl (inl refl)) (λ _. recalls_over Abort x task.Rest))
+    active_begin_then (Recalls x) seat value tail x y e
+    (λ _ _. either_way (Recalls x) (is_flusher seat) _ _ (λ _. recalls_from x _ refl (inl refl)) (λ _. recalls_over Abort x task.Rest))
+    (λ _ _ _ _. recalls_same x _ refl refl)
 r_store_begin seat value x (Decided tail stamp) y e = when_then (Recalls x) _ _ y e (λ _. recalls_same x _ refl refl)
 r_store_begin seat value x _ y e = absurd (cc)
 
@@ -104,9 +107,10 @@ r_store_state seat value x (Drawn tail stamp) y e = when_then (Recalls x) _ _ y 
 r_store_state seat value x (Leaving stamp) y e = when_then (Recalls x) _ _ y e (λ _. recalls_over x.current.decision x x.task)
 r_store_state seat value x _ y e = absurd (cc)
 
-pub r_load_begin : (other found : ℕ) (x : Part) (t : Task) (y : Part) → load_begin other found x t ≡ Some y → Recalls x y
-r_load_begin other found x (task.Horizon version least next) y e = when_then (Recalls x) _ _ y e (λ _. recalls_same x _ refl refl)
-r_load_begin other found x _ y e = absurd (cc)
+pub r_load_begin : (seat other found : ℕ) (x : Part) (t : Task) (y : Part) → load_begin seat other found x t ≡ Some y → Recalls x y
+r_load_begin seat other found x (task.Horizon version least next) y e = when_then (Recalls x) _ _ y e (λ _. recalls_same x _ refl refl)
+r_load_begin seat other found x (task.Surveys next) y e = when_then (Recalls x) _ _ y e (λ _. recalls_same x _ refl refl)
+r_load_begin seat other found x _ y e = absurd (cc)
 
 pub r_load_state : (seat other bound found : ℕ) (x y : Part) → load_state seat other bound found x ≡ Some y → Recalls x y
 r_load_state seat other bound found x y e = when_then (Recalls x) _ _ y e (λ _. recalls_same x _ refl refl)

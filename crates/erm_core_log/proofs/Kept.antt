@@ -187,9 +187,10 @@ tail_kept c p purpose.Gather d sound m =
     steady_kept c p (kind.LoadTail purpose.Gather) d sound tt m
     (when_then (Steady (c.seats p)) _ _ m.part m.after (λ _. steady_same (c.seats p) _ refl refl refl))
 
-begin_steady : (other found : ℕ) (x : Part) (t : Task) (y : Part) → load_begin other found x t ≡ Some y → Steady x y
-begin_steady other found x (task.Horizon version least next) y e = when_then (Steady x) _ _ y e (λ _. steady_same x _ refl refl refl)
-begin_steady other found x _ y e = absurd (cc)
+begin_steady : (seat other found : ℕ) (x : Part) (t : Task) (y : Part) → load_begin seat other found x t ≡ Some y → Steady x y
+begin_steady seat other found x (task.Horizon version least next) y e = when_then (Steady x) _ _ y e (λ _. steady_same x _ refl refl refl)
+begin_steady seat other found x (task.Surveys next) y e = when_then (Steady x) _ _ y e (λ _. steady_same x _ refl refl refl)
+begin_steady seat other found x _ y e = absurd (cc)
 
 -- what a draw asks of its size, and of the seat
 draw_size : (p size found : ℕ) (x : Part) (pl : Place) (y : Part) → add_tail p size found x pl ≡ Some y → (LEAST_BLOCK ≤ size) × (size ≤ GREATEST_BLOCK) × (p < ANNOUNCERS)
@@ -257,7 +258,7 @@ kept c p (kind.StoreState value) d sound e =
     (seals_own c.shared c.seats sound.common.ranges p (c.seats p) (sound.own p).ranges value (c.seats p).place m.part refl m.after)
 kept c p (kind.LoadBegin other) d sound e =
     let m = moves c p (kind.LoadBegin other) d tt e in
-    steady_kept c p (kind.LoadBegin other) d sound tt m (begin_steady other _ (c.seats p) (c.seats p).task m.part m.after)
+    steady_kept c p (kind.LoadBegin other) d sound tt m (begin_steady p other _ (c.seats p) (c.seats p).task m.part m.after)
 kept c p (kind.LoadState other bound) d sound e =
     let m = moves c p (kind.LoadState other bound) d tt e in
     steady_kept c p (kind.LoadState other bound) d sound tt m

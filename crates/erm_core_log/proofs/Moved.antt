@@ -21,6 +21,7 @@ use Rattle.erm_machine.specs.Life.{load_tail_to_begin, add_tail, store_begin, st
 use Rattle.erm_machine.specs.Ranges.{Ranges, OwnRanges, range_at, ranges_of, high, high_of, may_draw, drawing}
 use Rattle.erm_machine.specs.Seat.{is_vacant, with_current, over}
 use Rattle.erm_machine.specs.Words.{is_flusher, is_session, is_seat, refuses}
+use Rattle.erm_machine.proofs.Backs.{active_begin_then}
 use Rattle.erm_machine.proofs.Guards.{when_then, either_way}
 use Rattle.erm_core_log.proofs.Lists.{ranges_of-push, high_count-push, filter_own, high_ranges_none, high_of-le, end_to_end_ascends}
 
@@ -198,9 +199,20 @@ module _ (s : Shared) (seats : ℕ → Part) (common : Ranges s seats) (p : ℕ)
   })
   announces_own value (Active tail) y at e =
       let cur : IsUnsealed x.current = current_at (Active tail) at in
-      when_then (OwnRanges s p) _ _ y e (λ _. either_way (OwnRanges s p) (is_flusher p) _ _
+      active_begin_then (OwnRanges s p) p value tail x y e
+      (λ _ _. either_way (OwnRanges s p) (is_flusher p) _ _
       (λ _. unpinned_own cur.stamp (λ (v : x.place ≡ Vacant). cc))
       (λ _. ended_own Abort task.Rest (λ (e : Abort ≡ Undecided). cc) (λ drawn. absurd (let none = cur.stamp in omega (arith, none, drawn))) (λ (v : x.place ≡ Vacant). cc)))
+      (λ _ _ _ _. record {
+        seat_of = λ f. let v = own.seat_of f in absurd (cc);
+        current = cur;
+        decided = own.decided;
+        kept = own.kept;
+        ranges = own.ranges;
+        one_high = high_at (Active tail) at;
+        few = own.few;
+        few_reads = own.few_reads;
+      })
   announces_own value (Decided tail stamp) y at e = when_then (OwnRanges s p) _ _ y e (λ _. record {
     seat_of = λ f. let v = own.seat_of f in absurd (cc);
     current = current_at (Decided tail stamp) at;

@@ -11,12 +11,12 @@ ghost use Rattle.erm_machine.specs.declared.limits.TheConstants.{OBJECT_LIMIT, R
 ghost use Rattle.erm_machine.specs.declared.version.VersionAt.{VersionAt};
 ghost use Rattle.erm_machine.specs.Core.{Core, version_at};
 ghost use Rattle.erm_machine.specs.Decided.{DecisionFits, MayCommit, RunningFits, history_of};
-ghost use Rattle.erm_machine.specs.Facts.{all_of};
+ghost use Rattle.erm_machine.specs.Facts.{all_of, HasBegun};
 ghost use Rattle.erm_machine.specs.Lives.{in_progress};
 ghost use Rattle.erm_machine.specs.Settling.{has_room};
 ghost use Rattle.erm_machine.specs.Sound.{Sound};
-ghost use Rattle.erm_machine.specs.Words.{is_clear, number_of, owner_of, state_of};
-ghost use Rattle.erm_core_met.specs.Met.{HasVersionRead, IsBelow, IsNewer, IsOwner};
+ghost use Rattle.erm_machine.specs.Words.{begin_of, is_clear, number_of, owner_of, state_of};
+ghost use Rattle.erm_core_met.specs.Met.{HasGoneBack, HasVersionRead, IsBegunFrom, IsBelow, IsNewer, IsOwner};
 
 /// An entry's owner is a seat whose transaction in progress has that number and has claimed the object.
 pub fn owners_are_in_progress()
@@ -41,6 +41,20 @@ pub fn waits_are_for_others()
     ensures reader { (c : Core) (other : ℕ) (v : VersionAt) → Sound c → v.oid < OBJECT_LIMIT
         → v.place < length (c.shared.objects v.oid).versions
         → bit_at (version_at (c.shared.objects v.oid) v.place).words.readers other ≡ 1 → HasVersionRead c other v }
+{}
+
+/// A begin word that a snapshot finds standing is that of a transaction which begins there or later. While a seat has a begin stamp,
+/// and hasn't cleared its begin word, that stands.
+pub fn waits_have_a_cause()
+    ensures cause { (c : Core) (other : ℕ) → Sound c → 0 < begin_of (c.seats other).place
+        → IsBegunFrom c other (begin_of (c.seats other).place) }
+    ensures stands { (c : Core) (other : ℕ) → Sound c → HasBegun (c.seats other).place → 0 < begin_of (c.seats other).place }
+{}
+
+/// A back word that isn't 0, as that which a snapshot finds at or above its begin stamp, is the stamp of a committed transaction of
+/// that seat whose successor stamp is less.
+pub fn unsafe_snapshots_have_a_cause()
+    ensures { (c : Core) (other : ℕ) → Sound c → 0 < (c.seats other).back → HasGoneBack c other (c.seats other).back }
 {}
 
 /// The numbers of a decided range are the definitions' over all that is committed; those of a transaction that isn't decided

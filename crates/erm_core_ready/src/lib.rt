@@ -6,14 +6,14 @@ ghost use Rattle.erm_machine.specs.Core.{Core};
 ghost use Rattle.erm_machine.specs.Settling.{has_room};
 ghost use Rattle.erm_machine.specs.Sound.{Sound};
 ghost use Rattle.erm_core.specs.Cores.{core_of};
-ghost use Rattle.erm_core_stall.specs.Waiting.{IsLeastSealed, IsSealedAt, IsSealing, IsUnfinished, NoneSealed, NoneSeals};
-ghost use Rattle.erm_core_ready.specs.Next.{AllOver, FoundBelow, IsNext};
+ghost use Rattle.erm_core_stall.specs.Waiting.{IsLeastPending, IsLeastSealed, IsPending, IsSealedAt, IsSealing, IsUnfinished, NoneSealed, NoneSeals, OnlyPending};
+ghost use Rattle.erm_core_ready.specs.Next.{AllOver, FoundAt, FoundBelow, HasBegin, HasStamp, IsActing, IsNext};
 
 use erm_core::State;
-use erm_machine::{ANNOUNCERS, FLUSH_SEAT, Place};
+use erm_machine::{ANNOUNCERS, FLUSH_SEAT, Place, Task};
 use erm_model::{Seat, Stamp};
 
-// A sealed seat, and its stamp.
+// A sealed seat and its stamp, or one that isn't over and its begin stamp.
 #[derive(Clone, Copy)]
 struct Least {
     seat: Seat,
@@ -46,11 +46,45 @@ fn sealed_at(place: Place) -> Option<Stamp>
     }
 }
 
+// Whether a snapshot looks whether it is safe.
+fn is_pending(task: Task) -> bool
+    ensures { MatchBool result (IsPending task) (IsPending task → ⊥) }
+{
+    matches!(task, Task::Surveys { .. } | Task::Behind { .. })
+}
+
 fn place_of(state: &State, seat: Seat) -> Place
     requires { seat < ANNOUNCERS }
     ensures { result ≡ ((core_of state.now).seats seat).place }
 {
     state.seat(seat).place
+}
+
+fn task_of(state: &State, seat: Seat) -> Task
+    requires { seat < ANNOUNCERS }
+    ensures { result ≡ ((core_of state.now).seats seat).task }
+{
+    state.seat(seat).task
+}
+
+// Whether the seat has something to do but to look whether a snapshot is safe.
+fn acts(state: &State, seat: Seat) -> bool
+    requires { seat < ANNOUNCERS }
+    ensures { MatchBool result (IsActing (core_of state.now) seat) (IsActing (core_of state.now) seat → ⊥) }
+{
+    is_unfinished(place_of(state, seat)) && !is_pending(task_of(state, seat))
+}
+
+// The begin stamp of a seat that isn't over.
+fn begun_at(state: &State, seat: Seat) -> Option<Stamp>
+    requires { seat < ANNOUNCERS }
+    ensures { FoundAt (HasBegin (core_of state.now)) seat result }
+{
+    if is_unfinished(place_of(state, seat)) {
+        Some(state.seat(seat).current.begin)
+    } else {
+        None
+    }
 }
 
 // Whether the ring has room for the seat's block.
@@ -74,12 +108,13 @@ fn sealing(state: &State) -> Option<Seat>
     None
 }
 
-// The least sealed one, of the one so far and one more.
-fn lesser(least: Option<Least>, seat: Seat, place: Place) -> Option<Least>
+// The lesser one, of the least so far and one more.
+fn lesser(least: Option<Least>, seat: Seat, stamp: Option<Stamp>) -> Option<Least>
     requires { seat < ANNOUNCERS }
-    ensures { (c : Core) → (c.seats seat).place ≡ place → FoundBelow c seat least → FoundBelow c (seat + 1) result }
+    ensures sealed { (c : Core) → FoundAt (HasStamp c) seat stamp → FoundBelow (HasStamp c) seat least → FoundBelow (HasStamp c) (seat + 1) result }
+    ensures begun { (c : Core) → FoundAt (HasBegin c) seat stamp → FoundBelow (HasBegin c) seat least → FoundBelow (HasBegin c) (seat + 1) result }
 {
-    match (sealed_at(place), least) {
+    match (stamp, least) {
         (None, _) => least,
         (Some(stamp), None) => Some(Least { seat, stamp }),
         (Some(stamp), Some(found)) => Some(if found.stamp <= stamp {
@@ -97,26 +132,39 @@ fn least_sealed(state: &State) -> Option<Least>
 {
     let mut least = None;
     for seat in 0..ANNOUNCERS {
-        least = lesser(least, seat, place_of(state, seat));
+        least = lesser(least, seat, sealed_at(place_of(state, seat)));
     }
     least
 }
 
-// A seat whose transaction isn't over.
-fn unfinished(state: &State) -> Option<Seat>
+// A seat that has something to do but to look whether a snapshot is safe.
+fn acting(state: &State) -> Option<Seat>
     requires sound { Sound (core_of state.now) }
-    ensures { MatchOption result (AllOver (core_of state.now)) (λ seat. IsUnfinished ((core_of state.now).seats seat).place) }
+    ensures { MatchOption result (OnlyPending (core_of state.now)) (IsActing (core_of state.now)) }
 {
     for seat in 0..ANNOUNCERS {
-        if is_unfinished(place_of(state, seat)) {
+        if acts(state, seat) {
             return Some(seat);
         }
     }
     None
 }
 
+// The seat that isn't over with the least begin stamp, of equal ones the lowest.
+fn earliest(state: &State) -> Option<Least>
+    requires sound { Sound (core_of state.now) }
+    ensures { MatchOption result (AllOver (core_of state.now)) (λ found. IsLeastPending (core_of state.now) found.seat) }
+{
+    let mut least = None;
+    for seat in 0..ANNOUNCERS {
+        least = lesser(least, seat, begun_at(state, seat));
+    }
+    least
+}
+
 /// The seat whose next event isn't a wait: one that seals; else the least sealed one, or the flush seat, for a turn, where the ring
-/// has no room for that one's block; else one that begins or is active. None exactly where each transaction is over.
+/// has no room for that one's block; else one that begins or is active, and doesn't look whether its snapshot is safe; else, of those
+/// that look so, the one with the least begin stamp, and of equal ones the lowest. None exactly where each transaction is over.
 pub fn ready(state: &State) -> Option<Seat>
     requires sound { Sound (core_of state.now) }
     ensures { MatchOption result (AllOver (core_of state.now)) (IsNext (core_of state.now)) }
@@ -132,5 +180,11 @@ pub fn ready(state: &State) -> Option<Seat>
             FLUSH_SEAT
         });
     }
-    unfinished(state)
+    if let Some(seat) = acting(state) {
+        return Some(seat);
+    }
+    match earliest(state) {
+        Some(found) => Some(found.seat),
+        None => None,
+    }
 }

@@ -25,6 +25,7 @@ use Rattle.erm_machine.specs.Sound.{Sound}
 use Rattle.erm_machine.specs.Step.{after_event, shared_after, with_counter, with_part}
 use Rattle.erm_machine.specs.Words.{is_flusher, put, refuses}
 use Rattle.erm_machine.proofs.Frames.{each_seat}
+use Rattle.erm_machine.proofs.Backs.{active_begin_then}
 use Rattle.erm_machine.proofs.Guards.{either_way, when_then}
 use Rattle.erm_machine.proofs.Listed.{∈-first}
 use Rattle.erm_machine.proofs.QuietKinds.{IsQuiet, MeetsOne, Moves, moves, quiet_kind}
@@ -78,14 +79,15 @@ module _ (s : Shared) (p : ℕ) (x : Part) (at : BeginsAtEnd s x) where
   draws size found (Sealing tail) y is e = when_then (BeginsAtEnd s) _ _ y e (λ _. stays s x _ (λ h. subst HasBegun (sym is) tt) refl at)
   draws size found _ y is e = absurd (cc)
 
-  announces : (value : ℕ) (pl : Place) (y : Part) → store_begin p value x pl ≡ Some y → BeginsAtEnd s y
-  announces value (Begun tail) y e = when_then (BeginsAtEnd s) _ _ y e (λ _. none_at s _ (λ h. h))
-  announces value (Active tail) y e =
-      when_then (BeginsAtEnd s) _ _ y e (λ _.
-      either_way (BeginsAtEnd s) (is_flusher p) (with_current blank (record x { place = Idle; task = task.Rest })) (over Abort (record x { place = Idle; task = task.Rest }))
+  announces : (value : ℕ) (pl : Place) (y : Part) → x.place ≡ pl → store_begin p value x pl ≡ Some y → BeginsAtEnd s y
+  announces value (Begun tail) y is e = when_then (BeginsAtEnd s) _ _ y e (λ _. none_at s _ (λ h. h))
+  announces value (Active tail) y is e =
+      active_begin_then (BeginsAtEnd s) p value tail x y e
+      (λ _ _. either_way (BeginsAtEnd s) (is_flusher p) (with_current blank (record x { place = Idle; task = task.Rest })) (over Abort (record x { place = Idle; task = task.Rest }))
       (λ _. none_at s _ (λ h. h)) (λ _. none_at s _ (λ h. h)))
-  announces value (Decided tail stamp) y e = when_then (BeginsAtEnd s) _ _ y e (λ _. none_at s _ (λ h. h))
-  announces value _ y e = absurd (cc)
+      (λ _ _ _ _. stays s x _ (λ h. subst HasBegun (sym is) tt) refl at)
+  announces value (Decided tail stamp) y is e = when_then (BeginsAtEnd s) _ _ y e (λ _. none_at s _ (λ h. h))
+  announces value _ y is e = absurd (cc)
 
   seals : (value : ℕ) (pl : Place) (y : Part) → x.place ≡ pl → store_state p value x pl ≡ Some y → BeginsAtEnd s y
   seals value (Active tail) y is e = when_then (BeginsAtEnd s) _ _ y e (λ _. stays s x _ (λ h. subst HasBegun (sym is) tt) refl at)
@@ -102,8 +104,9 @@ module _ (s : Shared) (p : ℕ) (x : Part) (at : BeginsAtEnd s x) where
   horizons found (task.Claimed version) y e = when_then (BeginsAtEnd s) _ _ y e (λ _. calm _ refl refl)
   horizons found _ y e = absurd (cc)
 
-  loads : (other found : ℕ) (t : Task) (y : Part) → load_begin other found x t ≡ Some y → BeginsAtEnd s y
+  loads : (other found : ℕ) (t : Task) (y : Part) → load_begin p other found x t ≡ Some y → BeginsAtEnd s y
   loads other found (task.Horizon version least next) y e = when_then (BeginsAtEnd s) _ _ y e (λ _. calm _ refl refl)
+  loads other found (task.Surveys next) y e = when_then (BeginsAtEnd s) _ _ y e (λ _. calm _ refl refl)
   loads other found _ y e = absurd (cc)
 
   looks : (other bound found : ℕ) (y : Part) → load_state p other bound found x ≡ Some y → BeginsAtEnd s y
@@ -169,7 +172,7 @@ begins_kept c p (kind.AddTail size) d sound at e =
     kept_moved c p (kind.AddTail size) d at m (draws c.shared p (c.seats p) (at p) size c.shared.tail (c.seats p).place m.part refl m.after)
 begins_kept c p (kind.StoreBegin value) d sound at e =
     let m = moves c p (kind.StoreBegin value) d tt e in
-    kept_moved c p (kind.StoreBegin value) d at m (announces c.shared p (c.seats p) (at p) value (c.seats p).place m.part m.after)
+    kept_moved c p (kind.StoreBegin value) d at m (announces c.shared p (c.seats p) (at p) value (c.seats p).place m.part refl m.after)
 begins_kept c p (kind.StoreState value) d sound at e =
     let m = moves c p (kind.StoreState value) d tt e in
     kept_moved c p (kind.StoreState value) d at m (seals c.shared p (c.seats p) (at p) value (c.seats p).place m.part refl m.after)

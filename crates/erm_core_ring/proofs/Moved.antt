@@ -20,6 +20,7 @@ use Rattle.erm_machine.specs.Sound.{Sound}
 use Rattle.erm_machine.specs.Step.{after_event, with_part}
 use Rattle.erm_machine.specs.Tasks.{TaskFits}
 use Rattle.erm_machine.specs.Words.{is_flusher, put, refuses}
+use Rattle.erm_machine.proofs.Backs.{active_begin_then}
 use Rattle.erm_machine.proofs.Guards.{when_then}
 use Rattle.erm_machine.proofs.Quiet.{steady_same}
 use Rattle.erm_machine.proofs.QuietKinds.{Moves}
@@ -98,9 +99,11 @@ module _ (c : Core) (sound : Sound c) (p : ℕ) where
       when_then (Leaves c p) _ _ y e (λ _. task_on (task.Claimed version) _ refl refl refl (past (c.seats p) _ _ refl refl refl refl refl tt) (sym at))
   horizons found _ y at e = absurd (cc)
 
-  pub loads_begin : (other found : ℕ) (t : Task) (y : Part) → (c.seats p).task ≡ t → load_begin other found (c.seats p) t ≡ Some y → Leaves c p y
+  pub loads_begin : (other found : ℕ) (t : Task) (y : Part) → (c.seats p).task ≡ t → load_begin p other found (c.seats p) t ≡ Some y → Leaves c p y
   loads_begin other found (task.Horizon version least next) y at e =
       when_then (Leaves c p) _ _ y e (λ _. task_on (task.Horizon version least next) _ refl refl refl (past (c.seats p) _ _ refl refl refl refl refl tt) (sym at))
+  loads_begin other found (task.Surveys next) y at e =
+      when_then (Leaves c p) _ _ y e (λ _. task_on (task.Surveys next) _ refl refl refl (past (c.seats p) _ _ refl refl refl refl refl tt) (sym at))
   loads_begin other found _ y at e = absurd (cc)
 
   pub looks : (other bound found : ℕ) (y : Part) → load_state p other bound found (c.seats p) ≡ Some y → Leaves c p y
@@ -122,7 +125,9 @@ module _ (c : Core) (sound : Sound c) (p : ℕ) where
 
   pub announces : (value : ℕ) (pl : Place) (y : Part) → (c.seats p).place ≡ pl → store_begin p value (c.seats p) pl ≡ Some y → Leaves c p y
   announces value (Begun tail) y at e = when_then (Leaves c p) _ _ y e (λ _. placed _ refl refl (λ h. absurd h) refl refl (λ _. not_vacant _ refl))
-  announces value (Active tail) y at e = when_then (Leaves c p) _ _ y e (λ _. aborts (is_flusher p) tail at)
+  announces value (Active tail) y at e =
+      active_begin_then (Leaves c p) p value tail (c.seats p) y e (λ _ _. aborts (is_flusher p) tail at)
+      (λ _ _ _ _. placed _ refl refl (λ h. absurd h) refl refl (λ _. not_vacant _ refl))
   announces value (Decided tail stamp) y at e =
       when_then (Leaves c p) _ _ y e (λ _. placed _ refl refl (λ _. subst (λ q. HasRoom q (c.seats p).task) (sym at) tt) refl refl (λ _. not_vacant _ refl))
   announces value _ y at e = absurd (cc)

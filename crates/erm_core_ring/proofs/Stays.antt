@@ -14,12 +14,13 @@ use Rattle.erm_machine.specs.declared.version.CellWord.{CellWord}
 use Rattle.erm_machine.specs.declared.version.CellWord.TheVariants as word
 use Rattle.erm_machine.specs.declared.version.VersionAt.{VersionAt}
 use Rattle.erm_machine.specs.Core.{Object, Shared}
-use Rattle.erm_machine.specs.Life.{after_clear}
+use Rattle.erm_machine.specs.Life.{after_clear, load_back, store_back}
 use Rattle.erm_machine.specs.Log.{HasRoom}
-use Rattle.erm_machine.specs.Reading.{load_entry, claim, set_reader, load_walked_stamp, load_walked_link, load_cell, swap_link, load_detached, load_counter, add_counter, load_active_stamp, start_row, store_row_word}
+use Rattle.erm_machine.specs.Reading.{load_entry, claim, set_reader, load_walked_stamp, load_walked_link, load_cell, swap_link, load_detached, load_counter, add_counter, load_active_stamp, start_row, store_row_word, unset}
 use Rattle.erm_machine.specs.Seat.{end_of, is_active, is_decided, is_sealed}
 use Rattle.erm_machine.specs.Settling.{load_read_entry, load_readers, load_settled_stamp, load_stamp, raise_reader, store_head_word, store_active_word, store_cell, mark_overwritten, install_claim, adds_version, install_new, release_old, unclaim, install, clear_reader}
 use Rattle.erm_machine.specs.Step.{part_after}
+use Rattle.erm_machine.proofs.Backs.{entry_then}
 use Rattle.erm_machine.proofs.Guards.{when_then, if_then, unless_some}
 use Rattle.erm_machine.proofs.QuietKinds.{IsQuiet}
 
@@ -93,7 +94,8 @@ looked other bound x t p h = room_past p _ t tt h
 
 s_load_entry : (seat oid found : ℕ) (o : Object) (x : Part) (t : Task) (y : Part) → load_entry seat oid found o x t ≡ Some y → Stays x t y
 s_load_entry seat oid found o x (task.Cleared cleared) y e = when_then (Stays x _) _ _ y e (λ _. past x _ _ refl refl refl refl refl tt)
-s_load_entry seat oid found o x _ y e = when_then (Stays x _) _ _ y e (λ g. acts x _ _ refl refl refl refl refl (first _ _ g))
+s_load_entry seat oid found o x t y e =
+    entry_then (Stays x t) seat oid found o x t y e (λ _ active. acts x t _ refl refl refl refl refl active) (λ g. acts x t _ refl refl refl refl refl (first _ _ g))
 
 s_claim : (seat oid seen number found : ℕ) (o : Object) (x : Part) (t : Task) (y : Part) → claim seat oid seen number found o x t ≡ Some y → Stays x t y
 s_claim seat oid seen number found o x (task.Found version stamp (Some entry)) y e =
@@ -108,11 +110,13 @@ s_set_reader seat v o x _ y e = absurd (cc)
 s_walked_stamp : (found : ℕ) (v : VersionAt) (x : Part) (t : Task) (y : Part) → load_walked_stamp found v x t ≡ Some y → Stays x t y
 s_walked_stamp found v x (task.Walks version head) y e = when_then (Stays x _) _ _ y e (λ _. past x _ _ refl refl refl refl refl tt)
 s_walked_stamp found v x (task.CutWalks version horizon) y e = when_then (Stays x _) _ _ y e (λ _. past x _ _ refl refl refl refl refl tt)
+s_walked_stamp found v x (task.SafeWalks version) y e = when_then (Stays x _) _ _ y e (λ _. past x _ _ refl refl refl refl refl tt)
 s_walked_stamp found v x (task.Passed version) y e = when_then (Stays x _) _ _ y e (λ _. past x _ _ refl refl refl refl refl tt)
 s_walked_stamp found v x _ y e = absurd (cc)
 
 s_walked_link : (found : ℕ) (v : VersionAt) (x : Part) (t : Task) (y : Part) → load_walked_link found v x t ≡ Some y → Stays x t y
 s_walked_link found v x (task.Passed version) y e = when_then (Stays x _) _ _ y e (λ _. past x _ _ refl refl refl refl refl tt)
+s_walked_link found v x (task.SafePassed version) y e = when_then (Stays x _) _ _ y e (λ _. past x _ _ refl refl refl refl refl tt)
 s_walked_link found v x (task.CutPassed version horizon) y e = when_then (Stays x _) _ _ y e (λ _. past x _ _ refl refl refl refl refl tt)
 s_walked_link found v x _ y e = absurd (cc)
 
@@ -131,6 +135,18 @@ s_swap_link found v o x _ y e = absurd (cc)
 s_load_detached : (found : ℕ) (v : VersionAt) (x : Part) (t : Task) (y : Part) → load_detached found v x t ≡ Some y → Stays x t y
 s_load_detached found v x (task.Detaches version) y e = when_then (Stays x _) _ _ y e (λ _. past x _ _ refl refl refl refl refl tt)
 s_load_detached found v x _ y e = absurd (cc)
+
+s_store_back : (value : ℕ) (x : Part) (p : Place) (y : Part) → store_back value x p ≡ Some y → Stays x x.task y
+s_store_back value x (Decided tail stamp) y e =
+    when_then (Stays x x.task) _ _ y e (λ _. record { header = refl; block = refl; flushing = refl; gathered_to = refl; room = λ h. h })
+s_store_back value x _ y e = absurd (cc)
+
+s_load_back : (other found : ℕ) (x : Part) (t : Task) (y : Part) → load_back other found x t ≡ Some y → Stays x t y
+s_load_back other found x (task.Behind next) y e = when_then (Stays x _) _ _ y e (λ _. past x _ _ refl refl refl refl refl tt)
+s_load_back other found x _ y e = absurd (cc)
+
+s_unset : (place : ℕ) (x y : Part) → unset place x ≡ Some y → Stays x x.task y
+s_unset place x y e = when_then (Stays x x.task) _ _ y e (λ g. acts x _ _ refl refl refl refl refl (first _ _ (first _ _ (first _ _ g))))
 
 s_load_counter : (cells : ℕ) (c : Counter) (found : ℕ) (x : Part) (t : Task) (y : Part) → load_counter cells c found x t ≡ Some y → Stays x t y
 s_load_counter cells Objects found x t y e = when_then (Stays x t) _ _ y e (λ g. acts x _ _ refl refl refl refl refl (first _ _ g))
@@ -261,3 +277,6 @@ stays_kind p (kind.StoreFlushed value) found s x y q e = absurd q
 stays_kind p kind.LoadFlushed found s x y q e = absurd q
 stays_kind p (kind.SwapLink v) found s x y q e = s_swap_link found v (s.objects v.oid) x x.task y e
 stays_kind p (kind.LoadDetached v) found s x y q e = s_load_detached found v x x.task y e
+stays_kind p (kind.StoreBack value) found s x y q e = s_store_back value x x.place y e
+stays_kind p (kind.LoadBack other) found s x y q e = s_load_back other found x x.task y e
+stays_kind p (kind.Unset place) found s x y q e = s_unset place x y e

@@ -30,9 +30,10 @@ horizon_same : (found : ℕ) (x : Part) (t : Task) (y : Part) → load_tail_for_
 horizon_same found x (task.Claimed version) y e = when_then (OverSame x) _ _ y e (λ _. refl)
 horizon_same found x _ y e = absurd (cc)
 
-bounds_same : (other found : ℕ) (x : Part) (t : Task) (y : Part) → load_begin other found x t ≡ Some y → OverSame x y
-bounds_same other found x (task.Horizon version least next) y e = when_then (OverSame x) _ _ y e (λ _. refl)
-bounds_same other found x _ y e = absurd (cc)
+bounds_same : (p other found : ℕ) (x : Part) (t : Task) (y : Part) → load_begin p other found x t ≡ Some y → OverSame x y
+bounds_same p other found x (task.Horizon version least next) y e = when_then (OverSame x) _ _ y e (λ _. refl)
+bounds_same p other found x (task.Surveys next) y e = when_then (OverSame x) _ _ y e (λ _. refl)
+bounds_same p other found x _ y e = absurd (cc)
 
 vacant_begins : (p found : ℕ) (x y : Part) (pl : Place) → pl ≡ Vacant → load_tail_to_begin p found x pl ≡ Some y → OverSame x y
 vacant_begins p found x y Vacant at e = absurd (cc)
@@ -61,7 +62,7 @@ vacant_same p (kind.LoadTail purpose.Gather) found s x y at e = when_then (OverS
 vacant_same p (kind.AddTail size) found s x y at e = vacant_draws p size found x y x.place at e
 vacant_same p (kind.StoreBegin value) found s x y at e = vacant_announces p value x y x.place at e
 vacant_same p (kind.StoreState value) found s x y at e = vacant_stores p value x y x.place at e
-vacant_same p (kind.LoadBegin other) found s x y at e = bounds_same other found x x.task y e
+vacant_same p (kind.LoadBegin other) found s x y at e = bounds_same p other found x x.task y e
 vacant_same p (kind.LoadState other bound) found s x y at e = when_then (OverSame x) _ _ y e (λ _. refl)
 vacant_same p (kind.Split other) found s x y at e = absurd (cc)
 vacant_same p (kind.Join other) found s x y at e = absurd (cc)

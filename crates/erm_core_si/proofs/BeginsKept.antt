@@ -28,7 +28,7 @@ use Rattle.erm_machine.proofs.Frames.{each_seat, each_two}
 use Rattle.erm_machine.proofs.Guards.{when_then, either_way}
 use Rattle.erm_machine.proofs.Quiet.{same_horizon}
 use Rattle.erm_machine.proofs.QuietKinds.{MeetsOne, DrawsNone, keeps_log, moves}
-use Rattle.erm_core_si.proofs.BeginsMoved.{Paces, KeepsPace, paces, paces_draw, begins_later}
+use Rattle.erm_core_si.proofs.BeginsMoved.{Paces, KeepsPace, paces, paces_draw, paces_survey, begins_later}
 
 -- what the law says of a state
 pub record Kept (d : Core) : Type 0 where
@@ -169,7 +169,7 @@ after_begin_word-horizon P version least next h =
     (λ (e : eqb next ANNOUNCERS ≡ true). subst (λ n. P (Some (least, n))) (eqb-true next ANNOUNCERS e) h) (λ _. h)
 
 begin_word_kept : (c : Core) (p other : ℕ) (t : Task) (y : Part) (d : Core) → Sound c → (c.seats p).task ≡ t →
-    load_begin other (begin_of (c.seats other).place) (c.seats p) t ≡ Some y →
+    load_begin p other (begin_of (c.seats other).place) (c.seats p) t ≡ Some y →
     record { shared = c.shared; seats = put c.seats p y } ≡ d → Kept d
 begin_word_kept c p other (task.Horizon version least next) y d sound at e =
     when_then (λ z. record { shared = c.shared; seats = put c.seats p z } ≡ d → Kept d) _ _ y e
@@ -203,6 +203,9 @@ begin_word_kept c p other (task.Horizon version least next) y d sound at e =
         (subst (λ k. IsBelowBegin (horizon_of (c.seats p).task) k (c.seats k).place (c.seats k).current.begin) own (sound.own p).begins.own) before begun)
         (λ (ne : p ≡ q → ⊥). subst (λ u. IsBelowBegin (horizon_of u) q (c.seats q).place (c.seats q).current.begin) at (sound.both p q ne).begins.passed before begun)
         (cases_eq p q)
+begin_word_kept c p other (task.Surveys next) y d sound at e = λ is.
+    kept_from c p y c.shared d sound (omega arith)
+    (paces_survey c.shared.tail (positive_tail c sound) (c.seats p) (sound.own p).begins.begins p other (begin_of (c.seats other).place) next y e) is
 begin_word_kept c p other _ y d sound at e = absurd (cc)
 
 -- a split, a join

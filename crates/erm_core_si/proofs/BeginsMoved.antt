@@ -14,8 +14,9 @@ use Rattle.erm_machine.specs.declared.task.Task.TheVariants as task
 use Rattle.erm_machine.specs.Begins.{IsTail, IsBegin, IsSealedBegin, BeginsAt, horizon_of, OwnBegins}
 use Rattle.erm_machine.specs.Core.{Core, spot_of, word_at}
 use Rattle.erm_machine.specs.Facts.{HasBegun}
-use Rattle.erm_machine.specs.Life.{load_tail_to_begin, load_tail_to_gather, add_tail, store_begin, store_state, load_state, after_clear, decide}
+use Rattle.erm_machine.specs.Life.{load_tail_to_begin, load_tail_to_gather, add_tail, store_begin, store_state, after_passed, load_begin, load_state, after_clear, decide}
 use Rattle.erm_machine.specs.Words.{state_of, is_flusher}
+use Rattle.erm_machine.proofs.Backs.{active_begin_then}
 use Rattle.erm_machine.proofs.Guards.{when_then, either_way}
 use Rattle.erm_machine.proofs.Quiet.{KeepsHorizon, no_horizon, same_horizon, Quiet}
 use Rattle.erm_machine.proofs.QuietKinds.{IsQuiet, Moves, quiet_kind}
@@ -108,9 +109,20 @@ module _ (now : ℕ) (positive : 0 < now) (x : Part) (b : BeginsAt x.place x.cur
   paces_store_begin p value (Begun tail) y at e =
       when_then (Paces now now x) _ _ y e (λ _. record { begins = at_place (Begun tail) at; begun = λ h. absurd h; horizon = same_horizon x.task })
   paces_store_begin p value (Active tail) y at e =
-      when_then (Paces now now x) _ _ y e (λ _. either_way (Paces now now x) (is_flusher p) _ _
+      let old : IsBegin tail x.current.begin now = at_place (Active tail) at in
+      active_begin_then (Paces now now x) p value tail x y e
+      (λ _ _. either_way (Paces now now x) (is_flusher p) _ _
       (λ _. record { begins = tt; begun = λ h. absurd h; horizon = no_horizon _ _ (record { plain = refl }) })
       (λ _. record { begins = tt; begun = λ h. absurd h; horizon = no_horizon _ _ (record { plain = refl }) }))
+      (λ _ is _ _. record {
+        begins = record {
+          positive = let a = old.positive in let b = old.announced in omega (arith, a, b, is);
+          announced = omega (arith, is);
+          past = old.past;
+        };
+        begun = λ _. inl (has_begun (Active tail) at tt, refl);
+        horizon = no_horizon _ _ (record { plain = refl });
+      })
   paces_store_begin p value (Decided tail stamp) y at e =
       let old : IsSealedBegin tail x.current.begin stamp now = at_place (Decided tail stamp) at in
       when_then (Paces now now x) _ _ y e (λ _. record { begins = (old.sealed, old.drawn); begun = λ h. absurd h; horizon = no_horizon _ _ (record { plain = refl }) })
@@ -155,6 +167,13 @@ module _ (now : ℕ) (positive : 0 < now) (x : Part) (b : BeginsAt x.place x.cur
   clear_horizon other bound (task.ReadOwned read owner) = search (keeps_if, keeps_plain)
   clear_horizon other bound (task.ReadersLeft write bits) = search (keeps_if, keeps_plain)
   clear_horizon other bound _ = record { kept = inr refl }
+
+  passed_keeps : (t : Task) (next : ℕ) → KeepsHorizon t (after_passed next)
+  passed_keeps t next = search (keeps_if, keeps_plain)
+
+  pub paces_survey : (p other found next : ℕ) (y : Part) → load_begin p other found x (task.Surveys next) ≡ Some y → Paces now now x y
+  paces_survey p other found next y e =
+      when_then (Paces now now x) _ _ y e (λ _. paces_same _ refl refl (search (keeps_if, keeps_plain, passed_keeps)))
 
   pub paces_look : (p other bound found : ℕ) (y : Part) → load_state p other bound found x ≡ Some y → Paces now now x y
   paces_look p other bound found y e =

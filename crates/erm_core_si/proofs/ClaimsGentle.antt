@@ -1,5 +1,5 @@
 -- Gentle steps: those that leave a seat at its place with its claims and their installs as they are.
-use Rattle.std.proofs.Common.{◌≡◌, ℕ, ◌⊎◌, ⊎_elim, Bool, true, false, List, length, Option, Some, None, refl, sym, ap, ◌∙◌, inl, inr, arith}
+use Rattle.std.proofs.Common.{◌≡◌, ℕ, ◌⊎◌, ⊎_elim, Bool, true, false, ◌||◌, List, length, Option, Some, None, refl, sym, ap, ◌∙◌, inl, inr, arith}
 use Rattle.std.specs.Prelude.{if◌then◌else◌}
 use Rattle.std.proofs.lemmas.Bool.{and_parts}
 use Rattle.erm_machine.specs.declared.attempt.Attempt.{Attempt}
@@ -11,7 +11,7 @@ use Rattle.erm_machine.specs.declared.part.Flushing.{Flushing}
 use Rattle.erm_machine.specs.declared.part.Flushing.TheVariants as flushing
 use Rattle.erm_machine.specs.declared.part.Part.{Part}
 use Rattle.erm_machine.specs.declared.place.Place.{Place}
-use Rattle.erm_machine.specs.declared.place.Place.TheVariants.{Leaving}
+use Rattle.erm_machine.specs.declared.place.Place.TheVariants.{Decided, Leaving}
 use Rattle.erm_machine.specs.declared.task.Task.{Task}
 use Rattle.erm_machine.specs.declared.task.Task.TheVariants as task
 use Rattle.erm_machine.specs.declared.version.CellWord.{CellWord}
@@ -21,10 +21,11 @@ use Rattle.erm_machine.specs.Claims.{step_of}
 use Rattle.erm_machine.specs.Core.{Object}
 use Rattle.erm_machine.specs.Facts.{over_of}
 use Rattle.erm_machine.specs.Flushing.{load_flushed, gathered_word, load_ring, clear_ring, store_flushed}
-use Rattle.erm_machine.specs.Life.{load_tail_for_horizon, load_tail_to_gather, load_begin, after_clear, load_state}
+use Rattle.erm_machine.specs.Life.{load_tail_for_horizon, load_tail_to_gather, after_passed, load_begin, load_back, store_back, after_clear, load_state}
 use Rattle.erm_machine.specs.Reading.{entered, lost, after_cut, detached, load_entry, set_reader, load_walked_stamp, load_walked_link, load_cell, swap_link, load_detached, load_counter}
-use Rattle.erm_machine.specs.Seat.{end_of, is_active, may_start}
+use Rattle.erm_machine.specs.Seat.{end_of, is_active, is_safe, is_snapshot, may_start}
 use Rattle.erm_machine.specs.Settling.{may_settle, load_flushed_to_settle, load_read_entry, load_readers, load_settled_stamp, store_ring, filled, raise_reader, clear_reader}
+use Rattle.erm_machine.proofs.Backs.{entry_then}
 use Rattle.erm_machine.proofs.Guards.{when_then, some_then, if_then, either_way}
 use Rattle.erm_core_si.proofs.ClaimsOwn.{Stands}
 
@@ -53,6 +54,11 @@ no_end_if b t u f g = either_way NoEnd b t u (λ _. f) (λ _. g)
 pub start_no_end : (t : Task) → may_start t ≡ true → NoEnd t
 start_no_end (task.Ends raised ended step cleared) e = absurd (cc)
 start_no_end _ e = record { ended = refl; step = λ k. refl }
+
+-- nor in a safe snapshot
+safe_no_end : (t : Task) → is_safe t ≡ true → NoEnd t
+safe_no_end (task.Ends raised ended step cleared) e = absurd (cc)
+safe_no_end _ e = record { ended = refl; step = λ k. refl }
 
 -- two tasks that have come equally far in an end
 pub record SameEnd (t u : Task) : Type 0 where
@@ -166,10 +172,26 @@ g_horizon found x _ y e = absurd (cc)
 pub g_gather : (seat found : ℕ) (x y : Part) → load_tail_to_gather seat found x ≡ Some y → Gentle x x.task y
 g_gather seat found x y e = when_then (Gentle x x.task) _ _ y e (λ _. gentle_flushing x _ _ _)
 
-pub g_load_begin : (other found : ℕ) (x : Part) (t : Task) (y : Part) → load_begin other found x t ≡ Some y → Gentle x t y
-g_load_begin other found x (task.Horizon version least next) y e =
+after_passed_no_end : (next : ℕ) → NoEnd (after_passed next)
+after_passed_no_end next = search (no_end_if, no_end)
+
+pub g_load_begin : (seat other found : ℕ) (x : Part) (t : Task) (y : Part) → load_begin seat other found x t ≡ Some y → Gentle x t y
+g_load_begin seat other found x (task.Horizon version least next) y e =
     when_then (Gentle x _) _ _ y e (λ _. plain_task x _ _ (no_end _ tt) (search (no_end_if, no_end)))
-g_load_begin other found x _ y e = absurd (cc)
+g_load_begin seat other found x (task.Surveys next) y e =
+    when_then (Gentle x _) _ _ y e (λ _. plain_task x _ _ (no_end _ tt) (search (no_end_if, no_end, after_passed_no_end)))
+g_load_begin seat other found x _ y e = absurd (cc)
+
+pub g_load_back : (other found : ℕ) (x : Part) (t : Task) (y : Part) → load_back other found x t ≡ Some y → Gentle x t y
+g_load_back other found x (task.Behind next) y e =
+    when_then (Gentle x _) _ _ y e (λ _. plain_task x _ _ (no_end _ tt) (search (no_end_if, no_end, after_passed_no_end)))
+g_load_back other found x _ y e = absurd (cc)
+
+pub g_store_back : (value : ℕ) (x : Part) (p : Place) (y : Part) → store_back value x p ≡ Some y → Gentle x x.task y
+g_store_back value x (Decided tail stamp) y e =
+    when_then (Gentle x x.task) _ _ y e (λ _.
+    record { place = refl; number = refl; begin = refl; stamp = refl; writes = refl; end = same_end x.task; succ = inl refl })
+g_store_back value x _ y e = absurd (cc)
 
 clear_same_end : (other bound : ℕ) (x : Part) (t : Task) → SameEnd t (after_clear other bound x t)
 clear_same_end other bound x (task.Owned oid owner) = both_no_end _ _ (no_end _ tt) (search (no_end_if, no_end))
@@ -186,7 +208,8 @@ pub g_load_entry : (seat oid found : ℕ) (o : Object) (x : Part) (t : Task) (y 
 g_load_entry seat oid found o x (task.Cleared cleared) y e =
     when_then (Gentle x _) _ _ y e (λ _. plain_task x _ _ (no_end _ tt) (search (no_end_if, no_end, entered_no_end)))
 g_load_entry seat oid found o x t y e =
-    when_then (Gentle x t) _ _ y e (λ g. plain_task x _ _ (start_no_end t (and_parts _ _ g).1) (entered_no_end seat oid found o))
+    entry_then (Gentle x t) seat oid found o x t y e (λ safe _. plain_task x _ _ (safe_no_end t safe) (no_end _ tt))
+    (λ g. plain_task x _ _ (start_no_end t (and_parts _ _ g).1) (entered_no_end seat oid found o))
 
 pub g_set_reader : (seat : ℕ) (v : VersionAt) (o : Object) (x : Part) (t : Task) (y : Part) → set_reader seat v o x t ≡ Some y → Gentle x t y
 g_set_reader seat v o x (task.Found version stamp head) y e =
@@ -199,11 +222,14 @@ g_walked_stamp found v x (task.Walks version head) y e =
     when_then (Gentle x _) _ _ y e (λ _. plain_task x _ _ (no_end _ tt) (search (no_end_if, no_end)))
 g_walked_stamp found v x (task.CutWalks version horizon) y e =
     when_then (Gentle x _) _ _ y e (λ _. plain_task x _ _ (no_end _ tt) (search (no_end_if, no_end)))
+g_walked_stamp found v x (task.SafeWalks version) y e =
+    when_then (Gentle x _) _ _ y e (λ _. plain_task x _ _ (no_end _ tt) (search (no_end_if, no_end)))
 g_walked_stamp found v x (task.Passed version) y e = when_then (Gentle x _) _ _ y e (λ _. plain_task x _ _ (no_end _ tt) (no_end _ tt))
 g_walked_stamp found v x _ y e = absurd (cc)
 
 g_walked_link : (found : ℕ) (v : VersionAt) (x : Part) (t : Task) (y : Part) → load_walked_link found v x t ≡ Some y → Gentle x t y
 g_walked_link found v x (task.Passed version) y e = when_then (Gentle x _) _ _ y e (λ _. plain_task x _ _ (no_end _ tt) (no_end _ tt))
+g_walked_link found v x (task.SafePassed version) y e = when_then (Gentle x _) _ _ y e (λ _. plain_task x _ _ (no_end _ tt) (no_end _ tt))
 g_walked_link found v x (task.CutPassed version horizon) y e =
     when_then (Gentle x _) _ _ y e (λ _. plain_task x _ _ (no_end _ tt) (search (no_end_if, no_end, after_cut_no_end)))
 g_walked_link found v x _ y e = absurd (cc)
@@ -286,7 +312,7 @@ pub ends_at : (t : Task) → EndsAt t (end_of t)
 ends_at (task.Ends raised ended step cleared) = (refl, λ k. refl)
 ends_at (task.Copies w) = (refl, zero_step)
 ends_at (task.Writes claim w) = (refl, zero_step)
-ends_at t = starts_at (may_start t) t (no_end t tt)
+ends_at t = starts_at (may_start t || is_snapshot t) t (no_end t tt)
 
 g_clear : (v : VersionAt) (x : Part) (t : Task) (o : Option (ℕ × ℕ × ℕ × ℕ)) (y : Part) → EndsAt t o → clear_reader v x o ≡ Some y → Gentle x t y
 g_clear v x t None y at e = absurd (cc)

@@ -21,13 +21,13 @@ use Rattle.erm_machine.specs.Words.{with_bit, without_bit}
 use Rattle.erm_machine.proofs.Guards.{if_then, unless_some}
 use Rattle.erm_machine.proofs.Objects.{same_objects}
 use Rattle.erm_machine.proofs.QuietKinds.{DrawsNone, MeetsOne, Moves, keeps_log, moves}
-use Rattle.erm_core_si.proofs.ClaimsGentle.{g_horizon, g_gather, g_load_begin, g_load_state, g_load_entry, g_load_read_entry, g_set_reader, g_load_cell, g_swap_link, g_load_detached, g_load_counter, g_load_readers, g_store_ring, g_raise_reader, g_clear_reader, g_load_flushed, g_load_ring, g_clear_ring, g_store_flushed}
+use Rattle.erm_core_si.proofs.ClaimsGentle.{g_horizon, g_gather, g_load_begin, g_load_back, g_store_back, g_load_state, g_load_entry, g_load_read_entry, g_set_reader, g_load_cell, g_swap_link, g_load_detached, g_load_counter, g_load_readers, g_store_ring, g_raise_reader, g_clear_reader, g_load_flushed, g_load_ring, g_clear_ring, g_store_flushed}
 use Rattle.erm_core_si.proofs.ClaimsInstalled.{install_kept}
 use Rattle.erm_core_si.proofs.ClaimsMarked.{succ_kept, mark_kept}
 use Rattle.erm_core_si.proofs.ClaimsObjects.{Alike, alike_refl, alike_same, alike_put, alike_word}
 use Rattle.erm_core_si.proofs.ClaimsOwn.{Kept, kept_alike}
 use Rattle.erm_core_si.proofs.ClaimsPlaces.{begins_own, draws_own, announces_own, seals_own, decides_own, splits_own, joins_own}
-use Rattle.erm_core_si.proofs.ClaimsRefilled.{Soft, soft_own, s_add_counter, s_load_stamp, s_store_cell}
+use Rattle.erm_core_si.proofs.ClaimsRefilled.{Soft, soft_own, s_add_counter, s_load_stamp, s_store_cell, s_unset}
 use Rattle.erm_core_si.proofs.ClaimsTaken.{taken_kept}
 
 -- kinds that change nothing of an object that the facts on claims see
@@ -74,7 +74,7 @@ soft_kind p (kind.LoadTail purpose.Gather) found s x y q wants e = inl (g_gather
 soft_kind p (kind.AddTail size) found s x y q wants e = absurd q
 soft_kind p (kind.StoreBegin value) found s x y q wants e = absurd q
 soft_kind p (kind.StoreState value) found s x y q wants e = absurd q
-soft_kind p (kind.LoadBegin other) found s x y q wants e = inl (g_load_begin other found x x.task y e)
+soft_kind p (kind.LoadBegin other) found s x y q wants e = inl (g_load_begin p other found x x.task y e)
 soft_kind p (kind.LoadState other bound) found s x y q wants e = inl (g_load_state p other bound found x y e)
 soft_kind p (kind.Split other) found s x y q wants e = absurd q
 soft_kind p (kind.Join other) found s x y q wants e = absurd q
@@ -102,6 +102,9 @@ soft_kind p (kind.StoreFlushed value) found s x y q wants e = inl (g_store_flush
 soft_kind p kind.LoadFlushed found s x y q wants e = inl (g_load_flushed found x x.flushing y e)
 soft_kind p (kind.SwapLink v) found s x y q wants e = inl (g_swap_link found v (s.objects v.oid) x x.task y e)
 soft_kind p (kind.LoadDetached v) found s x y q wants e = inl (g_load_detached found v x x.task y e)
+soft_kind p (kind.StoreBack value) found s x y q wants e = inl (g_store_back value x x.place y e)
+soft_kind p (kind.LoadBack other) found s x y q wants e = inl (g_load_back other found x x.task y e)
+soft_kind p (kind.Unset place) found s x y q wants e = s_unset place x y e
 
 -- a step that draws no range and leaves the objects alike
 mild_kept : (c : Core) (p : ℕ) (k : Kind) (d : Core) → IsMild k → DrawsNone k → Sound c → (m : Moves c p k d)

@@ -14,6 +14,7 @@ use Rattle.erm_machine.specs.Life.{load_tail_to_begin, add_tail, has_ended, stor
 use Rattle.erm_machine.specs.Seat.{end_of, is_vacant}
 use Rattle.erm_machine.specs.Tasks.{TaskFits}
 use Rattle.erm_machine.specs.Words.{owner_of, is_flusher}
+use Rattle.erm_machine.proofs.Backs.{active_begin_then, decided_begin_then}
 use Rattle.erm_machine.proofs.Guards.{when_then, either_way}
 use Rattle.erm_core_si.proofs.ClaimsObjects.{Alike}
 use Rattle.erm_core_si.proofs.ClaimsOwn.{held_at, Stands, stands_own, none_own}
@@ -97,16 +98,19 @@ module _ (s r : Shared) (seat : ℕ) (x : Part) (alike : (oid : ℕ) → Alike (
   announces_own p value (Begun tail) y at e =
       when_then (OwnClaims r seat) _ _ y e (λ _. freed _ (ap (λ (t : Attempt). t.writes) (current_at (Begun tail) at)) (blank_holds (current_at (Begun tail) at)))
   announces_own p value (Active tail) y at e =
-      when_then (OwnClaims r seat) _ _ y e (λ g.
+      active_begin_then (OwnClaims r seat) p value tail x y e
+      (λ _ ended.
       let none : (oid : ℕ) → Holds x oid → ⊥ =
       over_holds (over_known x.place x.task (length x.current.writes) (stays_at (Active tail) at tt)
-      ∙ ended_all x.current x.task (end_of x.task) (ends_at x.task) (and_parts _ _ g).1) in
+      ∙ ended_all x.current x.task (end_of x.task) (ends_at x.task) ended) in
       either_way (OwnClaims r seat) (is_flusher p) _ _ (λ _. freed _ refl none) (λ _. freed _ refl none))
+      (λ _ _ _ rest.
+      stays _ (stands_on x _ refl refl refl (stays_at (Active tail) at tt) tt (sym (ap ended_of rest)) (rest_step rest) (λ k. refl)))
   announces_own p value (Decided tail stamp) y at e =
-      when_then (OwnClaims r seat) _ _ y e (λ g.
+      decided_begin_then (OwnClaims r seat) p value tail stamp x y e (λ _ ended _.
       let all : claims_over x ≡ length x.current.writes =
       over_known x.place x.task (length x.current.writes) (stays_at (Decided tail stamp) at tt)
-      ∙ ended_all x.current x.task (end_of x.task) (ends_at x.task) (and_parts _ _ g).1 in
+      ∙ ended_all x.current x.task (end_of x.task) (ends_at x.task) ended in
       stays _ (record {
         writes = refl;
         number = refl;

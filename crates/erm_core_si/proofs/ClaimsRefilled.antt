@@ -1,7 +1,7 @@
 -- Steps that change the own cell or the row of one claim.
 use Rattle.std.proofs.Common.{◌≡◌, ◌≢◌, ℕ, ◌+◌, ◌<◌, ◌≤◌, ◌⊎◌, ⊎_elim, Bool, true, false, cond, eqb, ltb, List, length, set, get_or, Option, Some, None, refl, sym, ap, ◌∙◌, subst, inl, inr, arith, length-set, get_or-set_same, get_or-set_other}
 use Rattle.std.specs.Prelude.{if◌then◌else◌}
-use Rattle.std.proofs.lemmas.Bool.{and_parts, cases_lt, eqb-true, eq-eqb, ne_eqb}
+use Rattle.std.proofs.lemmas.Bool.{and_parts, cases_lt, eqb-true, eq-eqb, ltb-true, ne_eqb}
 use Rattle.std.proofs.lemmas.List.{get_or_past}
 use Rattle.erm_machine.specs.declared.attempt.Attempt.{Attempt}
 use Rattle.erm_machine.specs.declared.attempt.Claim.{Claim}
@@ -21,9 +21,10 @@ use Rattle.erm_machine.specs.Cells.{WantsCell}
 use Rattle.erm_machine.specs.Claims.{ClaimFits, InstallFits, OwnClaims, claims_over, step_of}
 use Rattle.erm_machine.specs.Core.{Object, Shared, version_at, claim_at, no_claim, own_words}
 use Rattle.erm_machine.specs.Facts.{over_of}
-use Rattle.erm_machine.specs.Reading.{with_own_word, with_cell, add_counter, load_active_stamp, start_row, store_row_word}
+use Rattle.erm_machine.specs.Reading.{with_own_word, with_cell, add_counter, load_active_stamp, start_row, store_row_word, unset}
 use Rattle.erm_machine.specs.Seat.{is_active, is_sealed, is_decided, is_own, last_claim}
 use Rattle.erm_machine.specs.Settling.{head_word, head_value, installs, load_settled_stamp, load_stamp, store_head_word, store_active_word, store_cell}
+use Rattle.erm_machine.proofs.Backs.{rest_is}
 use Rattle.erm_machine.proofs.Guards.{when_then, if_then}
 use Rattle.erm_core_si.proofs.ClaimsObjects.{Alike, claim_alike, install_alike, install_waits}
 use Rattle.erm_core_si.proofs.ClaimsOwn.{ClaimOk, ok_at, Changes, changed_own, install_stays, stands_own}
@@ -396,3 +397,12 @@ pub s_store_cell : (place cell : ℕ) (w : CellWord) (value : ℕ) (x y : Part) 
 s_store_cell place cell w value x y e =
     if_then (Soft x x.task) (is_active x.place) (store_active_word place cell w value x) (store_head_word place cell w value x x.task) y e
     (λ active h. s_active_word place cell w value x y (active_stays x.place active) h) (λ _ h. inr (s_head_word place cell w value x x.task y h))
+
+-- the row of a claim is that of the version overwritten again
+pub s_unset : (place : ℕ) (x y : Part) → unset place x ≡ Some y → Soft x x.task y
+s_unset place x y e =
+    when_then (Soft x x.task) _ _ y e (λ g.
+    let two = and_parts _ _ (and_parts _ _ g).0 in
+    let one = and_parts _ _ two.0 in
+    let none : NoEnd x.task = subst NoEnd (sym (rest_is x.task one.1)) (no_end task.Rest tt) in
+    inr (refills_plain x x.task x.task _ x.spare place (claim_at x.current place).own _ _ none none (ltb-true _ _ two.1) (active_stays x.place one.0) refl refl refl))

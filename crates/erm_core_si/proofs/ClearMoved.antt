@@ -12,6 +12,7 @@ use Rattle.erm_machine.specs.declared.task.Task.TheVariants as task
 use Rattle.erm_machine.specs.Core.{Core, spot_of, word_at}
 use Rattle.erm_machine.specs.Life.{load_tail, load_tail_to_begin, load_tail_for_horizon, add_tail, store_begin, store_state, load_begin, decide}
 use Rattle.erm_machine.specs.Words.{is_flusher}
+use Rattle.erm_machine.proofs.Backs.{active_begin_then}
 use Rattle.erm_machine.proofs.Guards.{when_then, either_way}
 use Rattle.erm_machine.proofs.Quiet.{Quiet}
 use Rattle.erm_machine.proofs.QuietKinds.{IsQuiet, Moves, quiet_kind}
@@ -47,8 +48,10 @@ module _ (now : ℕ) (x : Part) (seen : x.seen ≤ now) where
   pub sees_store_begin : (p value : ℕ) (pl : Place) (y : Part) → store_begin p value x pl ≡ Some y → Sees now now x y
   sees_store_begin p value (Begun tail) y e = when_then (Sees now now x) _ _ y e (λ _. record { seen = seen; clear = refl; stamp = inl refl })
   sees_store_begin p value (Active tail) y e =
-      when_then (Sees now now x) _ _ y e (λ _. either_way (Sees now now x) (is_flusher p) _ _
+      active_begin_then (Sees now now x) p value tail x y e
+      (λ _ _. either_way (Sees now now x) (is_flusher p) _ _
       (λ _. record { seen = seen; clear = refl; stamp = inr (inl refl) }) (λ _. record { seen = seen; clear = refl; stamp = inr (inl refl) }))
+      (λ _ _ _ _. record { seen = seen; clear = refl; stamp = inl refl })
   sees_store_begin p value (Decided tail stamp) y e = when_then (Sees now now x) _ _ y e (λ _. record { seen = seen; clear = refl; stamp = inl refl })
   sees_store_begin p value _ y e = absurd (cc)
 
@@ -58,9 +61,10 @@ module _ (now : ℕ) (x : Part) (seen : x.seen ≤ now) where
   sees_store_state p value (Leaving stamp) y e = when_then (Sees now now x) _ _ y e (λ _. record { seen = seen; clear = refl; stamp = inr (inl refl) })
   sees_store_state p value _ y e = absurd (cc)
 
-  pub sees_load_begin : (other found : ℕ) (t : Task) (y : Part) → load_begin other found x t ≡ Some y → Sees now now x y
-  sees_load_begin other found (task.Horizon version least next) y e = when_then (Sees now now x) _ _ y e (λ _. record { seen = seen; clear = refl; stamp = inl refl })
-  sees_load_begin other found _ y e = absurd (cc)
+  pub sees_load_begin : (p other found : ℕ) (t : Task) (y : Part) → load_begin p other found x t ≡ Some y → Sees now now x y
+  sees_load_begin p other found (task.Horizon version least next) y e = when_then (Sees now now x) _ _ y e (λ _. record { seen = seen; clear = refl; stamp = inl refl })
+  sees_load_begin p other found (task.Surveys next) y e = when_then (Sees now now x) _ _ y e (λ _. record { seen = seen; clear = refl; stamp = inl refl })
+  sees_load_begin p other found _ y e = absurd (cc)
 
   pub sees_decide : (at header : ℕ) (pl : Place) (t : Task) (y : Part) → decide at header x pl t ≡ Some y → Sees now now x y
   sees_decide at header (Sealed tail stamp) (task.Fills words) y e = when_then (Sees now now x) _ _ y e (λ _. record { seen = seen; clear = refl; stamp = inl refl })
@@ -84,7 +88,7 @@ sees c p (kind.LoadTail reason) d n seen m = sees_tail c.shared.tail (c.seats p)
 sees c p (kind.AddTail size) d n seen m = absurd n
 sees c p (kind.StoreBegin value) d n seen m = sees_store_begin c.shared.tail (c.seats p) seen p value (c.seats p).place m.part m.after
 sees c p (kind.StoreState value) d n seen m = sees_store_state c.shared.tail (c.seats p) seen p value (c.seats p).place m.part m.after
-sees c p (kind.LoadBegin other) d n seen m = sees_load_begin c.shared.tail (c.seats p) seen other _ (c.seats p).task m.part m.after
+sees c p (kind.LoadBegin other) d n seen m = sees_load_begin c.shared.tail (c.seats p) seen p other _ (c.seats p).task m.part m.after
 sees c p (kind.LoadState other bound) d n seen m = absurd n
 sees c p (kind.Split other) d n seen m = absurd n
 sees c p (kind.Join other) d n seen m = absurd n

@@ -22,6 +22,7 @@ pub mod SnapshotLooks
 pub mod SnapshotMoved
 pub mod SnapshotReads
 pub mod SnapshotRegistered
+pub mod SnapshotSafe
 pub mod SnapshotSame
 pub mod SnapshotSettles
 pub mod SnapshotSteps

@@ -12,7 +12,7 @@ use Rattle.erm_machine.specs.declared.part.Flushing.{Flushing}
 use Rattle.erm_machine.specs.declared.part.Flushing.TheVariants as flushing
 use Rattle.erm_machine.specs.declared.part.Part.{Part}
 use Rattle.erm_machine.specs.declared.place.Place.{Place}
-use Rattle.erm_machine.specs.declared.place.Place.TheVariants.{Sealed}
+use Rattle.erm_machine.specs.declared.place.Place.TheVariants.{Sealed, Decided}
 use Rattle.erm_machine.specs.declared.task.Task.{Task}
 use Rattle.erm_machine.specs.declared.task.Task.TheVariants as task
 use Rattle.erm_machine.specs.declared.version.CellWord.{CellWord}
@@ -21,8 +21,8 @@ use Rattle.erm_machine.specs.declared.version.VersionAt.{VersionAt}
 use Rattle.erm_machine.specs.Core.{Object}
 use Rattle.erm_machine.specs.Facts.{IsCurrent}
 use Rattle.erm_machine.specs.Seat.{end_of, last_claim}
-use Rattle.erm_machine.specs.Life.{load_tail_to_gather, load_tail_for_horizon, load_begin, decide, split, join}
-use Rattle.erm_machine.specs.Reading.{with_cell, after_cut, detached, swap_link, load_detached, load_counter, add_counter, load_active_stamp, start_row, store_row_word}
+use Rattle.erm_machine.specs.Life.{load_tail_to_gather, load_tail_for_horizon, after_passed, load_begin, load_back, store_back, decide, split, join}
+use Rattle.erm_machine.specs.Reading.{with_cell, after_cut, detached, swap_link, load_detached, load_counter, add_counter, load_active_stamp, start_row, store_row_word, unset}
 use Rattle.erm_machine.specs.Settling.{load_flushed_to_settle, raise_reader, store_head_word, store_active_word, store_cell, mark_overwritten, store_succ, store_overwriter, install_claim, adds_version, install_new, release_old, unclaim, install, clear_reader}
 use Rattle.erm_machine.specs.Flushing.{load_flushed, gathered_word, load_ring, clear_ring, store_flushed}
 use Rattle.erm_machine.proofs.Guards.{when_then, some_then, if_then, either_way}
@@ -66,10 +66,24 @@ calm_horizon found x _ y e = absurd (cc)
 pub calm_gather : (p found : ℕ) (x : Part) (y : Part) → load_tail_to_gather p found x ≡ Some y → Calm x x.task y
 calm_gather p found x y e = when_then (Calm x x.task) _ _ y e (λ _. calm_stay x x.task _ refl refl refl)
 
-pub calm_load_begin : (other found : ℕ) (x : Part) (t : Task) (y : Part) → load_begin other found x t ≡ Some y → Calm x t y
-calm_load_begin other found x (task.Horizon version least next) y e =
+after_passed_free : (next : ℕ) → Free (after_passed next)
+after_passed_free next = search (free_if, free_from)
+
+pub calm_load_begin : (p other found : ℕ) (x : Part) (t : Task) (y : Part) → load_begin p other found x t ≡ Some y → Calm x t y
+calm_load_begin p other found x (task.Horizon version least next) y e =
     when_then (Calm x _) _ _ y e (λ _. calm_task x _ _ (search (free_if, free_from)))
-calm_load_begin other found x _ y e = absurd (cc)
+calm_load_begin p other found x (task.Surveys next) y e =
+    when_then (Calm x _) _ _ y e (λ _. calm_task x _ _ (search (free_if, free_from, after_passed_free)))
+calm_load_begin p other found x _ y e = absurd (cc)
+
+pub calm_load_back : (other found : ℕ) (x : Part) (t : Task) (y : Part) → load_back other found x t ≡ Some y → Calm x t y
+calm_load_back other found x (task.Behind next) y e =
+    when_then (Calm x _) _ _ y e (λ _. calm_task x _ _ (search (free_if, free_from, after_passed_free)))
+calm_load_back other found x _ y e = absurd (cc)
+
+pub calm_store_back : (value : ℕ) (x : Part) (pl : Place) (y : Part) → store_back value x pl ≡ Some y → Calm x x.task y
+calm_store_back value x (Decided tail stamp) y e = when_then (Calm x x.task) _ _ y e (λ _. calm_stay x x.task _ refl refl refl)
+calm_store_back value x _ y e = absurd (cc)
 
 pub calm_decide : (at header : ℕ) (x : Part) (pl : Place) (t : Task) (y : Part) → decide at header x pl t ≡ Some y → Calm x t y
 calm_decide at header x (Sealed tail stamp) (task.Fills words) y e =
@@ -223,3 +237,11 @@ calm_clear_ring at x _ y e = absurd (cc)
 pub calm_store_flushed : (value : ℕ) (x : Part) (f : Flushing) (y : Part) → store_flushed value x f ≡ Some y → Calm x x.task y
 calm_store_flushed value x (flushing.Clears next to) y e = when_then (Calm x x.task) _ _ y e (λ _. calm_stay x x.task _ refl refl refl)
 calm_store_flushed value x _ y e = absurd (cc)
+
+-- the row of a claim is that of the version overwritten again
+pub calm_unset : (place : ℕ) (x y : Part) → unset place x ≡ Some y → Calm x x.task y
+calm_unset place x y e =
+    when_then (Calm x x.task) _ _ y e (λ _. record {
+      same = record { over = refl; begin = refl; stamp = refl; reads = refl; claims = keeps_set x _ place _ refl refl (λ h. h) };
+      task = inr refl;
+    })

@@ -19,7 +19,7 @@ use Rattle.erm_machine.proofs.Guards.{if_then, unless_some}
 use Rattle.erm_machine.proofs.Objects.{extends_refl}
 use Rattle.erm_machine.proofs.QuietKinds.{MeetsOne, Moves, moves}
 use Rattle.erm_core_si.proofs.SnapshotSteps.{Kept, Grown, kept_from}
-use Rattle.erm_core_si.proofs.SnapshotCalm.{calm_load_begin, calm_decide, calm_split, calm_join, calm_swap_link, calm_load_detached, calm_load_counter, calm_add_counter, calm_active_stamp, calm_raise_reader, calm_store_succ, calm_store_overwriter, calm_store_cell, calm_install, calm_clear_reader, calm_load_flushed, calm_load_ring, calm_clear_ring, calm_store_flushed}
+use Rattle.erm_core_si.proofs.SnapshotCalm.{calm_load_begin, calm_load_back, calm_store_back, calm_unset, calm_decide, calm_split, calm_join, calm_swap_link, calm_load_detached, calm_load_counter, calm_add_counter, calm_active_stamp, calm_raise_reader, calm_store_succ, calm_store_overwriter, calm_store_cell, calm_install, calm_clear_reader, calm_load_flushed, calm_load_ring, calm_clear_ring, calm_store_flushed}
 use Rattle.erm_core_si.proofs.SnapshotLeft.{Left, left_calm, kept_moves}
 use Rattle.erm_core_si.proofs.SnapshotLooks.{look_left}
 use Rattle.erm_core_si.proofs.SnapshotMoved.{load_tail_left, add_tail_left, store_begin_left, store_state_left}
@@ -42,7 +42,7 @@ left_of c p (kind.LoadTail reason) d sound m = load_tail_left c p sound reason m
 left_of c p (kind.AddTail size) d sound m = add_tail_left c p sound size (c.seats p).place m.part refl m.after
 left_of c p (kind.StoreBegin value) d sound m = store_begin_left c p sound value (c.seats p).place m.part refl m.after
 left_of c p (kind.StoreState value) d sound m = store_state_left c p sound value (c.seats p).place m.part refl m.after
-left_of c p (kind.LoadBegin other) d sound m = left_calm c p m.part sound (calm_load_begin other (begin_of (c.seats other).place) (c.seats p) (c.seats p).task m.part m.after)
+left_of c p (kind.LoadBegin other) d sound m = left_calm c p m.part sound (calm_load_begin p other (begin_of (c.seats other).place) (c.seats p) (c.seats p).task m.part m.after)
 left_of c p (kind.LoadState other bound) d sound m = look_left c p other bound sound m.part m.after
 left_of c p (kind.Split other) d sound m = absurd (let e = m.after in cc)
 left_of c p (kind.Join other) d sound m = absurd (let e = m.after in cc)
@@ -71,6 +71,9 @@ left_of c p (kind.StoreFlushed value) d sound m = left_calm c p m.part sound (ca
 left_of c p kind.LoadFlushed d sound m = left_calm c p m.part sound (calm_load_flushed c.shared.flushed (c.seats p) (c.seats p).flushing m.part m.after)
 left_of c p (kind.SwapLink v) d sound m = left_calm c p m.part sound (calm_swap_link _ v (c.shared.objects v.oid) (c.seats p) (c.seats p).task m.part m.after)
 left_of c p (kind.LoadDetached v) d sound m = left_calm c p m.part sound (calm_load_detached _ v (c.seats p) (c.seats p).task m.part m.after)
+left_of c p (kind.StoreBack value) d sound m = left_calm c p m.part sound (calm_store_back value (c.seats p) (c.seats p).place m.part m.after)
+left_of c p (kind.LoadBack other) d sound m = left_calm c p m.part sound (calm_load_back other (c.seats other).back (c.seats p) (c.seats p).task m.part m.after)
+left_of c p (kind.Unset place) d sound m = left_calm c p m.part sound (calm_unset place (c.seats p) m.part m.after)
 
 -- a split, a join: nothing that is shared changes
 same_grown : (s : Shared) (x : Part) → Grown s s x

@@ -18,6 +18,7 @@ use Rattle.erm_machine.specs.Life.{load_tail, load_tail_to_begin, add_tail, stor
 use Rattle.erm_machine.specs.Sound.{Sound}
 use Rattle.erm_machine.specs.Tasks.{TaskFits}
 use Rattle.erm_machine.specs.Words.{is_flusher}
+use Rattle.erm_machine.proofs.Backs.{active_begin_then}
 use Rattle.erm_machine.proofs.Guards.{when_then, either_way}
 use Rattle.erm_core_si.proofs.SnapshotLists.{∈-last, ∈-front}
 use Rattle.erm_core_si.proofs.SnapshotSteps.{Covers, Claiming}
@@ -149,8 +150,10 @@ module _ (c : Core) (p : ℕ) (sound : Sound c) where
   pub store_begin_left : (value : ℕ) (pl : Place) (y : Part) → (c.seats p).place ≡ pl → store_begin p value (c.seats p) pl ≡ Some y → Left c p y
   store_begin_left value (Begun tail) y at e = when_then (Left c p) _ _ y e (λ _. left_calm c p _ sound (calm_stay (c.seats p) (c.seats p).task _ refl refl refl))
   store_begin_left value (Active tail) y at e =
-      when_then (Left c p) _ _ y e (λ _.
+      active_begin_then (Left c p) p value tail (c.seats p) y e
+      (λ _ _.
       either_way (Left c p) (is_flusher p) _ _ (λ _. unpinned_left _ refl refl (free_from task.Rest tt tt)) (λ _. over_left _ Abort refl refl (free_from task.Rest tt tt)))
+      (λ _ _ _ _. left_calm c p _ sound (calm_to (c.seats p) (c.seats p).task _ refl refl (free_from (task.Surveys 1) tt tt)))
   store_begin_left value (Decided tail stamp) y at e = when_then (Left c p) _ _ y e (λ _. left_calm c p _ sound (calm_to (c.seats p) (c.seats p).task _ refl refl (free_from task.Rest tt tt)))
   store_begin_left value _ y at e = absurd (cc)
 

@@ -16,15 +16,17 @@ use Rattle.erm_machine.specs.Chains.{NamedInHand}
 use Rattle.erm_machine.specs.Core.{Core, newest, version_at}
 use Rattle.erm_machine.specs.Facts.{HoldsBelow}
 use Rattle.erm_machine.specs.Reading.{head_version, older, entered, lost, load_entry, new_claim, claim, load_walked_stamp, load_walked_link, load_cell}
-use Rattle.erm_machine.specs.Seat.{is_active, same_version}
+use Rattle.erm_machine.specs.Seat.{is_active, is_safe, same_version}
 use Rattle.erm_machine.specs.Snapshot.{InHand, NewerFrom, NoneInHand}
 use Rattle.erm_machine.specs.Sound.{Sound}
 use Rattle.erm_machine.specs.Words.{cell_word, head_of, owner_of}
+use Rattle.erm_machine.proofs.Backs.{entry_then}
 use Rattle.erm_machine.proofs.Guards.{when_then, if_then, either_way}
 use Rattle.erm_core_si.proofs.SnapshotSteps.{Hand, Stays}
 use Rattle.erm_core_si.proofs.SnapshotClaims.{claimed_in, stays_now, claiming_now}
 use Rattle.erm_core_si.proofs.SnapshotSame.{free_if, free_from, covers_none, active_unsealed, recalls_stay, Unsettled, unsettled, free_hand}
 use Rattle.erm_core_si.proofs.SnapshotCalm.{calm_task, calm_stay, after_cut_free}
+use Rattle.erm_core_si.proofs.SnapshotSafe.{nobody_holds}
 use Rattle.erm_core_si.proofs.SnapshotLeft.{Left, left_calm, left_task, same_place, hand_entered, unowned, unsettled_entered, unsettled_lost}
 
 first : (a b : Bool) → (a && b) ≡ true → a ≡ true
@@ -50,6 +52,14 @@ module _ (c : Core) (p : ℕ) (sound : Sound c) where
     none = λ q ne h. none_in_hand (task.Cleared cleared) at q ne (subst (λ n. HoldsBelow (c.seats q) n (c.seats p).current.begin) same h);
   }
 
+  -- a safe snapshot has the head in hand, whoever owns the entry
+  hand_safe : (oid : ℕ) → is_safe (c.seats p).task ≡ true → Hand c p (c.seats p).current.begin (task.SafeWalks (head_version oid (c.shared.objects oid).entry (c.shared.objects oid)))
+  hand_safe oid safe = record {
+    in_hand = λ k above within. absurd (omega (arith, above, within));
+    within = tt;
+    none = λ q ne h. nobody_holds c p sound safe q ne oid h;
+  }
+
   pub load_entry_left : (oid : ℕ) (t : Task) (y : Part) → (c.seats p).task ≡ t →
       load_entry p oid (c.shared.objects oid).entry (c.shared.objects oid) (c.seats p) t ≡ Some y → Left c p y
   load_entry_left oid (task.Cleared cleared) y at e =
@@ -59,8 +69,9 @@ module _ (c : Core) (p : ℕ) (sound : Sound c) where
       (λ same. left_task c p _ sound (hand_again oid cleared at (eqb-true oid cleared same)) tt)
       (λ _. left_task c p _ sound (hand_entered c p (c.seats p).current.begin oid sound) (unsettled_entered p oid (c.shared.objects oid).entry (c.shared.objects oid))))
   load_entry_left oid t y at e =
-      when_then (Left c p) _ _ y e (λ _.
-      left_task c p _ sound (hand_entered c p (c.seats p).current.begin oid sound) (unsettled_entered p oid (c.shared.objects oid).entry (c.shared.objects oid)))
+      entry_then (Left c p) p oid (c.shared.objects oid).entry (c.shared.objects oid) (c.seats p) t y e
+      (λ safe _. left_task c p _ sound (hand_safe oid (subst (λ (u : Task). is_safe u ≡ true) (sym at) safe)) tt)
+      (λ _. left_task c p _ sound (hand_entered c p (c.seats p).current.begin oid sound) (unsettled_entered p oid (c.shared.objects oid).entry (c.shared.objects oid)))
 
   -- the stamp of the version in hand
   same_stamp : (v w : VersionAt) → same_version v w ≡ true → cell_word word.Stamp (version_at (c.shared.objects v.oid) v.place).words ≡ (version_at (c.shared.objects w.oid) w.place).words.stamp
@@ -87,6 +98,28 @@ module _ (c : Core) (p : ℕ) (sound : Sound c) where
     none = none_in_hand (task.Walks version head) at;
   }
 
+  -- the same of a safe snapshot
+  hand_safe_found : (version : VersionAt) → (c.seats p).task ≡ task.SafeWalks version → (version_at (c.shared.objects version.oid) version.place).words.stamp < (c.seats p).current.begin →
+      Hand c p (c.seats p).current.begin (task.SafeFound version)
+  hand_safe_found version at low = record {
+    in_hand = record {
+      within = (named (task.SafeWalks version) at).within;
+      stamp_is = refl;
+      below = low;
+      newer = in_hand (task.SafeWalks version) at;
+    };
+    within = tt;
+    none = none_in_hand (task.SafeWalks version) at;
+  }
+
+  hand_safe_passed : (version : VersionAt) → (c.seats p).task ≡ task.SafeWalks version → (c.seats p).current.begin ≤ (version_at (c.shared.objects version.oid) version.place).words.stamp →
+      Hand c p (c.seats p).current.begin (task.SafePassed version)
+  hand_safe_passed version at high = record {
+    in_hand = (in_hand (task.SafeWalks version) at, high);
+    within = (named (task.SafeWalks version) at).within;
+    none = none_in_hand (task.SafeWalks version) at;
+  }
+
   walked_stamp_left : (v : VersionAt) (t : Task) (y : Part) → (c.seats p).task ≡ t →
       load_walked_stamp (cell_word word.Stamp (version_at (c.shared.objects v.oid) v.place).words) v (c.seats p) t ≡ Some y → Left c p y
   walked_stamp_left v (task.Walks version head) y at e =
@@ -97,6 +130,13 @@ module _ (c : Core) (p : ℕ) (sound : Sound c) where
       (λ high. left_task c p _ sound (hand_passed version head found at (sym (same_stamp v version g)) (ltb-false found (c.seats p).current.begin high)) tt))
   walked_stamp_left v (task.CutWalks version horizon) y at e =
       when_then (Left c p) _ _ y e (λ _. left_calm c p _ sound (calm_task (c.seats p) (c.seats p).task _ (search (free_if, free_from))))
+  walked_stamp_left v (task.SafeWalks version) y at e =
+      let found = cell_word word.Stamp (version_at (c.shared.objects v.oid) v.place).words in
+      when_then (Left c p) _ _ y e (λ g.
+      let same = same_stamp v version g in
+      either_way (λ (u : Task). Left c p (record (c.seats p) { task = u })) (ltb found (c.seats p).current.begin) (task.SafeFound version) (task.SafePassed version)
+      (λ low. let below = ltb-true found (c.seats p).current.begin low in left_task c p _ sound (hand_safe_found version at (omega (arith, below, same))) tt)
+      (λ high. let above = ltb-false found (c.seats p).current.begin high in left_task c p _ sound (hand_safe_passed version at (omega (arith, above, same))) tt))
   walked_stamp_left v (task.Passed version) y at e =
       when_then (Left c p) _ _ y e (λ _. left_task c p _ sound (record {
         in_hand = in_hand (task.Passed version) at;
@@ -119,9 +159,24 @@ module _ (c : Core) (p : ℕ) (sound : Sound c) where
         none = none_in_hand (task.Passed version) at;
       }
 
+  hand_safe_older : (version : VersionAt) (found : ℕ) → (c.seats p).task ≡ task.SafePassed version → 0 < version.place → Hand c p (c.seats p).current.begin (task.SafeWalks (older version found))
+  hand_safe_older version found at positive =
+      let h = in_hand (task.SafePassed version) at in
+      let here = h.1 in
+      record {
+        in_hand = λ k above within. ⊎_elim
+            (λ (same : k ≡ version.place). subst (λ n. (c.seats p).current.begin ≤ (version_at (c.shared.objects version.oid) n).words.stamp) (sym same) here)
+            (λ (other : k ≡ version.place → ⊥). h.0 k (omega (arith, above, positive, other)) within)
+            (cases_eq k version.place);
+        within = tt;
+        none = none_in_hand (task.SafePassed version) at;
+      }
+
   walked_link_left : (found : ℕ) (v : VersionAt) (t : Task) (y : Part) → (c.seats p).task ≡ t → load_walked_link found v (c.seats p) t ≡ Some y → Left c p y
   walked_link_left found v (task.Passed version) y at e =
       when_then (Left c p) _ _ y e (λ g. left_task c p _ sound (hand_older version found at (ltb-true 0 version.place (and_parts _ _ g).1)) tt)
+  walked_link_left found v (task.SafePassed version) y at e =
+      when_then (Left c p) _ _ y e (λ g. left_task c p _ sound (hand_safe_older version found at (ltb-true 0 version.place (and_parts _ _ g).1)) tt)
   walked_link_left found v (task.CutPassed version horizon) y at e =
       when_then (Left c p) _ _ y e (λ _. left_calm c p _ sound (calm_task (c.seats p) (c.seats p).task _ (search (free_if, free_from, after_cut_free))))
   walked_link_left found v _ y at e = absurd (cc)

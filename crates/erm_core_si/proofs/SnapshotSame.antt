@@ -30,6 +30,9 @@ Handless (task.Cleared oid) = ⊥
 Handless (task.Walks version head) = ⊥
 Handless (task.Passed version) = ⊥
 Handless (task.Found version stamp head) = ⊥
+Handless (task.SafeWalks version) = ⊥
+Handless (task.SafePassed version) = ⊥
+Handless (task.SafeFound version) = ⊥
 Handless _ = Unit {0}
 
 -- tasks in which settle has passed nothing
@@ -185,10 +188,14 @@ hand_in : (s : Shared) (begin : ℕ) (u : Task) → Handless u → InHand s begi
 hand_in s begin (task.Walks version head) f = absurd f
 hand_in s begin (task.Passed version) f = absurd f
 hand_in s begin (task.Found version stamp head) f = absurd f
+hand_in s begin (task.SafeWalks version) f = absurd f
+hand_in s begin (task.SafePassed version) f = absurd f
+hand_in s begin (task.SafeFound version) f = absurd f
 hand_in s begin _ f = tt
 
 hand_within : (s : Shared) (u : Task) → Handless u → HandWithin s u
 hand_within s (task.Passed version) f = absurd f
+hand_within s (task.SafePassed version) f = absurd f
 hand_within s _ f = tt
 
 hand_none : (begin : ℕ) (u : Task) (q : ℕ) (z : Part) → Handless u → NoneInHand begin u q z
@@ -197,6 +204,9 @@ hand_none begin (task.Cleared oid) q z f = absurd f
 hand_none begin (task.Walks version head) q z f = absurd f
 hand_none begin (task.Passed version) q z f = absurd f
 hand_none begin (task.Found version stamp head) q z f = absurd f
+hand_none begin (task.SafeWalks version) q z f = absurd f
+hand_none begin (task.SafePassed version) q z f = absurd f
+hand_none begin (task.SafeFound version) q z f = absurd f
 hand_none begin _ q z f = tt
 
 pub free_hand : (c : Core) (p begin : ℕ) (u : Task) → Free u → Hand c p begin u

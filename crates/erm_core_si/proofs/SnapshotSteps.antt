@@ -1,5 +1,5 @@
 -- A step and what was read: what a step leaves of objects, of its seat's claims, and of what its seat reads.
-use Rattle.std.proofs.Common.{◌≡◌, ◌≢◌, ℕ, ◌<◌, ◌≤◌, ⊎_elim, true, length, ap, ◌∙◌, subst, arith}
+use Rattle.std.proofs.Common.{◌≡◌, ◌≢◌, ℕ, ◌<◌, ◌≤◌, ⊎_elim, true, length, refl, ap, ◌∙◌, subst, arith}
 use Rattle.std.proofs.lemmas.Bool.{cases_lt}
 use Rattle.erm_model.specs.Member.{◌∈◌}
 use Rattle.erm_machine.specs.declared.attempt.Attempt.{Attempt}
@@ -80,10 +80,12 @@ module _ (s t : Shared) (x : Part) (g : Grown s t x) where
 -- the version that was passed is one of its object's
 abbrev pub HandWithin : Shared → Task → Type 0
 HandWithin s (task.Passed version) = version.place < length (s.objects version.oid).versions
+HandWithin s (task.SafePassed version) = version.place < length (s.objects version.oid).versions
 HandWithin s _ = Unit {0}
 
 pub named_within : (s : Shared) (u : Task) → NamedInHand s u → HandWithin s u
 named_within s (task.Passed version) n = n.within
+named_within s (task.SafePassed version) n = n.within
 named_within s _ n = tt
 
 hand_stays : (s t : Shared) (p : ℕ) (x : Part) (begin : ℕ) (u : Task) → Grown s t x → HandWithin s u → NoneInHand begin u p x → InHand s begin u → InHand t begin u
@@ -93,6 +95,16 @@ hand_stays s t p x begin (task.Passed version) g w none h =
     let a = h.1 in
     (newer_stays s t x g version.oid version.place begin none h.0, omega (arith, e, a))
 hand_stays s t p x begin (task.Found version stamp head) g w none h = newest_stays s t x g version.oid version.place begin stamp none h
+hand_stays s t p x begin (task.SafeWalks version) g w none h = newer_stays s t x g version.oid version.place begin none h
+hand_stays s t p x begin (task.SafePassed version) g w none h =
+    let e = (g.extends version.oid).stamp version.place w in
+    let a = h.1 in
+    (newer_stays s t x g version.oid version.place begin none h.0, omega (arith, e, a))
+hand_stays s t p x begin (task.SafeFound version) g w none h =
+    let stays = newest_stays s t x g version.oid version.place begin (version_at (s.objects version.oid) version.place).words.stamp none h in
+    let e = stays.stamp_is in
+    let low = stays.below in
+    record { within = stays.within; stamp_is = refl; below = omega (arith, e, low); newer = stays.newer }
 hand_stays s t p x begin _ g w none h = tt
 
 -- a seat that holds no claim below a bound holds none in hand
@@ -102,6 +114,9 @@ none_holds begin (task.Cleared oid) q y none = none oid
 none_holds begin (task.Walks version head) q y none = none version.oid
 none_holds begin (task.Passed version) q y none = none version.oid
 none_holds begin (task.Found version stamp head) q y none = none version.oid
+none_holds begin (task.SafeWalks version) q y none = none version.oid
+none_holds begin (task.SafePassed version) q y none = none version.oid
+none_holds begin (task.SafeFound version) q y none = none version.oid
 none_holds begin _ q y none = tt
 
 -- a held claim that stood before, on the same version
@@ -144,6 +159,9 @@ module _ (now : ℕ) (x y : Part) (covers : Covers now x y) where
   none_covered begin (task.Walks version head) q past none = λ h. none (held_covered version.oid begin past h)
   none_covered begin (task.Passed version) q past none = λ h. none (held_covered version.oid begin past h)
   none_covered begin (task.Found version stamp head) q past none = λ h. none (held_covered version.oid begin past h)
+  none_covered begin (task.SafeWalks version) q past none = λ h. none (held_covered version.oid begin past h)
+  none_covered begin (task.SafePassed version) q past none = λ h. none (held_covered version.oid begin past h)
+  none_covered begin (task.SafeFound version) q past none = λ h. none (held_covered version.oid begin past h)
   none_covered begin _ q past none = tt
 
   left_covered : (z : Part) (u : Task) (q : ℕ) → z.current.stamp ≤ now → NoneLeft z u q x → NoneLeft z u q y

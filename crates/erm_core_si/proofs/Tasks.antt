@@ -25,14 +25,15 @@ use Rattle.erm_machine.specs.declared.version.CellWord.TheVariants as word
 use Rattle.erm_machine.specs.declared.version.VersionAt.{VersionAt}
 use Rattle.erm_machine.specs.Core.{Core, Object, Shared, spot_of, word_at}
 use Rattle.erm_machine.specs.Flushing.{load_flushed, gathered_word, load_ring, clear_ring, store_flushed}
-use Rattle.erm_machine.specs.Life.{load_tail_to_begin, load_tail_for_horizon, load_tail, add_tail, store_begin, store_state, load_begin, after_clear, load_state, split, join, decide}
-use Rattle.erm_machine.specs.Reading.{entered, after_cut, detached, load_entry, claim, set_reader, load_walked_stamp, load_walked_link, load_cell, swap_link, load_detached, load_counter, add_counter, load_active_stamp, start_row, store_row_word}
-use Rattle.erm_machine.specs.Seat.{end_of, may_start, is_active, is_sealed, is_decided, is_vacant, is_commit}
+use Rattle.erm_machine.specs.Life.{load_tail_to_begin, load_tail_for_horizon, load_tail, add_tail, store_begin, store_state, after_passed, load_begin, load_back, store_back, after_clear, load_state, split, join, decide}
+use Rattle.erm_machine.specs.Reading.{entered, after_cut, detached, load_entry, claim, set_reader, load_walked_stamp, load_walked_link, load_cell, swap_link, load_detached, load_counter, add_counter, load_active_stamp, start_row, store_row_word, unset}
+use Rattle.erm_machine.specs.Seat.{end_of, may_start, is_active, is_sealed, is_decided, is_snapshot, is_vacant, is_commit}
 use Rattle.erm_machine.specs.Settling.{load_flushed_to_settle, load_read_entry, load_readers, load_settled_stamp, load_stamp, store_ring, raise_reader, installs, store_head_word, store_active_word, store_cell, mark_overwritten, install_claim, adds_version, install_new, release_old, unclaim, install, clear_reader, filled}
 use Rattle.erm_machine.specs.Sound.{Sound}
 use Rattle.erm_machine.specs.Step.{part_after, after_event, with_part}
 use Rattle.erm_machine.specs.Tasks.{InActive, InSettle, InEnd, TaskFits, OwnTask}
 use Rattle.erm_machine.specs.Words.{put, is_clear, is_flusher}
+use Rattle.erm_machine.proofs.Backs.{active_begin_then, entry_then, rest_is}
 use Rattle.erm_machine.proofs.Frames.{each_seat}
 use Rattle.erm_machine.proofs.Guards.{when_then, some_then, if_then, either_way, unless_some}
 use Rattle.erm_machine.proofs.QuietKinds.{MeetsOne, moves}
@@ -101,7 +102,8 @@ detached_works found v x = search (works_if, works_from, after_cut_works)
 t_load_entry : (seat oid found : ℕ) (o : Object) (x : Part) (t : Task) (y : Part) → load_entry seat oid found o x t ≡ Some y → OwnTask y
 t_load_entry seat oid found o x (task.Cleared cleared) y e =
     when_then OwnTask _ _ y e (λ g. working _ g (search (works_if, works_from, entered_works)))
-t_load_entry seat oid found o x t y e = when_then OwnTask _ _ y e (λ g. working _ (first _ _ g) (entered_works seat oid found o))
+t_load_entry seat oid found o x t y e =
+    entry_then OwnTask seat oid found o x t y e (λ _ at. working _ at (works_from _ tt)) (λ g. working _ (first _ _ g) (entered_works seat oid found o))
 
 t_claim : (seat oid seen number found : ℕ) (o : Object) (x : Part) (t : Task) (y : Part) → claim seat oid seen number found o x t ≡ Some y → OwnTask y
 t_claim seat oid seen number found o x (task.Found version stamp (Some entry)) y e =
@@ -117,11 +119,13 @@ t_set_reader seat v o x _ y e = absurd (cc)
 t_walked_stamp : (found : ℕ) (v : VersionAt) (x : Part) (t : Task) (y : Part) → is_active x.place ≡ true → load_walked_stamp found v x t ≡ Some y → OwnTask y
 t_walked_stamp found v x (task.Walks version head) y at e = when_then OwnTask _ _ y e (λ _. working _ at (search (works_if, works_from)))
 t_walked_stamp found v x (task.CutWalks version horizon) y at e = when_then OwnTask _ _ y e (λ _. working _ at (search (works_if, works_from)))
+t_walked_stamp found v x (task.SafeWalks version) y at e = when_then OwnTask _ _ y e (λ _. working _ at (search (works_if, works_from)))
 t_walked_stamp found v x (task.Passed version) y at e = when_then OwnTask _ _ y e (λ _. working _ at (works_from _ tt))
 t_walked_stamp found v x _ y at e = absurd (cc)
 
 t_walked_link : (found : ℕ) (v : VersionAt) (x : Part) (t : Task) (y : Part) → is_active x.place ≡ true → load_walked_link found v x t ≡ Some y → OwnTask y
 t_walked_link found v x (task.Passed version) y at e = when_then OwnTask _ _ y e (λ _. working _ at (works_from _ tt))
+t_walked_link found v x (task.SafePassed version) y at e = when_then OwnTask _ _ y e (λ _. working _ at (works_from _ tt))
 t_walked_link found v x (task.CutPassed version horizon) y at e =
     when_then OwnTask _ _ y e (λ _. working _ at (search (works_if, works_from, after_cut_works)))
 t_walked_link found v x _ y at e = absurd (cc)
@@ -253,7 +257,7 @@ end_active (task.Ends raised ended step cleared) e h f =
     (sym (ap (λ (q : ℕ × ℕ × ℕ × ℕ). q.0) same) ∙ f.0, sym (ap (λ (q : ℕ × ℕ × ℕ × ℕ). q.2) same) ∙ f.1)
 end_active (task.Copies w) e h f = zero_if true e h
 end_active (task.Writes claim w) e h f = zero_if true e h
-end_active t e h f = zero_if (may_start t) e h
+end_active t e h f = zero_if (may_start t || is_snapshot t) e h
 
 -- how far that of a decided one has come
 end_decided : (t : Attempt) (u : Task) (e : ℕ × ℕ × ℕ × ℕ) (cleared : ℕ) → end_of u ≡ Some e → InEnd t u → InEnd t (task.Ends e.0 e.1 e.2 cleared)
@@ -354,7 +358,9 @@ t_store_begin seat value x (Begun tail) y is own e =
     let rest : x.task ≡ task.Rest = subst (λ q. TaskFits q x.current x.task) is own.fits in
     when_then OwnTask _ _ y e (λ _. record { fits = rest })
 t_store_begin seat value x (Active tail) y is own e =
-    when_then OwnTask _ _ y e (λ _. either_way OwnTask (is_flusher seat) _ _ (λ _. record { fits = refl }) (λ _. record { fits = refl }))
+    active_begin_then OwnTask seat value tail x y e
+    (λ _ _. either_way OwnTask (is_flusher seat) _ _ (λ _. record { fits = refl }) (λ _. record { fits = refl }))
+    (λ _ _ _ _. record { fits = tt })
 t_store_begin seat value x (Decided tail stamp) y is own e = when_then OwnTask _ _ y e (λ _. record { fits = refl })
 t_store_begin seat value x _ y is own e = absurd (cc)
 
@@ -368,10 +374,30 @@ t_store_state seat value x (Leaving stamp) y is own e =
     when_then OwnTask _ _ y e (λ _. record { fits = rest })
 t_store_state seat value x _ y is own e = absurd (cc)
 
-t_load_begin : (other found : ℕ) (x : Part) (t : Task) (y : Part) → load_begin other found x t ≡ Some y → OwnTask y
-t_load_begin other found x (task.Horizon version least next) y e =
+after_passed_works : (next : ℕ) → Works (after_passed next)
+after_passed_works next = search (works_if, works_from)
+
+t_load_begin : (seat other found : ℕ) (x : Part) (t : Task) (y : Part) → load_begin seat other found x t ≡ Some y → OwnTask y
+t_load_begin seat other found x (task.Horizon version least next) y e =
     when_then OwnTask _ _ y e (λ g. working _ (first _ _ (first _ _ g)) (search (works_if, works_from)))
-t_load_begin other found x _ y e = absurd (cc)
+t_load_begin seat other found x (task.Surveys next) y e =
+    when_then OwnTask _ _ y e (λ g. working _ (first _ _ g) (search (works_if, works_from, after_passed_works)))
+t_load_begin seat other found x _ y e = absurd (cc)
+
+t_load_back : (other found : ℕ) (x : Part) (t : Task) (y : Part) → load_back other found x t ≡ Some y → OwnTask y
+t_load_back other found x (task.Behind next) y e =
+    when_then OwnTask _ _ y e (λ g. working _ (first _ _ g) (search (works_if, works_from, after_passed_works)))
+t_load_back other found x _ y e = absurd (cc)
+
+t_store_back : (value : ℕ) (x : Part) (pl : Place) (y : Part) → OwnTask x → store_back value x pl ≡ Some y → OwnTask y
+t_store_back value x (Decided tail stamp) y own e = when_then OwnTask _ _ y e (λ _. record { fits = own.fits })
+t_store_back value x _ y own e = absurd (cc)
+
+t_unset : (place : ℕ) (x y : Part) → unset place x ≡ Some y → OwnTask y
+t_unset place x y e =
+    when_then OwnTask _ _ y e (λ g.
+    let front = first _ _ (first _ _ g) in
+    working _ (first _ _ front) (subst Works (sym (rest_is x.task (second _ _ front))) (works_from task.Rest tt)))
 
 t_decide : (at header : ℕ) (x : Part) (pl : Place) (t : Task) (y : Part) → decide at header x pl t ≡ Some y → OwnTask y
 t_decide at header x (Sealed tail stamp) (task.Fills words) y e =
@@ -417,7 +443,7 @@ task_after p (kind.LoadTail reason) found s x y own e = t_load_tail p reason fou
 task_after p (kind.AddTail size) found s x y own e = t_add_tail p size found x x.place y refl own e
 task_after p (kind.StoreBegin value) found s x y own e = t_store_begin p value x x.place y refl own e
 task_after p (kind.StoreState value) found s x y own e = t_store_state p value x x.place y refl own e
-task_after p (kind.LoadBegin other) found s x y own e = t_load_begin other found x x.task y e
+task_after p (kind.LoadBegin other) found s x y own e = t_load_begin p other found x x.task y e
 task_after p (kind.LoadState other bound) found s x y own e = t_load_state p other bound found x y own e
 task_after p (kind.Split other) found s x y own e = absurd (cc)
 task_after p (kind.Join other) found s x y own e = absurd (cc)
@@ -445,6 +471,9 @@ task_after p (kind.StoreFlushed value) found s x y own e = t_store_flushed value
 task_after p kind.LoadFlushed found s x y own e = t_load_flushed found x x.flushing y own e
 task_after p (kind.SwapLink v) found s x y own e = t_swap_link found v (s.objects v.oid) x x.task y e
 task_after p (kind.LoadDetached v) found s x y own e = t_load_detached found v x x.task y e
+task_after p (kind.StoreBack value) found s x y own e = t_store_back value x x.place y own e
+task_after p (kind.LoadBack other) found s x y own e = t_load_back other found x x.task y e
+task_after p (kind.Unset place) found s x y own e = t_unset place x y e
 
 -- one seat's part after the event
 part_kept : (c : Core) (s : Shared) (p : ℕ) (y : Part) (d : Core) → Sound c → OwnTask y → record { shared = s; seats = put c.seats p y } ≡ d → (q : ℕ) → OwnTask (d.seats q)

@@ -15,7 +15,7 @@ use Rattle.erm_machine.specs.Core.{Core, Shared, claim_at}
 use Rattle.erm_machine.specs.Decided.{bare, history_of, reads_rated, writes_rated, RunningFits, MarkInHand, Reading, NoneReadsLeft, writes_passed, MayCommit}
 use Rattle.erm_machine.specs.Facts.{IsCurrent}
 use Rattle.erm_machine.specs.Readers.{cleared_of, cleared}
-use Rattle.erm_machine.specs.Seat.{is_active, is_decided, may_start}
+use Rattle.erm_machine.specs.Seat.{is_active, is_decided, is_safe, may_start}
 use Rattle.erm_machine.specs.Sound.{Sound}
 use Rattle.erm_machine.proofs.Guards.{either_way}
 use Rattle.erm_core_ssn.proofs.DecidedFrames.{shape}
@@ -30,6 +30,10 @@ NotEnds _ = Unit {0}
 pub starts_not_ends : (t : Task) → may_start t ≡ true → NotEnds t
 starts_not_ends (task.Ends raised ended step cleared) e = absurd (cc)
 starts_not_ends _ e = tt
+
+pub safe_not_ends : (t : Task) → is_safe t ≡ true → NotEnds t
+safe_not_ends (task.Ends raised ended step cleared) e = absurd (cc)
+safe_not_ends _ e = tt
 
 pub may_commit : (pl : Place) (t : Task) → NotEnds t → MayCommit pl t
 may_commit (Active tail) (task.Ends raised ended step cleared) h = h

@@ -10,6 +10,8 @@ use Rattle.erm_machine.specs.declared.event.Counter.TheVariants.{Objects, Cells}
 use Rattle.erm_machine.specs.declared.part.Flushing.{Flushing}
 use Rattle.erm_machine.specs.declared.part.Flushing.TheVariants as flushing
 use Rattle.erm_machine.specs.declared.part.Part.{Part}
+use Rattle.erm_machine.specs.declared.place.Place.{Place}
+use Rattle.erm_machine.specs.declared.place.Place.TheVariants.{Decided}
 use Rattle.erm_machine.specs.declared.task.Task.{Task}
 use Rattle.erm_machine.specs.declared.task.Task.TheVariants as task
 use Rattle.erm_machine.specs.declared.version.CellWord.{CellWord}
@@ -17,15 +19,16 @@ use Rattle.erm_machine.specs.declared.version.CellWord.TheVariants as word
 use Rattle.erm_machine.specs.declared.version.VersionAt.{VersionAt}
 use Rattle.erm_machine.specs.Core.{Core, Object, claim_at, no_claim}
 use Rattle.erm_machine.specs.Decided.{bare, written_of}
-use Rattle.erm_machine.specs.Life.{load_tail_to_gather, load_tail_for_horizon, load_begin}
+use Rattle.erm_machine.specs.Life.{load_tail_to_gather, load_tail_for_horizon, load_begin, load_back, store_back, after_passed}
 use Rattle.erm_machine.specs.Reading.{load_entry, entered, load_walked_stamp, load_walked_link, load_cell, after_cut, detached, swap_link, load_detached, load_counter}
-use Rattle.erm_machine.specs.Seat.{may_start, is_active, is_decided}
+use Rattle.erm_machine.specs.Seat.{is_active, is_decided}
 use Rattle.erm_machine.specs.Settling.{raise_reader, store_head_word, mark_overwritten, store_succ, store_overwriter}
 use Rattle.erm_machine.specs.Flushing.{gathered_word, load_ring, clear_ring, store_flushed}
 use Rattle.erm_machine.specs.Sound.{Sound}
+use Rattle.erm_machine.proofs.Backs.{entry_then}
 use Rattle.erm_machine.proofs.Guards.{when_then, if_then, either_way}
 use Rattle.erm_core_ssn.proofs.DecidedSteady.{Leaves}
-use Rattle.erm_core_ssn.proofs.DecidedBuild.{NotEnds, starts_not_ends, Plain, map_set, stays, to_plain, ends}
+use Rattle.erm_core_ssn.proofs.DecidedBuild.{NotEnds, starts_not_ends, safe_not_ends, Plain, map_set, stays, to_plain, ends}
 
 -- tasks with nothing in hand and nothing passed
 abbrev pub IsPlain : Task → Type 0
@@ -79,6 +82,9 @@ free_after_cut x = search (free_if, free_from)
 free_detached : (found : ℕ) (v : VersionAt) (x : Part) → IsFree (detached found v x)
 free_detached found v x = search (free_if, free_from, free_after_cut)
 
+free_after_passed : (next : ℕ) → IsFree (after_passed next)
+free_after_passed next = search (free_if, free_from)
+
 -- a claim is over, or a word of its cell is stored: the history's words of it stay
 pub same_writes : (t : Attempt) (k : ℕ) (w : Claim) → written_of w ≡ written_of (claim_at t k) → bare t ≡ bare (record t { writes = set t.writes k w })
 same_writes t k w e = ap (λ (ws : List VersionWritten). record (bare t) { writes = ws }) (sym (map_set written_of t.writes k w no_claim e))
@@ -101,30 +107,40 @@ module _ (c : Core) (p : ℕ) (sound : Sound c) where
   pub gather_leaves : (found : ℕ) (y : Part) → load_tail_to_gather p found (c.seats p) ≡ Some y → Leaves c p y
   gather_leaves found y e = when_then (Leaves c p) _ _ y e (λ _. stays c p sound _ refl refl refl refl)
 
-  pub begin_word_leaves : (other found : ℕ) (t : Task) (y : Part) → (c.seats p).task ≡ t → load_begin other found (c.seats p) t ≡ Some y → Leaves c p y
+  pub begin_word_leaves : (other found : ℕ) (t : Task) (y : Part) → (c.seats p).task ≡ t → load_begin p other found (c.seats p) t ≡ Some y → Leaves c p y
   begin_word_leaves other found (task.Horizon version least next) y at e =
       when_then (Leaves c p) _ _ y e (λ _. free_step _ refl refl refl (on_from _ at tt) (search (free_if, free_from)))
+  begin_word_leaves other found (task.Surveys next) y at e =
+      when_then (Leaves c p) _ _ y e (λ _. free_step _ refl refl refl (on_from _ at tt) (search (free_if, free_from, free_after_passed)))
   begin_word_leaves other found _ y at e = absurd (cc)
 
-  entry_other : (oid found : ℕ) (o : Object) (t : Task) (y : Part) → (c.seats p).task ≡ t →
-      (if is_active (c.seats p).place && may_start t then Some (record (c.seats p) { task = entered p oid found o }) else None) ≡ Some y → Leaves c p y
-  entry_other oid found o t y at e =
-      when_then (Leaves c p) (is_active (c.seats p).place && may_start t) (record (c.seats p) { task = entered p oid found o }) y e
-      (λ g. free_step _ refl refl refl (on_from t at (starts_not_ends t (and_parts _ _ g).1)) (free_entered p oid found o))
+  pub back_word_leaves : (other found : ℕ) (t : Task) (y : Part) → (c.seats p).task ≡ t → load_back other found (c.seats p) t ≡ Some y → Leaves c p y
+  back_word_leaves other found (task.Behind next) y at e =
+      when_then (Leaves c p) _ _ y e (λ _. free_step _ refl refl refl (on_from _ at tt) (search (free_if, free_from, free_after_passed)))
+  back_word_leaves other found _ y at e = absurd (cc)
+
+  pub store_back_leaves : (value : ℕ) (pl : Place) (y : Part) → store_back value (c.seats p) pl ≡ Some y → Leaves c p y
+  store_back_leaves value (Decided tail stamp) y e = when_then (Leaves c p) _ _ y e (λ _. stays c p sound _ refl refl refl refl)
+  store_back_leaves value _ y e = absurd (cc)
 
   pub load_entry_leaves : (oid found : ℕ) (o : Object) (t : Task) (y : Part) → (c.seats p).task ≡ t → load_entry p oid found o (c.seats p) t ≡ Some y → Leaves c p y
   load_entry_leaves oid found o (task.Cleared cleared) y at e =
       when_then (Leaves c p) _ _ y e (λ _. free_step _ refl refl refl (on_from _ at tt) (search (free_if, free_from, free_entered)))
-  load_entry_leaves oid found o t y at e = entry_other oid found o t y at e
+  load_entry_leaves oid found o t y at e =
+      entry_then (Leaves c p) p oid found o (c.seats p) t y e
+      (λ safe _. free_step _ refl refl refl (on_from t at (safe_not_ends t safe)) (free_from _ tt))
+      (λ g. free_step _ refl refl refl (on_from t at (starts_not_ends t (and_parts _ _ g).1)) (free_entered p oid found o))
 
   walked_stamp_leaves : (found : ℕ) (v : VersionAt) (t : Task) (y : Part) → (c.seats p).task ≡ t → load_walked_stamp found v (c.seats p) t ≡ Some y → Leaves c p y
   walked_stamp_leaves found v (task.Walks version head) y at e = when_then (Leaves c p) _ _ y e (λ _. free_step _ refl refl refl (on_from _ at tt) (search (free_if, free_from)))
   walked_stamp_leaves found v (task.CutWalks version horizon) y at e = when_then (Leaves c p) _ _ y e (λ _. free_step _ refl refl refl (on_from _ at tt) (search (free_if, free_from)))
+  walked_stamp_leaves found v (task.SafeWalks version) y at e = when_then (Leaves c p) _ _ y e (λ _. free_step _ refl refl refl (on_from _ at tt) (search (free_if, free_from)))
   walked_stamp_leaves found v (task.Passed version) y at e = when_then (Leaves c p) _ _ y e (λ _. free_step _ refl refl refl (on_from _ at tt) (free_from _ tt))
   walked_stamp_leaves found v _ y at e = absurd (cc)
 
   walked_link_leaves : (found : ℕ) (v : VersionAt) (t : Task) (y : Part) → (c.seats p).task ≡ t → load_walked_link found v (c.seats p) t ≡ Some y → Leaves c p y
   walked_link_leaves found v (task.Passed version) y at e = when_then (Leaves c p) _ _ y e (λ _. free_step _ refl refl refl (on_from _ at tt) (free_from _ tt))
+  walked_link_leaves found v (task.SafePassed version) y at e = when_then (Leaves c p) _ _ y e (λ _. free_step _ refl refl refl (on_from _ at tt) (free_from _ tt))
   walked_link_leaves found v (task.CutPassed version horizon) y at e =
       when_then (Leaves c p) _ _ y e (λ _. free_step _ refl refl refl (on_from _ at tt) (search (free_if, free_from, free_after_cut)))
   walked_link_leaves found v _ y at e = absurd (cc)

@@ -1,7 +1,7 @@
 -- Steps that change what a transaction writes, and its end.
 use Rattle.std.proofs.Common.{◌≡◌, ℕ, ◌+◌, ◌-◌, ◌<◌, ◌≤◌, ◌⊎◌, ⊎_elim, inl, inr, Bool, true, false, ◌||◌, not, is_none, eqb, List, [], ◌∷◌, ◌++◌, length, set, get_or, take, Option, Some, None, refl, sym, ap, ◌∙◌, subst, arith, length-set, get_or-set_same, get_or-set_other}
 use Rattle.std.specs.Prelude.{if◌then◌else◌}
-use Rattle.std.proofs.lemmas.Bool.{cases_eq}
+use Rattle.std.proofs.lemmas.Bool.{and_parts, cases_eq}
 use Rattle.std.proofs.lemmas.List.{get_or-take, length-take, get_or_append_left, length_push}
 use Rattle.std.proofs.lemmas.Option.{same_Some}
 use Rattle.erm_machine.specs.declared.attempt.Attempt.{Attempt}
@@ -18,11 +18,12 @@ use Rattle.erm_machine.specs.declared.version.VersionAt.{VersionAt}
 use Rattle.erm_machine.specs.Cells.{WantsCell}
 use Rattle.erm_machine.specs.Core.{Core, Object, claim_at, no_claim, version_at}
 use Rattle.erm_machine.specs.Decided.{bare, history_of, MarkInHand, NoneReadsLeft, MayCommit, writes_passed, writes_rated}
-use Rattle.erm_machine.specs.Reading.{new_claim, claim, with_own_word, start_row, store_row_word}
+use Rattle.erm_machine.specs.Reading.{new_claim, claim, with_own_word, start_row, store_row_word, unset}
 use Rattle.erm_machine.specs.Seat.{end_of, may_start, is_active, is_decided, last_claim}
 use Rattle.erm_machine.specs.Settling.{store_head_word, store_active_word, store_cell, install_claim, adds_version, install_new, release_old, unclaim, without_newest, install, clear_reader}
 use Rattle.erm_machine.specs.Sound.{Sound}
 use Rattle.erm_machine.specs.Tasks.{TaskFits}
+use Rattle.erm_machine.proofs.Backs.{rest_is}
 use Rattle.erm_machine.proofs.Guards.{when_then, if_then}
 use Rattle.erm_core_ssn.proofs.DecidedSteady.{Leaves}
 use Rattle.erm_core_ssn.proofs.DecidedActive.{has_cell, Claims, active_moves}
@@ -201,6 +202,15 @@ module _ (c : Core) (p : ℕ) (sound : Sound c) where
   store_cell_leaves place cell w value y e =
       if_then (Leaves c p) (is_active (c.seats p).place) (store_active_word place cell w value (c.seats p)) (store_head_word place cell w value (c.seats p) (c.seats p).task) y e
       (λ active h. active_word_leaves place cell w value y active h) (λ _ h. head_word_leaves c p sound place cell w value (c.seats p).task y refl h)
+
+  -- a row is undone
+  pub unset_leaves : (place : ℕ) (y : Part) → unset place (c.seats p) ≡ Some y → Leaves c p y
+  unset_leaves place y e =
+      when_then (Leaves c p) _ _ y e (λ g.
+      let tests = and_parts _ _ (first _ _ (first _ _ g)) in
+      let rest = rest_is (c.seats p).task tests.1 in
+      writes_leaves _ tests.0 (subst NotEnds (sym rest) tt) refl refl refl refl refl refl
+      (claims_set (c.seats p).current _ place _ refl (λ h. h) refl refl) (subst IsFree (sym rest) (free_from task.Rest tt)))
 
   -- a claim
   claimed_by : (b : Bool) (t : Attempt) (w : Claim) → Claims t (record t { writes = if b then t.writes ++ w ∷ [] else t.writes })

@@ -22,10 +22,10 @@ use Rattle.erm_machine.specs.Words.{put, begin_of}
 use Rattle.erm_machine.proofs.Versions.{tail_later}
 use Rattle.erm_machine.proofs.Guards.{when_then, if_then, unless_some}
 use Rattle.erm_machine.proofs.QuietKinds.{MeetsOne, Moves, moves}
-use Rattle.erm_core_ssn.proofs.DecidedCalm.{begin_word_leaves, load_entry_leaves, load_cell_leaves, swap_link_leaves, detached_leaves, load_counter_leaves, raise_leaves, store_succ_leaves, store_overwriter_leaves, clear_ring_leaves, store_flushed_leaves, load_ring_leaves}
+use Rattle.erm_core_ssn.proofs.DecidedCalm.{begin_word_leaves, back_word_leaves, store_back_leaves, load_entry_leaves, load_cell_leaves, swap_link_leaves, detached_leaves, load_counter_leaves, raise_leaves, store_succ_leaves, store_overwriter_leaves, clear_ring_leaves, store_flushed_leaves, load_ring_leaves}
 use Rattle.erm_core_ssn.proofs.DecidedCommits.{decide_kept}
 use Rattle.erm_core_ssn.proofs.DecidedDrawn.{add_tail_left}
-use Rattle.erm_core_ssn.proofs.DecidedEnds.{clear_leaves, install_leaves, store_cell_leaves, claim_leaves}
+use Rattle.erm_core_ssn.proofs.DecidedEnds.{clear_leaves, install_leaves, store_cell_leaves, unset_leaves, claim_leaves}
 use Rattle.erm_core_ssn.proofs.DecidedFrames.{Kept}
 use Rattle.erm_core_ssn.proofs.DecidedLeft.{kept_from}
 use Rattle.erm_core_ssn.proofs.DecidedLooks.{readers_leaves, look_leaves}
@@ -89,6 +89,9 @@ leaves_of c p (kind.StoreFlushed value) d plain sound m = store_flushed_leaves c
 leaves_of c p kind.LoadFlushed d plain sound m = load_flushed_leaves c p sound c.shared.flushed (c.seats p).flushing m.part m.after
 leaves_of c p (kind.SwapLink v) d plain sound m = swap_link_leaves c p sound _ v (c.shared.objects v.oid) (c.seats p).task m.part refl m.after
 leaves_of c p (kind.LoadDetached v) d plain sound m = detached_leaves c p sound _ v (c.seats p).task m.part refl m.after
+leaves_of c p (kind.StoreBack value) d plain sound m = store_back_leaves c p sound value (c.seats p).place m.part m.after
+leaves_of c p (kind.LoadBack other) d plain sound m = back_word_leaves c p sound other _ (c.seats p).task m.part refl m.after
+leaves_of c p (kind.Unset place) d plain sound m = unset_leaves c p sound place m.part m.after
 
 plain_kept : (c : Core) (p : ℕ) (k : Kind) (d : Core) → Plainly k → Sound c → Moves c p k d → Kept d
 plain_kept c p k d plain sound m =

@@ -1,5 +1,5 @@
 -- Steps that move a seat on in the life of a transaction.
-use Rattle.std.proofs.Common.{◌≡◌, ℕ, ◌<◌, ◌≤◌, ◌⊎◌, ⊎_elim, Bool, true, ◌&&◌, eqb, List, [], ◌∷◌, ◌++◌, length, Some, refl, sym, ap, ◌∙◌, subst, inl, inr, arith}
+use Rattle.std.proofs.Common.{◌≡◌, ℕ, ◌<◌, ◌≤◌, ◌⊎◌, ⊎_elim, true, eqb, List, [], ◌∷◌, ◌++◌, length, Some, refl, sym, ap, ◌∙◌, subst, inl, inr, arith}
 use Rattle.std.proofs.lemmas.Bool.{and_parts, eqb-true}
 use Rattle.erm_model.specs.History.{History}
 use Rattle.erm_model.specs.Member.{◌∈◌}
@@ -23,6 +23,7 @@ use Rattle.erm_machine.specs.Seat.{end_of, is_vacant}
 use Rattle.erm_machine.specs.Sound.{Sound}
 use Rattle.erm_machine.specs.Tasks.{TaskFits}
 use Rattle.erm_machine.specs.Words.{is_flusher}
+use Rattle.erm_machine.proofs.Backs.{active_begin_then, decided_begin_then}
 use Rattle.erm_machine.proofs.Guards.{when_then, either_way}
 use Rattle.erm_machine.proofs.Listed.{∈-first, ∈-head, ∈-second}
 use Rattle.erm_core_ssn.proofs.DecidedVersions.{current_stands}
@@ -30,8 +31,8 @@ use Rattle.erm_core_ssn.proofs.DecidedFrames.{Old, Comes, shape}
 use Rattle.erm_core_ssn.proofs.DecidedOpen.{none_over}
 use Rattle.erm_core_ssn.proofs.DecidedSteady.{Leaves, steady_leaves}
 use Rattle.erm_core_ssn.proofs.DecidedActive.{ActiveFits, active_to}
-use Rattle.erm_core_ssn.proofs.DecidedBuild.{NotEnds, starts_not_ends, Passing, none_passing, running_part, running_task, runs_now, stays}
-use Rattle.erm_core_ssn.proofs.DecidedCalm.{horizon_leaves, gather_leaves}
+use Rattle.erm_core_ssn.proofs.DecidedBuild.{NotEnds, starts_not_ends, Passing, none_passing, Plain, running_part, running_task, runs_now, stays}
+use Rattle.erm_core_ssn.proofs.DecidedCalm.{horizon_leaves, gather_leaves, plain_of}
 
 rest_on : (u : Task) → u ≡ task.Rest → NotEnds u
 rest_on u e = subst NotEnds (sym e) tt
@@ -51,12 +52,12 @@ abort_not : Abort ≡ Commit → ⊥
 abort_not e = cc
 
 -- an end that has come to its last bit
-ended : (t : Task) (a : Attempt) → (b : Bool) → (b && has_ended a (end_of t)) ≡ true → (tail stamp : ℕ) → TaskFits (Decided tail stamp) a t → cleared_of (Decided tail stamp) t (length a.reads) ≤ length a.reads
-ended (task.Ends raised over step cleared) a b e tail stamp f =
-    let h = and_parts (eqb over (length a.writes)) (eqb cleared (length a.reads)) (and_parts b _ e).1 in
+ended : (t : Task) (a : Attempt) → has_ended a (end_of t) ≡ true → (tail stamp : ℕ) → TaskFits (Decided tail stamp) a t → cleared_of (Decided tail stamp) t (length a.reads) ≤ length a.reads
+ended (task.Ends raised over step cleared) a e tail stamp f =
+    let h = and_parts (eqb over (length a.writes)) (eqb cleared (length a.reads)) e in
     let same = eqb-true cleared (length a.reads) h.1 in
     omega (arith, same)
-ended _ a b e tail stamp f = absurd f
+ended _ a e tail stamp f = absurd f
 
 module _ (c : Core) (p : ℕ) (sound : Sound c) where
   at_rest : (pl : Place) → (c.seats p).place ≡ pl → TaskFits pl (c.seats p).current (c.seats p).task
@@ -65,10 +66,10 @@ module _ (c : Core) (p : ℕ) (sound : Sound c) where
   at_current : (pl : Place) → (c.seats p).place ≡ pl → IsCurrent pl (c.seats p).current
   at_current pl at = subst (λ l. IsCurrent l (c.seats p).current) at (sound.own p).ranges.current
 
-  -- the place changes
-  moves_on : (y : Part) → y.over ≡ (c.seats p).over → y.current ≡ (c.seats p).current → y.task ≡ task.Rest → (0 < (c.seats p).current.stamp → cleared (c.seats p) ≤ cleared y) →
+  -- the place changes, and the task is one with nothing in hand
+  moves_to : (y : Part) (u : Task) → y.over ≡ (c.seats p).over → y.current ≡ (c.seats p).current → y.task ≡ u → Plain u → (0 < (c.seats p).current.stamp → cleared (c.seats p) ≤ cleared y) →
       ((c.seats p).current.decision ≡ Undecided → NotEnds (c.seats p).task) → Leaves c p y
-  moves_on y over current rest more on =
+  moves_to y u over current now plain more on =
       steady_leaves c p y sound (record {
         over = over;
         decision = ap (λ (t : Attempt). t.decision) current;
@@ -78,14 +79,20 @@ module _ (c : Core) (p : ℕ) (sound : Sound c) where
         reads = λ _. ap (λ (t : Attempt). t.reads) current;
         cleared_more = more;
       })
-      (subst (λ (u : Task). MarkInHand c.shared y.current u) (sym rest) tt)
-      (λ q _. subst (λ (u : Task). Passing (c.seats q) u y.current) (sym rest) (none_passing (c.seats q) task.Rest y.current (λ _. refl)))
-      (λ q _. subst (λ (u : Task). NoneReadsLeft y u q (c.seats q)) (sym rest) tt)
+      (subst (λ (v : Task). MarkInHand c.shared y.current v) (sym now) (plain.mark c.shared y.current))
+      (λ q _. subst (λ (v : Task). Passing (c.seats q) v y.current) (sym now) (none_passing (c.seats q) u y.current plain.passed))
+      (λ q _. subst (λ (v : Task). NoneReadsLeft y v q (c.seats q)) (sym now) (plain.left y q (c.seats q)))
       (λ un _. running_part (history_of c.seats) c.shared.tail p (c.seats p) y
-      (subst (λ (v : Task). RunningFits (history_of c.seats) c.shared.tail p (record (c.seats p) { task = v; current = y.current })) (sym rest)
-      (subst (λ (a : Attempt). RunningFits (history_of c.seats) c.shared.tail p (record (c.seats p) { task = task.Rest; current = a })) (sym current)
+      (subst (λ (v : Task). RunningFits (history_of c.seats) c.shared.tail p (record (c.seats p) { task = v; current = y.current })) (sym now)
+      (subst (λ (a : Attempt). RunningFits (history_of c.seats) c.shared.tail p (record (c.seats p) { task = u; current = a })) (sym current)
       (let before = sym (ap (λ (t : Attempt). t.decision) current) ∙ un in
-      running_task (history_of c.seats) c.shared.tail p (c.seats p) task.Rest (omega arith) (omega arith) (runs_now c p sound before (on before))))))
+      let reads = plain.reads (length (c.seats p).current.reads) in
+      let writes = plain.writes (length (c.seats p).current.writes) in
+      running_task (history_of c.seats) c.shared.tail p (c.seats p) u (omega (arith, reads)) (omega (arith, writes)) (runs_now c p sound before (on before))))))
+
+  moves_on : (y : Part) → y.over ≡ (c.seats p).over → y.current ≡ (c.seats p).current → y.task ≡ task.Rest → (0 < (c.seats p).current.stamp → cleared (c.seats p) ≤ cleared y) →
+      ((c.seats p).current.decision ≡ Undecided → NotEnds (c.seats p).task) → Leaves c p y
+  moves_on y over current rest more on = moves_to y task.Rest over current rest (plain_of task.Rest tt) more on
 
   none_yet : (c.seats p).current.stamp ≡ 0 → 0 < (c.seats p).current.stamp → ⊥
   none_yet e positive = omega (arith, e, positive)
@@ -227,15 +234,18 @@ module _ (c : Core) (p : ℕ) (sound : Sound c) where
   store_begin_leaves value (Begun tail) y at e =
       when_then (Leaves c p) _ _ y e (λ _. moves_on _ refl refl (at_rest (Begun tail) at) (λ positive. absurd (none_yet (blank_stamp (at_current (Begun tail) at)) positive)) (λ _. rest_on _ (at_rest (Begun tail) at)))
   store_begin_leaves value (Active tail) y at e =
-      when_then (Leaves c p) _ _ y e (λ _.
       let cur = at_current (Active tail) at in
+      active_begin_then (Leaves c p) p value tail (c.seats p) y e
+      (λ _ _.
       either_way (Leaves c p) (is_flusher p) _ _ (λ _. fresh_leaves _ cur.stamp cur.decision refl refl refl refl refl refl refl)
       (λ _. over_leaves _ Abort (inr (cur.stamp, cur.decision, refl)) refl refl refl))
+      (λ _ _ _ rest. moves_to _ (task.Surveys 1) refl refl refl (plain_of (task.Surveys 1) tt) (λ positive. absurd (none_yet cur.stamp positive)) (λ _. rest_on _ rest))
   store_begin_leaves value (Decided tail stamp) y at e =
-      when_then (Leaves c p) _ _ y e (λ g.
+      decided_begin_then (Leaves c p) p value tail stamp (c.seats p) y e
+      (λ _ g _.
       moves_on _ refl refl refl
       (λ _. subst (λ l. cleared_of l (c.seats p).task (length (c.seats p).current.reads) ≤ length (c.seats p).current.reads) (sym at)
-      (ended (c.seats p).task (c.seats p).current (eqb value 0) g tail stamp (at_rest (Decided tail stamp) at)))
+      (ended (c.seats p).task (c.seats p).current g tail stamp (at_rest (Decided tail stamp) at)))
       (λ un. absurd ((at_current (Decided tail stamp) at).decision un)))
   store_begin_leaves value _ y at e = absurd (cc)
 

@@ -16,10 +16,13 @@ use Rattle.erm_machine.specs.declared.version.VersionAt.{VersionAt}
 use Rattle.erm_machine.specs.Core.{Object, claim_at}
 use Rattle.erm_machine.specs.Facts.{IsCurrent}
 use Rattle.erm_machine.specs.Seat.{end_of, is_active, is_sealed, last_claim}
-use Rattle.erm_machine.specs.Life.{load_tail_to_gather, load_tail_for_horizon, load_begin, load_state, split, join}
-use Rattle.erm_machine.specs.Reading.{load_entry, set_reader, load_walked_stamp, load_walked_link, load_cell, swap_link, load_detached, load_counter, add_counter, load_active_stamp, start_row, store_row_word}
+use Rattle.erm_machine.specs.Life.{load_tail_to_gather, load_tail_for_horizon, load_begin, load_back, store_back, load_state, split, join}
+use Rattle.erm_machine.specs.Reading.{load_entry, set_reader, load_walked_stamp, load_walked_link, load_cell, swap_link, load_detached, load_counter, add_counter, load_active_stamp, start_row, store_row_word, unset}
 use Rattle.erm_machine.specs.Settling.{has_room, may_settle, load_flushed_to_settle, load_read_entry, load_readers, load_settled_stamp, load_stamp, filled, store_ring, raise_reader, store_head_word, store_active_word, store_cell, mark_overwritten, store_succ, store_overwriter, clear_reader}
 use Rattle.erm_machine.specs.Flushing.{load_flushed, gathered_word, load_ring, clear_ring, store_flushed}
+use Rattle.erm_machine.specs.declared.place.Place.{Place}
+use Rattle.erm_machine.specs.declared.place.Place.TheVariants.{Decided}
+use Rattle.erm_machine.proofs.Backs.{entry_then}
 use Rattle.erm_machine.proofs.Guards.{when_then, some_then, if_then, either_way}
 use Rattle.erm_core_ssn.proofs.MarksSame.{Same, same_current, same_claims, same_set, same_open, before_same, before_set, active_open, sealed_open}
 
@@ -39,9 +42,18 @@ s_horizon found x _ y e = absurd (cc)
 pub s_gather : (p found : ℕ) (x y : Part) → load_tail_to_gather p found x ≡ Some y → Same x y
 s_gather p found x y e = when_then (Same x) _ _ y e (λ _. still x _ refl refl)
 
-pub s_load_begin : (other found : ℕ) (x : Part) (t : Task) (y : Part) → load_begin other found x t ≡ Some y → Same x y
-s_load_begin other found x (task.Horizon version least next) y e = when_then (Same x) _ _ y e (λ _. still x _ refl refl)
-s_load_begin other found x _ y e = absurd (cc)
+pub s_load_begin : (seat other found : ℕ) (x : Part) (t : Task) (y : Part) → load_begin seat other found x t ≡ Some y → Same x y
+s_load_begin seat other found x (task.Horizon version least next) y e = when_then (Same x) _ _ y e (λ _. still x _ refl refl)
+s_load_begin seat other found x (task.Surveys next) y e = when_then (Same x) _ _ y e (λ _. still x _ refl refl)
+s_load_begin seat other found x _ y e = absurd (cc)
+
+pub s_load_back : (other found : ℕ) (x : Part) (t : Task) (y : Part) → load_back other found x t ≡ Some y → Same x y
+s_load_back other found x (task.Behind next) y e = when_then (Same x) _ _ y e (λ _. still x _ refl refl)
+s_load_back other found x _ y e = absurd (cc)
+
+pub s_store_back : (value : ℕ) (x : Part) (pl : Place) (y : Part) → store_back value x pl ≡ Some y → Same x y
+s_store_back value x (Decided tail stamp) y e = when_then (Same x) _ _ y e (λ _. still x _ refl refl)
+s_store_back value x _ y e = absurd (cc)
 
 pub s_load_state : (seat other bound found : ℕ) (x y : Part) → load_state seat other bound found x ≡ Some y → Same x y
 s_load_state seat other bound found x y e = when_then (Same x) _ _ y e (λ _. still x _ refl refl)
@@ -54,7 +66,7 @@ s_join x other y e = when_then (Same x) _ _ y e (λ _. still x _ refl refl)
 
 pub s_load_entry : (seat oid found : ℕ) (o : Object) (x : Part) (t : Task) (y : Part) → load_entry seat oid found o x t ≡ Some y → Same x y
 s_load_entry seat oid found o x (task.Cleared cleared) y e = when_then (Same x) _ _ y e (λ _. still x _ refl refl)
-s_load_entry seat oid found o x t y e = when_then (Same x) _ _ y e (λ _. still x _ refl refl)
+s_load_entry seat oid found o x t y e = entry_then (Same x) seat oid found o x t y e (λ _ _. still x _ refl refl) (λ _. still x _ refl refl)
 
 pub s_load_read_entry : (seat oid found : ℕ) (x : Part) (t : Task) (y : Part) → load_read_entry seat oid found x t ≡ Some y → Same x y
 s_load_read_entry seat oid found x (task.Settles reads writes) y e = when_then (Same x) _ _ y e (λ _. still x _ refl refl)
@@ -67,11 +79,13 @@ s_set_reader seat v o x _ y e = absurd (cc)
 s_walked_stamp : (found : ℕ) (v : VersionAt) (x : Part) (t : Task) (y : Part) → load_walked_stamp found v x t ≡ Some y → Same x y
 s_walked_stamp found v x (task.Walks version head) y e = when_then (Same x) _ _ y e (λ _. still x _ refl refl)
 s_walked_stamp found v x (task.CutWalks version horizon) y e = when_then (Same x) _ _ y e (λ _. still x _ refl refl)
+s_walked_stamp found v x (task.SafeWalks version) y e = when_then (Same x) _ _ y e (λ _. still x _ refl refl)
 s_walked_stamp found v x (task.Passed version) y e = when_then (Same x) _ _ y e (λ _. still x _ refl refl)
 s_walked_stamp found v x _ y e = absurd (cc)
 
 s_walked_link : (found : ℕ) (v : VersionAt) (x : Part) (t : Task) (y : Part) → load_walked_link found v x t ≡ Some y → Same x y
 s_walked_link found v x (task.Passed version) y e = when_then (Same x) _ _ y e (λ _. still x _ refl refl)
+s_walked_link found v x (task.SafePassed version) y e = when_then (Same x) _ _ y e (λ _. still x _ refl refl)
 s_walked_link found v x (task.CutPassed version horizon) y e = when_then (Same x) _ _ y e (λ _. still x _ refl refl)
 s_walked_link found v x _ y e = absurd (cc)
 
@@ -140,6 +154,9 @@ s_row_word : (place cell k value : ℕ) (x : Part) (t : Task) (y : Part) → sto
 s_row_word place cell k value x (task.Copies w) y e = when_then (Same x) _ _ y e (λ _. same_set x _ place _ refl refl refl refl refl refl refl (λ _ h. h))
 s_row_word place cell k value x (task.Writes claim w) y e = when_then (Same x) _ _ y e (λ _. same_set x _ place _ refl refl refl refl refl refl refl (λ _ h. h))
 s_row_word place cell k value x t y e = s_start_row place cell k value x t y e
+
+pub s_unset : (place : ℕ) (x y : Part) → unset place x ≡ Some y → Same x y
+s_unset place x y e = when_then (Same x) _ _ y e (λ _. same_set x _ place _ refl refl refl refl refl refl refl (λ _ h. h))
 
 s_active_word : (place cell : ℕ) (w : CellWord) (value : ℕ) (x : Part) (y : Part) → store_active_word place cell w value x ≡ Some y → Same x y
 s_active_word place cell (word.Row k) value x y e = s_row_word place cell k value x x.task y e

@@ -23,7 +23,7 @@ use Rattle.erm_machine.specs.Words.{put, set_word}
 use Rattle.erm_machine.proofs.Guards.{when_then, if_then, unless_some}
 use Rattle.erm_machine.proofs.Objects.{extends}
 use Rattle.erm_machine.proofs.QuietKinds.{Moves, MeetsOne, moves}
-use Rattle.erm_core_ssn.proofs.MarksCalm.{s_load_begin, s_load_state, s_split, s_join, s_load_entry, s_load_read_entry, s_set_reader, s_load_cell, s_swap_link, s_load_detached, s_load_counter, s_add_counter, s_raise_reader, s_store_succ, s_store_overwriter, s_store_cell, s_clear_reader, s_load_readers, s_load_stamp, s_store_ring, s_load_flushed, s_load_ring, s_clear_ring, s_store_flushed}
+use Rattle.erm_core_ssn.proofs.MarksCalm.{s_load_begin, s_load_back, s_store_back, s_unset, s_load_state, s_split, s_join, s_load_entry, s_load_read_entry, s_set_reader, s_load_cell, s_swap_link, s_load_detached, s_load_counter, s_add_counter, s_raise_reader, s_store_succ, s_store_overwriter, s_store_cell, s_clear_reader, s_load_readers, s_load_stamp, s_store_ring, s_load_flushed, s_load_ring, s_clear_ring, s_store_flushed}
 use Rattle.erm_machine.proofs.Versions.{AddsNone, ends_over}
 use Rattle.erm_core_ssn.proofs.MarksGrown.{grown_kind, grown_refl, made_none, made_refl, succ_put, succ_newest}
 use Rattle.erm_core_ssn.proofs.MarksInstalled.{left_kept, install_kept}
@@ -40,7 +40,7 @@ left_of c p (kind.StoreBegin value) d sound none m = store_begin_left c p sound 
 left_of c p (kind.StoreState value) d sound none m = store_state_left c p sound value (c.seats p).place m.part refl m.after
 left_of c p (kind.Decide at header) d sound none m = decide_left c p sound at header (c.seats p).place (c.seats p).task m.part refl refl m.after
 left_of c p (kind.Claim oid seen number) d sound none m = claim_left c p sound oid seen number (c.shared.objects oid).entry (c.seats p).task m.part refl m.after
-left_of c p (kind.LoadBegin other) d sound none m = left_calm c p sound m.part (s_load_begin other (word_at c (spot_of p (kind.LoadBegin other))) (c.seats p) (c.seats p).task m.part m.after)
+left_of c p (kind.LoadBegin other) d sound none m = left_calm c p sound m.part (s_load_begin p other (word_at c (spot_of p (kind.LoadBegin other))) (c.seats p) (c.seats p).task m.part m.after)
 left_of c p (kind.LoadState other bound) d sound none m =
     left_calm c p sound m.part (s_load_state p other bound (word_at c (spot_of p (kind.LoadState other bound))) (c.seats p) m.part m.after)
 left_of c p (kind.Split other) d sound none m = absurd (let e = m.after in cc)
@@ -75,6 +75,10 @@ left_of c p (kind.SwapLink v) d sound none m =
     left_calm c p sound m.part (s_swap_link (word_at c (spot_of p (kind.SwapLink v))) v (c.shared.objects v.oid) (c.seats p) (c.seats p).task m.part m.after)
 left_of c p (kind.LoadDetached v) d sound none m =
     left_calm c p sound m.part (s_load_detached (word_at c (spot_of p (kind.LoadDetached v))) v (c.seats p) (c.seats p).task m.part m.after)
+left_of c p (kind.StoreBack value) d sound none m = left_calm c p sound m.part (s_store_back value (c.seats p) (c.seats p).place m.part m.after)
+left_of c p (kind.LoadBack other) d sound none m =
+    left_calm c p sound m.part (s_load_back other (word_at c (spot_of p (kind.LoadBack other))) (c.seats p) (c.seats p).task m.part m.after)
+left_of c p (kind.Unset place) d sound none m = left_calm c p sound m.part (s_unset place (c.seats p) m.part m.after)
 
 -- the version whose successor stamp is stored is the newest: an install in progress overwrites it
 marked_newest : (c : Core) (p : ℕ) (v : VersionAt) (nth value wanted : ℕ) (u : Task) (y : Part) → Sound c → (c.seats p).task ≡ u

@@ -21,11 +21,12 @@ use Rattle.erm_machine.specs.Facts.{IsCurrent, over_of}
 use Rattle.erm_machine.specs.Life.{load_tail, load_tail_to_begin, add_tail, store_begin, store_state, has_ended, decide}
 use Rattle.erm_machine.specs.Marks.{OwnMarks, IsWritten}
 use Rattle.erm_machine.specs.Reading.{new_claim, claim}
-use Rattle.erm_machine.specs.Seat.{is_active, is_decided, is_commit, may_start, end_of, last_claim}
+use Rattle.erm_machine.specs.Seat.{is_active, is_decided, is_commit, is_snapshot, may_start, end_of, last_claim}
 use Rattle.erm_machine.specs.Settling.{adds_version, release_old, unclaim}
 use Rattle.erm_machine.specs.Snapshot.{InHand}
 use Rattle.erm_machine.specs.Sound.{Sound}
 use Rattle.erm_machine.specs.Words.{is_flusher}
+use Rattle.erm_machine.proofs.Backs.{active_begin_then}
 use Rattle.erm_machine.proofs.Guards.{when_then, either_way}
 use Rattle.erm_machine.proofs.Holders.{stands_at}
 use Rattle.erm_core_ssn.proofs.MarksLists.{∈-last, ∈-take}
@@ -50,7 +51,7 @@ ended_all : (tail : ℕ) (u : Task) (t : Attempt) → has_ended t (end_of u) ≡
 ended_all tail (task.Ends raised ended step cleared) t e = eqb-true ended (length t.writes) (and_parts _ _ e).0
 ended_all tail (task.Copies w) t e = eqb-true 0 (length t.writes) (and_parts _ _ e).0
 ended_all tail (task.Writes claim w) t e = eqb-true 0 (length t.writes) (and_parts _ _ e).0
-ended_all tail u t e = by_test (may_start u) e
+ended_all tail u t e = by_test (may_start u || is_snapshot u) e
   where
     by_test : (b : Bool) → has_ended t (if b then Some (0, 0, 0, 0) else None) ≡ true → 0 ≡ length t.writes
     by_test true h = eqb-true 0 (length t.writes) (and_parts _ _ h).0
@@ -99,11 +100,13 @@ module _ (c : Core) (p : ℕ) (sound : Sound c) where
   store_begin_left value (Begun tail) y at e = when_then (Left c.shared (c.seats p)) _ _ y e (λ _. left_calm _ (still (c.seats p) _ refl refl))
   store_begin_left value (Active tail) y at e =
       let none = (at_current (Active tail) at).decision in
-      when_then (Left c.shared (c.seats p)) _ _ y e (λ g.
+      active_begin_then (Left c.shared (c.seats p)) p value tail (c.seats p) y e
+      (λ _ ended.
       either_way (Left c.shared (c.seats p)) (is_flusher p) _ _
       (λ _. left_calm _ (same_open (c.seats p) _ refl (λ committed. absurd (cc)) (λ (committed : Undecided ≡ Commit). absurd (cc)) (λ w m. absurd (none_in_nil w m))))
       (λ _. left_over c.shared (c.seats p) _ Abort (sound.own p).marks refl refl (λ (committed : Abort ≡ Commit). absurd (cc)) (λ committed. absurd (cc))
-      (all_over (ap (λ l. over_of l (c.seats p).task (length (c.seats p).current.writes)) at ∙ ended_all tail (c.seats p).task (c.seats p).current (and_parts _ _ g).1))))
+      (all_over (ap (λ l. over_of l (c.seats p).task (length (c.seats p).current.writes)) at ∙ ended_all tail (c.seats p).task (c.seats p).current ended))))
+      (λ _ _ _ _. left_calm _ (still (c.seats p) _ refl refl))
   store_begin_left value (Decided tail stamp) y at e = when_then (Left c.shared (c.seats p)) _ _ y e (λ _. left_calm _ (still (c.seats p) _ refl refl))
   store_begin_left value _ y at e = absurd (cc)
 

@@ -1,5 +1,5 @@
 -- Calm steps: those after which a seat has read what it had read, and has cleared and raised as many.
-use Rattle.std.proofs.Common.{◌≡◌, ℕ, ◌+◌, Bool, true, false, ◌&&◌, Option, Some, None, refl, sym, ap, ◌∙◌}
+use Rattle.std.proofs.Common.{◌≡◌, ℕ, ◌+◌, Bool, true, false, ◌&&◌, ◌||◌, Option, Some, None, refl, sym, ap, ◌∙◌}
 use Rattle.std.specs.Prelude.{if◌then◌else◌}
 use Rattle.std.proofs.lemmas.Bool.{and_parts}
 use Rattle.std.proofs.lemmas.Option.{same_Some}
@@ -10,18 +10,21 @@ use Rattle.erm_machine.specs.declared.event.Kind.TheVariants as kind
 use Rattle.erm_machine.specs.declared.part.Flushing.{Flushing}
 use Rattle.erm_machine.specs.declared.part.Flushing.TheVariants as flushing
 use Rattle.erm_machine.specs.declared.part.Part.{Part}
+use Rattle.erm_machine.specs.declared.place.Place.{Place}
+use Rattle.erm_machine.specs.declared.place.Place.TheVariants.{Decided}
 use Rattle.erm_machine.specs.declared.task.Task.{Task}
 use Rattle.erm_machine.specs.declared.task.Task.TheVariants as task
 use Rattle.erm_machine.specs.declared.version.CellWord.{CellWord}
 use Rattle.erm_machine.specs.declared.version.CellWord.TheVariants as word
 use Rattle.erm_machine.specs.declared.version.VersionAt.{VersionAt}
 use Rattle.erm_machine.specs.Core.{Object, Shared}
-use Rattle.erm_machine.specs.Seat.{is_active, is_sealed, end_of, may_start}
-use Rattle.erm_machine.specs.Life.{after_clear}
-use Rattle.erm_machine.specs.Reading.{entered, after_cut, detached, load_entry, claim, load_walked_stamp, load_walked_link, load_cell, swap_link, load_detached, load_counter, add_counter, load_active_stamp, start_row, store_row_word}
+use Rattle.erm_machine.specs.Seat.{is_active, is_safe, is_sealed, is_snapshot, end_of, may_start}
+use Rattle.erm_machine.specs.Life.{after_clear, after_passed, load_back, store_back}
+use Rattle.erm_machine.specs.Reading.{entered, after_cut, detached, load_entry, claim, load_walked_stamp, load_walked_link, load_cell, swap_link, load_detached, load_counter, add_counter, load_active_stamp, start_row, store_row_word, unset}
 use Rattle.erm_machine.specs.Settling.{has_room, may_settle, load_flushed_to_settle, load_read_entry, load_readers, load_settled_stamp, load_stamp, filled, store_ring, store_head_word, store_active_word, store_cell, mark_overwritten, install_claim, adds_version, install_new, release_old, install}
 use Rattle.erm_machine.specs.Flushing.{load_flushed, gathered_word, load_ring, clear_ring, store_flushed}
 use Rattle.erm_machine.specs.Step.{part_after}
+use Rattle.erm_machine.proofs.Backs.{entry_then}
 use Rattle.erm_machine.proofs.Guards.{when_then, some_then, if_then, either_way, unless_some}
 
 -- how many reader bits a task says to be cleared, how many reader stamps to be raised
@@ -63,6 +66,14 @@ pub start_still : (t : Task) → may_start t ≡ true → Still t
 start_still (task.Ends raised ended step cleared) e = absurd (cc)
 start_still _ e = record { cleared = refl; raised = refl }
 
+-- a safe snapshot
+safe_still : (t : Task) → is_safe t ≡ true → Still t
+safe_still (task.Ends raised ended step cleared) e = absurd (cc)
+safe_still _ e = record { cleared = refl; raised = refl }
+
+pub after_passed_still : (next : ℕ) → Still (after_passed next)
+after_passed_still next = search (still_if, still_from)
+
 -- how far an end has come
 pub record EndsAt (t : Task) (e : ℕ × ℕ × ℕ × ℕ) : Type 0 where
   pub cleared : e.3 ≡ bits_cleared t
@@ -81,7 +92,7 @@ pub ends_at : (t : Task) (e : ℕ × ℕ × ℕ × ℕ) → end_of t ≡ Some e 
 ends_at (task.Ends raised ended step cleared) e at = ends_from _ e (raised, ended, step, cleared) refl refl at
 ends_at (task.Copies w) e at = ends_from _ e (0, 0, 0, 0) refl refl at
 ends_at (task.Writes claim w) e at = ends_from _ e (0, 0, 0, 0) refl refl at
-ends_at t e at = ends_started (may_start t) t e (record { cleared = refl; raised = refl }) at
+ends_at t e at = ends_started (may_start t || is_snapshot t) t e (record { cleared = refl; raised = refl }) at
 
 -- a calm step of a seat whose task was t
 pub record Calm (x : Part) (t : Task) (y : Part) : Type 0 where
@@ -113,7 +124,9 @@ calm_load_entry : (seat oid found : ℕ) (o : Object) (x : Part) (t : Task) (y :
 calm_load_entry seat oid found o x (task.Cleared cleared) y e =
     when_then (Calm x _) _ _ y e (λ _. calm_to x _ _ refl (still_from _ refl refl) (search (still_if, still_from, entered_still)))
 calm_load_entry seat oid found o x t y e =
-    when_then (Calm x _) _ _ y e (λ g. calm_to x _ _ refl (start_still t (and_parts _ _ g).1) (entered_still seat oid found o))
+    entry_then (Calm x t) seat oid found o x t y e
+    (λ safe _. calm_to x _ _ refl (safe_still t safe) (still_from _ refl refl))
+    (λ g. calm_to x _ _ refl (start_still t (and_parts _ _ g).1) (entered_still seat oid found o))
 
 calm_read_entry : (seat oid found : ℕ) (x : Part) (t : Task) (y : Part) → load_read_entry seat oid found x t ≡ Some y → Calm x t y
 calm_read_entry seat oid found x (task.Settles reads writes) y e =
@@ -130,12 +143,16 @@ calm_walked_stamp found v x (task.Walks version head) y e =
     when_then (Calm x _) _ _ y e (λ _. calm_to x _ _ refl (still_from _ refl refl) (search (still_if, still_from)))
 calm_walked_stamp found v x (task.CutWalks version horizon) y e =
     when_then (Calm x _) _ _ y e (λ _. calm_to x _ _ refl (still_from _ refl refl) (search (still_if, still_from)))
+calm_walked_stamp found v x (task.SafeWalks version) y e =
+    when_then (Calm x _) _ _ y e (λ _. calm_to x _ _ refl (still_from _ refl refl) (search (still_if, still_from)))
 calm_walked_stamp found v x (task.Passed version) y e =
     when_then (Calm x _) _ _ y e (λ _. calm_to x _ _ refl (still_from _ refl refl) (still_from _ refl refl))
 calm_walked_stamp found v x _ y e = absurd (cc)
 
 calm_walked_link : (found : ℕ) (v : VersionAt) (x : Part) (t : Task) (y : Part) → load_walked_link found v x t ≡ Some y → Calm x t y
 calm_walked_link found v x (task.Passed version) y e =
+    when_then (Calm x _) _ _ y e (λ _. calm_to x _ _ refl (still_from _ refl refl) (still_from _ refl refl))
+calm_walked_link found v x (task.SafePassed version) y e =
     when_then (Calm x _) _ _ y e (λ _. calm_to x _ _ refl (still_from _ refl refl) (still_from _ refl refl))
 calm_walked_link found v x (task.CutPassed version horizon) y e =
     when_then (Calm x _) _ _ y e (λ _. calm_to x _ _ refl (still_from _ refl refl) (search (still_if, still_from, after_cut_still)))
@@ -300,6 +317,18 @@ calm_store_flushed : (value : ℕ) (x : Part) (f : Flushing) (y : Part) → stor
 calm_store_flushed value x (flushing.Clears next to) y e = when_then (Calm x x.task) _ _ y e (λ _. calm_same x _ refl refl)
 calm_store_flushed value x _ y e = absurd (cc)
 
+calm_load_back : (other found : ℕ) (x : Part) (t : Task) (y : Part) → load_back other found x t ≡ Some y → Calm x t y
+calm_load_back other found x (task.Behind next) y e =
+    when_then (Calm x _) _ _ y e (λ _. calm_to x _ _ refl (still_from _ refl refl) (search (still_if, still_from, after_passed_still)))
+calm_load_back other found x _ y e = absurd (cc)
+
+calm_store_back : (value : ℕ) (x : Part) (pl : Place) (y : Part) → store_back value x pl ≡ Some y → Calm x x.task y
+calm_store_back value x (Decided tail stamp) y e = when_then (Calm x x.task) _ _ y e (λ _. calm_same x _ refl refl)
+calm_store_back value x _ y e = absurd (cc)
+
+calm_unset : (place : ℕ) (x y : Part) → unset place x ≡ Some y → Calm x x.task y
+calm_unset place x y e = when_then (Calm x x.task) _ _ y e (λ _. calm_same x _ refl refl)
+
 -- kinds of calm steps of a seat that stays at its place
 abbrev pub IsCalm : Kind → Type 0
 IsCalm (kind.LoadTail purpose) = ⊥
@@ -349,3 +378,6 @@ calm_kind p (kind.StoreFlushed value) found s x y q e = calm_store_flushed value
 calm_kind p kind.LoadFlushed found s x y q e = calm_load_flushed found x x.flushing y e
 calm_kind p (kind.SwapLink v) found s x y q e = calm_swap_link found v (s.objects v.oid) x x.task y e
 calm_kind p (kind.LoadDetached v) found s x y q e = calm_load_detached found v x x.task y e
+calm_kind p (kind.StoreBack value) found s x y q e = calm_store_back value x x.place y e
+calm_kind p (kind.LoadBack other) found s x y q e = calm_load_back other found x x.task y e
+calm_kind p (kind.Unset place) found s x y q e = calm_unset place x y e

@@ -18,10 +18,11 @@ use Rattle.erm_machine.specs.Readers.{OwnReaders, cleared, raised, cleared_of, r
 use Rattle.erm_machine.specs.Seat.{is_vacant, end_of, read_at}
 use Rattle.erm_machine.specs.Sound.{Sound}
 use Rattle.erm_machine.specs.Words.{refuses, is_clear, is_flusher}
+use Rattle.erm_machine.proofs.Backs.{active_begin_then, decided_begin_then}
 use Rattle.erm_machine.proofs.Guards.{when_then, either_way}
 use Rattle.erm_machine.proofs.Quiet.{steady_same}
 use Rattle.erm_core_ssn.proofs.ReadersSteps.{Left}
-use Rattle.erm_core_ssn.proofs.ReadersCalm.{bits_cleared, Still, still_from, still_if, even_if, even_clear, start_still, ends_at, calm_to, calm_even, calm_same}
+use Rattle.erm_core_ssn.proofs.ReadersCalm.{bits_cleared, Still, still_from, still_if, even_if, even_clear, start_still, after_passed_still, ends_at, calm_to, calm_even, calm_same}
 use Rattle.erm_core_ssn.proofs.ReadersOwn.{Raises, raises_undecided, raises_none, Holds, own_holds, own_empty, Over, Raising, over_push, recalls_from, recalls_over, not_commit, Stays, cleared_in, left_calm}
 
 -- a place before the decision
@@ -142,8 +143,9 @@ module _ (c : Core) (p : ℕ) (sound : Sound c) (t : Shared) (o : OwnReaders t p
   store_begin_left value (Begun tail) y at e =
       when_then (Left c t p) _ _ y e (λ _. moves_on _ (Begun tail) at tt tt tt refl refl refl (same_raises _ (Begun tail) at tt refl))
   store_begin_left value (Active tail) y at e =
-      when_then (Left c t p) _ _ y e (λ g.
-      let all = ended_all (c.seats p).current (c.seats p).task (end_of (c.seats p).task) refl (and_parts _ _ g).1 in
+      active_begin_then (Left c t p) p value tail (c.seats p) y e
+      (λ _ g.
+      let all = ended_all (c.seats p).current (c.seats p).task (end_of (c.seats p).task) refl g in
       let was = clears (Active tail) at tt in
       either_way (Left c t p) (is_flusher p) _ _
       (λ _. record {
@@ -151,9 +153,10 @@ module _ (c : Core) (p : ℕ) (sound : Sound c) (t : Shared) (o : OwnReaders t p
         recalls = recalls_from (c.seats p) _ refl (λ commit. absurd (undecided (Active tail) at tt commit));
       })
       (λ _. ends_over _ Abort refl refl (omega (arith, all, was)) (λ (no : Abort ≡ Commit). absurd (cc)) (λ commit. absurd (undecided (Active tail) at tt commit))))
+      (λ _ _ _ rest. moves_on _ (Active tail) at tt tt tt refl refl (sym (ap bits_cleared rest)) (same_raises _ (Active tail) at tt refl))
   store_begin_left value (Decided tail stamp) y at e =
-      when_then (Left c t p) _ _ y e (λ g.
-      leaves _ tail stamp at refl refl refl (ended_all (c.seats p).current (c.seats p).task (end_of (c.seats p).task) refl (and_parts _ _ g).1))
+      decided_begin_then (Left c t p) p value tail stamp (c.seats p) y e
+      (λ _ g _. leaves _ tail stamp at refl refl refl (ended_all (c.seats p).current (c.seats p).task (end_of (c.seats p).task) refl g))
   store_begin_left value _ y at e = absurd (cc)
 
   pub store_state_left : (value : ℕ) (pl : Place) (y : Part) → (c.seats p).place ≡ pl → store_state p value (c.seats p) pl ≡ Some y → Left c t p y
@@ -169,10 +172,14 @@ module _ (c : Core) (p : ℕ) (sound : Sound c) (t : Shared) (o : OwnReaders t p
       ends_over _ (c.seats p).current.decision refl refl (omega (arith, all)) (λ commit. (commit, omega (arith, up))) (λ commit. commit))
   store_state_left value _ y at e = absurd (cc)
 
-  pub load_begin_left : (other found : ℕ) (u : Task) (y : Part) → (c.seats p).task ≡ u → load_begin other found (c.seats p) u ≡ Some y → Left c t p y
+  pub load_begin_left : (other found : ℕ) (u : Task) (y : Part) → (c.seats p).task ≡ u → load_begin p other found (c.seats p) u ≡ Some y → Left c t p y
   load_begin_left other found (task.Horizon version least next) y at e =
       when_then (Left c t p) _ _ y e (λ _.
       left_calm c t p _ o (steady_same (c.seats p) _ refl refl refl) (calm_to (c.seats p) _ _ refl (subst Still (sym at) (still_from _ refl refl)) (search (still_if, still_from))))
+  load_begin_left other found (task.Surveys next) y at e =
+      when_then (Left c t p) _ _ y e (λ _.
+      left_calm c t p _ o (steady_same (c.seats p) _ refl refl refl)
+      (calm_to (c.seats p) _ _ refl (subst Still (sym at) (still_from _ refl refl)) (search (still_if, still_from, after_passed_still))))
   load_begin_left other found _ y at e = absurd (cc)
 
   pub look_left : (other bound found : ℕ) (y : Part) → load_state p other bound found (c.seats p) ≡ Some y → Left c t p y

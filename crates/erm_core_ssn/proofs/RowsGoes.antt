@@ -19,12 +19,13 @@ use Rattle.erm_machine.specs.declared.version.CellWord.TheVariants as word
 use Rattle.erm_machine.specs.declared.version.VersionAt.{VersionAt}
 use Rattle.erm_machine.specs.Core.{Object}
 use Rattle.erm_machine.specs.Flushing.{load_flushed, gathered_word, load_ring, clear_ring, store_flushed}
-use Rattle.erm_machine.specs.Life.{load_tail_to_gather, load_tail_for_horizon, load_begin, after_clear, load_state, join}
+use Rattle.erm_machine.specs.Life.{load_tail_to_gather, load_tail_for_horizon, load_begin, load_back, store_back, after_passed, after_clear, load_state, join}
 use Rattle.erm_machine.specs.Reading.{entered, lost, load_entry, set_reader, after_cut, load_walked_stamp, load_walked_link, load_cell, detached, load_detached, load_counter}
-use Rattle.erm_machine.specs.Seat.{is_active, is_decided, may_start}
+use Rattle.erm_machine.specs.Seat.{is_active, is_decided, is_safe, may_start}
 use Rattle.erm_machine.specs.Settling.{may_settle, load_flushed_to_settle, load_read_entry, load_readers, load_settled_stamp, filled, store_ring, raise_reader, mark_overwritten, store_succ, store_overwriter, clear_reader}
 use Rattle.erm_machine.specs.Tasks.{TaskFits}
 use Rattle.erm_machine.specs.Written.{copied, Copying}
+use Rattle.erm_machine.proofs.Backs.{entry_then}
 use Rattle.erm_machine.proofs.Guards.{when_then, some_then, if_then, either_way}
 use Rattle.erm_core_ssn.proofs.RowsSteps.{Goes}
 
@@ -90,6 +91,12 @@ start_full task.Fetched e = absurd (cc)
 start_full (task.Copies w) e = absurd (cc)
 start_full t e = record { full = tt }
 
+safe_full : (t : Task) → is_safe t ≡ true → IsFull t
+safe_full (task.Ends raised ended step cleared) e = absurd (cc)
+safe_full task.Fetched e = absurd (cc)
+safe_full (task.Copies w) e = absurd (cc)
+safe_full t e = record { full = tt }
+
 -- the transactions stay, and the place; the place too changes
 pub goes_moves : (x : Part) (t : Task) (y : Part) → y.over ≡ x.over → y.spare ≡ x.spare → y.current ≡ x.current → copied y.place y.task ≤ copied x.place t → (Copying y.task → Copying t) → Goes x t y
 goes_moves x t y over spare current less copying = record {
@@ -138,10 +145,24 @@ goes_horizon found x _ y e = absurd (cc)
 pub goes_gather : (p found : ℕ) (x : Part) (y : Part) → load_tail_to_gather p found x ≡ Some y → Goes x x.task y
 goes_gather p found x y e = when_then (Goes x x.task) _ _ y e (λ _. goes_stay x x.task _ refl refl refl refl refl)
 
-pub goes_load_begin : (other found : ℕ) (x : Part) (t : Task) (y : Part) → load_begin other found x t ≡ Some y → Goes x t y
-goes_load_begin other found x (task.Horizon version least next) y e =
+after_passed_full : (next : ℕ) → IsFull (after_passed next)
+after_passed_full next = search (full_if, full_from)
+
+pub goes_load_begin : (seat other found : ℕ) (x : Part) (t : Task) (y : Part) → load_begin seat other found x t ≡ Some y → Goes x t y
+goes_load_begin seat other found x (task.Horizon version least next) y e =
     when_then (Goes x _) _ _ y e (λ _. goes_full x _ _ tt (search (full_if, full_from)))
-goes_load_begin other found x _ y e = absurd (cc)
+goes_load_begin seat other found x (task.Surveys next) y e =
+    when_then (Goes x _) _ _ y e (λ _. goes_full x _ _ tt (search (full_if, full_from, after_passed_full)))
+goes_load_begin seat other found x _ y e = absurd (cc)
+
+pub goes_load_back : (other found : ℕ) (x : Part) (t : Task) (y : Part) → load_back other found x t ≡ Some y → Goes x t y
+goes_load_back other found x (task.Behind next) y e =
+    when_then (Goes x _) _ _ y e (λ _. goes_full x _ _ tt (search (full_if, full_from, after_passed_full)))
+goes_load_back other found x _ y e = absurd (cc)
+
+pub goes_store_back : (value : ℕ) (x : Part) (p : Place) (y : Part) → store_back value x p ≡ Some y → Goes x x.task y
+goes_store_back value x (Decided tail stamp) y e = when_then (Goes x x.task) _ _ y e (λ _. goes_stay x x.task _ refl refl refl refl refl)
+goes_store_back value x _ y e = absurd (cc)
 
 -- a look
 step_if : (p : Place) (b : Bool) (t u v : Task) → Step p t u → Step p t v → Step p t (if b then u else v)
@@ -171,7 +192,9 @@ pub goes_load_entry : (seat oid found : ℕ) (o : Object) (x : Part) (t : Task) 
 goes_load_entry seat oid found o x (task.Cleared cleared) y e =
     when_then (Goes x _) _ _ y e (λ _. goes_full x _ _ tt (search (full_if, full_from, entered_full)))
 goes_load_entry seat oid found o x t y e =
-    when_then (Goes x _) _ _ y e (λ g. goes_task x _ _ (step_full x.place _ _ (start_full _ (and_parts _ _ g).1) (entered_full seat oid found o)))
+    entry_then (Goes x t) seat oid found o x t y e
+    (λ safe _. goes_task x _ _ (step_full x.place _ _ (safe_full t safe) (full_from _ tt)))
+    (λ g. goes_task x _ _ (step_full x.place _ _ (start_full _ (and_parts _ _ g).1) (entered_full seat oid found o)))
 
 pub goes_set_reader : (seat : ℕ) (v : VersionAt) (o : Object) (x : Part) (t : Task) (y : Part) → set_reader seat v o x t ≡ Some y → Goes x t y
 goes_set_reader seat v o x (task.Found version stamp head) y e =
@@ -187,11 +210,13 @@ detached_full found v x = search (full_if, full_from, after_cut_full)
 goes_walked_stamp : (found : ℕ) (v : VersionAt) (x : Part) (t : Task) (y : Part) → load_walked_stamp found v x t ≡ Some y → Goes x t y
 goes_walked_stamp found v x (task.Walks version head) y e = when_then (Goes x _) _ _ y e (λ _. goes_full x _ _ tt (search (full_if, full_from)))
 goes_walked_stamp found v x (task.CutWalks version horizon) y e = when_then (Goes x _) _ _ y e (λ _. goes_full x _ _ tt (search (full_if, full_from)))
+goes_walked_stamp found v x (task.SafeWalks version) y e = when_then (Goes x _) _ _ y e (λ _. goes_full x _ _ tt (search (full_if, full_from)))
 goes_walked_stamp found v x (task.Passed version) y e = when_then (Goes x _) _ _ y e (λ _. goes_full x _ _ tt (full_from _ tt))
 goes_walked_stamp found v x _ y e = absurd (cc)
 
 goes_walked_link : (found : ℕ) (v : VersionAt) (x : Part) (t : Task) (y : Part) → load_walked_link found v x t ≡ Some y → Goes x t y
 goes_walked_link found v x (task.Passed version) y e = when_then (Goes x _) _ _ y e (λ _. goes_full x _ _ tt (full_from _ tt))
+goes_walked_link found v x (task.SafePassed version) y e = when_then (Goes x _) _ _ y e (λ _. goes_full x _ _ tt (full_from _ tt))
 goes_walked_link found v x (task.CutPassed version horizon) y e =
     when_then (Goes x _) _ _ y e (λ _. goes_full x _ _ tt (search (full_if, full_from, after_cut_full)))
 goes_walked_link found v x _ y e = absurd (cc)

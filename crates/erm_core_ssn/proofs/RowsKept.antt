@@ -24,8 +24,8 @@ use Rattle.erm_machine.proofs.Guards.{if_then, unless_some}
 use Rattle.erm_machine.proofs.Objects.{Extends, extends, extends_refl, at_push-new, length_installed}
 use Rattle.erm_machine.proofs.QuietKinds.{MeetsOne, Moves, moves}
 use Rattle.erm_core_ssn.proofs.RowsSteps.{Kept, goes_own, kept_from}
-use Rattle.erm_core_ssn.proofs.RowsGoes.{goes_load_begin, goes_load_state, goes_join, goes_load_entry, goes_set_reader, goes_load_cell, goes_load_detached, goes_load_counter, goes_load_read_entry, goes_load_readers, goes_store_ring, goes_raise_reader, goes_store_succ, goes_store_overwriter, goes_clear_reader, goes_load_flushed, goes_load_ring, goes_clear_ring, goes_store_flushed}
-use Rattle.erm_core_ssn.proofs.RowsStored.{Given, add_counter_own, load_stamp_own, store_cell_own}
+use Rattle.erm_core_ssn.proofs.RowsGoes.{goes_load_begin, goes_load_back, goes_store_back, goes_load_state, goes_join, goes_load_entry, goes_set_reader, goes_load_cell, goes_load_detached, goes_load_counter, goes_load_read_entry, goes_load_readers, goes_store_ring, goes_raise_reader, goes_store_succ, goes_store_overwriter, goes_clear_reader, goes_load_flushed, goes_load_ring, goes_clear_ring, goes_store_flushed}
+use Rattle.erm_core_ssn.proofs.RowsStored.{Given, add_counter_own, load_stamp_own, store_cell_own, unset_own}
 use Rattle.erm_core_ssn.proofs.RowsMoved.{load_tail_own, add_tail_own, store_begin_own, store_state_own, decide_own, split_own}
 use Rattle.erm_core_ssn.proofs.RowsInstalled.{install_own, added_left, added_size, claim_own, swap_own}
 
@@ -71,7 +71,7 @@ plain_own c p (kind.LoadTail reason) d r none sound m e is old = load_tail_own c
 plain_own c p (kind.AddTail size) d r none sound m e is old = add_tail_own c p r sound size (c.seats p).place m.part refl m.after old
 plain_own c p (kind.StoreBegin value) d r none sound m e is old = store_begin_own c p r sound value (c.seats p).place m.part refl m.after old
 plain_own c p (kind.StoreState value) d r none sound m e is old = store_state_own c p r sound value (c.seats p).place m.part refl m.after old
-plain_own c p (kind.LoadBegin other) d r none sound m e is old = goes_own r (c.seats p) m.part (goes_load_begin other (begin_of (c.seats other).place) (c.seats p) (c.seats p).task m.part m.after) old
+plain_own c p (kind.LoadBegin other) d r none sound m e is old = goes_own r (c.seats p) m.part (goes_load_begin p other (begin_of (c.seats other).place) (c.seats p) (c.seats p).task m.part m.after) old
 plain_own c p (kind.LoadState other bound) d r none sound m e is old = goes_own r (c.seats p) m.part (goes_load_state p other bound (state_of (c.seats other).place) (c.seats p) m.part m.after) old
 plain_own c p (kind.Split other) d r none sound m e is old = absurd (let f = m.after in cc)
 plain_own c p (kind.Join other) d r none sound m e is old = absurd (let f = m.after in cc)
@@ -108,6 +108,9 @@ plain_own c p (kind.SwapLink v) d r none sound m e is old =
     (λ at. subst (λ (t : Shared). Extends (c.shared.objects at) (t.objects at)) (sym is) (extends p (kind.SwapLink v) (word_at c (spot_of p (kind.SwapLink v))) (c.seats p) c.shared at))
     _ v (c.seats p).task m.part (swap_known c p v d e) refl m.after old
 plain_own c p (kind.LoadDetached v) d r none sound m e is old = goes_own r (c.seats p) m.part (goes_load_detached _ v (c.seats p) (c.seats p).task m.part m.after) old
+plain_own c p (kind.StoreBack value) d r none sound m e is old = goes_own r (c.seats p) m.part (goes_store_back value (c.seats p) (c.seats p).place m.part m.after) old
+plain_own c p (kind.LoadBack other) d r none sound m e is old = goes_own r (c.seats p) m.part (goes_load_back other _ (c.seats p) (c.seats p).task m.part m.after) old
+plain_own c p (kind.Unset place) d r none sound m e is old = unset_own r place (c.seats p) m.part (given c p sound) m.after old
 
 step_kept : (c : Core) (p : ℕ) (k : Kind) (d : Core) → Sound c → (m : Moves c p k d)
     → (OwnWritten (shared_after p k (word_at c (spot_of p k)) (c.seats p) c.shared) (c.seats p) → OwnWritten (shared_after p k (word_at c (spot_of p k)) (c.seats p) c.shared) m.part) → Kept d

@@ -25,6 +25,7 @@ use Rattle.erm_machine.specs.Sound.{Sound}
 use Rattle.erm_machine.specs.Tasks.{TaskFits}
 use Rattle.erm_machine.specs.Words.{is_flusher}
 use Rattle.erm_machine.specs.Written.{copied, copied_at, Copying, OwnWritten}
+use Rattle.erm_machine.proofs.Backs.{active_begin_then, decided_begin_then}
 use Rattle.erm_machine.proofs.Guards.{when_then, either_way}
 use Rattle.erm_core_ssn.proofs.MarksLists.{∈-last}
 use Rattle.erm_core_ssn.proofs.RowsSteps.{OverOk, ClaimOk, ok_at, over_at, own_from, Goes, goes_own, none_own}
@@ -122,11 +123,17 @@ module _ (c : Core) (p : ℕ) (r : Shared) (sound : Sound c) where
   pub store_begin_own : (value : ℕ) (pl : Place) (y : Part) → (c.seats p).place ≡ pl → store_begin p value (c.seats p) pl ≡ Some y → OwnWritten r (c.seats p) → OwnWritten r y
   store_begin_own value (Begun tail) y at e own = when_then (OwnWritten r) _ _ y e (λ _. moves_own _ refl refl refl refl (at_rest (Begun tail) at) own)
   store_begin_own value (Active tail) y at e own =
-      when_then (OwnWritten r) _ _ y e (λ _.
+      active_begin_then (OwnWritten r) p value tail (c.seats p) y e
+      (λ _ _.
       either_way (OwnWritten r) (is_flusher p) _ _ (λ _. none_own r _ refl (λ h. absurd (cc)) (λ h. h) own.spare (λ t m. over_at r (c.seats p) own t m))
       (λ _. over_own r (c.seats p) _ Abort (λ h. absurd (cc)) (sound.own p).claims.once refl refl (λ h. h) refl own))
+      (λ _ _ _ rest.
+      let was = ap (copied (c.seats p).place) rest ∙ copied_full (c.seats p).place task.Rest tt in
+      let is = copied_full (Active value) (task.Surveys 1) tt in
+      goes_own r (c.seats p) _ (goes_moves (c.seats p) (c.seats p).task _ refl refl refl (omega (arith, was, is)) (λ h. absurd h)) own)
   store_begin_own value (Decided tail stamp) y at e own =
-      when_then (OwnWritten r) _ _ y e (λ _.
+      decided_begin_then (OwnWritten r) p value tail stamp (c.seats p) y e
+      (λ _ _ _.
       goes_own r (c.seats p) _ (goes_moves (c.seats p) (c.seats p).task _ refl refl refl
       (rest_full (c.seats p).place (Leaving stamp) (c.seats p).task
       (ap (λ l. copied l (c.seats p).task) at ∙ decided_full (Decided tail stamp) (c.seats p).current (c.seats p).task refl (at_rest (Decided tail stamp) at)))

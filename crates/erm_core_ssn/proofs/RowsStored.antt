@@ -25,12 +25,13 @@ use Rattle.erm_machine.specs.Cells.{WantsCell}
 use Rattle.erm_machine.specs.Claims.{claims_over}
 use Rattle.erm_machine.specs.Core.{Shared, claim_at, no_claim}
 use Rattle.erm_machine.specs.Facts.{IsCurrent, over_of}
-use Rattle.erm_machine.specs.Reading.{with_own_word, load_active_stamp, add_counter, start_row, store_row_word}
+use Rattle.erm_machine.specs.Reading.{with_own_word, load_active_stamp, add_counter, start_row, store_row_word, unset}
 use Rattle.erm_machine.specs.Seat.{is_active, is_sealed, is_own, last_claim}
 use Rattle.erm_machine.specs.Settling.{head_word, load_settled_stamp, load_stamp, store_head_word, store_active_word, store_cell}
 use Rattle.erm_machine.specs.Tasks.{TaskFits}
 use Rattle.erm_machine.specs.Words.{blank_cell, set_word}
 use Rattle.erm_machine.specs.Written.{copied, copied_at, CellFits, Copying, OwnWritten}
+use Rattle.erm_machine.proofs.Backs.{HasBase, has_base_is, rest_is}
 use Rattle.erm_machine.proofs.Guards.{when_then, if_then, either_way}
 use Rattle.erm_core_ssn.proofs.MarksLists.{∈-take}
 use Rattle.erm_core_ssn.proofs.RowsLists.{front_set, front_more}
@@ -388,6 +389,29 @@ active_word_own : (r : Shared) (place cell : ℕ) (w : CellWord) (value : ℕ) (
     → OwnWritten r x → OwnWritten r y
 active_word_own r place cell (word.Row k) value x y given active e old = row_word_own r place cell k value x x.task y given refl active e old
 active_word_own r place cell _ value x y given active e old = absurd (cc)
+
+-- a row that is that of the version overwritten again is as if no write had set it
+unset_ok : (r : Shared) (t : Attempt) (n : ℕ) (w : Claim) → HasBase w.base w.own → t.decision ≢ Commit → ClaimOk r t n w → ClaimOk r t n (record w { row = w.base; is_set = false })
+unset_ok r t n w has undecided ok = record {
+  cell = λ own e.
+      let same : has.own ≡ own = same_Some _ _ (sym has.is ∙ e) in
+      record { size = (ok.cell own e).size; row = ap (λ (o : OwnCell). take n o.words.row) (sym same) ∙ ap (take n) has.row };
+  bare = λ _ _. refl;
+  rows = record { size = ap (λ (row : List ℕ). length row) (sym has.row) ∙ (ok.cell has.own has.is).size; base = ok.rows.base; kept = λ _. refl };
+  first = ok.first;
+  installed = λ c _. absurd (undecided c);
+}
+
+pub unset_own : (r : Shared) (place : ℕ) (x y : Part) → Given x → unset place x ≡ Some y → OwnWritten r x → OwnWritten r y
+unset_own r place x y given e old =
+    when_then (OwnWritten r) _ _ y e (λ g.
+    let all = and_parts _ _ g in
+    let tests = and_parts _ _ (and_parts _ _ all.0).0 in
+    let full = subst IsFull (sym (rest_is x.task tests.1)) (full_from task.Rest tt) in
+    set_full r x x.task x.task place _ refl full full
+    (λ within.
+    unset_ok r x.current (copied_at x place) (claim_at x.current place) (has_base_is (claim_at x.current place).base (claim_at x.current place).own all.1)
+    (active_undecided x.place x.current given.current tests.0) (ok_at r x old place within)) old)
 
 -- words before the row leave it
 head_stays : (step : ℕ) (w : CellWord) (value : ℕ) (c : Cell) → head_word step w ≡ true → (set_word w value c).row ≡ c.row

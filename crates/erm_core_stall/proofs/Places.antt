@@ -1,14 +1,16 @@
 -- What a sound state says of a seat by its place: its stamp, its level, and what a look at it finds.
-use Rattle.std.proofs.Common.{◌≡◌, ℕ, ◌*◌, ◌<◌, ◌≤◌, ◌⊎◌, ⊎_elim, true, false, eqb, leb, not, refl, sym, ap, subst, inl, inr, arith}
+use Rattle.std.proofs.Common.{◌≡◌, ℕ, ◌+◌, ◌*◌, ◌<◌, ◌≤◌, ◌⊎◌, ⊎_elim, true, false, eqb, leb, not, refl, sym, ap, subst, inl, inr, arith}
 use Rattle.std.proofs.lemmas.Bool.{and_from, and_parts, cases_eq, cases_lt, cases_Bool, eqb-true, le-leb, ne_eqb, not_from_false, or_right}
 use Rattle.std.specs.Int.{w64, trailing_zeros}
 use Rattle.erm_machine.specs.declared.attempt.Attempt.{Attempt}
 use Rattle.erm_machine.specs.declared.attempt.Decision.TheVariants.{Undecided}
 use Rattle.erm_machine.specs.declared.limits.TheConstants.{RING_WORDS}
 use Rattle.erm_machine.specs.declared.place.Place.{Place}
-use Rattle.erm_machine.specs.declared.place.Place.TheVariants.{Active, Sealing, Drawn, Sealed, Decided, Leaving}
+use Rattle.erm_machine.specs.declared.place.Place.TheVariants.{Vacant, Idle, Active, Sealing, Drawn, Sealed, Decided, Leaving}
+use Rattle.erm_machine.specs.declared.task.Task.{Task}
 use Rattle.erm_machine.specs.declared.task.Task.TheVariants as task
-use Rattle.erm_machine.specs.Bounds.{IsOther}
+use Rattle.erm_machine.specs.Back.{passed_to}
+use Rattle.erm_machine.specs.Bounds.{IsBounded, IsOther}
 use Rattle.erm_machine.specs.Core.{Core}
 use Rattle.erm_machine.specs.Facts.{IsCurrent}
 use Rattle.erm_machine.specs.Lives.{IsPin}
@@ -16,11 +18,11 @@ use Rattle.erm_machine.specs.Seat.{is_active, is_sealed, is_vacant}
 use Rattle.erm_machine.specs.Settling.{has_room}
 use Rattle.erm_machine.specs.Sound.{Sound}
 use Rattle.erm_machine.specs.Tasks.{TaskFits}
-use Rattle.erm_machine.specs.Words.{is_clear, is_flusher, is_least_bit, state_of}
+use Rattle.erm_machine.specs.Words.{begin_of, is_clear, is_flusher, is_least_bit, state_of}
 use Rattle.erm_core_calls.proofs.Bits.{least_bit}
 use Rattle.erm_core_calls.proofs.GoesActive.{bound_at}
 use Rattle.erm_core_calls.proofs.Seats.{last_member, range_size, seat_low}
-use Rattle.erm_core_stall.specs.Waiting.{IsSealedAt, IsSealing, IsUnfinished, level_at}
+use Rattle.erm_core_stall.specs.Waiting.{IsPending, IsSealedAt, IsSealing, IsUnfinished, level_at}
 
 -- a stamp that isn't clear for a bound is 1, as if sealing, or lies below it
 unclear_stamp : (s bound : ℕ) → is_clear s bound ≡ false → (s ≡ 1) ⊎ (s < bound)
@@ -55,6 +57,12 @@ sealing_up (Sealing tail) h = tt
 sealing_up (Drawn tail stamp) h = tt
 sealing_up pl h = absurd h
 
+-- nor is one whose begin word stands
+pub begun_up : (pl : Place) → 0 < begin_of pl → IsUnfinished pl
+begun_up Vacant some = absurd (omega (arith, some))
+begun_up Idle some = absurd (omega (arith, some))
+begun_up pl some = tt
+
 pub sealed_up : (pl : Place) (s : ℕ) → IsSealedAt s pl → IsUnfinished pl
 sealed_up (Sealed tail stamp) s h = tt
 sealed_up (Decided tail stamp) s h = tt
@@ -62,16 +70,36 @@ sealed_up (Leaving stamp) s h = tt
 sealed_up pl s h = absurd h
 
 -- levels by places
-pub sealing_level : (now : ℕ) (pl : Place) → IsSealing pl → level_at now pl ≡ 0
-sealing_level now (Sealing tail) h = refl
-sealing_level now (Drawn tail stamp) h = refl
-sealing_level now pl h = absurd h
+pub sealing_level : (now begin : ℕ) (pl : Place) (u : Task) → IsSealing pl → level_at now begin pl u ≡ 0
+sealing_level now begin (Sealing tail) u h = refl
+sealing_level now begin (Drawn tail stamp) u h = refl
+sealing_level now begin pl u h = absurd h
 
-pub stamped_level : (now : ℕ) (pl : Place) (s : ℕ) → IsSealedAt s pl → level_at now pl ≡ 2 * s
-stamped_level now (Sealed tail stamp) s h = ap (λ n. 2 * n) (sym h)
-stamped_level now (Decided tail stamp) s h = ap (λ n. 2 * n) (sym h)
-stamped_level now (Leaving stamp) s h = ap (λ n. 2 * n) (sym h)
-stamped_level now pl s h = absurd h
+pub stamped_level : (now begin : ℕ) (pl : Place) (u : Task) (s : ℕ) → IsSealedAt s pl → level_at now begin pl u ≡ 2 * s
+stamped_level now begin (Sealed tail stamp) u s h = ap (λ n. 2 * n) (sym h)
+stamped_level now begin (Decided tail stamp) u s h = ap (λ n. 2 * n) (sym h)
+stamped_level now begin (Leaving stamp) u s h = ap (λ n. 2 * n) (sym h)
+stamped_level now begin pl u s h = absurd h
+
+pub owned_level : (now begin : ℕ) (pl : Place) (oid owner : ℕ) → is_active pl ≡ true → level_at now begin pl (task.Owned oid owner) ≡ 2 * now
+owned_level now begin (Active tail) oid owner e = refl
+owned_level now begin pl oid owner e = absurd (cc)
+
+pub surveys_level : (now begin : ℕ) (pl : Place) (next : ℕ) → is_active pl ≡ true → level_at now begin pl (task.Surveys next) ≡ 2 * now + begin
+surveys_level now begin (Active tail) next e = refl
+surveys_level now begin pl next e = absurd (cc)
+
+-- a level is at most that of a snapshot with this begin word for its begin stamp
+pub most_level : (now begin : ℕ) (pl : Place) (u : Task) → ((s : ℕ) → IsSealedAt s pl → s < now) → (IsPending u → begin_of pl ≡ begin) → level_at now begin pl u ≤ 2 * now + begin_of pl
+most_level now begin (Sealing tail) u low raised = omega arith
+most_level now begin (Drawn tail stamp) u low raised = omega arith
+most_level now begin (Sealed tail stamp) u low raised = let h = low stamp refl in omega (arith, h)
+most_level now begin (Decided tail stamp) u low raised = let h = low stamp refl in omega (arith, h)
+most_level now begin (Leaving stamp) u low raised = let h = low stamp refl in omega (arith, h)
+most_level now begin (Active tail) (task.Surveys next) low raised = let h : tail ≡ begin = raised tt in omega (arith, h)
+most_level now begin (Active tail) (task.Behind next) low raised = let h : tail ≡ begin = raised tt in omega (arith, h)
+most_level now begin (Active tail) u low raised = omega arith
+most_level now begin pl u low raised = omega arith
 
 -- the place by a test
 pub sealed_place : (pl : Place) → is_sealed pl ≡ true → (s : ℕ) × IsSealedAt s pl
@@ -113,6 +141,29 @@ readers_left_place (Sealed tail stamp) t write bits fits = refl
 readers_left_place (Decided tail stamp) t write bits fits = absurd fits
 readers_left_place pl t write bits fits = absurd (cc)
 
+pub surveys_place : (pl : Place) (t : Attempt) (next : ℕ) → TaskFits pl t (task.Surveys next) → is_active pl ≡ true
+surveys_place (Active tail) t next fits = refl
+surveys_place (Sealed tail stamp) t next fits = absurd fits
+surveys_place (Decided tail stamp) t next fits = absurd fits
+surveys_place pl t next fits = absurd (cc)
+
+-- one that is sealed has no snapshot
+pub sealed_no_snapshot : (pl : Place) (t : Attempt) (u : Task) (s : ℕ) → IsSealedAt s pl → TaskFits pl t u → IsPending u → ⊥
+sealed_no_snapshot (Sealed tail stamp) t (task.Surveys next) s h fits pending = fits
+sealed_no_snapshot (Sealed tail stamp) t (task.Behind next) s h fits pending = fits
+sealed_no_snapshot (Decided tail stamp) t (task.Surveys next) s h fits pending = fits
+sealed_no_snapshot (Decided tail stamp) t (task.Behind next) s h fits pending = fits
+sealed_no_snapshot (Leaving stamp) t u s h fits pending = subst IsPending fits pending
+sealed_no_snapshot (Sealed tail stamp) t u s h fits pending = absurd pending
+sealed_no_snapshot (Decided tail stamp) t u s h fits pending = absurd pending
+sealed_no_snapshot pl t u s h fits pending = absurd h
+
+-- a snapshot that looks has passed its own seat's number, or more
+pending_passed : (seat : ℕ) (t : Attempt) (u : Task) → IsBounded seat t u → IsPending u → 0 < passed_to u
+pending_passed seat t (task.Surveys next) b pending = b.0
+pending_passed seat t (task.Behind next) b pending = b.1
+pending_passed seat t u b pending = absurd pending
+
 -- the stamp of one that is sealed
 stamp_of : (pl : Place) (t : Attempt) (s : ℕ) → IsCurrent pl t → IsSealedAt s pl → (t.stamp ≡ s) × (0 < s)
 stamp_of (Sealed tail stamp) t s cur h = let a = cur.stamp_is in let b = cur.positive in (omega (arith, a, h), omega (arith, b, h))
@@ -152,6 +203,10 @@ module _ (c : Core) (sound : Sound c) where
       let same = a.0 in
       let below = (sound.own p).decided.drawn t (last_member (c.seats p).over t) in
       (same, a.1, omega (arith, same, below))
+
+  -- the begin word of a snapshot that looks is its begin stamp
+  pub raised_at : (p : ℕ) → IsPending (c.seats p).task → begin_of (c.seats p).place ≡ (c.seats p).current.begin
+  raised_at p pending = (sound.own p).raised.raised (pending_passed p (c.seats p).current (c.seats p).task (sound.own p).bounds.bounded pending)
 
   pub open_at : (p : ℕ) → 0 < (c.seats p).current.stamp → (c.seats p).current.decision ≡ Undecided → IsSealing (c.seats p).place ⊎ IsSealedAt (c.seats p).current.stamp (c.seats p).place
   open_at p drawn none = open_place (c.seats p).place (c.seats p).current (current_at p) drawn none

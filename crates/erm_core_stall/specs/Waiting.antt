@@ -1,5 +1,5 @@
 -- Who waits for whom, and whose next event isn't a wait.
-use Rattle.std.specs.Prelude.{◌≡◌, ◌⊎◌, ℕ, zero, suc, ◌+◌, ◌-◌, ◌*◌, ◌<◌, ◌≤◌, true, false, nat_lt, if◌then◌else◌, Some}
+use Rattle.std.specs.Prelude.{◌≡◌, ◌≢◌, ◌⊎◌, ℕ, zero, suc, ◌+◌, ◌-◌, ◌*◌, ◌<◌, ◌≤◌, true, false, nat_lt, if◌then◌else◌, Some}
 use Rattle.erm_machine.specs.declared.attempt.Decision.TheVariants.{Undecided}
 use Rattle.erm_machine.specs.declared.event.Kind.{Kind}
 use Rattle.erm_machine.specs.declared.event.Kind.TheVariants as kind
@@ -8,16 +8,16 @@ use Rattle.erm_machine.specs.declared.limits.TheConstants.{FLUSH_SEAT, OBJECT_LI
 use Rattle.erm_machine.specs.declared.part.Flushing.{Flushing}
 use Rattle.erm_machine.specs.declared.part.Flushing.TheVariants as flushing
 use Rattle.erm_machine.specs.declared.place.Place.{Place}
-use Rattle.erm_machine.specs.declared.place.Place.TheVariants.{Vacant, Idle, Sealing, Drawn, Sealed, Decided, Leaving}
+use Rattle.erm_machine.specs.declared.place.Place.TheVariants.{Vacant, Idle, Active, Sealing, Drawn, Sealed, Decided, Leaving}
 use Rattle.erm_machine.specs.declared.task.Task.{Task}
 use Rattle.erm_machine.specs.declared.task.Task.TheVariants as task
 use Rattle.erm_machine.specs.Core.{Core}
 use Rattle.erm_machine.specs.Seat.{is_active, is_sealed}
 use Rattle.erm_machine.specs.Settling.{has_room}
 use Rattle.erm_machine.specs.Step.{after_event}
-use Rattle.erm_machine.specs.Words.{is_clear, is_least_bit, is_session, state_of}
+use Rattle.erm_machine.specs.Words.{begin_of, is_clear, is_least_bit, is_session, state_of}
 use Rattle.erm_core_calls.specs.Ending.{Ahead, IsLess, ahead_by}
-use Rattle.erm_core_calls.specs.Going.{IsInCall, MayWrite, MovesOn, Written, next_kind}
+use Rattle.erm_core_calls.specs.Going.{IsInCall, IsUnsafe, MayWrite, MovesOn, Written, next_kind}
 use Rattle.erm_core_flush.specs.Turns.{turn_of}
 
 -- A transaction, or a pin, isn't over: from the first load of its begin on.
@@ -45,8 +45,9 @@ pub data Actor : Type 0 where
   flush_turn : Actor
 
 -- The one waits for the other: a transaction for the owner of the entry that it reads, for the one that may overwrite a version
--- that it has read, for a reader of a version that it overwrites, or for the turn that makes room in the ring for its block; the
--- turn for a transaction whose range begins at the place flushed, and isn't decided.
+-- that it has read, for a reader of a version that it overwrites, or for the turn that makes room in the ring for its block; a
+-- snapshot that looks whether it is safe for a transaction that has begun below its begin stamp; the turn for a transaction whose
+-- range begins at the place flushed, and isn't decided.
 pub data WaitsFor (c : Core) (a b : Actor) : Type 0 where
   for_owner : (p oid owner : ℕ) → a ≡ seat_of p → b ≡ seat_of owner → (c.seats p).task ≡ task.Owned oid owner
       → is_clear (state_of (c.seats owner).place) (c.seats p).current.begin ≡ false → WaitsFor c a b
@@ -56,6 +57,8 @@ pub data WaitsFor (c : Core) (a b : Actor) : Type 0 where
       → is_clear (state_of (c.seats reader).place) (c.seats p).current.stamp ≡ false → WaitsFor c a b
   for_ring : (p : ℕ) → a ≡ seat_of p → b ≡ flush_turn → is_sealed (c.seats p).place ≡ true → (c.seats p).task ≡ task.Rest
       → has_room c.shared.flushed (c.seats p).current ≡ false → WaitsFor c a b
+  for_begin : (p other : ℕ) → a ≡ seat_of p → b ≡ seat_of other → (c.seats p).task ≡ task.Surveys other → other ≢ p
+      → 0 < begin_of (c.seats other).place → begin_of (c.seats other).place < (c.seats p).current.begin → WaitsFor c a b
   for_block : (q : ℕ) → a ≡ flush_turn → b ≡ seat_of q → (c.seats q).current.stamp ≡ c.shared.flushed
       → (c.seats q).current.decision ≡ Undecided → WaitsFor c a b
 
@@ -64,19 +67,22 @@ abbrev pub Chain : Core → ℕ → Actor → Actor → Type 0
 Chain c zero a b = WaitsFor c a b
 Chain c (suc n) a b = (m : Actor) × WaitsFor c a m × Chain c n m b
 
--- 0 where it seals, twice its stamp where it is sealed, twice the tail elsewhere
-abbrev pub level_at : (tail : ℕ) → Place → ℕ
-level_at now (Sealing tail) = 0
-level_at now (Drawn tail stamp) = 0
-level_at now (Sealed tail stamp) = 2 * stamp
-level_at now (Decided tail stamp) = 2 * stamp
-level_at now (Leaving stamp) = 2 * stamp
-level_at now _ = 2 * now
+-- 0 where it seals, twice its stamp where it is sealed, twice the tail elsewhere; a snapshot that looks whether it is safe stands
+-- above all others, by its begin stamp
+abbrev pub level_at : (tail begin : ℕ) → Place → Task → ℕ
+level_at now begin (Active tail) (task.Surveys next) = 2 * now + begin
+level_at now begin (Active tail) (task.Behind next) = 2 * now + begin
+level_at now begin (Sealing tail) u = 0
+level_at now begin (Drawn tail stamp) u = 0
+level_at now begin (Sealed tail stamp) u = 2 * stamp
+level_at now begin (Decided tail stamp) u = 2 * stamp
+level_at now begin (Leaving stamp) u = 2 * stamp
+level_at now begin pl u = 2 * now
 
 -- The level of a transaction; that of a turn is above those of the stamps up to the place flushed, and below the others. Waits lead
 -- down.
 abbrev pub level : Core → Actor → ℕ
-level c (seat_of p) = level_at c.shared.tail (c.seats p).place
+level c (seat_of p) = level_at c.shared.tail (c.seats p).current.begin (c.seats p).place (c.seats p).task
 level c flush_turn = 2 * c.shared.flushed + 1
 
 -- The flush seat's next step in a turn: it loads the tail, and the place flushed, where something is to be flushed; it gathers the
@@ -114,8 +120,21 @@ MayChoose seat (task.Rated version) = Unit {0}
 MayChoose seat task.Numbers = is_session seat ≡ false
 MayChoose seat _ = ⊥
 
+-- A snapshot looks whether it is safe.
+abbrev pub IsPending : Task → Type 0
+IsPending (task.Surveys next) = Unit {0}
+IsPending (task.Behind next) = Unit {0}
+IsPending _ = ⊥
+
+-- Between the calls of a safe snapshot its caller may read, or end it.
+abbrev pub MayRead : Task → Type 0
+MayRead task.Safe = Unit {0}
+MayRead (task.SafeFound version) = Unit {0}
+MayRead _ = ⊥
+
 -- The seat's next event isn't a wait: in a call its next step moves it on, whatever it is to write; a sealed one begins to settle;
--- and an active one between calls may read any object, and a session seal.
+-- an active one between calls may read any object, and a session seal; a safe snapshot may read any object, and end; and one that
+-- was found unsafe ends.
 pub data GoesOn (c : Core) (seat : ℕ) : Type 0 where
   in_call : IsInCall (c.seats seat).place (c.seats seat).task
       → ((b : Written) → MayWrite b (c.seats seat) → MovesOn c seat (next_kind b (c.seats seat))) → GoesOn c seat
@@ -123,6 +142,9 @@ pub data GoesOn (c : Core) (seat : ℕ) : Type 0 where
   between_calls : is_active (c.seats seat).place ≡ true → MayChoose seat (c.seats seat).task
       → ((oid : ℕ) → oid < OBJECT_LIMIT → MovesOn c seat (kind.LoadEntry oid))
       → (is_session seat ≡ true → MovesOn c seat (kind.StoreState 1)) → GoesOn c seat
+  reads_safely : is_active (c.seats seat).place ≡ true → MayRead (c.seats seat).task
+      → ((oid : ℕ) → oid < OBJECT_LIMIT → MovesOn c seat (kind.LoadEntry oid)) → MovesOn c seat (kind.StoreBegin 0) → GoesOn c seat
+  ends_unsafe : IsUnsafe c seat → MovesOn c seat (kind.StoreBegin 0) → GoesOn c seat
 
 -- whose next event isn't a wait
 abbrev pub ActsOn : Core → Actor → Type 0
@@ -140,6 +162,16 @@ NoneSealed c = (q stamp : ℕ) → IsSealedAt stamp (c.seats q).place → ⊥
 pub record IsLeastSealed (c : Core) (seat stamp : ℕ) : Type 0 where
   pub sealed : IsSealedAt stamp (c.seats seat).place
   pub least : (q s : ℕ) → IsSealedAt s (c.seats q).place → stamp ≤ s
+
+-- whoever isn't over looks whether its snapshot is safe
+abbrev pub OnlyPending : Core → Type 0
+OnlyPending c = (q : ℕ) → IsUnfinished (c.seats q).place → IsPending (c.seats q).task
+
+-- the seat has the one with the least begin stamp, and of equal ones it is the lowest
+pub record IsLeastPending (c : Core) (seat : ℕ) : Type 0 where
+  pub unfinished : IsUnfinished (c.seats seat).place
+  pub least : (q : ℕ) → IsUnfinished (c.seats q).place → (c.seats seat).current.begin ≤ (c.seats q).current.begin
+  pub lowest : (q : ℕ) → IsUnfinished (c.seats q).place → (c.seats q).current.begin ≡ (c.seats seat).current.begin → seat ≤ q
 
 -- from one state to the next the flush seat takes the next step of its turn
 abbrev pub TakesTurn : Core → Core → Type 0

@@ -10,10 +10,10 @@ ghost use Rattle.erm_machine.specs.Settling.{has_room};
 ghost use Rattle.erm_machine.specs.Sound.{Sound};
 ghost use Rattle.erm_machine.specs.Step.{after_event};
 ghost use Rattle.erm_core_flush.specs.Turns.{turn_of};
-ghost use Rattle.erm_core_stall.specs.Waiting.{flush_turn, level, seat_of, ActsOn, Actor, Chain, GoesOn, IsLeastSealed, IsSealing, IsUnfinished, NoneSealed, NoneSeals, TurnsForEver, TurnsOn, WaitsFor};
+ghost use Rattle.erm_core_stall.specs.Waiting.{flush_turn, level, seat_of, ActsOn, Actor, Chain, GoesOn, IsLeastPending, IsLeastSealed, IsPending, IsSealing, IsUnfinished, NoneSealed, NoneSeals, OnlyPending, TurnsForEver, TurnsOn, WaitsFor};
 
-/// Each wait leads down: to one that seals, to a smaller stamp, or to the turn that makes room, which waits for a stamp below. So
-/// waits go in no circle.
+/// Each wait leads down: to one that seals, to a smaller stamp, or to the turn that makes room, which waits for a stamp below; from a
+/// snapshot that looks whether it is safe, to one that has begun below it. So waits go in no circle.
 pub fn waits_fall()
     ensures fall { (c : Core) (a b : Actor) → Sound c → WaitsFor c a b → level c b < level c a }
     ensures no_circle { (c : Core) (n : ℕ) (a : Actor) → Sound c → Chain c n a a → ⊥ }
@@ -28,7 +28,8 @@ pub fn each_goes_on_or_waits()
 {}
 
 /// Nothing stalls: where a transaction isn't over, somebody's next event isn't a wait. A seat that seals goes on; where none
-/// seals, the least sealed one, or the flush seat's turn where the ring has no room for that one's block; where none is sealed, each.
+/// seals, the least sealed one, or the flush seat's turn where the ring has no room for that one's block; where none is sealed, each
+/// but a snapshot that looks whether it is safe; and where all look so, the one with the least begin stamp.
 pub fn nothing_stalls()
     ensures somebody { (c : Core) (p : ℕ) → Sound c → IsUnfinished (c.seats p).place → (a : Actor) × ActsOn c a }
     ensures sealing { (c : Core) (p : ℕ) → Sound c → IsSealing (c.seats p).place → GoesOn c p }
@@ -36,7 +37,9 @@ pub fn nothing_stalls()
         → has_room c.shared.flushed (c.seats p).current ≡ true → GoesOn c p }
     ensures ring { (c : Core) (p stamp : ℕ) → Sound c → NoneSeals c → IsLeastSealed c p stamp
         → has_room c.shared.flushed (c.seats p).current ≡ false → TurnsOn c }
-    ensures active { (c : Core) (p : ℕ) → Sound c → NoneSeals c → NoneSealed c → IsUnfinished (c.seats p).place → GoesOn c p }
+    ensures active { (c : Core) (p : ℕ) → Sound c → NoneSeals c → NoneSealed c → (IsPending (c.seats p).task → ⊥)
+        → IsUnfinished (c.seats p).place → GoesOn c p }
+    ensures pending { (c : Core) (p : ℕ) → Sound c → NoneSeals c → NoneSealed c → OnlyPending c → IsLeastPending c p → GoesOn c p }
 {}
 
 /// A turn ends: the flush seat doesn't take next steps of its turns for ever without storing a greater place flushed. An event of

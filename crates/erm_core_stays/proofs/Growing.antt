@@ -15,6 +15,8 @@ use Rattle.erm_machine.specs.declared.event.Kind.TheVariants as kind
 use Rattle.erm_machine.specs.declared.part.Flushing.{Flushing}
 use Rattle.erm_machine.specs.declared.part.Flushing.TheVariants as flushing
 use Rattle.erm_machine.specs.declared.part.Part.{Part}
+use Rattle.erm_machine.specs.declared.place.Place.{Place}
+use Rattle.erm_machine.specs.declared.place.Place.TheVariants.{Decided}
 use Rattle.erm_machine.specs.declared.task.Task.{Task}
 use Rattle.erm_machine.specs.declared.task.Task.TheVariants as task
 use Rattle.erm_machine.specs.declared.version.CellWord.{CellWord}
@@ -22,10 +24,12 @@ use Rattle.erm_machine.specs.declared.version.CellWord.TheVariants as word
 use Rattle.erm_machine.specs.declared.version.VersionAt.{VersionAt}
 use Rattle.erm_machine.specs.Core.{Object, Shared, claim_at, no_claim}
 use Rattle.erm_machine.specs.Flushing.{load_flushed, gathered_word, load_ring, clear_ring, store_flushed}
-use Rattle.erm_machine.specs.Reading.{load_entry, claim, set_reader, load_walked_stamp, load_walked_link, load_cell, swap_link, load_detached, load_counter, add_counter, load_active_stamp, start_row, store_row_word, with_own_word}
+use Rattle.erm_machine.specs.Life.{load_back, store_back}
+use Rattle.erm_machine.specs.Reading.{load_entry, claim, set_reader, load_walked_stamp, load_walked_link, load_cell, swap_link, load_detached, load_counter, add_counter, load_active_stamp, start_row, store_row_word, unset, with_own_word}
 use Rattle.erm_machine.specs.Seat.{end_of, is_active, is_sealed, last_claim}
 use Rattle.erm_machine.specs.Settling.{load_flushed_to_settle, load_read_entry, load_readers, load_settled_stamp, load_stamp, store_ring, raise_reader, store_head_word, store_active_word, store_cell, mark_overwritten, install_claim, adds_version, install_new, release_old, unclaim, without_newest, install, clear_reader, filled}
 use Rattle.erm_machine.specs.Step.{part_after}
+use Rattle.erm_machine.proofs.Backs.{entry_then}
 use Rattle.erm_machine.proofs.Guards.{when_then, some_then, if_then, either_way, unless_some}
 use Rattle.erm_machine.proofs.QuietKinds.{IsQuiet}
 use Rattle.erm_core_lives.proofs.LivesLists.{∈-front, ∈-last}
@@ -235,7 +239,8 @@ first a b h = (and_parts a b h).0
 
 g_load_entry : (seat oid found : ℕ) (o : Object) (x : Part) (t : Task) (y : Part) → load_entry seat oid found o x t ≡ Some y → Grows x y
 g_load_entry seat oid found o x (task.Cleared cleared) y e = when_then (Grows x) _ _ y e (λ _. rests x _ refl)
-g_load_entry seat oid found o x _ y e = when_then (Grows x) _ _ y e (λ _. rests x _ refl)
+g_load_entry seat oid found o x t y e =
+    entry_then (Grows x) seat oid found o x t y e (λ _ _. rests x _ refl) (λ _. rests x _ refl)
 
 g_claim : (seat oid seen number found : ℕ) (o : Object) (x : Part) (t : Task) (y : Part) → claim seat oid seen number found o x t ≡ Some y → Grows x y
 g_claim seat oid seen number found o x (task.Found version stamp (Some entry)) y e =
@@ -250,11 +255,13 @@ g_set_reader seat v o x _ y e = absurd (cc)
 g_walked_stamp : (found : ℕ) (v : VersionAt) (x : Part) (t : Task) (y : Part) → load_walked_stamp found v x t ≡ Some y → Grows x y
 g_walked_stamp found v x (task.Walks version head) y e = when_then (Grows x) _ _ y e (λ _. rests x _ refl)
 g_walked_stamp found v x (task.CutWalks version horizon) y e = when_then (Grows x) _ _ y e (λ _. rests x _ refl)
+g_walked_stamp found v x (task.SafeWalks version) y e = when_then (Grows x) _ _ y e (λ _. rests x _ refl)
 g_walked_stamp found v x (task.Passed version) y e = when_then (Grows x) _ _ y e (λ _. rests x _ refl)
 g_walked_stamp found v x _ y e = absurd (cc)
 
 g_walked_link : (found : ℕ) (v : VersionAt) (x : Part) (t : Task) (y : Part) → load_walked_link found v x t ≡ Some y → Grows x y
 g_walked_link found v x (task.Passed version) y e = when_then (Grows x) _ _ y e (λ _. rests x _ refl)
+g_walked_link found v x (task.SafePassed version) y e = when_then (Grows x) _ _ y e (λ _. rests x _ refl)
 g_walked_link found v x (task.CutPassed version horizon) y e = when_then (Grows x) _ _ y e (λ _. rests x _ refl)
 g_walked_link found v x _ y e = absurd (cc)
 
@@ -410,6 +417,20 @@ g_store_flushed : (value : ℕ) (x : Part) (f : Flushing) (y : Part) → store_f
 g_store_flushed value x (flushing.Clears next to) y e = when_then (Grows x) _ _ y e (λ _. rests x _ refl)
 g_store_flushed value x _ y e = absurd (cc)
 
+g_store_back : (value : ℕ) (x : Part) (p : Place) (y : Part) → store_back value x p ≡ Some y → Grows x y
+g_store_back value x (Decided tail stamp) y e = when_then (Grows x) _ _ y e (λ _. rests x _ refl)
+g_store_back value x _ y e = absurd (cc)
+
+g_load_back : (other found : ℕ) (x : Part) (t : Task) (y : Part) → load_back other found x t ≡ Some y → Grows x y
+g_load_back other found x (task.Behind next) y e = when_then (Grows x) _ _ y e (λ _. rests x _ refl)
+g_load_back other found x _ y e = absurd (cc)
+
+g_unset : (place : ℕ) (x y : Part) → unset place x ≡ Some y → Grows x y
+g_unset place x y e =
+    when_then (Grows x) _ _ y e (λ g.
+    claims_more x _ (first _ _ (first _ _ (first _ _ g))) refl refl
+    (tries_from x.current _ refl (writes_own x.current.writes place _ refl refl refl refl (λ own. own))))
+
 pub growing_kind : (p : ℕ) (k : Kind) (found : ℕ) (s : Shared) (x y : Part) → GivesUp x → IsQuiet k → part_after p k found s x ≡ Some y → Grows x y
 growing_kind p (kind.LoadTail reason) found s x y gives q e = absurd q
 growing_kind p (kind.AddTail size) found s x y gives q e = absurd q
@@ -443,3 +464,6 @@ growing_kind p (kind.StoreFlushed value) found s x y gives q e = g_store_flushed
 growing_kind p kind.LoadFlushed found s x y gives q e = g_load_flushed found x x.flushing y e
 growing_kind p (kind.SwapLink v) found s x y gives q e = g_swap_link found v (s.objects v.oid) x x.task y e
 growing_kind p (kind.LoadDetached v) found s x y gives q e = g_load_detached found v x x.task y e
+growing_kind p (kind.StoreBack value) found s x y gives q e = g_store_back value x x.place y e
+growing_kind p (kind.LoadBack other) found s x y gives q e = g_load_back other found x x.task y e
+growing_kind p (kind.Unset place) found s x y gives q e = g_unset place x y e

@@ -26,6 +26,7 @@ use Rattle.erm_machine.specs.Step.{after_event, shared_after, with_part}
 use Rattle.erm_machine.specs.Tasks.{TaskFits}
 use Rattle.erm_machine.specs.Words.{is_flusher, put}
 use Rattle.erm_machine.proofs.Frames.{each_seat}
+use Rattle.erm_machine.proofs.Backs.{active_begin_then}
 use Rattle.erm_machine.proofs.Guards.{either_way, when_then}
 use Rattle.erm_machine.proofs.Quiet.{Steady}
 use Rattle.erm_machine.proofs.QuietKinds.{IsQuiet, MeetsOne, Moves, moves, quiet_kind}
@@ -94,9 +95,11 @@ y_add_tail seat size found x _ y cur e = absurd (cc)
 y_store_begin : (seat value : ℕ) (x : Part) (pl : Place) (y : Part) → is_flusher seat ≡ false → IsCurrent pl x.current → store_begin seat value x pl ≡ Some y → AllGoOn x y
 y_store_begin seat value x (Begun tail) y session cur e = when_then (AllGoOn x) _ _ y e (λ _. same x _ refl refl)
 y_store_begin seat value x (Active tail) y session cur e =
-    when_then (AllGoOn x) _ _ y e (λ _.
+    active_begin_then (AllGoOn x) seat value tail x y e
+    (λ _ _.
     either_way (AllGoOn x) (is_flusher seat) _ _ (λ (flusher : is_flusher seat ≡ true). absurd (cc))
     (λ _. go_over x _ (record x.current { decision = Abort }) refl (opens x.current _ cur.stamp cur.decision refl refl refl refl refl refl)))
+    (λ _ _ _ _. same x _ refl refl)
 y_store_begin seat value x (Decided tail stamp) y session cur e = when_then (AllGoOn x) _ _ y e (λ _. same x _ refl refl)
 y_store_begin seat value x _ y session cur e = absurd (cc)
 
@@ -107,9 +110,10 @@ y_store_state seat value x (Leaving stamp) y e =
     when_then (AllGoOn x) _ _ y e (λ _. go_over x _ (record x.current { decision = x.current.decision }) refl (continues_same x.current _ refl))
 y_store_state seat value x _ y e = absurd (cc)
 
-y_load_begin : (other found : ℕ) (x : Part) (t : Task) (y : Part) → load_begin other found x t ≡ Some y → AllGoOn x y
-y_load_begin other found x (task.Horizon version least next) y e = when_then (AllGoOn x) _ _ y e (λ _. same x _ refl refl)
-y_load_begin other found x _ y e = absurd (cc)
+y_load_begin : (seat other found : ℕ) (x : Part) (t : Task) (y : Part) → load_begin seat other found x t ≡ Some y → AllGoOn x y
+y_load_begin seat other found x (task.Horizon version least next) y e = when_then (AllGoOn x) _ _ y e (λ _. same x _ refl refl)
+y_load_begin seat other found x (task.Surveys next) y e = when_then (AllGoOn x) _ _ y e (λ _. same x _ refl refl)
+y_load_begin seat other found x _ y e = absurd (cc)
 
 y_load_state : (seat other bound found : ℕ) (x y : Part) → load_state seat other bound found x ≡ Some y → AllGoOn x y
 y_load_state seat other bound found x y e = when_then (AllGoOn x) _ _ y e (λ _. same x _ refl refl)
@@ -255,7 +259,7 @@ goes_on c d p (kind.StoreState value) sound e =
     goes_moved c p (kind.StoreState value) d m (λ _. y_store_state p value (c.seats p) (c.seats p).place m.part m.after)
 goes_on c d p (kind.LoadBegin other) sound e =
     let m = moves c p (kind.LoadBegin other) d tt e in
-    goes_moved c p (kind.LoadBegin other) d m (λ _. y_load_begin other (word_at c (spot_of p (kind.LoadBegin other))) (c.seats p) (c.seats p).task m.part m.after)
+    goes_moved c p (kind.LoadBegin other) d m (λ _. y_load_begin p other (word_at c (spot_of p (kind.LoadBegin other))) (c.seats p) (c.seats p).task m.part m.after)
 goes_on c d p (kind.LoadState other bound) sound e =
     let m = moves c p (kind.LoadState other bound) d tt e in
     goes_moved c p (kind.LoadState other bound) d m (λ _. y_load_state p other bound (word_at c (spot_of p (kind.LoadState other bound))) (c.seats p) m.part m.after)

@@ -1,5 +1,5 @@
 -- The end of a transaction that aborts: its claims are released, its reader bits cleared, and then it is over.
-use Rattle.std.proofs.Common.{◌≡◌, ◌≢◌, ℕ, ◌+◌, ◌<◌, Bool, true, false, ◌&&◌, ◌||◌, not, eqb, leb, ltb, [], ◌∷◌, ◌++◌, length, List, map, Some, refl, sym, ap, ◌∙◌, subst, arith, length-set}
+use Rattle.std.proofs.Common.{◌≡◌, ◌≢◌, ℕ, ◌+◌, ◌<◌, Bool, true, false, ◌||◌, not, eqb, leb, ltb, [], ◌∷◌, ◌++◌, length, List, map, Some, refl, sym, ap, ◌∙◌, subst, arith, length-set}
 use Rattle.std.specs.Prelude.{if◌then◌else◌}
 use Rattle.std.proofs.lemmas.Bool.{and_from, and_parts, and_left, eq-eqb, eqb-false, leb-true, lt-ltb, ne_eqb, or_left, or_right}
 use Rattle.std.proofs.lemmas.List.{map-append}
@@ -61,7 +61,7 @@ ends_well task.Refused e at = absurd (cc)
 ends_well _ e at = tt
 
 begin_stored : (seat : ℕ) (x : Part) (pl : Place) → is_active pl ≡ true
-    → store_begin seat 0 x pl ≡ when (eqb 0 0 && has_ended x.current (end_of x.task)) (aborted seat (record x { place = Idle; task = task.Rest }))
+    → store_begin seat 0 x pl ≡ when (has_ended x.current (end_of x.task)) (aborted seat (record x { place = Idle; task = task.Rest }))
 begin_stored seat x (Active tail) e = refl
 begin_stored seat x _ e = absurd (cc)
 
@@ -152,7 +152,7 @@ module _ (seat claims reads ended cleared : ℕ) (c : Core) (sound : Sound c) (a
       in
       let plain : aborted seat x0 ≡ aborted_part (c.seats seat) = ap (λ (b : Bool). if b then record x0 { current = blank } else over Abort x0) (session_plain seat at.session) in
       taken c seat (kind.StoreBegin 0) (aborted_part (c.seats seat)) tt refl
-      (met _ _ _ (begin_stored seat (c.seats seat) (c.seats seat).place at.active ∙ ap (when (eqb 0 0 && has_ended (c.seats seat).current (end_of (c.seats seat).task))) plain) (and_from _ _ refl ends))
+      (met _ _ _ (begin_stored seat (c.seats seat) (c.seats seat).place at.active ∙ ap (when (has_ended (c.seats seat).current (end_of (c.seats seat).task))) plain) ends)
 
 -- a release and a cleared bit don't show
 pub release_unseen : (sessions seat oid head : ℕ) (c d : Core) (e : ℕ × ℕ × ℕ × ℕ) → Sound c → end_of (c.seats seat).task ≡ Some e → after_event c seat (kind.Install oid head) ≡ Some d → IsUnseen sessions seat c d

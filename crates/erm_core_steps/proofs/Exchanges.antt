@@ -24,6 +24,7 @@ use Rattle.erm_machine.specs.Snapshot.{InHand, IsNewestAt}
 use Rattle.erm_machine.specs.Sound.{Sound}
 use Rattle.erm_machine.specs.Step.{after_event}
 use Rattle.erm_machine.specs.Words.{owner_of}
+use Rattle.erm_machine.proofs.Backs.{entry_then}
 use Rattle.erm_machine.proofs.Guards.{when_then}
 use Rattle.erm_world.specs.Calls.{DidClaim, DidNotClaim, HasNoNewer, IsNewer, IsUnowned, MayClaim, Works, now}
 use Rattle.erm_world.specs.World.{Finished, IsSession, Session, Stand, View, Work, phase_of, work_at}
@@ -42,7 +43,7 @@ use Rattle.erm_core_steps.proofs.Early.{done_before, quiet_since, shut_before, w
 use Rattle.erm_core_steps.proofs.Quiet.{IsActive}
 use Rattle.erm_core_steps.proofs.Registered.{finds_starts}
 use Rattle.erm_core_steps.proofs.Unseen.{others_stay, same_view}
-use Rattle.erm_core_steps.proofs.Ways.{Arrives, chosen, entry_part, owned, part_is, read_goes, read_nears, walks}
+use Rattle.erm_core_steps.proofs.Ways.{Arrives, chosen, entry_part, owned, part_is, read_goes, read_nears, starts_plain, walks}
 use Rattle.erm_core_steps.proofs.Unowned.{newer_shown, none_newer, unowned}
 use Rattle.erm_core_turns.proofs.Turns.{part_stepped}
 use Rattle.erm_core_steps.proofs.Loads.{load_shared}
@@ -65,19 +66,20 @@ uncleared (task.Cleared oid) none = absurd (none oid refl)
 uncleared _ none = refl
 
 -- THE HEAD of an entry without owner
-head_task : (seat oid entry : ℕ) (o : Object) (x y : Part) (t : Task) → is_cleared t ≡ false → owner_of entry ≡ 0 → load_entry seat oid entry o x t ≡ Some y
+head_task : (seat oid entry : ℕ) (o : Object) (x y : Part) (t : Task) → may_start t ≡ true → is_cleared t ≡ false → owner_of entry ≡ 0 → load_entry seat oid entry o x t ≡ Some y
     → y.task ≡ task.Walks (head_version oid entry o) (Some entry)
-head_task seat oid entry o x y (task.Cleared n) left none e = absurd (cc)
-head_task seat oid entry o x y t left none e =
-    when_then (λ (z : Part). z.task ≡ task.Walks (head_version oid entry o) (Some entry)) _ _ y e (λ _.
+head_task seat oid entry o x y (task.Cleared n) starts left none e = absurd (cc)
+head_task seat oid entry o x y t starts left none e =
+    entry_then (λ (z : Part). z.task ≡ task.Walks (head_version oid entry o) (Some entry)) seat oid entry o x t y e
+    (λ safe _. absurd (let plain = starts_plain t starts in cc)) (λ _.
     cond-true (eqb (owner_of entry) 0) (task.Walks (head_version oid entry o) (Some entry)) _ (eq-eqb (owner_of entry) 0 none))
 
-pub has_head : (c d : Core) (seat oid entry : ℕ) → IsAtWork seat c → is_cleared (c.seats seat).task ≡ false → after_event c seat (kind.LoadEntry oid) ≡ Some d
+pub has_head : (c d : Core) (seat oid entry : ℕ) → IsAtWork seat c → may_start (c.seats seat).task ≡ true → is_cleared (c.seats seat).task ≡ false → after_event c seat (kind.LoadEntry oid) ≡ Some d
     → entry ≡ (c.shared.objects oid).entry → owner_of entry ≡ 0 → HasHead d seat oid entry
-has_head c d seat oid entry at left e is none =
+has_head c d seat oid entry at starts left e is none =
     let o = c.shared.objects oid in
     let none_there : owner_of o.entry ≡ 0 = ap owner_of (sym is) ∙ none in
-    let there = head_task seat oid o.entry o (c.seats seat) (d.seats seat) (c.seats seat).task left none_there (entry_part c d seat oid at e) in
+    let there = head_task seat oid o.entry o (c.seats seat) (d.seats seat) (c.seats seat).task starts left none_there (entry_part c d seat oid at e) in
     record {
       version = head_version oid o.entry o;
       is = there ∙ ap (λ (n : ℕ). task.Walks (head_version oid o.entry o) (Some n)) (sym is);

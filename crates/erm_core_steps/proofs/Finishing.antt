@@ -176,7 +176,7 @@ module _ (seat : ℕ) (c : Core) (sound : Sound c) (tail : ℕ) (pl : (c.seats s
       let now = lower least (begin_of (c.seats next).place) in
       let low : next < ANNOUNCERS = bound_at c seat sound t at in
       loads t (kind.LoadBegin next) tt tt refl tt tt (λ oid. record { versions = refl; cut = tt }) (g_horizon c seat sound tail pl v least next at)
-      (λ d e. leads (Near t) (kind.LoadBegin next) d tt e _ _ (ap (load_begin next _ (c.seats seat)) at)
+      (λ d e. leads (Near t) (kind.LoadBegin next) d tt e _ _ (ap (load_begin seat next _ (c.seats seat)) at)
       (λ _. near_if t (eqb (next + 1) ANNOUNCERS) (task.CutWalks v now) (task.Horizon v now (next + 1)) (λ _. near_same t _ refl refl (omega (arith, low))) (λ _. near_same t _ refl refl (omega (arith, low)))))
 
   goes_cut_walks : (v : VersionAt) (horizon : ℕ) → (c.seats seat).task ≡ task.CutWalks v horizon → Goes seat c (task.CutWalks v horizon) (kind.LoadCell v word.Stamp)

@@ -14,7 +14,7 @@ use Rattle.erm_machine.specs.declared.version.CellWord.{CellWord}
 use Rattle.erm_machine.specs.declared.version.CellWord.TheVariants as word
 use Rattle.erm_machine.specs.declared.version.VersionAt.{VersionAt}
 use Rattle.erm_machine.specs.Core.{Core, Shared, claim_at, spot_of, word_at}
-use Rattle.erm_machine.specs.Life.{store_begin, store_state}
+use Rattle.erm_machine.specs.Life.{store_back, store_begin, store_state}
 use Rattle.erm_machine.specs.Seat.{end_of, is_active, is_commit, is_decided, last_claim, over, read_at, with_task}
 use Rattle.erm_machine.specs.Settling.{adds_version, clear_reader, install, install_claim, install_new, mark_overwritten, raise_reader, release_old, store_cell, store_head_word, without_entry}
 use Rattle.erm_machine.specs.Sound.{Sound}
@@ -24,7 +24,7 @@ use Rattle.erm_machine.specs.Words.{is_session}
 use Rattle.erm_machine.proofs.Guards.{either_way, if_then, when_then}
 use Rattle.erm_machine.proofs.QuietKinds.{moves}
 use Rattle.erm_core_calls.specs.Ending.{Ahead, IsLess, ahead, ahead_at, fewer_stages, less_left}
-use Rattle.erm_core_calls.specs.Going.{FitsAt, IsInCall, MayWrite, MovesOn, Waits, for_overwriter, for_owner, for_reader, head_words, next_clear, next_commit, next_end, next_head_word, next_install, next_kind, next_at, next_release, overwrites, own_at}
+use Rattle.erm_core_calls.specs.Going.{FitsAt, IsInCall, MayWrite, IsUnsafe, MovesOn, Waits, for_begin, for_overwriter, for_owner, for_reader, head_words, next_back, next_clear, next_commit, next_end, next_head_word, next_install, next_kind, next_at, next_release, overwrites, own_at, wants_back}
 use Rattle.erm_core_calls.proofs.Goes.{goes_from}
 use Rattle.erm_core_calls.proofs.Moving.{below_way, same_way, stepped, taken}
 use Rattle.erm_core_calls.proofs.Nearing.{comes_nearer}
@@ -66,6 +66,7 @@ IsOfEnd (kind.StoreSucc v value) = Unit {0}
 IsOfEnd (kind.StoreOverwriter v value) = Unit {0}
 IsOfEnd (kind.Install oid head) = Unit {0}
 IsOfEnd (kind.ClearReader v) = Unit {0}
+IsOfEnd (kind.StoreBack value) = Unit {0}
 IsOfEnd (kind.StoreBegin value) = Unit {0}
 IsOfEnd k = ⊥
 
@@ -83,6 +84,7 @@ ends_free (kind.StoreSucc v value) e = record { free = record { one = tt; ranges
 ends_free (kind.StoreOverwriter v value) e = record { free = record { one = tt; ranges = refl; none = tt }; one = tt; drawn = refl; flushed = λ n. refl }
 ends_free (kind.Install oid head) e = record { free = record { one = tt; ranges = refl; none = tt }; one = tt; drawn = refl; flushed = λ n. refl }
 ends_free (kind.ClearReader v) e = record { free = record { one = tt; ranges = refl; none = tt }; one = tt; drawn = refl; flushed = λ n. refl }
+ends_free (kind.StoreBack value) e = record { free = record { one = tt; ranges = refl; none = tt }; one = tt; drawn = refl; flushed = λ n. refl }
 ends_free (kind.StoreBegin value) e = record { free = record { one = tt; ranges = refl; none = tt }; one = tt; drawn = refl; flushed = λ n. refl }
 ends_free k e = absurd e
 
@@ -100,16 +102,20 @@ install_kind t ended step =
     (λ _. same_way IsOfEnd step 6 (kind.StoreSucc (overwrites t ended) t.succ) last (λ _. tt)
     (λ _. same_way IsOfEnd step 7 (kind.StoreOverwriter (overwrites t ended) t.stamp) (kind.Install (overwrites t ended).oid (own_at t ended)) (λ _. tt) (λ _. tt)))
 
-commit_kind : (t : Attempt) (raised ended step cleared : ℕ) → IsOfEnd (next_commit t raised ended step cleared)
-commit_kind t raised ended step cleared =
-    let later = if nat_lt ended (length t.writes) then next_install t ended step else next_clear t cleared in
-    below_way IsOfEnd raised (length t.reads) (kind.RaiseReader (read_at t raised).version t.stamp) later (λ _. tt)
-    (λ _. below_way IsOfEnd ended (length t.writes) (next_install t ended step) (next_clear t cleared) (λ _. install_kind t ended step) (λ _. clear_kind t cleared))
+back_kind : (t : Attempt) (back cleared : ℕ) → IsOfEnd (next_back t back cleared)
+back_kind t back cleared = either_way IsOfEnd (wants_back t back) (kind.StoreBack t.stamp) (next_clear t cleared) (λ _. tt) (λ _. clear_kind t cleared)
 
-end_kind : (t : Attempt) (u : Task) → InEnd t u → IsOfEnd (next_end t u)
-end_kind t (task.Ends raised ended step cleared) fits =
-    either_way IsOfEnd (is_commit t.decision) (next_commit t raised ended step cleared) (next_release t ended cleared) (λ _. commit_kind t raised ended step cleared) (λ _. release_kind t ended cleared)
-end_kind t u fits = absurd fits
+commit_kind : (t : Attempt) (back raised ended step cleared : ℕ) → IsOfEnd (next_commit t back raised ended step cleared)
+commit_kind t back raised ended step cleared =
+    let later = if nat_lt ended (length t.writes) then next_install t ended step else next_back t back cleared in
+    below_way IsOfEnd raised (length t.reads) (kind.RaiseReader (read_at t raised).version t.stamp) later (λ _. tt)
+    (λ _. below_way IsOfEnd ended (length t.writes) (next_install t ended step) (next_back t back cleared) (λ _. install_kind t ended step) (λ _. back_kind t back cleared))
+
+end_kind : (t : Attempt) (back : ℕ) (u : Task) → InEnd t u → IsOfEnd (next_end t back u)
+end_kind t back (task.Ends raised ended step cleared) fits =
+    either_way IsOfEnd (is_commit t.decision) (next_commit t back raised ended step cleared) (next_release t ended cleared)
+    (λ _. commit_kind t back raised ended step cleared) (λ _. release_kind t ended cleared)
+end_kind t back u fits = absurd fits
 
 -- The part after one of them.
 module _ (x : Part) (decided : is_decided x.place ≡ true) where
@@ -168,6 +174,10 @@ module _ (x : Part) (decided : is_decided x.place ≡ true) where
   g_clear v None y e = absurd (cc)
   g_clear v (Some at) y e = when_then Goes _ _ y e (λ _. stays _)
 
+  g_back : (value : ℕ) (pl : Place) (y : Part) → store_back value x pl ≡ Some y → Goes y
+  g_back value (Decided tail stamp) y e = when_then Goes _ _ y e (λ _. record { ending = decided_ends x.place decided; over = refl; remains = remains_same x.current })
+  g_back value _ y e = absurd (cc)
+
   g_begin : (seat value : ℕ) (pl : Place) (y : Part) → is_decided pl ≡ true → store_begin seat value x pl ≡ Some y → Goes y
   g_begin seat value (Decided tail stamp) y is e = when_then Goes _ _ y e (λ _. record { ending = refl; over = refl; remains = remains_same x.current })
   g_begin seat value _ y is e = absurd (cc)
@@ -179,6 +189,7 @@ module _ (x : Part) (decided : is_decided x.place ≡ true) where
   goes seat (kind.StoreOverwriter v value) found s y of e = g_mark 7 v value x.current.stamp x.task y e
   goes seat (kind.Install oid head) found s y of e = g_install oid head x.task y e
   goes seat (kind.ClearReader v) found s y of e = g_clear v (end_of x.task) y e
+  goes seat (kind.StoreBack value) found s y of e = g_back value x.place y e
   goes seat (kind.StoreBegin value) found s y of e = g_begin seat value x.place y decided e
   goes seat k found s y of e = absurd of
 
@@ -231,7 +242,7 @@ module _ (c : Core) (seat : ℕ) (sound : Sound c) (session : is_session seat �
   x = c.seats seat
 
   abbrev k_next : Kind
-  k_next = next_end x.current x.task
+  k_next = next_end x.current x.back x.task
 
   fits_at : (pl : Place) → is_decided pl ≡ true → TaskFits pl x.current x.task → InEnd x.current x.task
   fits_at (Decided tail stamp) e fits = fits
@@ -241,7 +252,7 @@ module _ (c : Core) (seat : ℕ) (sound : Sound c) (session : is_session seat �
   fits = fits_at x.place decided (sound.own seat).task.fits
 
   pub of_end : IsOfEnd k_next
-  of_end = end_kind x.current x.task fits
+  of_end = end_kind x.current x.back x.task fits
 
   kind_at : (pl : Place) → is_decided pl ≡ true → next_at some_block x pl x.task ≡ k_next
   kind_at (Decided tail stamp) e = refl
@@ -259,17 +270,24 @@ module _ (c : Core) (seat : ℕ) (sound : Sound c) (session : is_session seat �
   no_wait (task.Ends raised ended step cleared) at f (for_owner oid owner is none) = absurd (cc)
   no_wait (task.Ends raised ended step cleared) at f (for_overwriter read owner is none) = absurd (cc)
   no_wait (task.Ends raised ended step cleared) at f (for_reader write bits reader is least none) = absurd (cc)
+  no_wait (task.Ends raised ended step cleared) at f (for_begin other is another some below) = absurd (cc)
   no_wait u at f w = absurd f
+
+  no_unsafe : (u : Task) → x.task ≡ u → InEnd x.current u → IsUnsafe c seat → ⊥
+  no_unsafe (task.Ends raised ended step cleared) at f unsafe = let behind = unsafe.behind in absurd (cc)
+  no_unsafe u at f unsafe = absurd f
 
   on : MovesOn c seat (next_kind some_block x)
   on =
-      ⊎_elim (λ (m : MovesOn c seat (next_kind some_block x)). m) (λ (w : Waits c seat). absurd (no_wait x.task refl fits w))
+      ⊎_elim (λ (m : MovesOn c seat (next_kind some_block x)). m)
+      (λ (stands : Waits c seat ⊎ IsUnsafe c seat).
+      ⊎_elim (λ (w : Waits c seat). absurd (no_wait x.task refl fits w)) (λ (unsafe : IsUnsafe c seat). absurd (no_unsafe x.task refl fits unsafe)) stands)
       (goes_from c seat sound some_block (λ tail is. session) (λ numbers. session) (call_at x.place decided) (write_at x.place refl decided))
 
   pub end_taken : IsTaken c seat k_next
   end_taken = subst (IsTaken c seat) (kind_at x.place decided) (on.after, on.taken)
 
-  two_at : (pl : Place) (u : Task) → is_decided pl ≡ true → InEnd x.current u → (ahead_at x.current pl u).stages ≡ 2
+  two_at : (pl : Place) (u : Task) → is_decided pl ≡ true → InEnd x.current u → (ahead_at x.current x.back pl u).stages ≡ 2
   two_at (Decided tail stamp) (task.Ends raised ended step cleared) e f = refl
   two_at (Decided tail stamp) u e f = absurd f
   two_at _ u e f = absurd (cc)

@@ -118,6 +118,7 @@ word_leaves seat (kind.LoadStamp v w) found x s e = refl
 word_leaves seat (kind.LoadRing at) found x s e = refl
 word_leaves seat kind.LoadFlushed found x s e = refl
 word_leaves seat (kind.LoadDetached v) found x s e = refl
+word_leaves seat (kind.LoadBack other) found x s e = refl
 word_leaves seat _ found x s e = absurd e
 
 pub load_shared : (c d : Core) (seat : ℕ) (k : Kind) → IsLoad k → after_event c seat k ≡ Some d → d.shared ≡ c.shared

@@ -20,7 +20,7 @@ use Rattle.erm_machine.specs.declared.version.CellWord.TheVariants as word
 use Rattle.erm_machine.specs.declared.version.VersionAt.{VersionAt}
 use Rattle.erm_machine.specs.Core.{Core, Shared, claim_at, spot_of, version_at, word_at}
 use Rattle.erm_machine.specs.Flushing.{gathered_word, size_of, load_flushed, load_ring}
-use Rattle.erm_machine.specs.Life.{after_clear, load_begin, load_state, load_tail_for_horizon, load_tail_to_begin, load_tail_to_gather}
+use Rattle.erm_machine.specs.Life.{after_clear, load_back, load_begin, load_state, load_tail_for_horizon, load_tail_to_begin, load_tail_to_gather}
 use Rattle.erm_machine.specs.Reading.{load_cell, load_counter, load_detached}
 use Rattle.erm_machine.specs.Seat.{is_active, is_sealed, read_at, same_version, with_task}
 use Rattle.erm_machine.specs.Settling.{has_room, load_read_entry, load_readers, load_settled_stamp, load_stamp, may_settle}
@@ -161,9 +161,14 @@ module _ (s : Shared) (x : Part) (passes : IsPassing s x) where
   no_horizon found y (task.Claimed version) p e = absurd (cc)
   no_horizon found y _ p e = absurd (cc)
 
-  no_begin_word : (other found : ℕ) (y : Part) (u : Task) → is_passing u ≡ true → load_begin other found x u ≡ Some y → Next s x y
-  no_begin_word other found y (task.Horizon version least next) p e = absurd (cc)
-  no_begin_word other found y _ p e = absurd (cc)
+  no_begin_word : (seat other found : ℕ) (y : Part) (u : Task) → is_passing u ≡ true → load_begin seat other found x u ≡ Some y → Next s x y
+  no_begin_word seat other found y (task.Horizon version least next) p e = absurd (cc)
+  no_begin_word seat other found y (task.Surveys next) p e = absurd (cc)
+  no_begin_word seat other found y _ p e = absurd (cc)
+
+  no_back_word : (other found : ℕ) (y : Part) (u : Task) → is_passing u ≡ true → load_back other found x u ≡ Some y → Next s x y
+  no_back_word other found y (task.Behind next) p e = absurd (cc)
+  no_back_word other found y _ p e = absurd (cc)
 
   no_detached : (found : ℕ) (v : VersionAt) (y : Part) (u : Task) → is_passing u ≡ true → load_detached found v x u ≡ Some y → Next s x y
   no_detached found v y (task.Detaches version) p e = absurd (cc)
@@ -188,7 +193,7 @@ pub load_next : (c : Core) (seat : ℕ) (k : Kind) (y : Part) → LoadsWord k �
 load_next c seat (kind.LoadTail purpose.Begin) y is passes e = no_begin c.shared (c.seats seat) passes seat c.shared.tail y (c.seats seat).place passes.sealed e
 load_next c seat (kind.LoadTail purpose.Horizon) y is passes e = no_horizon c.shared (c.seats seat) passes c.shared.tail y (c.seats seat).task passes.passing e
 load_next c seat (kind.LoadTail purpose.Gather) y is passes e = gather_next c.shared (c.seats seat) passes seat c.shared.tail y e
-load_next c seat (kind.LoadBegin q) y is passes e = no_begin_word c.shared (c.seats seat) passes q _ y (c.seats seat).task passes.passing e
+load_next c seat (kind.LoadBegin q) y is passes e = no_begin_word c.shared (c.seats seat) passes seat q _ y (c.seats seat).task passes.passing e
 load_next c seat (kind.LoadState q bound) y is passes e = look_next c.shared (c.seats seat) passes seat q bound (word_at c (spot_of seat (kind.LoadState q bound))) y e
 load_next c seat (kind.LoadEntry oid) y is passes e =
     if_then (Next c.shared (c.seats seat)) (is_sealed (c.seats seat).place) _ _ y e (λ _ e2. entry_next c.shared (c.seats seat) passes seat oid y (c.seats seat).task e2)
@@ -202,4 +207,5 @@ load_next c seat (kind.LoadStamp v w) y is passes e = stamp_next c.shared (c.sea
 load_next c seat (kind.LoadRing at) y is passes e = ring_next c.shared (c.seats seat) passes at _ y (c.seats seat).flushing e
 load_next c seat kind.LoadFlushed y is passes e = flushed_next c.shared (c.seats seat) passes _ y (c.seats seat).flushing e
 load_next c seat (kind.LoadDetached v) y is passes e = no_detached c.shared (c.seats seat) passes _ v y (c.seats seat).task passes.passing e
+load_next c seat (kind.LoadBack q) y is passes e = no_back_word c.shared (c.seats seat) passes q _ y (c.seats seat).task passes.passing e
 load_next c seat _ y is passes e = absurd is

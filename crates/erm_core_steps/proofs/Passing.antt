@@ -19,7 +19,7 @@ use Rattle.erm_machine.specs.Step.{after_event}
 use Rattle.erm_machine.specs.Words.{is_clear, is_seat, state_of}
 use Rattle.erm_machine.proofs.QuietKinds.{Moves, moves}
 use Rattle.erm_core_calls.specs.Ending.{ComesNearer, IsLess, ahead, ahead_at}
-use Rattle.erm_core_calls.specs.Going.{MovesOn, Waits, Written, next_settle, overwrites, for_owner, for_overwriter, for_reader}
+use Rattle.erm_core_calls.specs.Going.{MovesOn, Waits, Written, next_settle, overwrites, for_begin, for_owner, for_overwriter, for_reader}
 use Rattle.erm_core_calls.proofs.Bits.{least_bit}
 use Rattle.erm_core_calls.proofs.GoesActive.{bound_at}
 use Rattle.erm_core_calls.proofs.GoesSettled.{s_read_clear, s_read_overtaken, s_read_owned, s_readers_left, s_settles, s_write_clear, s_write_made}
@@ -115,10 +115,12 @@ module _ (c : Core) (seat : ℕ) (sealed : is_sealed (c.seats seat).place ≡ tr
     no_owner read owner (for_overwriter r other is none) at clear =
         let same : owner ≡ other = ap owner_at (sym at ∙ is) in absurd (let found = subst (λ n. is_clear (state_of (c.seats n).place) x.current.stamp ≡ true) same clear in cc)
     no_owner read owner (for_reader write bits other is least none) at clear = absurd (cc)
+    no_owner read owner (for_begin other is another some below) at clear = absurd (cc)
 
     no_reader : (write bits : ℕ) → Waits c seat → x.task ≡ task.ReadersLeft write bits → is_clear (state_of (c.seats (trailing_zeros w64 bits)).place) x.current.stamp ≡ true → ⊥
     no_reader write bits (for_owner oid other is none) at clear = absurd (cc)
     no_reader write bits (for_overwriter r other is none) at clear = absurd (cc)
+    no_reader write bits (for_begin other is another some below) at clear = absurd (cc)
     no_reader write bits (for_reader w more other is least none) at clear =
         let bits_same : bits ≡ more = ap bits_left (sym at ∙ is) in
         let same : trailing_zeros w64 bits ≡ other = ap (trailing_zeros w64) bits_same ∙ eqb-true (trailing_zeros w64 more) other (and_parts _ _ least).0 in
@@ -162,16 +164,16 @@ module _ (c : Core) (seat : ℕ) (sealed : is_sealed (c.seats seat).place ≡ tr
   waits_at u at p sound w stop d e = absurd (cc)
 
 -- what lies ahead of a seat that passes versions
-left_at : (seat : ℕ) (t : Attempt) (pl : Place) (u : Task) → is_sealed pl ≡ true → is_passing u ≡ true → IsBounded seat t u → (ahead_at t pl u).left < 2 ^ 64
-left_at seat t (Sealed tail stamp) (task.Settles r w) e p b = omega arith
-left_at seat t (Sealed tail stamp) (task.ReadOwned read owner) e p b = omega arith
-left_at seat t (Sealed tail stamp) (task.ReadClear read) e p b = omega arith
-left_at seat t (Sealed tail stamp) (task.ReadOvertaken read overwriter) e p b = omega arith
-left_at seat t (Sealed tail stamp) (task.ReadersLeft write bits) e p b = word_from_bits bits (λ q one. let h = seat_low q (b.2 q one).has_words in omega (arith, h))
-left_at seat t (Sealed tail stamp) (task.WriteClear write) e p b = omega arith
-left_at seat t (Sealed tail stamp) (task.WriteMade write) e p b = omega arith
-left_at seat t (Sealed tail stamp) u e p b = absurd (cc)
-left_at seat t _ u e p b = absurd (cc)
+left_at : (seat : ℕ) (t : Attempt) (back : ℕ) (pl : Place) (u : Task) → is_sealed pl ≡ true → is_passing u ≡ true → IsBounded seat t u → (ahead_at t back pl u).left < 2 ^ 64
+left_at seat t back (Sealed tail stamp) (task.Settles r w) e p b = omega arith
+left_at seat t back (Sealed tail stamp) (task.ReadOwned read owner) e p b = omega arith
+left_at seat t back (Sealed tail stamp) (task.ReadClear read) e p b = omega arith
+left_at seat t back (Sealed tail stamp) (task.ReadOvertaken read overwriter) e p b = omega arith
+left_at seat t back (Sealed tail stamp) (task.ReadersLeft write bits) e p b = word_from_bits bits (λ q one. let h = seat_low q (b.2 q one).has_words in omega (arith, h))
+left_at seat t back (Sealed tail stamp) (task.WriteClear write) e p b = omega arith
+left_at seat t back (Sealed tail stamp) (task.WriteMade write) e p b = omega arith
+left_at seat t back (Sealed tail stamp) u e p b = absurd (cc)
+left_at seat t back _ u e p b = absurd (cc)
 
 -- Of a seat that passes versions: what is said of the next step.
 module _ (c : Core) (seat : ℕ) (sound : Sound c) (passing : IsPassing c.shared (c.seats seat)) (k : Kind) (by : PassesBy (c.seats seat).current (c.seats seat).task k) where
@@ -227,7 +229,7 @@ module _ (c : Core) (seat : ℕ) (sound : Sound c) (passing : IsPassing c.shared
 
     pub less : Sound d → (word : ℕ) → word ≡ word_at c (spot_of seat k) → IsClearFor k word → weight (d.seats seat) < weight (c.seats seat)
     less after_sound word is clear =
-        let low = left_at seat (d.seats seat).current (d.seats seat).place (d.seats seat).task still_passing.sealed still_passing.passing (after_sound.own seat).bounds.bounded in
+        let low = left_at seat (d.seats seat).current (d.seats seat).back (d.seats seat).place (d.seats seat).task still_passing.sealed still_passing.passing (after_sound.own seat).bounds.bounded in
         let n = nears_at (c.seats seat).place refl passing.sealed in
         let same : d ≡ n.0.after = one_after c d n.0.after seat k (subst (λ j. after_event c seat j ≡ Some n.0.after) by_kind n.0.taken) after in
         lighter (ahead (d.seats seat)) (ahead (c.seats seat)) low (subst (λ (to : Core). IsLess (ahead (to.seats seat)) (ahead (c.seats seat))) (sym same) n.1)

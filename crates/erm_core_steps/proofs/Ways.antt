@@ -16,12 +16,13 @@ use Rattle.erm_machine.specs.declared.version.CellWord.TheVariants as word
 use Rattle.erm_machine.specs.declared.version.VersionAt.{VersionAt}
 use Rattle.erm_machine.specs.Core.{Core, Object, spot_of, word_at}
 use Rattle.erm_machine.specs.Life.{after_clear, noted}
-use Rattle.erm_machine.specs.Reading.{entered, head_version, load_active_stamp, load_cell, load_entry, load_walked_link, load_walked_stamp}
-use Rattle.erm_machine.specs.Seat.{is_active, is_sealed, may_start, same_version}
+use Rattle.erm_machine.specs.Reading.{entered, head_version, load_active_stamp, load_cell, load_entry, load_safe_entry, load_walked_link, load_walked_stamp}
+use Rattle.erm_machine.specs.Seat.{is_active, is_safe, is_sealed, may_start, same_version, when, with_task}
 use Rattle.erm_machine.specs.Settling.{load_stamp}
 use Rattle.erm_machine.specs.Sound.{Sound}
 use Rattle.erm_machine.specs.Step.{after_event, part_after}
 use Rattle.erm_machine.specs.Words.{is_clear, owner_of, state_of}
+use Rattle.erm_machine.proofs.Backs.{entry_then}
 use Rattle.erm_machine.proofs.Guards.{either_way, if_then, when_then}
 use Rattle.erm_machine.proofs.QuietKinds.{moves}
 use Rattle.erm_machine.proofs.QuietKinds as machine
@@ -236,22 +237,36 @@ entered_arrives seat oid entry o other =
     eqb_is : (m n : ℕ) → eqb m n ≡ true → m ≡ n
     eqb_is m n e = grind arith
 
-load_arrives : (seat oid entry : ℕ) (o : Object) (x y : Part) (t : Task) → owner_of entry ≢ seat → load_entry seat oid entry o x t ≡ Some y → Arrives oid entry y.task
-load_arrives seat oid entry o x y (task.Cleared cleared) other e =
+-- where a call may start no snapshot is safe
+pub starts_plain : (t : Task) → may_start t ≡ true → is_safe t ≡ false
+starts_plain task.Safe e = absurd (cc)
+starts_plain (task.SafeWalks version) e = absurd (cc)
+starts_plain (task.SafePassed version) e = absurd (cc)
+starts_plain (task.SafeFound version) e = absurd (cc)
+starts_plain _ e = refl
+
+load_arrives : (seat oid entry : ℕ) (o : Object) (x y : Part) (t : Task) → may_start t ≡ true → owner_of entry ≢ seat → load_entry seat oid entry o x t ≡ Some y → Arrives oid entry y.task
+load_arrives seat oid entry o x y (task.Cleared cleared) starts other e =
     when_then (λ (z : Part). Arrives oid entry z.task) _ _ y e (λ _.
     either_way (Arrives oid entry) (eqb oid cleared) (task.Walks (head_version oid entry o) None) (entered seat oid entry o)
     (λ _. walks refl) (λ _. entered_arrives seat oid entry o other))
-load_arrives seat oid entry o x y t other e = when_then (λ (z : Part). Arrives oid entry z.task) _ _ y e (λ _. entered_arrives seat oid entry o other)
+load_arrives seat oid entry o x y t starts other e =
+    entry_then (λ (z : Part). Arrives oid entry z.task) seat oid entry o x t y e
+    (λ safe _. absurd (let plain = starts_plain t starts in cc)) (λ _. entered_arrives seat oid entry o other)
 
-pub entry_arrives : (c d : Core) (seat oid : ℕ) → IsAtWork seat c → owner_of (c.shared.objects oid).entry ≢ seat → after_event c seat (kind.LoadEntry oid) ≡ Some d
+pub entry_arrives : (c d : Core) (seat oid : ℕ) → IsAtWork seat c → may_start (c.seats seat).task ≡ true → owner_of (c.shared.objects oid).entry ≢ seat → after_event c seat (kind.LoadEntry oid) ≡ Some d
     → Arrives oid (c.shared.objects oid).entry (d.seats seat).task
-entry_arrives c d seat oid at other e =
-    load_arrives seat oid (c.shared.objects oid).entry (c.shared.objects oid) (c.seats seat) (d.seats seat) (c.seats seat).task other (entry_part c d seat oid at e)
+entry_arrives c d seat oid at starts other e =
+    load_arrives seat oid (c.shared.objects oid).entry (c.shared.objects oid) (c.seats seat) (d.seats seat) (c.seats seat).task starts other (entry_part c d seat oid at e)
 
 entry_starts : (seat oid entry : ℕ) (o : Object) (x : Part) (t : Task) → is_active x.place ≡ true → may_start t ≡ true
     → (y : Part) × (load_entry seat oid entry o x t ≡ Some y)
 entry_starts seat oid entry o x (task.Cleared cleared) active starts = (_, met _ _ _ refl active)
-entry_starts seat oid entry o x t active starts = (_, met _ _ _ refl (and_from _ _ active starts))
+entry_starts seat oid entry o x t active starts = (
+  with_task (entered seat oid entry o) x,
+  other_branch (is_safe t) (load_safe_entry oid entry o x) (when (is_active x.place && may_start t) (with_task (entered seat oid entry o) x)) _ (starts_plain t starts)
+      (met _ _ _ refl (and_from _ _ active starts)),
+)
 
 pub entry_taken : (c : Core) (seat oid : ℕ) → IsAtWork seat c → may_start (c.seats seat).task ≡ true → oid < OBJECT_LIMIT → IsTaken c seat (kind.LoadEntry oid)
 entry_taken c seat oid at starts known =

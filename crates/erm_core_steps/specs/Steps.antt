@@ -34,6 +34,7 @@ LoadsWord (kind.LoadStamp version w) = Unit {0}
 LoadsWord (kind.LoadRing at) = Unit {0}
 LoadsWord kind.LoadFlushed = Unit {0}
 LoadsWord (kind.LoadDetached version) = Unit {0}
+LoadsWord (kind.LoadBack seat) = Unit {0}
 LoadsWord k = ⊥
 
 -- kinds that meet one word, and neither draw a range nor decide

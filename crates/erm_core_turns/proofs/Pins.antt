@@ -1,7 +1,7 @@
 -- A pin: the steps of a begin, and its end.
 use Rattle.std.proofs.Common.{◌≡◌, ℕ, ◌≤◌, true, eqb, List, [], length, Option, Some, None, refl, sym, ap, ◌∙◌, subst, arith, Bool}
 use Rattle.std.specs.Prelude.{IsSome, if◌then◌else◌}
-use Rattle.std.proofs.lemmas.Bool.{and_from, eq-eqb}
+use Rattle.std.proofs.lemmas.Bool.{and_from, eq-eqb, or_left}
 use Rattle.erm_model.specs.declared.limits.TheConstants.{LAST_RUN}
 use Rattle.erm_machine.specs.declared.attempt.Attempt.{Attempt}
 use Rattle.erm_machine.specs.declared.event.Kind.TheVariants as kind
@@ -17,7 +17,7 @@ use Rattle.erm_machine.specs.Lives.{IsPin}
 use Rattle.erm_machine.specs.declared.attempt.Claim.{Claim}
 use Rattle.erm_machine.specs.declared.attempt.Read.{Read}
 use Rattle.erm_machine.specs.Life.{has_ended, is_between, load_tail_to_begin, store_begin}
-use Rattle.erm_machine.specs.Seat.{end_of, may_start, saw, with_current}
+use Rattle.erm_machine.specs.Seat.{end_of, is_snapshot, may_start, saw, with_current}
 use Rattle.erm_machine.specs.Sound.{Sound}
 use Rattle.erm_machine.specs.Step.{after_event}
 use Rattle.erm_core_calls.proofs.Moving.{met, stepped, taken}
@@ -155,7 +155,7 @@ pub end_starts : (u : Task) → may_start u ≡ true → end_of u ≡ Some (0, 0
 end_starts (task.Ends raised ended step cleared) e = absurd (cc)
 end_starts (task.Copies word) e = absurd (cc)
 end_starts (task.Writes claim word) e = absurd (cc)
-end_starts u e = ap (λ (b : Bool). let o : Option (ℕ × ℕ × ℕ × ℕ) = if b then Some (0, 0, 0, 0) else None in o) e
+end_starts u e = ap (λ (b : Bool). let o : Option (ℕ × ℕ × ℕ × ℕ) = if b then Some (0, 0, 0, 0) else None in o) (or_left (may_start u) (is_snapshot u) e)
 
 ended_none : (t : Task) (x : Attempt) → may_start t ≡ true → x.writes ≡ [] → x.reads ≡ [] → has_ended x (end_of t) ≡ true
 ended_none t x starts writes reads =

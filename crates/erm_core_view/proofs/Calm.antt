@@ -15,7 +15,7 @@ use Rattle.erm_machine.specs.declared.part.Flushing.{Flushing}
 use Rattle.erm_machine.specs.declared.part.Flushing.TheVariants as flushing
 use Rattle.erm_machine.specs.declared.part.Part.{Part}
 use Rattle.erm_machine.specs.declared.place.Place.{Place}
-use Rattle.erm_machine.specs.declared.place.Place.TheVariants.{Active, Sealed}
+use Rattle.erm_machine.specs.declared.place.Place.TheVariants.{Active, Sealed, Decided}
 use Rattle.erm_machine.specs.declared.task.Task.{Task}
 use Rattle.erm_machine.specs.declared.task.Task.TheVariants as task
 use Rattle.erm_machine.specs.declared.version.CellWord.{CellWord}
@@ -24,12 +24,13 @@ use Rattle.erm_machine.specs.declared.version.VersionAt.{VersionAt}
 use Rattle.erm_machine.specs.Core.{Object, Shared, claim_at, no_claim}
 use Rattle.erm_machine.specs.Decided.{written_of}
 use Rattle.erm_machine.specs.Flushing.{load_flushed, gathered_word, load_ring, clear_ring, store_flushed}
-use Rattle.erm_machine.specs.Life.{load_tail_for_horizon, load_begin, load_state}
+use Rattle.erm_machine.specs.Life.{load_tail_for_horizon, load_back, load_begin, load_state, store_back}
 use Rattle.erm_machine.specs.Reading.{load_entry, load_walked_stamp, load_walked_link, load_cell, swap_link, load_detached, load_counter, add_counter, load_active_stamp, with_cell}
 use Rattle.erm_machine.specs.Seat.{end_of, is_active, is_sealed, last_claim, with_claim}
 use Rattle.erm_machine.specs.Settling.{load_read_entry, load_readers, load_settled_stamp, load_stamp, store_ring, raise_reader, mark_overwritten, install_claim, adds_version, install_new, release_old, install, clear_reader, filled}
 use Rattle.erm_machine.specs.Step.{part_after}
 use Rattle.erm_machine.specs.Words.{blank_cell}
+use Rattle.erm_machine.proofs.Backs.{entry_then}
 use Rattle.erm_machine.proofs.Guards.{when_then, some_then, if_then, either_way, unless_some}
 use Rattle.erm_world.specs.World.{Finished, Stand, Work}
 use Rattle.erm_world.specs.World as world
@@ -65,25 +66,37 @@ s_horizon : (found : ℕ) (x : Part) (t : Task) (y : Part) → load_tail_for_hor
 s_horizon found x (task.Claimed version) y e = when_then (Same x) _ _ y e (λ _. record { same = refl })
 s_horizon found x _ y e = absurd (cc)
 
-s_load_begin : (other found : ℕ) (x : Part) (t : Task) (y : Part) → load_begin other found x t ≡ Some y → Same x y
-s_load_begin other found x (task.Horizon version least next) y e = when_then (Same x) _ _ y e (λ _. record { same = refl })
-s_load_begin other found x _ y e = absurd (cc)
+s_load_begin : (seat other found : ℕ) (x : Part) (t : Task) (y : Part) → load_begin seat other found x t ≡ Some y → Same x y
+s_load_begin seat other found x (task.Horizon version least next) y e = when_then (Same x) _ _ y e (λ _. record { same = refl })
+s_load_begin seat other found x (task.Surveys next) y e = when_then (Same x) _ _ y e (λ _. record { same = refl })
+s_load_begin seat other found x _ y e = absurd (cc)
+
+s_load_back : (other found : ℕ) (x : Part) (t : Task) (y : Part) → load_back other found x t ≡ Some y → Same x y
+s_load_back other found x (task.Behind next) y e = when_then (Same x) _ _ y e (λ _. record { same = refl })
+s_load_back other found x _ y e = absurd (cc)
+
+s_store_back : (value : ℕ) (x : Part) (p : Place) (y : Part) → store_back value x p ≡ Some y → Same x y
+s_store_back value x (Decided tail stamp) y e = when_then (Same x) _ _ y e (λ _. record { same = refl })
+s_store_back value x _ y e = absurd (cc)
 
 s_load_state : (seat other bound found : ℕ) (x y : Part) → load_state seat other bound found x ≡ Some y → Same x y
 s_load_state seat other bound found x y e = when_then (Same x) _ _ y e (λ _. record { same = refl })
 
 s_load_entry : (seat oid found : ℕ) (o : Object) (x : Part) (t : Task) (y : Part) → load_entry seat oid found o x t ≡ Some y → Same x y
 s_load_entry seat oid found o x (task.Cleared cleared) y e = when_then (Same x) _ _ y e (λ _. record { same = refl })
-s_load_entry seat oid found o x _ y e = when_then (Same x) _ _ y e (λ _. record { same = refl })
+s_load_entry seat oid found o x t y e =
+    entry_then (Same x) seat oid found o x t y e (λ _ _. record { same = refl }) (λ _. record { same = refl })
 
 s_walked_stamp : (found : ℕ) (v : VersionAt) (x : Part) (t : Task) (y : Part) → load_walked_stamp found v x t ≡ Some y → Same x y
 s_walked_stamp found v x (task.Walks version head) y e = when_then (Same x) _ _ y e (λ _. record { same = refl })
 s_walked_stamp found v x (task.CutWalks version horizon) y e = when_then (Same x) _ _ y e (λ _. record { same = refl })
+s_walked_stamp found v x (task.SafeWalks version) y e = when_then (Same x) _ _ y e (λ _. record { same = refl })
 s_walked_stamp found v x (task.Passed version) y e = when_then (Same x) _ _ y e (λ _. record { same = refl })
 s_walked_stamp found v x _ y e = absurd (cc)
 
 s_walked_link : (found : ℕ) (v : VersionAt) (x : Part) (t : Task) (y : Part) → load_walked_link found v x t ≡ Some y → Same x y
 s_walked_link found v x (task.Passed version) y e = when_then (Same x) _ _ y e (λ _. record { same = refl })
+s_walked_link found v x (task.SafePassed version) y e = when_then (Same x) _ _ y e (λ _. record { same = refl })
 s_walked_link found v x (task.CutPassed version horizon) y e = when_then (Same x) _ _ y e (λ _. record { same = refl })
 s_walked_link found v x _ y e = absurd (cc)
 
@@ -204,7 +217,7 @@ calm_kind p (kind.LoadTail purpose.Gather) found s x y q e = when_then (Same x) 
 calm_kind p (kind.AddTail size) found s x y q e = absurd q
 calm_kind p (kind.StoreBegin value) found s x y q e = absurd q
 calm_kind p (kind.StoreState value) found s x y q e = absurd q
-calm_kind p (kind.LoadBegin other) found s x y q e = s_load_begin other found x x.task y e
+calm_kind p (kind.LoadBegin other) found s x y q e = s_load_begin p other found x x.task y e
 calm_kind p (kind.LoadState other bound) found s x y q e = s_load_state p other bound found x y e
 calm_kind p (kind.Split other) found s x y q e = absurd q
 calm_kind p (kind.Join other) found s x y q e = absurd q
@@ -233,3 +246,6 @@ calm_kind p (kind.StoreFlushed value) found s x y q e = s_store_flushed value x 
 calm_kind p kind.LoadFlushed found s x y q e = s_load_flushed found x x.flushing y e
 calm_kind p (kind.SwapLink v) found s x y q e = s_swap_link found v (s.objects v.oid) x x.task y e
 calm_kind p (kind.LoadDetached v) found s x y q e = s_load_detached found v x x.task y e
+calm_kind p (kind.StoreBack value) found s x y q e = s_store_back value x x.place y e
+calm_kind p (kind.LoadBack other) found s x y q e = s_load_back other found x x.task y e
+calm_kind p (kind.Unset claim) found s x y q e = absurd q

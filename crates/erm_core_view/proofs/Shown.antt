@@ -1,13 +1,15 @@
--- What a registration and a claim show of the transaction in progress.
-use Rattle.std.proofs.Common.{◌≡◌, ℕ, Bool, true, ◌&&◌, eqb, cond, List, ◌++◌, [], ◌∷◌, Option, Some, map, refl, ap, ◌∙◌, subst, eqb-true}
-use Rattle.std.proofs.lemmas.Bool.{and_parts, cond-true, eq-eqb}
+-- What a registration, a claim and a new object show of the transaction in progress.
+use Rattle.std.proofs.Common.{◌≡◌, ℕ, ◌<◌, Bool, true, ◌&&◌, eqb, ltb, cond, List, ◌++◌, [], ◌∷◌, Option, Some, map, refl, ap, ◌∙◌, subst, eqb-true}
+use Rattle.std.proofs.lemmas.Bool.{and_parts, cond-true, eq-eqb, lt-ltb}
 use Rattle.std.proofs.lemmas.List.{map-append}
 use Rattle.erm_model.specs.declared.history.VersionRead.{VersionRead}
 use Rattle.erm_model.specs.declared.history.VersionWritten.{VersionWritten}
 use Rattle.erm_machine.specs.declared.attempt.Attempt.{Attempt}
 use Rattle.erm_machine.specs.declared.attempt.Claim.{Claim}
 use Rattle.erm_machine.specs.declared.attempt.Read.{Read}
+use Rattle.erm_machine.specs.declared.event.Counter.TheVariants.{Objects}
 use Rattle.erm_machine.specs.declared.event.Kind.TheVariants as kind
+use Rattle.erm_machine.specs.declared.limits.TheConstants.{OBJECT_LIMIT}
 use Rattle.erm_machine.specs.declared.part.Part.{Part}
 use Rattle.erm_machine.specs.declared.place.Place.{Place}
 use Rattle.erm_machine.specs.declared.place.Place.TheVariants.{Active}
@@ -16,12 +18,12 @@ use Rattle.erm_machine.specs.declared.task.Task.TheVariants as task
 use Rattle.erm_machine.specs.declared.version.VersionAt.{VersionAt}
 use Rattle.erm_machine.specs.Core.{Core, Object, version_at}
 use Rattle.erm_machine.specs.Decided.{read_of, written_of}
-use Rattle.erm_machine.specs.Reading.{claim, new_claim, set_reader}
+use Rattle.erm_machine.specs.Reading.{add_counter, claim, new_claim, set_reader}
 use Rattle.erm_machine.specs.Seat.{is_active}
 use Rattle.erm_machine.specs.Step.{after_event}
 use Rattle.erm_machine.proofs.Guards.{when_then}
 use Rattle.erm_machine.proofs.QuietKinds.{moves}
-use Rattle.erm_world.specs.Works.{claiming, reading}
+use Rattle.erm_world.specs.Works.{claiming, making, reading}
 use Rattle.erm_world.specs.World.{Session, Stand, Work}
 use Rattle.erm_world.specs.World as world
 use Rattle.erm_core_view.specs.Views.{finished_of, session_of, stand_of, work_of}
@@ -105,3 +107,20 @@ claims seat oid number c d at stamp entry active in_hand free e =
     let named = claims_in_hand seat oid number entry o.entry o x at stamp m.part after in
     ap session_of (own_after c seat (kind.Claim oid entry number) d m) ∙ (claim_shows seat oid number entry o.entry o x at stamp m.part active free after).shows
     ∙ ap (λ (n : ℕ). working x (claiming (written_of (new_claim at stamp (version_at (c.shared.objects n) at.place).words.row)) (work_of x.current))) named
+
+-- an object below the limit is made
+counter_shows : (cells seat found : ℕ) (x : Part) (t : Task) (y : Part) → is_active x.place ≡ true → found < OBJECT_LIMIT → add_counter cells seat Objects found x t ≡ Some y
+    → Shows x (making found (work_of x.current)) y
+counter_shows cells seat found x task.Numbers y active low e =
+    when_then (Shows x (making found (work_of x.current))) _ _ y e
+    (λ _. shows_work x _ _ refl active
+    (ap (λ (ms : List ℕ). record (work_of x.current) { made = ms })
+    (cond-true (ltb found OBJECT_LIMIT) (x.current.made ++ found ∷ []) x.current.made (lt-ltb found OBJECT_LIMIT low))))
+counter_shows cells seat found x _ y active low e = absurd (cc)
+
+pub makes : (seat : ℕ) (c d : Core) → is_active (c.seats seat).place ≡ true → c.shared.objects_drawn < OBJECT_LIMIT → after_event c seat (kind.AddCounter Objects) ≡ Some d
+    → session_of (d.seats seat) ≡ working (c.seats seat) (making c.shared.objects_drawn (work_of (c.seats seat).current))
+makes seat c d active low e =
+    let m = moves c seat (kind.AddCounter Objects) d tt e in
+    ap session_of (own_after c seat (kind.AddCounter Objects) d m)
+    ∙ (counter_shows c.shared.cell_limit seat c.shared.objects_drawn (c.seats seat) (c.seats seat).task m.part active low m.after).shows

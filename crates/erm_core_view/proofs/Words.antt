@@ -14,7 +14,7 @@ use Rattle.erm_machine.specs.declared.version.CellWord.TheVariants as word
 use Rattle.erm_machine.specs.Bounds.{IsBounded}
 use Rattle.erm_machine.specs.Core.{Core, claim_at}
 use Rattle.erm_machine.specs.Decided.{written_of}
-use Rattle.erm_machine.specs.Reading.{start_row, store_row_word, stored_row}
+use Rattle.erm_machine.specs.Reading.{start_row, store_row_word, stored_row, unset, without_row}
 use Rattle.erm_machine.specs.Seat.{is_active, last_claim}
 use Rattle.erm_machine.specs.Settling.{store_active_word, store_cell, store_head_word}
 use Rattle.erm_machine.specs.Sound.{Sound}
@@ -24,7 +24,7 @@ use Rattle.erm_machine.proofs.Guards.{if_then, when_then}
 use Rattle.erm_machine.proofs.Holders.{stands_in}
 use Rattle.erm_machine.proofs.QuietKinds.{moves}
 use Rattle.erm_world.specs.World.{Work}
-use Rattle.erm_core_view.specs.Steps.{IsWriting, with_word}
+use Rattle.erm_core_view.specs.Steps.{IsWriting, undone, with_word}
 use Rattle.erm_core_view.specs.Views.{session_of, work_of}
 use Rattle.erm_core_view.proofs.Calm.{Same, claim_same, shows_same}
 use Rattle.erm_core_view.proofs.Moved.{own_after}
@@ -65,6 +65,25 @@ word_shows seat place cell k value c d active writes e =
     let m = moves c seat (kind.StoreCell place cell (word.Row k) value) d tt e in
     ap session_of (own_after c seat (kind.StoreCell place cell (word.Row k) value) d m)
     ∙ (w_cell place cell k value (c.seats seat) m.part active writes m.after).shows
+
+-- the transaction's work with a claim's row undone
+abbrev pub row_undone : ℕ → Attempt → Work
+row_undone place t = record (work_of t) { claims = set (map written_of t.writes) place (undone (written_of (claim_at t place))) }
+
+undone_work : (place : ℕ) (t : Attempt) → work_of (without_row place t) ≡ row_undone place t
+undone_work place t = ap (λ (ws : List VersionWritten). record (work_of t) { claims = ws }) (map-set written_of t.writes place _)
+
+u_unset : (place : ℕ) (x y : Part) → unset place x ≡ Some y → Shows x (row_undone place x.current) y
+u_unset place x y e =
+    when_then (Shows x (row_undone place x.current)) _ _ y e (λ g.
+    shows_work x _ _ refl (and_parts _ _ (and_parts _ _ (and_parts _ _ g).0).0).0 (undone_work place x.current))
+
+-- a row that is undone
+pub undo_shows : (seat place : ℕ) (c d : Core) → after_event c seat (kind.Unset place) ≡ Some d
+    → session_of (d.seats seat) ≡ working (c.seats seat) (row_undone place (c.seats seat).current)
+undo_shows seat place c d e =
+    let m = moves c seat (kind.Unset place) d tt e in
+    ap session_of (own_after c seat (kind.Unset place) d m) ∙ (u_unset place (c.seats seat) m.part m.after).shows
 
 -- a word of a row that is copied is the one that the claim has
 copied_same : (place k value : ℕ) (t : Attempt) → (claim_at t place).is_set ≡ false → (claim_at t place).row ≡ (claim_at t place).base

@@ -1,5 +1,5 @@
 -- What a step of a seat shows in the view.
-use Rattle.std.specs.Prelude.{◌≡◌, ◌≢◌, ℕ, ◌+◌, ◌<◌, true, List, [], ◌∷◌, ◌++◌, length, slice_set}
+use Rattle.std.specs.Prelude.{◌≡◌, ◌≢◌, ℕ, ◌+◌, ◌<◌, true, false, List, [], ◌∷◌, ◌++◌, length, slice_set}
 use Rattle.erm_model.specs.declared.history.VersionWritten.{VersionWritten}
 use Rattle.erm_machine.specs.declared.attempt.Attempt.{Attempt}
 use Rattle.erm_machine.specs.declared.attempt.Claim.{Claim}
@@ -57,6 +57,7 @@ IsCalm (kind.StoreCell claim cell word value) = ⊥
 IsCalm (kind.AddCounter Objects) = ⊥
 IsCalm (kind.Split other) = ⊥
 IsCalm (kind.Join other) = ⊥
+IsCalm (kind.Unset claim) = ⊥
 IsCalm k = Unit {0}
 
 -- a claim is released, and not dropped for want of a cell
@@ -72,6 +73,10 @@ pub record RestsAt (seat : ℕ) (there : Place) (c : Core) : Type 0 where
 -- a row of which a write has set one word
 abbrev pub with_word : ℕ → ℕ → VersionWritten → VersionWritten
 with_word k value w = record w { row = slice_set w.row k value; is_set = true }
+
+-- a row is again that of the version overwritten, and no write has set it
+abbrev pub undone : VersionWritten → VersionWritten
+undone w = record w { row = w.base; is_set = false }
 
 -- no row of a version overwritten is copied
 abbrev pub IsWriting : Task → Type 0

@@ -28,7 +28,7 @@ ghost use Rattle.erm_world.specs.Laws.{IsSerializable};
 ghost use Rattle.erm_world.specs.Works.{claiming, making, reading, setting};
 ghost use Rattle.erm_world.specs.World.{work_at};
 ghost use Rattle.erm_world.specs.World as world;
-ghost use Rattle.erm_core_view.specs.Steps.{ChangesOne, IsCalm, IsEnding, IsWriting, MayWrite, MeetsOne, RestsAt, begin_steps, end_steps, seal_steps, stores_from, with_word};
+ghost use Rattle.erm_core_view.specs.Steps.{ChangesOne, IsCalm, IsEnding, IsWriting, MayWrite, MeetsOne, RestsAt, begin_steps, end_steps, seal_steps, stores_from, undone, with_word};
 ghost use Rattle.erm_core_view.specs.Views.{IsQuiet, session_of, view_of, work_of};
 
 use erm_model::RowLaw;
@@ -106,7 +106,8 @@ pub fn steps_show_what_they_do()
 {}
 
 /// A word of a row that a write stores is set in its claim's row, and shows. One that a claim copies from the version overwritten
-/// shows nothing, nor does one that an end stores. After all words of a row, stored in order, its claim has that row.
+/// shows nothing, nor does one that an end stores. After all words of a row, stored in order, its claim has that row. One that is undone
+/// shows the row of the version overwritten, and that no write has set it.
 pub fn writes_show_the_row()
     ensures words { (seat place cell k value : ℕ) (c d : Core) → is_active (c.seats seat).place ≡ true → IsWriting (c.seats seat).task
         → after_event c seat (kind.StoreCell place cell (word.Row k) value) ≡ Some d
@@ -129,6 +130,14 @@ pub fn writes_show_the_row()
         → Works (view_of sessions c) seat
         (setting (claim_at (c.seats seat).current place).version.oid row (work_at (view_of sessions c) seat))
         (view_of sessions (run_from c (stores_from seat place cell 0 row))) }
+    ensures undoes { (seat place : ℕ) (c d : Core) → after_event c seat (kind.Unset place) ≡ Some d
+        → session_of (d.seats seat) ≡ record {
+          over = (session_of (c.seats seat)).over;
+          stand = world.active (record (work_of (c.seats seat).current) {
+            claims = slice_set (map written_of (c.seats seat).current.writes) place
+                (undone (written_of (claim_at (c.seats seat).current place)));
+          });
+        } }
     ensures rests { (seat place cell : ℕ) (row : List ℕ) (c : Core) → MayWrite (c.seats seat) place cell → length row ≡ ROW_WORDS
         → RestsAt seat (c.seats seat).place (run_from c (stores_from seat place cell 0 row)) }
 {}

@@ -31,6 +31,8 @@ fn life(name: &str, numbers: &Numbers) -> Option<Kind> {
         "store_state" => Kind::StoreState { value },
         "load_begin" => Kind::LoadBegin { seat },
         "look" => Kind::LoadState { seat, bound },
+        "store_back" => Kind::StoreBack { value },
+        "load_back" => Kind::LoadBack { seat },
         "split" => Kind::Split { seat },
         "join" => Kind::Join { seat },
         _ => return None,
@@ -63,6 +65,9 @@ fn claiming(name: &str, numbers: &Numbers) -> Option<Kind> {
         },
         "swap" => Kind::SwapLink { version },
         "detached" => Kind::LoadDetached { version },
+        "unset" => Kind::Unset {
+            claim: numbers[0] as usize,
+        },
         _ => return None,
     };
     Some(kind)

@@ -72,7 +72,7 @@ module _ (v : View) (who : ℕ) (active : is_active (part_of v who).place ≡ tr
 
     after_begin : (found : ℕ) (s : Shared) → part_after who (kind.LoadBegin next) found s looking ≡ Some (looking_part so_far.tail (lower least found) (next + 1) x)
     after_begin found s =
-        subst (λ (t : Task). load_begin next found looking t ≡ Some (looking_part so_far.tail (lower least found) (next + 1) x)) (sym looks)
+        subst (λ (t : Task). load_begin who next found looking t ≡ Some (looking_part so_far.tail (lower least found) (next + 1) x)) (sym looks)
         (when_true _ (looking_part so_far.tail (lower least found) (next + 1) x) (both _ _ (both _ _ active (eq-eqb next next refl)) (lt-ltb next ANNOUNCERS here)))
 
     pub has_looking : part_in u who ≡ Some looking

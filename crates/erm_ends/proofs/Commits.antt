@@ -6,6 +6,7 @@ use Rattle.erm_machine.specs.declared.attempt.Decision.TheVariants.{Commit}
 use Rattle.erm_machine.specs.declared.part.Part.{Part}
 use Rattle.erm_machine.specs.declared.task.Task.{Task}
 use Rattle.erm_machine.specs.declared.task.Task.TheVariants as task
+use Rattle.erm_machine.specs.Back.{GoesBack}
 use Rattle.erm_machine.specs.Core.{claim_at}
 use Rattle.erm_machine.specs.Seat.{is_decided, with_task}
 use Rattle.erm_model.specs.RowTransaction.{Law}
@@ -19,9 +20,10 @@ use Rattle.erm_entries.specs.Ends.{installed_part, next_install}
 use Rattle.erm_precommit.specs.declared.pre.KeptClaim.{KeptClaim}
 use Rattle.erm_precommit.specs.declared.pre.Pre.{Pre}
 use Rattle.erm_precommit.specs.Pre.{IsClaimKept, IsPre, no_claim_kept}
-use Rattle.erm_ends.specs.Commits.{DidCommit, DidInstallClaim, DidInstallClaims, DidRaiseReads, installed_all, installed_to, IsNextCommit, MayCommit, MayInstallClaims, MayRaiseReads}
+use Rattle.erm_ends.specs.Commits.{DidCommit, DidGoBack, DidInstallClaim, DidInstallClaims, DidRaiseReads, installed_all, installed_to, IsNextCommit, MayCommit, MayGoBack, MayInstallClaims, MayRaiseReads, with_back}
 use Rattle.erm_ends.specs.Ends.{claims_over, DidClearReads, DidLeave, left_part, MayClearReads, MayLeave}
-use Rattle.erm_ends.specs.Took.{TookBitClears, TookCommit, TookInstalls, TookLeave, TookRaises, WasInstalled}
+use Rattle.erm_ends.specs.Took.{TookBack, TookBitClears, TookCommit, TookInstalls, TookLeave, TookRaises, WasInstalled}
+use Rattle.erm_ends.proofs.Back.{back_there}
 use Rattle.erm_ends.proofs.Going.{chain, ending_taken}
 use Rattle.erm_ends.proofs.Installed.{installed_for}
 use Rattle.erm_ends.proofs.Leaves.{decided_ends}
@@ -152,61 +154,81 @@ module _ (v : View) (who : ℕ) (pre : Pre) (kept : IsPre pre (part_of v who)) (
     in_w : part_of w who ≡ after_install
     in_w = part_of-changed v who w after_install z has_z install_view
 
-    pub may_clear_committed : MayClearReads pre.reads.value.items (part_of w who)
-    may_clear_committed =
-        subst (MayClearReads pre.reads.value.items) (sym in_w)
-        (record {
-          raised = length z.current.reads;
-          step = 0;
-          place = decided_ends z.place may.decided;
-          ends = ap (λ (m : ℕ). Some (length z.current.reads, m, 0, 0)) (sym (over_length (length z.current.writes) z.current.writes));
-          all_raised = λ e. refl;
-          reads = record { count = kept.read_count; each = kept.reads };
-        })
+    -- the back word
+    pub may_go_back : MayGoBack pre.stamp pre.succ (part_of w who)
+    may_go_back =
+        subst (MayGoBack pre.stamp pre.succ) (sym in_w)
+        (record { decided = may.decided; committed = may.committed; stamp_is = sym kept.stamp; succ_is = sym kept.succ })
 
-    module _ (t : View) (cleared : DidClearReads w who t) where
-      has_w : part_in w who ≡ Some after_install
-      has_w = changed_here v who w after_install z has_z install_view
+    module _ (r : View) (backed : DidGoBack w who r) where
+      abbrev after_back : Part
+      after_back = with_back after_install
 
-      has_here : part_in w who ≡ Some (part_of w who)
-      has_here = has_w ∙ ap (λ (y : Part). Some y) (sym in_w)
+      back_view : r ≡ with_part who after_back v
+      back_view = chain v who w r z after_install with_back has_z install_view backed.view_is
 
-      part_t : part_of t who ≡ with_task cleared.come.task (part_of w who)
-      part_t = part_of-changed w who t (with_task cleared.come.task (part_of w who)) (part_of w who) has_here cleared.come.view_is
+      in_r : part_of r who ≡ after_back
+      in_r = part_of-changed v who r after_back z has_z back_view
 
-      pub may_leave_committed : MayLeave (part_of t who)
-      may_leave_committed =
-          subst MayLeave (sym part_t)
+      pub may_clear_committed : MayClearReads pre.reads.value.items (part_of r who)
+      may_clear_committed =
+          subst (MayClearReads pre.reads.value.items) (sym in_r)
           (record {
-            raised = cleared.raised;
-            step = cleared.step;
-            decided = ap (λ (y : Part). is_decided y.place) in_w ∙ may.decided;
-            ends = cleared.come.ends;
+            raised = length z.current.reads;
+            step = 0;
+            place = decided_ends z.place may.decided;
+            ends = ap (λ (m : ℕ). Some (length z.current.reads, m, 0, 0)) (sym (over_length (length z.current.writes) z.current.writes));
+            all_raised = λ e. refl;
+            reads = record { count = kept.read_count; each = kept.reads };
           })
 
-      module _ (s : View) (left : DidLeave t who s) where
-        from_w : s ≡ with_part who (left_part (part_of w who).current.decision (part_of w who)) w
-        from_w = chain w who t s (part_of w who) (with_task cleared.come.task (part_of w who)) (λ y. left_part y.current.decision y) has_here cleared.come.view_is left.view_is
+      module _ (t : View) (cleared : DidClearReads r who t) where
+        has_r : part_in r who ≡ Some after_back
+        has_r = changed_here v who r after_back z has_z back_view
 
-        committed_view : s ≡ with_part who (left_part Commit (installed_all z)) v
-        committed_view =
-            chain v who w s z after_install (λ y. left_part y.current.decision y) has_z install_view from_w
-            ∙ ap (λ (d : Decision). with_part who (left_part d (installed_all z)) v) may.committed
+        has_here : part_in r who ≡ Some (part_of r who)
+        has_here = has_r ∙ ap (λ (y : Part). Some y) (sym in_r)
 
-        pub did_commit : DidCommit v who s
-        did_commit = record { view_is = committed_view; known = left.known }
+        part_t : part_of t who ≡ with_task cleared.come.task (part_of r who)
+        part_t = part_of-changed r who t (with_task cleared.come.task (part_of r who)) (part_of r who) has_here cleared.come.view_is
 
-    -- the steps, one after another
-    pub took_commit : (law : Law) (b raising installing clearing e : Book) → b.view ≡ v → TookRaises law who z.current b raising → TookInstalls law who (part_of u who).current raising installing
-        → TookBitClears law who (part_of w who).current installing clearing → TookLeave law who clearing e → TookCommit law who b e
-    took_commit law b raising installing clearing e is_v raises installs clears leaves =
-        let part : z ≡ part_of b.view who = ap (λ (q : View). part_of q who) (sym is_v) in
-        record {
-          raised = raising;
-          raises = subst (λ (y : Part). TookRaises law who y.current b raising) part raises;
-          installed = installing;
-          installs = subst (λ (y : Part). TookInstalls law who y.current raising installing) part (subst (λ (y : Part). TookInstalls law who y.current raising installing) in_u installs);
-          cleared = clearing;
-          clears = subst (λ (y : Part). TookBitClears law who y.current installing clearing) part (subst (λ (y : Part). TookBitClears law who y.current installing clearing) in_w clears);
-          leaves = leaves;
-        }
+        pub may_leave_committed : MayLeave (part_of t who)
+        may_leave_committed =
+            subst MayLeave (sym part_t)
+            (record {
+              raised = cleared.raised;
+              step = cleared.step;
+              decided = ap (λ (y : Part). is_decided y.place) in_r ∙ may.decided;
+              ends = cleared.come.ends;
+              back = subst (λ (y : Part). GoesBack y.current → y.back ≡ y.current.stamp) (sym in_r) (back_there after_install);
+            })
+
+        module _ (s : View) (left : DidLeave t who s) where
+          from_r : s ≡ with_part who (left_part (part_of r who).current.decision (part_of r who)) r
+          from_r = chain r who t s (part_of r who) (with_task cleared.come.task (part_of r who)) (λ y. left_part y.current.decision y) has_here cleared.come.view_is left.view_is
+
+          committed_view : s ≡ with_part who (left_part Commit (with_back (installed_all z))) v
+          committed_view =
+              chain v who r s z after_back (λ y. left_part y.current.decision y) has_z back_view from_r
+              ∙ ap (λ (d : Decision). with_part who (left_part d (with_back (installed_all z))) v) may.committed
+
+          pub did_commit : DidCommit v who s
+          did_commit = record { view_is = committed_view; known = left.known }
+
+      -- the steps, one after another
+      pub took_commit : (law : Law) (b raising installing backing clearing e : Book) → b.view ≡ v → TookRaises law who z.current b raising
+          → TookInstalls law who (part_of u who).current raising installing → TookBack law who (part_of w who).current installing backing
+          → TookBitClears law who (part_of r who).current backing clearing → TookLeave law who clearing e → TookCommit law who b e
+      took_commit law b raising installing backing clearing e is_v raises installs backs clears leaves =
+          let part : z ≡ part_of b.view who = ap (λ (q : View). part_of q who) (sym is_v) in
+          record {
+            raised = raising;
+            raises = subst (λ (y : Part). TookRaises law who y.current b raising) part raises;
+            installed = installing;
+            installs = subst (λ (y : Part). TookInstalls law who y.current raising installing) part (subst (λ (y : Part). TookInstalls law who y.current raising installing) in_u installs);
+            backed = backing;
+            backs = subst (λ (y : Part). TookBack law who y.current installing backing) part (subst (λ (y : Part). TookBack law who y.current installing backing) in_w backs);
+            cleared = clearing;
+            clears = subst (λ (y : Part). TookBitClears law who y.current backing clearing) part (subst (λ (y : Part). TookBitClears law who y.current backing clearing) in_r clears);
+            leaves = leaves;
+          }

@@ -1,5 +1,5 @@
 -- The last steps of an end.
-use Rattle.std.proofs.Common.{◌≡◌, ℕ, ◌≤◌, leb, ltb, true, false, ◌&&◌, ◌||◌, List, length, Option, Some, refl, sym, ap, ◌∙◌, subst, arith}
+use Rattle.std.proofs.Common.{◌≡◌, ℕ, ◌≤◌, leb, ltb, eqb, Bool, true, false, not, ◌&&◌, ◌||◌, List, length, Option, Some, refl, sym, ap, ◌∙◌, subst, arith}
 use Rattle.std.specs.Prelude.{IsSome}
 use Rattle.std.proofs.lemmas.Bool.{and_parts, eq-eqb, leb-true, ne_eqb}
 use Rattle.erm_machine.specs.declared.attempt.Attempt.{Attempt}
@@ -9,12 +9,14 @@ use Rattle.erm_machine.specs.declared.part.Part.{Part}
 use Rattle.erm_machine.specs.declared.place.Place.{Place}
 use Rattle.erm_machine.specs.declared.place.Place.TheVariants.{Active, Decided, Idle, Leaving}
 use Rattle.erm_machine.specs.declared.task.Task.TheVariants as task
+use Rattle.erm_machine.specs.Back.{GoesBack, goes_back}
 use Rattle.erm_machine.specs.Core.{blank}
 use Rattle.erm_machine.specs.Facts.{IsCurrent}
 use Rattle.erm_machine.specs.Life.{has_ended, store_begin, store_state}
 use Rattle.erm_machine.specs.Seat.{end_of, is_active, is_commit, is_decided, with_current, with_task}
 use Rattle.erm_machine.specs.Settling.{adds_version}
 use Rattle.erm_machine.specs.Words.{is_flusher, is_seat, is_session}
+use Rattle.erm_machine.proofs.Backs.{goes_back_is}
 use Rattle.erm_model.specs.RowTransaction.{Law}
 use Rattle.erm_rule.specs.declared.view.Book.{Book}
 use Rattle.erm_rule.specs.declared.view.View.{View}
@@ -45,6 +47,14 @@ decided_ending pl e = ap (λ b. b || is_active pl) e
 ended_all : (t : Attempt) (raised step : ℕ) (o : Option (ℕ × ℕ × ℕ × ℕ)) → o ≡ Some (raised, length t.writes, step, length t.reads) → has_ended t o ≡ true
 ended_all t raised step o is = ap (has_ended t) is ∙ both _ _ (eq-eqb (length t.writes) (length t.writes) refl) (eq-eqb (length t.reads) (length t.reads) refl)
 
+-- where a commit goes back its stamp stands in the back word
+back_stored : (x : Part) → (GoesBack x.current → x.back ≡ x.current.stamp) → (not (goes_back x.current) || eqb x.back x.current.stamp) ≡ true
+back_stored x stored = by (goes_back x.current) refl
+  where
+    by : (b : Bool) → goes_back x.current ≡ b → (not b || eqb x.back x.current.stamp) ≡ true
+    by true e = eq-eqb x.back x.current.stamp (stored (goes_back_is x.current e))
+    by false e = refl
+
 -- where a decided seat is once its begin word is cleared
 abbrev leaving : Place → Place
 leaving (Decided tail stamp) = Leaving stamp
@@ -65,7 +75,9 @@ module _ (v : View) (who : ℕ) (may : MayLeave (part_of v who)) where
   between = record x { place = leaving x.place; task = task.Rest }
 
   begin_at : (pl : Place) → is_decided pl ≡ true → store_begin who 0 x pl ≡ Some (record x { place = leaving pl; task = task.Rest })
-  begin_at (Decided tail stamp) e = when_true _ (record x { place = Leaving stamp; task = task.Rest }) (both _ _ refl (ended_all x.current may.raised may.step (end_of x.task) may.ends))
+  begin_at (Decided tail stamp) e =
+      when_true _ (record x { place = Leaving stamp; task = task.Rest })
+      (both _ _ (both _ _ refl (ended_all x.current may.raised may.step (end_of x.task) may.ends)) (back_stored x may.back))
   begin_at _ e = absurd (cc)
 
   state_at : (pl : Place) → is_decided pl ≡ true → store_state who 0 (record x { place = leaving pl; task = task.Rest }) (leaving pl) ≡ Some (left_part x.current.decision x)
@@ -151,7 +163,7 @@ module _ (v : View) (who : ℕ) (place : (is_decided (part_of v who).place || is
 
     -- SKIP
     pub may_leave : is_decided z.place ≡ true → MayLeave (part_of w who)
-    may_leave decided = subst MayLeave (sym part_w) (record { raised = cleared.raised; step = cleared.step; decided = decided; ends = ends_w })
+    may_leave decided = subst MayLeave (sym part_w) (record { raised = cleared.raised; step = cleared.step; decided = decided; ends = ends_w; back = λ g. absurd (excluded g.commit) })
 
     module _ (t : View) (left : DidLeave w who t) where
       skipped : t ≡ with_part who (left_part z.current.decision (released_all z)) v
@@ -176,7 +188,7 @@ module _ (v : View) (who : ℕ) (place : (is_decided (part_of v who).place || is
 
     abort_at : (pl : Place) → is_active pl ≡ true → is_flusher who ≡ false → store_begin who 0 y pl ≡ Some (left_part Abort (released_all z))
     abort_at (Active tail) e session =
-        when_true _ _ (both _ _ refl (ended_all y.current cleared.raised cleared.step (end_of y.task) ends_w))
+        when_true _ _ (ended_all y.current cleared.raised cleared.step (end_of y.task) ends_w)
         ∙ ap (λ (q : Part). Some q) (refuse (is_flusher who) (with_current blank (record y { place = Idle; task = task.Rest })) (left_part Abort (released_all z)) session)
     abort_at _ e session = absurd (cc)
 

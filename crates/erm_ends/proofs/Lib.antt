@@ -1,3 +1,4 @@
+pub mod Back
 pub mod Clears
 pub mod Commits
 pub mod Freed

@@ -1,15 +1,16 @@
 -- The steps of ends one after another, by the classes that callers ask for.
-use Rattle.std.proofs.Common.{◌≡◌, ℕ, zero, suc, add-one, ◌+◌, [], ◌∷◌, refl, sym, subst}
+use Rattle.std.proofs.Common.{◌≡◌, ℕ, zero, suc, add-one, ◌+◌, Bool, true, false, [], ◌∷◌, refl, sym, subst}
 use Rattle.erm_cells.specs.Took.{IsEndStep}
 use Rattle.erm_cells.proofs.Took.{stores_end}
 use Rattle.erm_machine.specs.declared.attempt.Attempt.{Attempt}
 use Rattle.erm_machine.specs.declared.event.Kind.TheVariants.{StoreBegin, StoreState}
+use Rattle.erm_machine.specs.Back.{goes_back}
 use Rattle.erm_model.specs.RowTransaction.{Law}
 use Rattle.erm_rule.specs.declared.view.Book.{Book}
 use Rattle.erm_rule.specs.Views.{part_of}
 use Rattle.erm_rule.specs.Went.{Went}
 use Rattle.erm_rule.proofs.Wents.{went_more, went_none, went_one, went_step}
-use Rattle.erm_ends.specs.Took.{InTurn, TookAbort, TookBitClears, TookCommit, TookInstalls, TookLeave, TookRaises, TookReleases, TookSkip}
+use Rattle.erm_ends.specs.Took.{InTurn, TookAbort, TookBackWhere, TookBitClears, TookCommit, TookInstalls, TookLeave, TookRaises, TookReleases, TookSkip}
 
 pub turns_more : (P : ℕ → Book → Book → Type 0) (n : ℕ) (b m e : Book) → InTurn P n b m → P n m e → InTurn P (n + 1) b e
 turns_more P n b m e first last = subst (λ (k : ℕ). InTurn P k b e) (sym (add-one n)) (m, first, last)
@@ -35,6 +36,10 @@ module _ (law : Law) (who : ℕ) where
   pub clears_end : (t : Attempt) (b e : Book) → TookBitClears law who t b e → Went law who IsEndStep b e
   clears_end t b e took = turns_end _ (λ k m n was. went_one law who IsEndStep _ was.0 m n tt was.1) _ b e took
 
+  back_end : (stamp : ℕ) (back : Bool) (b e : Book) → TookBackWhere law who stamp back b e → Went law who IsEndStep b e
+  back_end stamp true b e took = went_one law who IsEndStep _ took.0 b e tt took.1
+  back_end stamp false b e same = subst (λ (z : Book). Went law who IsEndStep b z) (sym same) (went_none law who IsEndStep b)
+
   pub leave_end : (b e : Book) → TookLeave law who b e → Went law who IsEndStep b e
   leave_end b e took = record { steps = (StoreState 0, took.1) ∷ (StoreBegin 0, took.0) ∷ []; took = took.2; all = (refl, (refl, tt)) }
 
@@ -51,6 +56,8 @@ module _ (law : Law) (who : ℕ) where
   pub commit_ends : (b e : Book) → TookCommit law who b e → Went law who IsEndStep b e
   commit_ends b e took =
       went_more law who IsEndStep b took.cleared e
-      (went_more law who IsEndStep b took.installed took.cleared
+      (went_more law who IsEndStep b took.backed took.cleared
+      (went_more law who IsEndStep b took.installed took.backed
       (went_more law who IsEndStep b took.raised took.installed (raises_end (part_of b.view who).current b took.raised took.raises) (installs_end (part_of b.view who).current took.raised took.installed took.installs))
-      (clears_end (part_of b.view who).current took.installed took.cleared took.clears)) (leave_end took.cleared e took.leaves)
+      (back_end (part_of b.view who).current.stamp (goes_back (part_of b.view who).current) took.installed took.backed took.backs))
+      (clears_end (part_of b.view who).current took.backed took.cleared took.clears)) (leave_end took.cleared e took.leaves)

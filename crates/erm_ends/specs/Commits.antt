@@ -1,8 +1,10 @@
 -- What the end of a commit asks of a seat's part, and what it leaves of a pass's view.
-use Rattle.std.specs.Prelude.{◌≡◌, ℕ, ◌<◌, true, List, length}
+use Rattle.std.specs.Prelude.{◌≡◌, ℕ, ◌<◌, true, if◌then◌else◌, List, length}
+use Rattle.erm_machine.specs.declared.attempt.Attempt.{Attempt}
 use Rattle.erm_machine.specs.declared.attempt.Decision.TheVariants.{Commit}
 use Rattle.erm_machine.specs.declared.part.Part.{Part}
 use Rattle.erm_machine.specs.declared.task.Task.TheVariants as task
+use Rattle.erm_machine.specs.Back.{goes_back}
 use Rattle.erm_machine.specs.Core.{claim_at, own_words}
 use Rattle.erm_machine.specs.Seat.{is_decided, with_task}
 use Rattle.erm_cells.specs.Heads.{with_own_head}
@@ -71,13 +73,32 @@ pub record DidInstallClaims (v : View) (who : ℕ) (w : View) : Type 0 where
   pub view_is : w ≡ with_part who (with_task (task.Ends (length (part_of v who).current.reads) (length (part_of v who).current.writes) 0 0) (installed_all (part_of v who))) v
   pub known : IsKnown w
 
+-- the back word of a seat once its commit has stored it, where it goes back
+abbrev pub back_then : Attempt → ℕ → ℕ
+back_then t back = if goes_back t then t.stamp else back
+
+abbrev pub with_back : Part → Part
+with_back x = record x { back = back_then x.current x.back }
+
+-- the transaction is committed with this stamp and this successor stamp
+pub record MayGoBack (stamp succ : ℕ) (x : Part) : Type 0 where
+  pub decided : is_decided x.place ≡ true
+  pub committed : x.current.decision ≡ Commit
+  pub stamp_is : x.current.stamp ≡ stamp
+  pub succ_is : x.current.succ ≡ succ
+
+-- where it goes back its stamp was stored in the own back word
+pub record DidGoBack (v : View) (who : ℕ) (w : View) : Type 0 where
+  pub view_is : w ≡ with_part who (with_back (part_of v who)) v
+  pub known : IsKnown w
+
 -- END. The transaction was decided as a commit, and its end may begin.
 pub record MayCommit (x : Part) : Type 0 where
   pub decided : is_decided x.place ≡ true
   pub committed : x.current.decision ≡ Commit
   pub ends : x.task ≡ task.Ends 0 0 0 0
 
--- The transaction is over, as a commit.
+-- The transaction is over, as a commit. Where it goes back its stamp stands in the back word.
 pub record DidCommit (v : View) (who : ℕ) (w : View) : Type 0 where
-  pub view_is : w ≡ with_part who (left_part Commit (installed_all (part_of v who))) v
+  pub view_is : w ≡ with_part who (left_part Commit (with_back (installed_all (part_of v who)))) v
   pub known : IsKnown w

@@ -9,6 +9,7 @@ use Rattle.erm_machine.specs.declared.part.Part.{Part}
 use Rattle.erm_machine.specs.declared.place.Place.TheVariants.{Idle}
 use Rattle.erm_machine.specs.declared.task.Task.{Task}
 use Rattle.erm_machine.specs.declared.task.Task.TheVariants as task
+use Rattle.erm_machine.specs.Back.{GoesBack}
 use Rattle.erm_machine.specs.Core.{claim_at}
 use Rattle.erm_machine.specs.Seat.{cells_of, end_of, is_active, is_decided, over, read_at, with_task}
 use Rattle.erm_machine.specs.Settling.{adds_version}
@@ -91,12 +92,13 @@ pub record DidClearReads (v : View) (who : ℕ) (w : View) : Type 0 where
 abbrev pub left_part : Decision → Part → Part
 left_part d x = over d (record x { place = Idle; task = task.Rest })
 
--- the transaction is decided, all claims are over, and all own bits cleared
+-- the transaction is decided, all claims are over, and all own bits cleared; where it goes back its stamp stands in the back word
 pub record MayLeave (x : Part) : Type 0 where
   pub raised : ℕ
   pub step : ℕ
   pub decided : is_decided x.place ≡ true
   pub ends : end_of x.task ≡ Some (raised, length x.current.writes, step, length x.current.reads)
+  pub back : GoesBack x.current → x.back ≡ x.current.stamp
 
 -- the transaction is over, as it was decided
 pub record DidLeave (v : View) (who : ℕ) (w : View) : Type 0 where

@@ -1,12 +1,13 @@
 -- The steps of the ends of transactions, one after another, and what these very steps freed, raised and installed.
-use Rattle.std.specs.Prelude.{◌≡◌, ℕ, zero, suc, ◌≤◌, true, [], ◌∷◌, length}
+use Rattle.std.specs.Prelude.{◌≡◌, ℕ, zero, suc, ◌≤◌, Bool, true, false, [], ◌∷◌, length}
 use Rattle.erm_cells.specs.Heads.{with_own_head}
 use Rattle.erm_cells.specs.Took.{IsEndStep, IsStoreStep}
 use Rattle.erm_entries.specs.Ends.{HasFreeHead, newest_version}
 use Rattle.erm_machine.specs.declared.attempt.Attempt.{Attempt}
 use Rattle.erm_machine.specs.declared.attempt.Claim.{Claim}
-use Rattle.erm_machine.specs.declared.event.Kind.TheVariants.{ClearReader, Install, RaiseReader, StoreBegin, StoreState}
+use Rattle.erm_machine.specs.declared.event.Kind.TheVariants.{ClearReader, Install, RaiseReader, StoreBack, StoreBegin, StoreState}
 use Rattle.erm_machine.specs.declared.version.VersionAt.{VersionAt}
+use Rattle.erm_machine.specs.Back.{goes_back}
 use Rattle.erm_machine.specs.Core.{Core, claim_at, own_words}
 use Rattle.erm_machine.specs.Seat.{is_own, read_at}
 use Rattle.erm_machine.specs.Words.{head_of, number_of, owner_of}
@@ -83,6 +84,15 @@ pub record WasInstalled (law : Law) (who : ℕ) (t : Attempt) (w : Claim) (b e :
 abbrev pub TookInstalls : Law → ℕ → Attempt → Book → Book → Type 0
 TookInstalls law who t b e = InTurn (λ k m n. WasInstalled law who t (claim_at t k) m n) (length t.writes) b e
 
+-- the own back word became this stamp, where the test says so
+abbrev pub TookBackWhere : Law → (who stamp : ℕ) → Bool → Book → Book → Type 0
+TookBackWhere law who stamp true b e = (found : ℕ) × Booked law b who (StoreBack stamp) found e
+TookBackWhere law who stamp false b e = e ≡ b
+
+-- BACK. Where the commit goes back its stamp was stored in the own back word.
+abbrev pub TookBack : Law → ℕ → Attempt → Book → Book → Type 0
+TookBack law who t b e = TookBackWhere law who t.stamp (goes_back t) b e
+
 -- CLEAR. The own bit was cleared at each version that the transaction has read, in order.
 abbrev pub TookBitClears : Law → ℕ → Attempt → Book → Book → Type 0
 TookBitClears law who t b e = InTurn (λ k m n. (found : ℕ) × Booked law m who (ClearReader (read_at t k).version) found n) (length t.reads) b e
@@ -108,12 +118,15 @@ pub record TookSkip (law : Law) (who : ℕ) (b e : Book) : Type 0 where
   pub clears : TookBitClears law who (part_of b.view who).current released cleared
   pub leaves : TookLeave law who cleared e
 
--- END of a commit: the reader stamps of what it read were raised, its claims installed, its bits cleared, and then it was left.
+-- END of a commit: the reader stamps of what it read were raised, its claims installed, its stamp stored in the back word where it goes
+-- back, its bits cleared, and then it was left.
 pub record TookCommit (law : Law) (who : ℕ) (b e : Book) : Type 0 where
   pub raised : Book
   pub raises : TookRaises law who (part_of b.view who).current b raised
   pub installed : Book
   pub installs : TookInstalls law who (part_of b.view who).current raised installed
+  pub backed : Book
+  pub backs : TookBack law who (part_of b.view who).current installed backed
   pub cleared : Book
-  pub clears : TookBitClears law who (part_of b.view who).current installed cleared
+  pub clears : TookBitClears law who (part_of b.view who).current backed cleared
   pub leaves : TookLeave law who cleared e

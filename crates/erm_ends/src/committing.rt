@@ -11,6 +11,7 @@ ghost use Rattle.erm_rule.specs.Books.{book};
 ghost use Rattle.erm_rule.specs.Went.{Went};
 ghost use Rattle.erm_ends.specs.Took.{TookCommit};
 
+use crate::backs::go_back;
 use crate::clearing::clear_reads;
 use crate::installing::install_claims;
 use crate::leaving::leave;
@@ -19,8 +20,8 @@ use erm_model::{RowLaw, Seat};
 use erm_precommit::Pre;
 use erm_rule::{Pass, Table};
 
-/// Ends a transaction that is decided as a commit: raises the reader stamps of the versions read, installs its claims, clears its
-/// reader bits, then its begin word, and last its state word. The seat is idle after it.
+/// Ends a transaction that is decided as a commit: raises the reader stamps of the versions read, installs its claims, stores its stamp
+/// in the back word where it goes back, clears its reader bits, then its begin word, and last its state word. The seat is idle after it.
 pub fn commit_end<L: RowLaw>(pre: &Pre, t: &Table<L>, p: &mut Pass, who: Seat)
     requires fits { Fits t.now.words.shared.table_id p.old }
     requires known { IsKnown (view p.old) }
@@ -34,6 +35,7 @@ pub fn commit_end<L: RowLaw>(pre: &Pre, t: &Table<L>, p: &mut Pass, who: Seat)
 {
     raise_reads(t, p, who, pre.reads.as_slice(), pre.stamp);
     install_claims(t, p, who, pre.claims.as_slice(), pre.stamp, pre.succ);
+    go_back(t, p, who, pre.stamp, pre.succ);
     clear_reads(t, p, who, pre.reads.as_slice());
     leave(t, p, who);
 }

@@ -3,6 +3,7 @@
 #![tactic(auto)]
 
 mod aborting;
+mod backs;
 mod clearing;
 mod committing;
 mod installing;

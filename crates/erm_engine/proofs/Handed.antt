@@ -123,6 +123,14 @@ pub idle_part : (table : TableId) (run place seat q : ℕ) (p : Seat (Unit {0}) 
 idle_part table run place seat q p idle is =
     ap (λ (n : ℕ). part_of (view p) n) is ∙ ap (λ v. part_of v seat) idle.view_is ∙ one_part seat (fresh_part Idle run place)
 
+-- none was handed out yet
+pub new_none : {L : Type 0} (law : Law) (table : Table L) (o : Opening) (ss : List (TableSession L)) → ss ≡ [] → AreNew law table o 0 ss
+new_none law table o ss none = subst (λ (l : List (TableSession _)). AreNew law table o 0 l) (sym none) (record { count_is = refl; each = λ k t at. absurd (cc) })
+
+pub idle_none : (table : TableId) (run place from : ℕ) (ps : List (Seat (Unit {0}) Book)) → ps ≡ [] → AreIdle table run place from from ps
+idle_none table run place from ps none =
+    subst (λ (l : List (Seat (Unit {0}) Book)). AreIdle table run place from from l) (sym none) (record { count_is = omega arith; each = λ k p at. absurd (cc) })
+
 -- ONE MORE
 pub new_more : {L : Type 0} (law : Law) (table : Table L) (o : Opening) (count : ℕ) (ss : List (TableSession L)) (s : TableSession L) → AreNew law table o count ss
     → IsNew law table o (count + 1) s → AreNew law table o (count + 1) (ss ++ s ∷ [])

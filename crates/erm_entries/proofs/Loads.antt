@@ -35,6 +35,10 @@ load_guard : (who oid found : ℕ) (o : Object) (x : Part) (t : Task) → MayLoa
 load_guard who oid found o x (task.Cleared cleared) same active =
     when_true _ _ active
     ∙ ap (λ (b : Bool). Some (with_task (if b then task.Walks (head_version oid found o) None else entered who oid found o) x)) (eq-eqb oid cleared (sym same))
+load_guard who oid found o x task.Safe starts active = absurd (cc)
+load_guard who oid found o x (task.SafeWalks version) starts active = absurd (cc)
+load_guard who oid found o x (task.SafePassed version) starts active = absurd (cc)
+load_guard who oid found o x (task.SafeFound version) starts active = absurd (cc)
 load_guard who oid found o x _ starts active = when_true _ _ (both _ _ active starts)
 
 anew : (who oid entry : ℕ) (o : Object) (t : Task) → starts_anew t ≡ true → loaded who oid entry o t ≡ entered who oid entry o

@@ -1,5 +1,6 @@
 //! A transaction as its seat keeps it.
 ghost use Rattle.std.specs.Prelude.{◌≡◌, IfSome};
+ghost use Rattle.erm_machine.specs.Back.{goes_back};
 ghost use Rattle.erm_machine.specs.Core as core_specs;
 ghost use Rattle.erm_machine.specs.Life as life_specs;
 ghost use Rattle.erm_machine.specs.Reading as reading_specs;
@@ -123,6 +124,20 @@ impl AttemptState {
         } else {
             Decision::Skip
         }
+    }
+
+    /// Whether it has read, claimed and made nothing.
+    pub fn is_new(&self) -> bool
+        ensures { result ≡ seat_specs.is_new (attempt_of self.now) }
+    {
+        self.reads.len() == 0 && self.writes.len() == 0 && self.made.len() == 0
+    }
+
+    /// Whether it is a commit whose successor stamp is less than its own.
+    pub fn goes_back(&self) -> bool
+        ensures { result ≡ goes_back (attempt_of self.now) }
+    {
+        is_commit(self.decision) && self.succ < self.stamp
     }
 
     /// Whether this is the header of the transaction's block, in a log of this run.

@@ -43,6 +43,16 @@ pub fn is_own(cell: u32, own: Option<OwnCell>) -> bool
     }
 }
 
+/// Whether the own cell has the row of the version that the claim overwrites.
+pub fn has_base(claim: &Claim) -> bool
+    ensures { result ≡ reading_specs.has_base claim.now.base claim.now.own }
+{
+    match claim.own {
+        Some(own) => own.words.row == claim.base,
+        None => false,
+    }
+}
+
 // Stores a word into a claim's own cell.
 fn put_own_word(word: CellWord, value: u64, own: &mut Option<OwnCell>)
     ensures { own.new ≡ reading_specs.with_own_word word value own.old }
@@ -131,6 +141,18 @@ impl AttemptState {
     {
         if place < self.writes.len() {
             put_row_word(k, value, is_set, &mut self.writes[place]);
+        }
+    }
+
+    /// The row of the claim at a place is that of the version overwritten, and no write has set it.
+    pub fn drop_row(&mut self, place: usize)
+        ensures after { attempt_of self.new ≡ reading_specs.without_row place (attempt_of self.old) }
+        ensures size { KeepsSize self.old self.new }
+    {
+        if place < self.writes.len() {
+            let claim = &mut self.writes[place];
+            claim.row = claim.base;
+            claim.is_set = false;
         }
     }
 

@@ -9,5 +9,5 @@ mod object;
 pub mod words;
 
 pub use attempt::AttemptState;
-pub use claims::is_own;
+pub use claims::{has_base, is_own};
 pub use object::ObjectState;

@@ -68,6 +68,35 @@ pub fn may_start(task: Task) -> bool
     )
 }
 
+/// Whether the seat is between calls.
+pub fn is_rest(task: Task) -> bool
+    ensures { result ≡ seat_specs.is_rest task }
+{
+    matches!(task, Task::Rest)
+}
+
+/// Whether a snapshot is safe.
+pub fn is_safe(task: Task) -> bool
+    ensures safe { result ≡ seat_specs.is_safe task }
+    ensures fresh { result ≡ true → IsFresh task }
+{
+    matches!(
+        task,
+        Task::Safe | Task::SafeWalks { .. } | Task::SafePassed { .. } | Task::SafeFound { .. }
+    )
+}
+
+/// Whether a snapshot is safe, or looks whether it is.
+pub fn is_snapshot(task: Task) -> bool
+    ensures snapshot { result ≡ seat_specs.is_snapshot task }
+    ensures fresh { result ≡ true → IsFresh task }
+{
+    match task {
+        Task::Surveys { .. } | Task::Behind { .. } => true,
+        _ => is_safe(task),
+    }
+}
+
 /// How far the end of a transaction has come.
 pub fn end_of(task: Task) -> Option<(usize, usize, u8, usize)>
     ensures end { result ≡ seat_specs.end_of task }
@@ -83,7 +112,7 @@ pub fn end_of(task: Task) -> Option<(usize, usize, u8, usize)>
         Task::Copies { .. } => Some((0, 0, 0, 0)),
         Task::Writes { .. } => Some((0, 0, 0, 0)),
         _ => {
-            if may_start(task) {
+            if may_start(task) || is_snapshot(task) {
                 Some((0, 0, 0, 0))
             } else {
                 None

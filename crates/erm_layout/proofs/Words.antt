@@ -6,7 +6,7 @@ use Rattle.erm_machine.specs.declared.limits.TheConstants.{ANNOUNCERS}
 use Rattle.erm_machine.specs.declared.event.Counter.TheVariants.{Objects, Cells}
 use Rattle.erm_machine.specs.declared.version.CellWord.{CellWord}
 use Rattle.erm_machine.specs.declared.version.CellWord.TheVariants.{Stamp, Link, Readers, ReaderStamp, Overwriter, OverwriterSucc, Row}
-use Rattle.erm_layout.specs.declared.limits.TheConstants.{SEAT_WORDS, CELL_WORDS, SEATS_FROM, ENTRIES_FROM, CELLS_FROM, RING_FROM, WORDS}
+use Rattle.erm_layout.specs.declared.limits.TheConstants.{SEAT_WORDS, CELL_WORDS, SEATS_FROM, ENTRIES_FROM, CELLS_FROM, RING_FROM, BACKS_FROM, WORDS}
 use Rattle.erm_layout.specs.declared.word.Word.{Word}
 use Rattle.erm_layout.specs.declared.word.Word.TheVariants as word
 use Rattle.erm_layout.specs.Layout.{HasNumber, IsInCell, index_of, place_in_cell}
@@ -66,7 +66,10 @@ word_of_number n h =
                       elim (cases_lt n RING_FROM) [
                         | inl below ↦ at_place CELLS_FROM n entries (cell_word (n - CELLS_FROM) (omega arith))
                         | inr cells ↦
-                            (word.Ring (n - RING_FROM), omega arith, omega arith)
+                            elim (cases_lt n BACKS_FROM) [
+                              | inl below ↦ (word.Ring (n - RING_FROM), omega arith, omega arith)
+                              | inr ring ↦ (word.Back (n - BACKS_FROM + 1), (omega arith, omega arith), omega arith)
+                            ]
                       ]
                 ]
           ]

@@ -1,13 +1,13 @@
 -- The words of the table, numbered: the tail, the place flushed and the counters, then the seats' words, the entries, the
--- cells' words and the ring.
+-- cells' words, the ring and the sessions' back words.
 use Rattle.std.specs.Prelude.{ℕ, ◌+◌, ◌-◌, ◌*◌, ◌<◌, ◌≤◌}
 use Rattle.erm_model.specs.declared.TheConstants.{ROW_WORDS}
 use Rattle.erm_model.specs.declared.limits.TheConstants.{TABLE_CELLS}
-use Rattle.erm_machine.specs.declared.limits.TheConstants.{ANNOUNCERS, OBJECT_LIMIT, RING_WORDS}
+use Rattle.erm_machine.specs.declared.limits.TheConstants.{ANNOUNCERS, OBJECT_LIMIT, RING_WORDS, SESSIONS}
 use Rattle.erm_machine.specs.declared.event.Counter.TheVariants.{Objects, Cells}
 use Rattle.erm_machine.specs.declared.version.CellWord.{CellWord}
 use Rattle.erm_machine.specs.declared.version.CellWord.TheVariants.{Stamp, Link, Readers, ReaderStamp, Overwriter, OverwriterSucc, Row}
-use Rattle.erm_layout.specs.declared.limits.TheConstants.{SEAT_WORDS, CELL_HEAD_WORDS, CELL_WORDS, SEATS_FROM, ENTRIES_FROM, CELLS_FROM, RING_FROM}
+use Rattle.erm_layout.specs.declared.limits.TheConstants.{SEAT_WORDS, CELL_HEAD_WORDS, CELL_WORDS, SEATS_FROM, ENTRIES_FROM, CELLS_FROM, RING_FROM, BACKS_FROM}
 use Rattle.erm_layout.specs.declared.word.Word.{Word}
 use Rattle.erm_layout.specs.declared.word.Word.TheVariants as word
 
@@ -41,6 +41,7 @@ HasNumber (word.State seat) = (1 ≤ seat) × (seat < ANNOUNCERS)
 HasNumber (word.Entry oid) = oid < OBJECT_LIMIT
 HasNumber (word.Cell cell w) = (cell < TABLE_CELLS) × IsInCell w
 HasNumber (word.Ring place) = place < RING_WORDS
+HasNumber (word.Back seat) = (1 ≤ seat) × (seat ≤ SESSIONS)
 
 -- the number of a word of the table
 abbrev pub index_of : Word → ℕ
@@ -53,3 +54,4 @@ index_of (word.State seat) = SEATS_FROM + SEAT_WORDS * (seat - 1) + 1
 index_of (word.Entry oid) = ENTRIES_FROM + oid
 index_of (word.Cell cell w) = CELLS_FROM + CELL_WORDS * cell + place_in_cell w
 index_of (word.Ring place) = RING_FROM + place
+index_of (word.Back seat) = BACKS_FROM + (seat - 1)

@@ -8,7 +8,8 @@ mod word;
 
 pub use laws::{every_number, numbers_below, one_number};
 pub use limits::{
-    CELL_HEAD_WORDS, CELL_WORDS, CELLS_FROM, ENTRIES_FROM, RING_FROM, SEAT_WORDS, SEATS_FROM, WORDS,
+    BACKS_FROM, CELL_HEAD_WORDS, CELL_WORDS, CELLS_FROM, ENTRIES_FROM, RING_FROM, SEAT_WORDS,
+    SEATS_FROM, WORDS,
 };
 pub use numbers::{index, word_of};
 pub use word::Word;

@@ -1,8 +1,8 @@
 //! Where the parts of the table begin, and how many words it has.
-use erm_machine::{ANNOUNCERS, OBJECT_LIMIT, RING_WORDS};
+use erm_machine::{ANNOUNCERS, OBJECT_LIMIT, RING_WORDS, SESSIONS};
 use erm_model::{ROW_WORDS, TABLE_CELLS};
 
-/// How many words a seat has: its begin word and its state word.
+/// How many words a seat has among the seats' words: its begin word and its state word.
 pub const SEAT_WORDS: usize = 2;
 
 /// How many words a cell has before its row.
@@ -23,5 +23,8 @@ pub const CELLS_FROM: usize = ENTRIES_FROM + OBJECT_LIMIT as usize;
 /// The number of the ring's first word.
 pub const RING_FROM: usize = CELLS_FROM + CELL_WORDS * TABLE_CELLS as usize;
 
+/// The number of the first session's back word.
+pub const BACKS_FROM: usize = RING_FROM + RING_WORDS as usize;
+
 /// How many words the table has: all numbers are below.
-pub const WORDS: usize = RING_FROM + RING_WORDS as usize;
+pub const WORDS: usize = BACKS_FROM + SESSIONS as usize;

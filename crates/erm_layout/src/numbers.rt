@@ -4,7 +4,8 @@ ghost use Rattle.erm_layout.specs.Layout.{HasNumber, IsInCell, index_of, place_i
 
 use crate::Word;
 use crate::limits::{
-    CELL_HEAD_WORDS, CELL_WORDS, CELLS_FROM, ENTRIES_FROM, RING_FROM, SEAT_WORDS, SEATS_FROM, WORDS,
+    BACKS_FROM, CELL_HEAD_WORDS, CELL_WORDS, CELLS_FROM, ENTRIES_FROM, RING_FROM, SEAT_WORDS,
+    SEATS_FROM, WORDS,
 };
 use erm_machine::{ANNOUNCERS, CellWord, Counter};
 use erm_model::{Oid, Seat, TABLE_CELLS};
@@ -25,6 +26,7 @@ pub fn index(word: Word) -> usize
         Word::Entry(oid) => ENTRIES_FROM + oid as usize,
         Word::Cell { cell, word } => CELLS_FROM + CELL_WORDS * cell as usize + index_in_cell(word),
         Word::Ring(place) => RING_FROM + place as usize,
+        Word::Back(seat) => BACKS_FROM + (seat as usize - 1),
     }
 }
 
@@ -58,8 +60,10 @@ pub fn word_of(index: usize) -> Option<Word>
         Some(Word::Entry((index - ENTRIES_FROM) as Oid))
     } else if index < RING_FROM {
         Some(cell_word(index - CELLS_FROM))
-    } else if index < WORDS {
+    } else if index < BACKS_FROM {
         Some(Word::Ring((index - RING_FROM) as u64))
+    } else if index < WORDS {
+        Some(Word::Back((index - BACKS_FROM) as Seat + 1))
     } else {
         None
     }

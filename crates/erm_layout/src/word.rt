@@ -21,4 +21,6 @@ pub enum Word {
     Cell { cell: u32, word: CellWord },
     /// A place of the ring.
     Ring(u64),
+    /// A session's back word.
+    Back(Seat),
 }

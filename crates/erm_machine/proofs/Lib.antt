@@ -1,3 +1,4 @@
+pub mod Backs
 pub mod Frames
 pub mod Guards
 pub mod Histories

@@ -1,5 +1,5 @@
 -- Guards read the own part and the word that is met, and nothing else.
-use Rattle.std.proofs.Common.{◌≡◌, ℕ, Bool, true, false, cond, Option, Some, None, refl, is_some}
+use Rattle.std.proofs.Common.{◌≡◌, ℕ, Bool, true, false, cond, ◌&&◌, Option, Some, None, refl, is_some}
 use Rattle.erm_machine.specs.declared.event.Counter.{Counter}
 use Rattle.erm_machine.specs.declared.event.Counter.TheVariants.{Objects, Cells}
 use Rattle.erm_machine.specs.declared.event.Kind.{Kind}
@@ -9,8 +9,8 @@ use Rattle.erm_machine.specs.declared.task.Task.{Task}
 use Rattle.erm_machine.specs.declared.task.Task.TheVariants as task
 use Rattle.erm_machine.specs.declared.version.VersionAt.{VersionAt}
 use Rattle.erm_machine.specs.Core.{Object, Shared}
-use Rattle.erm_machine.specs.Reading.{load_entry, claim, set_reader, swap_link, load_counter, add_counter}
-use Rattle.erm_machine.specs.Seat.{is_sealed}
+use Rattle.erm_machine.specs.Reading.{entered, load_entry, load_safe_entry, claim, set_reader, swap_link, load_counter, add_counter}
+use Rattle.erm_machine.specs.Seat.{is_active, is_safe, is_sealed, may_start, when, with_task}
 use Rattle.erm_machine.specs.Settling.{load_read_entry}
 use Rattle.erm_machine.specs.Step.{part_after}
 
@@ -22,9 +22,17 @@ same_branch : (b : Bool) (l m n : Option Part) → is_some m ≡ is_some n → i
 same_branch true l m n e = refl
 same_branch false l m n e = e
 
+same_choice : (b : Bool) (l k m n : Option Part) → is_some l ≡ is_some k → is_some m ≡ is_some n → is_some (cond b l m) ≡ is_some (cond b k n)
+same_choice true l k m n d e = d
+same_choice false l k m n d e = e
+
 entry_local : (seat oid found : ℕ) (o q : Object) (x : Part) (t : Task) → is_some (load_entry seat oid found o x t) ≡ is_some (load_entry seat oid found q x t)
 entry_local seat oid found o q x (task.Cleared cleared) = same_guard _ _ _
-entry_local seat oid found o q x _ = same_guard _ _ _
+entry_local seat oid found o q x t =
+    same_choice (is_safe t) (load_safe_entry oid found o x) (load_safe_entry oid found q x)
+    (when (is_active x.place && may_start t) (with_task (entered seat oid found o) x))
+    (when (is_active x.place && may_start t) (with_task (entered seat oid found q) x))
+    (same_guard _ _ _) (same_guard _ _ _)
 
 claim_local : (seat oid seen number found : ℕ) (o q : Object) (x : Part) (t : Task) → is_some (claim seat oid seen number found o x t) ≡ is_some (claim seat oid seen number found q x t)
 claim_local seat oid seen number found o q x (task.Found version stamp (Some entry)) = same_guard _ _ _

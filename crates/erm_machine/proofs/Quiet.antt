@@ -66,6 +66,10 @@ quiet_task x t u h = record { steady = steady_same x _ refl refl refl; seen = re
 pub quiet_flushing : (x : Part) (f : Flushing) (to : ℕ) → Quiet x x.task (record x { flushing = f; gathered_to = to })
 quiet_flushing x f to = record { steady = steady_same x _ refl refl refl; seen = refl; clear = refl; horizon = same_horizon x.task }
 
+-- the back word alone changes
+pub quiet_back : (x : Part) (value : ℕ) → Quiet x x.task (record x { back = value })
+quiet_back x value = record { steady = steady_same x _ refl refl refl; seen = refl; clear = refl; horizon = same_horizon x.task }
+
 -- the current transaction changes in what it reads, writes or makes
 pub record Working (t u : Attempt) : Type 0 where
   pub number : u.number ≡ t.number

@@ -26,12 +26,14 @@ use Rattle.erm_machine.specs.Step.{part_after, shared_after, with_counter, moved
 use Rattle.erm_machine.specs.Words.{put}
 use Rattle.erm_machine.specs.Begins.{horizon_of}
 use Rattle.erm_machine.specs.Facts.{HasBegun}
+use Rattle.erm_machine.specs.Life.{after_passed, load_back, store_back}
 use Rattle.erm_machine.specs.Seat.{end_of, is_active, is_sealed, is_decided, with_claim, last_claim}
-use Rattle.erm_machine.specs.Reading.{entered, after_cut, detached, load_entry, claim, set_reader, load_walked_stamp, load_walked_link, load_cell, swap_link, load_detached, load_counter, add_counter, load_active_stamp, start_row, store_row_word}
+use Rattle.erm_machine.specs.Reading.{entered, after_cut, detached, load_entry, claim, set_reader, load_walked_stamp, load_walked_link, load_cell, swap_link, load_detached, load_counter, add_counter, load_active_stamp, start_row, store_row_word, unset}
 use Rattle.erm_machine.specs.Settling.{load_flushed_to_settle, load_read_entry, load_readers, load_settled_stamp, load_stamp, store_ring, raise_reader, store_head_word, store_active_word, store_cell, mark_overwritten, store_succ, store_overwriter, install_claim, adds_version, install_new, release_old, unclaim, install, clear_reader, filled}
 use Rattle.erm_machine.specs.Flushing.{load_flushed, gathered_word, load_ring, clear_ring, store_flushed}
+use Rattle.erm_machine.proofs.Backs.{entry_then}
 use Rattle.erm_machine.proofs.Guards.{when_then, some_then, if_then, either_way, unless_some}
-use Rattle.erm_machine.proofs.Quiet.{KeepsHorizon, Plain, Quiet, Working, no_horizon, quiet_task, quiet_flushing, quiet_current, quiet_refl}
+use Rattle.erm_machine.proofs.Quiet.{KeepsHorizon, Plain, Quiet, Working, no_horizon, quiet_task, quiet_flushing, quiet_back, quiet_current, quiet_refl, same_horizon}
 
 -- a seat at these places has begun
 pub begun_active : (p : Place) → is_active p ≡ true → HasBegun p
@@ -90,7 +92,8 @@ working x t u c begun p w = quiet_current x t u c x.spare begun (no_horizon t u 
 pub q_load_entry : (seat oid found : ℕ) (o : Object) (x : Part) (t : Task) (y : Part) → load_entry seat oid found o x t ≡ Some y → Quiet x t y
 q_load_entry seat oid found o x (task.Cleared cleared) y e =
     when_then (Quiet x _) _ _ y e (λ _. to_plain x _ _ (search (plain_if, plain_from, entered_plain)))
-q_load_entry seat oid found o x _ y e = when_then (Quiet x _) _ _ y e (λ _. to_plain x _ _ (entered_plain seat oid found o))
+q_load_entry seat oid found o x t y e =
+    entry_then (Quiet x t) seat oid found o x t y e (λ _ _. plain_task x _ _ refl) (λ _. to_plain x _ _ (entered_plain seat oid found o))
 
 -- what the current transaction gains
 working_claim : (b : Bool) (t : Attempt) (pred : ℕ) (w : Claim) → length t.writes < WRITE_LIMIT →
@@ -148,11 +151,14 @@ q_walked_stamp found v x (task.Walks version head) y e =
     when_then (Quiet x _) _ _ y e (λ _. to_plain x _ _ (search (plain_if, plain_from)))
 q_walked_stamp found v x (task.CutWalks version horizon) y e =
     when_then (Quiet x _) _ _ y e (λ _. quiet_task x _ _ (search (keeps_if, keeps_from)))
+q_walked_stamp found v x (task.SafeWalks version) y e =
+    when_then (Quiet x _) _ _ y e (λ _. to_plain x _ _ (search (plain_if, plain_from)))
 q_walked_stamp found v x (task.Passed version) y e = when_then (Quiet x _) _ _ y e (λ _. plain_task x _ _ refl)
 q_walked_stamp found v x _ y e = absurd (cc)
 
 q_walked_link : (found : ℕ) (v : VersionAt) (x : Part) (t : Task) (y : Part) → load_walked_link found v x t ≡ Some y → Quiet x t y
 q_walked_link found v x (task.Passed version) y e = when_then (Quiet x _) _ _ y e (λ _. plain_task x _ _ refl)
+q_walked_link found v x (task.SafePassed version) y e = when_then (Quiet x _) _ _ y e (λ _. plain_task x _ _ refl)
 q_walked_link found v x (task.CutPassed version horizon) y e =
     when_then (Quiet x _) _ _ y e (λ _. quiet_task x _ _ (search (keeps_if, no_horizon, after_cut_plain, keeps_from)))
 q_walked_link found v x _ y e = absurd (cc)
@@ -341,7 +347,24 @@ pub q_store_flushed : (value : ℕ) (x : Part) (f : Flushing) (y : Part) → sto
 q_store_flushed value x (flushing.Clears next to) y e = when_then (Quiet x x.task) _ _ y e (λ _. quiet_flushing x _ _)
 q_store_flushed value x _ y e = absurd (cc)
 
--- kinds that leave the seat at its place, and see no other seat's words
+after_passed_plain : (next : ℕ) → Plain (after_passed next)
+after_passed_plain next = search (plain_if, plain_from)
+
+pub q_load_back : (other found : ℕ) (x : Part) (t : Task) (y : Part) → load_back other found x t ≡ Some y → Quiet x t y
+q_load_back other found x (task.Behind next) y e =
+    when_then (Quiet x _) _ _ y e (λ _. to_plain x _ _ (search (plain_if, plain_from, after_passed_plain)))
+q_load_back other found x _ y e = absurd (cc)
+
+pub q_store_back : (value : ℕ) (x : Part) (p : Place) (y : Part) → store_back value x p ≡ Some y → Quiet x x.task y
+q_store_back value x (Decided tail stamp) y e = when_then (Quiet x x.task) _ _ y e (λ _. quiet_back x value)
+q_store_back value x _ y e = absurd (cc)
+
+pub q_unset : (place : ℕ) (x y : Part) → unset place x ≡ Some y → Quiet x x.task y
+q_unset place x y e =
+    when_then (Quiet x x.task) _ _ y e (λ g.
+    quiet_current x _ x.task _ x.spare (begun_active x.place (first _ _ (first _ _ (first _ _ g)))) (same_horizon x.task) (working_set x.current place _))
+
+-- kinds that leave the seat at its place, and see no other seat's begin word or state word
 abbrev pub IsQuiet : Kind → Type 0
 IsQuiet (kind.LoadTail purpose) = ⊥
 IsQuiet (kind.AddTail size) = ⊥
@@ -387,6 +410,9 @@ quiet_kind p (kind.StoreFlushed value) found s x y q e = q_store_flushed value x
 quiet_kind p kind.LoadFlushed found s x y q e = q_load_flushed found x x.flushing y e
 quiet_kind p (kind.SwapLink v) found s x y q e = q_swap_link found v (s.objects v.oid) x x.task y e
 quiet_kind p (kind.LoadDetached v) found s x y q e = q_load_detached found v x x.task y e
+quiet_kind p (kind.StoreBack value) found s x y q e = q_store_back value x x.place y e
+quiet_kind p (kind.LoadBack other) found s x y q e = q_load_back other found x x.task y e
+quiet_kind p (kind.Unset place) found s x y q e = q_unset place x y e
 
 -- what is shared keeps the tail and its ranges
 pub record SameLog (s t : Shared) : Type 0 where
@@ -408,13 +434,13 @@ keeps_log p (kind.AddTail size) found x s q = absurd q
 keeps_log p (kind.AddCounter counter) found x s q = counter_keeps_log counter _ s
 keeps_log p _ found x s q = record { opening = refl; tail = refl; log = refl }
 
--- a step that meets one word: the part after and what is shared after
+-- a step that meets one word, or none: the part after and what is shared after
 pub record Moves (c : Core) (p : ℕ) (k : Kind) (d : Core) : Type 0 where
   pub part : Part
   pub after : part_after p k (word_at c (spot_of p k)) c.shared (c.seats p) ≡ Some part
   pub is : d ≡ record { shared = shared_after p k (word_at c (spot_of p k)) (c.seats p) c.shared; seats = put c.seats p part }
 
--- kinds that meet one word, or a device: all but splits and joins
+-- kinds that meet one word, a device or none, of one seat: all but splits and joins
 abbrev pub MeetsOne : Kind → Type 0
 MeetsOne (kind.Split other) = ⊥
 MeetsOne (kind.Join other) = ⊥

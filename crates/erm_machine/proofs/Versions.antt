@@ -1,5 +1,5 @@
 -- What steps leave of objects' versions and of the tail; and the last step of an install.
-use Rattle.std.proofs.Common.{◌≡◌, ℕ, ◌≤◌, Bool, true, false, cond, length, Option, Some, None, refl, sym, ap, ◌∙◌, subst, arith, length-set}
+use Rattle.std.proofs.Common.{◌≡◌, ℕ, ◌≤◌, Bool, true, false, cond, ◌||◌, length, Option, Some, None, refl, sym, ap, ◌∙◌, subst, arith, length-set}
 use Rattle.std.specs.Prelude.{if◌then◌else◌}
 use Rattle.std.proofs.lemmas.Bool.{eq-eqb}
 use Rattle.std.proofs.lemmas.Option.{same_Some}
@@ -13,8 +13,7 @@ use Rattle.erm_machine.specs.declared.task.Task.TheVariants as task
 use Rattle.erm_machine.specs.Claims.{step_of}
 use Rattle.erm_machine.specs.Core.{Core, Object, Shared, spot_of, word_at}
 use Rattle.erm_machine.specs.Facts.{over_of}
-use Rattle.erm_machine.specs.Seat.{is_decided, end_of, may_start}
-use Rattle.erm_machine.specs.Settling.{install}
+use Rattle.erm_machine.specs.Seat.{is_decided, is_snapshot, end_of, may_start}
 use Rattle.erm_machine.specs.Step.{shared_after}
 use Rattle.erm_machine.specs.Words.{put}
 use Rattle.erm_machine.proofs.Frames.{at_cases}
@@ -66,7 +65,7 @@ at_last pl (task.Ends raised ended step cleared) writes e decided at last =
     }
 at_last pl (task.Copies w) writes e decided at last = absurd (let z : ◌≡◌ {A = ℕ} 0 e.2 = ap (λ (f : ℕ × ℕ × ℕ × ℕ). f.2) (same_Some _ _ at) in omega (arith, z, last))
 at_last pl (task.Writes claim w) writes e decided at last = absurd (let z : ◌≡◌ {A = ℕ} 0 e.2 = ap (λ (f : ℕ × ℕ × ℕ × ℕ). f.2) (same_Some _ _ at) in omega (arith, z, last))
-at_last pl u writes e decided at last = by_test (may_start u) at
+at_last pl u writes e decided at last = by_test (may_start u || is_snapshot u) at
   where
     by_test : (b : Bool) → (if b then Some (0, 0, 0, 0) else None) ≡ Some e → AtLast pl u writes e.1
     by_test true h = absurd (let z : ◌≡◌ {A = ℕ} 0 e.2 = ap (λ (f : ℕ × ℕ × ℕ × ℕ). f.2) (same_Some _ _ h) in omega (arith, z, last))

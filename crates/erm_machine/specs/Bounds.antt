@@ -3,7 +3,7 @@ use Rattle.std.specs.Int.{bit_at}
 use Rattle.std.specs.Prelude.{◌≡◌, ◌≢◌, ℕ, ◌+◌, ◌-◌, ◌<◌, ◌≤◌, true, length}
 use Rattle.erm_model.specs.declared.TheConstants.{ROW_WORDS}
 use Rattle.erm_model.specs.Member.{◌∈◌}
-use Rattle.erm_machine.specs.declared.limits.TheConstants.{ANNOUNCERS}
+use Rattle.erm_machine.specs.declared.limits.TheConstants.{ANNOUNCERS, SESSIONS}
 use Rattle.erm_machine.specs.declared.attempt.Attempt.{Attempt}
 use Rattle.erm_machine.specs.declared.part.Part.{Part}
 use Rattle.erm_machine.specs.declared.place.Place.{Place}
@@ -22,6 +22,8 @@ pub record IsOther (seat other : ℕ) : Type 0 where
 abbrev pub IsBounded : ℕ → Attempt → Task → Type 0
 IsBounded seat t (task.Owned oid owner) = IsOther seat owner
 IsBounded seat t (task.Horizon version least next) = next < ANNOUNCERS
+IsBounded seat t (task.Surveys next) = (0 < next) × (next ≤ SESSIONS)
+IsBounded seat t (task.Behind next) = (next ≢ seat) × (0 < next) × (next ≤ SESSIONS)
 IsBounded seat t (task.Copies word) = (0 < length t.writes) × (word < ROW_WORDS)
 IsBounded seat t (task.Writes claim word) = (claim < length t.writes) × (word < ROW_WORDS)
 IsBounded seat t (task.Settles reads writes) = (reads ≤ length t.reads) × (writes ≤ length t.writes) × (0 < writes → reads ≡ length t.reads)

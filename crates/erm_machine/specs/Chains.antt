@@ -46,6 +46,9 @@ NamedInHand s (task.CutWalks version horizon) = IsNamed s version
 NamedInHand s (task.CutPassed version horizon) = IsNamed s version
 NamedInHand s (task.CutFound version horizon) = IsNamed s version
 NamedInHand s (task.Detaches version) = IsNamed s version
+NamedInHand s (task.SafeWalks version) = IsNamed s version
+NamedInHand s (task.SafePassed version) = IsNamed s version
+NamedInHand s (task.SafeFound version) = IsNamed s version
 NamedInHand s _ = Unit {0}
 
 -- the version in hand of a cut: it is attached, and its object is claimed

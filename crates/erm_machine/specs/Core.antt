@@ -74,13 +74,14 @@ pub data Spot : Type 0 where
   counter_word : Counter → Spot
   begin_word : ℕ → Spot
   state_word : ℕ → Spot
+  back_word : ℕ → Spot
   entry_word : ℕ → Spot
   version_word : VersionAt → CellWord → Spot
   own_word : ℕ → ℕ → ℕ → CellWord → Spot
   ring_word : ℕ → Spot
   no_word : Spot
 
--- the word that a seat's step of this kind meets: splits and joins meet none
+-- the word that a seat's step of this kind meets: splits and joins meet none, and neither does what undoes a write
 abbrev pub spot_of : ℕ → Kind → Spot
 spot_of seat (kind.LoadTail purpose) = tail_word
 spot_of seat (kind.AddTail size) = tail_word
@@ -112,6 +113,9 @@ spot_of seat (kind.StoreFlushed value) = flushed_word
 spot_of seat kind.LoadFlushed = flushed_word
 spot_of seat (kind.SwapLink version) = version_word version word.Link
 spot_of seat (kind.LoadDetached version) = version_word version word.Link
+spot_of seat (kind.StoreBack value) = back_word seat
+spot_of seat (kind.LoadBack other) = back_word other
+spot_of seat (kind.Unset claim) = no_word
 
 -- a claim that nobody made
 abbrev pub no_claim : Claim
@@ -146,6 +150,7 @@ word_at c flushed_word = c.shared.flushed
 word_at c (counter_word counter) = drawn_of counter c.shared
 word_at c (begin_word seat) = begin_of (c.seats seat).place
 word_at c (state_word seat) = state_of (c.seats seat).place
+word_at c (back_word seat) = (c.seats seat).back
 word_at c (entry_word oid) = (c.shared.objects oid).entry
 word_at c (version_word v w) = cell_word w (version_at (c.shared.objects v.oid) v.place).words
 word_at c (own_word seat claim cell w) = cell_word w (own_words (claim_at (c.seats seat).current claim).own)
@@ -204,6 +209,7 @@ fresh_part place run tail = record {
   run = run;
   flushing = Still;
   gathered_to = tail;
+  back = 0;
 }
 
 -- an object as it is opened: one version of stamp 0, in the cell of the same number

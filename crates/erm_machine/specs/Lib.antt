@@ -1,4 +1,5 @@
 pub mod Attached
+pub mod Back
 pub mod Begins
 pub mod Bounds
 pub mod Cells

@@ -1,7 +1,7 @@
 -- Steps that move a seat on in the life of a transaction: begin, seal, decision, end; and what it sees of other seats.
-use Rattle.std.specs.Prelude.{nat_lt, ◌%◌, ◌/◌, List, ℕ, ◌+◌, Bool, true, false, not, ◌&&◌, ◌==◌, nat_le, if◌then◌else◌, min, max, length, slice_index, slice_set, Option, Some, None}
+use Rattle.std.specs.Prelude.{nat_lt, ◌%◌, ◌/◌, List, ℕ, ◌+◌, Bool, true, false, not, ◌&&◌, ◌||◌, ◌==◌, nat_le, if◌then◌else◌, min, max, length, slice_index, slice_set, Option, Some, None}
 use Rattle.erm_model.specs.declared.header.TheConstants.{COMMIT_KIND, RUN_UNIT, SIZE_UNIT, SKIP_KIND}
-use Rattle.erm_machine.specs.declared.limits.TheConstants.{ANNOUNCERS, LEAST_BLOCK, GREATEST_BLOCK}
+use Rattle.erm_machine.specs.declared.limits.TheConstants.{ANNOUNCERS, SESSIONS, LEAST_BLOCK, GREATEST_BLOCK}
 use Rattle.erm_machine.specs.declared.attempt.Attempt.{Attempt}
 use Rattle.erm_machine.specs.declared.attempt.Decision.TheVariants.{Abort}
 use Rattle.erm_machine.specs.declared.event.TailUse.{TailUse}
@@ -14,8 +14,9 @@ use Rattle.erm_machine.specs.declared.place.Place.TheVariants.{Idle, Begun, Anno
 use Rattle.erm_machine.specs.declared.task.Task.{Task}
 use Rattle.erm_machine.specs.declared.task.Task.TheVariants as task
 use Rattle.erm_machine.specs.declared.version.VersionAt.{VersionAt}
+use Rattle.erm_machine.specs.Back.{goes_back}
 use Rattle.erm_machine.specs.Core.{begun, blank}
-use Rattle.erm_machine.specs.Seat.{when, saw, with_task, with_current, is_vacant, is_active, is_commit, may_start, end_of, has_number, with_range, decision_of, over}
+use Rattle.erm_machine.specs.Seat.{when, saw, with_task, with_current, is_vacant, is_active, is_commit, is_new, is_rest, may_start, end_of, has_number, with_range, decision_of, over}
 use Rattle.erm_machine.specs.Words.{is_session, is_flusher, refuses, is_clear, is_least_bit, without_bit}
 
 -- the number of a seat's next transaction; a pin of the flush seat takes none
@@ -74,11 +75,17 @@ has_ended t (Some e) = (e.1 == length t.writes) && (e.3 == length t.reads)
 abbrev pub aborted : ℕ → Part → Part
 aborted seat x = if is_flusher seat then with_current blank x else over Abort x
 
--- BEGIN announces the tail loaded. At its end a transaction clears its begin word: one without a range is over then.
+-- BEGIN announces the tail loaded. At its end a transaction clears its begin word: one without a range is over then, and a commit that
+-- goes back has stored its stamp in its back word before. A transaction that has done nothing becomes a snapshot where its begin word is
+-- raised to its begin stamp.
 abbrev pub store_begin : ℕ → ℕ → Part → Place → Option Part
 store_begin seat value x (Begun tail) = when (value == tail) (record x { place = Announced tail })
-store_begin seat value x (Active tail) = when ((value == 0) && has_ended x.current (end_of x.task)) (aborted seat (record x { place = Idle; task = task.Rest }))
-store_begin seat value x (Decided tail stamp) = when ((value == 0) && has_ended x.current (end_of x.task)) (record x { place = Leaving stamp; task = task.Rest })
+store_begin seat value x (Active tail) =
+    if value == 0 then when (has_ended x.current (end_of x.task)) (aborted seat (record x { place = Idle; task = task.Rest }))
+    else when (is_session seat && (value == x.current.begin) && is_new x.current && is_rest x.task) (record x { place = Active value; task = task.Surveys 1 })
+store_begin seat value x (Decided tail stamp) =
+    when ((value == 0) && has_ended x.current (end_of x.task) && (not (goes_back x.current) || (x.back == x.current.stamp)))
+    (record x { place = Leaving stamp; task = task.Rest })
 store_begin seat value x _ = None
 
 -- SEAL stores 1, and after its draw the stamp. The last step of a sealed transaction stores 0: it is over.
@@ -97,11 +104,34 @@ lower least found = if found == 0 then least else min least found
 abbrev pub after_begin_word : VersionAt → ℕ → ℕ → Task
 after_begin_word version least next = if next == ANNOUNCERS then task.CutWalks version least else task.Horizon version least next
 
--- CUT loads each begin word, the own one too.
-abbrev pub load_begin : ℕ → ℕ → Part → Task → Option Part
-load_begin other found x (task.Horizon version least next) =
+-- SAFE goes on after a session that is passed: to the next one, or it is safe
+abbrev pub after_passed : ℕ → Task
+after_passed next = if next == SESSIONS then task.Safe else task.Surveys (next + 1)
+
+-- SAFE after the begin word of this session: the own one is passed, and one in which a transaction has begun below the begin stamp is
+-- waited for
+abbrev pub after_survey : ℕ → ℕ → ℕ → ℕ → Task
+after_survey seat begin found next =
+    if next == seat then after_passed next else if (found == 0) || nat_le begin found then task.Behind next else task.Surveys next
+
+-- CUT loads each begin word, the own one too. So does SAFE, of sessions.
+abbrev pub load_begin : ℕ → ℕ → ℕ → Part → Task → Option Part
+load_begin seat other found x (task.Horizon version least next) =
     when (is_active x.place && (other == next) && nat_lt next ANNOUNCERS) (with_task (after_begin_word version (lower least found) (next + 1)) x)
-load_begin other found x _ = None
+load_begin seat other found x (task.Surveys next) =
+    when (is_active x.place && (other == next)) (with_task (after_survey seat x.current.begin found next) x)
+load_begin seat other found x _ = None
+
+-- SAFE: a session whose last commit that goes back has its stamp below the begin stamp is passed
+abbrev pub load_back : ℕ → ℕ → Part → Task → Option Part
+load_back other found x (task.Behind next) =
+    when (is_active x.place && (other == next)) (with_task (if nat_lt found x.current.begin then after_passed next else task.Behind next) x)
+load_back other found x _ = None
+
+-- END: a commit that goes back stores its stamp
+abbrev pub store_back : ℕ → Part → Place → Option Part
+store_back value x (Decided tail stamp) = when (goes_back x.current && (value == x.current.stamp)) (record x { back = value })
+store_back value x _ = None
 
 -- LOOK. What a seat found clear leads to: a read loads the entry once more; settle goes on to the overwriter's stamp, or to
 -- the next reader and after the last to the creator's stamp.

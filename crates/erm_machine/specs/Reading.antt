@@ -1,6 +1,7 @@
 -- Steps of a read and of a claim, of a cut, and of a write into an own cell.
+use Rattle.std.specs.Cmp.Lexicographic.{pointwise}
 use Rattle.std.specs.List.{list_any}
-use Rattle.std.specs.Prelude.{ℕ, ◌+◌, ◌-◌, ◌%◌, ◌^◌, Bool, true, false, not, ◌&&◌, ◌||◌, ◌==◌, nat_lt, if◌then◌else◌, List, [], ◌∷◌, ◌++◌, length, slice_index, slice_index_or, slice_set, take, drop, map, Option, Some, None, is_none}
+use Rattle.std.specs.Prelude.{ℕ, ◌+◌, ◌-◌, ◌%◌, ◌^◌, Bool, true, false, not, ◌&&◌, ◌||◌, ◌==◌, nat_eq, nat_lt, if◌then◌else◌, List, [], ◌∷◌, ◌++◌, length, slice_index, slice_index_or, slice_set, take, drop, map, Option, Some, None, is_none}
 use Rattle.erm_machine.specs.declared.limits.TheConstants.{OBJECT_LIMIT, READ_LIMIT, WRITE_LIMIT}
 use Rattle.erm_machine.specs.declared.attempt.Attempt.{Attempt}
 use Rattle.erm_machine.specs.declared.attempt.Claim.{Claim}
@@ -14,7 +15,7 @@ use Rattle.erm_machine.specs.declared.version.CellWord.{CellWord}
 use Rattle.erm_machine.specs.declared.version.CellWord.TheVariants as word
 use Rattle.erm_machine.specs.declared.version.VersionAt.{VersionAt}
 use Rattle.erm_machine.specs.Core.{Object, newest, version_at, claim_at}
-use Rattle.erm_machine.specs.Seat.{when, with_task, is_active, may_start, with_pred, with_succ, with_claim, last_claim, same_version, is_own}
+use Rattle.erm_machine.specs.Seat.{when, with_task, with_current, is_active, is_rest, is_safe, may_start, with_pred, with_succ, with_claim, last_claim, same_version, is_own}
 use Rattle.erm_machine.specs.Words.{head_of, owner_of, set_word, blank_cell, is_session}
 
 -- the version at the head of an object's chain, by the entry that names its cell
@@ -33,12 +34,17 @@ entered seat oid entry o =
     else if owner_of entry == seat then task.Claimed (head_version oid entry o)
     else task.Owned oid (owner_of entry)
 
+-- READ of a safe snapshot: the head is in hand, whoever owns the entry
+abbrev pub load_safe_entry : ℕ → ℕ → Object → Part → Option Part
+load_safe_entry oid found o x = when (is_active x.place) (with_task (task.SafeWalks (head_version oid found o)) x)
+
 -- READ, CLAIM: load the entry; once its owner was found clear, the second load is used whoever owns it then
 abbrev pub load_entry : ℕ → ℕ → ℕ → Object → Part → Task → Option Part
 load_entry seat oid found o x (task.Cleared cleared) =
     when (is_active x.place)
     (with_task (if oid == cleared then task.Walks (head_version oid found o) None else entered seat oid found o) x)
-load_entry seat oid found o x t = when (is_active x.place && may_start t) (with_task (entered seat oid found o) x)
+load_entry seat oid found o x t =
+    if is_safe t then load_safe_entry oid found o x else when (is_active x.place && may_start t) (with_task (entered seat oid found o) x)
 
 -- a new claim: it overwrites this version, and its row stays until a write sets it
 abbrev pub new_claim : VersionAt → ℕ → List ℕ → Claim
@@ -90,6 +96,7 @@ may_load_row v (task.Found version stamp head) = same_version v version
 may_load_row v (task.Registered version) = same_version v version
 may_load_row v (task.Overtaken version overwriter) = same_version v version
 may_load_row v (task.Rated version) = same_version v version
+may_load_row v (task.SafeFound version) = same_version v version
 may_load_row v _ = false
 
 -- the row of the version that the newest claim overwrites may be loaded, to be copied
@@ -104,6 +111,8 @@ load_walked_stamp found v x (task.Walks version head) =
     when (same_version v version) (with_task (if nat_lt found x.current.begin then task.Found version found head else task.Passed version) x)
 load_walked_stamp found v x (task.CutWalks version horizon) =
     when (same_version v version) (with_task (if nat_lt found horizon then task.CutFound version horizon else task.CutPassed version horizon) x)
+load_walked_stamp found v x (task.SafeWalks version) =
+    when (same_version v version) (with_task (if nat_lt found x.current.begin then task.SafeFound version else task.SafePassed version) x)
 load_walked_stamp found v x (task.Passed version) = when (same_version v version) (with_task (task.Passed version) x)
 load_walked_stamp found v x _ = None
 
@@ -111,6 +120,8 @@ load_walked_stamp found v x _ = None
 abbrev pub load_walked_link : ℕ → VersionAt → Part → Task → Option Part
 load_walked_link found v x (task.Passed version) =
     when (same_version v version && nat_lt 0 found && nat_lt 0 version.place) (with_task (task.Walks (older version found) None) x)
+load_walked_link found v x (task.SafePassed version) =
+    when (same_version v version && nat_lt 0 found && nat_lt 0 version.place) (with_task (task.SafeWalks (older version found)) x)
 load_walked_link found v x (task.CutPassed version horizon) =
     when (same_version v version) (with_task (if found == 0 then after_cut x else task.CutWalks (older version found) horizon) x)
 load_walked_link found v x _ = None
@@ -223,3 +234,20 @@ store_row_word place cell k value x (task.Writes claim w) =
     when ((place == claim) && is_own cell (claim_at x.current place).own && (k == w) && nat_lt k 16)
     (record x { task = if (w + 1) == 16 then task.Rest else task.Writes claim (w + 1); current = stored_row place k value true x.current })
 store_row_word place cell k value x t = start_row place cell k value x t
+
+-- the own cell has the row of the version that the claim overwrites
+abbrev pub has_base : List ℕ → Option OwnCell → Bool
+has_base base None = false
+has_base base (Some own) = pointwise nat_eq own.words.row base
+
+-- the row of the claim at a place is that of the version overwritten, and no write has set it
+abbrev pub without_row : ℕ → Attempt → Attempt
+without_row place t = with_claim place (record (claim_at t place) { row = (claim_at t place).base; is_set = false }) t
+
+-- BACK: a claim whose own cell has got the row of the version overwritten again is as if no write had set its row
+abbrev pub unset : ℕ → Part → Option Part
+unset place x =
+    when
+    (is_active x.place && is_rest x.task && nat_lt place (length x.current.writes)
+    && has_base (claim_at x.current place).base (claim_at x.current place).own)
+    (with_current (without_row place x.current) x)

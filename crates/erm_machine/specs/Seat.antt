@@ -68,12 +68,36 @@ may_start (task.Rated version) = true
 may_start task.Numbers = true
 may_start _ = false
 
--- how far the end has come: an active transaction may begin to end where a call may start, and in the middle of a row
+-- a snapshot that is safe
+abbrev pub is_safe : Task → Bool
+is_safe task.Safe = true
+is_safe (task.SafeWalks version) = true
+is_safe (task.SafePassed version) = true
+is_safe (task.SafeFound version) = true
+is_safe _ = false
+
+-- a snapshot that is safe, or looks whether it is
+abbrev pub is_snapshot : Task → Bool
+is_snapshot (task.Surveys next) = true
+is_snapshot (task.Behind next) = true
+is_snapshot t = is_safe t
+
+-- between calls
+abbrev pub is_rest : Task → Bool
+is_rest task.Rest = true
+is_rest _ = false
+
+-- it has read, claimed and made nothing
+abbrev pub is_new : Attempt → Bool
+is_new t = (length t.reads == 0) && (length t.writes == 0) && (length t.made == 0)
+
+-- how far the end has come: an active transaction may begin to end where a call may start, and in the middle of a row; a snapshot
+-- may everywhere
 abbrev pub end_of : Task → Option (ℕ × ℕ × ℕ × ℕ)
 end_of (task.Ends raised ended step cleared) = Some (raised, ended, step, cleared)
 end_of (task.Copies word) = Some (0, 0, 0, 0)
 end_of (task.Writes claim word) = Some (0, 0, 0, 0)
-end_of t = if may_start t then Some (0, 0, 0, 0) else None
+end_of t = if may_start t || is_snapshot t then Some (0, 0, 0, 0) else None
 
 -- the session has a number left; the flusher's pins take none
 abbrev pub has_number : ℕ → Part → Bool

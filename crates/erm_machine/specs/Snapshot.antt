@@ -36,6 +36,11 @@ InHand s begin (task.Walks version head) = NewerFrom (s.objects version.oid) ver
 InHand s begin (task.Passed version) =
     NewerFrom (s.objects version.oid) version.place begin × (begin ≤ (version_at (s.objects version.oid) version.place).words.stamp)
 InHand s begin (task.Found version stamp head) = IsNewestAt (s.objects version.oid) version.place begin stamp
+InHand s begin (task.SafeWalks version) = NewerFrom (s.objects version.oid) version.place begin
+InHand s begin (task.SafePassed version) =
+    NewerFrom (s.objects version.oid) version.place begin × (begin ≤ (version_at (s.objects version.oid) version.place).words.stamp)
+InHand s begin (task.SafeFound version) =
+    IsNewestAt (s.objects version.oid) version.place begin (version_at (s.objects version.oid) version.place).words.stamp
 InHand s begin _ = Unit {0}
 
 -- a begin stamp is at most the tail, and at most the own stamp drawn since
@@ -62,6 +67,9 @@ NoneInHand begin (task.Cleared oid) q y = HoldsBelow y oid begin → ⊥
 NoneInHand begin (task.Walks version head) q y = HoldsBelow y version.oid begin → ⊥
 NoneInHand begin (task.Passed version) q y = HoldsBelow y version.oid begin → ⊥
 NoneInHand begin (task.Found version stamp head) q y = HoldsBelow y version.oid begin → ⊥
+NoneInHand begin (task.SafeWalks version) q y = HoldsBelow y version.oid begin → ⊥
+NoneInHand begin (task.SafePassed version) q y = HoldsBelow y version.oid begin → ⊥
+NoneInHand begin (task.SafeFound version) q y = HoldsBelow y version.oid begin → ⊥
 NoneInHand begin _ q y = Unit {0}
 
 -- the other seat has a range below the bound and holds a claim that overwrites this version

@@ -2,6 +2,7 @@
 use Rattle.std.specs.Prelude.{ℕ, ◌≢◌}
 use Rattle.erm_machine.specs.declared.part.Part.{Part}
 use Rattle.erm_machine.specs.Attached.{OwnAttached}
+use Rattle.erm_machine.specs.Back.{OwnBack, OwnRaised, Back}
 use Rattle.erm_machine.specs.Begins.{OwnBegins, Begins}
 use Rattle.erm_machine.specs.Bounds.{OwnBounds}
 use Rattle.erm_machine.specs.Cells.{Cells, OwnCells}
@@ -52,6 +53,8 @@ pub record Own (s : Shared) (seat : ℕ) (x : Part) : Type 0 where
   pub decided : OwnDecided s x
   pub written : OwnWritten s x
   pub log : OwnLog s seat x
+  pub back : OwnBack seat x
+  pub raised : OwnRaised x
 
 -- facts of a seat and of another one, of that number
 pub record Both (x : Part) (q : ℕ) (y : Part) : Type 0 where
@@ -60,6 +63,7 @@ pub record Both (x : Part) (q : ℕ) (y : Part) : Type 0 where
   pub made : MadeApart x y
   pub snapshot : Snapshot x q y
   pub decided : DecidedApart x q y
+  pub back : Back x q y
 
 -- The sound state, whatever law its rows keep.
 pub record Sound (c : Core) : Type 0 where

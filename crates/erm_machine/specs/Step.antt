@@ -18,8 +18,8 @@ use Rattle.erm_machine.specs.declared.version.CellWord.{CellWord}
 use Rattle.erm_machine.specs.declared.version.CellWord.TheVariants as word
 use Rattle.erm_machine.specs.Core.{Object, Shared, Core, spot_of, word_at, version_at, with_version, own_words, claim_at}
 use Rattle.erm_machine.specs.Seat.{end_of}
-use Rattle.erm_machine.specs.Life.{load_tail, add_tail, store_begin, store_state, load_begin, load_state, split, join, decide}
-use Rattle.erm_machine.specs.Reading.{load_entry, claim, set_reader, load_cell, swap_link, load_detached, load_counter, add_counter}
+use Rattle.erm_machine.specs.Life.{load_tail, add_tail, store_begin, store_state, load_begin, load_back, store_back, load_state, split, join, decide}
+use Rattle.erm_machine.specs.Reading.{load_entry, claim, set_reader, load_cell, swap_link, load_detached, load_counter, add_counter, unset}
 use Rattle.erm_machine.specs.Settling.{load_read_entry, load_readers, load_stamp, filled, store_ring, raise_reader, store_cell, store_succ, store_overwriter, install, adds_version, clear_reader}
 use Rattle.erm_machine.specs.Flushing.{load_flushed, load_ring, clear_ring, store_flushed}
 use Rattle.erm_machine.specs.Seat.{is_sealed}
@@ -42,7 +42,7 @@ part_after seat (kind.LoadTail purpose) found s x = load_tail seat purpose found
 part_after seat (kind.AddTail size) found s x = add_tail seat size found x x.place
 part_after seat (kind.StoreBegin value) found s x = store_begin seat value x x.place
 part_after seat (kind.StoreState value) found s x = store_state seat value x x.place
-part_after seat (kind.LoadBegin other) found s x = load_begin other found x x.task
+part_after seat (kind.LoadBegin other) found s x = load_begin seat other found x x.task
 part_after seat (kind.LoadState other bound) found s x = load_state seat other bound found x
 part_after seat (kind.Split other) found s x = None
 part_after seat (kind.Join other) found s x = None
@@ -69,6 +69,9 @@ part_after seat (kind.StoreFlushed value) found s x = store_flushed value x x.fl
 part_after seat kind.LoadFlushed found s x = load_flushed found x x.flushing
 part_after seat (kind.SwapLink v) found s x = swap_link found v (s.objects v.oid) x x.task
 part_after seat (kind.LoadDetached v) found s x = load_detached found v x x.task
+part_after seat (kind.StoreBack value) found s x = store_back value x x.place
+part_after seat (kind.LoadBack other) found s x = load_back other found x x.task
+part_after seat (kind.Unset place) found s x = unset place x
 
 -- the word met as a step of this kind leaves it
 abbrev pub stored : ℕ → Kind → ℕ → ℕ
@@ -89,6 +92,7 @@ stored seat (kind.Decide at header) found = header
 stored seat (kind.ClearRing at) found = 0
 stored seat (kind.StoreFlushed value) found = value
 stored seat (kind.SwapLink v) found = 0
+stored seat (kind.StoreBack value) found = value
 stored seat _ found = found
 
 -- an object is changed
@@ -157,7 +161,7 @@ abbrev pub has_word : CellWord → Bool
 has_word (word.Row k) = nat_lt k 16
 has_word w = true
 
--- The object that a kind names is one below the limit, the seat that is looked at has words, and so has a cell.
+-- The object that a kind names is one below the limit, the seat that is looked at has words, or a back word, and so has a cell.
 abbrev pub is_known : Kind → Bool
 is_known (kind.LoadState other bound) = is_seat other
 is_known (kind.LoadEntry oid) = nat_lt oid OBJECT_LIMIT
@@ -173,6 +177,7 @@ is_known (kind.StoreSucc v value) = nat_lt v.oid OBJECT_LIMIT
 is_known (kind.StoreOverwriter v value) = nat_lt v.oid OBJECT_LIMIT
 is_known (kind.SwapLink v) = nat_lt v.oid OBJECT_LIMIT
 is_known (kind.LoadDetached v) = nat_lt v.oid OBJECT_LIMIT
+is_known (kind.LoadBack other) = is_session other
 is_known _ = true
 
 -- the state after an event, where its guard is met: a split and a join read both seats' parts
@@ -200,6 +205,7 @@ told (kind.LoadRing at) found = answer.Word found
 told kind.LoadFlushed found = answer.Word found
 told (kind.SwapLink v) found = answer.Word found
 told (kind.LoadDetached v) found = answer.Word found
+told (kind.LoadBack other) found = answer.Word found
 told _ found = answer.Done
 
 -- The core step. Where the guard isn't met, the answer is Failed and the state is the old one.

@@ -145,6 +145,20 @@ pub enum Kind {
     LoadDetached {
         version: VersionAt,
     },
+
+    /// Stores the own back word: the stamp of a commit whose successor stamp is less.
+    StoreBack {
+        value: Stamp,
+    },
+    /// Loads a session's back word.
+    LoadBack {
+        seat: Seat,
+    },
+
+    /// The row of a claim is again that of the version overwritten, which its own cell has: no write has set it. Meets no word.
+    Unset {
+        claim: usize,
+    },
 }
 
 /// A step of a seat.

@@ -50,4 +50,6 @@ pub struct Part {
     pub flushing: Flushing,
     /// The end of the last block of the log that the flusher has gathered.
     pub gathered_to: Stamp,
+    /// The back word: the stamp of the last commit whose successor stamp is less, or 0.
+    pub back: Stamp,
 }

@@ -12,7 +12,8 @@ pub enum Place {
     Begun { tail: Stamp },
     /// Its begin word is the tail that it loaded.
     Announced { tail: Stamp },
-    /// It has loaded the tail once more, its begin stamp: it reads and claims, or ends without a range.
+    /// It has loaded the tail once more, its begin stamp: it reads and claims, or ends without a range. The begin word of
+    /// a snapshot is its begin stamp.
     Active { tail: Stamp },
     /// Its state word is 1.
     Sealing { tail: Stamp },

@@ -48,6 +48,29 @@ pub enum Task {
     /// The counter of objects was seen below its limit: it is to be raised.
     Numbers,
 
+    /// A snapshot looks whether it is safe: the begin word of this session is to be loaded. Those below are passed.
+    Surveys {
+        next: Seat,
+    },
+    /// That begin word was 0 or at least the begin stamp: the back word of this session is to be loaded.
+    Behind {
+        next: Seat,
+    },
+    /// All other sessions are passed: the snapshot is safe.
+    Safe,
+    /// A safe snapshot has a version in hand: its stamp is to be loaded.
+    SafeWalks {
+        version: VersionAt,
+    },
+    /// Its stamp isn't below the begin stamp: its link is to be loaded.
+    SafePassed {
+        version: VersionAt,
+    },
+    /// Its stamp is below the begin stamp: its row may be loaded.
+    SafeFound {
+        version: VersionAt,
+    },
+
     /// Claiming: the entry is the own one, with this version for its head. The tail is to be loaded.
     Claimed {
         version: VersionAt,

@@ -20,6 +20,7 @@ use Rattle.erm_machine.specs.Facts.{all_of}
 use Rattle.erm_machine.specs.Life.{add_tail, decide, join, load_begin, load_state, load_tail, load_tail_for_horizon, load_tail_to_begin, split, store_begin, store_state}
 use Rattle.erm_machine.specs.Step.{after_event, shared_after, with_part}
 use Rattle.erm_machine.specs.Words.{is_flusher, put}
+use Rattle.erm_machine.proofs.Backs.{active_begin_then}
 use Rattle.erm_machine.proofs.Frames.{each_seat}
 use Rattle.erm_machine.proofs.Guards.{either_way, when_then}
 use Rattle.erm_machine.proofs.QuietKinds.{Moves, moves, quiet_kind}
@@ -77,8 +78,10 @@ module _ (tail : ℕ) where
   o_store_begin : (seat value : ℕ) (x : Part) (pl : Place) (y : Part) → store_begin seat value x pl ≡ Some y → AllOld x tail y
   o_store_begin seat value x (Begun at) y e = when_then (AllOld x tail) _ _ y e (λ _. same x tail _ refl refl refl)
   o_store_begin seat value x (Active at) y e =
-      when_then (AllOld x tail) _ _ y e (λ _.
+      active_begin_then (AllOld x tail) seat value at x y e
+      (λ _ _.
       either_way (AllOld x tail) (is_flusher seat) _ _ (λ _. from_now x tail _ refl (none refl)) (λ _. ends x tail _ (record x.current { decision = Abort }) refl refl refl refl))
+      (λ _ _ _ _. same x tail _ refl refl refl)
   o_store_begin seat value x (Decided at stamp) y e = when_then (AllOld x tail) _ _ y e (λ _. same x tail _ refl refl refl)
   o_store_begin seat value x _ y e = absurd (cc)
 
@@ -89,9 +92,10 @@ module _ (tail : ℕ) where
       when_then (AllOld x tail) _ _ y e (λ _. ends x tail _ (record x.current { decision = x.current.decision }) refl refl refl refl)
   o_store_state seat value x _ y e = absurd (cc)
 
-  o_load_begin : (other found : ℕ) (x : Part) (t : Task) (y : Part) → load_begin other found x t ≡ Some y → AllOld x tail y
-  o_load_begin other found x (task.Horizon version least next) y e = when_then (AllOld x tail) _ _ y e (λ _. same x tail _ refl refl refl)
-  o_load_begin other found x _ y e = absurd (cc)
+  o_load_begin : (seat other found : ℕ) (x : Part) (t : Task) (y : Part) → load_begin seat other found x t ≡ Some y → AllOld x tail y
+  o_load_begin seat other found x (task.Horizon version least next) y e = when_then (AllOld x tail) _ _ y e (λ _. same x tail _ refl refl refl)
+  o_load_begin seat other found x (task.Surveys next) y e = when_then (AllOld x tail) _ _ y e (λ _. same x tail _ refl refl refl)
+  o_load_begin seat other found x _ y e = absurd (cc)
 
   o_load_state : (seat other bound found : ℕ) (x y : Part) → load_state seat other bound found x ≡ Some y → AllOld x tail y
   o_load_state seat other bound found x y e = when_then (AllOld x tail) _ _ y e (λ _. same x tail _ refl refl refl)
@@ -152,7 +156,7 @@ all_old c d p (kind.StoreState value) e =
     let m = moves c p (kind.StoreState value) d tt e in old_moved c p (kind.StoreState value) d m (o_store_state c.shared.tail p value (c.seats p) (c.seats p).place m.part m.after)
 all_old c d p (kind.LoadBegin other) e =
     let m = moves c p (kind.LoadBegin other) d tt e in
-    old_moved c p (kind.LoadBegin other) d m (o_load_begin c.shared.tail other (word_at c (spot_of p (kind.LoadBegin other))) (c.seats p) (c.seats p).task m.part m.after)
+    old_moved c p (kind.LoadBegin other) d m (o_load_begin c.shared.tail p other (word_at c (spot_of p (kind.LoadBegin other))) (c.seats p) (c.seats p).task m.part m.after)
 all_old c d p (kind.LoadState other bound) e =
     let m = moves c p (kind.LoadState other bound) d tt e in
     old_moved c p (kind.LoadState other bound) d m (o_load_state c.shared.tail p other bound (word_at c (spot_of p (kind.LoadState other bound))) (c.seats p) m.part m.after)

@@ -15,7 +15,7 @@ use crate::Plain;
 use erm_kept::AttemptState;
 use erm_kept::words::is_commit;
 use erm_machine::{CellWord, Kind, OwnCell, Place, Task};
-use erm_model::{RowLaw, Seat};
+use erm_model::{RowLaw, Seat, Stamp};
 
 // The cell that a claim has for its own, or 0.
 pub(crate) fn own_number(own: Option<OwnCell>) -> u32
@@ -100,9 +100,26 @@ fn next_install(t: &AttemptState, ended: usize, step: u8) -> Kind
     }
 }
 
-// The next step of a commit: reader stamps are raised, and then claims installed.
-fn next_commit(t: &AttemptState, raised: usize, ended: usize, step: u8, cleared: usize) -> Kind
-    ensures { result ≡ calls.next_commit (attempt_of t.now) raised ended step cleared }
+// The next step of a commit whose claims are installed: where it goes back, its stamp is to stand in the own back word.
+fn next_back(t: &AttemptState, back: Stamp, cleared: usize) -> Kind
+    ensures { result ≡ calls.next_back (attempt_of t.now) back cleared }
+{
+    if is_commit(t.decision) && t.succ < t.stamp && back != t.stamp {
+        return Kind::StoreBack { value: t.stamp };
+    }
+    next_clear(t, cleared)
+}
+
+// The next step of a commit: reader stamps are raised, then claims installed, and then the own back word may be stored.
+fn next_commit(
+    t: &AttemptState,
+    back: Stamp,
+    raised: usize,
+    ended: usize,
+    step: u8,
+    cleared: usize,
+) -> Kind
+    ensures { result ≡ calls.next_commit (attempt_of t.now) back raised ended step cleared }
 {
     if raised < t.reads.len() {
         return Kind::RaiseReader {
@@ -113,12 +130,12 @@ fn next_commit(t: &AttemptState, raised: usize, ended: usize, step: u8, cleared:
     if ended < t.writes.len() {
         return next_install(t, ended, step);
     }
-    next_clear(t, cleared)
+    next_back(t, back, cleared)
 }
 
 // The next step of a decided transaction.
-fn next_end(t: &AttemptState, task: Task) -> Kind
-    ensures { result ≡ calls.next_end (attempt_of t.now) task }
+fn next_end(t: &AttemptState, back: Stamp, task: Task) -> Kind
+    ensures { result ≡ calls.next_end (attempt_of t.now) back task }
 {
     match task {
         Task::Ends {
@@ -128,7 +145,7 @@ fn next_end(t: &AttemptState, task: Task) -> Kind
             cleared,
         } => {
             if is_commit(t.decision) {
-                next_commit(t, raised, ended, step, cleared)
+                next_commit(t, back, raised, ended, step, cleared)
             } else {
                 next_release(t, ended, cleared)
             }
@@ -145,11 +162,12 @@ impl<L: RowLaw> Plain<L> {
         ensures { MatchOption result
             (IsLeaving ((core_of self.now.state).seats seat).place)
             (λ kind. (is_decided ((core_of self.now.state).seats seat).place ≡ true)
-            × (kind ≡ calls.next_end ((core_of self.now.state).seats seat).current ((core_of self.now.state).seats seat).task)) }
+            × (kind ≡ calls.next_end ((core_of self.now.state).seats seat).current ((core_of self.now.state).seats seat).back
+            ((core_of self.now.state).seats seat).task)) }
     {
         let x = self.state.seat(seat);
         match x.place {
-            Place::Decided { .. } => Some(next_end(&x.current, x.task)),
+            Place::Decided { .. } => Some(next_end(&x.current, x.back, x.task)),
             _ => None,
         }
     }

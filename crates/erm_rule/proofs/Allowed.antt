@@ -1,13 +1,15 @@
 -- A step of the machine on a word keeps the rule, and tells what it tells: for every kind of step at once.
-use Rattle.std.proofs.Common.{◌≡◌, ◌≢◌, ℕ, zero, suc, ◌<◌, ◌≤◌, ⊎_elim, Bool, true, false, List, [], ◌∷◌, length, map, get_or, set, Option, Some, None, is_some, unwrap_or, refl, sym, ap, ◌∙◌, subst, arith, length-set, get_or-set_same, get_or-set_other}
+use Rattle.std.proofs.Common.{◌≡◌, ◌≢◌, ℕ, zero, suc, ◌<◌, ◌≤◌, ◌⊎◌, inl, inr, ⊎_elim, Bool, true, false, List, [], ◌∷◌, length, map, get_or, set, Option, Some, None, is_some, unwrap_or, refl, sym, ap, ◌∙◌, subst, arith, length-set, get_or-set_same, get_or-set_other}
 use Rattle.std.specs.Prelude.{if◌then◌else◌, IsSome}
 use Rattle.std.proofs.lemmas.Bool.{cases_eq}
+use Rattle.std.proofs.lemmas.Option.{same_Some}
 use mathlib.Core.Option.{some, some-injective, some-ne-none}
 use lib.ListN.{get_elem?}
 use Rattle.atomic_table.specs.Table.{Me, keeps, Allows}
 use Rattle.atomic_table.proofs.Lists.{at_set, set_else}
 use Rattle.erm_layout.specs.declared.limits.TheConstants.{WORDS}
 use Rattle.erm_layout.specs.declared.word.Word.{Word}
+use Rattle.erm_layout.specs.declared.word.Word.TheVariants as word
 use Rattle.erm_layout.specs.Layout.{HasNumber, index_of}
 use Rattle.erm_layout.specs.Spots.{word_of_spot}
 use Rattle.erm_machine.specs.declared.limits.TheConstants.{ANNOUNCERS}
@@ -17,7 +19,7 @@ use Rattle.erm_machine.specs.declared.event.Kind.TheVariants as kind
 use Rattle.erm_machine.specs.declared.part.Part.{Part}
 use Rattle.erm_machine.specs.declared.place.Place.TheVariants.{Vacant}
 use Rattle.erm_machine.specs.declared.version.Cell.{Cell}
-use Rattle.erm_machine.specs.Core.{Core, Shared, spot_of, word_at, fresh_part}
+use Rattle.erm_machine.specs.Core.{Core, Shared, no_word, spot_of, word_at, fresh_part}
 use Rattle.erm_machine.specs.Decided.{record_of}
 use Rattle.erm_machine.specs.Lawful.{DrawsLawfully, Lawful}
 use Rattle.erm_machine.specs.Sound.{Sound}
@@ -33,7 +35,7 @@ use Rattle.erm_rule.specs.declared.view.Book.{Book}
 use Rattle.erm_rule.specs.declared.view.Held.{Held}
 use Rattle.erm_rule.specs.declared.view.Opening.{Opening}
 use Rattle.erm_rule.specs.declared.view.View.{View}
-use Rattle.erm_rule.specs.Books.{view_in, noted, Passes, Course, HasSeats}
+use Rattle.erm_rule.specs.Books.{view_in, noted, Passes, Course}
 use Rattle.erm_rule.specs.Cells.{word_in, cells_after, IsTold}
 use Rattle.erm_rule.specs.Newest.{CutsAtNewest}
 use Rattle.erm_rule.specs.Rule.{Stands, HeldByNone, KeptUnder}
@@ -86,20 +88,39 @@ set_there [] id v w at = absurd (some-ne-none v (sym at))
 set_there (x ∷ xs) zero v w at = refl
 set_there (x ∷ xs) (suc id) v w at = set_there xs id v w at
 
+meets_none : (o : Option Word) (u : Word) → o ≡ None → o ≡ Some u → ⊥
+meets_none o u none e = absurd (cc)
+
 -- a seat that has words is one of those that are counted
 pub of_seat : (q : ℕ) → is_seat q ≡ true → q < ANNOUNCERS
 of_seat q h = grind arith
+
+-- and its begin word is one of the table's
+pub begin_numbered : (q : ℕ) → is_seat q ≡ true → HasNumber (word.Begin q)
+begin_numbered q h = (grind arith, of_seat q h)
+
+-- a seat of a view is so counted
+held_seat : (v : View) (who : ℕ) (x : Part) → IsInOrder v → part_in v who ≡ Some x → who < ANNOUNCERS
+held_seat v who x order has =
+    let h = found_among who v.held x has in
+    of_seat who (ap is_seat (sym h.2) ∙ order.seats h.0 h.1)
+
+-- What becomes of the word at a number: a step that meets it leaves what it stores, and one that meets none leaves it.
+abbrev pub Leaves : List ℕ → Core → ℕ → Kind → Word → ℕ → Type 0
+Leaves words c who k w n =
+    ((word_of_spot (spot_of who k) ≡ Some w) × (n ≡ stored who k (word_at c (spot_of who k)))) ⊎ ((word_of_spot (spot_of who k) ≡ None) × (n ≡ get_or words (index_of w) 0))
+
+-- the same of a change, whatever the state of the view
+abbrev pub Does : View → ℕ → Kind → Word → (ℕ → ℕ) → Type 0
+Does v who k w f = ((word_of_spot (spot_of who k) ≡ Some w) × Agrees v who k f) ⊎ ((word_of_spot (spot_of who k) ≡ None) × ((n : ℕ) → f n ≡ n))
 
 module _ (words : List ℕ) (views : List View) (c : Core) (cells : ℕ → Cell) (holder : ℕ → ℕ) (stands : Stands words views c cells holder) (sound : Sound c)
     (one_number : OneNumber) (below : Below) (id : ℕ) (v : View) (at : get_elem? views id ≡ some v)
     (who : ℕ) (x y : Part) (has : part_in v who ≡ Some x)
     (k : Kind) (told : IsTold k) (known : is_known k ≡ true) (after : part_after who k (word_at c (spot_of who k)) c.shared (c.seats who) ≡ Some y)
-    (w : Word) (numbered : HasNumber w) (met : word_of_spot (spot_of who k) ≡ Some w)
-    (n : ℕ) (agrees : n ≡ stored who k (word_at c (spot_of who k))) where
+    (w : Word) (numbered : HasNumber w) (n : ℕ) (leaves : Leaves words c who k w n) where
   seat : who < ANNOUNCERS
-  seat =
-      let h = found_among who v.held x has in
-      of_seat who (ap is_seat (sym h.2) ∙ (stands.in_order id v at).seats h.0 h.1)
+  seat = held_seat v who x (stands.in_order id v at) has
 
   alive : Meets c who k
   alive = lives c who sound k (word_at c (spot_of who k)) y seat told after
@@ -108,8 +129,24 @@ module _ (words : List ℕ) (views : List View) (c : Core) (cells : ℕ → Cell
   abbrev map_after : ℕ → Cell
   map_after = cells_after k (stored who k (word_at c (spot_of who k))) cells
 
-  word_met : word_in (next c who k y) map_after w ≡ n
-  word_met = met_after c who y k cells stands.cells_are.rows after w met numbered (is_as_met c who cells stands.cells_are k alive) ∙ sym agrees
+  -- a word that the step doesn't meet is the one that stood there
+  stayed : (u : Word) → HasNumber u → word_of_spot (spot_of who k) ≢ Some u → get_or words (index_of u) 0 ≡ word_in (next c who k y) map_after u
+  stayed u has_number ne = stands.words_are u has_number ∙ sym (unmet_after c who y k (stored who k (word_at c (spot_of who k))) cells after u ne)
+
+  word_there : n ≡ word_in (next c who k y) map_after w
+  word_there = elim leaves [
+    | inl met ↦ met.1 ∙ sym (met_after c who y k cells stands.cells_are.rows after w met.0 numbered (is_as_met c who cells stands.cells_are k alive))
+    | inr none ↦ none.1 ∙ stayed w numbered (λ e. meets_none (word_of_spot (spot_of who k)) w none.0 e)
+  ]
+
+  -- and so is one of another number
+  stays_apart : (u : Word) → HasNumber u → (index_of u ≡ index_of w → ⊥) → get_or words (index_of u) 0 ≡ word_in (next c who k y) map_after u
+  stays_apart u has_number other =
+      stayed u has_number (λ e.
+      elim leaves [
+        | inl met ↦ other (ap index_of (same_Some u w (sym e ∙ met.0)))
+        | inr none ↦ meets_none (word_of_spot (spot_of who k)) u none.0 e
+      ])
 
   words_after : (u : Word) → HasNumber u → get_or (set words (index_of w) n) (index_of u) 0 ≡ word_in (next c who k y) map_after u
   words_after u has_number =
@@ -117,10 +154,8 @@ module _ (words : List ℕ) (views : List View) (c : Core) (cells : ℕ → Cell
       (λ (same : index_of u ≡ index_of w).
       let one : u ≡ w = one_number u w has_number numbered same in
       let low : index_of w < length words = let b = below w numbered in let l = stands.count in omega (arith, b, l) in
-      ap (λ i. get_or (set words (index_of w) n) i 0) same ∙ get_or-set_same words (index_of w) n 0 low ∙ sym word_met ∙ ap (word_in (next c who k y) map_after) (sym one))
-      (λ (other : index_of u ≡ index_of w → ⊥).
-      let ne : word_of_spot (spot_of who k) ≢ Some u = λ e. other (let both : Some u ≡ Some w = sym e ∙ met in ap index_of (cc)) in
-      get_or-set_other words (index_of w) (index_of u) n 0 other ∙ stands.words_are u has_number ∙ sym (unmet_after c who y k (stored who k (word_at c (spot_of who k))) cells after u ne))
+      ap (λ i. get_or (set words (index_of w) n) i 0) same ∙ get_or-set_same words (index_of w) n 0 low ∙ word_there ∙ ap (word_in (next c who k y) map_after) (sym one))
+      (λ (other : index_of u ≡ index_of w → ⊥). get_or-set_other words (index_of w) (index_of u) n 0 other ∙ stays_apart u has_number other)
       (cases_eq (index_of u) (index_of w))
 
   -- the parts in the changed view, and in the others, which don't have the seat
@@ -202,15 +237,31 @@ promised_spelled law c v who (kind.Decide at header) x sound has sees spelled =
 promised_spelled law c v who k x sound has sees spelled = tt
 
 -- ONE PROOF FOR ALL KINDS. A step that the machine takes whatever the view leaves open, on the word that it meets, which
--- becomes what the step stores, is allowed, and tells what the play wants of it.
+-- becomes what the step stores, or, if it meets none, on some word that it leaves, is allowed, and tells what the play wants of it.
 module _ (law : Law) (one_number : OneNumber) (below : Below) (keeps_sound : KeepsSound) (keeps_law : KeepsLaw law) (keeps_spelled : KeepsSpelled)
     (opening : Opening) (slots id : ℕ) (me : Me (Unit {0}) Book) (who : ℕ) (k : Kind) (w : Word) (f : ℕ → ℕ)
     (has : IsSome (part_in me.0.view who)) (ready : Ready me.0.view who k) (promises : Promises law me.0.view who k) (known : is_known k ≡ true)
-    (told : IsTold k) (met : word_of_spot (spot_of who k) ≡ Some w) (numbered : HasNumber w) (agrees : Agrees me.0.view who k f) where
-  told_by : (words : List ℕ) (views : List View) (c : Core) (cells : ℕ → Cell) (holder : ℕ → ℕ) (y : Part) (found : ℕ) → Stands words views c cells holder → Sound c → CutsAtNewest c → c.shared.cell_limit ≡ TABLE_CELLS →
-      get_elem? views id ≡ some me.0.view → found ≡ word_at c (spot_of who k) → part_after who k (word_at c (spot_of who k)) c.shared (c.seats who) ≡ Some y →
-      (n : ℕ) → n ≡ stored who k (word_at c (spot_of who k)) → Told me.0.view who k found (with_part who y me.0.view)
-  told_by words views c cells holder y found stands sound cuts limit at is after n agreed =
+    (told : IsTold k) (numbered : HasNumber w) (does : Does me.0.view who k w f) where
+  -- the word at the number is the one found, where the step meets it
+  seen_is : (words : List ℕ) (views : List View) (c : Core) (cells : ℕ → Cell) (holder : ℕ → ℕ) → Stands words views c cells holder → Sound c → get_elem? views id ≡ some me.0.view →
+      (y : Part) → part_after who k (word_at c (spot_of who k)) c.shared (c.seats who) ≡ Some y → word_of_spot (spot_of who k) ≡ Some w → get_or words (index_of w) 0 ≡ word_at c (spot_of who k)
+  seen_is words views c cells holder stands sound at y after met =
+      let x = some_of (part_in me.0.view who) has in
+      let live = lives c who sound k (word_at c (spot_of who k)) y (held_seat me.0.view who x.0 (stands.in_order id me.0.view at) x.1) told after in
+      stands.words_are w numbered
+      ∙ from_some (word_of_spot (spot_of who k)) (λ u. word_in c cells u ≡ word_at c (spot_of who k)) w met (is_as_met c who cells stands.cells_are k live)
+
+  left_by : (words : List ℕ) (c : Core) → Sound c → IsView me.0.view c → IsSome (part_after who k (word_at c (spot_of who k)) c.shared (c.seats who)) →
+      (word_of_spot (spot_of who k) ≡ Some w → get_or words (index_of w) 0 ≡ word_at c (spot_of who k)) → Leaves words c who k w (f (get_or words (index_of w) 0))
+  left_by words c sound sees guard is = elim does [
+    | inl met ↦ inl (met.0, ap f (is met.0) ∙ met.1 c sound sees guard)
+    | inr none ↦ inr (none.0, none.1 (get_or words (index_of w) 0))
+  ]
+
+  told_by : (words : List ℕ) (views : List View) (c : Core) (cells : ℕ → Cell) (holder : ℕ → ℕ) (y : Part) → Stands words views c cells holder → Sound c → CutsAtNewest c → c.shared.cell_limit ≡ TABLE_CELLS →
+      get_elem? views id ≡ some me.0.view → part_after who k (word_at c (spot_of who k)) c.shared (c.seats who) ≡ Some y →
+      (n : ℕ) → Leaves words c who k w n → Told me.0.view who k (word_at c (spot_of who k)) (with_part who y me.0.view)
+  told_by words views c cells holder y stands sound cuts limit at after n leaves =
       let x = some_of (part_in me.0.view who) has in
       let event = event_is c who k y known after in
       record {
@@ -220,23 +271,25 @@ module _ (law : Law) (one_number : OneNumber) (below : Below) (keeps_sound : Kee
         is_view = standing_view words views c cells holder id me.0.view stands at;
         in_order = stands.in_order id me.0.view at;
         limit = limit;
-        met = sym is;
+        met = refl;
         part = y;
-        part_is = subst (λ (m : ℕ). part_after who k m c.shared (c.seats who) ≡ Some y) (sym is) after;
+        part_is = after;
         view_is = refl;
         after = next c who k y;
         event = event;
         sound_after = keeps_sound c (next c who k y) who k sound event;
         cuts_after = newest_kept c who k (next c who k y) sound cuts event;
         is_view_after =
-            standing_view (set words (index_of w) n) (set views id (with_part who y me.0.view)) (next c who k y) (map_after words views c cells holder stands sound one_number below id me.0.view at who x.0 y x.1 k told known after w numbered met n agreed)
+            standing_view (set words (index_of w) n) (set views id (with_part who y me.0.view)) (next c who k y) (map_after words views c cells holder stands sound one_number below id me.0.view at who x.0 y x.1 k told known after w numbered n leaves)
             holder id (with_part who y me.0.view)
-            (stands_after words views c cells holder stands sound one_number below id me.0.view at who x.0 y x.1 k told known after w numbered met n agreed)
+            (stands_after words views c cells holder stands sound one_number below id me.0.view at who x.0 y x.1 k told known after w numbered n leaves)
             (set_there views id me.0.view (with_part who y me.0.view) at);
         limit_after = same_limit who k (word_at c (spot_of who k)) (c.seats who) c.shared ∙ limit;
       }
 
-  pub allowed : (tells_of : ℕ → Me (Unit {0}) Book → Type 0) → ((found : ℕ) (u : Book) → Booked law me.0 who k found u → tells_of found (u, me.1)) →
+  -- The play is told the word at the number, which is the one found where the step meets it.
+  pub allowed : (tells_of : ℕ → Me (Unit {0}) Book → Type 0)
+      → ((seen found : ℕ) (u : Book) → (word_of_spot (spot_of who k) ≡ Some w → seen ≡ found) → Booked law me.0 who k found u → tells_of seen (u, me.1)) →
       Allows (KeptUnder law opening) slots id me (index_of w) f tells_of
   unfolding told_by
   allowed tells_of telling s under homes there small =
@@ -249,12 +302,10 @@ module _ (law : Law) (one_number : OneNumber) (below : Below) (keeps_sound : Kee
       let guard = ready c kept.sound sees in
       let y = some_of (part_after who k (word_at c (spot_of who k)) c.shared (c.seats who)) guard in
       let x = some_of (part_in me.0.view who) has in
-      let found : ℕ = get_or s.words (index_of w) 0 in
-      let stored_is : stored who k (word_at c (spot_of who k)) ≡ stored who k (word_at c (spot_of who k)) = refl in
-      let live = alive s.words views c kept.cells kept.holder stands kept.sound one_number below id me.0.view at who x.0 y.0 x.1 k told known y.1 w numbered met _ stored_is in
-      let is : found ≡ word_at c (spot_of who k) =
-      stands.words_are w numbered
-      ∙ from_some (word_of_spot (spot_of who k)) (λ u. word_in c kept.cells u ≡ word_at c (spot_of who k)) w met (is_as_met c who kept.cells stands.cells_are k live) in
+      let seen : ℕ = get_or s.words (index_of w) 0 in
+      let found : ℕ = word_at c (spot_of who k) in
+      let is : word_of_spot (spot_of who k) ≡ Some w → seen ≡ found = seen_is s.words views c kept.cells kept.holder stands kept.sound at y.0 y.1 in
+      let leaves : Leaves s.words c who k w (f seen) = left_by s.words c kept.sound sees guard is in
       let event = event_is c who k y.0 known y.1 in
       let passes : Passes c (next c who k y.0) = (kept.sound, (who, k, event)) in
       let are : AreViews s.views c = λ j b e. standing_view s.words views c kept.cells kept.holder j b.view stands (views_at s.views j b e) in
@@ -264,14 +315,13 @@ module _ (law : Law) (one_number : OneNumber) (below : Below) (keeps_sound : Kee
       let on : IsOnCourse (start_of opening) me.0 c = kept.courses id me.0 there (h.0, h.1) in
       let own : Course me.0 c = on.1 in
       let more : Course (noted me.0 who k found (with_part who y.0 me.0.view)) (next c who k y.0) =
-      course_more (start_core me.0.start) me.0.taken c (next c who k y.0) who k found me.0.view (with_part who y.0 me.0.view) kept.sound sees (sym is) event own in
+      course_more (start_core me.0.start) me.0.taken c (next c who k y.0) who k found me.0.view (with_part who y.0 me.0.view) kept.sound sees refl event own in
       let set_is : map view_in (set s.views id (noted me.0 who k found (with_part who y.0 me.0.view))) ≡ set views id (with_part who y.0 me.0.view) =
       views_set s.views id (noted me.0 who k found (with_part who y.0 me.0.view)) in
       let after : Lawful law (next c who k y.0).shared (next c who k y.0).seats =
       keeps_law c (next c who k y.0) who k kept.sound under.lawful (promised law c me.0.view who k x.0 x.1 sees promises) event in
       let spelled : AreSpelled (next c who k y.0) =
-      keeps_spelled c (next c who k y.0) who k kept.sound under.spelled (promised_spelled law c me.0.view who k x.0 kept.sound x.1 sees promises) event in
-      let agreed : f found ≡ stored who k (word_at c (spot_of who k)) = ap f is ∙ agrees c kept.sound sees guard in (
+      keeps_spelled c (next c who k y.0) who k kept.sound under.spelled (promised_spelled law c me.0.view who k x.0 kept.sound x.1 sees promises) event in (
         noted me.0 who k found (with_part who y.0 me.0.view),
         keeps,
         tt,
@@ -280,10 +330,10 @@ module _ (law : Law) (one_number : OneNumber) (below : Below) (keeps_sound : Kee
             core = next c who k y.0;
             cells = cells_after k (stored who k (word_at c (spot_of who k))) kept.cells;
             holder = kept.holder;
-            stands = subst (λ (l : List View). Stands (set s.words (index_of w) (f found)) l (next c who k y.0) (cells_after k (stored who k (word_at c (spot_of who k))) kept.cells) kept.holder) (sym set_is)
-                (stands_after s.words views c kept.cells kept.holder stands kept.sound one_number below id me.0.view at who x.0 y.0 x.1 k told known y.1 w numbered met (f found) agreed);
+            stands = subst (λ (l : List View). Stands (set s.words (index_of w) (f seen)) l (next c who k y.0) (cells_after k (stored who k (word_at c (spot_of who k))) kept.cells) kept.holder) (sym set_is)
+                (stands_after s.words views c kept.cells kept.holder stands kept.sound one_number below id me.0.view at who x.0 y.0 x.1 k told known y.1 w numbered (f seen) leaves);
             others = subst (λ (l : List View). (q : ℕ) → HeldByNone l q → put c.seats who y.0 q ≡ fresh_part Vacant opening.run opening.tail) (sym set_is)
-                (others_after s.words views c kept.cells kept.holder stands kept.sound one_number below id me.0.view at who x.0 y.0 x.1 k told known y.1 w numbered met (f found) agreed
+                (others_after s.words views c kept.cells kept.holder stands kept.sound one_number below id me.0.view at who x.0 y.0 x.1 k told known y.1 w numbered (f seen) leaves
                 (fresh_part Vacant opening.run opening.tail) kept.others);
             sound = keeps_sound c (next c who k y.0) who k kept.sound event;
             cuts = newest_kept c who k (next c who k y.0) kept.sound kept.cuts event;
@@ -297,9 +347,9 @@ module _ (law : Law) (one_number : OneNumber) (below : Below) (keeps_sound : Kee
           lawful = after;
           spelled = spelled;
         },
-        telling found (noted me.0 who k found (with_part who y.0 me.0.view)) (record {
+        telling seen found (noted me.0 who k found (with_part who y.0 me.0.view)) is (record {
           under = record {
-            told = told_by s.words views c kept.cells kept.holder y.0 found stands kept.sound kept.cuts kept.limit at is y.1 (f found) agreed;
+            told = told_by s.words views c kept.cells kept.holder y.0 stands kept.sound kept.cuts kept.limit at y.1 (f seen) leaves;
             lawful = under.lawful;
             lawful_after = after;
             spelled = under.spelled;
@@ -316,9 +366,20 @@ module _ (law : Law) (one_number : OneNumber) (below : Below) (keeps_sound : Kee
     told_as : (found : ℕ) (u : Book) → Booked law me.0 who k found u → Booked law me.0 seat k found u
     told_as found u t = subst (λ (p : ℕ). Booked law me.0 p k found u) (sym same_seat) t
 
-    at_number : (tells_of : ℕ → Me (Unit {0}) Book → Type 0) → ((found : ℕ) (u : Book) → Booked law me.0 who k found u → tells_of found (u, me.1)) →
+    at_number : (tells_of : ℕ → Me (Unit {0}) Book → Type 0)
+        → ((seen found : ℕ) (u : Book) → (word_of_spot (spot_of who k) ≡ Some w → seen ≡ found) → Booked law me.0 who k found u → tells_of seen (u, me.1)) →
         Allows (KeptUnder law opening) slots id me i f tells_of
     at_number tells_of telling = subst (λ (j : ℕ). Allows (KeptUnder law opening) slots id me j f tells_of) (sym is) (allowed tells_of telling)
 
-    pub allows_finding : Allows (KeptUnder law opening) slots id me i f (λ found m. Booked law me.0 seat k found m.0 × (m.1 ≡ me.1))
-    allows_finding = at_number (λ found m. Booked law me.0 seat k found m.0 × (m.1 ≡ me.1)) (λ found u t. (told_as found u t, refl))
+    pub allows_finding : word_of_spot (spot_of who k) ≡ Some w → Allows (KeptUnder law opening) slots id me i f (λ found m. Booked law me.0 seat k found m.0 × (m.1 ≡ me.1))
+    allows_finding met =
+        at_number (λ found m. Booked law me.0 seat k found m.0 × (m.1 ≡ me.1))
+        (λ seen found u is t. (subst (λ (n : ℕ). Booked law me.0 seat k n u) (sym (is met)) (told_as found u t), refl))
+
+    -- a step that meets no word finds nothing
+    pub allows_none : spot_of who k ≡ no_word → Allows (KeptUnder law opening) slots id me i f (λ seen m. Booked law me.0 seat k 0 m.0 × (m.1 ≡ me.1))
+    allows_none none =
+        at_number (λ seen m. Booked law me.0 seat k 0 m.0 × (m.1 ≡ me.1))
+        (λ seen found u _ t.
+        let nothing : found ≡ 0 = sym t.under.told.met ∙ ap (word_at t.under.told.before) none in
+        (subst (λ (n : ℕ). Booked law me.0 seat k n u) nothing (told_as found u t), refl))

@@ -28,12 +28,13 @@ use Rattle.erm_machine.specs.declared.version.CellWord.TheVariants as word
 use Rattle.erm_machine.specs.declared.version.VersionAt.{VersionAt}
 use Rattle.erm_machine.specs.Core.{Object, Shared, blank, claim_at, no_claim}
 use Rattle.erm_machine.specs.Flushing.{with_flushing, load_flushed, gathered_word, load_ring, clear_ring, store_flushed}
-use Rattle.erm_machine.specs.Life.{load_tail_to_begin, load_tail_for_horizon, load_tail_to_gather, add_tail, aborted, store_begin, store_state, load_begin, load_state, decide}
-use Rattle.erm_machine.specs.Reading.{load_entry, claim, set_reader, load_walked_stamp, load_walked_link, load_cell, load_detached, load_counter, add_counter, with_spare, rated_claim, load_active_stamp}
+use Rattle.erm_machine.specs.Life.{load_tail_to_begin, load_tail_for_horizon, load_tail_to_gather, add_tail, aborted, store_begin, store_state, load_begin, load_back, store_back, load_state, decide}
+use Rattle.erm_machine.specs.Reading.{load_entry, claim, set_reader, load_walked_stamp, load_walked_link, load_cell, load_detached, load_counter, add_counter, with_spare, rated_claim, load_active_stamp, unset}
 use Rattle.erm_machine.specs.Seat.{with_current, with_task, over, end_of, last_claim, cells_of, is_active, is_sealed}
 use Rattle.erm_machine.specs.Settling.{may_settle, has_room, load_flushed_to_settle, load_read_entry, load_readers, load_settled_stamp, load_stamp, store_ring, filled, raise_reader, mark_overwritten, adds_version, install_new, release_old, install_claim, unclaim, install, clear_reader}
 use Rattle.erm_machine.specs.Step.{part_after}
 use Rattle.erm_machine.specs.Words.{blank_cell, is_flusher}
+use Rattle.erm_machine.proofs.Backs.{active_begin_then, entry_then}
 use Rattle.erm_machine.proofs.Guards.{when_then, some_then, if_then, either_way, unless_some}
 use Rattle.erm_machine.proofs.Listed.{∈-cons, ∈-either}
 use Rattle.erm_rule.specs.Cells.{SeatCells}
@@ -171,7 +172,8 @@ c_aborted p x z spare = carry_if x (is_flusher p) (with_current blank z) (over A
 
 c_begin : (p value : ℕ) (x : Part) (pl : Place) (y : Part) → store_begin p value x pl ≡ Some y → Carries x y
 c_begin p value x (Begun tail) y e = when_then (Carries x) _ _ y e (λ _. carry x _ refl refl)
-c_begin p value x (Active tail) y e = when_then (Carries x) _ _ y e (λ _. c_aborted p x (record x { place = Idle; task = task.Rest }) refl)
+c_begin p value x (Active tail) y e =
+    active_begin_then (Carries x) p value tail x y e (λ _ _. c_aborted p x (record x { place = Idle; task = task.Rest }) refl) (λ _ _ _ _. carry x _ refl refl)
 c_begin p value x (Decided tail stamp) y e = when_then (Carries x) _ _ y e (λ _. carry x _ refl refl)
 c_begin p value x _ y e = absurd (cc)
 
@@ -181,9 +183,18 @@ c_state p value x (Drawn tail stamp) y e = when_then (Carries x) _ _ y e (λ _. 
 c_state p value x (Leaving stamp) y e = when_then (Carries x) _ _ y e (λ _. carry_none x _ refl refl)
 c_state p value x _ y e = absurd (cc)
 
-c_load_begin : (other found : ℕ) (x : Part) (t : Task) (y : Part) → load_begin other found x t ≡ Some y → Carries x y
-c_load_begin other found x (task.Horizon version least next) y e = when_then (Carries x) _ _ y e (λ _. carry x _ refl refl)
-c_load_begin other found x _ y e = absurd (cc)
+c_load_begin : (p other found : ℕ) (x : Part) (t : Task) (y : Part) → load_begin p other found x t ≡ Some y → Carries x y
+c_load_begin p other found x (task.Horizon version least next) y e = when_then (Carries x) _ _ y e (λ _. carry x _ refl refl)
+c_load_begin p other found x (task.Surveys next) y e = when_then (Carries x) _ _ y e (λ _. carry x _ refl refl)
+c_load_begin p other found x _ y e = absurd (cc)
+
+c_load_back : (other found : ℕ) (x : Part) (t : Task) (y : Part) → load_back other found x t ≡ Some y → Carries x y
+c_load_back other found x (task.Behind next) y e = when_then (Carries x) _ _ y e (λ _. carry x _ refl refl)
+c_load_back other found x _ y e = absurd (cc)
+
+c_store_back : (value : ℕ) (x : Part) (pl : Place) (y : Part) → store_back value x pl ≡ Some y → Carries x y
+c_store_back value x (Decided tail stamp) y e = when_then (Carries x) _ _ y e (λ _. carry x _ refl refl)
+c_store_back value x _ y e = absurd (cc)
 
 c_load_state : (p other bound found : ℕ) (x y : Part) → load_state p other bound found x ≡ Some y → Carries x y
 c_load_state p other bound found x y e = when_then (Carries x) _ _ y e (λ _. carry x _ refl refl)
@@ -195,7 +206,7 @@ c_decided at header x _ _ y e = absurd (cc)
 -- READ, CLAIM, CUT
 c_load_entry : (seat oid found : ℕ) (o : Object) (x : Part) (t : Task) (y : Part) → load_entry seat oid found o x t ≡ Some y → Carries x y
 c_load_entry seat oid found o x (task.Cleared cleared) y e = when_then (Carries x) _ _ y e (λ _. carry x _ refl refl)
-c_load_entry seat oid found o x _ y e = when_then (Carries x) _ _ y e (λ _. carry x _ refl refl)
+c_load_entry seat oid found o x t y e = entry_then (Carries x) seat oid found o x t y e (λ _ _. carry x _ refl refl) (λ _. carry x _ refl refl)
 
 c_read_entry : (seat oid found : ℕ) (x : Part) (t : Task) (y : Part) → load_read_entry seat oid found x t ≡ Some y → Carries x y
 c_read_entry seat oid found x (task.Settles reads writes) y e = when_then (Carries x) _ _ y e (λ _. carry x _ refl refl)
@@ -221,11 +232,13 @@ c_set_reader seat v o x _ y e = absurd (cc)
 c_walked_stamp : (found : ℕ) (v : VersionAt) (x : Part) (t : Task) (y : Part) → load_walked_stamp found v x t ≡ Some y → Carries x y
 c_walked_stamp found v x (task.Walks version head) y e = when_then (Carries x) _ _ y e (λ _. carry x _ refl refl)
 c_walked_stamp found v x (task.CutWalks version horizon) y e = when_then (Carries x) _ _ y e (λ _. carry x _ refl refl)
+c_walked_stamp found v x (task.SafeWalks version) y e = when_then (Carries x) _ _ y e (λ _. carry x _ refl refl)
 c_walked_stamp found v x (task.Passed version) y e = when_then (Carries x) _ _ y e (λ _. carry x _ refl refl)
 c_walked_stamp found v x _ y e = absurd (cc)
 
 c_walked_link : (found : ℕ) (v : VersionAt) (x : Part) (t : Task) (y : Part) → load_walked_link found v x t ≡ Some y → Carries x y
 c_walked_link found v x (task.Passed version) y e = when_then (Carries x) _ _ y e (λ _. carry x _ refl refl)
+c_walked_link found v x (task.SafePassed version) y e = when_then (Carries x) _ _ y e (λ _. carry x _ refl refl)
 c_walked_link found v x (task.CutPassed version horizon) y e = when_then (Carries x) _ _ y e (λ _. carry x _ refl refl)
 c_walked_link found v x _ y e = absurd (cc)
 
@@ -257,6 +270,13 @@ c_active_stamp found v word.ReaderStamp x task.Draws y e =
     record { kept = λ cells h. (carry (with_spare x) (rated_claim found (with_spare x)) refl refl).kept cells (given.kept cells h) })
 c_active_stamp found v word.ReaderStamp x task.Fetched y e = when_then (Carries x) _ _ y e (λ _. carry x _ refl refl)
 c_active_stamp found v _ x _ y e = absurd (cc)
+
+-- a claim whose row is undone keeps its cell
+c_unset : (place : ℕ) (x y : Part) → unset place x ≡ Some y → Carries x y
+c_unset place x y e =
+    when_then (Carries x) _ _ y e (λ _. record {
+      kept = λ cells h. record { owns = owns_set cells x.current.writes place _ (λ own is. h.owns place own is) h.owns; spares = h.spares };
+    })
 
 -- SETTLE
 c_settled_stamp : (found : ℕ) (v : VersionAt) (w : CellWord) (x : Part) (t : Task) (y : Part) → load_settled_stamp found v w x t ≡ Some y → Carries x y
@@ -358,7 +378,7 @@ carries p (kind.LoadTail purpose.Gather) found s x y q e = c_gather p found x y 
 carries p (kind.AddTail size) found s x y q e = c_drawn p size found x x.place y e
 carries p (kind.StoreBegin value) found s x y q e = c_begin p value x x.place y e
 carries p (kind.StoreState value) found s x y q e = c_state p value x x.place y e
-carries p (kind.LoadBegin other) found s x y q e = c_load_begin other found x x.task y e
+carries p (kind.LoadBegin other) found s x y q e = c_load_begin p other found x x.task y e
 carries p (kind.LoadState other bound) found s x y q e = c_load_state p other bound found x y e
 carries p (kind.Split other) found s x y q e = absurd q
 carries p (kind.Join other) found s x y q e = absurd q
@@ -386,3 +406,6 @@ carries p (kind.StoreFlushed value) found s x y q e = c_store_flushed value x x.
 carries p kind.LoadFlushed found s x y q e = c_load_flushed found x x.flushing y e
 carries p (kind.SwapLink v) found s x y q e = absurd q
 carries p (kind.LoadDetached v) found s x y q e = c_load_detached found v x x.task y e
+carries p (kind.StoreBack value) found s x y q e = c_store_back value x x.place y e
+carries p (kind.LoadBack other) found s x y q e = c_load_back other found x x.task y e
+carries p (kind.Unset place) found s x y q e = c_unset place x y e

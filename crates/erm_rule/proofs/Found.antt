@@ -23,14 +23,16 @@ use Rattle.erm_machine.specs.declared.version.CellWord.{CellWord}
 use Rattle.erm_machine.specs.declared.version.CellWord.TheVariants as cells
 use Rattle.erm_machine.specs.declared.version.Version.{Version}
 use Rattle.erm_machine.specs.Core.{Core, Object, Shared, blank, drawn_of, spot_of, word_at}
-use Rattle.erm_machine.specs.Life.{load_tail_to_begin, load_tail_for_horizon, load_tail_to_gather, add_tail, aborted, store_begin, store_state, load_begin, load_state, decide}
+use Rattle.erm_machine.specs.Life.{load_tail_to_begin, load_tail_for_horizon, load_tail_to_gather, add_tail, aborted, store_begin, store_state, load_begin, load_back, store_back, load_state, decide}
 use Rattle.erm_machine.specs.Seat.{with_current, over, end_of}
 use Rattle.erm_machine.specs.Step.{part_after, stored, shared_after, with_counter, added, installed, moved, is_known, after_event}
 use Rattle.erm_machine.specs.Words.{put, begin_of, state_of, cell_word, set_word, is_flusher}
+use Rattle.erm_machine.proofs.Backs.{active_begin_then}
 use Rattle.erm_machine.proofs.Frames.{at_cases, put_same, put_other}
 use Rattle.erm_machine.proofs.Guards.{when_then, either_way}
 use Rattle.erm_machine.proofs.Objects.{same_objects}
 use Rattle.erm_machine.proofs.QuietKinds.{quiet_kind, keeps_log}
+use Rattle.erm_core_back.proofs.Gazes.{watches}
 use Rattle.erm_rule.specs.Cells.{word_in, change, cells_after}
 
 -- the begin word and the state word after a step of this kind, by the place before
@@ -78,10 +80,13 @@ aborted_place p x = either_way (λ (z : Part). z.place ≡ x.place) (is_flusher 
 has_begin : (p value : ℕ) (x : Part) (pl : Place) (y : Part) → store_begin p value x pl ≡ Some y → Has value (state_of pl) y
 has_begin p value x (Begun tail) y e = when_then (Has value 0) _ _ y e (λ g. record { begin_is = sym (eqb-true value tail g); state_is = refl })
 has_begin p value x (Active tail) y e =
-    when_then (Has value 0) _ _ y e (λ g.
+    active_begin_then (Has value 0) p value tail x y e
+    (λ zero _.
     let same = aborted_place p (record x { place = Idle; task = task.Rest }) in
-    record { begin_is = ap begin_of same ∙ sym (eqb-true value 0 (and_parts _ _ g).0); state_is = ap state_of same })
-has_begin p value x (Decided tail stamp) y e = when_then (Has value stamp) _ _ y e (λ g. record { begin_is = sym (eqb-true value 0 (and_parts _ _ g).0); state_is = refl })
+    record { begin_is = ap begin_of same ∙ sym zero; state_is = ap state_of same })
+    (λ _ _ _ _. record { begin_is = refl; state_is = refl })
+has_begin p value x (Decided tail stamp) y e =
+    when_then (Has value stamp) _ _ y e (λ g. record { begin_is = sym (eqb-true value 0 (and_parts _ _ (and_parts _ _ g).0).0); state_is = refl })
 has_begin p value x _ y e = absurd (cc)
 
 has_state : (p value : ℕ) (x : Part) (pl : Place) (y : Part) → store_state p value x pl ≡ Some y → Has (begin_of pl) value y
@@ -91,10 +96,12 @@ has_state p value x (Drawn tail stamp) y e = when_then (Has tail value) _ _ y e 
 has_state p value x (Leaving stamp) y e = when_then (Has 0 value) _ _ y e (λ g. record { begin_is = refl; state_is = sym (eqb-true value 0 g) })
 has_state p value x _ y e = absurd (cc)
 
-has_load_begin : (other found : ℕ) (x : Part) (t : Task) (y : Part) → load_begin other found x t ≡ Some y → Has (begin_of x.place) (state_of x.place) y
-has_load_begin other found x (task.Horizon version least next) y e =
+has_load_begin : (p other found : ℕ) (x : Part) (t : Task) (y : Part) → load_begin p other found x t ≡ Some y → Has (begin_of x.place) (state_of x.place) y
+has_load_begin p other found x (task.Horizon version least next) y e =
     when_then (Has (begin_of x.place) (state_of x.place)) _ _ y e (λ _. record { begin_is = refl; state_is = refl })
-has_load_begin other found x _ y e = absurd (cc)
+has_load_begin p other found x (task.Surveys next) y e =
+    when_then (Has (begin_of x.place) (state_of x.place)) _ _ y e (λ _. record { begin_is = refl; state_is = refl })
+has_load_begin p other found x _ y e = absurd (cc)
 
 has_load_state : (p other bound found : ℕ) (x y : Part) → load_state p other bound found x ≡ Some y → Has (begin_of x.place) (state_of x.place) y
 has_load_state p other bound found x y e = when_then (Has (begin_of x.place) (state_of x.place)) _ _ y e (λ _. record { begin_is = refl; state_is = refl })
@@ -112,12 +119,79 @@ own_words_after p (kind.LoadTail purpose.Gather) found s x y e = has_gather p fo
 own_words_after p (kind.AddTail size) found s x y e = has_drawn p size found x x.place y e
 own_words_after p (kind.StoreBegin value) found s x y e = has_begin p value x x.place y e
 own_words_after p (kind.StoreState value) found s x y e = has_state p value x x.place y e
-own_words_after p (kind.LoadBegin other) found s x y e = has_load_begin other found x x.task y e
+own_words_after p (kind.LoadBegin other) found s x y e = has_load_begin p other found x x.task y e
 own_words_after p (kind.LoadState other bound) found s x y e = has_load_state p other bound found x y e
 own_words_after p (kind.Split other) found s x y e = absurd (cc)
 own_words_after p (kind.Join other) found s x y e = absurd (cc)
 own_words_after p (kind.Decide at header) found s x y e = has_decided at header x x.place x.task y e
 own_words_after p k found s x y e = same_place x y (quiet_kind p k found s x y tt e).steady.place
+
+-- the back word of a part after a step of this kind
+abbrev pub back_after : Kind → ℕ → ℕ
+back_after (kind.StoreBack value) back = value
+back_after _ back = back
+
+has_back : (value : ℕ) (x : Part) (pl : Place) (y : Part) → store_back value x pl ≡ Some y → y.back ≡ value
+has_back value x (Decided tail stamp) y e = when_then (λ (z : Part). z.back ≡ value) _ _ y e (λ _. refl)
+has_back value x _ y e = absurd (cc)
+
+b_tail : (p found : ℕ) (x : Part) (pl : Place) (y : Part) → load_tail_to_begin p found x pl ≡ Some y → y.back ≡ x.back
+b_tail p found x Idle y e = when_then (λ (z : Part). z.back ≡ x.back) _ _ y e (λ _. refl)
+b_tail p found x (Announced tail) y e = when_then (λ (z : Part). z.back ≡ x.back) _ _ y e (λ _. refl)
+b_tail p found x _ y e = absurd (cc)
+
+b_horizon : (found : ℕ) (x : Part) (t : Task) (y : Part) → load_tail_for_horizon found x t ≡ Some y → y.back ≡ x.back
+b_horizon found x (task.Claimed version) y e = when_then (λ (z : Part). z.back ≡ x.back) _ _ y e (λ _. refl)
+b_horizon found x _ y e = absurd (cc)
+
+b_drawn : (p size found : ℕ) (x : Part) (pl : Place) (y : Part) → add_tail p size found x pl ≡ Some y → y.back ≡ x.back
+b_drawn p size found x (Sealing tail) y e = when_then (λ (z : Part). z.back ≡ x.back) _ _ y e (λ _. refl)
+b_drawn p size found x _ y e = absurd (cc)
+
+aborted_back : (p : ℕ) (x : Part) → (aborted p x).back ≡ x.back
+aborted_back p x = either_way (λ (z : Part). z.back ≡ x.back) (is_flusher p) (with_current blank x) (over Abort x) (λ _. refl) (λ _. refl)
+
+b_begin : (p value : ℕ) (x : Part) (pl : Place) (y : Part) → store_begin p value x pl ≡ Some y → y.back ≡ x.back
+b_begin p value x (Begun tail) y e = when_then (λ (z : Part). z.back ≡ x.back) _ _ y e (λ _. refl)
+b_begin p value x (Active tail) y e =
+    active_begin_then (λ (z : Part). z.back ≡ x.back) p value tail x y e (λ _ _. aborted_back p (record x { place = Idle; task = task.Rest })) (λ _ _ _ _. refl)
+b_begin p value x (Decided tail stamp) y e = when_then (λ (z : Part). z.back ≡ x.back) _ _ y e (λ _. refl)
+b_begin p value x _ y e = absurd (cc)
+
+b_state : (p value : ℕ) (x : Part) (pl : Place) (y : Part) → store_state p value x pl ≡ Some y → y.back ≡ x.back
+b_state p value x (Active tail) y e = when_then (λ (z : Part). z.back ≡ x.back) _ _ y e (λ _. refl)
+b_state p value x (Drawn tail stamp) y e = when_then (λ (z : Part). z.back ≡ x.back) _ _ y e (λ _. refl)
+b_state p value x (Leaving stamp) y e = when_then (λ (z : Part). z.back ≡ x.back) _ _ y e (λ _. refl)
+b_state p value x _ y e = absurd (cc)
+
+b_load_begin : (p other found : ℕ) (x : Part) (t : Task) (y : Part) → load_begin p other found x t ≡ Some y → y.back ≡ x.back
+b_load_begin p other found x (task.Horizon version least next) y e = when_then (λ (z : Part). z.back ≡ x.back) _ _ y e (λ _. refl)
+b_load_begin p other found x (task.Surveys next) y e = when_then (λ (z : Part). z.back ≡ x.back) _ _ y e (λ _. refl)
+b_load_begin p other found x _ y e = absurd (cc)
+
+b_load_back : (other found : ℕ) (x : Part) (t : Task) (y : Part) → load_back other found x t ≡ Some y → y.back ≡ x.back
+b_load_back other found x (task.Behind next) y e = when_then (λ (z : Part). z.back ≡ x.back) _ _ y e (λ _. refl)
+b_load_back other found x _ y e = absurd (cc)
+
+b_decided : (at header : ℕ) (x : Part) (pl : Place) (t : Task) (y : Part) → decide at header x pl t ≡ Some y → y.back ≡ x.back
+b_decided at header x (Sealed tail stamp) (task.Fills words) y e = when_then (λ (z : Part). z.back ≡ x.back) _ _ y e (λ _. refl)
+b_decided at header x _ _ y e = absurd (cc)
+
+pub own_back_after : (p : ℕ) (k : Kind) (found : ℕ) (s : Shared) (x y : Part) → part_after p k found s x ≡ Some y → y.back ≡ back_after k x.back
+own_back_after p (kind.StoreBack value) found s x y e = has_back value x x.place y e
+own_back_after p (kind.LoadTail purpose.Begin) found s x y e = b_tail p found x x.place y e
+own_back_after p (kind.LoadTail purpose.Horizon) found s x y e = b_horizon found x x.task y e
+own_back_after p (kind.LoadTail purpose.Gather) found s x y e = when_then (λ (z : Part). z.back ≡ x.back) _ _ y e (λ _. refl)
+own_back_after p (kind.AddTail size) found s x y e = b_drawn p size found x x.place y e
+own_back_after p (kind.StoreBegin value) found s x y e = b_begin p value x x.place y e
+own_back_after p (kind.StoreState value) found s x y e = b_state p value x x.place y e
+own_back_after p (kind.LoadBegin other) found s x y e = b_load_begin p other found x x.task y e
+own_back_after p (kind.LoadState other bound) found s x y e = when_then (λ (z : Part). z.back ≡ x.back) _ _ y e (λ _. refl)
+own_back_after p (kind.Split other) found s x y e = absurd (cc)
+own_back_after p (kind.Join other) found s x y e = absurd (cc)
+own_back_after p (kind.Decide at header) found s x y e = b_decided at header x x.place x.task y e
+own_back_after p (kind.LoadBack other) found s x y e = b_load_back other found x x.task y e
+own_back_after p k found s x y e = (watches p k found s x y tt e).back
 
 -- the state after a step of one seat
 abbrev pub next : Core → ℕ → Kind → Part → Core
@@ -215,6 +289,11 @@ module _ (c : Core) (p : ℕ) (y : Part) where
       at_cases (λ z. state_of z.place ≡ state_of (c.seats q).place) c.seats p y q
       (λ is. subst (λ n. state_of y.place ≡ state_of (c.seats n).place) (sym is) (own is)) (λ _. refl)
 
+  back_kept : (q : ℕ) → (q ≡ p → y.back ≡ (c.seats p).back) → (put c.seats p y q).back ≡ (c.seats q).back
+  back_kept q own =
+      at_cases (λ (z : Part). z.back ≡ (c.seats q).back) c.seats p y q
+      (λ is. subst (λ n. y.back ≡ (c.seats n).back) (sym is) (own is)) (λ _. refl)
+
   -- the word that a step of this kind meets isn't this one
   abbrev Unmet : Kind → Word → Type 0
   Unmet k u = word_of_spot (spot_of p k) ≢ Some u
@@ -242,6 +321,10 @@ module _ (c : Core) (p : ℕ) (y : Part) where
       state_of ((next c p k y).seats q).place ≡ state_of (c.seats q).place
   state_unmet (kind.StoreState value) q own ne = state_kept q (λ is. absurd (ne (ap (λ n. Some (word.State n)) (sym is))))
   state_unmet k q own ne = state_kept q (λ _. own.state_is)
+
+  back_unmet : (k : Kind) (q : ℕ) → y.back ≡ back_after k (c.seats p).back → Unmet k (word.Back q) → ((next c p k y).seats q).back ≡ (c.seats q).back
+  back_unmet (kind.StoreBack value) q own ne = back_kept q (λ is. absurd (ne (ap (λ n. Some (word.Back n)) (sym is))))
+  back_unmet k q own ne = back_kept q (λ _. own)
 
   entry_unmet : (k : Kind) (oid : ℕ) → Unmet k (word.Entry oid) → ((next c p k y).shared.objects oid).entry ≡ (c.shared.objects oid).entry
   entry_unmet (kind.Claim at seen number) oid ne = entry_other c.shared.objects at _ oid ne
@@ -282,46 +365,51 @@ module _ (c : Core) (p : ℕ) (y : Part) where
   unmet_after k n map at (word.Entry oid) ne = entry_unmet k oid ne
   unmet_after k n map at (word.Cell cell w) ne = cell_unmet k n map cell w ne
   unmet_after k n map at (word.Ring place) ne = ring_unmet k place ne
+  unmet_after k n map at (word.Back q) ne = back_unmet k q (own_back_after p k _ c.shared (c.seats p) y at) ne
 
   -- the word met is what the step stores
   met_by : (k : Kind) (map : ℕ → Cell) → ((cell : ℕ) → length (map cell).row ≡ 16) → Has (begin_after k (c.seats p).place) (state_after k (c.seats p).place) y →
+      y.back ≡ back_after k (c.seats p).back →
       IfSome (word_of_spot (spot_of p k)) HasNumber → IfSome (word_of_spot (spot_of p k)) (λ u. word_in c map u ≡ word_at c (spot_of p k)) →
       IfSome (word_of_spot (spot_of p k)) (λ u. word_in (next c p k y) (cells_after k (stored p k (word_at c (spot_of p k))) map) u ≡ stored p k (word_at c (spot_of p k)))
-  met_by (kind.LoadTail reason) map rows own has is = refl
-  met_by (kind.AddTail size) map rows own has is = refl
-  met_by (kind.StoreBegin value) map rows own has is = ap (λ (z : Part). begin_of z.place) (put_same c.seats p y) ∙ own.begin_is
-  met_by (kind.StoreState value) map rows own has is = ap (λ (z : Part). state_of z.place) (put_same c.seats p y) ∙ own.state_is
-  met_by (kind.LoadBegin other) map rows own has is = begin_kept other (λ _. own.begin_is)
-  met_by (kind.LoadState other bound) map rows own has is = state_kept other (λ _. own.state_is)
-  met_by (kind.Split other) map rows own has is = tt
-  met_by (kind.Join other) map rows own has is = tt
-  met_by (kind.LoadEntry oid) map rows own has is = refl
-  met_by (kind.Claim oid seen number) map rows own has is = ap (λ (o : Object). o.entry) (put_same c.shared.objects oid _)
-  met_by (kind.Install oid head) map rows own has is =
+  met_by (kind.LoadTail reason) map rows own back has is = refl
+  met_by (kind.AddTail size) map rows own back has is = refl
+  met_by (kind.StoreBegin value) map rows own back has is = ap (λ (z : Part). begin_of z.place) (put_same c.seats p y) ∙ own.begin_is
+  met_by (kind.StoreState value) map rows own back has is = ap (λ (z : Part). state_of z.place) (put_same c.seats p y) ∙ own.state_is
+  met_by (kind.LoadBegin other) map rows own back has is = begin_kept other (λ _. own.begin_is)
+  met_by (kind.LoadState other bound) map rows own back has is = state_kept other (λ _. own.state_is)
+  met_by (kind.Split other) map rows own back has is = tt
+  met_by (kind.Join other) map rows own back has is = tt
+  met_by (kind.LoadEntry oid) map rows own back has is = refl
+  met_by (kind.Claim oid seen number) map rows own back has is = ap (λ (o : Object). o.entry) (put_same c.shared.objects oid _)
+  met_by (kind.Install oid head) map rows own back has is =
       ap (λ (o : Object). o.entry) (put_same c.shared.objects oid _) ∙ entry_installed head (added head (c.seats p) (end_of (c.seats p).task)) (c.shared.objects oid)
-  met_by (kind.LoadCell v w) map rows own has is = is
-  met_by (kind.StoreCell place cell w value) map rows own has is = change_same cell w value map has.1 (rows cell)
-  met_by (kind.LoadCounter counter) map rows own has is = refl
-  met_by (kind.AddCounter counter) map rows own has is = counter_same counter _ c.shared
-  met_by (kind.SetReader v) map rows own has is = change_same v.cell cells.Readers _ map tt (rows v.cell)
-  met_by (kind.ClearReader v) map rows own has is = change_same v.cell cells.Readers _ map tt (rows v.cell)
-  met_by (kind.LoadReaders v) map rows own has is = is
-  met_by (kind.LoadStamp v w) map rows own has is = is
-  met_by (kind.RaiseReader v value) map rows own has is = change_same v.cell cells.ReaderStamp _ map tt (rows v.cell)
-  met_by (kind.StoreSucc v value) map rows own has is = change_same v.cell cells.OverwriterSucc value map tt (rows v.cell)
-  met_by (kind.StoreOverwriter v value) map rows own has is = change_same v.cell cells.Overwriter value map tt (rows v.cell)
-  met_by (kind.StoreRing at value) map rows own has is = put_same c.shared.ring (at % RING_WORDS) value
-  met_by (kind.Decide at header) map rows own has is = put_same c.shared.ring (at % RING_WORDS) header
-  met_by (kind.LoadRing at) map rows own has is = refl
-  met_by (kind.ClearRing at) map rows own has is = put_same c.shared.ring (at % RING_WORDS) 0
-  met_by (kind.StoreFlushed value) map rows own has is = refl
-  met_by kind.LoadFlushed map rows own has is = refl
-  met_by (kind.SwapLink v) map rows own has is = change_same v.cell cells.Link 0 map tt (rows v.cell)
-  met_by (kind.LoadDetached v) map rows own has is = is
+  met_by (kind.LoadCell v w) map rows own back has is = is
+  met_by (kind.StoreCell place cell w value) map rows own back has is = change_same cell w value map has.1 (rows cell)
+  met_by (kind.LoadCounter counter) map rows own back has is = refl
+  met_by (kind.AddCounter counter) map rows own back has is = counter_same counter _ c.shared
+  met_by (kind.SetReader v) map rows own back has is = change_same v.cell cells.Readers _ map tt (rows v.cell)
+  met_by (kind.ClearReader v) map rows own back has is = change_same v.cell cells.Readers _ map tt (rows v.cell)
+  met_by (kind.LoadReaders v) map rows own back has is = is
+  met_by (kind.LoadStamp v w) map rows own back has is = is
+  met_by (kind.RaiseReader v value) map rows own back has is = change_same v.cell cells.ReaderStamp _ map tt (rows v.cell)
+  met_by (kind.StoreSucc v value) map rows own back has is = change_same v.cell cells.OverwriterSucc value map tt (rows v.cell)
+  met_by (kind.StoreOverwriter v value) map rows own back has is = change_same v.cell cells.Overwriter value map tt (rows v.cell)
+  met_by (kind.StoreRing at value) map rows own back has is = put_same c.shared.ring (at % RING_WORDS) value
+  met_by (kind.Decide at header) map rows own back has is = put_same c.shared.ring (at % RING_WORDS) header
+  met_by (kind.LoadRing at) map rows own back has is = refl
+  met_by (kind.ClearRing at) map rows own back has is = put_same c.shared.ring (at % RING_WORDS) 0
+  met_by (kind.StoreFlushed value) map rows own back has is = refl
+  met_by kind.LoadFlushed map rows own back has is = refl
+  met_by (kind.SwapLink v) map rows own back has is = change_same v.cell cells.Link 0 map tt (rows v.cell)
+  met_by (kind.LoadDetached v) map rows own back has is = is
+  met_by (kind.StoreBack value) map rows own back has is = ap (λ (z : Part). z.back) (put_same c.seats p y) ∙ back
+  met_by (kind.LoadBack other) map rows own back has is = back_kept other (λ _. back)
+  met_by (kind.Unset claim) map rows own back has is = tt
 
   pub met_after : (k : Kind) (map : ℕ → Cell) → ((cell : ℕ) → length (map cell).row ≡ 16) → part_after p k (word_at c (spot_of p k)) c.shared (c.seats p) ≡ Some y →
       (u : Word) → word_of_spot (spot_of p k) ≡ Some u → HasNumber u → IfSome (word_of_spot (spot_of p k)) (λ v. word_in c map v ≡ word_at c (spot_of p k)) →
       word_in (next c p k y) (cells_after k (stored p k (word_at c (spot_of p k))) map) u ≡ stored p k (word_at c (spot_of p k))
   met_after k map rows at u met has is =
       from_some (word_of_spot (spot_of p k)) (λ v. word_in (next c p k y) (cells_after k (stored p k (word_at c (spot_of p k))) map) v ≡ stored p k (word_at c (spot_of p k))) u met
-      (met_by k map rows (own_words_after p k _ c.shared (c.seats p) y at) (if_some (word_of_spot (spot_of p k)) HasNumber u met has) is)
+      (met_by k map rows (own_words_after p k _ c.shared (c.seats p) y at) (own_back_after p k _ c.shared (c.seats p) y at) (if_some (word_of_spot (spot_of p k)) HasNumber u met has) is)

@@ -63,16 +63,19 @@ both_true a b x e f = cc
 neither : (a b : Bool) (x : Part) → a ≡ false → b ≡ false → when (not a && not b) x ≡ Some x
 neither a b x e f = cc
 
--- the words stay where one seat's part changes that keeps its own two, and the cells that keeps its claims and its spare cells
+-- the words stay where one seat's part changes that keeps its own three, and the cells that keeps its claims and its spare cells
 kept_words : (c : Core) (p : ℕ) (y : Part) (cells : ℕ → Cell) → begin_of y.place ≡ begin_of (c.seats p).place → state_of y.place ≡ state_of (c.seats p).place →
-    (u : Word) → word_in (record c { seats = put c.seats p y }) cells u ≡ word_in c cells u
-kept_words c p y cells same_begin same_state (word.Begin q) =
+    y.back ≡ (c.seats p).back → (u : Word) → word_in (record c { seats = put c.seats p y }) cells u ≡ word_in c cells u
+kept_words c p y cells same_begin same_state same_back (word.Begin q) =
     at_cases (λ z. begin_of z.place ≡ begin_of (c.seats q).place) c.seats p y q
     (λ is. subst (λ n. begin_of y.place ≡ begin_of (c.seats n).place) (sym is) same_begin) (λ _. refl)
-kept_words c p y cells same_begin same_state (word.State q) =
+kept_words c p y cells same_begin same_state same_back (word.State q) =
     at_cases (λ z. state_of z.place ≡ state_of (c.seats q).place) c.seats p y q
     (λ is. subst (λ n. state_of y.place ≡ state_of (c.seats n).place) (sym is) same_state) (λ _. refl)
-kept_words c p y cells same_begin same_state _ = refl
+kept_words c p y cells same_begin same_state same_back (word.Back q) =
+    at_cases (λ (z : Part). z.back ≡ (c.seats q).back) c.seats p y q
+    (λ is. subst (λ n. y.back ≡ (c.seats n).back) (sym is) same_back) (λ _. refl)
+kept_words c p y cells same_begin same_state same_back _ = refl
 
 kept_cells : (c : Core) (p : ℕ) (y : Part) (cells : ℕ → Cell) → Carries (c.seats p) y → CellsAre c cells → CellsAre (record c { seats = put c.seats p y }) cells
 kept_cells c p y cells own are = record {
@@ -174,7 +177,7 @@ module _ (words : List ℕ) (views : List View) (c : Core) (cells : ℕ → Cell
   split_stands : Stands words split_views split_core cells split_holder
   split_stands = record {
     count = stands.count;
-    words_are = λ u has. stands.words_are u has ∙ sym (kept_words c l.seat split_part cells split_begin split_state u);
+    words_are = λ u has. stands.words_are u has ∙ sym (kept_words c l.seat split_part cells split_begin split_state (sym (ap (λ (z : Part). z.back) (stands.parts_are id v l at l_in))) u);
     cells_are = kept_cells c l.seat split_part cells split_carries stands.cells_are;
     parts_are = λ j u h e m.
         each_split (λ (i : ℕ) (z : View). (h : Held) → h ∈ z.held → put c.seats l.seat split_part h.seat ≡ h.part)
@@ -343,7 +346,8 @@ module _ (words : List ℕ) (views : List View) (c : Core) (cells : ℕ → Cell
   join_stands : Stands words join_views join_core cells join_holder
   join_stands = record {
     count = stands.count;
-    words_are = λ u has. stands.words_are u has ∙ sym (kept_words c a.seat join_part cells (sym (ap begin_of own_place)) (sym (ap state_of own_place)) u);
+    words_are = λ u has. stands.words_are u has
+        ∙ sym (kept_words c a.seat join_part cells (sym (ap begin_of own_place)) (sym (ap state_of own_place)) (sym (ap (λ (z : Part). z.back) (stands.parts_are id v a at a_in))) u);
     cells_are = kept_cells c a.seat join_part cells join_carries stands.cells_are;
     parts_are = λ j u h e n.
         each_join (λ (i : ℕ) (z : View). (h : Held) → h ∈ z.held → put c.seats a.seat join_part h.seat ≡ h.part)

@@ -22,7 +22,7 @@ use Rattle.erm_machine.specs.declared.version.VersionAt.{VersionAt}
 use Rattle.erm_machine.specs.Bounds.{IsBounded}
 use Rattle.erm_machine.specs.Cells.{WantsCell}
 use Rattle.erm_machine.specs.Chains.{IsNamed, NamedInHand, CutInHand}
-use Rattle.erm_machine.specs.Core.{Core, Shared, Spot, tail_word, flushed_word, counter_word, begin_word, state_word, entry_word, version_word, own_word, ring_word, no_word, spot_of, word_at, version_at, newest, claim_at, own_words}
+use Rattle.erm_machine.specs.Core.{Core, Shared, Spot, tail_word, flushed_word, counter_word, begin_word, state_word, back_word, entry_word, version_word, own_word, ring_word, no_word, spot_of, word_at, version_at, newest, claim_at, own_words}
 use Rattle.erm_machine.specs.Decided.{MarkInHand, IsRead}
 use Rattle.erm_machine.specs.Facts.{HasBegun, over_of, all_of}
 use Rattle.erm_machine.specs.Reading.{set_reader, may_load_row, may_copy_row, load_walked_stamp, load_walked_link, load_cell, swap_link, load_detached, load_active_stamp}
@@ -54,6 +54,7 @@ is_met c cells are flushed_word live = refl
 is_met c cells are (counter_word counter) live = refl
 is_met c cells are (begin_word seat) live = refl
 is_met c cells are (state_word seat) live = refl
+is_met c cells are (back_word seat) live = refl
 is_met c cells are (entry_word oid) live = refl
 is_met c cells are (version_word v w) live =
     ap (λ (n : ℕ). cell_word w (cells n)) (sym live.cell) ∙ ap (cell_word w) ((are.objects v.oid live.object).are v.place live.attached live.within)
@@ -165,6 +166,8 @@ module _ (c : Core) (p : ℕ) (sound : Sound c) where
       when_then (λ _. IsLive s v) _ _ y e (λ g. live_as s v version g (live_newer version named begun hand))
   walked_stamp_live found v (task.CutWalks version horizon) y begun named cut hand e =
       when_then (λ _. IsLive s v) _ _ y e (λ g. live_as s v version g (live_attached version named cut.attached))
+  walked_stamp_live found v (task.SafeWalks version) y begun named cut hand e =
+      when_then (λ _. IsLive s v) _ _ y e (λ g. live_as s v version g (live_newer version named begun hand))
   walked_stamp_live found v (task.Passed version) y begun named cut hand e =
       when_then (λ _. IsLive s v) _ _ y e (λ g. live_as s v version g (live_newer version named begun hand.0))
   walked_stamp_live found v _ y begun named cut hand e = absurd (cc)
@@ -172,6 +175,8 @@ module _ (c : Core) (p : ℕ) (sound : Sound c) where
   walked_link_live : (found : ℕ) (v : VersionAt) (t : Task) (y : Part) → HasBegun x.place → NamedInHand s t → CutInHand s x t → InHand s x.current.begin t
       → load_walked_link found v x t ≡ Some y → IsLive s v
   walked_link_live found v (task.Passed version) y begun named cut hand e =
+      when_then (λ _. IsLive s v) _ _ y e (λ g. live_as s v version (and_parts _ _ (and_parts _ _ g).0).0 (live_newer version named begun hand.0))
+  walked_link_live found v (task.SafePassed version) y begun named cut hand e =
       when_then (λ _. IsLive s v) _ _ y e (λ g. live_as s v version (and_parts _ _ (and_parts _ _ g).0).0 (live_newer version named begun hand.0))
   walked_link_live found v (task.CutPassed version horizon) y begun named cut hand e =
       when_then (λ _. IsLive s v) _ _ y e (λ g. live_as s v version g (live_attached version named cut.attached))
@@ -195,6 +200,7 @@ module _ (c : Core) (p : ℕ) (sound : Sound c) where
   row_live v (task.Registered version) begun named hand mark g = live_as s v version g (is_read_live version mark begun)
   row_live v (task.Overtaken version overwriter) begun named hand mark g = live_as s v version g (is_read_live version mark.2 begun)
   row_live v (task.Rated version) begun named hand mark g = live_as s v version g (is_read_live version mark begun)
+  row_live v (task.SafeFound version) begun named hand mark g = live_as s v version g (live_newer version named begun hand.newer)
   row_live v _ begun named hand mark g = absurd (cc)
 
   copied_live : (v : VersionAt) (t : Task) → x.task ≡ t → HasBegun x.place → IsBounded p x.current t → may_copy_row v x t ≡ true → IsLive s v

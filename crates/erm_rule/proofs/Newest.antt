@@ -1,5 +1,5 @@
 -- Each event keeps this: a cut in progress cuts behind the newest version below its horizon.
-use Rattle.std.proofs.Common.{◌≡◌, ◌≢◌, ℕ, ◌+◌, ◌-◌, ◌<◌, ◌≤◌, ⊎_elim, Bool, true, false, ◌&&◌, length, Option, Some, None, inl, inr, refl, sym, ap, ◌∙◌, subst, arith}
+use Rattle.std.proofs.Common.{◌≡◌, ◌≢◌, ℕ, ◌+◌, ◌-◌, ◌<◌, ◌≤◌, ⊎_elim, Bool, true, false, ◌&&◌, ◌||◌, length, Option, Some, None, inl, inr, refl, sym, ap, ◌∙◌, subst, arith}
 use Rattle.std.specs.Prelude.{if◌then◌else◌, nat_le, ◌==◌}
 use Rattle.std.proofs.lemmas.Bool.{and_parts, cases_eq, cases_lt, eqb-true, ltb-false}
 use Rattle.std.proofs.lemmas.List.{get_or_past}
@@ -19,7 +19,7 @@ use Rattle.erm_machine.specs.declared.version.VersionAt.{VersionAt}
 use Rattle.erm_machine.specs.Chains.{CutInHand, HeadInHand}
 use Rattle.erm_machine.specs.Core.{Core, Object, Shared, no_version, claim_at, spot_of, word_at, version_at, newest}
 use Rattle.erm_machine.specs.Facts.{Holds}
-use Rattle.erm_machine.specs.Life.{load_tail_for_horizon, lower, load_begin, after_clear, load_state, split, join}
+use Rattle.erm_machine.specs.Life.{load_tail_for_horizon, lower, after_passed, after_survey, load_begin, after_clear, load_state, split, join}
 use Rattle.erm_machine.specs.Reading.{after_cut, head_version, older, entered, lost, load_entry, claim, set_reader, load_walked_stamp, load_walked_link, load_cell, swap_link, detached, load_detached, load_active_stamp}
 use Rattle.erm_machine.specs.Seat.{end_of, is_active, is_sealed}
 use Rattle.erm_machine.specs.Settling.{load_read_entry, load_settled_stamp, load_stamp}
@@ -27,6 +27,7 @@ use Rattle.erm_machine.specs.Snapshot.{NewerFrom}
 use Rattle.erm_machine.specs.Sound.{Sound}
 use Rattle.erm_machine.specs.Step.{shared_after, after_event, with_part, installed, added}
 use Rattle.erm_machine.specs.Words.{put, is_clear, is_least_bit, owner_of, without_bit}
+use Rattle.erm_machine.proofs.Backs.{entry_then}
 use Rattle.erm_machine.proofs.Frames.{at_cases, each_seat}
 use Rattle.erm_machine.proofs.Guards.{when_then, if_then, either_way, unless_some}
 use Rattle.erm_machine.proofs.Holders.{held_once, stands_in}
@@ -126,12 +127,21 @@ n_horizon : (s : Shared) (found : ℕ) (x : Part) (t : Task) (y : Part) → Newe
 n_horizon s found x (task.Claimed version) y h e = when_then (After s) _ _ y e (λ _. h)
 n_horizon s found x _ y h e = absurd (cc)
 
-n_begin_word : (s : Shared) (other found : ℕ) (x : Part) (t : Task) (y : Part) → NewestInHand s t → load_begin other found x t ≡ Some y → After s y
-n_begin_word s other found x (task.Horizon version least next) y h e =
+n_passed : (s : Shared) (next : ℕ) → NewestInHand s (after_passed next)
+n_passed s next = newest_if s _ task.Safe (task.Surveys (next + 1)) (λ _. tt) (λ _. tt)
+
+n_survey : (s : Shared) (seat begin found next : ℕ) → NewestInHand s (after_survey seat begin found next)
+n_survey s seat begin found next =
+    newest_if s (next == seat) (after_passed next) (if (found == 0) || nat_le begin found then task.Behind next else task.Surveys next) (λ _. n_passed s next)
+    (λ _. newest_if s _ (task.Behind next) (task.Surveys next) (λ _. tt) (λ _. tt))
+
+n_begin_word : (s : Shared) (seat other found : ℕ) (x : Part) (t : Task) (y : Part) → NewestInHand s t → load_begin seat other found x t ≡ Some y → After s y
+n_begin_word s seat other found x (task.Horizon version least next) y h e =
     when_then (After s) _ _ y e (λ _.
     newest_if s (next + 1 == ANNOUNCERS) (task.CutWalks version (lower least found)) (task.Horizon version (lower least found) (next + 1))
     (λ _. none_newer (s.objects version.oid) version.place (lower least found) h) (λ _. h))
-n_begin_word s other found x _ y h e = absurd (cc)
+n_begin_word s seat other found x (task.Surveys next) y h e = when_then (After s) _ _ y e (λ _. n_survey s seat x.current.begin found next)
+n_begin_word s seat other found x _ y h e = absurd (cc)
 
 n_clear : (s : Shared) (other bound : ℕ) (x : Part) (t : Task) → NewestInHand s t → NewestInHand s (after_clear other bound x t)
 n_clear s other bound x (task.Owned oid owner) h = newest_if s _ (task.Cleared oid) (task.Owned oid owner) (λ _. tt) (λ _. tt)
@@ -158,7 +168,7 @@ n_lost s seat oid entry v = newest_if s _ (task.Passed (head_version oid entry (
 n_load_entry : (s : Shared) (seat oid found : ℕ) (x : Part) (t : Task) (y : Part) → load_entry seat oid found (s.objects oid) x t ≡ Some y → After s y
 n_load_entry s seat oid found x (task.Cleared cleared) y e =
     when_then (After s) _ _ y e (λ _. newest_if s (oid == cleared) (task.Walks (head_version oid found (s.objects oid)) None) (entered seat oid found (s.objects oid)) (λ _. tt) (λ _. n_entered s seat oid found))
-n_load_entry s seat oid found x t y e = when_then (After s) _ _ y e (λ _. n_entered s seat oid found)
+n_load_entry s seat oid found x t y e = entry_then (After s) seat oid found (s.objects oid) x t y e (λ _ _. tt) (λ _. n_entered s seat oid found)
 
 n_claim : (s : Shared) (seat oid seen number : ℕ) (x : Part) (t : Task) (y : Part) → HeadInHand s t → claim seat oid seen number (s.objects oid).entry (s.objects oid) x t ≡ Some y → After s y
 n_claim s seat oid seen number x (task.Found version stamp (Some entry)) y head e =
@@ -201,11 +211,14 @@ n_walked_stamp s v x (task.CutWalks version horizon) y h e =
     when_then (After s) _ _ y e (λ g.
     newest_if s _ (task.CutFound version horizon) (task.CutPassed version horizon) (λ _. h)
     (λ high. (h, subst (λ n. horizon ≤ stamp_of s n) (same_name v version g) (ltb-false (stamp_of s v) horizon high))))
+n_walked_stamp s v x (task.SafeWalks version) y h e =
+    when_then (After s) _ _ y e (λ _. newest_if s _ (task.SafeFound version) (task.SafePassed version) (λ _. tt) (λ _. tt))
 n_walked_stamp s v x (task.Passed version) y h e = when_then (After s) _ _ y e (λ _. tt)
 n_walked_stamp s v x _ y h e = absurd (cc)
 
 n_walked_link : (s : Shared) (found : ℕ) (v : VersionAt) (x : Part) (t : Task) (y : Part) → NewestInHand s t → load_walked_link found v x t ≡ Some y → After s y
 n_walked_link s found v x (task.Passed version) y h e = when_then (After s) _ _ y e (λ _. tt)
+n_walked_link s found v x (task.SafePassed version) y h e = when_then (After s) _ _ y e (λ _. tt)
 n_walked_link s found v x (task.CutPassed version horizon) y h e =
     when_then (After s) _ _ y e (λ _.
     newest_if s _ (after_cut x) (task.CutWalks (older version found) horizon) (λ _. n_after_cut s x) (λ _. one_older (s.objects version.oid) version.place horizon h.0 h.1))
@@ -330,7 +343,7 @@ pub newest_kept : (c : Core) (p : ℕ) (k : Kind) (d : Core) → Sound c → Cut
 newest_kept c p (kind.LoadTail reason) d sound all e = tail_kept c p reason d sound all e
 newest_kept c p (kind.LoadBegin other) d sound all e =
     let m = moves c p (kind.LoadBegin other) d tt e in
-    plain_kept c p (kind.LoadBegin other) d tt tt all m (n_begin_word c.shared other (word_at c (spot_of p (kind.LoadBegin other))) (c.seats p) (c.seats p).task m.part (all p) m.after)
+    plain_kept c p (kind.LoadBegin other) d tt tt all m (n_begin_word c.shared p other (word_at c (spot_of p (kind.LoadBegin other))) (c.seats p) (c.seats p).task m.part (all p) m.after)
 newest_kept c p (kind.LoadState other bound) d sound all e =
     let m = moves c p (kind.LoadState other bound) d tt e in
     plain_kept c p (kind.LoadState other bound) d tt tt all m (n_state c.shared p other bound (word_at c (spot_of p (kind.LoadState other bound))) (c.seats p) m.part (all p) m.after)

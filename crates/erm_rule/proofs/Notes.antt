@@ -20,6 +20,7 @@ use Rattle.erm_machine.specs.Sound.{Sound}
 use Rattle.erm_machine.specs.Step as step
 use Rattle.erm_machine.specs.Step.{part_after, after_event}
 use Rattle.erm_machine.specs.Words.{put, is_flusher}
+use Rattle.erm_machine.proofs.Backs.{active_begin_then}
 use Rattle.erm_machine.proofs.Frames.{at_cases}
 use Rattle.erm_machine.proofs.Guards.{when_then, either_way}
 use Rattle.erm_machine.proofs.QuietKinds.{Moves, moves, quiet_kind}
@@ -67,7 +68,8 @@ aborted_notes p x = either_way (λ (z : Part). z.clear ≡ x.clear) (is_flusher 
 
 notes_begin : (p value : ℕ) (x : Part) (pl : Place) (y : Part) → store_begin p value x pl ≡ Some y → NotesMore x y
 notes_begin p value x (Begun tail) y e = when_then (NotesMore x) _ _ y e (λ _. same_notes x _ refl)
-notes_begin p value x (Active tail) y e = when_then (NotesMore x) _ _ y e (λ _. same_notes x _ (aborted_notes p (record x { place = Idle; task = task.Rest })))
+notes_begin p value x (Active tail) y e =
+    active_begin_then (NotesMore x) p value tail x y e (λ _ _. same_notes x _ (aborted_notes p (record x { place = Idle; task = task.Rest }))) (λ _ _ _ _. same_notes x _ refl)
 notes_begin p value x (Decided tail stamp) y e = when_then (NotesMore x) _ _ y e (λ _. same_notes x _ refl)
 notes_begin p value x _ y e = absurd (cc)
 
@@ -77,9 +79,10 @@ notes_state p value x (Drawn tail stamp) y e = when_then (NotesMore x) _ _ y e (
 notes_state p value x (Leaving stamp) y e = when_then (NotesMore x) _ _ y e (λ _. same_notes x _ refl)
 notes_state p value x _ y e = absurd (cc)
 
-notes_load_begin : (other found : ℕ) (x : Part) (t : Task) (y : Part) → load_begin other found x t ≡ Some y → NotesMore x y
-notes_load_begin other found x (task.Horizon version least next) y e = when_then (NotesMore x) _ _ y e (λ _. same_notes x _ refl)
-notes_load_begin other found x _ y e = absurd (cc)
+notes_load_begin : (p other found : ℕ) (x : Part) (t : Task) (y : Part) → load_begin p other found x t ≡ Some y → NotesMore x y
+notes_load_begin p other found x (task.Horizon version least next) y e = when_then (NotesMore x) _ _ y e (λ _. same_notes x _ refl)
+notes_load_begin p other found x (task.Surveys next) y e = when_then (NotesMore x) _ _ y e (λ _. same_notes x _ refl)
+notes_load_begin p other found x _ y e = absurd (cc)
 
 notes_look : (p other bound found : ℕ) (x y : Part) → load_state p other bound found x ≡ Some y → NotesMore x y
 notes_look p other bound found x y e =
@@ -99,7 +102,7 @@ notes_kept p (kind.LoadTail purpose.Gather) found s x y e = notes_gather p found
 notes_kept p (kind.AddTail size) found s x y e = notes_drawn p size found x x.place y e
 notes_kept p (kind.StoreBegin value) found s x y e = notes_begin p value x x.place y e
 notes_kept p (kind.StoreState value) found s x y e = notes_state p value x x.place y e
-notes_kept p (kind.LoadBegin other) found s x y e = notes_load_begin other found x x.task y e
+notes_kept p (kind.LoadBegin other) found s x y e = notes_load_begin p other found x x.task y e
 notes_kept p (kind.LoadState other bound) found s x y e = notes_look p other bound found x y e
 notes_kept p (kind.Split other) found s x y e = absurd (cc)
 notes_kept p (kind.Join other) found s x y e = absurd (cc)

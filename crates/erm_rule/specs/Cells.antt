@@ -25,6 +25,7 @@ word_in c cells (table.State seat) = state_of (c.seats seat).place
 word_in c cells (table.Entry oid) = (c.shared.objects oid).entry
 word_in c cells (table.Cell cell w) = cell_word w (cells cell)
 word_in c cells (table.Ring place) = c.shared.ring place
+word_in c cells (table.Back seat) = (c.seats seat).back
 
 -- the cells of an object's chain have the words of its versions
 pub record ObjectCells (cells : ℕ → Cell) (o : Object) : Type 0 where
@@ -58,7 +59,7 @@ cells_after (kind.StoreOverwriter v value) n cells = change v.cell word.Overwrit
 cells_after (kind.SwapLink v) n cells = change v.cell word.Link n cells
 cells_after _ n cells = cells
 
--- The kinds whose steps on words are told of: splits and joins meet no word.
+-- The kinds whose steps are told of: splits and joins change two seats' parts, or none.
 abbrev pub IsTold : Kind → Type 0
 IsTold (kind.Split other) = ⊥
 IsTold (kind.Join other) = ⊥

@@ -48,6 +48,9 @@ in_hand (task.CutWalks version horizon) = version
 in_hand (task.CutPassed version horizon) = version
 in_hand (task.CutFound version horizon) = version
 in_hand (task.Detaches version) = version
+in_hand (task.SafeWalks version) = version
+in_hand (task.SafePassed version) = version
+in_hand (task.SafeFound version) = version
 in_hand _ = no_claim.version
 
 -- the load of a word of the version in hand

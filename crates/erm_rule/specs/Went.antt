@@ -43,9 +43,10 @@ IsLoadStep (kind.LoadStamp version w) found = Unit {0}
 IsLoadStep (kind.LoadRing at) found = Unit {0}
 IsLoadStep kind.LoadFlushed found = Unit {0}
 IsLoadStep (kind.LoadDetached version) found = Unit {0}
+IsLoadStep (kind.LoadBack seat) found = Unit {0}
 IsLoadStep k found = ⊥
 
--- a step on a word that leaves the log's end and the place flushed
+-- a step of one seat that leaves the log's end and the place flushed
 abbrev pub IsStillStep : Kind → ℕ → Type 0
 IsStillStep (kind.AddTail size) found = ⊥
 IsStillStep (kind.StoreFlushed value) found = ⊥

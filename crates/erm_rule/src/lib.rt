@@ -14,7 +14,10 @@ mod words;
 
 pub use change::Change;
 pub use laws::{notes_are_kept, notes_hold, sessions_are_handed_out, whole_books_have_one_state};
-pub use life::{add_tail, load_begin, load_state, load_tail, store_begin, store_state};
+pub use life::{
+    add_tail, load_back, load_begin, load_state, load_tail, store_back, store_begin, store_state,
+    unset,
+};
 pub use passes::{close, join, open, split};
 pub use plays::Deed;
 pub use rule::{Pass, Standing, Table};

@@ -1,8 +1,8 @@
 //! Steps of a seat in the life of a transaction, and its looks at other seats: one function for each kind of step.
 ghost use Rattle.std.specs.Prelude.{◌≡◌, ℕ, true, IsSome};
-ghost use Rattle.erm_machine.specs.declared.event.Kind.TheVariants.{LoadTail, AddTail, StoreBegin, StoreState, LoadBegin, LoadState};
+ghost use Rattle.erm_machine.specs.declared.event.Kind.TheVariants.{LoadTail, AddTail, StoreBegin, StoreState, LoadBegin, LoadState, StoreBack, LoadBack, Unset};
 ghost use Rattle.erm_machine.specs.Decided.{record_of};
-ghost use Rattle.erm_machine.specs.Words.{is_seat};
+ghost use Rattle.erm_machine.specs.Words.{is_seat, is_session};
 ghost use Rattle.erm_model.specs.Lawful.{IsLawfulRecord};
 ghost use Rattle.erm_rule.specs.Books.{book};
 ghost use Rattle.erm_rule.specs.Steps.{Fits, Ready, ToldUnder, Booked};
@@ -10,7 +10,7 @@ ghost use Rattle.erm_rule.specs.Views.{view, part_in, part_of};
 
 use crate::change::Change;
 use crate::rule::{Pass, Table};
-use crate::stepping::step;
+use crate::stepping::{pass_by, step};
 use erm_layout::Word;
 use erm_machine::{Kind, TailUse};
 use erm_model::{RowLaw, Seat, Stamp};
@@ -102,4 +102,45 @@ pub fn load_state<L: RowLaw>(
 {
     let kind = Kind::LoadState { seat, bound };
     step(t, p, who, kind, Word::State(seat), Change::Keep)
+}
+
+/// Stores the own back word.
+pub fn store_back<L: RowLaw>(t: &Table<L>, p: &mut Pass, who: Seat, value: Stamp)
+    requires fits { Fits t.now.words.shared.table_id p.old }
+    requires held { IsSome (part_in (view p.old) who) }
+    requires session { is_session who ≡ true }
+    requires ready { Ready (view p.old) who (StoreBack value) }
+    ensures fits { Fits t.now.words.shared.table_id p.new }
+    ensures told { (found : ℕ) × ToldUnder L.law (view p.old) who (StoreBack value) found (view p.new) }
+    ensures booked { (found : ℕ) × Booked L.law (book p.old) who (StoreBack value) found (book p.new) }
+{
+    let kind = Kind::StoreBack { value };
+    step(t, p, who, kind, Word::Back(who), Change::Set(value));
+}
+
+/// Loads the back word of a session.
+pub fn load_back<L: RowLaw>(t: &Table<L>, p: &mut Pass, who: Seat, seat: Seat) -> Stamp
+    requires fits { Fits t.now.words.shared.table_id p.old }
+    requires held { IsSome (part_in (view p.old) who) }
+    requires session { is_session seat ≡ true }
+    requires ready { Ready (view p.old) who (LoadBack seat) }
+    ensures fits { Fits t.now.words.shared.table_id p.new }
+    ensures told { ToldUnder L.law (view p.old) who (LoadBack seat) result (view p.new) }
+    ensures booked { Booked L.law (book p.old) who (LoadBack seat) result (book p.new) }
+{
+    let kind = Kind::LoadBack { seat };
+    step(t, p, who, kind, Word::Back(seat), Change::Keep)
+}
+
+/// Takes a row back: of a claim whose own cell has the row of the version overwritten, no write has set the row. Meets no word.
+pub fn unset<L: RowLaw>(t: &Table<L>, p: &mut Pass, who: Seat, claim: usize)
+    requires fits { Fits t.now.words.shared.table_id p.old }
+    requires held { IsSome (part_in (view p.old) who) }
+    requires seat { is_seat who ≡ true }
+    requires ready { Ready (view p.old) who (Unset claim) }
+    ensures fits { Fits t.now.words.shared.table_id p.new }
+    ensures told { ToldUnder L.law (view p.old) who (Unset claim) 0 (view p.new) }
+    ensures booked { Booked L.law (book p.old) who (Unset claim) 0 (book p.new) }
+{
+    pass_by(t, p, who, Kind::Unset { claim });
 }

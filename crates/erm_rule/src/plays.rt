@@ -35,6 +35,18 @@ impl<L: RowLaw, M: Deed> Play<(), Book> for Finds<L, M> {
     ghost then = { λ _ me found after. Booked L.law me.0 M.seat M.kind found after.0 × (after.1 ≡ me.1) };
 }
 
+/// The step is one of the machine that meets no word: the word that was read tells nothing.
+pub(crate) struct Passes<L, M> {
+    of: PhantomData<(L, M)>,
+}
+
+impl<L: RowLaw, M: Deed> Play<(), Book> for Passes<L, M> {
+    ghost use Rattle.std.specs.Prelude.{◌≡◌};
+    ghost use Rattle.erm_rule.specs.Steps.{Booked};
+
+    ghost then = { λ _ me found after. Booked L.law me.0 M.seat M.kind 0 after.0 × (after.1 ≡ me.1) };
+}
+
 /// A pass hands out its last seat. Both passes have its steps.
 pub(crate) struct Cut;
 

@@ -45,7 +45,7 @@ fn first_word(opening: &Opening, word: Word) -> u64
         Word::Counter(Counter::Cells) => u64::from(OBJECT_LIMIT),
         Word::Entry(oid) => u64::from(oid),
         Word::Cell { cell, word } => first_cell_word(opening, cell, word),
-        Word::Begin(_) | Word::State(_) | Word::Ring(_) => 0,
+        Word::Begin(_) | Word::State(_) | Word::Ring(_) | Word::Back(_) => 0,
     }
 }
 

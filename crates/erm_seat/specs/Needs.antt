@@ -2,6 +2,8 @@
 use Rattle.std.specs.Prelude.{ℕ, ◌+◌, ◌*◌, Bool, if◌then◌else◌}
 use Rattle.erm_machine.specs.declared.place.Place.{Place}
 use Rattle.erm_machine.specs.declared.place.Place.TheVariants.{Vacant, Idle, Begun, Announced, Active, Sealing, Drawn, Sealed, Decided}
+use Rattle.erm_machine.specs.declared.task.Task.{Task}
+use Rattle.erm_machine.specs.declared.task.Task.TheVariants as task
 
 -- a number at a session's seat, and 0 at the flush seat, whose pins leave nothing
 abbrev pub lasting : Bool → ℕ → ℕ
@@ -50,6 +52,12 @@ holding (Drawn tail stamp) n = n
 holding (Sealed tail stamp) n = n
 holding (Decided tail stamp) n = n
 holding _ n = 0
+
+-- the session to which a snapshot has come that looks whether it is safe, else 0
+abbrev pub surveyed : Task → ℕ
+surveyed (task.Surveys next) = next
+surveyed (task.Behind next) = next
+surveyed _ = 0
 
 -- no transaction is in progress
 abbrev pub IsUnused : Place → Type 0

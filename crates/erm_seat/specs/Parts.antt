@@ -18,4 +18,5 @@ part_of x = record {
   run = x.run;
   flushing = x.flushing;
   gathered_to = x.gathered_to;
+  back = x.back;
 }

@@ -3,7 +3,8 @@ ghost use Rattle.std.specs.Prelude.{ℕ, ◌++◌, ◌≡◌, ◌+◌, ◌<◌, 
 ghost use Rattle.erm_machine.specs.Reading as reading_specs;
 ghost use Rattle.erm_kept.specs.Objects.{object_of};
 ghost use Rattle.erm_kept.specs.Tasks.{IsFresh};
-ghost use Rattle.erm_machine.specs.declared.limits.TheConstants.{WRITE_LIMIT};
+ghost use Rattle.erm_machine.specs.declared.limits.TheConstants.{SESSIONS, WRITE_LIMIT};
+ghost use Rattle.erm_seat.specs.Needs.{surveyed};
 ghost use Rattle.erm_seat.specs.Parts.{part_of};
 ghost use Rattle.erm_seat.specs.Rooms.{no_growth, GoesOn, HasClaimRoom, HasNumberRoom, HasSpareRoom};
 ghost use Rattle.erm_machine.specs.declared.task.Task.TheVariants.{Copies, Numbers, Pool, Registered, Writes};
@@ -12,8 +13,8 @@ ghost use Rattle.erm_machine.specs.declared.version.CellWord.TheVariants.{Overwr
 
 use crate::SeatState;
 use crate::reading::{lost, older};
-use erm_kept::words::{blank_cell, is_active, is_session, may_start, same_version};
-use erm_kept::{ObjectState, is_own};
+use erm_kept::words::{blank_cell, is_active, is_rest, is_session, may_start, same_version};
+use erm_kept::{ObjectState, has_base, is_own};
 use erm_machine::{CellWord, Claim, Counter, OBJECT_LIMIT, OwnCell, Task, VersionAt, WRITE_LIMIT};
 use erm_model::{Oid, ROW_WORDS, Seat, Stamp};
 
@@ -41,6 +42,7 @@ impl SeatState {
     pub(crate) fn after_cut(&self) -> Task
         ensures task { result ≡ reading_specs.after_cut (part_of self.now) }
         ensures fresh { IsFresh result }
+        ensures survey { surveyed result ≤ SESSIONS }
     {
         if self.current.newest_claim().own.is_none() {
             Task::Draws
@@ -52,6 +54,7 @@ impl SeatState {
     fn detached(&self, found: u64, version: VersionAt) -> Task
         ensures task { result ≡ reading_specs.detached found version (part_of self.now) }
         ensures fresh { IsFresh result }
+        ensures survey { surveyed result ≤ SESSIONS }
     {
         if found == 0 {
             self.after_cut()
@@ -361,6 +364,22 @@ impl SeatState {
             word: 1,
         };
         self.current.store_row(place, k, value, true);
+        true
+    }
+
+    /// A claim whose own cell has got the row of the version overwritten again is as if no write had set its row.
+    pub(crate) fn unset(&mut self, place: usize) -> bool
+        ensures turn { reading_specs.unset place (part_of self.old) ≡ (if result then Some (part_of self.new) else None) }
+        ensures kept { result ≡ false → part_of self.new ≡ part_of self.old }
+        ensures room { GoesOn no_growth self.old self.new }
+    {
+        if !is_active(self.place) || !is_rest(self.task) || place >= self.current.writes.len() {
+            return false;
+        }
+        if !has_base(&self.current.claim_at(place)) {
+            return false;
+        }
+        self.current.drop_row(place);
         true
     }
 

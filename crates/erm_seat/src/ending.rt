@@ -1,5 +1,6 @@
 //! Steps after the decision, and of the end of a transaction that aborts.
 ghost use Rattle.std.specs.Prelude.{◌≡◌, ◌<◌, if◌then◌else◌, false, true, Some, None, vec_len, vec_capacity};
+ghost use Rattle.erm_machine.specs.Life as life_specs;
 ghost use Rattle.erm_machine.specs.Seat as seat_specs;
 ghost use Rattle.erm_machine.specs.Settling as settling_specs;
 ghost use Rattle.erm_machine.specs.Step as step_specs;
@@ -12,7 +13,7 @@ use erm_kept::is_own;
 use erm_kept::words::{
     blank_cell, end_of, head_word, is_active, is_commit, is_decided, same_version,
 };
-use erm_machine::{CellWord, Task, Version, VersionAt};
+use erm_machine::{CellWord, Place, Task, Version, VersionAt};
 use erm_model::{Oid, Stamp};
 
 impl SeatState {
@@ -47,6 +48,22 @@ impl SeatState {
             None => blank_cell(),
         };
         Some(Version { cell: head, words })
+    }
+
+    /// A commit that goes back stores its stamp in the back word.
+    pub(crate) fn store_back(&mut self, value: Stamp) -> bool
+        ensures turn { life_specs.store_back value (part_of self.old) self.old.place ≡ (if result then Some (part_of self.new) else None) }
+        ensures kept { result ≡ false → part_of self.new ≡ part_of self.old }
+        ensures room { GoesOn no_growth self.old self.new }
+    {
+        let Place::Decided { .. } = self.place else {
+            return false;
+        };
+        if !self.current.goes_back() || value != self.current.stamp {
+            return false;
+        }
+        self.back = value;
+        true
     }
 
     pub(crate) fn raise_reader(&mut self, version: VersionAt, value: Stamp) -> bool

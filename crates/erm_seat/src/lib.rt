@@ -10,6 +10,7 @@ mod reading;
 mod room;
 mod seat;
 mod settling;
+mod snapshot;
 mod turn;
 
 pub use seat::SeatState;

@@ -5,7 +5,8 @@ ghost use Rattle.erm_machine.specs.Seat as seat_specs;
 ghost use Rattle.erm_kept.specs.Tasks.{IsFresh, passed, stored};
 ghost use Rattle.erm_seat.specs.Parts.{part_of};
 ghost use Rattle.erm_machine.specs.Words as words_specs;
-ghost use Rattle.erm_seat.specs.Needs.{lasting};
+ghost use Rattle.erm_machine.specs.declared.limits.TheConstants.{SESSIONS};
+ghost use Rattle.erm_seat.specs.Needs.{lasting, surveyed};
 ghost use Rattle.erm_seat.specs.Rooms.{no_growth, GoesOn, HasBeginRoom, HasDrawRoom, HasTailRoom, MayDraw, MayEnd};
 ghost use Rattle.erm_machine.specs.declared.place.Place.TheVariants.{Idle};
 ghost use Rattle.erm_machine.specs.declared.attempt.Decision.TheVariants.{Abort};
@@ -13,6 +14,7 @@ ghost use Rattle.erm_machine.specs.declared.task.Task.TheVariants.{ReadersLeft, 
 ghost use Rattle.erm_machine.specs.Core.{blank};
 
 use crate::SeatState;
+use crate::snapshot::after_survey;
 use erm_kept::AttemptState;
 use erm_kept::words::{
     end_of, has_number, is_active, is_between, is_clear, is_flusher, is_least_bit, is_session,
@@ -35,6 +37,7 @@ fn lower(least: Stamp, found: Stamp) -> Stamp
 fn after_begin_word(version: VersionAt, least: Stamp, next: Seat) -> Task
     ensures task { result ≡ life_specs.after_begin_word version least next }
     ensures fresh { IsFresh result }
+    ensures survey { surveyed result ≤ SESSIONS }
 {
     if next == ANNOUNCERS {
         Task::CutWalks {
@@ -156,6 +159,7 @@ impl SeatState {
 
     // The current transaction is over, and the seat idle.
     fn end(&mut self, task: Task, decision: Decision)
+        requires survey { surveyed task ≤ SESSIONS }
         requires room { vec_len self.old.over < vec_capacity self.old.over }
         ensures room { MayEnd self.old self.new }
         ensures part { part_of self.new ≡ seat_specs.over decision (record (part_of self.old) { place = Idle; task = task }) }
@@ -198,7 +202,10 @@ impl SeatState {
                 true
             }
             Place::Active { .. } => {
-                if value != 0 || !self.current.has_ended(end_of(self.task)) {
+                if value != 0 {
+                    return self.raise_begin(seat, value);
+                }
+                if !self.current.has_ended(end_of(self.task)) {
                     return false;
                 }
                 self.abort();
@@ -206,6 +213,9 @@ impl SeatState {
             }
             Place::Decided { stamp, .. } => {
                 if value != 0 || !self.current.has_ended(end_of(self.task)) {
+                    return false;
+                }
+                if self.current.goes_back() && self.back != self.current.stamp {
                     return false;
                 }
                 self.place = Place::Leaving { stamp };
@@ -249,24 +259,32 @@ impl SeatState {
         }
     }
 
-    pub(crate) fn load_begin(&mut self, other: Seat, found: Stamp) -> bool
-        ensures turn { life_specs.load_begin other found (part_of self.old) self.old.task ≡ (if result then Some (part_of self.new) else None) }
+    pub(crate) fn load_begin(&mut self, seat: Seat, other: Seat, found: Stamp) -> bool
+        ensures turn { life_specs.load_begin seat other found (part_of self.old) self.old.task ≡ (if result then Some (part_of self.new) else None) }
         ensures kept { result ≡ false → part_of self.new ≡ part_of self.old }
         ensures room { GoesOn no_growth self.old self.new }
     {
-        let Task::Horizon {
-            version,
-            least,
-            next,
-        } = self.task
-        else {
-            return false;
-        };
-        if !is_active(self.place) || other != next || next >= ANNOUNCERS {
-            return false;
+        match self.task {
+            Task::Horizon {
+                version,
+                least,
+                next,
+            } => {
+                if !is_active(self.place) || other != next || next >= ANNOUNCERS {
+                    return false;
+                }
+                self.task = after_begin_word(version, lower(least, found), next + 1);
+                true
+            }
+            Task::Surveys { next } => {
+                if !is_active(self.place) || other != next {
+                    return false;
+                }
+                self.task = after_survey(seat, self.current.begin, found, next);
+                true
+            }
+            _ => false,
         }
-        self.task = after_begin_word(version, lower(least, found), next + 1);
-        true
     }
 
     // What a seat found clear leads to.
@@ -274,6 +292,7 @@ impl SeatState {
         ensures task { result ≡ life_specs.after_clear other bound (part_of self.now) self.now.task }
         ensures claims { passed result ≡ passed self.now.task }
         ensures words { stored result ≡ stored self.now.task }
+        ensures survey { surveyed result ≤ SESSIONS }
     {
         match self.task {
             Task::Owned { oid, owner } => {
@@ -299,6 +318,7 @@ impl SeatState {
     fn after_reader(&self, write: usize, bits: u64, other: Seat, bound: Stamp) -> Task
         ensures task { result ≡ life_specs.after_clear other bound (part_of self.now) (ReadersLeft write bits) }
         ensures fresh { IsFresh result }
+        ensures survey { surveyed result ≤ SESSIONS }
     {
         if !is_least_bit(bits, other) || self.current.stamp > bound {
             return Task::ReadersLeft { write, bits };

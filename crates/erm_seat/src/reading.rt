@@ -1,15 +1,17 @@
 //! Steps of a read, and of the walks of reads and cuts.
-ghost use Rattle.std.specs.Prelude.{◌≡◌, ◌<◌, if◌then◌else◌, nat_eq, false, true, Some, None, vec_len, vec_capacity};
+ghost use Rattle.std.specs.Prelude.{◌≡◌, ◌<◌, ◌≤◌, if◌then◌else◌, nat_eq, false, true, Some, None, vec_len, vec_capacity};
 ghost use Rattle.erm_machine.specs.Reading as reading_specs;
 ghost use Rattle.erm_kept.specs.Objects.{object_of};
 ghost use Rattle.erm_kept.specs.Tasks.{IsFresh};
+ghost use Rattle.erm_machine.specs.declared.limits.TheConstants.{SESSIONS};
+ghost use Rattle.erm_seat.specs.Needs.{surveyed};
 ghost use Rattle.erm_seat.specs.Parts.{part_of};
 ghost use Rattle.erm_seat.specs.Rooms.{no_growth, GoesOn};
-ghost use Rattle.erm_machine.specs.declared.task.Task.TheVariants.{Walks, CutWalks};
+ghost use Rattle.erm_machine.specs.declared.task.Task.TheVariants.{Walks, CutWalks, SafeWalks};
 
 use crate::SeatState;
 use erm_kept::ObjectState;
-use erm_kept::words::{head_of, is_active, is_session, may_start, owner_of, same_version};
+use erm_kept::words::{head_of, is_active, is_safe, is_session, may_start, owner_of, same_version};
 use erm_machine::{CellWord, READ_LIMIT, Read, Task, VersionAt};
 use erm_model::{Oid, Seat, Stamp};
 
@@ -40,6 +42,7 @@ pub fn older(version: VersionAt, link: u64) -> VersionAt
 pub fn entered(seat: Seat, oid: Oid, entry: u64, object: &ObjectState) -> Task
     ensures task { result ≡ reading_specs.entered seat oid entry (object_of object.now) }
     ensures fresh { IsFresh result }
+    ensures survey { surveyed result ≤ SESSIONS }
 {
     let owner = owner_of(entry);
     if owner == 0 {
@@ -60,6 +63,7 @@ pub fn entered(seat: Seat, oid: Oid, entry: u64, object: &ObjectState) -> Task
 pub fn lost(seat: Seat, oid: Oid, entry: u64, seen: VersionAt, object: &ObjectState) -> Task
     ensures task { result ≡ reading_specs.lost seat oid entry seen (object_of object.now) }
     ensures fresh { IsFresh result }
+    ensures survey { surveyed result ≤ SESSIONS }
 {
     if owner_of(entry) == 0 && head_of(entry) != seen.cell {
         Task::Passed {
@@ -73,6 +77,7 @@ pub fn lost(seat: Seat, oid: Oid, entry: u64, seen: VersionAt, object: &ObjectSt
 // What a load of an entry leads to once its owner was found clear.
 fn entered_again(seat: Seat, oid: Oid, cleared: Oid, entry: u64, object: &ObjectState) -> Task
     ensures fresh { IsFresh result }
+    ensures survey { surveyed result ≤ SESSIONS }
     ensures task { result ≡ (if nat_eq oid cleared then Walks (reading_specs.head_version oid entry (object_of object.now)) None else reading_specs.entered seat oid entry (object_of object.now)) }
 {
     if oid == cleared {
@@ -99,7 +104,8 @@ fn may_load_row(version: VersionAt, task: Task) -> bool
             version: in_hand,
             ..
         }
-        | Task::Rated { version: in_hand } => same_version(version, in_hand),
+        | Task::Rated { version: in_hand }
+        | Task::SafeFound { version: in_hand } => same_version(version, in_hand),
         _ => false,
     }
 }
@@ -121,6 +127,12 @@ impl SeatState {
         }
         if let Task::Cleared { oid: cleared } = self.task {
             self.task = entered_again(seat, oid, cleared, found, object);
+            return true;
+        }
+        if is_safe(self.task) {
+            self.task = Task::SafeWalks {
+                version: head_version(oid, found, object),
+            };
             return true;
         }
         if !may_start(self.task) {
@@ -194,9 +206,27 @@ impl SeatState {
                 version: in_hand,
                 horizon,
             } => self.load_cut_stamp(found, version, in_hand, horizon),
+            Task::SafeWalks { version: in_hand } => self.load_safe_stamp(found, version, in_hand),
             Task::Passed { version: in_hand } => same_version(version, in_hand),
             _ => false,
         }
+    }
+
+    fn load_safe_stamp(&mut self, found: Stamp, version: VersionAt, in_hand: VersionAt) -> bool
+        requires fresh { IsFresh self.old.task }
+        ensures turn { reading_specs.load_walked_stamp found version (part_of self.old) (SafeWalks in_hand) ≡ (if result then Some (part_of self.new) else None) }
+        ensures kept { result ≡ false → part_of self.new ≡ part_of self.old }
+        ensures room { GoesOn no_growth self.old self.new }
+    {
+        if !same_version(version, in_hand) {
+            return false;
+        }
+        self.task = if found < self.current.begin {
+            Task::SafeFound { version: in_hand }
+        } else {
+            Task::SafePassed { version: in_hand }
+        };
+        true
     }
 
     fn load_cut_stamp(
@@ -241,6 +271,15 @@ impl SeatState {
                 self.task = Task::Walks {
                     version: older(in_hand, found),
                     head: None,
+                };
+                true
+            }
+            Task::SafePassed { version: in_hand } => {
+                if !same_version(version, in_hand) || found == 0 || in_hand.place == 0 {
+                    return false;
+                }
+                self.task = Task::SafeWalks {
+                    version: older(in_hand, found),
                 };
                 true
             }

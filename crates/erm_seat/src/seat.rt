@@ -2,7 +2,8 @@
 ghost use Rattle.std.specs.Prelude.{◌≡◌, ◌+◌, ◌-◌, ◌≤◌, false, vec_len, vec_capacity};
 ghost use Rattle.erm_machine.specs.Core as core_specs;
 ghost use Rattle.erm_kept.specs.Tasks.{passed, stored};
-ghost use Rattle.erm_seat.specs.Needs.{awaiting, busy, holding, one, undecided, unsealed, IsUnused};
+ghost use Rattle.erm_machine.specs.declared.limits.TheConstants.{SESSIONS};
+ghost use Rattle.erm_seat.specs.Needs.{awaiting, busy, holding, one, surveyed, undecided, unsealed, IsUnused};
 
 use erm_kept::AttemptState;
 use erm_machine::{ANNOUNCERS, Flushing, OwnCell, Place, Task};
@@ -29,6 +30,9 @@ pub struct SeatState {
     pub run: u64,
     pub flushing: Flushing,
     pub gathered_to: Stamp,
+    pub back: Stamp,
+    // A snapshot looks at sessions alone.
+    ghost survey: { surveyed task ≤ SESSIONS },
     // A transaction that has begun has room for its range.
     ghost log_room: { awaiting flushes place ≤ one promised },
     // Room for the transaction once it is over.
@@ -66,6 +70,7 @@ impl SeatState {
             run,
             flushing: Flushing::Still,
             gathered_to: tail,
+            back: 0,
         }
     }
 }

@@ -1,8 +1,10 @@
 //! Steps of settle up to the decision.
-ghost use Rattle.std.specs.Prelude.{◌≡◌, ◌<◌, if◌then◌else◌, nat_eq, false, true, Some, None, vec_len, vec_capacity};
+ghost use Rattle.std.specs.Prelude.{◌≡◌, ◌<◌, ◌≤◌, if◌then◌else◌, nat_eq, false, true, Some, None, vec_len, vec_capacity};
 ghost use Rattle.erm_machine.specs.Settling as settling_specs;
 ghost use Rattle.erm_kept.specs.Attempts.{attempt_of};
 ghost use Rattle.erm_kept.specs.Tasks.{IsFresh};
+ghost use Rattle.erm_machine.specs.declared.limits.TheConstants.{SESSIONS};
+ghost use Rattle.erm_seat.specs.Needs.{surveyed};
 ghost use Rattle.erm_seat.specs.Parts.{part_of};
 ghost use Rattle.erm_seat.specs.Rooms.{no_growth, GoesOn};
 ghost use Rattle.erm_machine.specs.declared.task.Task.TheVariants.{WriteClear, ReadersLeft, ReadClear, ReadOvertaken};
@@ -35,6 +37,7 @@ fn may_settle(task: Task) -> bool
 fn after_readers(write: usize, bits: u64) -> Task
     ensures task { result ≡ (if nat_eq bits 0 then WriteClear write else ReadersLeft write bits) }
     ensures fresh { IsFresh result }
+    ensures survey { surveyed result ≤ SESSIONS }
 {
     if bits == 0 {
         Task::WriteClear { write }

@@ -3,7 +3,7 @@ use Rattle.std.proofs.Common.{◌≡◌, ℕ, true, false, List, [], length, map
 use Rattle.std.specs.Prelude.{◌≤◌, vec_capacity}
 use Rattle.erm_block.specs.declared.block.TheConstants.{BLOCK_WORDS}
 use Rattle.erm_cells.specs.Spare.{SpareIs}
-use Rattle.erm_ends.specs.Commits.{DidCommit, installed_all}
+use Rattle.erm_ends.specs.Commits.{DidCommit, installed_all, with_back}
 use Rattle.erm_ends.specs.Ends.{left_part, released_all}
 use Rattle.erm_machine.specs.declared.attempt.Attempt.{Attempt}
 use Rattle.erm_machine.specs.declared.attempt.Claim.{Claim}
@@ -53,7 +53,7 @@ pub record Leaves (v : View) (who : ℕ) (w : View) : Type 0 where
 pub leaves : (d : Decision) (v : View) (who : ℕ) (w : View) → is_decided (part_of v who).place ≡ true → EndsAs d v who w → Leaves v who w
 leaves Commit v who w decided did =
     let x = part_of v who in
-    let y = left_part Commit (installed_all x) in
+    let y = left_part Commit (with_back (installed_all x)) in
     record {
       left = subst (HasLeft x) (sym (part_of-changed v who w y x (decided_held v who decided) did.view_is)) (record { place = refl; run = refl; number = refl; current = refl });
       known = did.known;
@@ -71,7 +71,7 @@ leaves _ v who w decided did = absurd did
 pub spare_stays : (v : View) (who : ℕ) (w : View) (cells : List ℕ) → is_decided (part_of v who).place ≡ true → DidCommit v who w → SpareIs cells (part_of v who) → SpareIs cells (part_of w who)
 spare_stays v who w cells decided did is =
     let x = part_of v who in
-    subst (SpareIs cells) (sym (part_of-changed v who w (left_part Commit (installed_all x)) x (decided_held v who decided) did.view_is)) is
+    subst (SpareIs cells) (sym (part_of-changed v who w (left_part Commit (with_back (installed_all x))) x (decided_held v who decided) did.view_is)) is
 
 -- what a session keeps once its seat has left its transaction
 pub left_session : (s : Session) (x y : Part) → HasLeft x y → is_session s.seat ≡ true → s.run ≡ x.run → s.run ≤ LAST_RUN → s.number ≡ x.number → phase_of s.stage ≡ phase.Idle → HasRoom s.stage s.room

@@ -13,6 +13,7 @@ use Rattle.erm_machine.specs.Seat.{is_active}
 use Rattle.erm_machine.specs.Words.{is_session}
 use Rattle.erm_model.specs.declared.limits.TheConstants.{LAST_RUN}
 use Rattle.erm_model.specs.declared.outcome.Phase.TheVariants as phase
+use Rattle.erm_precommit.specs.declared.pre.Pre.{Pre}
 use Rattle.erm_rows.specs.declared.active.Active.{Active}
 use Rattle.erm_rows.specs.Active.{IsActive, closed_window}
 use Rattle.erm_rule.specs.declared.view.View.{View}
@@ -149,3 +150,14 @@ ends_where false cause who between w did ended stays = subst cause (sym (stays r
 pub known_where : (b : Bool) (who : ℕ) (between w : View) → IsKnown between → (b ≡ true → DidAbort between who w) → (b ≡ false → w ≡ between) → IsKnown w
 known_where true who between w known ended stays = (ended refl).known
 known_where false who between w known ended stays = subst IsKnown (sym (stays refl)) known
+
+-- a stage in a phase is of that form
+pub not_active : (s : Stage) → phase_of s ≡ phase.Active → ((t : Active) → s ≡ stage.Active t → ⊥) → ⊥
+not_active (stage.Active t) at none = none t refl
+not_active stage.Idle at none = absurd (cc)
+not_active (stage.Sealed t) at none = absurd (cc)
+
+pub not_sealed : (s : Stage) → phase_of s ≡ phase.Sealed → ((t : Pre) → s ≡ stage.Sealed t → ⊥) → ⊥
+not_sealed (stage.Sealed t) at none = none t refl
+not_sealed stage.Idle at none = absurd (cc)
+not_sealed (stage.Active t) at none = absurd (cc)

@@ -4,7 +4,7 @@ use Rattle.std.specs.Prelude.{if◌then◌else◌}
 use Rattle.std.proofs.lemmas.List.{get_or_append_left, get_or_push, length_push}
 use Rattle.erm_cells.specs.Placed.{place_of}
 use Rattle.erm_cells.specs.Rows.{part_with_rows, DidStoreRow, is_copying}
-use Rattle.erm_ends.specs.Commits.{installed_all}
+use Rattle.erm_ends.specs.Commits.{installed_all, with_back}
 use Rattle.erm_ends.specs.Ends.{claims_over, left_part, released_all}
 use Rattle.erm_machine.specs.declared.attempt.Attempt.{Attempt}
 use Rattle.erm_machine.specs.declared.attempt.Claim.{Claim}
@@ -309,7 +309,7 @@ ends_left : (d : Decision) (v : View) (who : ℕ) (w : View) → EndsAs d v who 
 ends_left Undecided v who w ends = absurd ends
 ends_left Commit v who w ends = record {
   decision = Commit;
-  part = installed_all (part_of v who);
+  part = with_back (installed_all (part_of v who));
   commits = λ is. refl;
   keeps = claims_over_keeps (part_of v who).current;
   view_is = ends.view_is;

@@ -64,7 +64,7 @@ active_seat (stage.Active t) x is e = is.0
 active_seat stage.Idle x is e = absurd (cc)
 active_seat (stage.Sealed t) x is e = absurd (cc)
 
-may_start_by : (t : Task) → starts_anew t ≡ true → may_start t ≡ true
+pub may_start_by : (t : Task) → starts_anew t ≡ true → may_start t ≡ true
 may_start_by (task.Cleared oid) e = absurd (cc)
 may_start_by _ e = e
 

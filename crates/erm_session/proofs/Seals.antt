@@ -1,9 +1,13 @@
 -- A seal: the session keeps a transaction that waits to be decided.
-use Rattle.std.proofs.Common.{◌≡◌, ℕ, List, map, refl, sym, ap, ◌∙◌, subst}
+use Rattle.std.proofs.Common.{◌≡◌, ℕ, ◌≤◌, true, List, length, map, refl, sym, ap, ◌∙◌, subst, arith}
+use Rattle.std.proofs.lemmas.List.{length-map}
 use Rattle.erm_machine.specs.declared.attempt.Claim.{Claim}
+use Rattle.erm_machine.specs.declared.limits.TheConstants.{WRITE_LIMIT}
 use Rattle.erm_machine.specs.declared.part.Part.{Part}
+use Rattle.erm_machine.specs.Seat.{may_start}
 use Rattle.erm_record.specs.Stored.{block_words}
 use Rattle.erm_rule.specs.declared.view.View.{View}
+use Rattle.erm_rule.specs.Hands.{IsKnown}
 use Rattle.erm_rule.specs.Views.{part_of}
 use Rattle.erm_rule.proofs.Telling.{part_of-changed}
 use Rattle.erm_cells.proofs.Heads.{has}
@@ -16,6 +20,7 @@ use Rattle.erm_session.specs.declared.session.Session.{Session}
 use Rattle.erm_session.specs.declared.session.Stage.TheVariants as stage
 use Rattle.erm_session.specs.Calls.{SealsRows}
 use Rattle.erm_session.specs.Session.{IsSession}
+use Rattle.erm_session.proofs.Makes.{may_start_by}
 use Rattle.erm_session.proofs.Rests.{active_stage}
 
 -- the range drawn has the size of the block with the rows kept, which are those claimed
@@ -25,6 +30,19 @@ module _ (s : Session) (t : Active) (v : View) (is : IsSession s (part_of v s.se
 
   abbrev rows : List (List ℕ)
   rows = map (λ (c : Claim). c.row) x.current.writes
+
+  pub rests : may_start x.task ≡ true
+  rests = may_start_by x.task (active_stage s t x is.kept stage_is).1
+
+  pub rows_few : IsKnown v → (kept_rows : List (List ℕ)) → kept_rows ≡ s.rows_claimed.items → length kept_rows ≤ WRITE_LIMIT
+  rows_few known kept_rows rows_are =
+      let at = active_stage s t x is.kept stage_is in
+      let few : length x.current.writes ≤ WRITE_LIMIT =
+      subst (λ (z : Part). length z.current.writes ≤ WRITE_LIMIT) (known.is_view s.seat x (has v s.seat at.0)) (known.sound.own s.seat).ranges.few
+      in
+      let count = ap (λ (l : List (List ℕ)). length l) (rows_are ∙ is.rows_claimed) in
+      let all = length-map x.current.writes (λ (c : Claim). c.row) in
+      omega (arith, few, count, all)
 
   module _ (size stamp : ℕ) (kept_rows : List (List ℕ)) (rows_are : kept_rows ≡ s.rows_claimed.items) (size_is : size ≡ block_words kept_rows) (w : View) (did : DidSeal v s.seat size stamp w) where
     abbrev y : Part

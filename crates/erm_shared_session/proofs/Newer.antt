@@ -58,6 +58,10 @@ cut_never : (b : Bool) (w u : VersionAt) (horizon : ℕ) (P : Type 0) → (if b 
 cut_never true w u horizon P is = absurd (cc)
 cut_never false w u horizon P is = absurd (cc)
 
+safe_never : (b : Bool) (w u : VersionAt) (P : Type 0) → (if b then task.SafeFound w else task.SafePassed w) ≡ task.Passed u → P
+safe_never true w u P is = absurd (cc)
+safe_never false w u P is = absurd (cc)
+
 -- the version is named by each state in which the task is in hand
 record Names (s : Shared) (v u : VersionAt) : Type 0 where
   named : IsNamed s v
@@ -71,6 +75,8 @@ names s found v u x y (task.Walks w head) e is named =
     record { named = subst (IsNamed s) (sym one) named; same = one ∙ passed_is (nat_lt found x.current.begin) w u found head passes }) is
 names s found v u x y (task.CutWalks w horizon) e is named =
     when_then (λ (z : Part). z.task ≡ task.Passed u → Names s v u) _ _ y e (λ g passes. cut_never (nat_lt found horizon) w u horizon (Names s v u) passes) is
+names s found v u x y (task.SafeWalks w) e is named =
+    when_then (λ (z : Part). z.task ≡ task.Passed u → Names s v u) _ _ y e (λ g passes. safe_never (nat_lt found x.current.begin) w u (Names s v u) passes) is
 names s found v u x y (task.Passed w) e is named =
     when_then (λ (z : Part). z.task ≡ task.Passed u → Names s v u) _ _ y e
     (λ g passes. let one = same_name v w g in let last : w ≡ u = cc in record { named = subst (IsNamed s) (sym one) named; same = one ∙ last }) is

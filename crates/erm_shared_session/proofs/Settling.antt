@@ -24,7 +24,7 @@ use Rattle.erm_core_met.proofs.Rings.{room_is, size_is}
 use Rattle.erm_core_stays.specs.Staying.{Rises}
 use Rattle.erm_core_steps.proofs.Stamps.{size_shown}
 use Rattle.erm_core_view.specs.Views.{fate_of, finished_of, session_of, work_of}
-use Rattle.erm_ends.specs.Commits.{installed_all}
+use Rattle.erm_ends.specs.Commits.{installed_all, with_back}
 use Rattle.erm_ends.specs.Ends.{claims_over, left_part, released_all}
 use Rattle.erm_precommit.specs.declared.answer.Wait as answer
 use Rattle.erm_precommit.specs.declared.answer.Wait.TheVariants as found
@@ -125,8 +125,8 @@ module _ (seat : ℕ) (b e : Book) (held : part_in b.view seat ≡ Some (part_of
 
   ended : (d : Decision) → (part_of settles.finishes.decided seat).current.decision ≡ d → EndsAs d settles.finishes.decided seat e.view → session_of (part_of e.view seat) ≡ over_with y d
   ended Commit how ends =
-      ap session_of (part_of-changed settles.finishes.decided seat e.view (left_part Commit (installed_all (part_of settles.finishes.decided seat))) z decided_held ends.view_is)
-      ∙ ap (λ (p : Part). session_of (left_part Commit (installed_all p))) decided ∙ left_shown z Commit (length z.current.writes)
+      ap session_of (part_of-changed settles.finishes.decided seat e.view (left_part Commit (with_back (installed_all (part_of settles.finishes.decided seat)))) z decided_held ends.view_is)
+      ∙ ap (λ (p : Part). session_of (left_part Commit (with_back (installed_all p)))) decided ∙ left_shown z Commit (length z.current.writes)
   ended Skip how ends =
       ap session_of
       (part_of-changed settles.finishes.decided seat e.view (left_part (part_of settles.finishes.decided seat).current.decision (released_all (part_of settles.finishes.decided seat))) z decided_held
@@ -138,8 +138,8 @@ module _ (seat : ℕ) (b e : Book) (held : part_in b.view seat ≡ Some (part_of
 
   ended_given : (d : Decision) → (part_of settles.finishes.decided seat).current.decision ≡ d → EndsAs d settles.finishes.decided seat e.view → given_up_of (part_of e.view seat) ≡ given_up_of z
   ended_given Commit how ends =
-      ap given_up_of (part_of-changed settles.finishes.decided seat e.view (left_part Commit (installed_all (part_of settles.finishes.decided seat))) z decided_held ends.view_is)
-      ∙ ap (λ (p : Part). given_up_of (left_part Commit (installed_all p))) decided ∙ left_given z Commit (claims_over (length z.current.writes) z.current.writes)
+      ap given_up_of (part_of-changed settles.finishes.decided seat e.view (left_part Commit (with_back (installed_all (part_of settles.finishes.decided seat)))) z decided_held ends.view_is)
+      ∙ ap (λ (p : Part). given_up_of (left_part Commit (with_back (installed_all p)))) decided ∙ left_given z Commit (claims_over (length z.current.writes) z.current.writes)
   ended_given Skip how ends =
       ap given_up_of
       (part_of-changed settles.finishes.decided seat e.view (left_part (part_of settles.finishes.decided seat).current.decision (released_all (part_of settles.finishes.decided seat))) z decided_held

@@ -16,6 +16,7 @@ use Rattle.erm_machine.specs.declared.part.Part.{Part}
 use Rattle.erm_machine.specs.declared.task.Task.TheVariants.{Rest}
 use Rattle.erm_machine.specs.declared.place.Place.{Place}
 use Rattle.erm_machine.specs.declared.place.Place.TheVariants.{Vacant, Idle}
+use Rattle.erm_machine.specs.Back.{IsLeaving}
 use Rattle.erm_machine.specs.Begins.{BeginsAt}
 use Rattle.erm_machine.specs.Bounds.{words_stored}
 use Rattle.erm_machine.specs.Lives.{IsBeginning, IsPin, OwnLives, in_progress}
@@ -266,6 +267,14 @@ module _ (sessions : ℕ) (rows : Rows) (tail run first cells : ℕ) (few : sess
       installed = λ t w m commit n held. absurd (none_written t w m n);
     };
     log = own_log p;
+    back = record {
+      over = λ t m. absurd (none_in_nil t m);
+      leaving = λ leaving. absurd (idle_or (λ pl. IsLeaving pl → ⊥) (is_taken sessions p) (λ h. h) (λ h. h) leaving);
+      of = inl refl;
+      snapshot = λ none. absurd (omega (arith, none));
+      only = λ _ t m. absurd (none_in_nil t m);
+    };
+    raised = record { raised = λ none. absurd (omega (arith, none)) };
   }
 
   common : Common (opening_state sessions rows tail run first cells).shared (opening_state sessions rows tail run first cells).seats
@@ -338,6 +347,11 @@ module _ (sessions : ℕ) (rows : Rows) (tail run first cells : ℕ) (few : sess
         decided = λ t m drawn. absurd (let none : t.stamp ≡ 0 = ap (λ (a : Attempt). a.stamp) (only_blank t m) in omega (arith, none, drawn));
         passed = λ k none. absurd (omega (arith, none));
         left = tt;
+      };
+      back = record {
+        late = λ _ _ begun. absurd (none_begun (is_taken sessions q) begun);
+        over = λ none. absurd (omega (arith, none));
+        leaving = λ none. absurd (omega (arith, none));
       };
     };
   }

@@ -35,6 +35,8 @@ pub fn events_keep_sound()
     erm_core_cells::chains_are_kept();
     erm_core_si::claims_are_kept();
     erm_core_si::snapshots_are_kept();
+    erm_core_back::backs_are_kept();
+    erm_core_back::snapshots_stay_raised();
     erm_core_ssn::marks_are_kept();
     erm_core_ssn::readers_are_kept();
     erm_core_ssn::decisions_are_kept();

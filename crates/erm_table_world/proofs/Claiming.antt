@@ -140,7 +140,7 @@ module _ (law : Law) (sessions seat : ℕ) (b e : Book) (at : StandsAt law sessi
       let two = runs law steps.0 seat (kind.LoadCell took.head.version word.Stamp) took.stamp m steps.2 one.state in
       let goes = loads_go law sessions seat ((kind.LoadEntry oid, entry) ∷ []) b steps.0 steps.1 (tt, tt) at.state works in
       let then = loads_go law sessions seat ((kind.LoadCell took.head.version word.Stamp, took.stamp) ∷ (kind.LoadEntry oid, entry) ∷ []) b m steps (tt, (tt, tt)) at.state works in
-      let head = has_head (core_of b) (core_of steps.0) seat oid entry works left one.event (sym one.met) took.head.unowned in
+      let head = has_head (core_of b) (core_of steps.0) seat oid entry works on.starts left one.event (sym one.met) took.head.unowned in
       let hand = in_hand_is (core_of steps.0) (core_of m) seat took.head.version head.version (Some entry) goes.at.active head.is two.event in
       let begin : begin_in b seat ≡ ((core_of steps.0).seats seat).current.begin =
       ap (λ (x : Part). x.current.begin) (part_is law b seat at.state seated) ∙ ap (λ (w : Work). w.begin) (sym (work law sessions seat b e at session active seated))

@@ -28,6 +28,7 @@ use Rattle.erm_machine.specs.Sound.{Sound}
 use Rattle.erm_machine.specs.Step.{part_after}
 use Rattle.erm_machine.specs.Tasks.{TaskFits}
 use Rattle.erm_machine.specs.Words.{blank_cell, is_flusher, is_session}
+use Rattle.erm_machine.proofs.Backs.{active_begin_then}
 use Rattle.erm_machine.proofs.Guards.{either_way, when_then}
 use Rattle.erm_machine.proofs.QuietKinds.{quiet_kind}
 use Rattle.erm_core_cells.proofs.CellsCounts.{count_set}
@@ -137,8 +138,9 @@ f_add_tail seat size found x _ y e = absurd (cc)
 f_store_begin : (seat value : ℕ) (x : Part) (pl : Place) (y : Part) → is_flusher seat ≡ false → store_begin seat value x pl ≡ Some y → firm_in x ≤ firm_in y
 f_store_begin seat value x (Begun tail) y session e = when_then (λ (z : Part). firm_in x ≤ firm_in z) _ _ y e (λ _. omega arith)
 f_store_begin seat value x (Active tail) y session e =
-    when_then (λ (z : Part). firm_in x ≤ firm_in z) _ _ y e (λ _.
+    active_begin_then (λ (z : Part). firm_in x ≤ firm_in z) seat value tail x y e (λ _ _.
     either_way (λ (z : Part). firm_in x ≤ firm_in z) (is_flusher seat) _ _ (λ (flusher : is_flusher seat ≡ true). absurd (cc)) (λ _. over_firm x _ refl))
+    (λ _ _ _ _. omega arith)
 f_store_begin seat value x (Decided tail stamp) y session e = when_then (λ (z : Part). firm_in x ≤ firm_in z) _ _ y e (λ _. omega arith)
 f_store_begin seat value x _ y session e = absurd (cc)
 
@@ -148,9 +150,10 @@ f_store_state seat value x (Drawn tail stamp) y e = when_then (λ (z : Part). fi
 f_store_state seat value x (Leaving stamp) y e = when_then (λ (z : Part). firm_in x ≤ firm_in z) _ _ y e (λ _. over_firm x _ refl)
 f_store_state seat value x _ y e = absurd (cc)
 
-f_load_begin : (other found : ℕ) (x : Part) (t : Task) (y : Part) → load_begin other found x t ≡ Some y → firm_in x ≤ firm_in y
-f_load_begin other found x (task.Horizon version least next) y e = when_then (λ (z : Part). firm_in x ≤ firm_in z) _ _ y e (λ _. omega arith)
-f_load_begin other found x _ y e = absurd (cc)
+f_load_begin : (seat other found : ℕ) (x : Part) (t : Task) (y : Part) → load_begin seat other found x t ≡ Some y → firm_in x ≤ firm_in y
+f_load_begin seat other found x (task.Horizon version least next) y e = when_then (λ (z : Part). firm_in x ≤ firm_in z) _ _ y e (λ _. omega arith)
+f_load_begin seat other found x (task.Surveys next) y e = when_then (λ (z : Part). firm_in x ≤ firm_in z) _ _ y e (λ _. omega arith)
+f_load_begin seat other found x _ y e = absurd (cc)
 
 f_load_state : (seat other bound found : ℕ) (x y : Part) → load_state seat other bound found x ≡ Some y → firm_in x ≤ firm_in y
 f_load_state seat other bound found x y e = when_then (λ (z : Part). firm_in x ≤ firm_in z) _ _ y e (λ _. omega arith)
@@ -192,7 +195,7 @@ module _ (c : Core) (sound : Sound c) (p : ℕ) where
   firm_kept (kind.AddTail size) found y session one e = f_add_tail p size found (c.seats p) (c.seats p).place y e
   firm_kept (kind.StoreBegin value) found y session one e = f_store_begin p value (c.seats p) (c.seats p).place y (session_plain p session) e
   firm_kept (kind.StoreState value) found y session one e = f_store_state p value (c.seats p) (c.seats p).place y e
-  firm_kept (kind.LoadBegin other) found y session one e = f_load_begin other found (c.seats p) (c.seats p).task y e
+  firm_kept (kind.LoadBegin other) found y session one e = f_load_begin p other found (c.seats p) (c.seats p).task y e
   firm_kept (kind.LoadState other bound) found y session one e = f_load_state p other bound found (c.seats p) y e
   firm_kept (kind.Split other) found y session one e = absurd one
   firm_kept (kind.Join other) found y session one e = absurd one

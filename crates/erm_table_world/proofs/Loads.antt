@@ -54,6 +54,7 @@ load_shows seat c d (kind.LoadStamp v w) found is none e = calm_shows seat c d (
 load_shows seat c d (kind.LoadRing at) found is none e = calm_shows seat c d (kind.LoadRing at) tt e
 load_shows seat c d kind.LoadFlushed found is none e = calm_shows seat c d kind.LoadFlushed tt e
 load_shows seat c d (kind.LoadDetached v) found is none e = calm_shows seat c d (kind.LoadDetached v) tt e
+load_shows seat c d (kind.LoadBack q) found is none e = calm_shows seat c d (kind.LoadBack q) tt e
 load_shows seat c d _ found is none e = absurd is
 
 pub load_goes : (law : Law) (sessions seat : ℕ) (k : Kind) (found : ℕ) (b e : Book) → Booked law b seat k found e → IsStateful law b → IsLoadStep k found → IsAtWork seat (core_of b)

@@ -80,7 +80,7 @@ module _ (law : Law) (sessions seat : ℕ) (b : Book) (at : StandsAt law session
       let one = runs law b seat (kind.LoadEntry oid) entry steps.0 first at.state in
       let two = runs law steps.0 seat (kind.LoadCell head_took.version word.Stamp) stamp m steps.2 one.state in
       let goes = loads_go law sessions seat ((kind.LoadEntry oid, entry) ∷ []) b steps.0 steps.1 (tt, tt) at.state works in
-      let head = has_head (core_of b) c seat oid entry works left one.event (sym one.met) head_took.unowned in
+      let head = has_head (core_of b) c seat oid entry works on.starts left one.event (sym one.met) head_took.unowned in
       let hand = in_hand_is c (core_of m) seat head_took.version head.version _ goes.at.active head.is two.event in
       let begins : may_start (c.seats seat).task ≡ true = ap may_start head.is in
       let quiet = quiet_goes sessions seat (core_of b) c at.quiet session one.state.sound.sound goes begins in

@@ -17,7 +17,7 @@ use Rattle.erm_machine.proofs.Frames.{put_other, put_same}
 use Rattle.erm_core_view.specs.Steps.{RestsAt}
 use Rattle.erm_core_view.specs.Views.{work_of}
 use Rattle.erm_core_steps.specs.Ends.{HasDecided, HasLeft, Remains, is_ending}
-use Rattle.erm_ends.specs.Commits.{installed_all}
+use Rattle.erm_ends.specs.Commits.{installed_all, with_back}
 use Rattle.erm_ends.specs.Ends.{claims_over, left_part, released_all}
 use Rattle.erm_ring.specs.Block.{decided_part, decided_place, filled_part}
 use Rattle.erm_rule.specs.declared.view.Book.{Book}
@@ -62,7 +62,7 @@ left_as x d how = record {
   rests = refl;
 }
 
-left_installed : (x : Part) → Commit ≡ x.current.decision → Left x (left_part Commit (installed_all x))
+left_installed : (x : Part) → Commit ≡ x.current.decision → Left x (left_part Commit (with_back (installed_all x)))
 left_installed x how = record {
   last = record x.current { writes = claims_over (length x.current.writes) x.current.writes; decision = Commit };
   remains = record {
@@ -85,9 +85,9 @@ record Ended (who : ℕ) (x : Part) (v w : View) : Type 0 where
 
 ends_as : (who : ℕ) (x : Part) (v w : View) (d : Decision) → part_of v who ≡ x → x.current.decision ≡ d → EndsAs d v who w → Ended who x v w
 ends_as who x v w Commit is how ends = record {
-  part = left_part Commit (installed_all x);
+  part = left_part Commit (with_back (installed_all x));
   left = left_installed x (sym how);
-  view_is = ends.view_is ∙ ap (λ (y : Part). with_part who (left_part Commit (installed_all y)) v) is;
+  view_is = ends.view_is ∙ ap (λ (y : Part). with_part who (left_part Commit (with_back (installed_all y))) v) is;
 }
 ends_as who x v w Skip is how ends = record {
   part = left_part x.current.decision (released_all x);

@@ -121,6 +121,7 @@ loads_word (kind.LoadStamp v w) found is = tt
 loads_word (kind.LoadRing at) found is = tt
 loads_word kind.LoadFlushed found is = tt
 loads_word (kind.LoadDetached v) found is = tt
+loads_word (kind.LoadBack q) found is = tt
 loads_word _ found is = absurd is
 
 load_passes : (law : Law) (seat : ℕ) (k : Kind) (found : ℕ) (b e : Book) → Booked law b seat k found e → IsStateful law b → IsLoadStep k found → IsPassing (core_of b).shared ((core_of b).seats seat)

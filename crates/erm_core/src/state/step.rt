@@ -16,7 +16,7 @@ ghost use Rattle.erm_core.specs.Rooms.{ranges_in, HasRoom, LeavesRoom, SeatHasRo
 
 use super::State;
 use super::change::object_of_kind;
-use erm_kept::words::is_seat;
+use erm_kept::words::{is_seat, is_session};
 use erm_machine::{ANNOUNCERS, Answer, CellWord, Event, Kind, OBJECT_LIMIT, Place, Version};
 use erm_model::{ROW_WORDS, Seat, Stamp};
 
@@ -30,13 +30,14 @@ fn has_word(word: CellWord) -> bool
     }
 }
 
-// Whether the object that a kind names is one below the limit, the seat that is looked at has words, and so has a cell.
+// Whether the object that a kind names is one below the limit, the seat that is looked at has words, or a back word, and so has a cell.
 fn is_known(kind: Kind) -> bool
     ensures known { result ≡ step_specs.is_known kind }
     ensures object { result ≡ true → object_in kind < OBJECT_LIMIT }
 {
     match kind {
         Kind::LoadState { seat, .. } => is_seat(seat),
+        Kind::LoadBack { seat } => is_session(seat),
         Kind::LoadCell { version, word } => version.oid < OBJECT_LIMIT && has_word(word),
         _ => object_of_kind(kind) < OBJECT_LIMIT,
     }
@@ -61,7 +62,8 @@ fn told(kind: Kind, found: u64) -> Answer
         | Kind::LoadRing { .. }
         | Kind::LoadFlushed
         | Kind::SwapLink { .. }
-        | Kind::LoadDetached { .. } => Answer::Word(found),
+        | Kind::LoadDetached { .. }
+        | Kind::LoadBack { .. } => Answer::Word(found),
         _ => Answer::Done,
     }
 }

@@ -1,4 +1,5 @@
 use Rattle.erm_core_calls.proofs.Goes.{goes_from, registers, claims, leaves_numbers, some_fits}
+use Rattle.erm_core_calls.proofs.GoesSnapshots.{snapshot_over}
 use Rattle.erm_core_calls.proofs.Seats.{sealing_session}
 use Rattle.erm_core_calls.proofs.calls_go_on.Goals as goal
 
@@ -16,3 +17,6 @@ returns-clause-blocks c = λ core seat sound. some_fits core seat sound
 
 pub returns-clause-numbers : goal.returns-clause-numbers
 returns-clause-numbers c = λ core seat oid sound at known. leaves_numbers core seat sound oid at known
+
+pub returns-clause-snapshots : goal.returns-clause-snapshots
+returns-clause-snapshots c = λ core seat sound is. snapshot_over core seat sound is

@@ -1,19 +1,42 @@
 use Rattle.std.proofs.Common.{subst}
-use Rattle.erm_core_ready.specs.Next.{FoundBelow}
-use Rattle.erm_core_ready.proofs.Seats.{first_found, kept_found, lower_found, stays_found}
+use Rattle.erm_core_ready.specs.Next.{FoundAt, FoundBelow, HasBegin, HasStamp}
+use Rattle.erm_core_ready.proofs.Seats.{first_found, kept_found, lower_found, one_begun, one_sealed, stays_found}
 use Rattle.erm_core_ready.proofs.lesser.Goals as goal
 
-pub returns-in-None-default : goal.returns-in-None-default
-returns-in-None-default c core at before = stays_found core c.args.seat c.args.place at c.args.least (rw c.in-None-default.is-0 at c.sealed_at.ensures) before
+pub returns-in-None-default-clause-sealed : goal.returns-in-None-default-clause-sealed
+returns-in-None-default-clause-sealed c core found before =
+    stays_found (HasStamp core) c.args.seat (one_sealed core c.args.seat) c.args.least (subst (FoundAt (HasStamp core) c.args.seat) c.in-None-default.is-0 found) before
 
-pub returns-in-Some-None : goal.returns-in-Some-None
-returns-in-Some-None c core at before =
-    first_found core c.args.seat c.args.place at c.in-Some-None.stamp c.requires c.in-Some-None.ensures (subst (FoundBelow core c.args.seat) c.in-Some-None.is-1 before)
+pub returns-in-None-default-clause-begun : goal.returns-in-None-default-clause-begun
+returns-in-None-default-clause-begun c core found before =
+    stays_found (HasBegin core) c.args.seat (one_begun core c.args.seat) c.args.least (subst (FoundAt (HasBegin core) c.args.seat) c.in-None-default.is-0 found) before
 
-pub returns-then-found-stamp : goal.returns-then-found-stamp
-returns-then-found-stamp c core at before =
-    kept_found core c.args.seat c.args.place at c.in-Some-Some.found c.in-Some-Some.stamp c.in-Some-Some.ensures c.if-found-stamp.true (subst (FoundBelow core c.args.seat) c.in-Some-Some.is-1 before)
+pub returns-in-Some-None-clause-sealed : goal.returns-in-Some-None-clause-sealed
+returns-in-Some-None-clause-sealed c core found before =
+    first_found (HasStamp core) c.args.seat (one_sealed core c.args.seat) c.in-Some-None.stamp c.requires (subst (FoundAt (HasStamp core) c.args.seat) c.in-Some-None.is-0 found)
+    (subst (FoundBelow (HasStamp core) c.args.seat) c.in-Some-None.is-1 before)
 
-pub returns-else-found-stamp : goal.returns-else-found-stamp
-returns-else-found-stamp c core at before =
-    lower_found core c.args.seat c.args.place at c.in-Some-Some.found c.in-Some-Some.stamp c.requires c.in-Some-Some.ensures c.if-found-stamp.false (subst (FoundBelow core c.args.seat) c.in-Some-Some.is-1 before)
+pub returns-in-Some-None-clause-begun : goal.returns-in-Some-None-clause-begun
+returns-in-Some-None-clause-begun c core found before =
+    first_found (HasBegin core) c.args.seat (one_begun core c.args.seat) c.in-Some-None.stamp c.requires (subst (FoundAt (HasBegin core) c.args.seat) c.in-Some-None.is-0 found)
+    (subst (FoundBelow (HasBegin core) c.args.seat) c.in-Some-None.is-1 before)
+
+pub returns-then-found-stamp-clause-sealed : goal.returns-then-found-stamp-clause-sealed
+returns-then-found-stamp-clause-sealed c core found before =
+    kept_found (HasStamp core) c.args.seat (one_sealed core c.args.seat) c.in-Some-Some.found c.in-Some-Some.stamp (subst (FoundAt (HasStamp core) c.args.seat) c.in-Some-Some.is-0 found)
+    c.if-found-stamp.true (subst (FoundBelow (HasStamp core) c.args.seat) c.in-Some-Some.is-1 before)
+
+pub returns-then-found-stamp-clause-begun : goal.returns-then-found-stamp-clause-begun
+returns-then-found-stamp-clause-begun c core found before =
+    kept_found (HasBegin core) c.args.seat (one_begun core c.args.seat) c.in-Some-Some.found c.in-Some-Some.stamp (subst (FoundAt (HasBegin core) c.args.seat) c.in-Some-Some.is-0 found)
+    c.if-found-stamp.true (subst (FoundBelow (HasBegin core) c.args.seat) c.in-Some-Some.is-1 before)
+
+pub returns-else-found-stamp-clause-sealed : goal.returns-else-found-stamp-clause-sealed
+returns-else-found-stamp-clause-sealed c core found before =
+    lower_found (HasStamp core) c.args.seat (one_sealed core c.args.seat) c.in-Some-Some.found c.in-Some-Some.stamp c.requires
+    (subst (FoundAt (HasStamp core) c.args.seat) c.in-Some-Some.is-0 found) c.if-found-stamp.false (subst (FoundBelow (HasStamp core) c.args.seat) c.in-Some-Some.is-1 before)
+
+pub returns-else-found-stamp-clause-begun : goal.returns-else-found-stamp-clause-begun
+returns-else-found-stamp-clause-begun c core found before =
+    lower_found (HasBegin core) c.args.seat (one_begun core c.args.seat) c.in-Some-Some.found c.in-Some-Some.stamp c.requires
+    (subst (FoundAt (HasBegin core) c.args.seat) c.in-Some-Some.is-0 found) c.if-found-stamp.false (subst (FoundBelow (HasBegin core) c.args.seat) c.in-Some-Some.is-1 before)

@@ -1,4 +1,4 @@
-use Rattle.erm_core_stall.proofs.Nobody.{active_goes, ring_goes, sealed_goes, sealing_goes, somebody}
+use Rattle.erm_core_stall.proofs.Nobody.{active_goes, pending_goes, ring_goes, sealed_goes, sealing_goes, somebody}
 use Rattle.erm_core_stall.proofs.nothing_stalls.Goals as goal
 
 pub returns-clause-somebody : goal.returns-clause-somebody
@@ -14,4 +14,7 @@ pub returns-clause-ring : goal.returns-clause-ring
 returns-clause-ring c core p stamp sound quiet least full = ring_goes core sound p stamp quiet least full
 
 pub returns-clause-active : goal.returns-clause-active
-returns-clause-active c core p sound quiet none up = active_goes core sound p quiet none up
+returns-clause-active c core p sound quiet none other up = active_goes core sound p quiet none other up
+
+pub returns-clause-pending : goal.returns-clause-pending
+returns-clause-pending c core p sound quiet none only least = pending_goes core sound p quiet none only least

@@ -1,5 +1,5 @@
 use Rattle.erm_core_view.proofs.Rows.{writes, writes_rest}
-use Rattle.erm_core_view.proofs.Words.{copy_shows, head_shows, word_shows}
+use Rattle.erm_core_view.proofs.Words.{copy_shows, head_shows, undo_shows, word_shows}
 use Rattle.erm_core_view.proofs.writes_show_the_row.Goals as goal
 
 pub returns-clause-words : goal.returns-clause-words
@@ -13,6 +13,9 @@ returns-clause-ends g seat place cell value w c d inactive e = head_shows seat p
 
 pub returns-clause-writes : goal.returns-clause-writes
 returns-clause-writes g sessions seat place cell row c sound may words = writes sessions seat place cell row c sound may words
+
+pub returns-clause-undoes : goal.returns-clause-undoes
+returns-clause-undoes g seat place c d e = undo_shows seat place c d e
 
 pub returns-clause-rests : goal.returns-clause-rests
 returns-clause-rests g seat place cell row c may words = writes_rest seat place cell row c may words

@@ -34,6 +34,8 @@ returns g core d seat kind sound e =
         decided = g.decisions_are_kept.ensures.seats core d seat kind sound e p;
         written = g.rows_are_kept.ensures.seats core d seat kind sound e p;
         log = g.log_is_kept.ensures.seats core d seat kind sound e p;
+        back = g.backs_are_kept.ensures.seats core d seat kind sound e p;
+        raised = g.snapshots_stay_raised.ensures core d seat kind sound e p;
       };
       both = λ p q ne. record {
         clear = g.looks_stay_true.ensures.pairs core d seat kind sound e p q ne;
@@ -41,5 +43,6 @@ returns g core d seat kind sound e =
         made = g.numbers_are_kept.ensures.pairs core d seat kind sound e p q ne;
         snapshot = g.snapshots_are_kept.ensures.pairs core d seat kind sound e p q ne;
         decided = g.decisions_are_kept.ensures.pairs core d seat kind sound e p q ne;
+        back = g.backs_are_kept.ensures.pairs core d seat kind sound e p q ne;
       };
     }

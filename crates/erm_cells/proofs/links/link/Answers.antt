@@ -1,7 +1,12 @@
 use Rattle.std.proofs.Common.{ℕ, Option, subst, arith}
+use Rattle.erm_rule.proofs.Telling.{is_held}
 use Rattle.erm_cells.specs.Links.{DidLink}
+use Rattle.erm_cells.proofs.Heads.{has}
 use Rattle.erm_cells.proofs.Linking.{cell_is, cell_none, did_link, link_object, link_small, ready_link}
 use Rattle.erm_cells.proofs.links.link.Goals as goal
+
+pub load_walked-link-requires-clause-held : goal.load_walked-link-requires-clause-held
+load_walked-link-requires-clause-held g c = is_held c.args.p.now.me.0.view c.args.who _ (has c.args.p.now.me.0.view c.args.who c.requires.active)
 
 pub load_walked-link-requires-clause-object : goal.load_walked-link-requires-clause-object
 load_walked-link-requires-clause-object g c = link_object c.args.p.now.me.0.view c.args.who c.requires.active c.requires.passed c.requires.known

@@ -1,4 +1,5 @@
 use Rattle.std.proofs.Common.{ap, refl, subst, sym, ◌∙◌}
+use Rattle.std.proofs.lemmas.Bool.{lt-ltb}
 use Rattle.erm_rule.specs.declared.view.View.{View}
 use Rattle.erm_rule.specs.Hands.{IsKnown, in_hand}
 use Rattle.erm_rule.specs.Views.{part_of}
@@ -21,6 +22,9 @@ load_walked-requires-clause-object g c = load_object c.args.p.now.me.0.view c.ar
 
 pub load_walked-requires-clause-cell : goal.load_walked-requires-clause-cell
 load_walked-requires-clause-cell g c = ap (λ (u : View). (in_hand (part_of u c.args.who).task).cell) c.loop-k.invariant.1.same ∙ c.requires.cell
+
+pub load_walked-requires-clause-word : goal.load_walked-requires-clause-word
+load_walked-requires-clause-word g c = lt-ltb c.loop-k.k 16 c.loop-k-test.true
 
 pub load_walked-requires-clause-ready : goal.load_walked-requires-clause-ready
 load_walked-requires-clause-ready g c = load_ready c.args.p.now.me.0.view c.args.who c.requires.active c.requires.known c.requires.registered c.loop-k.p.me.0.view c.loop-k.k c.loop-k-test.true c.loop-k.row c.loop-k.invariant.1

@@ -1,4 +1,3 @@
-use Rattle.std.proofs.Common.{◌≤◌}
 use Rattle.erm_core.specs.Ready.{IsReady}
 use Rattle.erm_core_walks.proofs.line.each.Given as goal
 

@@ -1,6 +1,8 @@
-use Rattle.std.proofs.Common.{ℕ, ◌+◌, sym, subst}
+use Rattle.std.proofs.Common.{◌≡◌, ◌≤◌, ℕ, ◌+◌, sym, subst, arith}
+use Rattle.erm_machine.specs.declared.limits.TheConstants.{ANNOUNCERS}
 use Rattle.erm_rule.proofs.Telling.{is_held}
 use Rattle.erm_cut.specs.Calls.{HasLoaded}
+use Rattle.erm_cut.specs.Took.{TookHorizon}
 use Rattle.erm_cut.proofs.Loads.{seat_here, ready_tail, tail_loaded, has_looking, ready_begin, begin_loaded}
 use Rattle.erm_cut.proofs.horizons.horizon.Goals as goal
 use Rattle.erm_cut.proofs.Took.{horizon_goes_on, horizon_starts}
@@ -37,3 +39,17 @@ loop-seat-preserved g c = record {
       horizon_goes_on g.L.RowLaw.law c.args.who c.loop-seat.seat c.loop-seat.least c.load_begin.result c.lower-least.result c.args.p.now.me.0 c.loop-seat.p.me.0 c.load_begin.new.p.me.0
       c.loop-seat.invariant.took c.load_begin.ensures.booked c.lower-least.ensures;
 }
+
+-- all begin words are loaded
+last_seat : (seat : ℕ) → ANNOUNCERS ≤ seat → (1 ≤ ANNOUNCERS → seat ≤ ANNOUNCERS) → seat ≡ ANNOUNCERS
+last_seat seat least most = let below : seat ≤ ANNOUNCERS = most (omega arith) in omega (arith, least, below)
+
+pub returns-clause-found : goal.returns-clause-found
+returns-clause-found g c =
+    subst (λ (n : ℕ). HasLoaded c.args.p.now.me.0.view c.args.who n c.loop-seat.least c.loop-seat.p.me.0.view)
+    (last_seat c.loop-seat.seat c.loop-seat-test.false c.loop-seat.auto.seat-end) c.loop-seat.invariant.loaded
+
+pub returns-clause-took : goal.returns-clause-took
+returns-clause-took g c =
+    subst (λ (n : ℕ). TookHorizon g.L.RowLaw.law c.args.who n c.loop-seat.least c.args.p.now.me.0 c.loop-seat.p.me.0)
+    (last_seat c.loop-seat.seat c.loop-seat-test.false c.loop-seat.auto.seat-end) c.loop-seat.invariant.took

@@ -3,8 +3,15 @@ use Rattle.atomic_table.specs.declared.shared.Seat.{Seat}
 use Rattle.erm_model.specs.declared.limits.TheConstants.{SESSIONS}
 use Rattle.erm_rule.specs.declared.view.Book.{Book}
 use Rattle.erm_engine.specs.Opened.{AreIdle, HasGiven}
-use Rattle.erm_engine.proofs.Handed.{idle_more}
+use Rattle.erm_engine.proofs.Handed.{idle_more, idle_none}
 use Rattle.erm_engine.proofs.giving.give_idle.Goals as goal
+
+pub loop-q-init : goal.loop-q-init
+loop-q-init g c = (
+  c.requires.given,
+  idle_none c.args.t.now.words.shared.table_id c.args.opening.now.run c.args.opening.now.tail c.args.count c.in_ok-passes.passes.items c.in_ok-passes.ensures.items,
+  (let room = c.in_ok-passes.ensures.capacity in let few = c.requires.few in omega (arith, room, few)),
+)
 
 pub loop-q-preserved : goal.loop-q-preserved
 loop-q-preserved g c =

@@ -1,12 +1,23 @@
 use Rattle.std.proofs.Common.{◌≡◌, ℕ, ◌+◌, sym, ap, ◌∙◌, subst, arith}
 use Rattle.erm_machine.specs.declared.part.Part.{Part}
+use Rattle.erm_machine.proofs.Backs.{session_from}
 use Rattle.erm_rule.specs.Books.{book}
 use Rattle.erm_own_view.specs.Own.{own_view}
 use Rattle.erm_session.specs.Session.{IsSession}
 use Rattle.erm_engine.specs.Opened.{AreNew, HasGiven}
 use Rattle.erm_engine.proofs.GivenUp.{new_idle}
-use Rattle.erm_engine.proofs.Handed.{idle_part, new_more, own_opened}
+use Rattle.erm_engine.proofs.Handed.{idle_part, new_more, new_none, own_opened}
 use Rattle.erm_engine.proofs.giving.give_sessions.Goals as goal
+
+pub loop-q-init : goal.loop-q-init
+loop-q-init g c = (
+  c.requires.given,
+  new_none g.L.RowLaw.law c.args.t.now c.args.opening.now c.in_ok-sessions.sessions.items c.in_ok-sessions.ensures.items,
+  c.in_ok-sessions.ensures.capacity,
+)
+
+pub new-requires-clause-session : goal.new-requires-clause-session
+new-requires-clause-session g c = session_from (c.loop-q.q + 1) (omega arith) (let less = c.loop-q-test.true in let few = c.requires.few in omega (arith, less, few))
 
 pub new-given-requires-clause-session : goal.new-given-requires-clause-session
 new-given-requires-clause-session g c =

@@ -1,4 +1,5 @@
 use Rattle.std.proofs.Common.{◌≡◌, refl, sym, subst}
+use Rattle.std.proofs.lemmas.Bool.{lt-ltb}
 use Rattle.erm_machine.specs.declared.limits.TheConstants.{FLUSH_SEAT}
 use Rattle.erm_rule.specs.declared.view.View.{View}
 use Rattle.erm_rule.specs.Hands.{IsKnown, in_hand}
@@ -42,3 +43,6 @@ returns-clause-row g c = row_loaded c.args.p.now.me.0 c.requires.active c.requir
 
 pub returns-clause-loads : goal.returns-clause-loads
 returns-clause-loads g c = c.loop-k.invariant.2
+
+pub load_walked-requires-clause-word : goal.load_walked-requires-clause-word
+load_walked-requires-clause-word g c = lt-ltb c.loop-k.k 16 c.loop-k-test.true

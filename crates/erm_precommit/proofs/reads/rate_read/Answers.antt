@@ -14,3 +14,6 @@ returns-then-load_overwriter-clause-goes g c = goes_both c.args.p.now.me.0 _ _ c
 
 pub returns-then-load_overwriter-clause-loads : goal.returns-then-load_overwriter-clause-loads
 returns-then-load_overwriter-clause-loads g c = went_more _ _ _ _ _ _ c.load_overwriter.ensures.loads c.load_succ.ensures.loads
+
+pub load_succ-requires-clause-task : goal.load_succ-requires-clause-task
+load_succ-requires-clause-task g c = c.load_overwriter.ensures.counts c.if-load_overwriter.true

@@ -1,4 +1,4 @@
-use Rattle.std.proofs.Common.{◌≡◌, refl, ap, sym, subst, ◌∙◌}
+use Rattle.std.proofs.Common.{◌≡◌, ℕ, refl, ap, sym, subst, ◌∙◌}
 use Rattle.erm_machine.specs.declared.event.Answer.{Answer}
 use Rattle.erm_machine.specs.declared.event.Event.{Event}
 use Rattle.erm_machine.specs.declared.event.Kind.{Kind}
@@ -7,7 +7,7 @@ use Rattle.erm_machine.specs.Core.{Core}
 use Rattle.erm_machine.specs.Sound.{Sound}
 use Rattle.erm_machine.specs.Step.{core_step}
 use Rattle.erm_core.specs.Cores.{core_of}
-use Rattle.erm_core.specs.Kinds.{event_at}
+use Rattle.erm_core.specs.Kinds.{MeetsOne, event_at}
 use Rattle.erm_core.proofs.Steps.{failed_step}
 use Rattle.erm_core.proofs.Vacant.{vacant_none, seat_above}
 use Rattle.erm_core.proofs.state.State.step.Goals as goal
@@ -15,6 +15,20 @@ use Rattle.erm_core.proofs.state.State.step.Goals as goal
 -- the state after a step, as the law speaks of it
 after : (c d : Core) (a : Answer) (e : Event) → ◌≡◌ {A = Answer × Core} (a, d) (core_step c e) → Sound (core_step c e).1 → Sound d
 after c d a e step sound = subst Sound (sym (ap (λ (r : Answer × Core). r.1) step)) sound
+
+-- a kind that is neither a split nor a join meets one word, or a device
+meets_one : (k : Kind) → ((other : ℕ) → k ≡ kind.Split other → ⊥) → ((other : ℕ) → k ≡ kind.Join other → ⊥) → MeetsOne k
+meets_one (kind.Split other) split join = absurd (split other refl)
+meets_one (kind.Join other) split join = absurd (join other refl)
+meets_one _ split join = tt
+
+pub step_word-requires : goal.step_word-requires
+step_word-requires c = record {
+  one = meets_one c.args.event.kind c.in_default.not-Split c.in_default.not-Join;
+  seat = c.if-event-ge-ANNOUNCERS.false;
+  room = c.requires.room;
+  sound = c.requires.sound;
+}
 
 pub returns-in-Split-clause-sound : goal.returns-in-Split-clause-sound
 returns-in-Split-clause-sound c =

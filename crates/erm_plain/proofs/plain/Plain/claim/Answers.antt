@@ -90,3 +90,11 @@ returns-clause-err g c =
 
 pub returns-clause-open_still : goal.returns-clause-open_still
 returns-clause-open_still g c = where_ok_too _ _ c.claim_entry.result c.claim_entry.ensures.open_still
+
+pub returns-then-has_claimed-clause-open_still : goal.returns-then-has_claimed-clause-open_still
+returns-then-has_claimed-clause-open_still g c = λ unclaimed.
+    let now = core_of c.args.self.now.state in
+    let at = active_seat c.args.self.now.sessions c.args.seat now c.requires.stands.quiet c.requires.session c.requires.active in
+    let shown = claims_shown c.args.self.now.sessions c.args.seat now (plain_view c.args.self.now) at refl in
+    let claimed = ap (λ (cs : List VersionWritten). is_claimed cs c.args.oid) shown ∙ sym c.has_claimed.ensures ∙ c.if-has_claimed.true in
+    absurd (cc)

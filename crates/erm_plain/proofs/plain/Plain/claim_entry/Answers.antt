@@ -36,7 +36,7 @@ abort-requires-clause-stands g c =
     owner_other sessions seat oid between c.leave_cleared.ensures.sound.sound (record { session = at.session; active = at.active; starts = c.leave_cleared.ensures.starts })
     c.requires.session.0 c.requires.object unclaimed
     in
-    let starts = arrives_starts oid (between.shared.objects oid).entry _ (entry_arrives between after seat oid at other c.load.ensures.after) in
+    let starts = arrives_starts oid (between.shared.objects oid).entry _ (entry_arrives between after seat oid at c.leave_cleared.ensures.starts other c.load.ensures.after) in
     record {
       sound = c.load.ensures.sound;
       quiet =
@@ -93,7 +93,7 @@ claim_head-requires-clause-stands g c =
     owner_other sessions seat oid between c.leave_cleared.ensures.sound.sound (record { session = at.session; active = at.active; starts = c.leave_cleared.ensures.starts })
     c.requires.session.0 c.requires.object unclaimed
     in
-    let starts = arrives_starts oid (between.shared.objects oid).entry _ (entry_arrives between after seat oid at other c.load.ensures.after) in
+    let starts = arrives_starts oid (between.shared.objects oid).entry _ (entry_arrives between after seat oid at c.leave_cleared.ensures.starts other c.load.ensures.after) in
     record {
       sound = c.load.ensures.sound;
       quiet =
@@ -105,7 +105,7 @@ pub claim_head-requires-clause-head : goal.claim_head-requires-clause-head
 claim_head-requires-clause-head g c =
     let between = core_of c.leave_cleared.new.self.state in
     let entry : c.found-entry.result ≡ (between.shared.objects c.args.oid).entry = c.found-entry.ensures ∙ ap found_in c.load.ensures.answer in
-    has_head between (core_of c.load.new.self.state) c.args.seat c.args.oid c.found-entry.result c.leave_cleared.ensures.goes.at c.leave_cleared.ensures.left c.load.ensures.after entry
+    has_head between (core_of c.load.new.self.state) c.args.seat c.args.oid c.found-entry.result c.leave_cleared.ensures.goes.at c.leave_cleared.ensures.starts c.leave_cleared.ensures.left c.load.ensures.after entry
     (sym c.owner_of-owner.ensures ∙ c.if-owner-ne0.false)
 
 pub claim_head-requires-clause-may : goal.claim_head-requires-clause-may

@@ -1,4 +1,4 @@
-use Rattle.std.proofs.Common.{◌≡◌, ◌≢◌, ℕ, ap, ◌∙◌, sym, subst}
+use Rattle.std.proofs.Common.{◌≡◌, ◌≢◌, ℕ, ap, ◌∙◌, sym, subst, refl, arith}
 use Rattle.erm_model.specs.declared.row_stop.RowStop.TheVariants.{CellsFull}
 use Rattle.erm_world.specs.Calls.{DidClaim, DidNotClaim}
 use Rattle.erm_core_steps.proofs.Results.{err_to, on_ok_to}
@@ -13,7 +13,7 @@ use Rattle.erm_core_steps.specs.Finishes.{IsDropped}
 use Rattle.erm_core_steps.specs.Reads.{IsExcluded}
 use Rattle.erm_plain.specs.Stands.{plain_view}
 use Rattle.erm_core_steps.specs.Steps.{IsUnseen}
-use Rattle.erm_core_steps.proofs.Exchanges.{claim_done, claim_excluded, dropped_same, excluded_cells, free_current, quiet_claimed, quiet_dropped}
+use Rattle.erm_core_steps.proofs.Exchanges.{claim_done, claim_excluded, claims_count, dropped_same, excluded_cells, free_current, quiet_claimed, quiet_dropped}
 use Rattle.erm_core_steps.proofs.Quiet.{active_seat}
 use Rattle.erm_core_steps.proofs.Readings.{still_active, still_session}
 use Rattle.erm_core_steps.proofs.Unowned.{unowned}
@@ -125,3 +125,11 @@ pub returns-clause-cells : goal.returns-clause-cells
 returns-clause-cells g c =
     err_to c.test_early.result (IsExcluded (plain_view c.finish_claim.new.self) c.args.seat (plain_view c.test_early.new.self)) (λ why. (drawn : ℕ) → why ≢ CellsFull drawn)
     (λ why did. excluded_cells (plain_view c.finish_claim.new.self) (plain_view c.test_early.new.self) c.args.seat why did) c.test_early.ensures.err
+
+pub exchange-requires-clause-few : goal.exchange-requires-clause-few
+exchange-requires-clause-few g c =
+    let now = core_of c.args.self.now.state in
+    let at = active_seat c.args.self.now.sessions c.args.seat now c.requires.stands.quiet c.requires.session c.requires.active in
+    let count = claims_count c.args.self.now.sessions c.args.seat now (plain_view c.args.self.now) at refl in
+    let few = c.requires.may.1 in
+    omega (arith, count, few)

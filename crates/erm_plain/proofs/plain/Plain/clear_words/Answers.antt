@@ -1,6 +1,6 @@
-use Rattle.std.proofs.Common.{◌∙◌, arith}
+use Rattle.std.proofs.Common.{◌≡◌, ℕ, refl, subst, ◌∙◌, arith}
 use Rattle.erm_core.specs.Cores.{core_of}
-use Rattle.erm_core_turns.proofs.Clears.{clear_taken, clears_more}
+use Rattle.erm_core_turns.proofs.Clears.{Clears, all_cleared, clear_taken, clears_more, clears_none}
 use Rattle.erm_plain.proofs.plain.Plain.clear_words.Goals as goal
 
 pub go-requires-clause-taken : goal.go-requires-clause-taken
@@ -20,3 +20,18 @@ loop-at-preserved g c =
       omega (arith, low),
       omega (arith, less),
     )
+
+pub loop-at-init : goal.loop-at-init
+loop-at-init g c =
+    let some = c.requires.gathered.some in
+    (c.requires.sound, clears_none c.args.from c.args.end (core_of c.args.self.now.state) c.requires.gathered, refl, omega arith, omega (arith, some))
+
+pub returns-clause-cleared : goal.returns-clause-cleared
+returns-clause-cleared g c =
+    let inv = c.loop-at.invariant in
+    let low = inv.4 in
+    let last = c.loop-at-test.false in
+    let before = core_of c.args.self.now.state in
+    let after = core_of c.loop-at.self.state in
+    let all : c.loop-at.at ≡ c.args.end = omega (arith, low, last) in
+    all_cleared c.args.from c.args.end before after c.requires.gathered.some (subst (λ (n : ℕ). Clears c.args.from c.args.end n before after) all inv.1)

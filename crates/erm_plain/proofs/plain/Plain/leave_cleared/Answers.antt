@@ -27,7 +27,7 @@ returns-in-Cleared-clause-starts g c =
     let at = active_seat c.args.self.now.sessions c.args.seat before c.requires.stands.quiet c.requires.session c.requires.active in
     let other = owner_other c.args.self.now.sessions c.args.seat c.args.oid before c.requires.stands.sound.sound at c.requires.session.0 c.requires.object c.requires.unclaimed in
     arrives_starts c.args.oid (before.shared.objects c.args.oid).entry _
-    (entry_arrives before (core_of c.load.new.self.state) c.args.seat c.args.oid (record { session = at.session; active = at.active }) other c.load.ensures.after)
+    (entry_arrives before (core_of c.load.new.self.state) c.args.seat c.args.oid (record { session = at.session; active = at.active }) at.starts other c.load.ensures.after)
 
 pub returns-in-Cleared-clause-left : goal.returns-in-Cleared-clause-left
 returns-in-Cleared-clause-left g c =
@@ -35,7 +35,7 @@ returns-in-Cleared-clause-left g c =
     let at = active_seat c.args.self.now.sessions c.args.seat before c.requires.stands.quiet c.requires.session c.requires.active in
     let other = owner_other c.args.self.now.sessions c.args.seat c.args.oid before c.requires.stands.sound.sound at c.requires.session.0 c.requires.object c.requires.unclaimed in
     arrives_left c.args.oid (before.shared.objects c.args.oid).entry _
-    (entry_arrives before (core_of c.load.new.self.state) c.args.seat c.args.oid (record { session = at.session; active = at.active }) other c.load.ensures.after)
+    (entry_arrives before (core_of c.load.new.self.state) c.args.seat c.args.oid (record { session = at.session; active = at.active }) at.starts other c.load.ensures.after)
 
 pub returns-in_default : goal.returns-in_default
 returns-in_default g c =

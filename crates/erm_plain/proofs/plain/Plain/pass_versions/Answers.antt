@@ -1,6 +1,11 @@
-use Rattle.std.proofs.Common.{◌≡◌, ap, ◌∙◌}
+use Rattle.std.proofs.Common.{◌≡◌, ℕ, length, ap, ◌∙◌, arith}
+use Rattle.erm_machine.specs.declared.attempt.Attempt.{Attempt}
+use Rattle.erm_machine.specs.declared.task.Task.{Task}
+use Rattle.erm_machine.specs.declared.task.Task.TheVariants as task
+use Rattle.erm_machine.specs.Bounds.{IsBounded}
 use Rattle.erm_machine.specs.Core.{spot_of, word_at}
 use Rattle.erm_core.specs.Cores.{core_of}
+use Rattle.erm_core_steps.specs.Settles.{AreAllBehind}
 use Rattle.erm_core_steps.specs.Steps.{found_in}
 use Rattle.erm_core_steps.proofs.Loads.{load_free}
 use Rattle.erm_core_steps.proofs.Passing.{is_load, is_taken, less, loads_one, now_waits, still_passing, still_size, still_unseen}
@@ -66,3 +71,20 @@ loop-kind-preserved g c =
       c.go.ensures.sessions ∙ inv.3,
       still_size before c.args.seat inv.0.sound inv.1 k c.in-Some.ensures after c.go.ensures.after ∙ inv.4,
     )
+
+-- where the versions that it would come to are behind it, it has passed all of them
+all_passed : (seat : ℕ) (t : Attempt) (u : Task) → IsBounded seat t u → AreAllBehind t u → u ≡ task.Settles (length t.reads) (length t.writes)
+all_passed seat t (task.Settles reads writes) bounded behind =
+    let few_reads = bounded.0 in
+    let few_writes = bounded.1 in
+    let all_reads = behind.0 in
+    let all_writes = behind.1 in
+    let r : reads ≡ length t.reads = omega (arith, few_reads, all_reads) in
+    let w : writes ≡ length t.writes = omega (arith, few_writes, all_writes) in
+    ap (λ (n : ℕ). task.Settles n writes) r ∙ ap (λ (n : ℕ). task.Settles (length t.reads) n) w
+all_passed seat t u bounded behind = absurd behind
+
+pub returns-clause-passed : goal.returns-clause-passed
+returns-clause-passed g c =
+    let x = (core_of c.loop-kind.self.state).seats c.args.seat in
+    all_passed c.args.seat x.current x.task (c.loop-kind.invariant.0.sound.own c.args.seat).bounds.bounded c.in_default.ensures

@@ -99,3 +99,8 @@ returns-clause-set g c =
     let is = stored_all c.args.seat place cell c.loop-k.k row before after inv.runs (omega (arith, words, last)) in
     subst (λ n. Works (plain_view c.args.self.now) c.args.seat (setting c.args.oid row (work_at (plain_view c.args.self.now) c.args.seat)) (view_of n after)) (sym inv.sessions)
     (stored_shows c.args.self.now.sessions c.args.seat c.args.oid place cell row before after c.requires.stands.sound.sound here words c.place_claimed-claim.ensures is)
+
+pub own_cell-cell-requires : goal.own_cell-cell-requires
+own_cell-cell-requires g c =
+    let at = active_seat c.args.self.now.sessions c.args.seat (core_of c.args.self.now.state) c.requires.stands.quiet c.requires.session c.requires.active in
+    record { session = at.session }

@@ -209,3 +209,10 @@ returns-clause-ok g c =
     in
     subst (λ n. DidSettle (plain_view c.args.self.now) seat c.outcome-outcome.result (view_of n ended)) (sym (c.leave.ensures.sessions ∙ two))
     (subst (λ o. DidSettle (view_of sessions before) seat o (view_of sessions ended)) (sym c.outcome-outcome.ensures) did)
+
+pub fits_ring-requires : goal.fits_ring-requires
+fits_ring-requires g c = record {
+  session =
+      is_one c.args.self.now.sessions c.args.seat (core_of c.args.self.now.state)
+      (settle_may c.args.self.now.sessions c.args.seat (core_of c.args.self.now.state) c.requires.stands.sound.sound c.requires.stands.quiet c.requires.session c.requires.sealed);
+}

@@ -2,7 +2,7 @@ use Rattle.std.proofs.Common.{◌≤◌, refl, arith, sym, subst, inl, inr}
 use Rattle.erm_machine.specs.declared.limits.TheConstants.{WRITE_LIMIT}
 use Rattle.erm_rule.specs.Views.{part_of}
 use Rattle.erm_session.specs.Calls.{before, now, is_end}
-use Rattle.erm_session.proofs.Goes.{active, goes_on, kept, known_where, same_rows, starts, with_rows}
+use Rattle.erm_session.proofs.Goes.{active, goes_on, kept, known_where, not_active, same_rows, starts, with_rows}
 use Rattle.erm_session.proofs.RowsClaimed.{claimed_last, count_told, goes_claimed, goes_unclaimed, known_unclaimed, refuses_claim, room_claimed, rows_claimed, rows_stay, same_unclaimed}
 use Rattle.erm_session.proofs.Sought.{claimed, has_row, in_box, unclaimed}
 use Rattle.erm_session.proofs.session.Session.claim_at.Goals as goal
@@ -136,3 +136,6 @@ returns-in-Err-clause-took_none g c =
 pub returns-in-Err-clause-still : goal.returns-in-Err-clause-still
 returns-in-Err-clause-still g c =
     where_still g.L.RowLaw.law c.args.self.now.seat (is_end c.in-Err.why) c.args.p.now.me.0 c.claim_first.new.p.me.0 c.end_where.new.p.me.0 c.claim_first.ensures.still c.end_where.ensures.ends c.end_where.ensures.same
+
+pub unreachable-requires : goal.unreachable-requires
+unreachable-requires g c = not_active c.args.self.now.stage c.requires.active c.in_default.not-Active

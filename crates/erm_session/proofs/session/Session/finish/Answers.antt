@@ -1,4 +1,4 @@
-use Rattle.std.proofs.Common.{sym, arith, ℕ, ap, subst}
+use Rattle.std.proofs.Common.{sym, arith, ℕ, ap, subst, ◌∙◌}
 use Rattle.erm_machine.specs.declared.attempt.Decision.{Decision}
 use Rattle.erm_rule.specs.Views.{view, part_of}
 use Rattle.erm_session.proofs.Deciding.{block_ends, finished, known_left, may_be_decided, may_leave, stands_idle}
@@ -6,6 +6,9 @@ use Rattle.erm_session.proofs.session.Session.finish.Goals as goal
 use Rattle.erm_cells.specs.Took.{IsEndStep}
 use Rattle.erm_rule.specs.Went.{Went}
 use Rattle.erm_session.specs.declared.session.Session.{Session}
+use Rattle.erm_session.specs.declared.session.Stage.{Stage}
+use Rattle.erm_session.specs.Session.{phase_of}
+use Rattle.erm_session.proofs.Goes.{not_sealed}
 use Rattle.erm_session.specs.Took.{TookDecided}
 
 pub store_block-requires-clause-may : goal.store_block-requires-clause-may
@@ -57,3 +60,6 @@ returns-clause-took g c = record {
       (subst (λ (d : Decision). TookDecided d g.L.RowLaw.law c.store_block.new.self.seat c.store_block.new.p.me.0 c.leave.new.p.me.0) (sym (may_leave c.args.self.now c.in-Sealed.pre (view c.args.p.now) c.args.succ c.args.pred c.requires.known c.requires.stands (sym c.in-Sealed.ensures.value) c.requires.ready
       c.replace.new.dest c.store_block.new.self c.store_block.ensures.same (view c.store_block.new.p) c.store_block.ensures.stored).decision) c.leave.ensures.took);
 }
+
+pub unreachable-requires : goal.unreachable-requires
+unreachable-requires g c = not_sealed c.replace.result (ap (λ (a : Stage). phase_of a) c.replace.ensures.value ∙ c.requires.sealed) c.in_default.not-Sealed

@@ -2,7 +2,7 @@ use Rattle.std.proofs.Common.{◌≤◌, refl, arith, sym, subst, inl, inr}
 use Rattle.erm_machine.specs.declared.limits.TheConstants.{READ_LIMIT}
 use Rattle.erm_rule.specs.Views.{part_of}
 use Rattle.erm_session.specs.Calls.{again, first, own, is_end}
-use Rattle.erm_session.proofs.Goes.{active, goes_on, kept, known_where, same_current, same_rows, starts, with_rows}
+use Rattle.erm_session.proofs.Goes.{active, goes_on, kept, known_where, not_active, same_current, same_rows, starts, with_rows}
 use Rattle.erm_session.proofs.RowsRead.{goes_read, goes_unread, known_unread, owner_met, refuses_read, room_read, rows_read, rows_stay, same_unread, spare_read, spare_unread}
 use Rattle.erm_session.proofs.Sought.{has_claimed, has_read_row, in_box, unclaimed, unread}
 use Rattle.erm_session.proofs.session.Session.read.Goals as goal
@@ -144,3 +144,6 @@ returns-in-Err-clause-took_none g c =
 pub returns-in-Err-clause-still : goal.returns-in-Err-clause-still
 returns-in-Err-clause-still g c =
     where_still g.L.RowLaw.law c.args.self.now.seat (is_end c.in-Err.why) c.args.p.now.me.0 c.read_first.new.p.me.0 c.end_where.new.p.me.0 c.read_first.ensures.still c.end_where.ensures.ends c.end_where.ensures.same
+
+pub unreachable-requires : goal.unreachable-requires
+unreachable-requires g c = not_active c.args.self.now.stage c.requires.active c.in_default.not-Active

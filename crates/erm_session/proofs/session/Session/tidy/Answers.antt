@@ -1,7 +1,7 @@
 use Rattle.std.proofs.Common.{inl}
 use Rattle.erm_rule.specs.Views.{part_of}
 use Rattle.erm_session.specs.Calls.{again_tidied}
-use Rattle.erm_session.proofs.Goes.{active, kept, starts}
+use Rattle.erm_session.proofs.Goes.{active, kept, not_active, starts}
 use Rattle.erm_session.proofs.Sought.{claimed, in_box, unclaimed}
 use Rattle.erm_session.proofs.Tidied.{claims_too, tidied_session, took_too}
 use Rattle.erm_session.proofs.session.Session.tidy.Goals as goal
@@ -55,3 +55,6 @@ returns-in-None-clause-tidied g c =
 
 pub returns-in-None-clause-took : goal.returns-in-None-clause-took
 returns-in-None-clause-took g c = took_too g.L.RowLaw.law c.args.self.now.seat c.args.oid c.args.p.now.me.0 c.claim.new.p.me.0 c.claim.result c.claim.ensures.took
+
+pub unreachable-requires : goal.unreachable-requires
+unreachable-requires g c = not_active c.args.self.now.stage c.requires.active c.in_default.not-Active

@@ -1,0 +1,6 @@
+pub mod Gazes
+pub mod Goes
+pub mod Kept
+pub mod Owning
+pub mod Raised
+pub mod Turns
