@@ -93,7 +93,7 @@ fn ten_sessions_run(rt: HostRuntime) -> Result<(), Fail> {
     for (fails, failed) in CASES {
         let (disk, ran) = ran(&rt, alloc, fails, &OpenGate, parts(alloc)?)?;
         assert!(rt; ran.failed == failed, "{fails}");
-        let works = ran.sessions?;
+        let works = ran.sessions;
         assert!(rt; works.len() == SESSIONS as usize, "{fails}");
         for work in &works {
             assert!(rt; is_as(work, failed), "{fails}");

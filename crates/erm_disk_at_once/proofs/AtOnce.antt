@@ -1,9 +1,11 @@
 -- Sessions that ran at once on a disk whose log was just opened: what a run leaves, whole, cut off or untold.
-use Rattle.std.proofs.Common.{◌≡◌, ℕ, ◌+◌, ◌≤◌, List, [], ◌∷◌, ◌++◌, Option, Some, None, IfSome, append-nil, refl, sym, ap, ◌∙◌, subst, arith}
+use Rattle.std.proofs.Common.{◌≡◌, ◌≢◌, ℕ, ◌+◌, ◌≤◌, List, [], ◌∷◌, ◌++◌, length, Option, Some, None, IfSome, append-nil, refl, sym, ap, ◌∙◌, subst, arith}
 use Rattle.std.specs.FinMap.{from_entries}
+use Rattle.std.specs.List.{AllPairs}
 use Rattle.erm_model.specs.Committed.{Committed, RunsInOrder, rank_of}
 use Rattle.erm_model.specs.Database.{Database, entries_of}
 use Rattle.erm_model.specs.Member.{◌∈◌}
+use Rattle.erm_model.proofs.Members.{none_in_nil}
 use Rattle.erm_model.specs.SerialOrder.{IsSerialOrder}
 use Rattle.erm_model.specs.declared.limits.TheConstants.{LEAST_BLOCK}
 use Rattle.erm_block.specs.declared.block.Block.{Block}
@@ -21,36 +23,38 @@ use Rattle.erm_world.specs.Log.{IsLog, place_behind}
 use Rattle.erm_world.specs.Log as world
 use Rattle.erm_world.specs.World.{View}
 use Rattle.erm_told_crash.specs.Logged.{HasCommits}
-use Rattle.erm_good_at_once.specs.CutReports.{IsCutAtOnce, answered_of}
+use Rattle.erm_good_at_once.specs.CutReports.{IsCutAtOnce, IsUnseen, answered_of}
 use Rattle.erm_good_at_once.specs.GoodAtOnce.{IsGoodAtOnce}
+use Rattle.erm_good_report.specs.GoodReport.{answer_lines}
 use Rattle.erm_good_report.specs.Opening.{Opening}
+use Rattle.erm_good_report.specs.Phases.{Closed}
 use Rattle.erm_invariant.specs.Commits.{EachFrontRuns}
 use Rattle.erm_log_run.proofs.Held.{tells_both, tells_join, tells_weaker}
 use Rattle.erm_log_run.proofs.Lasting.{TellsFor, cut_tells, report_tells}
 use Rattle.erm_crash.specs.Kept.{KeepsOpening}
 use Rattle.erm_recover.proofs.Waits.{since_then}
-use Rattle.erm_recover.specs.Waiting.{SinceSettled}
 use Rattle.erm_rule.specs.declared.view.Start.{Start}
 use Rattle.erm_start.specs.Recovered.{IsOpenedLog}
 use Rattle.erm_desk.specs.Desk.{HeldSince, IsDesk, IsHeld, KeepsFronts, MeetsMore, Sees, WritesSince}
 use Rattle.erm_desk.specs.Known.{flushed_log, opened_at}
-use Rattle.erm_disk_run.specs.Crashes.{Outlives}
-use Rattle.erm_disk_run.specs.Found.{IsFound, StartsFrom}
+use Rattle.erm_disk_run.specs.Crashes.{KeepsCommits, KeepsTold, Outlives}
+use Rattle.erm_disk_run.specs.Found.{StartsFrom}
 use Rattle.erm_disk_run.specs.Limits.{in_table}
 use Rattle.erm_disk_run.specs.Opened.{OpensEachLog, OpensLog}
 use Rattle.erm_disk_run.specs.Runs.{CutFew, HaveManyCells, commits_told}
 use Rattle.erm_disk_run.proofs.Left.{OrdersAreOne}
 use Rattle.erm_disk_run.proofs.Meeting.{MeetsFound, MetLaws}
 use Rattle.erm_recover.specs.Opening.{open_block}
-use Rattle.erm_disk_run.proofs.Opened.{MayOpenAll}
+use Rattle.erm_disk_run.proofs.Logged.{opening_told}
+use Rattle.erm_disk_run.proofs.Opened.{MayOpenAll, opening_commits}
 use Rattle.erm_disk_run.proofs.Outlived.{OpensAt}
 use Rattle.erm_disk_at_once.specs.Desks.{AreAcknowledged, DiskTells, HasLogged, OpensTable, StandFor}
-use Rattle.erm_disk_at_once.specs.Runs.{KeepsLogged, KeepsSegments, LeavesAll, WasCutAtOnce, WasRunAtOnce, WasStarvedAtOnce}
+use Rattle.erm_disk_at_once.specs.Runs.{KeepsSegments, LeavesAll, WasCutAtOnce, WasRunAtOnce, WasStarvedAtOnce}
 use Rattle.erm_disk_at_once.proofs.Files.{KeepsFiles, desk_keeps, keeps_then, opened_keeps, told_of}
 use Rattle.erm_disk_at_once.proofs.Left.{leaves_all}
 use Rattle.erm_disk_at_once.proofs.Outlived.{outlives}
 use Rattle.erm_disk_at_once.proofs.Standing.{TellFronts, stand_for}
-use Rattle.erm_disk_at_once.proofs.Starved.{found_so, logged, opening_logged, with_rows}
+use Rattle.erm_disk_at_once.proofs.Starved.{answers_tell, no_commits, none_answered, none_counted, none_runs}
 
 -- what the opening did to the disk
 abbrev pub OpensDisk : State → List Step → List Step → Type 0
@@ -102,18 +106,37 @@ desk_did o began faults d desk tells = by began tells desk.keeps desk.writes des
         (tells_both (λ x y. KeepsFronts sound_law o (desk.blocks ++ desk.tried) x y × WritesSince o (desk.blocks ++ desk.tried) x y) (HeldSince sound_law o desk.blocks desk.tried) b d.told both
         (told_of (HeldSince sound_law o desk.blocks desk.tried) b d.told told since))
 
--- Where nothing was run behind the opening, or nothing is known of it but that the disk is as it was.
-pub was_unrun : MayOpenAll → (state : State) (o : Start) (slots : Slots) (before mid : Option (List Step)) → OpensTable state o → OpensEachLog state slots before mid → WasStarvedAtOnce before mid state
-was_unrun may state o slots before mid t opens =
+-- Where nothing was run behind the opening.
+pub was_unrun : MayOpenAll → (state : State) (o : Start) (slots : Slots) (before mid : Option (List Step)) → OpensTable state o → OpensEachLog state slots before mid
+    → (opening : Opening) → StartsFrom state opening → (names : List (List ℕ)) (script : List ScriptLine) → WasStarvedAtOnce before mid state names script
+was_unrun may state o slots before mid t opens opening starts names script =
     let told = opens (flushed_log o []) (opened_log state o t) in
+    let none = no_commits names script in
+    let no_line = none_answered script in
     record {
       low = t.low;
       run_low = t.run_low;
-      blocks = [];
-      moments = tells_weaker (OpensLog state (flushed_log o []) slots) (SinceSettled (KeepsLogged [] state)) before mid
-          (λ a b is.
-          since_then (KeepsOpening sound_law.meets state is.pair) (KeepsLogged [] state) a b b
-          (λ first keeps. opening_logged state state.rows (λ oid few. refl) may [] is.pair first b keeps) is.keeps) told;
+      opening = opening;
+      starts = starts;
+      counts = none_counted;
+      answers = [];
+      each = sym (ap (λ (ls : List ScriptLine). length ls) no_line);
+      few = λ n m. absurd (none_in_nil _ m);
+      closed = [];
+      once = λ i j d less within. absurd (omega (arith, within));
+      unseen = λ c m. absurd (none_in_nil c m);
+      fronts = subst (λ (cs : List Committed). EachFrontRuns cs opening.map) (sym none) (none_runs opening.map);
+      outlives =
+          subst (λ (ls : List ScriptLine). Tells (Outlives (commits_told names (answered_of none_counted script) [] []) state (answer_lines ls [])) before mid) (sym no_line)
+          (subst (λ (cs : List Committed). Tells (Outlives cs state []) before mid) (sym none)
+          (tells_weaker (OpensLog state (flushed_log o []) slots) (Outlives [] state []) before mid
+          (λ a b is. record {
+            moments = since_then (KeepsOpening sound_law.meets state is.pair) (KeepsCommits [] state state.at) a b b
+                (λ first keeps. opening_commits may [] state is.pair first b refl refl keeps) is.keeps;
+            logged = since_then (KeepsOpening sound_law.meets state is.pair) (KeepsTold [] state) a b b
+                (λ first keeps. opening_told [] state is.pair first b refl refl keeps) is.keeps;
+            acknowledged = λ place is. absurd (none_in_nil _ is.told);
+          }) told));
       segments = tells_weaker (OpensLog state (flushed_log o []) slots) (KeepsSegments state) before mid
           (λ a b is. (opened_keeps state (flushed_log o []) slots a b is).segments) told;
     }
@@ -164,22 +187,30 @@ module _ (may : MayOpenAll) (state : State) (o : Start) (blocks tried : List Blo
       (tells_both (OpensDisk state) (MeetsFound state (flushed_log o []) slots) before mid opens met)
       (tells_both (DeskDid o blocks tried) (MeetsMore sound_law o blocks) mid after did more)
 
-  -- Memory ran out, or nothing is told: of the state with the rows of the table.
-  pub was_starved : IsLog sound_law.meets (flushed_log o (blocks ++ tried)) → IsFound before state → (s : State) × IsFound before s × WasStarvedAtOnce before after s
-  was_starved is found =
-      let rows = (opened_at o).rows in
-      let s = with_rows state rows in (
-        s,
-        found_so state rows t.rows before is.opening found,
-        record {
-          low = t.low;
-          run_low = t.run_low;
-          blocks = blocks ++ tried;
-          moments = tells_join (OpensDisk state) (DeskDid o blocks tried) (SinceSettled (KeepsLogged (blocks ++ tried) s)) before mid after
-              (λ a b c opening desk. logged state rows t.rows may (flushed_log o (blocks ++ tried)) is t.tail t.run refl o.tail low a b c opening.0 desk.keeps) opens did;
-          segments = segments;
-        },
-      )
+  -- Memory ran out, or nothing is told: what these lines were answered.
+  pub was_starved : (names : List (List ℕ)) (script : List ScriptLine) (opening : Opening) → StartsFrom state opening → (counts : ℕ → ℕ) (answers : List Answer) (closed : List Closed)
+      → length answers ≡ length (answered_of counts script) → CutFew in_table answers → AllPairs (λ c d. c.session ≢ d.session) closed
+      → ((c : Closed) → c ∈ closed → IsUnseen script (answered_of counts script) answers c)
+      → EachFrontRuns (commits_told names (answered_of counts script) answers closed) opening.map
+      → StandFor (commits_told names (answered_of counts script) answers closed) state (state_at (flushed_log o (blocks ++ tried)) []) (blocks ++ tried)
+      → AreAcknowledged (place_behind o.tail blocks) answers → WasStarvedAtOnce before after state names script
+  was_starved names script opening starts counts answers closed each few once unseen fronts stand tells = record {
+    low = t.low;
+    run_low = t.run_low;
+    opening = opening;
+    starts = starts;
+    counts = counts;
+    answers = answers;
+    each = each;
+    few = few;
+    closed = closed;
+    once = once;
+    unseen = unseen;
+    fronts = fronts;
+    outlives = outlived (commits_told names (answered_of counts script) answers closed) stand (answer_lines (answered_of counts script) answers) answers
+        (answers_tell (answered_of counts script) answers) tells;
+    segments = segments;
+  }
 
   -- A whole run, of whose log all is flushed.
   pub was_run : (names : List (List ℕ)) (script : List ScriptLine) (lines : List Line) (opening : Opening) → StartsFrom state opening → (good : IsGoodAtOnce opening names script lines)

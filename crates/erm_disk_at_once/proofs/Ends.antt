@@ -9,11 +9,12 @@ use Rattle.erm_disk_run.proofs.Left.{OrdersAreOne}
 use Rattle.erm_disk_run.proofs.Meeting.{MetLaws}
 use Rattle.erm_disk_run.proofs.Opened.{MayOpenAll}
 use Rattle.erm_disk_at_once.specs.Desks.{HasDesk}
-use Rattle.erm_disk_at_once.specs.Laws.{CommitsAreLeft, CommitsOutlive, CutRunsAtOnceEndOnDisk, FrontsAreLeft, OpeningsAreLeft, RunsAtOnceEndOnDisk}
-use Rattle.erm_disk_at_once.proofs.AtOnce.{DeskDid, OpensDisk, desk_did, disk_met, disk_opened, left, outlived, was_starved, was_unrun}
+use Rattle.erm_disk_at_once.specs.Laws.{CommitsAreLeft, CommitsOutlive, CutRunsAtOnceEndOnDisk, OpeningsAreLeft, RunsAtOnceEndOnDisk, StarvedRunsAtOnceEndOnDisk}
+use Rattle.erm_disk_at_once.proofs.AtOnce.{DeskDid, OpensDisk, desk_did, disk_met, disk_opened, left, outlived, was_unrun}
 use Rattle.erm_disk_at_once.proofs.Files.{told_of}
 use Rattle.erm_node.specs.Sound.{sound_law}
-use Rattle.erm_disk_at_once.proofs.Reported.{CutLaws, WholeLaws, cut_at_once, run_at_once}
+use Rattle.erm_disk_at_once.proofs.Reported.{CutLaws, WholeLaws, cut_at_once, run_at_once, starved_at_once}
+use Rattle.erm_starved_at_once.specs.Laws.{StarvedRunsTell}
 
 module _ (state : State) (slots : Slots) (o : Start) (before mid : Option (List Step)) (faults : ℕ) (d : Sees) (has : HasDesk state slots o before mid faults d) where
   opened : Tells (OpensDisk state) before mid
@@ -34,12 +35,8 @@ commits_are_left may one laws state slots o before mid faults d has sound told s
     left may state o has.desk.blocks has.desk.tried before mid d.told has.table (opened state slots o before mid faults d has) (did state slots o before mid faults d has) one laws told stand
     has.desk.knows.log commits order _ end refl serial run slots (disk_met state o slots before mid has.table has.opens) (met state slots o before mid faults d has sound)
 
-pub fronts_are_left : MayOpenAll → FrontsAreLeft
-fronts_are_left may state slots o before mid faults d has is found =
-    was_starved may state o has.desk.blocks has.desk.tried before mid d.told has.table (opened state slots o before mid faults d has) (did state slots o before mid faults d has) is found
-
 pub openings_are_left : MayOpenAll → OpeningsAreLeft
-openings_are_left may state slots o before mid table opens = was_unrun may state o slots before mid table opens
+openings_are_left may state slots o before mid table opens opening starts names script = was_unrun may state o slots before mid table opens opening starts names script
 
 pub runs_end : MayOpenAll → OrdersAreOne → WholeLaws → RunsAtOnceEndOnDisk
 runs_end may one laws state slots o before mid faults d has sound names spare script opening v f lines starts fits flushed ends logged was =
@@ -52,3 +49,8 @@ pub cut_runs_end : MayOpenAll → CutLaws → CutRunsAtOnceEndOnDisk
 cut_runs_end may laws state slots o before mid faults d has names spare script opening v f lines starts fits flushed logged was =
     cut_at_once may state o has.desk.blocks has.desk.tried before mid d.told has.table (opened state slots o before mid faults d has) (did state slots o before mid faults d has) v f script opening
     starts.starts starts.view starts.cuts starts.cells names spare lines starts.sessions starts.first fits flushed laws was logged
+
+pub starved_runs_end : MayOpenAll → StarvedRunsTell → StarvedRunsAtOnceEndOnDisk
+starved_runs_end may tell state slots o before mid faults d has names spare script opening v f counts answers closed starts flushed logged run =
+    starved_at_once may state o has.desk.blocks has.desk.tried before mid d.told has.table (opened state slots o before mid faults d has) (did state slots o before mid faults d has) v f script opening
+    starts.starts starts.view starts.cuts names spare starts.sessions starts.first flushed tell counts answers closed run logged

@@ -1,5 +1,5 @@
 -- The reports of sessions that ran at once, with the script's names alone, and what the log tells of their commits.
-use Rattle.std.proofs.Common.{◌≡◌, ℕ, ◌<◌, List, [], ◌++◌, length, Option, sym, ap, ◌∙◌, subst, arith}
+use Rattle.std.proofs.Common.{◌≡◌, ℕ, ◌<◌, List, [], ◌++◌, length, Option, refl, sym, ap, ◌∙◌, subst, arith}
 use Rattle.std.specs.List.{All}
 use Rattle.erm_model.specs.Committed.{Committed}
 use Rattle.erm_model.specs.Member.{◌∈◌}
@@ -33,6 +33,9 @@ use Rattle.erm_cut_at_once.specs.Laws.{CutRunsCloseUnseen, CutRunsFillCells, Cut
 use Rattle.erm_report_at_once.specs.Laws.{RunsAtOnceReportWell, TellsAtOnce}
 use Rattle.erm_tight_at_once.specs.Laws.{RunsAtOnceHaveTightWindows}
 use Rattle.erm_spare_names.specs.Spare.{NamesOnlyFirst, SpareNamesTellNothing}
+use Rattle.erm_spare_names.proofs.Spare.{unseen_no_more}
+use Rattle.erm_starved_at_once.specs.Laws.{StarvedRunsTell}
+use Rattle.erm_works.specs.Starved.{IsStarvedRunAtOnce}
 use Rattle.erm_told_log_at_once.specs.Laws.{AreCutsFew, AreFlushed, CutRunsCutFew, CutRunsLogCommits, CutRunsRunInFronts, CutRunsTellFlushed, CutRunsTellStates, RunsAtOnceCutFew, RunsAtOnceLogCommits, RunsAtOnceRunInFronts, RunsAtOnceTellFlushed, RunsAtOnceTellStates}
 use Rattle.erm_told_crash.specs.Logged.{HasCommits}
 use Rattle.erm_rule.specs.declared.view.Start.{Start}
@@ -45,8 +48,8 @@ use Rattle.erm_disk_run.proofs.Left.{OrdersAreOne}
 use Rattle.erm_disk_run.proofs.Meeting.{MeetsFound, MetLaws}
 use Rattle.erm_disk_run.proofs.Opened.{MayOpenAll}
 use Rattle.erm_disk_at_once.specs.Desks.{AreAcknowledged, HasLogged, OpensTable, StandFor}
-use Rattle.erm_disk_at_once.specs.Runs.{WasCutAtOnce, WasRunAtOnce}
-use Rattle.erm_disk_at_once.proofs.AtOnce.{DeskDid, OpensDisk, left, logged_stand, was_cut, was_run}
+use Rattle.erm_disk_at_once.specs.Runs.{WasCutAtOnce, WasRunAtOnce, WasStarvedAtOnce}
+use Rattle.erm_disk_at_once.proofs.AtOnce.{DeskDid, OpensDisk, left, logged_stand, was_cut, was_run, was_starved}
 
 -- the laws that a whole run rests on: of reports, and of the log
 pub record WholeLaws : Type 0 where
@@ -235,3 +238,29 @@ module _ (may : MayOpenAll) (state : State) (o : Start) (blocks tried : List Blo
       (subst (λ (cs : List Committed). EachFrontRuns cs opening.map) (sym r.told) (laws.fronts v f script was.counts was.answers was.closed opening was.run of))
       (subst (λ (cs : List Committed). StandFor cs state (state_at (flushed_log o (blocks ++ tried)) []) (blocks ++ tried)) (sym r.told) stand)
       (flushed_answers f (place_behind o.tail blocks) r.cut.answers was.answers flushed r.answers_are (laws.flushed v f script was.counts was.answers was.closed was.run))
+
+-- One for some of whose sessions memory ran out, or of which nothing is told.
+module _ (may : MayOpenAll) (state : State) (o : Start) (blocks tried : List Block) (before mid after : Option (List Step)) (t : OpensTable state o)
+    (opens : Tells (OpensDisk state) before mid) (did : Tells (DeskDid o blocks tried) mid after) (v f : View) (script : List ScriptLine) (opening : Opening) (starts : StartsFrom state opening)
+    (of : IsOpeningOf v opening) (cuts : v.opening.cuts ≡ TABLE_CELLS) (names spare : List (List ℕ)) (many : v.opening.sessions ≡ length (names ++ spare))
+    (first : NamesOnlyFirst (length names) script) (flushed : f.flushed ≡ place_behind o.tail blocks) where
+  pub starved_at_once : StarvedRunsTell → (counts : ℕ → ℕ) (answers : List Answer) (closed : List Closed) → IsStarvedRunAtOnce v script counts answers closed f → HasLogged o (blocks ++ tried) f
+      → WasStarvedAtOnce before after state names script
+  starved_at_once tell counts answers closed run has =
+      let part = answered_of counts script in
+      let unseen = tell.unseen v f script counts answers closed run in
+      let same : commits_told names part answers closed ≡ all_told v part answers closed =
+      told_with (length names) (length (names ++ spare)) (places_of part answers closed) (unseen_no_more names spare script counts answers closed first unseen)
+      ∙ ap (λ (n : ℕ). history_of (transactions_of n (places_of part answers closed))) (sym many)
+      in
+      let stand : StandFor (all_told v part answers closed) state (state_at (flushed_log o (blocks ++ tried)) []) (blocks ++ tried) =
+      logged_stand (all_told v part answers closed) state o (blocks ++ tried) f t has opening.map starts.map
+      (tell.states v f script counts answers closed opening run of has.apart has.log has.of_view has.is)
+      (tell.commits v f script counts answers closed opening run of has.apart has.log has.of_view has.is)
+      in
+      was_starved may state o blocks tried before mid after t opens did names script opening starts counts answers closed run.each
+      (few_cuts v answers answers cuts refl (tell.few v f script counts answers closed run))
+      (λ i j d less within is. let ascend = run.ascend i j d less within in omega (arith, is, ascend)) unseen
+      (subst (λ (cs : List Committed). EachFrontRuns cs opening.map) (sym same) (tell.fronts v f script counts answers closed opening run of))
+      (subst (λ (cs : List Committed). StandFor cs state (state_at (flushed_log o (blocks ++ tried)) []) (blocks ++ tried)) (sym same) stand)
+      (flushed_answers f (place_behind o.tail blocks) answers answers flushed refl (tell.flushed v f script counts answers closed run))

@@ -1,7 +1,7 @@
 -- A script whose sessions ran at once on a disk: what its report tells, and what a crash leaves.
-use Rattle.std.specs.Prelude.{◌≡◌, ◌+◌, ◌<◌, ◌≤◌, ◌⊎◌, ◌↔◌, ◌++◌, ℕ, List, length, Option, Result, Ok, Err, Vec}
+use Rattle.std.specs.Prelude.{◌≡◌, ◌≢◌, ◌+◌, ◌<◌, ◌≤◌, ◌⊎◌, ◌↔◌, ℕ, List, length, Option, Result, Ok, Err, Vec}
 use Rattle.std.specs.FinMap.{from_entries}
-use Rattle.std.specs.List.{All}
+use Rattle.std.specs.List.{All, AllPairs}
 use Rattle.std.specs.declared.alloc.Global.{Global}
 use Rattle.erm_model.specs.Committed.{Committed}
 use Rattle.erm_model.specs.Database.{Database, entries_of}
@@ -9,27 +9,25 @@ use Rattle.erm_model.specs.Member.{◌∈◌}
 use Rattle.erm_model.specs.declared.limits.TheConstants.{LAST_NUMBER, LAST_RUN, LEAST_BLOCK, SESSIONS, STOP}
 use Rattle.erm_block.specs.declared.block.Block.{Block}
 use Rattle.erm_block.specs.declared.block.Kind.TheVariants as kind
-use Rattle.erm_ckpt.specs.Recovered.{Pair, Recovers, RecoversAt, State, base, slots_of}
+use Rattle.erm_ckpt.specs.Recovered.{Pair, Recovers, State, base, slots_of}
 use Rattle.erm_ckpt.specs.States.{RecoversTo}
-use Rattle.erm_crash.specs.Moments.{AtMoments, TearsApart}
-use Rattle.erm_crash.specs.Stops.{MayStop}
-use Rattle.erm_log_words.specs.Kept.{MayOpen}
 use Rattle.erm_node.specs.Sound.{sound_law}
 use Rattle.erm_node.specs.TreeMap.{map_of_rows}
-use Rattle.erm_outside.specs.Disk.{Image, IsSettled, Step, Tells, contents}
+use Rattle.erm_outside.specs.Disk.{IsSettled, Step, Tells, contents}
 use Rattle.erm_outside.specs.Faults.{Rose}
 use Rattle.erm_recover.specs.Opening.{open_block}
-use Rattle.erm_recover.specs.Waiting.{SinceSettled}
 use Rattle.erm_told_audit.specs.Audits.{AuditTells}
 use Rattle.erm_report.specs.Printable.{FitsTypes}
+use Rattle.erm_report.specs.declared.answer.Answer.{Answer}
 use Rattle.erm_report.specs.declared.line.Line.{Line}
 use Rattle.erm_script.specs.Script.{IsInRange}
 use Rattle.erm_script.specs.declared.script.ScriptLine.{ScriptLine}
-use Rattle.erm_world.specs.Log.{rows_behind}
 use Rattle.erm_worker.specs.Work.{MayBeAsked}
-use Rattle.erm_good_at_once.specs.CutReports.{IsCutAtOnce, answered_of}
+use Rattle.erm_good_at_once.specs.CutReports.{IsCutAtOnce, IsUnseen, answered_of}
 use Rattle.erm_good_at_once.specs.GoodAtOnce.{IsGoodAtOnce}
+use Rattle.erm_good_report.specs.GoodReport.{answer_lines}
 use Rattle.erm_good_report.specs.Opening.{Opening}
+use Rattle.erm_good_report.specs.Phases.{Closed}
 use Rattle.erm_invariant.specs.Commits.{EachFrontRuns}
 use Rattle.erm_log_run.specs.Saving.{SparesOlder}
 use Rattle.erm_disk_run.specs.Crashes.{Outlives}
@@ -106,31 +104,24 @@ pub record WasCutAtOnce (before after : Option (List Step)) (state : State) (nam
   pub outlives : Tells (Outlives (commits_told names (answered_of cut.counts script) cut.answers cut.closed) state lines) before after
   pub segments : Tells (KeepsSegments state) before after
 
--- At a moment an image recovers to what a front of some blocks leaves of a state, in its run or the next. The image may be opened again.
-pub record RecoversLogged (blocks : List Block) (from : State) (now : List Step) (image : Image) : Type 0 where
-  pub found : State
-  pub pair : Pair
-  pub there : RecoversTo sound_law.meets found pair image
-  pub low : from.at ≤ found.at
-  pub run : (found.run ≡ from.run) ⊎ (found.run ≡ from.run + 1)
-  pub front : List Block
-  pub rest : List Block
-  pub split : blocks ≡ front ++ rest
-  pub map : map_of_rows found.rows ≡ map_of_rows (rows_behind from.rows front)
-  pub opens : MayOpen (RecoversAt sound_law.meets) image
-  pub stops : MayStop (base pair).at found.at now
-
--- so does each image at each moment that shows each block and each slot whole, or none
-abbrev pub KeepsLogged : List Block → State → List Step → List Step → Type 0
-KeepsLogged blocks from old new = AtMoments (λ now image. TearsApart sound_law.meets now image → RecoversLogged blocks from now image) old new
-
--- Memory ran out while the sessions ran, or what they did was told. There are blocks of which, once nothing is pending of what was done before, each image
--- at each moment recovers to what a front of them leaves, one behind another.
-pub record WasStarvedAtOnce (before after : Option (List Step)) (state : State) : Type 0 where
+-- Memory ran out before a script's sessions ran, while they ran, or what they did was told. Of each session so many lines were answered so, the first
+-- ones, and no line tells of them. Behind them sessions were closed that had no line more, each once, as the answers leave them. The commits that the answers
+-- and these sessions tell outlive a crash at any moment, with all that an answer acknowledged, and those below any stamp are a serial run; of the run's own
+-- the log's blocks tell just these.
+pub record WasStarvedAtOnce (before after : Option (List Step)) (state : State) (names : List (List ℕ)) (script : List ScriptLine) : Type 0 where
   pub low : state.at < STOP
   pub run_low : state.run < LAST_RUN
-  pub blocks : List Block
-  pub moments : Tells (SinceSettled (KeepsLogged blocks state)) before after
+  pub opening : Opening
+  pub starts : StartsFrom state opening
+  pub counts : ℕ → ℕ
+  pub answers : List Answer
+  pub each : length answers ≡ length (answered_of counts script)
+  pub few : CutFew in_table answers
+  pub closed : List Closed
+  pub once : AllPairs (λ c d. c.session ≢ d.session) closed
+  pub unseen : (c : Closed) → c ∈ closed → IsUnseen script (answered_of counts script) answers c
+  pub fronts : EachFrontRuns (commits_told names (answered_of counts script) answers closed) opening.map
+  pub outlives : Tells (Outlives (commits_told names (answered_of counts script) answers closed) state (answer_lines (answered_of counts script) answers)) before after
   pub segments : Tells (KeepsSegments state) before after
 
 -- how a script at once ends on a disk before and after
@@ -138,12 +129,12 @@ abbrev pub EndsAtOnce : Result (Vec Line Global) RunStop → Option (List Step) 
 EndsAtOnce (Ok lines) before after names script = All FitsTypes lines.items → (state : State) × IsFound before state × WasRunAtOnce before after state names script lines.items
 EndsAtOnce (Err (run.DiskFault lines)) before after names script = All FitsTypes lines.items → (state : State) × IsFound before state × WasCutAtOnce before after state names script lines.items
 EndsAtOnce (Err (run.Unopened stop)) before after names script = StopsRun stop before after
-EndsAtOnce (Err run.Memory) before after names script = (state : State) × IsFound before state × WasStarvedAtOnce before after state
+EndsAtOnce (Err run.Memory) before after names script = (state : State) × IsFound before state × WasStarvedAtOnce before after state names script
 
 -- what is left where the sessions ran, and nothing is told of it
-abbrev pub LeavesUntoldAtOnce : Result (Vec Line Global) RunStop → Option (List Step) → Option (List Step) → Type 0
-LeavesUntoldAtOnce (Err (run.Unopened stop)) before after = Unit {0}
-LeavesUntoldAtOnce ended before after = (state : State) × IsFound before state × WasStarvedAtOnce before after state
+abbrev pub LeavesUntoldAtOnce : Result (Vec Line Global) RunStop → Option (List Step) → Option (List Step) → List (List ℕ) → List ScriptLine → Type 0
+LeavesUntoldAtOnce (Err (run.Unopened stop)) before after names script = Unit {0}
+LeavesUntoldAtOnce ended before after names script = (state : State) × IsFound before state × WasStarvedAtOnce before after state names script
 
 -- The disk's count of faults rose exactly where the disk is why there is no report, or none that is whole. Where memory ran out for one session the disk
 -- may have failed another.

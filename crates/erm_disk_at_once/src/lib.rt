@@ -2,7 +2,7 @@
 //! which it is so. Each law is the contract of a function that does nothing.
 #![tactic(auto)]
 
-ghost use Rattle.erm_disk_at_once.specs.Laws.{CommitsAreLeft, CommitsOutlive, CutRunsAtOnceEndOnDisk, FrontsAreLeft, OpeningsAreLeft, RunsAtOnceEndOnDisk};
+ghost use Rattle.erm_disk_at_once.specs.Laws.{CommitsAreLeft, CommitsOutlive, CutRunsAtOnceEndOnDisk, OpeningsAreLeft, RunsAtOnceEndOnDisk, StarvedRunsAtOnceEndOnDisk};
 
 use erm_node::SoundRows;
 
@@ -23,13 +23,6 @@ pub fn commits_are_left()
     erm_told_log::recovery_meets_the_run::<SoundRows>();
     erm_told_log::recovery_meets_earlier_blocks::<SoundRows>();
     erm_told_audit::audits_tell_the_commits();
-}
-
-/// Whatever is told of the sessions, each image at each moment recovers to what a front of the desk's blocks leaves of a state that was found.
-pub fn fronts_are_left()
-    ensures { FrontsAreLeft }
-{
-    erm_crash::kept_images_may_open::<SoundRows>();
 }
 
 /// Where no session ran behind an opening, each image at each moment recovers to the state found.
@@ -74,4 +67,12 @@ pub fn cut_runs_at_once_end_on_disk()
     erm_told_log_at_once::cut_runs_run_in_fronts();
     erm_told_log_at_once::cut_runs_tell_flushed();
     erm_told_log_at_once::cut_runs_cut_few();
+}
+
+/// What the lines answered tell where memory ran out for some sessions, or for the report, outlives a crash, with all that an answer acknowledged.
+pub fn starved_runs_at_once_end_on_disk()
+    ensures { StarvedRunsAtOnceEndOnDisk }
+{
+    erm_crash::kept_images_may_open::<SoundRows>();
+    erm_starved_at_once::starved_runs_tell();
 }

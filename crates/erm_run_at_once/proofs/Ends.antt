@@ -1,5 +1,5 @@
 -- How a script at once ends on a disk, by what its sessions did on threads and what is told of them.
-use Rattle.std.proofs.Common.{◌≡◌, ℕ, ◌≤◌, ◌++◌, Bool, true, false, List, [], ◌∷◌, Vec, length, map, Option, Result, Ok, Err, IfOk, inl, inr, refl, sym, ap, ◌∙◌, subst, arith}
+use Rattle.std.proofs.Common.{◌≡◌, ℕ, ◌≤◌, ◌++◌, Bool, true, false, List, [], ◌∷◌, Vec, length, map, Option, Result, Ok, Err, inl, inr, refl, sym, ap, ◌∙◌, subst, arith}
 use Rattle.std.specs.List.{All}
 use Rattle.std.specs.declared.alloc.Global.{Global}
 use Rattle.std.proofs.lemmas.List.{append-nil}
@@ -48,7 +48,7 @@ use Rattle.erm_run_at_once.specs.declared.room.Room.{Room}
 use Rattle.erm_run_at_once.specs.Laws.{EndLaws}
 use Rattle.erm_run_at_once.specs.Room.{MayRun, spare_names}
 use Rattle.erm_run_at_once.specs.Told.{MayTell, TellsCut, TellsWhole, ToldOf}
-use Rattle.erm_run_at_once.proofs.Opened.{begun_on, opening_on, opens_table, starts_report, told_on}
+use Rattle.erm_run_at_once.proofs.Opened.{begun_on, opening_on, opens_table, starts_from, starts_report, told_on}
 use Rattle.erm_run_at_once.proofs.Parts.{lines_of, list_parts}
 
 -- answers, and a fault, name no table
@@ -58,22 +58,24 @@ cut_lines (l ∷ script) [] = All-cons IsInTables line.DiskFault [] tt (λ k d w
 cut_lines (l ∷ script) (a ∷ answers) = All-cons IsInTables (line.Answer l.line a) (answer_lines script answers ++ line.DiskFault ∷ []) tt (cut_lines script answers)
 
 -- what is so of the state found where nothing is told
-abbrev pub Starved : Option (List Step) → Option (List Step) → Type 0
-Starved before after = (state : State) × IsFound before state × WasStarvedAtOnce before after state
+abbrev pub Starved : Option (List Step) → Option (List Step) → List (List ℕ) → List ScriptLine → Type 0
+Starved before after names script = (state : State) × IsFound before state × WasStarvedAtOnce before after state names script
 
 -- so nothing is told of it, whatever the answer
-pub untold_of : (r : Result (Vec Line Global) RunStop) (before after : Option (List Step)) → Starved before after → LeavesUntoldAtOnce r before after
-untold_of (Ok lines) before after starved = starved
-untold_of (Err (run.DiskFault lines)) before after starved = starved
-untold_of (Err (run.Unopened stop)) before after starved = tt
-untold_of (Err run.Memory) before after starved = starved
+pub untold_of : (r : Result (Vec Line Global) RunStop) (before after : Option (List Step)) (names : List (List ℕ)) (script : List ScriptLine) → Starved before after names script
+    → LeavesUntoldAtOnce r before after names script
+untold_of (Ok lines) before after names script starved = starved
+untold_of (Err (run.DiskFault lines)) before after names script starved = starved
+untold_of (Err (run.Unopened stop)) before after names script starved = tt
+untold_of (Err run.Memory) before after names script starved = starved
 
 -- where no session ran
-pub opened_left : OpeningsAreLeft → (before mid : Option (List Step)) (state : State) (opened : OpenedLog) → WasLogOpened before mid state opened → (first : ℕ) (after : Option (List Step)) → after ≡ mid
-    → Starved before after
-opened_left left before mid state opened was first after same =
-    subst (Starved before) (sym same)
-    (state, was.found, left state opened.slots (start_of (opening_on opened first)) before mid (opens_table before mid state opened was first) was.disk)
+pub opened_left : OpeningsAreLeft → (before mid : Option (List Step)) (state : State) (opened : OpenedLog) → WasLogOpened before mid state opened → (first : ℕ) → IsFirstObject (rows_of opened.rows.items) first
+    → (names : List (List ℕ)) (script : List ScriptLine) (after : Option (List Step)) → after ≡ mid → Starved before after names script
+opened_left left before mid state opened was first is_first names script after same =
+    subst (λ (now : Option (List Step)). Starved before now names script) (sym same)
+    (state, was.found, left state opened.slots (start_of (opening_on opened first)) before mid (opens_table before mid state opened was first) was.disk (told_on opened first)
+    (starts_from before mid state opened was first is_first) names script)
 
 module _ (laws : EndLaws) (before mid : Option (List Step)) (state : State) (opened : OpenedLog) (names : List (List ℕ)) (script : List ScriptLine) (room : Room)
     (may : MayRun before mid state opened names script room) (first : ℕ) (is_first : IsFirstObject (rows_of opened.rows.items) first) where
@@ -119,11 +121,6 @@ module _ (laws : EndLaws) (before mid : Option (List Step)) (state : State) (ope
         all = λ no. absurd (cc);
       }
 
-    pub may_tell_in : {E : Type 0} (failed : Bool) (desk : Book) (sessions : Result (Vec SessionWork Global) E)
-        → IfOk sessions (λ works. HaveRun sound_law o failed desk parts works.items) → IfOk sessions (λ works. MayTell failed script works.items)
-    may_tell_in failed desk (Ok works) ran = may_tell desk works.items failed ran
-    may_tell_in failed desk (Err lack) ran = tt
-
     -- HOW IT ENDS, by what its desk did
     module _ (faults now : ℕ) (after : Option (List Step)) (book : Book) where
       abbrev sees : Bool → Sees
@@ -134,9 +131,6 @@ module _ (laws : EndLaws) (before mid : Option (List Step)) (state : State) (ope
 
       abbrev has_desk : (failed : Bool) (desk : Desk failed) → HasDesk state opened.slots (start_of o) before mid faults (sees failed)
       has_desk failed desk = record { table = opens_table before mid state opened may.opens first; opens = may.opens.disk; desk = desk; tells = desk.onward }
-
-      pub starved : (failed : Bool) → Desk failed → Starved before after
-      starved failed desk = laws.fronts state opened.slots (start_of o) before mid faults (sees failed) (has_desk failed desk) desk.knows_all.log may.opens.found
 
       starts : StartsReport state names (spare_names (length names)) script (told_on opened first) v
       starts = starts_report before mid state opened may.opens first is_first laws.maps begins names script may.is_script
@@ -173,37 +167,44 @@ module _ (laws : EndLaws) (before mid : Option (List Step)) (state : State) (ope
           laws.cut_ends state opened.slots (start_of o) before mid faults (sees failed) (has_desk failed desk) names (spare_names (length names)) script (told_on opened first) v f lines
           starts fits left.1 left.0 told
 
-      pub ends : {E : Type 0} (r : Result (Vec Line Global) RunStop) (failed : Bool) (sessions : Result (Vec SessionWork Global) E) → Desk failed
-          → IfOk sessions (λ works. HaveRun sound_law o failed book parts works.items) → ToldOf r opened.start all_names script failed sessions → EndsAtOnce r before after names script
-      ends (Ok lines) false (Ok works) desk ran (sound, (none, tells)) = λ fits. (state, may.opens.found, whole desk works.items ran none lines.items tells fits)
-      ends (Ok lines) true (Ok works) desk ran (sound, (none, tells)) = absurd (cc)
-      ends (Ok lines) failed (Err lack) desk ran (sound, gave) = absurd gave
-      ends (Err (run.DiskFault lines)) failed (Ok works) desk ran (fault, (none, tells)) = λ fits. (state, may.opens.found, cut failed desk works.items ran none lines.items tells fits)
-      ends (Err (run.DiskFault lines)) failed (Err lack) desk ran (fault, gave) = absurd gave
-      ends (Err (run.Unopened stop)) failed sessions desk ran told = absurd told
-      ends (Err run.Memory) failed sessions desk ran told = starved failed desk
+      -- whether memory ran out or not, the first lines of each session were answered so
+      pub starved : (failed : Bool) → Desk failed → (works : List SessionWork) → HaveRun sound_law o failed book parts works → Starved before after names script
+      starved failed desk works ran =
+          let f = world_of ran.core in
+          let left = laws.logs o mid faults (sees failed) parts works desk ran in
+          let (merged, run) = laws.starved v f script parts (answers_of works) (closes_of works) split (laws.did_some o failed book parts works ran few) in (
+            state,
+            may.opens.found,
+            laws.starved_ends state opened.slots (start_of o) before mid faults (sees failed) (has_desk failed desk) names (spare_names (length names)) script (told_on opened first) v f
+                (counts_of (answers_of works)) merged (closes_from 1 (map told_when_cut (closes_of works))) starts left.1 left.0 run,
+          )
 
-      pub counts : {E : Type 0} (r : Result (Vec Line Global) RunStop) (failed : Bool) (sessions : Result (Vec SessionWork Global) E) → Desk failed
-          → ToldOf r opened.start all_names script failed sessions → CountsAtOnce r faults now
-      counts (Ok lines) failed sessions desk (sound, gave) = desk.sound sound
-      counts (Err (run.DiskFault lines)) failed sessions desk (fault, gave) = desk.rose fault
-      counts (Err (run.Unopened stop)) failed sessions desk told = absurd told
-      counts (Err run.Memory) false sessions desk told = inl (desk.sound refl)
-      counts (Err run.Memory) true sessions desk told = inr (desk.rose refl)
+      pub ends : (r : Result (Vec Line Global) RunStop) (failed : Bool) (works : List SessionWork) → Desk failed → HaveRun sound_law o failed book parts works
+          → ToldOf r opened.start all_names script failed works → EndsAtOnce r before after names script
+      ends (Ok lines) false works desk ran (sound, none, tells) = λ fits. (state, may.opens.found, whole desk works ran none lines.items tells fits)
+      ends (Ok lines) true works desk ran (sound, none, tells) = absurd (cc)
+      ends (Err (run.DiskFault lines)) failed works desk ran (fault, none, tells) = λ fits. (state, may.opens.found, cut failed desk works ran none lines.items tells fits)
+      ends (Err (run.Unopened stop)) failed works desk ran told = absurd told
+      ends (Err run.Memory) failed works desk ran told = starved failed desk works ran
+
+      pub counts : (r : Result (Vec Line Global) RunStop) (failed : Bool) (works : List SessionWork) → Desk failed
+          → ToldOf r opened.start all_names script failed works → CountsAtOnce r faults now
+      counts (Ok lines) failed works desk (sound, none, tells) = desk.sound sound
+      counts (Err (run.DiskFault lines)) failed works desk (fault, none, tells) = desk.rose fault
+      counts (Err (run.Unopened stop)) failed works desk told = absurd told
+      counts (Err run.Memory) false works desk told = inl (desk.sound refl)
+      counts (Err run.Memory) true works desk told = inr (desk.rose refl)
 
   keys_found : KeysAreInTables opened.start.map
   keys_found table key above = ap (λ (m : Database). value_at m table key) may.opens.map ∙ laws.keys state.rows table key may.opens.found.are_sound above
 
-  pub tables : {E : Type 0} (r : Result (Vec Line Global) RunStop) (failed : Bool) (sessions : Result (Vec SessionWork Global) E)
-      → ToldOf r opened.start all_names script failed sessions → AreInTables r
-  tables (Ok lines) failed (Ok works) (sound, (none, tells)) =
-      laws.tables (told_on opened first) all_names script tells.answers (closes_from 1 (closes_of works.items)) lines.items (tells.told (count_rows v.opening.rows) v.opening.first) keys_found
+  pub tables : (r : Result (Vec Line Global) RunStop) (failed : Bool) (works : List SessionWork) → ToldOf r opened.start all_names script failed works → AreInTables r
+  tables (Ok lines) failed works (sound, none, tells) =
+      laws.tables (told_on opened first) all_names script tells.answers (closes_from 1 (closes_of works)) lines.items (tells.told (count_rows v.opening.rows) v.opening.first) keys_found
       (λ l m. (may.is_script.each l m).range)
-  tables (Ok lines) failed (Err lack) (sound, gave) = absurd gave
-  tables (Err (run.DiskFault lines)) failed (Ok works) (fault, (none, tells)) =
+  tables (Err (run.DiskFault lines)) failed works (fault, none, tells) =
       subst (All IsInTables) (sym tells.told)
-      (All-cons IsInTables (line.Open opened.start.stamp opened.start.run) (answer_lines (answered_of (counts_of (answers_of works.items)) script) tells.answers ++ line.DiskFault ∷ []) tt
-      (cut_lines (answered_of (counts_of (answers_of works.items)) script) tells.answers))
-  tables (Err (run.DiskFault lines)) failed (Err lack) (fault, gave) = absurd gave
-  tables (Err (run.Unopened stop)) failed sessions told = absurd told
-  tables (Err run.Memory) failed sessions told = tt
+      (All-cons IsInTables (line.Open opened.start.stamp opened.start.run) (answer_lines (answered_of (counts_of (answers_of works)) script) tells.answers ++ line.DiskFault ∷ []) tt
+      (cut_lines (answered_of (counts_of (answers_of works)) script) tells.answers))
+  tables (Err (run.Unopened stop)) failed works told = absurd told
+  tables (Err run.Memory) failed works told = tt

@@ -100,18 +100,18 @@ module _ (before mid : Option (List Step)) (state : State) (opened : OpenedLog) 
   pub low_run : opened.start.run ≤ LAST_RUN
   low_run = let low = was.run_low in let run = was.run in omega (arith, low, run)
 
+  pub starts_from : IsFirstObject (rows_of opened.rows.items) first → StartsFrom state (told_on opened first)
+  starts_from is_first = record {
+    map = was.map;
+    stamp = was.stamp;
+    run = was.run;
+    rows = counts_same v.opening.rows state.rows state_rows;
+    first = subst (λ (r : Rows). IsFirstObject r first) was.rows is_first;
+  }
+
   module _ (is_first : IsFirstObject (rows_of opened.rows.items) first) (maps : (a b : Rows) → SameRows a b → IsSound a → map_of_rows a ≡ map_of_rows b) (begins : IsSerializable sound_law v) where
     same_map : opened.start.map ≡ map_of_rows v.opening.rows
     same_map = was.map ∙ sym (maps v.opening.rows state.rows state_rows begins.opening_meets)
-
-    starts_from : StartsFrom state (told_on opened first)
-    starts_from = record {
-      map = was.map;
-      stamp = was.stamp;
-      run = was.run;
-      rows = counts_same v.opening.rows state.rows state_rows;
-      first = subst (λ (r : Rows). IsFirstObject r first) was.rows is_first;
-    }
 
     is_opening : IsOpeningOf v (told_on opened first)
     is_opening = record {
@@ -132,7 +132,7 @@ module _ (before mid : Option (List Step)) (state : State) (opened : OpenedLog) 
 
     pub starts_report : (names : List (List ℕ)) (script : List ScriptLine) → IsScriptAtOnce names script → StartsReport state names (spare_names (length names)) script (told_on opened first) v
     starts_report names script is = record {
-      starts = starts_from;
+      starts = starts_from is_first;
       view = is_opening;
       cuts = refl;
       cells = refl;

@@ -21,12 +21,13 @@ use Rattle.erm_engine.specs.Ended.{HasClosed, IsUntouched, world_of}
 use Rattle.erm_engine.specs.Opened.{opened_view}
 use Rattle.erm_engine.proofs.Joined.{at_within}
 use Rattle.erm_threads.proofs.Jobs.{map_from}
-use Rattle.erm_works.specs.Works.{AreComplete, DidSession, IsBeyond, IsComplete}
+use Rattle.erm_threads.specs.Work.{DidSome}
+use Rattle.erm_works.specs.Works.{AreComplete, Did, DidSession, DidSo, HaveDone, IsBeyond, IsComplete}
 use Rattle.erm_works.proofs.Sessions.{phase_there}
 use Rattle.erm_run_beside.specs.declared.work.SessionWork.{SessionWork}
 use Rattle.erm_run_beside.specs.Runs.{HaveRun, IsWork}
 use Rattle.erm_run_beside.proofs.More.{map_to}
-use Rattle.erm_run_at_once.specs.Ran.{NoneLacked, SessionsAreComplete, SessionsDidWorks, answers_of, closes_of}
+use Rattle.erm_run_at_once.specs.Ran.{NoneLacked, SessionsAreComplete, SessionsDidSomeWorks, SessionsDidWorks, answers_of, closes_of}
 
 -- what a sound state shows is a world in which all may end
 abbrev pub ShownMayEnd : Type 0
@@ -36,6 +37,11 @@ ShownMayEnd = (sessions : ℕ) (c : Core) → SoundUnder sound_law c → ClaimsS
 did_session : (failed : Bool) (f : View) (seat : ℕ) (v : View) (lines : List ScriptLine) (w : SessionWork) → IsWork failed f seat v lines w → w.lacked ≡ false
     → DidSession f seat v lines w.answers.items w.closed
 did_session failed f seat v lines w is had = record { last = is.last; at_end = is.at_end; rests = is.rests; most = is.most; did = is.did had }
+
+-- and whether it did or not, some of it
+did_some_session : (failed : Bool) (f : View) (seat : ℕ) (v : View) (lines : List ScriptLine) (w : SessionWork) → IsWork failed f seat v lines w
+    → DidSo DidSome f seat v lines w.answers.items w.closed
+did_some_session failed f seat v lines w is = record { last = is.last; at_end = is.at_end; rests = is.rests; most = is.most; did = is.some }
 
 -- the work at a place of which the answers are known, and the closing
 work_at : (works : List SessionWork) (k : ℕ) (own : List Answer) (end : Option Answer) → slice_get (answers_of works) k ≡ Some own → slice_get (closes_of works) k ≡ Some end
@@ -53,17 +59,20 @@ ended_beyond : (o : Opening) (desk : Book) (tail : ℕ) (core : Core) → HasClo
 ended_beyond o desk tail core closed = record { opening = closed.opening; tail = closed.beyond.0; flushed = closed.beyond.1 }
 
 -- ALL SESSIONS
-pub did_works : ShownMayEnd → SessionsDidWorks
-did_works ends o failed desk parts works ran none few =
+have_done : {So : Did} → ShownMayEnd → (o : Opening) (failed : Bool) (desk : Book) (parts : List (List ScriptLine)) (works : List SessionWork) → (ran : HaveRun sound_law o failed desk parts works)
+    → ((k : ℕ) (lines : List ScriptLine) (w : SessionWork) → slice_get works k ≡ Some w → IsWork failed (world_of ran.core) (k + 1) (opened_view (start_of o)) lines w
+    → DidSo So (world_of ran.core) (k + 1) (opened_view (start_of o)) lines w.answers.items w.closed)
+    → HaveDone So (opened_view (start_of o)) (world_of ran.core) parts (answers_of works) (closes_of works)
+have_done {So} ends o failed desk parts works ran one =
     let f = world_of ran.core in
     let v = opened_view (start_of o) in
     record {
       as_many = (length-map works (λ (w : SessionWork). w.answers.items) ∙ ran.many, length-map works (λ (w : SessionWork). w.closed) ∙ ran.many);
       each = λ k lines own end at_p at_a at_c.
           let w = work_at works k own end at_a at_c in
-          subst (λ (x : List Answer). DidSession f (k + 1) v lines x end) w.2
-          (subst (λ (x : Option Answer). DidSession f (k + 1) v lines w.0.answers.items x) w.3
-          (did_session failed f (k + 1) v lines w.0 (ran.each k lines w.0 at_p w.1) (none k w.0 w.1)));
+          subst (λ (x : List Answer). DidSo So f (k + 1) v lines x end) w.2
+          (subst (λ (x : Option Answer). DidSo So f (k + 1) v lines w.0.answers.items x) w.3
+          (one k lines w.0 w.1 (ran.each k lines w.0 at_p w.1)));
       ends_so = ends SESSIONS ran.core ran.closed.under ran.closed.alone ran.closed.only;
       beyond = ended_beyond o desk ran.tail ran.core ran.closed;
       others = λ seat session above.
@@ -71,6 +80,14 @@ did_works ends o failed desk parts works ran none few =
           let untouched = ran.others seat (omega (arith, above, many)) session.1 in
           (untouched.session, untouched.given_up);
     }
+
+pub did_works : ShownMayEnd → SessionsDidWorks
+did_works ends o failed desk parts works ran none few =
+    have_done ends o failed desk parts works ran (λ k lines w at is. did_session failed (world_of ran.core) (k + 1) (opened_view (start_of o)) lines w is (none k w at))
+
+pub did_some_works : ShownMayEnd → SessionsDidSomeWorks
+did_some_works ends o failed desk parts works ran few =
+    have_done ends o failed desk parts works ran (λ k lines w at is. did_some_session failed (world_of ran.core) (k + 1) (opened_view (start_of o)) lines w is)
 
 -- WHERE THE DISK HASN'T FAILED no session waits, of those that did their work and of those in which nothing was done.
 idle_waits_not : (seat : ℕ) (f : View) → IsUntouched seat f → phase_at f seat ≡ Sealed → ⊥

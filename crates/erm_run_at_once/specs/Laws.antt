@@ -10,23 +10,26 @@ use Rattle.erm_node.specs.TreeMap.{map_of_rows}
 use Rattle.erm_summary.specs.Tables.{SummariesAreInTables}
 use Rattle.erm_works.specs.Cuts.{WorksAreACutRun}
 use Rattle.erm_works.specs.Runs.{WorksAreARun}
+use Rattle.erm_works.specs.Starved.{WorksAreAStarvedRun}
 use Rattle.erm_works.specs.Works.{CompleteWorksAreAll, WorksAreFirst}
-use Rattle.erm_disk_at_once.specs.Laws.{CutRunsAtOnceEndOnDisk, FrontsAreLeft, OpeningsAreLeft, RunsAtOnceEndOnDisk}
-use Rattle.erm_run_at_once.specs.Ran.{ScriptsAreSplit, SessionsAreComplete, SessionsDidWorks, SessionsLeaveLogs}
+use Rattle.erm_disk_at_once.specs.Laws.{CutRunsAtOnceEndOnDisk, OpeningsAreLeft, RunsAtOnceEndOnDisk, StarvedRunsAtOnceEndOnDisk}
+use Rattle.erm_run_at_once.specs.Ran.{ScriptsAreSplit, SessionsAreComplete, SessionsDidSomeWorks, SessionsDidWorks, SessionsLeaveLogs}
 
 -- All of them: what is so of sessions that ran, of their answers put together, of what their desk leaves on the disk, and of the rows found.
 pub record EndLaws : Type 0 where
   pub split : ScriptsAreSplit
   pub did : SessionsDidWorks
+  pub did_some : SessionsDidSomeWorks
   pub complete : SessionsAreComplete
   pub logs : SessionsLeaveLogs
   pub runs : WorksAreARun
   pub cuts : WorksAreACutRun
+  pub starved : WorksAreAStarvedRun
   pub first : WorksAreFirst
   pub all : CompleteWorksAreAll
   pub ends : RunsAtOnceEndOnDisk
   pub cut_ends : CutRunsAtOnceEndOnDisk
-  pub fronts : FrontsAreLeft
+  pub starved_ends : StarvedRunsAtOnceEndOnDisk
   pub left : OpeningsAreLeft
   pub tables : SummariesAreInTables
   pub maps : (a b : Rows) → SameRows a b → IsSound a → map_of_rows a ≡ map_of_rows b

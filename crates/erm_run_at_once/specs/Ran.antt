@@ -14,7 +14,7 @@ use Rattle.erm_desk.specs.Desk.{IsDesk, Sees}
 use Rattle.erm_engine.specs.Ended.{world_of}
 use Rattle.erm_engine.specs.Opened.{opened_view}
 use Rattle.erm_threads.specs.Parts.{AreParts}
-use Rattle.erm_works.specs.Works.{AreComplete, AreWorks, IsSplit}
+use Rattle.erm_works.specs.Works.{AreComplete, AreSomeWorks, AreWorks, IsSplit}
 use Rattle.erm_run_beside.specs.declared.work.SessionWork.{SessionWork}
 use Rattle.erm_run_beside.specs.Runs.{HaveRun}
 use Rattle.erm_disk_at_once.specs.Desks.{HasLogged}
@@ -41,6 +41,11 @@ ScriptsAreSplit = (o : Opening) (names : List (List ℕ)) (script : List ScriptL
 abbrev pub SessionsDidWorks : Type 0
 SessionsDidWorks = (o : Opening) (failed : Bool) (desk : Book) (parts : List (List ScriptLine)) (works : List SessionWork) → (ran : HaveRun sound_law o failed desk parts works)
     → NoneLacked works → length parts ≤ SESSIONS → AreWorks (opened_view (start_of o)) (world_of ran.core) parts (answers_of works) (closes_of works)
+
+-- Whether memory sufficed each or not, they did their works there, or some of them.
+abbrev pub SessionsDidSomeWorks : Type 0
+SessionsDidSomeWorks = (o : Opening) (failed : Bool) (desk : Book) (parts : List (List ScriptLine)) (works : List SessionWork) → (ran : HaveRun sound_law o failed desk parts works)
+    → length parts ≤ SESSIONS → AreSomeWorks (opened_view (start_of o)) (world_of ran.core) parts (answers_of works) (closes_of works)
 
 -- Where the disk hasn't failed each of these works is complete, and all of the log is flushed.
 abbrev pub SessionsAreComplete : Type 0

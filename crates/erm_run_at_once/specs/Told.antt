@@ -38,17 +38,11 @@ pub record MayTell (failed : Bool) (script : List ScriptLine) (works : List Sess
   pub first : NoneLacked works → AreFirst script (answers_of works)
   pub all : failed ≡ false → NoneLacked works → AreAll script (answers_of works)
 
--- the sessions' works are known, and this is so of them
-abbrev pub GaveWorks : {E : Type 0} → Result (Vec SessionWork Global) E → (List SessionWork → Type 0) → Type 0
-GaveWorks (Ok works) so = so works.items
-GaveWorks (Err lack) so = ⊥
-
 -- What is told of sessions that ran: the report, where the disk hasn't failed, and else that up to the fault, where no session lacked memory; or that
 -- memory ran out.
-abbrev pub ToldOf : {E : Type 0} → Result (Vec Line Global) RunStop → Start → List (List ℕ) → List ScriptLine → Bool → Result (Vec SessionWork Global) E → Type 0
-ToldOf (Ok lines) start names script failed sessions =
-    (failed ≡ false) × GaveWorks sessions (λ works. NoneLacked works × TellsWhole start names script (answers_of works) (closes_of works) lines.items)
-ToldOf (Err (run.DiskFault lines)) start names script failed sessions =
-    (failed ≡ true) × GaveWorks sessions (λ works. NoneLacked works × TellsCut start.stamp start.run script (answers_of works) lines.items)
-ToldOf (Err (run.Unopened stop)) start names script failed sessions = ⊥
-ToldOf (Err run.Memory) start names script failed sessions = Unit {0}
+abbrev pub ToldOf : Result (Vec Line Global) RunStop → Start → List (List ℕ) → List ScriptLine → Bool → List SessionWork → Type 0
+ToldOf (Ok lines) start names script failed works = (failed ≡ false) × NoneLacked works × TellsWhole start names script (answers_of works) (closes_of works) lines.items
+ToldOf (Err (run.DiskFault lines)) start names script failed works =
+    (failed ≡ true) × NoneLacked works × TellsCut start.stamp start.run script (answers_of works) lines.items
+ToldOf (Err (run.Unopened stop)) start names script failed works = ⊥
+ToldOf (Err run.Memory) start names script failed works = Unit {0}

@@ -1,6 +1,6 @@
 //! What sessions did on threads, as works in the world in which all ended, and the log of that world. Each law is the contract of a function
 //! that does nothing.
-ghost use Rattle.erm_run_at_once.specs.Ran.{ScriptsAreSplit, SessionsAreComplete, SessionsDidWorks, SessionsLeaveLogs};
+ghost use Rattle.erm_run_at_once.specs.Ran.{ScriptsAreSplit, SessionsAreComplete, SessionsDidSomeWorks, SessionsDidWorks, SessionsLeaveLogs};
 
 use erm_closed_log::{closed_tables_have_logs, ranges_of_closed_tables_stand_apart};
 use erm_node::SoundRows;
@@ -13,6 +13,13 @@ pub(crate) fn scripts_are_split()
 /// Sessions that ran on threads, none of which lacked memory, did their works in the world in which all ended.
 pub(crate) fn sessions_did_works()
     ensures { SessionsDidWorks }
+{
+    erm_core_end::shown_worlds_may_end();
+}
+
+/// All of them did their works, or some of them, where memory ran out.
+pub(crate) fn sessions_did_some_works()
+    ensures { SessionsDidSomeWorks }
 {
     erm_core_end::shown_worlds_may_end();
 }

@@ -80,17 +80,17 @@ pub(crate) fn report_ran(
     script: &[ScriptLine],
     ran: Ran,
 ) -> Result<Vec<Line>, RunStop>
-    requires may { IfOk ran.sessions (λ works. MayTell ran.failed script.now works.items) }
+    requires may { MayTell ran.failed script.now ran.sessions.items }
     requires named { length names.now ≤ SESSIONS }
     requires short { length script.now + SESSIONS ≤ LAST_NUMBER }
     requires none { lines.items ≡ [] }
     requires room { length script.now + 2 ≤ vec_capacity lines }
-    ensures { ToldOf result start names.now script.now ran.failed ran.sessions }
+    ensures { ToldOf result start names.now script.now ran.failed ran.sessions.items }
 {
-    let Ran { failed, sessions } = ran;
-    let Ok(works) = sessions else {
-        return Err(RunStop::Memory);
-    };
+    let Ran {
+        failed,
+        sessions: works,
+    } = ran;
     if has_lacked(&works) {
         return Err(RunStop::Memory);
     }

@@ -1,5 +1,5 @@
 -- A desk whose disk has failed stays so.
-use Rattle.std.proofs.Common.{◌≡◌, ℕ, zero, suc, Bool, true, false, Err, sym, ap, ◌∙◌}
+use Rattle.std.proofs.Common.{◌≡◌, ℕ, zero, suc, Bool, true, false, Result, Ok, Err, sym, ap, ◌∙◌}
 use Rattle.erm_flush.specs.declared.stops.FlushStop.{FlushStop}
 use Rattle.erm_flush.specs.declared.stops.FlushStop.TheVariants as stop
 use Rattle.erm_model.specs.RowTransaction.{Law}
@@ -16,6 +16,11 @@ stop_stays law o (stop.Empty at) s t turn failed = absurd (not_both s.failed fai
 stop_stays law o (stop.Unfilled at) s t turn failed = absurd (not_both s.failed failed turn.0)
 stop_stays law o stop.DiskFault s t turn failed = turn.1
 stop_stays law o stop.Failed s t turn failed = ap (λ (x : Sees). x.failed) turn.1 ∙ failed
+
+-- whatever the turn answers
+pub turn_stays : (law : Law) (o : Start) (r : Result ℕ FlushStop) (s t : Sees) → TurnsTo law o r s t → s.failed ≡ true → t.failed ≡ true
+turn_stays law o (Ok end) s t turn failed = absurd (not_both s.failed failed turn.0)
+turn_stays law o (Err cause) s t turn failed = stop_stays law o cause s t turn failed
 
 -- no turn flushes then
 flushes_stay : (law : Law) (o : Start) (turns : ℕ) (s t : Sees) → FlushTurns law o turns s t → s.failed ≡ true → t.failed ≡ true

@@ -90,6 +90,7 @@ one_ran {L} law table o failed seat lines d f w unless e =
       rests = w.rests;
       most = w.most;
       did = λ some. w.did some f e.ends;
+      some = w.some f e.ends;
       whole = λ sound had.
           let all = all_answered failed seat lines d w.most unless sound had in
           (all, is_decided failed seat lines d f (opened_view (start_of o)) d.closed refl (w.did had f e.ends) all unless sound had);
@@ -121,19 +122,12 @@ have_run {L} law table o began first told faults failed parts done ss works is a
     }
 
 -- so the desk's disk is that of sessions that ran
-pub ran_beside : {L V : Type 0} (law : Law) (table : Table L) (o : Opening) (began : Option (List Step)) (first : ℕ) (told : Option (List Step)) (faults : ℕ) (failed : Bool) (parts : List (List ScriptLine))
-    (done : List (Done (TableSession L))) (ss : List (TableSession L)) (items : V → List SessionWork) (works : V) → IsSerializable law (opened_view (start_of o)) → ss ≡ map (λ d. d.session) done → items works ≡ map work_of done
-    → ClosesDesk law o began first ss told faults failed → AreWorked law table o parts done → AreWholeUnless (failed ≡ true) parts done → RanBeside {E = AllocError} {V = V} law o began first parts told faults failed items (Ok works)
-ran_beside law table o began first told faults failed parts done ss items works begins is are closes worked unless = record {
+pub ran_beside : {L : Type 0} (law : Law) (table : Table L) (o : Opening) (began : Option (List Step)) (first : ℕ) (told : Option (List Step)) (faults : ℕ) (failed : Bool) (parts : List (List ScriptLine))
+    (done : List (Done (TableSession L))) (ss : List (TableSession L)) (works : List SessionWork) → IsSerializable law (opened_view (start_of o)) → ss ≡ map (λ d. d.session) done → works ≡ map work_of done
+    → ClosesDesk law o began first ss told faults failed → AreWorked law table o parts done → AreWholeUnless (failed ≡ true) parts done → RanBeside law o began first parts told faults failed works
+ran_beside law table o began first told faults failed parts done ss works begins is are closes worked unless = record {
   begins = begins;
   book = closes.book;
   desk = closes.desk;
-  have_run = have_run law table o began first told faults failed parts done ss (items works) is are closes worked unless;
+  have_run = have_run law table o began first told faults failed parts done ss works is are closes worked unless;
 }
-
--- OF A PAIR that is another, what is so of the other's disk and of what ran
-pub ran_as : {D : Type 0} (law : Law) (o : Opening) (began : Option (List Step)) (first : ℕ) (parts : List (List ScriptLine)) (told : D → Option (List Step)) (faults : D → ℕ) (a b : D × Ran) → a ≡ b
-    → RanBeside {E = AllocError} {V = Vec SessionWork Global} law o began first parts (told b.0) (faults b.0) b.1.failed (λ works. works.items) b.1.sessions
-    → RanBeside {E = AllocError} {V = Vec SessionWork Global} law o began first parts (told a.0) (faults a.0) a.1.failed (λ works. works.items) a.1.sessions
-ran_as {D} law o began first parts told faults a b is ran =
-    subst (λ (r : D × Ran). RanBeside {E = AllocError} {V = Vec SessionWork Global} law o began first parts (told r.0) (faults r.0) r.1.failed (λ works. works.items) r.1.sessions) (sym is) ran

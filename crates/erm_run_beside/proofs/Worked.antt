@@ -18,7 +18,7 @@ use Rattle.erm_world.specs.World.{View, phase_at}
 use Rattle.erm_worker.specs.Work.{IsReady, MayBeAsked}
 use Rattle.erm_threads.specs.declared.job.Done.{Done}
 use Rattle.erm_threads.specs.declared.job.Job.{Job}
-use Rattle.erm_threads.specs.Work.{AllLeftWhenTold, AllWorked, DidWork, IsJob, LeftWhenTold, Worked, done_of}
+use Rattle.erm_threads.specs.Work.{AllLeftWhenTold, AllWorked, DidSome, DidWork, IsJob, LeftWhenTold, Worked, done_of}
 use Rattle.erm_threads.proofs.Jobs.{map_from, there_is}
 use Rattle.erm_engine.specs.Opened.{AreNew, IsNew, opened_view}
 use Rattle.erm_engine.proofs.Joined.{at_within}
@@ -72,6 +72,10 @@ one_worked {L} law table o seat s ls j d new is w =
           subst (λ (q : ℕ). DidWork f q ls d.answers.items d.closed (opened_view (start_of o)) (own_of d.session)) place
           (subst (λ (xs : List ScriptLine). DidWork f (seat_of j.session) xs d.answers.items d.closed (opened_view (start_of o)) (own_of d.session)) is.lines_are
           (subst (λ (v : View). DidWork f (seat_of j.session) j.lines.items d.answers.items d.closed v (own_of d.session)) own (w.did whole f end)));
+      some = λ f end.
+          subst (λ (q : ℕ). DidSome f q ls d.answers.items d.closed (opened_view (start_of o)) (own_of d.session)) place
+          (subst (λ (xs : List ScriptLine). DidSome f (seat_of j.session) xs d.answers.items d.closed (opened_view (start_of o)) (own_of d.session)) is.lines_are
+          (subst (λ (v : View). DidSome f (seat_of j.session) j.lines.items d.answers.items d.closed v (own_of d.session)) own (w.some f end)));
     }
 
 -- and all of them, which their workers left in their jobs

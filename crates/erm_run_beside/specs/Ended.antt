@@ -11,17 +11,18 @@ use Rattle.erm_shared_session.specs.declared.session.TableSession.{TableSession}
 use Rattle.erm_shared_session.specs.Stands.{Ends, Stands, own_of, seat_of}
 use Rattle.erm_world.specs.World.{View, phase_at}
 use Rattle.erm_threads.specs.declared.job.Done.{Done}
-use Rattle.erm_threads.specs.Work.{DidWork}
+use Rattle.erm_threads.specs.Work.{DidSome, DidWork}
 use Rattle.erm_engine.specs.Opened.{opened_view}
 
 -- A session of this seat after its worker stands, and has no transaction in progress. It did its work, from the world as it was opened, in each world in
--- which all may end as far as it knows, unless memory ran out.
+-- which all may end as far as it knows, or some of it, where memory ran out.
 pub record HasWorked {L : Type 0} (law : Law) (table : Table L) (o : Opening) (seat : ℕ) (lines : List ScriptLine) (d : Done (TableSession L)) : Type 0 where
   pub stands : Stands law table d.session
   pub seat_is : seat_of d.session ≡ seat
   pub rests : phase_at (own_of d.session) seat ≡ Active → ⊥
   pub most : length d.answers.items ≤ length lines
   pub did : d.lacked ≡ false → (f : View) → Ends law d.session f → DidWork f seat lines d.answers.items d.closed (opened_view (start_of o)) (own_of d.session)
+  pub some : (f : View) → Ends law d.session f → DidSome f seat lines d.answers.items d.closed (opened_view (start_of o)) (own_of d.session)
 
 -- so has each session with its lines, in the order of the seats, from 1 on
 pub record AreWorked {L : Type 0} (law : Law) (table : Table L) (o : Opening) (parts : List (List ScriptLine)) (done : List (Done (TableSession L))) : Type 0 where

@@ -1,5 +1,5 @@
 -- What is so once sessions have run on threads, and the table is closed.
-use Rattle.std.specs.Prelude.{◌≡◌, ℕ, ◌+◌, ◌<◌, ◌≤◌, Bool, false, List, [], length, Some, Option, IfOk, Result, vec_capacity}
+use Rattle.std.specs.Prelude.{◌≡◌, ℕ, ◌+◌, ◌<◌, ◌≤◌, Bool, false, List, [], length, Some, Option, vec_capacity}
 use Rattle.std.specs.List.{slice_get}
 use Rattle.erm_model.specs.declared.limits.TheConstants.{SESSIONS}
 use Rattle.erm_model.specs.declared.outcome.Phase.TheVariants.{Active, Sealed}
@@ -13,7 +13,7 @@ use Rattle.erm_outside.specs.Disk.{Step}
 use Rattle.erm_world.specs.Laws.{IsSerializable}
 use Rattle.erm_world.specs.World.{IsSession, View, phase_at}
 use Rattle.erm_worker.specs.Laws.{IsAtEnd}
-use Rattle.erm_threads.specs.Work.{DidWork}
+use Rattle.erm_threads.specs.Work.{DidSome, DidWork}
 use Rattle.erm_engine.specs.Ended.{HasClosed, IsUntouched, world_of}
 use Rattle.erm_engine.specs.Opened.{opened_view}
 use Rattle.erm_desk.specs.Desk.{IsDesk}
@@ -33,13 +33,14 @@ pub record IsRoomFor {S : Type 0} (many : ℕ) (a : Apart S) : Type 0 where
   pub works : many ≤ vec_capacity a.works
 
 -- A session with these lines stands in this world as it was left, which wasn't with a transaction in progress. It did its work, from the world as it was
--- opened, unless memory ran out: and all of it, unless the disk failed too, so that it doesn't wait.
+-- opened, or some of it, where memory ran out: and all of it, unless the disk failed too, so that it doesn't wait.
 pub record IsWork (failed : Bool) (f : View) (seat : ℕ) (v : View) (lines : List ScriptLine) (w : SessionWork) : Type 0 where
   pub last : View
   pub at_end : IsAtEnd f seat last
   pub rests : phase_at last seat ≡ Active → ⊥
   pub most : length w.answers.items ≤ length lines
   pub did : w.lacked ≡ false → DidWork f seat lines w.answers.items w.closed v last
+  pub some : DidSome f seat lines w.answers.items w.closed v last
   pub whole : failed ≡ false → w.lacked ≡ false → (length w.answers.items ≡ length lines) × (phase_at last seat ≡ Sealed → ⊥)
 
 -- THE END. There is one state in which the table of this opening was closed, to which the desk's book leads on, and each session did its work in the
@@ -55,8 +56,8 @@ pub record HaveRun (law : Law) (o : Opening) (failed : Bool) (desk : Book) (part
   pub others : (seat : ℕ) → length works < seat → seat ≤ SESSIONS → IsUntouched seat (world_of core)
 
 -- The world as it was opened is serializable. The disk is that of a desk, from what it told and counted at first, and whose book is that of the end.
-pub record RanBeside {E V : Type 0} (law : Law) (o : Opening) (began : Option (List Step)) (first : ℕ) (parts : List (List ScriptLine)) (told : Option (List Step)) (faults : ℕ) (failed : Bool) (items : V → List SessionWork) (sessions : Result V E) : Type 0 where
+pub record RanBeside (law : Law) (o : Opening) (began : Option (List Step)) (first : ℕ) (parts : List (List ScriptLine)) (told : Option (List Step)) (faults : ℕ) (failed : Bool) (works : List SessionWork) : Type 0 where
   pub begins : IsSerializable law (opened_view (start_of o))
   pub book : Book
   pub desk : IsDesk law (start_of o) began first (record { book = book; told = told; faults = faults; failed = failed })
-  pub have_run : IfOk sessions (λ works. HaveRun law o failed book parts (items works))
+  pub have_run : HaveRun law o failed book parts works

@@ -20,32 +20,6 @@ use erm_outside::Disk;
 use erm_rule::{Opening, Pass, Table};
 use erm_shared_session::TableSession;
 use erm_threads::Done;
-use std::alloc::AllocError;
-
-/// The end where no session began: turns until one stops.
-pub(crate) fn leave_sessions<L: RowLaw, D: Disk + Drop, B: Naming>(
-    _opening: &Opening,
-    table: &Table<L>,
-    mut desk: Desk<L, D, B>,
-    lack: AllocError,
-) -> (D, Ran)
-    requires start { start_of _opening.now ≡ B.start }
-    requires begins { IsSerializable L.law (opened_view (start_of _opening.now)) }
-    requires table { table.now.words.shared.table_id ≡ B.table }
-    ensures failed { desk.failed ≡ true → result.1.failed ≡ true }
-    ensures ran { (parts : List (List ScriptLine)) → RanBeside L.law _opening.now B.began B.faults parts (D.told result.0) (D.faults result.0) result.1.failed (λ works. works.items) result.1.sessions }
-{
-    desk.turn_all(table);
-    let (disk, _, flusher) = desk.into_parts();
-    let failed = flusher.has_failed();
-    (
-        disk,
-        Ran {
-            failed,
-            sessions: Err(lack),
-        },
-    )
-}
 
 // Joins the passes of sessions into the desk's, takes turns until one stops, and closes the table: the disk, and whether it failed.
 fn close_sessions<L: RowLaw, D: Disk + Drop, B: Naming>(
@@ -96,12 +70,12 @@ pub(crate) fn end_sessions<L: RowLaw, D: Disk + Drop, B: Naming>(
     requires room { IsRoomFor (vec_len done) apart }
     requires idle { (run : ℕ) × (place : ℕ) × AreIdle table.words.shared.table_id run place (length done.items) SESSIONS idle.items }
     ensures ran { (parts : List (List ScriptLine)) → AreWorked L.law table opening.now parts done.items → AreWholeUnless (result.1.failed ≡ true) parts done.items
-        → RanBeside L.law opening.now B.began B.faults parts (D.told result.0) (D.faults result.0) result.1.failed (λ works. works.items) result.1.sessions }
+        → RanBeside L.law opening.now B.began B.faults parts (D.told result.0) (D.faults result.0) result.1.failed result.1.sessions.items }
     ensures failed { desk.failed ≡ true → result.1.failed ≡ true }
 {
     apart.take(done);
     let Apart { sessions, works } = apart;
     let (disk, failed) = close_sessions(opening, table, desk, sessions, idle);
-    let sessions = Ok(works);
+    let sessions = works;
     (disk, Ran { failed, sessions })
 }

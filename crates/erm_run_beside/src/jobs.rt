@@ -2,7 +2,7 @@
 ghost use Rattle.std.specs.Prelude.{◌≡◌, ◌≤◌, [], IfOk, map, vec_capacity, vec_len};
 ghost use Rattle.std.specs.List.{All};
 ghost use Rattle.erm_model.specs.declared.limits.TheConstants.{SESSIONS};
-ghost use Rattle.erm_run_beside.specs.Jobs.{AreJobs, HasRoom};
+ghost use Rattle.erm_run_beside.specs.Jobs.{AreJobs, HasAllRoom, HasRoom};
 
 use crate::shared::SharedDesk;
 use crate::turns::DeskTurns;
@@ -54,10 +54,7 @@ pub(crate) fn make_room<S, T>(
     alloc: Global,
     parts: Vec<Vec<ScriptLine>>,
 ) -> Result<Room<S, T>, AllocError>
-    ensures lines { IfOk result (λ room. map (λ p. p.lines.items) room.parts.items ≡ map (λ p. p.items) parts.items) }
-    ensures answers { IfOk result (λ room. All HasRoom room.parts.items) }
-    ensures none { IfOk result (λ room. (room.jobs.items ≡ []) × (room.done.items ≡ [])) }
-    ensures room { IfOk result (λ room. (vec_len room.parts ≤ vec_capacity room.jobs) × (vec_len room.parts ≤ vec_capacity room.done)) }
+    ensures { IfOk result (HasAllRoom parts) }
 {
     let parts = with_answers(alloc, parts)?;
     let jobs = Vec::with_capacity(alloc, parts.len())?;

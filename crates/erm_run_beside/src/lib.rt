@@ -11,7 +11,6 @@ mod shared;
 mod turns;
 mod work;
 
-pub use run::work_beside;
 pub use sessions::{run_opened, run_sessions};
 pub use shared::SharedDesk;
 pub use turns::DeskTurns;

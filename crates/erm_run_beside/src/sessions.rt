@@ -8,11 +8,12 @@ ghost use Rattle.erm_model.specs.RowTransaction.{SameLaw};
 ghost use Rattle.erm_model.specs.Rows.{rows_of};
 ghost use Rattle.erm_node.specs.Sound.{sound_law};
 ghost use Rattle.erm_rule.specs.Openings.{start_of};
-ghost use Rattle.erm_run_beside.specs.Jobs.{AreLines};
+ghost use Rattle.erm_run_beside.specs.Jobs.{AreLines, HasAllRoom};
 ghost use Rattle.erm_run_beside.specs.Runs.{IsRoomFor, RanBeside};
 
 use crate::apart::Apart;
-use crate::end::{end_sessions, leave_sessions};
+use crate::end::end_sessions;
+use crate::jobs::{Room, make_room};
 use crate::run::work_beside;
 use crate::shared::SharedDesk;
 use crate::work::Ran;
@@ -25,23 +26,34 @@ use erm_rule::Opening;
 use erm_script::ScriptLine;
 use std::alloc::{AllocError, Global};
 use std::marker::Brand;
+use std::sync::atomic::AtomicU64;
 use std::sync::ledger::{Blank, Ledger};
 use std::sync::{Mutex, Wait};
 use std::thread::Threads;
 
-// A flusher, and room for so many sessions after their workers.
-fn make_ready<S>(alloc: Global, many: usize) -> Result<(Flusher, Apart<S>), AllocError>
+// A flusher, and all room that sessions with these lines need, before their workers and behind them.
+fn make_ready<S, T>(
+    alloc: Global,
+    parts: Vec<Vec<ScriptLine>>,
+) -> Result<(Flusher, Apart<S>, Room<S, T>), AllocError>
     ensures new { IfOk result (λ ready. ready.0 ≡ false) }
-    ensures room { IfOk result (λ ready. IsRoomFor many ready.1) }
+    ensures apart { IfOk result (λ ready. IsRoomFor (vec_len parts) ready.1) }
+    ensures room { IfOk result (λ ready. HasAllRoom parts ready.2) }
 {
     let flusher = Flusher::new(alloc)?;
-    let apart = Apart::room(alloc, many)?;
-    Ok((flusher, apart))
+    let apart = Apart::room(alloc, parts.len())?;
+    match make_room(alloc, parts) {
+        Ok(room) => Ok((flusher, apart, room)),
+        Err(lack) => {
+            apart.give_up();
+            Err(lack)
+        }
+    }
 }
 
 /// The sessions of a table just opened run their lines, and the table is closed behind them: all threads agree on the table, on how it was
 /// opened, on what the disk told, and on the ledger of what workers meet, which has a part for each session. The disk comes back; `Err` where
-/// there was no memory for a desk: then nothing was done to it.
+/// there was no memory for a desk, or for the sessions' work: then nothing was done to it.
 pub fn run_opened<
     L: RowLaw + Send + Sync,
     D: Disk + Drop + Send,
@@ -73,7 +85,7 @@ pub fn run_opened<
     requires meets { L.law.meets (opened_view (start_of opening.now)).opening.rows }
     requires holds { IfSome (D.told disk) (IsHeld L.law (start_of opening.now) []) }
     requires lines { AreLines (map (λ p. p.items) parts.items) }
-    ensures ran { IfOk result.1 (λ ran. RanBeside L.law opening.now B.began B.faults (map (λ p. p.items) parts.items) (D.told result.0) (D.faults result.0) ran.failed (λ works. works.items) ran.sessions) }
+    ensures ran { IfOk result.1 (λ ran. RanBeside L.law opening.now B.began B.faults (map (λ p. p.items) parts.items) (D.told result.0) (D.faults result.0) ran.failed ran.sessions.items) }
     ensures back { IfErr result.1 (λ _. (D.told result.0 ≡ D.told disk) × (D.faults result.0 ≡ D.faults disk)) }
 {
     let Opened {
@@ -82,7 +94,7 @@ pub fn run_opened<
         idle,
         flush,
     } = opened;
-    let (flusher, apart) = match make_ready(alloc, parts.len()) {
+    let (flusher, apart, room) = match make_ready(alloc, parts) {
         Ok(ready) => ready,
         Err(lack) => {
             end_all(sessions);
@@ -92,17 +104,12 @@ pub fn run_opened<
     let (book, mut met) = blank.open::<B>();
     let desk = Desk::<L, D, B>::with(flusher, disk, flush);
     let desk = Mutex::new(SharedDesk::new(desk, book));
-    let worked = work_beside(
-        rt, alloc, opening, &table, &desk, gate, &mut met, sessions, parts,
+    let halt = AtomicU64::new(0);
+    let done = work_beside(
+        rt, alloc, opening, &table, &desk, gate, &halt, &mut met, sessions, room,
     );
     let desk = desk.into_inner().into_desk(&mut met);
-    let (disk, ran) = match worked {
-        Ok(done) => end_sessions(opening, table, desk, done, idle, apart),
-        Err(lack) => {
-            apart.give_up();
-            leave_sessions(opening, &table, desk, lack)
-        }
-    };
+    let (disk, ran) = end_sessions(opening, table, desk, done, idle, apart);
     (disk, Ok(ran))
 }
 
@@ -134,7 +141,7 @@ pub fn run_sessions<
     requires unreached { (oid : ℕ) → opening.now.first ≤ oid → L.law.reach (rows_of opening.now.rows.items) oid ≡ 0 }
     requires holds { IfSome (D.told disk) (IsHeld L.law (start_of opening.now) []) }
     requires lines { AreLines (map (λ p. p.items) parts.items) }
-    ensures ran { IfOk result.1 (λ ran. RanBeside L.law opening.now (D.told disk) (D.faults disk) (map (λ p. p.items) parts.items) (D.told result.0) (D.faults result.0) ran.failed (λ works. works.items) ran.sessions) }
+    ensures ran { IfOk result.1 (λ ran. RanBeside L.law opening.now (D.told disk) (D.faults disk) (map (λ p. p.items) parts.items) (D.told result.0) (D.faults result.0) ran.failed ran.sessions.items) }
     ensures back { IfErr result.1 (λ _. (D.told result.0 ≡ D.told disk) × (D.faults result.0 ≡ D.faults disk)) }
 {
     L::respects_rows();

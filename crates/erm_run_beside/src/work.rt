@@ -1,15 +1,14 @@
 //! What is known of the work of a session.
 use erm_report::Answer;
-use std::alloc::AllocError;
 
 /// The work of a session.
 #[derive(Drop)]
 pub struct SessionWork {
-    /// The answers of its first lines. Fewer than it has lines: its worker halted, or memory ran out.
+    /// The answers of its first lines. Fewer than it has lines: its worker halted, or memory ran out in the line behind them.
     pub answers: Vec<Answer>,
     /// The answer of its closing behind the last line. `None` where it was idle, or was left.
     pub closed: Option<Answer>,
-    /// Whether memory ran out, for this session or for another one that its worker halted for: then no more is known of what the session did.
+    /// Whether memory ran out, for this session or for another one that its worker halted for.
     pub lacked: bool,
 }
 
@@ -18,6 +17,6 @@ pub struct SessionWork {
 pub struct Ran {
     /// Whether the disk failed.
     pub failed: bool,
-    /// The work of each session, in the order of their seats. `Err` where memory ran out before the first line.
-    pub sessions: Result<Vec<SessionWork>, AllocError>,
+    /// The work of each session, in the order of their seats.
+    pub sessions: Vec<SessionWork>,
 }

@@ -10,6 +10,7 @@ use Rattle.erm_model.specs.declared.outcome.Phase.{Phase}
 use Rattle.erm_model.specs.declared.outcome.Phase.TheVariants.{Idle, Sealed}
 use Rattle.erm_model.specs.Committed.{Committed, rank_of}
 use Rattle.erm_model.specs.SerialOrder.{IsSerialOrder}
+use Rattle.erm_model.specs.Member.{◌∈◌}
 use Rattle.erm_report.specs.declared.answer.Answer.{Answer}
 use Rattle.erm_report.specs.declared.line.Line.{Line}
 use Rattle.erm_report.specs.declared.line.Line.TheVariants as line
@@ -19,7 +20,7 @@ use Rattle.erm_good_report.specs.GoodReport.{HaveTightWindows, IsGoodReport, Ord
 use Rattle.erm_good_report.specs.Opening.{AtOnce, Opening}
 use Rattle.erm_good_report.specs.Phases.{Closed, ClosesAgree, is_idle, phase_of}
 use Rattle.erm_good_report.specs.Transactions.{Said, Transaction, history_of, said_of, transactions_of}
-use Rattle.erm_good_at_once.specs.CutReports.{OwesInPart, answered_of, less}
+use Rattle.erm_good_at_once.specs.CutReports.{IsUnseen, OwesInPart, answered_of, less}
 use Rattle.erm_good_at_once.specs.Rising.{StampsRise}
 use Rattle.erm_spare_names.specs.Spare.{CutWithoutSpare, GoodWithoutSpare, NamesOnlyFirst, SpareNamesTellNothing, TellNoMore}
 use Rattle.erm_spare_names.proofs.Seats.{IsSaidOfFirst, commits_of_seats, each_before, each_either, each_joined, each_mapped, each_member, each_weaker, filter_spare, filter_within, spare_is_idle, told_of_seats, told_without_spare}
@@ -179,41 +180,39 @@ good opening names spare script lines few told = (
         in_order names spare (λ (c : Committed). IsNamedAlike names spare c.session) (history_of (transactions_of (length (names ++ spare)) places)) r.order g.order.serial
         (subst (λ (ts : List Transaction). AllByRecursion (λ (c : Committed). IsNamedAlike names spare c.session) (history_of ts)) same told_named)
 
+-- Behind the lines answered sessions were closed that no line tells: they are sessions of these lines, so that spare names tell nothing of them.
+pub unseen_no_more : (names spare : List (List ℕ)) (script : List ScriptLine) (counts : ℕ → ℕ) (answers : List Answer) (closed : List Closed) → NamesOnlyFirst (length names) script
+    → ((c : Closed) → c ∈ closed → IsUnseen script (answered_of counts script) answers c) → TellNoMore names spare (places_of (answered_of counts script) answers closed)
+unseen_no_more names spare script counts answers closed few unseen =
+    let part = answered_of counts script in
+    let part_first : AllByRecursion (λ (l : ScriptLine). l.session ≤ length names) part = answered_first (length names) counts script (each_member (λ (l : ScriptLine). l.session ≤ length names) script few) in
+    let said : IsSaidOfFirst (length names) (said_of part answers) = said_first (length names) part answers part_first in
+    let ends_first : AllByRecursion (λ (c : Closed). c.session ≤ length names) closed =
+    each_member (λ (c : Closed). c.session ≤ length names) closed (λ c m. sealed_first names spare (said_of part answers) said c.session (unseen c m).sealed)
+    in
+    no_more names spare (places_of part answers closed) (places_first (length names) part answers closed part_first ends_first)
+
 cut : (opening : Opening) (names spare : List (List ℕ)) (script : List ScriptLine) (lines : List Line) → NamesOnlyFirst (length names) script
     → CutWithoutSpare opening names spare script lines
-cut opening names spare script lines few told = (
-  record {
-    counts = told.counts;
-    answers = told.answers;
-    each = told.each;
-    lines_ok = told.lines_ok;
-    fits = told.fits;
-    closed = told.closed;
-    once = told.once;
-    unseen = told.unseen;
-    owes = subst (λ (ts : List Transaction). OwesInPart opening script part told.answers ts) (sym same) told.owes;
-  },
-  refl,
-  refl,
-  refl,
-  same,
-)
-  where
-    part : List ScriptLine
-    part = answered_of told.counts script
-
-    part_first : AllByRecursion (λ (l : ScriptLine). l.session ≤ length names) part
-    part_first = answered_first (length names) told.counts script (each_member (λ (l : ScriptLine). l.session ≤ length names) script few)
-
-    said : IsSaidOfFirst (length names) (said_of part told.answers)
-    said = said_first (length names) part told.answers part_first
-
-    ends_first : AllByRecursion (λ (c : Closed). c.session ≤ length names) told.closed
-    ends_first =
-        each_member (λ (c : Closed). c.session ≤ length names) told.closed (λ c m. sealed_first names spare (said_of part told.answers) said c.session (told.unseen c m).sealed)
-
-    same : TellNoMore names spare (places_of part told.answers told.closed)
-    same = no_more names spare (places_of part told.answers told.closed) (places_first (length names) part told.answers told.closed part_first ends_first)
+cut opening names spare script lines few told =
+    let part = answered_of told.counts script in
+    let same : TellNoMore names spare (places_of part told.answers told.closed) = unseen_no_more names spare script told.counts told.answers told.closed few told.unseen in (
+      record {
+        counts = told.counts;
+        answers = told.answers;
+        each = told.each;
+        lines_ok = told.lines_ok;
+        fits = told.fits;
+        closed = told.closed;
+        once = told.once;
+        unseen = told.unseen;
+        owes = subst (λ (ts : List Transaction). OwesInPart opening script part told.answers ts) (sym same) told.owes;
+      },
+      refl,
+      refl,
+      refl,
+      same,
+    )
 
 pub spare_tells_nothing : SpareNamesTellNothing
 spare_tells_nothing = record { good = good; cut = cut }

@@ -25,6 +25,6 @@ pub struct Done<S> {
     pub answers: Vec<Answer>,
     /// The answer of its closing behind the last line. `None` where it was idle, or was left.
     pub closed: Option<Answer>,
-    /// Whether memory ran out, for this session or for another one, so that its worker was told to stop: then no more is known of what the session did.
+    /// Whether memory ran out, for this session or for another one, so that its worker was told to stop.
     pub lacked: bool,
 }

@@ -1,10 +1,12 @@
 //! What the worker of a session does.
-ghost use Rattle.std.specs.Prelude.{◌≡◌, ◌<◌, ◌≤◌, [], None, false, IfOk, OnOk, length, vec_capacity, vec_len};
+ghost use Rattle.std.specs.Prelude.{◌≡◌, ◌<◌, ◌≤◌, [], None, false, IfErr, IfOk, OnOk, length, vec_capacity, vec_len};
 ghost use Rattle.erm_model.specs.declared.outcome.Phase.TheVariants.{Active, Sealed};
 ghost use Rattle.erm_model.specs.RowTransaction.{SameLaw};
 ghost use Rattle.erm_node.specs.Sound.{sound_law};
+ghost use Rattle.erm_world.specs.Face.{Grows};
 ghost use Rattle.erm_world.specs.World.{View, phase_at};
 ghost use Rattle.erm_beside.specs.Laws.{GoesOnward};
+ghost use Rattle.erm_worker.specs.Work.{GaveUp, RanShort};
 ghost use Rattle.erm_threads.specs.Work.{DidWork, IsJob, LeftWhenTold, MayWork, WasEnded, Worked, done_of};
 
 use crate::Job;
@@ -22,6 +24,7 @@ fn leave<S: SharedSession>(session: &mut S, shared: &S::Shared)
     ensures stands { S.stands shared.now session.new }
     ensures onward { GoesOnward (S.seat session.old) (S.seat session.new) (S.ends session.old) (S.ends session.new) }
     ensures rests { phase_at (S.own session.new) (S.seat session.old) ≡ Active → ⊥ }
+    ensures gave { GaveUp (phase_at (S.own session.old) (S.seat session.old)) (S.seat session.old) (S.own session.old) (S.own session.new) }
 {
     if let Phase::Active = session.phase(shared) {
         session.abort(shared);
@@ -69,6 +72,7 @@ fn run<S: SharedSession, T: Turns, R: Wait>(
     ensures did { IfOk result (λ closed. (f : View) → S.ends session.new f → DidWork f (S.seat session.old) lines.now answers.new.items closed (S.own session.old) (S.own session.new)) }
     ensures left { OnOk result (length answers.new.items < length lines.now → T.told turns.new) }
     ensures waits { IfOk result (λ closed. closed ≡ None → phase_at (S.own session.new) (S.seat session.old) ≡ Sealed → T.told turns.new) }
+    ensures short { IfErr result (λ _. (f : View) → S.ends session.new f → RanShort Grows f (S.seat session.old) lines.now answers.new.items (S.own session.old) (S.own session.new)) }
 {
     run_lines(rt, alloc, session, shared, turns, lines, answers)?;
     if answers.len() < lines.len() {
@@ -78,7 +82,7 @@ fn run<S: SharedSession, T: Turns, R: Wait>(
 }
 
 /// Runs the lines of a session to their end, and closes it behind them, unless the worker is told to stop. Where memory runs out, the
-/// session stays all the same, and the other workers are told; and so does what the worker waited by.
+/// session stays all the same, with the answers up to then, and the other workers are told; and so does what the worker waited by.
 pub fn work<S: SharedSession, T: Turns, R: Wait>(
     rt: &R,
     alloc: Global,

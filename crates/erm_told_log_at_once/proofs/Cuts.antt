@@ -39,7 +39,7 @@ waited_beyond : (f : View) (seat : ℕ) (next : Option ScriptLine) (v t : View) 
 waited_beyond f seat None v t passes = beyond_passes seat v t passes
 waited_beyond f seat (Some l) v t (n, tried) = beyond_tried f seat l.command n v t tried
 
-rest_beyond : (f : View) (seat : ℕ) (next : Option ScriptLine) (v t : View) → IsRest f seat next v t → Beyond v t
+pub rest_beyond : (f : View) (seat : ℕ) (next : Option ScriptLine) (v t : View) → IsRest f seat next v t → Beyond v t
 rest_beyond f seat next v t (stood passes) = beyond_passes seat v t passes
 rest_beyond f seat next v t (aborted u active waited did) = beyond_then v u t (waited_beyond f seat next v u waited) (beyond_becomes u seat _ t did)
 rest_beyond f seat next v t (drew l stamp active is commits (u, passes, did)) = beyond_then v u t (beyond_passes seat v u passes) (beyond_sealed u seat stamp t did)

@@ -44,7 +44,7 @@ pub record Leaving (f : View) (seat : ℕ) (p : Progress) : Type 0 where
   pub leaves : Leaves f seat p told drawn gone
 
 -- one in progress is told unfinished, and is the run of what is told
-told_active : (seat : ℕ) (current : Option Transaction) (stand : Stand) → TellsNow seat current stand → phase_of stand ≡ Active
+pub told_active : (seat : ℕ) (current : Option Transaction) (stand : Stand) → TellsNow seat current stand → phase_of stand ≡ Active
     → (t : Transaction) × (current ≡ Some t) × (t.ending ≡ Unfinished) × IsRunOf (work_of stand) (steps_of t)
 told_active seat None world.idle tells active = cc
 told_active seat None (world.active w) tells active = absurd tells

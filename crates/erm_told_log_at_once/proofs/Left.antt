@@ -17,9 +17,11 @@ use Rattle.erm_good_report.specs.GoodReport.{places_of}
 use Rattle.erm_good_report.specs.Phases.{Closed}
 use Rattle.erm_good_report.specs.Transactions.{Aborts, Ending, Progress, Said, Transaction, Unfinished, committed_as, committed_of, ended, history_of, nothing, progress_of, transactions_of, with_ending}
 use Rattle.erm_good_at_once.specs.CutReports.{answered_of}
+use Rattle.erm_lines.specs.Executions.{IsOpened}
 use Rattle.erm_lines.specs.Told.{Tells}
-use Rattle.erm_lines_at_once.specs.CutRuns.{IsCutRunAtOnce, next_of}
-use Rattle.erm_lines_at_once.specs.Executions.{all_moves}
+use Rattle.erm_lines_at_once.specs.CutRuns.{next_of}
+use Rattle.erm_lines_at_once.specs.Ends.{IsEnd}
+use Rattle.erm_lines_at_once.specs.Executions.{IsOwnRun, all_moves}
 use Rattle.erm_told.proofs.Executed.{still_session}
 use Rattle.erm_told.proofs.Ranges.{in_range}
 use Rattle.erm_told_order.specs.Told.{IsTold}
@@ -66,28 +68,28 @@ chosen v (suc n) = elim (cases_lt n v.opening.sessions) as (λ _. Chosen v (suc 
   | inr above ↦ inr (λ session. omega (arith, session.1, above))
 ]
 
-module _ (laws : Laws) (runs : (number begin : ℕ) → IsRunOf (world.begun number begin) []) (stay : (w u : Work) (steps : List Step) → Extends w u → IsAnswered w steps → IsAnswered u steps)
-    (v f : View) (script : List ScriptLine) (counts : ℕ → ℕ) (answers : List Answer) (closed : List Closed) (run : IsCutRunAtOnce v script counts answers closed f) where
+-- WHAT IS TOLD of a session, where its moves leave it
+abbrev pub told_of : List ScriptLine → (ℕ → ℕ) → List Answer → List Closed → ℕ → Progress
+told_of script counts answers closed seat = progress_of seat (places_of (answered_of counts script) answers closed)
+
+pub known : ((number begin : ℕ) → IsRunOf (world.begun number begin) []) → ((w u : Work) (steps : List Step) → Extends w u → IsAnswered w steps → IsAnswered u steps) → (v f : View) (script : List ScriptLine)
+    (counts : ℕ → ℕ) (answers : List Answer) (closed : List Closed) → IsOpened v → (seat : ℕ) → IsSession v seat → (last : View) → IsOwnRun f seat v (all_moves (answered_of counts script) answers closed) last
+    → Tells seat (told_of script counts answers closed seat) (last.session seat)
+known runs stay v f script counts answers closed opened seat session last run =
+    let part = answered_of counts script in
+    let knows = knows_own runs stay f seat (all_moves part answers closed) nothing Idle v last run (first_known seat v (opened.idle seat session)) in
+    subst (λ (said : List Said). Tells seat (progress_of seat said) (last.session seat)) (all_say part answers closed) knows.tells
+
+module _ (v f : View) (script : List ScriptLine) (counts : ℕ → ℕ) (answers : List Answer) (closed : List Closed) (opening : f.opening ≡ v.opening) (ends : IsEnd f)
+    (leaving : (seat : ℕ) → IsSession v seat → Leaving f seat (told_of script counts answers closed seat)) where
   abbrev part : List ScriptLine
   part = answered_of counts script
 
   abbrev sessions : ℕ
   sessions = v.opening.sessions
 
-  -- what is told of a session
   abbrev progress : ℕ → Progress
-  progress seat = progress_of seat (places_of part answers closed)
-
-  known : (seat : ℕ) (session : IsSession v seat) → Tells seat (progress seat) ((run.own seat session).last.session seat)
-  known seat session =
-      let its = run.own seat session in
-      let knows = knows_own runs stay f seat (all_moves part answers closed) nothing Idle v its.last its.run (first_known seat v (run.opened.idle seat session)) in
-      subst (λ (said : List Said). Tells seat (progress_of seat said) (its.last.session seat)) (all_say part answers closed) knows.tells
-
-  leaving : (seat : ℕ) → IsSession v seat → Leaving f seat (progress seat)
-  leaving seat session =
-      let its = run.own seat session in
-      leaving_by laws f seat (still_session v f seat run.opening session) run.ends.serializable (next_of seat counts script) (progress seat) its.last its.end (known seat session) its.ends its.rest
+  progress seat = told_of script counts answers closed seat
 
   -- OF EACH NUMBER
   abbrev told_by : (seat : ℕ) → Chosen v seat → Session
@@ -119,7 +121,7 @@ module _ (laws : Laws) (runs : (number begin : ℕ) → IsRunOf (world.begun num
   leaves seat session = leaves_by seat (chosen v seat) session
 
   in_v : (seat : ℕ) → IsSession f seat → IsSession v seat
-  in_v seat session = still_session f v seat (sym run.opening) session
+  in_v seat session = still_session f v seat (sym opening) session
 
   -- THE WORLD that is left
   abbrev g : View
@@ -133,7 +135,7 @@ module _ (laws : Laws) (runs : (number begin : ℕ) → IsRunOf (world.begun num
 
   is_told : IsTold g said
   is_told = record {
-    serializable = (is_left f told drawn (λ seat session. (leaves seat (in_v seat session)).stands) run.ends).serializable;
+    serializable = (is_left f told drawn (λ seat session. (leaves seat (in_v seat session)).stands) ends).serializable;
     tells = λ seat session.
         let its = in_v seat session in subst (λ (p : Progress). Tells seat p (told seat)) (sym (progress_said seat its)) (leaves seat its).tells;
   }
@@ -156,16 +158,20 @@ module _ (laws : Laws) (runs : (number begin : ℕ) → IsRunOf (world.begun num
       let session : IsSession v q = (bounds.0, omega (arith, bounds.1)) in
       subst (λ (p : Progress). Alike (all_in (progress q)) (all_in p)) (sym (progress_said q session)) (alike_closed (gone q) (progress q) (leaves q session).unfinished))
 
-  left_world : LeavesWorld v f script counts answers closed
+  pub left_world : LeavesWorld v f script counts answers closed
   left_world = record {
     left = g;
     said = said;
     told = is_told;
     log = has_log;
     commits =
-        ap (λ (o : world.Opening). history_of (transactions_of o.sessions said)) run.opening
+        ap (λ (o : world.Opening). history_of (transactions_of o.sessions said)) opening
         ∙ same_commits (transactions_of sessions (places_of part answers closed)) (transactions_of sessions said) alike;
   }
 
 pub cut_runs_leave : Laws → ((number begin : ℕ) → IsRunOf (world.begun number begin) []) → ((w u : Work) (steps : List Step) → Extends w u → IsAnswered w steps → IsAnswered u steps) → CutRunsLeaveWorlds
-cut_runs_leave laws runs stay v f script counts answers closed run = left_world laws runs stay v f script counts answers closed run
+cut_runs_leave laws runs stay v f script counts answers closed run =
+    left_world v f script counts answers closed run.opening run.ends (λ seat session.
+    let its = run.own seat session in
+    leaving_by laws f seat (still_session v f seat run.opening session) run.ends.serializable (next_of seat counts script) (told_of script counts answers closed seat) its.last its.end
+    (known runs stay v f script counts answers closed run.opened seat session its.last its.run) its.ends its.rest)

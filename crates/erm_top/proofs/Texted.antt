@@ -108,7 +108,7 @@ module _ (names : List (List ℕ)) (script : List ScriptLine) (before after : Op
   tells_in_turn (Err (run.Unopened opened)) tells ends left counts = tells_unopened running_in_turn names script before after faults now opened told tells ends counts
   tells_in_turn (Err run.Memory) tells ends left counts = tells_starved running_in_turn names script before after faults now [] told left tells (inl counts)
 
-  pub tells_at_once : (ended : Result (Vec Line Global) RunStop) → TellsEnded ended told → EndsAtOnce ended before after names script → LeavesUntoldAtOnce ended before after
+  pub tells_at_once : (ended : Result (Vec Line Global) RunStop) → TellsEnded ended told → EndsAtOnce ended before after names script → LeavesUntoldAtOnce ended before after names script
       → CountsAtOnce ended faults now → TellsRan running_at_once told names script before after faults now
   tells_at_once (Ok lines) tells ends left counts = tells_whole running_at_once names script before after faults now lines.items told left tells ends counts
   tells_at_once (Err (run.DiskFault lines)) tells ends left counts = tells_cut running_at_once names script before after faults now lines.items told left tells ends counts

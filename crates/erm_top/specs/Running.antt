@@ -34,5 +34,5 @@ running_at_once = record {
   grammar = threads_grammar;
   ran = WasRunAtOnce;
   cut = WasCutAtOnce;
-  starved = λ before after state names script. WasStarvedAtOnce before after state;
+  starved = WasStarvedAtOnce;
 }

@@ -4,5 +4,6 @@ pub mod Left
 pub mod Parts
 pub mod Ready
 pub mod Runs
+pub mod Short
 pub mod There
 pub mod Waits

@@ -25,7 +25,7 @@ module _ (f : View) (seat : ℕ) where
   runs_among (move ∷ moves) v t run =
       one_among (is_own seat move) move (filter (λ m. is_own seat m) moves) moves v t refl (λ (w : View) (more : IsOwnRun f seat w (filter (λ m. is_own seat m) moves) t). runs_among moves w t more) run
 
-  among : (moves own : List Move) (v t : View) → HasOwn seat moves own → IsOwnRun f seat v own t → IsOwnRun f seat v moves t
+  pub among : (moves own : List Move) (v t : View) → HasOwn seat moves own → IsOwnRun f seat v own t → IsOwnRun f seat v moves t
   among moves own v t is run = runs_among moves v t (subst (λ (ms : List Move). IsOwnRun f seat v ms t) (sym is) run)
 
   -- others went on behind it

@@ -1,5 +1,5 @@
 -- What the worker of a session does: the lines answered, and how the session was left where the worker was told to stop.
-use Rattle.std.specs.Prelude.{◌≡◌, ℕ, ◌<◌, List, length, Option, Some, None, IfSome}
+use Rattle.std.specs.Prelude.{◌≡◌, ℕ, ◌<◌, ◌≤◌, List, [], ◌∷◌, ◌++◌, length, Option, Some, None, IfSome}
 use Rattle.std.specs.List.{slice_get}
 use Rattle.erm_model.specs.declared.limits.TheConstants.{TABLES}
 use Rattle.erm_model.specs.declared.outcome.Phase.{Phase}
@@ -11,7 +11,9 @@ use Rattle.erm_script.specs.declared.script.Command.{Command}
 use Rattle.erm_script.specs.declared.script.Command.TheVariants as command
 use Rattle.erm_script.specs.declared.script.ScriptLine.{ScriptLine}
 use Rattle.erm_world.specs.Calls.{DidAbort, DidSeal}
-use Rattle.erm_world.specs.World.{Session, View, phase_at, phase_of, work_of}
+use Rattle.erm_world.specs.Going.{Extends}
+use Rattle.erm_world.specs.World.{Session, View, Work, phase_at, phase_of, work_of}
+use Rattle.erm_world.specs.World as world
 use Rattle.erm_maps.specs.Runs.{IsRunOf}
 use Rattle.erm_good_report.specs.Phases.{Closes}
 use Rattle.erm_good_report.specs.Transactions.{table_of}
@@ -92,3 +94,17 @@ pub record RanLines (f : View) (seat : ℕ) (lines : List ScriptLine) (answers :
 abbrev pub WasClosed : ℕ → Option Answer → View → View → Type 0
 WasClosed seat (Some a) v t = DidEndBeside seat a v t
 WasClosed seat None v t = (phase_at v seat ≡ Sealed) × Passes seat v t
+
+-- A session whose memory ran out was given up: nothing was done to it, or its transaction in progress had gone on, and was aborted.
+pub data WasGivenUp (s t : Session) : Type 0 where
+  stayed : t ≡ s → WasGivenUp s t
+  aborted : (w u : Work) → s.stand ≡ world.active w → Extends w u → t ≡ record { over = s.over ++ record { work = u; fate = world.aborts } ∷ []; stand = world.idle } → WasGivenUp s t
+
+-- The first lines of a session were answered, in order, but not all of them, and then memory ran out for it: from where they left it the session went so.
+-- The log had come no further there than in the world in which all end.
+pub record RanShort (Went : Session → Session → Type 0) (f : View) (seat : ℕ) (lines : List ScriptLine) (answers : List Answer) (v t : View) : Type 0 where
+  pub last : View
+  pub run : IsOwnRun f seat v (line_moves lines answers) last
+  pub fewer : length answers < length lines
+  pub within : (last.tail ≤ f.tail) × (last.flushed ≤ f.flushed)
+  pub went : Went (last.session seat) (t.session seat)

@@ -1,12 +1,13 @@
 //! The lines of a session, one after another.
-ghost use Rattle.std.specs.Prelude.{◌≡◌, ◌<◌, ◌≤◌, [], ◌∷◌, ◌++◌, None, OnOk, length, vec_capacity, vec_len};
+ghost use Rattle.std.specs.Prelude.{◌≡◌, ◌<◌, ◌≤◌, [], ◌∷◌, ◌++◌, IfErr, None, OnOk, length, vec_capacity, vec_len};
 ghost use Rattle.erm_model.specs.Member.{◌∈◌};
 ghost use Rattle.erm_model.specs.RowTransaction.{SameLaw};
 ghost use Rattle.erm_node.specs.Sound.{sound_law};
 ghost use Rattle.erm_script.specs.declared.script.ScriptLine.{ScriptLine};
+ghost use Rattle.erm_world.specs.Face.{Grows};
 ghost use Rattle.erm_world.specs.World.{View};
 ghost use Rattle.erm_beside.specs.Laws.{GoesOnward};
-ghost use Rattle.erm_worker.specs.Work.{IsReady, MayBeAsked, RanLines};
+ghost use Rattle.erm_worker.specs.Work.{IsReady, MayBeAsked, RanLines, RanShort};
 
 use crate::ends::give_up;
 use crate::{Turns, run_line};
@@ -18,7 +19,7 @@ use std::sync::Wait;
 
 /// Runs the lines of a session that has committed nothing, in order, and puts their answers into `answers`, which is empty and has room for
 /// them. Where the worker is told to stop, it answers no more, and leaves the session without an active transaction. `Err` where memory ran
-/// out.
+/// out, in the line behind those answered.
 pub fn run_lines<S: SharedSession, T: Turns, R: Wait>(
     rt: &R,
     alloc: Global,
@@ -40,6 +41,7 @@ pub fn run_lines<S: SharedSession, T: Turns, R: Wait>(
     ensures most { length answers.new.items ≤ length lines.now }
     ensures ran { OnOk result ((f : View) → S.ends session.new f → RanLines f (S.seat session.old) lines.now answers.new.items (S.own session.old) (S.own session.new)) }
     ensures told { OnOk result (length answers.new.items < length lines.now → T.told turns.new) }
+    ensures short { IfErr result (λ _. (f : View) → S.ends session.new f → RanShort Grows f (S.seat session.old) lines.now answers.new.items (S.own session.old) (S.own session.new)) }
 {
     let mut receipt = None;
     for line in lines {

@@ -1,5 +1,6 @@
 pub mod Closings
 pub mod Cuts
+pub mod Merging
 pub mod Moves
 pub mod Places
 pub mod Runs

@@ -11,7 +11,7 @@ use Rattle.erm_lines.specs.Executions.{IsOpened}
 use Rattle.erm_lines_at_once.specs.Ends.{IsEnd}
 use Rattle.erm_worker.specs.Laws.{IsAtEnd}
 use Rattle.erm_threads.specs.Parts.{IsSeatOf, own_lines}
-use Rattle.erm_threads.specs.Work.{DidWork}
+use Rattle.erm_threads.specs.Work.{DidSome, DidWork}
 use Rattle.erm_joined.specs.Merged.{AreAll, AreFirst}
 
 -- A script split in a world that was just opened: by seat from 1 on, each part has the lines of a session.
@@ -23,13 +23,21 @@ pub record IsSplit (v : View) (script : List ScriptLine) (parts : List (List Scr
   pub sessions : length parts ≤ v.opening.sessions
   pub own : (k : ℕ) (lines : List ScriptLine) → slice_get parts k ≡ Some lines → lines ≡ own_lines (k + 1) script
 
--- A session with these lines did its work, from the first world on: it stands in the second as it was left, which wasn't with a transaction in progress.
-pub record DidSession (f : View) (seat : ℕ) (v : View) (lines : List ScriptLine) (answers : List Answer) (closed : Option Answer) : Type 0 where
+-- what a session did of its lines, by its answers and its closing, from one view to another
+abbrev pub Did : Type 1
+Did = View → ℕ → List ScriptLine → List Answer → Option Answer → View → View → Type 0
+
+-- A session with these lines did so, from the first world on: it stands in the second as it was left, which wasn't with a transaction in progress.
+pub record DidSo (So : Did) (f : View) (seat : ℕ) (v : View) (lines : List ScriptLine) (answers : List Answer) (closed : Option Answer) : Type 0 where
   pub last : View
   pub at_end : IsAtEnd f seat last
   pub rests : phase_at last seat ≡ Active → ⊥
   pub most : length answers ≤ length lines
-  pub did : DidWork f seat lines answers closed v last
+  pub did : So f seat lines answers closed v last
+
+-- it did its work
+abbrev pub DidSession : View → ℕ → View → List ScriptLine → List Answer → Option Answer → Type 0
+DidSession = DidSo DidWork
 
 -- one world was opened as another, and its log has come as far at least
 pub record IsBeyond (v f : View) : Type 0 where
@@ -37,15 +45,23 @@ pub record IsBeyond (v f : View) : Type 0 where
   pub tail : v.tail ≤ f.tail
   pub flushed : v.flushed ≤ f.flushed
 
--- From the first world on all came to an end in the second: there each session with a part did its work, with its answers and its closing, and one
--- without stands as before.
-pub record AreWorks (v f : View) (parts : List (List ScriptLine)) (answers : List (List Answer)) (closed : List (Option Answer)) : Type 0 where
+-- From the first world on all came to an end in the second: there each session with a part did so, with its answers and its closing, and one without
+-- stands as before.
+pub record HaveDone (So : Did) (v f : View) (parts : List (List ScriptLine)) (answers : List (List Answer)) (closed : List (Option Answer)) : Type 0 where
   pub as_many : (length answers ≡ length parts) × (length closed ≡ length parts)
   pub each : (k : ℕ) (lines : List ScriptLine) (own : List Answer) (end : Option Answer) → slice_get parts k ≡ Some lines → slice_get answers k ≡ Some own
-      → slice_get closed k ≡ Some end → DidSession f (k + 1) v lines own end
+      → slice_get closed k ≡ Some end → DidSo So f (k + 1) v lines own end
   pub ends_so : IsEnd f
   pub beyond : IsBeyond v f
   pub others : (seat : ℕ) → IsSession v seat → length parts < seat → (f.session seat ≡ v.session seat) × (f.given_up seat ≡ v.given_up seat)
+
+-- each did its work
+abbrev pub AreWorks : View → View → List (List ScriptLine) → List (List Answer) → List (Option Answer) → Type 0
+AreWorks = HaveDone DidWork
+
+-- each did its work, or some of it, where memory ran out for it
+abbrev pub AreSomeWorks : View → View → List (List ScriptLine) → List (List Answer) → List (Option Answer) → Type 0
+AreSomeWorks = HaveDone DidSome
 
 -- each line of a session was answered, and it doesn't wait where all ended
 abbrev pub IsComplete : View → ℕ → List ScriptLine → List Answer → Type 0

@@ -1,6 +1,7 @@
 //! Laws of what all sessions did: each holds as it stands, and its function does nothing.
 ghost use Rattle.erm_works.specs.Cuts.{WorksAreACutRun};
 ghost use Rattle.erm_works.specs.Runs.{WorksAreARun};
+ghost use Rattle.erm_works.specs.Starved.{WorksAreAStarvedRun};
 ghost use Rattle.erm_works.specs.Works.{CompleteWorksAreAll, WorksAreFirst};
 
 /// Where each session was answered all its lines, and none waits in the world in which all ended, their answers put together and their
@@ -13,6 +14,11 @@ pub fn works_are_a_run()
 /// are an execution at once that was cut off.
 pub fn works_are_a_cut_run()
     ensures run { WorksAreACutRun }
+{}
+
+/// So they are where memory ran out for some sessions: of these the line in which it ran out has no answer.
+pub fn works_are_a_starved_run()
+    ensures run { WorksAreAStarvedRun }
 {}
 
 /// The answers of sessions are to the first lines of each, and to all of them where each work is complete: so they may be put together.

@@ -24,7 +24,7 @@ close_sessions-disk-requires-clause-idle g c =
 pub returns : goal.returns
 returns g c = record {
   ran = λ parts worked unless.
-      ran_beside g.L.RowLaw.law c.args.table c.args.opening.now g.B.Naming.began g.B.Naming.faults _ _ _ parts c.args.done.items _ _ c.take.new.self.works c.requires.begins c.take.ensures.sessions c.take.ensures.works
+      ran_beside g.L.RowLaw.law c.args.table c.args.opening.now g.B.Naming.began g.B.Naming.faults _ _ _ parts c.args.done.items _ c.take.new.self.works.items c.requires.begins c.take.ensures.sessions c.take.ensures.works
       c.close_sessions-disk.ensures.closes worked unless;
   failed = c.close_sessions-disk.ensures.failed;
 }

@@ -1,8 +1,10 @@
 use Rattle.std.proofs.Common.{sym, subst}
 use Rattle.erm_script.specs.declared.script.Command.{Command}
+use Rattle.erm_world.specs.Face.{Grows}
 use Rattle.erm_lines_at_once.specs.Answers.{WasAnsweredBeside}
 use Rattle.erm_worker.proofs.Kept.{aborted_ready, begun_ready, sealed_ready}
 use Rattle.erm_worker.proofs.Ready.{committed_ready, operated_ready}
+use Rattle.erm_worker.proofs.Short.{on_err}
 use Rattle.erm_worker.proofs.line.run.Goals as goal
 
 pub returns-in_ok-begin-in-Begin-clause-asked : goal.returns-in_ok-begin-in-Begin-clause-asked
@@ -58,4 +60,5 @@ returns-in_default g c =
       asked = c.operate.ensures.asked;
       ready = operated_ready c.operate.result (v.session seat) (t.session seat) c.args.receipt.now c.operate.ensures.ran c.operate.ensures.grows c.requires.ready;
       told = c.operate.ensures.told;
+      grown = on_err c.operate.result (Grows (v.session seat) (t.session seat)) c.operate.ensures.grows;
     }

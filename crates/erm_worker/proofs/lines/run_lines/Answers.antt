@@ -1,4 +1,4 @@
-use Rattle.std.proofs.Common.{◌≡◌, ℕ, List, [], ◌∷◌, ◌++◌, length, Option, Some, None, IfSome, refl, ap, sym, ◌∙◌, subst, arith}
+use Rattle.std.proofs.Common.{◌≡◌, ℕ, List, [], ◌∷◌, ◌++◌, ◌<◌, length, Option, Some, None, IfSome, refl, ap, sym, ◌∙◌, subst, arith}
 use Rattle.std.specs.List.{slice_get}
 use Rattle.std.proofs.lemmas.List.{length-append}
 use Rattle.std.proofs.lemmas.Option.{slice_get-get_or}
@@ -8,9 +8,12 @@ use Rattle.erm_world.specs.World.{phase_at}
 use Rattle.erm_beside.specs.Onward.{onward_itself, onward_then}
 use Rattle.erm_lines.specs.Executions.{line_moves}
 use Rattle.erm_lines_at_once.specs.Executions.{IsOwnRun}
-use Rattle.erm_worker.specs.Work.{GaveUp, IsReady, RanLine, WasLeft}
+use Rattle.erm_world.specs.Face.{Grows}
+use Rattle.erm_world.specs.World.{View}
+use Rattle.erm_worker.specs.Work.{GaveUp, IsReady, RanLine, RanShort, WasLeft}
 use Rattle.erm_worker.proofs.Left.{left_before}
 use Rattle.erm_worker.proofs.Runs.{line_more, no_lines, stopped_lines}
+use Rattle.erm_worker.proofs.Short.{on_err, short_there}
 use Rattle.erm_worker.proofs.lines.run_lines.Goals as goal
 
 pub loop-line-init : goal.loop-line-init
@@ -83,6 +86,21 @@ returns-in_default-clause-ran g c =
     λ f end.
     let none : RanLine f l None u t = subst (λ (o : Option Answer). RanLine f l o u t) c.in_default.is (c.in_ok-answer.ensures.ran f end) in
     stopped_lines f seat lines c.loop-line.answers.items l v u t at (so.ran f (c.run_line.ensures.onward.ends_so f end)) (subst (λ (n : ℕ). WasLeft f n (Some l) u t) own none)
+
+pub returns-in_err-answer-clause-short : goal.returns-in_err-answer-clause-short
+returns-in_err-answer-clause-short g c =
+    let seat = g.S.SharedSession.seat c.args.session.now in
+    let v = g.S.SharedSession.own c.args.session.now in
+    let mid = g.S.SharedSession.seat c.loop-line.session in
+    let u = g.S.SharedSession.own c.loop-line.session in
+    let so = c.loop-line.invariant in
+    let lines = c.args.lines.now in
+    let t = g.S.SharedSession.own c.run_line.new.session in
+    let fewer : length c.loop-line.answers.items < length lines = (let many = so.many in let less = c.loop-line-test.true in omega (arith, many, less)) in
+    on_err c.from_residual.result ((f : View) → g.S.SharedSession.ends c.run_line.new.session f → RanShort Grows f seat lines c.loop-line.answers.items v t)
+    (λ f end.
+    let before = c.run_line.ensures.onward.ends_so f end in
+    short_there f seat mid lines c.loop-line.answers.items v u t so.onward.seat_is fewer (so.ran f before) (g.met.S.SharedSession.within c.loop-line.session f before) c.in_err-answer.ensures.grown)
 
 pub loop-line-preserved : goal.loop-line-preserved
 loop-line-preserved g c =
