@@ -12,13 +12,7 @@ use erm_model::{RowLaw, Seat, Stamp};
 use erm_rule::{Pass, Table, store_back};
 
 /// Stores the stamp of a commit in the own back word, where its successor stamp is less.
-pub(crate) fn go_back<L: RowLaw>(
-    t: &Table<L>,
-    p: &mut Pass,
-    who: Seat,
-    stamp: Stamp,
-    succ: Stamp,
-)
+pub(crate) fn go_back<L: RowLaw>(t: &Table<L>, p: &mut Pass, who: Seat, stamp: Stamp, succ: Stamp)
     requires fits { Fits t.now.words.shared.table_id p.old }
     requires known { IsKnown (view p.old) }
     requires session { is_session who ≡ true }

@@ -73,9 +73,12 @@ untold_of (Err run.Memory) before after names script starved = starved
 pub opened_left : OpeningsAreLeft → (before mid : Option (List Step)) (state : State) (opened : OpenedLog) → WasLogOpened before mid state opened → (first : ℕ) → IsFirstObject (rows_of opened.rows.items) first
     → (names : List (List ℕ)) (script : List ScriptLine) (after : Option (List Step)) → after ≡ mid → Starved before after names script
 opened_left left before mid state opened was first is_first names script after same =
-    subst (λ (now : Option (List Step)). Starved before now names script) (sym same)
-    (state, was.found, left state opened.slots (start_of (opening_on opened first)) before mid (opens_table before mid state opened was first) was.disk (told_on opened first)
-    (starts_from before mid state opened was first is_first) names script)
+    subst (λ (now : Option (List Step)). Starved before now names script) (sym same) (
+      state,
+      was.found,
+      left state opened.slots (start_of (opening_on opened first)) before mid (opens_table before mid state opened was first) was.disk (told_on opened first)
+          (starts_from before mid state opened was first is_first) names script,
+    )
 
 module _ (laws : EndLaws) (before mid : Option (List Step)) (state : State) (opened : OpenedLog) (names : List (List ℕ)) (script : List ScriptLine) (room : Room)
     (may : MayRun before mid state opened names script room) (first : ℕ) (is_first : IsFirstObject (rows_of opened.rows.items) first) where

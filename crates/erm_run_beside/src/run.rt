@@ -64,9 +64,7 @@ pub(crate) fn work_beside<
         mut jobs,
         mut done,
     } = room;
-    make_jobs(
-        rt, table, desk, gate, halt, met, sessions, parts, &mut jobs,
-    );
+    make_jobs(rt, table, desk, gate, halt, met, sessions, parts, &mut jobs);
     work_all(rt, alloc, table, jobs.as_mut_slice());
     take_back(jobs, met, &mut done);
     done

@@ -4,4 +4,6 @@
 
 mod laws;
 
-pub use laws::{works_are_a_cut_run, works_are_a_run, works_are_a_starved_run, works_may_be_merged};
+pub use laws::{
+    works_are_a_cut_run, works_are_a_run, works_are_a_starved_run, works_may_be_merged,
+};

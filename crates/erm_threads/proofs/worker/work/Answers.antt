@@ -50,8 +50,8 @@ returns-in-Err-clause-worked g c =
       most = subst (λ (ls : List ScriptLine). length answers ≤ length ls) c.as_slice.ensures.value c.run.ensures.most;
       did = λ no f end. never (DidWork f seat c.args.job.now.lines.items answers None v t) no;
       some = λ f end. inr (
-          refl,
-          subst (λ (ls : List ScriptLine). RanShort WasGivenUp f seat ls answers v t) c.as_slice.ensures.value
-              (given_up_short f seat c.as_slice.result.now answers v u t (c.in-Err.ensures.short f (c.leave.ensures.onward.ends_so f end)) gave),
+        refl,
+        subst (λ (ls : List ScriptLine). RanShort WasGivenUp f seat ls answers v t) c.as_slice.ensures.value
+            (given_up_short f seat c.as_slice.result.now answers v u t (c.in-Err.ensures.short f (c.leave.ensures.onward.ends_so f end)) gave),
       );
     }
