@@ -1,6 +1,5 @@
 -- A session whose memory ran out in a line: its transaction may have gone on there, and it is given up.
-use Rattle.std.proofs.Common.{◌≡◌, ℕ, ◌<◌, ◌++◌, List, [], ◌∷◌, length, map, Result, Ok, Err, IfErr, append-nil, refl, sym, ap, ◌∙◌, subst, arith}
-use Rattle.erm_model.specs.declared.history.VersionRead.{VersionRead}
+use Rattle.std.proofs.Common.{◌≡◌, ℕ, ◌<◌, ◌++◌, List, [], ◌∷◌, length, map, Result, Ok, Err, IfErr, append-nil, refl, sym, ap, ◌∙◌, subst}
 use Rattle.erm_model.specs.declared.outcome.Phase.{Phase}
 use Rattle.erm_model.specs.declared.outcome.Phase.TheVariants.{Active, Idle, Sealed}
 use Rattle.erm_report.specs.declared.answer.Answer.{Answer}

@@ -11,7 +11,7 @@ use Rattle.erm_world.specs.World.{IsSession, Session, View, phase_at}
 use Rattle.erm_good_report.specs.Phases.{Closed, Closes}
 use Rattle.erm_good_at_once.specs.CutReports.{answered_of}
 use Rattle.erm_lines.specs.Executions.{Move, line_moves}
-use Rattle.erm_lines_at_once.specs.CutRuns.{IsCutPart, IsCutRunAtOnce, next_of}
+use Rattle.erm_lines_at_once.specs.CutRuns.{IsCutPart, next_of}
 use Rattle.erm_lines_at_once.specs.Executions.{all_moves}
 use Rattle.erm_worker.specs.Laws.{HasOwn}
 use Rattle.erm_worker.specs.Work.{WasGivenUp}

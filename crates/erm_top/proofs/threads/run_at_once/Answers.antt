@@ -10,5 +10,6 @@ run_at_once_on_disk-disk-requires-clause-script g c κs within =
 pub returns : goal.returns
 returns g c =
     let ends = rw c.deref-2.ensures.value at (rw c.deref.ensures.value at c.run_at_once_on_disk-disk.ensures.ended) in
+    let left = rw c.deref-2.ensures.value at (rw c.deref.ensures.value at c.run_at_once_on_disk-disk.ensures.untold) in
     tells_at_once c.args.script.now.names.items c.args.script.now.lines.items _ _ _ _ c.script_text-told.result c.run_at_once_on_disk-disk.result.ended c.script_text-told.ensures ends
-    c.run_at_once_on_disk-disk.ensures.untold c.run_at_once_on_disk-disk.ensures.counts
+    left c.run_at_once_on_disk-disk.ensures.counts
