@@ -9,14 +9,19 @@ use Rattle.erm_precommit.specs.declared.pre.Pre.{Pre}
 use Rattle.erm_precommit.specs.Pre.{fits_ring, no_claim_kept}
 use Rattle.erm_precommit.specs.Settle.{task_of, Stands}
 use Rattle.erm_precommit.proofs.Overwritten.{readers_cell}
-use Rattle.erm_precommit.proofs.Starts.{start_comes, start_stands}
+use Rattle.erm_precommit.proofs.Starts.{start_comes, start_ready, start_stands}
 use Rattle.erm_readers.specs.Calls.{IsAtReaders}
 use Rattle.erm_rule.specs.declared.view.View.{View}
-use Rattle.erm_rule.specs.Steps.{Told}
+use Rattle.erm_rule.specs.Steps.{Ready, Told}
 use Rattle.erm_rule.specs.Views.{part_of}
 use Rattle.erm_session.specs.declared.session.Session.{Session}
 use Rattle.erm_session.specs.declared.session.Stage.TheVariants as stage
 use Rattle.erm_session.specs.Session.{IsSession, StageIs}
+
+pub settle_ready : (pre : Pre) (s : Session) (v : View) → s.stage ≡ stage.Sealed pre → IsSession s (part_of v s.seat) → Ready v s.seat kind.LoadFlushed
+settle_ready pre s v stage_is is =
+    let was : StageIs (stage.Sealed pre) (part_of v s.seat) = subst (λ t. StageIs t (part_of v s.seat)) stage_is is.kept.stage in
+    start_ready pre v s.seat was.0 was.1 was.2
 
 module _ (pre : Pre) (s : Session) (v w : View) (flushed : ℕ) (stage_is : s.stage ≡ stage.Sealed pre) (is : IsSession s (part_of v s.seat)) (told : Told v s.seat kind.LoadFlushed flushed w) (room : fits_ring pre flushed ≡ true) where
   was : StageIs (stage.Sealed pre) (part_of v s.seat)

@@ -2,9 +2,12 @@ use Rattle.std.proofs.Common.{length, eqb, eqb-true, sym, ap, ◌∙◌}
 use Rattle.arrayvec.specs.ArrayVec.{ArrayVec}
 use Rattle.erm_precommit.specs.declared.pre.KeptRead.{KeptRead}
 use Rattle.erm_precommit.specs.Pre.{no_claim_kept}
-use Rattle.erm_session.proofs.Readers.{at_readers, begun_stands, first_cell}
+use Rattle.erm_session.proofs.Readers.{at_readers, begun_stands, first_cell, settle_ready}
 use Rattle.erm_session.proofs.Sought.{in_box}
 use Rattle.erm_session.proofs.tests.readers.other_readers.Goals as goal
+
+pub load_flushed-flushed-requires-clause-ready : goal.load_flushed-flushed-requires-clause-ready
+load_flushed-flushed-requires-clause-ready c = settle_ready c.in-Sealed.pre c.args.s.now c.args.p.now.me.0.view c.in-Sealed.is c.requires.stands.0
 
 pub readers-requires-clause-known : goal.readers-requires-clause-known
 readers-requires-clause-known c =

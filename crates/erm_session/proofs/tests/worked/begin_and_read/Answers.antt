@@ -10,6 +10,10 @@ pub read-requires-clause-known : goal.read-requires-clause-known
 read-requires-clause-known c =
     (ok_says (λ (begin : ℕ). DidBegin c.args.p.now.me.0.view c.args.s.now.seat begin c.begin.new.p.me.0.view) c.begin.result c.in_ok-begin.begin c.in_ok-begin.ensures.value c.begin.ensures.begun).known
 
+pub read-requires-2-clause-active : goal.read-requires-2-clause-active
+read-requires-2-clause-active c =
+    ok_says (λ (row : List ℕ). phase_of c.read.new.self.stage ≡ Active) c.read.result c.in_ok-ok.field-0 c.in_ok-ok.ensures.value c.read.ensures.active
+
 pub returns-clause-stands : goal.returns-clause-stands
 returns-clause-stands c = (
   subst (λ (q : ℕ). IsSession c.read-3.new.self (part_of c.read-3.new.p.me.0.view q)) (sym c.read-3.ensures.seat) c.read-3.ensures.stands,
