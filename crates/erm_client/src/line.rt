@@ -73,8 +73,9 @@ pub fn end<S: SharedSession, T: Turns, R: Wait>(
     ensures rests { phase_at (S.own session.new) (S.seat session.old) ≡ Active → ⊥ }
     ensures waits { result ≡ None → phase_at (S.own session.new) (S.seat session.old) ≡ Sealed → T.told turns.new }
 {
-    if let Phase::Idle = session.phase(shared) {
-        return None;
+    match session.phase(shared) {
+        Phase::Active => close_session(rt, session, shared, turns),
+        Phase::Sealed => close_session(rt, session, shared, turns),
+        _ => None,
     }
-    close_session(rt, session, shared, turns)
 }

@@ -1,5 +1,5 @@
 -- A seat between two calls.
-use Rattle.std.proofs.Common.{◌≡◌, ◌≢◌, ℕ, ◌<◌, Bool, true, List, [], ◌∷◌, length, refl, sym, ap, ◌∙◌, arith}
+use Rattle.std.proofs.Common.{◌≡◌, ◌≢◌, ℕ, ◌<◌, Bool, true, List, [], ◌∷◌, length, refl, sym, ap, ◌∙◌, arith, false}
 use Rattle.std.specs.Prelude.{nat_le, nat_lt, ◌&&◌}
 use Rattle.erm_model.specs.declared.limits.TheConstants.{SESSIONS}
 use Rattle.erm_machine.specs.declared.attempt.Attempt.{Attempt}
@@ -10,7 +10,7 @@ use Rattle.erm_machine.specs.declared.place.Place.TheVariants.{Active, Idle}
 use Rattle.erm_machine.specs.declared.task.Task.{Task}
 use Rattle.erm_machine.specs.Core.{blank}
 use Rattle.erm_machine.specs.Facts.{IsCurrent}
-use Rattle.erm_machine.specs.Seat.{is_active}
+use Rattle.erm_machine.specs.Seat.{is_active, is_snapshot}
 use Rattle.erm_machine.specs.Tasks.{TaskFits}
 use Rattle.erm_machine.specs.Words.{is_session}
 use Rattle.erm_core_steps.proofs.Stamps.{size_shown}
@@ -33,6 +33,10 @@ idle_blank _ t e current = absurd (cc)
 pub idle_between : (pl : Place) (t : Attempt) (u : Task) → pl ≡ Idle → TaskFits pl t u → IsBetween pl u
 idle_between Idle t u e fits = fits
 idle_between _ t u e fits = absurd (cc)
+
+pub idle_plain : (pl : Place) (t : Attempt) (u : Task) → pl ≡ Idle → TaskFits pl t u → is_snapshot u ≡ false
+idle_plain Idle t u e fits = ap is_snapshot fits
+idle_plain _ t u e fits = absurd (cc)
 
 active_none : (pl : Place) (t : Attempt) → is_active pl ≡ true → IsCurrent pl t → t.stamp ≡ 0
 active_none (Active tail) t e current = current.stamp

@@ -4,6 +4,8 @@ pub mod InReach
 pub mod Names
 pub mod OneWindow
 pub mod Parts
+pub mod Phases
 pub mod Places
+pub mod Snapshots
 pub mod StampTests
 pub mod WriteSkew

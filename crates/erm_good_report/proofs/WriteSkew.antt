@@ -22,14 +22,16 @@ use Rattle.erm_script.specs.declared.script.ScriptLine.{ScriptLine}
 use Rattle.erm_good_report.specs.Causes.{HasCauseOf}
 use Rattle.erm_good_report.specs.GoodReport.{IsGoodReport, OrderAgrees, Report, places_of}
 use Rattle.erm_good_report.specs.Opening.{InTurn, is_before}
-use Rattle.erm_good_report.specs.Phases.{FitsPhase, phase_of}
-use Rattle.erm_good_report.specs.Refusals.{HasCause, Moment, WasOver, moment_at}
+use Rattle.erm_good_report.specs.Phases.{FitsPhase, FitsSnapshot, phase_of}
+use Rattle.erm_good_report.specs.Refusals.{HasCause, Moment, WasOver, moment_at, most_end}
+use Rattle.erm_good_report.specs.Snapshots.{HasSafeCause, SnapshotsAgree}
 use Rattle.erm_good_report.specs.Stamps.{Told, StampsAgree, begin_told, place_told, stamp_drawn}
 use Rattle.erm_good_report.specs.Transactions.{Said, said_of, Transaction, transactions_of, history_of, stamp_of, stamp_of_ending, steps_of, Commits}
 use Rattle.erm_good_report.specs.Windows.{IsCommit, IsTightAt}
 use Rattle.erm_good_report.specs.WriteSkew.{first_opening, names, script, answers, report_with, WriteSkewIsExcluded}
 use Rattle.erm_good_report.proofs.Decided.{AreOverBelow, no_window_over, own_window, window_over}
 use Rattle.erm_good_report.proofs.Parts.{each_in, each_place, all_pairs_from_test, all_pairs_of_two, all_pairs_of_none, told_pass, told_from_test}
+use Rattle.erm_good_report.proofs.Snapshots.{no_snapshot}
 use Rattle.erm_good_report.proofs.StampTests.{begins_ascend, begins_stop, reach_from_test, stamps_ascend, stamps_begin, untold_after, untold_before, untold_in_reach}
 
 abbrev all_answers : List Answer
@@ -54,6 +56,9 @@ fits = All-from_recursion FitsTypes (report_with (answer.Excluded 47 38 38)) ((o
 -- ---- phases
 phases : (i : ℕ) (l : ScriptLine) (a : Answer) → slice_get script i ≡ Some l → slice_get all_answers i ≡ Some a → FitsPhase (phase_of l.session (take i said)) l.command a
 phases = each_place (λ i l a. FitsPhase (phase_of l.session (take i said)) l.command a) script all_answers (tt, (tt, (tt, (tt, (tt, (tt, (tt, (tt, (tt, (tt, (tt, (tt, (tt, (tt, tt))))))))))))))
+
+looks : (i : ℕ) (l : ScriptLine) (a : Answer) → slice_get script i ≡ Some l → slice_get all_answers i ≡ Some a → FitsSnapshot (phase_of l.session (take i said)) l.command a
+looks = each_place (λ i l a. FitsSnapshot (phase_of l.session (take i said)) l.command a) script all_answers (tt, (tt, (tt, (tt, (tt, (tt, (tt, (tt, (tt, (tt, (tt, (tt, (tt, (tt, tt))))))))))))))
 
 -- ---- stamps
 most_from : (m n : ℕ) → nat_le m n ≡ true → m ≤ n
@@ -219,6 +224,22 @@ both_over = each_in (λ u. (s p q : ℕ) → u.ending ≡ Commits s p q → s < 
 refusals : (i : ℕ) (l : ScriptLine) (a : Answer) → slice_get script i ≡ Some l → slice_get all_answers i ≡ Some a → HasCause (moment_at InTurn first_opening script all_answers told i l) l.command a
 refusals = each_place (λ i l a. HasCause (moment_at InTurn first_opening script all_answers told i l) l.command a) script all_answers (record { own = λ t is. tt; log = tt; unfilled = tt }, (record { own = λ t is. tt; log = tt; unfilled = tt }, (record { own = λ t is. tt; log = tt; unfilled = tt }, (record { own = λ t is. own_window _ t _; log = tt; unfilled = tt }, (record { own = λ t is. tt; log = tt; unfilled = tt }, (record { own = λ t is. tt; log = tt; unfilled = tt }, (record { own = λ t is. tt; log = tt; unfilled = tt }, (record { own = λ t is. tt; log = tt; unfilled = tt }, (record { own = λ t is. tt; log = tt; unfilled = tt }, (record { own = λ t is. tt; log = tt; unfilled = tt }, (record { own = λ t is. tt; log = tt; unfilled = tt }, (record { own = λ t is. tt; log = tt; unfilled = tt }, (record { own = λ t is. window_over (at_commit 12 13 1) t 38 38 13 first_over; log = tt; unfilled = tt }, (record { own = λ t is. no_window_over (at_commit 13 14 2) t 47 38 38 both_over; log = tt; unfilled = tt }, tt))))))))))))))
 
+-- ---- no line asks for a snapshot
+safe_causes : (i : ℕ) (l : ScriptLine) (a : Answer) → slice_get script i ≡ Some l → slice_get all_answers i ≡ Some a → l.command ≡ command.Safe
+    → HasSafeCause (moment_at InTurn first_opening script all_answers told i l) said a
+safe_causes = each_place (λ i l a. l.command ≡ command.Safe → HasSafeCause (moment_at InTurn first_opening script all_answers told i l) said a) script all_answers (λ is. absurd (cc), (λ is. absurd (cc), (λ is. absurd (cc), (λ is. absurd (cc), (λ is. absurd (cc), (λ is. absurd (cc), (λ is. absurd (cc), (λ is. absurd (cc), (λ is. absurd (cc), (λ is. absurd (cc), (λ is. absurd (cc), (λ is. absurd (cc), (λ is. absurd (cc), (λ is. absurd (cc), tt))))))))))))))
+
+safe_reach : (i : ℕ) (l : ScriptLine) (a : Answer) → slice_get script i ≡ Some l → slice_get all_answers i ≡ Some a → (begin : ℕ) → a ≡ answer.Safe begin
+    → begin ≤ most_end (moment_at InTurn first_opening script all_answers told i l)
+safe_reach = each_place (λ i l a. (begin : ℕ) → a ≡ answer.Safe begin → begin ≤ most_end (moment_at InTurn first_opening script all_answers told i l)) script all_answers (λ begin is. absurd (cc), (λ begin is. absurd (cc), (λ begin is. absurd (cc), (λ begin is. absurd (cc), (λ begin is. absurd (cc), (λ begin is. absurd (cc), (λ begin is. absurd (cc), (λ begin is. absurd (cc), (λ begin is. absurd (cc), (λ begin is. absurd (cc), (λ begin is. absurd (cc), (λ begin is. absurd (cc), (λ begin is. absurd (cc), (λ begin is. absurd (cc), tt))))))))))))))
+
+safe : SnapshotsAgree InTurn first_opening script all_answers told
+safe = record {
+  replies = λ session begin s has at. absurd (no_snapshot said refl session s has);
+  causes = safe_causes;
+  reach = λ i begin l at answered. safe_reach i l (answer.Safe begin) at answered begin refl;
+}
+
 -- ---- the serial order
 abbrev report : Report
 report = record { answers = all_answers; closed = []; order = history; pairs = record { key = at 0 10; value = 161 ∷ [] } ∷ record { key = at 0 20; value = 187 ∷ [] } ∷ [] }
@@ -256,7 +277,7 @@ it_is_good = record {
   each = refl;
   closes = record { each = refl; fits = λ c (k, found). cc };
   owes = record {
-    phases = record { fits = phases };
+    phases = record { fits = phases; snapshots = looks };
     stamps = stamps;
     snapshots = snapshots;
     causes = causes;
@@ -265,6 +286,7 @@ it_is_good = record {
       reach = reach_from_test (moment_at InTurn first_opening script all_answers told) script all_answers refl;
       untold = untold_in_reach InTurn first_opening script all_answers told refl;
     };
+    safe = safe;
   };
   order = order;
 }

@@ -15,7 +15,7 @@ ghost use Rattle.erm_lines.specs.Whole.{WasAnswered};
 use erm_model::{Outcome, Phase, Receipt, Seat};
 use erm_report::Answer;
 use erm_script::Command;
-use erm_world::{BeginStop, RowWorld, Wait};
+use erm_world::{BeginStop, RowWorld, SafeWorld, Wait};
 use std::alloc::AllocError;
 
 /// Begins a transaction.
@@ -131,9 +131,9 @@ pub fn commit<W: RowWorld>(world: &mut W, seat: Seat, receipt: &mut Option<Recei
     outcome(world, seat, receipt)
 }
 
-/// Closes a session at the end: aborts its transaction where it is active, and decides it where it is sealed, or says for what it
-/// waits. Where it commits, its receipt becomes the session's last.
-pub fn close_session<W: RowWorld>(
+/// Closes a session at the end: aborts its transaction where it is active, ends its snapshot where it has one, and decides its transaction where
+/// it is sealed, or says for what it waits. Where it commits, its receipt becomes the session's last.
+pub fn close_session<W: SafeWorld>(
     world: &mut W,
     seat: Seat,
     receipt: &mut Option<Receipt>,
@@ -148,8 +148,12 @@ pub fn close_session<W: RowWorld>(
 {
     match world.phase(seat) {
         Phase::Sealed => decide(world, seat, receipt),
-        _ => {
+        Phase::Active => {
             world.abort(seat);
+            Ok(Answer::Aborted)
+        }
+        _ => {
+            world.end_safe(seat);
             Ok(Answer::Aborted)
         }
     }

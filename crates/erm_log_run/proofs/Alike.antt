@@ -3,7 +3,7 @@ use Rattle.std.proofs.Common.{inl, inr, ◌≡◌, ℕ, zero, suc, ◌<◌, ◌�
 use Rattle.std.specs.Prelude.{◌⊎◌}
 use Rattle.erm_model.specs.declared.history.TransactionRecord.{TransactionRecord}
 use Rattle.erm_model.specs.declared.outcome.Phase.{Phase}
-use Rattle.erm_model.specs.declared.outcome.Phase.TheVariants.{Active, Idle, Sealed}
+use Rattle.erm_model.specs.declared.outcome.Phase.TheVariants.{Active, Idle, Sealed, Pending, Safe}
 use Rattle.erm_model.specs.History.{History, IsCertified, IsPredecessorStamp, IsSuccessorStamp}
 use Rattle.erm_model.specs.Member.{◌∈◌}
 use Rattle.erm_node.specs.Sound.{sound_law}
@@ -126,6 +126,8 @@ module _ (v : View) (holds : IsSerializable sound_law v) where
       by Active is a fits = absurd fits
       by Idle is a fits = absurd (cc)
       by Sealed is a fits = absurd (cc)
+      by Pending is a fits = absurd (cc)
+      by Safe is a fits = absurd (cc)
 
   alike_at : (first second : List Move) (t u : View) → ClosesAll v first t → ClosesAll v second u → (seat : ℕ) → IsSession v seat → end_of first seat ≡ end_of second seat
   alike_at first second t u c d seat session = by (v.session seat).stand refl

@@ -38,6 +38,7 @@ went_then w more then_more stand last (u, went, inr now) later = from (later u n
 stays_then : (first : Stand) (more then_more : List Finished) (stand last : Stand) → StaysSealed first more stand → StaysSealed stand then_more last → StaysSealed first (more ++ then_more) last
 stays_then world.idle more then_more stand last stays later = tt
 stays_then (world.active w) more then_more stand last stays later = tt
+stays_then (world.snapshot s) more then_more stand last stays later = tt
 stays_then (world.sealed w stamp) more then_more stand last (inl (fate, has, m)) later = inl (fate, has, ∈-before more then_more (record { work = w; fate = fate }) m)
 stays_then (world.sealed w stamp) more then_more stand last (inr now) later = from (subst (λ (at : Stand). StaysSealed at then_more last) now later)
   where

@@ -74,6 +74,7 @@ pub(crate) fn make_jobs<'a, L: RowLaw, D: Disk + Drop, B: Naming + Ledger, G: Ga
     desk: &'a Mutex<SharedDesk<L, D, B>>,
     gate: &'a G,
     halt: &'a AtomicU64,
+    begun: &'a AtomicU64,
     met: &mut Share<B>,
     sessions: Vec<TableSession<L>>,
     parts: Vec<Part>,
@@ -89,6 +90,11 @@ pub(crate) fn make_jobs<'a, L: RowLaw, D: Disk + Drop, B: Naming + Ledger, G: Ga
     requires room { vec_len parts ≤ vec_capacity jobs.old }
     ensures jobs { AreJobs sessions.items (map (λ p. p.lines.items) parts.items) jobs.new.items }
 {
+    let begun = if 1 < sessions.len() {
+        Some(begun)
+    } else {
+        None
+    };
     let mut left = sessions.into_iter();
     let mut seat: Seat = 0;
     for part in parts {
@@ -96,7 +102,16 @@ pub(crate) fn make_jobs<'a, L: RowLaw, D: Disk + Drop, B: Naming + Ledger, G: Ga
             unreachable!();
         };
         seat += 1;
-        let turns = DeskTurns::new(rt, table, desk, gate, halt, met.split_off(1, 0), seat);
+        let turns = DeskTurns::new(
+            rt,
+            table,
+            desk,
+            gate,
+            halt,
+            begun,
+            met.split_off(1, 0),
+            seat,
+        );
         jobs.push_reserved(Job {
             session,
             turns,

@@ -1,5 +1,6 @@
-//! The calls of a session on the words that threads share: begin, read, claim, write, tidy, seal, settle and abort, each whole, over what the
-//! session keeps beside its pass. None of the calls waits, and none takes memory once the session is made.
+//! The calls of a session on the words that threads share: begin, read, claim, write, tidy, seal, settle and abort, and those of a snapshot
+//! that only reads, each whole, over what the session keeps beside its pass. None of the calls waits, and none takes memory once the session
+//! is made.
 #![tactic(auto)]
 
 mod finding;
@@ -11,6 +12,7 @@ mod room;
 mod sealing;
 mod session;
 mod settling;
+mod snapshots;
 #[cfg(test)]
 mod tests;
 mod tidying;

@@ -17,8 +17,10 @@ use Rattle.erm_machine.specs.Core.{Core, spot_of, word_at}
 use Rattle.erm_machine.specs.Seat.{with_task}
 use Rattle.erm_machine.specs.Sound.{Sound}
 use Rattle.erm_machine.specs.Step.{after_event}
+use Rattle.erm_machine.specs.declared.task.Task.{Task}
 use Rattle.erm_core_stays.specs.Staying.{Rises}
 use Rattle.erm_core_view.specs.Views.{finished_of, session_of, stand_of}
+use Rattle.erm_core_view.proofs.Snapshots.{active_plain, plain_new, shown_work}
 use Rattle.erm_rule.specs.declared.view.Book.{Book}
 use Rattle.erm_rule.specs.Books.{IsBookOf}
 use Rattle.erm_rule.specs.Steps.{Booked}
@@ -45,10 +47,10 @@ use Rattle.erm_core_shown.specs.Shown.{given_up_of}
 use Rattle.erm_core_shown.proofs.Given.{given_stays}
 
 -- the session of a seat that has made an object
-made_shown : (pl : Place) (t : Attempt) (oid : ℕ) → world.phase_of (stand_of pl t) ≡ phase.Active
-    → stand_of pl (record t { made = t.made ++ oid ∷ [] }) ≡ world.active (making oid (world.work_of (stand_of pl t)))
-made_shown (place.Active tail) t oid active = refl
-made_shown _ t oid active = absurd (cc)
+made_shown : (pl : Place) (u : Task) (t : Attempt) (oid : ℕ) → world.phase_of (stand_of pl u t) ≡ phase.Active
+    → stand_of pl task.Rest (record t { made = t.made ++ oid ∷ [] }) ≡ world.active (making oid (world.work_of (stand_of pl u t)))
+made_shown (place.Active tail) u t oid active = ap (λ (w : Work). world.active (making oid w)) (sym (shown_work u t (plain_new u t (active_plain u t active))))
+made_shown _ u t oid active = absurd (cc)
 
 abbrev makes : ℕ → Session → Session
 makes oid r = record { over = r.over; stand = world.active (making oid (world.work_of r.stand)) }
@@ -78,10 +80,10 @@ module _ (law : Law) (seat tail flushed : ℕ) (b e : Book) (start : e.start ≡
   did_make oid active did =
       let x = part_of b.view seat in
       let same = own_is seat tail flushed b in
-      let now : world.phase_of (stand_of x.place x.current) ≡ phase.Active = sym (ap (λ (r : Session). world.phase_of r.stand) same) ∙ active in
+      let now : world.phase_of (stand_of x.place x.task x.current) ≡ phase.Active = sym (ap (λ (r : Session). world.phase_of r.stand) same) ∙ active in
       let after : part_of e.view seat ≡ made_part oid x = part_of-changed b.view seat e.view (made_part oid x) x held did.view_is in
       own_becomes seat tail flushed b e (makes oid (own.session seat)) start
-      (ap session_of after ∙ ap (λ (st : Stand). let r : Session = record { over = map finished_of x.over; stand = st } in r) (made_shown x.place x.current oid now) ∙ ap (makes oid) (sym same))
+      (ap session_of after ∙ ap (λ (st : Stand). let r : Session = record { over = map finished_of x.over; stand = st } in r) (made_shown x.place x.task x.current oid now) ∙ ap (makes oid) (sym same))
       (ap given_up_of after ∙ given_stays x (made_part oid x) refl refl)
 
   made_later : (oid : ℕ) → (own.session seat).stand ≡ world.active (world.work_of (own.session seat).stand) → DidMake own seat oid next → IsLater (own.session seat) (next.session seat)

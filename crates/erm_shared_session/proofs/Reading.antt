@@ -96,7 +96,7 @@ read_shows : (r : Read) (words : Cell) (notes : List ℕ) (x : Part) → is_acti
   over = map finished_of x.over;
   stand = world.active (reading (read_of r) (work_of x.current));
 }
-read_shows r words notes x active = (shows_work x (reading (read_of r) (work_of x.current)) (read_part r words notes x) refl active (read_work r words notes x)).shows
+read_shows r words notes x active = (shows_work x (reading (read_of r) (work_of x.current)) (read_part r words notes x) refl active refl (read_work r words notes x)).shows
 
 one_read : (r : VersionRead) (w : Work) → Extends w (reading r w)
 one_read r w = record {
@@ -325,7 +325,7 @@ module _ (law : Law) (seat tail flushed : ℕ) (b : Book) (may : MayCall law sea
       excluded new ended =
           let at : ℕ = max tail (pred + 1) in
           let next = own_view seat at flushed e in
-          let now : world.phase_of (stand_of r.part.place r.part.current) ≡ phase.Active = ap (λ (s : Session). world.phase_of s.stand) r.shows in
+          let now : world.phase_of (stand_of r.part.place r.part.task r.part.current) ≡ phase.Active = ap (λ (s : Session). world.phase_of s.stand) r.shows in
           let after : part_of e.view seat ≡ left_part Abort (released_all (part_of m.view seat)) =
           part_of-changed m.view seat e.view (left_part Abort (released_all (part_of m.view seat))) r.part r.held_then ended.view_is
           in

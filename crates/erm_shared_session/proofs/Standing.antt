@@ -18,6 +18,7 @@ use Rattle.erm_machine.specs.Tasks.{TaskFits}
 use Rattle.erm_cells.specs.Calls.{starts_anew}
 use Rattle.erm_core_stays.specs.Staying.{Rises}
 use Rattle.erm_core_view.specs.Views.{IsBetween, stand_of}
+use Rattle.erm_core_view.proofs.Snapshots.{starts_between, starts_shows}
 use Rattle.erm_rule.specs.declared.rule.Table.{Table}
 use Rattle.erm_rule.specs.declared.view.Book.{Book}
 use Rattle.erm_rule.specs.Books.{IsAfter, IsBookOf, book}
@@ -32,6 +33,7 @@ use Rattle.erm_session.specs.declared.session.Stage.TheVariants as stage
 use Rattle.erm_session.specs.Session.{IsSession, StageIs, phase_of}
 use Rattle.erm_beside.specs.Laws.{GoesOnward}
 use Rattle.erm_beside.specs.Later.{IsLater}
+use Rattle.erm_world.specs.Snapshots.{snapshot_not_active, snapshot_not_idle}
 use Rattle.erm_world.specs.World.{Stand, View, phase_at}
 use Rattle.erm_world.specs.World as world
 use Rattle.erm_own_view.specs.Own.{EndsIn, MayCall, own_view}
@@ -40,21 +42,25 @@ use Rattle.erm_shared_session.specs.declared.session.TableSession.{TableSession}
 use Rattle.erm_shared_session.specs.Stands.{Ends, Stands, own_of, seat_of}
 
 -- THE STAGE of a session is its seat's.
-idle_phase : (pl : Place) (t : Attempt) → pl ≡ place.Idle → phase.Idle ≡ world.phase_of (stand_of pl t)
-idle_phase pl t is = sym (ap (λ (p : Place). world.phase_of (stand_of p t)) is)
+idle_phase : (pl : Place) (u : Task) (t : Attempt) → pl ≡ place.Idle → phase.Idle ≡ world.phase_of (stand_of pl u t)
+idle_phase pl u t is = sym (ap (λ (p : Place). world.phase_of (stand_of p u t)) is)
 
-active_phase : (pl : Place) (t : Attempt) → is_active pl ≡ true → phase.Active ≡ world.phase_of (stand_of pl t)
-active_phase (place.Active tail) t is = refl
-active_phase _ t is = absurd (cc)
+active_phase : (pl : Place) (u : Task) (t : Attempt) → is_active pl ≡ true → may_start u ≡ true → phase.Active ≡ world.phase_of (stand_of pl u t)
+active_phase (place.Active tail) u t is starts = sym (ap world.phase_of (starts_shows u t starts))
+active_phase _ u t is starts = absurd (cc)
 
-sealed_phase : (pl : Place) (t : Attempt) → is_sealed pl ≡ true → phase.Sealed ≡ world.phase_of (stand_of pl t)
-sealed_phase (place.Sealed tail stamp) t is = refl
-sealed_phase _ t is = absurd (cc)
+sealed_phase : (pl : Place) (u : Task) (t : Attempt) → is_sealed pl ≡ true → phase.Sealed ≡ world.phase_of (stand_of pl u t)
+sealed_phase (place.Sealed tail stamp) u t is = refl
+sealed_phase _ u t is = absurd (cc)
 
-phase_is : (g : Stage) (x : Part) → StageIs g x → phase_of g ≡ world.phase_of (stand_of x.place x.current)
-phase_is stage.Idle x is = idle_phase x.place x.current is
-phase_is (stage.Active t) x is = active_phase x.place x.current is.0
-phase_is (stage.Sealed t) x is = sealed_phase x.place x.current is.0
+pub anew_starts : (u : Task) → starts_anew u ≡ true → may_start u ≡ true
+anew_starts (task.Cleared oid) e = refl
+anew_starts _ e = e
+
+phase_is : (g : Stage) (x : Part) → StageIs g x → phase_of g ≡ world.phase_of (stand_of x.place x.task x.current)
+phase_is stage.Idle x is = idle_phase x.place x.task x.current is
+phase_is (stage.Active t) x is = active_phase x.place x.task x.current is.0 (anew_starts x.task is.1)
+phase_is (stage.Sealed t) x is = sealed_phase x.place x.task x.current is.0
 
 -- it has its seat
 pub active_held : (pl : Place) → is_active pl ≡ true → is_vacant pl ≡ false
@@ -77,12 +83,8 @@ session_held s b seat is = held_part b.view seat (stage_held s.stage (part_of b.
 idle_between : (pl : Place) (t : Attempt) (u : Task) → pl ≡ place.Idle → TaskFits pl t u → IsBetween pl u
 idle_between pl t u is fits = subst (λ (p : Place). TaskFits p t u → IsBetween p u) (sym is) (λ rests. rests) fits
 
-pub anew_starts : (u : Task) → starts_anew u ≡ true → may_start u ≡ true
-anew_starts (task.Cleared oid) e = refl
-anew_starts _ e = e
-
 active_between : (pl : Place) (u : Task) → is_active pl ≡ true → may_start u ≡ true → IsBetween pl u
-active_between (place.Active tail) u is starts = starts
+active_between (place.Active tail) u is starts = starts_between u starts
 active_between _ u is starts = absurd (cc)
 
 sealed_between : (pl : Place) (u : Task) → is_sealed pl ≡ true → may_settle u ≡ true → IsBetween pl u
@@ -110,6 +112,7 @@ active_stand : (st : Stand) → world.phase_of st ≡ phase.Active → st ≡ wo
 active_stand world.idle active = absurd (cc)
 active_stand (world.active w) active = refl
 active_stand (world.sealed w stamp) active = absurd (cc)
+active_stand (world.snapshot s) active = absurd (snapshot_not_active s active)
 
 pub own_active : {L : Type 0} (s : TableSession L) → phase_at (own_of s) (seat_of s) ≡ phase.Active → ((own_of s).session (seat_of s)).stand ≡ world.active (world.work_of ((own_of s).session (seat_of s)).stand)
 own_active s active = active_stand ((own_of s).session (seat_of s)).stand active
@@ -118,6 +121,7 @@ idle_stand : (st : Stand) → world.phase_of st ≡ phase.Idle → st ≡ world.
 idle_stand world.idle idle = refl
 idle_stand (world.active w) idle = absurd (cc)
 idle_stand (world.sealed w stamp) idle = absurd (cc)
+idle_stand (world.snapshot s) idle = absurd (snapshot_not_idle s idle)
 
 pub own_idle : {L : Type 0} (s : TableSession L) → phase_at (own_of s) (seat_of s) ≡ phase.Idle → ((own_of s).session (seat_of s)).stand ≡ world.idle
 own_idle s idle = idle_stand ((own_of s).session (seat_of s)).stand idle

@@ -4,6 +4,7 @@ use Rattle.std.proofs.lemmas.List.{length-append}
 use Rattle.erm_model.specs.declared.limits.TheConstants.{TABLE_CELLS}
 use Rattle.erm_model.specs.declared.row_stop.RowStop.{RowStop}
 use Rattle.erm_model.specs.RowTransaction.{Law, did_claim}
+use Rattle.erm_machine.specs.declared.task.Task.TheVariants as task
 use Rattle.erm_machine.specs.declared.event.Kind.{Kind}
 use Rattle.erm_machine.specs.declared.limits.TheConstants.{ANNOUNCERS}
 use Rattle.erm_machine.specs.declared.part.Part.{Part}
@@ -34,6 +35,7 @@ use Rattle.erm_own_view.proofs.Own.{own_passes}
 use Rattle.erm_shared_session.proofs.Claiming as claiming_of
 use Rattle.erm_shared_session.proofs.Claiming.{AtWork, Leaves}
 use Rattle.erm_shared_session.proofs.Claimed.{Returned}
+use Rattle.erm_core_view.proofs.Calm.{plain_if}
 
 -- THE SEAT'S PART is in the view
 abbrev pub Held : ℕ → Book → Type 0
@@ -98,7 +100,7 @@ module _ (law : Law) (seat tail flushed : ℕ) (b e : Book) (start : e.start ≡
   did_tidy : TellsCommits own → (oid count : ℕ) → TidiesObject b.view seat oid count e.view → DidClaim own seat oid next
   did_tidy tells oid count (again_tidied has did) =
       let y : Part = tidied_part did.cut.found.tail did.cut.done.cut part in
-      let leaves : Leaves seat tail flushed b e start held at y (claiming_of.work seat tail flushed b e start held at) = record { over = refl; active = at.active; work_is = refl; given = refl } in
+      let leaves : Leaves seat tail flushed b e start held at y (claiming_of.work seat tail flushed b e start held at) = record { over = refl; active = at.active; plain = plain_if _ task.Draws task.Rest refl refl; work_is = refl; given = refl } in
       calls.before (claiming_of.same_now seat tail flushed b e start held at y leaves (part_of-changed b.view seat e.view y part held did.view_is))
       (ap (λ (w : Work). is_claimed w.claims oid) (claiming_of.own_work seat tail flushed b e start held at) ∙ claimed_from part.current.writes has.0 no_claim oid has.1 has.2)
   did_tidy tells oid count (now_claimed none claims) = claiming_of.did_claim seat tail flushed b e start held at tells oid claims

@@ -144,7 +144,7 @@ set_shows x place oid row active within is only =
     let claims : work_of (part_with_rows place row row true task.Rest x).current ≡ setting oid row (work_of x.current) =
     ap (λ (vs : List VersionWritten). record (work_of x.current) { claims = vs }) (rows_set x.current.writes place oid row within is only)
     in
-    (shows_work x (setting oid row (work_of x.current)) (part_with_rows place row row true task.Rest x) refl active claims).shows
+    (shows_work x (setting oid row (work_of x.current)) (part_with_rows place row row true task.Rest x) refl active refl claims).shows
 
 starts_copy : (u : Task) → may_start u ≡ true → is_copying u ≡ false
 starts_copy (task.Copies word) e = absurd (cc)

@@ -38,6 +38,7 @@ begin_now seat None stand t now is active = absurd (cc is)
 begin_now seat (Some u) world.idle t now is active = absurd now
 begin_now seat (Some u) (world.active w) t now is active = let same : u ≡ t = cc is in ap (λ (x : Transaction). x.begin) (sym same) ∙ now.0.work.begin
 begin_now seat (Some u) (world.sealed w stamp) t now is active = absurd (cc active)
+begin_now seat (Some u) (world.snapshot s) t now is active = absurd now
 
 -- NUMBERS of such lines.
 pub new_keys-append : (sessions : ℕ) (before said : List Said) (s : Said) (n : ℕ) → HaveNewKeys sessions before said n → HaveNewKeys sessions before (said ++ s ∷ []) n

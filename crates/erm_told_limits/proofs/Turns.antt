@@ -1,7 +1,7 @@
 -- Each line, whatever its answer: how its session has gone on, that its transaction is a run still, and how far the log went on.
 use Rattle.std.proofs.Common.{◌≡◌, ℕ, ◌≤◌, ◌⊎◌, Bool, true, false, List, [], ◌++◌, Option, Some, None, refl, sym, ap, subst, inl, inr, arith}
 use Rattle.erm_model.specs.declared.outcome.Phase.{Phase}
-use Rattle.erm_model.specs.declared.outcome.Phase.TheVariants.{Active, Idle, Sealed}
+use Rattle.erm_model.specs.declared.outcome.Phase.TheVariants.{Active, Idle, Sealed, Pending, Safe}
 use Rattle.erm_model.specs.declared.row_stop.RowStop.{RowStop}
 use Rattle.erm_model.specs.RowTransaction as rows
 use Rattle.erm_model.specs.RowTransaction.{Event}
@@ -10,6 +10,7 @@ use Rattle.erm_model.specs.Run.{Step}
 use Rattle.erm_node.specs.Sound.{sound_law}
 use Rattle.erm_world.specs.Calls.{DidSeal, IsDone}
 use Rattle.erm_world.specs.Laws.{IsSerializable}
+use Rattle.erm_world.specs.Snapshots.{snapshot_not_idle}
 use Rattle.erm_world.specs.World.{Fate, IsSession, Session, Stand, View, Work, begun, phase_at, phase_of, size_of, work_at, work_of}
 use Rattle.erm_world.specs.World as world
 use Rattle.erm_world.proofs.Txns.{stopped}
@@ -41,11 +42,18 @@ wanted Active Idle e = absurd (cc)
 wanted Active Sealed e = absurd (cc)
 wanted Sealed Idle e = absurd (cc)
 wanted Sealed Active e = absurd (cc)
+wanted Idle Pending e = absurd (cc)
+wanted Idle Safe e = absurd (cc)
+wanted Active Pending e = absurd (cc)
+wanted Active Safe e = absurd (cc)
+wanted Sealed Pending e = absurd (cc)
+wanted Sealed Safe e = absurd (cc)
 
 pub idle_stand : (stand : Stand) → phase_of stand ≡ Idle → stand ≡ world.idle
 idle_stand world.idle e = refl
 idle_stand (world.active w) e = absurd (cc)
 idle_stand (world.sealed w stamp) e = absurd (cc)
+idle_stand (world.snapshot s) e = absurd (snapshot_not_idle s e)
 
 module _ (P : ℕ → Type 0) (v : View) (seat : ℕ) (t : View) where
   within_one : (m k : ℕ) (o : ℕ) → o ≤ 1 → Turned P 0 0 o v seat t → Turned P m k 1 v seat t

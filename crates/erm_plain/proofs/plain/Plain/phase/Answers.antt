@@ -13,8 +13,8 @@ use Rattle.erm_seat.specs.Parts.{part_of}
 use Rattle.erm_world.specs.World.{phase_of}
 use Rattle.erm_plain.proofs.plain.Plain.phase.Goals as goal
 
-pub seat-requires : goal.seat-requires
-seat-requires g c =
+pub seat-state-requires : goal.seat-state-requires
+seat-state-requires g c =
     let seat = c.args.seat in
     let session = session_of_few c.args.self.now.sessions seat (core_of c.args.self.now.state) c.requires.stands.quiet c.requires.session.0 c.requires.session.1 in
     let low : seat ≤ SESSIONS = leb-true seat SESSIONS (and_parts (ltb 0 seat) (leb seat SESSIONS) session).1 in
