@@ -1,8 +1,6 @@
 -- What sessions did, once their table is closed.
-use Rattle.std.proofs.Common.{◌≡◌, ℕ, ◌+◌, ◌≤◌, Bool, true, false, List, Vec, length, map, Ok, inl, inr, refl, sym, ap, ◌∙◌, subst, arith}
+use Rattle.std.proofs.Common.{◌≡◌, ℕ, ◌+◌, ◌≤◌, Bool, true, false, List, length, map, inl, inr, refl, sym, ap, ◌∙◌, subst, arith}
 use Rattle.std.specs.Prelude.{slice_get, Option, Some, None}
-use Rattle.std.specs.declared.alloc.AllocError.{AllocError}
-use Rattle.std.specs.declared.alloc.Global.{Global}
 use Rattle.std.proofs.lemmas.List.{length-map}
 use Rattle.std.proofs.lemmas.Option.{slice_get_cases}
 use Rattle.erm_model.specs.declared.outcome.Phase.TheVariants.{Active, Idle, Sealed}
@@ -26,7 +24,6 @@ use Rattle.erm_engine.specs.Closed.{AllRest, AreDone}
 use Rattle.erm_engine.specs.Ended.{HasEnded, world_of}
 use Rattle.erm_engine.specs.Opened.{opened_view}
 use Rattle.erm_engine.proofs.Joined.{at_within}
-use Rattle.erm_run_beside.specs.declared.work.Ran.{Ran}
 use Rattle.erm_run_beside.specs.declared.work.SessionWork.{SessionWork}
 use Rattle.erm_run_beside.specs.Closing.{ClosesDesk}
 use Rattle.erm_run_beside.specs.Ended.{AreWholeUnless, AreWorked, HasWorked, IsWholeUnless}

@@ -1,5 +1,5 @@
 //! The jobs of the sessions' workers.
-ghost use Rattle.std.specs.Prelude.{◌≡◌, ◌≤◌, [], IfOk, map, vec_capacity, vec_len};
+ghost use Rattle.std.specs.Prelude.{◌≡◌, ◌↔◌, ◌<◌, ◌≤◌, [], IfOk, IsSome, map, vec_capacity, vec_len};
 ghost use Rattle.std.specs.List.{All};
 ghost use Rattle.erm_model.specs.declared.limits.TheConstants.{SESSIONS};
 ghost use Rattle.erm_run_beside.specs.Jobs.{AreJobs, HasAllRoom, HasRoom};
@@ -67,6 +67,13 @@ pub(crate) fn make_room<S, T>(
     }
 }
 
+// What workers count the transactions by that they begin, where there are several: one alone keeps nobody waiting.
+fn of_several(many: usize, begun: &AtomicU64) -> Option<&AtomicU64>
+    ensures { IsSome result ↔ (1 < many) }
+{
+    if 1 < many { Some(begun) } else { None }
+}
+
 // The jobs of all sessions, in order, for which there is room. The worker of each has a part of this share.
 pub(crate) fn make_jobs<'a, L: RowLaw, D: Disk + Drop, B: Naming + Ledger, G: Gate, R: Wait>(
     rt: &'a R,
@@ -74,6 +81,7 @@ pub(crate) fn make_jobs<'a, L: RowLaw, D: Disk + Drop, B: Naming + Ledger, G: Ga
     desk: &'a Mutex<SharedDesk<L, D, B>>,
     gate: &'a G,
     halt: &'a AtomicU64,
+    begun: &'a AtomicU64,
     met: &mut Share<B>,
     sessions: Vec<TableSession<L>>,
     parts: Vec<Part>,
@@ -89,6 +97,7 @@ pub(crate) fn make_jobs<'a, L: RowLaw, D: Disk + Drop, B: Naming + Ledger, G: Ga
     requires room { vec_len parts ≤ vec_capacity jobs.old }
     ensures jobs { AreJobs sessions.items (map (λ p. p.lines.items) parts.items) jobs.new.items }
 {
+    let begun = of_several(sessions.len(), begun);
     let mut left = sessions.into_iter();
     let mut seat: Seat = 0;
     for part in parts {
@@ -96,7 +105,16 @@ pub(crate) fn make_jobs<'a, L: RowLaw, D: Disk + Drop, B: Naming + Ledger, G: Ga
             unreachable!();
         };
         seat += 1;
-        let turns = DeskTurns::new(rt, table, desk, gate, halt, met.split_off(1, 0), seat);
+        let turns = DeskTurns::new(
+            rt,
+            table,
+            desk,
+            gate,
+            halt,
+            begun,
+            met.split_off(1, 0),
+            seat,
+        );
         jobs.push_reserved(Job {
             session,
             turns,

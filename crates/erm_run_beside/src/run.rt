@@ -42,6 +42,7 @@ pub(crate) fn work_beside<
     desk: &'a Mutex<SharedDesk<L, D, B>>,
     gate: &'a G,
     halt: &'a AtomicU64,
+    begun: &'a AtomicU64,
     met: &mut Share<B>,
     sessions: Vec<TableSession<L>>,
     room: Room<TableSession<L>, DeskTurns<'a, L, D, B, G, R>>,
@@ -64,7 +65,9 @@ pub(crate) fn work_beside<
         mut jobs,
         mut done,
     } = room;
-    make_jobs(rt, table, desk, gate, halt, met, sessions, parts, &mut jobs);
+    make_jobs(
+        rt, table, desk, gate, halt, begun, met, sessions, parts, &mut jobs,
+    );
     work_all(rt, alloc, table, jobs.as_mut_slice());
     take_back(jobs, met, &mut done);
     done

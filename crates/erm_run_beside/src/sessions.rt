@@ -105,8 +105,9 @@ pub fn run_opened<
     let desk = Desk::<L, D, B>::with(flusher, disk, flush);
     let desk = Mutex::new(SharedDesk::new(desk, book));
     let halt = AtomicU64::new(0);
+    let begun = AtomicU64::new(0);
     let done = work_beside(
-        rt, alloc, opening, &table, &desk, gate, &halt, &mut met, sessions, room,
+        rt, alloc, opening, &table, &desk, gate, &halt, &begun, &mut met, sessions, room,
     );
     let desk = desk.into_inner().into_desk(&mut met);
     let (disk, ran) = end_sessions(opening, table, desk, done, idle, apart);

@@ -1,4 +1,4 @@
-use Rattle.std.proofs.Common.{ℕ, List, Result, IfOk, length, map, ap, ◌∙◌, subst}
+use Rattle.std.proofs.Common.{Result, IfOk, length, map, subst}
 use Rattle.std.specs.declared.alloc.AllocError.{AllocError}
 use Rattle.erm_model.specs.Rows.{rows_of}
 use Rattle.erm_start.proofs.First.{new_unreached}

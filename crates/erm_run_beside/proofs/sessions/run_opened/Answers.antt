@@ -1,7 +1,6 @@
-use Rattle.std.proofs.Common.{◌≡◌, ◌<◌, ℕ, List, map, sym, ap, ◌∙◌, subst}
+use Rattle.std.proofs.Common.{◌<◌, List, map, sym, ap, ◌∙◌, subst}
 use Rattle.erm_script.specs.declared.script.ScriptLine.{ScriptLine}
 use Rattle.erm_rule.specs.declared.view.Start.{Start}
-use Rattle.erm_engine.specs.Opened.{AreNew}
 use Rattle.erm_engine.proofs.GivenUp.{new_idle}
 use Rattle.erm_run_beside.specs.Ended.{AreWholeUnless, AreWorked}
 use Rattle.erm_run_beside.specs.Jobs.{AreLines}
