@@ -26,7 +26,7 @@ use Rattle.erm_rule.specs.Views.{part_in, part_of, with_part}
 use Rattle.erm_rule.proofs.Numbered.{known_after}
 use Rattle.erm_rule.proofs.Parts.{with_part-same}
 use Rattle.erm_rule.proofs.Stored.{own_within}
-use Rattle.erm_rule.proofs.Telling.{changed_here, held_part}
+use Rattle.erm_rule.proofs.Telling.{changed_here, held_part, part_of-changed}
 use Rattle.erm_cells.specs.Heads.{DidStoreHead, MayStoreHead, after_head, head_value_at, head_word_at, headed_part, link_of, with_own_head}
 use Rattle.erm_cells.specs.Placed.{Owns, own_kind, place_of}
 use Rattle.erm_cells.proofs.Claimed.{claim_again, claim_set, claims_set}
@@ -242,6 +242,9 @@ module _ (v : View) (who cell stamp : ℕ) (link : Option ℕ) (older : ℕ) (ol
 
     pub head_held : part_in u who ≡ Some (so_far n)
     head_held = changed_here v who u (so_far n) x has loop.view_is
+
+    pub head_place : place_of cell (part_of u who) ≡ place_of cell x
+    head_place = ap (place_of cell) (part_of-changed v who u (so_far n) x has loop.view_is) ∙ there
 
     pub head_owns : Owns cell (part_of u who)
     head_owns =

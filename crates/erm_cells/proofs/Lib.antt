@@ -5,7 +5,6 @@ pub mod Copied
 pub mod Drawing
 pub mod Heading
 pub mod Heads
-pub mod Linking
 pub mod Loading
 pub mod Placing
 pub mod Rating

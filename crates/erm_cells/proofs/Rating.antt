@@ -5,9 +5,11 @@ use Rattle.std.proofs.lemmas.Bool.{eq-eqb, lt-ltb, ne_eqb}
 use Rattle.std.proofs.lemmas.List.{length-append, length-map}
 use Rattle.erm_model.specs.declared.limits.TheConstants.{TABLE_CELLS}
 use Rattle.erm_model.specs.Member.{◌∈◌}
+use Rattle.erm_model.specs.RowTransaction.{Law}
 use Rattle.erm_model.proofs.Members.{∈-at}
 use Rattle.erm_machine.specs.declared.attempt.OwnCell.{OwnCell}
 use Rattle.erm_machine.specs.declared.event.Counter.TheVariants.{Cells}
+use Rattle.erm_machine.specs.declared.event.Kind.{Kind}
 use Rattle.erm_machine.specs.declared.event.Kind.TheVariants as kind
 use Rattle.erm_machine.specs.declared.limits.TheConstants.{ANNOUNCERS, OBJECT_LIMIT}
 use Rattle.erm_machine.specs.declared.part.Part.{Part}
@@ -24,8 +26,8 @@ use Rattle.erm_machine.specs.Step.{part_after}
 use Rattle.erm_machine.specs.Words.{blank_cell}
 use Rattle.erm_rule.specs.declared.view.Book.{Book}
 use Rattle.erm_rule.specs.declared.view.View.{View}
-use Rattle.erm_rule.specs.Books.{LastFound, WasSeen}
-use Rattle.erm_rule.proofs.Courses.{seen_last}
+use Rattle.erm_rule.specs.Books.{WasSeen}
+use Rattle.erm_rule.proofs.Courses.{last_of, seen_last}
 use Rattle.erm_rule.specs.Hands.{IsKnown}
 use Rattle.erm_rule.specs.Steps.{Ready, Told}
 use Rattle.erm_rule.specs.Views.{part_in, part_of, with_part}
@@ -33,8 +35,11 @@ use Rattle.erm_rule.proofs.Numbered.{known_after}
 use Rattle.erm_rule.proofs.OnePlace.{own_drawn, spare_counts}
 use Rattle.erm_rule.proofs.Parts.{with_part-same}
 use Rattle.erm_rule.proofs.Telling.{part_of-changed}
+use Rattle.erm_rule.specs.Went.{Took}
+use Rattle.erm_rule.proofs.Wents.{took_goes}
 use Rattle.erm_cells.specs.Hands.{newest_claimed, rated_kind}
-use Rattle.erm_cells.specs.Spare.{DidCount, DidDraw, DidRate, DidRefuse, HasDrawn, MayRate, NewestOwns, SpareIs, WasCount, drawn_part, part_drawn, rated_part, spare_cells, with_drawn}
+use Rattle.erm_cells.specs.Spare.{DidCount, DidDraw, DidRate, DidRefuse, HasDrawn, MayRate, NewestOwns, SpareIs, drawn_part, part_drawn, rated_part, spare_cells, with_drawn}
+use Rattle.erm_cells.specs.Took.{TookNoCount}
 use Rattle.erm_cells.proofs.Claimed.{newest_owns, seat_below}
 use Rattle.erm_cells.proofs.Heads.{has, same_self}
 use Rattle.erm_cells.proofs.Spares.{front_is, last_is, some, spares_fit}
@@ -197,9 +202,12 @@ not_bare [] cell e = cc
 not_bare (x ∷ xs) cell e = cc
 
 -- the count that was found was met
-pub count_seen : (b : Book) (who seen : ℕ) (e : Book) → WasCount b who seen e → WasSeen b (λ s. s.shared.cells_drawn ≡ seen) e
-count_seen b who seen e last =
+pub count_seen : (law : Law) (b : Book) (who seen : ℕ) (e : Book) → TookNoCount law who seen b e → WasSeen b (λ s. s.shared.cells_drawn ≡ seen) e
+count_seen law b who seen e took =
     ⊎_elim
-    (λ (t : LastFound b who (kind.LoadCounter Cells) seen e). seen_last b (λ s. s.shared.cells_drawn ≡ seen) who (kind.LoadCounter Cells) seen e t (λ c met. met))
-    (λ (t : LastFound b who (kind.AddCounter Cells) seen e). seen_last b (λ s. s.shared.cells_drawn ≡ seen) who (kind.AddCounter Cells) seen e t (λ c met. met))
-    last
+    (λ (t : Took law who ((kind.LoadCounter Cells, seen) ∷ []) b e). last (kind.LoadCounter Cells) [] (λ c met. met) t)
+    (λ (t : (first : ℕ) × Took law who ((kind.AddCounter Cells, seen) ∷ (kind.LoadCounter Cells, first) ∷ []) b e). last (kind.AddCounter Cells) ((kind.LoadCounter Cells, t.0) ∷ []) (λ c met. met) t.1)
+    took
+  where
+    last : (k : Kind) (steps : List (Kind × ℕ)) → ((c : Core) → word_at c (spot_of who k) ≡ seen → c.shared.cells_drawn ≡ seen) → Took law who ((k, seen) ∷ steps) b e → WasSeen b (λ s. s.shared.cells_drawn ≡ seen) e
+    last k steps so t = seen_last b (λ s. s.shared.cells_drawn ≡ seen) who k seen e (last_of law b t.0 who k seen e (took_goes law who steps b t.0 t.1) t.2) so

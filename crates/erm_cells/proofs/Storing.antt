@@ -23,7 +23,7 @@ use Rattle.erm_rule.specs.Steps.{Ready, Told}
 use Rattle.erm_rule.specs.Views.{part_in, part_of, with_part}
 use Rattle.erm_rule.proofs.Numbered.{known_after}
 use Rattle.erm_rule.proofs.Parts.{with_part-same}
-use Rattle.erm_rule.proofs.Telling.{changed_here}
+use Rattle.erm_rule.proofs.Telling.{changed_here, part_of-changed}
 use Rattle.erm_rule.proofs.Stored.{own_of, own_within}
 use Rattle.erm_cells.specs.Placed.{Owns, own_kind, place_of}
 use Rattle.erm_cells.specs.Rows.{DidStoreRow, MayStoreRow, is_copying, part_with_rows, with_own_row}
@@ -326,6 +326,9 @@ module _ (v : View) (who cell : ℕ) (row : List ℕ) (active : is_active (part_
 
     pub row_held : part_in u who ≡ Some loop.part
     row_held = changed_here v who u loop.part x (has v who active) loop.view_is
+
+    pub row_place : place_of cell (part_of u who) ≡ place_of cell x
+    row_place = ap (place_of cell) (part_of-changed v who u loop.part x (has v who active) loop.view_is) ∙ placed_there
 
     pub row_owns : Owns cell (part_of u who)
     row_owns =

@@ -1,7 +1,6 @@
 pub mod Calls
 pub mod Hands
 pub mod Heads
-pub mod Links
 pub mod Placed
 pub mod Reads
 pub mod Rows

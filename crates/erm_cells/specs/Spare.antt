@@ -1,9 +1,7 @@
 -- A session's list of spare cells: what the draw of a cell and the load of the reader stamp leave.
-use Rattle.std.specs.Prelude.{◌≡◌, ◌⊎◌, ℕ, ◌<◌, ◌≤◌, true, ◌==◌, if◌then◌else◌, List, [], ◌∷◌, ◌++◌, length, map}
+use Rattle.std.specs.Prelude.{◌≡◌, ℕ, ◌<◌, ◌≤◌, true, ◌==◌, if◌then◌else◌, List, [], ◌∷◌, ◌++◌, length, map}
 use Rattle.erm_model.specs.declared.limits.TheConstants.{TABLE_CELLS}
 use Rattle.erm_machine.specs.declared.attempt.OwnCell.{OwnCell}
-use Rattle.erm_machine.specs.declared.event.Counter.TheVariants.{Cells}
-use Rattle.erm_machine.specs.declared.event.Kind.TheVariants as kind
 use Rattle.erm_machine.specs.declared.part.Part.{Part}
 use Rattle.erm_machine.specs.declared.task.Task.{Task}
 use Rattle.erm_machine.specs.declared.task.Task.TheVariants as task
@@ -12,9 +10,7 @@ use Rattle.erm_machine.specs.Reading.{rated_claim, with_spare, with_cell}
 use Rattle.erm_machine.specs.Seat.{with_task, last_claim, is_own}
 use Rattle.erm_machine.specs.Sound.{Sound}
 use Rattle.erm_machine.specs.Words.{blank_cell}
-use Rattle.erm_rule.specs.declared.view.Book.{Book}
 use Rattle.erm_rule.specs.declared.view.View.{View}
-use Rattle.erm_rule.specs.Books.{LastFound}
 use Rattle.erm_rule.specs.Hands.{IsKnown}
 use Rattle.erm_rule.specs.Views.{IsView, part_of, with_part}
 
@@ -57,14 +53,6 @@ pub record DidCount (v : View) (who cell : ℕ) (w : View) : Type 0 where
   pub view_is : w ≡ with_part who (drawn_part cell (part_of v who)) v
   pub small : cell < TABLE_CELLS
   pub known : IsKnown w
-
--- the last step to the second book was the seat's: it loaded the counter of cells, or raised it, and found this
-abbrev pub WasCount : Book → (who seen : ℕ) → Book → Type 0
-WasCount b who seen e = LastFound b who (kind.LoadCounter Cells) seen e ⊎ LastFound b who (kind.AddCounter Cells) seen e
-
--- without a spare cell this one is the number at which the counter was raised, in that last step
-abbrev pub IsCounted : List ℕ → Book → (who cell : ℕ) → Book → Type 0
-IsCounted cells b who cell e = cells ≡ [] → LastFound b who (kind.AddCounter Cells) cell e
 
 -- There was none: the seat has no spare cell, and in some sound state with the view's parts, but for the seat's task, so many cells were
 -- drawn, all that there are.

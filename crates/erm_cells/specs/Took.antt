@@ -1,13 +1,19 @@
 -- The steps of calls of several steps, the last one first, with the words that they found.
-use Rattle.std.specs.Prelude.{◌≡◌, ◌⊎◌, ℕ, List, [], ◌∷◌}
+use Rattle.std.specs.Prelude.{◌≡◌, ◌⊎◌, ℕ, zero, suc, List, [], ◌∷◌, slice_index, Option}
 use Rattle.erm_machine.specs.declared.event.Counter.TheVariants.{Cells}
 use Rattle.erm_machine.specs.declared.event.Kind.{Kind}
 use Rattle.erm_machine.specs.declared.event.Kind.TheVariants as kind
+use Rattle.erm_machine.specs.declared.version.CellWord.{CellWord}
 use Rattle.erm_machine.specs.declared.version.CellWord.TheVariants as word
 use Rattle.erm_machine.specs.declared.version.VersionAt.{VersionAt}
+use Rattle.erm_model.specs.declared.TheConstants.{ROW_WORDS}
 use Rattle.erm_model.specs.RowTransaction.{Law}
 use Rattle.erm_rule.specs.declared.view.Book.{Book}
+use Rattle.erm_rule.specs.Steps.{Booked}
+use Rattle.erm_rule.specs.Views.{part_of}
 use Rattle.erm_rule.specs.Went.{Took, Went, IsLoadStep}
+use Rattle.erm_cells.specs.Heads.{head_value_at, head_word_at, link_of}
+use Rattle.erm_cells.specs.Placed.{place_of}
 use Rattle.erm_cells.specs.declared.answer.Head.{Head}
 use Rattle.erm_cells.specs.declared.answer.Head.TheVariants.{Owned, Walked}
 
@@ -47,6 +53,21 @@ TookDraw law who (spare ∷ more) cell b e = e ≡ b
 abbrev pub TookNoCount : Law → (who seen : ℕ) → Book → Book → Type 0
 TookNoCount law who seen b e = Took law who ((kind.LoadCounter Cells, seen) ∷ []) b e ⊎ ((first : ℕ) × Took law who ((kind.AddCounter Cells, seen) ∷ (kind.LoadCounter Cells, first) ∷ []) b e)
 
--- COPY. Loads, and then stores into the own cell.
-abbrev pub TookCopy : Law → ℕ → Book → Book → Type 0
-TookCopy law who b e = (m : Book) × Went law who IsLoadStep b m × Went law who IsStoreStep m e
+-- STORE. So many words were stored into this cell of the claim at a place, the first one first: these, with these values.
+abbrev pub TookStores : Law → (who place cell : ℕ) → (ℕ → CellWord) → (ℕ → ℕ) → ℕ → Book → Book → Type 0
+TookStores law who place cell words values zero b e = e ≡ b
+TookStores law who place cell words values (suc n) b e =
+    (m : Book) × TookStores law who place cell words values n b m × (found : ℕ) × Booked law m who (kind.StoreCell place cell (words n) (values n)) found e
+
+-- The words before the row of a new version with this stamp and this link were, into the own cell of the claim that has it.
+abbrev pub TookHeadWords : Law → (who cell stamp : ℕ) → Option ℕ → Book → Book → Type 0
+TookHeadWords law who cell stamp link b e =
+    TookStores law who (place_of cell (part_of b.view who)) cell head_word_at (λ n. head_value_at stamp (link_of link) (head_word_at n)) 6 b e
+
+-- The words of this row were.
+abbrev pub TookRow : Law → (who cell : ℕ) → List ℕ → Book → Book → Type 0
+TookRow law who cell row b e = TookStores law who (place_of cell (part_of b.view who)) cell (λ n. word.Row n) (λ n. slice_index row n) ROW_WORDS b e
+
+-- COPY. Loads, and then that row was stored into the own cell.
+abbrev pub TookCopy : Law → (who cell : ℕ) → List ℕ → Book → Book → Type 0
+TookCopy law who cell row b e = (m : Book) × Went law who IsLoadStep b m × TookRow law who cell row m e

@@ -3,7 +3,7 @@ ghost use Rattle.std.specs.Prelude.{◌≡◌, ◌≢◌, ◌<◌, true, length}
 ghost use Rattle.erm_cells.specs.Calls.{DidFind, DidLose, DidTake, IsFoundHead, starts_anew};
 ghost use Rattle.erm_machine.specs.Seat.{is_active};
 ghost use Rattle.erm_machine.specs.Words.{is_session};
-ghost use Rattle.erm_rule.specs.Books.{IsAfter, book};
+ghost use Rattle.erm_rule.specs.Books.{book};
 ghost use Rattle.erm_rule.specs.Steps.{Fits, Booked};
 ghost use Rattle.erm_rule.specs.Views.{view, part_of};
 ghost use Rattle.erm_cells.specs.Took.{TookFind};
@@ -25,7 +25,6 @@ pub fn find_head<L: RowLaw>(t: &Table<L>, p: &mut Pass, who: Seat, oid: Oid) -> 
     requires object { oid < OBJECT_LIMIT }
     ensures fits { Fits t.now.words.shared.table_id p.new }
     ensures found { DidFind (view p.old) who oid result (view p.new) }
-    ensures goes { IsAfter (book p.old) (book p.new) }
     ensures took { TookFind L.law who oid result (book p.old) (book p.new) }
 {
     let entry = load_entry(t, p, who, oid);
@@ -56,7 +55,6 @@ pub fn take<L: RowLaw>(
     ensures fits { Fits t.now.words.shared.table_id p.new }
     ensures taken { result ≡ seen → DidTake (view p.old) who oid seen (view p.new) }
     ensures lost { result ≢ seen → DidLose (view p.old) who oid seen result (view p.new) }
-    ensures goes { IsAfter (book p.old) (book p.new) }
     ensures booked { Booked L.law (book p.old) who (Claim oid seen number) result (book p.new) }
 {
     claim_entry(t, p, who, oid, seen, number)

@@ -1,12 +1,10 @@
 //! Cells for claims: drawn from the spare ones or from the counter, and given back.
 ghost use Rattle.std.specs.Prelude.{◌≡◌, [], ◌∷◌, ◌++◌, true, nat_lt, IfErr, IfOk, IsSome};
 ghost use Rattle.erm_cells.specs.Hands.{newest_claimed, rated_kind};
-ghost use Rattle.erm_cells.specs.Spare.{DidCount, DidDraw, DidRate, DidRefuse, IsCounted, MayRate, SpareIs, WasCount, spare_cells};
+ghost use Rattle.erm_cells.specs.Spare.{DidCount, DidDraw, DidRate, DidRefuse, MayRate, SpareIs, spare_cells};
 ghost use Rattle.erm_machine.specs.declared.task.Task.TheVariants.{Draws};
 ghost use Rattle.erm_machine.specs.Seat.{is_active};
-ghost use Rattle.erm_machine.specs.declared.event.Counter.TheVariants.{Cells};
-ghost use Rattle.erm_machine.specs.declared.event.Kind.TheVariants.{AddCounter};
-ghost use Rattle.erm_rule.specs.Books.{HasState, IsAfter, LastFound, book};
+ghost use Rattle.erm_rule.specs.Books.{book};
 ghost use Rattle.erm_rule.specs.Hands.{IsKnown};
 ghost use Rattle.erm_rule.specs.Steps.{Fits, ToldUnder, Booked};
 ghost use Rattle.erm_rule.specs.Views.{view, part_in, part_of};
@@ -30,9 +28,6 @@ pub fn draw<L: RowLaw>(t: &Table<L>, p: &mut Pass, who: Seat, spare: &mut Spare)
     ensures fits { Fits t.now.words.shared.table_id p.new }
     ensures drawn { IfOk result (λ cell. DidDraw (view p.old) who spare.new cell (view p.new)) }
     ensures refused { IfErr result (λ seen. DidRefuse (view p.old) who seen (view p.new) × SpareIs spare.new (part_of (view p.new) who)) }
-    ensures from { IfOk result (λ cell. IsCounted spare.old (book p.old) who cell (book p.new)) }
-    ensures counted { IfErr result (λ seen. WasCount (book p.old) who seen (book p.new) × HasState (book p.new)) }
-    ensures goes { IsAfter (book p.old) (book p.new) }
     ensures took { IfOk result (λ cell. TookDraw L.law who spare.old cell (book p.old) (book p.new)) }
     ensures took_none { IfErr result (λ seen. TookNoCount L.law who seen (book p.old) (book p.new)) }
 {
@@ -51,9 +46,6 @@ fn draw_counted<L: RowLaw>(t: &Table<L>, p: &mut Pass, who: Seat) -> Result<u32,
     ensures fits { Fits t.now.words.shared.table_id p.new }
     ensures counted { IfOk result (λ cell. DidCount (view p.old) who cell (view p.new)) }
     ensures refused { IfErr result (λ seen. DidRefuse (view p.old) who seen (view p.new)) }
-    ensures last { IfOk result (λ cell. LastFound (book p.old) who (AddCounter Cells) cell (book p.new)) }
-    ensures seen { IfErr result (λ seen. WasCount (book p.old) who seen (book p.new) × HasState (book p.new)) }
-    ensures goes { IsAfter (book p.old) (book p.new) }
     ensures took { IfOk result (λ cell. TookCount L.law who cell (book p.old) (book p.new)) }
     ensures took_none { IfErr result (λ seen. TookNoCount L.law who seen (book p.old) (book p.new)) }
 {

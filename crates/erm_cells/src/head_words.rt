@@ -4,9 +4,8 @@ ghost use Rattle.erm_cells.specs.Heads.{DidStoreHead, MayStoreHead, head_value_a
 ghost use Rattle.erm_rule.specs.Hands.{IsKnown};
 ghost use Rattle.erm_rule.specs.Steps.{Fits};
 ghost use Rattle.erm_rule.specs.Views.{view, part_of};
-ghost use Rattle.erm_cells.specs.Took.{IsStoreStep};
+ghost use Rattle.erm_cells.specs.Took.{TookHeadWords};
 ghost use Rattle.erm_rule.specs.Books.{book};
-ghost use Rattle.erm_rule.specs.Went.{Went};
 
 use crate::placed::store_placed;
 use erm_machine::CellWord;
@@ -31,7 +30,7 @@ pub fn store_head<L: RowLaw>(
     requires may { MayStoreHead cell stamp link (part_of (view p.old) who) (part_of (view p.old) who).task }
     ensures fits { Fits t.now.words.shared.table_id p.new }
     ensures stored { DidStoreHead (view p.old) who cell (view p.new) }
-    ensures stores { Went L.law who IsStoreStep (book p.old) (book p.new) }
+    ensures stores { TookHeadWords L.law who cell stamp link (book p.old) (book p.new) }
 {
     let older = link_word(link);
     for step in 0..HEAD_WORDS {

@@ -1,5 +1,5 @@
 //! Steps of a seat on entries, cells, counters and the ring, and the calls over them: find the head of an object's chain and take
-//! its entry, draw a cell and give one back, load rows and links, store rows and heads. None waits or takes memory.
+//! its entry, draw a cell and give one back, load rows, store rows and heads. None waits or takes memory.
 #![tactic(auto)]
 
 pub mod answer;
@@ -8,7 +8,6 @@ mod draws;
 mod entries;
 mod head_words;
 mod laws;
-mod links;
 mod own;
 mod placed;
 mod ring;
@@ -24,8 +23,7 @@ pub use head_words::store_head;
 pub use laws::{
     claims_exclude_others, own_cells_are_alone, reads_stand, rows_stay, spare_lists_fit,
 };
-pub use links::link;
-pub use own::{add_counter, load_counter, store_own};
+pub use own::{add_counter, load_counter};
 pub use placed::store_placed;
 pub use ring::{clear_ring, decide, load_flushed, load_ring, store_flushed, store_ring};
 pub use rows::{copy_row, load_base, load_row, store_row};

@@ -8,7 +8,7 @@ ghost use Rattle.erm_machine.specs.Seat.{is_active};
 ghost use Rattle.erm_rule.specs.Hands.{IsKnown, in_hand};
 ghost use Rattle.erm_rule.specs.Steps.{Fits};
 ghost use Rattle.erm_rule.specs.Views.{view, part_of};
-ghost use Rattle.erm_cells.specs.Took.{IsStoreStep, TookCopy};
+ghost use Rattle.erm_cells.specs.Took.{TookCopy, TookRow};
 ghost use Rattle.erm_rule.specs.Books.{book};
 ghost use Rattle.erm_rule.specs.Went.{IsLoadStep, Went};
 
@@ -62,7 +62,7 @@ pub fn store_row<L: RowLaw>(t: &Table<L>, p: &mut Pass, who: Seat, cell: u32, ro
     requires may { MayStoreRow cell row.now (part_of (view p.old) who) (part_of (view p.old) who).task }
     ensures fits { Fits t.now.words.shared.table_id p.new }
     ensures stored { DidStoreRow (view p.old) who cell row.now (view p.new) }
-    ensures stores { Went L.law who IsStoreStep (book p.old) (book p.new) }
+    ensures stores { TookRow L.law who cell row.now (book p.old) (book p.new) }
 {
     for k in 0..ROW_WORDS {
         store_placed(t, p, who, cell, CellWord::Row(k as u8), row[k]);
@@ -81,7 +81,7 @@ pub fn copy_row<L: RowLaw>(t: &Table<L>, p: &mut Pass, who: Seat, base: u32, own
     ensures fits { Fits t.now.words.shared.table_id p.new }
     ensures copied { DidCopyRow (view p.old) who own (view p.new) }
     ensures row { result ≡ newest_base (part_of (view p.old) who) }
-    ensures took { TookCopy L.law who (book p.old) (book p.new) }
+    ensures took { TookCopy L.law who own result (book p.old) (book p.new) }
 {
     let row = load_base(t, p, who, base);
     store_row(t, p, who, own, &row);

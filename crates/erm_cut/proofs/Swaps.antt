@@ -1,5 +1,5 @@
 -- The cells that a swap of a link cuts off, in whatever state of a book it was taken.
-use Rattle.std.proofs.Common.{◌≡◌, ◌≢◌, ℕ, zero, suc, Bool, true, false, List, ◌++◌, length, Option, Some, None, refl, sym, ap, ◌∙◌, subst}
+use Rattle.std.proofs.Common.{◌≡◌, ◌≢◌, ℕ, Bool, true, false, List, ◌++◌, length, Option, Some, None, sym, ap, ◌∙◌, subst}
 use Rattle.std.specs.Prelude.{if◌then◌else◌, nat_lt}
 use Rattle.std.proofs.lemmas.List.{append_cancel_left}
 use Rattle.std.proofs.lemmas.Option.{same_Some}
@@ -14,13 +14,11 @@ use Rattle.erm_machine.specs.Step.{after_event, moved, part_after}
 use Rattle.erm_machine.proofs.Frames.{put_same}
 use Rattle.erm_model.specs.RowTransaction.{Law}
 use Rattle.erm_rule.specs.declared.view.Book.{Book}
-use Rattle.erm_rule.specs.declared.view.View.{View}
-use Rattle.erm_rule.specs.Books.{IsBookOf, LeadsIn, WasMet, WasSeen}
+use Rattle.erm_rule.specs.Books.{IsBookOf}
 use Rattle.erm_rule.specs.Hands.{IsKnown, in_hand}
 use Rattle.erm_rule.specs.Steps.{Booked, Told}
 use Rattle.erm_rule.specs.Views.{IsView, part_in, part_of}
 use Rattle.erm_rule.specs.Went.{Went, IsLoadStep}
-use Rattle.erm_rule.proofs.Courses.{book_before, led, met_kept}
 use Rattle.erm_rule.proofs.Telling.{changed_here, part_of-changed}
 use Rattle.erm_rule.proofs.Wents.{went_none, went_step}
 use Rattle.erm_cells.specs.Hands.{detached_kind, swap_kind}
@@ -29,21 +27,6 @@ use Rattle.erm_cut.specs.Calls.{IsFoundCut}
 use Rattle.erm_cut.specs.Took.{AreBehind, TookDetach}
 use Rattle.erm_cut.proofs.OffChain as off
 use Rattle.erm_cut.proofs.OffChain.{IsDetaching}
-
--- events of others begin where the view's seats have its parts
-first_view : (v : View) (n : ℕ) (c d : Core) → IsView v d → LeadsIn v n c d → IsView v c
-first_view v zero c d is same = subst (λ (z : Core). IsView v z) (sym same) is
-first_view v (suc n) c d is leads = first_view v n c leads.0 leads.2 leads.1
-
--- what is so of a state, by the view after a step that was taken in it, was seen
-seen_taken : (law : Law) (b : Book) (P : Core → Type 0) (who : ℕ) (k : Kind) (found : ℕ) (e : Book) → Booked law b who k found e →
-    ((c d : Core) → IsView b.view c → IsView e.view d → after_event c who k ≡ Some d → P c) → WasSeen b P e
-seen_taken law b P who k found e booked so c is =
-    let at = subst (λ (z : Book). IsBookOf z c) booked.book_is is in
-    let t = at.course.0 in
-    let since : IsView e.view t.after = first_view e.view t.leads.0 t.after c at.is_view t.leads.1 in
-    led (WasMet b P) e.view (λ d g _ passes w. met_kept b P d g passes w) t.leads.0 t.after c t.leads.1
-    (record { start = t.before; is = book_before b who k found e.view c at; state = t.before; since = (0, refl); met = so t.before t.after t.is_view since t.event; later = (1, (t.before, refl, (t.sound, (who, k, t.event)))) })
 
 -- the seat's part after its step
 part_left : (c d : Core) (who : ℕ) (k : Kind) (known : Bool) (o : Option Part) (y : Part) → (if known then moved who k (word_at c (spot_of who k)) c o else None) ≡ Some d → o ≡ Some y → d.seats who ≡ y
@@ -57,7 +40,7 @@ pub record HasSwapTaken (law : Law) (who : ℕ) (b e : Book) : Type 0 where
   pub link : ℕ
   pub swap : Booked law b who (swap_kind (part_of b.view who)) link swapped
   pub cut : List OwnCell
-  pub cells : WasSeen b (AreBehind (in_hand (part_of b.view who).task) cut) swapped
+  pub cells : (c d : Core) → IsBookOf b c → IsBookOf swapped d → after_event c who (swap_kind (part_of b.view who)) ≡ Some d → AreBehind (in_hand (part_of b.view who).task) cut c
   pub spare : (part_of e.view who).spare ≡ (part_of b.view who).spare ++ cut
   pub loads : Went law who IsLoadStep swapped e
 
@@ -95,7 +78,7 @@ module _ (law : Law) (who : ℕ) (b : Book) (active : is_active (part_of b.view 
       link = link;
       swap = booked;
       cut = cut;
-      cells = seen_taken law b (AreBehind (in_hand x.task) cut) who (swap_kind x) link e booked behind;
+      cells = λ c d of since event. behind c d of.is_view since.is_view event;
       spare = ap (λ (z : Part). z.spare) (part_of-changed b.view who e.view (swapped link cut) x (has b.view who active) (off.swapped_is b.view who active cell known at link e.view told));
       loads = went_none law who IsLoadStep e;
     }

@@ -1,5 +1,5 @@
 -- The steps of a horizon and of a cut, the last one first, with the words that they found.
-use Rattle.std.specs.Prelude.{◌≡◌, ◌⊎◌, ℕ, ◌+◌, List, [], ◌∷◌, ◌++◌, length}
+use Rattle.std.specs.Prelude.{◌≡◌, ◌⊎◌, ℕ, ◌+◌, List, [], ◌∷◌, ◌++◌, length, Some}
 use Rattle.erm_machine.specs.declared.attempt.OwnCell.{OwnCell}
 use Rattle.erm_machine.specs.declared.event.Kind.{Kind}
 use Rattle.erm_machine.specs.declared.event.Kind.TheVariants.{LoadBegin, LoadTail}
@@ -8,9 +8,10 @@ use Rattle.erm_machine.specs.declared.version.VersionAt.{VersionAt}
 use Rattle.erm_machine.specs.Core.{Core}
 use Rattle.erm_machine.specs.Life.{lower}
 use Rattle.erm_machine.specs.Reading.{cut_off}
+use Rattle.erm_machine.specs.Step.{after_event}
 use Rattle.erm_model.specs.RowTransaction.{Law}
 use Rattle.erm_rule.specs.declared.view.Book.{Book}
-use Rattle.erm_rule.specs.Books.{WasSeen}
+use Rattle.erm_rule.specs.Books.{IsBookOf}
 use Rattle.erm_rule.specs.Hands.{in_hand}
 use Rattle.erm_rule.specs.Steps.{Booked}
 use Rattle.erm_rule.specs.Views.{part_of}
@@ -47,7 +48,7 @@ pub record TookDetach (law : Law) (who count : ℕ) (b e : Book) : Type 0 where
   pub swap : Booked law b who (swap_kind (part_of b.view who)) link swapped
   pub cut : List OwnCell
   pub count_is : count ≡ length cut
-  pub cells : WasSeen b (AreBehind (in_hand (part_of b.view who).task) cut) swapped
+  pub cells : (c d : Core) → IsBookOf b c → IsBookOf swapped d → after_event c who (swap_kind (part_of b.view who)) ≡ Some d → AreBehind (in_hand (part_of b.view who).task) cut c
   pub spare : (part_of e.view who).spare ≡ (part_of b.view who).spare ++ cut
   pub loads : Went law who IsLoadStep swapped e
 

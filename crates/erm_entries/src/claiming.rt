@@ -37,7 +37,6 @@ pub fn claim<L: RowLaw>(
     ensures fits { Fits t.now.words.shared.table_id p.new }
     ensures claimed { IfOk result (λ _. DidTake (view p.old) who oid (word_of seen.now) (view p.new)) }
     ensures lost { IfErr result (λ entry. DidMeet (view p.old) who oid (word_of seen.now) entry (view p.new)) }
-    ensures goes { IsAfter (book p.old) (book p.new) }
     ensures took { IfOk result (λ _. Booked L.law (book p.old) who (Claim oid (word_of seen.now) number) (word_of seen.now) (book p.new)) }
     ensures took_other { IfErr result (λ entry. Booked L.law (book p.old) who (Claim oid (word_of seen.now) number) (word_of entry) (book p.new)) }
 {

@@ -137,11 +137,6 @@ abbrev pub WasWait : Book → Wait → Book → Type 0
 WasWait b (wait.Ring flushed) e = WasFlushed b flushed e
 WasWait b (wait.Seat seat seen) e = WasState b seat seen e
 
--- the same, where a settle waits
-abbrev pub WasMetWhereItWaits : Book → Settled → Book → Type 0
-WasMetWhereItWaits b (settled.Ready succ pred) e = Unit {0}
-WasMetWhereItWaits b (settled.Wait reason) e = WasWait b reason e
-
 -- a look at this seat found it sealing, or sealed below the own stamp
 abbrev pub StopsAt : View → ℕ → ℕ → SeatWait → View → Type 0
 StopsAt v who other wait w = (wait.seat ≡ other) × IsSealedBelow v who wait.seat wait.seen w

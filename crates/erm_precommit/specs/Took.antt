@@ -51,7 +51,12 @@ abbrev pub TookWait : Law → ℕ → Wait → Book → Book → Type 0
 TookWait law who (wait.Ring flushed) b e = TookRingWait law who flushed b e
 TookWait law who (wait.Seat seat seen) b e = TookStartedWait law who seat seen b e
 
--- a settle up to its decision is loads
+-- A settle began, and by loads passed all versions.
+pub record TookReady (law : Law) (who : ℕ) (b e : Book) : Type 0 where
+  pub first : Book
+  pub start : TookStart law who b first
+  pub loads : Went law who IsLoadStep first e
+
 abbrev pub TookSettle : Law → ℕ → Settled → Book → Book → Type 0
-TookSettle law who (settled.Ready succ pred) b e = Went law who IsLoadStep b e
+TookSettle law who (settled.Ready succ pred) b e = TookReady law who b e
 TookSettle law who (settled.Wait reason) b e = TookWait law who reason b e

@@ -2,7 +2,7 @@
 ghost use Rattle.std.specs.Prelude.{◌≡◌, ◌<◌, ◌+◌, ◌&&◌, ℕ, true, false, length, nat_lt, IfErr, IfSome, IfNone, OnOk, MatchOption};
 ghost use Rattle.erm_machine.specs.declared.task.Task.TheVariants.{ReadClear, ReadOvertaken, ReadOwned, Settles};
 ghost use Rattle.erm_machine.specs.Words.{owner_of};
-ghost use Rattle.erm_rule.specs.Books.{book, IsAfter, WasState};
+ghost use Rattle.erm_rule.specs.Books.{book};
 ghost use Rattle.erm_rule.specs.Steps.{Fits};
 ghost use Rattle.erm_rule.specs.Views.{view};
 ghost use Rattle.erm_precommit.specs.Settle.{has_other_owner, task_of, OwnsRead, Stands, StopsAt, WaitsForSeat, WentOn};
@@ -50,7 +50,6 @@ fn load_head<L: RowLaw>(
     ensures owned { IfSome result (λ owner. task_of (view p.new) who ≡ ReadOwned place owner) }
     ensures owner { IfSome result (λ owner. OwnsRead (view p.old) who place owner) }
     ensures clear { IfNone result (task_of (view p.new) who ≡ ReadClear place) }
-    ensures goes { IsAfter (book p.old) (book p.new) }
     ensures loads { Went L.law who IsLoadStep (book p.old) (book p.new) }
 {
     let read = pre.read_at(place);
@@ -75,8 +74,6 @@ fn look_at_owner<L: RowLaw>(
     ensures stands { Stands pre.now (view p.new) who }
     ensures clear { OnOk result (task_of (view p.new) who ≡ ReadClear place) }
     ensures stops { IfErr result (λ wait. StopsAt (view p.old) who owner wait (view p.new)) }
-    ensures goes { IsAfter (book p.old) (book p.new) }
-    ensures met { IfErr result (λ wait. WasState (book p.old) wait.seat wait.seen (book p.new)) }
     ensures loads { Went L.law who IsLoadStep (book p.old) (book p.new) }
     ensures took_wait { IfErr result (λ wait. TookSeatWait L.law who wait.seat wait.seen (book p.old) (book p.new)) }
 {
@@ -103,8 +100,6 @@ fn pass_owner<L: RowLaw>(
     ensures stands { Stands pre.now (view p.new) who }
     ensures clear { OnOk result (task_of (view p.new) who ≡ ReadClear place) }
     ensures waits { IfErr result (λ wait. WaitsForSeat (view p.old) who wait.seat wait.seen (view p.new)) }
-    ensures goes { IsAfter (book p.old) (book p.new) }
-    ensures met { IfErr result (λ wait. WasState (book p.old) wait.seat wait.seen (book p.new)) }
     ensures loads { Went L.law who IsLoadStep (book p.old) (book p.new) }
     ensures took_wait { IfErr result (λ wait. TookSeatWait L.law who wait.seat wait.seen (book p.old) (book p.new)) }
 {
@@ -137,7 +132,6 @@ fn load_overwriter<L: RowLaw>(
     ensures stands { Stands pre.now (view p.new) who }
     ensures counts { result ≡ true → (overwriter : ℕ) × (task_of (view p.new) who ≡ ReadOvertaken place overwriter) }
     ensures none { result ≡ false → task_of (view p.new) who ≡ Settles (place + 1) 0 }
-    ensures goes { IsAfter (book p.old) (book p.new) }
     ensures loads { Went L.law who IsLoadStep (book p.old) (book p.new) }
 {
     let read = pre.read_at(place);
@@ -154,7 +148,6 @@ fn load_succ<L: RowLaw>(pre: &mut Pre, t: &Table<L>, p: &mut Pass, who: Seat, pl
     ensures went { WentOn (view p.old) who (view p.new) }
     ensures stands { Stands pre.new (view p.new) who }
     ensures passed { task_of (view p.new) who ≡ Settles (place + 1) 0 }
-    ensures goes { IsAfter (book p.old) (book p.new) }
     ensures loads { Went L.law who IsLoadStep (book p.old) (book p.new) }
 {
     let read = pre.read_at(place);
@@ -171,7 +164,6 @@ fn rate_read<L: RowLaw>(pre: &mut Pre, t: &Table<L>, p: &mut Pass, who: Seat, pl
     ensures went { WentOn (view p.old) who (view p.new) }
     ensures stands { Stands pre.new (view p.new) who }
     ensures passed { task_of (view p.new) who ≡ Settles (place + 1) 0 }
-    ensures goes { IsAfter (book p.old) (book p.new) }
     ensures loads { Went L.law who IsLoadStep (book p.old) (book p.new) }
 {
     if load_overwriter(pre, t, p, who, place) {
@@ -196,8 +188,6 @@ fn pass_read<L: RowLaw>(
     ensures stands { Stands pre.new (view p.new) who }
     ensures passed { OnOk result (task_of (view p.new) who ≡ Settles (place + 1) 0) }
     ensures waits { IfErr result (λ wait. WaitsForSeat (view p.old) who wait.seat wait.seen (view p.new)) }
-    ensures goes { IsAfter (book p.old) (book p.new) }
-    ensures met { IfErr result (λ wait. WasState (book p.old) wait.seat wait.seen (book p.new)) }
     ensures loads { Went L.law who IsLoadStep (book p.old) (book p.new) }
     ensures took_wait { IfErr result (λ wait. TookSeatWait L.law who wait.seat wait.seen (book p.old) (book p.new)) }
 {
@@ -221,8 +211,6 @@ pub(crate) fn pass_reads<L: RowLaw>(
     ensures stands { Stands pre.new (view p.new) who }
     ensures passed { OnOk result (task_of (view p.new) who ≡ Settles (length pre.new.reads.value.items) 0) }
     ensures waits { IfErr result (λ wait. WaitsForSeat (view p.old) who wait.seat wait.seen (view p.new)) }
-    ensures goes { IsAfter (book p.old) (book p.new) }
-    ensures met { IfErr result (λ wait. WasState (book p.old) wait.seat wait.seen (book p.new)) }
     ensures loads { Went L.law who IsLoadStep (book p.old) (book p.new) }
     ensures took_wait { IfErr result (λ wait. TookSeatWait L.law who wait.seat wait.seen (book p.old) (book p.new)) }
 {

@@ -3,11 +3,11 @@ ghost use Rattle.std.specs.Prelude.{◌≡◌, true, length, IfErr, OnOk};
 ghost use Rattle.erm_machine.specs.declared.task.Task.TheVariants.{Settles};
 ghost use Rattle.erm_machine.specs.Seat.{is_sealed};
 ghost use Rattle.erm_machine.specs.Settling.{may_settle};
-ghost use Rattle.erm_rule.specs.Books.{book, IsAfter, WasFlushed, WasState};
+ghost use Rattle.erm_rule.specs.Books.{book};
 ghost use Rattle.erm_rule.specs.Steps.{Fits};
 ghost use Rattle.erm_rule.specs.Views.{view, part_of};
 ghost use Rattle.erm_precommit.specs.Pre.{IsPre};
-ghost use Rattle.erm_precommit.specs.Settle.{task_of, DidSettle, Stands, WaitsForRing, WaitsForSeat, WasMetWhereItWaits, WentOn};
+ghost use Rattle.erm_precommit.specs.Settle.{task_of, DidSettle, Stands, WaitsForRing, WaitsForSeat, WentOn};
 ghost use Rattle.erm_rule.specs.Went.{IsLoadStep, Went};
 ghost use Rattle.erm_precommit.specs.Took.{TookRingWait, TookSeatWait, TookSettle, TookStart};
 
@@ -30,9 +30,6 @@ fn start<L: RowLaw>(pre: &Pre, t: &Table<L>, p: &mut Pass, who: Seat) -> Result<
     ensures stands { Stands pre.now (view p.new) who }
     ensures began { OnOk result (task_of (view p.new) who ≡ Settles 0 0) }
     ensures full { IfErr result (λ flushed. WaitsForRing (view p.old) who flushed (view p.new)) }
-    ensures goes { IsAfter (book p.old) (book p.new) }
-    ensures met { IfErr result (λ flushed. WasFlushed (book p.old) flushed (book p.new)) }
-    ensures loads { Went L.law who IsLoadStep (book p.old) (book p.new) }
     ensures took { OnOk result (TookStart L.law who (book p.old) (book p.new)) }
     ensures took_full { IfErr result (λ flushed. TookRingWait L.law who flushed (book p.old) (book p.new)) }
 {
@@ -54,8 +51,6 @@ fn pass_all<L: RowLaw>(pre: &mut Pre, t: &Table<L>, p: &mut Pass, who: Seat) -> 
     ensures stands { Stands pre.new (view p.new) who }
     ensures passed { OnOk result (task_of (view p.new) who ≡ Settles (length pre.new.reads.value.items) (length pre.new.claims.value.items)) }
     ensures waits { IfErr result (λ wait. WaitsForSeat (view p.old) who wait.seat wait.seen (view p.new)) }
-    ensures goes { IsAfter (book p.old) (book p.new) }
-    ensures met { IfErr result (λ wait. WasState (book p.old) wait.seat wait.seen (book p.new)) }
     ensures loads { Went L.law who IsLoadStep (book p.old) (book p.new) }
     ensures took_wait { IfErr result (λ wait. TookSeatWait L.law who wait.seat wait.seen (book p.old) (book p.new)) }
 {
@@ -74,8 +69,6 @@ pub fn settle<L: RowLaw>(pre: &mut Pre, t: &Table<L>, p: &mut Pass, who: Seat) -
     ensures went { WentOn (view p.old) who (view p.new) }
     ensures stands { Stands pre.new (view p.new) who }
     ensures settled { DidSettle (view p.old) who result (view p.new) }
-    ensures goes { IsAfter (book p.old) (book p.new) }
-    ensures met { WasMetWhereItWaits (book p.old) result (book p.new) }
     ensures took { TookSettle L.law who result (book p.old) (book p.new) }
 {
     if let Err(flushed) = start(pre, t, p, who) {

@@ -3,7 +3,7 @@
 ghost use Rattle.std.specs.Int.{bit_at, trailing_zeros, w64};
 ghost use Rattle.std.specs.Prelude.{◌≡◌, ◌<◌, ◌+◌, ℕ, length, IfErr, IfOk, OnOk};
 ghost use Rattle.erm_machine.specs.declared.task.Task.TheVariants.{ReadersLeft, Settles, WriteClear, WriteMade};
-ghost use Rattle.erm_rule.specs.Books.{book, IsAfter, WasState};
+ghost use Rattle.erm_rule.specs.Books.{book};
 ghost use Rattle.erm_rule.specs.Steps.{Fits};
 ghost use Rattle.erm_rule.specs.Views.{view};
 ghost use Rattle.erm_precommit.specs.Settle.{readers_task, task_of, HasRead, Stands, StopsAt, WaitsForSeat, WentOn};
@@ -31,7 +31,6 @@ fn load_others<L: RowLaw>(pre: &Pre, t: &Table<L>, p: &mut Pass, who: Seat, plac
     ensures stands { Stands pre.now (view p.new) who }
     ensures task { task_of (view p.new) who ≡ readers_task place result }
     ensures readers { (q : ℕ) → bit_at result q ≡ 1 → HasRead (view p.old) who place q }
-    ensures goes { IsAfter (book p.old) (book p.new) }
     ensures loads { Went L.law who IsLoadStep (book p.old) (book p.new) }
 {
     let claim = pre.claim_at(place);
@@ -59,8 +58,6 @@ fn look_at_least<L: RowLaw>(
     ensures among { IfOk result (λ left. (q : ℕ) → bit_at left q ≡ 1 → bit_at bits q ≡ 1) }
     ensures set { bit_at bits (trailing_zeros w64 bits) ≡ 1 }
     ensures stops { IfErr result (λ wait. StopsAt (view p.old) who (trailing_zeros w64 bits) wait (view p.new)) }
-    ensures goes { IsAfter (book p.old) (book p.new) }
-    ensures met { IfErr result (λ wait. WasState (book p.old) wait.seat wait.seen (book p.new)) }
     ensures loads { Went L.law who IsLoadStep (book p.old) (book p.new) }
     ensures took_wait { IfErr result (λ wait. TookSeatWait L.law who wait.seat wait.seen (book p.old) (book p.new)) }
 {
@@ -88,8 +85,6 @@ fn pass_readers<L: RowLaw>(
     ensures stands { Stands pre.now (view p.new) who }
     ensures clear { OnOk result (task_of (view p.new) who ≡ WriteClear place) }
     ensures waits { IfErr result (λ wait. WaitsForSeat (view p.old) who wait.seat wait.seen (view p.new)) }
-    ensures goes { IsAfter (book p.old) (book p.new) }
-    ensures met { IfErr result (λ wait. WasState (book p.old) wait.seat wait.seen (book p.new)) }
     ensures loads { Went L.law who IsLoadStep (book p.old) (book p.new) }
     ensures took_wait { IfErr result (λ wait. TookSeatWait L.law who wait.seat wait.seen (book p.old) (book p.new)) }
 {
@@ -109,7 +104,6 @@ fn rate_creator<L: RowLaw>(pre: &mut Pre, t: &Table<L>, p: &mut Pass, who: Seat,
     ensures went { WentOn (view p.old) who (view p.new) }
     ensures stands { Stands pre.new (view p.new) who }
     ensures made { task_of (view p.new) who ≡ WriteMade place }
-    ensures goes { IsAfter (book p.old) (book p.new) }
     ensures loads { Went L.law who IsLoadStep (book p.old) (book p.new) }
 {
     let claim = pre.claim_at(place);
@@ -126,7 +120,6 @@ fn rate_readers<L: RowLaw>(pre: &mut Pre, t: &Table<L>, p: &mut Pass, who: Seat,
     ensures went { WentOn (view p.old) who (view p.new) }
     ensures stands { Stands pre.new (view p.new) who }
     ensures passed { task_of (view p.new) who ≡ Settles (length pre.new.reads.value.items) (place + 1) }
-    ensures goes { IsAfter (book p.old) (book p.new) }
     ensures loads { Went L.law who IsLoadStep (book p.old) (book p.new) }
 {
     let claim = pre.claim_at(place);
@@ -151,8 +144,6 @@ fn pass_write<L: RowLaw>(
     ensures stands { Stands pre.new (view p.new) who }
     ensures passed { OnOk result (task_of (view p.new) who ≡ Settles (length pre.new.reads.value.items) (place + 1)) }
     ensures waits { IfErr result (λ wait. WaitsForSeat (view p.old) who wait.seat wait.seen (view p.new)) }
-    ensures goes { IsAfter (book p.old) (book p.new) }
-    ensures met { IfErr result (λ wait. WasState (book p.old) wait.seat wait.seen (book p.new)) }
     ensures loads { Went L.law who IsLoadStep (book p.old) (book p.new) }
     ensures took_wait { IfErr result (λ wait. TookSeatWait L.law who wait.seat wait.seen (book p.old) (book p.new)) }
 {
@@ -177,8 +168,6 @@ pub(crate) fn pass_writes<L: RowLaw>(
     ensures stands { Stands pre.new (view p.new) who }
     ensures passed { OnOk result (task_of (view p.new) who ≡ Settles (length pre.new.reads.value.items) (length pre.new.claims.value.items)) }
     ensures waits { IfErr result (λ wait. WaitsForSeat (view p.old) who wait.seat wait.seen (view p.new)) }
-    ensures goes { IsAfter (book p.old) (book p.new) }
-    ensures met { IfErr result (λ wait. WasState (book p.old) wait.seat wait.seen (book p.new)) }
     ensures loads { Went L.law who IsLoadStep (book p.old) (book p.new) }
     ensures took_wait { IfErr result (λ wait. TookSeatWait L.law who wait.seat wait.seen (book p.old) (book p.new)) }
 {

@@ -158,6 +158,10 @@ module _ (v : View) (who : ℕ) (known : IsKnown v) (decided : is_decided (part_
       pub cell_of_stepped : (ended_claim (part_of u who)).cell ≡ cell
       cell_of_stepped = ap (λ (z : Part). (ended_claim z).cell) part_is ∙ sym (ap (λ (n : VersionAt). n.cell) ended_is) ∙ cell_is
 
+      -- it is still the version of the same claim
+      pub ended_stays : ended_claim (part_of u who) ≡ ended_claim (part_of v who)
+      ended_stays = ap (λ (z : Part). ended_claim z) part_is ∙ sym ended_is
+
       after_mark : (found : ℕ) (s : Shared) → part_after who (kind.StoreOverwriter version stamp) found s (stepped 7) ≡ Some (stepped 8)
       after_mark found s =
           when_true _ (stepped 8) (both _ _ (both _ _ (both _ _ may_install refl) (same_self version)) (eq-eqb stamp x.current.stamp (sym stamp_is)))

@@ -6,4 +6,5 @@ pub mod Registering
 pub mod Seats
 pub mod Seen
 pub mod Settling
+pub mod Took
 pub mod Walked

@@ -134,6 +134,9 @@ module _ (v : View) (who cell : ℕ) (active : is_active (part_of v who).place �
       pub cell_of_overtaken : (rated_version (part_of u who)).cell ≡ cell
       cell_of_overtaken = ap (λ (z : Part). (rated_version z).cell) part_is ∙ registered_cell x.task cell registered
 
+      pub rates_still : rated_version (part_of u who) ≡ hand
+      rates_still = ap (λ (z : Part). rated_version z) part_is
+
       after_succ : (found : ℕ) (s : Shared) → part_after who (kind.LoadStamp hand word.OverwriterSucc) found s overtaken ≡ Some (rated_by hand overwriter found false x)
       after_succ found s =
           first_branch (is_active x.place) (load_active_stamp found hand word.OverwriterSucc overtaken overtaken.task) _ _ active

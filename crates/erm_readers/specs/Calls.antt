@@ -1,24 +1,22 @@
 -- What a read, a settle and an end ask of a seat's part where they meet the words of a version, and what they leave of a pass's
 -- view.
-use Rattle.std.specs.Prelude.{◌≡◌, ℕ, ◌+◌, ◌<◌, ◌≤◌, ◌&&◌, ◌==◌, nat_lt, false, Bool, if◌then◌else◌, [], ◌∷◌, ◌++◌, length, Option, Some, None}
+use Rattle.std.specs.Prelude.{◌≡◌, ℕ, ◌+◌, ◌<◌, ◌≤◌, ◌==◌, false, if◌then◌else◌, [], ◌∷◌, ◌++◌, length, Option, Some, None}
 use Rattle.erm_machine.specs.declared.attempt.Attempt.{Attempt}
 use Rattle.erm_machine.specs.declared.attempt.Decision.TheVariants.{Commit}
 use Rattle.erm_machine.specs.declared.part.Part.{Part}
 use Rattle.erm_machine.specs.declared.task.Task.{Task}
 use Rattle.erm_machine.specs.declared.task.Task.TheVariants as task
 use Rattle.erm_machine.specs.declared.version.Cell.{Cell}
-use Rattle.erm_machine.specs.declared.version.CellWord.{CellWord}
-use Rattle.erm_machine.specs.declared.version.CellWord.TheVariants as word
 use Rattle.erm_machine.specs.declared.version.VersionAt.{VersionAt}
 use Rattle.erm_machine.specs.Core.{Core, version_at}
 use Rattle.erm_machine.specs.Readers.{bit_of}
 use Rattle.erm_machine.specs.Reading.{has_read}
 use Rattle.erm_machine.specs.Seat.{end_of, with_pred, with_succ, with_task}
-use Rattle.erm_machine.specs.Words.{cell_word, without_bit}
+use Rattle.erm_machine.specs.Words.{without_bit}
 use Rattle.erm_rule.specs.declared.view.View.{View}
 use Rattle.erm_rule.specs.Hands.{IsKnown, in_hand}
 use Rattle.erm_rule.specs.Views.{part_of, with_part}
-use Rattle.erm_cells.specs.Hands.{ended_claim, next_cleared, next_raised, rated_version, settled_claim}
+use Rattle.erm_cells.specs.Hands.{ended_claim, next_cleared, next_raised, settled_claim}
 
 -- the words of a version
 abbrev pub words_of : Core → VersionAt → Cell
@@ -79,38 +77,7 @@ pub record DidRateRead (v : View) (who : ℕ) (succ : Option ℕ) (w : View) : T
   pub succ_is : succ ≡ overwriter_succ (words_of known.core (hand_of v who))
   pub view_is : w ≡ with_part who (rated_part (hand_of v who) (words_of known.core (hand_of v who)) (part_of v who)) v
 
--- SETTLE. The word of a version that is to be loaded next, if it is a stamp: of a version read its overwriter's stamp, and then
--- that one's successor stamp; of a version overwritten its creator's stamp, and then the reader stamp.
-abbrev pub next_stamp : Task → Option CellWord
-next_stamp (task.ReadClear read) = Some word.Overwriter
-next_stamp (task.ReadOvertaken read overwriter) = Some word.OverwriterSucc
-next_stamp (task.WriteClear write) = Some word.Stamp
-next_stamp (task.WriteMade write) = Some word.ReaderStamp
-next_stamp t = None
-
--- an overwriter with this stamp counts: there is one, and its stamp is below the own one
-abbrev pub counts : ℕ → Attempt → Bool
-counts overwriter t = nat_lt 0 overwriter && nat_lt overwriter t.stamp
-
--- The part once that stamp is loaded. An overwriter's successor stamp counts for the own one; a creator's stamp and a reader
--- stamp count for the predecessor stamp.
-abbrev pub settled_part : ℕ → Part → Task → Part
-settled_part stamp x (task.ReadClear read) =
-    with_task (if counts stamp x.current then task.ReadOvertaken read stamp else task.Settles (read + 1) 0) x
-settled_part stamp x (task.ReadOvertaken read overwriter) =
-    record x { task = task.Settles (read + 1) 0; current = with_succ stamp overwriter x.current }
-settled_part stamp x (task.WriteClear write) = record x { task = task.WriteMade write; current = with_pred stamp x.current }
-settled_part stamp x (task.WriteMade write) =
-    record x { task = task.Settles (length x.current.reads) (write + 1); current = with_pred stamp x.current }
-settled_part stamp x t = x
-
--- a stamp that the version has was loaded, and counts
-pub record DidSettleStamp (v : View) (who : ℕ) (w : CellWord) (stamp : ℕ) (u : View) : Type 0 where
-  pub known : IsKnown u
-  pub stamp_is : cell_word w (words_of known.core (rated_version (part_of v who))) ≡ stamp
-  pub view_is : u ≡ with_part who (settled_part stamp (part_of v who) (part_of v who).task) v
-
--- a settle has passed all versions read, and has come to a version overwritten
+-- SETTLE. It has passed all versions read, and has come to a version overwritten.
 abbrev pub IsAtReaders : Attempt → Task → Type 0
 IsAtReaders t (task.Settles reads writes) = (reads ≡ length t.reads) × (writes < length t.writes)
 IsAtReaders t u = ⊥

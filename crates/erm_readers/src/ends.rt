@@ -8,9 +8,8 @@ ghost use Rattle.erm_readers.specs.Calls.{DidMark, DidRaise, DidUnregister, IsCl
 ghost use Rattle.erm_rule.specs.Hands.{IsKnown};
 ghost use Rattle.erm_rule.specs.Steps.{Fits, Booked};
 ghost use Rattle.erm_rule.specs.Views.{view, part_of};
-ghost use Rattle.erm_cells.specs.Took.{IsEndStep};
+ghost use Rattle.erm_readers.specs.Took.{TookMarks};
 ghost use Rattle.erm_rule.specs.Books.{book};
-ghost use Rattle.erm_rule.specs.Went.{Went};
 
 use erm_cells::{clear_reader, raise_reader, store_overwriter, store_succ};
 use erm_model::{RowLaw, Seat, Stamp};
@@ -52,7 +51,7 @@ pub fn mark_overwritten<L: RowLaw>(
     requires succ { (part_of (view p.old) who).current.succ ≡ succ }
     ensures fits { Fits t.now.words.shared.table_id p.new }
     ensures marked { DidMark (view p.old) who (view p.new) }
-    ensures ends { Went L.law who IsEndStep (book p.old) (book p.new) }
+    ensures took { TookMarks L.law who (ended_claim (part_of (view p.old) who)) stamp succ (book p.old) (book p.new) }
 {
     store_succ(t, p, who, cell, succ);
     store_overwriter(t, p, who, cell, stamp);

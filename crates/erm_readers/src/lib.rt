@@ -1,5 +1,5 @@
 //! Readers of versions, and the stamps by which transactions exclude one another: a read registers its version and rates it, a settle
-//! loads stamps and the bits of readers, an end raises, marks and clears. None waits or takes memory.
+//! loads the bits of readers, an end raises, marks and clears. None waits or takes memory.
 #![tactic(auto)]
 
 pub mod answer;
@@ -16,5 +16,5 @@ pub use laws::{
     readers_passed_are_later,
 };
 pub use reads::{rate_read, register};
-pub use settles::{readers, stamps};
+pub use settles::readers;
 pub use walking::walk;

@@ -2,13 +2,13 @@
 ghost use Rattle.std.specs.Prelude.{◌≡◌, ◌<◌, true, length, ℕ};
 ghost use Rattle.erm_machine.specs.Seat.{is_active};
 ghost use Rattle.erm_machine.specs.Words.{is_session};
-ghost use Rattle.erm_readers.specs.Calls.{DidRateRead, DidRegister, IsRegistered, IsToBeRead};
+ghost use Rattle.erm_readers.specs.Calls.{DidRateRead, DidRegister, IsRegistered, IsToBeRead, hand_of};
 ghost use Rattle.erm_rule.specs.Hands.{IsKnown};
 ghost use Rattle.erm_rule.specs.Steps.{Fits, Booked};
 ghost use Rattle.erm_rule.specs.Views.{view, part_of};
 ghost use Rattle.erm_cells.specs.Hands.{reader_kind};
 ghost use Rattle.erm_rule.specs.Books.{book};
-ghost use Rattle.erm_rule.specs.Went.{IsLoadStep, Went};
+ghost use Rattle.erm_readers.specs.Took.{TookRate};
 
 use erm_cells::{load_stamp, set_reader};
 use erm_machine::{CellWord, READ_LIMIT};
@@ -39,7 +39,7 @@ pub fn rate_read<L: RowLaw>(t: &Table<L>, p: &mut Pass, who: Seat, cell: u32) ->
     requires registered { IsRegistered (part_of (view p.old) who).task cell }
     ensures fits { Fits t.now.words.shared.table_id p.new }
     ensures rated { DidRateRead (view p.old) who result (view p.new) }
-    ensures loads { Went L.law who IsLoadStep (book p.old) (book p.new) }
+    ensures took { TookRate L.law who (hand_of (view p.old) who) result (book p.old) (book p.new) }
 {
     let overwriter = load_stamp(t, p, who, cell, CellWord::Overwriter);
     if overwriter == 0 {

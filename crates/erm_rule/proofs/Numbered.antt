@@ -14,9 +14,8 @@ use Rattle.erm_machine.specs.Words.{is_seat}
 use Rattle.std.proofs.lemmas.Bool.{ltb-true}
 use Rattle.erm_rule.specs.declared.view.View.{View}
 use Rattle.erm_rule.specs.Cells.{IsTold}
-use Rattle.erm_model.specs.RowTransaction.{Law}
-use Rattle.erm_rule.specs.Hands.{IsKnown, IsKnownUnder}
-use Rattle.erm_rule.specs.Steps.{Ready, Told, ToldUnder}
+use Rattle.erm_rule.specs.Hands.{IsKnown}
+use Rattle.erm_rule.specs.Steps.{Ready, Told}
 use Rattle.erm_rule.specs.Views.{part_in, IsInOrder}
 use Rattle.erm_rule.proofs.Allowed.{of_seat, some_of}
 use Rattle.erm_rule.proofs.Lives.{Meets, met_drawn, lives}
@@ -32,11 +31,6 @@ known_after v who k found w told = record {
   limit = told.limit_after;
   in_order = subst IsInOrder (sym told.view_is) (order_after who told.part v told.in_order);
 }
-
--- and of a lawful one
-pub known_under : (law : Law) (v : View) (who : ℕ) (k : Kind) (found : ℕ) (w : View) → ToldUnder law v who k found w → IsKnownUnder law w
-unfolding known_after
-known_under law v who k found w under = record { known = known_after v who k found w under.told; lawful = under.lawful_after; spelled = under.spelled_after }
 
 -- a word of a cell
 pub has_place : (w : CellWord) → has_word w ≡ true → IsInCell w

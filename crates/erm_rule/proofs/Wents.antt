@@ -5,11 +5,9 @@ use Rattle.erm_machine.specs.declared.event.Kind.TheVariants as kind
 use Rattle.erm_model.specs.RowTransaction.{Law}
 use Rattle.erm_rule.specs.declared.view.Book.{Book}
 use Rattle.erm_rule.specs.Books.{IsAfter}
-use Rattle.erm_rule.specs.Hands.{IsKnownUnder}
 use Rattle.erm_rule.specs.Steps.{Booked}
 use Rattle.erm_rule.specs.Went.{Took, AllSteps, Went, IsLoadStep, IsStillStep}
 use Rattle.erm_rule.proofs.Courses.{goes_both, goes_step, seen_nothing}
-use Rattle.erm_rule.proofs.Numbered.{known_under}
 
 -- no step, one step, one step more
 pub took_none : (law : Law) (who : ℕ) (b : Book) → Took law who [] b b
@@ -59,11 +57,6 @@ took_goes law who (s ∷ steps) b e took = goes_both b took.0 e (took_goes law w
 
 pub went_goes : (law : Law) (who : ℕ) (P : Kind → ℕ → Type 0) (b e : Book) → Went law who P b e → IsAfter b e
 went_goes law who P b e went = took_goes law who went.steps b e went.took
-
--- and its view is one of a lawful state, where that before it is
-pub took_known : (law : Law) (who : ℕ) (steps : List (Kind × ℕ)) (b e : Book) → IsKnownUnder law b.view → Took law who steps b e → IsKnownUnder law e.view
-took_known law who [] b e known same = subst (λ (z : Book). IsKnownUnder law z.view) (sym same) known
-took_known law who (s ∷ steps) b e known took = known_under law took.0.view who s.0 s.1 e.view took.2.under
 
 -- a load leaves the log's end and the place flushed
 load_still : (k : Kind) (found : ℕ) → IsLoadStep k found → IsStillStep k found

@@ -9,10 +9,7 @@ use Rattle.erm_machine.specs.declared.task.Task.TheVariants as task
 use Rattle.erm_machine.specs.declared.version.CellWord.{CellWord}
 use Rattle.erm_machine.specs.declared.version.VersionAt.{VersionAt}
 use Rattle.erm_machine.specs.Core.{Core, no_claim}
-use Rattle.erm_machine.specs.Lawful.{Lawful}
 use Rattle.erm_machine.specs.Sound.{Sound}
-use Rattle.erm_core_blocks.specs.Spelled.{AreSpelled}
-use Rattle.erm_model.specs.RowTransaction.{Law}
 use Rattle.erm_rule.specs.declared.view.View.{View}
 use Rattle.erm_rule.specs.Newest.{CutsAtNewest}
 use Rattle.erm_rule.specs.Views.{IsView, IsInOrder}
@@ -27,12 +24,6 @@ pub record IsKnown (v : View) : Type 0 where
   pub is_view : IsView v core
   pub limit : core.shared.cell_limit ≡ TABLE_CELLS
   pub in_order : IsInOrder v
-
--- There is such a state whose rows keep the law, and in which the words of each decided block are the spelling of its transaction.
-pub record IsKnownUnder (law : Law) (v : View) : Type 0 where
-  pub known : IsKnown v
-  pub lawful : Lawful law known.core.shared known.core.seats
-  pub spelled : AreSpelled known.core
 
 -- the version in hand of a call, or some name that is none
 abbrev pub in_hand : Task → VersionAt

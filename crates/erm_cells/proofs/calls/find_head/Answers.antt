@@ -1,5 +1,4 @@
 use Rattle.std.proofs.Common.{sym, ◌∙◌, refl}
-use Rattle.erm_rule.proofs.Courses.{goes_both, goes_step}
 use Rattle.erm_rule.proofs.Telling.{is_held}
 use Rattle.erm_cells.proofs.Heads.{has, ready_entry, did_enter, has_walks, object_in_hand, cell_in_hand, ready_walk, did_walk}
 use Rattle.erm_cells.proofs.calls.find_head.Goals as goal
@@ -32,13 +31,6 @@ load_walked-stamp-requires-clause-ready g c = ready_walk c.args.p.now.me.0.view 
 
 pub returns-clause-found : goal.returns-clause-found
 returns-clause-found g c = did_walk c.args.p.now.me.0.view c.args.who c.requires.active c.args.oid c.load_entry-entry.result _ (did_enter c.args.p.now.me.0.view c.args.who c.requires.active c.args.oid c.load_entry-entry.result _ c.requires.object c.requires.starts c.load_entry-entry.ensures.told.told) (sym c.owner_of.ensures ∙ c.if-owner_of-ne0.false) c.load_walked-stamp.result _ c.requires.object c.load_walked-stamp.ensures.told.told
-
-pub returns-then-owner_of-ne0-clause-goes : goal.returns-then-owner_of-ne0-clause-goes
-returns-then-owner_of-ne0-clause-goes g c = goes_step _ _ _ _ _ _ c.load_entry-entry.ensures.booked
-
-pub returns-clause-goes : goal.returns-clause-goes
-returns-clause-goes g c =
-    goes_both c.args.p.now.me.0 c.load_entry-entry.new.p.me.0 c.load_walked-stamp.new.p.me.0 (goes_step _ _ _ _ _ _ c.load_entry-entry.ensures.booked) (goes_step _ _ _ _ _ _ c.load_walked-stamp.ensures.booked)
 
 pub returns-then-owner_of-ne0-clause-took : goal.returns-then-owner_of-ne0-clause-took
 returns-then-owner_of-ne0-clause-took g c = (c.args.p.now.me.0, refl, c.load_entry-entry.ensures.booked)

@@ -1,4 +1,3 @@
-use Rattle.erm_rule.proofs.Courses.{goes_step}
 use Rattle.erm_rule.proofs.Telling.{is_held}
 use Rattle.erm_cells.proofs.Heads.{has}
 use Rattle.erm_cells.proofs.Taking.{ready_claim, did_take, did_lose}
@@ -18,6 +17,3 @@ returns-clause-taken g c same =
 pub returns-clause-lost : goal.returns-clause-lost
 returns-clause-lost g c other =
     did_lose c.args.p.now.me.0.view c.args.who c.requires.active c.requires.session c.args.oid c.args.seen c.args.number c.requires.number c.requires.room c.requires.head _ _ c.claim_entry.ensures.told.told c.requires.object other
-
-pub returns-clause-goes : goal.returns-clause-goes
-returns-clause-goes g c = goes_step _ _ _ _ _ _ c.claim_entry.ensures.booked

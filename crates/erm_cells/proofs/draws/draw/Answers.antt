@@ -1,7 +1,6 @@
 use Rattle.std.proofs.Common.{sym, ◌∙◌}
 use Rattle.erm_rule.specs.Views.{part_of}
-use Rattle.erm_rule.proofs.Courses.{seen_nothing}
-use Rattle.erm_cells.proofs.Rating.{not_bare, bare_list, draw_counted, draw_refused, draw_spare, err_then, ok_then}
+use Rattle.erm_cells.proofs.Rating.{bare_list, draw_counted, draw_refused, draw_spare, err_then, ok_then}
 use Rattle.erm_cells.proofs.draws.draw.Goals as goal
 use Rattle.erm_cells.proofs.Took.{drawn_counted, drawn_spare}
 
@@ -21,15 +20,6 @@ pub returns-in-None-clause-refused : goal.returns-in-None-clause-refused
 returns-in-None-clause-refused g c =
     err_then c.draw_counted.result c.draw_counted.ensures.refused
     (λ seen did. draw_refused c.args.p.now.me.0.view c.args.who c.requires.active c.requires.known c.requires.draws c.pop.new.self seen _ (bare_list c.args.spare.now (part_of c.args.p.now.me.0.view c.args.who) c.requires.spare c.in-None.ensures.0) c.in-None.ensures.1 did)
-
-pub returns-in-Some-clause-from : goal.returns-in-Some-clause-from
-returns-in-Some-clause-from g c none = absurd (not_bare c.pop.new.self c.in-Some.cell (sym c.in-Some.ensures ∙ none))
-
-pub returns-in-Some-clause-goes : goal.returns-in-Some-clause-goes
-returns-in-Some-clause-goes g c = seen_nothing c.args.p.now.me.0
-
-pub returns-in-None-clause-from : goal.returns-in-None-clause-from
-returns-in-None-clause-from g c = ok_then c.draw_counted.result c.draw_counted.ensures.last (λ cell last none. last)
 
 pub returns-in-Some-clause-took : goal.returns-in-Some-clause-took
 returns-in-Some-clause-took g c = drawn_spare g.L.RowLaw.law c.args.who c.args.spare.now c.pop.new.self c.in-Some.cell c.args.p.now.me.0 c.in-Some.ensures

@@ -1,7 +1,4 @@
 use Rattle.std.proofs.Common.{sym, ◌∙◌, inl, inr, refl}
-use Rattle.erm_machine.specs.declared.event.Counter.TheVariants.{Cells}
-use Rattle.erm_machine.specs.declared.event.Kind.TheVariants.{LoadCounter, AddCounter}
-use Rattle.erm_rule.proofs.Courses.{goes_both, goes_step, last_of, seen_nothing, state_of_book}
 use Rattle.erm_rule.proofs.Telling.{is_held}
 use Rattle.erm_cells.proofs.Heads.{has}
 use Rattle.erm_cells.proofs.Drawing.{ready_load, refused_first, has_pool, ready_add, refused_then, did_count}
@@ -27,30 +24,6 @@ returns-then-not-is_cell-2-clause-refused g c = refused_then c.args.p.now.me.0.v
 
 pub returns-clause-counted : goal.returns-clause-counted
 returns-clause-counted g c = did_count c.args.p.now.me.0.view c.args.who c.requires.active c.requires.draws c.requires.bare c.load_counter-seen.result _ c.load_counter-seen.ensures.told.told (sym c.is_cell.ensures ∙ c.if-not-is_cell.false) c.add_counter-found.result _ c.add_counter-found.ensures.told.told (sym c.is_cell-2.ensures ∙ c.if-not-is_cell-2.false)
-
-pub returns-then-not-is_cell-clause-seen : goal.returns-then-not-is_cell-clause-seen
-returns-then-not-is_cell-clause-seen g c = (
-  inl (last_of g.L.RowLaw.law c.args.p.now.me.0 c.args.p.now.me.0 c.args.who (LoadCounter Cells) c.load_counter-seen.result c.load_counter-seen.new.p.me.0 (seen_nothing c.args.p.now.me.0) c.load_counter-seen.ensures.booked),
-  state_of_book g.L.RowLaw.law c.args.p.now.me.0 c.args.who (LoadCounter Cells) c.load_counter-seen.result c.load_counter-seen.new.p.me.0 c.load_counter-seen.ensures.booked,
-)
-
-pub returns-then-not-is_cell-clause-goes : goal.returns-then-not-is_cell-clause-goes
-returns-then-not-is_cell-clause-goes g c = goes_step _ _ _ _ _ _ c.load_counter-seen.ensures.booked
-
-pub returns-then-not-is_cell-2-clause-seen : goal.returns-then-not-is_cell-2-clause-seen
-returns-then-not-is_cell-2-clause-seen g c = (
-  inr (last_of g.L.RowLaw.law c.args.p.now.me.0 c.load_counter-seen.new.p.me.0 c.args.who (AddCounter Cells) c.add_counter-found.result c.add_counter-found.new.p.me.0 (goes_step _ _ _ _ _ _ c.load_counter-seen.ensures.booked) c.add_counter-found.ensures.booked),
-  state_of_book g.L.RowLaw.law c.load_counter-seen.new.p.me.0 c.args.who (AddCounter Cells) c.add_counter-found.result c.add_counter-found.new.p.me.0 c.add_counter-found.ensures.booked,
-)
-
-pub returns-then-not-is_cell-2-clause-goes : goal.returns-then-not-is_cell-2-clause-goes
-returns-then-not-is_cell-2-clause-goes g c = goes_both c.args.p.now.me.0 c.load_counter-seen.new.p.me.0 c.add_counter-found.new.p.me.0 (goes_step _ _ _ _ _ _ c.load_counter-seen.ensures.booked) (goes_step _ _ _ _ _ _ c.add_counter-found.ensures.booked)
-
-pub returns-clause-last : goal.returns-clause-last
-returns-clause-last g c = last_of g.L.RowLaw.law c.args.p.now.me.0 c.load_counter-seen.new.p.me.0 c.args.who (AddCounter Cells) c.add_counter-found.result c.add_counter-found.new.p.me.0 (goes_step _ _ _ _ _ _ c.load_counter-seen.ensures.booked) c.add_counter-found.ensures.booked
-
-pub returns-clause-goes : goal.returns-clause-goes
-returns-clause-goes g c = goes_both c.args.p.now.me.0 c.load_counter-seen.new.p.me.0 c.add_counter-found.new.p.me.0 (goes_step _ _ _ _ _ _ c.load_counter-seen.ensures.booked) (goes_step _ _ _ _ _ _ c.add_counter-found.ensures.booked)
 
 pub returns-then-not-is_cell-clause-took_none : goal.returns-then-not-is_cell-clause-took_none
 returns-then-not-is_cell-clause-took_none g c = inl (c.args.p.now.me.0, refl, c.load_counter-seen.ensures.booked)

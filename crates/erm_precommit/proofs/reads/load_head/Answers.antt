@@ -1,4 +1,3 @@
-use Rattle.erm_rule.proofs.Courses.{goes_step}
 use Rattle.erm_precommit.proofs.Choices.{some_then, none_then}
 use Rattle.erm_precommit.proofs.Read.{head_object, head_ready, head_went, head_stands, head_owned, head_owner, head_clear}
 use Rattle.erm_precommit.proofs.Standing.{held}
@@ -38,9 +37,6 @@ pub returns-clause-clear : goal.returns-clause-clear
 returns-clause-clear g c =
     none_then _ _ _ c.other_owner.result c.other_owner.ensures
     (head_clear c.args.pre.now c.args.p.now.me.0.view c.args.who c.requires.stands c.args.place c.read_at-read.result c.read_at-read.ensures c.requires.task c.requires.place c.load_entry-entry.result _ c.load_entry-entry.ensures.told.told)
-
-pub returns-clause-goes : goal.returns-clause-goes
-returns-clause-goes g c = goes_step _ c.args.p.now.me.0 _ _ _ _ c.load_entry-entry.ensures.booked
 
 pub returns-clause-loads : goal.returns-clause-loads
 returns-clause-loads g c = went_one _ _ _ _ _ _ _ tt c.load_entry-entry.ensures.booked

@@ -1,5 +1,4 @@
 use Rattle.std.proofs.Common.{sym, ◌∙◌}
-use Rattle.erm_rule.proofs.Courses.{goes_step}
 use Rattle.erm_precommit.proofs.Read.{clear_object, clear_cell, clear_ready, clear_went, clear_stands, clear_counts, clear_passed}
 use Rattle.erm_precommit.proofs.Standing.{held}
 use Rattle.erm_precommit.proofs.reads.load_overwriter.Goals as goal
@@ -35,9 +34,6 @@ returns-clause-counts g c e =
 pub returns-clause-none : goal.returns-clause-none
 returns-clause-none g c e =
     clear_passed c.args.pre.now c.args.p.now.me.0.view c.args.who c.requires.stands c.args.place c.read_at-read.result c.read_at-read.ensures c.requires.task c.load_stamp-overwriter.result _ c.load_stamp-overwriter.ensures.told.told (sym c.counts.ensures ∙ e)
-
-pub returns-clause-goes : goal.returns-clause-goes
-returns-clause-goes g c = goes_step _ c.args.p.now.me.0 _ _ _ _ c.load_stamp-overwriter.ensures.booked
 
 pub returns-clause-loads : goal.returns-clause-loads
 returns-clause-loads g c = went_one _ _ _ _ _ _ _ tt c.load_stamp-overwriter.ensures.booked

@@ -1,4 +1,3 @@
-use Rattle.erm_rule.proofs.Courses.{goes_step}
 use Rattle.erm_precommit.proofs.Read.{succ_object, succ_cell, succ_ready, succ_went, succ_stands, succ_passed}
 use Rattle.erm_precommit.proofs.Standing.{held}
 use Rattle.erm_precommit.proofs.reads.load_succ.Goals as goal
@@ -31,9 +30,6 @@ returns-clause-stands g c =
 pub returns-clause-passed : goal.returns-clause-passed
 returns-clause-passed g c =
     succ_passed c.args.pre.now c.args.p.now.me.0.view c.args.who c.requires.stands c.args.place c.read_at-read.result c.read_at-read.ensures c.requires.task c.load_stamp-succ.result _ c.load_stamp-succ.ensures.told.told
-
-pub returns-clause-goes : goal.returns-clause-goes
-returns-clause-goes g c = goes_step _ c.args.p.now.me.0 _ _ _ _ c.load_stamp-succ.ensures.booked
 
 pub returns-clause-loads : goal.returns-clause-loads
 returns-clause-loads g c = went_one _ _ _ _ _ _ _ tt c.load_stamp-succ.ensures.booked

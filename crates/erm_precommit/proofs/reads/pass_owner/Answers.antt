@@ -1,5 +1,4 @@
 use Rattle.std.proofs.lemmas.Result.{IfErr-weaker}
-use Rattle.erm_rule.proofs.Courses.{goes_both, seen_after}
 use Rattle.erm_precommit.proofs.Causes.{stopped_by_owner}
 use Rattle.erm_precommit.proofs.Standing.{then_on}
 use Rattle.erm_precommit.proofs.reads.pass_owner.Goals as goal
@@ -14,12 +13,6 @@ returns-in-Some-clause-waits g c =
     IfErr-weaker c.look_at_owner.result _ _
     (λ wait stop. stopped_by_owner c.args.p.now.me.0.view c.args.who c.requires.stands.sealed _ c.load_head.ensures.went c.args.place c.in-Some.owner wait _ c.in-Some.ensures.owner c.in-Some.ensures.owned stop)
     c.look_at_owner.ensures.stops
-
-pub returns-in-Some-clause-goes : goal.returns-in-Some-clause-goes
-returns-in-Some-clause-goes g c = goes_both c.args.p.now.me.0 _ _ c.load_head.ensures.goes c.look_at_owner.ensures.goes
-
-pub returns-in-Some-clause-met : goal.returns-in-Some-clause-met
-returns-in-Some-clause-met g c = IfErr-weaker c.look_at_owner.result _ _ (λ wait met. seen_after c.args.p.now.me.0 _ _ _ c.load_head.ensures.goes met) c.look_at_owner.ensures.met
 
 pub returns-in-Some-clause-loads : goal.returns-in-Some-clause-loads
 returns-in-Some-clause-loads g c = went_more _ _ _ _ _ _ c.load_head.ensures.loads c.look_at_owner.ensures.loads

@@ -1,5 +1,4 @@
 use Rattle.std.proofs.lemmas.Result.{err_from_is_err_and}
-use Rattle.erm_rule.proofs.Courses.{goes_both}
 use Rattle.erm_precommit.proofs.Standing.{then_on}
 use Rattle.erm_precommit.proofs.reads.pass_read.Goals as goal
 use Rattle.erm_rule.proofs.Wents.{went_more}
@@ -9,9 +8,6 @@ returns-in_err-pass_owner-clause-waits g c = let p = err_from_is_err_and c.from_
 
 pub returns-clause-went : goal.returns-clause-went
 returns-clause-went g c = then_on c.args.p.now.me.0.view c.args.who c.requires.stands.sealed _ _ c.pass_owner.ensures.went c.rate_read.ensures.went
-
-pub returns-clause-goes : goal.returns-clause-goes
-returns-clause-goes g c = goes_both c.args.p.now.me.0 _ _ c.pass_owner.ensures.goes c.rate_read.ensures.goes
 
 pub returns-clause-loads : goal.returns-clause-loads
 returns-clause-loads g c = went_more _ _ _ _ _ _ c.pass_owner.ensures.loads c.rate_read.ensures.loads

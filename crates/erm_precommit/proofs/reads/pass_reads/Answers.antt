@@ -2,7 +2,6 @@ use Rattle.std.proofs.Common.{◌≡◌, ℕ, length, arith, ap, ◌∙◌}
 use Rattle.arrayvec.specs.ArrayVec.{ArrayVec}
 use Rattle.erm_machine.specs.declared.task.Task.TheVariants as task
 use Rattle.std.proofs.lemmas.Result.{err_from_is_err_and}
-use Rattle.erm_rule.proofs.Courses.{goes_both, seen_after, seen_nothing}
 use Rattle.erm_precommit.specs.declared.pre.KeptRead.{KeptRead}
 use Rattle.erm_precommit.proofs.Causes.{waits_since}
 use Rattle.erm_precommit.proofs.Loops.{reads_same}
@@ -13,7 +12,7 @@ use Rattle.erm_precommit.proofs.Took.{wait_after}
 
 pub loop-place-init : goal.loop-place-init
 loop-place-init g c =
-    (c.requires.fits, record { went = stays c.args.p.now.me.0.view c.args.who c.requires.stands.sealed c.requires.stands.known; stands = c.requires.stands; task = c.requires.task }, seen_nothing c.args.p.now.me.0, went_none _ _ _ _)
+    (c.requires.fits, record { went = stays c.args.p.now.me.0.view c.args.who c.requires.stands.sealed c.requires.stands.known; stands = c.requires.stands; task = c.requires.task }, went_none _ _ _ _)
 
 pub pass_read-requires-clause-place : goal.pass_read-requires-clause-place
 pass_read-requires-clause-place g c =
@@ -31,8 +30,7 @@ loop-place-preserved g c =
         stands = c.pass_read.ensures.stands;
         task = c.in_ok-pass_read.ensures.passed;
       },
-      goes_both c.args.p.now.me.0 _ _ c.loop-place.invariant.2 c.pass_read.ensures.goes,
-      went_more _ _ _ _ _ _ c.loop-place.invariant.3 c.pass_read.ensures.loads,
+      went_more _ _ _ _ _ _ c.loop-place.invariant.2 c.pass_read.ensures.loads,
     )
 
 pub returns-in_err-pass_read-clause-went : goal.returns-in_err-pass_read-clause-went
@@ -51,18 +49,10 @@ returns-clause-passed g c =
     let all : c.loop-place.place ≡ length c.loop-place.pre.reads.value.items = omega (arith, same, there) in
     i.task ∙ ap (λ (n : ℕ). task.Settles n 0) all
 
-pub returns-in_err-pass_read-clause-goes : goal.returns-in_err-pass_read-clause-goes
-returns-in_err-pass_read-clause-goes g c = goes_both c.args.p.now.me.0 _ _ c.loop-place.invariant.2 c.pass_read.ensures.goes
-
-pub returns-in_err-pass_read-clause-met : goal.returns-in_err-pass_read-clause-met
-returns-in_err-pass_read-clause-met g c =
-    let p = err_from_is_err_and c.from_residual.result c.from_residual.ensures.1 in
-    rw (p.1, p.2) (seen_after c.args.p.now.me.0 _ _ _ c.loop-place.invariant.2 c.in_err-pass_read.ensures.met)
-
 pub returns-in_err-pass_read-clause-loads : goal.returns-in_err-pass_read-clause-loads
-returns-in_err-pass_read-clause-loads g c = went_more _ _ _ _ _ _ c.loop-place.invariant.3 c.pass_read.ensures.loads
+returns-in_err-pass_read-clause-loads g c = went_more _ _ _ _ _ _ c.loop-place.invariant.2 c.pass_read.ensures.loads
 
 pub returns-in_err-pass_read-clause-took_wait : goal.returns-in_err-pass_read-clause-took_wait
 returns-in_err-pass_read-clause-took_wait g c =
     let p = err_from_is_err_and c.from_residual.result c.from_residual.ensures.1 in
-    rw (p.1, p.2) (wait_after _ _ _ _ _ _ _ c.loop-place.invariant.3 c.in_err-pass_read.ensures.took_wait)
+    rw (p.1, p.2) (wait_after _ _ _ _ _ _ _ c.loop-place.invariant.2 c.in_err-pass_read.ensures.took_wait)

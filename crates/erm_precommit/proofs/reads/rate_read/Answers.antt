@@ -1,4 +1,3 @@
-use Rattle.erm_rule.proofs.Courses.{goes_both}
 use Rattle.erm_precommit.proofs.Standing.{then_on}
 use Rattle.erm_precommit.proofs.reads.rate_read.Goals as goal
 use Rattle.erm_rule.proofs.Wents.{went_more}
@@ -8,9 +7,6 @@ returns-then-load_overwriter-clause-went g c = then_on c.args.p.now.me.0.view c.
 
 pub returns-else-load_overwriter-clause-passed : goal.returns-else-load_overwriter-clause-passed
 returns-else-load_overwriter-clause-passed g c = c.load_overwriter.ensures.none c.if-load_overwriter.false
-
-pub returns-then-load_overwriter-clause-goes : goal.returns-then-load_overwriter-clause-goes
-returns-then-load_overwriter-clause-goes g c = goes_both c.args.p.now.me.0 _ _ c.load_overwriter.ensures.goes c.load_succ.ensures.goes
 
 pub returns-then-load_overwriter-clause-loads : goal.returns-then-load_overwriter-clause-loads
 returns-then-load_overwriter-clause-loads g c = went_more _ _ _ _ _ _ c.load_overwriter.ensures.loads c.load_succ.ensures.loads

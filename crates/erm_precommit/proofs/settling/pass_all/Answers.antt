@@ -1,5 +1,4 @@
 use Rattle.std.proofs.lemmas.Result.{err_from_is_err_and, IfErr-weaker}
-use Rattle.erm_rule.proofs.Courses.{goes_both, seen_after}
 use Rattle.erm_precommit.proofs.Causes.{waits_since}
 use Rattle.erm_precommit.proofs.Standing.{then_on}
 use Rattle.erm_precommit.proofs.settling.pass_all.Goals as goal
@@ -15,12 +14,6 @@ returns-clause-went g c = then_on c.args.p.now.me.0.view c.args.who c.requires.s
 pub returns-clause-waits : goal.returns-clause-waits
 returns-clause-waits g c =
     IfErr-weaker c.pass_writes.result _ _ (λ wait h. waits_since c.args.p.now.me.0.view c.args.who c.requires.stands.sealed _ c.pass_reads.ensures.went wait.seat wait.seen _ h) c.pass_writes.ensures.waits
-
-pub returns-clause-goes : goal.returns-clause-goes
-returns-clause-goes g c = goes_both c.args.p.now.me.0 _ _ c.pass_reads.ensures.goes c.pass_writes.ensures.goes
-
-pub returns-clause-met : goal.returns-clause-met
-returns-clause-met g c = IfErr-weaker c.pass_writes.result _ _ (λ wait met. seen_after c.args.p.now.me.0 _ _ _ c.pass_reads.ensures.goes met) c.pass_writes.ensures.met
 
 pub returns-clause-loads : goal.returns-clause-loads
 returns-clause-loads g c = went_more _ _ _ _ _ _ c.pass_reads.ensures.loads c.pass_writes.ensures.loads

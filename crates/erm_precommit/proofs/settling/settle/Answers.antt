@@ -1,9 +1,7 @@
-use Rattle.erm_rule.proofs.Courses.{goes_both, seen_after}
 use Rattle.erm_precommit.proofs.Causes.{waits_since}
 use Rattle.erm_precommit.proofs.Standing.{then_on}
 use Rattle.erm_precommit.proofs.Windows.{is_ready}
 use Rattle.erm_precommit.proofs.settling.settle.Goals as goal
-use Rattle.erm_rule.proofs.Wents.{went_more}
 
 pub returns-in-Ok-clause-went : goal.returns-in-Ok-clause-went
 returns-in-Ok-clause-went g c = then_on c.args.p.now.me.0.view c.args.who c.requires.sealed _ _ c.start.ensures.went c.pass_all.ensures.went
@@ -17,17 +15,8 @@ returns-in-Err-pass_all-clause-went g c = then_on c.args.p.now.me.0.view c.args.
 pub returns-in-Err-pass_all-clause-settled : goal.returns-in-Err-pass_all-clause-settled
 returns-in-Err-pass_all-clause-settled g c = waits_since c.args.p.now.me.0.view c.args.who c.requires.sealed _ c.start.ensures.went _ _ _ c.in-Err-pass_all.ensures.waits
 
-pub returns-in-Ok-clause-goes : goal.returns-in-Ok-clause-goes
-returns-in-Ok-clause-goes g c = goes_both c.args.p.now.me.0 _ _ c.start.ensures.goes c.pass_all.ensures.goes
-
-pub returns-in-Err-pass_all-clause-goes : goal.returns-in-Err-pass_all-clause-goes
-returns-in-Err-pass_all-clause-goes g c = goes_both c.args.p.now.me.0 _ _ c.start.ensures.goes c.pass_all.ensures.goes
-
-pub returns-in-Err-pass_all-clause-met : goal.returns-in-Err-pass_all-clause-met
-returns-in-Err-pass_all-clause-met g c = seen_after c.args.p.now.me.0 _ _ _ c.start.ensures.goes c.in-Err-pass_all.ensures.met
-
 pub returns-in-Ok-clause-took : goal.returns-in-Ok-clause-took
-returns-in-Ok-clause-took g c = went_more _ _ _ _ _ _ c.start.ensures.loads c.pass_all.ensures.loads
+returns-in-Ok-clause-took g c = record { first = c.start.new.p.me.0; start = c.in_default.ensures.took; loads = c.pass_all.ensures.loads }
 
 pub returns-in-Err-pass_all-clause-took : goal.returns-in-Err-pass_all-clause-took
 returns-in-Err-pass_all-clause-took g c = record { first = c.start.new.p.me.0; start = c.in_default.ensures.took; waits = c.in-Err-pass_all.ensures.took_wait }

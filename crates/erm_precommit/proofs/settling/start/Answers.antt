@@ -1,9 +1,7 @@
 use Rattle.std.proofs.Common.{sym, ◌∙◌, refl}
-use Rattle.erm_rule.proofs.Courses.{goes_step, seen_once}
 use Rattle.erm_precommit.proofs.Standing.{held}
 use Rattle.erm_precommit.proofs.Starts.{start_ready, start_room, start_went, start_stands, start_comes, full_went, full_stands, full_waits}
 use Rattle.erm_precommit.proofs.settling.start.Goals as goal
-use Rattle.erm_rule.proofs.Wents.{went_one}
 
 pub load_flushed-flushed-requires-clause-held : goal.load_flushed-flushed-requires-clause-held
 load_flushed-flushed-requires-clause-held g c = held c.args.p.now.me.0.view c.args.who c.requires.sealed
@@ -34,21 +32,6 @@ returns-else-fits_ring-clause-stands g c =
 pub returns-else-fits_ring-clause-full : goal.returns-else-fits_ring-clause-full
 returns-else-fits_ring-clause-full g c =
     full_waits c.args.pre.now c.args.p.now.me.0.view c.args.who c.requires.sealed c.requires.starts c.requires.kept c.load_flushed-flushed.result _ c.load_flushed-flushed.ensures.told.told (sym c.fits_ring.ensures ∙ c.if-fits_ring.false)
-
-pub returns-then-fits_ring-clause-goes : goal.returns-then-fits_ring-clause-goes
-returns-then-fits_ring-clause-goes g c = goes_step _ c.args.p.now.me.0 _ _ _ _ c.load_flushed-flushed.ensures.booked
-
-pub returns-else-fits_ring-clause-goes : goal.returns-else-fits_ring-clause-goes
-returns-else-fits_ring-clause-goes g c = goes_step _ c.args.p.now.me.0 _ _ _ _ c.load_flushed-flushed.ensures.booked
-
-pub returns-else-fits_ring-clause-met : goal.returns-else-fits_ring-clause-met
-returns-else-fits_ring-clause-met g c = seen_once _ c.args.p.now.me.0 _ _ _ _ _ c.load_flushed-flushed.ensures.booked (λ core is met. met)
-
-pub returns-then-fits_ring-clause-loads : goal.returns-then-fits_ring-clause-loads
-returns-then-fits_ring-clause-loads g c = went_one _ _ _ _ _ _ _ tt c.load_flushed-flushed.ensures.booked
-
-pub returns-else-fits_ring-clause-loads : goal.returns-else-fits_ring-clause-loads
-returns-else-fits_ring-clause-loads g c = went_one _ _ _ _ _ _ _ tt c.load_flushed-flushed.ensures.booked
 
 pub returns-else-fits_ring-clause-took_full : goal.returns-else-fits_ring-clause-took_full
 returns-else-fits_ring-clause-took_full g c = (

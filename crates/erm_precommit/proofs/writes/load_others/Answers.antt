@@ -1,4 +1,3 @@
-use Rattle.erm_rule.proofs.Courses.{goes_step}
 use Rattle.erm_precommit.proofs.Overwritten.{readers_object, readers_cell, readers_ready, readers_went, readers_stands, readers_left, readers_are}
 use Rattle.erm_precommit.proofs.Standing.{held, seat_fits}
 use Rattle.erm_precommit.proofs.writes.load_others.Goals as goal
@@ -42,9 +41,6 @@ pub returns-clause-readers : goal.returns-clause-readers
 returns-clause-readers g c =
     readers_are c.args.pre.now c.args.p.now.me.0.view c.args.who c.requires.stands c.args.place c.claim_at-claim.result c.claim_at-claim.ensures c.requires.task c.requires.place c.load_readers-readers.result _ c.load_readers-readers.ensures.told.told
     c.without_bit.result c.without_bit.ensures
-
-pub returns-clause-goes : goal.returns-clause-goes
-returns-clause-goes g c = goes_step _ c.args.p.now.me.0 _ _ _ _ c.load_readers-readers.ensures.booked
 
 pub returns-clause-loads : goal.returns-clause-loads
 returns-clause-loads g c = went_one _ _ _ _ _ _ _ tt c.load_readers-readers.ensures.booked

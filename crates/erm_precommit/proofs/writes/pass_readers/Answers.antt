@@ -1,6 +1,5 @@
 use Rattle.std.proofs.Common.{◌∙◌}
 use Rattle.std.proofs.lemmas.Result.{err_from_is_err_and}
-use Rattle.erm_rule.proofs.Courses.{goes_both, seen_after}
 use Rattle.erm_precommit.proofs.Causes.{stopped_by_reader}
 use Rattle.erm_precommit.proofs.Loops.{none_left, some_left}
 use Rattle.erm_precommit.proofs.Standing.{then_on}
@@ -10,7 +9,7 @@ use Rattle.erm_precommit.proofs.Took.{wait_after}
 
 pub loop-bits-init : goal.loop-bits-init
 loop-bits-init g c =
-    (c.load_others-bits.ensures.fits, record { went = c.load_others-bits.ensures.went; stands = c.load_others-bits.ensures.stands; task = c.load_others-bits.ensures.task }, c.load_others-bits.ensures.readers, c.load_others-bits.ensures.goes, c.load_others-bits.ensures.loads)
+    (c.load_others-bits.ensures.fits, record { went = c.load_others-bits.ensures.went; stands = c.load_others-bits.ensures.stands; task = c.load_others-bits.ensures.task }, c.load_others-bits.ensures.readers, c.load_others-bits.ensures.loads)
 
 pub look_at_least-requires-clause-task : goal.look_at_least-requires-clause-task
 look_at_least-requires-clause-task g c = c.loop-bits.invariant.1.task ∙ some_left c.args.place c.loop-bits.bits c.loop-bits-test.true
@@ -24,8 +23,7 @@ loop-bits-preserved g c = (
     task = c.in_ok-bits.ensures.left;
   },
   λ q one. c.loop-bits.invariant.2 q (c.in_ok-bits.ensures.among q one),
-  goes_both c.args.p.now.me.0 _ _ c.loop-bits.invariant.3 c.look_at_least.ensures.goes,
-  went_more _ _ _ _ _ _ c.loop-bits.invariant.4 c.look_at_least.ensures.loads,
+  went_more _ _ _ _ _ _ c.loop-bits.invariant.3 c.look_at_least.ensures.loads,
 )
 
 pub loop-bits-smaller : goal.loop-bits-smaller
@@ -43,18 +41,10 @@ returns-in_err-bits-clause-waits g c =
 pub returns-clause-clear : goal.returns-clause-clear
 returns-clause-clear g c = c.loop-bits.invariant.1.task ∙ none_left c.args.place c.loop-bits.bits c.loop-bits-test.false
 
-pub returns-in_err-bits-clause-goes : goal.returns-in_err-bits-clause-goes
-returns-in_err-bits-clause-goes g c = goes_both c.args.p.now.me.0 _ _ c.loop-bits.invariant.3 c.look_at_least.ensures.goes
-
-pub returns-in_err-bits-clause-met : goal.returns-in_err-bits-clause-met
-returns-in_err-bits-clause-met g c =
-    let p = err_from_is_err_and c.from_residual.result c.from_residual.ensures.1 in
-    rw (p.1, p.2) (seen_after c.args.p.now.me.0 _ _ _ c.loop-bits.invariant.3 c.in_err-bits.ensures.met)
-
 pub returns-in_err-bits-clause-loads : goal.returns-in_err-bits-clause-loads
-returns-in_err-bits-clause-loads g c = went_more _ _ _ _ _ _ c.loop-bits.invariant.4 c.look_at_least.ensures.loads
+returns-in_err-bits-clause-loads g c = went_more _ _ _ _ _ _ c.loop-bits.invariant.3 c.look_at_least.ensures.loads
 
 pub returns-in_err-bits-clause-took_wait : goal.returns-in_err-bits-clause-took_wait
 returns-in_err-bits-clause-took_wait g c =
     let p = err_from_is_err_and c.from_residual.result c.from_residual.ensures.1 in
-    rw (p.1, p.2) (wait_after _ _ _ _ _ _ _ c.loop-bits.invariant.4 c.in_err-bits.ensures.took_wait)
+    rw (p.1, p.2) (wait_after _ _ _ _ _ _ _ c.loop-bits.invariant.3 c.in_err-bits.ensures.took_wait)

@@ -1,5 +1,4 @@
 use Rattle.std.proofs.lemmas.Result.{err_from_is_err_and}
-use Rattle.erm_rule.proofs.Courses.{goes_both}
 use Rattle.erm_precommit.proofs.Standing.{then_on}
 use Rattle.erm_precommit.proofs.writes.pass_write.Goals as goal
 use Rattle.erm_rule.proofs.Wents.{went_more}
@@ -11,9 +10,6 @@ pub returns-clause-went : goal.returns-clause-went
 returns-clause-went g c =
     then_on c.args.p.now.me.0.view c.args.who c.requires.stands.sealed _ _ c.pass_readers.ensures.went
     (then_on _ c.args.who c.pass_readers.ensures.stands.sealed _ _ c.rate_creator.ensures.went c.rate_readers.ensures.went)
-
-pub returns-clause-goes : goal.returns-clause-goes
-returns-clause-goes g c = goes_both c.args.p.now.me.0 _ _ c.pass_readers.ensures.goes (goes_both _ _ _ c.rate_creator.ensures.goes c.rate_readers.ensures.goes)
 
 pub returns-clause-loads : goal.returns-clause-loads
 returns-clause-loads g c = went_more _ _ _ _ _ _ c.pass_readers.ensures.loads (went_more _ _ _ _ _ _ c.rate_creator.ensures.loads c.rate_readers.ensures.loads)

@@ -1,4 +1,3 @@
-use Rattle.erm_rule.proofs.Courses.{goes_step}
 use Rattle.erm_precommit.proofs.Overwritten.{creator_object, creator_cell, creator_ready, creator_went, creator_stands, creator_made}
 use Rattle.erm_precommit.proofs.Standing.{held}
 use Rattle.erm_precommit.proofs.writes.rate_creator.Goals as goal
@@ -27,9 +26,6 @@ returns-clause-stands g c = creator_stands c.args.pre.now c.args.p.now.me.0.view
 
 pub returns-clause-made : goal.returns-clause-made
 returns-clause-made g c = creator_made c.args.pre.now c.args.p.now.me.0.view c.args.who c.requires.stands c.args.place c.claim_at-claim.result c.claim_at-claim.ensures c.requires.task c.load_stamp-creator.result _ c.load_stamp-creator.ensures.told.told
-
-pub returns-clause-goes : goal.returns-clause-goes
-returns-clause-goes g c = goes_step _ c.args.p.now.me.0 _ _ _ _ c.load_stamp-creator.ensures.booked
 
 pub returns-clause-loads : goal.returns-clause-loads
 returns-clause-loads g c = went_one _ _ _ _ _ _ _ tt c.load_stamp-creator.ensures.booked

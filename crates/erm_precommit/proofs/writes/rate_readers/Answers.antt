@@ -1,4 +1,3 @@
-use Rattle.erm_rule.proofs.Courses.{goes_step}
 use Rattle.erm_precommit.proofs.Overwritten.{made_object, made_cell, made_ready, made_went, made_stands, made_passed}
 use Rattle.erm_precommit.proofs.Standing.{held}
 use Rattle.erm_precommit.proofs.writes.rate_readers.Goals as goal
@@ -27,9 +26,6 @@ returns-clause-stands g c = made_stands c.args.pre.now c.args.p.now.me.0.view c.
 
 pub returns-clause-passed : goal.returns-clause-passed
 returns-clause-passed g c = made_passed c.args.pre.now c.args.p.now.me.0.view c.args.who c.requires.stands c.args.place c.claim_at-claim.result c.claim_at-claim.ensures c.requires.task c.load_stamp-reader.result _ c.load_stamp-reader.ensures.told.told _ c.find_pred.ensures
-
-pub returns-clause-goes : goal.returns-clause-goes
-returns-clause-goes g c = goes_step _ c.args.p.now.me.0 _ _ _ _ c.load_stamp-reader.ensures.booked
 
 pub returns-clause-loads : goal.returns-clause-loads
 returns-clause-loads g c = went_one _ _ _ _ _ _ _ tt c.load_stamp-reader.ensures.booked

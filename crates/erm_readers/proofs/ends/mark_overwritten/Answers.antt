@@ -1,7 +1,10 @@
+use Rattle.std.proofs.Common.{refl, subst}
+use Rattle.erm_machine.specs.declared.event.Kind.TheVariants.{StoreOverwriter}
+use Rattle.erm_machine.specs.declared.version.VersionAt.{VersionAt}
+use Rattle.erm_rule.specs.Steps.{Booked}
 use Rattle.erm_rule.proofs.Telling.{is_held}
-use Rattle.erm_readers.proofs.Ending.{cell_of_stepped, did_mark, has_decided, has_stepped, known_stepped, object_of_ended, object_of_stepped, ready_mark, ready_succ}
+use Rattle.erm_readers.proofs.Ending.{cell_of_stepped, did_mark, ended_stays, has_decided, has_stepped, known_stepped, object_of_ended, object_of_stepped, ready_mark, ready_succ}
 use Rattle.erm_readers.proofs.ends.mark_overwritten.Goals as goal
-use Rattle.erm_rule.proofs.Wents.{went_one, went_step}
 
 pub store_succ-requires-clause-held : goal.store_succ-requires-clause-held
 store_succ-requires-clause-held g c = is_held c.args.p.now.me.0.view c.args.who _ (has_decided c.args.p.now.me.0.view c.args.who c.requires.known c.requires.decided c.requires.committed)
@@ -30,5 +33,15 @@ store_overwriter-requires-clause-ready g c = ready_mark c.args.p.now.me.0.view c
 pub returns-clause-marked : goal.returns-clause-marked
 returns-clause-marked g c = did_mark c.args.p.now.me.0.view c.args.who c.requires.known c.requires.decided c.requires.committed c.requires.marking c.args.stamp c.args.succ c.requires.stamp c.requires.succ c.args.cell c.store_succ.ensures.told.0 c.requires.cell _ c.store_succ.ensures.told.1.told c.store_overwriter.ensures.told.0 _ c.store_overwriter.ensures.told.1.told
 
-pub returns-clause-ends : goal.returns-clause-ends
-returns-clause-ends g c = went_step _ _ _ _ _ _ _ _ (went_one _ _ _ _ _ _ _ tt c.store_succ.ensures.booked.1) tt c.store_overwriter.ensures.booked.1
+pub returns-clause-took : goal.returns-clause-took
+returns-clause-took g c = (
+  c.store_succ.ensures.booked.0,
+  c.store_overwriter.ensures.booked.0,
+  (
+    c.store_succ.new.p.me.0,
+    (c.args.p.now.me.0, refl, c.store_succ.ensures.booked.1),
+    subst (λ (n : VersionAt). Booked g.L.RowLaw.law c.store_succ.new.p.me.0 c.args.who (StoreOverwriter n c.args.stamp) c.store_overwriter.ensures.booked.0 c.store_overwriter.new.p.me.0)
+        (ended_stays c.args.p.now.me.0.view c.args.who c.requires.known c.requires.decided c.requires.committed c.requires.marking c.args.stamp c.args.succ c.requires.stamp c.requires.succ c.args.cell c.store_succ.ensures.told.0 c.requires.cell _ c.store_succ.ensures.told.1.told)
+        c.store_overwriter.ensures.booked.1,
+  ),
+)
