@@ -1,8 +1,8 @@
 //! Orders of a few commits, and a few transactions replayed.
+use crate::lines::value;
 use erm_audit::{replay, serial_order};
-use erm_model::{Commit, Map, Op, Reply, Stamp, Value};
+use erm_model::{Commit, Map, Op, Reply, Stamp};
 use std::alloc::{AllocError, Global};
-use std::test::Fail;
 
 // The serial order of commits with these stamps, each a commit stamp and a successor stamp.
 fn order_of(alloc: Global, stamps: &[(Stamp, Stamp)]) -> Result<Vec<usize>, AllocError> {
@@ -18,18 +18,20 @@ fn order_of(alloc: Global, stamps: &[(Stamp, Stamp)]) -> Result<Vec<usize>, Allo
     serial_order(alloc, &commits)
 }
 
+// The stamps of commits, and the places of these in their order: with the order of the commits, against it, given backwards, of equal ones,
+// and of none.
+const ORDERS: [(&[(Stamp, Stamp)], &[usize]); 5] = [
+    (&[(13, 13), (69, 69), (91, 91)], &[0, 1, 2]),
+    (&[(13, 13), (69, 69), (91, 69), (113, 69)], &[0, 3, 2, 1]),
+    (&[(91, 69), (69, 69), (13, 13)], &[2, 0, 1]),
+    (&[(69, 69), (13, 13), (69, 69)], &[1, 0, 2]),
+    (&[], &[]),
+];
+
 #[test]
-fn orders(rt: HostRuntime) -> Result<(), Fail> {
-    let cases: [(&[(Stamp, Stamp)], &[usize]); 5] = [
-        // With the order of the commits, against it, given backwards, of equal ones, and of none.
-        (&[(13, 13), (69, 69), (91, 91)], &[0, 1, 2]),
-        (&[(13, 13), (69, 69), (91, 69), (113, 69)], &[0, 3, 2, 1]),
-        (&[(91, 69), (69, 69), (13, 13)], &[2, 0, 1]),
-        (&[(69, 69), (13, 13), (69, 69)], &[1, 0, 2]),
-        (&[], &[]),
-    ];
-    for (stamps, places) in cases {
-        assert!(rt; order_of(rt.alloc(), stamps)?.as_slice() == places);
+fn orders(rt: HostRuntime) -> Result<(), AllocError> {
+    for (stamps, places) in ORDERS {
+        assert_eq!(rt; order_of(rt.alloc(), stamps)?.as_slice(), places);
     }
     Ok(())
 }
@@ -57,17 +59,13 @@ const LINES: [Line; 7] = [
     (3, Ask::Next, 0, Some((20, b'c'))),
 ];
 
-fn value(byte: u8) -> Value {
-    Value::new(&[byte]).unwrap()
-}
-
 fn op(ask: Ask, key: u64) -> Op {
     match ask {
         Ask::Get => Op::Get { table: 0, key },
         Ask::Put(byte) => Op::Put {
             table: 0,
             key,
-            value: value(byte),
+            value: value(&[byte]),
         },
         Ask::Del => Op::Del { table: 0, key },
         Ask::Next => Op::Next {
@@ -79,9 +77,9 @@ fn op(ask: Ask, key: u64) -> Op {
 
 fn reply(ask: Ask, found: Option<(u64, u8)>) -> Reply {
     match (ask, found) {
-        (Ask::Get, Some((_, byte))) => Reply::Value(Some(value(byte))),
+        (Ask::Get, Some((_, byte))) => Reply::Value(Some(value(&[byte]))),
         (Ask::Get, None) => Reply::Value(None),
-        (Ask::Next, Some((key, byte))) => Reply::Pair(Some((key, value(byte)))),
+        (Ask::Next, Some((key, byte))) => Reply::Pair(Some((key, value(&[byte])))),
         (Ask::Next, None) => Reply::Pair(None),
         _ => Reply::Done,
     }
@@ -124,7 +122,7 @@ fn wanted(alloc: Global) -> Result<Vec<Vec<Reply>>, AllocError> {
 }
 
 #[test]
-fn replays_transactions(rt: HostRuntime) -> Result<(), Fail> {
+fn replays_transactions(rt: HostRuntime) -> Result<(), AllocError> {
     let mut map = Map::new(rt.alloc());
     let replies = replay(rt.alloc(), &mut map, &transactions(rt.alloc())?)?;
     assert!(rt; replies == wanted(rt.alloc())? && map.len() == 1);

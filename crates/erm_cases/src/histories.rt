@@ -4,7 +4,6 @@ use erm_model::{Oid, Stamp, TransactionRecord, VersionRead, VersionWritten};
 use erm_slow::{depends, is_certified, predecessor_stamp, successor_stamp};
 use std::alloc::{AllocError, Global};
 use std::collections::LinkedList;
-use std::test::Fail;
 
 // A transaction in short: its stamps and the versions that it read and overwrote, as objects with stamps.
 #[derive(Clone, Copy)]
@@ -198,7 +197,33 @@ const UNCERTIFIED: [&[Sketch]; 3] = [
     &[FIRST, PUTS_20, PUTS_20],
 ];
 
-// The history of these sketches. Its transactions carry their successor and predecessor stamps, or zeros.
+// The transaction of a sketch, which carries its successor and predecessor stamps, or zeros.
+fn transaction(
+    alloc: Global,
+    sketch: &Sketch,
+    carrying: bool,
+) -> Result<TransactionRecord, AllocError> {
+    let (succ, pred) = if carrying {
+        (sketch.succ, sketch.pred)
+    } else {
+        (0, 0)
+    };
+    let reads = reads(alloc, sketch.reads)?;
+    let writes = writes(alloc, sketch.writes)?;
+    Ok(TransactionRecord {
+        seat: 1,
+        number: 1,
+        begin: sketch.begin,
+        stamp: sketch.stamp,
+        succ,
+        pred,
+        reads,
+        writes,
+        made: LinkedList::new(alloc),
+    })
+}
+
+// The history of these sketches.
 fn history(
     alloc: Global,
     sketches: &[Sketch],
@@ -206,17 +231,7 @@ fn history(
 ) -> Result<Vec<TransactionRecord>, AllocError> {
     let mut history = Vec::new(alloc);
     for sketch in sketches {
-        history.push(TransactionRecord {
-            seat: 1,
-            number: 1,
-            begin: sketch.begin,
-            stamp: sketch.stamp,
-            succ: if carrying { sketch.succ } else { 0 },
-            pred: if carrying { sketch.pred } else { 0 },
-            reads: reads(alloc, sketch.reads)?,
-            writes: writes(alloc, sketch.writes)?,
-            made: LinkedList::new(alloc),
-        })?;
+        history.push(transaction(alloc, sketch, carrying)?)?;
     }
     Ok(history)
 }
@@ -284,17 +299,21 @@ fn is_so_told(alloc: Global, story: &Story) -> Result<bool, AllocError> {
     if !has_stamps(&bare, story.sketches) || !has_edges(&bare, story.edges) {
         return Ok(false);
     }
-    let carrying = history(alloc, story.sketches, true)?;
-    Ok(is_certified(&carrying) == story.certified)
+    Ok(has_verdict(alloc, story.sketches)? == story.certified)
+}
+
+// Whether the history of these sketches is certified.
+fn has_verdict(alloc: Global, sketches: &[Sketch]) -> Result<bool, AllocError> {
+    Ok(is_certified(&history(alloc, sketches, true)?))
 }
 
 #[test]
-fn small_histories(rt: HostRuntime) -> Result<(), Fail> {
+fn small_histories(rt: HostRuntime) -> Result<(), AllocError> {
     for (place, story) in STORIES.iter().enumerate() {
         assert!(rt; is_so_told(rt.alloc(), story)?, "history {place}");
     }
     for sketches in &UNCERTIFIED {
-        assert!(rt; !is_certified(&history(rt.alloc(), *sketches, true)?));
+        assert!(rt; !has_verdict(rt.alloc(), *sketches)?);
     }
     Ok(())
 }

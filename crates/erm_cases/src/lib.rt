@@ -13,6 +13,8 @@ mod histories;
 #[cfg(test)]
 mod layout;
 #[cfg(test)]
+mod lines;
+#[cfg(test)]
 mod made;
 #[cfg(test)]
 mod make;

@@ -1,8 +1,9 @@
 //! The counts of a report by hand, and the text of those of the least workload.
+use crate::lines::{text_of, value};
 use erm_made::{Made, counts_of, made_lines};
-use erm_model::{Key, Name, Pair, Value};
-use erm_report::{Answer, Line, Text};
-use std::test::Fail;
+use erm_model::{Key, Name, Pair};
+use erm_report::{Answer, Line};
+use std::alloc::AllocError;
 
 // What the least workload prints, as a model apart from this one prints it.
 const LEAST: &[u8] = b"made 1 sessions 1
@@ -13,11 +14,10 @@ pairs 64
 end
 ";
 
-// A report with an answer of each kind that is counted, to lines and to a session at the end, and others beside them.
-fn report() -> [Line; 12] {
+// The counts of a report with an answer of each kind that is counted, to lines and to a session at the end, and others beside them.
+fn counted() -> Made {
     let (stamp, succ, pred) = (13, 13, 0);
-    let value = Value::new(&[]).unwrap();
-    [
+    let report = [
         Line::Open { stamp: 8, run: 1 },
         answered(1, Answer::Began(13)),
         answered(2, Answer::Committed { stamp, succ, pred }),
@@ -30,10 +30,11 @@ fn report() -> [Line; 12] {
         Line::Map { pairs: 1 },
         Line::Pair(Pair {
             key: Key { table: 0, key: 10 },
-            value,
+            value: value(b""),
         }),
         Line::End,
-    ]
+    ];
+    counts_of(&report)
 }
 
 fn answered(line: u32, answer: Answer) -> Line {
@@ -47,26 +48,25 @@ fn closed(answer: Answer) -> Line {
     }
 }
 
-#[test]
-fn answers_and_pairs_are_counted(rt: HostRuntime) -> Result<(), Fail> {
-    let made = counts_of(&report());
-    assert!(rt; made.committed == 2 && made.excluded == 2);
-    assert!(rt; made.owned == 1 && made.pairs == 1);
-    Ok(())
+// Whether these are the counts.
+fn are_counts(made: &Made) -> bool {
+    made.committed == 2 && made.excluded == 2 && made.owned == 1 && made.pairs == 1
 }
 
 #[test]
-fn counts_are_printed(rt: HostRuntime) -> Result<(), Fail> {
+fn answers_and_pairs_are_counted(rt: HostRuntime) {
+    assert!(rt; are_counts(&counted()));
+}
+
+#[test]
+fn counts_are_printed(rt: HostRuntime) -> Result<(), AllocError> {
     let made = Made {
         committed: 17,
         excluded: 0,
         owned: 0,
         pairs: 64,
     };
-    let mut text = Text::new(rt.alloc());
-    for line in &made_lines(rt.alloc(), 1, 1, &made)? {
-        text.add(line)?;
-    }
-    assert_eq!(rt; text.as_slice(), LEAST);
+    let lines = made_lines(rt.alloc(), 1, 1, &made)?;
+    assert_eq!(rt; text_of(rt.alloc(), &lines)?.as_slice(), LEAST);
     Ok(())
 }

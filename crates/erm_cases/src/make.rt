@@ -3,7 +3,6 @@ use erm_make::{MOST_TRANSACTIONS, make, text_but_flushes};
 use erm_model::{SESSIONS, Seat};
 use erm_script::{Command, Script, ScriptLine};
 use std::alloc::{AllocError, Global};
-use std::test::Fail;
 
 // One transaction of one session.
 const ONE: &[u8] = b"s1 begin
@@ -206,7 +205,7 @@ fn is_flush_at(line: &ScriptLine, flushes: &[u32]) -> bool {
 }
 
 #[test]
-fn one_transaction_is_written_out(rt: HostRuntime) -> Result<(), Fail> {
+fn one_transaction_is_written_out(rt: HostRuntime) -> Result<(), AllocError> {
     let script = make(rt.alloc(), 1, 1)?;
     let text = text_but_flushes(rt.alloc(), &script)?;
     assert_eq!(rt; text.as_slice(), ONE);
@@ -244,7 +243,7 @@ fn is_made_so(alloc: Global, case: &Case) -> Result<bool, AllocError> {
 }
 
 #[test]
-fn workloads_have_these_lines(rt: HostRuntime) -> Result<(), Fail> {
+fn workloads_have_these_lines(rt: HostRuntime) -> Result<(), AllocError> {
     for case in &CASES {
         assert!(rt; is_made_so(rt.alloc(), case)?);
     }
@@ -252,7 +251,7 @@ fn workloads_have_these_lines(rt: HostRuntime) -> Result<(), Fail> {
 }
 
 #[test]
-fn the_greatest_workload_is_made(rt: HostRuntime) -> Result<(), Fail> {
+fn the_greatest_workload_is_made(rt: HostRuntime) -> Result<(), AllocError> {
     let script = make(rt.alloc(), MOST_TRANSACTIONS, SESSIONS)?;
     assert!(rt; script.names.len() == 48 && script.lines.len() == 500_129);
     let text = text_but_flushes(rt.alloc(), &script)?;

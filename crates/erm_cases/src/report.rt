@@ -1,16 +1,16 @@
 //! The text of each kind of line, once.
 ghost use Rattle.std.specs.Prelude.{◌≤◌, length};
 
-use erm_model::{Key, LAST_RUN, NAME_BYTES, Name, Pair, Pairs, Reply, STOP, VALUE_BYTES, Value};
+use crate::lines::{text_of, value};
+use erm_model::{Key, LAST_RUN, NAME_BYTES, Name, Pair, Pairs, Reply, STOP};
 use erm_report::{
     Answer, DISK_FAULT, Line, NO_BASE, NO_MEMORY, READ_FAULT, TOO_LONG, Text, texts_determine_lines,
 };
 use erm_script::FaultKind;
 use std::alloc::{AllocError, Global};
-use std::test::Fail;
 
-// The lines of answers: what was done to the seventh line of a script, refusals to the eighth.
-const ANSWERS: &[u8] = b"7 value 00ff
+// The lines of answers that tell what was done, to the seventh line of a script.
+const DONE: &[u8] = b"7 value 00ff
 7 value -
 7 none
 7 ok
@@ -28,7 +28,10 @@ const ANSWERS: &[u8] = b"7 value 00ff
 7 flushed 69
 7 empty 69
 7 checkpoint 91
-8 not idle
+";
+
+// Those of answers that refuse, to the eighth.
+const REFUSED: &[u8] = b"8 not idle
 8 no transaction
 8 is sealed
 8 not sealed
@@ -49,8 +52,8 @@ const ANSWERS: &[u8] = b"7 value 00ff
 8 disk fault
 ";
 
-// The other lines.
-const OTHERS: &[u8] = b"open 8 run 1
+// The lines of a report that are no answers.
+const REPORT: &[u8] = b"open 8 run 1
 close s1 aborted
 order 2
 commit s1 3 stamp 18 succ 17 pred 13
@@ -58,7 +61,10 @@ map 0
 pair 15 0 -
 end
 disk fault
-recovered 69 run 2
+";
+
+// The lines of other commands, and lines in place of a report.
+const OTHERS: &[u8] = b"recovered 69 run 2
 audit 8 to 113 run 2
 commit 2 3 stamp 91 succ 69
 checkpoint 96
@@ -71,12 +77,6 @@ script 4 command
 end run 17592186044415
 end log 1152921504606846976
 ";
-
-fn value(bytes: &[u8]) -> Value
-    requires { length bytes.now ≤ VALUE_BYTES }
-{
-    Value::new(bytes).unwrap()
-}
 
 fn name(bytes: &[u8]) -> Name
     requires { length bytes.now ≤ NAME_BYTES }
@@ -92,28 +92,39 @@ fn pairs(alloc: Global) -> Result<Pairs, AllocError> {
     Ok(Pairs::new(pairs))
 }
 
-// Answers that tell what was done.
-fn done(alloc: Global) -> Result<[Answer; 18], AllocError> {
-    Ok([
-        Answer::Replied(Reply::Value(Some(value(b"\x00\xff")))),
-        Answer::Replied(Reply::Value(Some(value(b"")))),
-        Answer::Replied(Reply::Value(None)),
-        Answer::Replied(Reply::Done),
-        Answer::Replied(Reply::Pair(Some((u64::MAX, value(b"\x00\xff"))))),
-        Answer::Replied(Reply::Pair(None)),
-        Answer::Replied(Reply::Found(pairs(alloc)?)),
-        Answer::Replied(Reply::Found(Pairs::new(Vec::new(alloc)))),
-        Answer::Cut(1),
-        Answer::Began(13),
-        Answer::Sealed(18),
-        committed(),
-        excluded(),
-        Answer::Aborted,
-        Answer::Durable(13),
-        Answer::Flushed(69),
-        Answer::Empty(69),
-        Answer::Checkpointed(91),
-    ])
+// The lines of answers to the seventh line of a script, and to the eighth.
+fn seventh(answer: Answer) -> Line {
+    Line::Answer { line: 7, answer }
+}
+
+fn eighth(answer: Answer) -> Line {
+    Line::Answer { line: 8, answer }
+}
+
+// The text of answers that tell what was done.
+fn done(alloc: Global) -> Result<Text, AllocError> {
+    let found = pairs(alloc)?;
+    let lines = [
+        seventh(Answer::Replied(Reply::Value(Some(value(b"\x00\xff"))))),
+        seventh(Answer::Replied(Reply::Value(Some(value(b""))))),
+        seventh(Answer::Replied(Reply::Value(None))),
+        seventh(Answer::Replied(Reply::Done)),
+        seventh(Answer::Replied(Reply::Pair(Some((u64::MAX, value(b"\x00\xff")))))),
+        seventh(Answer::Replied(Reply::Pair(None))),
+        seventh(Answer::Replied(Reply::Found(found))),
+        seventh(Answer::Replied(Reply::Found(Pairs::new(Vec::new(alloc))))),
+        seventh(Answer::Cut(1)),
+        seventh(Answer::Began(13)),
+        seventh(Answer::Sealed(18)),
+        seventh(committed()),
+        seventh(excluded()),
+        seventh(Answer::Aborted),
+        seventh(Answer::Durable(13)),
+        seventh(Answer::Flushed(69)),
+        seventh(Answer::Empty(69)),
+        seventh(Answer::Checkpointed(91)),
+    ];
+    text_of(alloc, &lines)
 }
 
 fn committed() -> Answer {
@@ -132,47 +143,42 @@ fn excluded() -> Answer {
     }
 }
 
-// Answers that refuse.
-fn refusals() -> [Answer; 19] {
-    [
-        Answer::NotIdle,
-        Answer::NoTransaction,
-        Answer::IsSealed,
-        Answer::NotSealed,
-        Answer::LogEnd { tail: STOP },
-        Answer::NumbersEnd,
-        Answer::WaitSeat { seat: 48, seen: 69 },
-        Answer::WaitRing { flushed: 13 },
-        Answer::Owned { seat: 1, number: 2 },
-        Answer::Newer { stamp: 69 },
-        Answer::ExcludedEarly { succ: 69, pred: 91 },
-        Answer::ReadsFull,
-        Answer::WritesFull,
-        Answer::CellsFull { drawn: 65_536 },
-        Answer::OidsFull { drawn: 16_384 },
-        Answer::NotFlushed { flushed: 13 },
-        Answer::NoReceipt,
-        Answer::Unfilled(69),
-        Answer::DiskFault,
-    ]
+// The text of answers that refuse.
+fn refusals(alloc: Global) -> Result<Text, AllocError> {
+    let lines = [
+        eighth(Answer::NotIdle),
+        eighth(Answer::NoTransaction),
+        eighth(Answer::IsSealed),
+        eighth(Answer::NotSealed),
+        eighth(Answer::LogEnd { tail: STOP }),
+        eighth(Answer::NumbersEnd),
+        eighth(Answer::WaitSeat { seat: 48, seen: 69 }),
+        eighth(Answer::WaitRing { flushed: 13 }),
+        eighth(Answer::Owned { seat: 1, number: 2 }),
+        eighth(Answer::Newer { stamp: 69 }),
+        eighth(Answer::ExcludedEarly { succ: 69, pred: 91 }),
+        eighth(Answer::ReadsFull),
+        eighth(Answer::WritesFull),
+        eighth(Answer::CellsFull { drawn: 65_536 }),
+        eighth(Answer::OidsFull { drawn: 16_384 }),
+        eighth(Answer::NotFlushed { flushed: 13 }),
+        eighth(Answer::NoReceipt),
+        eighth(Answer::Unfilled(69)),
+        eighth(Answer::DiskFault),
+    ];
+    text_of(alloc, &lines)
 }
 
 #[test]
-fn answers(rt: HostRuntime) -> Result<(), Fail> {
-    let mut text = Text::new(rt.alloc());
-    for answer in done(rt.alloc())? {
-        text.add(&Line::Answer { line: 7, answer })?;
-    }
-    for answer in refusals() {
-        text.add(&Line::Answer { line: 8, answer })?;
-    }
-    assert_eq!(rt; text.as_slice(), ANSWERS);
+fn answers(rt: HostRuntime) -> Result<(), AllocError> {
+    assert_eq!(rt; done(rt.alloc())?.as_slice(), DONE);
+    assert_eq!(rt; refusals(rt.alloc())?.as_slice(), REFUSED);
     Ok(())
 }
 
-// The lines of a report that are no answers.
-fn of_a_report() -> [Line; 8] {
-    [
+// The text of the lines of a report that are no answers.
+fn of_a_report(alloc: Global) -> Result<Text, AllocError> {
+    let lines = [
         Line::Open { stamp: 8, run: 1 },
         Line::Close {
             session: name(b"s1"),
@@ -193,12 +199,13 @@ fn of_a_report() -> [Line; 8] {
         }),
         Line::End,
         Line::DiskFault,
-    ]
+    ];
+    text_of(alloc, &lines)
 }
 
-// The lines of other commands, and lines in place of a report.
-fn others() -> [Line; 12] {
-    [
+// The text of the lines of other commands, and of lines in place of a report.
+fn others(alloc: Global) -> Result<Text, AllocError> {
+    let lines = [
         Line::Recovered { stamp: 69, run: 2 },
         Line::Audited {
             base: 8,
@@ -226,36 +233,52 @@ fn others() -> [Line; 12] {
         },
         Line::RunsEnd { run: LAST_RUN },
         Line::LogEnd { tail: STOP },
-    ]
+    ];
+    text_of(alloc, &lines)
 }
 
 #[test]
-fn other_lines(rt: HostRuntime) -> Result<(), Fail> {
-    let mut text = Text::new(rt.alloc());
-    for line in of_a_report() {
-        text.add(&line)?;
-    }
-    for line in others() {
-        text.add(&line)?;
-    }
-    assert_eq!(rt; text.as_slice(), OTHERS);
+fn other_lines(rt: HostRuntime) -> Result<(), AllocError> {
+    assert_eq!(rt; of_a_report(rt.alloc())?.as_slice(), REPORT);
+    assert_eq!(rt; others(rt.alloc())?.as_slice(), OTHERS);
     texts_determine_lines();
     Ok(())
 }
 
-// The texts that are there without memory are those of their lines.
-#[test]
-fn kept_texts(rt: HostRuntime) -> Result<(), Fail> {
-    for (line, kept, wanted) in [
-        (Line::ReadFault, READ_FAULT, b"read fault\n".as_slice()),
-        (Line::TooLong, TOO_LONG, b"too long\n"),
-        (Line::NoMemory, NO_MEMORY, b"no memory\n"),
-        (Line::NoBase, NO_BASE, b"no base\n"),
-        (Line::DiskFault, DISK_FAULT, b"disk fault\n"),
-    ] {
-        let mut text = Text::new(rt.alloc());
-        text.add(&line)?;
-        assert!(rt; text.as_slice() == wanted && kept == wanted);
+// The texts that are there without memory, and what they are.
+const KEPT: [(&[u8], &[u8]); 5] = [
+    (READ_FAULT, b"read fault\n"),
+    (TOO_LONG, b"too long\n"),
+    (NO_MEMORY, b"no memory\n"),
+    (NO_BASE, b"no base\n"),
+    (DISK_FAULT, b"disk fault\n"),
+];
+
+// The line of one of them.
+fn kept_line(place: usize) -> Line {
+    match place {
+        0 => Line::ReadFault,
+        1 => Line::TooLong,
+        2 => Line::NoMemory,
+        3 => Line::NoBase,
+        _ => Line::DiskFault,
     }
+}
+
+// The first that isn't the text of its line.
+fn first_other(alloc: Global) -> Result<Option<usize>, AllocError> {
+    for place in 0..KEPT.len() {
+        let (kept, wanted) = KEPT[place];
+        let text = text_of(alloc, &[kept_line(place)])?;
+        if text.as_slice() != wanted || kept != wanted {
+            return Ok(Some(place));
+        }
+    }
+    Ok(None)
+}
+
+#[test]
+fn kept_texts(rt: HostRuntime) -> Result<(), AllocError> {
+    assert_eq!(rt; first_other(rt.alloc())?, None);
     Ok(())
 }

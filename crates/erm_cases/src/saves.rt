@@ -1,9 +1,9 @@
 //! Transactions with savepoints, worked out by hand.
+use crate::lines::value;
 use Short::{Back, Del, Get, Put, Save};
-use erm_model::{Map, Reply, Value, VersionWritten};
+use erm_model::{Map, Reply, VersionWritten};
 use erm_saves::{Op, Saved, back, kept_places, run_one};
 use std::alloc::{AllocError, Global};
-use std::test::Fail;
 
 // An operation in short, on a key of table 0 and values of one byte. A `Get` has the value that it is to be told.
 #[derive(Clone, Copy)]
@@ -123,42 +123,34 @@ const CASES: [Case; 7] = [
     },
 ];
 
-fn value(byte: u8) -> Option<Value> {
-    Value::new(&[byte])
-}
-
-fn op(short: Short) -> Option<Op> {
-    let plain = match short {
-        Put(key, byte) => erm_model::Op::Put {
+fn op(short: Short) -> Op {
+    match short {
+        Put(key, byte) => Op::Plain(erm_model::Op::Put {
             table: 0,
             key,
-            value: value(byte)?,
-        },
-        Del(key) => erm_model::Op::Del { table: 0, key },
-        Get(key, _) => erm_model::Op::Get { table: 0, key },
-        Save => return Some(Op::Save),
-        Back(n) => return Some(Op::Back { n }),
-    };
-    Some(Op::Plain(plain))
+            value: value(&[byte]),
+        }),
+        Del(key) => Op::Plain(erm_model::Op::Del { table: 0, key }),
+        Get(key, _) => Op::Plain(erm_model::Op::Get { table: 0, key }),
+        Save => Op::Save,
+        Back(n) => Op::Back { n },
+    }
 }
 
 fn told(short: Short) -> Reply {
     match short {
-        Get(_, Some(byte)) => Reply::Value(value(byte)),
+        Get(_, Some(byte)) => Reply::Value(Some(value(&[byte]))),
         Get(_, None) => Reply::Value(None),
         _ => Reply::Done,
     }
 }
 
-fn ops(alloc: Global, shorts: &[Short]) -> Result<Option<Vec<Op>>, AllocError> {
+fn ops(alloc: Global, shorts: &[Short]) -> Result<Vec<Op>, AllocError> {
     let mut ops = Vec::new(alloc);
     for short in shorts {
-        let Some(op) = op(*short) else {
-            return Ok(None);
-        };
-        ops.push(op)?;
+        ops.push(op(*short))?;
     }
-    Ok(Some(ops))
+    Ok(ops)
 }
 
 // Whether these are the replies.
@@ -173,9 +165,7 @@ fn are_told(replies: &[Reply], shorts: &[Short]) -> bool {
 
 // Whether the transaction is answered so, and leaves the keys with their values, and those operations stay.
 fn is_so(alloc: Global, case: &Case) -> Result<bool, AllocError> {
-    let Some(ops) = ops(alloc, case.ops)? else {
-        return Ok(false);
-    };
+    let ops = ops(alloc, case.ops)?;
     if kept_places(alloc, &ops)?.as_slice() != case.kept {
         return Ok(false);
     }
@@ -184,13 +174,24 @@ fn is_so(alloc: Global, case: &Case) -> Result<bool, AllocError> {
     Ok(are_told(&replies, case.ops) && leaves(&map, case.left))
 }
 
+fn has(map: &Map, key: u64, byte: u8) -> bool {
+    match map.get(0, key) {
+        Some(value) => value.as_slice() == [byte].as_slice(),
+        None => false,
+    }
+}
+
 fn leaves(map: &Map, left: &[(u64, u8)]) -> bool {
+    for (key, byte) in left {
+        if !has(map, *key, *byte) {
+            return false;
+        }
+    }
     map.len() == left.len()
-        && left.iter().all(|(key, byte)| map.get(0, *key).map(|v| v.as_slice()) == Some(&[*byte]))
 }
 
 #[test]
-fn runs(rt: HostRuntime) -> Result<(), Fail> {
+fn runs(rt: HostRuntime) -> Result<(), AllocError> {
     for (place, case) in CASES.iter().enumerate() {
         assert!(rt; is_so(rt.alloc(), case)?, "run of {place}");
     }

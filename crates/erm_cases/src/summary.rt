@@ -1,11 +1,12 @@
 //! Two reports by hand: write skew, and one whose serial order is not that of the stamps.
-ghost use Rattle.std.specs.Prelude.{◌≤◌, length};
+ghost use Rattle.std.specs.Prelude.{◌≤◌, IfOk, length};
 
-use erm_model::{Map, Reply, SESSIONS, Stamp, VALUE_BYTES, Value};
+use crate::lines::{text_of, value};
+use erm_model::{Map, Reply, SESSIONS, Stamp, VALUE_BYTES};
 use erm_report::{Answer, Text};
-use erm_script::{Grammar, parse};
+use erm_script::{Grammar, Script, parse};
 use erm_summary::{ClosedSession, Start, report_of};
-use std::alloc::{AllocError, Global};
+use std::alloc::Global;
 use std::test::Fail;
 
 // All sessions and commands.
@@ -113,12 +114,6 @@ pair 3 1 ff
 end
 ";
 
-fn value(bytes: &[u8]) -> Value
-    requires { length bytes.now ≤ VALUE_BYTES }
-{
-    Value::new(bytes).unwrap()
-}
-
 fn found(bytes: &[u8]) -> Answer
     requires { length bytes.now ≤ VALUE_BYTES }
 {
@@ -193,58 +188,72 @@ fn three_closed() -> [ClosedSession; 2] {
     ]
 }
 
-// The text of the report of a script.
-fn report(
-    alloc: Global,
-    start: Start,
-    script: &[u8],
-    answers: Vec<Answer>,
-    closed: Vec<ClosedSession>,
-) -> Result<Text, Fail> {
-    if script.len() > 1000 || closed.len() > 1000 {
-        return Err(Fail::new("too long"));
-    }
-    let Ok(script) = parse(alloc, script, ALL) else {
+// A script of at most 1,000 bytes and 100 sessions.
+fn script_of(alloc: Global, text: &[u8]) -> Result<Script, Fail>
+    ensures few { IfOk result (λ script. length script.names.items ≤ 100) }
+    ensures short { IfOk result (λ script. length script.lines.items ≤ 1001) }
+{
+    let Ok(script) = parse(alloc, &text[..text.len().min(1_000)], ALL) else {
         return Err(Fail::new("no script"));
     };
     if script.names.len() > 100 {
         return Err(Fail::new("too many sessions"));
     }
-    let lines = report_of(alloc, start, &script.names, &script.lines, answers, closed)?;
-    let mut text = Text::new(alloc);
-    for line in &lines {
-        text.add(line)?;
+    Ok(script)
+}
+
+// The text of the report of a script.
+fn report(
+    alloc: Global,
+    script: &Script,
+    start: Start,
+    answers: Vec<Answer>,
+    closed: Vec<ClosedSession>,
+) -> Result<Text, Fail>
+    requires few { length script.now.names.items ≤ 100 }
+    requires short { length script.now.lines.items ≤ 1001 }
+{
+    if closed.len() > 1000 {
+        return Err(Fail::new("too many are closed"));
     }
-    Ok(text)
+    let lines = report_of(alloc, start, &script.names, &script.lines, answers, closed)?;
+    Ok(text_of(alloc, &lines)?)
 }
 
 #[test]
 fn write_skew(rt: HostRuntime) -> Result<(), Fail> {
     let alloc = rt.alloc();
+    let script = script_of(alloc, SKEW)?;
     let start = Start {
         map: Map::new(alloc),
         stamp: 8,
         run: 1,
     };
     let answers = Vec::from_array(alloc, skew_answers())?;
-    let text = report(alloc, start, SKEW, answers, Vec::new(alloc))?;
+    let text = report(alloc, &script, start, answers, Vec::new(alloc))?;
     assert_eq!(rt; text.as_slice(), SKEW_REPORT);
     Ok(())
+}
+
+// A map in which one key has a value.
+fn started(alloc: Global) -> Result<Start, Fail> {
+    let mut map = Map::new(alloc);
+    map.insert(3, 1, value(b"\xff"))?;
+    Ok(Start {
+        map,
+        stamp: 104,
+        run: 2,
+    })
 }
 
 #[test]
 fn an_order_that_is_not_that_of_stamps(rt: HostRuntime) -> Result<(), Fail> {
     let alloc = rt.alloc();
-    let mut map = Map::new(alloc);
-    map.insert(3, 1, value(b"\xff"))?;
-    let start = Start {
-        map,
-        stamp: 104,
-        run: 2,
-    };
+    let script = script_of(alloc, THREE)?;
+    let start = started(alloc)?;
     let answers = Vec::from_array(alloc, three_answers())?;
     let closed = Vec::from_array(alloc, three_closed())?;
-    let text = report(alloc, start, THREE, answers, closed)?;
+    let text = report(alloc, &script, start, answers, closed)?;
     assert_eq!(rt; text.as_slice(), THREE_REPORT);
     Ok(())
 }

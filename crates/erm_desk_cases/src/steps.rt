@@ -20,7 +20,7 @@ use erm_outside_mem::{MemDisk, Pick, Silent};
 use erm_recover::{ReplaceTest, open_log, recover};
 use erm_rule::{Opening, Table};
 use erm_shared_session::TableSession;
-use std::alloc::Global;
+use std::alloc::{AllocError, Global};
 use std::collections::BTreeMap;
 use std::marker::Brand;
 use std::test::Fail;
@@ -84,7 +84,7 @@ pub enum Ask {
 }
 
 /// What is recovered.
-#[derive(Clone, Copy, Debug, PartialEq, Eq)]
+#[derive(Clone, Copy, PartialEq, Eq)]
 pub struct Found {
     /// The stamps that the two slots say.
     pub slots: [Option<Stamp>; 2],
@@ -97,7 +97,7 @@ pub struct Found {
 }
 
 /// What is answered.
-#[derive(Clone, Copy, Debug, PartialEq, Eq)]
+#[derive(Clone, Copy, PartialEq, Eq)]
 pub enum Told {
     /// Whether a session did it.
     Did(bool),
@@ -170,13 +170,11 @@ fn do_session(
     }
 }
 
-// What is recovered of a crash.
-fn crash(alloc: Global, disk: &Silent<MemDisk>, pick: Pick) -> Result<Told, Fail> {
-    let disk = disk.disk.image(pick)?;
-    let Ok(found) = recover(alloc, &mut Silent { disk }, &Lawless) else {
-        return Err(Fail::new("the disk recovers to nothing"));
-    };
-    Ok(Told::Left(Found {
+// What is recovered of a crash, if something is.
+fn crash(alloc: Global, disk: &Silent<MemDisk>, pick: Pick) -> Option<Told> {
+    let disk = disk.disk.image(pick).ok()?;
+    let found = recover(alloc, &mut Silent { disk }, &Lawless).ok()?;
+    Some(Told::Left(Found {
         slots: [stamp_of(found.slots.slot0), stamp_of(found.slots.slot1)],
         base: found.base,
         stamp: found.stamp,
@@ -200,10 +198,7 @@ fn crash_apart<B: Naming>(
     alloc: Global,
     desk: CheckpointDesk<AnyRows, Silent<MemDisk>, B>,
     pick: Pick,
-) -> (
-    CheckpointDesk<AnyRows, Silent<MemDisk>, B>,
-    Result<Told, Fail>,
-)
+) -> (CheckpointDesk<AnyRows, Silent<MemDisk>, B>, Option<Told>)
     requires run { RUN ≡ B.start.run }
 {
     let (flusher, disk, pass, checkpointer, slots) = desk.into_parts();
@@ -231,7 +226,7 @@ fn do_seat(
     do_session(table, second, SECOND, ask)
 }
 
-// A step of a desk and two sessions. The desk comes back.
+// A step of a desk and two sessions: what is answered, if something is. The desk comes back.
 fn step<B: Naming>(
     alloc: Global,
     table: &Table<AnyRows>,
@@ -239,10 +234,7 @@ fn step<B: Naming>(
     second: &mut TableSession<AnyRows>,
     mut desk: CheckpointDesk<AnyRows, Silent<MemDisk>, B>,
     ask: Ask,
-) -> (
-    CheckpointDesk<AnyRows, Silent<MemDisk>, B>,
-    Result<Told, Fail>,
-)
+) -> (CheckpointDesk<AnyRows, Silent<MemDisk>, B>, Option<Told>)
     requires table { table.now.words.shared.table_id ≡ B.table }
     requires run { RUN ≡ B.start.run }
     requires first { Stands any_law table.now first.old }
@@ -253,24 +245,16 @@ fn step<B: Naming>(
     match ask {
         Ask::Turn => {
             let told = Told::Turned(desk.turn(table));
-            (desk, Ok(told))
+            (desk, Some(told))
         }
         Ask::Checkpoint => {
             let told = Told::Saved(desk.checkpoint_turn(table));
-            (desk, Ok(told))
+            (desk, Some(told))
         }
         Ask::Crash(pick) => crash_apart(alloc, desk, pick),
-        Ask::Seal(seat, _) => {
+        Ask::Seal(seat, _) | Ask::Settle(seat) | Ask::Commit(seat, _) => {
             let did = do_seat(table, first, second, seat, ask);
-            (desk, Ok(Told::Did(did)))
-        }
-        Ask::Settle(seat) => {
-            let did = do_seat(table, first, second, seat, ask);
-            (desk, Ok(Told::Did(did)))
-        }
-        Ask::Commit(seat, _) => {
-            let did = do_seat(table, first, second, seat, ask);
-            (desk, Ok(Told::Did(did)))
+            (desk, Some(Told::Did(did)))
         }
     }
 }
@@ -295,7 +279,7 @@ fn two_of(
     (first, second)
 }
 
-// Takes the steps up to one of which the answer is another: its place, and that answer. The desk comes back.
+// Takes the steps up to one of which the answer is another: its place. The desk comes back.
 fn take_steps<B: Naming>(
     alloc: Global,
     table: &Table<AnyRows>,
@@ -303,10 +287,7 @@ fn take_steps<B: Naming>(
     second: &mut TableSession<AnyRows>,
     mut desk: CheckpointDesk<AnyRows, Silent<MemDisk>, B>,
     steps: &[Step],
-) -> (
-    CheckpointDesk<AnyRows, Silent<MemDisk>, B>,
-    Result<Option<(usize, Told)>, Fail>,
-)
+) -> (CheckpointDesk<AnyRows, Silent<MemDisk>, B>, Option<usize>)
     requires table { table.now.words.shared.table_id ≡ B.table }
     requires run { RUN ≡ B.start.run }
     requires first { Stands any_law table.now first.old }
@@ -318,20 +299,14 @@ fn take_steps<B: Naming>(
         let (ask, want) = steps[place];
         let (back, told) = step(alloc, table, first, second, desk, ask);
         desk = back;
-        match told {
-            Ok(told) => {
-                if told != want {
-                    return (desk, Ok(Some((place, told))));
-                }
-            }
-            Err(fail) => return (desk, Err(fail)),
+        if told != Some(want) {
+            return (desk, Some(place));
         }
     }
-    (desk, Ok(None))
+    (desk, None)
 }
 
-// Sets a desk up beside two sessions, takes the steps up to one of which the answer is another, and gives the sessions up: its place, and that
-// answer.
+// Sets a desk up beside two sessions, takes the steps up to one of which the answer is another, and gives the sessions up: its place.
 fn take<B: Naming>(
     alloc: Global,
     _opening: &Opening,
@@ -341,7 +316,7 @@ fn take<B: Naming>(
     checkpointer: Checkpointer,
     slots: Slots,
     steps: &[Step],
-) -> Result<Option<(usize, Told)>, Fail>
+) -> Option<usize>
     requires opened { IsOpened any_law _opening.now 2 opened }
     requires new { flusher ≡ false }
     requires tail { _opening.now.tail ≡ TAIL }
@@ -400,24 +375,25 @@ fn opened_log(alloc: Global, disk: &mut Silent<MemDisk>) -> Result<(Opening, Slo
     Ok((opening, found.slots))
 }
 
-/// Takes the steps of a desk and two sessions on an empty disk, of which this call fails and leaves the front of what it was to write: none
-/// where its number is 0. It answers the first step that isn't answered so, and how it is.
-pub fn first_other(
-    alloc: Global,
-    call: u64,
-    steps: &[Step],
-) -> Result<Option<(usize, Told)>, Fail> {
+// An empty disk, of which this call fails and leaves the front of what it was to write.
+fn failing(alloc: Global, call: u64) -> Result<Silent<MemDisk>, AllocError> {
     let mut fronts = BTreeMap::new(alloc);
     fronts.insert(call, TORN)?;
     let disk = MemDisk::new(alloc)
         .failing(vec![in alloc; call; 1]?)
         .leaving(fronts);
-    let mut disk = Silent { disk };
+    Ok(Silent { disk })
+}
+
+/// Takes the steps of a desk and two sessions on an empty disk, of which this call fails: none where its number is 0. It answers the place of the
+/// first step that isn't answered so.
+pub fn first_other(alloc: Global, call: u64, steps: &[Step]) -> Result<Option<usize>, Fail> {
+    let mut disk = failing(alloc, call)?;
     let (opening, slots) = opened_log(alloc, &mut disk)?;
     let flusher = Flusher::new(alloc)?;
     let checkpointer = Checkpointer::new(alloc)?;
     let opened = open::<AnyRows>(alloc, &opening, 2)?;
-    take::<Brand>(
+    Ok(take::<Brand>(
         alloc,
         &opening,
         opened,
@@ -426,5 +402,5 @@ pub fn first_other(
         checkpointer,
         slots,
         steps,
-    )
+    ))
 }

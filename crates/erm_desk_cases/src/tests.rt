@@ -127,7 +127,9 @@ const AT_SECOND: [Told; 3] = [
 // A case: the call of the disk that fails, behind those that open its log; what the three turns answer; and what is left of what was waited
 // for, and of all that was done. Each turn writes to a segment and waits, and a checkpoint turn then writes a slot, waits, and looks for
 // a segment that is needed no more: there is none.
-const FAILING: [(u64, [Told; 3], Found, Found); 12] = [
+type Failing = (u64, [Told; 3], Found, Found);
+
+const FAILING: [Failing; 12] = [
     (OPENING + 1, AT_TURN, BEGUN, BEGUN),
     (OPENING + 2, AT_TURN, BEGUN, ONE),
     (OPENING + 3, AT_FIRST, ONE, ONE),
@@ -160,36 +162,40 @@ const UNDECIDED: [Step; 8] = [
 // What is flushed is left after a crash, and recovery begins at the last checkpoint.
 #[test]
 fn checkpoints_are_taken_in_turn(rt: HostRuntime) -> Result<(), Fail> {
-    let other = first_other(rt.alloc(), 0, &STEPS)?;
-    assert!(rt; other.is_none(), "{other:?}");
+    assert_eq!(rt; first_other(rt.alloc(), 0, &STEPS)?, None);
     Ok(())
+}
+
+// The steps of a case.
+fn steps_of(failing: &Failing) -> [Step; 10] {
+    let (_, told, lasts, all) = *failing;
+    [
+        (Ask::Commit(1, 1), Told::Did(true)),
+        (Ask::Turn, told[0]),
+        (Ask::Commit(2, 2), Told::Did(true)),
+        (Ask::Checkpoint, told[1]),
+        (Ask::Commit(1, 3), Told::Did(true)),
+        (Ask::Checkpoint, told[2]),
+        (Ask::Checkpoint, Told::Saved(Err(CheckpointStop::Failed))),
+        (Ask::Turn, Told::Turned(Err(FlushStop::Failed))),
+        (Ask::Crash(Pick::Nothing), Told::Left(lasts)),
+        (Ask::Crash(Pick::All), Told::Left(all)),
+    ]
 }
 
 // The disk fails once, and does what it is asked before and after.
 #[test]
 fn a_desk_fails_with_its_disk(rt: HostRuntime) -> Result<(), Fail> {
-    for (call, told, lasts, all) in FAILING {
-        let steps = [
-            (Ask::Commit(1, 1), Told::Did(true)),
-            (Ask::Turn, told[0]),
-            (Ask::Commit(2, 2), Told::Did(true)),
-            (Ask::Checkpoint, told[1]),
-            (Ask::Commit(1, 3), Told::Did(true)),
-            (Ask::Checkpoint, told[2]),
-            (Ask::Checkpoint, Told::Saved(Err(CheckpointStop::Failed))),
-            (Ask::Turn, Told::Turned(Err(FlushStop::Failed))),
-            (Ask::Crash(Pick::Nothing), Told::Left(lasts)),
-            (Ask::Crash(Pick::All), Told::Left(all)),
-        ];
-        let other = first_other(rt.alloc(), call, &steps)?;
-        assert!(rt; other.is_none(), "{call}: {other:?}");
+    for failing in &FAILING {
+        let call = failing.0;
+        let other = first_other(rt.alloc(), call, &steps_of(failing))?;
+        assert_eq!(rt; other, None, "{call}");
     }
     Ok(())
 }
 
 #[test]
 fn a_checkpoint_waits_for_what_is_sealed(rt: HostRuntime) -> Result<(), Fail> {
-    let other = first_other(rt.alloc(), 0, &UNDECIDED)?;
-    assert!(rt; other.is_none(), "{other:?}");
+    assert_eq!(rt; first_other(rt.alloc(), 0, &UNDECIDED)?, None);
     Ok(())
 }

@@ -28,25 +28,54 @@ type Turns = [Result<Stamp, FlushStop>; 2];
 
 const FAULT: Turns = [Err(FlushStop::DiskFault), Err(FlushStop::Failed)];
 
-// A case: whether the second transaction is decided too; the call of the disk that fails, of two writes and then two syncs; what
-// two turns answer; and whether the first block stands on a disk that kept what was waited for, and on one that kept all.
-const CASES: [(bool, u64, Turns, [bool; 2]); 6] = [
-    (true, 1, FAULT, [false, false]),
-    (true, 2, FAULT, [false, false]),
-    (true, 3, FAULT, [false, true]),
-    (true, 4, FAULT, [false, true]),
-    (
-        true,
-        5,
-        [Ok(END), Err(FlushStop::Empty { at: END })],
-        [true, true],
-    ),
-    (
-        false,
-        5,
-        [Ok(MIDDLE), Err(FlushStop::Unfilled { at: MIDDLE })],
-        [true, true],
-    ),
+// A case.
+struct Case {
+    // Whether the second transaction is decided too.
+    both: bool,
+    // The call of the disk that fails, of two writes and then two syncs.
+    call: u64,
+    turns: Turns,
+    // Whether the first block stands on a disk that kept what was waited for, and on one that kept all.
+    stands: [bool; 2],
+}
+
+const CASES: [Case; 6] = [
+    Case {
+        both: true,
+        call: 1,
+        turns: FAULT,
+        stands: [false, false],
+    },
+    Case {
+        both: true,
+        call: 2,
+        turns: FAULT,
+        stands: [false, false],
+    },
+    Case {
+        both: true,
+        call: 3,
+        turns: FAULT,
+        stands: [false, true],
+    },
+    Case {
+        both: true,
+        call: 4,
+        turns: FAULT,
+        stands: [false, true],
+    },
+    Case {
+        both: true,
+        call: 5,
+        turns: [Ok(END), Err(FlushStop::Empty { at: END })],
+        stands: [true, true],
+    },
+    Case {
+        both: false,
+        call: 5,
+        turns: [Ok(MIDDLE), Err(FlushStop::Unfilled { at: MIDDLE })],
+        stands: [true, true],
+    },
 ];
 
 // Two sessions on rows of zeros, without a law of rows.
@@ -184,41 +213,58 @@ fn has_first(disk: &mut MemDisk) -> Result<bool, Failed> {
     Ok(read_block(&words, TAIL, 1).is_some())
 }
 
+// Whether the first block stands after a crash, as a case says.
+fn is_left_so(disk: &MemDisk, case: &Case) -> Result<bool, AllocError> {
+    let waited = has_first(&mut disk.image(Pick::Nothing)?);
+    let all = has_first(&mut disk.image(Pick::All)?);
+    Ok(waited == Ok(case.stands[0]) && all == Ok(case.stands[1]))
+}
+
+// A disk to which nothing was done, of which a call fails.
+fn failing(alloc: Global, call: u64) -> Result<MemDisk, AllocError>
+    ensures { IfOk result (λ disk. disk.steps ≡ []) }
+{
+    Ok(MemDisk::new(alloc).failing([call].to_vec(alloc)?))
+}
+
+// Whether two turns answer as a case says, and leave such a disk.
+fn writes_so(alloc: Global, case: &Case) -> Result<bool, AllocError> {
+    let mut world = sealed(alloc, case.both)?;
+    let mut disk = failing(alloc, case.call)?;
+    let mut flusher = Flusher::new(alloc)?;
+    let turns = two_turns(&mut flusher, &mut disk, &mut world);
+    Ok(turns == case.turns && is_left_so(&disk, case)?)
+}
+
 #[test]
 fn turns_write_blocks(rt: HostRuntime) -> Result<(), Fail> {
-    let alloc = rt.alloc();
-    for (both, call, want, stands) in CASES {
-        let mut world = sealed(alloc, both)?;
-        let mut disk = MemDisk::new(alloc).failing([call].to_vec(alloc)?);
-        let mut flusher = Flusher::new(alloc)?;
-        let turns = two_turns(&mut flusher, &mut disk, &mut world);
-        assert!(rt; turns == want, "{call}");
-        assert!(rt;
-            has_first(&mut disk.image(Pick::Nothing)?) == Ok(stands[0]),
-            "{call}: what was waited for"
-        );
-        assert!(rt;
-            has_first(&mut disk.image(Pick::All)?) == Ok(stands[1]),
-            "{call}: all"
-        );
+    for (place, case) in CASES.iter().enumerate() {
+        assert!(rt; writes_so(rt.alloc(), case)?, "case {place}");
     }
     Ok(())
 }
 
+// Whether turns until one stops end so where two turns answer this.
+fn are_stops(stops: [FlushStop; 2], turns: &Turns) -> bool {
+    match turns {
+        [Ok(_), Err(stop)] => stops == [*stop, *stop],
+        [Err(first), Err(second)] => stops == [*first, *second],
+        _ => false,
+    }
+}
+
+fn stops_so(alloc: Global, case: &Case) -> Result<bool, AllocError> {
+    let mut world = sealed(alloc, case.both)?;
+    let mut disk = failing(alloc, case.call)?;
+    let mut flusher = Flusher::new(alloc)?;
+    let stops = all_turns(&mut flusher, &mut disk, &mut world);
+    Ok(are_stops(stops, &case.turns))
+}
+
 #[test]
 fn turns_go_on_until_one_stops(rt: HostRuntime) -> Result<(), Fail> {
-    let alloc = rt.alloc();
-    for (both, call, want, _) in CASES {
-        let mut world = sealed(alloc, both)?;
-        let mut disk = MemDisk::new(alloc).failing([call].to_vec(alloc)?);
-        let mut flusher = Flusher::new(alloc)?;
-        let stops = all_turns(&mut flusher, &mut disk, &mut world);
-        let same = match want {
-            [Ok(_), Err(stop)] => stops == [stop, stop],
-            [Err(first), Err(second)] => stops == [first, second],
-            _ => false,
-        };
-        assert!(rt; same, "{call}");
+    for (place, case) in CASES.iter().enumerate() {
+        assert!(rt; stops_so(rt.alloc(), case)?, "case {place}");
     }
     Ok(())
 }

@@ -2,6 +2,7 @@
 use erm_log_disk::write_log;
 use erm_outside::{Disk, Failed, File};
 use erm_outside_mem::{MemDisk, Pick};
+use std::alloc::{AllocError, Global};
 use std::test::Fail;
 
 // Two words at the end of a segment, and two at the front of the next.
@@ -15,14 +16,47 @@ const FRONT: [u8; 16] = [8, 7, 6, 5, 4, 3, 2, 1, 2, 0, 0, 0, 0, 0, 0, 0];
 
 const BACK: [u8; 16] = [3, 0, 0, 0, 0, 0, 0, 0, 4, 0, 0, 0, 0, 0, 0, 0];
 
-// The call that fails, of two writes and then two syncs, and the answer; which parts stand on a disk that kept what was waited
-// for and nothing else, and which on one that kept all.
-const CASES: [(u64, Result<(), Failed>, [bool; 2], [bool; 2]); 5] = [
-    (1, Err(Failed), [false, false], [false, false]),
-    (2, Err(Failed), [false, false], [true, false]),
-    (3, Err(Failed), [false, false], [true, true]),
-    (4, Err(Failed), [true, false], [true, true]),
-    (5, Ok(()), [true, true], [true, true]),
+// A case.
+struct Case {
+    // The call that fails, of two writes and then two syncs.
+    call: u64,
+    answer: Result<(), Failed>,
+    // Which parts stand on a disk that kept what was waited for and nothing else, and which on one that kept all.
+    kept: [bool; 2],
+    all: [bool; 2],
+}
+
+const CASES: [Case; 5] = [
+    Case {
+        call: 1,
+        answer: Err(Failed),
+        kept: [false, false],
+        all: [false, false],
+    },
+    Case {
+        call: 2,
+        answer: Err(Failed),
+        kept: [false, false],
+        all: [true, false],
+    },
+    Case {
+        call: 3,
+        answer: Err(Failed),
+        kept: [false, false],
+        all: [true, true],
+    },
+    Case {
+        call: 4,
+        answer: Err(Failed),
+        kept: [true, false],
+        all: [true, true],
+    },
+    Case {
+        call: 5,
+        answer: Ok(()),
+        kept: [true, true],
+        all: [true, true],
+    },
 ];
 
 // Which parts stand on a disk.
@@ -34,24 +68,25 @@ fn parts(disk: &mut MemDisk) -> Result<[bool; 2], Failed> {
     Ok([front == FRONT, back == BACK])
 }
 
+// Whether a disk is left so after a crash.
+fn is_left_so(disk: &MemDisk, case: &Case) -> Result<bool, AllocError> {
+    let kept = parts(&mut disk.image(Pick::Nothing)?);
+    let all = parts(&mut disk.image(Pick::All)?);
+    Ok(kept == Ok(case.kept) && all == Ok(case.all))
+}
+
+// Whether the words are written so.
+fn is_written_so(alloc: Global, case: &Case) -> Result<bool, AllocError> {
+    let mut disk = MemDisk::new(alloc).failing([case.call].to_vec(alloc)?);
+    let answer = write_log(&mut disk, PLACE, &WORDS, &mut [0; 40]);
+    Ok(answer == case.answer && is_left_so(&disk, case)?)
+}
+
 #[test]
 fn words_lie_in_two_segments(rt: HostRuntime) -> Result<(), Fail> {
-    let alloc = rt.alloc();
-    for (call, want, kept, all) in CASES {
-        let mut disk = MemDisk::new(alloc).failing([call].to_vec(alloc)?);
-        let mut buffer = [0; 40];
-        assert!(rt;
-            write_log(&mut disk, PLACE, &WORDS, &mut buffer) == want,
-            "{call}"
-        );
-        assert!(rt;
-            parts(&mut disk.image(Pick::Nothing)?) == Ok(kept),
-            "{call}: what was waited for"
-        );
-        assert!(rt;
-            parts(&mut disk.image(Pick::All)?) == Ok(all),
-            "{call}: all"
-        );
+    for case in &CASES {
+        let call = case.call;
+        assert!(rt; is_written_so(rt.alloc(), case)?, "{call}");
     }
     Ok(())
 }

@@ -14,3 +14,5 @@ mod replicate;
 mod ship;
 #[cfg(test)]
 mod stream;
+#[cfg(test)]
+mod words;

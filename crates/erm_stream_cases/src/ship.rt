@@ -61,18 +61,27 @@ fn write_words(disk: &mut Silent<MemDisk>, file: File, words: &str) -> Result<()
     Ok(())
 }
 
-// A disk with the words of a row.
-fn disk_of(disk: &mut Silent<MemDisk>, row: &Row) -> Result<(), Failed> {
-    write_words(disk, File::Slot0, row.slot0)?;
-    write_words(disk, File::Slot1, row.slot1)?;
-    let mut at = row.at;
-    for word in row.log.split_whitespace() {
+// Writes words to the log, from a place on.
+fn write_log(disk: &mut Silent<MemDisk>, at: u64, words: &str) -> Result<(), Failed> {
+    let mut at = at;
+    for word in words.split_whitespace() {
         let word = u64::from_str_radix(word, 16).unwrap_or(0);
         let (file, byte) = place(at);
         disk.write(file, byte, &word.to_le_bytes())?;
         at = at.saturating_add(1);
     }
     Ok(())
+}
+
+// A disk with the words of a row.
+fn disk_of(alloc: Global, row: &Row) -> Result<Silent<MemDisk>, Failed> {
+    let mut disk = Silent {
+        disk: MemDisk::new(alloc),
+    };
+    write_words(&mut disk, File::Slot0, row.slot0)?;
+    write_words(&mut disk, File::Slot1, row.slot1)?;
+    write_log(&mut disk, row.at, row.log)?;
+    Ok(disk)
 }
 
 // The bytes of words.
@@ -92,37 +101,42 @@ fn failing_at(alloc: Global, call: u64) -> Silent<MemDisk> {
     }
 }
 
+// Whether a disk ends so, with these bytes.
+fn ends_so(alloc: Global, disk: &mut Silent<MemDisk>, status: u8, bytes: &[u8]) -> bool {
+    let mut sink = MemSink::new(alloc, 4096);
+    ship(alloc, disk, &mut sink) == status && sink.as_slice() == bytes
+}
+
 #[test]
 fn streams(rt: HostRuntime) -> Result<(), Fail> {
-    let alloc = rt.alloc();
-    for row in &ROWS {
-        let mut disk = Silent {
-            disk: MemDisk::new(alloc),
-        };
-        disk_of(&mut disk, row)?;
-        let mut sink = MemSink::new(alloc, 4096);
-        assert_eq!(rt; ship(alloc, &mut disk, &mut sink), 0);
-        assert_eq!(rt; sink.as_slice(), bytes_of(alloc, row.stream)?.as_slice());
+    for (place, row) in ROWS.iter().enumerate() {
+        let stream = bytes_of(rt.alloc(), row.stream)?;
+        let mut disk = disk_of(rt.alloc(), row)?;
+        assert!(rt; ends_so(rt.alloc(), &mut disk, 0, &stream), "disk {place}");
     }
     Ok(())
+}
+
+// Whether a sink whose second call fails has the bytes of its first.
+fn has_one_call(alloc: Global) -> Result<bool, AllocError> {
+    let mut sink = MemSink::new(alloc, 20).failing([2].to_vec(alloc)?);
+    let status = ship(alloc, &mut failing_at(alloc, 1000), &mut sink);
+    Ok(status == 5 && sink.as_slice().len() == 20)
+}
+
+// Whether a disk without a place to start from ends so.
+fn has_no_base(alloc: Global) -> Result<bool, Failed> {
+    let mut disk = failing_at(alloc, 1000);
+    disk.write(File::Slot0, 0, b"x")?;
+    Ok(ends_so(alloc, &mut disk, 7, b"no base\n"))
 }
 
 // A sink that fails, a disk that fails at its first call, and one without a place to start from.
 #[test]
 fn stops(rt: HostRuntime) -> Result<(), Fail> {
     let alloc = rt.alloc();
-    let mut disk = failing_at(alloc, 1000);
-    let mut sink = MemSink::new(alloc, 20).failing([2].to_vec(alloc)?);
-    assert_eq!(rt; ship(alloc, &mut disk, &mut sink), 5);
-    assert_eq!(rt; sink.as_slice().len(), 20);
-    let mut disk = failing_at(alloc, 0);
-    let mut sink = MemSink::new(alloc, 4096);
-    assert_eq!(rt; ship(alloc, &mut disk, &mut sink), 6);
-    assert_eq!(rt; sink.as_slice(), b"disk fault\n".as_slice());
-    let mut disk = failing_at(alloc, 1000);
-    disk.write(File::Slot0, 0, b"x")?;
-    let mut sink = MemSink::new(alloc, 4096);
-    assert_eq!(rt; ship(alloc, &mut disk, &mut sink), 7);
-    assert_eq!(rt; sink.as_slice(), b"no base\n".as_slice());
+    assert!(rt; has_one_call(alloc)?);
+    assert!(rt; ends_so(alloc, &mut failing_at(alloc, 0), 6, b"disk fault\n"));
+    assert!(rt; has_no_base(alloc)?);
     Ok(())
 }
