@@ -15,6 +15,7 @@ StaysSealed world.idle more stand = Unit {0}
 StaysSealed (world.active w) more stand = Unit {0}
 StaysSealed (world.sealed w stamp) more stand =
     ((fate : Fate) × (stamp_of fate ≡ Some stamp) × (record { work = w; fate = fate } ∈ more)) ⊎ (stand ≡ world.sealed w stamp)
+StaysSealed (world.snapshot s) more stand = Unit {0}
 
 -- a session in a later state: what is over stays so, what was in progress went on, a stamp that was drawn stays, and so does what was claimed and made
 pub record IsLater (s t : Session) : Type 0 where

@@ -4,3 +4,5 @@ pub mod Face
 pub mod Later
 pub mod Laws
 pub mod Onward
+pub mod Safe
+pub mod SafeFace

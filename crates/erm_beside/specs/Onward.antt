@@ -3,6 +3,7 @@ use Rattle.std.proofs.Common.{◌≡◌, ℕ, refl, ◌∙◌, subst, le_trans, 
 use Rattle.erm_world.specs.Face.{same}
 use Rattle.erm_world.specs.Onward.{grows_then}
 use Rattle.erm_world.specs.World.{View}
+use Rattle.erm_beside.specs.Calls.{Passes}
 use Rattle.erm_beside.specs.Face.{GoesBeside}
 use Rattle.erm_beside.specs.Laws.{GoesOnward}
 
@@ -26,4 +27,17 @@ beside_then seat then_seat v t u is first later =
       opening = second.opening ∙ first.opening;
       tail = le_trans first.tail second.tail;
       flushed = le_trans first.flushed second.flushed;
+    }
+
+pub passes_itself : (seat : ℕ) (v : View) → Passes seat v v
+passes_itself seat v = record { own = refl; opening = refl; tail = omega arith; flushed = omega arith; given_up = refl }
+
+pub passes_then : (seat then_seat : ℕ) (v t u : View) → then_seat ≡ seat → Passes seat v t → Passes then_seat t u → Passes seat v u
+passes_then seat then_seat v t u is first later =
+    let second = subst (λ (at : ℕ). Passes at t u) is later in record {
+      own = second.own ∙ first.own;
+      opening = second.opening ∙ first.opening;
+      tail = le_trans first.tail second.tail;
+      flushed = le_trans first.flushed second.flushed;
+      given_up = second.given_up ∙ first.given_up;
     }

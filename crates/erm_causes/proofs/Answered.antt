@@ -157,6 +157,8 @@ now_active table None (world.sealed w stamp) now active = absurd now
 now_active table (Some t) world.idle now active = absurd now
 now_active table (Some t) (world.active w) now active = record { told = t; is = refl; touches = now.0; keeps = now.1; steps = now.2.0; run = now.2.1 }
 now_active table (Some t) (world.sealed w stamp) now active = cc
+now_active table None (world.snapshot s) now active = absurd now
+now_active table (Some t) (world.snapshot s) now active = absurd now
 
 -- a transaction in progress whose line was answered or cut off goes on so
 over_of : (table : ℕ → ℕ) (v u : View) (seat : ℕ) (p : Progress) → Turned v seat u → IsFine table (history_of v) p (v.session seat) → FineOver table (history_of u) p.over (v.session seat).over

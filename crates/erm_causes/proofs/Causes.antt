@@ -153,6 +153,7 @@ module _ (v : View) (sessions : ℕ) (said : List Said) (table : ℕ → ℕ) (h
       unfinished x world.idle told = absurd told
       unfinished x (world.active w) told = told.0.unfinished
       unfinished x (world.sealed w stamp) told = told.0.unfinished
+      unfinished x (world.snapshot s) told = absurd told
   now_cause seat session (Some u) now t (suc k, at) = cc
 
   pub causes_of : (t : Transaction) → t ∈ transactions_of sessions said → HasCauseOf t.ending (transactions_of sessions said) t

@@ -107,6 +107,8 @@ now_touches table None (world.sealed w stamp) now = absurd now
 now_touches table (Some t) world.idle now = absurd now
 now_touches table (Some t) (world.active w) now = now.0
 now_touches table (Some t) (world.sealed w stamp) now = now.0
+now_touches table None (world.snapshot s) now = absurd now
+now_touches table (Some t) (world.snapshot s) now = absurd now
 
 pub fine_touches : (table : ℕ → ℕ) (h : History) (p : Progress) (s : Session) → IsFine table h p s → TouchesAll table h p s
 fine_touches table h p s fine = record { over = over_touches table h p.over s.over fine.over; now = now_touches table p.current s.stand fine.now }

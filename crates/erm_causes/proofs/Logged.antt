@@ -15,6 +15,7 @@ use Rattle.erm_script.specs.declared.script.Command.{Command}
 use Rattle.erm_script.specs.declared.script.Command.TheVariants as command
 use Rattle.erm_script.specs.declared.script.ScriptLine.{ScriptLine}
 use Rattle.erm_world.specs.Laws.{IsSerializable}
+use Rattle.erm_world.specs.Snapshots.{snapshot_not_sealed}
 use Rattle.erm_world.specs.World.{Fate, Finished, HasStamp, IsSession, Session, Stand, View, Work, phase_at, size_of}
 use Rattle.erm_world.specs.World as world
 use Rattle.erm_good_report.specs.Opening.{InTurn, Opening}
@@ -148,6 +149,7 @@ sealed_stand : (stand : Stand) → world.phase_of stand ≡ Sealed → (w : Work
 sealed_stand world.idle is = absurd (cc)
 sealed_stand (world.active w) is = absurd (cc)
 sealed_stand (world.sealed w s) is = (w, s, refl)
+sealed_stand (world.snapshot s) is = absurd (snapshot_not_sealed s is)
 
 the_same : (current : Option Transaction) (t u : Transaction) → current ≡ Some t → current ≡ Some u → t ≡ u
 the_same current t u first second = cc

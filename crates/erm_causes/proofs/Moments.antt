@@ -79,6 +79,8 @@ now_told table seat (Some t) (world.active u) w tells fine is =
     subst (λ (x : Work). NowTold table seat (Some t) x) is (record { told = t; is = refl; tells = tells.0; touches = fine.0 })
 now_told table seat (Some t) (world.sealed u stamp) w tells fine is =
     subst (λ (x : Work). NowTold table seat (Some t) x) is (record { told = t; is = refl; tells = tells.0; touches = fine.0 })
+now_told table seat None (world.snapshot s) w tells fine is = absurd tells
+now_told table seat (Some t) (world.snapshot s) w tells fine is = absurd tells
 
 pub current_of_sealed : (stand : Stand) (w : Work) (stamp : ℕ) → stand ≡ world.sealed w stamp → IsCurrent stand w
 current_of_sealed stand w stamp is = subst (λ (at : Stand). IsCurrent at w) (sym is) refl

@@ -88,6 +88,7 @@ module _ (table : ℕ → ℕ) where
   now_same (Some t) (Some u) world.idle same now = absurd now
   now_same (Some t) (Some u) (world.active w) same now = (touches_same table t u w same now.0, now.1, now.2)
   now_same (Some t) (Some u) (world.sealed w stamp) same now = (touches_same table t u w same now.0, now.1)
+  now_same (Some t) (Some u) (world.snapshot s) same now = absurd now
 
   pub same_fine : (h : History) (p q : Progress) (s : Session) → SameLines p q → IsFine table h p s → IsFine table h q s
   same_fine h p q s same fine = record {
@@ -114,6 +115,8 @@ module _ (table : ℕ → ℕ) where
   now_has (Some t) (world.sealed u stamp) w now has =
       let same : u ≡ w = work_now (world.sealed u stamp) w has in
       record { told = t; is = refl; touches = subst (λ (x : Work). Touches table t x) same now.0; keeps = subst (λ (x : Work). KeepsTables table x) same now.1 }
+  now_has None (world.snapshot s) w now has = absurd now
+  now_has (Some t) (world.snapshot s) w now has = absurd now
 
   seal_now : (current : Option Transaction) (stand : Stand) (stamp : ℕ) → phase_of stand ≡ Active → FineNow table current stand → FineNow table current (world.sealed (work_of stand) stamp)
   seal_now current stand stamp active now =

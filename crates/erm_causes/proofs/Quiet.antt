@@ -3,12 +3,13 @@ use Rattle.std.proofs.Common.{◌≡◌, ℕ, ◌+◌, ◌<◌, ◌≤◌, ◌�
 use Rattle.std.specs.Option.{option_map, option_to_list}
 use Rattle.erm_model.specs.declared.history.TransactionRecord.{TransactionRecord}
 use Rattle.erm_model.specs.declared.outcome.Phase.{Phase}
-use Rattle.erm_model.specs.declared.outcome.Phase.TheVariants.{Idle, Active, Sealed}
+use Rattle.erm_model.specs.declared.outcome.Phase.TheVariants.{Idle, Active, Sealed, Pending, Safe}
 use Rattle.erm_model.specs.History.{IsPredecessorStamp, IsSuccessorStamp, OverwritesReadOf}
 use Rattle.erm_model.specs.Member.{◌∈◌}
 use Rattle.erm_node.specs.Sound.{sound_law}
 use Rattle.erm_world.specs.Calls.{DidSeal, IsDone, Works}
 use Rattle.erm_world.specs.Laws.{IsSerializable}
+use Rattle.erm_world.specs.Snapshots.{snapshot_not_idle}
 use Rattle.erm_world.specs.World.{Fate, Finished, HasStamp, IsSession, Session, Stand, View, Work, bare, history_of, phase_at, phase_of, record_of, stamp_of, work_at, work_of}
 use Rattle.erm_world.specs.World as world
 use Rattle.erm_world.proofs.Lists.{∈-last}
@@ -159,22 +160,35 @@ refusal_still (Some Sealed) Active refusal is asked = let same : answer.NotSeale
 refusal_still (Some Idle) Idle refusal is asked = let no : None ≡ Some refusal = is in cc
 refusal_still (Some Active) Active refusal is asked = let no : None ≡ Some refusal = is in cc
 refusal_still (Some Sealed) Sealed refusal is asked = let no : None ≡ Some refusal = is in cc
+refusal_still (Some Idle) Pending refusal is asked = let same : answer.NotIdle ≡ refusal = cc in subst (StillBy asked) same (λ q p. (refl, same_itself p.current))
+refusal_still (Some Idle) Safe refusal is asked = let same : answer.NotIdle ≡ refusal = cc in subst (StillBy asked) same (λ q p. (refl, same_itself p.current))
+refusal_still (Some Active) Pending refusal is asked = let same : answer.NoTransaction ≡ refusal = cc in subst (StillBy asked) same (λ q p. (refl, same_itself p.current))
+refusal_still (Some Active) Safe refusal is asked = let same : answer.NoTransaction ≡ refusal = cc in subst (StillBy asked) same (λ q p. (refl, same_itself p.current))
+refusal_still (Some Sealed) Pending refusal is asked = let same : answer.NotSealed ≡ refusal = cc in subst (StillBy asked) same (λ q p. (refl, same_itself p.current))
+refusal_still (Some Sealed) Safe refusal is asked = let same : answer.NotSealed ≡ refusal = cc in subst (StillBy asked) same (λ q p. (refl, same_itself p.current))
+refusal_still (Some Pending) phase refusal is asked = let no : None ≡ Some refusal = is in cc
+refusal_still (Some Safe) phase refusal is asked = let no : None ≡ Some refusal = is in cc
 refusal_still None phase refusal is asked = let no : None ≡ Some refusal = is in cc
 
 pub wants_active : (phase : Phase) → refusal_for (Some Active) phase ≡ None → phase ≡ Active
 wants_active Idle is = cc
 wants_active Active is = refl
 wants_active Sealed is = cc
+wants_active Pending is = cc
+wants_active Safe is = cc
 
 pub wants_idle : (phase : Phase) → refusal_for (Some Idle) phase ≡ None → phase ≡ Idle
 wants_idle Idle is = refl
 wants_idle Active is = cc
 wants_idle Sealed is = cc
+wants_idle Pending is = cc
+wants_idle Safe is = cc
 
 pub idle_with : (stand : Stand) → phase_of stand ≡ Idle → stand ≡ world.idle
 idle_with world.idle is = refl
 idle_with (world.active w) is = cc
 idle_with (world.sealed w stamp) is = cc
+idle_with (world.snapshot s) is = absurd (snapshot_not_idle s is)
 
 -- What a line did: it is a quiet one; or it sealed its transaction, and then it is; or it is one that names a table.
 pub data Lined (v : View) (seat : ℕ) (c : Command) (a : Answer) (t : View) : Type 0 where
@@ -244,6 +258,8 @@ module _ (v t : View) (seat : ℕ) (session : IsSession v seat) where
       done (work_at v seat) world.aborts Aborts (inl (active_with (v.session seat).stand is)) did (λ holds. tt) (λ q p. refl)
   closed_as a Active is closes did = absurd closes
   closed_as a Sealed is closes did = decided v t seat None a session tt did
+  closed_as a Pending is closes did = absurd did
+  closed_as a Safe is closes did = absurd did
 
 pub lined : (v : View) (l : ScriptLine) (a : Answer) (t : View) → DidLine v l a t → Lined v l.session l.command a t
 lined v l a t did = asked_line v t l.session did.session l.command a (refusal_of (phase_at v l.session) l.command) refl did.fits did.did

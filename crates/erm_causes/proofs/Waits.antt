@@ -1,7 +1,7 @@
 -- Which lines may be refused for what other sessions do.
 use Rattle.std.proofs.Common.{◌≡◌, ℕ, Option, Some, None, refl, sym, ap, ◌∙◌, subst}
 use Rattle.erm_model.specs.declared.outcome.Phase.{Phase}
-use Rattle.erm_model.specs.declared.outcome.Phase.TheVariants.{Idle, Active, Sealed}
+use Rattle.erm_model.specs.declared.outcome.Phase.TheVariants.{Idle, Active, Sealed, Pending, Safe}
 use Rattle.erm_model.specs.declared.row_stop.RowStop.{RowStop}
 use Rattle.erm_model.specs.declared.row_stop.RowStop.TheVariants as stop
 use Rattle.erm_report.specs.declared.answer.Answer.{Answer}
@@ -140,6 +140,14 @@ refusal_is (Some Sealed) Active refusal is = let same : answer.NotSealed ≡ ref
 refusal_is (Some Idle) Idle refusal is = let no : None ≡ Some refusal = is in cc
 refusal_is (Some Active) Active refusal is = let no : None ≡ Some refusal = is in cc
 refusal_is (Some Sealed) Sealed refusal is = let no : None ≡ Some refusal = is in cc
+refusal_is (Some Idle) Pending refusal is = let same : answer.NotIdle ≡ refusal = cc in subst (λ (a : Answer). refusal_in a ≡ Some a) same refl
+refusal_is (Some Idle) Safe refusal is = let same : answer.NotIdle ≡ refusal = cc in subst (λ (a : Answer). refusal_in a ≡ Some a) same refl
+refusal_is (Some Active) Pending refusal is = let same : answer.NoTransaction ≡ refusal = cc in subst (λ (a : Answer). refusal_in a ≡ Some a) same refl
+refusal_is (Some Active) Safe refusal is = let same : answer.NoTransaction ≡ refusal = cc in subst (λ (a : Answer). refusal_in a ≡ Some a) same refl
+refusal_is (Some Sealed) Pending refusal is = let same : answer.NotSealed ≡ refusal = cc in subst (λ (a : Answer). refusal_in a ≡ Some a) same refl
+refusal_is (Some Sealed) Safe refusal is = let same : answer.NotSealed ≡ refusal = cc in subst (λ (a : Answer). refusal_in a ≡ Some a) same refl
+refusal_is (Some Pending) phase refusal is = let no : None ≡ Some refusal = is in cc
+refusal_is (Some Safe) phase refusal is = let no : None ≡ Some refusal = is in cc
 refusal_is None phase refusal is = let no : None ≡ Some refusal = is in cc
 
 pub record Allowed (v : View) (seat : ℕ) (c : Command) (a : Answer) (t : View) : Type 0 where

@@ -106,6 +106,7 @@ module _ (runs : (number begin : ℕ) → IsRunOf (world.begun number begin) [])
     now_few bound world.idle = omega arith
     now_few bound (world.active w) = omega arith
     now_few bound (world.sealed w stamp) = one_most bound (Some stamp)
+    now_few bound (world.snapshot s) = omega arith
 
     seat_few : (seat bound : ℕ) → IsSession v seat → sealed_in bound (f.session seat) ≤ own_total draws_of seat (places_of script answers closed)
     seat_few seat bound session =

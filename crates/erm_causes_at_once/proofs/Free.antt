@@ -62,6 +62,7 @@ module _ (table : ℕ → ℕ) (f : View) where
   now_same (Some t) (Some u) world.idle same now = absurd now
   now_same (Some t) (Some u) (world.active w) same now = (stays_same t u w same now.0, now.1)
   now_same (Some t) (Some u) (world.sealed w stamp) same now = stays_same t u w same now
+  now_same (Some t) (Some u) (world.snapshot s) same now = absurd now
 
   pub same_free : (p q : Progress) (s : Session) → SameLines p q → IsFree p s → IsFree q s
   same_free p q s same free = record {
@@ -85,6 +86,8 @@ module _ (table : ℕ → ℕ) (f : View) where
       record { told = t; is = refl; stays = subst (λ (x : Work). Stays t x) (work_now (world.active u) w has) now.0 }
   now_has (Some t) (world.sealed u stamp) w now has =
       record { told = t; is = refl; stays = subst (λ (x : Work). Stays t x) (work_now (world.sealed u stamp) w has) now }
+  now_has None (world.snapshot s) w now has = absurd now
+  now_has (Some t) (world.snapshot s) w now has = absurd now
 
   -- one that is active
   pub record ActiveFree (current : Option Transaction) (w : Work) : Type 0 where
@@ -101,6 +104,8 @@ module _ (table : ℕ → ℕ) (f : View) where
   active_free (Some t) world.idle now active = absurd now
   active_free (Some t) (world.active w) now active = record { told = t; is = refl; stays = now.0; steps = now.1.0; run = now.1.1 }
   active_free (Some t) (world.sealed w stamp) now active = cc
+  active_free None (world.snapshot s) now active = absurd now
+  active_free (Some t) (world.snapshot s) now active = absurd now
 
   -- an idle session has none
   pub none_now : (current : Option Transaction) (stand : Stand) → FreeNow current stand → stand ≡ world.idle → current ≡ None
@@ -108,6 +113,7 @@ module _ (table : ℕ → ℕ) (f : View) where
   none_now (Some t) world.idle now idle = absurd now
   none_now (Some t) (world.active w) now idle = cc
   none_now (Some t) (world.sealed w stamp) now idle = cc
+  none_now (Some t) (world.snapshot s) now idle = absurd now
 
   -- QUIET MOVES, and what they leave of the session.
   pub begun_free : (p : Progress) (s : Session) (t : Transaction) (number begin : ℕ) → IsRunOf (world.begun number begin) [] → IsFree p s

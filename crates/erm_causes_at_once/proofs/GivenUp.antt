@@ -1,7 +1,7 @@
 -- The claims that a session gave up: what a move leaves of them, and which one a line gave up that was refused for want of a cell.
 use Rattle.std.proofs.Common.{◌≡◌, ℕ, zero, suc, ◌⊎◌, List, Option, Some, None, inl, inr, refl, ap, ◌∙◌, subst}
 use Rattle.erm_model.specs.declared.outcome.Phase.{Phase}
-use Rattle.erm_model.specs.declared.outcome.Phase.TheVariants.{Active, Idle, Sealed}
+use Rattle.erm_model.specs.declared.outcome.Phase.TheVariants.{Active, Idle, Sealed, Pending, Safe}
 use Rattle.erm_model.specs.declared.row_stop.RowStop.{RowStop}
 use Rattle.erm_model.specs.declared.row_stop.RowStop.TheVariants as stop
 use Rattle.erm_model.specs.Member.{◌∈◌}
@@ -170,6 +170,8 @@ module _ (f : View) (seat : ℕ) where
     closed_same a Idle did = absurd did
     closed_same a Active (u, passes, did) = at_seat seat u t did.given_up ∙ passes.given_up
     closed_same a Sealed did = decided_same a v t did
+    closed_same a Pending did = absurd did
+    closed_same a Safe did = absurd did
 
 pub line_given : (f : View) (l : ScriptLine) (a : Answer) (v t : View) → DidLineBeside f l a v t → LeavesGiven f l.session (Some l.command) a v t
 line_given f l a v t did = asked_given f l.session v t l.command a (refusal_of (phase_at v l.session) l.command) refl did.did

@@ -199,6 +199,7 @@ module _ (laws : HistoryLaws) (table : ℕ → ℕ) (f : View) (seat : ℕ) (ses
       by world.idle is = absurd is
       by (world.active w) is = omega (arith, ap (λ (y : Work). times_made y.made x) is)
       by (world.sealed w stamp) is = omega (arith, ap (λ (y : Work). times_made y.made x) is)
+      by (world.snapshot s) is = omega (arith, ap (λ (y : Work). times_made y.made x) is)
 
   pub ahead_of : (k : ℕ) (first w u : Work) → Has f seat u → Extends w u → KeepBelow table f w.begin → ((x : ℕ) → times_made first.made x < times_made w.made x → table x ≡ k)
       → Ahead table k first w

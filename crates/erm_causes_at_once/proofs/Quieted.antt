@@ -1,7 +1,7 @@
 -- Moves of a session that touch no object: a transaction begins, is sealed, or is over; or nothing happens.
 use Rattle.std.proofs.Common.{◌≡◌, ℕ, ◌+◌, [], ◌∷◌, ◌++◌, length, Option, Some, None, inl, inr, refl, sym, ap, ◌∙◌, subst, arith}
 use Rattle.erm_model.specs.declared.outcome.Phase.{Phase}
-use Rattle.erm_model.specs.declared.outcome.Phase.TheVariants.{Idle, Active, Sealed}
+use Rattle.erm_model.specs.declared.outcome.Phase.TheVariants.{Idle, Active, Sealed, Pending, Safe}
 use Rattle.erm_model.specs.Lawful.{times_made}
 use Rattle.erm_report.specs.declared.answer.Answer.{Answer}
 use Rattle.erm_report.specs.declared.answer.Answer.TheVariants as answer
@@ -152,6 +152,8 @@ module _ (f : View) (seat : ℕ) (v t : View) where
   closed_as answer.Aborted Active is closes (u, passes, did) = aborts_now None is u passes did.own
   closed_as a Active is closes did = absurd closes
   closed_as a Sealed is closes did = decided seat None a v t did
+  closed_as a Pending is closes did = absurd did
+  closed_as a Safe is closes did = absurd did
 
 pub lined : (f : View) (l : ScriptLine) (a : Answer) (v t : View) → DidLineBeside f l a v t → Lined f l.session (Some l.command) a v t
 lined f l a v t did = asked_line f l.session v t l.command a (refusal_of (phase_at v l.session) l.command) refl did.fits did.did

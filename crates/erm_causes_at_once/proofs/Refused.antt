@@ -173,6 +173,8 @@ now_told seat colour (Some t) (world.active u) w tells touched at =
     (t, refl, subst (λ (x : Work). TellsWork seat t x) at tells.0.work, subst (λ (x : Work). Touches colour t x) at touched)
 now_told seat colour (Some t) (world.sealed u stamp) w tells touched at =
     (t, refl, subst (λ (x : Work). TellsWork seat t x) at tells.0.work, subst (λ (x : Work). Touches colour t x) at touched)
+now_told seat colour None (world.snapshot s) w tells touched at = absurd tells
+now_told seat colour (Some t) (world.snapshot s) w tells touched at = absurd tells
 
 -- one of a session's own is one of all
 of_all : (lists : ℕ → List Transaction) (ns : List ℕ) (n : ℕ) (t : Transaction) (k : ℕ) → slice_get ns k ≡ Some n → t ∈ lists n → t ∈ flat_map lists ns

@@ -5,7 +5,7 @@ use Rattle.std.specs.Option.{option_map, option_to_list}
 use Rattle.std.proofs.lemmas.Bool.Decides.{nat_tests}
 use Rattle.std.proofs.lemmas.List.Sums.{sum_by-append, sum_by-cons}
 use Rattle.erm_model.specs.declared.outcome.Phase.{Phase}
-use Rattle.erm_model.specs.declared.outcome.Phase.TheVariants.{Active, Idle, Sealed}
+use Rattle.erm_model.specs.declared.outcome.Phase.TheVariants.{Active, Idle, Sealed, Pending, Safe}
 use Rattle.erm_model.specs.Member.{◌∈◌}
 use Rattle.erm_model.proofs.Members.{none_in_nil}
 use Rattle.erm_machine.proofs.Listed.{∈-cons}
@@ -115,6 +115,8 @@ settle_sealed : (phase : Phase) → refusal_of phase command.Settle ≡ None →
 settle_sealed Idle is = absurd (cc)
 settle_sealed Active is = absurd (cc)
 settle_sealed Sealed is = omega arith
+settle_sealed Pending is = absurd (cc)
+settle_sealed Safe is = absurd (cc)
 
 committed_drawn : (phase : Phase) (c : Command) (stamp succ pred : ℕ) → refusal_of phase c ≡ None → IsAnswerTo c (answer.Committed stamp succ pred) → 1 ≤ one_phase phase + draws_of c
 committed_drawn phase command.Settle stamp succ pred is fits = omega (arith, settle_sealed phase is)

@@ -147,6 +147,8 @@ module _ (tree : TreeLaws) (laws : HistoryLaws) (begun : (number begin : ℕ) �
   touches_now (Some t) world.idle now = absurd now
   touches_now (Some t) (world.active w) now = (now.0 (keep_all w.begin)).0
   touches_now (Some t) (world.sealed w stamp) now = (now (keep_all w.begin)).0
+  touches_now None (world.snapshot s) now = absurd now
+  touches_now (Some t) (world.snapshot s) now = absurd now
 
   pub told_there : (seat : ℕ) → IsSession f seat → Tells seat (progress_of seat said) (f.session seat)
   told_there seat session = tells begun stay v f whole script answers closed run seat (session_first seat session)

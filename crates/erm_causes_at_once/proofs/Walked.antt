@@ -140,6 +140,7 @@ told_work seat None stand t tells active is = cc
 told_work seat (Some u) world.idle t tells active is = absurd tells
 told_work seat (Some u) (world.active w) t tells active is = let same : u ≡ t = cc in subst (λ (x : Transaction). TellsWork seat x w) same tells.0.work
 told_work seat (Some u) (world.sealed w stamp) t tells active is = cc
+told_work seat (Some u) (world.snapshot s) t tells active is = absurd tells
 
 module _ (tree : TreeLaws) (laws : HistoryLaws) (begun : (number begin : ℕ) → IsRunOf (world.begun number begin) [])
     (stay : (w u : Work) (steps : List Step) → Extends w u → IsAnswered w steps → IsAnswered u steps) (table : ℕ → ℕ) (f : View) (seat : ℕ) (session : IsSession f seat)

@@ -6,7 +6,7 @@ use Rattle.erm_lines_at_once.specs.Answers.{DidAskedBeside, DidCommandBeside, Di
 use Rattle.erm_lines_at_once.specs.Operations.{DidOperationBeside, told_at_once}
 use Rattle.erm_model.specs.declared.operation.Reply.TheVariants as reply
 use Rattle.erm_model.specs.declared.outcome.Phase.{Phase}
-use Rattle.erm_model.specs.declared.outcome.Phase.TheVariants.{Active, Idle, Sealed}
+use Rattle.erm_model.specs.declared.outcome.Phase.TheVariants.{Active, Idle, Sealed, Pending, Safe}
 use Rattle.erm_model.specs.declared.row_stop.RowStop.{RowStop}
 use Rattle.erm_model.specs.declared.row_stop.RowStop.TheVariants as stop
 use Rattle.erm_report.specs.declared.answer.Answer.{Answer}
@@ -137,6 +137,24 @@ module _ (f : View) (seat : ℕ) (v t : View) where
   may_tell Idle command.Durable a of fits did = durable a fits did
   may_tell Active command.Durable a of fits did = durable a fits did
   may_tell Sealed command.Durable a of fits did = durable a fits did
+  may_tell Pending command.Begin a of fits did = busy a fits
+  may_tell Safe command.Begin a of fits did = busy a fits
+  may_tell Pending (command.Get table key) a of fits did = none TellsValue a refl fits
+  may_tell Safe (command.Get table key) a of fits did = none TellsValue a refl fits
+  may_tell Pending (command.Put table key value) a of fits did = none TellsDone a refl fits
+  may_tell Safe (command.Put table key value) a of fits did = none TellsDone a refl fits
+  may_tell Pending (command.Del table key) a of fits did = none TellsDone a refl fits
+  may_tell Safe (command.Del table key) a of fits did = none TellsDone a refl fits
+  may_tell Pending (command.Next table from) a of fits did = none TellsPair a refl fits
+  may_tell Safe (command.Next table from) a of fits did = none TellsPair a refl fits
+  may_tell Pending (command.Scan table low high) a of fits did = none TellsFound a refl fits
+  may_tell Safe (command.Scan table low high) a of fits did = none TellsFound a refl fits
+  may_tell Pending command.Commit a of fits did = none TellsCommit a refl fits
+  may_tell Safe command.Commit a of fits did = none TellsCommit a refl fits
+  may_tell Pending command.Abort a of fits did = none TellsAbort a refl fits
+  may_tell Safe command.Abort a of fits did = none TellsAbort a refl fits
+  may_tell Pending command.Durable a of fits did = durable a fits did
+  may_tell Safe command.Durable a of fits did = durable a fits did
   may_tell phase c a of fits did = absurd of
 
 pub line_tells : (f : View) (l : ScriptLine) (a : Answer) (v t : View) → IsOfClient l.command → DidLineBeside f l a v t → MayTell l.command a

@@ -50,7 +50,7 @@ pub struct Finished<S, T> {
     pub session: S,
     pub turns: T,
     pub transcript: Transcript,
-    /// The answer of its closing behind the last line. `None` where it was idle, or was left.
+    /// The answer of its closing behind the last line. `None` where it had no transaction, or was left.
     pub closed: Option<Answer>,
 }
 

@@ -58,8 +58,8 @@ pub fn run_next<S: SharedSession, T: Turns, R: Wait>(
     run_line(rt, alloc, session, shared, turns, line, receipt)
 }
 
-/// Closes a session behind its last line where it isn't idle: its transaction is aborted, or decided where it is sealed. `None` where it was idle, or
-/// the client was told to stop while it waited.
+/// Closes a session behind its last line where it has a transaction: it is aborted, or decided where it is sealed. `None` where it had none, or the
+/// client was told to stop while it waited.
 pub fn end<S: SharedSession, T: Turns, R: Wait>(
     rt: &R,
     session: &mut S,
@@ -73,8 +73,9 @@ pub fn end<S: SharedSession, T: Turns, R: Wait>(
     ensures rests { phase_at (S.own session.new) (S.seat session.old) ≡ Active → ⊥ }
     ensures waits { result ≡ None → phase_at (S.own session.new) (S.seat session.old) ≡ Sealed → T.told turns.new }
 {
-    if let Phase::Idle = session.phase(shared) {
-        return None;
+    match session.phase(shared) {
+        Phase::Active => close_session(rt, session, shared, turns),
+        Phase::Sealed => close_session(rt, session, shared, turns),
+        _ => None,
     }
-    close_session(rt, session, shared, turns)
 }

@@ -12,7 +12,7 @@ use Rattle.erm_good_report.specs.Phases.{Closes, phase_after}
 use Rattle.erm_good_report.specs.Transactions.{Said, said_of}
 use Rattle.erm_model.proofs.Members.{∈-behind}
 use Rattle.erm_model.specs.declared.outcome.Phase.{Phase}
-use Rattle.erm_model.specs.declared.outcome.Phase.TheVariants.{Active, Idle, Sealed}
+use Rattle.erm_model.specs.declared.outcome.Phase.TheVariants.{Active, Idle, Sealed, Pending, Safe}
 use Rattle.erm_model.specs.Member.{◌∈◌}
 use Rattle.erm_report.specs.declared.answer.Answer.{Answer}
 use Rattle.erm_report.specs.declared.answer.Answer.TheVariants as answer
@@ -105,3 +105,5 @@ pub closes_none : (p : Phase) (a : Answer) (stamp succ pred : ℕ) → (p ≡ Se
 closes_none Idle a stamp succ pred not closes is = subst (λ (x : Answer). Closes Idle x) is closes
 closes_none Active a stamp succ pred not closes is = subst (λ (x : Answer). Closes Active x) is closes
 closes_none Sealed a stamp succ pred not closes is = not refl
+closes_none Pending a stamp succ pred not closes is = subst (λ (x : Answer). Closes Pending x) is closes
+closes_none Safe a stamp succ pred not closes is = subst (λ (x : Answer). Closes Safe x) is closes

@@ -7,18 +7,20 @@ use Rattle.erm_core_turns.specs.Turns.{log_of, undecided_at}
 use Rattle.erm_core_turns.proofs.Undecided.{none_undecided, undecided_is}
 use Rattle.erm_core_view.specs.Views.{session_of, stand_of, view_of, work_of}
 use Rattle.erm_core_view.proofs.Lives.{one_attempt}
+use Rattle.erm_core_view.proofs.Snapshots.{never_sealed}
 use Rattle.erm_log_list.specs.LogOf.{IsDecidedUpTo}
 use Rattle.erm_log_list.proofs.Ranges.{attempt_of, range_stands, span_of, starts_from}
 use Rattle.erm_machine.specs.declared.attempt.Attempt.{Attempt}
 use Rattle.erm_machine.specs.declared.attempt.Decision.TheVariants.{Undecided}
 use Rattle.erm_machine.specs.declared.place.Place.{Place}
-use Rattle.erm_machine.specs.declared.place.Place.TheVariants.{Sealed}
+use Rattle.erm_machine.specs.declared.place.Place.TheVariants.{Active, Sealed}
 use Rattle.erm_machine.specs.declared.version.Span.{Span}
 use Rattle.erm_machine.specs.Core.{Core}
 use Rattle.erm_machine.specs.Facts.{IsCurrent, all_of}
 use Rattle.erm_machine.specs.Log.{IsEnd}
 use Rattle.erm_machine.specs.Ranges.{EndToEnd}
 use Rattle.erm_machine.specs.Sound.{Sound}
+use Rattle.erm_machine.specs.declared.task.Task.{Task}
 use Rattle.erm_machine.proofs.Listed.{∈-cons, ∈-head, ∈-second}
 use Rattle.erm_model.specs.Member.{◌∈◌}
 use Rattle.erm_model.proofs.Members.{none_in_nil, ∈-behind}
@@ -30,10 +32,11 @@ use Rattle.erm_world.specs.World as world
 same_stamp : (w u : Work) (m n : ℕ) → world.sealed w m ≡ world.sealed u n → m ≡ n
 same_stamp w u m n e = cc
 
-sealed_stamp : (pl : Place) (t : Attempt) (w : Work) (place : ℕ) → IsCurrent pl t → stand_of pl t ≡ world.sealed w place → (t.stamp ≡ place) × (0 < t.stamp) × (t.decision ≡ Undecided)
-sealed_stamp (Sealed tail stamp) t w place cur e =
+sealed_stamp : (pl : Place) (u : Task) (t : Attempt) (w : Work) (place : ℕ) → IsCurrent pl t → stand_of pl u t ≡ world.sealed w place → (t.stamp ≡ place) × (0 < t.stamp) × (t.decision ≡ Undecided)
+sealed_stamp (Active tail) u t w place cur e = absurd (never_sealed u t w place e)
+sealed_stamp (Sealed tail stamp) u t w place cur e =
     let same = same_stamp (work_of t) w stamp place e in let is = cur.stamp_is in let some = cur.positive in (omega (arith, is, same), omega (arith, is, some), cur.decision)
-sealed_stamp _ t w place cur e = absurd (cc)
+sealed_stamp _ u t w place cur e = absurd (cc)
 
 only_none : (o : Option log.Undecided) → ((u : log.Undecided) → o ≡ Some u → ⊥) → o ≡ None
 only_none (Some u) none = absurd (none u refl)
@@ -146,7 +149,7 @@ module _ (c : Core) (sound : Sound c) where
       only_none (undecided_at place q (session_of (c.seats q)).stand)
       (λ u sealed.
       let so = undecided_is place q (session_of (c.seats q)).stand u sealed in
-      let is = sealed_stamp (c.seats q).place (c.seats q).current so.work place (sound.own q).ranges.current so.stand in
+      let is = sealed_stamp (c.seats q).place (c.seats q).task (c.seats q).current so.work place (sound.own q).ranges.current so.stand in
       let stamp = is.0 in
       let decided = (upto.decided q (c.seats q).current (∈-second (c.seats q).over ((c.seats q).current ∷ []) (c.seats q).current (∈-head (c.seats q).current [])) is.1 (omega (arith, stamp, low))).0 in
       decided is.2)

@@ -60,7 +60,7 @@ over_counts bound seat (t ∷ ts) decided kept =
     omega (arith, first, rest, both, all)
 
 -- the current transaction of a session between two calls
-now_counts : (bound seat : ℕ) (pl : Place) (u : Task) (t : Attempt) → IsBetween pl u → IsCurrent pl t → starts bound (range_at seat t.stamp t.size) ≤ one_below bound (stamp_now (stand_of pl t))
+now_counts : (bound seat : ℕ) (pl : Place) (u : Task) (t : Attempt) → IsBetween pl u → IsCurrent pl t → starts bound (range_at seat t.stamp t.size) ≤ one_below bound (stamp_now (stand_of pl u t))
 now_counts bound seat Idle u t between cur = omega (arith, ap (λ (a : Attempt). starts bound (range_at seat a.stamp a.size)) cur)
 now_counts bound seat (Active tail) u t between cur = omega (arith, ap (λ (rs : List Span). starts bound rs) (no_range bound seat t.stamp t.size cur.stamp))
 now_counts bound seat (Sealed tail stamp) u t between cur = omega (arith, range_starts bound seat t.stamp t.size, ap (λ (n : ℕ). one_below bound (Some n)) cur.stamp_is)

@@ -19,7 +19,7 @@ use Rattle.erm_machine.proofs.Histories.{history_has}
 use Rattle.erm_core_si.proofs.SnapshotSafe.{nobody_holds, none_holds}
 use Rattle.erm_core_si.proofs.SnapshotSteps.{current_stands}
 use Rattle.erm_core_ssn.proofs.RowsHistory.{newest_below}
-use Rattle.erm_safe_laws.specs.Safe.{IsSafeAt}
+use Rattle.erm_model.specs.Safe.{IsSafeAt}
 use Rattle.erm_core_safe.specs.Passed.{ArePassed}
 use Rattle.erm_core_safe.proofs.Sessions.{commit_there, commits_session, open_there}
 

@@ -24,7 +24,8 @@ ghost use Rattle.erm_machine.specs.Step.{after_event};
 ghost use Rattle.erm_machine.specs.Words.{begin_of, is_session};
 ghost use Rattle.erm_core_met.specs.Met.{IsBegunFrom};
 ghost use Rattle.erm_core_stays.specs.Runs.{Runs};
-ghost use Rattle.erm_safe_laws.specs.Safe.{IsSafeAt, StandsBetween};
+ghost use Rattle.erm_model.specs.Safe.{IsSafeAt};
+ghost use Rattle.erm_safe_laws.specs.Safe.{StandsBetween};
 ghost use Rattle.erm_core_safe.specs.Passed.{ArePassed};
 
 /// Once a snapshot is safe all sessions are passed at its begin stamp, its own one too.

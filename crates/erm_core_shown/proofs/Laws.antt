@@ -32,6 +32,7 @@ use Rattle.erm_world.specs.World as world
 use Rattle.erm_core_view.specs.Views.{fate_of, finished_of, work_of}
 use Rattle.erm_core_view.proofs.Lives.{lawful_work, one_attempt}
 use Rattle.erm_core_view.proofs.Serial.{SawSnapshots}
+use Rattle.erm_core_view.proofs.Snapshots.{snapshots_new}
 use Rattle.erm_core_shown.specs.Shown.{HasOnly, ended_as, over_now, shown_of, shown_session}
 use Rattle.erm_core_shown.proofs.Made.{shown_new, shown_once}
 use Rattle.erm_core_shown.proofs.Parts.{claim_of, current_shown, has_shown, has_stamp, none_over}
@@ -58,7 +59,7 @@ module _ (sessions : ℕ) (c : Core) (sound : Sound c) (only : HasOnly sessions 
   -- WHERE a transaction begins, and its stamp
   begins_shown : (seat : ℕ) (w : Work) → Has (shown_of sessions c) seat w → (c.shared.opening ≤ w.begin) × (w.begin ≤ c.shared.tail)
   begins_shown seat w has =
-      let at = has_shown sessions c seat w has in
+      let at = has_shown sessions c seat w sound has in
       let begin : at.attempt.begin ≡ w.begin = ap (λ (v : Work). v.begin) at.is in
       let past = ((sound.own seat).snapshot.past at.attempt at.stands).past in
       let opened : c.shared.opening ≤ at.attempt.begin =
@@ -133,7 +134,7 @@ module _ (sessions : ℕ) (c : Core) (sound : Sound c) (only : HasOnly sessions 
       record {
         over = λ k f e. over_number seat plain k f e;
         now = λ w current.
-            let at = current_shown x w current in
+            let at = current_shown x w (snapshots_new c seat sound) current in
             let number : x.current.number ≡ w.number = ap (λ (v : Work). v.number) at.1 in
             let progress = at.0 in
             let last = lives.current at.0 in
@@ -146,7 +147,7 @@ module _ (sessions : ℕ) (c : Core) (sound : Sound c) (only : HasOnly sessions 
   claims_shown : (p : ℕ) (d : VersionWritten) → d ∈ (work_at (shown_of sessions c) p).claims → Holds (c.seats p) d.oid
   claims_shown p d m =
       let x = c.seats p in
-      let claim = claim_of x.place x.task x.current d (sound.own p).task.fits m in
+      let claim = claim_of x.place x.task x.current d (snapshots_new c p sound) (sound.own p).task.fits m in
       let none = claim.0 in
       let at = stands_at x.current claim.1.0 claim.1.1 in
       let oid : claim.1.0.version.oid ≡ d.oid = ap (λ (v : VersionWritten). v.oid) claim.1.2 in
@@ -182,7 +183,7 @@ module _ (sessions : ℕ) (c : Core) (sound : Sound c) (only : HasOnly sessions 
     }
 
     work_saw : (seat : ℕ) (w : Work) → Has (shown_of sessions c) seat w → SeesSnapshot (shown_of sessions c) w
-    work_saw seat w has = let at = has_shown sessions c seat w has in subst (SeesSnapshot (shown_of sessions c)) at.is (attempt_saw seat at.attempt at.stands)
+    work_saw seat w has = let at = has_shown sessions c seat w sound has in subst (SeesSnapshot (shown_of sessions c)) at.is (attempt_saw seat at.attempt at.stands)
 
 -- a seat of a session is not the flusher's
 plain_seat : (sessions : ℕ) (c : Core) (seat : ℕ) → HasOnly sessions c → IsSession (shown_of sessions c) seat → is_flusher seat ≡ false

@@ -20,10 +20,11 @@ use Rattle.erm_machine.specs.Numbers.{made_of}
 use Rattle.erm_machine.specs.Sound.{Sound}
 use Rattle.erm_machine.specs.Words.{is_flusher, is_session}
 use Rattle.erm_machine.proofs.Listed.{∈-cons}
-use Rattle.erm_world.specs.World.{Finished, Session, made_by_all, made_in, made_upto}
+use Rattle.erm_world.specs.World.{Finished, Session, made_by_all, made_in, made_upto, Work}
 use Rattle.erm_world.specs.World as world
 use Rattle.erm_core_view.specs.Views.{finished_of, fate_of, work_of}
 use Rattle.erm_core_view.proofs.Made.{at_most_once, made_at, none_made, none_or_some, times_both, vacant_made}
+use Rattle.erm_core_view.proofs.Snapshots.{IsNewSnapshot, shown_work, snapshots_new}
 use Rattle.erm_core_shown.specs.Shown.{HasOnly, ended_as, over_now, shown_of, shown_session, shown_stand}
 
 abbrev made_by : ℕ → Finished → ℕ
@@ -45,25 +46,25 @@ blank_made t x none = sym (ap (λ (a : Attempt). times_made a.made x) none)
 over_made : (t : Attempt) (d : Decision) (x : ℕ) → sum_by (made_by x) (record { work = work_of t; fate = fate_of d t } ∷ []) ≡ times_made t.made x
 over_made t d x = let one = sum_by-cons (made_by x) (record { work = work_of t; fate = fate_of d t }) [] in omega (arith, one)
 
-now_made : (pl : Place) (u : Task) (t : Attempt) (x : ℕ) → IsCurrent pl t
+now_made : (pl : Place) (u : Task) (t : Attempt) (x : ℕ) → IsNewSnapshot u t → IsCurrent pl t
     → sum_by (made_by x) (over_now (ended_as pl u t) t) + times_made (world.work_of (shown_stand pl u t)).made x ≡ times_made t.made x
-now_made Vacant u t x current = let none = blank_made t x current in omega (arith, none)
-now_made Idle u t x current = let none = blank_made t x current in omega (arith, none)
-now_made (Begun tail) u t x current = let none = blank_made t x current in omega (arith, none)
-now_made (Announced tail) u t x current = let none = blank_made t x current in omega (arith, none)
-now_made (Active tail) (task.Ends raised ended step cleared) t x current =
+now_made Vacant u t x new current = let none = blank_made t x current in omega (arith, none)
+now_made Idle u t x new current = let none = blank_made t x current in omega (arith, none)
+now_made (Begun tail) u t x new current = let none = blank_made t x current in omega (arith, none)
+now_made (Announced tail) u t x new current = let none = blank_made t x current in omega (arith, none)
+now_made (Active tail) (task.Ends raised ended step cleared) t x new current =
     let one = sum_by-cons (made_by x) (record { work = work_of t; fate = world.aborts }) [] in omega (arith, one)
-now_made (Active tail) u t x current = omega arith
-now_made (Sealing tail) u t x current = omega arith
-now_made (Drawn tail stamp) u t x current = omega arith
-now_made (Sealed tail stamp) u t x current = omega arith
-now_made (Decided tail stamp) u t x current = let one = over_made t t.decision x in omega (arith, one)
-now_made (Leaving stamp) u t x current = let one = over_made t t.decision x in omega (arith, one)
+now_made (Active tail) u t x new current = omega (arith, ap (λ (w : Work). times_made w.made x) (shown_work u t new))
+now_made (Sealing tail) u t x new current = omega arith
+now_made (Drawn tail stamp) u t x new current = omega arith
+now_made (Sealed tail stamp) u t x new current = omega arith
+now_made (Decided tail stamp) u t x new current = let one = over_made t t.decision x in omega (arith, one)
+now_made (Leaving stamp) u t x new current = let one = over_made t t.decision x in omega (arith, one)
 
-pub shown_made : (p : Part) (x : ℕ) → IsCurrent p.place p.current → made_in (shown_session p) x ≡ times_made (made_of p) x
-shown_made p x current =
+pub shown_made : (p : Part) (x : ℕ) → IsNewSnapshot p.task p.current → IsCurrent p.place p.current → made_in (shown_session p) x ≡ times_made (made_of p) x
+shown_made p x new current =
     let past = past_made p.over x in
-    let now = now_made p.place p.task p.current x current in
+    let now = now_made p.place p.task p.current x new current in
     let split = sum_by-append (made_by x) (map finished_of p.over) (over_now (ended_as p.place p.task p.current) p.current) in
     let both = times_both (flat_map (λ (t : Attempt). t.made) p.over) p.current.made x in
     omega (arith, past, now, split, both)
@@ -90,7 +91,7 @@ module _ (c : Core) (sound : Sound c) where
   unfolding made_upto
   maker zero x some = absurd (omega (arith, some))
   maker (suc n) x some =
-      let last = shown_made (c.seats (suc n)) x (sound.own (suc n)).ranges.current in
+      let last = shown_made (c.seats (suc n)) x (snapshots_new c (suc n) sound) (sound.own (suc n)).ranges.current in
       ⊎_elim
       (λ (none : made_upto n Sessions x ≡ 0). record { seat = suc n; within = omega arith; made = omega (arith, some, none, last) })
       (λ (before : 0 < made_upto n Sessions x).
@@ -110,7 +111,7 @@ module _ (c : Core) (sound : Sound c) where
   unfolding made_upto
   shown_once zero x = omega arith
   shown_once (suc n) x =
-      let last = shown_made (c.seats (suc n)) x (sound.own (suc n)).ranges.current in
+      let last = shown_made (c.seats (suc n)) x (snapshots_new c (suc n) sound) (sound.own (suc n)).ranges.current in
       let own = at_most_once (made_of (c.seats (suc n))) x (sound.own (suc n)).made.once in
       let rest = shown_once n x in
       ⊎_elim
@@ -150,7 +151,7 @@ module _ (sessions : ℕ) (c : Core) (sound : Sound c) (only : HasOnly sessions 
 
   by_session : (seat x : ℕ) → x ∈ made_of (c.seats seat) → 0 < seat → seat ≤ sessions → 0 < made_by_all (shown_of sessions c) x
   by_session seat x m above within =
-      let shown = shown_made (c.seats seat) x (sound.own seat).ranges.current in
+      let shown = shown_made (c.seats seat) x (snapshots_new c seat sound) (sound.own seat).ranges.current in
       let among = upto_more c sound sessions seat x above within in
       omega (arith, shown, among, stands_made (made_of (c.seats seat)) x m)
 

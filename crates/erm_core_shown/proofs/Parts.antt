@@ -23,6 +23,7 @@ use Rattle.erm_world.specs.World.{Finished, Has, HasStamp, Stand, Work, stamp_of
 use Rattle.erm_world.specs.World as world
 use Rattle.erm_core_view.specs.Views.{IsBetween, fate_of, finished_of, session_of, stand_of, work_of}
 use Rattle.erm_core_view.proofs.Parts.{IsOf, IsStamped, current_stands, fate_stamp, over_stands}
+use Rattle.erm_core_view.proofs.Snapshots.{IsNewSnapshot, current_by, never_sealed, shown_work, snapshots_new}
 use Rattle.erm_core_shown.specs.Shown.{ended_as, over_now, shown_of, shown_session, shown_stand}
 
 -- BETWEEN TWO CALLS the session shows what it does in the view
@@ -33,7 +34,7 @@ over_between (Active tail) u t between = refl
 over_between (Sealed tail stamp) u t between = refl
 over_between _ u t between = absurd between
 
-stand_between : (pl : Place) (u : Task) (t : Attempt) → IsBetween pl u → shown_stand pl u t ≡ stand_of pl t
+stand_between : (pl : Place) (u : Task) (t : Attempt) → IsBetween pl u → shown_stand pl u t ≡ stand_of pl u t
 stand_between Idle u t between = refl
 stand_between (Active tail) (task.Ends raised ended step cleared) t between = absurd (cc)
 stand_between (Active tail) u t between = refl
@@ -43,7 +44,7 @@ stand_between _ u t between = absurd between
 pub shown_between : (x : Part) → IsBetween x.place x.task → shown_session x ≡ session_of x
 shown_between x between =
     let over : over_now (ended_as x.place x.task x.current) x.current ≡ [] = over_between x.place x.task x.current between in
-    let stand : shown_stand x.place x.task x.current ≡ stand_of x.place x.current = stand_between x.place x.task x.current between in
+    let stand : shown_stand x.place x.task x.current ≡ stand_of x.place x.task x.current = stand_between x.place x.task x.current between in
     ap (λ (more : List Finished). record { over = map finished_of x.over ++ more; stand = shown_stand x.place x.task x.current }) over
     ∙ ap (λ (fs : List Finished). record { over = fs; stand = shown_stand x.place x.task x.current }) (append-nil (map finished_of x.over))
     ∙ ap (λ (at : Stand). record { over = map finished_of x.over; stand = at }) stand
@@ -60,13 +61,13 @@ over_work (Leaving stamp) u t f m = (refl, sym (ap (λ (g : Finished). g.work) (
 over_work _ u t f m = absurd (none_in_nil f m)
 
 -- or in progress
-stand_work : (pl : Place) (u : Task) (t : Attempt) (w : Work) → world.IsCurrent (shown_stand pl u t) w → (in_progress pl ≡ 1) × (work_of t ≡ w)
-stand_work (Active tail) (task.Ends raised ended step cleared) t w now = absurd now
-stand_work (Active tail) u t w now = (refl, now)
-stand_work (Sealing tail) u t w now = (refl, now)
-stand_work (Drawn tail stamp) u t w now = (refl, now)
-stand_work (Sealed tail stamp) u t w now = (refl, now)
-stand_work _ u t w now = absurd now
+stand_work : (pl : Place) (u : Task) (t : Attempt) (w : Work) → IsNewSnapshot u t → world.IsCurrent (shown_stand pl u t) w → (in_progress pl ≡ 1) × (work_of t ≡ w)
+stand_work (Active tail) (task.Ends raised ended step cleared) t w new now = absurd now
+stand_work (Active tail) u t w new now = (refl, current_by u t w new now)
+stand_work (Sealing tail) u t w new now = (refl, now)
+stand_work (Drawn tail stamp) u t w new now = (refl, now)
+stand_work (Sealed tail stamp) u t w new now = (refl, now)
+stand_work _ u t w new now = absurd now
 
 -- none that is over then
 over_none : (pl : Place) (u : Task) (t : Attempt) (w : Work) → world.IsCurrent (shown_stand pl u t) w → over_now (ended_as pl u t) t ≡ []
@@ -80,12 +81,12 @@ over_none _ u t w now = absurd now
 pub none_over : (x : Part) (w : Work) → world.IsCurrent (shown_session x).stand w → (shown_session x).over ≡ map finished_of x.over
 none_over x w now = ap (λ (more : List Finished). map finished_of x.over ++ more) (over_none x.place x.task x.current w now) ∙ append-nil (map finished_of x.over)
 
-pub current_shown : (x : Part) (w : Work) → world.IsCurrent (shown_session x).stand w → (in_progress x.place ≡ 1) × (work_of x.current ≡ w)
-current_shown x w now = stand_work x.place x.task x.current w now
+pub current_shown : (x : Part) (w : Work) → IsNewSnapshot x.task x.current → world.IsCurrent (shown_session x).stand w → (in_progress x.place ≡ 1) × (work_of x.current ≡ w)
+current_shown x w new now = stand_work x.place x.task x.current w new now
 
 -- each transaction that shows is one of the seat
-pub has_shown : (sessions : ℕ) (c : Core) (seat : ℕ) (w : Work) → Has (shown_of sessions c) seat w → IsOf (c.seats seat) w
-has_shown sessions c seat w has =
+pub has_shown : (sessions : ℕ) (c : Core) (seat : ℕ) (w : Work) → Sound c → Has (shown_of sessions c) seat w → IsOf (c.seats seat) w
+has_shown sessions c seat w sound has =
     let x = c.seats seat in
     ⊎_elim
     (λ (over : world.IsOver (shown_session x).over w).
@@ -99,7 +100,7 @@ has_shown sessions c seat w has =
     record { attempt = x.current; is = sym both.1 ∙ over.2; stands = current_stands x; either = inr (both.0, refl) })
     (∈-either (map finished_of x.over) (over_now (ended_as x.place x.task x.current) x.current) over.0 over.1))
     (λ (now : world.IsCurrent (shown_session x).stand w).
-    let both = current_shown x w now in
+    let both = current_shown x w (snapshots_new c seat sound) now in
     record { attempt = x.current; is = both.1; stands = current_stands x; either = inr (both.0, refl) })
     has
 
@@ -126,7 +127,7 @@ over_stamp _ u t f stamp current m has = absurd (none_in_nil f m)
 stand_stamp : (pl : Place) (u : Task) (t : Attempt) (w : Work) (stamp : ℕ) → shown_stand pl u t ≡ world.sealed w stamp → IsCurrent pl t
     → (work_of t ≡ w) × (t.stamp ≡ stamp) × (0 < t.stamp)
 stand_stamp (Active tail) (task.Ends raised ended step cleared) t w stamp e current = absurd (cc)
-stand_stamp (Active tail) u t w stamp e current = absurd (cc)
+stand_stamp (Active tail) u t w stamp e current = absurd (never_sealed u t w stamp e)
 stand_stamp (Drawn tail drawn) u t w stamp e current =
     let work : work_of t ≡ w = cc in
     let same : drawn ≡ stamp = cc in
@@ -174,11 +175,11 @@ settling_with_all : (tail stamp : ℕ) (u : Task) (t : Attempt) (writes : ℕ) �
 settling_with_all tail stamp (task.Ends raised ended step cleared) t writes fits = absurd fits
 settling_with_all tail stamp u t writes fits = refl
 
-pub claim_of : (pl : Place) (u : Task) (t : Attempt) (d : VersionWritten) → TaskFits pl t u → d ∈ (world.work_of (shown_stand pl u t)).claims
+pub claim_of : (pl : Place) (u : Task) (t : Attempt) (d : VersionWritten) → IsNewSnapshot u t → TaskFits pl t u → d ∈ (world.work_of (shown_stand pl u t)).claims
     → (over_of pl u (length t.writes) ≡ 0) × ((w : Claim) × (w ∈ t.writes) × (written_of w ≡ d))
-claim_of (Active tail) (task.Ends raised ended step cleared) t d fits m = absurd (none_in_nil d m)
-claim_of (Active tail) u t d fits m = (refl, ∈-map written_of t.writes d m)
-claim_of (Sealing tail) u t d fits m = (rests_with_all (Sealing tail) u (length t.writes) refl fits, ∈-map written_of t.writes d m)
-claim_of (Drawn tail stamp) u t d fits m = (rests_with_all (Drawn tail stamp) u (length t.writes) refl fits, ∈-map written_of t.writes d m)
-claim_of (Sealed tail stamp) u t d fits m = (settling_with_all tail stamp u t (length t.writes) fits, ∈-map written_of t.writes d m)
-claim_of _ u t d fits m = absurd (none_in_nil d m)
+claim_of (Active tail) (task.Ends raised ended step cleared) t d new fits m = absurd (none_in_nil d m)
+claim_of (Active tail) u t d new fits m = (refl, ∈-map written_of t.writes d (subst (λ (w : Work). d ∈ w.claims) (shown_work u t new) m))
+claim_of (Sealing tail) u t d new fits m = (rests_with_all (Sealing tail) u (length t.writes) refl fits, ∈-map written_of t.writes d m)
+claim_of (Drawn tail stamp) u t d new fits m = (rests_with_all (Drawn tail stamp) u (length t.writes) refl fits, ∈-map written_of t.writes d m)
+claim_of (Sealed tail stamp) u t d new fits m = (settling_with_all tail stamp u t (length t.writes) fits, ∈-map written_of t.writes d m)
+claim_of _ u t d new fits m = absurd (none_in_nil d m)

@@ -13,7 +13,7 @@ use Rattle.erm_machine.specs.declared.task.Task.TheVariants as task
 use Rattle.erm_machine.specs.Core.{Core}
 use Rattle.erm_machine.specs.Facts.{all_of}
 use Rattle.erm_machine.specs.Words.{is_flusher, is_seat}
-use Rattle.erm_core_view.specs.Views.{fate_of, finished_of, view_of, work_of}
+use Rattle.erm_core_view.specs.Views.{fate_of, finished_of, shown_by, view_of, work_of}
 use Rattle.erm_world.specs.World.{Finished, GivenUp, Session, Stand, View}
 use Rattle.erm_world.specs.World as world
 
@@ -33,7 +33,7 @@ over_now (Some d) t = record { work = work_of t; fate = fate_of d t } ∷ []
 -- or it is in progress: from the draw of its range on it is sealed
 abbrev pub shown_stand : Place → Task → Attempt → Stand
 shown_stand (Active tail) (task.Ends raised ended step cleared) t = world.idle
-shown_stand (Active tail) u t = world.active (work_of t)
+shown_stand (Active tail) u t = shown_by u t
 shown_stand (Sealing tail) u t = world.active (work_of t)
 shown_stand (Drawn tail stamp) u t = world.sealed (work_of t) stamp
 shown_stand (Sealed tail stamp) u t = world.sealed (work_of t) stamp

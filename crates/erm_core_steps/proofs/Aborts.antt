@@ -1,7 +1,7 @@
 -- The end of a transaction that aborts: its claims are released, its reader bits cleared, and then it is over.
-use Rattle.std.proofs.Common.{◌≡◌, ◌≢◌, ℕ, ◌+◌, ◌<◌, Bool, true, false, ◌||◌, not, eqb, leb, ltb, [], ◌∷◌, ◌++◌, length, List, map, Some, refl, sym, ap, ◌∙◌, subst, arith, length-set}
+use Rattle.std.proofs.Common.{◌≡◌, ◌≢◌, ℕ, ◌+◌, ◌<◌, Bool, true, false, ◌||◌, not, eqb, leb, ltb, [], ◌∷◌, ◌++◌, length, List, map, Some, refl, sym, ap, ◌∙◌, subst, arith, length-set, Option, None}
 use Rattle.std.specs.Prelude.{if◌then◌else◌}
-use Rattle.std.proofs.lemmas.Bool.{and_from, and_parts, and_left, eq-eqb, eqb-false, leb-true, lt-ltb, ne_eqb, or_left, or_right}
+use Rattle.std.proofs.lemmas.Bool.{and_from, and_parts, and_left, eq-eqb, eqb-false, leb-true, lt-ltb, ne_eqb, or_left, or_right, ltb-true}
 use Rattle.std.proofs.lemmas.List.{map-append}
 use Rattle.erm_model.specs.declared.outcome.Phase.TheVariants as phase
 use Rattle.erm_machine.specs.declared.attempt.Attempt.{Attempt}
@@ -17,11 +17,13 @@ use Rattle.erm_machine.specs.declared.version.VersionAt.{VersionAt}
 use Rattle.erm_machine.specs.Core.{Core, blank, claim_at}
 use Rattle.erm_machine.specs.Facts.{IsCurrent, IsUnsealed}
 use Rattle.erm_machine.specs.Life.{aborted, has_ended, store_begin}
-use Rattle.erm_machine.specs.Seat.{end_of, is_active, is_commit, is_decided, over, read_at, when, with_task}
-use Rattle.erm_machine.specs.Settling.{adds_version, clear_reader, given_back, install_new, release_old}
+use Rattle.erm_machine.specs.Seat.{end_of, is_active, is_commit, is_decided, over, read_at, when, with_task, is_snapshot}
+use Rattle.erm_machine.specs.Settling.{adds_version, clear_reader, given_back, install_new, release_old, install_claim}
 use Rattle.erm_machine.specs.Sound.{Sound}
 use Rattle.erm_machine.specs.Step.{after_event}
 use Rattle.erm_machine.specs.Words.{is_flusher, is_session}
+use Rattle.erm_machine.proofs.Guards.{if_then, when_then}
+use Rattle.erm_machine.proofs.QuietKinds.{moves}
 use Rattle.erm_world.specs.Calls.{DidAbort}
 use Rattle.erm_world.specs.World.{Finished, IsSession, Opening, Session, View, Work, phase_at}
 use Rattle.erm_world.specs.World as world
@@ -35,6 +37,7 @@ use Rattle.erm_core_steps.specs.Steps.{HasCleared, HasReleased, IsEnding, IsTake
 use Rattle.erm_core_steps.proofs.Unseen.{others_stay, unseen_both, unseen_step}
 use Rattle.erm_core_steps.proofs.Quiet.{active_seat, quiet_after}
 use Rattle.erm_core_view.proofs.Ends.{installs_by, not_decided}
+use Rattle.erm_core_view.proofs.Snapshots.{IsNewSnapshot, reads_plain, snapshots_new, writes_plain}
 use Rattle.erm_core_turns.proofs.Turns.{part_stepped}
 use Rattle.erm_core_turns.proofs.Pins.{end_starts}
 
@@ -56,9 +59,24 @@ no_flusher seat e = eqb-false seat FLUSH_SEAT (session_plain seat e)
 abbrev pub aborted_part : Part → Part
 aborted_part x = over Abort (record x { place = Idle; task = task.Rest })
 
-ends_well : (t : Task) (e : ℕ × ℕ × ℕ × ℕ) → end_of t ≡ Some e → IsEndingTask t
-ends_well task.Refused e at = absurd (cc)
-ends_well _ e at = tt
+ends_well : (t : Task) (e : ℕ × ℕ × ℕ × ℕ) → end_of t ≡ Some e → is_snapshot t ≡ false → IsEndingTask t
+ends_well task.Refused e at plain = absurd (cc)
+ends_well _ e at plain = plain
+
+-- what is released is a claim, and what is cleared the bit of a version read
+some_claim : (oid head : ℕ) (x : Part) (e : ℕ × ℕ × ℕ × ℕ) (y : Part) → install_claim oid head x (Some e) ≡ Some y → 0 < length x.current.writes
+some_claim oid head x e y is =
+    if_then (λ _. 0 < length x.current.writes) (adds_version x) (install_new oid head x e) (release_old oid head x e) y is
+    (λ _ h. when_then (λ _. 0 < length x.current.writes) _ _ y h (λ g.
+    let all = and_parts _ _ (and_parts _ _ (and_parts _ _ g).0).0 in let low = ltb-true e.1 (length x.current.writes) (and_parts _ _ all.0).1 in omega (arith, low)))
+    (λ _ h. when_then (λ _. 0 < length x.current.writes) _ _ y h (λ g.
+    let low = ltb-true e.1 (length x.current.writes) (and_parts _ _ (and_parts _ _ (and_parts _ _ g).0).0).1 in omega (arith, low)))
+
+some_read : (v : VersionAt) (x : Part) (o : Option (ℕ × ℕ × ℕ × ℕ)) (y : Part) → clear_reader v x o ≡ Some y → 0 < length x.current.reads
+some_read v x None y is = absurd (cc)
+some_read v x (Some e) y is =
+    when_then (λ _. 0 < length x.current.reads) _ _ y is (λ g.
+    let low = ltb-true e.3 (length x.current.reads) (and_parts _ _ (and_parts _ _ (and_parts _ _ g).0).0).1 in omega (arith, low))
 
 begin_stored : (seat : ℕ) (x : Part) (pl : Place) → is_active pl ≡ true
     → store_begin seat 0 x pl ≡ when (has_ended x.current (end_of x.task)) (aborted seat (record x { place = Idle; task = task.Rest }))
@@ -157,22 +175,29 @@ module _ (seat claims reads ended cleared : ℕ) (c : Core) (sound : Sound c) (a
 -- a release and a cleared bit don't show
 pub release_unseen : (sessions seat oid head : ℕ) (c d : Core) (e : ℕ × ℕ × ℕ × ℕ) → Sound c → end_of (c.seats seat).task ≡ Some e → after_event c seat (kind.Install oid head) ≡ Some d → IsUnseen sessions seat c d
 release_unseen sessions seat oid head c d e sound come after =
-    unseen_step sessions seat c d (kind.Install oid head) sound tt refl refl after (end_shows seat oid head c d (ends_well (c.seats seat).task e come) after)
+    let x = c.seats seat in
+    let m = moves c seat (kind.Install oid head) d tt after in
+    let is : install_claim oid head x (Some e) ≡ Some m.part = sym (installs_by oid head x x.task e come) ∙ m.after in
+    let plain = writes_plain x.task x.current (snapshots_new c seat sound) (some_claim oid head x e m.part is) in
+    unseen_step sessions seat c d (kind.Install oid head) sound tt refl refl after (end_shows seat oid head c d (ends_well x.task e come plain) after)
 
 pub clear_unseen : (sessions seat : ℕ) (v : VersionAt) (c d : Core) → Sound c → after_event c seat (kind.ClearReader v) ≡ Some d → IsUnseen sessions seat c d
 clear_unseen sessions seat v c d sound after =
-    unseen_step sessions seat c d (kind.ClearReader v) sound tt refl refl after (calm_shows seat c d (kind.ClearReader v) tt after)
+    let x = c.seats seat in
+    let m = moves c seat (kind.ClearReader v) d tt after in
+    let plain = reads_plain x.task x.current (snapshots_new c seat sound) (some_read v x (end_of x.task) m.part m.after) in
+    unseen_step sessions seat c d (kind.ClearReader v) sound tt refl refl after (calm_shows seat c d (kind.ClearReader v) plain after)
 
 -- the transaction is over then
-over_shows : (x : Part) → is_active x.place ≡ true → session_of (aborted_part x) ≡ record {
+over_shows : (x : Part) → is_active x.place ≡ true → IsNewSnapshot x.task x.current → session_of (aborted_part x) ≡ record {
   over = (session_of x).over ++ record { work = world.work_of (session_of x).stand; fate = world.aborts } ∷ [];
   stand = world.idle;
 }
-over_shows x active =
-    let work : world.work_of (stand_of x.place x.current) ≡ work_of x.current = work_active x.place x.current active in
+over_shows x active new =
+    let work : world.work_of (stand_of x.place x.task x.current) ≡ work_of x.current = work_active x.place x.task x.current active new in
     let t : Attempt = record x.current { decision = Abort } in
     let all : map finished_of (x.over ++ t ∷ []) ≡ map finished_of x.over ++ finished_of t ∷ [] = map-append finished_of x.over (t ∷ []) in
-    let last : finished_of t ≡ record { work = world.work_of (stand_of x.place x.current); fate = world.aborts } =
+    let last : finished_of t ≡ record { work = world.work_of (stand_of x.place x.task x.current); fate = world.aborts } =
     ap (λ (w : Work). let f : Finished = record { work = w; fate = world.aborts } in f) (sym work) in
     ap (λ (fs : List Finished). let s : Session = record { over = fs; stand = world.idle } in s)
     (all ∙ ap (λ (f : Finished). map finished_of x.over ++ f ∷ []) last)
@@ -183,7 +208,7 @@ abort_shows sessions seat claims reads c d sound at e =
     let change = changes_one sessions seat c d (kind.StoreBegin 0) sound tt e in
     let is = part_stepped c d seat (kind.StoreBegin 0) (aborted_part (c.seats seat)) (leaves seat claims reads claims reads c sound at refl refl) e in
     record {
-      own = ap session_of is ∙ over_shows (c.seats seat) at.active;
+      own = ap session_of is ∙ over_shows (c.seats seat) at.active (snapshots_new c seat sound);
       others = change.others;
       opening = change.opening;
       tail = (let h = change.tail in omega (arith, h));

@@ -24,6 +24,7 @@ use Rattle.erm_machine.specs.Words.{is_flusher, is_session, refuses}
 use Rattle.erm_core_calls.proofs.Moving.{met, stepped, taken}
 use Rattle.erm_core_view.specs.Views.{IsBetween, IsQuiet, finished_of, session_of, stand_of, view_of, work_of}
 use Rattle.erm_core_view.proofs.Moved.{changes_one}
+use Rattle.erm_core_view.proofs.Snapshots.{shown_not_idle}
 use Rattle.erm_world.specs.Calls.{DidBegin}
 use Rattle.erm_world.specs.World.{Finished, IsSession, Opening, Session, Stand, View, Work, phase_at, phase_of}
 use Rattle.erm_world.specs.World as world
@@ -39,9 +40,9 @@ pub record IsIdle (seat : ℕ) (c : Core) : Type 0 where
   pub idle : (c.seats seat).place ≡ Idle
   pub rests : (c.seats seat).task ≡ task.Rest
 
-idle_place : (pl : Place) (u : Task) (t : Attempt) → IsBetween pl u → phase_of (stand_of pl t) ≡ phase.Idle → (pl ≡ Idle) × (u ≡ task.Rest)
+idle_place : (pl : Place) (u : Task) (t : Attempt) → IsBetween pl u → phase_of (stand_of pl u t) ≡ phase.Idle → (pl ≡ Idle) × (u ≡ task.Rest)
 idle_place Idle u t between e = (refl, between)
-idle_place (Active tail) u t between e = absurd (cc)
+idle_place (Active tail) u t between e = absurd (shown_not_idle u t e)
 idle_place (Sealed tail stamp) u t between e = absurd (cc)
 idle_place _ u t between e = absurd between
 
@@ -100,8 +101,8 @@ refuses_low seat tail low = and_none (not (is_flusher seat)) (leb STOP tail) (lt
     and_none false b e = refl
 
 -- an idle session shows no work
-idle_stands : (pl : Place) (t : Attempt) → pl ≡ Idle → stand_of pl t ≡ world.idle
-idle_stands pl t e = ap (λ (p : Place). stand_of p t) e
+idle_stands : (pl : Place) (u : Task) (t : Attempt) → pl ≡ Idle → stand_of pl u t ≡ world.idle
+idle_stands pl u t e = ap (λ (p : Place). stand_of p u t) e
 
 -- The tail is at the end of the log: the session stays as it was.
 pub log_ends : (sessions seat : ℕ) (c d : Core) → Sound c → IsQuiet sessions c → IsSession (view_of sessions c) seat → IsIdle seat c → (c.seats seat).number < LAST_NUMBER
@@ -113,12 +114,12 @@ log_ends sessions seat c d sound quiet session at less high e =
     let place : (d.seats seat).place ≡ Idle = ap (λ (y : Part). y.place) is ∙ cond-true (refuses seat tail0) Idle (Begun tail0) (refuses_high seat tail0 at.session high) in
     let rests : (d.seats seat).task ≡ task.Rest = ap (λ (y : Part). y.task) is ∙ at.rests in
     let over : map finished_of (d.seats seat).over ≡ map finished_of (c.seats seat).over = ap (λ (y : Part). map finished_of y.over) is in
-    let stand : stand_of (d.seats seat).place (d.seats seat).current ≡ stand_of (c.seats seat).place (c.seats seat).current =
-    idle_stands (d.seats seat).place (d.seats seat).current place ∙ sym (idle_stands (c.seats seat).place (c.seats seat).current at.idle)
+    let stand : stand_of (d.seats seat).place (d.seats seat).task (d.seats seat).current ≡ stand_of (c.seats seat).place (c.seats seat).task (c.seats seat).current =
+    idle_stands (d.seats seat).place (d.seats seat).task (d.seats seat).current place ∙ sym (idle_stands (c.seats seat).place (c.seats seat).task (c.seats seat).current at.idle)
     in
     let made : List Finished → Stand → Session = λ fs s. record { over = fs; stand = s } in
     let shows : session_of (d.seats seat) ≡ session_of (c.seats seat) =
-    ap (λ (fs : List Finished). made fs (stand_of (d.seats seat).place (d.seats seat).current)) over ∙ ap (λ (s : Stand). made (map finished_of (c.seats seat).over) s) stand
+    ap (λ (fs : List Finished). made fs (stand_of (d.seats seat).place (d.seats seat).task (d.seats seat).current)) over ∙ ap (λ (s : Stand). made (map finished_of (c.seats seat).over) s) stand
     in
     let unseen = unseen_step sessions seat c d k sound tt refl refl e shows in
     let opening : d.shared.opening ≡ c.shared.opening = ap (λ (v : View). v.opening.tail) unseen.view in

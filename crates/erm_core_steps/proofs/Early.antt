@@ -36,6 +36,7 @@ use Rattle.erm_core_steps.proofs.Aborts.{unsealed}
 use Rattle.erm_core_steps.proofs.Histories.{history_same}
 use Rattle.erm_core_steps.proofs.Quiet.{IsActive, quiet_after}
 use Rattle.erm_core_view.proofs.Claimed.{settles_with_all}
+use Rattle.erm_core_view.proofs.Snapshots.{never_sealed, starts_new}
 use Rattle.erm_core_steps.proofs.Places.{active_between}
 
 -- a state after steps of one session that is active, where a call may start, is one between two calls
@@ -87,7 +88,8 @@ pub record SealedPart (pl : Place) (t : Attempt) (u : Task) (w : Work) (seen : �
   pub none_over : over_of pl u (length t.writes) ≡ 0
   pub work : work_of t ≡ w
 
-sealed_part : (pl : Place) (t : Attempt) (u : Task) (w : Work) (seen : ℕ) → stand_of pl t ≡ world.sealed w seen → IsBetween pl u → IsCurrent pl t → SealedPart pl t u w seen
+sealed_part : (pl : Place) (t : Attempt) (u : Task) (w : Work) (seen : ℕ) → stand_of pl u t ≡ world.sealed w seen → IsBetween pl u → IsCurrent pl t → SealedPart pl t u w seen
+sealed_part (Active tail) t u w seen e between is = absurd (never_sealed u t w seen e)
 sealed_part (Sealed tail stamp) t u w seen e between is =
     let same : stamp ≡ seen = cc in
     let works : work_of t ≡ w = cc in
@@ -198,7 +200,7 @@ shut_is sessions seat succ pred c sound quiet at e =
     let history = has_the_history sessions c sound quiet in
     let succ_is = closed.succ_is in
     let pred_is = closed.pred_is in
-    subst (λ (w : Work). IsShut (view_of sessions c) seat w succ pred) (sym (work_active x.place x.current at.active))
+    subst (λ (w : Work). IsShut (view_of sessions c) seat w succ pred) (sym (work_active x.place x.task x.current at.active (starts_new x.task x.current at.starts)))
     (⊎_elim
     (λ (own : x.current.succ ≡ x.current.stamp). absurd (omega (arith, own, stamp, some)))
     (λ (over : (u : TransactionRecord) × (u ∈ machine.history_of c.seats) × (u.stamp < machine.bound_of c.shared.tail x.current) × OverwritesReadOf u (machine.record_of seat x.current) × (x.current.succ ≡ u.succ)).

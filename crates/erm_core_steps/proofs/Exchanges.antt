@@ -19,7 +19,7 @@ use Rattle.erm_machine.specs.Chains.{HeadInHand, IsHead, IsNamed, NamedInHand}
 use Rattle.erm_machine.specs.Core.{Core, Object, Shared, version_at}
 use Rattle.erm_machine.specs.Decided.{written_of}
 use Rattle.erm_machine.specs.Reading.{claim, head_version, load_cell, load_entry, load_walked_stamp, lost, new_claim}
-use Rattle.erm_machine.specs.Seat.{is_active, may_start}
+use Rattle.erm_machine.specs.Seat.{is_active, may_start, is_snapshot}
 use Rattle.erm_machine.specs.Snapshot.{InHand, IsNewestAt}
 use Rattle.erm_machine.specs.Sound.{Sound}
 use Rattle.erm_machine.specs.Step.{after_event}
@@ -27,6 +27,7 @@ use Rattle.erm_machine.specs.Words.{owner_of}
 use Rattle.erm_machine.proofs.Backs.{entry_then}
 use Rattle.erm_machine.proofs.Guards.{when_then}
 use Rattle.erm_world.specs.Calls.{DidClaim, DidNotClaim, HasNoNewer, IsNewer, IsUnowned, MayClaim, Works, now}
+use Rattle.erm_world.specs.Snapshots.{snapshot_not_active}
 use Rattle.erm_world.specs.World.{Finished, IsSession, Session, Stand, View, Work, phase_of, work_at}
 use Rattle.erm_world.specs.World as world
 use Rattle.erm_world.specs.Works.{claiming}
@@ -34,6 +35,7 @@ use Rattle.erm_core_calls.proofs.Moving.{met, stepped, taken}
 use Rattle.erm_core_view.specs.Views.{IsQuiet, finished_of, view_of, work_of}
 use Rattle.erm_core_view.proofs.Moved.{one_becomes}
 use Rattle.erm_core_view.proofs.Shown.{claims, work_active}
+use Rattle.erm_core_view.proofs.Snapshots.{plain_new, starts_new}
 use Rattle.erm_core_steps.specs.Claiming.{HasExchanged, HasFreeHead, HasHead, is_cleared}
 use Rattle.erm_core_steps.specs.Finishes.{IsDropped}
 use Rattle.erm_core_steps.specs.Reads.{IsAtWork, IsExcluded, finds, in_hand, stage_of}
@@ -138,7 +140,7 @@ head_newer sessions seat oid entry stamp c v sound quiet at head is word_is abov
     let there : stamp ≡ (version_at (c.shared.objects head.version.oid) head.version.place).words.stamp =
     word_is ∙ ap (λ (u : VersionAt). (version_at (c.shared.objects u.oid) u.place).words.stamp) same
     in
-    let begins = ap (λ (w : Work). w.begin) (work_active x.place x.current at.active) in
+    let begins = ap (λ (w : Work). w.begin) (work_active x.place x.task x.current at.active (starts_new x.task x.current at.starts)) in
     let free : IsHead (c.shared.objects head.version.oid) head.version (Some entry) = subst (HeadInHand c.shared) head.is (sound.own seat).chains.head in
     let newest_is = free.2 (ap (λ (n : ℕ). (c.shared.objects n).entry) head.oid_is ∙ head.entry_is) in
     subst (λ (n : ℕ). IsNewer (view_of sessions c) seat n stamp) head.oid_is
@@ -197,7 +199,7 @@ module _ (c : Core) (seat oid entry number : ℕ) (sound : Sound c) (at : IsAtWo
         over = map finished_of x.over;
         stand = world.active (claiming (record { oid = n; stamp = f.stamp; base = row; row = row; is_set = false }) w);
       } in
-      let work : work_at (view_of sessions c) seat ≡ work_of x.current = work_active x.place x.current at.active in
+      let work : work_at (view_of sessions c) seat ≡ work_of x.current = work_active x.place x.task x.current at.active (plain_new x.task x.current at.plain) in
       record {
         others = others_stay c d seat (kind.Claim oid entry number) tt e;
         stamp = f.stamp;
@@ -205,7 +207,12 @@ module _ (c : Core) (seat oid entry number : ℕ) (sound : Sound c) (at : IsAtWo
         shows =
             one_becomes sessions seat c d (kind.Claim oid entry number) (made oid (work_at (view_of sessions c) seat)) (session_plain seat at.session) tt tt refl refl e
             (shown ∙ ap (λ n. made n (work_of x.current)) f.oid_is ∙ ap (λ (w : Work). made oid w) (sym work));
-        at = record { session = at.session; active = ap (λ (y : Part). is_active y.place) is ∙ at.active };
+        at = record {
+          session = at.session;
+          active = ap (λ (y : Part). is_active y.place) is ∙ at.active;
+          plain = ap (λ (y : Part). is_snapshot y.task) is
+              ∙ ap is_snapshot (cond-true (eqb (c.shared.objects oid).entry entry) (task.Claimed f.version) _ (eq-eqb (c.shared.objects oid).entry entry f.entry_is));
+        };
         version = f.version;
         claimed =
             ap (λ (y : Part). y.task) is
@@ -234,6 +241,7 @@ excluded_cells v t seat why excluded drawn same = absurd excluded
 -- one that is dropped left nothing
 active_session : (over : List Finished) (stand : Stand) → phase_of stand ≡ phase.Active → ◌≡◌ {A = Session} (record { over = over; stand = stand }) (record { over = over; stand = world.active (world.work_of stand) })
 active_session over (world.active w) e = refl
+active_session over (world.snapshot s) e = absurd (snapshot_not_active s e)
 active_session over _ e = absurd (cc)
 
 without_last : (ws : List VersionWritten) (c : VersionWritten) → take (length (ws ++ c ∷ []) - 1) (ws ++ c ∷ []) ≡ ws
@@ -282,7 +290,7 @@ quiet_dropped sessions seat oid b c d quiet session claimed dropped sound active
 pub claims_shown : (sessions seat : ℕ) (c : Core) (v : View) → IsActive seat c → view_of sessions c ≡ v → (work_at v seat).claims ≡ map written_of (c.seats seat).current.writes
 claims_shown sessions seat c v at same =
     let x = c.seats seat in
-    ap (λ (u : View). (work_at u seat).claims) (sym same) ∙ ap (λ (w : Work). w.claims) (work_active x.place x.current at.active)
+    ap (λ (u : View). (work_at u seat).claims) (sym same) ∙ ap (λ (w : Work). w.claims) (work_active x.place x.task x.current at.active (starts_new x.task x.current at.starts))
 
 pub claims_count : (sessions seat : ℕ) (c : Core) (v : View) → IsActive seat c → view_of sessions c ≡ v → length (work_at v seat).claims ≡ length (c.seats seat).current.writes
 claims_count sessions seat c v at same =

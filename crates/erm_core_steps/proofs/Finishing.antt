@@ -22,7 +22,7 @@ use Rattle.erm_machine.specs.Core.{Core, spot_of, version_at, word_at}
 use Rattle.erm_machine.specs.Decided.{written_of}
 use Rattle.erm_machine.specs.Life.{load_begin, load_tail_for_horizon, lower}
 use Rattle.erm_machine.specs.Reading.{add_counter, after_cut, load_active_stamp, load_counter, load_detached, load_walked_link, load_walked_stamp, older, store_row_word, swap_link}
-use Rattle.erm_machine.specs.Seat.{is_active, last_claim, when}
+use Rattle.erm_machine.specs.Seat.{is_active, last_claim, when, is_snapshot}
 use Rattle.erm_machine.specs.Settling.{install, without_newest}
 use Rattle.erm_machine.specs.Sound.{Sound}
 use Rattle.erm_machine.specs.Step.{after_event, part_after}
@@ -42,6 +42,7 @@ use Rattle.erm_core_view.specs.Views.{session_of, view_of, work_of}
 use Rattle.erm_core_view.proofs.Moved.{calm_shows, changes_one}
 use Rattle.erm_core_view.proofs.Shown.{shows_work, work_active}
 use Rattle.erm_core_view.proofs.Words.{copy_shows}
+use Rattle.erm_core_view.proofs.Snapshots.{plain_new}
 use Rattle.erm_core_steps.specs.Finishes.{IsDropped, finish_step, is_finishing}
 use Rattle.erm_core_steps.specs.Reads.{GoesOn, IsAtWork}
 use Rattle.erm_core_steps.specs.Steps.{IsTaken, IsUnpromised}
@@ -154,7 +155,7 @@ module _ (seat : ℕ) (c : Core) (sound : Sound c) (tail : ℕ) (pl : (c.seats s
   leads P k d one e b z to holds = when_then (λ y. P y.task) b z (d.seats seat) (sym to ∙ part_is c d seat k one e) holds
 
   -- a load
-  loads : (t : Task) (k : Kind) → IsStep k → IsCalm k → ranges_in k ≡ 0 → IsOfNone k → AddsNothing k → ((oid : ℕ) → LeavesChain k oid) → MovesOn c seat k
+  loads : (t : Task) (k : Kind) → IsStep k → IsCalm k (c.seats seat).task → ranges_in k ≡ 0 → IsOfNone k → AddsNothing k → ((oid : ℕ) → LeavesChain k oid) → MovesOn c seat k
       → ((d : Core) → after_event c seat k ≡ Some d → Near t (d.seats seat).task) → Goes seat c t k
   loads t k step calm ranges none adds chain m near = record {
     taken = (m.after, m.taken);
@@ -175,7 +176,7 @@ module _ (seat : ℕ) (c : Core) (sound : Sound c) (tail : ℕ) (pl : (c.seats s
       let t = task.Horizon v least next in
       let now = lower least (begin_of (c.seats next).place) in
       let low : next < ANNOUNCERS = bound_at c seat sound t at in
-      loads t (kind.LoadBegin next) tt tt refl tt tt (λ oid. record { versions = refl; cut = tt }) (g_horizon c seat sound tail pl v least next at)
+      loads t (kind.LoadBegin next) tt (ap is_snapshot at) refl tt tt (λ oid. record { versions = refl; cut = tt }) (g_horizon c seat sound tail pl v least next at)
       (λ d e. leads (Near t) (kind.LoadBegin next) d tt e _ _ (ap (load_begin seat next _ (c.seats seat)) at)
       (λ _. near_if t (eqb (next + 1) ANNOUNCERS) (task.CutWalks v now) (task.Horizon v now (next + 1)) (λ _. near_same t _ refl refl (omega (arith, low))) (λ _. near_same t _ refl refl (omega (arith, low)))))
 
@@ -313,9 +314,10 @@ pub finish_unseen : (sessions seat : ℕ) (c d : Core) (k : Kind) → Sound c �
     → GoesOn sessions seat c d
 finish_unseen sessions seat c d k sound at goes e =
     let same = goes.unseen d e in
+    let kept = active_kept (c.seats seat) (d.seats seat) same at.active at.plain in
     record {
       unseen = unseen_step sessions seat c d k sound goes.still.one goes.still.drawn (goes.still.flushed c.shared.flushed) e same;
-      at = record { session = at.session; active = active_kept (c.seats seat) (d.seats seat) same at.active };
+      at = record { session = at.session; active = kept.0; plain = kept.1 };
     }
 
 -- where no step is left the row is copied, or no cell was left
@@ -358,9 +360,9 @@ drop_shows sessions seat oid head b c d sound goes refused e =
     let change = changes_one sessions seat c d k sound tt e in
     let tail = change.tail in
     let work : work_of (dropped x).current ≡ without_last (work_of x.current) = ap (λ (ws : List VersionWritten). record (work_of x.current) { claims = ws }) (claims_left x.current) in
-    let shows = shows_work x (without_last (work_of x.current)) (dropped x) refl goes.at.active work in
+    let shows = shows_work x (without_last (work_of x.current)) (dropped x) refl goes.at.active refl work in
     let now : Works (view_of sessions c) seat (without_last (work_at (view_of sessions c) seat)) (view_of sessions d) = record {
-      own = ap session_of is ∙ shows.shows ∙ ap (λ (w : Work). let s : Session = record { over = (session_of x).over; stand = world.active (without_last w) } in s) (sym (work_active x.place x.current goes.at.active));
+      own = ap session_of is ∙ shows.shows ∙ ap (λ (w : Work). let s : Session = record { over = (session_of x).over; stand = world.active (without_last w) } in s) (sym (work_active x.place x.task x.current goes.at.active (plain_new x.task x.current goes.at.plain)));
       others = change.others;
       opening = change.opening;
       tail = omega (arith, tail);

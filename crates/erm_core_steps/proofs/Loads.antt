@@ -13,11 +13,12 @@ use Rattle.erm_machine.specs.Step.{after_event, shared_after, told}
 use Rattle.erm_machine.specs.declared.event.Kind.{Kind}
 use Rattle.erm_machine.specs.declared.event.Kind.TheVariants as kind
 use Rattle.erm_machine.specs.declared.part.Part.{Part}
+use Rattle.erm_machine.specs.declared.task.Task.{Task}
 
 -- It meets one word, which it tells, doesn't show, and needs no room.
 pub record Loads (k : Kind) : Type 0 where
   pub one : MeetsOne k
-  pub calm : IsCalm k
+  pub calm : (u : Task) → IsCalm k u
   pub unpromised : IsUnpromised k
   pub ranges : ranges_in k ≡ 0
   pub none : IsOfNone k
@@ -30,7 +31,7 @@ pub record Loads (k : Kind) : Type 0 where
 pub loads : (k : Kind) → IsLoad k → Loads k
 loads (kind.LoadState other bound) e = record {
   one = tt;
-  calm = tt;
+  calm = λ u. tt;
   unpromised = tt;
   ranges = refl;
   none = tt;
@@ -42,7 +43,7 @@ loads (kind.LoadState other bound) e = record {
 }
 loads (kind.LoadEntry n) e = record {
   one = tt;
-  calm = tt;
+  calm = λ u. tt;
   unpromised = tt;
   ranges = refl;
   none = tt;
@@ -54,7 +55,7 @@ loads (kind.LoadEntry n) e = record {
 }
 loads (kind.LoadCell v w) e = record {
   one = tt;
-  calm = tt;
+  calm = λ u. tt;
   unpromised = tt;
   ranges = refl;
   none = tt;
@@ -66,7 +67,7 @@ loads (kind.LoadCell v w) e = record {
 }
 loads (kind.LoadStamp v w) e = record {
   one = tt;
-  calm = tt;
+  calm = λ u. tt;
   unpromised = tt;
   ranges = refl;
   none = tt;
@@ -78,7 +79,7 @@ loads (kind.LoadStamp v w) e = record {
 }
 loads (kind.LoadReaders v) e = record {
   one = tt;
-  calm = tt;
+  calm = λ u. tt;
   unpromised = tt;
   ranges = refl;
   none = tt;

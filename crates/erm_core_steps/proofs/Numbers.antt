@@ -19,6 +19,7 @@ use Rattle.erm_core_calls.proofs.Moving.{met, stepped, taken}
 use Rattle.erm_core_view.specs.Views.{IsQuiet, session_of, stand_of, view_of, work_of}
 use Rattle.erm_core_view.proofs.Moved.{calm_shows, changes_one}
 use Rattle.erm_core_view.proofs.Shown.{work_active}
+use Rattle.erm_core_view.proofs.Snapshots.{starts_new}
 use Rattle.erm_world.specs.Calls.{DidMake}
 use Rattle.erm_world.specs.Works.{making}
 use Rattle.erm_world.specs.World.{IsSession, Opening, Session, View, Work}
@@ -115,12 +116,12 @@ number_made sessions seat b c d sound session at less e shows =
     let tail = change.tail in
     let low = at.quiet.flushed.0 in
     let high = at.quiet.flushed.1 in
-    let work : world.work_of (stand_of (c.seats seat).place (c.seats seat).current) ≡ work_of (c.seats seat).current =
-    work_active (c.seats seat).place (c.seats seat).current at.active.active
+    let work : world.work_of (stand_of (c.seats seat).place (c.seats seat).task (c.seats seat).current) ≡ work_of (c.seats seat).current =
+    work_active (c.seats seat).place (c.seats seat).task (c.seats seat).current at.active.active (starts_new (c.seats seat).task (c.seats seat).current at.active.starts)
     in
     let made : ℕ → Work → Session = λ n w. record { over = (session_of (c.seats seat)).over; stand = world.active (making n w) } in
     let here : DidMake (view_of sessions c) seat b.shared.objects_drawn (view_of sessions d) = record {
-      own = shows ∙ ap (λ (w : Work). made found w) (sym work) ∙ ap (λ (n : ℕ). made n (world.work_of (stand_of (c.seats seat).place (c.seats seat).current))) at.drawn;
+      own = shows ∙ ap (λ (w : Work). made found w) (sym work) ∙ ap (λ (n : ℕ). made n (world.work_of (stand_of (c.seats seat).place (c.seats seat).task (c.seats seat).current))) at.drawn;
       others = change.others;
       opening = change.opening;
       tail = omega (arith, tail);

@@ -27,6 +27,7 @@ use Rattle.erm_world.specs.Works.{is_claimed}
 use Rattle.erm_core_met.proofs.Others.{owner_is}
 use Rattle.erm_core_view.specs.Views.{IsBetween, IsQuiet, stand_of, view_of, work_of}
 use Rattle.erm_core_view.proofs.Shown.{work_active}
+use Rattle.erm_core_view.proofs.Snapshots.{starts_new}
 use Rattle.erm_core_steps.specs.Reads.{IsWaiting}
 use Rattle.erm_core_steps.proofs.Quiet.{IsActive}
 
@@ -46,7 +47,7 @@ pub owner_other : (sessions seat oid : ℕ) (c : Core) → Sound c → IsActive 
     → is_claimed (work_at (view_of sessions c) seat).claims oid ≡ false → owner_of (c.shared.objects oid).entry ≢ seat
 owner_other sessions seat oid c sound at some known unclaimed = λ own.
     let held = holds_claimed (c.seats seat) oid ((sound.own seat).claims.owned oid some known own) in
-    let shown = ap (λ (w : Work). is_claimed w.claims oid) (work_active (c.seats seat).place (c.seats seat).current at.active) in
+    let shown = ap (λ (w : Work). is_claimed w.claims oid) (work_active (c.seats seat).place (c.seats seat).task (c.seats seat).current at.active (starts_new (c.seats seat).task (c.seats seat).current at.starts)) in
     absurd (cc (held, shown, unclaimed))
 
 -- a seat in the middle of a transaction that holds a claim is one of the world's sessions
@@ -67,15 +68,15 @@ holder_session sessions oid q c quiet busy holds some = (
 )
 
 -- A session that isn't clear is sealed with its state word, between calls.
-pub record IsSealedAt (pl : Place) (t : Attempt) (seen bound : ℕ) : Type 0 where
-  pub stand : stand_of pl t ≡ world.sealed (work_of t) seen
+pub record IsSealedAt (pl : Place) (u : Task) (t : Attempt) (seen bound : ℕ) : Type 0 where
+  pub stand : stand_of pl u t ≡ world.sealed (work_of t) seen
   pub below : seen < bound
 
 pub below_unclear : (seen bound : ℕ) → 1 < seen → is_clear seen bound ≡ false → seen < bound
 below_unclear seen bound more unclear = grind arith
 
 pub unclear_sealed : (pl : Place) (u : Task) (t : Attempt) (bound : ℕ) → IsBetween pl u → is_clear (state_of pl) bound ≡ false → (in_progress pl ≡ 1 → 0 < state_of pl → 1 < state_of pl)
-    → IsSealedAt pl t (state_of pl) bound
+    → IsSealedAt pl u t (state_of pl) bound
 unclear_sealed Idle u t bound between unclear above = absurd (cc)
 unclear_sealed (Active tail) u t bound between unclear above = absurd (cc)
 unclear_sealed (Sealed tail stamp) u t bound between unclear above =

@@ -220,7 +220,7 @@ module _ (c : Core) (seat : ℕ) (sound : Sound c) (passing : IsPassing c.shared
     pub still_unseen : (sessions : ℕ) (b : Core) → IsUnseen sessions seat b c → IsUnseen sessions seat b d
     still_unseen sessions b unseen =
         unseen_both sessions seat b c d unseen
-        (unseen_step sessions seat c d k sound loads_one.one loads_one.drawn (loads_one.flushed c.shared.flushed) after (calm_shows seat c d k loads_one.calm after))
+        (unseen_step sessions seat c d k sound loads_one.one loads_one.drawn (loads_one.flushed c.shared.flushed) after (calm_shows seat c d k (loads_one.calm (c.seats seat).task) after))
 
     pub now_waits : (w : Wait) (word : ℕ) → word ≡ word_at c (spot_of seat k) → StopsAt k word w → IsWaiting d seat w
     now_waits w word is stop =

@@ -8,6 +8,7 @@ use Rattle.erm_machine.specs.Facts.{IsCurrent}
 use Rattle.erm_machine.specs.Seat.{is_active, is_sealed, is_vacant, may_start}
 use Rattle.erm_machine.specs.Settling.{may_settle}
 use Rattle.erm_core_view.specs.Views.{IsBetween}
+use Rattle.erm_core_view.proofs.Snapshots.{starts_between}
 
 -- where it is active
 pub active_at : (pl : Place) → is_active pl ≡ true → (tail : ℕ) × (pl ≡ Active tail)
@@ -23,7 +24,7 @@ active_there (Active tail) e = refl
 active_there _ e = absurd (cc)
 
 pub active_between : (pl : Place) (u : Task) → is_active pl ≡ true → may_start u ≡ true → IsBetween pl u
-active_between (Active tail) u e starts = starts
+active_between (Active tail) u e starts = starts_between u starts
 active_between _ u e starts = absurd (cc)
 
 -- where it is sealed

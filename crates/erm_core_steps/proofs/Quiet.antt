@@ -20,6 +20,8 @@ use Rattle.erm_sound.specs.Kept.{SoundUnder}
 use Rattle.erm_machine.specs.Words.{is_flusher, is_session}
 use Rattle.erm_world.specs.World.{IsSession, phase_at, phase_of, size_of}
 use Rattle.erm_core_view.specs.Views.{IsBetween, IsQuiet, IsStill, stand_of, view_of, work_of}
+use Rattle.erm_core_view.proofs.Snapshots.{active_plain, starts_or_stands, starts_plain}
+use Rattle.erm_core_steps.specs.Reads.{IsAtWork}
 
 -- a session's seat is taken, and isn't the flusher's
 pub few_flush : (sessions q : ℕ) → sessions ≤ SESSIONS → q ≤ sessions → is_flusher q ≡ false
@@ -59,6 +61,7 @@ opening_quiet sessions rows tail run first cells few behind short = record {
     writes = refl;
     made = refl;
     rests = place_taken (is_taken sessions q) (flusher_taken sessions q flusher);
+    plain = refl;
     turn = refl;
     run = short;
   };
@@ -84,26 +87,30 @@ session_of_few sessions seat c quiet some low =
     (cases_lt seat FLUSH_SEAT)))
 
 -- an active session's next call may start
-phase_active : (pl : Place) (t : Attempt) → phase_of (stand_of pl t) ≡ phase.Active → is_active pl ≡ true
-phase_active (Active tail) t e = refl
-phase_active _ t e = absurd (cc)
+phase_active : (pl : Place) (u : Task) (t : Attempt) → phase_of (stand_of pl u t) ≡ phase.Active → is_active pl ≡ true
+phase_active (Active tail) u t e = refl
+phase_active _ u t e = absurd (cc)
 
-active_between : (pl : Place) (u : Task) → is_active pl ≡ true → IsBetween pl u → may_start u ≡ true
-active_between (Active tail) u e between = between
-active_between _ u e between = absurd (cc)
+active_between : (pl : Place) (u : Task) (t : Attempt) → phase_of (stand_of pl u t) ≡ phase.Active → IsBetween pl u → may_start u ≡ true
+active_between (Active tail) u t e between = starts_or_stands u between (active_plain u t e)
+active_between _ u t e between = absurd (cc)
 
 pub record IsActive (seat : ℕ) (c : Core) : Type 0 where
   pub session : is_session seat ≡ true
   pub active : is_active (c.seats seat).place ≡ true
   pub starts : may_start (c.seats seat).task ≡ true
 
+-- it is at work
+pub at_work : {seat : ℕ} {c : Core} → IsActive seat c → IsAtWork seat c
+at_work {seat} {c} at = record { session = at.session; active = at.active; plain = starts_plain (c.seats seat).task at.starts }
+
 pub active_seat : (sessions seat : ℕ) (c : Core) → IsQuiet sessions c → IsSession (view_of sessions c) seat → phase_at (view_of sessions c) seat ≡ phase.Active → IsActive seat c
 active_seat sessions seat c quiet session active =
-    let at = phase_active (c.seats seat).place (c.seats seat).current active in
+    let at = phase_active (c.seats seat).place (c.seats seat).task (c.seats seat).current active in
     record {
       session = session_of_few sessions seat c quiet session.0 session.1;
       active = at;
-      starts = active_between (c.seats seat).place (c.seats seat).task at (quiet.between seat session.0 session.1);
+      starts = active_between (c.seats seat).place (c.seats seat).task (c.seats seat).current active (quiet.between seat session.0 session.1);
     }
 
 -- A state after steps of one session is one between two calls, where that session is.

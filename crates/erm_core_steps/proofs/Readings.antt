@@ -6,6 +6,7 @@ use Rattle.erm_machine.specs.Core.{Core}
 use Rattle.erm_machine.specs.Decided.{read_of}
 use Rattle.erm_core_view.specs.Views.{view_of}
 use Rattle.erm_core_view.proofs.Shown.{work_active}
+use Rattle.erm_core_view.proofs.Snapshots.{starts_new}
 use Rattle.erm_core_steps.proofs.Quiet.{IsActive}
 use Rattle.erm_model.specs.declared.limits.TheConstants.{READ_LIMIT}
 use Rattle.erm_model.specs.declared.outcome.Phase.TheVariants as phase
@@ -40,7 +41,7 @@ read_excluded v between t seat oid row why new few did excluded = absurd exclude
 pub reads_shown : (sessions seat : ℕ) (c : Core) (v : View) → IsActive seat c → view_of sessions c ≡ v → length (work_at v seat).reads ≡ length (c.seats seat).current.reads
 reads_shown sessions seat c v at same =
     let x = c.seats seat in
-    ap (λ (u : View). length (work_at u seat).reads) (sym same) ∙ ap (λ (w : Work). length w.reads) (work_active x.place x.current at.active)
+    ap (λ (u : View). length (work_at u seat).reads) (sym same) ∙ ap (λ (w : Work). length w.reads) (work_active x.place x.task x.current at.active (starts_new x.task x.current at.starts))
     ∙ length-map x.current.reads read_of
 
 -- what holds of an answer holds under a premise as well

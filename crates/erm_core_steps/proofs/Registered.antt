@@ -17,7 +17,7 @@ use Rattle.erm_machine.specs.Chains.{IsNamed, NamedInHand}
 use Rattle.erm_machine.specs.Core.{Core, version_at}
 use Rattle.erm_machine.specs.Decided.{read_of}
 use Rattle.erm_machine.specs.Reading.{has_read, set_reader}
-use Rattle.erm_machine.specs.Seat.{is_active, may_start, no_read, read_at, with_pred}
+use Rattle.erm_machine.specs.Seat.{is_active, may_start, no_read, read_at, with_pred, is_snapshot}
 use Rattle.erm_machine.specs.Sound.{Sound}
 use Rattle.erm_machine.specs.Step.{after_event}
 use Rattle.erm_world.specs.Calls.{IsClearOf, Works}
@@ -28,6 +28,7 @@ use Rattle.erm_core_calls.proofs.Moving.{met, same_self, stepped, taken}
 use Rattle.erm_core_view.specs.Views.{IsQuiet, finished_of, view_of, work_of}
 use Rattle.erm_core_view.proofs.Moved.{one_becomes}
 use Rattle.erm_core_view.proofs.Shown.{registers, work_active}
+use Rattle.erm_core_view.proofs.Snapshots.{plain_new}
 use Rattle.erm_core_steps.specs.Reads.{DidRegister, GoesOn, HasRegistered, IsAtWork, finds, in_hand, rates, read_step, stage_of}
 use Rattle.erm_core_steps.specs.Steps.{IsTaken}
 use Rattle.erm_core_steps.proofs.Aborts.{session_plain}
@@ -109,7 +110,7 @@ module _ (c : Core) (seat oid : ℕ) (sound : Sound c) (at : IsAtWork seat c) (f
       ∙ sym (ap (λ (y : Part). (read_at y.current (length y.current.reads - 1)).row) is) ∙ sym newest in
       let shown = registers seat c d f.version f.version f.stamp f.head at.active f.is after in
       let made : ℕ → List ℕ → Work → Session = λ n r w. record { over = map finished_of x.over; stand = world.active (reading (record { oid = n; stamp = f.stamp; row = r }) w) } in
-      let work : world.work_at (view_of sessions c) seat ≡ work_of x.current = work_active x.place x.current at.active in
+      let work : world.work_at (view_of sessions c) seat ≡ work_of x.current = work_active x.place x.task x.current at.active (plain_new x.task x.current at.plain) in
       record {
         others = others_stay c d seat (kind.SetReader f.version) tt after;
         stamp = f.stamp;
@@ -117,7 +118,7 @@ module _ (c : Core) (seat oid : ℕ) (sound : Sound c) (at : IsAtWork seat c) (f
             one_becomes sessions seat c d (kind.SetReader f.version) (made oid row (world.work_at (view_of sessions c) seat)) (session_plain seat at.session) tt tt refl refl after
             (shown ∙ ap (λ n. made n row_found (work_of x.current)) f.oid_is ∙ ap (λ r. made oid r (work_of x.current)) row_is
             ∙ ap (λ (w : Work). made oid row w) (sym work));
-        at = record { session = at.session; active = ap (λ (y : Part). is_active y.place) is ∙ at.active };
+        at = record { session = at.session; active = ap (λ (y : Part). is_active y.place) is ∙ at.active; plain = ap (λ (y : Part). is_snapshot y.task) is };
         rated_next = ap (λ (y : Part). stage_of y.task) is;
       }
 
@@ -133,7 +134,7 @@ unread_none (r ∷ rs) oid none = unread_first (eqb r.version.oid oid) r.row (ro
 -- what the view shows of a seat that went on
 work_stays : (sessions seat : ℕ) (b c : Core) → GoesOn sessions seat b c → work_of (c.seats seat).current ≡ world.work_at (view_of sessions b) seat
 work_stays sessions seat b c goes =
-    sym (work_active (c.seats seat).place (c.seats seat).current goes.at.active) ∙ ap (λ (v : View). world.work_at v seat) goes.unseen.view
+    sym (work_active (c.seats seat).place (c.seats seat).task (c.seats seat).current goes.at.active (plain_new (c.seats seat).task (c.seats seat).current goes.at.plain)) ∙ ap (λ (v : View). world.work_at v seat) goes.unseen.view
 
 pub reads_few : (sessions seat : ℕ) (b c : Core) → GoesOn sessions seat b c → length (world.work_at (view_of sessions b) seat).reads < READ_LIMIT
     → length (c.seats seat).current.reads < READ_LIMIT

@@ -18,7 +18,7 @@ use Rattle.erm_machine.specs.declared.limits.TheConstants.{FLUSH_SEAT}
 use Rattle.erm_machine.specs.declared.part.Flushing.TheVariants.{Still}
 use Rattle.erm_machine.specs.declared.part.Part.{Part}
 use Rattle.erm_machine.specs.declared.place.Place.{Place}
-use Rattle.erm_machine.specs.declared.place.Place.TheVariants.{Idle, Sealed}
+use Rattle.erm_machine.specs.declared.place.Place.TheVariants.{Active, Idle, Sealed}
 use Rattle.erm_machine.specs.declared.task.Task.{Task}
 use Rattle.erm_machine.specs.declared.task.Task.TheVariants as task
 use Rattle.erm_machine.specs.Core.{Core}
@@ -44,6 +44,7 @@ use Rattle.erm_core_view.specs.Views.{IsBetween, IsQuiet, fate_of, finished_of, 
 use Rattle.erm_core_view.proofs.Commits.{has_the_history}
 use Rattle.erm_core_view.proofs.Moved.{calm_shows}
 use Rattle.erm_core_view.proofs.Seals.{block_within}
+use Rattle.erm_core_view.proofs.Snapshots.{shown_not_sealed}
 use Rattle.erm_core_steps.specs.Ends.{HasDecided, HasLeft, MayDecide, Remains, outcome_of}
 use Rattle.erm_core_steps.specs.Settles.{HasPassed, IsPassing, IsWaiting, is_passing}
 use Rattle.erm_core_steps.specs.Steps.{IsTaken, IsUnseen}
@@ -55,9 +56,10 @@ use Rattle.erm_core_steps.proofs.Waiting.{all_ready, in_the_way, same_sealed}
 use Rattle.erm_core_turns.proofs.Turns.{part_stepped}
 use Rattle.erm_core_steps.proofs.Places.{sealed_there, sealed_drawn, sealed_between}
 
-phase_sealed : (pl : Place) (t : Attempt) → phase_of (stand_of pl t) ≡ phase.Sealed → is_sealed pl ≡ true
-phase_sealed (Sealed tail stamp) t e = refl
-phase_sealed _ t e = absurd (cc)
+phase_sealed : (pl : Place) (u : Task) (t : Attempt) → phase_of (stand_of pl u t) ≡ phase.Sealed → is_sealed pl ≡ true
+phase_sealed (Active tail) u t e = absurd (shown_not_sealed u t e)
+phase_sealed (Sealed tail stamp) u t e = refl
+phase_sealed _ u t e = absurd (cc)
 
 between_sealed : (pl : Place) (u : Task) → is_sealed pl ≡ true → IsBetween pl u → may_settle u ≡ true
 between_sealed (Sealed tail stamp) u e between = between
@@ -73,9 +75,9 @@ passing_may (task.WriteClear write) e = refl
 passing_may (task.WriteMade write) e = refl
 passing_may u e = absurd (cc)
 
-sealed_stands : (pl : Place) (t : Attempt) → is_sealed pl ≡ true → IsCurrent pl t → stand_of pl t ≡ world.sealed (work_of t) t.stamp
-sealed_stands (Sealed tail stamp) t e is = ap (λ n. world.sealed (work_of t) n) (sym is.stamp_is)
-sealed_stands _ t e is = absurd (cc)
+sealed_stands : (pl : Place) (u : Task) (t : Attempt) → is_sealed pl ≡ true → IsCurrent pl t → stand_of pl u t ≡ world.sealed (work_of t) t.stamp
+sealed_stands (Sealed tail stamp) u t e is = ap (λ n. world.sealed (work_of t) n) (sym is.stamp_is)
+sealed_stands _ u t e is = absurd (cc)
 
 -- where a settle may be called
 pub record MaySettle (sessions seat : ℕ) (a : Core) : Type 0 where
@@ -87,7 +89,7 @@ pub record MaySettle (sessions seat : ℕ) (a : Core) : Type 0 where
 
 pub settle_may : (sessions seat : ℕ) (a : Core) → Sound a → IsQuiet sessions a → IsSession (view_of sessions a) seat → phase_at (view_of sessions a) seat ≡ phase.Sealed → MaySettle sessions seat a
 settle_may sessions seat a sound quiet session at =
-    let sealed = phase_sealed (a.seats seat).place (a.seats seat).current at in
+    let sealed = phase_sealed (a.seats seat).place (a.seats seat).task (a.seats seat).current at in
     record { sound = sound; quiet = quiet; session = session; sealed = sealed; may = between_sealed (a.seats seat).place (a.seats seat).task sealed (quiet.between seat session.0 session.1) }
 
 module _ (sessions seat : ℕ) (a : Core) (m : MaySettle sessions seat a) where
@@ -97,8 +99,8 @@ module _ (sessions seat : ℕ) (a : Core) (m : MaySettle sessions seat a) where
   pub is_one : is_session seat ≡ true
   is_one = session_of_few sessions seat a m.quiet m.session.0 m.session.1
 
-  stands : stand_of x.place x.current ≡ world.sealed (work_of x.current) x.current.stamp
-  stands = sealed_stands x.place x.current m.sealed (m.sound.own seat).ranges.current
+  stands : stand_of x.place x.task x.current ≡ world.sealed (work_of x.current) x.current.stamp
+  stands = sealed_stands x.place x.task x.current m.sealed (m.sound.own seat).ranges.current
 
   sized : x.current.size ≡ size_of (work_of x.current)
   sized = m.quiet.sized seat m.session.0 m.session.1 (sealed_drawn x.place x.current m.sealed (m.sound.own seat).ranges.current)
@@ -171,8 +173,8 @@ module _ (sessions seat : ℕ) (a : Core) (m : MaySettle sessions seat a) where
     abbrev y : Part
     y = c.seats seat
 
-    y_stands : stand_of y.place y.current ≡ world.sealed (work_of y.current) y.current.stamp
-    y_stands = sealed_stands y.place y.current sealed (sound.own seat).ranges.current
+    y_stands : stand_of y.place y.task y.current ≡ world.sealed (work_of y.current) y.current.stamp
+    y_stands = sealed_stands y.place y.task y.current sealed (sound.own seat).ranges.current
 
     same_stand : world.sealed (work_of y.current) y.current.stamp ≡ world.sealed (work_of x.current) x.current.stamp
     same_stand = sym y_stands ∙ ap (λ (v : View). (v.session seat).stand) unseen.view ∙ stands
@@ -283,8 +285,8 @@ module _ (sessions seat : ℕ) (a : Core) (m : MaySettle sessions seat a) where
       shows =
           let all : map finished_of (e.seats seat).over ≡ map finished_of y.over ++ finished_of u ∷ [] =
           ap (λ (ts : List Attempt). map finished_of ts) over_is ∙ map-append finished_of y.over (u ∷ []) in
-          let idle : stand_of (e.seats seat).place (e.seats seat).current ≡ world.idle = ap (λ (pl : Place). stand_of pl (e.seats seat).current) rests.place in
-          ap (λ (fs : List Finished). let s : Session = record { over = fs; stand = stand_of (e.seats seat).place (e.seats seat).current } in s)
+          let idle : stand_of (e.seats seat).place (e.seats seat).task (e.seats seat).current ≡ world.idle = ap (λ (pl : Place). stand_of pl (e.seats seat).task (e.seats seat).current) rests.place in
+          ap (λ (fs : List Finished). let s : Session = record { over = fs; stand = stand_of (e.seats seat).place (e.seats seat).task (e.seats seat).current } in s)
           (all ∙ ap (λ (f : Finished). map finished_of y.over ++ f ∷ []) finished)
           ∙ ap (λ (s : Stand). let r : Session = record { over = map finished_of y.over ++ record { work = work_of t; fate = fate_of (decision_of t) t } ∷ []; stand = s } in r) idle
 

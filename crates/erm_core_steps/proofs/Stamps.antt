@@ -26,6 +26,7 @@ use Rattle.erm_core_calls.proofs.Moving.{met, stepped, taken}
 use Rattle.erm_core_view.specs.Views.{IsBetween, IsQuiet, finished_of, session_of, stand_of, view_of, work_of}
 use Rattle.erm_core_view.proofs.Moved.{changes_one}
 use Rattle.erm_core_view.proofs.Shown.{work_active}
+use Rattle.erm_core_view.proofs.Snapshots.{starts_new}
 use Rattle.erm_world.specs.Calls.{DidSeal}
 use Rattle.erm_world.specs.Laws.{IsLawfulWork}
 use Rattle.erm_world.specs.World.{Finished, IsSession, Opening, Session, View, Work, size_of, work_at}
@@ -120,7 +121,7 @@ lawful_record law seat t lawful = record {
 }
 
 pub work_is : (sessions seat : ℕ) (c : Core) → IsActive seat c → work_at (view_of sessions c) seat ≡ work_of (c.seats seat).current
-work_is sessions seat c at = work_active (c.seats seat).place (c.seats seat).current at.active
+work_is sessions seat c at = work_active (c.seats seat).place (c.seats seat).task (c.seats seat).current at.active (starts_new (c.seats seat).task (c.seats seat).current at.starts)
 
 pub draws_lawfully : (law : Law) (sessions seat : ℕ) (b c : Core) → IsActive seat b → IsSealing seat b c → IsLawfulWork law (work_at (view_of sessions b) seat)
     → IsLawfulRecord law (record_of seat (c.seats seat).current)
@@ -172,7 +173,7 @@ seal_done sessions seat size b c d e sound_b sound_c sound_d quiet session activ
       record {
         stamp_is = omega (arith, tail_one);
         own =
-            ap (λ (p : Place). let s : Session = record { over = map finished_of (e.seats seat).over; stand = stand_of p (e.seats seat).current } in s) place
+            ap (λ (p : Place). let s : Session = record { over = map finished_of (e.seats seat).over; stand = stand_of p (e.seats seat).task (e.seats seat).current } in s) place
             ∙ ap (λ (fs : List Finished). made fs (work_of (e.seats seat).current)) over
             ∙ ap (λ (w : Work). made (map finished_of (b.seats seat).over) w) (work ∙ whole);
         others = λ q other. ap session_of (others q other);

@@ -14,10 +14,11 @@ use Rattle.erm_machine.specs.Claims.{claims_over}
 use Rattle.erm_machine.specs.Core.{Core, claim_at, no_claim}
 use Rattle.erm_machine.specs.Decided.{written_of}
 use Rattle.erm_machine.specs.Facts.{over_of}
-use Rattle.erm_machine.specs.Seat.{is_active, is_own, may_start}
+use Rattle.erm_machine.specs.Seat.{is_active, is_own, may_start, is_snapshot}
 use Rattle.erm_machine.specs.Sound.{Sound}
 use Rattle.erm_machine.specs.Step.{after_event, run_from}
 use Rattle.erm_machine.proofs.Frames.{put_same}
+use Rattle.erm_machine.proofs.Guards.{either_way}
 use Rattle.erm_model.specs.declared.outcome.Phase.TheVariants as phase
 use Rattle.erm_world.specs.Calls.{DidClaim, Works, before, now}
 use Rattle.erm_world.specs.World.{Finished, IsSession, Session, View, Work, phase_at, work_at}
@@ -38,6 +39,7 @@ use Rattle.erm_core_steps.proofs.Readings.{still_active, still_session}
 use Rattle.erm_core_turns.proofs.Turns.{one_after}
 use Rattle.erm_core_steps.proofs.Rows.{claimed-push}
 use Rattle.erm_core_view.proofs.Claimed.{starts_with_all}
+use Rattle.erm_core_view.proofs.Snapshots.{starts_between, starts_plain}
 use Rattle.erm_core_cells.proofs.CellsCalls.{starts_bare}
 use Rattle.erm_core_steps.proofs.Places.{active_at}
 
@@ -78,7 +80,11 @@ module _ (seat place cell k value : ℕ) (c : Core) (s : IsStoring seat place ce
       let is : d.seats seat ≡ y = ap (λ (to : Core). to.seats seat) (one_after c d (after_one seat place k value c x) seat (kind.StoreCell place cell (word.Row k) value) one e) ∙ put_same c.seats seat y in
       let here = get_or-set_same x.current.writes place (claim_then k value w) no_claim s.within in
       record {
-        at = record { session = s.at.session; active = ap (λ (z : Part). is_active z.place) is ∙ s.at.active };
+        at = record {
+          session = s.at.session;
+          active = ap (λ (z : Part). is_active z.place) is ∙ s.at.active;
+          plain = ap (λ (z : Part). is_snapshot z.task) is ∙ either_way (λ (u : Task). is_snapshot u ≡ false) (eqb (k + 1) 16) task.Rest (task.Writes place (k + 1)) (λ _. refl) (λ _. refl);
+        };
         within = let n = length-set x.current.writes place (claim_then k value w) in let m = ap (λ (z : Part). length z.current.writes) is in let h = s.within in omega (arith, n, m, h);
         own =
             ap (λ (z : Part). is_own cell (claim_at z.current place).own) is ∙ ap (λ (u : Claim). is_own cell u.own) here ∙ still_own cell k value w.own s.own;
@@ -114,7 +120,7 @@ pub may_write : (seat oid place : ℕ) (c : Core) → Sound c → IsActive seat 
 may_write seat oid place c sound at stands =
     let x = c.seats seat in
     let pl = active_at x.place at.active in
-    let none : claims_over x ≡ 0 = ap (λ q. over_of q x.task (length x.current.writes)) pl.1 ∙ starts_with_all pl.0 x.task (length x.current.writes) at.starts in
+    let none : claims_over x ≡ 0 = ap (λ q. over_of q x.task (length x.current.writes)) pl.1 ∙ starts_with_all pl.0 x.task (length x.current.writes) (starts_between x.task at.starts) in
     record {
       active = at.active;
       starts = at.starts;
@@ -124,7 +130,7 @@ may_write seat oid place c sound at stands =
 
 pub storing_first : (seat place cell : ℕ) (c : Core) → IsActive seat c → MayWrite (c.seats seat) place cell → IsStoring seat place cell 0 c
 storing_first seat place cell c at may = record {
-  at = record { session = at.session; active = at.active };
+  at = record { session = at.session; active = at.active; plain = starts_plain (c.seats seat).task at.starts };
   within = may.claimed;
   own = may.own;
   starts = λ _. may.starts;

@@ -27,13 +27,14 @@ use Rattle.erm_core_steps.proofs.Early.{claimed_holds}
 use Rattle.erm_core_steps.proofs.Newest.{newest_shown}
 use Rattle.erm_core_steps.proofs.Owners.{holder_session, holds_claimed}
 use Rattle.erm_core_view.proofs.Claimed.{starts_with_all, settles_with_all}
+use Rattle.erm_core_view.proofs.Snapshots.{IsNewSnapshot, current_by, shows_current, snapshots_new}
 
 -- a session in the middle of a transaction shows it
-current_shown : (pl : Place) (u : Task) (t : Attempt) → IsBetween pl u → in_progress pl ≡ 1 → world.IsCurrent (stand_of pl t) (work_of t)
-current_shown Idle u t between busy = absurd (cc)
-current_shown (Active tail) u t between busy = refl
-current_shown (Sealed tail stamp) u t between busy = refl
-current_shown _ u t between busy = absurd between
+current_shown : (pl : Place) (u : Task) (t : Attempt) → IsNewSnapshot u t → IsBetween pl u → in_progress pl ≡ 1 → world.IsCurrent (stand_of pl u t) (work_of t)
+current_shown Idle u t new between busy = absurd (cc)
+current_shown (Active tail) u t new between busy = shows_current u t new
+current_shown (Sealed tail stamp) u t new between busy = refl
+current_shown _ u t new between busy = absurd between
 
 -- the owner of an entry has claimed the object
 pub owner_owned : (sessions seat oid owner : ℕ) (c : Core) → Sound c → IsQuiet sessions c → oid < OBJECT_LIMIT → 0 < owner
@@ -46,22 +47,22 @@ owner_owned sessions seat oid owner c sound quiet known some owns other =
       session = session;
       another = other;
       work = work_of x.current;
-      current = current_shown x.place x.task x.current (quiet.between owner session.0 session.1) is.in_progress;
+      current = current_shown x.place x.task x.current (snapshots_new c owner sound) (quiet.between owner session.0 session.1) is.in_progress;
       number_is = is.number_is;
       claims = holds_claimed x oid is.claims;
     }
 
 -- nobody in the middle of a transaction has claimed an object without owner
-current_held : (pl : Place) (t : Attempt) (u : Task) (w : Work) → world.IsCurrent (stand_of pl t) w → IsBetween pl u
+current_held : (pl : Place) (t : Attempt) (u : Task) (w : Work) → IsNewSnapshot u t → world.IsCurrent (stand_of pl u t) w → IsBetween pl u
     → (over_of pl u (length t.writes) ≡ 0) × (work_of t ≡ w)
-current_held (Active tail) t u w is between = (starts_with_all tail u (length t.writes) between, is)
-current_held (Sealed tail stamp) t u w is between = (settles_with_all tail stamp u (length t.writes) between, is)
-current_held _ t u w is between = absurd is
+current_held (Active tail) t u w new is between = (starts_with_all tail u (length t.writes) between, current_by u t w new is)
+current_held (Sealed tail stamp) t u w new is between = (settles_with_all tail stamp u (length t.writes) between, is)
+current_held _ t u w new is between = absurd is
 
 pub unowned : (sessions seat oid : ℕ) (c : Core) → Sound c → IsQuiet sessions c → owner_of (c.shared.objects oid).entry ≡ 0 → IsUnowned (view_of sessions c) seat oid
 unowned sessions seat oid c sound quiet none other number owned =
     let x = c.seats other in
-    let held = current_held x.place x.current x.task owned.work owned.current (quiet.between other owned.session.0 owned.session.1) in
+    let held = current_held x.place x.current x.task owned.work (snapshots_new c other sound) owned.current (quiet.between other owned.session.0 owned.session.1) in
     let holds = claimed_holds oid other c sound held.0 (ap (λ (w : Work). is_claimed w.claims oid) held.1 ∙ owned.claims) in
     let owner = (held_claim c other oid sound holds).fits.owner in
     let some = owned.session.0 in
@@ -79,7 +80,7 @@ newer_shown sessions seat oid place c sound quiet active known within head above
     let x = c.seats seat in
     let current = unsealed x.place x.current active (sound.own seat).ranges.current in
     let newer = newer_is c seat oid place sound known within (active_busy x.place active) current.decision above in
-    let begins = ap (λ (w : Work). w.begin) (work_active x.place x.current active) in
+    let begins = ap (λ (w : Work). w.begin) (work_active x.place x.task x.current active (snapshots_new c seat sound)) in
     record {
       by = newer.by;
       committed = subst (λ (h : History). newer.by ∈ h) (sym (has_the_history sessions c sound quiet)) newer.committed;
@@ -97,5 +98,5 @@ none_newer sessions seat oid place c sound active head below stamp newer =
     let most = newest_shown sessions oid place c sound head newer.by newer.committed newer.makes in
     let is = newer.stamp_is in
     let above = newer.above in
-    let begins = ap (λ (w : Work). w.begin) (work_active (c.seats seat).place (c.seats seat).current active) in
+    let begins = ap (λ (w : Work). w.begin) (work_active (c.seats seat).place (c.seats seat).task (c.seats seat).current active (snapshots_new c seat sound)) in
     absurd (omega (arith, most, is, above, begins, below))

@@ -1,7 +1,8 @@
 -- Steps of a session that the view doesn't show, and what each step of a session leaves.
-use Rattle.std.proofs.Common.{◌≡◌, ◌≢◌, ℕ, ⊎_elim, List, Option, Some, None, refl, sym, ap, ◌∙◌, subst, arith}
+use Rattle.std.proofs.Common.{◌≡◌, ◌≢◌, ℕ, ⊎_elim, List, Option, Some, None, refl, sym, ap, ◌∙◌, subst, arith, Bool, true, false}
 use Rattle.std.proofs.Math.Path.{fun_ext}
 use Rattle.std.proofs.lemmas.Bool.{cases_eq}
+use Rattle.std.specs.Prelude.{if◌then◌else◌}
 use Rattle.erm_machine.specs.declared.attempt.Attempt.{Attempt}
 use Rattle.erm_machine.specs.declared.event.Kind.{Kind}
 use Rattle.erm_machine.specs.declared.limits.TheConstants.{FLUSH_SEAT}
@@ -11,12 +12,14 @@ use Rattle.erm_machine.specs.declared.place.Place.TheVariants.{Active, Sealed}
 use Rattle.erm_machine.specs.Core.{Core}
 use Rattle.erm_machine.specs.Sound.{Sound}
 use Rattle.erm_machine.specs.Step.{after_event}
+use Rattle.erm_machine.specs.declared.task.Task.{Task}
+use Rattle.erm_machine.specs.Seat.{is_safe, is_snapshot}
 use Rattle.erm_machine.proofs.Frames.{put_other}
 use Rattle.erm_machine.proofs.QuietKinds.{moves}
 use Rattle.erm_world.specs.World.{GivenUp, Opening, Session, Stand, View}
 use Rattle.erm_world.specs.World as world
 use Rattle.erm_core_view.specs.Steps.{MeetsOne, drawn_by, flushed_by}
-use Rattle.erm_core_view.specs.Views.{pin_of, session_of, stand_of, view_of}
+use Rattle.erm_core_view.specs.Views.{pin_of, session_of, stand_of, view_of, work_of}
 use Rattle.erm_core_view.proofs.Moved.{changes_one}
 use Rattle.erm_core_steps.specs.Steps.{IsUnseen}
 use Rattle.erm_core_view.proofs.Moved.{meets_one}
@@ -37,12 +40,18 @@ same_view u v opening session tail flushed pinned given =
 -- a seat's pin is told by what its session shows
 abbrev pin_from : Stand → Option ℕ
 pin_from (world.active w) = Some w.begin
+pin_from (world.snapshot s) = Some s.begin
 pin_from s = None
 
-pin_shown : (pl : Place) (t : Attempt) → pin_of pl t ≡ pin_from (stand_of pl t)
-pin_shown (Active tail) t = refl
-pin_shown (Sealed tail stamp) t = refl
-pin_shown _ t = refl
+pin_if : (b safe : Bool) (t : Attempt)
+    → Some t.begin ≡ pin_from (if b then world.snapshot (record { number = t.number; begin = t.begin; is_safe = safe }) else world.active (work_of t))
+pin_if true safe t = refl
+pin_if false safe t = refl
+
+pin_shown : (pl : Place) (u : Task) (t : Attempt) → pin_of pl t ≡ pin_from (stand_of pl u t)
+pin_shown (Active tail) u t = pin_if (is_snapshot u) (is_safe u) t
+pin_shown (Sealed tail stamp) u t = refl
+pin_shown _ u t = refl
 
 -- a step that its session doesn't show, and that neither draws a range nor stores the place flushed
 pub unseen_step : (sessions seat : ℕ) (c d : Core) (k : Kind) → Sound c → MeetsOne k → drawn_by k ≡ 0 → flushed_by k c.shared.flushed ≡ c.shared.flushed
@@ -59,7 +68,7 @@ unseen_step sessions seat c d k sound one none same e own =
     (λ (there : q ≡ seat → ⊥). ap session_of (others q there))
     (cases_eq q seat))
     in
-    let pin : (x : Part) → pin_of x.place x.current ≡ pin_from (session_of x).stand = λ x. pin_shown x.place x.current in
+    let pin : (x : Part) → pin_of x.place x.current ≡ pin_from (session_of x).stand = λ x. pin_shown x.place x.task x.current in
     let pinned : (view_of sessions d).pinned ≡ (view_of sessions c).pinned =
     pin (d.seats FLUSH_SEAT) ∙ ap (λ (f : ℕ → Session). pin_from (f FLUSH_SEAT).stand) session ∙ sym (pin (c.seats FLUSH_SEAT))
     in

@@ -40,6 +40,7 @@ use Rattle.erm_world.specs.Calls.{AreReady, IsClaimReady, IsInTheWay, IsReadRead
 use Rattle.erm_world.specs.World.{IsSession, Work}
 use Rattle.erm_world.specs.World as world
 use Rattle.erm_core_view.specs.Views.{IsBetween, IsQuiet, stand_of, view_of, work_of}
+use Rattle.erm_core_view.proofs.Snapshots.{never_sealed}
 use Rattle.erm_core_steps.specs.Settles.{AreReaders, HasPassed, IsOwnedHead, IsPassing, IsWaiting, Stays, at_owner, at_reader}
 use Rattle.erm_core_steps.proofs.Weights.{word_from_bits}
 use Rattle.erm_core_steps.proofs.Owners.{below_unclear}
@@ -88,13 +89,14 @@ record SealedAt (x : Part) (work : Work) (seen : ℕ) : Type 0 where
   place : is_sealed x.place ≡ true
 
 module _ (sessions : ℕ) (c : Core) (sound : Sound c) (quiet : IsQuiet sessions c) where
-  sealed_at : (x : Part) (pl : Place) (work : Work) (seen : ℕ) → x.place ≡ pl → IsCurrent pl x.current → stand_of pl x.current ≡ world.sealed work seen → SealedAt x work seen
+  sealed_at : (x : Part) (pl : Place) (work : Work) (seen : ℕ) → x.place ≡ pl → IsCurrent pl x.current → stand_of pl x.task x.current ≡ world.sealed work seen → SealedAt x work seen
+  sealed_at x (Active tail) work seen at is e = absurd (never_sealed x.task x.current work seen e)
   sealed_at x (Sealed tail stamp) work seen at is e =
       let both = same_sealed (work_of x.current) work stamp seen e in
       record { work_is = both.0; stamp_is = is.stamp_is ∙ both.1; place = ap is_sealed at }
   sealed_at x _ work seen at is e = absurd (cc)
 
-  sealed_seat : (q seen : ℕ) (work : Work) → stand_of (c.seats q).place (c.seats q).current ≡ world.sealed work seen → SealedAt (c.seats q) work seen
+  sealed_seat : (q seen : ℕ) (work : Work) → stand_of (c.seats q).place (c.seats q).task (c.seats q).current ≡ world.sealed work seen → SealedAt (c.seats q) work seen
   sealed_seat q seen work e = sealed_at (c.seats q) (c.seats q).place work seen refl (sound.own q).ranges.current e
 
   drawn : (q : ℕ) → is_sealed (c.seats q).place ≡ true → 0 < (c.seats q).current.stamp
@@ -265,7 +267,7 @@ module _ (sessions : ℕ) (c : Core) (sound : Sound c) (quiet : IsQuiet sessions
           record {
             session = session;
             another = another;
-            stand = ap (λ (pl : Place). stand_of pl y.current) at;
+            stand = ap (λ (pl : Place). stand_of pl y.task y.current) at;
             below = below_unclear stamp x.current.stamp (omega (arith, own_stamp, high)) (subst (λ pl. is_clear (state_of pl) x.current.stamp ≡ false) at waits);
           }
       is_below_at _ at e = absurd e

@@ -17,7 +17,7 @@ use Rattle.erm_machine.specs.declared.version.VersionAt.{VersionAt}
 use Rattle.erm_machine.specs.Core.{Core, Object, spot_of, word_at}
 use Rattle.erm_machine.specs.Life.{after_clear, noted}
 use Rattle.erm_machine.specs.Reading.{entered, head_version, load_active_stamp, load_cell, load_entry, load_safe_entry, load_walked_link, load_walked_stamp}
-use Rattle.erm_machine.specs.Seat.{is_active, is_safe, is_sealed, may_start, same_version, when, with_task}
+use Rattle.erm_machine.specs.Seat.{is_active, is_safe, is_sealed, may_start, same_version, when, with_task, is_snapshot}
 use Rattle.erm_machine.specs.Settling.{load_stamp}
 use Rattle.erm_machine.specs.Sound.{Sound}
 use Rattle.erm_machine.specs.Step.{after_event, part_after}
@@ -33,6 +33,7 @@ use Rattle.erm_core_calls.proofs.Moving.{met, other_branch, stepped, taken}
 use Rattle.erm_core_view.specs.Views.{session_of, stand_of, view_of, work_of}
 use Rattle.erm_core_view.proofs.Moved.{calm_shows, own_after}
 use Rattle.erm_core_view.proofs.Shown.{stands_active, work_active}
+use Rattle.erm_core_view.proofs.Snapshots.{active_plain, plain_new}
 use Rattle.erm_core_steps.specs.Reads.{GoesOn, IsAtWork, IsLoad, finds, read_step, stage_of, steps_left}
 use Rattle.erm_core_steps.specs.Steps.{IsTaken}
 use Rattle.erm_core_steps.proofs.Unseen.{unseen_both, unseen_none, unseen_step}
@@ -41,22 +42,23 @@ use Rattle.erm_core_steps.proofs.Places.{active_at, active_unsealed, active_ther
 use Rattle.erm_core_steps.proofs.Loads.{loads}
 
 -- where a session shows a transaction that is active, it is
-active_stand : (pl : Place) (t : Attempt) (w : Work) → stand_of pl t ≡ world.active w → is_active pl ≡ true
-active_stand (Active tail) t w e = refl
-active_stand _ t w e = absurd (cc)
+pub active_stand : (pl : Place) (u : Task) (t : Attempt) (w : Work) → stand_of pl u t ≡ world.active w → (is_active pl ≡ true) × (is_snapshot u ≡ false)
+active_stand (Active tail) u t w e = (refl, active_plain u t (ap world.phase_of e))
+active_stand _ u t w e = absurd (cc)
 
-pub active_kept : (x y : Part) → session_of y ≡ session_of x → is_active x.place ≡ true → is_active y.place ≡ true
-active_kept x y same active =
-    active_stand y.place y.current (work_of x.current) (ap (λ (s : Session). s.stand) same ∙ stands_active x.place x.current active)
+pub active_kept : (x y : Part) → session_of y ≡ session_of x → is_active x.place ≡ true → is_snapshot x.task ≡ false → (is_active y.place ≡ true) × (is_snapshot y.task ≡ false)
+active_kept x y same active plain =
+    active_stand y.place y.task y.current (work_of x.current) (ap (λ (s : Session). s.stand) same ∙ stands_active x.place x.task x.current active plain)
 
 -- the seat goes on
 pub load_goes : (sessions seat : ℕ) (c d : Core) (k : Kind) → Sound c → IsAtWork seat c → IsLoad k → after_event c seat k ≡ Some d → GoesOn sessions seat c d
 load_goes sessions seat c d k sound at load e =
     let l = loads k load in
-    let same = calm_shows seat c d k l.calm e in
+    let same = calm_shows seat c d k (l.calm (c.seats seat).task) e in
+    let kept = active_kept (c.seats seat) (d.seats seat) same at.active at.plain in
     record {
       unseen = unseen_step sessions seat c d k sound l.one l.drawn (l.flushed c.shared.flushed) e same;
-      at = record { session = at.session; active = active_kept (c.seats seat) (d.seats seat) same at.active };
+      at = record { session = at.session; active = kept.0; plain = kept.1 };
     }
 
 pub goes_none : (sessions seat : ℕ) (c : Core) → IsAtWork seat c → GoesOn sessions seat c c
@@ -295,5 +297,5 @@ arrived_walks oid entry t (owned q at owns some) none = absurd (none oid q at)
 -- the transaction stays the one that the view shows
 pub begin_stays : (sessions seat : ℕ) (b c : Core) → GoesOn sessions seat b c → (c.seats seat).current.begin ≡ (world.work_at (view_of sessions b) seat).begin
 begin_stays sessions seat b c goes =
-    sym (ap (λ (w : Work). w.begin) (work_active (c.seats seat).place (c.seats seat).current goes.at.active))
+    sym (ap (λ (w : Work). w.begin) (work_active (c.seats seat).place (c.seats seat).task (c.seats seat).current goes.at.active (plain_new (c.seats seat).task (c.seats seat).current goes.at.plain)))
     ∙ ap (λ (v : View). (world.work_at v seat).begin) goes.unseen.view

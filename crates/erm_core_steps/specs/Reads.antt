@@ -11,7 +11,7 @@ use Rattle.erm_machine.specs.declared.task.Task.TheVariants as task
 use Rattle.erm_machine.specs.declared.version.CellWord.TheVariants as word
 use Rattle.erm_machine.specs.declared.version.VersionAt.{VersionAt}
 use Rattle.erm_machine.specs.Core.{Core}
-use Rattle.erm_machine.specs.Seat.{is_active}
+use Rattle.erm_machine.specs.Seat.{is_active, is_snapshot}
 use Rattle.erm_machine.specs.Words.{is_clear, is_session, state_of}
 use Rattle.erm_core_view.specs.Views.{view_of}
 use Rattle.erm_world.specs.Calls.{DidAbort, IsClearOf, IsShut, Works}
@@ -23,6 +23,7 @@ use Rattle.erm_core_steps.specs.Steps.{IsUnseen}
 pub record IsAtWork (seat : ℕ) (c : Core) : Type 0 where
   pub session : is_session seat ≡ true
   pub active : is_active (c.seats seat).place ≡ true
+  pub plain : is_snapshot (c.seats seat).task ≡ false
 
 -- it is at work, and its steps since then don't show
 pub record GoesOn (sessions seat : ℕ) (c d : Core) : Type 0 where

@@ -16,6 +16,7 @@ use Rattle.erm_machine.specs.Life.{is_between}
 use Rattle.erm_machine.specs.Log.{Gathering, IsFlushing}
 use Rattle.erm_machine.specs.Sound.{Sound}
 use Rattle.erm_machine.specs.Step.{after_event}
+use Rattle.erm_machine.specs.Seat.{is_snapshot}
 use Rattle.erm_core_flush.specs.Turns.{Turns}
 use Rattle.erm_core_flush.proofs.Turns.{clear_turns, first_turns, store_turns}
 use Rattle.erm_core_view.specs.Views.{IsBetween, IsQuiet, IsStill, pin_of}
@@ -123,6 +124,7 @@ flush_done sessions end b c d sound quiet above is within has e =
       writes = ap (λ (t : Attempt). t.writes) pin.current ∙ was.writes;
       made = ap (λ (t : Attempt). t.made) pin.current ∙ was.made;
       rests = subst (λ (p : Place). IsBetween p (d.seats F).task) (sym pin.place) (subst (λ (u : Task). IsBetween (b.seats F).place u) (sym pin.task) was.rests);
+      plain = ap is_snapshot pin.task ∙ was.plain;
       turn = ap is_between still;
       run = subst (λ (n : ℕ). n ≤ LAST_RUN) (sym pin.run) was.run;
     } in

@@ -22,6 +22,7 @@ use Rattle.erm_machine.specs.Life.{is_between}
 use Rattle.erm_machine.specs.Lives.{IsPin}
 use Rattle.erm_machine.specs.Log.{Gathering, IsEnd, IsFlushing, cleared_to}
 use Rattle.erm_machine.specs.Sound.{Sound}
+use Rattle.erm_machine.specs.Seat.{is_snapshot}
 use Rattle.erm_block.specs.declared.block.Block.{Block}
 use Rattle.erm_core_ring.proofs.Fits.{decided_fits}
 use Rattle.erm_core_ring.proofs.Spans.{span_from}
@@ -47,7 +48,7 @@ abbrev F : ℕ
 F = FLUSH_SEAT
 
 -- A RANGE that isn't decided is that of a session that is sealed.
-undecided_sealed : (pl : Place) (u : Task) (t : Attempt) (at q : ℕ) → IsBetween pl u → IsCurrent pl t → 0 < t.stamp → t.stamp ≡ at → IsSome (undecided_at at q (stand_of pl t))
+undecided_sealed : (pl : Place) (u : Task) (t : Attempt) (at q : ℕ) → IsBetween pl u → IsCurrent pl t → 0 < t.stamp → t.stamp ≡ at → IsSome (undecided_at at q (stand_of pl u t))
 undecided_sealed Idle u t at q between cur drawn is = let none = ap (λ (a : Attempt). a.stamp) cur in absurd (omega (arith, none, drawn))
 undecided_sealed (Active tail) u t at q between cur drawn is = let none = cur.stamp in absurd (omega (arith, none, drawn))
 undecided_sealed (Sealed tail stamp) u t at q between cur drawn is =
@@ -157,6 +158,7 @@ module _ (law : Law) (lists : Lists law) (sessions at : ℕ) (b e : Core) (under
         made = ap (λ (t : Attempt). t.made) did.pin.current ∙ was.made;
         rests =
             subst (λ (p : Place). IsBetween p (e.seats F).task) (sym did.pin.place) (subst (λ (u : Task). IsBetween (b.seats F).place u) (sym did.pin.task) was.rests);
+        plain = ap is_snapshot did.pin.task ∙ was.plain;
         turn = ap is_between is ∙ eq-eqb at at refl;
         run = subst (λ (n : ℕ). n ≤ LAST_RUN) (sym did.pin.run) was.run;
       }

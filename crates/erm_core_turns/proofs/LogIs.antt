@@ -14,10 +14,12 @@ use Rattle.erm_machine.specs.Facts.{HasBegun, IsCurrent}
 use Rattle.erm_machine.specs.Lawful.{opening_rows}
 use Rattle.erm_machine.specs.Lives.{in_progress}
 use Rattle.erm_machine.specs.Sound.{Sound}
+use Rattle.erm_machine.specs.declared.task.Task.{Task}
 use Rattle.erm_machine.proofs.Listed.{∈-head, ∈-second}
 use Rattle.erm_block.specs.declared.block.Block.{Block}
 use Rattle.erm_block.specs.LogList.{End, IsChain, end_after, end_of}
 use Rattle.erm_core_view.specs.Views.{IsQuiet, pin_of, session_of, stand_of, view_of, work_of}
+use Rattle.erm_core_view.proofs.Snapshots.{never_sealed}
 use Rattle.erm_log_list.specs.LogOf.{IsDecidedUpTo, IsLogUpTo, log_start, ranges_below, words_of}
 use Rattle.erm_sound.specs.Kept.{SoundUnder}
 use Rattle.erm_world.specs.Log.{IsEnd, IsLog, place_behind, rows_behind}
@@ -51,10 +53,11 @@ More law = (c : Core) (from to : ℕ) (a b : List Block) → Sound c → from �
 same_stamp : (w u : Work) (m n : ℕ) → world.sealed w m ≡ world.sealed u n → m ≡ n
 same_stamp w u m n e = cc
 
-sealed_stamp : (pl : Place) (t : Attempt) (w : Work) (place : ℕ) → IsCurrent pl t → stand_of pl t ≡ world.sealed w place → (t.stamp ≡ place) × (0 < t.stamp) × (t.decision ≡ Undecided)
-sealed_stamp (Sealed tail stamp) t w place cur e =
+sealed_stamp : (pl : Place) (u : Task) (t : Attempt) (w : Work) (place : ℕ) → IsCurrent pl t → stand_of pl u t ≡ world.sealed w place → (t.stamp ≡ place) × (0 < t.stamp) × (t.decision ≡ Undecided)
+sealed_stamp (Active tail) u t w place cur e = absurd (never_sealed u t w place e)
+sealed_stamp (Sealed tail stamp) u t w place cur e =
     let same = same_stamp (work_of t) w stamp place e in let is = cur.stamp_is in let some = cur.positive in (omega (arith, is, same), omega (arith, is, some), cur.decision)
-sealed_stamp _ t w place cur e = absurd (cc)
+sealed_stamp _ u t w place cur e = absurd (cc)
 
 only_none : (o : Option log.Undecided) → ((u : log.Undecided) → o ≡ Some u → ⊥) → o ≡ None
 only_none (Some u) none = absurd (none u refl)
@@ -90,7 +93,7 @@ module _ (law : Law) (lists : Lists law) (sessions : ℕ) (c : Core) (under : So
       only_none (undecided_at place q (session_of (c.seats q)).stand)
       (λ u sealed.
       let so = undecided_is place q (session_of (c.seats q)).stand u sealed in
-      let is = sealed_stamp (c.seats q).place (c.seats q).current so.work place (under.sound.own q).ranges.current so.stand in
+      let is = sealed_stamp (c.seats q).place (c.seats q).task (c.seats q).current so.work place (under.sound.own q).ranges.current so.stand in
       let stamp = is.0 in
       let most = (place_upto c under.sound).2 in
       let decided = (under.sound.common.log.gathered.decided q (c.seats q).current (∈-second (c.seats q).over ((c.seats q).current ∷ []) (c.seats q).current (∈-head (c.seats q).current [])) is.1

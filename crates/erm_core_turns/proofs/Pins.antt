@@ -1,5 +1,5 @@
 -- A pin: the steps of a begin, and its end.
-use Rattle.std.proofs.Common.{◌≡◌, ℕ, ◌≤◌, true, eqb, List, [], length, Option, Some, None, refl, sym, ap, ◌∙◌, subst, arith, Bool}
+use Rattle.std.proofs.Common.{◌≡◌, ℕ, ◌≤◌, true, eqb, List, [], length, Option, Some, None, refl, sym, ap, ◌∙◌, subst, arith, Bool, false}
 use Rattle.std.specs.Prelude.{IsSome, if◌then◌else◌}
 use Rattle.std.proofs.lemmas.Bool.{and_from, eq-eqb, or_left}
 use Rattle.erm_model.specs.declared.limits.TheConstants.{LAST_RUN}
@@ -22,6 +22,7 @@ use Rattle.erm_machine.specs.Sound.{Sound}
 use Rattle.erm_machine.specs.Step.{after_event}
 use Rattle.erm_core_calls.proofs.Moving.{met, stepped, taken}
 use Rattle.erm_core_view.specs.Views.{IsBetween, IsQuiet, IsStill, pin_of}
+use Rattle.erm_core_view.proofs.Snapshots.{starts_or_stands}
 use Rattle.erm_core_turns.specs.Turns.{Flushes, blocks_below, gathered_place, log_of}
 use Rattle.erm_core_turns.proofs.Turns.{flushes_both, log_same, one_after, part_stepped, quiet_turn, step_flushes}
 
@@ -40,9 +41,9 @@ pub record IsPinned (x : Part) : Type 0 where
   pub place : x.place ≡ Active tail
   pub starts : may_start x.task ≡ true
 
-pinned_at : (pl : Place) (u : Task) (t : Attempt) → IsBetween pl u → IsSome (pin_of pl t) → (tail : ℕ) × (pl ≡ Active tail) × (may_start u ≡ true)
-pinned_at (Active tail) u t between some = (tail, refl, between)
-pinned_at _ u t between some = absurd (cc)
+pinned_at : (pl : Place) (u : Task) (t : Attempt) → IsBetween pl u → is_snapshot u ≡ false → IsSome (pin_of pl t) → (tail : ℕ) × (pl ≡ Active tail) × (may_start u ≡ true)
+pinned_at (Active tail) u t between plain some = (tail, refl, starts_or_stands u between plain)
+pinned_at _ u t between plain some = absurd (cc)
 
 module _ (sessions : ℕ) (c : Core) (sound : Sound c) (quiet : IsQuiet sessions c) where
   still : IsStill (c.seats F)
@@ -53,7 +54,7 @@ module _ (sessions : ℕ) (c : Core) (sound : Sound c) (quiet : IsQuiet sessions
 
   pub is_pinned : IsSome (pin_of (c.seats F).place (c.seats F).current) → IsPinned (c.seats F)
   is_pinned some =
-      let at = pinned_at (c.seats F).place (c.seats F).task (c.seats F).current still.rests some in
+      let at = pinned_at (c.seats F).place (c.seats F).task (c.seats F).current still.rests still.plain some in
       record { tail = at.0; place = at.1; starts = at.2 }
 
 -- the flush seat's part after each step of a begin
@@ -128,6 +129,7 @@ pin_done sessions b c d e quiet idle one two three =
       writes = ap (λ (x : Part). x.current.writes) is;
       made = ap (λ (x : Part). x.current.made) is;
       rests = subst (λ (x : Part). IsBetween x.place x.task) (sym is) refl;
+      plain = ap (λ (x : Part). is_snapshot x.task) is;
       turn = ap is_between flushing ∙ (quiet.flusher F refl).turn;
       run = subst (λ (n : ℕ). n ≤ LAST_RUN) (sym (ap (λ (x : Part). x.run) is ∙ ap (λ (x : Part). x.run) next ∙ ap (λ (x : Part). x.run) was)) (quiet.flusher F refl).run;
     } in
@@ -182,6 +184,7 @@ unpin_done sessions b c quiet at e =
       writes = ap (λ (x : Part). x.current.writes) is;
       made = ap (λ (x : Part). x.current.made) is;
       rests = subst (λ (x : Part). IsBetween x.place x.task) (sym is) refl;
+      plain = ap (λ (x : Part). is_snapshot x.task) is;
       turn = ap is_between flushing ∙ still.turn;
       run = subst (λ (n : ℕ). n ≤ LAST_RUN) (sym (ap (λ (x : Part). x.run) is)) still.run;
     } in

@@ -67,6 +67,7 @@ undecided_is at q (world.sealed w stamp) u e =
     let r = if_some (stamp == at) (undecided_as q w) u e in record { work = w; stand = ap (world.sealed w) (eqb-true stamp at r.0); is = r.1 }
 undecided_is at q world.idle u e = absurd (cc)
 undecided_is at q (world.active w) u e = absurd (cc)
+undecided_is at q (world.snapshot t) u e = absurd (cc)
 
 pub sealed_is : (at q : ℕ) (s : Stand) (w : Work) → s ≡ world.sealed w at → undecided_at at q s ≡ Some (undecided_as q w)
 sealed_is at q s w e = ap (undecided_at at q) e ∙ cond-true (at == at) (Some (undecided_as q w)) None (eq-eqb at at refl)

@@ -27,6 +27,7 @@ use Rattle.erm_core_view.proofs.Chained.{becomes_then, goes, run_append, taken}
 use Rattle.erm_core_view.proofs.Ends.{Ending, all_cleared, all_released, nothing_ended}
 use Rattle.erm_core_view.proofs.Moved.{one_becomes}
 use Rattle.erm_core_view.proofs.Shown.{work_active}
+use Rattle.erm_core_view.proofs.Snapshots.{IsNewSnapshot}
 
 -- the part after the begin word is cleared
 abbrev gone : Part → Part
@@ -40,11 +41,11 @@ clears_begin seat x (Active tail) active session ended =
 clears_begin seat x _ active session ended = absurd (cc)
 
 -- what it shows then
-gone_shows : (x : Part) (s : Session) → session_of x ≡ s → is_active x.place ≡ true
+gone_shows : (x : Part) (s : Session) → session_of x ≡ s → is_active x.place ≡ true → IsNewSnapshot x.task x.current
     → session_of (gone x) ≡ record { over = s.over ++ record { work = world.work_of s.stand; fate = world.aborts } ∷ []; stand = world.idle }
-gone_shows x s same active =
+gone_shows x s same active new =
     let ended : Attempt = record x.current { decision = Abort } in
-    let work : work_of x.current ≡ world.work_of s.stand = sym (work_active x.place x.current active) ∙ ap (λ (r : Session). world.work_of r.stand) same in
+    let work : work_of x.current ≡ world.work_of s.stand = sym (work_active x.place x.task x.current active new) ∙ ap (λ (r : Session). world.work_of r.stand) same in
     let lists : map finished_of (x.over ++ ended ∷ []) ≡ s.over ++ record { work = world.work_of s.stand; fate = world.aborts } ∷ [] =
     map-append finished_of x.over (ended ∷ []) ∙ ap (λ (fs : List Finished). fs ++ finished_of ended ∷ []) (ap (λ (r : Session). r.over) same)
     ∙ ap (λ (w : Work). s.over ++ record { work = w; fate = world.aborts } ∷ []) work in
@@ -93,7 +94,7 @@ module _ (seat : ℕ) (c : Core) (sound : Sound c) (session : is_flusher seat �
       let at = all_ended sessions in
       let s : Session = session_of (c.seats seat) in
       let after : Session = record { over = s.over ++ record { work = world.work_of s.stand; fate = world.aborts } ∷ []; stand = world.idle } in
-      let shows : session_of (done.seats seat) ≡ after = ap session_of (put_same last.seats seat (gone y)) ∙ gone_shows y s at.shows.own still in
+      let shows : session_of (done.seats seat) ≡ after = ap session_of (put_same last.seats seat (gone y)) ∙ gone_shows y s at.shows.own still at.new in
       subst (λ (d : Core). IsDone (view_of sessions c) seat (work_at (view_of sessions c) seat) world.aborts (view_of sessions d)) (sym runs)
       (becomes_then (view_of sessions c) seat s (view_of sessions last) after (view_of sessions done) at.shows
       (one_becomes sessions seat last done (kind.StoreBegin 0) after session tt tt refl refl last_goes shows))

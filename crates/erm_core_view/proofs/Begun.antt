@@ -122,6 +122,10 @@ module _ (seat : ℕ) (c : Core) (sound : Sound c) (session : is_flusher seat �
       let next = cond-false (is_flusher seat) (c.seats seat).number ((c.seats seat).number + 1) session in
       omega (arith, count, number, next)
 
+  -- an idle seat rests
+  at_rest : (c.seats seat).task ≡ task.Rest
+  at_rest = subst (λ (place : Place). TaskFits place (c.seats seat).current (c.seats seat).task) idle (sound.own seat).task.fits
+
   pub begins : (sessions : ℕ) → c.shared.tail < STOP
       → DidBegin (view_of sessions c) seat c.shared.tail (view_of sessions (run_from c (begin_steps seat c.shared.tail)))
   begins sessions below = (
@@ -143,7 +147,7 @@ module _ (seat : ℕ) (c : Core) (sound : Sound c) (session : is_flusher seat �
       let d : Core = run_from c (record { seat = seat; kind = kind.LoadTail purpose.Begin } ∷ []) in
       let x : Part = c.seats seat in
       let same : session_of (loaded Idle c.shared.tail x) ≡ session_of x =
-      ap (λ (place : Place). record { over = map finished_of x.over; stand = stand_of place x.current }) (sym idle) in
+      ap (λ (place : Place). record { over = map finished_of x.over; stand = stand_of place x.task x.current }) (sym idle) in
       let count = length-map x.over finished_of in (
         same_view (view_of sessions c) seat (view_of sessions d)
             (alone_shows sessions seat c (loaded Idle c.shared.tail x) d (session_of x) (refused_alone above) (λ here. absurd (eqb-false seat FLUSH_SEAT session here)) same),
@@ -155,5 +159,4 @@ module _ (seat : ℕ) (c : Core) (sound : Sound c) (session : is_flusher seat �
   pub refused_rests : STOP ≤ c.shared.tail → RestsAt seat Idle (run_from c (record { seat = seat; kind = kind.LoadTail purpose.Begin } ∷ []))
   refused_rests above =
       let own = (refused_alone above).own in
-      let rest : (c.seats seat).task ≡ task.Rest = subst (λ (place : Place). TaskFits place (c.seats seat).current (c.seats seat).task) idle (sound.own seat).task.fits in
-      record { place = ap (λ (y : Part). y.place) own; rests = ap (λ (y : Part). y.task) own ∙ rest }
+      record { place = ap (λ (y : Part). y.place) own; rests = ap (λ (y : Part). y.task) own ∙ at_rest }

@@ -1,5 +1,5 @@
 -- What transactions in progress have claimed.
-use Rattle.std.proofs.Common.{◌≡◌, ◌≢◌, ℕ, true, length, refl, sym, ap, ◌∙◌, subst, arith}
+use Rattle.std.proofs.Common.{◌≡◌, ◌≢◌, ℕ, true, ◌||◌, length, refl, sym, ap, ◌∙◌, subst, arith}
 use Rattle.erm_model.specs.declared.history.VersionWritten.{VersionWritten}
 use Rattle.erm_model.specs.Member.{◌∈◌}
 use Rattle.erm_model.proofs.Members.{none_in_nil}
@@ -19,10 +19,11 @@ use Rattle.erm_machine.proofs.Holders.{held_once, holds_from, stands_at}
 use Rattle.erm_machine.proofs.Listed.{∈-map}
 use Rattle.erm_world.specs.World.{IsSession, work_at}
 use Rattle.erm_world.specs.World as world
-use Rattle.erm_core_view.specs.Views.{IsBetween, IsQuiet, stand_of, view_of}
+use Rattle.erm_core_view.specs.Views.{IsBetween, IsQuiet, is_standing, stand_of, view_of}
+use Rattle.erm_core_view.proofs.Snapshots.{IsNewSnapshot, shown_work, snapshots_new}
 
 -- no claim is over where a call may start, and where settle may begin anew
-pub starts_with_all : (tail : ℕ) (u : Task) (writes : ℕ) → may_start u ≡ true → over_of (Active tail) u writes ≡ 0
+pub starts_with_all : (tail : ℕ) (u : Task) (writes : ℕ) → may_start u || is_standing u ≡ true → over_of (Active tail) u writes ≡ 0
 starts_with_all tail (task.Ends raised ended step cleared) writes e = absurd (cc)
 starts_with_all tail _ writes e = refl
 
@@ -31,18 +32,19 @@ settles_with_all tail stamp (task.Ends raised ended step cleared) writes e = abs
 settles_with_all tail stamp _ writes e = refl
 
 -- a claim that the view's transaction in progress has is one of the seat's current one, and none is over
-claimed_of : (pl : Place) (t : Attempt) (u : Task) (d : VersionWritten) → IsBetween pl u → d ∈ (world.work_of (stand_of pl t)).claims
+claimed_of : (pl : Place) (t : Attempt) (u : Task) (d : VersionWritten) → IsNewSnapshot u t → IsBetween pl u → d ∈ (world.work_of (stand_of pl u t)).claims
     → (over_of pl u (length t.writes) ≡ 0) × ((w : Claim) × (w ∈ t.writes) × (written_of w ≡ d))
-claimed_of (Active tail) t u d between m = (starts_with_all tail u (length t.writes) between, ∈-map written_of t.writes d m)
-claimed_of (Sealed tail stamp) t u d between m = (settles_with_all tail stamp u (length t.writes) between, ∈-map written_of t.writes d m)
-claimed_of _ t u d between m = absurd (none_in_nil d m)
+claimed_of (Active tail) t u d new between m =
+    (starts_with_all tail u (length t.writes) between, ∈-map written_of t.writes d (subst (λ (w : world.Work). d ∈ w.claims) (shown_work u t new) m))
+claimed_of (Sealed tail stamp) t u d new between m = (settles_with_all tail stamp u (length t.writes) between, ∈-map written_of t.writes d m)
+claimed_of _ t u d new between m = absurd (none_in_nil d m)
 
 module _ (sessions : ℕ) (c : Core) (sound : Sound c) (quiet : IsQuiet sessions c) where
   -- so its seat holds the object
   claims_hold : (p : ℕ) (d : VersionWritten) → IsSession (view_of sessions c) p → d ∈ (work_at (view_of sessions c) p).claims → Holds (c.seats p) d.oid
   claims_hold p d is_session m =
       let x = c.seats p in
-      let claim = claimed_of x.place x.current x.task d (quiet.between p is_session.0 is_session.1) m in
+      let claim = claimed_of x.place x.current x.task d (snapshots_new c p sound) (quiet.between p is_session.0 is_session.1) m in
       let none = claim.0 in
       let at = stands_at x.current claim.1.0 claim.1.1 in
       let oid : claim.1.0.version.oid ≡ d.oid = ap (λ (v : VersionWritten). v.oid) claim.1.2 in

@@ -20,7 +20,7 @@ use Rattle.erm_machine.specs.declared.task.Task.TheVariants as task
 use Rattle.erm_machine.specs.declared.version.VersionAt.{VersionAt}
 use Rattle.erm_machine.specs.Core.{Core, claim_at, no_claim, spot_of, word_at}
 use Rattle.erm_machine.specs.Facts.{IsCurrent}
-use Rattle.erm_machine.specs.Seat.{end_of, is_active, is_commit, is_decided, no_read, read_at, same_version, with_task}
+use Rattle.erm_machine.specs.Seat.{end_of, is_active, is_commit, is_decided, is_snapshot, no_read, read_at, same_version, with_task}
 use Rattle.erm_machine.specs.Settling.{adds_version, clear_reader, given_back, install, install_claim, release_old}
 use Rattle.erm_machine.specs.Sound.{Sound}
 use Rattle.erm_machine.specs.Step.{after_event, run_from, shared_after}
@@ -33,6 +33,7 @@ use Rattle.erm_core_view.specs.Views.{session_of, view_of}
 use Rattle.erm_core_view.proofs.Chained.{becomes_same, goes, taken}
 use Rattle.erm_core_view.proofs.Moved.{calm_shows, end_shows, one_becomes}
 use Rattle.erm_core_view.proofs.Parts.{current_stands}
+use Rattle.erm_core_view.proofs.Snapshots.{IsNewSnapshot, reads_plain, snapshots_new, writes_plain}
 
 -- an active seat isn't decided, and its transaction isn't
 pub not_decided : (place : Place) → is_active place ≡ true → is_decided place ≡ false
@@ -48,9 +49,9 @@ pub installs_by : (oid head : ℕ) (x : Part) (t : Task) (e : ℕ × ℕ × ℕ 
 installs_by oid head x task.Refused e is = absurd (cc)
 installs_by oid head x t e is = ap (λ (o : Option (ℕ × ℕ × ℕ × ℕ)). install_claim oid head x o) is
 
-is_ending : (t : Task) (e : ℕ × ℕ × ℕ × ℕ) → end_of t ≡ Some e → IsEnding t
-is_ending task.Refused e is = absurd (cc)
-is_ending t e is = tt
+is_ending : (t : Task) (e : ℕ × ℕ × ℕ × ℕ) → end_of t ≡ Some e → is_snapshot t ≡ false → IsEnding t
+is_ending task.Refused e is plain = absurd (cc)
+is_ending t e is plain = plain
 
 -- a claim that is released keeps the name of the version that it overwrites
 version_kept : (ws : List Claim) (place : ℕ) (w : Claim) (k : ℕ) → w.version ≡ (get_or ws place no_claim).version
@@ -101,6 +102,7 @@ module _ (sessions seat : ℕ) (c : Core) (sound : Sound c) (session : is_flushe
     pub shows : Becomes (view_of sessions c) seat (session_of (c.seats seat)) (view_of sessions d)
     pub place : (d.seats seat).place ≡ (c.seats seat).place
     pub task : end_of (d.seats seat).task ≡ Some (0, ended, 0, cleared)
+    pub new : IsNewSnapshot (d.seats seat).task (d.seats seat).current
     pub decision : (d.seats seat).current.decision ≡ Undecided
     pub reads : (d.seats seat).current.reads ≡ (c.seats seat).current.reads
     pub count : length (d.seats seat).current.writes ≡ length (c.seats seat).current.writes
@@ -121,6 +123,7 @@ module _ (sessions seat : ℕ) (c : Core) (sound : Sound c) (session : is_flushe
     shows = record { own = refl; others = λ q other. refl; opening = refl; tail = refl; flushed = refl; pinned = refl; given_up = refl };
     place = refl;
     task = may;
+    new = snapshots_new c seat sound;
     decision = undecided x.place x.current active (sound.own seat).ranges.current;
     reads = refl;
     count = refl;
@@ -143,7 +146,7 @@ module _ (sessions seat : ℕ) (c : Core) (sound : Sound c) (session : is_flushe
       let taken_is : after_event d seat k_is ≡ Some e =
       goes d seat k_is z tt (lt-ltb v.oid OBJECT_LIMIT below)
       (releases v.oid v.cell k y (still_active k 0 d at) at.task within_now (ap (λ (u : VersionAt). u.oid) named) (ap (λ (u : VersionAt). u.cell) named)) in
-      let same : session_of (e.seats seat) ≡ session_of y = end_shows seat v.oid v.cell d e (is_ending y.task (0, k, 0, 0) at.task) taken_is in
+      let same : session_of (e.seats seat) ≡ session_of y = end_shows seat v.oid v.cell d e (is_ending y.task (0, k, 0, 0) at.task (writes_plain y.task y.current at.new (omega (arith, within_now)))) taken_is in
       let own : e.seats seat ≡ z = put_same d.seats seat z in
       record {
         next = e;
@@ -152,6 +155,7 @@ module _ (sessions seat : ℕ) (c : Core) (sound : Sound c) (session : is_flushe
           shows = becomes_same sessions seat c d e at.shows (one_becomes sessions seat d e k_is (session_of y) session (at.some v.oid below) tt refl refl taken_is same);
           place = ap (λ (u : Part). u.place) own ∙ at.place;
           task = ap (λ (u : Part). end_of u.task) own;
+          new = λ snapshot. let plain : is_snapshot (e.seats seat).task ≡ false = ap (λ (u : Part). is_snapshot u.task) own in absurd (cc);
           decision = ap (λ (u : Part). u.current.decision) own ∙ at.decision;
           reads = ap (λ (u : Part). u.current.reads) own ∙ at.reads;
           count = ap (λ (u : Part). length u.current.writes) own ∙ length-set y.current.writes k _ ∙ at.count;
@@ -177,7 +181,7 @@ module _ (sessions seat : ℕ) (c : Core) (sound : Sound c) (session : is_flushe
       let taken_is : after_event d seat k_is ≡ Some e =
       goes d seat k_is z tt (lt-ltb v.oid OBJECT_LIMIT below)
       (clears v all k y (still_active all k d at) at.task (sym at.count) within_now at.decision named) in
-      let same : session_of (e.seats seat) ≡ session_of y = calm_shows seat d e k_is tt taken_is in
+      let same : session_of (e.seats seat) ≡ session_of y = calm_shows seat d e k_is (reads_plain y.task y.current at.new (omega (arith, within_now))) taken_is in
       let own : e.seats seat ≡ z = put_same d.seats seat z in
       record {
         next = e;
@@ -186,6 +190,7 @@ module _ (sessions seat : ℕ) (c : Core) (sound : Sound c) (session : is_flushe
           shows = becomes_same sessions seat c d e at.shows (one_becomes sessions seat d e k_is (session_of y) session tt tt refl refl taken_is same);
           place = ap (λ (u : Part). u.place) own ∙ at.place;
           task = ap (λ (u : Part). end_of u.task) own;
+          new = λ snapshot. let plain : is_snapshot (e.seats seat).task ≡ false = ap (λ (u : Part). is_snapshot u.task) own in absurd (cc);
           decision = ap (λ (u : Part). u.current.decision) own ∙ at.decision;
           reads = ap (λ (u : Part). u.current.reads) own ∙ at.reads;
           count = ap (λ (u : Part). length u.current.writes) own ∙ at.count;

@@ -6,6 +6,7 @@ pub mod Claimed
 pub mod Commits
 pub mod Ends
 pub mod Lives
+pub mod Looks
 pub mod Made
 pub mod Moved
 pub mod Parts
@@ -13,4 +14,5 @@ pub mod Rows
 pub mod Seals
 pub mod Serial
 pub mod Shown
+pub mod Snapshots
 pub mod Words

@@ -18,6 +18,7 @@ use Rattle.erm_world.specs.Laws.{IsLawfulWork, IsNumbered}
 use Rattle.erm_world.specs.World.{Finished, Has, HasStamp, IsSession, Work}
 use Rattle.erm_core_view.specs.Views.{IsQuiet, finished_of, session_of, view_of, work_of}
 use Rattle.erm_core_view.proofs.Parts.{current_of, has_attempt, has_stamped}
+use Rattle.erm_core_view.proofs.Snapshots.{snapshots_new}
 
 -- what keeps a law keeps it in the view
 pub lawful_work : (law : Law) (seat : ℕ) (t : Attempt) → IsLawfulRecord law (record_of seat t) → IsLawfulWork law (work_of t)
@@ -43,7 +44,7 @@ module _ (sessions : ℕ) (c : Core) (sound : Sound c) (quiet : IsQuiet sessions
   -- a transaction begins within the log
   pub begins_within : (seat : ℕ) (w : Work) → Has (view_of sessions c) seat w → (c.shared.opening ≤ w.begin) × (w.begin ≤ c.shared.tail)
   begins_within seat w has =
-      let at = has_attempt sessions c seat w has in
+      let at = has_attempt sessions c seat w sound has in
       let begin : at.attempt.begin ≡ w.begin = ap (λ (v : Work). v.begin) at.is in
       let past = ((sound.own seat).snapshot.past at.attempt at.stands).past in
       let opened : c.shared.opening ≤ at.attempt.begin =
@@ -104,7 +105,7 @@ module _ (sessions : ℕ) (c : Core) (sound : Sound c) (quiet : IsQuiet sessions
             let same : f ≡ finished_of (over_at x k) = same_Some f (finished_of (over_at x k)) (sym e ∙ there) in
             ap (λ (g : Finished). g.work.number) same ∙ lives.numbers plain k within;
         now = λ w current.
-            let at = current_of x w current in
+            let at = current_of x w (snapshots_new c seat sound) current in
             let number : x.current.number ≡ w.number = ap (λ (v : Work). v.number) at.is in
             let progress = at.progress in
             let last = lives.current at.progress in

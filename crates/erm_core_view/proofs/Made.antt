@@ -1,6 +1,6 @@
 -- Objects that transactions made: how often, and by whom.
 use Rattle.std.proofs.Common.{◌≡◌, ◌≢◌, ℕ, zero, suc, ◌+◌, ◌<◌, ◌≤◌, ⊎_elim, Bool, true, false, List, [], ◌∷◌, ◌++◌, length, map, flat_map, eqb, cond, refl, sym, ap, ◌∙◌, subst, ◌⊎◌, inl, inr, arith}
-use Rattle.std.specs.Prelude.{slice_index, sum_by}
+use Rattle.std.specs.Prelude.{if◌then◌else◌, slice_index, sum_by}
 use Rattle.std.proofs.lemmas.Bool.{cases_eq, cases_lt, eq-eqb, ne_eqb}
 use Rattle.std.proofs.lemmas.List.Sums.{sum_by-append, sum_by-cons}
 use Rattle.erm_model.proofs.Members.{none_in_nil}
@@ -15,12 +15,14 @@ use Rattle.erm_machine.specs.declared.task.Task.{Task}
 use Rattle.erm_machine.specs.Core.{Core, blank}
 use Rattle.erm_machine.specs.Facts.{IsCurrent}
 use Rattle.erm_machine.specs.Numbers.{made_of}
+use Rattle.erm_machine.specs.Seat.{is_safe, is_snapshot}
 use Rattle.erm_machine.specs.Sound.{Sound}
 use Rattle.erm_machine.specs.Words.{is_flusher}
 use Rattle.erm_machine.proofs.Listed.{∈-cons, ∈-either}
 use Rattle.erm_world.specs.World.{Finished, Session, made_by_all, made_in, made_upto}
 use Rattle.erm_world.specs.World as world
-use Rattle.erm_core_view.specs.Views.{IsBetween, IsQuiet, finished_of, session_of, stand_of, view_of}
+use Rattle.erm_core_view.specs.Views.{IsBetween, IsQuiet, finished_of, session_of, stand_of, view_of, work_of}
+use Rattle.erm_core_view.proofs.Snapshots.{IsNewSnapshot, shown_work, snapshots_new}
 
 -- how often an object stands in a list with one more in front, in two lists
 times_cons : (y : ℕ) (ys : List ℕ) (x : ℕ) → times_made (y ∷ ys) x ≡ (cond (eqb y x) 1 0) + times_made ys x
@@ -84,15 +86,20 @@ over_made (t ∷ ts) x =
     ∙ ap (λ n. times_made t.made x + n) (over_made ts x)
     ∙ sym (times_both t.made (flat_map (λ (u : Attempt). u.made) ts) x)
 
-current_made : (pl : Place) (t : Attempt) (x : ℕ) → times_made (world.work_of (stand_of pl t)).made x ≤ times_made t.made x
-current_made (Active tail) t x = omega arith
-current_made (Sealed tail stamp) t x = omega arith
-current_made _ t x = omega arith
+made_if : (b safe : Bool) (t : Attempt) (x : ℕ)
+    → times_made (world.work_of (if b then world.snapshot (record { number = t.number; begin = t.begin; is_safe = safe }) else world.active (work_of t))).made x ≤ times_made t.made x
+made_if true safe t x = omega arith
+made_if false safe t x = omega arith
+
+pub current_made : (pl : Place) (u : Task) (t : Attempt) (x : ℕ) → times_made (world.work_of (stand_of pl u t)).made x ≤ times_made t.made x
+current_made (Active tail) u t x = made_if (is_snapshot u) (is_safe u) t x
+current_made (Sealed tail stamp) u t x = omega arith
+current_made _ u t x = omega arith
 
 session_made : (p : Part) (x : ℕ) → made_in (session_of p) x ≤ times_made (made_of p) x
 session_made p x =
     let over = over_made p.over x in
-    let now = current_made p.place p.current x in
+    let now = current_made p.place p.task p.current x in
     let both = times_both (flat_map (λ (t : Attempt). t.made) p.over) p.current.made x in
     omega (arith, over, now, both)
 
@@ -151,15 +158,15 @@ made_some (y ∷ ys) x m =
     ⊎_elim (λ (here : y ≡ x). omega (arith, times_here y ys x here)) (λ (there : x ∈ ys). omega (arith, times_cons y ys x, made_some ys x there)) (∈-cons x y ys m)
 
 -- between two calls a session shows all that its seat made
-current_shown : (pl : Place) (u : Task) (t : Attempt) (x : ℕ) → IsBetween pl u → IsCurrent pl t → times_made t.made x ≡ times_made (world.work_of (stand_of pl t)).made x
-current_shown Idle u t x between none = ap (λ (a : Attempt). times_made a.made x) none
-current_shown (Active tail) u t x between current = refl
-current_shown (Sealed tail stamp) u t x between current = refl
-current_shown _ u t x between current = absurd between
+made_shown_by : (pl : Place) (u : Task) (t : Attempt) (x : ℕ) → IsNewSnapshot u t → IsBetween pl u → IsCurrent pl t → times_made t.made x ≡ times_made (world.work_of (stand_of pl u t)).made x
+made_shown_by Idle u t x new between none = ap (λ (a : Attempt). times_made a.made x) none
+made_shown_by (Active tail) u t x new between current = ap (λ (w : world.Work). times_made w.made x) (sym (shown_work u t new))
+made_shown_by (Sealed tail stamp) u t x new between current = refl
+made_shown_by _ u t x new between current = absurd between
 
-session_shown : (p : Part) (x : ℕ) → IsBetween p.place p.task → IsCurrent p.place p.current → made_in (session_of p) x ≡ times_made (made_of p) x
-session_shown p x between current =
-    omega (arith, over_made p.over x, current_shown p.place p.task p.current x between current, times_both (flat_map (λ (t : Attempt). t.made) p.over) p.current.made x)
+session_shown : (p : Part) (x : ℕ) → IsNewSnapshot p.task p.current → IsBetween p.place p.task → IsCurrent p.place p.current → made_in (session_of p) x ≡ times_made (made_of p) x
+session_shown p x new between current =
+    omega (arith, over_made p.over x, made_shown_by p.place p.task p.current x new between current, times_both (flat_map (λ (t : Attempt). t.made) p.over) p.current.made x)
 
 made_among : (n : ℕ) (session : ℕ → Session) (seat x : ℕ) → 0 < seat → seat ≤ n → made_in (session seat) x ≤ made_upto n session x
 unfolding made_upto
@@ -190,7 +197,7 @@ module _ (sessions : ℕ) (c : Core) (sound : Sound c) (quiet : IsQuiet sessions
 
   made_shown : (seat x : ℕ) → x ∈ made_of (c.seats seat) → 0 < seat → seat ≤ sessions → 0 < made_by_all (view_of sessions c) x
   made_shown seat x m above within =
-      let shown = session_shown (c.seats seat) x (quiet.between seat above within) (sound.own seat).ranges.current in
+      let shown = session_shown (c.seats seat) x (snapshots_new c seat sound) (quiet.between seat above within) (sound.own seat).ranges.current in
       let among = made_among sessions (λ q. session_of (c.seats q)) seat x above within in
       omega (arith, shown, among, made_some (made_of (c.seats seat)) x m)
 

@@ -8,6 +8,7 @@ use Rattle.erm_machine.specs.declared.event.Kind.{Kind}
 use Rattle.erm_machine.specs.declared.event.Kind.TheVariants as kind
 use Rattle.erm_machine.specs.declared.limits.TheConstants.{FLUSH_SEAT}
 use Rattle.erm_machine.specs.declared.part.Part.{Part}
+use Rattle.erm_machine.specs.declared.task.Task.{Task}
 use Rattle.erm_machine.specs.Core.{Core, Shared, spot_of, word_at}
 use Rattle.erm_machine.specs.Lawful.{opening_rows}
 use Rattle.erm_machine.specs.Sound.{Sound}
@@ -29,10 +30,10 @@ meets_one (kind.Split other) one = one
 meets_one (kind.Join other) one = one
 meets_one _ one = tt
 
-calm_meets : (k : Kind) → IsCalm k → quiet.MeetsOne k
-calm_meets (kind.Split other) calm = absurd calm
-calm_meets (kind.Join other) calm = absurd calm
-calm_meets _ calm = tt
+calm_meets : (k : Kind) (u : Task) → IsCalm k u → quiet.MeetsOne k
+calm_meets (kind.Split other) u calm = absurd calm
+calm_meets (kind.Join other) u calm = absurd calm
+calm_meets _ u calm = tt
 
 -- the own part after a step
 pub own_after : (c : Core) (p : ℕ) (k : Kind) (d : Core) (m : Moves c p k d) → d.seats p ≡ m.part
@@ -109,15 +110,15 @@ moved_one sessions p c d k has m =
 pub changes_one : (sessions p : ℕ) (c d : Core) (k : Kind) → Sound c → MeetsOne k → after_event c p k ≡ Some d → ChangesOne p k (view_of sessions c) (view_of sessions d)
 changes_one sessions p c d k sound one e = moved_one sessions p c d k (has_version c p k d sound e) (moves c p k d (meets_one k one) e)
 
-pub calm_shows : (p : ℕ) (c d : Core) (k : Kind) → IsCalm k → after_event c p k ≡ Some d → session_of (d.seats p) ≡ session_of (c.seats p)
+pub calm_shows : (p : ℕ) (c d : Core) (k : Kind) → IsCalm k (c.seats p).task → after_event c p k ≡ Some d → session_of (d.seats p) ≡ session_of (c.seats p)
 calm_shows p c d k calm e =
-    let m = moves c p k d (calm_meets k calm) e in
+    let m = moves c p k d (calm_meets k (c.seats p).task calm) e in
     ap session_of (own_after c p k d m) ∙ (calm_kind p k (word_at c (spot_of p k)) c.shared (c.seats p) m.part calm m.after).same
 
 pub end_shows : (p oid head : ℕ) (c d : Core) → IsEnding (c.seats p).task → after_event c p (kind.Install oid head) ≡ Some d → session_of (d.seats p) ≡ session_of (c.seats p)
 end_shows p oid head c d ending e =
     let m = moves c p (kind.Install oid head) d tt e in
-    ap session_of (own_after c p (kind.Install oid head) d m) ∙ (install_same oid head (c.seats p) (c.seats p).task m.part ending m.after).same
+    ap session_of (own_after c p (kind.Install oid head) d m) ∙ (install_same oid head (c.seats p) m.part ending m.after).same
 
 -- a step of a session that moves neither the end of the log nor the place flushed changes one session
 pub one_becomes : (sessions p : ℕ) (c d : Core) (k : Kind) (s : Session) → is_flusher p ≡ false → HasVersion k c.shared → MeetsOne k → drawn_by k ≡ 0 → flushed_by k c.shared.flushed ≡ c.shared.flushed

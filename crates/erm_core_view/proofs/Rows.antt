@@ -31,6 +31,7 @@ use Rattle.erm_core_view.specs.Views.{view_of, work_of}
 use Rattle.erm_core_view.proofs.Chained.{Alone, alone_put, alone_shows, alone_then, pin_same, taken}
 use Rattle.erm_core_view.proofs.Parts.{current_stands}
 use Rattle.erm_core_view.proofs.Shown.{shows_work, work_active, working}
+use Rattle.erm_core_view.proofs.Snapshots.{starts_new}
 
 -- a write has come to this word
 abbrev pub Ready : (place k : ℕ) → Task → Type 0
@@ -240,7 +241,7 @@ writes sessions seat place cell row c sound may words =
     let y : Part = record x { task = task.Rest; current = with_claim place stored.new x.current } in
     let work : work_of y.current ≡ setting w.version.oid row (work_of x.current) =
     ap (λ (ws : List VersionWritten). record (work_of x.current) { claims = ws }) (set_one x.current.writes place row stored.new may.claimed (claims_apart seat c sound) stored.has) in
-    let now : work_at (view_of sessions c) seat ≡ work_of x.current = work_active x.place x.current may.active in
+    let now : work_at (view_of sessions c) seat ≡ work_of x.current = work_active x.place x.task x.current may.active (starts_new x.task x.current may.starts) in
     subst (λ (u : Work). Works (view_of sessions c) seat (setting w.version.oid row u) (view_of sessions (run_from c (stores_from seat place cell 0 row)))) (sym now)
     (alone_shows sessions seat c y (run_from c (stores_from seat place cell 0 row)) (working x (setting w.version.oid row (work_of x.current))) stored.alone (λ _. pin_same x.place x.current y.current refl)
-    (shows_work x (setting w.version.oid row (work_of x.current)) y refl may.active work).shows)
+    (shows_work x (setting w.version.oid row (work_of x.current)) y refl may.active refl work).shows)

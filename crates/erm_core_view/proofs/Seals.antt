@@ -30,6 +30,7 @@ use Rattle.erm_core_view.specs.Views.{finished_of, pin_of, session_of, view_of, 
 use Rattle.erm_core_view.proofs.Chained.{goes, three_taken}
 use Rattle.erm_core_view.proofs.Parts.{current_stands}
 use Rattle.erm_core_view.proofs.Shown.{work_active}
+use Rattle.erm_core_view.proofs.Snapshots.{starts_new}
 
 -- the part after the state word is 1, after the draw, after the stamp is stored
 abbrev sealing : ℕ → Part → Part
@@ -147,7 +148,7 @@ module _ (short : (row : List ℕ) → stored_length row ≤ length row) where
     seals sessions =
         let x : Part = c.seats seat in
         let v = view_of sessions c in
-        let work : work_at v seat ≡ work_of x.current = work_active x.place x.current active in
+        let work : work_at v seat ≡ work_of x.current = work_active x.place x.task x.current active (starts_new x.task x.current starts) in
         let shows : DidSeal v seat c.shared.tail (view_of sessions after_seal) = record {
           stamp_is = refl;
           own = ap session_of own_sealed ∙ ap (λ (w : Work). record { over = map finished_of x.over; stand = world.sealed w c.shared.tail }) (sym work);

@@ -55,7 +55,7 @@ module _ (sessions : ℕ) (c : Core) (sound : Sound c) (quiet : IsQuiet sessions
 
   work_sees : (seat : ℕ) (w : Work) → Has (view_of sessions c) seat w → SeesSnapshot (view_of sessions c) w
   work_sees seat w has =
-      let at = has_attempt sessions c seat w has in
+      let at = has_attempt sessions c seat w sound has in
       subst (SeesSnapshot (view_of sessions c)) at.is (attempt_sees seat at.attempt at.stands)
 
 -- every law of a world, of a quiet sound state's view

@@ -1,6 +1,6 @@
 -- What a registration, a claim and a new object show of the transaction in progress.
-use Rattle.std.proofs.Common.{◌≡◌, ℕ, ◌<◌, Bool, true, ◌&&◌, eqb, ltb, cond, List, ◌++◌, [], ◌∷◌, Option, Some, map, refl, ap, ◌∙◌, subst, eqb-true}
-use Rattle.std.proofs.lemmas.Bool.{and_parts, cond-true, eq-eqb, lt-ltb}
+use Rattle.std.proofs.Common.{◌≡◌, ℕ, ◌<◌, Bool, true, false, ◌&&◌, eqb, ltb, cond, List, ◌++◌, [], ◌∷◌, Option, Some, map, refl, ap, ◌∙◌, subst, eqb-true}
+use Rattle.std.proofs.lemmas.Bool.{and_parts, cond-false, cond-true, eq-eqb, lt-ltb}
 use Rattle.std.proofs.lemmas.List.{map-append}
 use Rattle.erm_model.specs.declared.history.VersionRead.{VersionRead}
 use Rattle.erm_model.specs.declared.history.VersionWritten.{VersionWritten}
@@ -18,8 +18,8 @@ use Rattle.erm_machine.specs.declared.task.Task.TheVariants as task
 use Rattle.erm_machine.specs.declared.version.VersionAt.{VersionAt}
 use Rattle.erm_machine.specs.Core.{Core, Object, version_at}
 use Rattle.erm_machine.specs.Decided.{read_of, written_of}
-use Rattle.erm_machine.specs.Reading.{add_counter, claim, new_claim, set_reader}
-use Rattle.erm_machine.specs.Seat.{is_active}
+use Rattle.erm_machine.specs.Reading.{add_counter, claim, lost, new_claim, set_reader}
+use Rattle.erm_machine.specs.Seat.{is_active, is_snapshot}
 use Rattle.erm_machine.specs.Step.{after_event}
 use Rattle.erm_machine.proofs.Guards.{when_then}
 use Rattle.erm_machine.proofs.QuietKinds.{moves}
@@ -28,6 +28,7 @@ use Rattle.erm_world.specs.World.{Session, Stand, Work}
 use Rattle.erm_world.specs.World as world
 use Rattle.erm_core_view.specs.Views.{finished_of, session_of, stand_of, work_of}
 use Rattle.erm_core_view.proofs.Moved.{own_after}
+use Rattle.erm_core_view.proofs.Snapshots.{IsNewSnapshot, shown_work}
 
 -- a seat's session with this transaction in progress
 abbrev pub working : Part → Work → Session
@@ -37,16 +38,18 @@ working x w = record { over = map finished_of x.over; stand = world.active w }
 pub record Shows (x : Part) (w : Work) (y : Part) : Type 0 where
   pub shows : session_of y ≡ working x w
 
-pub stands_active : (pl : Place) (t : Attempt) → is_active pl ≡ true → stand_of pl t ≡ world.active (work_of t)
-stands_active (Active tail) t e = refl
-stands_active _ t e = absurd (cc)
+pub stands_active : (pl : Place) (u : Task) (t : Attempt) → is_active pl ≡ true → is_snapshot u ≡ false → stand_of pl u t ≡ world.active (work_of t)
+stands_active (Active tail) u t e plain = cond-false (is_snapshot u) _ (world.active (work_of t)) plain
+stands_active _ u t e plain = absurd (cc)
 
-pub work_active : (pl : Place) (t : Attempt) → is_active pl ≡ true → world.work_of (stand_of pl t) ≡ work_of t
-work_active pl t e = ap world.work_of (stands_active pl t e)
+-- or a snapshot, which has done nothing
+pub work_active : (pl : Place) (u : Task) (t : Attempt) → is_active pl ≡ true → IsNewSnapshot u t → world.work_of (stand_of pl u t) ≡ work_of t
+work_active (Active tail) u t e new = shown_work u t new
+work_active _ u t e new = absurd (cc)
 
-pub shows_work : (x : Part) (w : Work) (y : Part) → y.over ≡ x.over → is_active y.place ≡ true → work_of y.current ≡ w → Shows x w y
-shows_work x w y over active work =
-    let stand : stand_of y.place y.current ≡ world.active w = stands_active y.place y.current active ∙ ap (λ (u : Work). world.active u) work in
+pub shows_work : (x : Part) (w : Work) (y : Part) → y.over ≡ x.over → is_active y.place ≡ true → is_snapshot y.task ≡ false → work_of y.current ≡ w → Shows x w y
+shows_work x w y over active plain work =
+    let stand : stand_of y.place y.task y.current ≡ world.active w = stands_active y.place y.task y.current active plain ∙ ap (λ (u : Work). world.active u) work in
     let finished : map finished_of y.over ≡ map finished_of x.over = ap (λ (ts : List Attempt). map finished_of ts) over in
     record { shows = cc }
 
@@ -60,7 +63,7 @@ reader_shows : (seat : ℕ) (v : VersionAt) (o : Object) (x : Part) (at : Versio
 reader_shows seat v o x at stamp head y active e =
     let read : Read = record { version = v; stamp = stamp; row = (version_at o v.place).words.row } in
     when_then (Shows x (reading (read_of read) (work_of x.current))) _ _ y e
-    (λ _. shows_work x _ _ refl active
+    (λ _. shows_work x _ _ refl active refl
     (ap (λ (rs : List VersionRead). record (work_of x.current) { reads = rs }) (map-append read_of x.current.reads (read ∷ []))))
 
 -- its object is claimed, where the entry is still the one seen
@@ -73,6 +76,7 @@ claim_shows seat oid number entry found o x at stamp y active same e =
     cond-true (eqb found entry) (x.current.writes ++ new ∷ []) x.current.writes (eq-eqb found entry same) in
     when_then (Shows x (claiming (written_of new) (work_of x.current))) _ _ y e
     (λ _. shows_work x _ _ refl active
+    (ap is_snapshot (cond-true (eqb found entry) (task.Claimed at) (lost seat oid found at o) (eq-eqb found entry same)))
     (ap (λ (ws : List VersionWritten). record (work_of x.current) { claims = ws })
     (ap (λ (ws : List Claim). map written_of ws) grown ∙ map-append written_of x.current.writes (new ∷ []))))
 
@@ -113,7 +117,7 @@ counter_shows : (cells seat found : ℕ) (x : Part) (t : Task) (y : Part) → is
     → Shows x (making found (work_of x.current)) y
 counter_shows cells seat found x task.Numbers y active low e =
     when_then (Shows x (making found (work_of x.current))) _ _ y e
-    (λ _. shows_work x _ _ refl active
+    (λ _. shows_work x _ _ refl active refl
     (ap (λ (ms : List ℕ). record (work_of x.current) { made = ms })
     (cond-true (ltb found OBJECT_LIMIT) (x.current.made ++ found ∷ []) x.current.made (lt-ltb found OBJECT_LIMIT low))))
 counter_shows cells seat found x _ y active low e = absurd (cc)

@@ -1,5 +1,5 @@
 -- What a word of a claim's own cell shows where it is stored.
-use Rattle.std.proofs.Common.{◌≡◌, ℕ, ◌<◌, true, false, List, length, get_or, set, map, Some, refl, sym, ap, ◌∙◌, subst, arith, eqb-true}
+use Rattle.std.proofs.Common.{◌≡◌, ℕ, ◌+◌, ◌<◌, eqb, true, false, List, length, get_or, set, map, Some, refl, sym, ap, ◌∙◌, subst, arith, eqb-true}
 use Rattle.std.proofs.lemmas.Bool.{and_parts}
 use Rattle.std.proofs.lemmas.List.{map-set, set-get_or}
 use Rattle.erm_model.specs.declared.history.VersionWritten.{VersionWritten}
@@ -15,18 +15,19 @@ use Rattle.erm_machine.specs.Bounds.{IsBounded}
 use Rattle.erm_machine.specs.Core.{Core, claim_at}
 use Rattle.erm_machine.specs.Decided.{written_of}
 use Rattle.erm_machine.specs.Reading.{start_row, store_row_word, stored_row, unset, without_row}
-use Rattle.erm_machine.specs.Seat.{is_active, last_claim}
+use Rattle.erm_machine.specs.Seat.{is_active, is_snapshot, last_claim}
 use Rattle.erm_machine.specs.Settling.{store_active_word, store_cell, store_head_word}
 use Rattle.erm_machine.specs.Sound.{Sound}
 use Rattle.erm_machine.specs.Step.{after_event}
 use Rattle.erm_machine.specs.Written.{Copying}
+use Rattle.erm_machine.proofs.Backs.{rest_is}
 use Rattle.erm_machine.proofs.Guards.{if_then, when_then}
 use Rattle.erm_machine.proofs.Holders.{stands_in}
 use Rattle.erm_machine.proofs.QuietKinds.{moves}
 use Rattle.erm_world.specs.World.{Work}
 use Rattle.erm_core_view.specs.Steps.{IsWriting, undone, with_word}
 use Rattle.erm_core_view.specs.Views.{session_of, work_of}
-use Rattle.erm_core_view.proofs.Calm.{Same, claim_same, shows_same}
+use Rattle.erm_core_view.proofs.Calm.{Same, claim_same, plain_if, plainly}
 use Rattle.erm_core_view.proofs.Moved.{own_after}
 use Rattle.erm_core_view.proofs.Parts.{current_stands}
 use Rattle.erm_core_view.proofs.Shown.{Shows, shows_work, working}
@@ -41,13 +42,14 @@ stored_work place k value t =
 
 w_start : (place cell k value : ℕ) (x : Part) (t : Task) (y : Part) → is_active x.place ≡ true → start_row place cell k value x t ≡ Some y → Shows x (word_set place k value x.current) y
 w_start place cell k value x t y active e =
-    when_then (Shows x (word_set place k value x.current)) _ _ y e (λ _. shows_work x _ _ refl active (stored_work place k value x.current))
+    when_then (Shows x (word_set place k value x.current)) _ _ y e (λ _. shows_work x _ _ refl active refl (stored_work place k value x.current))
 
 w_row : (place cell k value : ℕ) (x : Part) (t : Task) (y : Part) → is_active x.place ≡ true → IsWriting t → store_row_word place cell k value x t ≡ Some y
     → Shows x (word_set place k value x.current) y
 w_row place cell k value x (task.Copies w) y active writes e = absurd writes
 w_row place cell k value x (task.Writes claim w) y active writes e =
-    when_then (Shows x (word_set place k value x.current)) _ _ y e (λ _. shows_work x _ _ refl active (stored_work place k value x.current))
+    when_then (Shows x (word_set place k value x.current)) _ _ y e (λ _.
+    shows_work x _ _ refl active (plain_if (eqb (w + 1) 16) task.Rest (task.Writes claim (w + 1)) refl refl) (stored_work place k value x.current))
 w_row place cell k value x t y active writes e = w_start place cell k value x t y active e
 
 w_cell : (place cell k value : ℕ) (x y : Part) → is_active x.place ≡ true → IsWriting x.task → store_cell place cell (word.Row k) value x ≡ Some y
@@ -76,7 +78,8 @@ undone_work place t = ap (λ (ws : List VersionWritten). record (work_of t) { cl
 u_unset : (place : ℕ) (x y : Part) → unset place x ≡ Some y → Shows x (row_undone place x.current) y
 u_unset place x y e =
     when_then (Shows x (row_undone place x.current)) _ _ y e (λ g.
-    shows_work x _ _ refl (and_parts _ _ (and_parts _ _ (and_parts _ _ g).0).0).0 (undone_work place x.current))
+    let first = and_parts _ _ (and_parts _ _ (and_parts _ _ g).0).0 in
+    shows_work x _ _ refl first.0 (ap is_snapshot (rest_is x.task first.1)) (undone_work place x.current))
 
 -- a row that is undone
 pub undo_shows : (seat place : ℕ) (c d : Core) → after_event c seat (kind.Unset place) ≡ Some d
@@ -100,22 +103,23 @@ copied_same place k value t unset kept is =
 
 copy_same : (place cell k value w : ℕ) (x y : Part) → (claim_at x.current (last_claim x.current)).is_set ≡ false
     → (claim_at x.current (last_claim x.current)).row ≡ (claim_at x.current (last_claim x.current)).base
-    → store_row_word place cell k value x (task.Copies w) ≡ Some y → Same x y
+    → store_row_word place cell k value x (task.Copies w) ≡ Some y → Same (task.Copies w) x y
 copy_same place cell k value w x y unset kept e =
-    when_then (Same x) _ _ y e (λ g.
+    when_then (Same (task.Copies w) x) _ _ y e (λ g.
     let parts = and_parts _ _ g in
     let last : place ≡ last_claim x.current = eqb-true place (last_claim x.current) (and_parts _ _ (and_parts _ _ (and_parts _ _ parts.0).0).0).0 in
     let value_is : value ≡ get_or (claim_at x.current place).base k 0 = eqb-true value _ parts.1 in
-    shows_same x _ refl refl
+    plainly (task.Copies w) x _ refl (plain_if (eqb (w + 1) 16) task.Rest (task.Copies (w + 1)) refl refl) refl refl
     (copied_same place k value x.current (subst (λ (n : ℕ). (claim_at x.current n).is_set ≡ false) (sym last) unset)
     (subst (λ (n : ℕ). (claim_at x.current n).row ≡ (claim_at x.current n).base) (sym last) kept) value_is))
 
 copied_cell : (place cell k value w : ℕ) (x y : Part) → is_active x.place ≡ true → x.task ≡ task.Copies w → (claim_at x.current (last_claim x.current)).is_set ≡ false
     → (claim_at x.current (last_claim x.current)).row ≡ (claim_at x.current (last_claim x.current)).base
-    → store_cell place cell (word.Row k) value x ≡ Some y → Same x y
+    → store_cell place cell (word.Row k) value x ≡ Some y → Same x.task x y
 copied_cell place cell k value w x y active copies unset kept e =
-    if_then (Same x) (is_active x.place) (store_row_word place cell k value x x.task) (store_head_word place cell (word.Row k) value x x.task) y e
-    (λ _ h. copy_same place cell k value w x y unset kept (subst (λ (t : Task). store_row_word place cell k value x t ≡ Some y) copies h))
+    if_then (Same x.task x) (is_active x.place) (store_row_word place cell k value x x.task) (store_head_word place cell (word.Row k) value x x.task) y e
+    (λ _ h.
+    subst (λ (t : Task). Same t x y) (sym copies) (copy_same place cell k value w x y unset kept (subst (λ (t : Task). store_row_word place cell k value x t ≡ Some y) copies h)))
     (λ no _. absurd (cc))
 
 -- a word that a claim copies
@@ -132,14 +136,14 @@ copy_shows seat place cell k value w c d sound active copies e =
     ∙ (copied_cell place cell k value w x m.part active copies unset (fits.kept unset) m.after).same
 
 -- a word before the row, of a version that is to be installed
-head_same : (place cell value : ℕ) (w : CellWord) (x : Part) (t : Task) (y : Part) → store_head_word place cell w value x t ≡ Some y → Same x y
+head_same : (place cell value : ℕ) (w : CellWord) (x : Part) (t : Task) (y : Part) → store_head_word place cell w value x t ≡ Some y → Same t x y
 head_same place cell value w x (task.Ends raised ended step cleared) y e =
-    when_then (Same x) _ _ y e (λ _. shows_same x _ refl refl (claim_same x.current place _ refl))
+    when_then (Same (task.Ends raised ended step cleared) x) _ _ y e (λ _. plainly (task.Ends raised ended step cleared) x _ refl refl refl refl (claim_same x.current place _ refl))
 head_same place cell value w x _ y e = absurd (cc)
 
-head_cell : (place cell value : ℕ) (w : CellWord) (x y : Part) → is_active x.place ≡ false → store_cell place cell w value x ≡ Some y → Same x y
+head_cell : (place cell value : ℕ) (w : CellWord) (x y : Part) → is_active x.place ≡ false → store_cell place cell w value x ≡ Some y → Same x.task x y
 head_cell place cell value w x y inactive e =
-    if_then (Same x) (is_active x.place) (store_active_word place cell w value x) (store_head_word place cell w value x x.task) y e
+    if_then (Same x.task x) (is_active x.place) (store_active_word place cell w value x) (store_head_word place cell w value x x.task) y e
     (λ active _. absurd (cc)) (λ _ h. head_same place cell value w x x.task y h)
 
 pub head_shows : (seat place cell value : ℕ) (w : CellWord) (c d : Core) → is_active (c.seats seat).place ≡ false

@@ -1,5 +1,5 @@
 -- What a step of a seat shows in the view.
-use Rattle.std.specs.Prelude.{◌≡◌, ◌≢◌, ℕ, ◌+◌, ◌<◌, true, false, List, [], ◌∷◌, ◌++◌, length, slice_set}
+use Rattle.std.specs.Prelude.{◌≡◌, ◌≢◌, ℕ, ◌+◌, ◌<◌, true, false, List, [], ◌∷◌, ◌++◌, length, map, slice_set}
 use Rattle.erm_model.specs.declared.history.VersionWritten.{VersionWritten}
 use Rattle.erm_machine.specs.declared.attempt.Attempt.{Attempt}
 use Rattle.erm_machine.specs.declared.attempt.Claim.{Claim}
@@ -16,8 +16,10 @@ use Rattle.erm_machine.specs.declared.task.Task.{Task}
 use Rattle.erm_machine.specs.declared.task.Task.TheVariants as task
 use Rattle.erm_machine.specs.declared.version.CellWord.TheVariants as word
 use Rattle.erm_machine.specs.Core.{Core, claim_at}
-use Rattle.erm_machine.specs.Seat.{is_active, is_own, may_start}
-use Rattle.erm_world.specs.World.{View}
+use Rattle.erm_machine.specs.Seat.{is_active, is_own, is_safe, is_snapshot, may_start}
+use Rattle.erm_world.specs.World.{Session, View}
+use Rattle.erm_world.specs.World as world
+use Rattle.erm_core_view.specs.Views.{finished_of}
 
 -- how far a step of this kind moves the end of the log on
 abbrev pub drawn_by : Kind → ℕ
@@ -43,27 +45,31 @@ MeetsOne (kind.Split other) = ⊥
 MeetsOne (kind.Join other) = ⊥
 MeetsOne k = Unit {0}
 
--- kinds of steps whose seat's session shows nothing of them, wherever it stands
-abbrev pub IsCalm : Kind → Type 0
-IsCalm (kind.LoadTail purpose.Begin) = ⊥
-IsCalm (kind.AddTail size) = ⊥
-IsCalm (kind.StoreBegin value) = ⊥
-IsCalm (kind.StoreState value) = ⊥
-IsCalm (kind.Decide at header) = ⊥
-IsCalm (kind.SetReader version) = ⊥
-IsCalm (kind.Claim oid entry number) = ⊥
-IsCalm (kind.Install oid head) = ⊥
-IsCalm (kind.StoreCell claim cell word value) = ⊥
-IsCalm (kind.AddCounter Objects) = ⊥
-IsCalm (kind.Split other) = ⊥
-IsCalm (kind.Join other) = ⊥
-IsCalm (kind.Unset claim) = ⊥
-IsCalm k = Unit {0}
+-- Kinds of steps whose seat's session shows nothing of them, wherever it stands; of two kinds it shows nothing where its task is none of a
+-- snapshot.
+abbrev pub IsCalm : Kind → Task → Type 0
+IsCalm (kind.LoadTail purpose.Begin) u = ⊥
+IsCalm (kind.AddTail size) u = ⊥
+IsCalm (kind.StoreBegin value) u = ⊥
+IsCalm (kind.StoreState value) u = ⊥
+IsCalm (kind.LoadBegin other) u = is_snapshot u ≡ false
+IsCalm (kind.LoadBack other) u = ⊥
+IsCalm (kind.ClearReader version) u = is_snapshot u ≡ false
+IsCalm (kind.Decide at header) u = ⊥
+IsCalm (kind.SetReader version) u = ⊥
+IsCalm (kind.Claim oid entry number) u = ⊥
+IsCalm (kind.Install oid head) u = ⊥
+IsCalm (kind.StoreCell claim cell word value) u = ⊥
+IsCalm (kind.AddCounter Objects) u = ⊥
+IsCalm (kind.Split other) u = ⊥
+IsCalm (kind.Join other) u = ⊥
+IsCalm (kind.Unset claim) u = ⊥
+IsCalm k u = Unit {0}
 
--- a claim is released, and not dropped for want of a cell
+-- a claim is released, and not dropped for want of a cell; a snapshot has none
 abbrev pub IsEnding : Task → Type 0
 IsEnding task.Refused = ⊥
-IsEnding t = Unit {0}
+IsEnding t = is_snapshot t ≡ false
 
 -- the seat stands there, between two calls
 pub record RestsAt (seat : ℕ) (there : Place) (c : Core) : Type 0 where
@@ -121,3 +127,10 @@ clear_steps seat (r ∷ rs) = record { seat = seat; kind = kind.ClearReader r.ve
 -- the steps of an abort, of which none is taken yet
 abbrev pub end_steps : ℕ → Attempt → List Event
 end_steps seat t = release_steps seat t.writes ++ (clear_steps seat t.reads ++ record { seat = seat; kind = kind.StoreBegin 0 } ∷ [])
+
+-- a seat's session that shows the snapshot which this task is of
+abbrev pub snapshot_session : Part → Task → Session
+snapshot_session x u = record {
+  over = map finished_of x.over;
+  stand = world.snapshot (record { number = x.current.number; begin = x.current.begin; is_safe = is_safe u });
+}

@@ -1,5 +1,5 @@
 -- The machine's state as a world of sessions, between two calls.
-use Rattle.std.specs.Prelude.{◌≡◌, ℕ, ◌<◌, ◌≤◌, true, false, [], map, Option, Some, None}
+use Rattle.std.specs.Prelude.{◌≡◌, Bool, ◌||◌, if◌then◌else◌, ℕ, ◌<◌, ◌≤◌, true, false, [], map, Option, Some, None}
 use Rattle.erm_model.specs.declared.limits.TheConstants.{LAST_RUN}
 use Rattle.erm_machine.specs.declared.attempt.Attempt.{Attempt}
 use Rattle.erm_machine.specs.declared.attempt.Decision.{Decision}
@@ -14,7 +14,7 @@ use Rattle.erm_machine.specs.Core.{Core}
 use Rattle.erm_machine.specs.Decided.{read_of, written_of}
 use Rattle.erm_machine.specs.Lawful.{opening_rows}
 use Rattle.erm_machine.specs.Life.{is_between}
-use Rattle.erm_machine.specs.Seat.{may_start}
+use Rattle.erm_machine.specs.Seat.{is_safe, is_snapshot, may_start}
 use Rattle.erm_machine.specs.Settling.{may_settle}
 use Rattle.erm_machine.specs.Words.{is_flusher}
 use Rattle.erm_world.specs.World.{Fate, Finished, Session, Stand, View, Work}
@@ -40,14 +40,18 @@ fate_of Undecided t = world.aborts
 abbrev pub finished_of : Attempt → Finished
 finished_of t = record { work = work_of t; fate = fate_of t.decision t }
 
+-- what an active seat shows: its transaction, or the snapshot that its task is of
+abbrev pub shown_by : Task → Attempt → Stand
+shown_by u t = if is_snapshot u then world.snapshot (record { number = t.number; begin = t.begin; is_safe = is_safe u }) else world.active (work_of t)
+
 -- where a session stands: what it does in a call in progress doesn't show
-abbrev pub stand_of : Place → Attempt → Stand
-stand_of (Active tail) t = world.active (work_of t)
-stand_of (Sealed tail stamp) t = world.sealed (work_of t) stamp
-stand_of p t = world.idle
+abbrev pub stand_of : Place → Task → Attempt → Stand
+stand_of (Active tail) u t = shown_by u t
+stand_of (Sealed tail stamp) u t = world.sealed (work_of t) stamp
+stand_of p u t = world.idle
 
 abbrev pub session_of : Part → Session
-session_of x = record { over = map finished_of x.over; stand = stand_of x.place x.current }
+session_of x = record { over = map finished_of x.over; stand = stand_of x.place x.task x.current }
 
 -- the begin stamp of the flush seat's pin, while it has one
 abbrev pub pin_of : Place → Attempt → Option ℕ
@@ -73,10 +77,17 @@ view_of sessions c = record {
   given_up = λ q. [];
 }
 
--- A session between two calls: without a transaction, active where a call may start, or sealed where settle may start anew.
+-- a snapshot between two calls: it is to look at a session, or it is safe and has read nothing yet, or has found a version
+abbrev pub is_standing : Task → Bool
+is_standing (task.Surveys next) = true
+is_standing task.Safe = true
+is_standing (task.SafeFound version) = true
+is_standing _ = false
+
+-- A session between two calls: without a transaction, active where a call may start, with a snapshot, or sealed where settle may start anew.
 abbrev pub IsBetween : Place → Task → Type 0
 IsBetween Idle u = u ≡ task.Rest
-IsBetween (Active tail) u = may_start u ≡ true
+IsBetween (Active tail) u = may_start u || is_standing u ≡ true
 IsBetween (Sealed tail stamp) u = may_settle u ≡ true
 IsBetween p u = ⊥
 
@@ -89,6 +100,7 @@ pub record IsStill (x : Part) : Type 0 where
   pub made : x.current.made ≡ []
   pub run : x.run ≤ LAST_RUN
   pub rests : IsBetween x.place x.task
+  pub plain : is_snapshot x.task ≡ false
   pub turn : is_between x.flushing ≡ true
 
 -- So many sessions, each between two calls and, where sealed, with a range of its block's size; the flush seat, and no other

@@ -17,7 +17,7 @@ ghost use Rattle.erm_machine.specs.declared.version.VersionAt.{VersionAt};
 ghost use Rattle.erm_machine.specs.Core.{Core, claim_at, version_at};
 ghost use Rattle.erm_machine.specs.Decided.{written_of};
 ghost use Rattle.erm_machine.specs.Decided as machine;
-ghost use Rattle.erm_machine.specs.Seat.{end_of, is_active, may_start};
+ghost use Rattle.erm_machine.specs.Seat.{end_of, is_active, is_snapshot, may_start};
 ghost use Rattle.erm_machine.specs.Sound.{Sound};
 ghost use Rattle.erm_sound.specs.Kept.{SoundUnder};
 ghost use Rattle.erm_machine.specs.Step.{after_event, run_from};
@@ -28,7 +28,7 @@ ghost use Rattle.erm_world.specs.Laws.{IsSerializable};
 ghost use Rattle.erm_world.specs.Works.{claiming, making, reading, setting};
 ghost use Rattle.erm_world.specs.World.{work_at};
 ghost use Rattle.erm_world.specs.World as world;
-ghost use Rattle.erm_core_view.specs.Steps.{ChangesOne, IsCalm, IsEnding, IsWriting, MayWrite, MeetsOne, RestsAt, begin_steps, end_steps, seal_steps, stores_from, undone, with_word};
+ghost use Rattle.erm_core_view.specs.Steps.{ChangesOne, IsCalm, IsEnding, IsWriting, MayWrite, MeetsOne, RestsAt, begin_steps, end_steps, seal_steps, snapshot_session, stores_from, undone, with_word};
 ghost use Rattle.erm_core_view.specs.Views.{IsQuiet, session_of, view_of, work_of};
 
 use erm_model::RowLaw;
@@ -62,7 +62,7 @@ pub fn drawn_objects_are_made()
 pub fn steps_change_one_session()
     ensures others { (sessions seat : ℕ) (c d : Core) (k : Kind) → Sound c → MeetsOne k → after_event c seat k ≡ Some d
         → ChangesOne seat k (view_of sessions c) (view_of sessions d) }
-    ensures calm { (seat : ℕ) (c d : Core) (k : Kind) → IsCalm k → after_event c seat k ≡ Some d
+    ensures calm { (seat : ℕ) (c d : Core) (k : Kind) → IsCalm k (c.seats seat).task → after_event c seat k ≡ Some d
         → session_of (d.seats seat) ≡ session_of (c.seats seat) }
     ensures ends { (seat oid head : ℕ) (c d : Core) → IsEnding (c.seats seat).task → after_event c seat (kind.Install oid head) ≡ Some d
         → session_of (d.seats seat) ≡ session_of (c.seats seat) }
@@ -188,4 +188,17 @@ pub fn ends_show()
     ensures rests { (seat : ℕ) (c : Core) → Sound c → is_flusher seat ≡ false → is_active (c.seats seat).place ≡ true
         → end_of (c.seats seat).task ≡ Some (0, 0, 0, 0)
         → RestsAt seat Idle (run_from c (end_steps seat (c.seats seat).current)) }
+{}
+
+/// A begin whose begin word is raised shows a pending snapshot. After a look the session shows a pending one still, or a safe one, as its
+/// task then says.
+pub fn snapshots_show()
+    ensures raises { (seat value : ℕ) (c d : Core) → is_active (c.seats seat).place ≡ true → 0 < value
+        → after_event c seat (kind.StoreBegin value) ≡ Some d
+        → session_of (d.seats seat) ≡ snapshot_session (c.seats seat) (task.Surveys 1) }
+    ensures surveys { (seat other : ℕ) (c d : Core) → is_snapshot (c.seats seat).task ≡ true
+        → after_event c seat (kind.LoadBegin other) ≡ Some d
+        → session_of (d.seats seat) ≡ snapshot_session (c.seats seat) (d.seats seat).task }
+    ensures looks { (seat other : ℕ) (c d : Core) → after_event c seat (kind.LoadBack other) ≡ Some d
+        → session_of (d.seats seat) ≡ snapshot_session (c.seats seat) (d.seats seat).task }
 {}

@@ -61,6 +61,8 @@ told_now seat None (world.sealed w stamp) tells active = absurd tells
 told_now seat (Some t) world.idle tells active = absurd tells
 told_now seat (Some t) (world.active w) tells active = (t, refl, tells.0.unfinished)
 told_now seat (Some t) (world.sealed w stamp) tells active = cc
+told_now seat None (world.snapshot s) tells active = absurd tells
+told_now seat (Some t) (world.snapshot s) tells active = absurd tells
 
 -- a session's transactions, in the one telling and in the other
 abbrev all_in : Progress → List Transaction

@@ -36,7 +36,7 @@ use Rattle.erm_recover.proofs.Waits.{since_then}
 use Rattle.erm_rule.specs.declared.view.Start.{Start}
 use Rattle.erm_start.specs.Recovered.{IsOpenedLog}
 use Rattle.erm_desk.specs.Desk.{HeldSince, IsDesk, IsHeld, KeepsFronts, MeetsMore, Sees, WritesSince}
-use Rattle.erm_desk.specs.Known.{flushed_log, opened_at}
+use Rattle.erm_desk.specs.Known.{flushed_log}
 use Rattle.erm_disk_run.specs.Crashes.{KeepsCommits, KeepsTold, Outlives}
 use Rattle.erm_disk_run.specs.Found.{StartsFrom}
 use Rattle.erm_disk_run.specs.Limits.{in_table}

@@ -4,7 +4,6 @@ use Rattle.std.specs.List.Sorted.{IsPermutation}
 use Rattle.std.proofs.lemmas.List.Sorted.{IsPermutation-sym}
 use Rattle.erm_model.specs.Committed.{Committed, RunsInOrder, state_after}
 use Rattle.erm_model.specs.Database.{Database}
-use Rattle.erm_model.specs.Member.{◌∈◌}
 use Rattle.erm_model.proofs.Members.{none_in_nil, ∈-behind}
 use Rattle.erm_machine.proofs.Listed.{∈-first}
 use Rattle.erm_core_ssn.proofs.Members.{∈-permutation}

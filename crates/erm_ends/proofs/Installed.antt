@@ -9,6 +9,7 @@ use Rattle.erm_machine.specs.declared.event.Kind.TheVariants as kind
 use Rattle.erm_machine.specs.declared.limits.TheConstants.{OBJECT_LIMIT}
 use Rattle.erm_machine.specs.declared.part.Part.{Part}
 use Rattle.erm_machine.specs.declared.version.Version.{Version}
+use Rattle.erm_machine.specs.declared.version.VersionAt.{VersionAt}
 use Rattle.erm_machine.specs.Claims.{ClaimFits, InstallFits, OwnClaims}
 use Rattle.erm_machine.specs.Core.{Core, Object, claim_at, newest, own_words, version_at}
 use Rattle.erm_machine.specs.Facts.{over_of}
@@ -24,14 +25,15 @@ use Rattle.erm_rule.specs.Books.{IsBookOf}
 use Rattle.erm_rule.specs.Hands.{IsKnown}
 use Rattle.erm_rule.specs.Steps.{Booked}
 use Rattle.erm_rule.specs.Views.{IsView, part_in, part_of}
-use Rattle.erm_rule.specs.Went.{Went}
 use Rattle.erm_rule.proofs.Telling.{changed_here}
+use Rattle.erm_cells.specs.Hands.{ended_claim}
 use Rattle.erm_cells.specs.Heads.{DidStoreHead, with_own_head}
-use Rattle.erm_cells.specs.Took.{IsEndStep, IsStoreStep}
+use Rattle.erm_cells.specs.Took.{TookHeadWords}
 use Rattle.erm_cells.proofs.Claimed.{claims_set}
 use Rattle.erm_cells.proofs.Views.{both}
 use Rattle.erm_entries.specs.Ends.{DidInstall, HasFreeHead, newest_version, next_install}
 use Rattle.erm_readers.specs.Calls.{DidMark}
+use Rattle.erm_readers.specs.Took.{TookMarks}
 use Rattle.erm_readers.proofs.Seats.{decided_ending, over_ending}
 use Rattle.erm_precommit.specs.declared.pre.KeptClaim.{KeptClaim}
 use Rattle.erm_ends.specs.Commits.{IsNextCommit}
@@ -119,7 +121,7 @@ module _ (law : Law) (who : ℕ) (b s m e : Book) (kept : KeptClaim) (stamp succ
             (ap (λ (z : Version). z.words) newest ∙ ap (λ (w : Claim). own_words w.own) new_there);
       }
 
-  pub was_installed : Went law who IsStoreStep b s → Went law who IsEndStep s m → WasInstalled law who x.current (next_install x) b e
+  pub was_installed : TookHeadWords law who kept.own stamp (Some kept.overwritten) b s → TookMarks law who (ended_claim (part_of s.view who)) stamp succ s m → WasInstalled law who x.current (next_install x) b e
   was_installed stores marking =
       let told = booked.under.told in
       let fit = fits told.before told.sound told.is_view in
@@ -129,9 +131,12 @@ module _ (law : Law) (who : ℕ) (b s m e : Book) (kept : KeptClaim) (stamp succ
         own = kept.own;
         own_is = next.claim.own;
         stored = s;
-        stores = stores;
+        stores = subst (λ (k : ℕ). TookHeadWords law who kept.own x.current.stamp (Some k) b s) next.claim.overwritten
+            (subst (λ (k : ℕ). TookHeadWords law who kept.own k (Some kept.overwritten) b s) (sym next.stamp_is) stores);
         marked = m;
-        marks = marking;
+        marks = subst (λ (u : VersionAt). TookMarks law who u x.current.stamp x.current.succ s m) (one.mark_version b.view who kept stamp succ known next s.view stored)
+            (subst (λ (k : ℕ). TookMarks law who (ended_claim (part_of s.view who)) k x.current.succ s m) (sym next.stamp_is)
+            (subst (λ (k : ℕ). TookMarks law who (ended_claim (part_of s.view who)) stamp k s m) (sym next.succ_is) marking));
         is_marked = marks;
         found = found;
         entry = record { owner = ap owner_of (sym is) ∙ fit.owner; number_is = ap number_of (sym is) ∙ fit.numbered; head = ap head_of (sym is) ∙ sym fit.cell };
@@ -150,9 +155,9 @@ installed_for law who t u w b e stamp succ number was = record {
   own = was.own;
   own_is = was.own_is;
   stored = was.stored;
-  stores = was.stores;
+  stores = subst (λ (k : ℕ). TookHeadWords law who was.own k (Some w.version.cell) b was.stored) stamp was.stores;
   marked = was.marked;
-  marks = was.marks;
+  marks = subst (λ (k : ℕ). TookMarks law who w.version k t.succ was.stored was.marked) stamp (subst (λ (k : ℕ). TookMarks law who w.version u.stamp k was.stored was.marked) succ was.marks);
   is_marked = λ c of. let at = was.is_marked c of in record { overwriter = at.overwriter ∙ stamp; succ = at.succ ∙ succ };
   found = was.found;
   entry = record { owner = was.entry.owner; number_is = was.entry.number_is ∙ number; head = was.entry.head };

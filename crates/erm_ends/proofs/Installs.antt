@@ -93,6 +93,9 @@ module _ (v : View) (who : ℕ) (kept : KeptClaim) (stamp succ : ℕ) (known : I
     pub mark_cell : (ended_claim (part_of u who)).cell ≡ kept.overwritten
     mark_cell = ap (λ (z : Part). (ended_claim z).cell) here ∙ ap (λ (w : Claim). w.version.cell) (new_there 6) ∙ sym next.claim.overwritten
 
+    pub mark_version : ended_claim (part_of u who) ≡ claim.version
+    mark_version = ap (λ (z : Part). ended_claim z) here ∙ ap (λ (w : Claim). w.version) (new_there 6)
+
     pub mark_stamp : (part_of u who).current.stamp ≡ stamp
     mark_stamp = ap (λ (z : Part). z.current.stamp) here ∙ next.stamp_is
 

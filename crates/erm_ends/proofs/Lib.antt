@@ -10,4 +10,5 @@ pub mod Left
 pub mod Over
 pub mod Raises
 pub mod Releases
+pub mod Safe
 pub mod Took

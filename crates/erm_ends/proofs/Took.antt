@@ -1,10 +1,12 @@
 -- The steps of ends one after another, by the classes that callers ask for.
-use Rattle.std.proofs.Common.{◌≡◌, ℕ, zero, suc, add-one, ◌+◌, Bool, true, false, [], ◌∷◌, refl, sym, subst}
+use Rattle.std.proofs.Common.{◌≡◌, ℕ, zero, suc, add-one, ◌+◌, Bool, true, false, [], ◌∷◌, Some, refl, sym, subst}
 use Rattle.erm_cells.specs.Took.{IsEndStep}
-use Rattle.erm_cells.proofs.Took.{stores_end}
+use Rattle.erm_cells.proofs.Took.{head_went, stores_end}
+use Rattle.erm_readers.proofs.Took.{marks_end}
 use Rattle.erm_machine.specs.declared.attempt.Attempt.{Attempt}
 use Rattle.erm_machine.specs.declared.event.Kind.TheVariants.{StoreBegin, StoreState}
 use Rattle.erm_machine.specs.Back.{goes_back}
+use Rattle.erm_machine.specs.Core.{claim_at}
 use Rattle.erm_model.specs.RowTransaction.{Law}
 use Rattle.erm_rule.specs.declared.view.Book.{Book}
 use Rattle.erm_rule.specs.Views.{part_of}
@@ -31,7 +33,8 @@ module _ (law : Law) (who : ℕ) where
 
   pub installs_end : (t : Attempt) (b e : Book) → TookInstalls law who t b e → Went law who IsEndStep b e
   installs_end t b e took =
-      turns_end _ (λ k m n was. went_step law who IsEndStep m was.marked n _ was.found (went_more law who IsEndStep m was.stored was.marked (stores_end law who m was.stored was.stores) was.marks) tt was.step) _ b e took
+      turns_end _ (λ k m n was. went_step law who IsEndStep m was.marked n _ was.found (went_more law who IsEndStep m was.stored was.marked (stores_end law who m was.stored (head_went law who was.own t.stamp (Some (claim_at t k).version.cell) m was.stored was.stores))
+      (marks_end law who (claim_at t k).version t.stamp t.succ was.stored was.marked was.marks)) tt was.step) _ b e took
 
   pub clears_end : (t : Attempt) (b e : Book) → TookBitClears law who t b e → Went law who IsEndStep b e
   clears_end t b e took = turns_end _ (λ k m n was. went_one law who IsEndStep _ was.0 m n tt was.1) _ b e took

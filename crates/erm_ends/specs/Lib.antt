@@ -1,3 +1,4 @@
 pub mod Commits
 pub mod Ends
+pub mod Safe
 pub mod Took

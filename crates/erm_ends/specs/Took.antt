@@ -1,7 +1,7 @@
 -- The steps of the ends of transactions, one after another, and what these very steps freed, raised and installed.
-use Rattle.std.specs.Prelude.{◌≡◌, ℕ, zero, suc, ◌≤◌, Bool, true, false, [], ◌∷◌, length}
+use Rattle.std.specs.Prelude.{◌≡◌, ℕ, zero, suc, ◌≤◌, Bool, true, false, [], ◌∷◌, length, Some}
 use Rattle.erm_cells.specs.Heads.{with_own_head}
-use Rattle.erm_cells.specs.Took.{IsEndStep, IsStoreStep}
+use Rattle.erm_cells.specs.Took.{TookHeadWords}
 use Rattle.erm_entries.specs.Ends.{HasFreeHead, newest_version}
 use Rattle.erm_machine.specs.declared.attempt.Attempt.{Attempt}
 use Rattle.erm_machine.specs.declared.attempt.Claim.{Claim}
@@ -13,11 +13,12 @@ use Rattle.erm_machine.specs.Seat.{is_own, read_at}
 use Rattle.erm_machine.specs.Words.{head_of, number_of, owner_of}
 use Rattle.erm_model.specs.RowTransaction.{Law}
 use Rattle.erm_readers.specs.Calls.{words_of}
+use Rattle.erm_readers.specs.Took.{TookMarks}
 use Rattle.erm_rule.specs.declared.view.Book.{Book}
 use Rattle.erm_rule.specs.Books.{IsBookOf, WasSeen}
 use Rattle.erm_rule.specs.Steps.{Booked}
 use Rattle.erm_rule.specs.Views.{part_of}
-use Rattle.erm_rule.specs.Went.{Took, Went}
+use Rattle.erm_rule.specs.Went.{Took}
 
 -- so many of these, one after another, from the first on
 abbrev pub InTurn : (ℕ → Book → Book → Type 0) → ℕ → Book → Book → Type 0
@@ -64,16 +65,16 @@ pub record IsClaimInstalled (t : Attempt) (w : Claim) (own : ℕ) (c : Core) : T
   pub is_head : HasFreeHead c w.version.oid own
   pub words : (newest_version c w.version.oid).words ≡ own_words (with_own_head t w w.own)
 
--- INSTALL. Words were stored into the claim's own cell, and then the version overwritten was marked: it is so in whatever state that book
--- is one of. This step, which is the last one to the second book, found the entry of the object claimed by the transaction, and gave it
--- the own cell for its head: in the state that the step left the claim was installed.
+-- INSTALL. The words before the row were stored into the claim's own cell, and then the two marks into the version overwritten: it has
+-- them in whatever state that book is one of. This step, which is the last one to the second book, found the entry of the object claimed by
+-- the transaction, and gave it the own cell for its head: in the state that the step left the claim was installed.
 pub record WasInstalled (law : Law) (who : ℕ) (t : Attempt) (w : Claim) (b e : Book) : Type 0 where
   pub own : ℕ
   pub own_is : is_own own w.own ≡ true
   pub stored : Book
-  pub stores : Went law who IsStoreStep b stored
+  pub stores : TookHeadWords law who own t.stamp (Some w.version.cell) b stored
   pub marked : Book
-  pub marks : Went law who IsEndStep stored marked
+  pub marks : TookMarks law who w.version t.stamp t.succ stored marked
   pub is_marked : (c : Core) → IsBookOf marked c → IsMarked t w.version c
   pub found : ℕ
   pub entry : IsOwnEntry who t.number w.version found

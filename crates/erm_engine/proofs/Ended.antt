@@ -48,7 +48,7 @@ use Rattle.erm_own_view.proofs.Lawful.{serializable}
 use Rattle.erm_own_view.proofs.Own.{between_held, own_given_is, own_is, session_in}
 use Rattle.erm_engine.specs.Closed.{AreJoined, HasIn, HaveClosed, HaveEnded}
 use Rattle.erm_engine.specs.Ended.{HasClosed, HasEnded, IsUntouched, world_of}
-use Rattle.erm_engine.proofs.Resting.{Rests, idle_between, idle_blank, none_over, session_other}
+use Rattle.erm_engine.proofs.Resting.{Rests, idle_between, idle_blank, idle_plain, none_over, session_other}
 use Rattle.erm_engine.proofs.Seats.{idle_part, rests, seat_part}
 
 abbrev F : ℕ
@@ -113,6 +113,7 @@ module _ {L : Type 0} (law : Law) (o : Opening) (t : Table L) (ss : List (TableS
           made = ap (λ (a : Attempt). a.made) blank_now;
           run = omega (arith, run, low);
           rests = idle_between (core.seats F).place (core.seats F).current (core.seats F).task idle_place own.task.fits;
+          plain = idle_plain (core.seats F).place (core.seats F).current (core.seats F).task idle_place own.task.fits;
           turn = ap (λ (x : Part). is_between x.flushing) flush_is ∙ gathers.between;
         }
 

@@ -28,7 +28,8 @@ use Rattle.erm_shared_session.specs.declared.session.TableSession.{TableSession}
 use Rattle.erm_shared_session.specs.Stands.{seat_of}
 use Rattle.erm_engine.specs.Closed.{AreJoined, HasIdle, HasIn}
 use Rattle.erm_engine.proofs.Joined.{at_within}
-use Rattle.erm_engine.proofs.Resting.{Rests, session_other, stage_sized}
+use Rattle.erm_table_world.proofs.Sessions.{stage_sized}
+use Rattle.erm_engine.proofs.Resting.{Rests, session_other}
 use Rattle.erm_engine.proofs.Taken.{once_before, other_held}
 
 abbrev F : ℕ

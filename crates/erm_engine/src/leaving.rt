@@ -8,7 +8,7 @@ ghost use Rattle.erm_rule.specs.Steps.{Fits};
 ghost use Rattle.erm_rule.specs.Views.{MayJoin, part_of, view};
 ghost use Rattle.erm_shared_session.specs.Stands.{Stands};
 
-use erm_beside::SharedSession;
+use erm_beside::{SafeSession, SharedSession};
 use erm_model::{Phase, RowLaw};
 use erm_rule::{Pass, Table};
 use erm_shared_session::TableSession;
@@ -23,8 +23,8 @@ pub fn end_all<L: RowLaw>(mut sessions: Vec<TableSession<L>>)
     sessions.destroy_empty();
 }
 
-/// Gives up a session, wherever it stands: a transaction in progress is aborted, and one that is sealed stays undecided. The pass of the flush
-/// seat, between two of its turns, takes in the session's, and may close the table.
+/// Gives up a session, wherever it stands: a transaction in progress is aborted, a snapshot is ended, and one that is sealed stays undecided.
+/// The pass of the flush seat, between two of its turns, takes in the session's, and may close the table.
 pub fn leave<L: RowLaw>(table: &Table<L>, flush: &mut Pass, mut session: TableSession<L>)
     requires stands { Stands L.law table.now session }
     requires fits { Fits table.now.words.shared.table_id flush.old }
@@ -35,8 +35,10 @@ pub fn leave<L: RowLaw>(table: &Table<L>, flush: &mut Pass, mut session: TableSe
     ensures joins { MayJoin (view flush.new) }
     ensures unpinned { (part_of (view flush.old) FLUSH_SEAT).place ≡ Idle → (part_of (view flush.new) FLUSH_SEAT).place ≡ Idle }
 {
-    if let Phase::Active = session.phase(table) {
-        session.abort(table);
+    match session.phase(table) {
+        Phase::Active => session.abort(table),
+        Phase::Pending | Phase::Safe => session.end_safe(table),
+        Phase::Idle | Phase::Sealed => {}
     }
     session.join_into(table, flush);
 }

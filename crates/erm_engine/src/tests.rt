@@ -9,6 +9,8 @@ ghost use Rattle.erm_rule.specs.declared.view.Opening.{Opening as OpeningOf};
 ghost use Rattle.erm_shared_session.specs.Stands.{Stands, own_of, seat_of};
 ghost use Rattle.erm_world.specs.World.{phase_at};
 
+mod snapshots;
+
 use crate::{Opened, close, open};
 use erm_beside::SharedSession;
 use erm_model::{AnyRows, OID_LIMIT, Oid, Outcome, Phase, ROW_WORDS, Row, Stamp};

@@ -3,7 +3,7 @@ use Rattle.std.proofs.Common.{◌≡◌, ◌≢◌, ℕ, zero, suc, ◌+◌, ◌
 use Rattle.std.specs.Option.{option_map}
 use Rattle.std.proofs.lemmas.Bool.{cases_eq}
 use Rattle.erm_model.specs.declared.outcome.Phase.{Phase}
-use Rattle.erm_model.specs.declared.outcome.Phase.TheVariants.{Idle, Active, Sealed}
+use Rattle.erm_model.specs.declared.outcome.Phase.TheVariants.{Idle, Active, Sealed, Pending, Safe}
 use Rattle.erm_model.specs.Member.{◌∈◌}
 use Rattle.erm_report.specs.declared.answer.Answer.{Answer}
 use Rattle.erm_report.specs.declared.answer.Answer.TheVariants as answer
@@ -80,6 +80,14 @@ gives (Some Active) Sealed c a needs fits = absurd (subst NeedsTransaction fits 
 gives (Some Sealed) Idle c a needs fits = absurd (subst NeedsTransaction fits needs)
 gives (Some Sealed) Active c a needs fits = absurd (subst NeedsTransaction fits needs)
 gives (Some Sealed) Sealed c a needs fits = fits
+gives (Some Idle) Pending c a needs fits = absurd (subst NeedsTransaction fits needs)
+gives (Some Idle) Safe c a needs fits = absurd (subst NeedsTransaction fits needs)
+gives (Some Active) Pending c a needs fits = absurd (subst NeedsTransaction fits needs)
+gives (Some Active) Safe c a needs fits = absurd (subst NeedsTransaction fits needs)
+gives (Some Sealed) Pending c a needs fits = absurd (subst NeedsTransaction fits needs)
+gives (Some Sealed) Safe c a needs fits = absurd (subst NeedsTransaction fits needs)
+gives (Some Pending) phase c a needs fits = fits
+gives (Some Safe) phase c a needs fits = fits
 
 -- a line that is answered with its stamp that it is excluded names no table
 no_table : (c : Command) (stamp succ pred : ℕ) → IsAnswerTo c (answer.Excluded stamp succ pred) → table_of c ≡ None

@@ -5,7 +5,7 @@ use Rattle.std.specs.Option.{option_map}
 use Rattle.std.proofs.lemmas.Bool.{eqb-true}
 use Rattle.std.proofs.lemmas.List.Sums.{fold-append}
 use Rattle.erm_model.specs.declared.outcome.Phase.{Phase}
-use Rattle.erm_model.specs.declared.outcome.Phase.TheVariants.{Idle, Active, Sealed}
+use Rattle.erm_model.specs.declared.outcome.Phase.TheVariants.{Idle, Active, Sealed, Pending, Safe}
 use Rattle.erm_model.specs.Member.{◌∈◌}
 use Rattle.erm_model.proofs.Members.{none_in_nil, ∈-push}
 use Rattle.erm_report.specs.declared.answer.Answer.{Answer}
@@ -91,6 +91,39 @@ none_idle command.Durable a needs fits = (none_alone a needs).1 fits
 none_idle command.Flush a needs fits = (none_alone a needs).2 fits
 none_idle command.Checkpoint a needs fits = (none_alone a needs).3 fits
 
+-- nor has a snapshot, whose phase refuses what a transaction is asked
+none_pending : (c : Command) (a : Answer) → NeedsTransaction a → FitsPhase Pending c a → ⊥
+none_pending command.Begin a needs fits = subst NeedsTransaction fits needs
+none_pending (command.Get table key) a needs fits = subst NeedsTransaction fits needs
+none_pending (command.Put table key value) a needs fits = subst NeedsTransaction fits needs
+none_pending (command.Del table key) a needs fits = subst NeedsTransaction fits needs
+none_pending (command.Next table from) a needs fits = subst NeedsTransaction fits needs
+none_pending (command.Scan table low high) a needs fits = subst NeedsTransaction fits needs
+none_pending (command.Tidy table key) a needs fits = subst NeedsTransaction fits needs
+none_pending command.Seal a needs fits = subst NeedsTransaction fits needs
+none_pending command.Settle a needs fits = subst NeedsTransaction fits needs
+none_pending command.Commit a needs fits = subst NeedsTransaction fits needs
+none_pending command.Abort a needs fits = subst NeedsTransaction fits needs
+none_pending command.Durable a needs fits = (none_alone a needs).1 fits
+none_pending command.Flush a needs fits = (none_alone a needs).2 fits
+none_pending command.Checkpoint a needs fits = (none_alone a needs).3 fits
+
+none_safe : (c : Command) (a : Answer) → NeedsTransaction a → FitsPhase Safe c a → ⊥
+none_safe command.Begin a needs fits = subst NeedsTransaction fits needs
+none_safe (command.Get table key) a needs fits = subst NeedsTransaction fits needs
+none_safe (command.Put table key value) a needs fits = subst NeedsTransaction fits needs
+none_safe (command.Del table key) a needs fits = subst NeedsTransaction fits needs
+none_safe (command.Next table from) a needs fits = subst NeedsTransaction fits needs
+none_safe (command.Scan table low high) a needs fits = subst NeedsTransaction fits needs
+none_safe (command.Tidy table key) a needs fits = subst NeedsTransaction fits needs
+none_safe command.Seal a needs fits = subst NeedsTransaction fits needs
+none_safe command.Settle a needs fits = subst NeedsTransaction fits needs
+none_safe command.Commit a needs fits = subst NeedsTransaction fits needs
+none_safe command.Abort a needs fits = subst NeedsTransaction fits needs
+none_safe command.Durable a needs fits = (none_alone a needs).1 fits
+none_safe command.Flush a needs fits = (none_alone a needs).2 fits
+none_safe command.Checkpoint a needs fits = (none_alone a needs).3 fits
+
 -- ---- a session that isn't idle is in a transaction
 
 abbrev pub InTransaction : Progress → Type 0
@@ -100,16 +133,22 @@ abbrev pub IsIn : Phase → Progress → Type 0
 IsIn Idle p = Unit {0}
 IsIn Active p = InTransaction p
 IsIn Sealed p = InTransaction p
+IsIn Pending p = Unit {0}
+IsIn Safe p = Unit {0}
 
 stays_in : (phase : Phase) (p : Progress) → InTransaction p → IsIn phase p
 stays_in Idle p is = tt
 stays_in Active p is = is
 stays_in Sealed p is = is
+stays_in Pending p is = tt
+stays_in Safe p is = tt
 
 pub has_one : (c : Command) (a : Answer) (phase : Phase) (p : Progress) → NeedsTransaction a → FitsPhase phase c a → IsIn phase p → InTransaction p
 has_one c a Idle p needs fits is = absurd (none_idle c a needs fits)
 has_one c a Active p needs fits is = is
 has_one c a Sealed p needs fits is = is
+has_one c a Pending p needs fits is = absurd (none_pending c a needs fits)
+has_one c a Safe p needs fits is = absurd (none_safe c a needs fits)
 
 on : (c : Command) (a : Answer) (p : Progress) → InTransaction p → InTransaction (goes_on (Some c) a p)
 on c a p is = (with_line (Some c) a is.0, ap (option_map (with_line (Some c) a)) is.1)
@@ -118,6 +157,8 @@ on_in : (phase : Phase) (c : Command) (a : Answer) (p : Progress) → IsIn phase
 on_in Idle c a p is = tt
 on_in Active c a p is = on c a p is
 on_in Sealed c a p is = on c a p is
+on_in Pending c a p is = tt
+on_in Safe c a p is = tt
 
 in_heard : (s : ℕ) (c : Command) (a : Answer) (phase : Phase) (p : Progress) → FitsPhase phase c a → IsIn phase p → IsIn (phase_after (Some c) a phase) (heard s (Some c) a p)
 in_heard s c (answer.Began begin) phase p fits is = (begun s begin p, refl)

@@ -78,12 +78,28 @@ untold-refusal None ph c = tt
 untold-refusal (Some phase.Idle) phase.Idle c = tt
 untold-refusal (Some phase.Idle) phase.Active c = refl
 untold-refusal (Some phase.Idle) phase.Sealed c = refl
+untold-refusal (Some phase.Idle) phase.Pending c = refl
+untold-refusal (Some phase.Idle) phase.Safe c = refl
 untold-refusal (Some phase.Active) phase.Idle c = refl
 untold-refusal (Some phase.Active) phase.Active c = tt
 untold-refusal (Some phase.Active) phase.Sealed c = refl
+untold-refusal (Some phase.Active) phase.Pending c = refl
+untold-refusal (Some phase.Active) phase.Safe c = refl
 untold-refusal (Some phase.Sealed) phase.Idle c = refl
 untold-refusal (Some phase.Sealed) phase.Active c = refl
 untold-refusal (Some phase.Sealed) phase.Sealed c = tt
+untold-refusal (Some phase.Sealed) phase.Pending c = refl
+untold-refusal (Some phase.Sealed) phase.Safe c = refl
+untold-refusal (Some phase.Pending) phase.Idle c = tt
+untold-refusal (Some phase.Pending) phase.Active c = tt
+untold-refusal (Some phase.Pending) phase.Sealed c = tt
+untold-refusal (Some phase.Pending) phase.Pending c = tt
+untold-refusal (Some phase.Pending) phase.Safe c = tt
+untold-refusal (Some phase.Safe) phase.Idle c = tt
+untold-refusal (Some phase.Safe) phase.Active c = tt
+untold-refusal (Some phase.Safe) phase.Sealed c = tt
+untold-refusal (Some phase.Safe) phase.Pending c = tt
+untold-refusal (Some phase.Safe) phase.Safe c = tt
 
 untold-either : (refusal : Option Answer) (c : Command) (a : Answer) → IfSome refusal (λ r. untold (answer_told r) c ≡ r) → FitsRefusal refusal c a → untold (answer_told a) c ≡ a
 untold-either None c a told is = untold-answer a c is
@@ -135,6 +151,8 @@ answer_told-closing ph (answer.Replied (reply.Pair None)) is = absurd (no_close 
     no_close phase.Idle is = is
     no_close phase.Active is = is
     no_close phase.Sealed is = is
+    no_close phase.Pending is = is
+    no_close phase.Safe is = is
 answer_told-closing ph a is = refl
 
 -- the lines of a report after the answers

@@ -5,7 +5,7 @@ use Rattle.std.specs.Option.{option_map, option_to_list}
 use Rattle.std.proofs.lemmas.Bool.{eqb-true}
 use Rattle.std.proofs.lemmas.List.Sums.{fold-append}
 use Rattle.erm_model.specs.declared.outcome.Phase.{Phase}
-use Rattle.erm_model.specs.declared.outcome.Phase.TheVariants.{Idle, Active, Sealed}
+use Rattle.erm_model.specs.declared.outcome.Phase.TheVariants.{Idle, Active, Sealed, Pending, Safe}
 use Rattle.erm_model.specs.declared.limits.TheConstants.{GREATEST_BLOCK}
 use Rattle.erm_model.specs.Member.{◌∈◌}
 use Rattle.erm_model.proofs.Members.{none_in_nil}
@@ -63,15 +63,33 @@ fits_command : (asked : Option Phase) (phase : Phase) (c : Command) (a : Answer)
 fits_command None Idle c a is fits = fits
 fits_command None Active c a is fits = fits
 fits_command None Sealed c a is fits = fits
+fits_command None Pending c a is fits = fits
+fits_command None Safe c a is fits = fits
 fits_command (Some Idle) Idle c a is fits = fits
 fits_command (Some Idle) Active c a is fits = absurd (subst IsDecided fits is)
 fits_command (Some Idle) Sealed c a is fits = absurd (subst IsDecided fits is)
+fits_command (Some Idle) Pending c a is fits = absurd (subst IsDecided fits is)
+fits_command (Some Idle) Safe c a is fits = absurd (subst IsDecided fits is)
 fits_command (Some Active) Idle c a is fits = absurd (subst IsDecided fits is)
 fits_command (Some Active) Active c a is fits = fits
 fits_command (Some Active) Sealed c a is fits = absurd (subst IsDecided fits is)
+fits_command (Some Active) Pending c a is fits = absurd (subst IsDecided fits is)
+fits_command (Some Active) Safe c a is fits = absurd (subst IsDecided fits is)
 fits_command (Some Sealed) Idle c a is fits = absurd (subst IsDecided fits is)
 fits_command (Some Sealed) Active c a is fits = absurd (subst IsDecided fits is)
 fits_command (Some Sealed) Sealed c a is fits = fits
+fits_command (Some Sealed) Pending c a is fits = absurd (subst IsDecided fits is)
+fits_command (Some Sealed) Safe c a is fits = absurd (subst IsDecided fits is)
+fits_command (Some Pending) Idle c a is fits = fits
+fits_command (Some Pending) Active c a is fits = fits
+fits_command (Some Pending) Sealed c a is fits = fits
+fits_command (Some Pending) Pending c a is fits = fits
+fits_command (Some Pending) Safe c a is fits = fits
+fits_command (Some Safe) Idle c a is fits = fits
+fits_command (Some Safe) Active c a is fits = fits
+fits_command (Some Safe) Sealed c a is fits = fits
+fits_command (Some Safe) Pending c a is fits = fits
+fits_command (Some Safe) Safe c a is fits = fits
 
 may : (c : Command) (a : Answer) (phase : Phase) → IsDecided a → FitsPhase phase c a → IsAnswerTo c a
 may c a phase is fits = fits_command (phase_asked c) phase c a is fits
@@ -100,6 +118,7 @@ module _ (Reach : ℕ → Type 0) (Waited : ℕ → ℕ → Type 0) (q : ℕ) wh
   Stands Idle now = Unit {0}
   Stands Active now = (t : Transaction) × (now ≡ Some t)
   Stands Sealed now = (t : Transaction) × (now ≡ Some t) × IsSealed t
+  Stands phase now = ⊥
 
   record Holds (phase : Phase) (p : Progress) : Type 0 where
     over : (t : Transaction) → t ∈ p.over → IsFine t
@@ -128,6 +147,8 @@ module _ (Reach : ℕ → Type 0) (Waited : ℕ → ℕ → Type 0) (q : ℕ) wh
   stands_on asked a Idle now s = tt
   stands_on asked a Active now s = (with_line asked a s.0, ap (option_map (with_line asked a)) s.1)
   stands_on asked a Sealed now s = (with_line asked a s.0, ap (option_map (with_line asked a)) s.1, s.2)
+  stands_on asked a Pending now s = s
+  stands_on asked a Safe now s = s
 
   on : (phase : Phase) (asked : Option Command) (a : Answer) (p : Progress) → Holds phase p → Holds phase (goes_on asked a p)
   on phase asked a p h = record { over = h.over; now = now_on asked a p.current h.now; stands = stands_on asked a phase p.current h.stands }
@@ -140,6 +161,8 @@ module _ (Reach : ℕ → Type 0) (Waited : ℕ → ℕ → Type 0) (q : ℕ) wh
   has_one c a Idle now is fits s = absurd (none_idle c a is fits)
   has_one c a Active now is fits s = s
   has_one c a Sealed now is fits s = (s.0, s.1)
+  has_one c a Pending now is fits s = absurd s
+  has_one c a Safe now is fits s = absurd s
 
   same_sealed : (now : Option Transaction) → Stands Sealed now → (u : Transaction) → now ≡ Some u → IsSealed u
   same_sealed now s u is = let both : Some s.0 ≡ Some u = sym s.1 ∙ is in let same : s.0 ≡ u = cc in subst IsSealed same s.2
@@ -148,6 +171,8 @@ module _ (Reach : ℕ → Type 0) (Waited : ℕ → ℕ → Type 0) (q : ℕ) wh
   settled Idle a now is fits s u at = absurd (subst IsDecided fits is)
   settled Active a now is fits s u at = absurd (subst IsDecided fits is)
   settled Sealed a now is fits s u at = same_sealed now s u at
+  settled Pending a now is fits s u at = absurd s
+  settled Safe a now is fits s u at = absurd s
 
   commits_told : (stamp succ pred : ℕ) (c : Command) (phase : Phase) (now : Option Transaction) → FitsPhase phase c (answer.Committed stamp succ pred) → IsAnswerTo c (answer.Committed stamp succ pred)
       → IfSome (stamp_drawn (Some c) (answer.Committed stamp succ pred)) Reach → Stands phase now → (u : Transaction) → now ≡ Some u → Reach stamp ⊎ IsSealed u
@@ -232,6 +257,8 @@ module _ (Reach : ℕ → Type 0) (Waited : ℕ → ℕ → Type 0) (q : ℕ) wh
   sealed_at Idle now s is t e = absurd (cc)
   sealed_at Active now s is t e = absurd (cc)
   sealed_at Sealed now s is t e = same_sealed now s t e
+  sealed_at Pending now s is t e = absurd s
+  sealed_at Safe now s is t e = absurd s
 
   none_sealed : (t : Transaction) → None ≡ Some t → IsSealed t
   none_sealed t is = absurd (cc)

@@ -2,7 +2,7 @@
 use Rattle.std.specs.Prelude.{◌≡◌, ℕ, ◌==◌, if◌then◌else◌, Bool, true, false, not, List, map, take, Option, Some, None}
 use Rattle.std.specs.List.{filter, fold, range_with_len, slice_get}
 use Rattle.erm_model.specs.declared.outcome.Phase.{Phase}
-use Rattle.erm_model.specs.declared.outcome.Phase.TheVariants.{Idle, Active, Sealed}
+use Rattle.erm_model.specs.declared.outcome.Phase.TheVariants.{Idle, Active, Sealed, Pending, Safe}
 use Rattle.erm_model.specs.declared.operation.Reply.TheVariants as reply
 use Rattle.erm_model.specs.Member.{◌∈◌}
 use Rattle.erm_report.specs.declared.answer.Answer.{Answer}
@@ -51,10 +51,16 @@ phase_asked c = Some Active
 abbrev pub refusal_for : Option Phase → Phase → Option Answer
 refusal_for (Some Idle) Active = Some answer.NotIdle
 refusal_for (Some Idle) Sealed = Some answer.NotIdle
+refusal_for (Some Idle) Pending = Some answer.NotIdle
+refusal_for (Some Idle) Safe = Some answer.NotIdle
 refusal_for (Some Active) Idle = Some answer.NoTransaction
 refusal_for (Some Active) Sealed = Some answer.IsSealed
+refusal_for (Some Active) Pending = Some answer.NoTransaction
+refusal_for (Some Active) Safe = Some answer.NoTransaction
 refusal_for (Some Sealed) Idle = Some answer.NotSealed
 refusal_for (Some Sealed) Active = Some answer.NotSealed
+refusal_for (Some Sealed) Pending = Some answer.NotSealed
+refusal_for (Some Sealed) Safe = Some answer.NotSealed
 refusal_for asked phase = None
 
 abbrev pub refusal_of : Phase → Command → Option Answer
@@ -143,6 +149,16 @@ abbrev pub is_idle : Phase → Bool
 is_idle Idle = true
 is_idle Active = false
 is_idle Sealed = false
+is_idle Pending = false
+is_idle Safe = false
+
+-- the session has no snapshot
+abbrev pub HasNoSnapshot : Phase → Type 0
+HasNoSnapshot Idle = Unit {0}
+HasNoSnapshot Active = Unit {0}
+HasNoSnapshot Sealed = Unit {0}
+HasNoSnapshot Pending = ⊥
+HasNoSnapshot Safe = ⊥
 
 -- a session that was closed at the end
 pub record Closed : Type 0 where

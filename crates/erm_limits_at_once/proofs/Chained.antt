@@ -60,6 +60,8 @@ active_run seat None (world.sealed w stamp) told active = absurd told
 active_run seat (Some t) world.idle told active = absurd told
 active_run seat (Some t) (world.active w) told active = (steps_of t, told.0.ran)
 active_run seat (Some t) (world.sealed w stamp) told active = cc
+active_run seat None (world.snapshot s) told active = absurd told
+active_run seat (Some t) (world.snapshot s) told active = absurd told
 
 pub knows_run : (seat : ℕ) (p : Progress) (phase : Phase) (v : View) → Knows seat p phase v → phase_at v seat ≡ Active → (steps : List Step) × IsRunOf (work_at v seat) steps
 knows_run seat p phase v knows active = active_run seat p.current (v.session seat).stand knows.tells.now active

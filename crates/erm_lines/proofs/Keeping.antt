@@ -2,7 +2,7 @@
 use Rattle.std.proofs.Common.{◌≡◌, ◌≢◌, ◌≤◌, refl, sym, ap, ◌∙◌, subst, inl, inr, ℕ, Bool, true, false, List, [], ◌∷◌, ◌++◌, Option, Some, None}
 use Rattle.std.proofs.lemmas.Bool.{cases_eq}
 use Rattle.erm_model.specs.declared.outcome.Phase.{Phase}
-use Rattle.erm_model.specs.declared.outcome.Phase.TheVariants.{Active, Idle, Sealed}
+use Rattle.erm_model.specs.declared.outcome.Phase.TheVariants.{Active, Idle, Sealed, Pending, Safe}
 use Rattle.erm_model.specs.declared.row_stop.RowStop.{RowStop}
 use Rattle.erm_model.specs.RowTransaction.{Event, ends}
 use Rattle.erm_model.specs.Rows.{Rows}
@@ -185,6 +185,8 @@ module _ (none : (number begin : ℕ) → IsRunOf (begun number begin) []) (v t 
   closed_kept Idle a did = absurd did
   closed_kept Active a did = kept v t seat runs (done_turns v t seat (work_at v seat) world.aborts did)
   closed_kept Sealed a did = kept v t seat runs (decided_turns v t seat a did)
+  closed_kept Pending a did = absurd did
+  closed_kept Safe a did = absurd did
 
 -- LINES OF THE LOG. They leave the sessions.
 flush_keeps : (v t : View) → AreRunsNow v → DidFlush v t → Kept v t

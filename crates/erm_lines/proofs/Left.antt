@@ -1,7 +1,7 @@
 -- Lines of sessions, and their closes, leave what the flusher and the pin say of the log.
 use Rattle.std.proofs.Common.{◌≡◌, ℕ, Option, Some, None, refl, ap, ◌∙◌}
 use Rattle.erm_model.specs.declared.outcome.Phase.{Phase}
-use Rattle.erm_model.specs.declared.outcome.Phase.TheVariants.{Active, Idle, Sealed}
+use Rattle.erm_model.specs.declared.outcome.Phase.TheVariants.{Active, Idle, Sealed, Pending, Safe}
 use Rattle.erm_report.specs.declared.answer.Answer.{Answer}
 use Rattle.erm_report.specs.declared.answer.Answer.TheVariants as answer
 use Rattle.erm_script.specs.declared.script.Command.{Command}
@@ -70,6 +70,8 @@ module _ (v t : View) (seat : ℕ) where
   closed Idle a did = absurd did
   closed Active a did = (did.flushed, did.pinned)
   closed Sealed a did = decided v t seat a did
+  closed Pending a did = absurd did
+  closed Safe a did = absurd did
 
 pub lines_leave : LinesLeaveTheLog
 lines_leave v t l a did = asked v t l.session l.command a (refusal_of (phase_at v l.session) l.command) refl did.did

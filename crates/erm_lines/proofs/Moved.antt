@@ -1,7 +1,7 @@
 -- The move of a line: it is that of a session, or of the log, which leaves the sessions.
 use Rattle.std.proofs.Common.{◌≡◌, sym, ◌≢◌, ℕ, ◌<◌, ◌⊎◌, List, ◌∷◌, Some, None, refl, subst, inl, inr, arith}
 use Rattle.erm_model.specs.declared.outcome.Phase.{Phase}
-use Rattle.erm_model.specs.declared.outcome.Phase.TheVariants.{Active, Idle, Sealed}
+use Rattle.erm_model.specs.declared.outcome.Phase.TheVariants.{Active, Idle, Sealed, Pending, Safe}
 use Rattle.erm_report.specs.declared.answer.Answer.{Answer}
 use Rattle.erm_report.specs.declared.answer.Answer.TheVariants as answer
 use Rattle.erm_script.specs.declared.script.Command.{Command}
@@ -72,6 +72,8 @@ pub active_where : (phase : Phase) → refusal_for (Some Active) phase ≡ None 
 active_where Idle is = cc
 active_where Active is = refl
 active_where Sealed is = cc
+active_where Pending is = cc
+active_where Safe is = cc
 
 -- the question whether a commit is on the disk changes nothing
 pub asked_still : (v t : View) (seat : ℕ) (a : Answer) → DidAskDurable v seat a t → t ≡ v

@@ -2,7 +2,7 @@
 use Rattle.std.proofs.Common.{◌≡◌, ◌≢◌, ℕ, zero, suc, ◌+◌, List, [], ◌∷◌, ◌++◌, append_assoc, Option, Some, None, Result, Ok, Err, IfOk, OnOk, refl, sym, ap, ◌∙◌, subst, ⊎_elim}
 use Rattle.erm_model.specs.declared.outcome.Outcome.TheVariants as outcome
 use Rattle.erm_model.specs.declared.outcome.Phase.{Phase}
-use Rattle.erm_model.specs.declared.outcome.Phase.TheVariants.{Active, Idle, Sealed}
+use Rattle.erm_model.specs.declared.outcome.Phase.TheVariants.{Active, Idle, Sealed, Pending, Safe}
 use Rattle.erm_model.specs.declared.outcome.Receipt.{Receipt}
 use Rattle.erm_model.specs.Member.{◌∈◌}
 use Rattle.erm_model.specs.RowTransaction.{Event}
@@ -21,7 +21,7 @@ use Rattle.erm_world.specs.World as world
 use Rattle.erm_world.specs.Onward.{goes_itself, goes_then}
 use Rattle.erm_world.proofs.Lists.{∈-parts}
 use Rattle.erm_world.proofs.Txns.{stopped, went}
-use Rattle.erm_good_report.specs.Phases.{Closes, phase_asked}
+use Rattle.erm_good_report.specs.Phases.{Closes, HasNoSnapshot, phase_asked}
 use Rattle.erm_lines.specs.Answers.{DidClose, DidCommand, DidOperation, IsCommitted, IsReceiptOf, KeepsReceipt, WasRefusedAs}
 use Rattle.erm_lines.specs.Executions.{DidEnd}
 use Rattle.erm_lines.specs.Operations.{Ran}
@@ -151,12 +151,14 @@ if_answered P (Ok a) gives is = gives a is
 if_answered P (Err e) gives is = tt
 
 -- an active session's transaction was given up, which closes the session
-pub aborted_ends : (v t : View) (seat : ℕ) → IsSession v seat → (phase_at v seat ≡ Idle → ⊥) → (phase_at v seat ≡ Sealed → ⊥) → DidAbort v seat t → DidEnd v seat answer.Aborted t
-aborted_ends v t seat session busy unsealed did = by (phase_at v seat) refl
+pub aborted_ends : (v t : View) (seat : ℕ) → IsSession v seat → (phase_at v seat ≡ Idle → ⊥) → HasNoSnapshot (phase_at v seat) → (phase_at v seat ≡ Sealed → ⊥) → DidAbort v seat t → DidEnd v seat answer.Aborted t
+aborted_ends v t seat session busy plain unsealed did = by (phase_at v seat) refl
   where
     by : (phase : Phase) → phase_at v seat ≡ phase → DidEnd v seat answer.Aborted t
     by Idle is = absurd (busy is)
     by Sealed is = absurd (unsealed is)
+    by Pending is = absurd (subst HasNoSnapshot is plain)
+    by Safe is = absurd (subst HasNoSnapshot is plain)
     by Active is = record {
       session = session;
       fits = subst (λ (p : Phase). Closes p answer.Aborted) (sym is) tt;

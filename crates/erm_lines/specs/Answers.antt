@@ -3,7 +3,7 @@ use Rattle.std.specs.Prelude.{◌≡◌, ℕ, ◌+◌, ◌<◌, ◌≤◌, List,
 use Rattle.erm_model.specs.declared.operation.Op.{Op}
 use Rattle.erm_model.specs.declared.outcome.Outcome.TheVariants as outcome
 use Rattle.erm_model.specs.declared.outcome.Phase.{Phase}
-use Rattle.erm_model.specs.declared.outcome.Phase.TheVariants.{Idle, Active, Sealed}
+use Rattle.erm_model.specs.declared.outcome.Phase.TheVariants.{Idle, Active, Sealed, Pending, Safe}
 use Rattle.erm_model.specs.declared.outcome.Receipt.{Receipt}
 use Rattle.erm_model.specs.declared.row_stop.RowStop.{RowStop}
 use Rattle.erm_model.specs.declared.row_stop.RowStop.TheVariants.{NotYet, ReadsFull, Owned, Newer, WritesFull, CellsFull, OidsFull, Excluded, Memory}
@@ -128,3 +128,5 @@ abbrev pub DidClose : Phase → View → ℕ → Answer → View → Type 0
 DidClose Idle v seat a t = ⊥
 DidClose Active v seat a t = DidAbort v seat t
 DidClose Sealed v seat a t = DidDecide v seat a t
+DidClose Pending v seat a t = ⊥
+DidClose Safe v seat a t = ⊥

@@ -5,7 +5,7 @@ ghost use Rattle.erm_model.specs.RowTransaction.{SameLaw};
 ghost use Rattle.erm_model.specs.Run.{Step};
 ghost use Rattle.erm_node.specs.Sound.{sound_law};
 ghost use Rattle.erm_maps.specs.Runs.{IsRunOf};
-ghost use Rattle.erm_good_report.specs.Phases.{Closes, IsOutcome};
+ghost use Rattle.erm_good_report.specs.Phases.{Closes, HasNoSnapshot, IsOutcome};
 ghost use Rattle.erm_world.specs.Calls.{DidNotSettle};
 ghost use Rattle.erm_world.specs.World.{IsSession, phase_at, work_at};
 ghost use Rattle.erm_lines.specs.Answers.{DidCommit, DidDecide, KeepsReceipt};
@@ -141,6 +141,7 @@ pub fn close_session<W: RowWorld>(
     requires stands { W.stands world.old }
     requires session { IsSession (W.view world.old) seat }
     requires open { phase_at (W.view world.old) seat ≡ Idle → ⊥ }
+    requires plain { HasNoSnapshot (phase_at (W.view world.old) seat) }
     ensures stands { W.stands world.new }
     ensures closed { IfOk result (λ a. DidEnd (W.view world.old) seat a (W.view world.new)) }
     ensures waits { IfErr result (λ wait. DidNotSettle (W.view world.old) seat wait (W.view world.new)) }

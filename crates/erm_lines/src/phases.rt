@@ -36,12 +36,20 @@ fn refusal_for(asked: Phase, phase: Phase) -> Option<Answer>
         (Phase::Idle, Phase::Idle) => None,
         (Phase::Idle, Phase::Active) => Some(Answer::NotIdle),
         (Phase::Idle, Phase::Sealed) => Some(Answer::NotIdle),
+        (Phase::Idle, Phase::Pending) => Some(Answer::NotIdle),
+        (Phase::Idle, Phase::Safe) => Some(Answer::NotIdle),
         (Phase::Active, Phase::Idle) => Some(Answer::NoTransaction),
         (Phase::Active, Phase::Active) => None,
         (Phase::Active, Phase::Sealed) => Some(Answer::IsSealed),
+        (Phase::Active, Phase::Pending) => Some(Answer::NoTransaction),
+        (Phase::Active, Phase::Safe) => Some(Answer::NoTransaction),
         (Phase::Sealed, Phase::Idle) => Some(Answer::NotSealed),
         (Phase::Sealed, Phase::Active) => Some(Answer::NotSealed),
         (Phase::Sealed, Phase::Sealed) => None,
+        (Phase::Sealed, Phase::Pending) => Some(Answer::NotSealed),
+        (Phase::Sealed, Phase::Safe) => Some(Answer::NotSealed),
+        (Phase::Pending, _) => None,
+        (Phase::Safe, _) => None,
     }
 }
 

@@ -2,7 +2,7 @@
 use Rattle.std.specs.Prelude.{◌≡◌, ℕ, Option, Some, None}
 use Rattle.erm_model.specs.declared.outcome.Outcome.TheVariants as outcome
 use Rattle.erm_model.specs.declared.outcome.Phase.{Phase}
-use Rattle.erm_model.specs.declared.outcome.Phase.TheVariants.{Idle, Active, Sealed}
+use Rattle.erm_model.specs.declared.outcome.Phase.TheVariants.{Idle, Active, Sealed, Pending, Safe}
 use Rattle.erm_model.specs.declared.outcome.Receipt.{Receipt}
 use Rattle.erm_report.specs.declared.answer.Answer.{Answer}
 use Rattle.erm_report.specs.declared.answer.Answer.TheVariants as answer
@@ -65,6 +65,8 @@ abbrev pub DidCloseBeside : Phase → ℕ → Answer → View → View → Type 
 DidCloseBeside Idle seat a v t = ⊥
 DidCloseBeside Active seat a v t = After seat (λ u w. DidAbort u seat w) v t
 DidCloseBeside Sealed seat a v t = DidDecideBeside seat a v t
+DidCloseBeside Pending seat a v t = ⊥
+DidCloseBeside Safe seat a v t = ⊥
 
 pub record DidEndBeside (seat : ℕ) (a : Answer) (v t : View) : Type 0 where
   pub fits : Closes (phase_at v seat) a

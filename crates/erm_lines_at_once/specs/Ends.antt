@@ -20,6 +20,7 @@ abbrev pub stamp_now : Stand → Option ℕ
 stamp_now world.idle = None
 stamp_now (world.active w) = None
 stamp_now (world.sealed w stamp) = Some stamp
+stamp_now (world.snapshot s) = None
 
 -- how many of a session's transactions were sealed below a place of the log
 abbrev pub sealed_in : ℕ → Session → ℕ

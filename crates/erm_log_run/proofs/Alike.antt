@@ -1,15 +1,16 @@
 -- However all sessions are closed, each is closed alike.
-use Rattle.std.proofs.Common.{inl, inr, ◌≡◌, ℕ, zero, suc, ◌<◌, ◌≤◌, List, Some, refl, sym, ap, ◌∙◌, subst, arith}
-use Rattle.std.specs.Prelude.{◌⊎◌}
+use Rattle.std.proofs.Common.{inl, inr, ◌≡◌, ℕ, zero, suc, ◌<◌, ◌≤◌, Bool, true, false, List, Some, refl, sym, ap, ◌∙◌, subst, arith}
+use Rattle.std.specs.Prelude.{◌⊎◌, if◌then◌else◌}
 use Rattle.erm_model.specs.declared.history.TransactionRecord.{TransactionRecord}
 use Rattle.erm_model.specs.declared.outcome.Phase.{Phase}
-use Rattle.erm_model.specs.declared.outcome.Phase.TheVariants.{Active, Idle, Sealed}
+use Rattle.erm_model.specs.declared.outcome.Phase.TheVariants.{Active, Idle, Sealed, Pending, Safe}
 use Rattle.erm_model.specs.History.{History, IsCertified, IsPredecessorStamp, IsSuccessorStamp}
 use Rattle.erm_model.specs.Member.{◌∈◌}
 use Rattle.erm_node.specs.Sound.{sound_law}
 use Rattle.erm_report.specs.declared.answer.Answer.{Answer}
 use Rattle.erm_report.specs.declared.answer.Answer.TheVariants as answer
 use Rattle.erm_world.specs.Laws.{IsSerializable}
+use Rattle.erm_world.specs.Snapshots.{snapshot_not_idle}
 use Rattle.erm_world.specs.World.{IsSession, Opening, Session, Stand, View, Work, history_of, phase_at, phase_of, record_of}
 use Rattle.erm_world.specs.World as world
 use Rattle.erm_good_report.specs.Phases.{Closes}
@@ -126,6 +127,13 @@ module _ (v : View) (holds : IsSerializable sound_law v) where
       by Active is a fits = absurd fits
       by Idle is a fits = absurd (cc)
       by Sealed is a fits = absurd (cc)
+      by Pending is a fits = absurd (cc)
+      by Safe is a fits = absurd (cc)
+
+  -- none is closed that has a snapshot
+  closes_none : (b : Bool) (a : Answer) → Closes (if b then Safe else Pending) a → ⊥
+  closes_none true a fits = fits
+  closes_none false a fits = fits
 
   alike_at : (first second : List Move) (t u : View) → ClosesAll v first t → ClosesAll v second u → (seat : ℕ) → IsSession v seat → end_of first seat ≡ end_of second seat
   alike_at first second t u c d seat session = by (v.session seat).stand refl
@@ -138,6 +146,11 @@ module _ (v : View) (holds : IsSerializable sound_law v) where
           let x : ClosedAt first v t seat = closed first t c seat session opens in
           let y : ClosedAt second v u seat = closed second u d seat session opens in
           x.end ∙ ap (λ (a : Answer). Some a) (aborted first t seat active x ∙ sym (aborted second u seat active y)) ∙ sym y.end
+      by (world.snapshot s) is =
+          let opens : phase_at v seat ≡ Idle → ⊥ = λ idle. snapshot_not_idle s (sym (ap phase_of is) ∙ idle) in
+          let x : ClosedAt first v t seat = closed first t c seat session opens in
+          let at : phase_at x.at seat ≡ phase_of (world.snapshot s) = ap (λ (r : Session). phase_of r.stand) x.same ∙ ap phase_of is in
+          absurd (closes_none s.is_safe x.answer (subst (λ (p : Phase). Closes p x.answer) at x.did.fits))
       by (world.sealed w stamp) is =
           let x : ClosedAt first v t seat = closed first t c seat session (busy seat w stamp is) in
           let y : ClosedAt second v u seat = closed second u d seat session (busy seat w stamp is) in

@@ -8,7 +8,7 @@ use Rattle.erm_model.specs.declared.history.TransactionRecord.{TransactionRecord
 use Rattle.erm_model.specs.declared.outcome.Outcome.{Outcome}
 use Rattle.erm_model.specs.declared.outcome.Outcome.TheVariants as outcome
 use Rattle.erm_model.specs.declared.outcome.Phase.{Phase}
-use Rattle.erm_model.specs.declared.outcome.Phase.TheVariants.{Active, Idle, Sealed}
+use Rattle.erm_model.specs.declared.outcome.Phase.TheVariants.{Active, Idle, Sealed, Pending, Safe}
 use Rattle.erm_model.specs.Member.{◌∈◌}
 use Rattle.erm_model.proofs.Members.{∈-push}
 use Rattle.erm_node.specs.Sound.{sound_law}
@@ -53,6 +53,8 @@ ends_as v t seat a e = by_phase (phase_at v seat) a e.fits e.did
     by_phase Sealed (answer.Committed stamp succ pred) fits did = settled_as v t seat (outcome.Committed did.0) did.4
     by_phase Sealed (answer.Excluded stamp succ pred) fits did = settled_as v t seat (outcome.Excluded stamp succ pred) did
     by_phase Sealed a fits did = absurd fits
+    by_phase Pending a fits did = absurd did
+    by_phase Safe a fits did = absurd did
 
 is_or : (p q : ℕ) → (p ≡ q) ⊎ (p ≢ q)
 is_or p q = grind arith

@@ -9,6 +9,7 @@ open_one : (s : Stand) → open_in s ≤ 1
 open_one world.idle = omega arith
 open_one (world.active w) = omega arith
 open_one (world.sealed w stamp) = omega arith
+open_one (world.snapshot s) = omega arith
 
 pub count_most : (n : ℕ) (s : ℕ → Session) → count_open n s ≤ n
 count_most zero s = omega arith
@@ -155,4 +156,5 @@ least_upto (suc n) s = one_more n s (s (suc n)).stand refl (least_upto n s)
     one_more : (n : ℕ) (s : ℕ → Session) (stand : Stand) → stand ≡ (s (suc n)).stand → NoneIsSealed n s ⊎ IsLeastUpto n s → NoneIsSealed (suc n) s ⊎ IsLeastUpto (suc n) s
     one_more n s world.idle e upto = extends_none n s (λ u c is. let no : world.idle ≡ world.sealed u c = e ∙ is in cc) upto
     one_more n s (world.active w) e upto = extends_none n s (λ u c is. let no : world.active w ≡ world.sealed u c = e ∙ is in cc) upto
+    one_more n s (world.snapshot x) e upto = extends_none n s (λ u c is. let no : world.snapshot x ≡ world.sealed u c = e ∙ is in cc) upto
     one_more n s (world.sealed w c) e upto = inr (here n s w c (sym e) upto)

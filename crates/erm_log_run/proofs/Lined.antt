@@ -38,11 +38,15 @@ durable_line v l a t session is was = record {
     fits phase.Idle = was.fits
     fits phase.Active = was.fits
     fits phase.Sealed = was.fits
+    fits phase.Pending = was.fits
+    fits phase.Safe = was.fits
 
     did : (p : Phase) → DidAsked (refusal_of p command.Durable) v l.session command.Durable a t
     did phase.Idle = was.did
     did phase.Active = was.did
     did phase.Sealed = was.did
+    did phase.Pending = was.did
+    did phase.Safe = was.did
 
 -- a line of the log
 pub log_line : (v : View) (l : ScriptLine) (a : Answer) (t : View) (c : Command) → l.command ≡ c → l.session ≡ 0 → DidLog v c a t → DidLogLine v l a t

@@ -12,10 +12,10 @@ use Rattle.erm_world.specs.declared.stops.Wait.TheVariants as wait
 use Rattle.erm_world.specs.Calls.{Becomes, DidNotSettle, DidSettle, IsInTheWay, IsSealedBelow, has_read, overwrites}
 use Rattle.erm_world.specs.World.{Finished, IsSession, Session, Stand, View, Work, phase_at, phase_of}
 use Rattle.erm_world.specs.World as world
-use Rattle.erm_good_report.specs.Phases.{Closes}
+use Rattle.erm_good_report.specs.Phases.{Closes, HasNoSnapshot}
 use Rattle.erm_lines.specs.Answers.{DidClose}
 use Rattle.erm_lines.specs.Executions.{DidEnd}
-use Rattle.erm_log_run.specs.Closing.{HasClosed, IsFlushedUp, IsLeast}
+use Rattle.erm_log_run.specs.Closing.{HasClosed, IsFlushedUp, IsLeast, NoSnapshots}
 
 -- sessions up to a seat were passed
 pub record Passed (v : View) (n : ℕ) (t : View) : Type 0 where
@@ -41,6 +41,13 @@ all_passed v t n many p = record {
   active = λ seat session. p.active seat session (let few = session.1 in omega (arith, few, many));
   least = λ seat stamp w session. p.least seat stamp w session (let few = session.1 in omega (arith, few, many));
 }
+
+-- and none of them has a snapshot, where none had
+pub passed_plain : (v t : View) (n seat : ℕ) → NoSnapshots v → Passed v n t → IsSession v seat → HasNoSnapshot (phase_at t seat)
+passed_plain v t n seat plain p session = elim (p.session seat session) as (λ _. HasNoSnapshot (phase_at t seat)) [
+  | inl same ↦ subst (λ (s : Session). HasNoSnapshot (phase_of s.stand)) (sym same) (plain seat session)
+  | inr closed ↦ subst HasNoSnapshot (sym closed.1) tt
+]
 
 last : (p n : ℕ) → p ≤ n + 1 → (p ≤ n) ⊎ (p ≡ n + 1)
 last p n few = grind arith
@@ -89,6 +96,8 @@ end_leaves v t seat a e = by_phase (phase_at v seat) a e.fits e.did
     by_phase phase.Sealed (answer.Committed stamp succ pred) fits did = settled_leaves v t seat (outcome.Committed did.0) did.4
     by_phase phase.Sealed (answer.Excluded stamp succ pred) fits did = settled_leaves v t seat (outcome.Excluded stamp succ pred) did
     by_phase phase.Sealed a fits did = absurd fits
+    by_phase phase.Pending a fits did = absurd did
+    by_phase phase.Safe a fits did = absurd did
 
 -- the next session was closed
 pub passed_closed : (v t u : View) (n : ℕ) → Passed v n t → (phase_at t (n + 1) ≡ phase.Idle → ⊥) → Leaves t (n + 1) u → Passed v (n + 1) u

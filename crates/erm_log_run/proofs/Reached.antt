@@ -1,7 +1,7 @@
 -- The log is flushed to the place that an answer tells, or to one above it.
 use Rattle.std.proofs.Common.{◌≡◌, ℕ, ◌+◌, ◌≤◌, Option, Some, None, refl, sym, subst, ap, ◌∙◌, arith, inl, inr}
 use Rattle.erm_model.specs.declared.outcome.Phase.{Phase}
-use Rattle.erm_model.specs.declared.outcome.Phase.TheVariants.{Active, Idle, Sealed}
+use Rattle.erm_model.specs.declared.outcome.Phase.TheVariants.{Active, Idle, Sealed, Pending, Safe}
 use Rattle.erm_report.specs.declared.answer.Answer.{Answer}
 use Rattle.erm_report.specs.declared.answer.Answer.TheVariants as answer
 use Rattle.erm_script.specs.declared.script.Command.{Command}
@@ -65,6 +65,12 @@ refusal_tells_none (Some Active) Idle r place is told = none_told answer.NoTrans
 refusal_tells_none (Some Active) Sealed r place is told = none_told answer.IsSealed r place refl is told
 refusal_tells_none (Some Sealed) Idle r place is told = none_told answer.NotSealed r place refl is told
 refusal_tells_none (Some Sealed) Active r place is told = none_told answer.NotSealed r place refl is told
+refusal_tells_none (Some Idle) Pending r place is told = none_told answer.NotIdle r place refl is told
+refusal_tells_none (Some Idle) Safe r place is told = none_told answer.NotIdle r place refl is told
+refusal_tells_none (Some Active) Pending r place is told = none_told answer.NoTransaction r place refl is told
+refusal_tells_none (Some Active) Safe r place is told = none_told answer.NoTransaction r place refl is told
+refusal_tells_none (Some Sealed) Pending r place is told = none_told answer.NotSealed r place refl is told
+refusal_tells_none (Some Sealed) Safe r place is told = none_told answer.NotSealed r place refl is told
 refusal_tells_none asked phase r place is told = let no : None ≡ Some r = is in cc
 
 line_reaches : (v t : View) (l : ScriptLine) (a : Answer) (place : ℕ) → DidLine v l a t → place_told a ≡ Some place → EndsAt a place t.flushed

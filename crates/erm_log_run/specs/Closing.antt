@@ -6,7 +6,7 @@ use Rattle.erm_model.specs.Member.{◌∈◌}
 use Rattle.erm_report.specs.declared.answer.Answer.{Answer}
 use Rattle.erm_world.specs.World.{IsSession, Session, Stand, View, Work, phase_at}
 use Rattle.erm_world.specs.World as world
-use Rattle.erm_good_report.specs.Phases.{Closed}
+use Rattle.erm_good_report.specs.Phases.{Closed, HasNoSnapshot}
 use Rattle.erm_lines.specs.Executions.{IsExecution, IsLast, Move, close, closed_in, flush, line, log}
 
 -- the answer with which moves close a session, if they do
@@ -42,6 +42,10 @@ IsLeast v stamp = (seat seen : ℕ) (w : Work) → IsSession v seat → (v.sessi
 abbrev pub IsFlushedUp : View → Type 0
 IsFlushedUp v = (seat stamp : ℕ) (w : Work) → IsSession v seat → (v.session seat).stand ≡ world.sealed w stamp → IsLeast v stamp → stamp ≤ v.flushed
 
+-- no session has a snapshot
+abbrev pub NoSnapshots : View → Type 0
+NoSnapshots v = (seat : ℕ) → IsSession v seat → HasNoSnapshot (phase_at v seat)
+
 -- where no session is left that isn't idle, all of the log is flushed
 abbrev pub IsFlushedWhenIdle : View → Type 0
 IsFlushedWhenIdle v = ((seat : ℕ) → IsSession v seat → phase_at v seat ≡ Idle) → v.flushed ≡ v.tail
@@ -58,6 +62,7 @@ abbrev pub open_in : Stand → ℕ
 open_in world.idle = 0
 open_in (world.active w) = 1
 open_in (world.sealed w stamp) = 1
+open_in (world.snapshot s) = 1
 
 abbrev pub count_open : ℕ → (ℕ → Session) → ℕ
 count_open zero session = 0

@@ -8,7 +8,7 @@ ghost use Rattle.erm_world.specs.World.{IsSession, View, phase_at};
 ghost use Rattle.erm_lines.specs.Executions.{DidFlush};
 ghost use Rattle.erm_summary.specs.Told.{closed_of};
 ghost use Rattle.erm_crash.specs.Kept.{LeavesLog};
-ghost use Rattle.erm_log_run.specs.Closing.{HasClosed, IsClosing, IsFlushedUp, IsFlushedWhenIdle, closes_from};
+ghost use Rattle.erm_log_run.specs.Closing.{HasClosed, IsClosing, IsFlushedUp, IsFlushedWhenIdle, NoSnapshots, closes_from};
 ghost use Rattle.erm_log_run.specs.Keeping.{CountsFaults, IsHeld, Keeps, keeper_of};
 ghost use Rattle.erm_log_run.specs.Runs.{ClosesOnFault, FlushesOnFault};
 ghost use Rattle.erm_log_run.specs.Saving.{RemovesTo};
@@ -38,6 +38,7 @@ pub fn close_all<W: ScriptWorld, D: Disk>(
     requires stands { W.stands world.old }
     requires law { SameLaw W.law sound_law }
     requires sessions { (W.view world.old).opening.sessions ≡ sessions }
+    requires plain { NoSnapshots (W.view world.old) }
     requires held { IsHeld W.rows_law.meets (keeper_of (W.log world.old) store.old (D.told store.old.disk)) }
     ensures stands { W.stands world.new }
     ensures closing { IfOk result (λ ends. IsClosing (W.view world.old) sessions ends.items (W.view world.new)) }
@@ -105,6 +106,7 @@ fn close_open<W: RowWorld>(world: &mut W, sessions: Seat, ends: &mut Vec<Option<
     requires stands { W.stands world.old }
     requires law { SameLaw W.law sound_law }
     requires sessions { (W.view world.old).opening.sessions ≡ sessions }
+    requires plain { NoSnapshots (W.view world.old) }
     requires up { IsFlushedUp (W.view world.old) }
     requires ends { length ends.old.items ≡ sessions }
     ensures stands { W.stands world.new }

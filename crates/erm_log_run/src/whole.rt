@@ -60,6 +60,7 @@ fn run_all<W: ScriptWorld, D: Disk>(
     ensures counts { CountsFaults result (D.faults store.old.disk) (D.faults store.new.disk) }
     ensures starved { WhereStarved result (Starves W.rows_law.meets (W.view world.old) script.now (keeper_of (W.log world.old) store.old (D.told store.old.disk)) (D.told store.new.disk)) }
 {
+    erm_told::executions_tell_sessions();
     let mut receipts = no_receipts(alloc, sessions)?;
     answer_all(alloc, world, store, script, &mut receipts, answers)?;
     close_all(alloc, world, store, sessions)

@@ -1,15 +1,16 @@
 -- Later states of a session, and of a world.
-use Rattle.std.proofs.Common.{◌≡◌, ◌≢◌, ℕ, zero, suc, ◌+◌, ◌≤◌, List, Some, [], ◌∷◌, ◌++◌, map, length, sum_by, cond, eqb, append-nil, append_assoc, refl, sym, ap, ◌∙◌, subst, inl, inr, arith, le_trans}
+use Rattle.std.proofs.Common.{◌≡◌, ◌≢◌, ℕ, zero, suc, ◌+◌, ◌≤◌, true, List, Some, [], ◌∷◌, ◌++◌, map, length, sum_by, cond, eqb, append-nil, append_assoc, refl, sym, ap, ◌∙◌, subst, inl, inr, arith, le_trans}
 use Rattle.std.proofs.lemmas.Bool.{cases_eq}
 use Rattle.std.proofs.lemmas.List.{length-append, length-map}
 use Rattle.std.proofs.lemmas.List.Sums.{sum_by-append, sum_by_push}
 use Rattle.erm_model.specs.Lawful.{times_made}
 use Rattle.erm_model.specs.RowTransaction.{Law}
-use Rattle.erm_world.specs.Calls.{Becomes, DidSeal, IsDone, Works}
+use Rattle.erm_world.specs.Calls.{Becomes, DidAbort, DidSeal, IsDone, Works}
 use Rattle.erm_world.specs.Face.{Goes, Grows, ends, same, works}
 use Rattle.erm_world.specs.Going.{Extends, found_by}
 use Rattle.erm_world.specs.Onward.{extends_then}
-use Rattle.erm_world.specs.World.{Fate, Finished, IsCurrent, IsSession, Opening, Session, Stand, View, Work, begun, claims_in, claims_upto, made_in, made_upto, phase_of, stamp_of, work_of}
+use Rattle.erm_world.specs.Safe.{with_snapshot}
+use Rattle.erm_world.specs.World.{Fate, Finished, IsCurrent, IsSession, Opening, Session, Snapshot, Stand, View, Work, begun, claims_in, claims_upto, made_in, made_upto, phase_of, stamp_of, work_of}
 use Rattle.erm_world.specs.World as world
 use Rattle.erm_world.proofs.Lists.{∈-after, ∈-before}
 use Rattle.erm_beside.specs.Later.{IsLater, StaysSealed, WentOn}
@@ -38,6 +39,7 @@ went_then w more then_more stand last (u, went, inr now) later = from (later u n
 stays_then : (first : Stand) (more then_more : List Finished) (stand last : Stand) → StaysSealed first more stand → StaysSealed stand then_more last → StaysSealed first (more ++ then_more) last
 stays_then world.idle more then_more stand last stays later = tt
 stays_then (world.active w) more then_more stand last stays later = tt
+stays_then (world.snapshot s) more then_more stand last stays later = tt
 stays_then (world.sealed w stamp) more then_more stand last (inl (fate, has, m)) later = inl (fate, has, ∈-before more then_more (record { work = w; fate = fate }) m)
 stays_then (world.sealed w stamp) more then_more stand last (inr now) later = from (subst (λ (at : Stand). StaysSealed at then_more last) now later)
   where
@@ -167,6 +169,32 @@ world_aborts v t seat w stand now =
     becomes_later v t seat s now
     (later_done (v.session seat) s w w (extends_itself w) (ap work_of stand) (λ x at. one_active (v.session seat).stand w x stand at) world.aborts refl refl
     (unsealed (v.session seat).stand w (record { work = w; fate = world.aborts } ∷ []) world.idle stand))
+
+-- of a snapshot its begin stamp and number are all that is kept
+one_snapshot : (stand : Stand) (r : Snapshot) (x : Work) → stand ≡ world.snapshot r → IsCurrent stand x → begun r.number r.begin ≡ x
+one_snapshot stand r x is now = subst (λ (at : Stand). IsCurrent at x) is now
+
+never_drawn : (first : Stand) (r : Snapshot) (more : List Finished) (stand : Stand) → first ≡ world.snapshot r → StaysSealed first more stand
+never_drawn first r more stand is = subst (λ (at : Stand). StaysSealed at more stand) (sym is) tt
+
+pub world_begins_safe : (v t : View) (seat : ℕ) (r : Snapshot) → (v.session seat).stand ≡ world.idle → Becomes v seat (with_snapshot v seat r) t → IsLaterWorld v t
+world_begins_safe v t seat r idle now = becomes_later v t seat (with_snapshot v seat r) now (idle_later (v.session seat) (with_snapshot v seat r) idle refl)
+
+pub world_is_safe : (v t : View) (seat : ℕ) (r : Snapshot) → (v.session seat).stand ≡ world.snapshot r → Becomes v seat (with_snapshot v seat (record r { is_safe = true })) t → IsLaterWorld v t
+world_is_safe v t seat r stand now =
+    let w = begun r.number r.begin in
+    let s : Session = with_snapshot v seat (record r { is_safe = true }) in
+    becomes_later v t seat s now
+    (later_on (v.session seat) s w w (extends_itself w) (ap work_of stand) (λ x at. one_snapshot (v.session seat).stand r x stand at) refl refl refl (never_drawn (v.session seat).stand r [] s.stand stand))
+
+pub world_ends_safe : (v t : View) (seat : ℕ) (r : Snapshot) → (v.session seat).stand ≡ world.snapshot r → DidAbort v seat t → IsLaterWorld v t
+world_ends_safe v t seat r stand now =
+    let w = work_of (v.session seat).stand in
+    let f : Finished = record { work = w; fate = world.aborts } in
+    let s : Session = record { over = (v.session seat).over ++ f ∷ []; stand = world.idle } in
+    becomes_later v t seat s now
+    (later_done (v.session seat) s w w (extends_itself w) refl (λ x at. ap work_of stand ∙ one_snapshot (v.session seat).stand r x stand at) world.aborts refl refl
+    (never_drawn (v.session seat).stand r (f ∷ []) world.idle stand))
 
 pub world_seals : (v t : View) (seat stamp : ℕ) (w : Work) → (v.session seat).stand ≡ world.active w → DidSeal v seat stamp t → IsLaterWorld v t
 world_seals v t seat stamp w stand did =

@@ -6,6 +6,7 @@ use Rattle.erm_model.specs.declared.outcome.Phase.TheVariants.{Active, Idle}
 use Rattle.erm_model.specs.declared.row_stop.RowStop.{RowStop}
 use Rattle.erm_model.specs.declared.row_stop.RowStop.TheVariants as stop
 use Rattle.erm_model.specs.RowTransaction.{Asked, Event, Law, asked_claim, asked_make, asked_read}
+use Rattle.erm_world.specs.Snapshots.{snapshot_not_active, snapshot_not_idle}
 use Rattle.erm_world.specs.declared.stops.BeginStop.{BeginStop}
 use Rattle.erm_world.specs.declared.stops.BeginStop.TheVariants as begin
 use Rattle.erm_world.specs.declared.stops.Wait.{Wait}
@@ -33,11 +34,13 @@ active_with : (stand : Stand) → phase_of stand ≡ Active → stand ≡ world.
 active_with world.idle active = cc
 active_with (world.active w) active = refl
 active_with (world.sealed w stamp) active = cc
+active_with (world.snapshot s) active = absurd (snapshot_not_active s active)
 
 idle_with : (stand : Stand) → phase_of stand ≡ Idle → stand ≡ world.idle
 idle_with world.idle idle = refl
 idle_with (world.active w) idle = cc
 idle_with (world.sealed w stamp) idle = cc
+idle_with (world.snapshot s) idle = absurd (snapshot_not_idle s idle)
 
 -- what all may end in they might before
 pub onward : (law : Law) (v t : View) (seat : ℕ) → IsLaterWorld v t → GoesOnward seat seat (λ f. EndsIn law v seat f) (λ f. EndsIn law t seat f)

@@ -5,6 +5,7 @@ use Rattle.erm_model.specs.declared.outcome.Phase.TheVariants.{Active}
 use Rattle.erm_model.specs.RowTransaction.{Law}
 use Rattle.erm_world.specs.Laws.{IsPossibleIn, IsSerializable}
 use Rattle.erm_world.specs.Going.{Extends, found_by}
+use Rattle.erm_world.specs.Snapshots.{snapshot_not_active}
 use Rattle.erm_world.specs.World.{IsCurrent, IsSession, Opening, Session, Stand, View, Work, made_by_all, made_in, made_upto, phase_of, work_at, work_of}
 use Rattle.erm_world.specs.World as world
 use Rattle.erm_beside.specs.Laws.{IsSound, IsWithin}
@@ -24,6 +25,7 @@ current_in : (stand : Stand) → phase_of stand ≡ Active → IsCurrent stand (
 current_in world.idle active = cc
 current_in (world.active w) active = refl
 current_in (world.sealed w stamp) active = cc
+current_in (world.snapshot s) active = absurd (snapshot_not_active s active)
 
 pub is_sound : (law : Law) (v : View) (seat : ℕ) → IsSession v seat → IsSerializable law v → IsPossibleIn law v → IsSound law v seat
 is_sound law v seat session serializable possible = record {
@@ -61,6 +63,7 @@ stays_itself : (stand : Stand) → StaysSealed stand [] stand
 stays_itself world.idle = tt
 stays_itself (world.active w) = tt
 stays_itself (world.sealed w stamp) = inr refl
+stays_itself (world.snapshot s) = tt
 
 pub later_itself : (s : Session) → IsLater s s
 later_itself s = record {

@@ -5,7 +5,7 @@ use Rattle.std.specs.List.{slice_get}
 use Rattle.std.proofs.lemmas.Bool.{cases_eq, cases_lt}
 use Rattle.std.proofs.lemmas.Option.{get_or_from_slice_get, slice_get_within}
 use Rattle.erm_model.specs.declared.outcome.Phase.{Phase}
-use Rattle.erm_model.specs.declared.outcome.Phase.TheVariants.{Idle, Active, Sealed}
+use Rattle.erm_model.specs.declared.outcome.Phase.TheVariants.{Idle, Active, Sealed, Pending, Safe}
 use Rattle.erm_model.specs.Member.{◌∈◌}
 use Rattle.erm_report.specs.declared.answer.Answer.{Answer}
 use Rattle.erm_report.specs.declared.answer.Answer.TheVariants as answer
@@ -66,6 +66,8 @@ refused_get : (table key : ℕ) (phase : Phase) → IfSome (refusal_of phase (co
 refused_get table key Idle = silent answer.NoTransaction refl refl refl
 refused_get table key Active = tt
 refused_get table key Sealed = silent answer.IsSealed refl refl refl
+refused_get table key Pending = silent answer.NoTransaction refl refl refl
+refused_get table key Safe = silent answer.NoTransaction refl refl refl
 
 answers_get : (table key : ℕ) (a : Answer) → IsAnswerTo (command.Get table key) a → IsSilent a
 answers_get table key (answer.Began begin) is = absurd is
@@ -79,6 +81,8 @@ refused_flush : (phase : Phase) → IfSome (refusal_of phase command.Flush) IsSi
 refused_flush Idle = tt
 refused_flush Active = tt
 refused_flush Sealed = tt
+refused_flush Pending = tt
+refused_flush Safe = tt
 
 answers_flush : (a : Answer) → IsAnswerTo command.Flush a → IsSilent a
 answers_flush (answer.Began begin) is = absurd is
@@ -92,6 +96,8 @@ refused_put : (table key : ℕ) (value : List ℕ) (phase : Phase) → IfSome (r
 refused_put table key value Idle = record { no_begin = refl; no_stamp = refl }
 refused_put table key value Active = tt
 refused_put table key value Sealed = record { no_begin = refl; no_stamp = refl }
+refused_put table key value Pending = record { no_begin = refl; no_stamp = refl }
+refused_put table key value Safe = record { no_begin = refl; no_stamp = refl }
 
 answers_put : (table key : ℕ) (value : List ℕ) (a : Answer) → IsAnswerTo (command.Put table key value) a → IsQuiet a
 answers_put table key value (answer.Began begin) is = absurd is
@@ -104,6 +110,8 @@ refused_commit : (phase : Phase) → IfSome (refusal_of phase command.Commit) (�
 refused_commit Idle = refl
 refused_commit Active = tt
 refused_commit Sealed = refl
+refused_commit Pending = refl
+refused_commit Safe = refl
 
 answers_commit : (a : Answer) → IsAnswerTo command.Commit a → meets_newer a ≡ false
 answers_commit (answer.Newer stamp) is = absurd is
@@ -120,6 +128,8 @@ begins_at : (phase : Phase) (a : Answer) → phase ≡ Idle → FitsPhase phase 
 begins_at Idle a idle fits calm = begins_so a fits calm
 begins_at Active a idle fits calm = absurd (cc)
 begins_at Sealed a idle fits calm = absurd (cc)
+begins_at Pending a idle fits calm = absurd (cc)
+begins_at Safe a idle fits calm = absurd (cc)
 
 -- ---- a begin above all commits that are told meets no newer version
 
@@ -137,6 +147,8 @@ put_meets_none table key value before Idle current a is fits meets above = ap me
 put_meets_none table key value before Sealed current a is fits meets above = ap meets_newer fits
 put_meets_none table key value before Active None a is fits meets above = absurd is
 put_meets_none table key value before Active (Some t) a is fits meets above = not_over before t.begin a (meets t refl) above
+put_meets_none table key value before Pending current a is fits meets above = ap meets_newer fits
+put_meets_none table key value before Safe current a is fits meets above = ap meets_newer fits
 
 -- ---- through the lines
 

@@ -5,7 +5,7 @@ use Rattle.std.specs.List.{fold}
 use Rattle.std.specs.Option.{option_to_list}
 use Rattle.std.proofs.lemmas.List.Sums.{fold-append}
 use Rattle.erm_model.specs.declared.outcome.Phase.{Phase}
-use Rattle.erm_model.specs.declared.outcome.Phase.TheVariants.{Idle, Active, Sealed}
+use Rattle.erm_model.specs.declared.outcome.Phase.TheVariants.{Idle, Active, Sealed, Pending, Safe}
 use Rattle.erm_model.specs.Member.{◌∈◌}
 use Rattle.erm_model.proofs.Members.{none_in_nil, ∈-behind, ∈-push}
 use Rattle.erm_report.specs.declared.answer.Answer.{Answer}
@@ -65,6 +65,8 @@ linked_changed change Idle current is = tt
 linked_changed change Active None is = absurd is
 linked_changed change Active (Some t) is = tt
 linked_changed change Sealed current is = tt
+linked_changed change Pending current is = tt
+linked_changed change Safe current is = tt
 
 linked_waiting : (sealed : Bool) (change : Transaction → Transaction) (phase : Phase) (current : Option Transaction) → IsLinked phase current
     → IsLinked (cond sealed Sealed phase) (option_map change current)

@@ -2,7 +2,7 @@
 use Rattle.std.proofs.Common.{◌≡◌, ℕ, ◌+◌, Bool, true, false, cond, List, Some, refl, sym, subst, arith}
 use Rattle.std.proofs.lemmas.Bool.{false≢true}
 use Rattle.erm_model.specs.declared.outcome.Phase.{Phase}
-use Rattle.erm_model.specs.declared.outcome.Phase.TheVariants.{Idle, Active, Sealed}
+use Rattle.erm_model.specs.declared.outcome.Phase.TheVariants.{Idle, Active, Sealed, Pending, Safe}
 use Rattle.erm_report.specs.declared.answer.Answer.{Answer}
 use Rattle.erm_report.specs.declared.answer.Answer.TheVariants as answer
 use Rattle.erm_script.specs.declared.script.Command.{Command}
@@ -25,6 +25,8 @@ abbrev pub in_progress : Phase → ℕ
 in_progress Idle = 0
 in_progress Active = 1
 in_progress Sealed = 2
+in_progress Pending = 2
+in_progress Safe = 2
 
 abbrev pub begins : Command → ℕ
 begins command.Begin = 1
@@ -34,6 +36,8 @@ abbrev pub IsUnsealed : Phase → Type 0
 IsUnsealed Idle = Unit {0}
 IsUnsealed Active = Unit {0}
 IsUnsealed Sealed = ⊥
+IsUnsealed Pending = ⊥
+IsUnsealed Safe = ⊥
 
 -- the answer ends the transaction in progress, or begins one, or neither
 pub record Turn (c : Command) (phase : Phase) (a : Answer) : Type 0 where
@@ -256,11 +260,15 @@ pub get_turn : (table key : ℕ) (phase : Phase) (a : Answer) → IsUnsealed pha
 get_turn table key Idle a unsealed fits = none_is_there (command.Get table key) a refl fits
 get_turn table key Active a unsealed fits = get_active table key a fits
 get_turn table key Sealed a unsealed fits = absurd unsealed
+get_turn table key Pending a unsealed fits = absurd unsealed
+get_turn table key Safe a unsealed fits = absurd unsealed
 
 pub put_turn : (table key : ℕ) (value : List ℕ) (phase : Phase) (a : Answer) → IsUnsealed phase → FitsPhase phase (command.Put table key value) a → Turn (command.Put table key value) phase a
 put_turn table key value Idle a unsealed fits = none_is_there (command.Put table key value) a refl fits
 put_turn table key value Active a unsealed fits = put_active table key value a fits
 put_turn table key value Sealed a unsealed fits = absurd unsealed
+put_turn table key value Pending a unsealed fits = absurd unsealed
+put_turn table key value Safe a unsealed fits = absurd unsealed
 
 pub commit_turn : (phase : Phase) (a : Answer) → IsUnsealed phase → FitsPhase phase command.Commit a → is_stuck a ≡ false → Closing phase a
 commit_turn Idle a unsealed fits calm =
@@ -268,11 +276,15 @@ commit_turn Idle a unsealed fits calm =
     record { turn = none_is_there command.Commit a refl fits; idle = subst P (sym fits) refl }
 commit_turn Active a unsealed fits calm = commit_active a fits calm
 commit_turn Sealed a unsealed fits calm = absurd unsealed
+commit_turn Pending a unsealed fits calm = absurd unsealed
+commit_turn Safe a unsealed fits calm = absurd unsealed
 
 pub flush_turn : (phase : Phase) (a : Answer) → IsUnsealed phase → FitsPhase phase command.Flush a → Still command.Flush phase a
 flush_turn Idle a unsealed fits = flush_answered Idle a unsealed fits
 flush_turn Active a unsealed fits = flush_answered Active a unsealed fits
 flush_turn Sealed a unsealed fits = absurd unsealed
+flush_turn Pending a unsealed fits = absurd unsealed
+flush_turn Safe a unsealed fits = absurd unsealed
 
 abbrev IsIdle : Phase → Type 0
 IsIdle Idle = Unit {0}
@@ -285,3 +297,5 @@ pub begin_turn : (phase : Phase) (a : Answer) → phase ≡ Idle → FitsPhase p
 begin_turn Idle a idle fits calm = begin_idle a fits calm
 begin_turn Active a idle fits calm = absurd (not_idle Active idle)
 begin_turn Sealed a idle fits calm = absurd (not_idle Sealed idle)
+begin_turn Pending a idle fits calm = absurd (not_idle Pending idle)
+begin_turn Safe a idle fits calm = absurd (not_idle Safe idle)

@@ -1,17 +1,17 @@
 -- A world of one session whose transactions commit one after another: its calls, as the contract says them.
-use Rattle.std.proofs.Common.{◌≡◌, ◌≢◌, ℕ, ◌+◌, ◌<◌, ◌≤◌, Bool, true, false, cond, ◌==◌, List, [], ◌∷◌, ◌++◌, length, Option, Some, None, inl, inr, refl, sym, ap, ◌∙◌, subst, arith}
+use Rattle.std.proofs.Common.{◌≡◌, ◌≢◌, ℕ, ◌+◌, ◌<◌, ◌≤◌, Bool, true, false, cond, ◌==◌, List, [], ◌∷◌, ◌++◌, length, Option, Some, None, ◌⊎◌, inl, inr, refl, sym, ap, ◌∙◌, subst, arith}
 use Rattle.std.proofs.lemmas.Bool.Decides.{eqb_tells}
-use Rattle.erm_model.specs.declared.history.TransactionRecord.{TransactionRecord}
 use Rattle.erm_model.specs.declared.history.VersionRead.{VersionRead}
 use Rattle.erm_model.specs.declared.history.VersionWritten.{VersionWritten}
 use Rattle.erm_model.specs.declared.limits.TheConstants.{READ_LIMIT, WRITE_LIMIT}
 use Rattle.erm_model.specs.declared.outcome.Phase.{Phase}
-use Rattle.erm_model.specs.declared.outcome.Phase.TheVariants.{Active, Idle, Sealed}
+use Rattle.erm_model.specs.declared.outcome.Phase.TheVariants.{Active, Idle, Sealed, Pending, Safe}
 use Rattle.erm_model.specs.declared.outcome.Outcome.TheVariants.{Committed}
-use Rattle.erm_model.specs.History.{History, IsPredecessorStamp, IsSuccessorStamp}
+use Rattle.erm_model.specs.History.{History, IsNewestBelow, IsPredecessorStamp}
 use Rattle.erm_model.specs.RowTransaction.{Law}
 use Rattle.erm_model.specs.Rows.{Rows}
 use Rattle.erm_model.specs.Member.{◌∈◌}
+use Rattle.erm_model.specs.Safe.{IsSafeAt}
 use Rattle.erm_model.proofs.Members.{none_in_nil}
 use Rattle.erm_world.proofs.Lists.{∈-last}
 use Rattle.erm_map_world.specs.MapWorks.{commit_with, finished, found_row, newest}
@@ -19,11 +19,13 @@ use Rattle.erm_map_world.specs.MapWorld.{IsMapWorld, IsWorld, Map, map_view, sta
 use Rattle.erm_map_world.proofs.MapCalls.{committed_push, map_aborted, map_begun, map_claimed, map_committed, map_made, map_read, map_sealed, map_set}
 use Rattle.erm_map_world.proofs.MapLaws.{history_is, the_first, world_is}
 use Rattle.erm_map_world.proofs.Versions.{found_none, oid_kept}
-use Rattle.erm_world.specs.Calls.{AreReady, Becomes, DidClaim, DidRead, DidSettle, DidWrite, HasNoNewer, IsDone, IsUnowned, Works}
+use Rattle.erm_world.specs.Calls.{AreReady, Becomes, DidAbort, DidBegin, DidClaim, DidRead, DidSettle, DidWrite, HasNoNewer, IsDone, IsUnowned, Works}
 use Rattle.erm_world.specs.Calls as calls
 use Rattle.erm_world.specs.Laws.{IsLawfulWork}
-use Rattle.erm_world.specs.Works.{claiming, is_claimed, making, own_row, reading, row_read, setting}
-use Rattle.erm_world.specs.World.{Finished, IsSession, Session, Stand, View, Work, begun, history_of, history_upto, phase_at, phase_of, size_of, work_at, work_of}
+use Rattle.erm_world.specs.Safe.{DidBeginSafe, DidSafe, DidSafeRead, HasSnapshot, with_snapshot}
+use Rattle.erm_world.specs.Snapshots.{snapshot_not_active}
+use Rattle.erm_world.specs.Works.{claiming, making, reading, row_read, setting}
+use Rattle.erm_world.specs.World.{Finished, IsSession, IsWorking, Session, Snapshot, Stand, View, Work, begun, history_of, history_upto, phase_at, phase_of, size_of, work_at, work_of}
 use Rattle.erm_world.specs.World as world
 
 -- PHASE. It is that of the one session.
@@ -31,6 +33,8 @@ phase_of_stand : (p : Phase) (w : Work) → phase_of (stand_of p w) ≡ p
 phase_of_stand Idle w = refl
 phase_of_stand Active w = refl
 phase_of_stand Sealed w = refl
+phase_of_stand Pending w = refl
+phase_of_stand Safe w = refl
 
 -- BECOMES. The one session becomes another, and nothing else changes.
 not_first : (q : ℕ) → q ≢ 1 → (q == 1) ≡ false
@@ -192,6 +196,7 @@ active_as : (stand : Stand) → phase_of stand ≡ Active → stand ≡ world.ac
 active_as world.idle active = cc
 active_as (world.active w) active = refl
 active_as (world.sealed w stamp) active = cc
+active_as (world.snapshot s) active = absurd (snapshot_not_active s active)
 
 pub claim_works : (v : View) (seat oid : ℕ) (t : View) → phase_at v seat ≡ Active → DidClaim v seat oid t → (u : Work) × Works v seat u t
 claim_works v seat oid t active (calls.before is claimed) = (
@@ -300,3 +305,184 @@ map_opened law start rows first over positive meets reach none =
       made_all = λ x above below. absurd (omega (arith, above, below));
       next_above = omega arith;
     }))
+
+-- SNAPSHOTS. One that only reads is a transaction that has done nothing; what is so of the world stays so when it becomes one.
+becomes_both : (v t u : View) (seat : ℕ) (s r : Session) → Becomes v seat s t → Becomes t seat r u → Becomes v seat r u
+becomes_both v t u seat s r first second = record {
+  own = second.own;
+  others = λ q another. second.others q another ∙ first.others q another;
+  opening = second.opening ∙ first.opening;
+  tail = second.tail ∙ first.tail;
+  flushed = second.flushed ∙ first.flushed;
+  pinned = second.pinned ∙ first.pinned;
+  given_up = second.given_up ∙ first.given_up;
+}
+
+map_raised : (law : Law) (m : Map) (number start : ℕ) (safe : Bool) → IsMapWorld law (record m { stand = world.active (begun number start) })
+    → IsMapWorld law (record m { stand = world.snapshot (record { number = number; begin = start; is_safe = safe }) })
+map_raised law m number start safe is = record {
+  positive = is.positive;
+  meets = is.meets;
+  reach = is.reach;
+  past = is.past;
+  now_is = is.now_is;
+  made_once = is.made_once;
+  made_new = is.made_new;
+  made_all = is.made_all;
+  next_above = is.next_above;
+}
+
+map_lowered : (law : Law) (m : Map) (s : Snapshot) → IsMapWorld law (record m { stand = world.snapshot s }) → IsMapWorld law (record m { stand = world.active (begun s.number s.begin) })
+map_lowered law m s is = record {
+  positive = is.positive;
+  meets = is.meets;
+  reach = is.reach;
+  past = is.past;
+  now_is = is.now_is;
+  made_once = is.made_once;
+  made_new = is.made_new;
+  made_all = is.made_all;
+  next_above = is.next_above;
+}
+
+-- a session that shows this transaction is active, and has it
+active_with : (p : Phase) (w u : Work) → stand_of p w ≡ world.active u → (p ≡ Active) × (w ≡ u)
+active_with Idle w u e = absurd (cc)
+active_with Active w u e = (refl, ap work_of e)
+active_with Sealed w u e = absurd (cc)
+active_with Pending w u e = absurd (cc)
+active_with Safe w u e = absurd (cc)
+
+snapshot_with : (p : Phase) (w : Work) (s : Snapshot) → stand_of p w ≡ world.snapshot s → (p ≡ Pending) ⊎ (p ≡ Safe)
+snapshot_with Idle w s e = absurd (cc)
+snapshot_with Active w s e = absurd (cc)
+snapshot_with Sealed w s e = absurd (cc)
+snapshot_with Pending w s e = inl refl
+snapshot_with Safe w s e = inr refl
+
+-- BEGIN SAFE. The transaction that has just begun.
+module _ (law : Law) (m : Map) (p : Phase) (w : Work) (seat begin : ℕ) (v : View) (one : seat ≡ 1) (did : DidBegin v seat begin (map_view (record m { stand = stand_of p w }))) where
+  abbrev number : ℕ
+  number = length (v.session seat).over + 1
+
+  shown : ◌≡◌ {A = Session} (record { over = m.over; stand = stand_of p w }) (record { over = (v.session seat).over; stand = world.active (begun number begin) })
+  shown = subst (λ (q : ℕ). ◌≡◌ {A = Session} ((map_view (record m { stand = stand_of p w })).session q) (record { over = (v.session seat).over; stand = world.active (begun number begin) })) one did.3.own
+
+  active_then : stand_of p w ≡ world.active (begun number begin)
+  active_then = ap (λ (s : Session). s.stand) shown
+
+  pub begun_active : p ≡ Active
+  begun_active = (active_with p w (begun number begin) active_then).0
+
+  same_work : w ≡ begun number begin
+  same_work = (active_with p w (begun number begin) active_then).1
+
+  pub raised_stands : IsWorld law (record m { stand = stand_of p w }) → IsWorld law (record m { stand = stand_of Pending w })
+  raised_stands standing =
+      world_is law (record m { stand = stand_of Pending w })
+      (subst (λ (x : Work). IsMapWorld law (record m { stand = stand_of Pending x })) (sym same_work)
+      (map_raised law m number begin false (subst (λ (s : Stand). IsMapWorld law (record m { stand = s })) active_then standing.is)))
+
+  pub raised_begins : DidBeginSafe v seat begin (map_view (record m { stand = stand_of Pending w }))
+  raised_begins =
+      let s : Snapshot = record { number = number; begin = begin; is_safe = false } in
+      let is : record { over = m.over; stand = stand_of Pending w } ≡ with_snapshot v seat s =
+      ap (λ (r : Session). record { over = r.over; stand = stand_of Pending w }) shown
+      ∙ ap (λ (x : Work). record { over = (v.session seat).over; stand = stand_of Pending x }) same_work
+      in
+      let then_view : View = map_view (record m { stand = stand_of p w }) in
+      let last : View = map_view (record m { stand = stand_of Pending w }) in
+      let raised : Becomes then_view seat (with_snapshot v seat s) last =
+      subst (λ (q : ℕ). Becomes then_view q (with_snapshot v seat s) last) (sym one)
+      (becomes (record m { stand = stand_of p w }) m.over (stand_of Pending w) (with_snapshot v seat s) is)
+      in
+      (did.0, did.1, did.2, becomes_both v then_view last seat (record { over = (v.session seat).over; stand = world.active (begun number begin) }) (with_snapshot v seat s) did.3 raised)
+
+-- SAFE. Each commit of the one session has its turn where it began, and none is in progress.
+commit_safe : (law : Law) (m : Map) (b : ℕ) → IsMapWorld law m → IsSafeAt (history_of (map_view m)) b
+commit_safe law m b is t within before after =
+    let commit = is.past.commits t (subst (λ (h : History). t ∈ h) (history_is m) within) in
+    absurd (omega (arith, commit.begin_is, before, after))
+
+working_none : (m : Map) (s : Snapshot) (b q : ℕ) (w : Work) → IsSession (map_view (record m { stand = world.snapshot s })) q
+    → IsWorking ((map_view (record m { stand = world.snapshot s })).session q).stand w → b ≤ w.begin
+working_none m s b q w session working =
+    absurd (subst (λ (n : ℕ). IsWorking ((map_view (record m { stand = world.snapshot s })).session n).stand w) (the_first (record m { stand = world.snapshot s }) q session) working)
+
+module _ (law : Law) (m : Map) (p : Phase) (w : Work) (seat : ℕ) (session : IsSession (map_view (record m { stand = stand_of p w })) seat) where
+  safe_map : phase_at (map_view (record m { stand = stand_of p w })) seat ≡ Pending → IsWorld law (record m { stand = stand_of p w }) → IsMapWorld law (record m { stand = stand_of Safe w })
+  safe_map pending standing =
+      let s : Snapshot = record { number = w.number; begin = w.begin; is_safe = false } in
+      map_raised law m w.number w.begin true (map_lowered law m s (within law m p w seat session Pending pending standing))
+
+  pub safe_stands : phase_at (map_view (record m { stand = stand_of p w })) seat ≡ Pending → IsWorld law (record m { stand = stand_of p w }) → IsWorld law (record m { stand = stand_of Safe w })
+  safe_stands pending standing = world_is law (record m { stand = stand_of Safe w }) (safe_map pending standing)
+
+  pub safe_done : phase_at (map_view (record m { stand = stand_of p w })) seat ≡ Pending → IsWorld law (record m { stand = stand_of p w })
+      → DidSafe (map_view (record m { stand = stand_of p w })) seat (map_view (record m { stand = stand_of Safe w }))
+  safe_done pending standing =
+      let s : Snapshot = record { number = w.number; begin = w.begin; is_safe = false } in
+      let is = safe_map pending standing in
+      while law m p w seat session Pending pending (λ (q : ℕ) (x : Phase). DidSafe (map_view (record m { stand = stand_of x w })) q (map_view (record m { stand = stand_of Safe w }))) (
+        s,
+        refl,
+        becomes (record m { stand = stand_of Pending w }) m.over (stand_of Safe w) (record { over = m.over; stand = stand_of Safe w }) refl,
+        record {
+          past = omega (arith, is.now_is.1);
+          history = commit_safe law (record m { stand = stand_of Safe w }) w.begin is;
+          begins = λ q u own working. working_none m (record { number = w.number; begin = w.begin; is_safe = true }) w.begin q u own working;
+        },
+      )
+
+  -- SAFE READ. The newest version of all is the newest where it began.
+  pub read_safe : (oid : ℕ) (row : List ℕ) → phase_at (map_view (record m { stand = stand_of p w })) seat ≡ Safe → row ≡ (newest m.rows m.over oid).row
+      → IsWorld law (record m { stand = stand_of p w }) → DidSafeRead (map_view (record m { stand = stand_of p w })) seat oid row
+  read_safe oid row safe row_is standing =
+      let v : VersionRead = newest m.rows m.over oid in
+      let is = within law m p w seat session Safe safe standing in
+      while law m p w seat session Safe safe (λ (q : ℕ) (x : Phase). DidSafeRead (map_view (record m { stand = stand_of x w })) q oid row) (
+        v.stamp,
+        subst (λ (h : History). IsNewestBelow h m.rows oid w.begin v.stamp row) (sym (history_is (record m { stand = stand_of Safe w })))
+            (subst (λ (list : List ℕ). IsNewestBelow (world.committed_in 1 m.over) m.rows oid w.begin v.stamp list) (sym row_is)
+            (subst (λ (b : ℕ). IsNewestBelow (world.committed_in 1 m.over) m.rows oid b v.stamp v.row) (sym is.now_is.1) (is.past.newest_is oid))),
+      )
+
+  -- END SAFE
+  shows_one : HasSnapshot (map_view (record m { stand = stand_of p w })) seat → (s : Snapshot) × (stand_of p w ≡ world.snapshot s)
+  shows_one has =
+      subst (λ (q : ℕ). (s : Snapshot) × (((map_view (record m { stand = stand_of p w })).session q).stand ≡ world.snapshot s)) (one law m p w seat session) has
+
+  pub snapshot_phase : HasSnapshot (map_view (record m { stand = stand_of p w })) seat → (p ≡ Pending) ⊎ (p ≡ Safe)
+  snapshot_phase has = let s = shows_one has in snapshot_with p w s.0 s.1
+
+  -- it is the last one that has begun, at the end of the log
+  last_one : HasSnapshot (map_view (record m { stand = stand_of p w })) seat → IsWorld law (record m { stand = stand_of p w })
+      → (s : Snapshot) × (stand_of p w ≡ world.snapshot s) × (begun m.begun m.tail ≡ begun s.number s.begin)
+  last_one has standing =
+      let s = shows_one has in
+      let is = subst (λ (x : Stand). IsMapWorld law (record m { stand = x })) s.1 standing.is in (
+        s.0,
+        s.1,
+        ap (λ (n : ℕ). begun n m.tail) (sym is.now_is.2.number_is) ∙ ap (λ (n : ℕ). begun s.0.number n) (sym is.now_is.1),
+      )
+
+  pub end_stands : (then_over : List Finished) → HasSnapshot (map_view (record m { stand = stand_of p w })) seat → then_over ≡ m.over ++ finished (begun m.begun m.tail) None ∷ []
+      → IsWorld law (record m { stand = stand_of p w }) → IsWorld law (record m { stand = world.idle; over = then_over })
+  end_stands then_over has is standing =
+      let one_is = last_one has standing in
+      let s : Snapshot = one_is.0 in
+      let there = subst (λ (x : Stand). IsMapWorld law (record m { stand = x })) one_is.1 standing.is in
+      world_is law (record m { stand = world.idle; over = then_over })
+      (subst (λ (list : List Finished). IsMapWorld law (record m { stand = world.idle; over = list })) (sym is)
+      (subst (λ (x : Work). IsMapWorld law (record m { stand = world.idle; over = m.over ++ finished x None ∷ [] })) (sym one_is.2)
+      (map_aborted law m (begun s.number s.begin) (map_lowered law m s there))))
+
+  pub end_done : (then_over : List Finished) → HasSnapshot (map_view (record m { stand = stand_of p w })) seat → then_over ≡ m.over ++ finished (begun m.begun m.tail) None ∷ []
+      → IsWorld law (record m { stand = stand_of p w }) → DidAbort (map_view (record m { stand = stand_of p w })) seat (map_view (record m { stand = world.idle; over = then_over }))
+  end_done then_over has is standing =
+      let one_is = last_one has standing in
+      let work : begun m.begun m.tail ≡ work_of (stand_of p w) = one_is.2 ∙ sym (ap work_of one_is.1) in
+      let ended : Session = record { over = m.over ++ finished (work_of (stand_of p w)) None ∷ []; stand = world.idle } in
+      subst (λ (q : ℕ). DidAbort (map_view (record m { stand = stand_of p w })) q (map_view (record m { stand = world.idle; over = then_over }))) (sym (one law m p w seat session))
+      (becomes (record m { stand = stand_of p w }) then_over world.idle ended
+      (ap (λ (list : List Finished). record { over = list; stand = world.idle }) (is ∙ ap (λ (x : Work). m.over ++ finished x None ∷ []) work)))

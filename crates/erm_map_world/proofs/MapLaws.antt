@@ -1,12 +1,12 @@
 -- A world of one session whose transactions commit one after another: what is so of its view.
-use Rattle.std.proofs.Common.{◌≡◌, ℕ, zero, suc, ◌+◌, ◌<◌, ◌≤◌, ◌⊎◌, List, [], ◌∷◌, ◌++◌, length, Option, Some, None, inl, inr, refl, sym, ap, ◌∙◌, subst, arith}
+use Rattle.std.proofs.Common.{◌≡◌, ℕ, ◌+◌, ◌<◌, ◌≤◌, List, length, Some, inl, inr, refl, sym, ap, ◌∙◌, subst, arith}
 use Rattle.std.specs.List.{slice_get}
 use Rattle.erm_model.specs.declared.limits.TheConstants.{OID_LIMIT}
 use Rattle.erm_model.specs.History.{History, IsCertified, IsSnapshot}
 use Rattle.erm_model.specs.RowTransaction.{Law}
 use Rattle.erm_model.specs.Rows.{Rows}
 use Rattle.erm_world.specs.Calls.{AreAllMade}
-use Rattle.erm_world.specs.Laws.{FitsWork, IsLawfulWork, IsNumbered, IsPossibleIn, IsSerializable, SeesSnapshot}
+use Rattle.erm_world.specs.Laws.{IsLawfulWork, IsNumbered, IsPossibleIn, IsSerializable, SeesSnapshot}
 use Rattle.erm_map_world.specs.MapWorks.{rows_now}
 use Rattle.erm_map_world.specs.MapWorld.{AreOver, IsMapWorld, IsNow, IsWorld, Map, Saw, bound_of, made_of, map_view}
 use Rattle.erm_map_world.proofs.Histories.{none_overwrites}
@@ -49,6 +49,7 @@ bound_below : (law : Law) (rows : Rows) (over : List Finished) (tail number : �
 bound_below law rows over tail number world.idle is = omega arith
 bound_below law rows over tail number (world.active w) is = omega arith
 bound_below law rows over tail number (world.sealed w stamp) is = omega (arith, is.2)
+bound_below law rows over tail number (world.snapshot s) is = omega arith
 
 record Currently (law : Law) (rows : Rows) (over : List Finished) (number bound : ℕ) (w : Work) : Type 0 where
   pub number_is : number ≡ length over + 1
@@ -65,6 +66,7 @@ currently : (law : Law) (rows : Rows) (over : List Finished) (tail number : ℕ)
 currently law rows over tail number world.idle w is current = absurd current
 currently law rows over tail number (world.active u) w is current = current_as law rows over number tail u w current is.0 is.1 is.2
 currently law rows over tail number (world.sealed u stamp) w is current = current_as law rows over number stamp u w current is.0 is.1 is.4
+currently law rows over tail number (world.snapshot s) w is current = current_as law rows over number tail (world.begun s.number s.begin) w current is.0 is.1 is.2
 
 seen_over : (law : Law) (m : Map) → IsMapWorld law m → (f : Finished) (k : ℕ) → slice_get m.over k ≡ Some f → Seen law m f.work
 seen_over law m is f k at =

@@ -1,5 +1,6 @@
 -- Loops over the claims of a transaction in memory.
-use Rattle.std.proofs.Common.{◌≡◌, ◌≢◌, ℕ, ◌+◌, ◌<◌, Bool, true, false, cond, ◌||◌, ◌==◌, List, [], ◌∷◌, ◌++◌, length, map, get_or, take, Option, Some, None, is_some, Result, Ok, Err, is_ok, is_err, inl, inr, refl, sym, ap, ◌∙◌, eq-eqb}
+use Rattle.std.proofs.Common.{◌≡◌, ◌≢◌, ℕ, ◌+◌, ◌<◌, Bool, true, false, cond, ◌||◌, ◌==◌, List, [], ◌∷◌, ◌++◌, length, map, get_or, take, Option, Some, None, is_some, Result, Ok, Err, is_ok, is_err, inl, inr, refl, sym, ap, ◌∙◌, eq-eqb, ◌≤◌, arith}
+use Rattle.std.specs.Prelude.{OnErr}
 use Rattle.std.proofs.lemmas.Bool.Decides.{eqb_tells}
 use Rattle.std.specs.List.{slice_get}
 use Rattle.std.proofs.lemmas.Option.{slice_get-get_or}
@@ -44,6 +45,11 @@ found_before cs oid i d within other =
 pub pushed : {X T E : Type 0} (r : Result T E) (new old : List X) (x : X) → new ≡ cond (is_ok r) (old ++ x ∷ []) old → false ≡ is_err r → new ≡ old ++ x ∷ []
 pushed (Ok done) new old x is answered = is
 pushed (Err why) new old x is answered = cc
+
+-- one for which there is room
+pub full_never : {T E : Type 0} (r : Result T E) (len room : ℕ) → OnErr r (room ≤ len) → len < room → true ≡ is_err r → ⊥
+full_never (Ok done) len room full more failed = cc
+full_never (Err why) len room full more failed = omega (arith, full, more)
 
 -- the row of an object
 pub row_at : (items : List (List ℕ)) (oid : ℕ) (row : List ℕ) → oid < length items → row ≡ get_or items oid row → row ≡ rows_of items oid

@@ -1,5 +1,5 @@
 -- A world of one session over rows in memory, whose transactions commit one after another. Tests run on it.
-use Rattle.std.specs.Prelude.{◌≡◌, ℕ, ◌+◌, ◌==◌, ◌<◌, ◌≤◌, false, if◌then◌else◌, List, [], length, sum_by, slice_get, Some, None}
+use Rattle.std.specs.Prelude.{◌≡◌, ℕ, ◌+◌, ◌==◌, ◌<◌, ◌≤◌, true, false, if◌then◌else◌, List, [], length, sum_by, slice_get, Some, None}
 use Rattle.erm_model.specs.declared.history.TransactionRecord.{TransactionRecord}
 use Rattle.erm_model.specs.declared.history.VersionRead.{VersionRead}
 use Rattle.erm_model.specs.declared.history.VersionWritten.{VersionWritten}
@@ -33,6 +33,8 @@ abbrev pub stand_of : Phase → Work → Stand
 stand_of phase.Idle w = world.idle
 stand_of phase.Active w = world.active w
 stand_of phase.Sealed w = world.sealed w w.begin
+stand_of phase.Pending w = world.snapshot (record { number = w.number; begin = w.begin; is_safe = false })
+stand_of phase.Safe w = world.snapshot (record { number = w.number; begin = w.begin; is_safe = true })
 
 -- what the world means: nothing of its log is synced
 abbrev pub map_view : Map → View
@@ -99,14 +101,17 @@ abbrev pub bound_of : Stand → ℕ → ℕ
 bound_of world.idle tail = tail
 bound_of (world.active w) tail = tail
 bound_of (world.sealed w stamp) tail = stamp
+bound_of (world.snapshot s) tail = tail
 
--- what is so of the one in progress, and how many have begun
+-- what is so of the one in progress, and how many have begun; a snapshot is a transaction that has done nothing
 abbrev pub IsNow : Law → Rows → List Finished → ℕ → ℕ → Stand → Type 0
 IsNow law rows over tail number world.idle = number ≡ length over
 IsNow law rows over tail number (world.active w) =
     (number ≡ length over + 1) × (w.begin ≡ tail) × Saw law rows (committed_in 1 over) (rows_now rows over) number w
 IsNow law rows over tail number (world.sealed w stamp) = (number ≡ length over + 1) × (w.begin ≡ stamp) × (tail ≡ stamp + size_of w)
     × IsLawfulWork law w × Saw law rows (committed_in 1 over) (rows_now rows over) number w
+IsNow law rows over tail number (world.snapshot s) =
+    (number ≡ length over + 1) × (s.begin ≡ tail) × Saw law rows (committed_in 1 over) (rows_now rows over) number (world.begun s.number s.begin)
 
 -- how often its transactions made an object
 abbrev pub made_of : List Finished → Stand → ℕ → ℕ

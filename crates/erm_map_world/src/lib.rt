@@ -3,6 +3,7 @@
 #![tactic(auto)]
 
 mod map_world;
+mod safe;
 mod works;
 
 pub use map_world::MapWorld;

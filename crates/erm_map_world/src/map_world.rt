@@ -1,7 +1,7 @@
 //! A world of one session over rows in memory.
 ghost use Rattle.std.specs.Prelude.{[], ◌≡◌, ◌+◌, ◌<◌, ◌≤◌, ℕ, vec_capacity, vec_len};
 ghost use Rattle.erm_model.specs.declared.limits.TheConstants.{OID_LIMIT, READ_LIMIT, STOP, WRITE_LIMIT};
-ghost use Rattle.erm_model.specs.declared.outcome.Phase.TheVariants.{Active, Sealed};
+ghost use Rattle.erm_model.specs.declared.outcome.Phase.TheVariants.{Active, Pending, Safe, Sealed};
 ghost use Rattle.erm_model.specs.Rows.{rows_of};
 
 use crate::works::{MapDone, MapWork, block_size, newest_version, own, predecessor, seen, set_row};
@@ -43,12 +43,14 @@ pub struct MapWorld<L> {
     ghost claims_few: { vec_len work.claims ≤ WRITE_LIMIT },
     ghost room_active: { phase ≡ Active → vec_len over < vec_capacity over },
     ghost room_sealed: { phase ≡ Sealed → vec_len over < vec_capacity over },
+    ghost room_pending: { phase ≡ Pending → vec_len over < vec_capacity over },
+    ghost room_safe: { phase ≡ Safe → vec_len over < vec_capacity over },
     ghost below_stop: { phase ≡ Active → tail < STOP },
 }
 
 impl<L> MapWorld<L> {
     // The transaction that has done nothing yet.
-    fn blank(&self) -> MapWork
+    pub(crate) fn blank(&self) -> MapWork
         ensures number { result.number ≡ self.now.begun }
         ensures begin { result.begin ≡ self.now.tail }
         ensures reads { result.reads.items ≡ [] }

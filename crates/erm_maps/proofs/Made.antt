@@ -60,6 +60,7 @@ module _ (bound x : ℕ) where
   made_now world.idle w none = absurd none
   made_now (world.active u) w e = ap (λ (k : Work). times_made k.made x) e
   made_now (world.sealed u stamp) w e = ap (λ (k : Work). times_made k.made x) e
+  made_now (world.snapshot s) w e = ap (λ (k : Work). times_made k.made x) e
 
   beside_session : (seat : ℕ) (s : Session) (w : Work) (has : IsOver s.over w ⊎ IsCurrent s.stand w) → ((f : Finished) (stamp : ℕ) → f ∈ s.over → f.work ≡ w → stamp_of f.fate ≡ Some stamp → bound ≤ stamp) → made_in_history (below bound (committed_in seat s.over)) x + times_made w.made x ≤ made_in s x
   beside_session seat s w has above =

@@ -7,6 +7,7 @@ use Rattle.erm_node.specs.Sound.{sound_law}
 use Rattle.erm_tree.specs.Calls.{IsReady}
 use Rattle.erm_world.specs.Face.{world_face}
 use Rattle.erm_world.specs.Laws.{IsPossibleIn}
+use Rattle.erm_world.specs.Snapshots.{snapshot_not_active}
 use Rattle.erm_world.specs.World.{IsCurrent, Stand, View, phase_of, work_at, work_of}
 use Rattle.erm_world.specs.World as world
 use Rattle.erm_maps.specs.Runs.{IsRunOf}
@@ -17,6 +18,7 @@ current_in : (stand : Stand) → phase_of stand ≡ Active → IsCurrent stand (
 current_in world.idle active = cc
 current_in (world.active w) active = refl
 current_in (world.sealed w stamp) active = cc
+current_in (world.snapshot s) active = absurd (snapshot_not_active s active)
 
 module _ {S : Type 0} (law : Law) (view : S → View) (seat : S → ℕ) (stands : S → Type 0) (one : S → S → Type 0)
     (possible : (s : S) → stands s → IsPossibleIn law (view s)) (same : SameLaw law sound_law) where

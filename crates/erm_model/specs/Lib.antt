@@ -7,5 +7,6 @@ pub mod Member
 pub mod RowTransaction
 pub mod Rows
 pub mod Run
+pub mod Safe
 pub mod SerialOrder
 pub mod Spelling

@@ -38,4 +38,8 @@ pub enum Phase {
     Active,
     /// Its transaction has its commit stamp and waits to be decided.
     Sealed,
+    /// It has a snapshot that only reads, and isn't known to be safe yet.
+    Pending,
+    /// It has a snapshot that only reads, and is safe: no commit will have its turn before it and show in it.
+    Safe,
 }

@@ -88,7 +88,7 @@ join_opening c d seat other true e = absurd (cc)
 join_opening c d seat other false e = part_opening c d seat (join (c.seats seat) (c.seats other)) e
 
 module _ (one : (sessions seat : ℕ) (c d : Core) (k : Kind) → Sound c → MeetsOne k → after_event c seat k ≡ Some d → ChangesOne seat k (view_of sessions c) (view_of sessions d)) where
-  event_opening : (c d : Core) (seat : ℕ) (k : Kind) → Sound c → after_event c seat k ≡ Some d → opening_in d ≡ opening_in c
+  pub event_opening : (c d : Core) (seat : ℕ) (k : Kind) → Sound c → after_event c seat k ≡ Some d → opening_in d ≡ opening_in c
   event_opening c d seat (kind.Split other) sound e = split_opening c d seat other _ e
   event_opening c d seat (kind.Join other) sound e = join_opening c d seat other _ e
   event_opening c d seat k sound e = ap (λ (o : Opening). record o { cuts = TABLE_CELLS }) (one SESSIONS seat c d k sound tt e).opening

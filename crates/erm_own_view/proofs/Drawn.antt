@@ -38,6 +38,7 @@ use Rattle.erm_core_stays.specs.Runs.{Runs}
 use Rattle.erm_core_stays.specs.Staying.{IsOwnedBy, Rises}
 use Rattle.erm_core_steps.proofs.Places.{active_at}
 use Rattle.erm_core_view.proofs.Moved.{meets_one}
+use Rattle.erm_core_view.proofs.Snapshots.{IsNewSnapshot, shown_work, snapshots_new}
 use Rattle.erm_core_view.specs.Steps.{MeetsOne}
 use Rattle.erm_core_view.specs.Views.{fate_of, finished_of, work_of}
 use Rattle.erm_rule.specs.declared.view.Book.{Book}
@@ -276,23 +277,23 @@ ended_claims t f same =
 stands_claims : (t : Attempt) → count_by is_firm t.writes ≤ length (work_of t).claims
 stands_claims t = let few = firm_few t.writes in let all = length-map t.writes written_of in omega (arith, few, all)
 
-now_claims : (pl : Place) (u : Task) (t : Attempt) → IsCurrent pl t → count_by is_firm t.writes ≤ sum_by claims_of (over_now (ended_as pl u t) t) + length (world.work_of (shown_stand pl u t)).claims
-now_claims Vacant u t current = let none = blank_claims t current in omega (arith, none)
-now_claims Idle u t current = let none = blank_claims t current in omega (arith, none)
-now_claims (Begun tail) u t current = let none = blank_claims t current in omega (arith, none)
-now_claims (Announced tail) u t current = let none = blank_claims t current in omega (arith, none)
-now_claims (Active tail) (task.Ends raised ended step cleared) t current = let ends = ended_claims t (record { work = work_of t; fate = world.aborts }) refl in omega (arith, ends)
-now_claims (Active tail) u t current = let stands = stands_claims t in omega (arith, stands)
-now_claims (Sealing tail) u t current = let stands = stands_claims t in omega (arith, stands)
-now_claims (Drawn tail stamp) u t current = let stands = stands_claims t in omega (arith, stands)
-now_claims (Sealed tail stamp) u t current = let stands = stands_claims t in omega (arith, stands)
-now_claims (Decided tail stamp) u t current = let ends = ended_claims t (record { work = work_of t; fate = fate_of t.decision t }) refl in omega (arith, ends)
-now_claims (Leaving stamp) u t current = let ends = ended_claims t (record { work = work_of t; fate = fate_of t.decision t }) refl in omega (arith, ends)
+now_claims : (pl : Place) (u : Task) (t : Attempt) → IsNewSnapshot u t → IsCurrent pl t → count_by is_firm t.writes ≤ sum_by claims_of (over_now (ended_as pl u t) t) + length (world.work_of (shown_stand pl u t)).claims
+now_claims Vacant u t new current = let none = blank_claims t current in omega (arith, none)
+now_claims Idle u t new current = let none = blank_claims t current in omega (arith, none)
+now_claims (Begun tail) u t new current = let none = blank_claims t current in omega (arith, none)
+now_claims (Announced tail) u t new current = let none = blank_claims t current in omega (arith, none)
+now_claims (Active tail) (task.Ends raised ended step cleared) t new current = let ends = ended_claims t (record { work = work_of t; fate = world.aborts }) refl in omega (arith, ends)
+now_claims (Active tail) u t new current = let stands = stands_claims t in let shown = ap (λ (w : world.Work). length w.claims) (shown_work u t new) in omega (arith, stands, shown)
+now_claims (Sealing tail) u t new current = let stands = stands_claims t in omega (arith, stands)
+now_claims (Drawn tail stamp) u t new current = let stands = stands_claims t in omega (arith, stands)
+now_claims (Sealed tail stamp) u t new current = let stands = stands_claims t in omega (arith, stands)
+now_claims (Decided tail stamp) u t new current = let ends = ended_claims t (record { work = work_of t; fate = fate_of t.decision t }) refl in omega (arith, ends)
+now_claims (Leaving stamp) u t new current = let ends = ended_claims t (record { work = work_of t; fate = fate_of t.decision t }) refl in omega (arith, ends)
 
-seat_claims : (x : Part) → IsCurrent x.place x.current → firm_in x ≤ claims_in (shown_session x)
-seat_claims x current =
+seat_claims : (x : Part) → IsNewSnapshot x.task x.current → IsCurrent x.place x.current → firm_in x ≤ claims_in (shown_session x)
+seat_claims x new current =
     let past = over_claims x.over in
-    let now = now_claims x.place x.task x.current current in
+    let now = now_claims x.place x.task x.current new current in
     let parts = sum_by-append claims_of (map finished_of x.over) (over_now (ended_as x.place x.task x.current) x.current) in
     omega (arith, past, now, parts)
 
@@ -301,7 +302,7 @@ unfolding firm_upto claims_upto
 all_claims zero c sound = omega arith
 all_claims (suc n) c sound =
     let before = all_claims n c sound in
-    let last = seat_claims (c.seats (suc n)) (sound.own (suc n)).ranges.current in
+    let last = seat_claims (c.seats (suc n)) (snapshots_new c (suc n) sound) (sound.own (suc n)).ranges.current in
     omega (arith, before, last)
 
 -- IN THE END

@@ -4,4 +4,5 @@ pub mod Drawn
 pub mod Lawful
 pub mod Own
 pub mod Owners
+pub mod SafeStamps
 pub mod Staying

@@ -24,8 +24,9 @@ use Rattle.erm_core_ring.specs.Begins.{BeginAtEnds}
 use Rattle.erm_sound.specs.Kept.{SoundUnder}
 use Rattle.erm_core_shown.specs.Shown.{HasOnly, NoneElse, given_up_of, shown_of, shown_session}
 use Rattle.erm_core_view.specs.Views.{IsBetween, session_of, stand_of, work_of}
-use Rattle.erm_core_view.proofs.Made.{at_most_once, times_both}
+use Rattle.erm_core_view.proofs.Made.{at_most_once, current_made, times_both}
 use Rattle.erm_core_view.proofs.Parts.{current_stands}
+use Rattle.erm_core_view.proofs.Snapshots.{active_plain, plain_new, shown_work}
 use Rattle.erm_rule.specs.declared.view.Book.{Book}
 use Rattle.erm_rule.specs.declared.view.Start.{Start}
 use Rattle.erm_rule.specs.Books.{IsAfter, IsBookOf}
@@ -63,16 +64,10 @@ pub session_in : (seat : ℕ) → (nat_lt 0 seat && nat_le seat SESSIONS) ≡ tr
 session_in seat is = let both = and_parts (nat_lt 0 seat) (nat_le seat SESSIONS) is in (ltb-true 0 seat both.0, leb-true seat SESSIONS both.1)
 
 -- the work of an active one is that of its seat's current transaction
-active_work : (pl : Place) (t : Attempt) → phase_of (stand_of pl t) ≡ Active → world.work_of (stand_of pl t) ≡ work_of t
-active_work (place.Active tail) t active = refl
-active_work (place.Sealed tail stamp) t active = refl
-active_work _ t active = absurd (cc)
-
--- one that has made no object twice
-work_made : (pl : Place) (t : Attempt) (x : ℕ) → times_made (world.work_of (stand_of pl t)).made x ≤ times_made t.made x
-work_made (place.Active tail) t x = omega arith
-work_made (place.Sealed tail stamp) t x = omega arith
-work_made _ t x = omega arith
+active_work : (pl : Place) (u : Task) (t : Attempt) → phase_of (stand_of pl u t) ≡ Active → world.work_of (stand_of pl u t) ≡ work_of t
+active_work (place.Active tail) u t active = shown_work u t (plain_new u t (active_plain u t active))
+active_work (place.Sealed tail stamp) u t active = refl
+active_work _ u t active = absurd (cc)
 
 -- THE SEAT ALONE: it is set where the pass has no other
 pub one_part : (seat : ℕ) (y : Part) → part_of (one_seat seat y) seat ≡ y
@@ -124,21 +119,21 @@ module _ (law : Law) (seat tail flushed : ℕ) (b : Book) (may : MayCall law sea
   -- SOUND
   pub own_sound : ((c : Core) (q : ℕ) (t : Attempt) → SoundUnder law c → t ∈ all_of (c.seats q) → (rows : Rows) × law.meets rows × FitsWork law (work_of t) rows) → IsSound law own seat
   own_sound possible =
-      let work : work_at own seat ≡ world.work_of (stand_of part.place part.current) = ap (λ (s : Session). world.work_of s.stand) (own_is seat tail flushed b) in
+      let work : work_at own seat ≡ world.work_of (stand_of part.place part.task part.current) = ap (λ (s : Session). world.work_of s.stand) (own_is seat tail flushed b) in
       record {
         session = session_in seat may.session;
         possible = λ active.
-            let stand : phase_of (stand_of part.place part.current) ≡ Active = sym (ap (λ (s : Session). phase_of s.stand) (own_is seat tail flushed b)) ∙ active in
+            let stand : phase_of (stand_of part.place part.task part.current) ≡ Active = sym (ap (λ (s : Session). phase_of s.stand) (own_is seat tail flushed b)) ∙ active in
             let is : work_of (may.core.seats seat).current ≡ work_at own seat =
-            ap (λ (x : Part). work_of x.current) here ∙ sym (active_work part.place part.current stand) ∙ sym work
+            ap (λ (x : Part). work_of x.current) here ∙ sym (active_work part.place part.task part.current stand) ∙ sym work
             in
             subst (λ (w : Work). (rows : Rows) × law.meets rows × FitsWork law w rows) is (possible may.core seat (may.core.seats seat).current may.under (current_stands (may.core.seats seat)));
         once = λ x.
             let all = at_most_once (made_of (may.core.seats seat)) x (may.under.sound.own seat).made.once in
             let both = times_both (flat_map (λ (t : Attempt). t.made) (may.core.seats seat).over) (may.core.seats seat).current.made x in
             let now : times_made (may.core.seats seat).current.made x ≡ times_made part.current.made x = ap (λ (y : Part). times_made y.current.made x) here in
-            let shown = work_made part.place part.current x in
-            let is : times_made (work_at own seat).made x ≡ times_made (world.work_of (stand_of part.place part.current)).made x = ap (λ (w : Work). times_made w.made x) work in
+            let shown = current_made part.place part.task part.current x in
+            let is : times_made (work_at own seat).made x ≡ times_made (world.work_of (stand_of part.place part.task part.current)).made x = ap (λ (w : Work). times_made w.made x) work in
             omega (arith, all, both, now, shown, is);
       }
 

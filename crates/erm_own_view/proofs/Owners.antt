@@ -24,6 +24,7 @@ use Rattle.erm_core_stays.specs.Staying.{Continues, IsAmong, Rises}
 use Rattle.erm_core_stays.proofs.Commits.{event_continues}
 use Rattle.erm_core_steps.proofs.Stored.{claimed_from}
 use Rattle.erm_core_view.specs.Views.{fate_of, finished_of, work_of}
+use Rattle.erm_core_view.proofs.Snapshots.{IsNewSnapshot, shows_current, snapshots_new}
 use Rattle.erm_rule.specs.declared.view.Book.{Book}
 use Rattle.erm_rule.specs.Books.{IsAfter, IsBookOf, Passes}
 use Rattle.erm_world.specs.World.{Finished, Has, Stand, View, Work}
@@ -60,21 +61,21 @@ module _ (rises : (c d : Core) (q : ℕ) (k : Kind) → Sound c → after_event 
 
 -- each transaction of a seat shows, which is one
 module _ (sessions : ℕ) (c : Core) (sound : Sound c) (q : ℕ) where
-  now_shown : (pl : Place) (u : Task) (t : Attempt) (past : List Finished) → IsCurrent pl t → 0 < t.number
+  now_shown : (pl : Place) (u : Task) (t : Attempt) (past : List Finished) → IsNewSnapshot u t → IsCurrent pl t → 0 < t.number
       → world.IsOver (past ++ over_now (ended_as pl u t) t) (work_of t) ⊎ world.IsCurrent (shown_stand pl u t) (work_of t)
-  now_shown Vacant u t past current some = absurd (let no = ap (λ (a : Attempt). a.number) current in omega (arith, some, no))
-  now_shown Idle u t past current some = absurd (let no = ap (λ (a : Attempt). a.number) current in omega (arith, some, no))
-  now_shown (Begun tail) u t past current some = absurd (let no = ap (λ (a : Attempt). a.number) current in omega (arith, some, no))
-  now_shown (Announced tail) u t past current some = absurd (let no = ap (λ (a : Attempt). a.number) current in omega (arith, some, no))
-  now_shown (Active tail) (task.Ends raised ended step cleared) t past current some =
+  now_shown Vacant u t past new current some = absurd (let no = ap (λ (a : Attempt). a.number) current in omega (arith, some, no))
+  now_shown Idle u t past new current some = absurd (let no = ap (λ (a : Attempt). a.number) current in omega (arith, some, no))
+  now_shown (Begun tail) u t past new current some = absurd (let no = ap (λ (a : Attempt). a.number) current in omega (arith, some, no))
+  now_shown (Announced tail) u t past new current some = absurd (let no = ap (λ (a : Attempt). a.number) current in omega (arith, some, no))
+  now_shown (Active tail) (task.Ends raised ended step cleared) t past new current some =
       let g : Finished = record { work = work_of t; fate = world.aborts } in inl (g, ∈-second past (g ∷ []) g (∈-head g []), refl)
-  now_shown (Active tail) u t past current some = inr refl
-  now_shown (Sealing tail) u t past current some = inr refl
-  now_shown (Drawn tail stamp) u t past current some = inr refl
-  now_shown (Sealed tail stamp) u t past current some = inr refl
-  now_shown (Decided tail stamp) u t past current some =
+  now_shown (Active tail) u t past new current some = inr (shows_current u t new)
+  now_shown (Sealing tail) u t past new current some = inr refl
+  now_shown (Drawn tail stamp) u t past new current some = inr refl
+  now_shown (Sealed tail stamp) u t past new current some = inr refl
+  now_shown (Decided tail stamp) u t past new current some =
       let g : Finished = record { work = work_of t; fate = fate_of t.decision t } in inl (g, ∈-second past (g ∷ []) g (∈-head g []), refl)
-  now_shown (Leaving stamp) u t past current some =
+  now_shown (Leaving stamp) u t past new current some =
       let g : Finished = record { work = work_of t; fate = fate_of t.decision t } in inl (g, ∈-second past (g ∷ []) g (∈-head g []), refl)
 
   pub shows_one : (t : Attempt) → t ∈ all_of (c.seats q) → 0 < t.number → Has (shown_of sessions c) q (work_of t)
@@ -85,7 +86,7 @@ module _ (sessions : ℕ) (c : Core) (sound : Sound c) (q : ℕ) where
       inl (finished_of t, ∈-first (map finished_of x.over) (over_now (ended_as x.place x.task x.current) x.current) (finished_of t) (∈-map_from finished_of x.over t past), refl))
       (λ (is : t ≡ x.current).
       subst (λ (a : Attempt). Has (shown_of sessions c) q (work_of a)) (sym is)
-      (now_shown x.place x.task x.current (map finished_of x.over) (sound.own q).ranges.current (subst (λ (a : Attempt). 0 < a.number) is some)))
+      (now_shown x.place x.task x.current (map finished_of x.over) (snapshots_new c q sound) (sound.own q).ranges.current (subst (λ (a : Attempt). 0 < a.number) is some)))
       (∈-push x.over x.current t m)
 
 -- IN THE END
@@ -106,7 +107,7 @@ owners_end rises law seat oid other number own m e v f session goes end so =
           (subst (λ (w : View). record { number = number; oid = oid } ∈ w.given_up other) (sym end.shows)
           (subst (λ (n : ℕ). record { number = n; oid = oid } ∈ given_up_of (end.core.seats other)) there.number_is (given_stands (end.core.seats other) t oid there.stands given)))) there.tried;
       begun = λ u has more.
-          let at = has_shown SESSIONS end.core seat u (subst (λ (w : View). Has w seat u) end.shows has) in
+          let at = has_shown SESSIONS end.core seat u end.under.sound (subst (λ (w : View). Has w seat u) end.shows has) in
           let number : at.attempt.number ≡ u.number = ap (λ (w : Work). w.number) at.is in
           let begin : at.attempt.begin ≡ u.begin = ap (λ (w : Work). w.begin) at.is in
           omega (arith, there.later at.attempt at.stands (omega (arith, more, number)), begin);

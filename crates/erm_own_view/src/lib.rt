@@ -5,10 +5,13 @@
 ghost use Rattle.std.specs.Prelude.{◌≡◌, ◌≤◌, ℕ, List, false};
 ghost use Rattle.erm_beside.specs.Laws.{IsSound};
 ghost use Rattle.erm_beside.specs.Later.{IsLater};
+ghost use Rattle.erm_beside.specs.Safe.{IsRowBelow};
+ghost use Rattle.erm_core_safe.specs.Passed.{ArePassed};
 ghost use Rattle.erm_core_view.specs.Views.{IsBetween};
 ghost use Rattle.erm_machine.specs.Core.{Core};
 ghost use Rattle.erm_own_view.specs.Own.{EndsIn, MayCall, own_view};
 ghost use Rattle.erm_own_view.specs.Owners.{HasOwner, WasTried};
+ghost use Rattle.erm_own_view.specs.SafeStamps.{HasRowBelow};
 ghost use Rattle.erm_rule.specs.Books.{IsAfter, IsBookOf};
 ghost use Rattle.erm_rule.specs.Views.{part_of};
 ghost use Rattle.erm_rule.specs.Went.{Took};
@@ -22,6 +25,7 @@ ghost use Rattle.erm_model.specs.Member.{◌∈◌};
 ghost use Rattle.erm_machine.specs.Words.{is_flusher};
 ghost use Rattle.erm_world.specs.Calls.{AreAllDrawn, AreAllMade};
 ghost use Rattle.erm_world.specs.Laws.{IsSerializable};
+ghost use Rattle.erm_world.specs.Safe.{IsSafeIn};
 ghost use Rattle.erm_world.specs.World.{View};
 ghost use Rattle.erm_world.specs.World as world;
 
@@ -84,4 +88,15 @@ pub fn ends_have_owners<L: RowLaw>()
         → ((c : Core) → IsBookOf m c → HasOwner c seat oid other number own) → WasTried f seat oid other number own }
 {
     erm_core_stays::numbers_rise();
+}
+
+/// A stamp that is passed in each state of a book is a safe one in each world in which all may end, and what is the newest row of an object below it in
+/// each such state is so there too: whoever commits later began at the stamp or behind.
+pub fn ends_keep_safe_stamps<L: RowLaw>()
+    ensures safe { (seat bound : ℕ) (b : Book) (own f : View) → EndsIn L.law seat b own f
+        → ((c : Core) → IsBookOf b c → ArePassed bound c) → IsSafeIn f bound }
+    ensures rows { (seat bound oid : ℕ) (row : List ℕ) (b : Book) (own f : View) → EndsIn L.law seat b own f
+        → ((c : Core) → IsBookOf b c → HasRowBelow c bound oid row) → IsRowBelow f bound oid row }
+{
+    erm_sound::events_keep_sound();
 }

@@ -1,3 +1,7 @@
 pub mod GatherCall
 pub mod Room
+pub mod SafeBegins
+pub mod SafeLooks
+pub mod SafeReads
+pub mod SafeSurveys
 pub mod Turned

@@ -3,6 +3,7 @@ ghost use Rattle.std.specs.Prelude.{◌≡◌, IfErr, IfOk, true};
 ghost use Rattle.erm_model.specs.declared.outcome.Phase.TheVariants.{Idle};
 ghost use Rattle.erm_machine.specs.Words.{is_session};
 ghost use Rattle.erm_core.specs.Cores.{core_of};
+ghost use Rattle.erm_plain.specs.Snapshots.{HasJustBegun};
 ghost use Rattle.erm_plain.specs.Stands.{Stands, plain_view};
 ghost use Rattle.erm_world.specs.Calls.{DidBegin, MayNotBegin};
 ghost use Rattle.erm_world.specs.World.{IsSession, phase_at};
@@ -32,6 +33,7 @@ impl<L: RowLaw> Plain<L> {
         requires idle { phase_at (plain_view self.old) seat ≡ Idle }
         ensures stands { Stands L.law self.new }
         ensures ok { IfOk result (λ begin. DidBegin (plain_view self.old) seat begin (plain_view self.new)) }
+        ensures begun { IfOk result (λ begin. HasJustBegun seat begin (core_of self.new.state)) }
         ensures err { IfErr result (λ stop. MayNotBegin (plain_view self.old) seat stop (plain_view self.new)) }
     {
         erm_core::rooms_serve();

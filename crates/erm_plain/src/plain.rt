@@ -2,13 +2,15 @@
 ghost use Rattle.std.specs.Prelude.{◌≡◌, ◌+◌, ◌<◌, ◌≤◌, ℕ, IfErr, IfOk, IsOk, ◌↔◌, length};
 ghost use Rattle.erm_model.specs.declared.limits.TheConstants.{LAST_RUN, MOST_CELLS, OID_LIMIT, SESSIONS, STOP};
 ghost use Rattle.erm_core.specs.Cores.{core_of, rows_of};
+ghost use Rattle.erm_machine.specs.declared.attempt.Attempt.{Attempt};
 ghost use Rattle.erm_machine.specs.Core.{opening_state};
+ghost use Rattle.erm_core_view.specs.Views.{shown_by};
 ghost use Rattle.erm_plain.specs.Stands.{IsWorld, Stands, plain_view};
-ghost use Rattle.erm_world.specs.World.{IsSession, phase_at};
+ghost use Rattle.erm_world.specs.World.{IsSession, phase_at, phase_of};
 
 use crate::world::standing_worlds_have_laws;
 use erm_core::State;
-use erm_machine::Place;
+use erm_machine::{Place, Task};
 use erm_model::{MOST_CELLS, Phase, Receipt, Row, RowLaw, Seat, Stamp};
 use erm_world::NotFlushed;
 use std::alloc::{AllocError, Global};
@@ -66,8 +68,9 @@ impl<L: RowLaw> Plain<L> {
         requires session { IsSession (plain_view self.now) seat }
         ensures { result ≡ phase_at (plain_view self.now) seat }
     {
-        match self.state.seat(seat).place {
-            Place::Active { .. } => Phase::Active,
+        let state = self.state.seat(seat);
+        match state.place {
+            Place::Active { .. } => active_phase(state.task),
             Place::Sealed { .. } => Phase::Sealed,
             _ => Phase::Idle,
         }
@@ -88,5 +91,20 @@ impl<L: RowLaw> Plain<L> {
         } else {
             Err(NotFlushed { flushed })
         }
+    }
+}
+
+// The phase of an active seat, whose task may be one of a snapshot.
+fn active_phase(task: Task) -> Phase
+    ensures { (t : Attempt) → result ≡ phase_of (shown_by task t) }
+{
+    match task {
+        Task::Surveys { .. } => Phase::Pending,
+        Task::Behind { .. } => Phase::Pending,
+        Task::Safe => Phase::Safe,
+        Task::SafeWalks { .. } => Phase::Safe,
+        Task::SafePassed { .. } => Phase::Safe,
+        Task::SafeFound { .. } => Phase::Safe,
+        _ => Phase::Active,
     }
 }

@@ -7,11 +7,12 @@ ghost use Rattle.erm_plain.specs.Stands.{IsWorld, plain_view};
 ghost use Rattle.erm_world.specs.Laws.{IsLawfulWork};
 ghost use Rattle.erm_world.specs.World.{IsSession, Work, phase_at};
 
+use crate::snapshots::ask_snapshot;
 use erm_model::{
     AnyRows, OID_LIMIT, Oid, Outcome, Phase, ROW_WORDS, Receipt, RowStop, STOP, Seat, Stamp,
 };
 use erm_plain::Plain;
-use erm_world::{BeginStop, NotFlushed, RowWorld, Wait};
+use erm_world::{BeginStop, NotFlushed, RowWorld, SafeStop, SafeWorld, Wait};
 use std::alloc::{AllocError, Global};
 
 // A call of a session; a row that is written has this first word, and zeros behind it. A receipt has this end.
@@ -26,6 +27,10 @@ pub(crate) enum Call {
     Settle,
     Abort,
     Durable(Stamp),
+    BeginSafe,
+    Survey,
+    SafeRead(Oid),
+    EndSafe,
 }
 
 // Its answer: of a begin or a seal, the stamp; of an object made, its number; of a row, the first word; of a commit, its number, stamp,
@@ -43,6 +48,7 @@ pub(crate) enum Reply {
     Excluded([u64; 3]),
     Waits(Wait),
     NotFlushed(NotFlushed),
+    NotSafe(SafeStop),
 }
 
 // A call of a seat, and the answer that it is to get.
@@ -208,7 +214,7 @@ fn durable<W: RowWorld>(world: &mut W, seat: Seat, end: Stamp) -> Reply
 }
 
 // What a session is answered.
-fn ask<W: RowWorld>(world: &mut W, seat: Seat, call: Call) -> Reply
+fn ask<W: SafeWorld>(world: &mut W, seat: Seat, call: Call) -> Reply
     requires stands { W.stands world.old }
     requires sessions { (W.view world.old).opening.sessions ≡ 3 }
     requires lawful { (work : Work) → IsLawfulWork W.law work }
@@ -223,12 +229,12 @@ fn ask<W: RowWorld>(world: &mut W, seat: Seat, call: Call) -> Reply
         (Call::Settle, Phase::Sealed) => settle(world, seat),
         (Call::Durable(end), _) => durable(world, seat, end),
         (_, Phase::Active) => ask_active(world, seat, call),
-        _ => Reply::OutOfPhase,
+        _ => ask_snapshot(world, seat, call),
     }
 }
 
 // Whether each call gets its answer.
-pub(crate) fn is_answered<W: RowWorld>(world: &mut W, turns: &[Turn]) -> bool
+pub(crate) fn is_answered<W: SafeWorld>(world: &mut W, turns: &[Turn]) -> bool
     requires stands { W.stands world.old }
     requires sessions { (W.view world.old).opening.sessions ≡ 3 }
     requires lawful { (work : Work) → IsLawfulWork W.law work }

@@ -5,7 +5,7 @@ ghost use Rattle.erm_world.specs.World.{Work};
 
 use crate::calls::{Call, Reply, Turn, is_answered, world};
 use erm_model::RowStop;
-use erm_world::RowWorld;
+use erm_world::SafeWorld;
 use std::test::Fail;
 
 // A call of the first session, on one object after another from 16 on.
@@ -61,7 +61,7 @@ fn turn_at(each: Each, place: u16) -> Turn {
 }
 
 // Whether so many calls are answered.
-fn are_answered<W: RowWorld>(world: &mut W, each: Each, count: u16) -> bool
+fn are_answered<W: SafeWorld>(world: &mut W, each: Each, count: u16) -> bool
     requires stands { W.stands world.old }
     requires sessions { (W.view world.old).opening.sessions ≡ 3 }
     requires lawful { (work : Work) → IsLawfulWork W.law work }
@@ -77,7 +77,7 @@ fn are_answered<W: RowWorld>(world: &mut W, each: Each, count: u16) -> bool
 }
 
 // Whether a transaction comes up to a limit, and goes on.
-fn is_kept<W: RowWorld>(world: &mut W, limit: &Limit<'_>) -> bool
+fn is_kept<W: SafeWorld>(world: &mut W, limit: &Limit<'_>) -> bool
     requires stands { W.stands world.old }
     requires sessions { (W.view world.old).opening.sessions ≡ 3 }
     requires lawful { (work : Work) → IsLawfulWork W.law work }

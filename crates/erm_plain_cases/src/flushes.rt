@@ -10,7 +10,7 @@ use crate::calls::{Call, Reply, Turn, is_answered, world};
 use crate::rows::WRITE_SKEW;
 use erm_model::{AnyRows, OID_LIMIT, Oid, RING_WORDS, Row, Stamp};
 use erm_plain::Plain;
-use erm_world::{Gathered, LogWorld, NotFlushed, RowWorld, SeatWait, Wait};
+use erm_world::{Gathered, LogWorld, NotFlushed, RowWorld, SafeWorld, SeatWait, Wait};
 use std::test::Fail;
 
 // The block behind the last that the ring has room for.
@@ -163,7 +163,7 @@ fn waits(world: &mut Plain<AnyRows>, oid: Oid) -> Option<SeatWait>
 }
 
 // Whether so many transactions without a row commit, one after another, from 13 on.
-fn are_committed<W: RowWorld>(world: &mut W, count: u16) -> bool
+fn are_committed<W: SafeWorld>(world: &mut W, count: u16) -> bool
     requires stands { W.stands world.old }
     requires sessions { (W.view world.old).opening.sessions ≡ 3 }
     requires lawful { (work : Work) → IsLawfulWork W.law work }

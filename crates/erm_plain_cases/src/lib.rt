@@ -1,5 +1,5 @@
-//! Cases of the world in lists: calls of three sessions in turn, the limits of a transaction, of the objects and of the ring, and flush
-//! turns and pins between commits. They stand apart, so that no crate is proved a second time with its tests.
+//! Cases of the world in lists: calls of three sessions in turn, snapshots that only read, the limits of a transaction, of the objects and of
+//! the ring, and flush turns and pins between commits. They stand apart, so that no crate is proved a second time with its tests.
 #![tactic(auto)]
 
 #[cfg(test)]
@@ -10,3 +10,5 @@ mod fills;
 mod flushes;
 #[cfg(test)]
 mod rows;
+#[cfg(test)]
+mod snapshots;

@@ -6,6 +6,7 @@ pub mod FromHead
 pub mod Kept
 pub mod Missed
 pub mod Reached
+pub mod Safe
 pub mod Taken
 pub mod Whole
 pub mod Took

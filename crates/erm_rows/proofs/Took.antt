@@ -1,5 +1,5 @@
 -- The steps of a read and of a claim: why they stop, and by the classes that callers ask for.
-use Rattle.std.proofs.Common.{◌≡◌, ◌⊎◌, ◌<◌, ⊎_elim, ℕ, [], ◌∷◌, length, sym, ap, subst, inl, inr}
+use Rattle.std.proofs.Common.{◌≡◌, ◌⊎◌, ◌<◌, ⊎_elim, ℕ, List, [], ◌∷◌, length, sym, ap, subst, inl, inr}
 use Rattle.erm_model.specs.declared.row_stop.RowStop.{RowStop}
 use Rattle.erm_model.specs.declared.row_stop.RowStop.TheVariants as stop
 use Rattle.erm_model.specs.RowTransaction.{Law}
@@ -12,13 +12,14 @@ use Rattle.erm_rule.specs.Books.{IsAfter}
 use Rattle.erm_rule.specs.Views.{part_of}
 use Rattle.erm_rule.specs.Went.{Took, Went, IsLoadStep, IsStillStep}
 use Rattle.erm_rule.proofs.Wents.{loads_still, went_goes, went_more, went_none, went_one, went_step}
-use Rattle.erm_cells.proofs.Took.{no_count_still}
+use Rattle.erm_cells.specs.Spare.{spare_cells}
+use Rattle.erm_cells.proofs.Took.{copy_still, draw_still, no_count_still}
 use Rattle.erm_cut.proofs.Took.{cut_still, horizon_loads_alone}
 use Rattle.erm_entries.specs.declared.entries.Entry.{Entry}
 use Rattle.erm_entries.specs.Spelling.{entry_of}
 use Rattle.erm_entries.proofs.Took.{reach_loads, wait_loads}
 use Rattle.erm_rows.specs.Claims.{DidNotTake}
-use Rattle.erm_rows.specs.Took.{TookClaim, TookCutChain, TookEntry, TookFree, TookHead, TookLack, TookMissed, TookNoCell, TookNoClaim, TookNoEntry, TookNotFree, TookNotRead, TookOther, TookRead, TookVersion}
+use Rattle.erm_rows.specs.Took.{TookClaim, TookCutChain, TookEntry, TookFill, TookFree, TookHead, TookLack, TookMissed, TookNoCell, TookNoClaim, TookNoEntry, TookNotFree, TookNotRead, TookOther, TookRead, TookVersion}
 use Rattle.erm_entries.specs.Took.{TookWait}
 use Rattle.erm_entries.specs.declared.answer.SeatWait.{SeatWait}
 use Rattle.erm_rows.specs.Tidies.{TookTidy}
@@ -99,10 +100,16 @@ cut_chain_still law who count b e took =
 pub tidied_goes : (law : Law) (who oid head count : ℕ) (b m e : Book) → TookEntry law who oid head b m → TookCutChain law who count m e → IsAfter b e
 tidied_goes law who oid head count b m e entry cut = went_goes law who IsStillStep b e (went_more law who IsStillStep b m e (entry_still law who oid head b m entry) (cut_chain_still law who count m e cut))
 
+fill_still : (law : Law) (who own readers : ℕ) (row : List ℕ) (b e : Book) → TookFill law who own readers row b e → Went law who IsStillStep b e
+fill_still law who own readers row b e took =
+    went_more law who IsStillStep b took.rated e
+    (went_more law who IsStillStep b took.drawn took.rated (draw_still law who (spare_cells (part_of b.view who)) own b took.drawn took.draw) (went_one law who IsStillStep _ readers took.drawn took.rated tt took.rate))
+    (copy_still law who own row took.rated e took.copy)
+
 pub claim_still : (law : Law) (who oid count : ℕ) (b e : Book) → TookClaim law who oid count b e → Went law who IsStillStep b e
 claim_still law who oid count b e took =
     went_more law who IsStillStep b took.tidied e
-    (went_more law who IsStillStep b took.taken took.tidied (entry_still law who oid took.head b took.taken took.entry) (cut_chain_still law who count took.taken took.tidied took.cut)) took.rest
+    (went_more law who IsStillStep b took.taken took.tidied (entry_still law who oid took.head b took.taken took.entry) (cut_chain_still law who count took.taken took.tidied took.cut)) (fill_still law who took.own took.readers took.row took.tidied e took.fill)
 
 no_cell_still : (law : Law) (who oid head drawn : ℕ) (b e : Book) → TookNoCell law who oid head drawn b e → Went law who IsStillStep b e
 no_cell_still law who oid head drawn b e took =

@@ -1,5 +1,5 @@
 -- The steps of a read and of a claim, the last one first, with the words that they found, and the books in between.
-use Rattle.std.specs.Prelude.{◌≡◌, ◌≢◌, ◌⊎◌, ℕ, ◌<◌, ◌≤◌, [], ◌∷◌, length}
+use Rattle.std.specs.Prelude.{◌≡◌, ◌≢◌, ◌⊎◌, ℕ, ◌<◌, ◌≤◌, List, [], ◌∷◌, length}
 use Rattle.erm_model.specs.declared.row_stop.RowStop.{RowStop}
 use Rattle.erm_model.specs.declared.row_stop.RowStop.TheVariants as stop
 use Rattle.erm_model.specs.RowTransaction.{Law}
@@ -14,8 +14,10 @@ use Rattle.erm_rule.specs.declared.view.Book.{Book}
 use Rattle.erm_rule.specs.declared.view.View.{View}
 use Rattle.erm_rule.specs.Steps.{Booked}
 use Rattle.erm_rule.specs.Views.{part_of, IsView}
-use Rattle.erm_rule.specs.Went.{Took, Went, IsLoadStep, IsStillStep}
-use Rattle.erm_cells.specs.Took.{TookNoCount}
+use Rattle.erm_rule.specs.Went.{Took, Went, IsLoadStep}
+use Rattle.erm_cells.specs.Hands.{rated_kind}
+use Rattle.erm_cells.specs.Spare.{spare_cells}
+use Rattle.erm_cells.specs.Took.{TookCopy, TookDraw, TookNoCount}
 use Rattle.erm_cut.specs.Took.{TookCut, TookHorizon}
 use Rattle.erm_entries.specs.Took.{TookReach, TookWait}
 use Rattle.erm_rows.specs.Reads.{IsClosed}
@@ -115,6 +117,14 @@ pub record TookCutChain (law : Law) (who count : ℕ) (b e : Book) : Type 0 wher
   pub cut : TookCut law who count at e
   pub did : DidCutChain b.view who count e.view
 
+-- FILL. This cell was drawn, then this reader stamp loaded of the version overwritten, and then its row, this one, copied into the cell.
+pub record TookFill (law : Law) (who own readers : ℕ) (row : List ℕ) (b e : Book) : Type 0 where
+  pub drawn : Book
+  pub draw : TookDraw law who (spare_cells (part_of b.view who)) own b drawn
+  pub rated : Book
+  pub rate : Booked law drawn who (rated_kind (part_of drawn.view who)) readers rated
+  pub copy : TookCopy law who own row rated e
+
 -- CLAIM. The entry was taken, and the chain cut, by which so many cells became spare ones; then the claim got its cell.
 pub record TookClaim (law : Law) (who oid count : ℕ) (b e : Book) : Type 0 where
   pub head : ℕ
@@ -122,7 +132,10 @@ pub record TookClaim (law : Law) (who oid count : ℕ) (b e : Book) : Type 0 whe
   pub entry : TookEntry law who oid head b taken
   pub tidied : Book
   pub cut : TookCutChain law who count taken tidied
-  pub rest : Went law who IsStillStep tidied e
+  pub own : ℕ
+  pub readers : ℕ
+  pub row : List ℕ
+  pub fill : TookFill law who own readers row tidied e
 
 -- There was no cell: the counter was found at this number, and the entry got its old head back.
 pub record TookNoCell (law : Law) (who oid head drawn : ℕ) (b e : Book) : Type 0 where

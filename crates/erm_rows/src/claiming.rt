@@ -13,7 +13,7 @@ ghost use Rattle.erm_rule.specs.Books.{book};
 ghost use Rattle.erm_rule.specs.Hands.{IsKnown};
 ghost use Rattle.erm_rule.specs.Steps.{Fits};
 ghost use Rattle.erm_rule.specs.Views.{view, part_of};
-ghost use Rattle.erm_rows.specs.Took.{TookClaim, TookCutChain, TookNoCell, TookNoClaim};
+ghost use Rattle.erm_rows.specs.Took.{TookClaim, TookCutChain, TookFill, TookNoCell, TookNoClaim};
 ghost use Rattle.erm_rule.specs.Went.{IsStillStep, Went};
 
 use crate::active::Active;
@@ -91,7 +91,7 @@ pub fn fill_claim<L: RowLaw>(
     ensures refused { IfErr result (λ drawn. DidFindNoCell (view p.old) who oid base drawn (view p.new)) }
     ensures spare { SpareIs spare.new (part_of (view p.new) who) }
     ensures counted { IfErr result (λ drawn. WasCells (book p.old) drawn (book p.new)) }
-    ensures still { IfOk result (λ _. Went L.law who IsStillStep (book p.old) (book p.new)) }
+    ensures took { IfOk result (λ filled. TookFill L.law who filled.own filled.readers filled.row (book p.old) (book p.new)) }
     ensures took_none { IfErr result (λ drawn. TookNoCell L.law who oid base drawn (book p.old) (book p.new)) }
 {
     let own = match draw(t, p, who, spare) {

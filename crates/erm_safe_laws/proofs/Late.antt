@@ -6,7 +6,8 @@ use Rattle.erm_model.specs.History.{CountsForSucc, History, IsCertified, IsSnaps
 use Rattle.erm_model.specs.Member.{◌∈◌}
 use Rattle.erm_model.specs.Rows.{Rows}
 use Rattle.erm_core_ssn.proofs.Forward.{overwrite_below}
-use Rattle.erm_safe_laws.specs.Safe.{AreLate, IsSafeAt}
+use Rattle.erm_model.specs.Safe.{IsSafeAt}
+use Rattle.erm_safe_laws.specs.Safe.{AreLate}
 
 -- who overwrites a version makes one of its object
 makes_there : (u : TransactionRecord) (oid stamp : ℕ) → Overwrites u oid stamp → Makes u oid

@@ -11,10 +11,6 @@ use Rattle.erm_model.specs.Rows.{Rows}
 use Rattle.erm_model.specs.Run.{Step}
 use Rattle.erm_model.specs.SerialOrder.{IsSerialOrder}
 
--- A stamp is safe: no transaction that had begun below it and committed at or above it has a successor stamp below it.
-abbrev pub IsSafeAt : History → ℕ → Type 0
-IsSafeAt h b = (t : TransactionRecord) → t ∈ h → t.begin < b → b ≤ t.stamp → b ≤ t.succ
-
 -- each transaction that committed at or above the stamp comes behind a reader there, whenever it began
 abbrev pub AreLate : History → ℕ → Type 0
 AreLate h b = (t : TransactionRecord) → t ∈ h → b ≤ t.stamp → b ≤ t.succ

@@ -10,7 +10,8 @@ ghost use Rattle.erm_model.specs.History.{History, IsCertified, IsSnapshot, rank
 ghost use Rattle.erm_model.specs.Member.{◌∈◌};
 ghost use Rattle.erm_model.specs.Rows.{Rows};
 ghost use Rattle.erm_model.specs.SerialOrder.{IsSerialOrder};
-ghost use Rattle.erm_safe_laws.specs.Safe.{AreCommits, AreLate, IsSafeAt, IsSafeSnapshot, StandsBetween};
+ghost use Rattle.erm_model.specs.Safe.{IsSafeAt};
+ghost use Rattle.erm_safe_laws.specs.Safe.{AreCommits, AreLate, IsSafeSnapshot, StandsBetween};
 
 /// What is safe of transactions that had begun is safe of all: in a certified snapshot history each one that commits at or above a safe
 /// stamp has its successor stamp there too.

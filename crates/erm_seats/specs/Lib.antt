@@ -1,3 +1,4 @@
 pub mod Calls
 pub mod Race
+pub mod Safe
 pub mod Took

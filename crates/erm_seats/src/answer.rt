@@ -16,3 +16,12 @@ pub enum Look {
     /// The seat is sealing, which `seen` 1 says, or is sealed with the stamp `seen`, below the bound.
     NotYet { seat: Seat, seen: Stamp },
 }
+
+/// Why a snapshot isn't known to be safe.
+#[derive(Clone, Copy, Debug, PartialEq, Eq)]
+pub enum SafeStop {
+    /// The begin word of this session is `seen`, below the begin stamp: it has something in progress that had begun before.
+    NotYet { seat: Seat, seen: Stamp },
+    /// The back word of this session is `stamp`, not below the begin stamp: it has committed a transaction whose turn is before its stamp.
+    Unsafe { seat: Seat, stamp: Stamp },
+}

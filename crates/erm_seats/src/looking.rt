@@ -2,7 +2,7 @@
 ghost use Rattle.std.specs.Prelude.{◌≡◌, ◌≢◌, ◌≤◌, true, false};
 ghost use Rattle.erm_machine.specs.Seat.{is_vacant};
 ghost use Rattle.erm_machine.specs.Words.{is_clear, is_seat};
-ghost use Rattle.erm_rule.specs.Books.{book, IsAfter};
+ghost use Rattle.erm_rule.specs.Books.{book};
 ghost use Rattle.erm_rule.specs.Steps.{Fits};
 ghost use Rattle.erm_rule.specs.Views.{view, part_of};
 ghost use Rattle.erm_seats.specs.Calls.{DidLook, OnClear, StaysClear, WasNotYet};
@@ -22,7 +22,6 @@ pub fn look<L: RowLaw>(t: &Table<L>, p: &mut Pass, who: Seat, seat: Seat, bound:
     ensures fits { Fits t.now.words.shared.table_id p.new }
     ensures looked { DidLook (view p.old) who seat bound result (view p.new) }
     ensures stays { OnClear result (StaysClear who seat bound (part_of (view p.new) who).clear) }
-    ensures goes { IsAfter (book p.old) (book p.new) }
     ensures met { WasNotYet (book p.old) result (book p.new) }
     ensures took { TookLook L.law who seat bound result (book p.old) (book p.new) }
 {

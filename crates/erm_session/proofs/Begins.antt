@@ -31,8 +31,10 @@ idle_by : (s : Stage) (x : Part) → StageIs s x → phase_of s ≡ phase.Idle �
 idle_by stage.Idle x is e = is
 idle_by (stage.Active t) x is e = absurd (cc)
 idle_by (stage.Sealed t) x is e = absurd (cc)
+idle_by (stage.Pending begin next) x is e = absurd (cc)
+idle_by (stage.Safe begin) x is e = absurd (cc)
 
-idle_place : (s : Session) (x : Part) → IsSession s x → phase_of s.stage ≡ phase.Idle → x.place ≡ place.Idle
+pub idle_place : (s : Session) (x : Part) → IsSession s x → phase_of s.stage ≡ phase.Idle → x.place ≡ place.Idle
 idle_place s x is e = idle_by s.stage x is.kept.stage e
 
 -- it stays idle where its seat's place stays
@@ -40,6 +42,8 @@ idle_still : (s : Stage) (x y : Part) → y.place ≡ x.place → phase_of s ≡
 idle_still stage.Idle x y same e is = same ∙ is
 idle_still (stage.Active t) x y same e is = absurd (cc)
 idle_still (stage.Sealed t) x y same e is = absurd (cc)
+idle_still (stage.Pending begin next) x y same e is = absurd (cc)
+idle_still (stage.Safe begin) x y same e is = absurd (cc)
 
 -- an idle session has room
 pub room_idle : (s : Stage) (room : Option Room) → phase_of s ≡ phase.Idle → HasRoom s room → room ≡ None → ⊥
@@ -47,6 +51,8 @@ room_idle stage.Idle None e has none = has
 room_idle stage.Idle (Some room) e has none = absurd (cc)
 room_idle (stage.Active t) room e has none = absurd (cc)
 room_idle (stage.Sealed t) room e has none = absurd (cc)
+room_idle (stage.Pending begin next) room e has none = absurd (cc)
+room_idle (stage.Safe begin) room e has none = absurd (cc)
 
 -- a transaction that has done nothing yet
 new_active : (t : Active) (x : Part) (who announced begin : ℕ) → t.begin ≡ begin → t.number ≡ next_number who x.number → t.reads.value.items ≡ [] → t.claims.value.items ≡ []

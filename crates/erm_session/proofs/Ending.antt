@@ -99,3 +99,5 @@ left_session s x y left session run low number idle room spare room_read room_cl
     idle_stage stage.Idle z e at = at
     idle_stage (stage.Active t) z e at = absurd (cc)
     idle_stage (stage.Sealed t) z e at = absurd (cc)
+    idle_stage (stage.Pending begin next) z e at = absurd (cc)
+    idle_stage (stage.Safe begin) z e at = absurd (cc)

@@ -75,12 +75,16 @@ pub has_room : (s : Stage) (room : Room) → HasRoom s (Some room)
 has_room stage.Idle room = tt
 has_room (stage.Active t) room = tt
 has_room (stage.Sealed t) room = tt
+has_room (stage.Pending begin next) room = tt
+has_room (stage.Safe begin) room = tt
 
 -- a session that isn't idle needs no room for its next transaction
 pub room_at : (s : Stage) (room : Option Room) → phase_of s ≡ phase.Active → HasRoom s room
 room_at (stage.Active t) room e = tt
 room_at stage.Idle room e = absurd (cc)
 room_at (stage.Sealed t) room e = absurd (cc)
+room_at (stage.Pending begin next) room e = absurd (cc)
+room_at (stage.Safe begin) room e = absurd (cc)
 
 -- what a session keeps, where its seat went on and its transaction kept follows
 pub goes_on : (s new : Session) (x y : Part) → IsKept s x → Goes x y → StageIs new.stage y → phase_of new.stage ≡ phase.Active → SpareIs new.spare y → new.seat ≡ s.seat → new.run ≡ s.run → new.number ≡ s.number
@@ -111,14 +115,20 @@ pub open_still : (g h : Stage) (x y : Part) → phase_of g ≡ phase.Active → 
 open_still (stage.Active t) (stage.Active u) x y at window succ pred = rw (succ, pred) window
 open_still (stage.Active t) stage.Idle x y at window succ pred = tt
 open_still (stage.Active t) (stage.Sealed u) x y at window succ pred = tt
+open_still (stage.Active t) (stage.Pending begin next) x y at window succ pred = tt
+open_still (stage.Active t) (stage.Safe begin) x y at window succ pred = tt
 open_still stage.Idle h x y at window succ pred = absurd (cc)
 open_still (stage.Sealed u) h x y at window succ pred = absurd (cc)
+open_still (stage.Pending begin next) h x y at window succ pred = absurd (cc)
+open_still (stage.Safe begin) h x y at window succ pred = absurd (cc)
 
 -- an idle session has none
 pub open_idle : (s : Stage) (x : Part) → phase_of s ≡ phase.Idle → IsOpen s x
 open_idle stage.Idle x e = tt
 open_idle (stage.Active t) x e = absurd (cc)
 open_idle (stage.Sealed t) x e = absurd (cc)
+open_idle (stage.Pending begin next) x e = absurd (cc)
+open_idle (stage.Safe begin) x e = absurd (cc)
 
 -- a session with these rows
 pub with_rows : (s : Session) (x : Part) → IsKept s x → s.rows_read.items ≡ map (λ (r : Read). r.row) x.current.reads
@@ -156,8 +166,12 @@ pub not_active : (s : Stage) → phase_of s ≡ phase.Active → ((t : Active) �
 not_active (stage.Active t) at none = none t refl
 not_active stage.Idle at none = absurd (cc)
 not_active (stage.Sealed t) at none = absurd (cc)
+not_active (stage.Pending begin next) at none = absurd (cc)
+not_active (stage.Safe begin) at none = absurd (cc)
 
 pub not_sealed : (s : Stage) → phase_of s ≡ phase.Sealed → ((t : Pre) → s ≡ stage.Sealed t → ⊥) → ⊥
 not_sealed (stage.Sealed t) at none = none t refl
 not_sealed stage.Idle at none = absurd (cc)
 not_sealed (stage.Active t) at none = absurd (cc)
+not_sealed (stage.Pending begin next) at none = absurd (cc)
+not_sealed (stage.Safe begin) at none = absurd (cc)

@@ -16,6 +16,8 @@ window_made : (g : Stage) (t : Task) (made : List ℕ) (x : Part) → IsOpen g x
 window_made stage.Idle t made x is = tt
 window_made (stage.Active a) t made x is = is
 window_made (stage.Sealed a) t made x is = tt
+window_made (stage.Pending begin next) t made x is = tt
+window_made (stage.Safe begin) t made x is = tt
 
 -- the session stands there too, where its stage does
 pub made_session : (s : Session) (t : Task) (made : List ℕ) (x : Part) → StageIs s.stage (with_made t made x) → IsSession s x → IsSession s (with_made t made x)

@@ -16,6 +16,7 @@ pub mod RowsClaimed
 pub mod RowsRead
 pub mod Seals
 pub mod Skewing
+pub mod Snapshots
 pub mod Sought
 pub mod Storing
 pub mod Syncs

@@ -34,6 +34,8 @@ taken_by : (s : Stage) (x : Part) → StageIs s x → is_vacant x.place ≡ fals
 taken_by stage.Idle x is = ap (λ pl. is_vacant pl) is
 taken_by (stage.Active t) x is = active_taken x.place is.0
 taken_by (stage.Sealed t) x is = sealed_taken x.place is.0
+taken_by (stage.Pending begin next) x is = active_taken x.place is.0
+taken_by (stage.Safe begin) x is = active_taken x.place is.0
 
 -- the part of a seat whose settle has passed no version yet
 abbrev settling : Part → Part
@@ -45,6 +47,8 @@ settling_stage stage.Idle x sealed is = is
 settling_stage (stage.Active t) x sealed is = absurd (let none = active_unsealed x.place is.0 in cc)
 settling_stage (stage.Sealed t) x sealed is =
     (is.0, refl, pre_same t x (task.Settles 0 0) x.current.succ_from x.clear is.2, is.3, is.4)
+settling_stage (stage.Pending begin next) x sealed is = absurd (let none = active_unsealed x.place is.0 in cc)
+settling_stage (stage.Safe begin) x sealed is = absurd (let none = active_unsealed x.place is.0 in cc)
 
 settling_session : (s : Session) (x : Part) (b : Bool) → (b ≡ true → is_sealed x.place ≡ true) → IsSession s x → IsSession s (if b then settling x else x)
 settling_session s x true sealed is = made_session s (task.Settles 0 0) x.current.made x (settling_stage s.stage x (sealed refl) is.kept.stage) is

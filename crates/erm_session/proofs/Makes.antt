@@ -63,6 +63,8 @@ active_seat : (s : Stage) (x : Part) → StageIs s x → phase_of s ≡ phase.Ac
 active_seat (stage.Active t) x is e = is.0
 active_seat stage.Idle x is e = absurd (cc)
 active_seat (stage.Sealed t) x is e = absurd (cc)
+active_seat (stage.Pending begin next) x is e = absurd (cc)
+active_seat (stage.Safe begin) x is e = absurd (cc)
 
 pub may_start_by : (t : Task) → starts_anew t ≡ true → may_start t ≡ true
 may_start_by (task.Cleared oid) e = absurd (cc)
@@ -72,6 +74,8 @@ starts : (s : Stage) (x : Part) → StageIs s x → phase_of s ≡ phase.Active 
 starts (stage.Active t) x is e = may_start_by x.task is.1
 starts stage.Idle x is e = absurd (cc)
 starts (stage.Sealed t) x is e = absurd (cc)
+starts (stage.Pending begin next) x is e = absurd (cc)
+starts (stage.Safe begin) x is e = absurd (cc)
 
 -- it stays active where a call may start anew
 made_stage : (s : Stage) (t : Task) (made : List ℕ) (x : Part) → phase_of s ≡ phase.Active → starts_anew t ≡ true → StageIs s x → StageIs s (with_made t made x)
@@ -92,6 +96,8 @@ made_stage (stage.Active a) t made x e anew is = (
 )
 made_stage stage.Idle t made x e anew is = absurd (cc)
 made_stage (stage.Sealed a) t made x e anew is = absurd (cc)
+made_stage (stage.Pending begin next) t made x e anew is = absurd (cc)
+made_stage (stage.Safe begin) t made x e anew is = absurd (cc)
 
 -- the part after the load of the counter, and after its raise
 abbrev seen_part : Bool → Part → Part

@@ -39,6 +39,8 @@ idle_stage : (s : Stage) (x : Part) → StageIs s x → x.place ≡ place.Idle �
 idle_stage stage.Idle x is e = refl
 idle_stage (stage.Active t) x is e = absurd (let a = is.0 in cc)
 idle_stage (stage.Sealed t) x is e = absurd (let a = is.0 in cc)
+idle_stage (stage.Pending begin next) x is e = absurd (let a = is.0 in cc)
+idle_stage (stage.Safe begin) x is e = absurd (let a = is.0 in cc)
 
 -- a session just made, beside the view of its seat
 pub stands_idle : (o : Opening) (who : ℕ) (s : Session) (v : View) → s.seat ≡ who → ((tail : ℕ) → IsSession s (fresh_part place.Idle o.run tail))
@@ -52,12 +54,16 @@ idle_place : (s : Stage) (x : Part) → StageIs s x → phase_of s ≡ phase.Idl
 idle_place stage.Idle x is e = is
 idle_place (stage.Active t) x is e = absurd (cc)
 idle_place (stage.Sealed t) x is e = absurd (cc)
+idle_place (stage.Pending begin next) x is e = absurd (cc)
+idle_place (stage.Safe begin) x is e = absurd (cc)
 
 -- a seat of an active session is active
 active_place : (s : Stage) (t : Active) (x : Part) → s ≡ stage.Active t → StageIs s x → is_active x.place ≡ true
 active_place stage.Idle t x e is = absurd (cc)
 active_place (stage.Active u) t x e is = is.0
 active_place (stage.Sealed u) t x e is = absurd (cc)
+active_place (stage.Pending begin next) t x e is = absurd (cc)
+active_place (stage.Safe begin) t x e is = absurd (cc)
 
 none_in : (ws : List Claim) (w : Claim) → ws ≡ [] → w ∈ ws → ⊥
 none_in ws w e at = let there = subst (λ (l : List Claim). slice_get l at.0 ≡ Some w) e at.1 in absurd (cc)

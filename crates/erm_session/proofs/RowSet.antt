@@ -67,7 +67,7 @@ module _ (v : View) (who : ℕ) (active : is_active (part_of v who).place ≡ tr
   owned : is_own cell (claim_at x.current place).own ≡ true
   owned = subst (λ (n : ℕ). is_own n (claim_at x.current place).own ≡ true) (sym cell_is) (is.claims place within).own
 
-  placed : place_of cell x ≡ place
+  pub placed : place_of cell x ≡ place
   placed = known_place v who x (has v who active) known cell place owned
 
   pub may_store : (row : List ℕ) → MayStoreRow cell row x x.task

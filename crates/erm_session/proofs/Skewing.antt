@@ -67,6 +67,8 @@ stage_taken : (s : Stage) (x : Part) → StageIs s x → is_vacant x.place ≡ f
 stage_taken stage.Idle x is = ap is_vacant is
 stage_taken (stage.Active t) x is = active_taken x.place is.0
 stage_taken (stage.Sealed t) x is = sealed_taken x.place is.0
+stage_taken (stage.Pending begin next) x is = active_taken x.place is.0
+stage_taken (stage.Safe begin) x is = active_taken x.place is.0
 
 pub session_held : (v : View) (who : ℕ) (s : Session) → IsSession s (part_of v who) → part_in v who ≡ Some (part_of v who)
 session_held v who s is = held_part v who (stage_taken s.stage (part_of v who) is.kept.stage)

@@ -49,6 +49,6 @@ pub claims_too : (v : View) (who oid : ℕ) (w : View) → IsUnclaimed (part_of 
 claims_too v who oid w none (Ok cut) did = now_claimed none did
 claims_too v who oid w none (Err why) did = tt
 
-pub took_too : (law : Law) (who oid : ℕ) (b e : Book) (r : Result ℕ RowStop) → IfOk r (λ cut. TookAnyClaim law who oid cut b e) → IfOk r (λ cut. TookAnyTidy law who oid cut b e)
-took_too law who oid b e (Ok cut) took = inr took
-took_too law who oid b e (Err why) took = tt
+pub took_too : (law : Law) (who oid : ℕ) (b e : Book) → IsUnclaimed (part_of b.view who) oid → (r : Result ℕ RowStop) → IfOk r (λ cut. TookAnyClaim law who oid cut b e) → IfOk r (λ cut. TookAnyTidy law who oid cut b e)
+took_too law who oid b e none (Ok cut) took = inr (none, took)
+took_too law who oid b e none (Err why) took = tt

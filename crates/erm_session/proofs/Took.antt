@@ -1,7 +1,7 @@
 -- The steps of a session's calls, by the classes that callers ask for.
-use Rattle.std.proofs.Common.{◌≡◌, ⊎_elim, ℕ, Bool, true, false, [], ◌∷◌, refl, sym, subst}
+use Rattle.std.proofs.Common.{◌≡◌, ⊎_elim, ℕ, Bool, true, false, List, [], ◌∷◌, refl, sym, subst}
 use Rattle.erm_cells.specs.Took.{IsEndStep}
-use Rattle.erm_cells.proofs.Took.{ends_still, stores_still}
+use Rattle.erm_cells.proofs.Took.{ends_still, row_went, stores_still}
 use Rattle.erm_machine.specs.declared.event.Counter.TheVariants.{Objects}
 use Rattle.erm_machine.specs.declared.event.Kind.TheVariants.{AddCounter, Decide, LoadCounter, LoadFlushed}
 use Rattle.erm_ends.specs.Ends.{DidAbort}
@@ -15,7 +15,7 @@ use Rattle.erm_ring.proofs.Took.{fills_still}
 use Rattle.erm_rows.specs.Took.{TookClaim, TookRead}
 use Rattle.erm_rows.proofs.Took.{claim_still, read_still}
 use Rattle.erm_rule.specs.declared.view.Book.{Book}
-use Rattle.erm_rule.specs.Went.{Went, IsStillStep}
+use Rattle.erm_rule.specs.Went.{Went, IsLoadStep, IsStillStep}
 use Rattle.erm_rule.proofs.Wents.{loads_still, went_more, went_none, went_one, went_step}
 use Rattle.erm_seats.specs.declared.answer.BeginStop as seats_answer
 use Rattle.erm_seats.specs.declared.answer.BeginStop.TheVariants as seats
@@ -47,9 +47,9 @@ pub any_claim_still : (law : Law) (who oid count : ℕ) (b e : Book) → TookAny
 any_claim_still law who oid count b e took =
     ⊎_elim (λ (t : (count ≡ 0) × (e ≡ b)). same_still law who b e t.1) (λ (t : TookClaim law who oid count b e). claim_still law who oid count b e t) took
 
-pub write_still : (law : Law) (who oid : ℕ) (b e : Book) → TookWrite law who oid b e → Went law who IsStillStep b e
-write_still law who oid b e took =
-    went_more law who IsStillStep b took.claimed e (any_claim_still law who oid took.count b took.claimed took.claim) (stores_still law who took.claimed e took.stores)
+pub write_still : (law : Law) (who oid : ℕ) (row : List ℕ) (b e : Book) → TookWrite law who oid row b e → Went law who IsStillStep b e
+write_still law who oid row b e took =
+    went_more law who IsStillStep b took.claimed e (any_claim_still law who oid took.count b took.claimed took.claim) (stores_still law who took.claimed e (row_went law who took.cell row took.claimed e took.stores))
 
 pub object_still : (law : Law) (who oid : ℕ) (b e : Book) → TookObject law who oid b e → Went law who IsStillStep b e
 object_still law who oid b e took = record { steps = (AddCounter Objects, oid) ∷ (LoadCounter Objects, took.0) ∷ []; took = took.1; all = (tt, (tt, tt)) }
@@ -59,8 +59,13 @@ finish_still law who b e took =
     went_more law who IsStillStep b took.decided e
     (went_step law who IsStillStep b took.filled took.decided (Decide took.at took.header) took.word (fills_still law who b took.filled took.fills) tt took.step) (ends_still law who took.decided e took.ends)
 
+-- a settle up to its decision is loads
+pub decision_loads : (law : Law) (who : ℕ) (outcome : Outcome) (b e : Book) (took : TookDecision law who outcome b e) → Went law who IsLoadStep b took.passed
+decision_loads law who outcome b e took =
+    went_more law who IsLoadStep b took.first took.passed (went_one law who IsLoadStep LoadFlushed took.start.flushed b took.first tt took.start.step) took.loads
+
 pub decision_still : (law : Law) (who : ℕ) (outcome : Outcome) (b e : Book) → TookDecision law who outcome b e → Went law who IsStillStep b e
-decision_still law who outcome b e took = went_more law who IsStillStep b took.passed e (loads_still law who b took.passed took.loads) (finish_still law who took.passed e took.finish)
+decision_still law who outcome b e took = went_more law who IsStillStep b took.passed e (loads_still law who b took.passed (decision_loads law who outcome b e took)) (finish_still law who took.passed e took.finish)
 
 pub wait_still : (law : Law) (who : ℕ) (why : Wait) (b e : Book) → TookWait law who why b e → Went law who IsStillStep b e
 wait_still law who (wait.Ring flushed) b e took = record { steps = (LoadFlushed, flushed) ∷ []; took = took.1; all = (tt, tt) }

@@ -2,6 +2,7 @@ pub mod Calls
 pub mod Lasting
 pub mod Making
 pub mod Opening
+pub mod Safe
 pub mod Session
 pub mod Settle
 pub mod Skew

@@ -1,8 +1,6 @@
 -- What making an object and looking at the place flushed leave of a pass's view.
-use Rattle.std.specs.Prelude.{◌≡◌, ◌≢◌, ◌⊎◌, ℕ, ◌≤◌, [], ◌∷◌, ◌++◌}
+use Rattle.std.specs.Prelude.{◌≡◌, ◌≢◌, ℕ, ◌≤◌, [], ◌∷◌, ◌++◌}
 use Rattle.erm_machine.specs.declared.limits.TheConstants.{OBJECT_LIMIT}
-use Rattle.erm_machine.specs.declared.event.Counter.TheVariants.{Objects}
-use Rattle.erm_machine.specs.declared.event.Kind.TheVariants as kind
 use Rattle.erm_machine.specs.declared.part.Part.{Part}
 use Rattle.erm_machine.specs.declared.task.Task.{Task}
 use Rattle.erm_machine.specs.declared.task.Task.TheVariants as task
@@ -16,7 +14,7 @@ use Rattle.erm_model.specs.declared.row_stop.RowStop.TheVariants as stop
 use Rattle.erm_model.specs.Member.{◌∈◌}
 use Rattle.erm_rule.specs.declared.view.Book.{Book}
 use Rattle.erm_rule.specs.declared.view.View.{View}
-use Rattle.erm_rule.specs.Books.{IsBookOf, LastFound}
+use Rattle.erm_rule.specs.Books.{IsBookOf}
 use Rattle.erm_rule.specs.Hands.{IsKnown}
 use Rattle.erm_rule.specs.Views.{IsView, part_of, with_part}
 
@@ -46,11 +44,6 @@ pub record HasNoObject (v : View) (who drawn : ℕ) (w : View) : Type 0 where
 abbrev pub RefusesObject : View → ℕ → RowStop → View → Type 0
 RefusesObject v who (stop.OidsFull drawn) w = HasNoObject v who drawn w
 RefusesObject v who why w = ⊥
-
--- the last step to the second book was the seat's: it loaded the counter of objects, or raised it, and found what the refusal says
-abbrev pub WasObjectCount : Book → ℕ → RowStop → Book → Type 0
-WasObjectCount b who (stop.OidsFull drawn) e = LastFound b who (kind.LoadCounter Objects) drawn e ⊎ LastFound b who (kind.AddCounter Objects) drawn e
-WasObjectCount b who why e = ⊥
 
 -- DURABLE. The place flushed is this one, or lies behind it, in whatever state the book is one of.
 abbrev pub IsFlushedTo : ℕ → Book → Type 0

@@ -9,6 +9,8 @@ use Rattle.erm_machine.specs.declared.attempt.Read.{Read}
 use Rattle.erm_machine.specs.declared.limits.TheConstants.{READ_LIMIT, WRITE_LIMIT}
 use Rattle.erm_machine.specs.declared.part.Part.{Part}
 use Rattle.erm_machine.specs.declared.place.Place.TheVariants as place
+use Rattle.erm_machine.specs.declared.task.Task.{Task}
+use Rattle.erm_machine.specs.declared.task.Task.TheVariants as task
 use Rattle.erm_machine.specs.Seat.{is_active, is_sealed}
 use Rattle.erm_machine.specs.Settling.{may_settle}
 use Rattle.erm_machine.specs.Words.{is_session}
@@ -28,19 +30,32 @@ abbrev pub phase_of : Stage → Phase
 phase_of stage.Idle = phase.Idle
 phase_of (stage.Active t) = phase.Active
 phase_of (stage.Sealed t) = phase.Sealed
+phase_of (stage.Pending begin next) = phase.Pending
+phase_of (stage.Safe begin) = phase.Safe
+
+-- a safe snapshot between two calls: it has read nothing yet, or has found a version
+abbrev pub rests_safe : Task → Bool
+rests_safe task.Safe = true
+rests_safe (task.SafeFound version) = true
+rests_safe _ = false
 
 -- The seat stands there too, and the transaction kept is its current one, the last begun; the range of a sealed one has the size of its
--- block.
+-- block. Of a snapshot the begin stamp is kept, and, until it is safe, the session to which its look has come.
 abbrev pub StageIs : Stage → Part → Type 0
 StageIs stage.Idle x = x.place ≡ place.Idle
 StageIs (stage.Active t) x = (is_active x.place ≡ true) × (starts_anew x.task ≡ true) × IsActive t x × (x.current.number ≡ x.number)
 StageIs (stage.Sealed t) x =
     (is_sealed x.place ≡ true) × (may_settle x.task ≡ true) × IsPre t x × (x.current.number ≡ x.number)
     × (x.current.size ≡ block_words (map (λ (w : Claim). w.row) x.current.writes))
+StageIs (stage.Pending begin next) x =
+    (is_active x.place ≡ true) × (x.task ≡ task.Surveys next) × (is_session next ≡ true) × (x.current.begin ≡ begin) × (x.current.number ≡ x.number)
+StageIs (stage.Safe begin) x = (is_active x.place ≡ true) × (rests_safe x.task ≡ true) × (x.current.begin ≡ begin) × (x.current.number ≡ x.number)
 
--- an idle session has the room of its next transaction
+-- an idle session has the room of its next transaction, and so has one with a snapshot, which takes none
 abbrev pub HasRoom : Stage → Option Room → Type 0
 HasRoom stage.Idle None = ⊥
+HasRoom (stage.Pending begin next) None = ⊥
+HasRoom (stage.Safe begin) None = ⊥
 HasRoom g room = Unit {0}
 
 -- What the session keeps is its seat's, but for the rows, for which there is room.

@@ -1,6 +1,7 @@
 -- The steps of each call of a session, the last one first, with the words that they found, and the books in between.
-use Rattle.std.specs.Prelude.{◌≡◌, ◌⊎◌, ℕ, Bool, true, false, [], ◌∷◌, length}
-use Rattle.erm_cells.specs.Took.{IsEndStep, IsStoreStep}
+use Rattle.std.specs.Prelude.{◌≡◌, ◌⊎◌, ℕ, Bool, true, false, List, [], ◌∷◌, length}
+use Rattle.erm_cells.specs.Placed.{place_of}
+use Rattle.erm_cells.specs.Took.{IsEndStep, TookRow}
 use Rattle.erm_machine.specs.declared.event.Counter.TheVariants.{Objects}
 use Rattle.erm_machine.specs.declared.event.Kind.TheVariants.{AddCounter, Decide, LoadCounter}
 use Rattle.erm_machine.specs.declared.task.Task.TheVariants.{Settles}
@@ -14,6 +15,7 @@ use Rattle.erm_model.specs.declared.row_stop.RowStop.TheVariants as stop
 use Rattle.erm_model.specs.RowTransaction.{Law}
 use Rattle.erm_ring.specs.Took.{IsFillStep}
 use Rattle.erm_precommit.specs.Settle.{WentOn}
+use Rattle.erm_precommit.specs.Took.{TookStart}
 use Rattle.erm_rows.specs.Claims.{DidNotClaim}
 use Rattle.erm_rows.specs.Reads.{DidNotRead}
 use Rattle.erm_rows.specs.Took.{TookClaim, TookNoClaim, TookNotRead, TookRead}
@@ -24,7 +26,7 @@ use Rattle.erm_rule.specs.Went.{Took, Went, IsLoadStep}
 use Rattle.erm_seats.specs.declared.answer.BeginStop as seats_answer
 use Rattle.erm_seats.specs.declared.answer.BeginStop.TheVariants as seats
 use Rattle.erm_seats.specs.Took.{TookStop}
-use Rattle.erm_session.specs.Calls.{is_end}
+use Rattle.erm_session.specs.Calls.{IsClaimedAt, IsUnclaimed, is_end}
 use Rattle.erm_session.specs.Settle.{Finishes}
 use Rattle.erm_world.specs.declared.stops.BeginStop.{BeginStop}
 use Rattle.erm_world.specs.declared.stops.BeginStop.TheVariants as begin
@@ -64,19 +66,21 @@ TookReadStop law who oid why b e = TookWhere law who (is_end why) (λ m. TookNot
 abbrev pub TookAnyClaim : Law → (who oid count : ℕ) → Book → Book → Type 0
 TookAnyClaim law who oid count b e = ((count ≡ 0) × (e ≡ b)) ⊎ TookClaim law who oid count b e
 
--- TIDY. The chain of an object that is claimed already is cut once more.
+-- TIDY. The chain of an object that is claimed already is cut once more; another one is claimed.
 abbrev pub TookAnyTidy : Law → (who oid count : ℕ) → Book → Book → Type 0
-TookAnyTidy law who oid count b e = TookTidy law who oid count b e ⊎ TookAnyClaim law who oid count b e
+TookAnyTidy law who oid count b e = TookTidy law who oid count b e ⊎ (IsUnclaimed (part_of b.view who) oid × TookAnyClaim law who oid count b e)
 
 abbrev pub TookClaimStop : Law → (who oid : ℕ) → RowStop → Book → Book → Type 0
 TookClaimStop law who oid why b e = TookWhere law who (is_end why) (λ m. TookNoClaim law who oid why b m × DidNotClaim b.view who oid why m.view) e
 
--- WRITE. The object is claimed, and then words are stored into its own cell.
-pub record TookWrite (law : Law) (who oid : ℕ) (b e : Book) : Type 0 where
+-- WRITE. The object is claimed, and then the words of this row are stored, in order, into the claim's own cell.
+pub record TookWrite (law : Law) (who oid : ℕ) (row : List ℕ) (b e : Book) : Type 0 where
   pub claimed : Book
   pub count : ℕ
   pub claim : TookAnyClaim law who oid count b claimed
-  pub stores : Went law who IsStoreStep claimed e
+  pub cell : ℕ
+  pub of : IsClaimedAt (part_of claimed.view who) oid (place_of cell (part_of claimed.view who))
+  pub stores : TookRow law who cell row claimed e
 
 -- FRESH. The counter was loaded, and then raised: it was found at the object's number.
 abbrev pub TookObject : Law → (who oid : ℕ) → Book → Book → Type 0
@@ -105,10 +109,12 @@ pub record TookFinish (law : Law) (who : ℕ) (b e : Book) : Type 0 where
   pub ends : Went law who IsEndStep decided e
   pub last : TookDecided (part_of decided.view who).current.decision law who decided e
 
--- By loads all versions were passed, and then the transaction was finished.
+-- A settle began, where the ring had room; by loads all versions were passed, and then the transaction was finished.
 pub record TookDecision (law : Law) (who : ℕ) (outcome : Outcome) (b e : Book) : Type 0 where
+  pub first : Book
+  pub start : TookStart law who b first
   pub passed : Book
-  pub loads : Went law who IsLoadStep b passed
+  pub loads : Went law who IsLoadStep first passed
   pub went : WentOn b.view who passed.view
   pub ready : (part_of passed.view who).task ≡ Settles (length (part_of passed.view who).current.reads) (length (part_of passed.view who).current.writes)
   pub finish : TookFinish law who passed e

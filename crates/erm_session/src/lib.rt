@@ -1,5 +1,6 @@
-//! The calls of a session on the words that threads share: begin, read, claim, write, tidy, seal, settle and abort, each whole, over what the
-//! session keeps beside its pass. None of the calls waits, and none takes memory once the session is made.
+//! The calls of a session on the words that threads share: begin, read, claim, write, tidy, seal, settle and abort, and those of a snapshot
+//! that only reads, each whole, over what the session keeps beside its pass. None of the calls waits, and none takes memory once the session
+//! is made.
 #![tactic(auto)]
 
 mod finding;
@@ -8,6 +9,7 @@ mod life;
 mod making;
 mod reading;
 mod room;
+mod safe;
 mod sealing;
 mod session;
 mod settling;

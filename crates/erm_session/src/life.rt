@@ -128,7 +128,7 @@ impl Session {
 }
 
 // Why a transaction doesn't begin, as a begin answers it.
-fn begin_stop(stop: answer::BeginStop) -> BeginStop
+pub(crate) fn begin_stop(stop: answer::BeginStop) -> BeginStop
     ensures refused { (v w : View) (who : ℕ) → DidStop v who stop w → MayNotBegin v who result w }
     ensures is { result ≡ stop_of stop }
 {

@@ -2,11 +2,11 @@
 ghost use Rattle.std.specs.Prelude.{◌≡◌, ◌<◌, IfErr, IfOk, OnOk, ◌≤◌, ℕ, [], ◌∷◌};
 ghost use Rattle.erm_machine.specs.declared.limits.TheConstants.{OBJECT_LIMIT};
 ghost use Rattle.erm_model.specs.declared.outcome.Phase.TheVariants as phase;
-ghost use Rattle.erm_rule.specs.Books.{HasState, IsAfter, WasFlushed, book};
+ghost use Rattle.erm_rule.specs.Books.{WasFlushed, book};
 ghost use Rattle.erm_rule.specs.Hands.{IsKnown};
 ghost use Rattle.erm_rule.specs.Steps.{Fits};
 ghost use Rattle.erm_rule.specs.Views.{view, part_of};
-ghost use Rattle.erm_session.specs.Making.{IsFlushedTo, LooksAtFlushed, MakesObject, RefusesObject, WasObjectCount};
+ghost use Rattle.erm_session.specs.Making.{IsFlushedTo, LooksAtFlushed, MakesObject, RefusesObject};
 ghost use Rattle.erm_session.specs.Session.{IsSession, phase_of};
 ghost use Rattle.erm_machine.specs.declared.event.Kind.TheVariants.{LoadFlushed};
 ghost use Rattle.erm_rule.specs.Went.{IsStillStep, Took, Went};
@@ -33,8 +33,6 @@ impl Session {
         ensures object { IfOk result (λ oid. oid < OBJECT_LIMIT) }
         ensures made { IfOk result (λ oid. MakesObject (view p.old) self.old.seat oid (view p.new)) }
         ensures refused { IfErr result (λ stop. RefusesObject (view p.old) self.old.seat stop (view p.new)) }
-        ensures counted { IfErr result (λ stop. WasObjectCount (book p.old) self.old.seat stop (book p.new)) }
-        ensures goes { IsAfter (book p.old) (book p.new) × HasState (book p.new) }
         ensures took { IfOk result (λ oid. TookObject L.law self.old.seat oid (book p.old) (book p.new)) }
         ensures took_none { IfErr result (λ stop. TookNoObject L.law self.old.seat stop (book p.old) (book p.new)) }
         ensures still { Went L.law self.old.seat IsStillStep (book p.old) (book p.new) }
@@ -64,7 +62,6 @@ impl Session {
         ensures stands { IsSession self.now (part_of (view p.new) self.now.seat) }
         ensures looked { LooksAtFlushed (view p.old) self.now.seat (view p.new) }
         ensures synced { OnOk result (IsFlushedTo receipt.now.end (book p.new)) }
-        ensures goes { IsAfter (book p.old) (book p.new) × HasState (book p.new) }
         ensures unsynced { IfErr result (λ stop. WasFlushed (book p.old) stop.flushed (book p.new) × (stop.flushed < receipt.now.end)) }
         ensures took { OnOk result ((flushed : ℕ) × (receipt.now.end ≤ flushed) × Took L.law self.now.seat ((LoadFlushed, flushed) ∷ []) (book p.old) (book p.new)) }
         ensures took_none { IfErr result (λ stop. Took L.law self.now.seat ((LoadFlushed, stop.flushed) ∷ []) (book p.old) (book p.new)) }

@@ -9,7 +9,7 @@ use crate::room::{Room, empty_block};
 use erm_block::{BLOCK_WORDS, Block};
 use erm_cells::Spare;
 use erm_machine::{READ_LIMIT, WRITE_LIMIT};
-use erm_model::{LAST_RUN, Phase, Row, Seat};
+use erm_model::{LAST_RUN, Phase, Row, Seat, Stamp};
 use erm_precommit::Pre;
 use erm_rows::Active;
 use std::alloc::{AllocError, Global};
@@ -23,6 +23,10 @@ pub enum Stage {
     Active(Active),
     /// Its transaction has its commit stamp and waits to be decided.
     Sealed(Pre),
+    /// It has a snapshot that only reads, with this begin stamp, and looks whether it is safe: it has come to the session `next`.
+    Pending { begin: Stamp, next: Seat },
+    /// It has a safe snapshot that only reads, with this begin stamp.
+    Safe { begin: Stamp },
 }
 
 /// A session as it keeps itself beside its pass. All memory is taken when it is made. The rows of its transaction lie apart from what
@@ -35,7 +39,7 @@ pub struct Session {
     // The number of the last transaction begun.
     pub(crate) number: u32,
     pub(crate) stage: Stage,
-    // Room for what the next transaction reads and claims, while there is none.
+    // Room for what the next transaction reads and claims, while there is none, or a snapshot.
     pub(crate) room: Option<Room>,
     pub(crate) spare: Spare,
     // The rows read, in order of first read.
@@ -90,6 +94,8 @@ impl Session {
             Stage::Idle => Phase::Idle,
             Stage::Active(_) => Phase::Active,
             Stage::Sealed(_) => Phase::Sealed,
+            Stage::Pending { .. } => Phase::Pending,
+            Stage::Safe { .. } => Phase::Safe,
         }
     }
 }

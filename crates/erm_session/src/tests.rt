@@ -5,4 +5,5 @@ mod limits;
 mod opening;
 mod readers;
 mod skew;
+mod snapshots;
 mod worked;

@@ -11,7 +11,8 @@ ghost use Rattle.erm_rule.specs.Steps.{Fits};
 ghost use Rattle.erm_rule.specs.Views.{view, part_of};
 ghost use Rattle.erm_session.specs.Calls.{ClaimsObject, IsClaimedAt, IsRefusedPhase, IsUnclaimed, RefusesClaim, SetsRow, WritesRow};
 ghost use Rattle.erm_session.specs.Session.{IsOpen, IsSession, StageIs, phase_of};
-ghost use Rattle.erm_cells.specs.Took.{IsStoreStep};
+ghost use Rattle.erm_cells.specs.Placed.{place_of};
+ghost use Rattle.erm_cells.specs.Took.{TookRow};
 ghost use Rattle.erm_rows.specs.Took.{TookClaim, TookNoClaim};
 ghost use Rattle.erm_rule.specs.Went.{IsStillStep, Went};
 ghost use Rattle.erm_session.specs.Took.{TookAnyClaim, TookClaimStop, TookWrite};
@@ -142,7 +143,7 @@ impl Session {
         ensures stands { IsSession self.new (part_of (view p.new) self.old.seat) }
         ensures set { SetsRow (view p.old) self.old.seat place row.now (view p.new) }
         ensures active { phase_of self.new.stage ≡ Active }
-        ensures stores { Went L.law self.old.seat IsStoreStep (book p.old) (book p.new) }
+        ensures stores { (cell : ℕ) × (place_of cell (part_of (view p.old) self.old.seat) ≡ place) × TookRow L.law self.old.seat cell row.now (book p.old) (book p.new) }
     {
         let Stage::Active(txn) = &self.stage else {
             unreachable!()
@@ -174,7 +175,7 @@ impl Session {
         ensures refused { IfErr result (λ stop. RefusesClaim (view p.old) self.old.seat oid stop (view p.new)) }
         ensures phase { IfErr result (λ stop. IsRefusedPhase stop (phase_of self.new.stage)) }
         ensures counted { IfErr result (λ stop. TellsCount (book p.old) stop (book p.new)) }
-        ensures took { OnOk result (TookWrite L.law self.old.seat oid (book p.old) (book p.new)) }
+        ensures took { OnOk result (TookWrite L.law self.old.seat oid row.now (book p.old) (book p.new)) }
         ensures took_none { IfErr result (λ stop. TookClaimStop L.law self.old.seat oid stop (book p.old) (book p.new)) }
         ensures still { Went L.law self.old.seat IsStillStep (book p.old) (book p.new) }
     {

@@ -60,6 +60,8 @@ pub idle_place : (g : Stage) (x : Part) → phase_of g ≡ phase.Idle → StageI
 idle_place stage.Idle x idle is = is
 idle_place (stage.Active t) x idle is = absurd (cc)
 idle_place (stage.Sealed t) x idle is = absurd (cc)
+idle_place (stage.Pending begin next) x idle is = absurd (cc)
+idle_place (stage.Safe begin) x idle is = absurd (cc)
 
 -- one step alone
 pub one_step : (law : Law) (who : ℕ) (s : Kind × ℕ) (b e : Book) → Took law who (s ∷ []) b e → Booked law b who s.0 s.1 e
@@ -70,14 +72,14 @@ met_number : (seat found : ℕ) (x y : Part) → x.place ≡ place.Idle → load
 met_number seat found x y idle e =
     when_then (λ _. has_number seat x ≡ true) (has_number seat x) _ y (sym (ap (load_tail_to_begin seat found x) idle) ∙ e) (λ t. t)
 
-plain_seat : (seat : ℕ) → is_session seat ≡ true → is_flusher seat ≡ false
+pub plain_seat : (seat : ℕ) → is_session seat ≡ true → is_flusher seat ≡ false
 plain_seat seat is = by_test (is_flusher seat) refl
   where
     by_test : (t : Bool) → is_flusher seat ≡ t → is_flusher seat ≡ false
     by_test true flusher = absurd (let low = leb-true seat 48 (and_parts (ltb 0 seat) (leb seat 48) is).1 in let at = eqb-true seat 49 flusher in omega (arith, low, at))
     by_test false plain = plain
 
-tail_low : (seat tail : ℕ) → is_flusher seat ≡ false → refuses seat tail ≡ false → tail < STOP
+pub tail_low : (seat tail : ℕ) → is_flusher seat ≡ false → refuses seat tail ≡ false → tail < STOP
 tail_low seat tail plain low =
     ⊎_elim (λ (less : tail < STOP). less)
     (λ (high : STOP ≤ tail). absurd (let is : refuses seat tail ≡ true = and_from _ _ (ap not plain) (le-leb STOP tail high) in cc))
@@ -103,11 +105,11 @@ module _ (law : Law) (seat tail flushed : ℕ) (b e : Book) (may : MayCall law s
       let none : in_progress x.place ≡ 0 = ap in_progress idle in
       omega (arith, all, none)
 
-  over_numbered : length (own.session seat).over ≡ x.number
+  pub over_numbered : length (own.session seat).over ≡ x.number
   over_numbered = ap (λ (s : Session). length s.over) (own_is seat tail flushed b) ∙ length-map x.over _ ∙ sym numbered
 
   -- the first load
-  number_left : (found : ℕ) (m : Book) → Booked law b seat (kind.LoadTail purpose.Begin) found m → x.number < LAST_NUMBER
+  pub number_left : (found : ℕ) (m : Book) → Booked law b seat (kind.LoadTail purpose.Begin) found m → x.number < LAST_NUMBER
   number_left found m booked =
       let told = booked.under.told in
       let here : told.before.seats seat ≡ x = told.is_view seat x held in
@@ -119,7 +121,7 @@ module _ (law : Law) (seat tail flushed : ℕ) (b e : Book) (may : MayCall law s
       (or_cases (is_flusher seat) (ltb x.number LAST_NUMBER) has)
 
   -- a load meets the log's end, at or above what was seen, and each state after it has come as far
-  loaded : (m z : Book) (found : ℕ) → IsAfter b m → Booked law m seat (kind.LoadTail purpose.Begin) found z → (tail ≤ found) × ((c : Core) → IsBookOf z c → found ≤ c.shared.tail)
+  pub loaded : (m z : Book) (found : ℕ) → IsAfter b m → Booked law m seat (kind.LoadTail purpose.Begin) found z → (tail ≤ found) × ((c : Core) → IsBookOf z c → found ≤ c.shared.tail)
   loaded m z found goes booked =
       let before = booked.under.told.before in
       let low = (seen m goes before (state_before law m seat (kind.LoadTail purpose.Begin) found z booked)).0 in

@@ -1,5 +1,5 @@
 -- What a claim and a write of a session of the word table leave of its own view, where they are answered and where they are refused.
-use Rattle.std.proofs.Common.{◌≡◌, ℕ, ◌<◌, ⊎_elim, inl, inr, Some, List, [], ◌∷◌, length, refl, sym, ap, ◌∙◌, subst, arith}
+use Rattle.std.proofs.Common.{◌≡◌, ℕ, ◌<◌, ⊎_elim, inl, inr, Some, List, [], ◌∷◌, length, refl, sym, ap, ◌∙◌, subst, arith, false, ltb}
 use Rattle.std.proofs.lemmas.List.{length-append}
 use Rattle.erm_model.specs.declared.limits.TheConstants.{WRITE_LIMIT}
 use Rattle.erm_model.specs.declared.row_stop.RowStop.{RowStop}
@@ -10,11 +10,13 @@ use Rattle.erm_machine.specs.declared.part.Part.{Part}
 use Rattle.erm_machine.specs.declared.task.Task.{Task}
 use Rattle.erm_machine.specs.declared.task.Task.TheVariants as task
 use Rattle.erm_machine.specs.Reading.{new_claim}
-use Rattle.erm_machine.specs.Seat.{with_task}
+use Rattle.erm_machine.specs.Seat.{with_task, is_snapshot}
 use Rattle.erm_cells.specs.Calls.{taken_part, walked}
 use Rattle.erm_core_shown.specs.Shown.{given_up_of}
 use Rattle.erm_core_shown.proofs.Given.{given_more}
 use Rattle.erm_core_view.specs.Views.{session_of}
+use Rattle.erm_core_view.proofs.Snapshots.{starts_plain}
+use Rattle.erm_core_view.proofs.Calm.{plain_if}
 use Rattle.erm_ends.specs.Ends as ends
 use Rattle.erm_rows.specs.Claims as rows
 use Rattle.erm_rows.specs.Claims.{given_up_part}
@@ -52,16 +54,16 @@ module _ (law : Law) (seat tail flushed : ℕ) (b e : Book) (start : e.start ≡
   may_claim oid none few = (claiming_of.not_claimed seat tail flushed b e start held at oid none, omega (arith, few, claiming_of.claims_are seat tail flushed b e start held at))
 
   -- the transaction ended as it was, the seat's call having left this task
-  ended : (t : Task) (m : rule.View) → m ≡ with_part seat (with_task t part) b.view → ends.DidAbort m seat e.view → IsDone own seat (work_at own seat) world.aborts next
-  ended t m is aborted =
-      let leaves : Leaves seat tail flushed b e start held at (with_task t part) (claiming_of.work seat tail flushed b e start held at) = record { over = refl; active = at.active; work_is = refl; given = refl } in
+  ended : (t : Task) (m : rule.View) → is_snapshot t ≡ false → m ≡ with_part seat (with_task t part) b.view → ends.DidAbort m seat e.view → IsDone own seat (work_at own seat) world.aborts next
+  ended t m plain is aborted =
+      let leaves : Leaves seat tail flushed b e start held at (with_task t part) (claiming_of.work seat tail flushed b e start held at) = record { over = refl; active = at.active; plain = plain; work_is = refl; given = refl } in
       subst (λ (w : Work). IsDone own seat w world.aborts next) (sym (claiming_of.own_work seat tail flushed b e start held at))
       (claiming_of.done_now seat tail flushed b e start held at (with_task t part) (claiming_of.work seat tail flushed b e start held at) m leaves (part_of-changed b.view seat m (with_task t part) part held is) aborted)
 
   newer : (oid stamp : ℕ) (m : rule.View) → rows.DidNotClaim b.view seat oid (stop.Newer stamp) m → ends.DidAbort m seat e.view → IsDone own seat (work_at own seat) world.aborts next
   newer oid stamp m did aborted =
-      ⊎_elim (λ (met : rows.DidMeetNewer b.view seat oid stamp m). ended (walked met.walk.version met.entry stamp part) m met.walk.view_is aborted)
-      (λ (met : rows.DidMissHead b.view seat oid stamp m). ended (task.Passed met.lost.version) m met.view_is aborted) did
+      ⊎_elim (λ (met : rows.DidMeetNewer b.view seat oid stamp m). ended (walked met.walk.version met.entry stamp part) m (plain_if (ltb stamp part.current.begin) (task.Found met.walk.version stamp (Some met.entry)) (task.Passed met.walk.version) refl refl) met.walk.view_is aborted)
+      (λ (met : rows.DidMissHead b.view seat oid stamp m). ended (task.Passed met.lost.version) m refl met.view_is aborted) did
 
   -- without a cell the claim was given up, and the transaction is as it was but for that
   lacks : (oid drawn : ℕ) → IsUnclaimed part oid → rows.DidLackCell b.view seat oid drawn e.view → NotClaimedBeside seat oid (stop.CellsFull drawn) own next
@@ -77,8 +79,8 @@ module _ (law : Law) (seat tail flushed : ℕ) (b e : Book) (start : e.start ≡
           given = own_given seat (given_up_of (part_of e.view seat));
           is =
               own_gives seat tail flushed b e start
-              (ap session_of after ∙ claiming_of.session_as seat tail flushed b e start held at left (claiming_of.work seat tail flushed b e start held at) refl at.active refl
-              ∙ sym (claiming_of.session_as seat tail flushed b e start held at part (claiming_of.work seat tail flushed b e start held at) refl at.active refl));
+              (ap session_of after ∙ claiming_of.session_as seat tail flushed b e start held at left (claiming_of.work seat tail flushed b e start held at) refl at.active refl refl
+              ∙ sym (claiming_of.session_as seat tail flushed b e start held at part (claiming_of.work seat tail flushed b e start held at) refl at.active (starts_plain part.task at.starts) refl));
           only = λ x m.
               ⊎_elim (λ (old : x ∈ given_up_of part). inl (before x old))
               (λ (new : x ≡ record { number = part.current.number; oid = oid }). inr (new ∙ ap (λ (n : ℕ). let g : GivenUp = record { number = n; oid = oid } in g) number))
@@ -106,7 +108,7 @@ module _ (law : Law) (seat tail flushed : ℕ) (b e : Book) (start : e.start ≡
   )
   refused oid (stop.Owned other number) refuses took = (
     may_claim oid refuses.unclaimed took.refused.0.0,
-    ended (task.Owned oid other) refuses.refused.between refuses.refused.refused.view_is refuses.refused.aborted,
+    ended (task.Owned oid other) refuses.refused.between refl refuses.refused.refused.view_is refuses.refused.aborted,
   )
   refused oid (stop.Newer stamp) refuses took = (
     may_claim oid refuses.unclaimed took.refused.0.0,

@@ -17,11 +17,12 @@ use Rattle.erm_machine.specs.declared.task.Task.TheVariants as task
 use Rattle.erm_machine.specs.Core.{claim_at, no_claim}
 use Rattle.erm_machine.specs.Decided.{written_of}
 use Rattle.erm_machine.specs.Reading.{new_claim}
-use Rattle.erm_machine.specs.Seat.{is_active, may_start}
+use Rattle.erm_machine.specs.Seat.{is_active, may_start, is_snapshot}
 use Rattle.erm_cells.specs.Placed.{place_of}
 use Rattle.erm_cells.specs.Rows.{is_copying, part_with_rows}
 use Rattle.erm_core_view.specs.Views.{finished_of, session_of, stand_of, work_of}
 use Rattle.erm_core_view.proofs.Shown.{shows_work, work_active, working}
+use Rattle.erm_core_view.proofs.Snapshots.{plain_new, starts_plain}
 use Rattle.erm_core_steps.proofs.Stored.{claimed_from}
 use Rattle.erm_ends.specs.Ends as ends
 use Rattle.erm_ends.specs.Ends.{left_part, released_all}
@@ -51,7 +52,8 @@ use Rattle.erm_world.specs.World as world
 use Rattle.erm_own_view.specs.Own.{no_session, opening_of, own_view}
 use Rattle.erm_own_view.proofs.Own.{own_becomes, own_is, own_same}
 use Rattle.erm_shared_session.proofs.Aborting.{aborted_given, aborted_shown, gone}
-use Rattle.erm_shared_session.proofs.Standing.{active_held, anew_starts}
+use Rattle.erm_shared_session.proofs.Standing.{active_held}
+use Rattle.erm_table_world.proofs.Sessions.{anew_starts}
 use Rattle.erm_core_shown.specs.Shown.{given_up_of}
 use Rattle.erm_core_shown.proofs.Given.{given_by, given_stays}
 
@@ -96,7 +98,7 @@ module _ (seat tail flushed : ℕ) (b e : Book) (start : e.start ≡ b.start) (h
 
   -- the session as the own view has it
   own_session : own.session seat ≡ working part work
-  own_session = own_is seat tail flushed b ∙ (shows_work part work part refl at.active refl).shows
+  own_session = own_is seat tail flushed b ∙ (shows_work part work part refl at.active (starts_plain part.task at.starts) refl).shows
 
   pub own_work : work_at own seat ≡ work
   own_work = ap (λ (s : Session). world.work_of s.stand) own_session
@@ -111,17 +113,18 @@ module _ (seat tail flushed : ℕ) (b e : Book) (start : e.start ≡ b.start) (h
   pub record Leaves (y : Part) (w : Work) : Type 0 where
     pub over : y.over ≡ part.over
     pub active : is_active y.place ≡ true
+    pub plain : is_snapshot y.task ≡ false
     pub work_is : work_of y.current ≡ w
     pub given : given_by y.current ≡ given_by part.current
 
   pub leaves_same : Leaves part work
-  leaves_same = record { over = refl; active = at.active; work_is = refl; given = refl }
+  leaves_same = record { over = refl; active = at.active; plain = starts_plain part.task at.starts; work_is = refl; given = refl }
 
-  pub session_as : (y : Part) (w : Work) → y.over ≡ part.over → is_active y.place ≡ true → work_of y.current ≡ w → session_of y ≡ working part w
-  session_as y w over active same = (shows_work part w y over active same).shows
+  pub session_as : (y : Part) (w : Work) → y.over ≡ part.over → is_active y.place ≡ true → is_snapshot y.task ≡ false → work_of y.current ≡ w → session_of y ≡ working part w
+  session_as y w over active plain same = (shows_work part w y over active plain same).shows
 
   session_then : (y : Part) (w : Work) → Leaves y w → session_of y ≡ working part w
-  session_then y w leaves = session_as y w leaves.over leaves.active leaves.work_is
+  session_then y w leaves = session_as y w leaves.over leaves.active leaves.plain leaves.work_is
 
   given_then : (y : Part) (w : Work) → Leaves y w → given_up_of y ≡ given_up_of part
   given_then y w leaves = given_stays part y leaves.over leaves.given
@@ -158,7 +161,7 @@ module _ (seat tail flushed : ℕ) (b e : Book) (start : e.start ≡ b.start) (h
       part_of-changed m seat e.view (left_part Abort (released_all (part_of m seat))) (part_of m seat) (held_then m y is leaves.active) aborted.view_is
       ∙ ap (λ (z : Part). left_part Abort (released_all z)) is
       in
-      let now : world.phase_of (stand_of y.place y.current) ≡ phase.Active = ap (λ (s : Session). world.phase_of s.stand) (session_then y w leaves) in
+      let now : world.phase_of (stand_of y.place y.task y.current) ≡ phase.Active = ap (λ (s : Session). world.phase_of s.stand) (session_then y w leaves) in
       own_becomes seat tail flushed b e (record { over = (own.session seat).over ++ g ∷ []; stand = world.idle }) start
       (ap session_of after ∙ aborted_shown y now ∙ ap gone (session_then y w leaves)
       ∙ ap (λ (fs : List Finished). let s : Session = record { over = fs ++ g ∷ []; stand = world.idle } in s) (sym own_over))
@@ -215,6 +218,7 @@ module _ (seat tail flushed : ℕ) (b e : Book) (start : e.start ≡ b.start) (h
     grown_leaves = record {
       over = refl;
       active = at.active;
+      plain = refl;
       work_is =
           ap (λ (ws : List VersionWritten). record work { claims = ws }) (map-append written_of part.current.writes (new ∷ []))
           ∙ ap (λ (n : ℕ). claiming (found n did.took.stamp did.took.base) work) did.took.oid_is;
@@ -254,7 +258,8 @@ module _ (seat tail flushed : ℕ) (b e : Book) (start : e.start ≡ b.start) (h
       (record {
         over = leaves.over;
         active = leaves.active;
-        work_is = sym (work_active set.place set.current leaves.active) ∙ ap (λ (s : Session). world.work_of s.stand) shows ∙ ap (setting oid row) leaves.work_is;
+        plain = refl;
+        work_is = sym (work_active set.place set.task set.current leaves.active (plain_new set.task set.current refl)) ∙ ap (λ (s : Session). world.work_of s.stand) shows ∙ ap (setting oid row) leaves.work_is;
         given = leaves.given;
       })
       after
@@ -272,8 +277,8 @@ module _ (seat tail flushed : ℕ) (b e : Book) (start : e.start ≡ b.start) (h
     claim = did_claim seat tail flushed b (record b { view = m }) refl held at tells oid claims;
     set =
         subst (λ (u : Work). Works (own_view seat tail flushed b) seat (setting oid row u) (own_view seat tail flushed e))
-        (sym (ap (λ (s : Session). world.work_of s.stand) (own_is seat tail flushed (record b { view = m })) ∙ ap (λ (z : Part). world.work_of (stand_of z.place z.current)) is
-        ∙ work_active y.place y.current leaves.active ∙ leaves.work_is))
+        (sym (ap (λ (s : Session). world.work_of s.stand) (own_is seat tail flushed (record b { view = m })) ∙ ap (λ (z : Part). world.work_of (stand_of z.place z.task z.current)) is
+        ∙ work_active y.place y.task y.current leaves.active (plain_new y.task y.current leaves.plain) ∙ leaves.work_is))
         (sets_now seat tail flushed b e start held at oid place row m y w known_then is leaves starts claimed sets);
   }
 

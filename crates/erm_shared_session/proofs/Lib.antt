@@ -4,6 +4,8 @@ pub mod Claimed
 pub mod Claiming
 pub mod Excluded
 pub mod Full
+pub mod Handing
+pub mod Leaving
 pub mod Looks
 pub mod Making
 pub mod Meeting
@@ -16,7 +18,8 @@ pub mod Refused
 pub mod Results
 pub mod Sealing
 pub mod Settling
+pub mod SnapshotBegins
+pub mod SnapshotLooks
+pub mod SnapshotReads
 pub mod Standing
 pub mod Tidying
-pub mod Handing
-pub mod Leaving

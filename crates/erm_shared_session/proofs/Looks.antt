@@ -1,9 +1,11 @@
 -- A look of a session of the word table at the place flushed.
-use Rattle.std.proofs.Common.{◌≡◌, ℕ, ◌≤◌, ◌<◌, ◌↔◌, ◌&&◌, [], ◌∷◌, Some, Result, Ok, Err, IsOk, OnOk, IfErr, refl, sym, ap, ◌∙◌, subst, arith, le_trans}
+use Rattle.std.proofs.Common.{◌≡◌, ℕ, ◌≤◌, ◌<◌, ◌↔◌, ◌&&◌, true, [], ◌∷◌, map, Some, Result, Ok, Err, IsOk, OnOk, IfErr, refl, sym, ap, ◌∙◌, subst, arith, le_trans}
+use Rattle.std.proofs.lemmas.Bool.{and_parts}
 use Rattle.erm_model.specs.RowTransaction.{Law}
 use Rattle.erm_machine.specs.declared.event.Kind.{Kind}
 use Rattle.erm_machine.specs.declared.event.Kind.TheVariants as kind
 use Rattle.erm_machine.specs.declared.part.Part.{Part}
+use Rattle.erm_machine.specs.declared.task.Task.{Task}
 use Rattle.erm_machine.specs.declared.task.Task.TheVariants as task
 use Rattle.erm_machine.specs.Core.{Core}
 use Rattle.erm_machine.specs.Seat.{is_sealed, with_task}
@@ -12,7 +14,7 @@ use Rattle.erm_machine.specs.Sound.{Sound}
 use Rattle.erm_machine.specs.Step.{after_event}
 use Rattle.erm_machine.proofs.Guards.{either_way}
 use Rattle.erm_core_stays.specs.Staying.{Rises}
-use Rattle.erm_core_view.specs.Views.{session_of}
+use Rattle.erm_core_view.specs.Views.{finished_of, session_of, stand_of}
 use Rattle.erm_rule.specs.declared.view.Book.{Book}
 use Rattle.erm_rule.specs.Books.{IsAfter, IsBookOf, WasFlushed}
 use Rattle.erm_rule.specs.Views.{part_in, part_of}
@@ -24,19 +26,26 @@ use Rattle.erm_beside.specs.Calls.{Passes}
 use Rattle.erm_beside.specs.Later.{IsLater}
 use Rattle.erm_lone.proofs.Later.{world_same}
 use Rattle.erm_world.specs.declared.stops.NotFlushed.{NotFlushed}
-use Rattle.erm_world.specs.World.{View}
+use Rattle.erm_world.specs.World.{Session, Stand, View}
 use Rattle.erm_own_view.specs.Own.{own_view}
 use Rattle.erm_own_view.proofs.Along.{found_then, state_before, took_start}
 use Rattle.erm_own_view.proofs.Own.{own_passes, own_same}
 use Rattle.erm_shared_session.specs.Seen.{flushed_after}
 use Rattle.erm_shared_session.proofs.Beginning.{one_step}
+use Rattle.erm_shared_session.proofs.Own.{stand_same}
 use Rattle.erm_shared_session.proofs.Standing.{IsSeen}
 use Rattle.erm_core_shown.specs.Shown.{given_up_of}
+
+-- where a settle goes on doesn't show
+sealed_shown : (x : Part) (u : Task) → is_sealed x.place ≡ true → session_of (with_task u x) ≡ session_of x
+sealed_shown x u sealed =
+    ap (λ (st : Stand). let s : Session = record { over = map finished_of x.over; stand = st } in s) (stand_same x.place x.task u x.current x.current sealed refl)
 
 -- a look shows nothing in the session
 look_shown : (found : ℕ) (x : Part) → session_of (load_flushed_to_settle found x) ≡ session_of x
 look_shown found x =
-    either_way (λ (y : Part). session_of y ≡ session_of x) ((is_sealed x.place && may_settle x.task) && has_room found x.current) (with_task (task.Settles 0 0) x) x (λ _. refl) (λ _. refl)
+    either_way (λ (y : Part). session_of y ≡ session_of x) ((is_sealed x.place && may_settle x.task) && has_room found x.current) (with_task (task.Settles 0 0) x) x
+    (λ g. sealed_shown x (task.Settles 0 0) (and_parts _ _ (and_parts _ _ g).0).0) (λ _. refl)
 
 look_given : (found : ℕ) (x : Part) → given_up_of (load_flushed_to_settle found x) ≡ given_up_of x
 look_given found x =

@@ -1,5 +1,5 @@
 -- A new object of a session of the word table, beside others.
-use Rattle.std.proofs.Common.{◌≡◌, ℕ, ◌+◌, ◌≤◌, inl, inr, List, [], ◌∷◌, ◌++◌, append-nil, map, Some, Result, Ok, Err, IfOk, IfErr, refl, sym, ap, ◌∙◌, subst, arith, le_trans}
+use Rattle.std.proofs.Common.{◌≡◌, ℕ, ◌+◌, ◌≤◌, false, inl, inr, List, [], ◌∷◌, ◌++◌, append-nil, map, Some, Result, Ok, Err, IfOk, IfErr, refl, sym, ap, ◌∙◌, subst, arith, le_trans}
 use Rattle.erm_model.specs.declared.limits.TheConstants.{OID_LIMIT, SESSIONS}
 use Rattle.erm_model.specs.declared.outcome.Phase.TheVariants as phase
 use Rattle.erm_model.specs.declared.row_stop.RowStop.{RowStop}
@@ -14,11 +14,14 @@ use Rattle.erm_machine.specs.declared.place.Place.{Place}
 use Rattle.erm_machine.specs.declared.place.Place.TheVariants as place
 use Rattle.erm_machine.specs.declared.task.Task.TheVariants as task
 use Rattle.erm_machine.specs.Core.{Core, spot_of, word_at}
-use Rattle.erm_machine.specs.Seat.{with_task}
+use Rattle.erm_machine.specs.Seat.{is_snapshot, with_task}
 use Rattle.erm_machine.specs.Sound.{Sound}
 use Rattle.erm_machine.specs.Step.{after_event}
+use Rattle.erm_machine.specs.declared.task.Task.{Task}
 use Rattle.erm_core_stays.specs.Staying.{Rises}
 use Rattle.erm_core_view.specs.Views.{finished_of, session_of, stand_of}
+use Rattle.erm_core_view.proofs.Calm.{plainly}
+use Rattle.erm_core_view.proofs.Snapshots.{active_plain, plain_new, shown_work}
 use Rattle.erm_rule.specs.declared.view.Book.{Book}
 use Rattle.erm_rule.specs.Books.{IsBookOf}
 use Rattle.erm_rule.specs.Steps.{Booked}
@@ -45,10 +48,15 @@ use Rattle.erm_core_shown.specs.Shown.{given_up_of}
 use Rattle.erm_core_shown.proofs.Given.{given_stays}
 
 -- the session of a seat that has made an object
-made_shown : (pl : Place) (t : Attempt) (oid : ℕ) → world.phase_of (stand_of pl t) ≡ phase.Active
-    → stand_of pl (record t { made = t.made ++ oid ∷ [] }) ≡ world.active (making oid (world.work_of (stand_of pl t)))
-made_shown (place.Active tail) t oid active = refl
-made_shown _ t oid active = absurd (cc)
+made_shown : (pl : Place) (u : Task) (t : Attempt) (oid : ℕ) → world.phase_of (stand_of pl u t) ≡ phase.Active
+    → stand_of pl task.Rest (record t { made = t.made ++ oid ∷ [] }) ≡ world.active (making oid (world.work_of (stand_of pl u t)))
+made_shown (place.Active tail) u t oid active = ap (λ (w : Work). world.active (making oid w)) (sym (shown_work u t (plain_new u t (active_plain u t active))))
+made_shown _ u t oid active = absurd (cc)
+
+-- a seat that shows as active has no snapshot
+phase_plain : (pl : Place) (u : Task) (t : Attempt) → world.phase_of (stand_of pl u t) ≡ phase.Active → is_snapshot u ≡ false
+phase_plain (place.Active tail) u t active = active_plain u t active
+phase_plain _ u t active = absurd (cc)
 
 abbrev makes : ℕ → Session → Session
 makes oid r = record { over = r.over; stand = world.active (making oid (world.work_of r.stand)) }
@@ -78,10 +86,10 @@ module _ (law : Law) (seat tail flushed : ℕ) (b e : Book) (start : e.start ≡
   did_make oid active did =
       let x = part_of b.view seat in
       let same = own_is seat tail flushed b in
-      let now : world.phase_of (stand_of x.place x.current) ≡ phase.Active = sym (ap (λ (r : Session). world.phase_of r.stand) same) ∙ active in
+      let now : world.phase_of (stand_of x.place x.task x.current) ≡ phase.Active = sym (ap (λ (r : Session). world.phase_of r.stand) same) ∙ active in
       let after : part_of e.view seat ≡ made_part oid x = part_of-changed b.view seat e.view (made_part oid x) x held did.view_is in
       own_becomes seat tail flushed b e (makes oid (own.session seat)) start
-      (ap session_of after ∙ ap (λ (st : Stand). let r : Session = record { over = map finished_of x.over; stand = st } in r) (made_shown x.place x.current oid now) ∙ ap (makes oid) (sym same))
+      (ap session_of after ∙ ap (λ (st : Stand). let r : Session = record { over = map finished_of x.over; stand = st } in r) (made_shown x.place x.task x.current oid now) ∙ ap (makes oid) (sym same))
       (ap given_up_of after ∙ given_stays x (made_part oid x) refl refl)
 
   made_later : (oid : ℕ) → (own.session seat).stand ≡ world.active (world.work_of (own.session seat).stand) → DidMake own seat oid next → IsLater (own.session seat) (next.session seat)
@@ -114,7 +122,9 @@ module _ (law : Law) (seat tail flushed : ℕ) (b e : Book) (start : e.start ≡
   made (Err (stop.OidsFull drawn)) active stand did refused =
       let x = part_of b.view seat in
       let after : part_of e.view seat ≡ with_task task.Rest x = part_of-changed b.view seat e.view (with_task task.Rest x) x held refused.view_is in
-      let now : next ≡ own = own_same seat tail flushed b e start (ap session_of after) (ap given_up_of after) in
+      let shown : world.phase_of (stand_of x.place x.task x.current) ≡ phase.Active = sym (ap (λ (r : Session). world.phase_of r.stand) (own_is seat tail flushed b)) ∙ active in
+      let unseen : session_of (with_task task.Rest x) ≡ session_of x = (plainly x.task x (with_task task.Rest x) (phase_plain x.place x.task x.current shown) refl refl refl refl).same in
+      let now : next ≡ own = own_same seat tail flushed b e start (ap session_of after ∙ unseen) (ap given_up_of after) in
       record {
         ok = tt;
         err = (own, own_passes seat tail flushed tail flushed b (omega arith) (omega arith), (now, (refused.all_drawn, just_above drawn refused.state refused.sound refused.counted)));

@@ -20,6 +20,7 @@ use Rattle.erm_core_view.specs.Views.{IsBetween, stand_of, work_of}
 use Rattle.erm_core_view.proofs.Moved.{changes_one}
 use Rattle.erm_core_view.proofs.Parts.{current_stands}
 use Rattle.erm_core_view.proofs.Shown.{work_active}
+use Rattle.erm_core_view.proofs.Snapshots.{active_plain, shown_not_sealed, starts_new, starts_or_stands}
 use Rattle.erm_rule.specs.declared.view.Book.{Book}
 use Rattle.erm_rule.specs.Views.{part_of}
 use Rattle.erm_seats.specs.Calls.{FindsState}
@@ -32,40 +33,40 @@ use Rattle.erm_own_view.proofs.Along.{opening_kept, was_itself}
 use Rattle.erm_own_view.proofs.Own.{own_is, seat_is}
 
 -- an active session's seat is active
-active_place : (pl : Place) (t : Attempt) → world.phase_of (stand_of pl t) ≡ phase.Active → is_active pl ≡ true
-active_place (place.Active tail) t active = refl
-active_place _ t active = absurd (cc)
+active_place : (pl : Place) (u : Task) (t : Attempt) → world.phase_of (stand_of pl u t) ≡ phase.Active → is_active pl ≡ true
+active_place (place.Active tail) u t active = refl
+active_place _ u t active = absurd (cc)
 
-active_starts : (pl : Place) (u : Task) → is_active pl ≡ true → IsBetween pl u → may_start u ≡ true
-active_starts (place.Active tail) u active between = between
-active_starts _ u active between = absurd (cc)
+active_starts : (pl : Place) (u : Task) (t : Attempt) → world.phase_of (stand_of pl u t) ≡ phase.Active → IsBetween pl u → may_start u ≡ true
+active_starts (place.Active tail) u t active between = starts_or_stands u between (active_plain u t active)
+active_starts _ u t active between = absurd (cc)
 
 active_busy : (pl : Place) → is_active pl ≡ true → in_progress pl ≡ 1
 active_busy (place.Active tail) active = refl
 active_busy _ active = absurd (cc)
 
 -- a sealed one's is sealed
-sealed_place : (pl : Place) (t : Attempt) → world.phase_of (stand_of pl t) ≡ phase.Sealed → is_sealed pl ≡ true
-sealed_place (place.Sealed tail stamp) t sealed = refl
-sealed_place _ t sealed = absurd (cc)
+sealed_place : (pl : Place) (u : Task) (t : Attempt) → world.phase_of (stand_of pl u t) ≡ phase.Sealed → is_sealed pl ≡ true
+sealed_place (place.Active tail) u t sealed = absurd (shown_not_sealed u t sealed)
+sealed_place (place.Sealed tail stamp) u t sealed = refl
+sealed_place _ u t sealed = absurd (cc)
 
 sealed_busy : (pl : Place) → is_sealed pl ≡ true → in_progress pl ≡ 1
 sealed_busy (place.Sealed tail stamp) sealed = refl
 sealed_busy _ sealed = absurd (cc)
 
-sealed_stands : (pl : Place) (t : Attempt) → is_sealed pl ≡ true → IsCurrent pl t → stand_of pl t ≡ world.sealed (work_of t) t.stamp
-sealed_stands (place.Sealed tail stamp) t sealed is = ap (λ (n : ℕ). world.sealed (work_of t) n) (sym is.stamp_is)
-sealed_stands _ t sealed is = absurd (cc)
+sealed_stands : (pl : Place) (u : Task) (t : Attempt) → is_sealed pl ≡ true → IsCurrent pl t → stand_of pl u t ≡ world.sealed (work_of t) t.stamp
+sealed_stands (place.Sealed tail stamp) u t sealed is = ap (λ (n : ℕ). world.sealed (work_of t) n) (sym is.stamp_is)
+sealed_stands _ u t sealed is = absurd (cc)
 
 sealed_drawn : (pl : Place) (t : Attempt) → is_sealed pl ≡ true → IsCurrent pl t → 0 < t.stamp
 sealed_drawn (place.Sealed tail stamp) t sealed is = let at = is.stamp_is in let some = is.positive in omega (arith, at, some)
 sealed_drawn _ t sealed is = absurd (cc)
 
--- what the session shows of a transaction rests on its work alone
-pub stand_same : (pl : Place) (t u : Attempt) → work_of u ≡ work_of t → stand_of pl u ≡ stand_of pl t
-stand_same (place.Active tail) t u same = ap (λ (w : world.Work). world.active w) same
-stand_same (place.Sealed tail stamp) t u same = ap (λ (w : world.Work). world.sealed w stamp) same
-stand_same _ t u same = refl
+-- what the session shows of a sealed transaction rests on its work alone
+pub stand_same : (pl : Place) (u v : Task) (t r : Attempt) → is_sealed pl ≡ true → work_of r ≡ work_of t → stand_of pl v r ≡ stand_of pl u t
+stand_same (place.Sealed tail stamp) u v t r sealed same = ap (λ (w : world.Work). world.sealed w stamp) same
+stand_same _ u v t r sealed same = absurd (cc)
 
 module _ (law : Law) (seat tail flushed : ℕ) (b : Book) (may : MayCall law seat tail flushed b) where
   abbrev x : Part
@@ -91,19 +92,19 @@ module _ (law : Law) (seat tail flushed : ℕ) (b : Book) (may : MayCall law sea
       let above = opened in
       omega (arith, low, above)
 
-  shown_phase : (p : Phase) → phase_at (own_view seat tail flushed b) seat ≡ p → world.phase_of (stand_of x.place x.current) ≡ p
+  shown_phase : (p : Phase) → phase_at (own_view seat tail flushed b) seat ≡ p → world.phase_of (stand_of x.place x.task x.current) ≡ p
   shown_phase p is = sym (ap (λ (r : Session). world.phase_of r.stand) (own_is seat tail flushed b)) ∙ is
 
   -- ACTIVE
   module _ (active : phase_at (own_view seat tail flushed b) seat ≡ phase.Active) where
     pub own_place : is_active x.place ≡ true
-    own_place = active_place x.place x.current (shown_phase phase.Active active)
+    own_place = active_place x.place x.task x.current (shown_phase phase.Active active)
 
     pub own_starts : may_start x.task ≡ true
-    own_starts = active_starts x.place x.task own_place may.between
+    own_starts = active_starts x.place x.task x.current (shown_phase phase.Active active) may.between
 
     pub own_work : work_at (own_view seat tail flushed b) seat ≡ work_of x.current
-    own_work = ap (λ (r : Session). world.work_of r.stand) (own_is seat tail flushed b) ∙ work_active x.place x.current own_place
+    own_work = ap (λ (r : Session). world.work_of r.stand) (own_is seat tail flushed b) ∙ work_active x.place x.task x.current own_place (starts_new x.task x.current own_starts)
 
     pub own_busy : in_progress x.place ≡ 1
     own_busy = active_busy x.place own_place
@@ -113,14 +114,14 @@ module _ (law : Law) (seat tail flushed : ℕ) (b : Book) (may : MayCall law sea
 
   -- SEALED
   module _ (sealed : phase_at (own_view seat tail flushed b) seat ≡ phase.Sealed) where
-    place_sealed : is_sealed x.place ≡ true
-    place_sealed = sealed_place x.place x.current (shown_phase phase.Sealed sealed)
+    pub place_sealed : is_sealed x.place ≡ true
+    place_sealed = sealed_place x.place x.task x.current (shown_phase phase.Sealed sealed)
 
     pub own_drawn : 0 < x.current.stamp
     own_drawn = sealed_drawn x.place x.current place_sealed own.ranges.current
 
     pub own_stands : ((own_view seat tail flushed b).session seat).stand ≡ world.sealed (work_of x.current) x.current.stamp
-    own_stands = ap (λ (r : Session). r.stand) (own_is seat tail flushed b) ∙ sealed_stands x.place x.current place_sealed own.ranges.current
+    own_stands = ap (λ (r : Session). r.stand) (own_is seat tail flushed b) ∙ sealed_stands x.place x.task x.current place_sealed own.ranges.current
 
     pub own_stamp : 1 < x.current.stamp
     own_stamp =

@@ -28,6 +28,8 @@ use Rattle.erm_machine.specs.Step.{after_event}
 use Rattle.erm_machine.proofs.Guards.{either_way}
 use Rattle.erm_core_stays.specs.Staying.{Rises}
 use Rattle.erm_core_steps.proofs.Stored.{claimed_from}
+use Rattle.erm_core_view.proofs.Calm.{plainly}
+use Rattle.erm_core_view.proofs.Snapshots.{starts_plain}
 use Rattle.erm_core_view.specs.Views.{finished_of, session_of, stand_of, work_of}
 use Rattle.erm_core_view.proofs.Shown.{shows_work}
 use Rattle.erm_ends.specs.Ends.{left_part, released_all}
@@ -96,7 +98,7 @@ read_shows : (r : Read) (words : Cell) (notes : List ℕ) (x : Part) → is_acti
   over = map finished_of x.over;
   stand = world.active (reading (read_of r) (work_of x.current));
 }
-read_shows r words notes x active = (shows_work x (reading (read_of r) (work_of x.current)) (read_part r words notes x) refl active (read_work r words notes x)).shows
+read_shows r words notes x active = (shows_work x (reading (read_of r) (work_of x.current)) (read_part r words notes x) refl active refl (read_work r words notes x)).shows
 
 one_read : (r : VersionRead) (w : Work) → Extends w (reading r w)
 one_read r w = record {
@@ -325,7 +327,7 @@ module _ (law : Law) (seat tail flushed : ℕ) (b : Book) (may : MayCall law sea
       excluded new ended =
           let at : ℕ = max tail (pred + 1) in
           let next = own_view seat at flushed e in
-          let now : world.phase_of (stand_of r.part.place r.part.current) ≡ phase.Active = ap (λ (s : Session). world.phase_of s.stand) r.shows in
+          let now : world.phase_of (stand_of r.part.place r.part.task r.part.current) ≡ phase.Active = ap (λ (s : Session). world.phase_of s.stand) r.shows in
           let after : part_of e.view seat ≡ left_part Abort (released_all (part_of m.view seat)) =
           part_of-changed m.view seat e.view (left_part Abort (released_all (part_of m.view seat))) r.part r.held_then ended.view_is
           in
@@ -371,7 +373,10 @@ module _ (law : Law) (seat tail flushed : ℕ) (b : Book) (may : MayCall law sea
     not_read (stop.NotYet other met) refuses took =
         let wait = refuses.refused in
         let p : Part = with_task (task.Owned oid other) x in
-        let same : session_of (part_of e.view seat) ≡ session_of x = ap session_of (part_of-changed b.view seat e.view p x held wait.view_is) in
+        let plain = starts_plain x.task (own_seat.own_starts law seat tail flushed b may active) in
+        let same : session_of (part_of e.view seat) ≡ session_of x =
+        ap session_of (part_of-changed b.view seat e.view p x held wait.view_is) ∙ (plainly x.task x p plain refl refl refl refl).same
+        in
         let now = as_before e start stand tail same (ap given_up_of (part_of-changed b.view seat e.view p x held wait.view_is)) in
         let way = in_way seat other met x.current.begin tail flushed b e.view wait.other.another wait.finds wait.unclear (own_seat.own_begin law seat tail flushed b may active) in
         let few = took.0.0 in

@@ -20,6 +20,7 @@ use Rattle.erm_rule.specs.Views.{part_of}
 use Rattle.erm_beside.specs.Later.{IsLater, WentOn}
 use Rattle.erm_beside.specs.Laws.{IsWithin}
 use Rattle.erm_world.specs.Laws.{IsCommitOf, IsSerializable, TellsCommits}
+use Rattle.erm_world.specs.Snapshots.{snapshot_not_active}
 use Rattle.erm_world.specs.World.{Fate, Finished, Has, HasStamp, IsCurrent, Session, Stand, View, Work, history_of, phase_at, record_of, stamp_of, work_at, work_of}
 use Rattle.erm_world.specs.World as world
 use Rattle.erm_world.proofs.Lists.{∈-before, ∈-after}
@@ -121,6 +122,7 @@ current_active : (st : Stand) → world.phase_of st ≡ phase.Active → IsCurre
 current_active world.idle active = absurd (cc)
 current_active (world.active w) active = refl
 current_active (world.sealed w stamp) active = absurd (cc)
+current_active (world.snapshot s) active = absurd (snapshot_not_active s active)
 
 -- the stamp of an own commit
 stamp_in : (d : Decision) (a : Attempt) (stamp succ pred : ℕ) → fate_of d a ≡ world.commits stamp succ pred → a.stamp ≡ stamp

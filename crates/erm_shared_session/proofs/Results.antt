@@ -1,12 +1,14 @@
 -- What is told of answers that are errors.
-use Rattle.std.proofs.Common.{◌≢◌, Result, Ok, Err, IfErr, subst}
+use Rattle.std.proofs.Common.{◌≢◌, ℕ, Result, Ok, Err, IfErr, subst}
 use Rattle.erm_model.specs.declared.outcome.Outcome.{Outcome}
+use Rattle.erm_model.specs.RowTransaction.{Law}
 use Rattle.erm_precommit.specs.declared.answer.Wait as answer
 use Rattle.erm_precommit.specs.declared.answer.Wait.TheVariants as found
 use Rattle.erm_precommit.specs.Settle.{WasWait}
+use Rattle.erm_precommit.specs.Took.{TookWait}
 use Rattle.erm_rule.specs.declared.view.Book.{Book}
 use Rattle.erm_shared_session.specs.Seen.{settled_of}
-use Rattle.erm_shared_session.specs.Waits.{WasLookedAt}
+use Rattle.erm_shared_session.specs.Waits.{TookNoSettle, WasLookedAt}
 
 -- an error of which nothing is told isn't answered
 pub never : {X E : Type 0} (r : Result X E) (P : E → Type 0) (other : E) → (P other → ⊥) → IfErr r P → IfErr r (λ why. why ≢ other)
@@ -23,3 +25,9 @@ pub looked_at : (b e : Book) (r : Result Outcome answer.Wait) → IfErr r (λ wh
 looked_at b e (Ok outcome) met = tt
 looked_at b e (Err (found.Ring at)) met = met
 looked_at b e (Err (found.Seat seat seen)) met = met
+
+-- and so are its steps
+pub not_settled : (law : Law) (who : ℕ) (b e : Book) (r : Result Outcome answer.Wait) → IfErr r (λ why. TookWait law who why b e) → IfErr (settled_of r) (λ why. TookNoSettle law who why b e)
+not_settled law who b e (Ok outcome) took = tt
+not_settled law who b e (Err (found.Ring at)) took = took
+not_settled law who b e (Err (found.Seat seat seen)) took = took

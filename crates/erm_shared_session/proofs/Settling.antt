@@ -61,6 +61,8 @@ pub stage_sized : (g : Stage) (x : Part) → phase_of g ≡ phase.Sealed → Sta
 stage_sized stage.Idle x sealed is = absurd (cc)
 stage_sized (stage.Active t) x sealed is = absurd (cc)
 stage_sized (stage.Sealed t) x sealed is = is.4
+stage_sized (stage.Pending begin next) x sealed is = absurd (cc)
+stage_sized (stage.Safe begin) x sealed is = absurd (cc)
 
 -- THE END of a decided transaction: what the seat's session shows of it
 fate_kept : (d : Decision) (t : Attempt) (ws : List Claim) → fate_of d (record t { writes = ws; decision = d }) ≡ fate_of d t
@@ -245,7 +247,7 @@ module _ (law : Law) (seat tail flushed : ℕ) (b e : Book) (may : MayCall law s
   went_shown w =
       let p : Part = reached_part w.task w.succ w.from w.pred w.notes part in
       ap session_of (part_of-changed b.view seat e.view p part held w.view_is)
-      ∙ ap (λ (st : Stand). let s : Session = record { over = map finished_of part.over; stand = st } in s) (stand_same part.place part.current p.current refl)
+      ∙ ap (λ (st : Stand). let s : Session = record { over = map finished_of part.over; stand = st } in s) (stand_same part.place part.task p.task part.current p.current (own_seat.place_sealed law seat tail flushed b may sealed) refl)
 
   went_given : WentOn b.view seat e.view → given_up_of (part_of e.view seat) ≡ given_up_of part
   went_given w =

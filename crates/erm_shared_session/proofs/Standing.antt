@@ -2,22 +2,17 @@
 use Rattle.std.proofs.Common.{◌≡◌, ℕ, ◌≤◌, true, false, List, Some, refl, sym, ap, ◌∙◌, subst}
 use Rattle.erm_model.specs.declared.outcome.Phase.TheVariants as phase
 use Rattle.erm_model.specs.RowTransaction.{Law}
-use Rattle.erm_machine.specs.declared.attempt.Attempt.{Attempt}
 use Rattle.erm_machine.specs.declared.event.Kind.{Kind}
 use Rattle.erm_machine.specs.declared.part.Part.{Part}
 use Rattle.erm_machine.specs.declared.place.Place.{Place}
 use Rattle.erm_machine.specs.declared.place.Place.TheVariants as place
-use Rattle.erm_machine.specs.declared.task.Task.{Task}
-use Rattle.erm_machine.specs.declared.task.Task.TheVariants as task
 use Rattle.erm_machine.specs.Core.{Core}
-use Rattle.erm_machine.specs.Seat.{is_active, is_sealed, is_vacant, may_start}
-use Rattle.erm_machine.specs.Settling.{may_settle}
+use Rattle.erm_machine.specs.Seat.{is_active, is_sealed, is_vacant}
 use Rattle.erm_machine.specs.Sound.{Sound}
 use Rattle.erm_machine.specs.Step.{after_event}
 use Rattle.erm_machine.specs.Tasks.{TaskFits}
-use Rattle.erm_cells.specs.Calls.{starts_anew}
 use Rattle.erm_core_stays.specs.Staying.{Rises}
-use Rattle.erm_core_view.specs.Views.{IsBetween, stand_of}
+use Rattle.erm_core_view.specs.Views.{IsBetween}
 use Rattle.erm_rule.specs.declared.rule.Table.{Table}
 use Rattle.erm_rule.specs.declared.view.Book.{Book}
 use Rattle.erm_rule.specs.Books.{IsAfter, IsBookOf, book}
@@ -32,31 +27,16 @@ use Rattle.erm_session.specs.declared.session.Stage.TheVariants as stage
 use Rattle.erm_session.specs.Session.{IsSession, StageIs, phase_of}
 use Rattle.erm_beside.specs.Laws.{GoesOnward}
 use Rattle.erm_beside.specs.Later.{IsLater}
+use Rattle.erm_world.specs.Snapshots.{snapshot_not_active, snapshot_not_idle}
 use Rattle.erm_world.specs.World.{Stand, View, phase_at}
 use Rattle.erm_world.specs.World as world
 use Rattle.erm_own_view.specs.Own.{EndsIn, MayCall, own_view}
 use Rattle.erm_own_view.proofs.Own.{own_is}
+use Rattle.erm_table_world.proofs.Sessions.{phase_shown, stage_between}
 use Rattle.erm_shared_session.specs.declared.session.TableSession.{TableSession}
 use Rattle.erm_shared_session.specs.Stands.{Ends, Stands, own_of, seat_of}
 
--- THE STAGE of a session is its seat's.
-idle_phase : (pl : Place) (t : Attempt) → pl ≡ place.Idle → phase.Idle ≡ world.phase_of (stand_of pl t)
-idle_phase pl t is = sym (ap (λ (p : Place). world.phase_of (stand_of p t)) is)
-
-active_phase : (pl : Place) (t : Attempt) → is_active pl ≡ true → phase.Active ≡ world.phase_of (stand_of pl t)
-active_phase (place.Active tail) t is = refl
-active_phase _ t is = absurd (cc)
-
-sealed_phase : (pl : Place) (t : Attempt) → is_sealed pl ≡ true → phase.Sealed ≡ world.phase_of (stand_of pl t)
-sealed_phase (place.Sealed tail stamp) t is = refl
-sealed_phase _ t is = absurd (cc)
-
-phase_is : (g : Stage) (x : Part) → StageIs g x → phase_of g ≡ world.phase_of (stand_of x.place x.current)
-phase_is stage.Idle x is = idle_phase x.place x.current is
-phase_is (stage.Active t) x is = active_phase x.place x.current is.0
-phase_is (stage.Sealed t) x is = sealed_phase x.place x.current is.0
-
--- it has its seat
+-- A SESSION has its seat.
 pub active_held : (pl : Place) → is_active pl ≡ true → is_vacant pl ≡ false
 active_held (place.Active tail) is = refl
 active_held _ is = absurd (cc)
@@ -69,31 +49,13 @@ stage_held : (g : Stage) (x : Part) → StageIs g x → is_vacant x.place ≡ fa
 stage_held stage.Idle x is = ap is_vacant is
 stage_held (stage.Active t) x is = active_held x.place is.0
 stage_held (stage.Sealed t) x is = sealed_held x.place is.0
+stage_held (stage.Pending begin next) x is = active_held x.place is.0
+stage_held (stage.Safe begin) x is = active_held x.place is.0
 
 pub session_held : (s : Session) (b : Book) (seat : ℕ) → IsSession s (part_of b.view seat) → part_in b.view seat ≡ Some (part_of b.view seat)
 session_held s b seat is = held_part b.view seat (stage_held s.stage (part_of b.view seat) is.kept.stage)
 
 -- and stands between two calls
-idle_between : (pl : Place) (t : Attempt) (u : Task) → pl ≡ place.Idle → TaskFits pl t u → IsBetween pl u
-idle_between pl t u is fits = subst (λ (p : Place). TaskFits p t u → IsBetween p u) (sym is) (λ rests. rests) fits
-
-pub anew_starts : (u : Task) → starts_anew u ≡ true → may_start u ≡ true
-anew_starts (task.Cleared oid) e = refl
-anew_starts _ e = e
-
-active_between : (pl : Place) (u : Task) → is_active pl ≡ true → may_start u ≡ true → IsBetween pl u
-active_between (place.Active tail) u is starts = starts
-active_between _ u is starts = absurd (cc)
-
-sealed_between : (pl : Place) (u : Task) → is_sealed pl ≡ true → may_settle u ≡ true → IsBetween pl u
-sealed_between (place.Sealed tail stamp) u is may = may
-sealed_between _ u is may = absurd (cc)
-
-stage_between : (g : Stage) (x : Part) → StageIs g x → TaskFits x.place x.current x.task → IsBetween x.place x.task
-stage_between stage.Idle x is fits = idle_between x.place x.current x.task is fits
-stage_between (stage.Active t) x is fits = active_between x.place x.task is.0 (anew_starts x.task is.1)
-stage_between (stage.Sealed t) x is fits = sealed_between x.place x.task is.0 is.1
-
 session_between : (s : Session) (b : Book) (seat : ℕ) → IsSession s (part_of b.view seat) → IsKnown b.view → IsBetween (part_of b.view seat).place (part_of b.view seat).task
 session_between s b seat is known =
     let x = part_of b.view seat in
@@ -103,13 +65,14 @@ session_between s b seat is known =
 -- THE CALL. What it may ask of what the session knows.
 pub own_phase : {L : Type 0} (s : TableSession L) → IsSession s.session (part_of (view s.pass) s.session.seat) → phase_of s.session.stage ≡ phase_at (own_of s) (seat_of s)
 own_phase s is =
-    phase_is s.session.stage (part_of (view s.pass) s.session.seat) is.kept.stage
+    phase_shown s.session.stage (part_of (view s.pass) s.session.seat) is.kept.stage
     ∙ sym (ap (λ (r : world.Session). world.phase_of r.stand) (own_is s.session.seat s.tail s.flushed (book s.pass)))
 
 active_stand : (st : Stand) → world.phase_of st ≡ phase.Active → st ≡ world.active (world.work_of st)
 active_stand world.idle active = absurd (cc)
 active_stand (world.active w) active = refl
 active_stand (world.sealed w stamp) active = absurd (cc)
+active_stand (world.snapshot s) active = absurd (snapshot_not_active s active)
 
 pub own_active : {L : Type 0} (s : TableSession L) → phase_at (own_of s) (seat_of s) ≡ phase.Active → ((own_of s).session (seat_of s)).stand ≡ world.active (world.work_of ((own_of s).session (seat_of s)).stand)
 own_active s active = active_stand ((own_of s).session (seat_of s)).stand active
@@ -118,6 +81,7 @@ idle_stand : (st : Stand) → world.phase_of st ≡ phase.Idle → st ≡ world.
 idle_stand world.idle idle = refl
 idle_stand (world.active w) idle = absurd (cc)
 idle_stand (world.sealed w stamp) idle = absurd (cc)
+idle_stand (world.snapshot s) idle = absurd (snapshot_not_idle s idle)
 
 pub own_idle : {L : Type 0} (s : TableSession L) → phase_at (own_of s) (seat_of s) ≡ phase.Idle → ((own_of s).session (seat_of s)).stand ≡ world.idle
 own_idle s idle = idle_stand ((own_of s).session (seat_of s)).stand idle

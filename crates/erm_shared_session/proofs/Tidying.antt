@@ -4,6 +4,7 @@ use Rattle.std.proofs.lemmas.List.{length-append}
 use Rattle.erm_model.specs.declared.limits.TheConstants.{TABLE_CELLS}
 use Rattle.erm_model.specs.declared.row_stop.RowStop.{RowStop}
 use Rattle.erm_model.specs.RowTransaction.{Law, did_claim}
+use Rattle.erm_machine.specs.declared.task.Task.TheVariants as task
 use Rattle.erm_machine.specs.declared.event.Kind.{Kind}
 use Rattle.erm_machine.specs.declared.limits.TheConstants.{ANNOUNCERS}
 use Rattle.erm_machine.specs.declared.part.Part.{Part}
@@ -19,7 +20,7 @@ use Rattle.erm_rule.specs.declared.view.View as rule
 use Rattle.erm_rule.specs.Views.{part_in, part_of}
 use Rattle.erm_rule.specs.Went.{Took}
 use Rattle.erm_rule.proofs.Telling.{changed_here, part_of-changed}
-use Rattle.erm_session.specs.Calls.{TidiesObject, again_tidied, now_claimed}
+use Rattle.erm_session.specs.Calls.{IsUnclaimed, TidiesObject, again_tidied, now_claimed}
 use Rattle.erm_session.specs.Took.{TookAnyClaim, TookAnyTidy}
 use Rattle.erm_table_world.proofs.Taking.{entry_went}
 use Rattle.erm_beside.specs.Calls.{After}
@@ -34,6 +35,7 @@ use Rattle.erm_own_view.proofs.Own.{own_passes}
 use Rattle.erm_shared_session.proofs.Claiming as claiming_of
 use Rattle.erm_shared_session.proofs.Claiming.{AtWork, Leaves}
 use Rattle.erm_shared_session.proofs.Claimed.{Returned}
+use Rattle.erm_core_view.proofs.Calm.{plain_if}
 
 -- THE SEAT'S PART is in the view
 abbrev pub Held : ℕ → Book → Type 0
@@ -74,11 +76,11 @@ module _ (fit : SparesFit) (seat : ℕ) (session : is_session seat ≡ true) whe
       ∙ ap (λ (x : Part). Some x) (sym (part_of-changed b.view seat tidied.at.view told.part (part_of b.view seat) held told.view_is))
       in
       cut_few count tidied.at.view e.view now tidied.cut.did)
-      (λ (claims : TookAnyClaim law seat oid count b e).
+      (λ (claims : IsUnclaimed (part_of b.view seat) oid × TookAnyClaim law seat oid count b e).
       ⊎_elim (λ (none : (count ≡ 0) × (e ≡ b)). omega (arith, none.0))
       (λ (claim : TookClaim law seat oid count b e).
       let went = entry_went law seat oid claim.head b claim.taken claim.entry in
-      cut_few count claim.taken.view claim.tidied.view (held_took law seat went.steps b claim.taken held went.took) claim.cut.did) claims) took
+      cut_few count claim.taken.view claim.tidied.view (held_took law seat went.steps b claim.taken held went.took) claim.cut.did) claims.1) took
 
   -- the same of what a call returned
   pub tidied_few : (law : Law) (oid : ℕ) (b e : Book) → Held seat b → (r : Result ℕ RowStop) → IfOk r (λ cut. TookAnyTidy law seat oid cut b e) → IfOk r (λ cut. cut ≤ TABLE_CELLS)
@@ -98,7 +100,7 @@ module _ (law : Law) (seat tail flushed : ℕ) (b e : Book) (start : e.start ≡
   did_tidy : TellsCommits own → (oid count : ℕ) → TidiesObject b.view seat oid count e.view → DidClaim own seat oid next
   did_tidy tells oid count (again_tidied has did) =
       let y : Part = tidied_part did.cut.found.tail did.cut.done.cut part in
-      let leaves : Leaves seat tail flushed b e start held at y (claiming_of.work seat tail flushed b e start held at) = record { over = refl; active = at.active; work_is = refl; given = refl } in
+      let leaves : Leaves seat tail flushed b e start held at y (claiming_of.work seat tail flushed b e start held at) = record { over = refl; active = at.active; plain = plain_if _ task.Draws task.Rest refl refl; work_is = refl; given = refl } in
       calls.before (claiming_of.same_now seat tail flushed b e start held at y leaves (part_of-changed b.view seat e.view y part held did.view_is))
       (ap (λ (w : Work). is_claimed w.claims oid) (claiming_of.own_work seat tail flushed b e start held at) ∙ claimed_from part.current.writes has.0 no_claim oid has.1 has.2)
   did_tidy tells oid count (now_claimed none claims) = claiming_of.did_claim seat tail flushed b e start held at tells oid claims

@@ -8,6 +8,8 @@ use Rattle.erm_precommit.specs.declared.answer.Wait.TheVariants as found
 use Rattle.erm_world.specs.declared.stops.BeginStop.{BeginStop}
 use Rattle.erm_world.specs.declared.stops.BeginStop.TheVariants as begin
 use Rattle.erm_world.specs.declared.stops.NotFlushed.{NotFlushed}
+use Rattle.erm_world.specs.declared.stops.SafeStop.{SafeStop}
+use Rattle.erm_world.specs.declared.stops.SafeStop.TheVariants as safe
 use Rattle.erm_world.specs.declared.stops.Wait.{Wait}
 use Rattle.erm_world.specs.declared.stops.Wait.TheVariants as wait
 
@@ -52,6 +54,16 @@ tail_past tail why = tail
 abbrev pub tail_met : {X : Type 0} → ℕ → Result X RowStop → ℕ
 tail_met tail (Ok done) = tail
 tail_met tail (Err why) = tail_past tail why
+
+-- so does the one that a look tells of a commit that went back
+abbrev pub IsLowSafeStop : SafeStop → Type 0
+IsLowSafeStop (safe.NotYet other seen) = Unit {0}
+IsLowSafeStop (safe.Unsafe other stamp) = stamp < 2 ^ 61
+
+abbrev pub tail_looked : ℕ → Result (Unit {0}) SafeStop → ℕ
+tail_looked tail (Ok done) = tail
+tail_looked tail (Err (safe.NotYet other seen)) = tail
+tail_looked tail (Err (safe.Unsafe other stamp)) = max tail (stamp + 1)
 
 -- what a claim answers: nothing but that it was made
 abbrev pub done_of : {X : Type 0} → Result X RowStop → Result (Unit {0}) RowStop

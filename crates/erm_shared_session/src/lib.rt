@@ -5,6 +5,7 @@
 mod laws;
 mod met;
 mod session;
+mod snapshots;
 
 pub use laws::{own_commits_are_read_back, sessions_handed_out_may_call};
 pub use session::TableSession;

@@ -1,10 +1,10 @@
 //! How far the log has come at least, and is synced at least, as calls met it, and what calls answer.
 ghost use Rattle.std.specs.Prelude.{◌≡◌, IfErr};
-ghost use Rattle.erm_shared_session.specs.Seen.{IsLowStop, done_of, flushed_after, flushed_met, settled_of, tail_after, tail_met, tail_past};
+ghost use Rattle.erm_shared_session.specs.Seen.{IsLowSafeStop, IsLowStop, done_of, flushed_after, flushed_met, settled_of, tail_after, tail_looked, tail_met, tail_past};
 
 use erm_model::{Outcome, RowStop, Stamp};
 use erm_precommit::Wait as Found;
-use erm_world::{BeginStop, NotFlushed, Wait};
+use erm_world::{BeginStop, NotFlushed, SafeStop, Wait};
 
 // How far the log has come at least, as a begin met it.
 pub(crate) fn tail_after(tail: Stamp, begun: &Result<Stamp, BeginStop>) -> Stamp
@@ -47,6 +47,17 @@ pub(crate) fn tail_met<T>(tail: Stamp, answer: &Result<T, RowStop>) -> Stamp
     match answer {
         Ok(_) => tail,
         Err(stop) => tail_past(tail, stop),
+    }
+}
+
+// The same after a look whether a snapshot is safe.
+pub(crate) fn tail_looked(tail: Stamp, looked: &Result<(), SafeStop>) -> Stamp
+    requires low { IfErr looked.now IsLowSafeStop }
+    ensures { result ≡ tail_looked tail looked.now }
+{
+    match looked {
+        Err(SafeStop::Unsafe { stamp, .. }) => tail.max(*stamp + 1),
+        _ => tail,
     }
 }
 

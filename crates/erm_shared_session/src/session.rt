@@ -17,9 +17,9 @@ ghost use Rattle.erm_rule.specs.Steps.{Fits};
 ghost use Rattle.erm_rule.specs.Views.{MayJoin, part_of, view};
 ghost use Rattle.erm_seats.specs.Took.{TookBegin};
 ghost use Rattle.erm_session.specs.Session.{IsSession};
-ghost use Rattle.erm_session.specs.Took.{TookClaimStop};
+ghost use Rattle.erm_session.specs.Took.{TookAnyTidy, TookClaimStop, TookNoObject, TookReadStop};
 ghost use Rattle.erm_shared_session.specs.Stands.{Ends, Stands, own_of, seat_of};
-ghost use Rattle.erm_shared_session.specs.Waits.{WasLookedAt};
+ghost use Rattle.erm_shared_session.specs.Waits.{TookNoSettle, WasLookedAt};
 ghost use Rattle.erm_world.specs.Calls.{DidAbort, DidClaim, DidMake, DidRead, DidSeal, DidWrite};
 ghost use Rattle.erm_world.specs.Laws.{IsLawfulWork};
 ghost use Rattle.erm_world.specs.World.{View, phase_at, work_at};
@@ -36,10 +36,10 @@ use std::marker::PhantomData;
 /// A session of the word table, with the pass of its seat alone. Its rows keep the law of `L`. It can't be let go: one that is idle gives its
 /// pass back, and one that is sealed gives it to the flush seat's pass, by which the table is closed. One in progress is aborted first.
 pub struct TableSession<L: RowLaw> {
-    session: Session,
-    pass: Pass,
+    pub(crate) session: Session,
+    pub(crate) pass: Pass,
     // How far the log has come at least, and how far it is synced at least, as the session has met it.
-    tail: Stamp,
+    pub(crate) tail: Stamp,
     flushed: Stamp,
     law: PhantomData<L>,
 }
@@ -160,7 +160,8 @@ impl<L: RowLaw> SharedSession for TableSession<L> {
         ensures ok { IfOk result (λ row. After (seat_of self.old) (λ u t. DidRead u (seat_of self.old) oid row t) (own_of self.old) (own_of self.new)) }
         ensures err { IfErr result (λ stop. After (seat_of self.old) (NotReadBeside (seat_of self.old) oid stop) (own_of self.old) (own_of self.new)) }
         ensures memory { IfErr result (λ stop. stop ≢ stops.Memory) }
-        ensures looked { IfErr result (λ stop. WasOwnerMet (book self.old.pass) stop (book self.new.pass)) }
+        ensures word { IfErr result (λ stop. WasOwnerMet (book self.old.pass) stop (book self.new.pass)) }
+        ensures looked { IfErr result (λ stop. TookReadStop L.law (seat_of self.old) oid stop (book self.old.pass) (book self.new.pass)) }
         ensures met { IfErr result (λ stop. (f : View) → Ends L.law self.new f → MetBeside f (seat_of self.old) (asked_read oid) stop (own_of self.old) (own_of self.new)) }
     {
         erm_own_view::own_views_go_on::<L>();
@@ -237,6 +238,7 @@ impl<L: RowLaw> SharedSession for TableSession<L> {
         ensures err { IfErr result (λ stop. After (seat_of self.old) (NotMadeBeside (seat_of self.old) stop) (own_of self.old) (own_of self.new)) }
         ensures memory { IfErr result (λ stop. stop ≢ stops.Memory) }
         ensures met { IfErr result (λ stop. (f : View) → Ends L.law self.new f → MetBeside f (seat_of self.old) asked_make stop (own_of self.old) (own_of self.new)) }
+        ensures looked { IfErr result (λ stop. TookNoObject L.law (seat_of self.old) stop (book self.old.pass) (book self.new.pass)) }
     {
         erm_own_view::own_views_go_on::<L>();
         erm_own_view::ends_have_what_was::<L>();
@@ -254,6 +256,7 @@ impl<L: RowLaw> SharedSession for TableSession<L> {
         ensures onward { GoesOnward (seat_of self.old) (seat_of self.new) (Ends L.law self.old) (Ends L.law self.new) }
         ensures ok { OnOk result (After (seat_of self.old) (λ u t. DidClaim u (seat_of self.old) oid t) (own_of self.old) (own_of self.new)) }
         ensures count { IfOk result (λ cut. cut ≤ (own_of self.old).opening.cuts) }
+        ensures took { IfOk result (λ cut. TookAnyTidy L.law (seat_of self.old) oid cut (book self.old.pass) (book self.new.pass)) }
         ensures err { IfErr result (λ stop. After (seat_of self.old) (NotClaimedBeside (seat_of self.old) oid stop) (own_of self.old) (own_of self.new)) }
         ensures memory { IfErr result (λ stop. stop ≢ stops.Memory) }
         ensures met { IfErr result (λ stop. (f : View) → Ends L.law self.new f → MetBeside f (seat_of self.old) (asked_claim oid) stop (own_of self.old) (own_of self.new)) }
@@ -299,7 +302,8 @@ impl<L: RowLaw> SharedSession for TableSession<L> {
         ensures onward { GoesOnward (seat_of self.old) (seat_of self.new) (Ends L.law self.old) (Ends L.law self.new) }
         ensures ok { IfOk result (λ outcome. After (seat_of self.old) (DidSettleBeside (seat_of self.old) outcome) (own_of self.old) (own_of self.new)) }
         ensures err { IfErr result (λ stop. After (seat_of self.old) (NotSettledBeside (seat_of self.old) stop) (own_of self.old) (own_of self.new)) }
-        ensures looked { IfErr result (λ stop. WasLookedAt (book self.old.pass) stop (book self.new.pass)) }
+        ensures word { IfErr result (λ stop. WasLookedAt (book self.old.pass) stop (book self.new.pass)) }
+        ensures looked { IfErr result (λ stop. TookNoSettle L.law (seat_of self.old) stop (book self.old.pass) (book self.new.pass)) }
     {
         erm_own_view::own_views_go_on::<L>();
         erm_core_stays::numbers_rise();

@@ -2,7 +2,7 @@
 -- behind the last answer, however far it went on.
 use Rattle.std.proofs.Common.{◌≡◌, ℕ, ◌<◌, ◌≤◌, true, false, List, [], map, inl, inr, refl, sym, ap, ◌∙◌, subst, arith}
 use Rattle.erm_model.specs.declared.outcome.Phase.{Phase}
-use Rattle.erm_model.specs.declared.outcome.Phase.TheVariants.{Active, Idle, Sealed}
+use Rattle.erm_model.specs.declared.outcome.Phase.TheVariants.{Active, Idle, Sealed, Pending, Safe}
 use Rattle.erm_model.specs.Member.{◌∈◌}
 use Rattle.erm_model.specs.Run.{Step}
 use Rattle.erm_report.specs.declared.answer.Answer.{Answer}
@@ -92,6 +92,8 @@ closes_sealed Idle a fits sealed = absurd fits
 closes_sealed Active answer.Aborted fits sealed = absurd sealed
 closes_sealed Active a fits sealed = absurd fits
 closes_sealed Sealed a fits sealed = refl
+closes_sealed Pending a fits sealed = absurd fits
+closes_sealed Safe a fits sealed = absurd fits
 
 -- EACH SESSION has an own run of its moves that are told, and was flushed no further there.
 record Ran (f : View) (seat : ℕ) (v : View) (moves : List Move) : Type 0 where

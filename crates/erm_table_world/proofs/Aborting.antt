@@ -12,6 +12,7 @@ use Rattle.erm_machine.specs.Seat.{is_active}
 use Rattle.erm_cells.specs.Took.{IsEndStep}
 use Rattle.erm_core_view.specs.Views.{finished_of, session_of, stand_of, view_of, work_of}
 use Rattle.erm_core_view.proofs.Shown.{work_active}
+use Rattle.erm_core_view.proofs.Snapshots.{IsNewSnapshot, snapshots_new}
 use Rattle.erm_ends.specs.Ends.{claims_over, left_part, released_all}
 use Rattle.erm_ends.specs.Ends as ends
 use Rattle.erm_machine.specs.Words.{is_seat, is_session}
@@ -34,18 +35,18 @@ over_shown (suc n) [] = refl
 over_shown (suc n) (w ∷ ws) = ap (λ (cs : List VersionWritten). written_of w ∷ cs) (over_shown n ws)
 
 -- the session of a seat that has aborted
-pub aborts_shown : (x : Part) → is_active x.place ≡ true → session_of (left_part Abort (released_all x)) ≡ record {
+pub aborts_shown : (x : Part) → is_active x.place ≡ true → IsNewSnapshot x.task x.current → session_of (left_part Abort (released_all x)) ≡ record {
   over = (session_of x).over ++ record { work = world.work_of (session_of x).stand; fate = world.aborts } ∷ [];
   stand = world.idle;
 }
-aborts_shown x active =
+aborts_shown x active new =
     let t : Attempt = record x.current { writes = claims_over (length x.current.writes) x.current.writes; decision = Abort } in
     let released : work_of t ≡ work_of x.current =
     ap (λ (cs : List VersionWritten). let w : Work = record (work_of x.current) { claims = cs } in w) (over_shown (length x.current.writes) x.current.writes)
     in
-    let work : work_of t ≡ world.work_of (stand_of x.place x.current) = released ∙ sym (work_active x.place x.current active) in
+    let work : work_of t ≡ world.work_of (stand_of x.place x.task x.current) = released ∙ sym (work_active x.place x.task x.current active new) in
     let all : map finished_of (x.over ++ t ∷ []) ≡ map finished_of x.over ++ finished_of t ∷ [] = map-append finished_of x.over (t ∷ []) in
-    let last : finished_of t ≡ record { work = world.work_of (stand_of x.place x.current); fate = world.aborts } =
+    let last : finished_of t ≡ record { work = world.work_of (stand_of x.place x.task x.current); fate = world.aborts } =
     ap (λ (w : Work). let f : Finished = record { work = w; fate = world.aborts } in f) work
     in
     ap (λ (fs : List Finished). let s : Session = record { over = fs; stand = world.idle } in s)
@@ -62,4 +63,4 @@ aborted law sessions seat b e state session seated active went did =
     let own : session_of ((core_of e).seats seat) ≡ session_of (left_part Abort (released_all ((core_of b).seats seat))) =
     ap session_of set ∙ ap (λ (y : Part). session_of (left_part Abort (released_all y))) (part_is law b seat state seated)
     in
-    becomes law sessions seat b e _ (no_flusher seat session) ran (went_stayed law sessions seat b e still state) (own ∙ aborts_shown ((core_of b).seats seat) active)
+    becomes law sessions seat b e _ (no_flusher seat session) ran (went_stayed law sessions seat b e still state) (own ∙ aborts_shown ((core_of b).seats seat) active (snapshots_new (core_of b) seat state.sound.sound))

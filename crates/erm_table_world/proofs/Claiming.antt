@@ -32,6 +32,7 @@ use Rattle.erm_core_steps.proofs.Exchanges.{free_current, has_head, head_free}
 use Rattle.erm_core_steps.proofs.Stored.{claimed_from}
 use Rattle.erm_core_steps.proofs.Unowned.{unowned}
 use Rattle.erm_core_steps.proofs.Ways.{begin_stays}
+use Rattle.erm_core_steps.proofs.Quiet.{at_work}
 use Rattle.erm_rows.specs.Claims as rows
 use Rattle.erm_rows.specs.Claims.{claimed_part, filled_claim}
 use Rattle.erm_rows.specs.Took.{TookClaim, TookFree, begin_in}
@@ -63,7 +64,7 @@ claim_shows c spare tail readers x active =
     let claims : work_of (claimed_part c spare tail readers x).current ≡ claiming (written_of c) (work_of x.current) =
     ap (λ (ws : List VersionWritten). record (work_of x.current) { claims = ws }) more
     in
-    (shows_work x (claiming (written_of c) (work_of x.current)) (claimed_part c spare tail readers x) refl active claims).shows
+    (shows_work x (claiming (written_of c) (work_of x.current)) (claimed_part c spare tail readers x) refl active refl claims).shows
 
 -- the version whose stamp is loaded on the way is the one in hand
 walked : (found : ℕ) (v w : VersionAt) (head : Option ℕ) (x y : Part) → x.task ≡ task.Walks w head → load_walked_stamp found v x x.task ≡ Some y → v ≡ w
@@ -133,7 +134,7 @@ module _ (law : Law) (sessions seat : ℕ) (b e : Book) (at : StandsAt law sessi
   pub frees : (oid entry : ℕ) (m : Book) → is_cleared own.task ≡ false → TookFree law seat oid entry b m → Free oid
   frees oid entry m left took =
       let on = at_seat law sessions seat b e at session active seated in
-      let works : IsAtWork seat (core_of b) = record { session = on.session; active = on.active } in
+      let works : IsAtWork seat (core_of b) = at_work on in
       let steps = took.head.took in
       let first = took_alone law seat (kind.LoadEntry oid, entry) b steps.0 steps.1 in
       let one = runs law b seat (kind.LoadEntry oid) entry steps.0 first at.state in

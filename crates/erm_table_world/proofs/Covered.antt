@@ -25,6 +25,7 @@ use Rattle.erm_machine.proofs.Frames.{total-put}
 use Rattle.erm_machine.proofs.QuietKinds.{moves}
 use Rattle.erm_core_cells.proofs.NumbersKept.{LeavesCounters, cells_raised, same_drawn}
 use Rattle.erm_core_view.proofs.Moved.{meets_one}
+use Rattle.erm_core_view.proofs.Snapshots.{IsNewSnapshot, shown_work, snapshots_new}
 use Rattle.erm_core_turns.specs.Turns.{Flushes}
 use Rattle.erm_core_view.specs.Steps.{MeetsOne}
 use Rattle.erm_core_view.specs.Views.{IsBetween, IsQuiet, finished_of, session_of, stand_of, view_of}
@@ -108,14 +109,18 @@ over_shown (t ∷ ts) =
     let rest = over_shown ts in
     omega (arith, shown, is, one, rest)
 
-current_shown : (pl : Place) (u : Task) (t : Attempt) → IsBetween pl u → IsCurrent pl t → count_by is_firm t.writes ≤ length (world.work_of (stand_of pl t)).claims
-current_shown Idle u t between none = let empty : count_by is_firm t.writes ≡ 0 = ap (λ (a : Attempt). count_by is_firm a.writes) none in omega (arith, empty)
-current_shown (Active tail) u t between current = let few = firm_few t.writes in let all = length-map t.writes written_of in omega (arith, few, all)
-current_shown (Sealed tail stamp) u t between current = let few = firm_few t.writes in let all = length-map t.writes written_of in omega (arith, few, all)
-current_shown _ u t between current = absurd between
+current_shown : (pl : Place) (u : Task) (t : Attempt) → IsNewSnapshot u t → IsBetween pl u → IsCurrent pl t → count_by is_firm t.writes ≤ length (world.work_of (stand_of pl u t)).claims
+current_shown Idle u t new between none = let empty : count_by is_firm t.writes ≡ 0 = ap (λ (a : Attempt). count_by is_firm a.writes) none in omega (arith, empty)
+current_shown (Active tail) u t new between current =
+    let few = firm_few t.writes in
+    let all = length-map t.writes written_of in
+    let shown = ap (λ (w : world.Work). length w.claims) (shown_work u t new) in
+    omega (arith, few, all, shown)
+current_shown (Sealed tail stamp) u t new between current = let few = firm_few t.writes in let all = length-map t.writes written_of in omega (arith, few, all)
+current_shown _ u t new between current = absurd between
 
-session_shown : (x : Part) → IsBetween x.place x.task → IsCurrent x.place x.current → firm_in x ≤ claims_in (session_of x)
-session_shown x between current = let past = over_shown x.over in let now = current_shown x.place x.task x.current between current in omega (arith, past, now)
+session_shown : (x : Part) → IsNewSnapshot x.task x.current → IsBetween x.place x.task → IsCurrent x.place x.current → firm_in x ≤ claims_in (session_of x)
+session_shown x new between current = let past = over_shown x.over in let now = current_shown x.place x.task x.current new between current in omega (arith, past, now)
 
 -- a seat without a transaction, and with none that is over, has no claims
 none_firm : (x : Part) → x.over ≡ [] → x.current.writes ≡ [] → firm_in x ≡ 0
@@ -143,7 +148,7 @@ module _ (sessions : ℕ) (c : Core) (sound : Sound c) (quiet : IsQuiet sessions
   within zero low = let none = outside 0 (λ some _. omega (arith, some)) in omega (arith, none)
   within (suc n) low =
       let before = within n (omega (arith, low)) in
-      let last = session_shown (c.seats (suc n)) (quiet.between (suc n) (omega arith) low) (sound.own (suc n)).ranges.current in
+      let last = session_shown (c.seats (suc n)) (snapshots_new c (suc n) sound) (quiet.between (suc n) (omega arith) low) (sound.own (suc n)).ranges.current in
       omega (arith, before, last)
 
   beyond : (m : ℕ) → sessions < m → total firm_in m c.seats ≤ claims_upto sessions (λ q. session_of (c.seats q))

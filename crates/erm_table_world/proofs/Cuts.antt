@@ -22,10 +22,10 @@ use Rattle.erm_world.specs.World as world
 use Rattle.erm_table_world.specs.Stands.{with_cuts}
 
 module _ (n : ℕ) where
-  abbrev cut : View → View
+  abbrev pub cut : View → View
   cut v = with_cuts n v
 
-  became : (v t : View) (seat : ℕ) (s : Session) → Becomes v seat s t → Becomes (cut v) seat s (cut t)
+  pub became : (v t : View) (seat : ℕ) (s : Session) → Becomes v seat s t → Becomes (cut v) seat s (cut t)
   became v t seat s is = record {
     own = is.own;
     others = is.others;

@@ -11,10 +11,14 @@ pub mod NotReading
 pub mod Opening
 pub mod Reading
 pub mod Refusing
+pub mod SafeCuts
+pub mod SafeReading
+pub mod SafeShows
 pub mod Sealing
 pub mod Sessions
 pub mod Settled
 pub mod Still
+pub mod Surveying
 pub mod Taking
 pub mod Tidying
 pub mod TurnClears

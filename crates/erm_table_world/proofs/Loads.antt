@@ -1,5 +1,5 @@
 -- Loads of an active session, which the world doesn't show.
-use Rattle.std.proofs.Common.{◌≡◌, ℕ, true, List, [], ◌∷◌, Some, sym, subst}
+use Rattle.std.proofs.Common.{◌≡◌, ℕ, true, List, [], ◌∷◌, Some, sym, subst, false}
 use Rattle.erm_model.specs.RowTransaction.{Law}
 use Rattle.erm_machine.specs.declared.event.Kind.{Kind}
 use Rattle.erm_machine.specs.declared.event.Kind.TheVariants as kind
@@ -7,9 +7,11 @@ use Rattle.erm_machine.specs.declared.event.TailUse.TheVariants as purpose
 use Rattle.erm_machine.specs.declared.part.Part.{Part}
 use Rattle.erm_machine.specs.declared.place.Place.{Place}
 use Rattle.erm_machine.specs.declared.place.Place.TheVariants.{Active}
-use Rattle.erm_machine.specs.Core.{Core}
-use Rattle.erm_machine.specs.Life.{load_tail_to_begin}
-use Rattle.erm_machine.specs.Seat.{is_active}
+use Rattle.erm_machine.specs.declared.task.Task.{Task}
+use Rattle.erm_machine.specs.declared.task.Task.TheVariants as task
+use Rattle.erm_machine.specs.Core.{Core, spot_of, word_at}
+use Rattle.erm_machine.specs.Life.{load_back, load_tail_to_begin}
+use Rattle.erm_machine.specs.Seat.{is_active, is_snapshot}
 use Rattle.erm_machine.specs.Step.{after_event}
 use Rattle.erm_machine.proofs.QuietKinds.{moves}
 use Rattle.erm_core_view.specs.Views.{session_of}
@@ -36,37 +38,45 @@ no_begin : (seat found : ℕ) (x y : Part) (pl : Place) → is_active pl ≡ tru
 no_begin seat found x y (Active tail) active e = absurd (cc)
 no_begin seat found x y _ active e = absurd (cc)
 
+-- one without a snapshot looks at no back word
+no_look : (other found : ℕ) (x : Part) (t : Task) (y : Part) → is_snapshot t ≡ false → load_back other found x t ≡ Some y → ⊥
+no_look other found x (task.Behind next) y plain e = absurd (cc)
+no_look other found x _ y plain e = absurd (cc)
+
 -- a seat that may not begin shows nothing of its loads
-pub load_shows : (seat : ℕ) (c d : Core) (k : Kind) (found : ℕ) → IsLoadStep k found → ((y : Part) → load_tail_to_begin seat c.shared.tail (c.seats seat) (c.seats seat).place ≡ Some y → ⊥)
+pub load_shows : (seat : ℕ) (c d : Core) (k : Kind) (found : ℕ) → IsLoadStep k found → is_snapshot (c.seats seat).task ≡ false → ((y : Part) → load_tail_to_begin seat c.shared.tail (c.seats seat) (c.seats seat).place ≡ Some y → ⊥)
     → after_event c seat k ≡ Some d → session_of (d.seats seat) ≡ session_of (c.seats seat)
-load_shows seat c d (kind.LoadTail purpose.Begin) found is none e =
+load_shows seat c d (kind.LoadTail purpose.Begin) found is plain none e =
     let m = moves c seat (kind.LoadTail purpose.Begin) d tt e in
     absurd (none m.part m.after)
-load_shows seat c d (kind.LoadTail purpose.Horizon) found is none e = calm_shows seat c d (kind.LoadTail purpose.Horizon) tt e
-load_shows seat c d (kind.LoadTail purpose.Gather) found is none e = calm_shows seat c d (kind.LoadTail purpose.Gather) tt e
-load_shows seat c d (kind.LoadBegin q) found is none e = calm_shows seat c d (kind.LoadBegin q) tt e
-load_shows seat c d (kind.LoadState q bound) found is none e = calm_shows seat c d (kind.LoadState q bound) tt e
-load_shows seat c d (kind.LoadEntry oid) found is none e = calm_shows seat c d (kind.LoadEntry oid) tt e
-load_shows seat c d (kind.LoadCell v w) found is none e = calm_shows seat c d (kind.LoadCell v w) tt e
-load_shows seat c d (kind.LoadCounter counter) found is none e = calm_shows seat c d (kind.LoadCounter counter) tt e
-load_shows seat c d (kind.LoadReaders v) found is none e = calm_shows seat c d (kind.LoadReaders v) tt e
-load_shows seat c d (kind.LoadStamp v w) found is none e = calm_shows seat c d (kind.LoadStamp v w) tt e
-load_shows seat c d (kind.LoadRing at) found is none e = calm_shows seat c d (kind.LoadRing at) tt e
-load_shows seat c d kind.LoadFlushed found is none e = calm_shows seat c d kind.LoadFlushed tt e
-load_shows seat c d (kind.LoadDetached v) found is none e = calm_shows seat c d (kind.LoadDetached v) tt e
-load_shows seat c d (kind.LoadBack q) found is none e = calm_shows seat c d (kind.LoadBack q) tt e
-load_shows seat c d _ found is none e = absurd is
+load_shows seat c d (kind.LoadTail purpose.Horizon) found is plain none e = calm_shows seat c d (kind.LoadTail purpose.Horizon) tt e
+load_shows seat c d (kind.LoadTail purpose.Gather) found is plain none e = calm_shows seat c d (kind.LoadTail purpose.Gather) tt e
+load_shows seat c d (kind.LoadBegin q) found is plain none e = calm_shows seat c d (kind.LoadBegin q) plain e
+load_shows seat c d (kind.LoadState q bound) found is plain none e = calm_shows seat c d (kind.LoadState q bound) tt e
+load_shows seat c d (kind.LoadEntry oid) found is plain none e = calm_shows seat c d (kind.LoadEntry oid) tt e
+load_shows seat c d (kind.LoadCell v w) found is plain none e = calm_shows seat c d (kind.LoadCell v w) tt e
+load_shows seat c d (kind.LoadCounter counter) found is plain none e = calm_shows seat c d (kind.LoadCounter counter) tt e
+load_shows seat c d (kind.LoadReaders v) found is plain none e = calm_shows seat c d (kind.LoadReaders v) tt e
+load_shows seat c d (kind.LoadStamp v w) found is plain none e = calm_shows seat c d (kind.LoadStamp v w) tt e
+load_shows seat c d (kind.LoadRing at) found is plain none e = calm_shows seat c d (kind.LoadRing at) tt e
+load_shows seat c d kind.LoadFlushed found is plain none e = calm_shows seat c d kind.LoadFlushed tt e
+load_shows seat c d (kind.LoadDetached v) found is plain none e = calm_shows seat c d (kind.LoadDetached v) tt e
+load_shows seat c d (kind.LoadBack q) found is plain none e =
+    let m = moves c seat (kind.LoadBack q) d tt e in
+    absurd (no_look q (word_at c (spot_of seat (kind.LoadBack q))) (c.seats seat) (c.seats seat).task m.part plain m.after)
+load_shows seat c d _ found is plain none e = absurd is
 
 pub load_goes : (law : Law) (sessions seat : ℕ) (k : Kind) (found : ℕ) (b e : Book) → Booked law b seat k found e → IsStateful law b → IsLoadStep k found → IsAtWork seat (core_of b)
     → GoesOn sessions seat (core_of b) (core_of e)
 load_goes law sessions seat k found b e booked state is at =
     let run = runs law b seat k found e booked state in
-    let same = load_shows seat (core_of b) (core_of e) k found is (λ y. no_begin seat (core_of b).shared.tail ((core_of b).seats seat) y ((core_of b).seats seat).place at.active) run.event in
+    let same = load_shows seat (core_of b) (core_of e) k found is at.plain (λ y. no_begin seat (core_of b).shared.tail ((core_of b).seats seat) y ((core_of b).seats seat).place at.active) run.event in
     let still = load_still k found is in
+    let kept = active_kept ((core_of b).seats seat) ((core_of e).seats seat) same at.active at.plain in
     record {
       unseen =
           unseen_step sessions seat (core_of b) (core_of e) k state.sound.sound run.one (still_drawn k found still) (still_flushed k found (core_of b).shared.flushed still) run.event same;
-      at = record { session = at.session; active = active_kept ((core_of b).seats seat) ((core_of e).seats seat) same at.active };
+      at = record { session = at.session; active = kept.0; plain = kept.1 };
     }
 
 pub loads_go : (law : Law) (sessions seat : ℕ) (steps : List (Kind × ℕ)) (b e : Book) → Took law seat steps b e → AllSteps IsLoadStep steps → IsStateful law b → IsAtWork seat (core_of b)

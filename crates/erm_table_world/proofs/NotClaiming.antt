@@ -25,12 +25,13 @@ use Rattle.erm_cells.specs.Calls.{starts_anew}
 use Rattle.erm_cells.specs.Took.{IsEndStep}
 use Rattle.erm_core_view.specs.Views.{IsQuiet, session_of, view_of, work_of}
 use Rattle.erm_core_view.proofs.Shown.{shows_work, work_active}
+use Rattle.erm_core_view.proofs.Snapshots.{plain_new, starts_plain}
 use Rattle.erm_core_steps.specs.Claiming.{is_cleared}
 use Rattle.erm_core_steps.specs.Reads.{IsAtWork}
 use Rattle.erm_core_steps.proofs.Aborts.{no_flusher}
 use Rattle.erm_core_steps.proofs.Early.{quiet_since, shut_is}
 use Rattle.erm_core_steps.proofs.Exchanges.{claim_excluded, claims_count}
-use Rattle.erm_core_steps.proofs.Quiet.{IsActive}
+use Rattle.erm_core_steps.proofs.Quiet.{IsActive, at_work}
 use Rattle.erm_ends.specs.Ends as ends
 use Rattle.erm_rows.specs.Claims as rows
 use Rattle.erm_rows.specs.Claims.{given_up_part}
@@ -107,7 +108,7 @@ module _ (law : Law) (sessions seat : ℕ) (b : Book) (at : StandsAt law session
   on = at_seat law sessions seat b b at session active seated
 
   works : IsAtWork seat (core_of b)
-  works = record { session = on.session; active = on.active }
+  works = at_work on
 
   full_claims : length (part_of b.view seat).current.writes ≡ length (work_at (view_of sessions (core_of b)) seat).claims
   full_claims = ap (λ (x : Part). length x.current.writes) (part_is law b seat at.state seated) ∙ sym (claims_count sessions seat (core_of b) (view_of sessions (core_of b)) on refl)
@@ -125,7 +126,7 @@ module _ (law : Law) (sessions seat : ℕ) (b : Book) (at : StandsAt law session
       let x : Part = (core_of n).seats seat in
       let room = room_needed seat oid took.entry took.number (word_at (core_of n) (spot_of seat (kind.Claim oid took.entry took.number))) ((core_of n).shared.objects oid) x moved.part x.task moved.after in
       let same : length (work_at (view_of sessions (core_of b)) seat).claims ≡ length x.current.writes =
-      ap (λ (v : View). length (work_at v seat).claims) (sym goes.unseen.view) ∙ ap (λ (w : Work). length w.claims) (work_active x.place x.current goes.at.active)
+      ap (λ (v : View). length (work_at v seat).claims) (sym goes.unseen.view) ∙ ap (λ (w : Work). length w.claims) (work_active x.place x.task x.current goes.at.active (plain_new x.task x.current goes.at.plain))
       ∙ length-map x.current.writes written_of
       in
       omega (arith, room, same)
@@ -140,7 +141,7 @@ module _ (law : Law) (sessions seat : ℕ) (b : Book) (at : StandsAt law session
       in
       let x : Part = (core_of b).seats seat in
       let work : Work = work_of x.current in
-      let unseen : session_of (y x) ≡ session_of x = (shows_work x work (y x) refl on.active refl).shows ∙ sym (shows_work x work x refl on.active refl).shows in
+      let unseen : session_of (y x) ≡ session_of x = (shows_work x work (y x) refl on.active refl refl).shows ∙ sym (shows_work x work x refl on.active (starts_plain x.task on.starts) refl).shows in
       let same = same_world law sessions seat b e (no_flusher seat on.session) ran stayed (ap session_of set ∙ unseen) in
       let free = claiming_of.frees law sessions seat b b at session active seated oid took.entry.entry took.entry.at left took.entry.free in
       let taken = (went_ran law sessions seat IsStillStep b took.taken (entry_went law seat oid took.head b took.taken took.entry) at.state).state in

@@ -26,12 +26,13 @@ use Rattle.erm_core_view.specs.Views.{IsQuiet, view_of, work_of}
 use Rattle.erm_core_view.proofs.Moved.{own_after}
 use Rattle.erm_core_view.proofs.Shown.{work_active}
 use Rattle.erm_core_view.proofs.Shown.{registers as shown_read}
+use Rattle.erm_core_view.proofs.Snapshots.{plain_new}
 use Rattle.erm_core_steps.specs.Reads.{GoesOn, IsAtWork, closed_window}
 use Rattle.erm_core_steps.proofs.Early.{found_clear, quiet_since, shut_is}
 use Rattle.erm_core_steps.proofs.Owners.{owner_ahead}
-use Rattle.erm_core_steps.proofs.Quiet.{IsActive}
+use Rattle.erm_core_steps.proofs.Quiet.{IsActive, at_work}
 use Rattle.erm_core_steps.proofs.Readings.{read_excluded}
-use Rattle.erm_core_steps.proofs.Ways.{begin_stays}
+use Rattle.erm_core_steps.proofs.Ways.{begin_stays, active_stand}
 use Rattle.erm_entries.specs.Took.{TookWait}
 use Rattle.erm_rows.specs.Reads as rows
 use Rattle.erm_rows.specs.Took.{IsClosedIn, TookRead, begin_in}
@@ -101,7 +102,7 @@ module _ (law : Law) (sessions seat : ℕ) (b : Book) (at : StandsAt law session
   here = reading_of.at_seat law sessions seat b b at session active seated
 
   works : IsAtWork seat (core_of b)
-  works = record { session = here.session; active = here.active }
+  works = at_work here
 
   begin_is : begin_in b seat ≡ (work_at (view_of sessions (core_of b)) seat).begin
   begin_is = ap (λ (x : Part). x.current.begin) (part_is law b seat at.state seated) ∙ ap (λ (w : Work). w.begin) (sym (reading_of.work law sessions seat b b at session active seated))
@@ -174,12 +175,13 @@ module _ (law : Law) (sessions seat : ℕ) (b : Book) (at : StandsAt law session
         let place : (r.seats seat).place ≡ (f.seats seat).place =
         ap (λ (y : Part). y.place) (own_after f seat (kind.SetReader took.read.version) r moved) ∙ finds.place
         in
-        let at_work : IsAtWork seat r = record { session = here.session; active = ap is_active place ∙ goes.at.active } in
-        let rest = went_go law sessions seat took.read.registered m took.read.rest registering.state at_work in
         let shown = shown_read seat f r took.read.version finds.at finds.stamp finds.head goes.at.active finds.is registering.event in
+        let plain = (active_stand (r.seats seat).place (r.seats seat).task (r.seats seat).current _ (ap (λ (s : Session). s.stand) shown)).1 in
+        let works_on : IsAtWork seat r = record { session = here.session; active = ap is_active place ∙ goes.at.active; plain = plain } in
+        let rest = went_go law sessions seat took.read.registered m took.read.rest registering.state works_on in
         let v : View = view_of sessions (core_of b) in
         let same : work_of (f.seats seat).current ≡ work_at v seat =
-        sym (work_active (f.seats seat).place (f.seats seat).current goes.at.active) ∙ ap (λ (t : View). work_at t seat) goes.unseen.view
+        sym (work_active (f.seats seat).place (f.seats seat).task (f.seats seat).current goes.at.active (plain_new (f.seats seat).task (f.seats seat).current goes.at.plain)) ∙ ap (λ (t : View). work_at t seat) goes.unseen.view
         in
         let one : (work_at (view_of sessions (core_of m)) seat).reads ≡ (work_of (f.seats seat).current).reads ++ _ ∷ [] =
         ap (λ (t : View). (work_at t seat).reads) rest.unseen.view ∙ ap (λ (s : Session). (world.work_of s.stand).reads) shown

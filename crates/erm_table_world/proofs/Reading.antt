@@ -19,6 +19,7 @@ use Rattle.erm_machine.specs.Words.{is_seat}
 use Rattle.erm_machine.proofs.Guards.{either_way}
 use Rattle.erm_core_view.specs.Views.{session_of, view_of, work_of}
 use Rattle.erm_core_view.proofs.Shown.{shows_work, work_active}
+use Rattle.erm_core_view.proofs.Snapshots.{starts_new}
 use Rattle.erm_core_steps.proofs.Aborts.{no_flusher}
 use Rattle.erm_core_steps.proofs.Quiet.{IsActive, active_seat}
 use Rattle.erm_core_steps.proofs.Stored.{claimed_from}
@@ -71,7 +72,7 @@ read_shows r words notes x active =
     let work : work_of (read_part r words notes x).current ≡ reading (read_of r) (work_of x.current) =
     rated_work words _ ∙ ap (λ (rs : List VersionRead). let w : Work = record (work_of x.current) { reads = rs } in w) more
     in
-    (shows_work x (reading (read_of r) (work_of x.current)) (read_part r words notes x) refl active work).shows
+    (shows_work x (reading (read_of r) (work_of x.current)) (read_part r words notes x) refl active refl work).shows
 
 module _ (law : Law) (sessions seat : ℕ) (b e : Book) (at : StandsAt law sessions b) (session : IsSession (view_of sessions (core_of b)) seat) (active : phase_at (view_of sessions (core_of b)) seat ≡ phase.Active)
     (seated : is_seat seat ≡ true) where
@@ -82,7 +83,7 @@ module _ (law : Law) (sessions seat : ℕ) (b e : Book) (at : StandsAt law sessi
   own = (core_of b).seats seat
 
   pub work : work_at (view_of sessions (core_of b)) seat ≡ work_of own.current
-  work = work_active own.place own.current at_seat.active
+  work = work_active own.place own.task own.current at_seat.active (starts_new own.task own.current at_seat.starts)
 
   pub part : part_of b.view seat ≡ own
   part = part_is law b seat at.state seated

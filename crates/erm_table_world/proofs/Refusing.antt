@@ -19,7 +19,7 @@ use Rattle.erm_core_steps.specs.Claiming.{is_cleared}
 use Rattle.erm_core_steps.specs.Reads.{IsAtWork}
 use Rattle.erm_core_steps.proofs.Early.{quiet_goes}
 use Rattle.erm_core_steps.proofs.Exchanges.{has_head, head_newer}
-use Rattle.erm_core_steps.proofs.Quiet.{IsActive}
+use Rattle.erm_core_steps.proofs.Quiet.{IsActive, at_work}
 use Rattle.erm_core_steps.proofs.Unowned.{owner_owned, unowned}
 use Rattle.erm_ends.specs.Ends as ends
 use Rattle.erm_rows.specs.Took.{TookMissed, TookNotFree, TookOther, begin_in}
@@ -45,7 +45,7 @@ module _ (law : Law) (sessions seat : ℕ) (b : Book) (at : StandsAt law session
   on = at_seat law sessions seat b b at session active seated
 
   works : IsAtWork seat (core_of b)
-  works = record { session = on.session; active = on.active }
+  works = at_work on
 
   -- the end of the transaction after loads
   ended : (m e : Book) → Went law seat IsLoadStep b m → Went law seat IsEndStep m e → ends.DidAbort m.view seat e.view → DidAbort (view_of sessions (core_of b)) seat (view_of sessions (core_of e))

@@ -2,7 +2,7 @@
 use Rattle.std.specs.Vec.{with_item}
 use Rattle.std.proofs.lemmas.Bool.{cases_eq, cases_lt, or_left}
 use Rattle.std.proofs.lemmas.List.{get_or-set_other, get_or-set_same, get_or_append_left, get_or_push, length-append, length-set, set-get_or}
-use Rattle.std.proofs.Common.{◌≡◌, ◌≢◌, ℕ, ◌+◌, ◌-◌, ◌<◌, ◌≤◌, ⊎_elim, true, List, [], ◌∷◌, ◌++◌, length, get_or, set, IfSome, refl, sym, ap, ◌∙◌, subst, arith}
+use Rattle.std.proofs.Common.{◌≡◌, ◌≢◌, ℕ, ◌+◌, ◌-◌, ◌<◌, ◌≤◌, ⊎_elim, true, ◌||◌, List, [], ◌∷◌, ◌++◌, length, get_or, set, IfSome, refl, sym, ap, ◌∙◌, subst, arith}
 use Rattle.atomic_table.specs.declared.shared.Seat.{Seat}
 use Rattle.erm_model.specs.declared.outcome.Phase.TheVariants as phase
 use Rattle.erm_model.specs.RowTransaction.{Law}
@@ -15,10 +15,11 @@ use Rattle.erm_machine.specs.declared.task.Task.{Task}
 use Rattle.erm_machine.specs.declared.task.Task.TheVariants as task
 use Rattle.erm_machine.specs.Core.{Core, fresh_part}
 use Rattle.erm_machine.specs.Facts.{IsCurrent}
-use Rattle.erm_machine.specs.Seat.{is_active, is_sealed, may_start}
+use Rattle.erm_machine.specs.Seat.{is_active, is_safe, is_sealed, may_start}
 use Rattle.erm_machine.specs.Tasks.{TaskFits}
 use Rattle.erm_cells.specs.Calls.{starts_anew}
-use Rattle.erm_core_view.specs.Views.{IsBetween, IsQuiet, pin_of, stand_of, view_of, work_of}
+use Rattle.erm_core_view.specs.Views.{IsBetween, IsQuiet, is_standing, pin_of, shown_by, stand_of, view_of, work_of}
+use Rattle.erm_core_view.proofs.Snapshots.{shown_safe, starts_shows}
 use Rattle.erm_machine.specs.Words.{is_flusher, is_seat, is_session}
 use Rattle.erm_core_steps.proofs.Aborts.{no_flusher}
 use Rattle.erm_core_steps.proofs.Quiet.{quiet_after, session_of_few}
@@ -32,7 +33,8 @@ use Rattle.erm_rule.specs.Went.{IsStillStep, Went, core_of}
 use Rattle.erm_session.specs.declared.session.Session.{Session}
 use Rattle.erm_session.specs.declared.session.Stage.{Stage}
 use Rattle.erm_session.specs.declared.session.Stage.TheVariants as stage
-use Rattle.erm_session.specs.Session.{IsSession, StageIs, phase_of}
+use Rattle.erm_session.specs.Session.{IsSession, StageIs, phase_of, rests_safe}
+use Rattle.erm_session.proofs.Snapshots.{rests_is_safe}
 use Rattle.erm_world.specs.World.{Opening, size_of}
 use Rattle.erm_world.specs.World as world
 use Rattle.erm_table_world.specs.declared.table_world.TableWorld.{TableWorld}
@@ -41,33 +43,58 @@ use Rattle.erm_table_world.proofs.Still.{Stayed, went_ran, went_stayed}
 use Rattle.erm_table_world.proofs.Wholly.{Ran, known_of, part_is}
 use Rattle.erm_core_steps.proofs.Places.{active_between, sealed_between}
 
-active_phase : (pl : Place) (t : Attempt) → is_active pl ≡ true → phase.Active ≡ world.phase_of (stand_of pl t)
-active_phase (Active tail) t e = refl
-active_phase _ t e = absurd (cc)
+active_phase : (pl : Place) (u : Task) (t : Attempt) → is_active pl ≡ true → may_start u ≡ true → phase.Active ≡ world.phase_of (stand_of pl u t)
+active_phase (Active tail) u t e starts = sym (ap world.phase_of (starts_shows u t starts))
+active_phase _ u t e starts = absurd (cc)
 
-sealed_phase : (pl : Place) (t : Attempt) → is_sealed pl ≡ true → phase.Sealed ≡ world.phase_of (stand_of pl t)
-sealed_phase (Sealed tail stamp) t e = refl
-sealed_phase _ t e = absurd (cc)
+sealed_phase : (pl : Place) (u : Task) (t : Attempt) → is_sealed pl ≡ true → phase.Sealed ≡ world.phase_of (stand_of pl u t)
+sealed_phase (Sealed tail stamp) u t e = refl
+sealed_phase _ u t e = absurd (cc)
+
+pending_phase : (pl : Place) (u : Task) (t : Attempt) (next : ℕ) → is_active pl ≡ true → u ≡ task.Surveys next → phase.Pending ≡ world.phase_of (stand_of pl u t)
+pending_phase (Active tail) u t next e at = sym (ap (λ (v : Task). world.phase_of (shown_by v t)) at)
+pending_phase _ u t next e at = absurd (cc)
+
+safe_phase : (pl : Place) (u : Task) (t : Attempt) → is_active pl ≡ true → is_safe u ≡ true → phase.Safe ≡ world.phase_of (stand_of pl u t)
+safe_phase (Active tail) u t e safe = sym (ap world.phase_of (shown_safe u t safe))
+safe_phase _ u t e safe = absurd (cc)
+
+pub anew_starts : (u : Task) → starts_anew u ≡ true → may_start u ≡ true
+anew_starts (task.Cleared oid) e = refl
+anew_starts _ e = e
 
 -- a session is in the phase that the view shows
-pub phase_shown : (g : Stage) (x : Part) → StageIs g x → phase_of g ≡ world.phase_of (stand_of x.place x.current)
-phase_shown stage.Idle x is = sym (ap (λ (p : Place). world.phase_of (stand_of p x.current)) is)
-phase_shown (stage.Active t) x is = active_phase x.place x.current is.0
-phase_shown (stage.Sealed t) x is = sealed_phase x.place x.current is.0
+pub phase_shown : (g : Stage) (x : Part) → StageIs g x → phase_of g ≡ world.phase_of (stand_of x.place x.task x.current)
+phase_shown stage.Idle x is = sym (ap (λ (p : Place). world.phase_of (stand_of p x.task x.current)) is)
+phase_shown (stage.Active t) x is = active_phase x.place x.task x.current is.0 (anew_starts x.task is.1)
+phase_shown (stage.Sealed t) x is = sealed_phase x.place x.task x.current is.0
+phase_shown (stage.Pending begin next) x is = pending_phase x.place x.task x.current next is.0 is.1
+phase_shown (stage.Safe begin) x is = safe_phase x.place x.task x.current is.0 (rests_is_safe x.task is.1)
 
 -- it stands between two calls
 idle_between : (pl : Place) (t : Attempt) (u : Task) → pl ≡ Idle → TaskFits pl t u → IsBetween pl u
 idle_between Idle t u e fits = fits
 idle_between _ t u e fits = absurd (cc)
 
-pub anew_starts : (u : Task) → starts_anew u ≡ true → may_start u ≡ true
-anew_starts (task.Cleared oid) e = refl
-anew_starts _ e = e
+pending_between : (pl : Place) (u : Task) (next : ℕ) → is_active pl ≡ true → u ≡ task.Surveys next → IsBetween pl u
+pending_between (Active tail) u next e at = subst (λ (v : Task). may_start v || is_standing v ≡ true) (sym at) refl
+pending_between _ u next e at = absurd (cc)
 
-stage_between : (g : Stage) (x : Part) → StageIs g x → TaskFits x.place x.current x.task → IsBetween x.place x.task
+rests_stands : (u : Task) → rests_safe u ≡ true → may_start u || is_standing u ≡ true
+rests_stands task.Safe e = refl
+rests_stands (task.SafeFound version) e = refl
+rests_stands _ e = absurd (cc)
+
+safe_between : (pl : Place) (u : Task) → is_active pl ≡ true → rests_safe u ≡ true → IsBetween pl u
+safe_between (Active tail) u e rests = rests_stands u rests
+safe_between _ u e rests = absurd (cc)
+
+pub stage_between : (g : Stage) (x : Part) → StageIs g x → TaskFits x.place x.current x.task → IsBetween x.place x.task
 stage_between stage.Idle x is fits = idle_between x.place x.current x.task is fits
 stage_between (stage.Active t) x is fits = active_between x.place x.task is.0 (anew_starts x.task is.1)
 stage_between (stage.Sealed t) x is fits = sealed_between x.place x.task is.0 is.1
+stage_between (stage.Pending begin next) x is fits = pending_between x.place x.task next is.0 is.1
+stage_between (stage.Safe begin) x is fits = safe_between x.place x.task is.0 is.1
 
 -- the range of a sealed one is of its block's size, and one that isn't sealed has none
 idle_none : (pl : Place) (t : Attempt) → pl ≡ Idle → IsCurrent pl t → t.stamp ≡ 0
@@ -78,10 +105,12 @@ active_none : (pl : Place) (t : Attempt) → is_active pl ≡ true → IsCurrent
 active_none (Active tail) t e current = current.stamp
 active_none _ t e current = absurd (cc)
 
-stage_sized : (g : Stage) (x : Part) → StageIs g x → IsCurrent x.place x.current → 0 < x.current.stamp → x.current.size ≡ size_of (work_of x.current)
+pub stage_sized : (g : Stage) (x : Part) → StageIs g x → IsCurrent x.place x.current → 0 < x.current.stamp → x.current.size ≡ size_of (work_of x.current)
 stage_sized stage.Idle x is current some = absurd (let none = idle_none x.place x.current is current in omega (arith, none, some))
 stage_sized (stage.Active t) x is current some = absurd (let none = active_none x.place x.current is.0 current in omega (arith, none, some))
 stage_sized (stage.Sealed t) x is current some = is.4 ∙ sym (size_shown x.current)
+stage_sized (stage.Pending begin next) x is current some = absurd (let none = active_none x.place x.current is.0 current in omega (arith, none, some))
+stage_sized (stage.Safe begin) x is current some = absurd (let none = active_none x.place x.current is.0 current in omega (arith, none, some))
 
 -- So the state after steps of a session is one between two calls, where the session stands so.
 pub quiet_now : (law : Law) (sessions who : ℕ) (b e : Book) (s : Session) → IsQuiet sessions (core_of b) → world.IsSession (view_of sessions (core_of b)) who → Ran law sessions who b e

@@ -20,6 +20,7 @@ use Rattle.erm_rule.specs.Views.{part_of}
 use Rattle.erm_rule.specs.Went.{IsLoadStep, IsStillStep, Went, core_of}
 use Rattle.erm_rule.proofs.Allowed.{of_seat}
 use Rattle.erm_rule.proofs.Wents.{loads_still, went_more, went_step}
+use Rattle.erm_session.specs.Calls.{IsUnclaimed}
 use Rattle.erm_session.specs.Took.{TookAnyClaim, TookAnyTidy}
 use Rattle.erm_table_world.specs.Stands.{IsStateful}
 use Rattle.erm_table_world.proofs.Still.{went_ran}
@@ -75,6 +76,6 @@ tidy_few fit law who oid count b e state after seat took =
 pub any_few : (fit : SparesFit) (law : Law) (who oid count : ℕ) (b e : Book) → IsStateful law b → IsStateful law e → is_seat who ≡ true → TookAnyTidy law who oid count b e → count ≤ TABLE_CELLS
 any_few fit law who oid count b e state after seat took =
     ⊎_elim (λ (t : TookTidy law who oid count b e). tidy_few fit law who oid count b e state after seat t)
-    (λ (t : TookAnyClaim law who oid count b e).
-    ⊎_elim (λ (none : (count ≡ 0) × (e ≡ b)). let n = none.0 in omega (arith, n)) (λ (s : TookClaim law who oid count b e). claim_few fit law who oid count b e state seat s) t)
+    (λ (t : IsUnclaimed (part_of b.view who) oid × TookAnyClaim law who oid count b e).
+    ⊎_elim (λ (none : (count ≡ 0) × (e ≡ b)). let n = none.0 in omega (arith, n)) (λ (s : TookClaim law who oid count b e). claim_few fit law who oid count b e state seat s) t.1)
     took

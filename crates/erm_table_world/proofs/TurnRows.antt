@@ -10,6 +10,7 @@ use Rattle.erm_core_turns.proofs.Pins.{is_pinned}
 use Rattle.erm_core_turns.proofs.RowsAt.{IsSeen, newest_shown, pin_is, seen_newest, seen_row}
 use Rattle.erm_core_turns.proofs.Turns.{log_same, quiet_turn}
 use Rattle.erm_core_view.specs.Views.{IsBetween, IsQuiet, IsStill, pin_of, view_of}
+use Rattle.erm_core_view.proofs.Snapshots.{starts_between, starts_plain}
 use Rattle.erm_entries.specs.declared.answer.SeatWait as entries
 use Rattle.erm_entries.specs.Took.{TookAgain, TookReach, TookWait}
 use Rattle.erm_machine.specs.declared.event.Kind.{Kind}
@@ -26,6 +27,7 @@ use Rattle.erm_machine.specs.Core.{Core, Shared, version_at}
 use Rattle.erm_machine.specs.Life.{is_between, load_state}
 use Rattle.erm_machine.specs.Snapshot.{InHand, IsNewestAt, NoneInHand}
 use Rattle.erm_machine.specs.Words.{is_clear, is_flusher, owner_of, state_of}
+use Rattle.erm_machine.specs.Seat.{is_snapshot}
 use Rattle.erm_machine.proofs.Guards.{when_then}
 use Rattle.erm_machine.proofs.QuietKinds.{moves}
 use Rattle.erm_model.specs.declared.limits.TheConstants.{LAST_RUN}
@@ -210,7 +212,8 @@ module _ (law : Law) (sessions : ℕ) (b : Book) (at : StandsAt law sessions b) 
       run = subst (λ (n : ℕ). n ≤ LAST_RUN) (sym (ap (λ (x : Part). x.run) part)) was.run;
       rests =
           subst (λ (x : Part). IsBetween x.place x.task) (sym part)
-          (subst (λ (pl : Place). IsBetween pl looked.task) (sym (is_pinned sessions c at.state.sound.sound at.quiet some).place) (anew_starts looked.task looked.starts));
+          (subst (λ (pl : Place). IsBetween pl looked.task) (sym (is_pinned sessions c at.state.sound.sound at.quiet some).place) (starts_between looked.task (anew_starts looked.task looked.starts)));
+      plain = ap (λ (x : Part). is_snapshot x.task) part ∙ starts_plain looked.task (anew_starts looked.task looked.starts);
       turn = ap (λ (x : Part). is_between x.flushing) part ∙ was.turn;
     }
 

@@ -11,7 +11,7 @@ use Rattle.erm_machine.specs.declared.event.Kind.TheVariants as kind
 use Rattle.erm_machine.specs.declared.limits.TheConstants.{ANNOUNCERS}
 use Rattle.erm_machine.specs.declared.part.Part.{Part}
 use Rattle.erm_machine.specs.declared.place.Place.{Place}
-use Rattle.erm_machine.specs.declared.place.Place.TheVariants.{Sealed}
+use Rattle.erm_machine.specs.declared.place.Place.TheVariants.{Active, Sealed}
 use Rattle.erm_machine.specs.declared.task.Task.{Task}
 use Rattle.erm_machine.specs.declared.task.Task.TheVariants as task
 use Rattle.erm_machine.specs.Core.{Core, Shared, spot_of, word_at}
@@ -33,6 +33,7 @@ use Rattle.erm_core_steps.proofs.Passes.{load_next, look_stays}
 use Rattle.erm_core_steps.specs.Steps.{LoadsWord}
 use Rattle.erm_core_steps.proofs.Settling.{MaySettle, as_before, did_settle, flush_size, flush_unseen, is_full, is_one, not_full, not_settled, passing_may, ring_full, settle_may, starts}
 use Rattle.erm_core_view.proofs.Moved.{meets_one}
+use Rattle.erm_core_view.proofs.Snapshots.{never_sealed, sealed_plain}
 use Rattle.erm_core_steps.proofs.Unseen.{unseen_both, unseen_none, unseen_step}
 use Rattle.erm_precommit.specs.Settle.{reached_part}
 use Rattle.erm_precommit.specs.Took as precommit
@@ -45,6 +46,7 @@ use Rattle.erm_rule.proofs.Wents.{went_as, went_more, went_step}
 use Rattle.erm_rule.specs.Went.{AllSteps, IsLoadStep, IsStillStep, Took, Went, core_of}
 use Rattle.erm_rule.proofs.Allowed.{of_seat}
 use Rattle.erm_session.specs.Took.{TookDecision, TookFinish}
+use Rattle.erm_session.proofs.Took.{decision_loads}
 use Rattle.erm_world.specs.declared.stops.Wait.TheVariants as wait
 use Rattle.erm_world.specs.Calls.{DidNotSettle, DidSettle}
 use Rattle.erm_world.specs.World.{IsSession, Session, Stand, phase_at}
@@ -63,18 +65,19 @@ no_begin seat found x y (Sealed tail stamp) sealed e = absurd (cc)
 no_begin seat found x y _ sealed e = absurd (cc)
 
 -- a session that looks sealed is
-sealed_stand : (pl : Place) (t : Attempt) (w : world.Work) (stamp : ℕ) → stand_of pl t ≡ world.sealed w stamp → is_sealed pl ≡ true
-sealed_stand (Sealed tail stamp) t w seen e = refl
-sealed_stand _ t w seen e = absurd (cc)
+sealed_stand : (pl : Place) (u : Task) (t : Attempt) (w : world.Work) (stamp : ℕ) → stand_of pl u t ≡ world.sealed w stamp → is_sealed pl ≡ true
+sealed_stand (Active tail) u t w seen e = absurd (never_sealed u t w seen e)
+sealed_stand (Sealed tail stamp) u t w seen e = refl
+sealed_stand _ u t w seen e = absurd (cc)
 
-sealed_at : (pl : Place) (t : Attempt) → is_sealed pl ≡ true → (stamp : ℕ) × (stand_of pl t ≡ world.sealed (work_of t) stamp)
-sealed_at (Sealed tail stamp) t e = (stamp, refl)
-sealed_at _ t e = absurd (cc)
+sealed_at : (pl : Place) (u : Task) (t : Attempt) → is_sealed pl ≡ true → (stamp : ℕ) × (stand_of pl u t ≡ world.sealed (work_of t) stamp)
+sealed_at (Sealed tail stamp) u t e = (stamp, refl)
+sealed_at _ u t e = absurd (cc)
 
 sealed_kept : (x y : Part) → session_of y ≡ session_of x → is_sealed x.place ≡ true → is_sealed y.place ≡ true
 sealed_kept x y same sealed =
-    let s = sealed_at x.place x.current sealed in
-    sealed_stand y.place y.current (work_of x.current) s.0 (ap (λ (t : Session). t.stand) same ∙ s.1)
+    let s = sealed_at x.place x.task x.current sealed in
+    sealed_stand y.place y.task y.current (work_of x.current) s.0 (ap (λ (t : Session). t.stand) same ∙ s.1)
 
 -- a sealed session, and its loads since then, which don't show
 pub record GoesSealed (sessions seat : ℕ) (c d : Core) : Type 0 where
@@ -86,7 +89,7 @@ load_goes : (law : Law) (sessions seat : ℕ) (k : Kind) (found : ℕ) (b e : Bo
 load_goes law sessions seat k found b e booked state is sealed =
     let run = runs law b seat k found e booked state in
     let same =
-    load_shows seat (core_of b) (core_of e) k found is (λ y. no_begin seat (core_of b).shared.tail ((core_of b).seats seat) y ((core_of b).seats seat).place sealed) run.event
+    load_shows seat (core_of b) (core_of e) k found is (sealed_plain ((core_of b).seats seat).place ((core_of b).seats seat).current ((core_of b).seats seat).task sealed (state.sound.sound.own seat).task.fits) (λ y. no_begin seat (core_of b).shared.tail ((core_of b).seats seat) y ((core_of b).seats seat).place sealed) run.event
     in
     let still = load_still k found is in
     record {
@@ -186,8 +189,9 @@ module _ (law : Law) (sessions seat : ℕ) (b e : Book) (at : StandsAt law sessi
   decides outcome took =
       let p : Book = took.passed in
       let c : Core = core_of p in
-      let go = loads_go law sessions seat took.loads.steps b p took.loads.took took.loads.all at.state may.sealed in
-      let state = (went_ran law sessions seat IsLoadStep b p took.loads at.state).state in
+      let loads = decision_loads law seat outcome b e took in
+      let go = loads_go law sessions seat loads.steps b p loads.took loads.all at.state may.sealed in
+      let state = (went_ran law sessions seat IsLoadStep b p loads at.state).state in
       let went = finish_still law seat p e took.finish in
       let on = went_ran law sessions seat IsStillStep p e went state in
       let stayed = went_stayed law sessions seat p e went state in

@@ -27,6 +27,7 @@ use Rattle.erm_machine.proofs.QuietKinds.{moves}
 use Rattle.erm_cells.specs.Placed.{place_of}
 use Rattle.erm_cells.specs.Rows.{is_copying, part_with_rows, with_own_row}
 use Rattle.erm_cells.specs.Took.{IsStoreStep}
+use Rattle.erm_cells.proofs.Took.{row_went}
 use Rattle.erm_core_view.specs.Views.{session_of, view_of, work_of}
 use Rattle.erm_core_view.proofs.Moved.{own_after}
 use Rattle.erm_core_view.proofs.Shown.{shows_work}
@@ -144,7 +145,7 @@ set_shows x place oid row active within is only =
     let claims : work_of (part_with_rows place row row true task.Rest x).current ≡ setting oid row (work_of x.current) =
     ap (λ (vs : List VersionWritten). record (work_of x.current) { claims = vs }) (rows_set x.current.writes place oid row within is only)
     in
-    (shows_work x (setting oid row (work_of x.current)) (part_with_rows place row row true task.Rest x) refl active claims).shows
+    (shows_work x (setting oid row (work_of x.current)) (part_with_rows place row row true task.Rest x) refl active refl claims).shows
 
 starts_copy : (u : Task) → may_start u ≡ true → is_copying u ≡ false
 starts_copy (task.Copies word) e = absurd (cc)
@@ -270,11 +271,11 @@ module _ (law : Law) (sessions seat : ℕ) (b e : Book) (at : StandsAt law sessi
     count_then : length part.current.writes ≡ length own.current.writes + 1
     count_then = length-append first.current.writes (claim ∷ []) ∙ ap (λ (z : Part). length z.current.writes + 1) (part_is law b seat at.state seated)
 
-    free_then : is_cleared own.task ≡ false → TookWrite law seat oid b e → claiming_of.Free law sessions seat b b at session active seated oid
+    free_then : is_cleared own.task ≡ false → TookWrite law seat oid row b e → claiming_of.Free law sessions seat b b at session active seated oid
     free_then left took =
         ⊎_elim
         (λ (t : (took.count ≡ 0) × (took.claimed ≡ b)).
-        let stores = took.stores in
+        let stores = row_went law seat took.cell row took.claimed e took.stores in
         let state : IsStateful law took.claimed = subst (λ (z : Book). IsStateful law z) (sym t.1) at.state in
         let same = stores_count law seat stores.steps took.claimed e stores.took stores.all state in
         let before : length ((core_of took.claimed).seats seat).current.writes ≡ length own.current.writes = ap (λ (z : Book). length ((core_of z).seats seat).current.writes) t.1 in
@@ -286,7 +287,7 @@ module _ (law : Law) (sessions seat : ℕ) (b e : Book) (at : StandsAt law sessi
         (λ (t : TookClaim law seat oid took.count b took.claimed). claiming_of.frees law sessions seat b b at session active seated oid t.entry.entry t.entry.at left t.entry.free)
         took.claim
 
-    written_now : is_cleared own.task ≡ false → TookWrite law seat oid b e → DidWrite (view_of sessions (core_of b)) seat oid row (view_of sessions (core_of e))
+    written_now : is_cleared own.task ≡ false → TookWrite law seat oid row b e → DidWrite (view_of sessions (core_of b)) seat oid row (view_of sessions (core_of e))
     written_now left took =
         let v : View = view_of sessions (core_of b) in
         let free = free_then left took in
@@ -302,7 +303,7 @@ module _ (law : Law) (sessions seat : ℕ) (b e : Book) (at : StandsAt law sessi
           set = subst (λ (u : Work). Works v seat (setting oid row u) (view_of sessions (core_of e))) (sym (works_work v mid_view seat work_then works)) whole;
         }
 
-  pub did_write : (oid : ℕ) (row : List ℕ) → is_cleared own.task ≡ false → WritesRow b.view seat oid row e.view → TookWrite law seat oid b e
+  pub did_write : (oid : ℕ) (row : List ℕ) → is_cleared own.task ≡ false → WritesRow b.view seat oid row e.view → TookWrite law seat oid row b e
       → DidWrite (view_of sessions (core_of b)) seat oid row (view_of sessions (core_of e))
   did_write oid row left writes took = by_claim writes.claimed
     where

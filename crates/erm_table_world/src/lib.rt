@@ -6,8 +6,10 @@ mod claims;
 mod log_world;
 mod makes;
 mod reads;
+mod safe_world;
 mod seals;
 mod settles;
+mod snapshots;
 mod table_world;
 #[cfg(test)]
 mod tests;

@@ -23,7 +23,7 @@ pub struct Done<S> {
     pub session: S,
     /// The answers of its first lines. Fewer than it has lines: the worker was told to stop, or memory ran out.
     pub answers: Vec<Answer>,
-    /// The answer of its closing behind the last line. `None` where it was idle, or was left.
+    /// The answer of its closing behind the last line. `None` where it had no transaction, or was left.
     pub closed: Option<Answer>,
     /// Whether memory ran out, for this session or for another one, so that its worker was told to stop.
     pub lacked: bool,

@@ -31,7 +31,7 @@ fn leave<S: SharedSession>(session: &mut S, shared: &S::Shared)
     }
 }
 
-// Closes a session behind its last line where it isn't idle.
+// Closes a session behind its last line where it has a transaction.
 fn end<S: SharedSession, T: Turns, R: Wait>(
     rt: &R,
     session: &mut S,
@@ -44,10 +44,11 @@ fn end<S: SharedSession, T: Turns, R: Wait>(
     ensures ended { WasEnded (phase_at (S.own session.old) (S.seat session.old)) (S.seat session.old) result (S.own session.old) (S.own session.new) }
     ensures waits { result ≡ None → phase_at (S.own session.new) (S.seat session.old) ≡ Sealed → T.told turns.new }
 {
-    if let Phase::Idle = session.phase(shared) {
-        return None;
+    match session.phase(shared) {
+        Phase::Active => close_session(rt, session, shared, turns),
+        Phase::Sealed => close_session(rt, session, shared, turns),
+        _ => None,
     }
-    close_session(rt, session, shared, turns)
 }
 
 // Runs the lines of a session, and closes it where none is left.

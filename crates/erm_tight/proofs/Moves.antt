@@ -60,6 +60,7 @@ now_same (Some t) None stand same now = absurd same
 now_same (Some t) (Some u) world.idle same now = absurd now
 now_same (Some t) (Some u) (world.active w) same now = (subst (λ (es : List Exchange). Marks es w) (sym same) now.0, now.1)
 now_same (Some t) (Some u) (world.sealed w stamp) same now = subst (λ (es : List Exchange). Marks es w) (sym same) now
+now_same (Some t) (Some u) (world.snapshot s) same now = absurd now
 
 same_marked : (p q : Progress) (s : Session) → SameLines p q → IsMarked p s → IsMarked q s
 same_marked p q s same marked = record {
@@ -81,6 +82,8 @@ now_has None (world.sealed u stamp) w now has = absurd now
 now_has (Some t) world.idle w now has = absurd now
 now_has (Some t) (world.active u) w now has = record { told = t; is = refl; marks = subst (λ (x : Work). Marks t.lines x) (work_now (world.active u) w has) now.0 }
 now_has (Some t) (world.sealed u stamp) w now has = record { told = t; is = refl; marks = subst (λ (x : Work). Marks t.lines x) (work_now (world.sealed u stamp) w has) now }
+now_has None (world.snapshot s) w now has = absurd now
+now_has (Some t) (world.snapshot s) w now has = absurd now
 
 -- the active one
 pub record IsGoing (current : Option Transaction) (w : Work) : Type 0 where
@@ -97,6 +100,8 @@ now_active None (world.sealed w stamp) now active = absurd now
 now_active (Some t) world.idle now active = absurd now
 now_active (Some t) (world.active w) now active = record { told = t; is = refl; marks = now.0; steps = now.1.0; run = now.1.1 }
 now_active (Some t) (world.sealed w stamp) now active = cc
+now_active None (world.snapshot s) now active = absurd now
+now_active (Some t) (world.snapshot s) now active = absurd now
 
 seal_marked : (v t : View) (seat stamp : ℕ) (p : Progress) → phase_at v seat ≡ Active → DidSeal v seat stamp t → IsMarked p (v.session seat) → IsMarked p (t.session seat)
 seal_marked v t seat stamp p active did marked =

@@ -38,6 +38,7 @@ begin_now seat None stand t now is active = absurd (cc is)
 begin_now seat (Some u) world.idle t now is active = absurd now
 begin_now seat (Some u) (world.active w) t now is active = let same : u ≡ t = cc is in ap (λ (x : Transaction). x.begin) (sym same) ∙ now.0.work.begin
 begin_now seat (Some u) (world.sealed w stamp) t now is active = absurd (cc active)
+begin_now seat (Some u) (world.snapshot s) t now is active = absurd now
 
 -- NUMBERS of such lines.
 pub new_keys-append : (sessions : ℕ) (before said : List Said) (s : Said) (n : ℕ) → HaveNewKeys sessions before said n → HaveNewKeys sessions before (said ++ s ∷ []) n
@@ -101,7 +102,7 @@ module _ (laws : HistoryLaws) (limits : Laws) (v t : View) (before : List Said) 
         → DidOperation v l.session (command.Put table key value) a t → (mades_by_all v < mades_by_all t) ⊎ (mades_by_all t ≤ mades_by_all v) → Counts l a
     by_growth table key value asks allowed by_it (inr none) = inl none
     by_growth table key value asks allowed by_it (inl some) =
-        let active = wanted Active (phase_at v l.session) allowed in
+        let active = wanted Active (phase_at v l.session) tt allowed in
         inr (
           put_new l a table key value asks did.session active (λ by within below puts. let none = known_none l.session table key value a did.session active by_it by within below puts in absurd (omega (arith, some, none))),
           omega (arith, most, ap makes_of asks),

@@ -4,7 +4,7 @@ use Rattle.erm_model.specs.declared.history.TransactionRecord.{TransactionRecord
 use Rattle.erm_model.specs.declared.history.VersionRead.{VersionRead}
 use Rattle.erm_model.specs.declared.history.VersionWritten.{VersionWritten}
 use Rattle.erm_model.specs.declared.outcome.Phase.{Phase}
-use Rattle.erm_model.specs.declared.outcome.Phase.TheVariants.{Idle, Active, Sealed}
+use Rattle.erm_model.specs.declared.outcome.Phase.TheVariants.{Idle, Active, Sealed, Pending, Safe}
 use Rattle.erm_model.specs.History.{IsPredecessorStamp, OverwritesFrom, OverwritesReadOf, ReadsFrom}
 use Rattle.erm_model.specs.Member.{◌∈◌}
 use Rattle.erm_node.specs.Sound.{sound_law}
@@ -163,6 +163,8 @@ module _ (v t : View) (seat : ℕ) (session : IsSession v seat) where
       done (work_at v seat) world.aborts Aborts (inl (active_with (v.session seat).stand is)) did (λ holds. tt) tt (λ q p. refl)
   closed_as a Active is closes did = absurd closes
   closed_as a Sealed is closes did = decided v t seat None a session tt did
+  closed_as a Pending is closes did = absurd did
+  closed_as a Safe is closes did = absurd did
 
 pub lined : (v : View) (l : ScriptLine) (a : Answer) (t : View) → DidLine v l a t → Lined v l.session l.command a t
 lined v l a t did = asked_line v t l.session did.session l.command a (refusal_of (phase_at v l.session) l.command) refl did.fits did.did

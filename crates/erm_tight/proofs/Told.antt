@@ -77,6 +77,7 @@ module _ (v : View) (sessions : ℕ) (said : List Said) (of : sessions ≡ v.ope
   unfinished : (seat : ℕ) (current : Option Transaction) (stand : Stand) → TellsNow seat current stand → (t : Transaction) → t ∈ option_to_list current → t.ending ≡ Unfinished
   unfinished seat None stand now t m = absurd (none_in_nil t m)
   unfinished seat (Some u) world.idle now t m = absurd now
+  unfinished seat (Some u) (world.snapshot s) now t m = absurd now
   unfinished seat (Some u) (world.active w) now t (zero, at) = let same : u ≡ t = cc in ap (λ (x : Transaction). x.ending) (sym same) ∙ now.0.unfinished
   unfinished seat (Some u) (world.sealed w stamp) now t (zero, at) = let same : u ≡ t = cc in ap (λ (x : Transaction). x.ending) (sym same) ∙ now.0.unfinished
   unfinished seat (Some u) (world.active w) now t (suc k, at) = cc

@@ -2,7 +2,7 @@
 use Rattle.std.proofs.Common.{◌≡◌, ◌≢◌, ◌⊎◌, ℕ, cond, List, [], ◌∷◌, map, fold, None, refl, sym, ap, ◌∙◌, subst, inl, inr, ⊎_elim, eq-eqb, ne_eqb}
 use Rattle.std.proofs.lemmas.Bool.{cases_eq}
 use Rattle.erm_model.specs.declared.outcome.Phase.{Phase}
-use Rattle.erm_model.specs.declared.outcome.Phase.TheVariants.{Idle, Active, Sealed}
+use Rattle.erm_model.specs.declared.outcome.Phase.TheVariants.{Idle, Active, Sealed, Pending, Safe}
 use Rattle.erm_model.specs.Member.{◌∈◌}
 use Rattle.erm_model.proofs.Members.{none_in_nil, ∈-behind}
 use Rattle.erm_machine.proofs.Listed.{∈-cons, ∈-head}
@@ -96,6 +96,8 @@ idle_now : (phase : Phase) (v : View) (seat : ℕ) (a : Answer) (t : View) → p
 idle_now Idle v seat a t is did = did
 idle_now Active v seat a t is did = cc
 idle_now Sealed v seat a t is did = cc
+idle_now Pending v seat a t is did = cc
+idle_now Safe v seat a t is did = cc
 
 -- an answer that closes a session leaves it idle
 leaves_idle : (phase x : Phase) (a : Answer) → Closes phase a → phase_after None a x ≡ Idle
@@ -105,6 +107,8 @@ leaves_idle Active x a fits = absurd fits
 leaves_idle Sealed x (answer.Committed stamp succ pred) fits = refl
 leaves_idle Sealed x (answer.Excluded stamp succ pred) fits = refl
 leaves_idle Sealed x a fits = absurd fits
+leaves_idle Pending x a fits = absurd fits
+leaves_idle Safe x a fits = absurd fits
 
 pub idle_after : (v : View) (seat : ℕ) (a : Answer) (t : View) → DidEnd v seat a t → phase_at t seat ≡ Idle
 idle_after v seat a t done = sym (turn_end v seat a t done).phase ∙ leaves_idle (phase_at v seat) (phase_at v seat) a done.fits

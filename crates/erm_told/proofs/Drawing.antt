@@ -208,6 +208,7 @@ abbrev pub stamp_at : Stand → ℕ
 stamp_at world.idle = 0
 stamp_at (world.active w) = 0
 stamp_at (world.sealed w stamp) = stamp
+stamp_at (world.snapshot s) = 0
 
 decided_tail : (v : View) (seat : ℕ) (a : Answer) (t : View) → DidDecide v seat a t → t.tail ≡ v.tail
 decided_tail v seat (answer.Committed at succ pred) t (r, at_is, after, before, (w, own, stand, ready, settled)) = settled.0.tail

@@ -24,6 +24,7 @@ abbrev pub Passes : Stand → Session → Type 0
 Passes world.idle t = Unit {0}
 Passes (world.active w) t = IsLater w t
 Passes (world.sealed w stamp) t = IsStillSealed w stamp t
+Passes (world.snapshot s) t = Unit {0}
 
 pub continues : (s t : Session) (more : List Finished) → t.over ≡ s.over ++ more → Passes s.stand t → Continues s t
 continues s t more over passes = record {
@@ -41,6 +42,7 @@ passes_still : (stand : Stand) (s : Session) → s.stand ≡ stand → Passes st
 passes_still world.idle s is = tt
 passes_still (world.active w) s is = (w, extends_itself w, inl is)
 passes_still (world.sealed w stamp) s is = inl is
+passes_still (world.snapshot r) s is = tt
 
 -- a session that is the same
 pub continues_itself : (s t : Session) → t ≡ s → Continues s t

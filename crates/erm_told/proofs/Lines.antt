@@ -1,7 +1,7 @@
 -- Each line of a script that was answered, and each session that was closed, is a turn of its session.
 use Rattle.std.proofs.Common.{◌≡◌, ℕ, List, [], Option, Some, None, refl, sym, ap, ◌∙◌, subst, le_trans}
 use Rattle.erm_model.specs.declared.outcome.Phase.{Phase}
-use Rattle.erm_model.specs.declared.outcome.Phase.TheVariants.{Idle, Active, Sealed}
+use Rattle.erm_model.specs.declared.outcome.Phase.TheVariants.{Idle, Active, Sealed, Pending, Safe}
 use Rattle.erm_model.specs.Run.{Step}
 use Rattle.erm_report.specs.declared.answer.Answer.{Answer}
 use Rattle.erm_report.specs.declared.answer.Answer.TheVariants as answer
@@ -34,6 +34,14 @@ phase_refuses (Some Active) Sealed r is = subst (λ (a : Answer). refusal_in a �
 phase_refuses (Some Sealed) Idle r is = subst (λ (a : Answer). refusal_in a ≡ Some a) (the_answer answer.NotSealed r is) refl
 phase_refuses (Some Sealed) Active r is = subst (λ (a : Answer). refusal_in a ≡ Some a) (the_answer answer.NotSealed r is) refl
 phase_refuses (Some Sealed) Sealed r is = cc
+phase_refuses (Some Idle) Pending r is = subst (λ (a : Answer). refusal_in a ≡ Some a) (the_answer answer.NotIdle r is) refl
+phase_refuses (Some Idle) Safe r is = subst (λ (a : Answer). refusal_in a ≡ Some a) (the_answer answer.NotIdle r is) refl
+phase_refuses (Some Active) Pending r is = subst (λ (a : Answer). refusal_in a ≡ Some a) (the_answer answer.NoTransaction r is) refl
+phase_refuses (Some Active) Safe r is = subst (λ (a : Answer). refusal_in a ≡ Some a) (the_answer answer.NoTransaction r is) refl
+phase_refuses (Some Sealed) Pending r is = subst (λ (a : Answer). refusal_in a ≡ Some a) (the_answer answer.NotSealed r is) refl
+phase_refuses (Some Sealed) Safe r is = subst (λ (a : Answer). refusal_in a ≡ Some a) (the_answer answer.NotSealed r is) refl
+phase_refuses (Some Pending) phase r is = cc
+phase_refuses (Some Safe) phase r is = cc
 
 pub quiet_phase : (asked : Option Command) (r : Answer) (phase : Phase) → refusal_in r ≡ Some r → phase_after asked r phase ≡ phase
 quiet_phase asked answer.NotIdle phase is = refl
@@ -60,11 +68,15 @@ is_idle_at : (phase : Phase) → refusal_for (Some Idle) phase ≡ None → phas
 is_idle_at Idle none = refl
 is_idle_at Active none = cc
 is_idle_at Sealed none = cc
+is_idle_at Pending none = cc
+is_idle_at Safe none = cc
 
 is_active_at : (phase : Phase) → refusal_for (Some Active) phase ≡ None → phase ≡ Active
 is_active_at Idle none = cc
 is_active_at Active none = refl
 is_active_at Sealed none = cc
+is_active_at Pending none = cc
+is_active_at Safe none = cc
 
 -- THE DECISION. A sealed transaction is decided, or waits.
 turn_decides : (v : View) (seat : ℕ) (asked : Option Command) (a : Answer) (t : View) → ((b : Answer) → added asked b ≡ [])
@@ -155,6 +167,8 @@ closes : (v : View) (seat : ℕ) (a : Answer) (t : View) (phase : Phase) → pha
 closes v seat a t Idle is fits did = absurd did
 closes v seat a t Active is fits did = closes_active v seat a t is fits did
 closes v seat a t Sealed is fits did = turn_decides v seat None a t (λ b. refl) refl did
+closes v seat a t Pending is fits did = absurd did
+closes v seat a t Safe is fits did = absurd did
 
 pub turn_end : (v : View) (seat : ℕ) (a : Answer) (t : View) → DidEnd v seat a t → Turn v seat None a t
 turn_end v seat a t done = closes v seat a t (phase_at v seat) refl done.fits done.did

@@ -107,6 +107,7 @@ told_now v seat t (world.sealed w drawn) is tells =
     told_current v seat t w (subst (λ (at : Stand). IsCurrent at w) (sym is) refl) tells.0
     (λ stamp sealed. ⊎_elim (λ (none : t.sealed ≡ None). no_number t.sealed stamp ((v.session seat).stand ≡ world.sealed w stamp) none sealed)
     (λ (some : t.sealed ≡ Some drawn). is ∙ ap (λ (n : ℕ). world.sealed w n) (the_number drawn stamp (sym some ∙ sealed))) tells.1)
+told_now v seat t (world.snapshot s) is tells = absurd tells
 
 -- as many are told to be over as are
 pub same_length : (seat : ℕ) (ts : List Transaction) (fs : List Finished) → TellsOver seat ts fs → length ts ≡ length fs
@@ -120,6 +121,7 @@ number_now : (seat : ℕ) (t : Transaction) (stand : Stand) (number : ℕ) → T
 number_now seat t world.idle number tells is = absurd tells
 number_now seat t (world.active w) number tells is = tells.0.work.number ∙ is w refl
 number_now seat t (world.sealed w stamp) number tells is = tells.0.work.number ∙ is w refl
+number_now seat t (world.snapshot s) number tells is = absurd tells
 
 -- what stands in a list, or behind it
 at_either : {X : Type 0} (xs : List X) (o : Option X) (k : ℕ) (x : X) → slice_get (xs ++ option_to_list o) k ≡ Some x → (slice_get xs k ≡ Some x) ⊎ ((o ≡ Some x) × (k ≡ length xs))

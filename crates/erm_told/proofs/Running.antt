@@ -6,6 +6,7 @@ use Rattle.erm_node.specs.Sound.{sound_law}
 use Rattle.erm_world.specs.Face.{Goes, Grows, ends, same, works}
 use Rattle.erm_world.specs.Going.{Extends}
 use Rattle.erm_world.specs.Onward.{extends_then, goes_itself, goes_then}
+use Rattle.erm_world.specs.Snapshots.{snapshot_not_active}
 use Rattle.erm_world.specs.World.{Finished, Session, Stand, View, Work, phase_at, phase_of, work_at, work_of}
 use Rattle.erm_world.specs.World as world
 use Rattle.erm_world.proofs.Txns.{went}
@@ -17,6 +18,7 @@ pub active_in : (stand : Stand) → phase_of stand ≡ Active → stand ≡ worl
 active_in world.idle active = cc
 active_in (world.active w) active = refl
 active_in (world.sealed w stamp) active = cc
+active_in (world.snapshot s) active = absurd (snapshot_not_active s active)
 
 -- an active session isn't idle, and what it has is its work
 pub not_idle : (stand : Stand) (w : Work) (P : Type 0) → stand ≡ world.active w → stand ≡ world.idle → P

@@ -3,7 +3,7 @@ use Rattle.std.proofs.Common.{◌≡◌, ◌≢◌, ℕ, zero, suc, ◌<◌, Boo
 use Rattle.std.specs.List.{range_with_len}
 use Rattle.std.proofs.lemmas.List.Sums.{fold-append}
 use Rattle.erm_model.specs.declared.outcome.Phase.{Phase}
-use Rattle.erm_model.specs.declared.outcome.Phase.TheVariants.{Idle, Active, Sealed}
+use Rattle.erm_model.specs.declared.outcome.Phase.TheVariants.{Idle, Active, Sealed, Pending, Safe}
 use Rattle.erm_model.specs.Member.{◌∈◌}
 use Rattle.erm_machine.proofs.Listed.{∈-filter, ∈-filter_from, ∈-map, ∈-map_from}
 use Rattle.erm_node.specs.Sound.{sound_law}
@@ -173,11 +173,15 @@ module _ (v t : View) (script : List ScriptLine) (answers : List Answer) (run : 
       closes_left Idle a fits = absurd fits
       closes_left Active a fits = refl
       closes_left Sealed a fits = refl
+      closes_left Pending a fits = absurd fits
+      closes_left Safe a fits = absurd fits
 
       idle_left : (phase : Phase) → phase ≡ Idle → not (is_idle phase) ≡ true → ⊥
       idle_left Idle is left = cc
       idle_left Active is left = cc
       idle_left Sealed is left = cc
+      idle_left Pending is left = cc
+      idle_left Safe is left = cc
 
       closed_are_left : (s : ℕ) → s ∈ map (λ (c : Closed). c.session) closed → s ∈ filter is_left (range_with_len 1 v.opening.sessions)
       closed_are_left s m =

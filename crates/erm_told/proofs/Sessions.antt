@@ -71,6 +71,7 @@ unchanged_told seat asked a (Some t) (world.active w) none told =
     (lined seat asked a t w w refl refl (λ before. same_run w (added asked a) before none) told.0, told.1)
 unchanged_told seat asked a (Some t) (world.sealed w stamp) none told =
     (lined seat asked a t w w refl refl (λ before. same_run w (added asked a) before none) told.0, told.1)
+unchanged_told seat asked a (Some t) (world.snapshot s) none told = absurd told
 
 -- a transaction of the same name
 of_work : (seat : ℕ) (t u : Transaction) (w : Work) → u.session ≡ t.session → u.number ≡ t.number → u.begin ≡ t.begin → TellsWork seat t w → TellsWork seat u w

@@ -6,6 +6,7 @@ use Rattle.erm_report.specs.declared.answer.Answer.{Answer}
 use Rattle.erm_report.specs.declared.answer.Answer.TheVariants as answer
 use Rattle.erm_script.specs.declared.script.Command.{Command}
 use Rattle.erm_world.specs.Calls.{Becomes, DidAbort, DidBegin, DidSeal, IsDone}
+use Rattle.erm_world.specs.Snapshots.{snapshot_not_idle}
 use Rattle.erm_world.specs.World.{Fate, Finished, Opening, Session, Stand, View, Work, phase_at, phase_of, stamp_of, work_at, work_of}
 use Rattle.erm_world.specs.World as world
 use Rattle.erm_maps.specs.Runs.{IsRunOf}
@@ -31,6 +32,7 @@ pub idle_in : (stand : Stand) → phase_of stand ≡ Idle → stand ≡ world.id
 idle_in world.idle idle = refl
 idle_in (world.active w) idle = cc
 idle_in (world.sealed w stamp) idle = cc
+idle_in (world.snapshot s) idle = absurd (snapshot_not_idle s idle)
 
 -- a tail that is the same, and one that went on
 pub same_tail : (m n : ℕ) → n ≡ m → m ≤ n

@@ -77,6 +77,7 @@ tells_work : (seat : ℕ) (t : Transaction) (stand : Stand) → TellsNow seat (S
 tells_work seat t world.idle tells = absurd tells
 tells_work seat t (world.active w) tells = tells.0.work
 tells_work seat t (world.sealed w stamp) tells = tells.0.work
+tells_work seat t (world.snapshot s) tells = absurd tells
 
 -- the stamp that is told of it later is the end of the log before the line, and the block goes behind it
 pub record Drawn (stamp m n : ℕ) : Type 0 where

@@ -3,7 +3,7 @@
 use Rattle.std.proofs.Common.{◌≡◌, ◌⊎◌, ℕ, zero, suc, ◌+◌, ◌<◌, ◌≤◌, List, [], ◌∷◌, ◌++◌, length, Option, Some, None, refl, sym, ap, ◌∙◌, subst, inl, inr, ⊎_elim, arith, le_trans}
 use Rattle.erm_model.specs.declared.limits.TheConstants.{LEAST_BLOCK}
 use Rattle.erm_model.specs.declared.outcome.Phase.{Phase}
-use Rattle.erm_model.specs.declared.outcome.Phase.TheVariants.{Idle, Active, Sealed}
+use Rattle.erm_model.specs.declared.outcome.Phase.TheVariants.{Idle, Active, Sealed, Pending, Safe}
 use Rattle.erm_model.specs.declared.row_stop.RowStop.{RowStop}
 use Rattle.erm_model.specs.declared.row_stop.RowStop.TheVariants as stop
 use Rattle.erm_model.specs.Member.{◌∈◌}
@@ -458,6 +458,8 @@ is_active_at : (phase : Phase) → refusal_of phase command.Abort ≡ None → p
 is_active_at Idle none = cc
 is_active_at Active none = refl
 is_active_at Sealed none = cc
+is_active_at Pending none = cc
+is_active_at Safe none = cc
 
 command_drew : (f : View) (seat : ℕ) (c : Command) (a : Answer) (v t : View) → refusal_of (phase_at v seat) c ≡ None → LieBelow seat v → DidCommandBeside f seat c a v t → Drew f seat (Some c) a v t
 command_drew f seat command.Begin (answer.Began stamp) v t none below (u, passes, did) = begin_drew f seat stamp (Some command.Begin) v u t passes did below

@@ -1,7 +1,7 @@
 -- Each own line of a session that was answered, and its close, is a turn of it.
 use Rattle.std.proofs.Common.{◌≡◌, ℕ, List, [], length, append-nil, Option, Some, None, refl, sym, ap, ◌∙◌, subst, arith, ◌+◌}
 use Rattle.erm_model.specs.declared.outcome.Phase.{Phase}
-use Rattle.erm_model.specs.declared.outcome.Phase.TheVariants.{Idle, Active, Sealed}
+use Rattle.erm_model.specs.declared.outcome.Phase.TheVariants.{Idle, Active, Sealed, Pending, Safe}
 use Rattle.erm_model.specs.Run.{Step}
 use Rattle.erm_report.specs.declared.answer.Answer.{Answer}
 use Rattle.erm_report.specs.declared.answer.Answer.TheVariants as answer
@@ -88,11 +88,15 @@ is_idle_at : (phase : Phase) → refusal_of phase command.Begin ≡ None → pha
 is_idle_at Idle none = refl
 is_idle_at Active none = cc
 is_idle_at Sealed none = cc
+is_idle_at Pending none = cc
+is_idle_at Safe none = cc
 
 is_active_at : (phase : Phase) → refusal_of phase command.Abort ≡ None → phase ≡ Active
 is_active_at Idle none = cc
 is_active_at Active none = refl
 is_active_at Sealed none = cc
+is_active_at Pending none = cc
+is_active_at Safe none = cc
 
 -- THE LINES.
 module _ (runs : (number begin : ℕ) → IsRunOf (world.begun number begin) []) (stay : (w u : Work) (steps : List Step) → Extends w u → IsAnswered w steps → IsAnswered u steps) where
@@ -141,6 +145,8 @@ closes : (seat : ℕ) (a : Answer) (v t : View) (phase : Phase) → phase_at v s
 closes seat a v t Idle is fits did = absurd did
 closes seat a v t Active is fits did = closes_active seat a v t is fits did
 closes seat a v t Sealed is fits did = turns_decides seat None a v t did
+closes seat a v t Pending is fits did = absurd did
+closes seat a v t Safe is fits did = absurd did
 
 pub turns_end : (seat : ℕ) (a : Answer) (v t : View) → DidEndBeside seat a v t → Turns seat None a v t
 turns_end seat a v t did = closes seat a v t (phase_at v seat) refl did.fits did.did

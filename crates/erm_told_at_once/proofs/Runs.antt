@@ -3,7 +3,7 @@ use Rattle.std.proofs.Common.{◌≡◌, ◌≢◌, ◌⊎◌, ℕ, zero, suc, �
 use Rattle.std.specs.List.{range_with_len}
 use Rattle.std.proofs.lemmas.Bool.{cases_eq}
 use Rattle.erm_model.specs.declared.outcome.Phase.{Phase}
-use Rattle.erm_model.specs.declared.outcome.Phase.TheVariants.{Idle, Active, Sealed}
+use Rattle.erm_model.specs.declared.outcome.Phase.TheVariants.{Idle, Active, Sealed, Pending, Safe}
 use Rattle.erm_model.specs.Member.{◌∈◌}
 use Rattle.erm_model.specs.Run.{Step}
 use Rattle.erm_model.proofs.Members.{none_in_nil, ∈-behind}
@@ -332,11 +332,15 @@ module _ (runs : (number begin : ℕ) → IsRunOf (world.begun number begin) [])
     closes_left Idle a fits = absurd fits
     closes_left Active a fits = refl
     closes_left Sealed a fits = refl
+    closes_left Pending a fits = absurd fits
+    closes_left Safe a fits = absurd fits
 
     idle_left : (phase : Phase) → phase ≡ Idle → not (is_idle phase) ≡ true → ⊥
     idle_left Idle is left = cc
     idle_left Active is left = cc
     idle_left Sealed is left = cc
+    idle_left Pending is left = cc
+    idle_left Safe is left = cc
 
     closed_are_left : (s : ℕ) → s ∈ map (λ (c : Closed). c.session) closed → s ∈ filter is_left (range_with_len 1 v.opening.sessions)
     closed_are_left s m =

@@ -330,6 +330,7 @@ module _ (runs : (number begin : ℕ) → IsRunOf (world.begun number begin) [])
     one_now world.idle w x now then_now = absurd now
     one_now (world.active u) w x now then_now = sym now ∙ then_now
     one_now (world.sealed u stamp) w x now then_now = sym now ∙ then_now
+    one_now (world.snapshot s) w x now then_now = sym now ∙ then_now
 
     one_name : (w x : Work) → Has f seat w → Has f seat x → w.number ≡ x.number → w ≡ x
     one_name w x (inl (g, over, is)) (inl (h, then_over, then_is)) same =

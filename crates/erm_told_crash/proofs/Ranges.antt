@@ -2,7 +2,7 @@
 use Rattle.std.proofs.Common.{◌≡◌, ◌≢◌, ℕ, ◌+◌, ◌<◌, ◌≤◌, ◌⊎◌, List, [], ◌∷◌, ◌++◌, length, Option, Some, None, refl, sym, ap, ◌∙◌, subst, inl, inr, ⊎_elim, arith}
 use Rattle.std.proofs.lemmas.Bool.{cases_eq}
 use Rattle.erm_model.specs.declared.outcome.Phase.{Phase}
-use Rattle.erm_model.specs.declared.outcome.Phase.TheVariants.{Idle, Active, Sealed}
+use Rattle.erm_model.specs.declared.outcome.Phase.TheVariants.{Idle, Active, Sealed, Pending, Safe}
 use Rattle.erm_model.specs.Member.{◌∈◌}
 use Rattle.erm_model.proofs.Members.{none_in_nil, ∈-push}
 use Rattle.erm_report.specs.declared.answer.Answer.{Answer}
@@ -213,6 +213,8 @@ closes_apart : (v : View) (seat : ℕ) (a : Answer) (t : View) (phase : Phase) �
 closes_apart v seat a t Idle did are = absurd did
 closes_apart v seat a t Active did are = apart_then v t (aborted v seat (work_at v seat) t did) are
 closes_apart v seat a t Sealed did are = apart_then v t (decides v seat a t did) are
+closes_apart v seat a t Pending did are = absurd did
+closes_apart v seat a t Safe did are = absurd did
 
 -- moves in turn
 moves_apart : (moves : List Move) (v t : View) → IsExecution v moves t → StandApart v → StandApart t

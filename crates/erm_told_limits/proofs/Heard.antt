@@ -3,7 +3,7 @@ use Rattle.std.proofs.Common.{◌≡◌, ℕ, ◌+◌, ◌≤◌, ◌⊎◌, Lis
 use Rattle.std.proofs.lemmas.List.Sums.{sum_by-append}
 use Rattle.std.specs.Option.{option_to_list}
 use Rattle.erm_model.specs.declared.outcome.Phase.{Phase}
-use Rattle.erm_model.specs.declared.outcome.Phase.TheVariants.{Active, Idle, Sealed}
+use Rattle.erm_model.specs.declared.outcome.Phase.TheVariants.{Active, Idle, Sealed, Pending, Safe}
 use Rattle.erm_model.specs.declared.row_stop.RowStop.{RowStop}
 use Rattle.erm_model.specs.declared.row_stop.RowStop.TheVariants as stop
 use Rattle.erm_world.specs.World.{Session, View, begun, work_at, work_of}
@@ -121,6 +121,14 @@ heard_refusal seat asked p None phase r e = absurd (cc)
 heard_refusal seat asked p (Some Idle) Idle r e = absurd (cc)
 heard_refusal seat asked p (Some Active) Active r e = absurd (cc)
 heard_refusal seat asked p (Some Sealed) Sealed r e = absurd (cc)
+heard_refusal seat asked p (Some Idle) Pending r e = let is : answer.NotIdle ≡ r = cc in subst (λ (a : Answer). heard seat asked a p ≡ p) is refl
+heard_refusal seat asked p (Some Idle) Safe r e = let is : answer.NotIdle ≡ r = cc in subst (λ (a : Answer). heard seat asked a p ≡ p) is refl
+heard_refusal seat asked p (Some Active) Pending r e = let is : answer.NoTransaction ≡ r = cc in subst (λ (a : Answer). heard seat asked a p ≡ p) is refl
+heard_refusal seat asked p (Some Active) Safe r e = let is : answer.NoTransaction ≡ r = cc in subst (λ (a : Answer). heard seat asked a p ≡ p) is refl
+heard_refusal seat asked p (Some Sealed) Pending r e = let is : answer.NotSealed ≡ r = cc in subst (λ (a : Answer). heard seat asked a p ≡ p) is refl
+heard_refusal seat asked p (Some Sealed) Safe r e = let is : answer.NotSealed ≡ r = cc in subst (λ (a : Answer). heard seat asked a p ≡ p) is refl
+heard_refusal seat asked p (Some Pending) phase r e = absurd (cc)
+heard_refusal seat asked p (Some Safe) phase r e = absurd (cc)
 
 -- a transaction that begins has done nothing
 module _ (v : View) (seat : ℕ) (t : View) (stamp : ℕ) where

@@ -65,13 +65,13 @@ module _ (rows_below : HaveRowsBelow) (ways : Ways) (v : View) (seat : ℕ) (t :
 
   module _ (has_run : phase_at v seat ≡ Active → HasRun v seat) where
     pub command_looks : (c : Command) (a : Answer) → refusal_of (phase_at v seat) c ≡ None → IsInRange c → DidCommand v seat c a t → Looks c v seat t
-    command_looks command.Begin a allowed range did = inr (began a (wanted Idle (phase_at v seat) allowed) did)
-    command_looks (command.Get table key) a allowed range did = let active = wanted Active (phase_at v seat) allowed in operated (command.Get table key) range active (has_run active) a did
-    command_looks (command.Put table key value) a allowed range did = let active = wanted Active (phase_at v seat) allowed in operated (command.Put table key value) range active (has_run active) a did
-    command_looks (command.Del table key) a allowed range did = let active = wanted Active (phase_at v seat) allowed in operated (command.Del table key) range active (has_run active) a did
+    command_looks command.Begin a allowed range did = inr (began a (wanted Idle (phase_at v seat) tt allowed) did)
+    command_looks (command.Get table key) a allowed range did = let active = wanted Active (phase_at v seat) tt allowed in operated (command.Get table key) range active (has_run active) a did
+    command_looks (command.Put table key value) a allowed range did = let active = wanted Active (phase_at v seat) tt allowed in operated (command.Put table key value) range active (has_run active) a did
+    command_looks (command.Del table key) a allowed range did = let active = wanted Active (phase_at v seat) tt allowed in operated (command.Del table key) range active (has_run active) a did
     command_looks (command.Next table from) a allowed range did = inl (omega arith)
     command_looks (command.Scan table low high) a allowed range did = inl (omega arith)
-    command_looks (command.Tidy table key) a allowed range did = let active = wanted Active (phase_at v seat) allowed in operated (command.Tidy table key) range active (has_run active) a did
+    command_looks (command.Tidy table key) a allowed range did = let active = wanted Active (phase_at v seat) tt allowed in operated (command.Tidy table key) range active (has_run active) a did
     command_looks command.Seal (answer.Sealed stamp) allowed range did = inr (looked_nothing v seat t 0 0 0 0 (sealed Never v seat t stamp did))
     command_looks command.Settle a allowed range did = inr (looked_nothing v seat t 0 0 0 1 (decided Never v seat t a did))
     command_looks command.Commit a allowed range did =

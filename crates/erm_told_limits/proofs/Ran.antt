@@ -11,6 +11,7 @@ use Rattle.erm_world.specs.Face as face
 use Rattle.erm_world.specs.Going.{Extends, found_by}
 use Rattle.erm_world.specs.Laws.{FitsWork}
 use Rattle.erm_world.specs.Onward.{extends_then}
+use Rattle.erm_world.specs.Snapshots.{snapshot_not_active}
 use Rattle.erm_world.specs.Works.{is_claimed, row_read, seen_by}
 use Rattle.erm_world.specs.World.{Session, Stand, View, Work, phase_at, phase_of, work_at, work_of}
 use Rattle.erm_world.specs.World as world
@@ -23,6 +24,7 @@ pub active_with : (stand : Stand) → phase_of stand ≡ Active → stand ≡ wo
 active_with world.idle active = cc
 active_with (world.active w) active = refl
 active_with (world.sealed w stamp) active = cc
+active_with (world.snapshot s) active = absurd (snapshot_not_active s active)
 
 -- a work that has not gone on
 pub same_work : (w : Work) → Extends w w

@@ -85,6 +85,7 @@ stamp_sealed w u m n is = ap stamp_of is
     stamp_of world.idle = 0
     stamp_of (world.active x) = 0
     stamp_of (world.sealed x k) = k
+    stamp_of (world.snapshot s) = 0
 
 commit_starts : (v : View) (seat : ℕ) (a : Answer) (t : View) → DidCommit v seat a t → (stamp : ℕ) → stamp_drawn (Some command.Commit) a ≡ Some stamp → stamp ≡ v.tail
 commit_starts v seat a t did stamp told =

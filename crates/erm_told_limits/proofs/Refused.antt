@@ -1,7 +1,7 @@
 -- Lines that were refused for want of room: the calls of an operation were cut off.
 use Rattle.std.proofs.Common.{◌≡◌, ℕ, Option, Some, None, refl, sym, ap, ◌∙◌, subst}
 use Rattle.erm_model.specs.declared.outcome.Phase.{Phase}
-use Rattle.erm_model.specs.declared.outcome.Phase.TheVariants.{Active, Idle, Sealed}
+use Rattle.erm_model.specs.declared.outcome.Phase.TheVariants.{Active, Idle, Sealed, Pending, Safe}
 use Rattle.erm_model.specs.declared.row_stop.RowStop.{RowStop}
 use Rattle.erm_model.specs.declared.row_stop.RowStop.TheVariants as stop
 use Rattle.erm_world.specs.World.{View, phase_at}
@@ -54,6 +54,14 @@ kind_of None phase r e = absurd (cc)
 kind_of (Some Idle) Idle r e = absurd (cc)
 kind_of (Some Active) Active r e = absurd (cc)
 kind_of (Some Sealed) Sealed r e = absurd (cc)
+kind_of (Some Idle) Pending r e = let is : answer.NotIdle ≡ r = cc in subst (λ (a : Answer). refusal_in a ≡ Some a) is refl
+kind_of (Some Idle) Safe r e = let is : answer.NotIdle ≡ r = cc in subst (λ (a : Answer). refusal_in a ≡ Some a) is refl
+kind_of (Some Active) Pending r e = let is : answer.NoTransaction ≡ r = cc in subst (λ (a : Answer). refusal_in a ≡ Some a) is refl
+kind_of (Some Active) Safe r e = let is : answer.NoTransaction ≡ r = cc in subst (λ (a : Answer). refusal_in a ≡ Some a) is refl
+kind_of (Some Sealed) Pending r e = let is : answer.NotSealed ≡ r = cc in subst (λ (a : Answer). refusal_in a ≡ Some a) is refl
+kind_of (Some Sealed) Safe r e = let is : answer.NotSealed ≡ r = cc in subst (λ (a : Answer). refusal_in a ≡ Some a) is refl
+kind_of (Some Pending) phase r e = absurd (cc)
+kind_of (Some Safe) phase r e = absurd (cc)
 
 -- an active session's operation was cut off so
 pub record WasFull (v : View) (seat : ℕ) (c : Command) (why : RowStop) (t : View) : Type 0 where
@@ -92,7 +100,7 @@ module _ (a : Answer) (why : RowStop) (full : Full a why) (v : View) (seat : ℕ
   cut_off c asks allowed did =
       let refused = full.operated v seat c t did in
       record {
-        active = wanted Active (phase_at v seat) (subst (λ (want : Option Phase). refusal_for want (phase_at v seat) ≡ None) asks allowed);
+        active = wanted Active (phase_at v seat) tt (subst (λ (want : Option Phase). refusal_for want (phase_at v seat) ≡ None) asks allowed);
         cut = subst (λ (w : RowStop). WereCutOff v seat (FrontOf c) (AsksOf c) w t) (is_stop refused.0 why a full.stop_is refused.1) refused.2;
       }
 

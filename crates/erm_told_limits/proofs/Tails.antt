@@ -58,12 +58,12 @@ module _ (v : View) (seat : ℕ) (t : View) where
 
   commanded : (c : Command) (a : Answer) → refusal_of (phase_at v seat) c ≡ None → DidCommand v seat c a t → t.tail ≤ v.tail + GREATEST_BLOCK * draws_of c
   commanded command.Begin a allowed did = operation command.Begin a (began_tail a did)
-  commanded (command.Get table key) a allowed did = operation (command.Get table key) a (operated_tail (wanted Active (phase_at v seat) allowed) (command.Get table key) a did)
-  commanded (command.Put table key value) a allowed did = operation (command.Put table key value) a (operated_tail (wanted Active (phase_at v seat) allowed) (command.Put table key value) a did)
-  commanded (command.Del table key) a allowed did = operation (command.Del table key) a (operated_tail (wanted Active (phase_at v seat) allowed) (command.Del table key) a did)
-  commanded (command.Next table from) a allowed did = operation (command.Next table from) a (operated_tail (wanted Active (phase_at v seat) allowed) (command.Next table from) a did)
-  commanded (command.Scan table low high) a allowed did = operation (command.Scan table low high) a (operated_tail (wanted Active (phase_at v seat) allowed) (command.Scan table low high) a did)
-  commanded (command.Tidy table key) a allowed did = operation (command.Tidy table key) a (operated_tail (wanted Active (phase_at v seat) allowed) (command.Tidy table key) a did)
+  commanded (command.Get table key) a allowed did = operation (command.Get table key) a (operated_tail (wanted Active (phase_at v seat) tt allowed) (command.Get table key) a did)
+  commanded (command.Put table key value) a allowed did = operation (command.Put table key value) a (operated_tail (wanted Active (phase_at v seat) tt allowed) (command.Put table key value) a did)
+  commanded (command.Del table key) a allowed did = operation (command.Del table key) a (operated_tail (wanted Active (phase_at v seat) tt allowed) (command.Del table key) a did)
+  commanded (command.Next table from) a allowed did = operation (command.Next table from) a (operated_tail (wanted Active (phase_at v seat) tt allowed) (command.Next table from) a did)
+  commanded (command.Scan table low high) a allowed did = operation (command.Scan table low high) a (operated_tail (wanted Active (phase_at v seat) tt allowed) (command.Scan table low high) a did)
+  commanded (command.Tidy table key) a allowed did = operation (command.Tidy table key) a (operated_tail (wanted Active (phase_at v seat) tt allowed) (command.Tidy table key) a did)
   commanded command.Seal (answer.Sealed stamp) allowed did = omega (arith, did.tail, did.fits)
   commanded command.Settle a allowed did = operation command.Settle a (decided_tail v seat t a did)
   commanded command.Commit a allowed did = sealed_tail v did.between seat did.stamp t a did.sealed did.decided

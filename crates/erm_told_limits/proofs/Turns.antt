@@ -1,7 +1,7 @@
 -- Each line, whatever its answer: how its session has gone on, that its transaction is a run still, and how far the log went on.
 use Rattle.std.proofs.Common.{◌≡◌, ℕ, ◌≤◌, ◌⊎◌, Bool, true, false, List, [], ◌++◌, Option, Some, None, refl, sym, ap, subst, inl, inr, arith}
 use Rattle.erm_model.specs.declared.outcome.Phase.{Phase}
-use Rattle.erm_model.specs.declared.outcome.Phase.TheVariants.{Active, Idle, Sealed}
+use Rattle.erm_model.specs.declared.outcome.Phase.TheVariants.{Active, Idle, Sealed, Pending, Safe}
 use Rattle.erm_model.specs.declared.row_stop.RowStop.{RowStop}
 use Rattle.erm_model.specs.RowTransaction as rows
 use Rattle.erm_model.specs.RowTransaction.{Event}
@@ -10,6 +10,7 @@ use Rattle.erm_model.specs.Run.{Step}
 use Rattle.erm_node.specs.Sound.{sound_law}
 use Rattle.erm_world.specs.Calls.{DidSeal, IsDone}
 use Rattle.erm_world.specs.Laws.{IsSerializable}
+use Rattle.erm_world.specs.Snapshots.{snapshot_not_idle}
 use Rattle.erm_world.specs.World.{Fate, IsSession, Session, Stand, View, Work, begun, phase_at, phase_of, size_of, work_at, work_of}
 use Rattle.erm_world.specs.World as world
 use Rattle.erm_world.proofs.Txns.{stopped}
@@ -19,7 +20,7 @@ use Rattle.erm_report.specs.declared.answer.Answer.TheVariants as answer
 use Rattle.erm_script.specs.declared.script.Command.{Command}
 use Rattle.erm_script.specs.declared.script.Command.TheVariants as command
 use Rattle.erm_script.specs.declared.script.ScriptLine.{ScriptLine}
-use Rattle.erm_good_report.specs.Phases.{refusal_for, refusal_of}
+use Rattle.erm_good_report.specs.Phases.{HasNoSnapshot, refusal_for, refusal_of}
 use Rattle.erm_good_report.specs.Refusals.{claims_of, makes_of}
 use Rattle.erm_lines.specs.Answers.{DidAsked, DidCommand, DidDecide, DidLine, DidOperation, WasRefusedAs}
 use Rattle.erm_lines.specs.Operations.{AsksOf, DidCalls, FrontOf, WereCutOff, WholeOf}
@@ -30,22 +31,31 @@ use Rattle.erm_told_limits.proofs.Lines.{HasRun, Known, begun_turned, cut_of, cu
 use Rattle.erm_told_limits.proofs.Moved.{Turned, turned_nothing, turned_then, turned_within}
 use Rattle.erm_told_limits.proofs.Reached.{Ways}
 
--- a phase that refuses a command that asks for another is that
-pub wanted : (p q : Phase) → refusal_for (Some p) q ≡ None → q ≡ p
-wanted Idle Idle e = refl
-wanted Active Active e = refl
-wanted Sealed Sealed e = refl
-wanted Idle Active e = absurd (cc)
-wanted Idle Sealed e = absurd (cc)
-wanted Active Idle e = absurd (cc)
-wanted Active Sealed e = absurd (cc)
-wanted Sealed Idle e = absurd (cc)
-wanted Sealed Active e = absurd (cc)
+-- a phase that doesn't refuse a command that asks for one is that
+pub wanted : (p q : Phase) → HasNoSnapshot p → refusal_for (Some p) q ≡ None → q ≡ p
+wanted Idle Idle plain e = refl
+wanted Idle Active plain e = absurd (cc)
+wanted Idle Sealed plain e = absurd (cc)
+wanted Idle Pending plain e = absurd (cc)
+wanted Idle Safe plain e = absurd (cc)
+wanted Active Idle plain e = absurd (cc)
+wanted Active Active plain e = refl
+wanted Active Sealed plain e = absurd (cc)
+wanted Active Pending plain e = absurd (cc)
+wanted Active Safe plain e = absurd (cc)
+wanted Sealed Idle plain e = absurd (cc)
+wanted Sealed Active plain e = absurd (cc)
+wanted Sealed Sealed plain e = refl
+wanted Sealed Pending plain e = absurd (cc)
+wanted Sealed Safe plain e = absurd (cc)
+wanted Pending q plain e = absurd plain
+wanted Safe q plain e = absurd plain
 
 pub idle_stand : (stand : Stand) → phase_of stand ≡ Idle → stand ≡ world.idle
 idle_stand world.idle e = refl
 idle_stand (world.active w) e = absurd (cc)
 idle_stand (world.sealed w stamp) e = absurd (cc)
+idle_stand (world.snapshot s) e = absurd (snapshot_not_idle s e)
 
 module _ (P : ℕ → Type 0) (v : View) (seat : ℕ) (t : View) where
   within_one : (m k : ℕ) (o : ℕ) → o ≤ 1 → Turned P 0 0 o v seat t → Turned P m k 1 v seat t
@@ -90,13 +100,13 @@ module _ (rows_below : HaveRowsBelow) (ways : Ways) (v : View) (seat : ℕ) (t :
 
   module _ (has_run : phase_at v seat ≡ Active → HasRun v seat) where
     commanded : (c : Command) (a : Answer) → refusal_of (phase_at v seat) c ≡ None → DidCommand v seat c a t → Turned (Known c t) (makes_of c) (claims_of c) 1 v seat t
-    commanded command.Begin a allowed did = began a (wanted Idle (phase_at v seat) allowed) did
-    commanded (command.Get table key) a allowed did = let active = wanted Active (phase_at v seat) allowed in operated (command.Get table key) active (has_run active) a did
-    commanded (command.Put table key value) a allowed did = let active = wanted Active (phase_at v seat) allowed in operated (command.Put table key value) active (has_run active) a did
-    commanded (command.Del table key) a allowed did = let active = wanted Active (phase_at v seat) allowed in operated (command.Del table key) active (has_run active) a did
-    commanded (command.Next table from) a allowed did = let active = wanted Active (phase_at v seat) allowed in operated (command.Next table from) active (has_run active) a did
-    commanded (command.Scan table low high) a allowed did = let active = wanted Active (phase_at v seat) allowed in operated (command.Scan table low high) active (has_run active) a did
-    commanded (command.Tidy table key) a allowed did = let active = wanted Active (phase_at v seat) allowed in operated (command.Tidy table key) active (has_run active) a did
+    commanded command.Begin a allowed did = began a (wanted Idle (phase_at v seat) tt allowed) did
+    commanded (command.Get table key) a allowed did = let active = wanted Active (phase_at v seat) tt allowed in operated (command.Get table key) active (has_run active) a did
+    commanded (command.Put table key value) a allowed did = let active = wanted Active (phase_at v seat) tt allowed in operated (command.Put table key value) active (has_run active) a did
+    commanded (command.Del table key) a allowed did = let active = wanted Active (phase_at v seat) tt allowed in operated (command.Del table key) active (has_run active) a did
+    commanded (command.Next table from) a allowed did = let active = wanted Active (phase_at v seat) tt allowed in operated (command.Next table from) active (has_run active) a did
+    commanded (command.Scan table low high) a allowed did = let active = wanted Active (phase_at v seat) tt allowed in operated (command.Scan table low high) active (has_run active) a did
+    commanded (command.Tidy table key) a allowed did = let active = wanted Active (phase_at v seat) tt allowed in operated (command.Tidy table key) active (has_run active) a did
     commanded command.Seal (answer.Sealed stamp) allowed did = within_one (Known command.Seal t) v seat t 0 0 0 (omega arith) (sealed (Known command.Seal t) v seat t stamp did)
     commanded command.Settle a allowed did = decided (Known command.Settle t) v seat t a did
     commanded command.Commit a allowed did =
@@ -174,12 +184,12 @@ module _ (v : View) (seat : ℕ) (t : View) where
   module _ (start : BegunAreRuns) (has_run : phase_at v seat ≡ Active → HasRun v seat) (then : phase_at t seat ≡ Active) where
     command_runs : (c : Command) (a : Answer) → refusal_of (phase_at v seat) c ≡ None → DidCommand v seat c a t → HasRun t seat
     command_runs command.Begin a allowed did = begin_runs start a did has_run then
-    command_runs (command.Get table key) a allowed did = let active = wanted Active (phase_at v seat) allowed in operation_runs (command.Get table key) a did active (has_run active) then
-    command_runs (command.Put table key value) a allowed did = let active = wanted Active (phase_at v seat) allowed in operation_runs (command.Put table key value) a did active (has_run active) then
-    command_runs (command.Del table key) a allowed did = let active = wanted Active (phase_at v seat) allowed in operation_runs (command.Del table key) a did active (has_run active) then
-    command_runs (command.Next table from) a allowed did = let active = wanted Active (phase_at v seat) allowed in operation_runs (command.Next table from) a did active (has_run active) then
-    command_runs (command.Scan table low high) a allowed did = let active = wanted Active (phase_at v seat) allowed in operation_runs (command.Scan table low high) a did active (has_run active) then
-    command_runs (command.Tidy table key) a allowed did = let active = wanted Active (phase_at v seat) allowed in operation_runs (command.Tidy table key) a did active (has_run active) then
+    command_runs (command.Get table key) a allowed did = let active = wanted Active (phase_at v seat) tt allowed in operation_runs (command.Get table key) a did active (has_run active) then
+    command_runs (command.Put table key value) a allowed did = let active = wanted Active (phase_at v seat) tt allowed in operation_runs (command.Put table key value) a did active (has_run active) then
+    command_runs (command.Del table key) a allowed did = let active = wanted Active (phase_at v seat) tt allowed in operation_runs (command.Del table key) a did active (has_run active) then
+    command_runs (command.Next table from) a allowed did = let active = wanted Active (phase_at v seat) tt allowed in operation_runs (command.Next table from) a did active (has_run active) then
+    command_runs (command.Scan table low high) a allowed did = let active = wanted Active (phase_at v seat) tt allowed in operation_runs (command.Scan table low high) a did active (has_run active) then
+    command_runs (command.Tidy table key) a allowed did = let active = wanted Active (phase_at v seat) tt allowed in operation_runs (command.Tidy table key) a did active (has_run active) then
     command_runs command.Seal (answer.Sealed stamp) allowed did = seal_after v seat t stamp did then
     command_runs command.Settle a allowed did = decide_after v seat t a did has_run then
     command_runs command.Commit a allowed did = commit_runs did.between did.stamp a did.sealed did.decided then

@@ -3,7 +3,7 @@ use Rattle.std.proofs.Common.{◌≡◌, ℕ, zero, suc, ◌≤◌, Bool, true, 
 use Rattle.erm_model.specs.declared.outcome.Outcome.{Outcome}
 use Rattle.erm_model.specs.declared.outcome.Outcome.TheVariants as outcome
 use Rattle.erm_model.specs.declared.outcome.Phase.{Phase}
-use Rattle.erm_model.specs.declared.outcome.Phase.TheVariants.{Idle, Active, Sealed}
+use Rattle.erm_model.specs.declared.outcome.Phase.TheVariants.{Idle, Active, Sealed, Pending, Safe}
 use Rattle.erm_model.specs.declared.row_stop.RowStop.{RowStop}
 use Rattle.erm_model.specs.declared.row_stop.RowStop.TheVariants as stop
 use Rattle.erm_model.specs.Rows.{Rows}
@@ -163,6 +163,8 @@ module _ (f : View) (seat : ℕ) (v t : View) where
   beyond_closed Idle a did = absurd did
   beyond_closed Active a (u, passes, did) = beyond_done u _ passes did
   beyond_closed Sealed a did = beyond_decided seat a v t did
+  beyond_closed Pending a did = absurd did
+  beyond_closed Safe a did = absurd did
 
 -- THE OWN RUN
 beyond_move : (f : View) (seat : ℕ) (m : Move) (v t : View) → DidMoveBeside f seat m v t → Beyond v t

@@ -52,12 +52,15 @@ told_active seat None (world.sealed w stamp) tells active = absurd tells
 told_active seat (Some t) world.idle tells active = absurd tells
 told_active seat (Some t) (world.active w) tells active = (t, refl, tells.0.unfinished, tells.0.ran)
 told_active seat (Some t) (world.sealed w stamp) tells active = cc
+told_active seat None (world.snapshot s) tells active = absurd tells
+told_active seat (Some t) (world.snapshot s) tells active = absurd tells
 
 -- an active session isn't sealed
 never_sealed : (stand : Stand) (w : Work) (stamp : ℕ) → phase_of stand ≡ Active → stand ≡ world.sealed w stamp → ⊥
 never_sealed world.idle w stamp active is = absurd (cc is)
 never_sealed (world.active u) w stamp active is = absurd (cc is)
 never_sealed (world.sealed u at) w stamp active is = absurd (cc active)
+never_sealed (world.snapshot s) w stamp active is = absurd (cc is)
 
 -- with its transaction aborted, as this work
 abbrev ended_with : Session → Work → Session

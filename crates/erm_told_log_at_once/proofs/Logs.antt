@@ -17,6 +17,7 @@ abbrev kept_stand : Undecided → Stand → Option Undecided
 kept_stand u world.idle = None
 kept_stand u (world.active w) = None
 kept_stand u (world.sealed w stamp) = Some u
+kept_stand u (world.snapshot s) = None
 
 abbrev kept : View → Option Undecided → Option Undecided
 kept g None = None
@@ -39,6 +40,7 @@ was_stand : (u x : Undecided) (stand : Stand) → kept_stand u stand ≡ Some x 
 was_stand u x world.idle is = absurd (cc is)
 was_stand u x (world.active w) is = absurd (cc is)
 was_stand u x (world.sealed w stamp) is = (the_one u x is, (w, stamp, refl))
+was_stand u x (world.snapshot s) is = absurd (cc is)
 
 was_kept : (g : View) (o : Option Undecided) (x : Undecided) → kept g o ≡ Some x → WasKept g o x
 was_kept g None x is = absurd (cc is)

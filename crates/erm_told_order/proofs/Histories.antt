@@ -59,6 +59,7 @@ module _ (told : Told) (seat : ℕ) where
   none_now (Some t) world.idle tells = absurd tells
   none_now (Some t) (world.active w) tells = none_unfinished t.ending t tells.0.unfinished
   none_now (Some t) (world.sealed w stamp) tells = none_unfinished t.ending t tells.0.unfinished
+  none_now (Some t) (world.snapshot s) tells = absurd tells
 
   -- a session's
   pub session_commits : (p : Progress) (s : Session) → AreToldOver seat (told seat) p.over s.over → TellsNow seat p.current s.stand → history_of (all_of p) ≡ told_commits told (committed_in seat s.over)

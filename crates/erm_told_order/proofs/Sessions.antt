@@ -87,6 +87,8 @@ told_now seat None (world.active u) w tells now = absurd tells
 told_now seat None (world.sealed u stamp) w tells now = absurd tells
 told_now seat (Some t) (world.active u) w tells now = record { t = t; is = refl; tells = subst (λ x. TellsCurrent seat t x) now tells.0 }
 told_now seat (Some t) (world.sealed u stamp) w tells now = record { t = t; is = refl; tells = subst (λ x. TellsCurrent seat t x) now tells.0 }
+told_now seat None (world.snapshot s) w tells now = absurd tells
+told_now seat (Some t) (world.snapshot s) w tells now = absurd tells
 
 -- one that is told to be in progress is
 pub record IsNow (seat : ℕ) (stand : Stand) (t : Transaction) : Type 0 where
@@ -98,6 +100,7 @@ is_now : (seat : ℕ) (t : Transaction) (stand : Stand) → TellsNow seat (Some 
 is_now seat t world.idle tells = absurd tells
 is_now seat t (world.active w) tells = record { work = w; is = refl; tells = tells.0 }
 is_now seat t (world.sealed w stamp) tells = record { work = w; is = refl; tells = tells.0 }
+is_now seat t (world.snapshot s) tells = absurd tells
 
 -- replies of a transaction that is over are right, and it is the run of its operations where it was sealed
 answered_as : (fate : Fate) (w : Work) (steps : List Step) → RanAs fate w steps → IsAnswered w steps

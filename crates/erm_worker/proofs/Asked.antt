@@ -1,7 +1,7 @@
 -- What a command that the phase allows did, by how it was answered, or waits.
 use Rattle.std.proofs.Common.{◌≡◌, ◌≢◌, ℕ, suc, Option, Some, None, IsSome, refl, subst}
 use Rattle.erm_model.specs.declared.outcome.Phase.{Phase}
-use Rattle.erm_model.specs.declared.outcome.Phase.TheVariants.{Active, Idle, Sealed}
+use Rattle.erm_model.specs.declared.outcome.Phase.TheVariants.{Active, Idle, Sealed, Pending, Safe}
 use Rattle.erm_report.specs.declared.answer.Answer.{Answer}
 use Rattle.erm_report.specs.declared.answer.Answer.TheVariants as answer
 use Rattle.erm_script.specs.declared.script.Command.{Command}
@@ -94,32 +94,44 @@ pub begins_idle : (phase : Phase) → refusal_of phase command.Begin ≡ None �
 begins_idle Idle is = refl
 begins_idle Active is = cc
 begins_idle Sealed is = cc
+begins_idle Pending is = cc
+begins_idle Safe is = cc
 
 pub seals_active : (phase : Phase) → refusal_of phase command.Seal ≡ None → phase ≡ Active
 seals_active Active is = refl
 seals_active Idle is = cc
 seals_active Sealed is = cc
+seals_active Pending is = cc
+seals_active Safe is = cc
 
 pub commits_active : (phase : Phase) → refusal_of phase command.Commit ≡ None → phase ≡ Active
 commits_active Active is = refl
 commits_active Idle is = cc
 commits_active Sealed is = cc
+commits_active Pending is = cc
+commits_active Safe is = cc
 
 pub aborts_active : (phase : Phase) → refusal_of phase command.Abort ≡ None → phase ≡ Active
 aborts_active Active is = refl
 aborts_active Idle is = cc
 aborts_active Sealed is = cc
+aborts_active Pending is = cc
+aborts_active Safe is = cc
 
 pub settles_sealed : (phase : Phase) → refusal_of phase command.Settle ≡ None → phase ≡ Sealed
 settles_sealed Sealed is = refl
 settles_sealed Idle is = cc
 settles_sealed Active is = cc
+settles_sealed Pending is = cc
+settles_sealed Safe is = cc
 
 -- one that names a table asks for an active transaction
 asks_active : (phase : Phase) → refusal_for (Some Active) phase ≡ None → phase ≡ Active
 asks_active Active is = refl
 asks_active Idle is = cc
 asks_active Sealed is = cc
+asks_active Pending is = cc
+asks_active Safe is = cc
 
 -- the others name a table
 pub record Operates (c : Command) (phase : Phase) : Type 0 where

@@ -1,7 +1,7 @@
 -- How a session is left whose worker was told to stop.
 use Rattle.std.proofs.Common.{◌≡◌, ℕ, Option, Some, refl, sym, ap, ◌∙◌, subst}
 use Rattle.erm_model.specs.declared.outcome.Phase.{Phase}
-use Rattle.erm_model.specs.declared.outcome.Phase.TheVariants.{Active, Idle, Sealed}
+use Rattle.erm_model.specs.declared.outcome.Phase.TheVariants.{Active, Idle, Sealed, Pending, Safe}
 use Rattle.erm_script.specs.declared.script.ScriptLine.{ScriptLine}
 use Rattle.erm_world.specs.Calls.{DidAbort, DidSeal}
 use Rattle.erm_world.specs.World.{Session, View, phase_at, phase_of}
@@ -41,6 +41,8 @@ pub left_before : (f : View) (seat : ℕ) (l : ScriptLine) (v t : View) (phase :
 left_before f seat l v t Active is gave = aborted_left f seat (Some l) v v t is (λ w passes. (0, passes)) gave
 left_before f seat l v t Idle is gave = stood_left f seat (Some l) v v t (passes_itself seat v) (λ active. cc) gave
 left_before f seat l v t Sealed is gave = stood_left f seat (Some l) v v t (passes_itself seat v) (λ active. cc) gave
+left_before f seat l v t Pending is gave = stood_left f seat (Some l) v v t (passes_itself seat v) (λ active. cc) gave
+left_before f seat l v t Safe is gave = stood_left f seat (Some l) v v t (passes_itself seat v) (λ active. cc) gave
 
 -- WHILE it waited
 pub left_waiting : (f : View) (seat : ℕ) (l : ScriptLine) (v u t : View) (phase : Phase) → phase_at u seat ≡ phase → HasWaited f seat l.command v u → GaveUp phase seat u t
@@ -62,4 +64,12 @@ left_waiting f seat l v u t Sealed is (drew stamp w active commits sealed passes
 left_waiting f seat l v u t Active is (drew stamp w active commits sealed passes) gave =
     let at = passes_phase seat w u passes in let so = sealed_after sealed.0 w seat stamp sealed.2 in cc
 left_waiting f seat l v u t Idle is (drew stamp w active commits sealed passes) gave =
+    let at = passes_phase seat w u passes in let so = sealed_after sealed.0 w seat stamp sealed.2 in cc
+left_waiting f seat l v u t Pending is (asked passes) gave = stood_left f seat (Some l) v u t passes (λ active. cc) gave
+left_waiting f seat l v u t Pending is (tried times active now waits) gave = cc
+left_waiting f seat l v u t Pending is (drew stamp w active commits sealed passes) gave =
+    let at = passes_phase seat w u passes in let so = sealed_after sealed.0 w seat stamp sealed.2 in cc
+left_waiting f seat l v u t Safe is (asked passes) gave = stood_left f seat (Some l) v u t passes (λ active. cc) gave
+left_waiting f seat l v u t Safe is (tried times active now waits) gave = cc
+left_waiting f seat l v u t Safe is (drew stamp w active commits sealed passes) gave =
     let at = passes_phase seat w u passes in let so = sealed_after sealed.0 w seat stamp sealed.2 in cc

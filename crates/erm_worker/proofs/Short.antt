@@ -1,11 +1,12 @@
 -- A session whose memory ran out in a line: its transaction may have gone on there, and it is given up.
 use Rattle.std.proofs.Common.{◌≡◌, ℕ, ◌<◌, ◌++◌, List, [], ◌∷◌, length, map, Result, Ok, Err, IfErr, append-nil, refl, sym, ap, ◌∙◌, subst}
 use Rattle.erm_model.specs.declared.outcome.Phase.{Phase}
-use Rattle.erm_model.specs.declared.outcome.Phase.TheVariants.{Active, Idle, Sealed}
+use Rattle.erm_model.specs.declared.outcome.Phase.TheVariants.{Active, Idle, Sealed, Pending, Safe}
 use Rattle.erm_report.specs.declared.answer.Answer.{Answer}
 use Rattle.erm_script.specs.declared.script.ScriptLine.{ScriptLine}
 use Rattle.erm_world.specs.Face.{Grows, ends, same, works}
 use Rattle.erm_world.specs.Going.{Extends, found_by}
+use Rattle.erm_world.specs.Snapshots.{snapshot_not_active}
 use Rattle.erm_world.specs.World.{Finished, Session, Stand, View, Work, phase_at, phase_of, work_of}
 use Rattle.erm_world.specs.World as world
 use Rattle.erm_lines.specs.Executions.{line_moves}
@@ -46,6 +47,7 @@ now_active : (stand : Stand) → phase_of stand ≡ Active → stand ≡ world.a
 now_active world.idle active = cc
 now_active (world.active w) active = refl
 now_active (world.sealed w stamp) active = cc
+now_active (world.snapshot s) active = absurd (snapshot_not_active s active)
 
 -- an abort of what had gone on
 module _ (s u t : Session) (did : t ≡ record { over = u.over ++ record { work = work_of u.stand; fate = world.aborts } ∷ []; stand = world.idle }) (active : phase_of u.stand ≡ Active) where
@@ -71,6 +73,8 @@ given_by seat s u t Active is grows (x, passes, did) =
     aborted_then s (x.session seat) (t.session seat) did.own active (subst (λ (y : Session). Grows s y) (sym passes.own) grows)
 given_by seat s u t Idle is grows gave = stayed_then s (u.session seat) (t.session seat) (ap (λ (x : View). x.session seat) gave) (λ active. cc) grows
 given_by seat s u t Sealed is grows gave = stayed_then s (u.session seat) (t.session seat) (ap (λ (x : View). x.session seat) gave) (λ active. cc) grows
+given_by seat s u t Pending is grows gave = stayed_then s (u.session seat) (t.session seat) (ap (λ (x : View). x.session seat) gave) (λ active. cc) grows
+given_by seat s u t Safe is grows gave = stayed_then s (u.session seat) (t.session seat) (ap (λ (x : View). x.session seat) gave) (λ active. cc) grows
 
 pub given_up_short : (f : View) (seat : ℕ) (lines : List ScriptLine) (answers : List Answer) (v u t : View) → RanShort Grows f seat lines answers v u → GaveUp (phase_at u seat) seat u t
     → RanShort WasGivenUp f seat lines answers v t

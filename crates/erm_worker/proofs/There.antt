@@ -1,7 +1,7 @@
 -- What a session's calls did, as the session itself knows its seat then, from the state in which its line began.
 use Rattle.std.proofs.Common.{◌≡◌, ℕ, List, Option, Some, None, refl, sym, ap, ◌∙◌, subst}
 use Rattle.erm_model.specs.declared.outcome.Phase.{Phase}
-use Rattle.erm_model.specs.declared.outcome.Phase.TheVariants.{Active, Idle, Sealed}
+use Rattle.erm_model.specs.declared.outcome.Phase.TheVariants.{Active, Idle, Sealed, Pending, Safe}
 use Rattle.erm_model.specs.declared.outcome.Receipt.{Receipt}
 use Rattle.erm_report.specs.declared.answer.Answer.{Answer}
 use Rattle.erm_report.specs.declared.answer.Answer.TheVariants as answer
@@ -11,7 +11,7 @@ use Rattle.erm_world.specs.Calls.{DidAbort, DidSeal}
 use Rattle.erm_world.specs.Face.{Grows}
 use Rattle.erm_world.specs.Onward.{grows_then}
 use Rattle.erm_world.specs.World.{Finished, Session, View, phase_at, phase_of}
-use Rattle.erm_good_report.specs.Phases.{Closes}
+use Rattle.erm_good_report.specs.Phases.{Closes, HasNoSnapshot}
 use Rattle.erm_lines.specs.Answers.{IsReceiptOf, KeepsReceipt}
 use Rattle.erm_beside.specs.Calls.{After, NotSettledBeside, Passes}
 use Rattle.erm_lines_at_once.specs.Answers.{DidCloseBeside, DidDecideBeside, TriedDurable}
@@ -87,7 +87,9 @@ aborted_closes seat v t is did = record {
   did = subst (λ (p : Phase). DidCloseBeside p seat answer.Aborted v t) (sym is) did;
 }
 
-pub neither_active : (phase : Phase) → (phase ≡ Idle → ⊥) → (phase ≡ Sealed → ⊥) → phase ≡ Active
-neither_active Active idle sealed = refl
-neither_active Idle idle sealed = absurd (idle refl)
-neither_active Sealed idle sealed = absurd (sealed refl)
+pub neither_active : (phase : Phase) → HasNoSnapshot phase → (phase ≡ Idle → ⊥) → (phase ≡ Sealed → ⊥) → phase ≡ Active
+neither_active Active plain idle sealed = refl
+neither_active Idle plain idle sealed = absurd (idle refl)
+neither_active Sealed plain idle sealed = absurd (sealed refl)
+neither_active Pending plain idle sealed = absurd plain
+neither_active Safe plain idle sealed = absurd plain

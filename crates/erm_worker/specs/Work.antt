@@ -90,7 +90,7 @@ pub record RanLines (f : View) (seat : ℕ) (lines : List ScriptLine) (answers :
   pub whole : length answers ≡ length lines → last ≡ t
   pub cut : length answers < length lines → WasLeft f seat (slice_get lines (length answers)) last t
 
--- a session that isn't idle was closed, or it is sealed and waits
+-- a session that has a transaction was closed, or it is sealed and waits
 abbrev pub WasClosed : ℕ → Option Answer → View → View → Type 0
 WasClosed seat (Some a) v t = DidEndBeside seat a v t
 WasClosed seat None v t = (phase_at v seat ≡ Sealed) × Passes seat v t

@@ -4,6 +4,7 @@ ghost use Rattle.erm_model.specs.declared.outcome.Phase.TheVariants.{Active, Idl
 ghost use Rattle.erm_model.specs.RowTransaction.{SameLaw};
 ghost use Rattle.erm_model.specs.Run.{Step};
 ghost use Rattle.erm_node.specs.Sound.{sound_law};
+ghost use Rattle.erm_good_report.specs.Phases.{HasNoSnapshot};
 ghost use Rattle.erm_maps.specs.Runs.{IsRunOf};
 ghost use Rattle.erm_world.specs.World.{View, phase_at, work_at};
 ghost use Rattle.erm_lines.specs.Answers.{IsReceiptOf, KeepsReceipt};
@@ -112,7 +113,7 @@ pub fn give_up<S: SharedSession>(session: &mut S, shared: &S::Shared)
     }
 }
 
-/// Closes a session behind its last line, which isn't idle: its transaction is aborted where it is active, and decided where it is sealed.
+/// Closes a session behind its last line, which has a transaction: that is aborted where it is active, and decided where it is sealed.
 /// `None` where the worker was told to stop while it waited.
 pub fn close_session<S: SharedSession, T: Turns, R: Wait>(
     rt: &R,
@@ -122,6 +123,7 @@ pub fn close_session<S: SharedSession, T: Turns, R: Wait>(
 ) -> Option<Answer>
     requires stands { S.stands shared.now session.old }
     requires open { phase_at (S.own session.old) (S.seat session.old) ≡ Idle → ⊥ }
+    requires plain { HasNoSnapshot (phase_at (S.own session.old) (S.seat session.old)) }
     ensures stands { S.stands shared.now session.new }
     ensures onward { GoesOnward (S.seat session.old) (S.seat session.new) (S.ends session.old) (S.ends session.new) }
     ensures closed { WasClosed (S.seat session.old) result (S.own session.old) (S.own session.new) }

@@ -1,8 +1,10 @@
 //! The worker of a session whose world stands while it works.
 ghost use Rattle.std.specs.Prelude.{◌≡◌, ◌≢◌, ℕ, [], IfOk};
+ghost use Rattle.erm_model.specs.declared.outcome.Phase.TheVariants.{Idle};
 ghost use Rattle.erm_model.specs.RowTransaction.{SameLaw};
 ghost use Rattle.erm_node.specs.Sound.{sound_law};
-ghost use Rattle.erm_world.specs.World.{IsSession, View, idle};
+ghost use Rattle.erm_world.specs.World.{IsSession, View, idle, phase_at};
+ghost use Rattle.erm_good_report.specs.Phases.{HasNoSnapshot};
 ghost use Rattle.erm_lone.specs.Later.{EndsIn, IsLaterWorld, OthersStand};
 ghost use Rattle.erm_worker.specs.Work.{RanLines};
 ghost use Rattle.erm_worker_cases.specs.Lines.{AreOf};
@@ -69,7 +71,30 @@ pub fn work<W: RowWorld + Drop, T: Turns, R: Wait>(
     work_beside::<W, Brand, T, R>(rt, alloc, world, seat, lines, turns)
 }
 
-// Closes a session that isn't idle, beside others that stand so.
+// Closes a session with a transaction, beside others that stand so.
+fn close_open<W: RowWorld + Drop, O: Others, T: Turns, R: Wait>(
+    rt: &R,
+    world: W,
+    seat: Seat,
+    turns: &mut T,
+) -> (W, Option<Answer>)
+    requires stands { W.stands world }
+    requires session { IsSession (W.view world) seat }
+    requires others { OthersStand O.standing (W.view world) seat }
+    requires open { phase_at (W.view world) seat ≡ Idle → ⊥ }
+    requires plain { HasNoSnapshot (phase_at (W.view world) seat) }
+    ensures stands { W.stands result.0 }
+{
+    let mut session = LoneSession::<W, O> {
+        world,
+        seat,
+        others: PhantomData,
+    };
+    let closed = close_session(rt, &mut session, &(), turns);
+    (session.world, closed)
+}
+
+// Closes a session where it has a transaction, beside others that stand so.
 fn close_beside<W: RowWorld + Drop, O: Others, T: Turns, R: Wait>(
     rt: &R,
     world: W,
@@ -81,19 +106,14 @@ fn close_beside<W: RowWorld + Drop, O: Others, T: Turns, R: Wait>(
     requires others { OthersStand O.standing (W.view world) seat }
     ensures stands { W.stands result.0 }
 {
-    if let Phase::Idle = world.phase(seat) {
-        return (world, None);
+    match world.phase(seat) {
+        Phase::Active => close_open::<W, O, T, R>(rt, world, seat, turns),
+        Phase::Sealed => close_open::<W, O, T, R>(rt, world, seat, turns),
+        _ => (world, None),
     }
-    let mut session = LoneSession::<W, O> {
-        world,
-        seat,
-        others: PhantomData,
-    };
-    let closed = close_session(rt, &mut session, &(), turns);
-    (session.world, closed)
 }
 
-/// Closes a session, where it isn't idle, while the other sessions stand.
+/// Closes a session, where it has a transaction, while the other sessions stand.
 pub fn close<W: RowWorld + Drop, T: Turns, R: Wait>(
     rt: &R,
     world: W,

@@ -2,7 +2,7 @@
 use Rattle.std.proofs.Common.{◌≡◌, ℕ, zero, suc, ◌+◌, ◌⊎◌, List, [], ◌∷◌, Option, Some, None, inl, inr, refl, sym, ap, ◌∙◌, subst, arith}
 use Rattle.std.specs.List.{slice_get}
 use Rattle.erm_model.specs.declared.outcome.Phase.{Phase}
-use Rattle.erm_model.specs.declared.outcome.Phase.TheVariants.{Active, Idle, Sealed}
+use Rattle.erm_model.specs.declared.outcome.Phase.TheVariants.{Active, Idle, Sealed, Pending, Safe}
 use Rattle.erm_model.specs.Member.{◌∈◌}
 use Rattle.erm_model.proofs.Members.{none_in_nil}
 use Rattle.erm_report.specs.declared.answer.Answer.{Answer}
@@ -23,6 +23,8 @@ closing_cases Active a fits = absurd fits
 closing_cases Sealed (answer.Committed stamp succ pred) fits = inr (tt, refl)
 closing_cases Sealed (answer.Excluded stamp succ pred) fits = inr (tt, refl)
 closing_cases Sealed a fits = absurd fits
+closing_cases Pending a fits = absurd fits
+closing_cases Safe a fits = absurd fits
 
 closes_so : (p : Phase) (b a : Answer) → Closes p b → told_when_cut (Some b) ≡ Some a → Closes Sealed a
 closes_so p b a fits told = elim (closing_cases p b fits) [
@@ -36,6 +38,8 @@ decided_so p seat None u t a did told = absurd (let no : None ≡ Some a = told 
 decided_so Idle seat (Some b) u t a did told = absurd (let no : Some b ≡ None = did.0 in cc)
 decided_so Active seat (Some b) u t a did told = closes_so (phase_at u seat) b a did.fits told
 decided_so Sealed seat (Some b) u t a did told = closes_so (phase_at u seat) b a did.fits told
+decided_so Pending seat (Some b) u t a did told = absurd (let no : Some b ≡ None = did.0 in cc)
+decided_so Safe seat (Some b) u t a did told = absurd (let no : Some b ≡ None = did.0 in cc)
 
 -- a session that is in the list was closed so
 pub noted_so : (from : ℕ) (closed : List (Option Answer)) (c : Closed) → c ∈ closes_from from closed → (k : ℕ) × (c.session ≡ from + k) × (slice_get closed k ≡ Some (Some c.answer))

@@ -4,7 +4,8 @@ use Rattle.std.specs.List.{slice_get}
 use Rattle.std.proofs.lemmas.List.{append-nil}
 use Rattle.std.proofs.lemmas.Option.{slice_get_cases}
 use Rattle.erm_model.specs.declared.outcome.Phase.{Phase}
-use Rattle.erm_model.specs.declared.outcome.Phase.TheVariants.{Active, Idle, Sealed}
+use Rattle.erm_model.specs.declared.outcome.Phase.TheVariants.{Active, Idle, Sealed, Pending, Safe}
+use Rattle.erm_good_report.specs.Phases.{HasNoSnapshot}
 use Rattle.erm_report.specs.declared.answer.Answer.{Answer}
 use Rattle.erm_script.specs.declared.script.ScriptLine.{ScriptLine}
 use Rattle.erm_world.specs.World.{Session, View, phase_at, phase_of}
@@ -21,20 +22,33 @@ use Rattle.erm_joined.specs.Merged.{told_when_cut}
 use Rattle.erm_joined.proofs.Closes.{closing_of}
 use Rattle.erm_works.specs.Works.{DidSession, IsComplete}
 use Rattle.erm_works.proofs.Closings.{closing_cases}
+use Rattle.erm_works.proofs.Plain.{IsPlain, ended_plain, run_plain}
 
 -- it stands in the world in which all ended as it was left
 pub phase_there : (f : View) (seat : ℕ) (t : View) → IsAtEnd f seat t → phase_at t seat ≡ phase_at f seat
 phase_there f seat t at = ap (λ (s : Session). phase_of s.stand) at.own
 
-rests_idle : (p : Phase) → (p ≡ Active → ⊥) → (p ≡ Sealed → ⊥) → p ≡ Idle
-rests_idle Idle active sealed = refl
-rests_idle Active active sealed = absurd (active refl)
-rests_idle Sealed active sealed = absurd (sealed refl)
+rests_idle : (p : Phase) → HasNoSnapshot p → (p ≡ Active → ⊥) → (p ≡ Sealed → ⊥) → p ≡ Idle
+rests_idle Idle plain active sealed = refl
+rests_idle Active plain active sealed = absurd (active refl)
+rests_idle Sealed plain active sealed = absurd (sealed refl)
+rests_idle Pending plain active sealed = absurd plain
+rests_idle Safe plain active sealed = absurd plain
+
+-- it had no snapshot at first, and so has none there
+plain_there : (f : View) (seat : ℕ) (v : View) (lines : List ScriptLine) (answers : List Answer) (ended : Option Answer) → DidSession f seat v lines answers ended
+    → IsPlain v seat → length answers ≡ length lines → IsPlain f seat
+plain_there f seat v lines answers ended it plain all =
+    let did = it.did in
+    let ran = run_plain f seat (line_moves lines answers) v did.ran.last plain did.ran.run in
+    let before : IsPlain did.last seat = subst (λ (x : View). IsPlain x seat) (did.ran.whole all) ran in
+    let behind : IsPlain it.last seat = ended_plain (phase_at did.last seat) seat ended did.last it.last before (did.whole all) in
+    subst (λ (p : Phase). HasNoSnapshot p) (phase_there f seat it.last it.at_end) behind
 
 pub idle_there : (f : View) (seat : ℕ) (v : View) (lines : List ScriptLine) (answers : List Answer) (ended : Option Answer) → DidSession f seat v lines answers ended
-    → (phase_at f seat ≡ Sealed → ⊥) → phase_at f seat ≡ Idle
-idle_there f seat v lines answers ended did decided =
-    rests_idle (phase_at f seat) (λ active. did.rests (phase_there f seat did.last did.at_end ∙ active)) decided
+    → IsPlain v seat → IsComplete f seat lines answers → phase_at f seat ≡ Idle
+idle_there f seat v lines answers ended did plain (all, decided) =
+    rests_idle (phase_at f seat) (plain_there f seat v lines answers ended did plain all) (λ active. did.rests (phase_there f seat did.last did.at_end ∙ active)) decided
 
 -- WHOLE. All its lines were answered, and it doesn't wait.
 module _ (f : View) (seat : ℕ) (lines : List ScriptLine) (answers : List Answer) (v u t : View) (moves : List Move) (ran : RanLines f seat lines answers v u)
@@ -50,6 +64,12 @@ module _ (f : View) (seat : ℕ) (lines : List ScriptLine) (answers : List Answe
         (own ∙ ap (λ (o : Option Answer). line_moves lines answers ++ closing_of seat o) none ∙ append-nil (line_moves lines answers))
     was_ended Active ended own did = was_closed ended own did
     was_ended Sealed ended own did = was_closed ended own did
+    was_ended Pending ended own (none, stays) =
+        whole_part f seat lines answers v u t moves ran all (subst (λ (x : View). Passes seat u x) (sym stays) (passes_itself seat u)) at
+        (own ∙ ap (λ (o : Option Answer). line_moves lines answers ++ closing_of seat o) none ∙ append-nil (line_moves lines answers))
+    was_ended Safe ended own (none, stays) =
+        whole_part f seat lines answers v u t moves ran all (subst (λ (x : View). Passes seat u x) (sym stays) (passes_itself seat u)) at
+        (own ∙ ap (λ (o : Option Answer). line_moves lines answers ++ closing_of seat o) none ∙ append-nil (line_moves lines answers))
 
 pub whole_session : (f : View) (seat : ℕ) (v : View) (lines : List ScriptLine) (answers : List Answer) (ended : Option Answer) (moves : List Move) → DidSession f seat v lines answers ended
     → IsComplete f seat lines answers → HasOwn seat moves (line_moves lines answers ++ closing_of seat ended) → IsOwnPart f seat v moves
@@ -96,6 +116,12 @@ module _ (f : View) (seat : ℕ) (lines : List ScriptLine) (answers : List Answe
       (whole_part f seat lines answers v u t moves ran all (subst (λ (x : View). Passes seat u x) (sym stays) (passes_itself seat u)) at (waits ended (ap told_when_cut none) own))
   cut_ended Active ended own did = cut_closed ended own did
   cut_ended Sealed ended own did = cut_closed ended own did
+  cut_ended Pending ended own (none, stays) =
+      from_part f seat None v moves
+      (whole_part f seat lines answers v u t moves ran all (subst (λ (x : View). Passes seat u x) (sym stays) (passes_itself seat u)) at (waits ended (ap told_when_cut none) own))
+  cut_ended Safe ended own (none, stays) =
+      from_part f seat None v moves
+      (whole_part f seat lines answers v u t moves ran all (subst (λ (x : View). Passes seat u x) (sym stays) (passes_itself seat u)) at (waits ended (ap told_when_cut none) own))
 
 -- all were answered, or it was left behind the first ones
 pub cut_session : (f : View) (seat : ℕ) (v : View) (lines : List ScriptLine) (answers : List Answer) (ended : Option Answer) (moves : List Move) → DidSession f seat v lines answers ended

@@ -16,6 +16,7 @@ use Rattle.erm_world.specs.Face.{Answered, Goes, Grows, WasRefused, world_face}
 use Rattle.erm_world.specs.Face as face
 use Rattle.erm_world.specs.Going.{Extends, found_by}
 use Rattle.erm_world.specs.Laws.{FitsWork, IsPossibleIn, IsSerializable}
+use Rattle.erm_world.specs.Snapshots.{snapshot_not_active}
 use Rattle.erm_world.specs.Works.{claiming, is_claimed, making, reading, row_read, seen_by, setting, with_row}
 use Rattle.erm_world.specs.World.{Finished, Has, IsCurrent, IsSession, Session, Stand, View, Work, made_by_all, made_in, made_upto, phase_at, phase_of, work_at, work_of}
 use Rattle.erm_world.specs.World as world
@@ -26,6 +27,7 @@ active_with : (stand : Stand) → phase_of stand ≡ Active → stand ≡ world.
 active_with world.idle active = cc
 active_with (world.active w) active = refl
 active_with (world.sealed w stamp) active = cc
+active_with (world.snapshot s) active = absurd (snapshot_not_active s active)
 
 -- the transaction in progress is one of the session's
 current_of : (stand : Stand) (w : Work) → stand ≡ world.active w → IsCurrent stand (work_of stand)

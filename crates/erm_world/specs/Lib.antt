@@ -4,6 +4,8 @@ pub mod Going
 pub mod Laws
 pub mod Log
 pub mod Onward
+pub mod Safe
+pub mod Snapshots
 pub mod Whole
 pub mod Works
 pub mod World

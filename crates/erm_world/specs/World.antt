@@ -1,5 +1,5 @@
 -- What a world of sessions means: the transactions of its sessions, over and in progress, and what they have committed.
-use Rattle.std.specs.Prelude.{◌≡◌, ℕ, zero, suc, ◌+◌, ◌<◌, ◌≤◌, ◌⊎◌, List, [], ◌∷◌, ◌++◌, map, flat_map, length, sum_by, Option, Some, None}
+use Rattle.std.specs.Prelude.{◌≡◌, Bool, if◌then◌else◌, ℕ, zero, suc, ◌+◌, ◌<◌, ◌≤◌, ◌⊎◌, List, [], ◌∷◌, ◌++◌, map, flat_map, length, sum_by, Option, Some, None}
 use Rattle.erm_model.specs.declared.history.TransactionRecord.{TransactionRecord}
 use Rattle.erm_model.specs.declared.history.VersionRead.{VersionRead}
 use Rattle.erm_model.specs.declared.history.VersionWritten.{VersionWritten}
@@ -35,11 +35,19 @@ pub record Finished : Type 0 where
   pub work : Work
   pub fate : Fate
 
--- where a session stands: without a transaction, with one, with one that has its commit stamp
+-- A snapshot that only reads (Ports and Grittner, 2012): its number in its session, the stamp below which it reads, and whether it is known to
+-- be safe.
+pub record Snapshot : Type 0 where
+  pub number : ℕ
+  pub begin : ℕ
+  pub is_safe : Bool
+
+-- where a session stands: without a transaction, with one, with one that has its commit stamp, or with a snapshot
 pub data Stand : Type 0 where
   idle : Stand
   active : Work → Stand
   sealed : Work → ℕ → Stand
+  snapshot : Snapshot → Stand
 
 -- a session: its transactions that are over, in order, and where it stands
 pub record Session : Type 0 where
@@ -81,12 +89,14 @@ abbrev pub phase_of : Stand → Phase
 phase_of idle = phase.Idle
 phase_of (active w) = phase.Active
 phase_of (sealed w stamp) = phase.Sealed
+phase_of (snapshot s) = if s.is_safe then phase.Safe else phase.Pending
 
 -- the transaction in progress, or one that has done nothing
 abbrev pub work_of : Stand → Work
 work_of idle = begun 0 0
 work_of (active w) = w
 work_of (sealed w stamp) = w
+work_of (snapshot s) = begun s.number s.begin
 
 abbrev pub work_at : View → ℕ → Work
 work_at v seat = work_of (v.session seat).stand
@@ -139,6 +149,14 @@ abbrev pub IsCurrent : Stand → Work → Type 0
 IsCurrent idle w = ⊥
 IsCurrent (active u) w = u ≡ w
 IsCurrent (sealed u stamp) w = u ≡ w
+IsCurrent (snapshot s) w = begun s.number s.begin ≡ w
+
+-- it reads and writes, or has its commit stamp
+abbrev pub IsWorking : Stand → Work → Type 0
+IsWorking idle w = ⊥
+IsWorking (active u) w = u ≡ w
+IsWorking (sealed u stamp) w = u ≡ w
+IsWorking (snapshot s) w = ⊥
 
 -- it is a transaction of the session
 abbrev pub Has : View → ℕ → Work → Type 0

@@ -4,6 +4,7 @@
 mod gathered;
 mod laws;
 mod log_world;
+mod safe_world;
 mod script_world;
 mod stops;
 mod txn;
@@ -14,7 +15,8 @@ pub use laws::{
     blocks_are_one, blocks_of_sessions_stay, histories_tell_commits, laws_that_say_the_same,
 };
 pub use log_world::LogWorld;
+pub use safe_world::SafeWorld;
 pub use script_world::ScriptWorld;
-pub use stops::{BeginStop, NotFlushed, Wait};
+pub use stops::{BeginStop, NotFlushed, SafeStop, Wait};
 pub use txn::WorldTxn;
 pub use world::RowWorld;

@@ -21,6 +21,17 @@ pub enum Wait {
     Seat { seat: Seat, seen: Stamp },
 }
 
+/// Why a snapshot isn't safe.
+#[derive(Clone, Copy, Debug, PartialEq, Eq)]
+pub enum SafeStop {
+    /// This seat's session has a transaction or a snapshot that had begun before it: its begin word is `seen`, below the own begin stamp. The
+    /// snapshot stays pending, and may be asked again.
+    NotYet { seat: Seat, seen: Stamp },
+    /// This seat's session has committed a transaction, with this stamp, at or above the own begin stamp, whose turn in the serial order is
+    /// before its stamp. The snapshot is over.
+    Unsafe { seat: Seat, stamp: Stamp },
+}
+
 /// A commit isn't on the disk yet: all words of the log below `flushed` are.
 #[derive(Clone, Copy, Debug, PartialEq, Eq)]
 pub struct NotFlushed {

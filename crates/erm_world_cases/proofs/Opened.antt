@@ -6,6 +6,7 @@ use Rattle.erm_model.specs.declared.limits.TheConstants.{OID_LIMIT, TABLES}
 use Rattle.erm_model.specs.declared.outcome.Phase.TheVariants.{Active}
 use Rattle.erm_model.specs.Rows.{Rows, rows_of}
 use Rattle.erm_machine.specs.declared.place.Place.TheVariants.{Idle, Vacant}
+use Rattle.erm_machine.specs.declared.task.Task.TheVariants as task
 use Rattle.erm_machine.specs.Core.{Core, blank, is_taken, opening_state}
 use Rattle.erm_core_view.specs.Views.{stand_of, view_of}
 use Rattle.erm_node.specs.Sound.{IsSound, reached}
@@ -30,7 +31,7 @@ new_unreached zeros n rows size is sound x above = elim (cases_lt x OID_LIMIT) a
 ]
 
 -- no session is active at first
-never : (b : Bool) → phase_of (stand_of (if b then Idle else Vacant) blank) ≡ Active → ⊥
+never : (b : Bool) → phase_of (stand_of (if b then Idle else Vacant) task.Rest blank) ≡ Active → ⊥
 never true active = cc
 never false active = cc
 

@@ -5,7 +5,7 @@ use Rattle.erm_model.specs.declared.row_stop.RowStop.TheVariants as stop
 use Rattle.erm_world.specs.declared.stops.Wait.{Wait}
 use Rattle.erm_world.specs.declared.stops.Wait.TheVariants as wait
 use Rattle.erm_world.specs.Calls.{DidNotRead, DidNotSettle, IsInTheWay, IsSealedBelow, has_read, overwrites}
-use Rattle.erm_world.specs.World.{IsSession, Stand, View, Work, active, idle, phase_of, sealed, work_of}
+use Rattle.erm_world.specs.World.{IsSession, Stand, View, Work, active, idle, phase_of, sealed, snapshot, work_of}
 use Rattle.erm_world_stall.specs.Waiting.{Chain, IsLeastSealed, NoneSealed, WaitsFor, bound_at, bound_of, to_read, to_settle}
 
 -- a session that stands in the way of a settle is sealed below its stamp
@@ -27,6 +27,7 @@ active_bound : (s : Stand) → phase_of s ≡ Active → bound_of s ≡ (work_of
 active_bound idle e = absurd (cc)
 active_bound (active w) e = refl
 active_bound (sealed w stamp) e = absurd (cc)
+active_bound (snapshot s) e = refl
 
 sealed_falls : (v : View) (other bound top : ℕ) → SealedBelow v other bound → top ≡ bound → bound_at v other < top
 sealed_falls v other bound top h e = let is = ap bound_of h.stand in let below = h.below in omega (arith, is, below, e)

@@ -4,7 +4,7 @@ use Rattle.erm_model.specs.declared.outcome.Phase.TheVariants.{Active}
 use Rattle.erm_model.specs.declared.row_stop.RowStop.TheVariants as stop
 use Rattle.erm_world.specs.declared.stops.Wait.TheVariants as wait
 use Rattle.erm_world.specs.Calls.{DidNotRead, DidNotSettle}
-use Rattle.erm_world.specs.World.{IsSession, Stand, View, Work, active, idle, phase_at, sealed}
+use Rattle.erm_world.specs.World.{IsSession, Stand, View, Work, active, idle, phase_at, sealed, snapshot}
 
 -- A session waits for another: for its decision, to read an object that it has claimed, or to be settled.
 pub data WaitsFor (v : View) (p q : ℕ) : Type 0 where
@@ -21,6 +21,7 @@ abbrev pub bound_of : Stand → ℕ
 bound_of idle = 0
 bound_of (active w) = w.begin
 bound_of (sealed w stamp) = stamp
+bound_of (snapshot s) = s.begin
 
 abbrev pub bound_at : View → ℕ → ℕ
 bound_at v seat = bound_of (v.session seat).stand

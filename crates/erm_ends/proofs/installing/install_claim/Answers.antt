@@ -42,4 +42,4 @@ returns-clause-installed g c =
 pub returns-clause-was : goal.returns-clause-was
 returns-clause-was g c =
     was_installed g.L.RowLaw.law c.args.who c.args.p.now.me.0 c.store_head.new.p.me.0 c.mark_overwritten.new.p.me.0 c.install.new.p.me.0 c.args.claim c.args.stamp c.args.succ c.requires.known c.requires.next c.store_head.ensures.stored
-    c.mark_overwritten.ensures.marked c.install.ensures.installed c.install.ensures.booked.0 c.install.ensures.booked.1 c.store_head.ensures.stores c.mark_overwritten.ensures.ends
+    c.mark_overwritten.ensures.marked c.install.ensures.installed c.install.ensures.booked.0 c.install.ensures.booked.1 c.store_head.ensures.stores c.mark_overwritten.ensures.took

@@ -83,5 +83,8 @@ returns-clause-took g c = record {
   entry = c.in_ok-head.ensures.took;
   tidied = c.cut_chain-cut.new.p.me.0;
   cut = c.cut_chain-cut.ensures.took;
-  rest = c.in-Ok.ensures.still;
+  own = c.in-Ok.filled.own;
+  readers = c.in-Ok.filled.readers;
+  row = c.in-Ok.filled.row;
+  fill = c.in-Ok.ensures.took;
 }

@@ -1,11 +1,9 @@
-use Rattle.std.proofs.Common.{◌≡◌}
+use Rattle.std.proofs.Common.{◌≡◌, ℕ, List, subst}
 use Rattle.erm_rule.proofs.Courses.{seen_before}
 use Rattle.erm_cells.proofs.Rating.{count_seen}
 use Rattle.erm_rows.proofs.Filling.{active_drawn, active_given, active_refused, base_drawn, base_given, copies_given, did_fill, found_no_cell, is_refused, may_rate, owns_given, spare_filled, spare_left}
 use Rattle.erm_rows.proofs.claiming.fill_claim.Goals as goal
-use Rattle.erm_rule.proofs.Wents.{went_more, went_one}
-use Rattle.erm_rule.specs.Went.{IsStillStep}
-use Rattle.erm_cells.proofs.Took.{copy_still, draw_still}
+use Rattle.erm_cells.specs.Took.{TookDraw}
 
 pub unclaim-requires-clause-active : goal.unclaim-requires-clause-active
 unclaim-requires-clause-active g c = active_refused c.args.p.now.me.0.view c.args.who c.requires.active c.requires.known c.requires.draws c.args.oid c.args.base c.requires.claimed c.requires.base c.in-Err.drawn _ c.in-Err.ensures.refused.0
@@ -47,15 +45,16 @@ pub returns-clause-spare : goal.returns-clause-spare
 returns-clause-spare g c = spare_filled c.args.p.now.me.0.view c.args.who c.requires.active c.requires.known c.requires.draws c.args.oid c.args.base c.requires.claimed c.requires.base c.draw.new.spare c.in-Ok.own _ c.in-Ok.ensures.drawn c.rate-readers.result _ c.rate-readers.ensures.rated _ c.copy_row-row.ensures.copied
 
 pub returns-in-Err-clause-counted : goal.returns-in-Err-clause-counted
-returns-in-Err-clause-counted g c = seen_before c.args.p.now.me.0 (λ s. s.shared.cells_drawn ≡ c.in-Err.drawn) c.draw.new.p.me.0 c.unclaim.new.p.me.0 (count_seen c.args.p.now.me.0 c.args.who c.in-Err.drawn c.draw.new.p.me.0 c.in-Err.ensures.counted.0) c.unclaim.ensures.goes
+returns-in-Err-clause-counted g c = seen_before c.args.p.now.me.0 (λ s. s.shared.cells_drawn ≡ c.in-Err.drawn) c.draw.new.p.me.0 c.unclaim.new.p.me.0 (count_seen g.L.RowLaw.law c.args.p.now.me.0 c.args.who c.in-Err.drawn c.draw.new.p.me.0 c.in-Err.ensures.took_none) c.unclaim.ensures.goes
 
 pub returns-in-Err-clause-took_none : goal.returns-in-Err-clause-took_none
 returns-in-Err-clause-took_none g c = record { refused = c.draw.new.p.me.0; count = c.in-Err.ensures.took_none; word = c.unclaim.ensures.booked.0; step = c.unclaim.ensures.booked.1 }
 
-pub returns-clause-still : goal.returns-clause-still
-returns-clause-still g c =
-    let law = g.L.RowLaw.law in
-    let who = c.args.who in
-    went_more law who IsStillStep c.args.p.now.me.0 c.rate-readers.new.p.me.0 c.copy_row-row.new.p.me.0
-    (went_more law who IsStillStep c.args.p.now.me.0 c.draw.new.p.me.0 c.rate-readers.new.p.me.0 (draw_still law who c.args.spare.now c.in-Ok.own c.args.p.now.me.0 c.draw.new.p.me.0 c.in-Ok.ensures.took)
-    (went_one law who IsStillStep _ _ _ _ tt c.rate-readers.ensures.booked)) (copy_still law who c.rate-readers.new.p.me.0 c.copy_row-row.new.p.me.0 c.copy_row-row.ensures.took)
+pub returns-clause-took : goal.returns-clause-took
+returns-clause-took g c = record {
+  drawn = c.draw.new.p.me.0;
+  draw = subst (λ (cells : List ℕ). TookDraw g.L.RowLaw.law c.args.who cells c.in-Ok.own c.args.p.now.me.0 c.draw.new.p.me.0) c.requires.spare c.in-Ok.ensures.took;
+  rated = c.rate-readers.new.p.me.0;
+  rate = c.rate-readers.ensures.booked;
+  copy = c.copy_row-row.ensures.took;
+}

@@ -1,3 +1,4 @@
+use Rattle.erm_readers.proofs.Took.{rate_loads}
 use Rattle.erm_rows.proofs.FromHead.{active_found, active_rated, active_registered, cell_rated, did_read, is_registered, keeps, may_load, room_found, to_be_read, unnoted}
 use Rattle.erm_rows.proofs.reading.read_version.Goals as goal
 use Rattle.erm_rule.specs.Hands.{in_hand}
@@ -45,5 +46,5 @@ returns-clause-took g c = record {
   word = c.register.ensures.booked.0;
   registered = c.register.new.p.me.0;
   step = c.register.ensures.booked.1;
-  rest = went_more _ _ _ _ _ _ c.rate_read-succ.ensures.loads c.load_row-row.ensures.loads;
+  rest = went_more _ _ _ _ _ _ (rate_loads g.L.RowLaw.law c.args.who _ c.rate_read-succ.result c.register.new.p.me.0 c.rate_read-succ.new.p.me.0 c.rate_read-succ.ensures.took) c.load_row-row.ensures.loads;
 }

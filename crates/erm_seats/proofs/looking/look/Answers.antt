@@ -1,5 +1,5 @@
 use Rattle.std.proofs.Common.{sym, ◌∙◌, refl}
-use Rattle.erm_rule.proofs.Courses.{goes_step, seen_once}
+use Rattle.erm_rule.proofs.Courses.{seen_once}
 use Rattle.erm_rule.proofs.Telling.{held_part}
 use Rattle.erm_seats.proofs.Looks.{ready_look, did_wait, did_clear, stays_clear}
 use Rattle.erm_seats.proofs.looking.look.Goals as goal
@@ -22,12 +22,6 @@ pub returns-else-is_clear_for-clause-looked : goal.returns-else-is_clear_for-cla
 returns-else-is_clear_for-clause-looked g c =
     did_wait c.args.p.now.me.0.view c.args.who _ (held_part c.args.p.now.me.0.view c.args.who c.requires.taken) c.args.seat c.args.bound c.load_state-seen.result _ c.load_state-seen.ensures.told.told
     (sym c.is_clear_for.ensures ∙ c.if-is_clear_for.false)
-
-pub returns-then-is_clear_for-clause-goes : goal.returns-then-is_clear_for-clause-goes
-returns-then-is_clear_for-clause-goes g c = goes_step _ c.args.p.now.me.0 _ _ _ _ c.load_state-seen.ensures.booked
-
-pub returns-else-is_clear_for-clause-goes : goal.returns-else-is_clear_for-clause-goes
-returns-else-is_clear_for-clause-goes g c = goes_step _ c.args.p.now.me.0 _ _ _ _ c.load_state-seen.ensures.booked
 
 pub returns-else-is_clear_for-clause-met : goal.returns-else-is_clear_for-clause-met
 returns-else-is_clear_for-clause-met g c = seen_once _ c.args.p.now.me.0 _ _ _ _ _ c.load_state-seen.ensures.booked (λ core is met. met)

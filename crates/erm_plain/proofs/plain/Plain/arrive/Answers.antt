@@ -6,26 +6,26 @@ use Rattle.erm_core_steps.specs.Reads.{GoesOn, IsWaiting}
 use Rattle.erm_plain.specs.Stands.{plain_view}
 use Rattle.erm_core_steps.proofs.Owners.{not_yet, owner_other}
 use Rattle.erm_core_steps.proofs.Results.{err_to}
-use Rattle.erm_core_steps.proofs.Quiet.{active_seat}
+use Rattle.erm_core_steps.proofs.Quiet.{active_seat, at_work}
 use Rattle.erm_core_steps.proofs.Ways.{arrived_owner, arrived_walks, begin_stays, entry_arrives, entry_taken, goes_both}
 use Rattle.erm_plain.proofs.plain.Plain.arrive.Goals as goal
 
 pub load-requires-clause-at : goal.load-requires-clause-at
 load-requires-clause-at g c =
     let at = active_seat c.args.self.now.sessions c.args.seat (core_of c.args.self.now.state) c.requires.stands.quiet c.requires.session c.requires.active in
-    record { session = at.session; active = at.active }
+    at_work at
 
 pub load-requires-clause-taken : goal.load-requires-clause-taken
 load-requires-clause-taken g c =
     let at = active_seat c.args.self.now.sessions c.args.seat (core_of c.args.self.now.state) c.requires.stands.quiet c.requires.session c.requires.active in
-    entry_taken (core_of c.args.self.now.state) c.args.seat c.args.oid (record { session = at.session; active = at.active }) at.starts c.requires.object
+    entry_taken (core_of c.args.self.now.state) c.args.seat c.args.oid (at_work at) at.starts c.requires.object
 
 pub pass_owner-requires-clause-owned : goal.pass_owner-requires-clause-owned
 pass_owner-requires-clause-owned g c =
     let before = core_of c.args.self.now.state in
     let at = active_seat c.args.self.now.sessions c.args.seat before c.requires.stands.quiet c.requires.session c.requires.active in
     let other = owner_other c.args.self.now.sessions c.args.seat c.args.oid before c.requires.stands.sound.sound at c.requires.session.0 c.requires.object c.requires.new.unclaimed in
-    let arrives = entry_arrives before (core_of c.load.new.self.state) c.args.seat c.args.oid (record { session = at.session; active = at.active }) at.starts other c.load.ensures.after in
+    let arrives = entry_arrives before (core_of c.load.new.self.state) c.args.seat c.args.oid (at_work at) at.starts other c.load.ensures.after in
     (arrived_owner c.args.oid (before.shared.objects c.args.oid).entry _ c.in-Owned.oid c.in-Owned.owner arrives (sym c.in-Owned.ensures)).is
 
 pub returns-in-Owned-clause-goes : goal.returns-in-Owned-clause-goes
@@ -46,7 +46,7 @@ returns-in-Owned-clause-err g c =
     let between = core_of c.load.new.self.state in
     let at = active_seat sessions seat before c.requires.stands.quiet c.requires.session c.requires.active in
     let other = owner_other sessions seat c.args.oid before c.requires.stands.sound.sound at c.requires.session.0 c.requires.object c.requires.new.unclaimed in
-    let arrives = entry_arrives before between seat c.args.oid (record { session = at.session; active = at.active }) at.starts other c.load.ensures.after in
+    let arrives = entry_arrives before between seat c.args.oid (at_work at) at.starts other c.load.ensures.after in
     let owned = arrived_owner c.args.oid (before.shared.objects c.args.oid).entry _ c.in-Owned.oid c.in-Owned.owner arrives (sym c.in-Owned.ensures) in
     let another : c.in-Owned.owner ≡ seat → ⊥ = λ same. other (owned.owns ∙ same) in
     let after = core_of c.pass_owner.new.self.state in
@@ -69,5 +69,5 @@ returns-in_default-clause-ok g c =
     let before = core_of c.args.self.now.state in
     let at = active_seat c.args.self.now.sessions c.args.seat before c.requires.stands.quiet c.requires.session c.requires.active in
     let other = owner_other c.args.self.now.sessions c.args.seat c.args.oid before c.requires.stands.sound.sound at c.requires.session.0 c.requires.object c.requires.new.unclaimed in
-    let arrives = entry_arrives before (core_of c.load.new.self.state) c.args.seat c.args.oid (record { session = at.session; active = at.active }) at.starts other c.load.ensures.after in
+    let arrives = entry_arrives before (core_of c.load.new.self.state) c.args.seat c.args.oid (at_work at) at.starts other c.load.ensures.after in
     arrived_walks c.args.oid (before.shared.objects c.args.oid).entry _ arrives (λ oid owner is. c.in_default.not-Owned oid owner (c.task.ensures ∙ is))

@@ -10,9 +10,11 @@ use Rattle.erm_core.specs.Cores.{core_of}
 use Rattle.erm_core_view.specs.Views.{IsQuiet, session_of, view_of}
 use Rattle.erm_world.specs.Calls.{DidBegin}
 use Rattle.erm_world.specs.World.{IsSession, View, phase_at}
+use Rattle.erm_plain.specs.Snapshots.{HasJustBegun}
 use Rattle.erm_plain.specs.Stands.{plain_view}
 use Rattle.erm_core_steps.specs.Steps.{IsTaken, found_in}
 use Rattle.erm_core_steps.proofs.Beginnings.{announce_taken, begin_done, begun_at, first_taken, idle_seat, is_announced, log_ends, not_idle, numbers_over, second_taken}
+use Rattle.erm_plain.proofs.SafeBegins.{just_begun}
 use Rattle.erm_plain.proofs.plain.Plain.begin.Goals as goal
 
 pub number-requires : goal.number-requires
@@ -228,3 +230,38 @@ returns-clause-ok g c =
     subst (λ (n : ℕ). DidBegin (plain_view c.args.self.now) seat c.found.result (view_of n after)) (sym one_world)
     (subst (λ (v : View). DidBegin v seat c.found.result (view_of sessions after)) c.has_room.ensures.view
     (subst (λ (n : ℕ). DidBegin (view_of sessions before) seat n (view_of sessions after)) (sym found) done.1))
+
+pub returns-clause-begun : goal.returns-clause-begun
+returns-clause-begun g c =
+    let seat = c.args.seat in
+    let sessions = c.has_room.new.self.sessions in
+    let before = core_of c.has_room.new.self.state in
+    let stands = c.has_room.ensures.stands in
+    let session = subst (λ (v : View). IsSession v seat) (sym c.has_room.ensures.view) c.requires.session in
+    let idle = subst (λ (v : View). phase_at v seat ≡ phase.Idle) (sym c.has_room.ensures.view) c.requires.idle in
+    let at = idle_seat sessions seat before stands.quiet session idle in
+    let is = c.number.ensures in
+    let few = c.if-number-ge-LAST_NUMBER.false in
+    let less : (before.seats seat).number < LAST_NUMBER = omega (arith, is, few) in
+    let one = core_of c.take.new.self.state in
+    let tail : c.found-tail.result ≡ before.shared.tail = c.found-tail.ensures ∙ ap found_in c.take.ensures.answer in
+    let below = c.if-tail-ge-STOP.false in
+    let low : before.shared.tail < STOP = omega (arith, below, tail) in
+    let two = core_of c.go.new.self.state in
+    let announced : after_event one seat (kind.StoreBegin before.shared.tail) ≡ Some two =
+    subst (λ (n : ℕ). after_event one seat (kind.StoreBegin n) ≡ Some two) tail c.go.ensures.after
+    in
+    let come = is_announced seat before one two at less low c.take.ensures.after announced in
+    let after = core_of c.take-2.new.self.state in
+    let done =
+    begin_done sessions seat before one two after stands.sound.sound c.take.ensures.sound.sound c.go.ensures.sound.sound stands.quiet session at less low
+    c.take.ensures.after announced c.take-2.ensures.after
+    in
+    let found : c.found.result ≡ two.shared.tail = c.found.ensures ∙ ap found_in c.take-2.ensures.answer in
+    let same : two.shared.tail ≡ before.shared.tail = done.1.2 in
+    let number = come.number in
+    let opened = stands.quiet.opened in
+    let up = stands.quiet.flushed.0 in
+    let end = stands.quiet.flushed.1 in
+    subst (λ (n : ℕ). HasJustBegun seat n after) (sym found)
+    (just_begun seat before.shared.tail two after at.session come.place (omega (arith, number, less)) (omega (arith, same, opened, up, end)) c.take-2.ensures.after)

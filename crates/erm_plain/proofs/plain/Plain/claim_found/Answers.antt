@@ -14,7 +14,7 @@ use Rattle.erm_core_steps.specs.Reads.{IsExcluded}
 use Rattle.erm_plain.specs.Stands.{plain_view}
 use Rattle.erm_core_steps.specs.Steps.{IsUnseen}
 use Rattle.erm_core_steps.proofs.Exchanges.{claim_done, claim_excluded, claims_count, dropped_same, excluded_cells, free_current, quiet_claimed, quiet_dropped}
-use Rattle.erm_core_steps.proofs.Quiet.{active_seat}
+use Rattle.erm_core_steps.proofs.Quiet.{active_seat, at_work}
 use Rattle.erm_core_steps.proofs.Readings.{still_active, still_session}
 use Rattle.erm_core_steps.proofs.Unowned.{unowned}
 use Rattle.erm_plain.proofs.plain.Plain.claim_found.Goals as goal
@@ -22,7 +22,7 @@ use Rattle.erm_plain.proofs.plain.Plain.claim_found.Goals as goal
 pub exchange-requires-clause-at : goal.exchange-requires-clause-at
 exchange-requires-clause-at g c =
     let at = active_seat c.args.self.now.sessions c.args.seat (core_of c.args.self.now.state) c.requires.stands.quiet c.requires.session c.requires.active in
-    record { session = at.session; active = at.active }
+    at_work at
 
 pub finish_claim-requires-clause-may : goal.finish_claim-requires-clause-may
 finish_claim-requires-clause-may g c =

@@ -4,6 +4,7 @@ use Rattle.erm_core.specs.Cores.{core_of}
 use Rattle.erm_core.specs.declared.need.Need.TheVariants as need
 use Rattle.erm_core_view.specs.Views.{IsQuiet, view_of}
 use Rattle.erm_core_view.proofs.Shown.{work_active}
+use Rattle.erm_core_view.proofs.Snapshots.{starts_new}
 use Rattle.erm_world.specs.Calls.{IsDone, MayClaim}
 use Rattle.erm_world.specs.World.{View, Work, work_at}
 use Rattle.erm_world.specs.World as world
@@ -11,7 +12,7 @@ use Rattle.erm_plain.specs.Stands.{plain_view}
 use Rattle.erm_core_steps.specs.Steps.{found_in}
 use Rattle.erm_core_steps.proofs.Early.{quiet_goes}
 use Rattle.erm_core_steps.proofs.Exchanges.{head_free, head_newer, head_starts, head_taken, head_unowned}
-use Rattle.erm_core_steps.proofs.Quiet.{active_seat}
+use Rattle.erm_core_steps.proofs.Quiet.{active_seat, at_work}
 use Rattle.erm_core_steps.proofs.Ways.{begin_stays}
 use Rattle.erm_plain.proofs.plain.Plain.claim_head.Goals as goal
 
@@ -23,13 +24,13 @@ version-version-requires g c =
 pub load-requires-clause-at : goal.load-requires-clause-at
 load-requires-clause-at g c =
     let at = active_seat c.args.self.now.sessions c.args.seat (core_of c.args.self.now.state) c.requires.stands.quiet c.requires.session c.requires.active in
-    record { session = at.session; active = at.active }
+    at_work at
 
 pub load-requires-clause-taken : goal.load-requires-clause-taken
 load-requires-clause-taken g c =
     let before = core_of c.args.self.now.state in
     let at = active_seat c.args.self.now.sessions c.args.seat before c.requires.stands.quiet c.requires.session c.requires.active in
-    head_taken before c.args.seat c.args.oid c.args.entry c.version-version.result c.requires.stands.sound.sound (record { session = at.session; active = at.active }) c.requires.head
+    head_taken before c.args.seat c.args.oid c.args.entry c.version-version.result c.requires.stands.sound.sound (at_work at) c.requires.head
     c.version-version.ensures
 
 pub abort-requires-clause-stands : goal.abort-requires-clause-stands
@@ -39,7 +40,7 @@ abort-requires-clause-stands g c =
     let after = core_of c.load.new.self.state in
     let at = active_seat sessions c.args.seat before c.requires.stands.quiet c.requires.session c.requires.active in
     let starts =
-    head_starts before after c.args.seat c.args.oid c.args.entry c.version-version.result (record { session = at.session; active = at.active }) c.requires.head c.version-version.ensures
+    head_starts before after c.args.seat c.args.oid c.args.entry c.version-version.result (at_work at) c.requires.head c.version-version.ensures
     c.load.ensures.after
     in
     record {
@@ -77,7 +78,7 @@ claim_found-requires-clause-stands g c =
     let after = core_of c.load.new.self.state in
     let at = active_seat sessions c.args.seat before c.requires.stands.quiet c.requires.session c.requires.active in
     let starts =
-    head_starts before after c.args.seat c.args.oid c.args.entry c.version-version.result (record { session = at.session; active = at.active }) c.requires.head c.version-version.ensures
+    head_starts before after c.args.seat c.args.oid c.args.entry c.version-version.result (at_work at) c.requires.head c.version-version.ensures
     c.load.ensures.after
     in
     record {
@@ -97,10 +98,10 @@ claim_found-requires-clause-free g c =
     let v = c.version-version.result in
     let word_is : c.found-stamp.result ≡ (version_at (before.shared.objects v.oid) v.place).words.stamp = c.found-stamp.ensures ∙ ap found_in c.load.ensures.answer in
     let begins : c.begin_stamp.result ≡ (before.seats seat).current.begin =
-    c.begin_stamp.ensures ∙ begin_stays sessions seat before after c.load.ensures.goes ∙ ap (λ (w : Work). w.begin) (work_active (before.seats seat).place (before.seats seat).current at.active)
+    c.begin_stamp.ensures ∙ begin_stays sessions seat before after c.load.ensures.goes ∙ ap (λ (w : Work). w.begin) (work_active (before.seats seat).place (before.seats seat).task (before.seats seat).current at.active (starts_new (before.seats seat).task (before.seats seat).current at.starts))
     in
     let below = c.if-begin_stamp-stamp.false in
-    head_free before after seat c.args.oid c.args.entry c.found-stamp.result v (record { session = at.session; active = at.active }) c.requires.head c.version-version.ensures word_is
+    head_free before after seat c.args.oid c.args.entry c.found-stamp.result v (at_work at) c.requires.head c.version-version.ensures word_is
     (omega (arith, begins, below)) c.load.ensures.after
 
 pub claim_found-requires-clause-may : goal.claim_found-requires-clause-may

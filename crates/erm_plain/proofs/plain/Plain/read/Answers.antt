@@ -1,6 +1,7 @@
 use Rattle.std.proofs.Common.{◌≡◌, true, false, [], refl, ap, ◌∙◌, sym}
 use Rattle.erm_core.specs.Cores.{core_of}
 use Rattle.erm_core_view.proofs.Shown.{work_active}
+use Rattle.erm_core_view.proofs.Snapshots.{starts_new}
 use Rattle.erm_world.specs.World.{Work}
 use Rattle.erm_world.specs.Calls.{again, own}
 use Rattle.erm_world.specs.Works.{is_claimed, own_row, row_read}
@@ -23,7 +24,7 @@ returns-in-Some-clause-open_still g c = λ new.
     let now = core_of c.args.self.now.state in
     let at = active_seat c.args.self.now.sessions c.args.seat now c.requires.stands.quiet c.requires.session c.requires.active in
     let x = now.seats c.args.seat in
-    let shown = ap (λ (w : Work). is_claimed w.claims c.args.oid) (work_active x.place x.current at.active) in
+    let shown = ap (λ (w : Work). is_claimed w.claims c.args.oid) (work_active x.place x.task x.current at.active (starts_new x.task x.current at.starts)) in
     let both : true ≡ false = sym c.in-Some.ensures.claimed ∙ sym shown ∙ new.unclaimed in
     absurd (cc)
 
@@ -32,7 +33,7 @@ returns-in-Some-row_read-clause-open_still g c = λ new.
     let now = core_of c.args.self.now.state in
     let at = active_seat c.args.self.now.sessions c.args.seat now c.requires.stands.quiet c.requires.session c.requires.active in
     let x = now.seats c.args.seat in
-    let shown = ap (λ (w : Work). row_read w.reads c.args.oid) (work_active x.place x.current at.active) in
+    let shown = ap (λ (w : Work). row_read w.reads c.args.oid) (work_active x.place x.task x.current at.active (starts_new x.task x.current at.starts)) in
     let none = sym c.row_read.ensures ∙ c.in-Some-row_read.is in
     let both = sym new.unread ∙ shown ∙ none in
     absurd (cc)
@@ -42,7 +43,7 @@ returns-in-Some-clause-ok g c =
     let now = core_of c.args.self.now.state in
     let at = active_seat c.args.self.now.sessions c.args.seat now c.requires.stands.quiet c.requires.session c.requires.active in
     let x = now.seats c.args.seat in
-    let work = work_active x.place x.current at.active in
+    let work = work_active x.place x.task x.current at.active (starts_new x.task x.current at.starts) in
     own refl (ap (λ (w : Work). is_claimed w.claims c.args.oid) work ∙ c.in-Some.ensures.claimed)
     (sym (ap (λ (w : Work). own_row w.claims c.args.oid []) work ∙ c.in-Some.ensures.is))
 
@@ -51,7 +52,7 @@ returns-in-Some-row_read-clause-ok g c =
     let now = core_of c.args.self.now.state in
     let at = active_seat c.args.self.now.sessions c.args.seat now c.requires.stands.quiet c.requires.session c.requires.active in
     let x = now.seats c.args.seat in
-    let work = work_active x.place x.current at.active in
+    let work = work_active x.place x.task x.current at.active (starts_new x.task x.current at.starts) in
     again refl (ap (λ (w : Work). is_claimed w.claims c.args.oid) work ∙ c.in_default.ensures)
     (ap (λ (w : Work). row_read w.reads c.args.oid) work ∙ sym c.row_read.ensures ∙ c.in-Some-row_read.is)
 
@@ -60,7 +61,7 @@ read_first-requires-clause-new g c =
     let now = core_of c.args.self.now.state in
     let at = active_seat c.args.self.now.sessions c.args.seat now c.requires.stands.quiet c.requires.session c.requires.active in
     let x = now.seats c.args.seat in
-    let work = work_active x.place x.current at.active in
+    let work = work_active x.place x.task x.current at.active (starts_new x.task x.current at.starts) in
     record {
       unclaimed = ap (λ (w : Work). is_claimed w.claims c.args.oid) work ∙ c.in_default.ensures;
       unread = ap (λ (w : Work). row_read w.reads c.args.oid) work ∙ sym c.row_read.ensures ∙ c.in_default-row_read.is;

@@ -1,6 +1,6 @@
 use Rattle.std.proofs.Common.{refl}
 use Rattle.erm_session.proofs.Looks.{held_there, known_looked, looked_session, looks, ready_flushed}
-use Rattle.erm_session.proofs.Syncs.{goes_once, is_flushed_to, was_flushed}
+use Rattle.erm_session.proofs.Syncs.{is_flushed_to, was_flushed}
 use Rattle.erm_session.proofs.session.Session.durable.Goals as goal
 
 pub load_flushed-flushed-requires-clause-held : goal.load_flushed-flushed-requires-clause-held
@@ -36,12 +36,6 @@ returns-else-receipt-flushed-clause-unsynced g c = (
   was_flushed g.L.RowLaw.law c.args.p.now.me.0 c.args.self.now.seat c.load_flushed-flushed.result c.load_flushed-flushed.new.p.me.0 c.load_flushed-flushed.ensures.booked,
   c.if-receipt-flushed.false,
 )
-
-pub returns-then-receipt-flushed-clause-goes : goal.returns-then-receipt-flushed-clause-goes
-returns-then-receipt-flushed-clause-goes g c = goes_once _ _ _ _ _ _ c.load_flushed-flushed.ensures.booked
-
-pub returns-else-receipt-flushed-clause-goes : goal.returns-else-receipt-flushed-clause-goes
-returns-else-receipt-flushed-clause-goes g c = goes_once _ _ _ _ _ _ c.load_flushed-flushed.ensures.booked
 
 pub returns-then-receipt-flushed-clause-took : goal.returns-then-receipt-flushed-clause-took
 returns-then-receipt-flushed-clause-took g c = (c.load_flushed-flushed.result, c.if-receipt-flushed.true, (c.args.p.now.me.0, refl, c.load_flushed-flushed.ensures.booked))

@@ -2,7 +2,6 @@ use Rattle.std.proofs.Common.{arith, inl, inr, refl}
 use Rattle.erm_rule.proofs.Telling.{is_held}
 use Rattle.erm_session.proofs.Looks.{held_there}
 use Rattle.erm_session.proofs.Makes.{has_numbers, known_first, known_then, makes_object, ready_add, ready_load, refused_first, refused_then, session_first, session_then}
-use Rattle.erm_session.proofs.Syncs.{drawn_first, drawn_then, goes_once, goes_then}
 use Rattle.erm_session.proofs.session.Session.fresh.Goals as goal
 use Rattle.erm_session.proofs.Took.{object_still}
 use Rattle.erm_rule.proofs.Wents.{went_one}
@@ -58,22 +57,6 @@ pub returns-clause-made : goal.returns-clause-made
 returns-clause-made g c =
     makes_object c.args.self.now _ c.requires.stands c.requires.active c.load_counter-seen.result _ c.load_counter-seen.ensures.told.told (omega (arith, c.from.ensures, c.if-seen-from.false)) c.add_counter-found.result _
     c.add_counter-found.ensures.told.told (omega (arith, c.from-2.ensures, c.if-found-from.false))
-
-pub returns-then-seen-from-clause-counted : goal.returns-then-seen-from-clause-counted
-returns-then-seen-from-clause-counted g c = inl (drawn_first g.L.RowLaw.law c.args.p.now.me.0 c.args.self.now.seat c.load_counter-seen.result c.load_counter-seen.new.p.me.0 c.load_counter-seen.ensures.booked)
-
-pub returns-then-found-from-clause-counted : goal.returns-then-found-from-clause-counted
-returns-then-found-from-clause-counted g c =
-    inr (drawn_then g.L.RowLaw.law c.args.p.now.me.0 c.args.self.now.seat c.load_counter-seen.result c.load_counter-seen.new.p.me.0 c.load_counter-seen.ensures.booked c.add_counter-found.result c.add_counter-found.new.p.me.0 c.add_counter-found.ensures.booked)
-
-pub returns-then-seen-from-clause-goes : goal.returns-then-seen-from-clause-goes
-returns-then-seen-from-clause-goes g c = goes_once _ _ _ _ _ _ c.load_counter-seen.ensures.booked
-
-pub returns-then-found-from-clause-goes : goal.returns-then-found-from-clause-goes
-returns-then-found-from-clause-goes g c = goes_then _ _ _ _ _ c.load_counter-seen.ensures.booked _ _ c.add_counter-found.ensures.booked
-
-pub returns-clause-goes : goal.returns-clause-goes
-returns-clause-goes g c = goes_then _ _ _ _ _ c.load_counter-seen.ensures.booked _ _ c.add_counter-found.ensures.booked
 
 pub returns-then-seen-from-clause-took_none : goal.returns-then-seen-from-clause-took_none
 returns-then-seen-from-clause-took_none g c = inl (c.args.p.now.me.0, refl, c.load_counter-seen.ensures.booked)

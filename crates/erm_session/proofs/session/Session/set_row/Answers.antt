@@ -3,7 +3,7 @@ use Rattle.erm_precommit.specs.declared.pre.KeptClaim.{KeptClaim}
 use Rattle.erm_precommit.specs.Pre.{no_claim_kept}
 use Rattle.erm_rule.specs.Views.{part_of}
 use Rattle.erm_session.proofs.Goes.{active, goes_on, kept, not_active, stage_goes, starts, with_rows}
-use Rattle.erm_session.proofs.RowSet.{goes_set, kept_set, may_store, open_set, rows_set, rows_stay, sets, spare_set}
+use Rattle.erm_session.proofs.RowSet.{goes_set, kept_set, may_store, open_set, placed, rows_set, rows_stay, sets, spare_set}
 use Rattle.erm_session.proofs.Sought.{in_box}
 use Rattle.erm_session.proofs.session.Session.set_row.Goals as goal
 
@@ -50,6 +50,20 @@ returns-clause-set g c =
     let at = c.in-Active.is in
     sets v s.seat (active s x is t at) c.requires.known t (kept s x is t at) (starts s x is t at) c.args.place c.requires.place.1.within _
     (ap (λ (l : List KeptClaim). (get_or l c.args.place no_claim_kept).own) (in_box c.deref-2.ensures.0 c.deref.ensures)) c.args.row.now _ c.store_row.ensures.stored
+
+pub returns-clause-stores : goal.returns-clause-stores
+returns-clause-stores g c =
+    let s = c.args.self.now in
+    let v = c.args.p.now.me.0.view in
+    let x = part_of v s.seat in
+    let is = c.requires.stands.kept in
+    let t = c.in-Active.txn in
+    let at = c.in-Active.is in (
+      _,
+      placed v s.seat (active s x is t at) c.requires.known t (kept s x is t at) (starts s x is t at) c.args.place c.requires.place.1.within _
+          (ap (λ (l : List KeptClaim). (get_or l c.args.place no_claim_kept).own) (in_box c.deref-2.ensures.0 c.deref.ensures)),
+      c.store_row.ensures.stores,
+    )
 
 pub unreachable-requires : goal.unreachable-requires
 unreachable-requires g c = not_active c.args.self.now.stage c.requires.active c.in_default.not-Active

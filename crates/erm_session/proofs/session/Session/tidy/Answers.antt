@@ -54,7 +54,11 @@ returns-in-None-clause-tidied g c =
     (unclaimed c.in-Active.txn x (kept s x c.requires.stands.kept c.in-Active.txn c.in-Active.is) c.args.oid _ (in_box c.as_slice.ensures.value c.deref.ensures) c.in-None.ensures.none) c.claim.result c.claim.ensures.claimed
 
 pub returns-in-None-clause-took : goal.returns-in-None-clause-took
-returns-in-None-clause-took g c = took_too g.L.RowLaw.law c.args.self.now.seat c.args.oid c.args.p.now.me.0 c.claim.new.p.me.0 c.claim.result c.claim.ensures.took
+returns-in-None-clause-took g c =
+    let s = c.args.self.now in
+    let x = part_of c.args.p.now.me.0.view s.seat in
+    took_too g.L.RowLaw.law s.seat c.args.oid c.args.p.now.me.0 c.claim.new.p.me.0
+    (unclaimed c.in-Active.txn x (kept s x c.requires.stands.kept c.in-Active.txn c.in-Active.is) c.args.oid _ (in_box c.as_slice.ensures.value c.deref.ensures) c.in-None.ensures.none) c.claim.result c.claim.ensures.took
 
 pub unreachable-requires : goal.unreachable-requires
 unreachable-requires g c = not_active c.args.self.now.stage c.requires.active c.in_default.not-Active

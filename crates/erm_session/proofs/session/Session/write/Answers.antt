@@ -1,9 +1,10 @@
-use Rattle.std.proofs.Common.{subst}
-use Rattle.erm_session.specs.Calls.{SetsRow}
+use Rattle.std.proofs.Common.{◌≡◌, ℕ, subst, sym}
+use Rattle.erm_rule.specs.Views.{part_of}
+use Rattle.erm_session.specs.Calls.{IsClaimedAt, SetsRow}
 use Rattle.erm_session.proofs.session.Session.write.Goals as goal
-use Rattle.erm_rule.specs.Went.{Went}
 use Rattle.erm_session.proofs.Took.{write_still}
-use Rattle.erm_cells.specs.Took.{IsStoreStep}
+use Rattle.erm_cells.specs.Placed.{place_of}
+use Rattle.erm_cells.specs.Took.{TookRow}
 
 pub returns-clause-written : goal.returns-clause-written
 returns-clause-written g c =
@@ -20,8 +21,11 @@ returns-clause-took g c = record {
   claimed = c.claim_at.new.p.me.0;
   count = _;
   claim = c.in_ok-place.ensures.took;
-  stores = subst (λ n. Went g.L.RowLaw.law n IsStoreStep c.claim_at.new.p.me.0 c.set_row.new.p.me.0) c.in_ok-place.ensures.seat c.set_row.ensures.stores;
+  cell = c.set_row.ensures.stores.0;
+  of = subst (λ (n : ℕ). IsClaimedAt (part_of c.claim_at.new.p.me.0.view c.args.self.now.seat) c.args.oid n)
+      (sym (subst (λ (n : ℕ). place_of c.set_row.ensures.stores.0 (part_of c.claim_at.new.p.me.0.view n) ≡ c.in_ok-place.place) c.in_ok-place.ensures.seat c.set_row.ensures.stores.1)) c.in_ok-place.ensures.place;
+  stores = subst (λ (n : ℕ). TookRow g.L.RowLaw.law n c.set_row.ensures.stores.0 c.args.row.now c.claim_at.new.p.me.0 c.set_row.new.p.me.0) c.in_ok-place.ensures.seat c.set_row.ensures.stores.2;
 }
 
 pub returns-clause-still : goal.returns-clause-still
-returns-clause-still g c = write_still g.L.RowLaw.law c.args.self.now.seat c.args.oid c.args.p.now.me.0 c.set_row.new.p.me.0 (returns-clause-took g c)
+returns-clause-still g c = write_still g.L.RowLaw.law c.args.self.now.seat c.args.oid c.args.row.now c.args.p.now.me.0 c.set_row.new.p.me.0 (returns-clause-took g c)

@@ -55,4 +55,5 @@ returns g c =
       met =
           subst (λ (n : ℕ). IfErr r (λ stop. (f : View) → EndsIn law n e (own_view n s.tail s.flushed e) f → MetBeside f seat asked_make stop own (own_view n s.tail s.flushed e))) (sym same)
           (met_make law seat b e rises r own next next (λ f end was. c.ends_have_what_was.ensures.made seat e next f end was) c.fresh.ensures.took_none c.fresh.ensures.refused);
+      looked = c.fresh.ensures.took_none;
     }

@@ -82,7 +82,8 @@ returns g c =
       ok = subst (λ (v : View). IfOk r (λ row. After seat (λ u z. DidRead u seat oid row z) own v)) now done.ok;
       err = subst (λ (v : View). IfErr r (λ stop. After seat (NotReadBeside seat oid stop) own v)) now done.err;
       memory = never r (λ why. TookReadStop law seat oid why b e) stop.Memory (λ none. none.0) c.read-answer.ensures.took_none;
-      looked = c.read-answer.ensures.met;
+      word = c.read-answer.ensures.met;
+      looked = c.read-answer.ensures.took_none;
       met =
           subst (λ (n : ℕ). IfErr r (λ stop. (f : View) → EndsIn law n e (own_of t) f → MetBeside f seat (asked_read oid) stop own (own_of t))) (sym same)
           (subst (λ (v : View). IfErr r (λ stop. (f : View) → EndsIn law seat e v f → MetBeside f seat (asked_read oid) stop own v)) now done.met);

@@ -9,8 +9,8 @@ use Rattle.erm_rule.proofs.Wents.{took_goes}
 use Rattle.erm_world.specs.World.{View}
 use Rattle.erm_shared_session.specs.Seen.{flushed_met, settled_of}
 use Rattle.erm_shared_session.specs.Stands.{own_of}
-use Rattle.erm_shared_session.specs.Waits.{WasLookedAt}
-use Rattle.erm_shared_session.proofs.Results.{looked_at}
+use Rattle.erm_shared_session.specs.Waits.{TookNoSettle, WasLookedAt}
+use Rattle.erm_shared_session.proofs.Results.{looked_at, not_settled}
 use Rattle.erm_shared_session.proofs.Settling.{stage_sized, told}
 use Rattle.erm_shared_session.proofs.Standing.{IsSeen, Rise, goes_onward, own_at, own_phase, session_held, stands_again}
 use Rattle.erm_shared_session.proofs.session.TableSessionSharedSession.settle.Goals as goal
@@ -61,5 +61,6 @@ returns g c =
       err =
           subst (λ q. IfErr q (λ stop. After seat (NotSettledBeside seat stop) own (own_of t))) (sym c.settled_of.ensures)
           (subst (λ (v : View). IfErr (settled_of r) (λ stop. After seat (NotSettledBeside seat stop) own v)) now done.err);
-      looked = subst (λ q. IfErr q (λ stop. WasLookedAt b stop e)) (sym c.settled_of.ensures) (looked_at b e r c.settle-settled.ensures.met);
+      word = subst (λ q. IfErr q (λ stop. WasLookedAt b stop e)) (sym c.settled_of.ensures) (looked_at b e r c.settle-settled.ensures.met);
+      looked = subst (λ q. IfErr q (λ stop. TookNoSettle law seat stop b e)) (sym c.settled_of.ensures) (not_settled law seat b e r c.settle-settled.ensures.took_wait);
     }

@@ -40,34 +40,36 @@ tidy-tidied-requires g c =
 
 pub tail_met-self-requires : goal.tail_met-self-requires
 tail_met-self-requires g c =
+    let tidied = c.tidy-tidied in
     let law = g.L.RowLaw.law in
     let s = c.args.self.now in
     let seat = s.session.seat in
     let b = book s.pass in
-    let e = book c.tidy-tidied.new.p in
-    let went = c.tidy-tidied.ensures.still in
+    let e = book tidied.new.p in
+    let went = tidied.ensures.still in
     let work = at_work s.session.stage (part_of b.view seat) (own_phase s c.requires.stands.session ∙ c.requires.active) c.requires.stands.session.kept.stage in
     let shows : Shows = λ core sound only. c.states_show_the_history.ensures.history SESSIONS core sound only in
     record {
       low =
-          low_claim law shows seat s.tail s.flushed b e (took_start law seat went.steps b e went.took) (session_held s.session b seat c.requires.stands.session) work c.args.oid c.tidy-tidied.result
-          c.tidy-tidied.ensures.took_none;
+          low_claim law shows seat s.tail s.flushed b e (took_start law seat went.steps b e went.took) (session_held s.session b seat c.requires.stands.session) work c.args.oid tidied.result
+          tidied.ensures.took_none;
     }
 
 pub returns : goal.returns
 returns g c =
+    let call = c.tidy-tidied in
     let law = g.L.RowLaw.law in
     let s = c.args.self.now in
     let seat = s.session.seat in
     let oid = c.args.oid in
     let tail = c.tail_met-self.result in
-    let t = record s { session = c.tidy-tidied.new.self; pass = c.tidy-tidied.new.p; tail = tail } in
+    let t = record s { session = call.new.self; pass = call.new.p; tail = tail } in
     let b = book s.pass in
-    let e = book c.tidy-tidied.new.p in
-    let r = c.tidy-tidied.result in
-    let same = c.tidy-tidied.ensures.seat in
-    let steps = c.tidy-tidied.ensures.still.steps in
-    let took = c.tidy-tidied.ensures.still.took in
+    let e = book call.new.p in
+    let r = call.result in
+    let same = call.ensures.seat in
+    let steps = call.ensures.still.steps in
+    let took = call.ensures.still.took in
     let goes = took_goes law seat steps b e took in
     let start = took_start law seat steps b e took in
     let held = session_held s.session b seat c.requires.stands.session in
@@ -82,10 +84,10 @@ returns g c =
     let seen_at : SeenThen s.tail s.flushed b = λ z goes_on. c.own_views_go_on.ensures.seen seat s.tail s.flushed b z c.requires.stands.may goes_on in
     let tells = c.histories_tell_commits.ensures own in
     let fit : SparesFit = λ core p sound limit low. c.spare_lists_fit.ensures core p sound limit low in
-    let answered = if_ok r (λ cut. TidiesObject b.view seat oid cut e.view) _ (λ cut tidies. tidy_answered law seat s.tail s.flushed b e start held work tells oid cut tidies) c.tidy-tidied.ensures.tidied in
+    let answered = if_ok r (λ cut. TidiesObject b.view seat oid cut e.view) _ (λ cut tidies. tidy_answered law seat s.tail s.flushed b e start held work tells oid cut tidies) call.ensures.tidied in
     let done =
-    told law shows ended owners rises drawn seat s.tail s.flushed b e start held work c.requires.stands.may.session oid c.requires.object seen_at goes did r answered c.tidy-tidied.ensures.refused
-    c.tidy-tidied.ensures.took_none c.tidy-tidied.ensures.counted
+    told law shows ended owners rises drawn seat s.tail s.flushed b e start held work c.requires.stands.may.session oid c.requires.object seen_at goes did r answered call.ensures.refused
+    call.ensures.took_none call.ensures.counted
     in
     let is = c.tail_met-self.ensures in
     let more : s.tail ≤ tail = subst (λ (n : ℕ). s.tail ≤ n) (sym is) done.more in
@@ -96,17 +98,18 @@ returns g c =
       stands =
           stands_again law (λ at tails flush then_tail then_flushed list first last may steps_taken between seen_then.
           c.own_views_go_on.ensures.again at tails flush then_tail then_flushed list first last may steps_taken between seen_then) c.args.shared.now s t steps c.requires.stands
-          c.tidy-tidied.ensures.fits same c.tidy-tidied.ensures.stands c.tidy-tidied.ensures.known took seen;
+          call.ensures.fits same call.ensures.stands call.ensures.known took seen;
       onward =
           goes_onward law (λ at tails flush then_tail then_flushed first last f goes_on starts more_tail more_flushed is_later ends.
           c.own_views_go_on.ensures.onward at tails flush then_tail then_flushed first last f goes_on starts more_tail more_flushed is_later ends) s t same goes start more (omega arith) later;
       ok = subst (λ (v : View). OnOk r (After seat did own v)) now done.ok;
-      count = tidied_few fit seat c.requires.stands.may.session law oid b e held r c.tidy-tidied.ensures.took;
+      count = tidied_few fit seat c.requires.stands.may.session law oid b e held r call.ensures.took;
+      took = call.ensures.took;
       err = subst (λ (v : View). IfErr r (λ why. After seat (NotClaimedBeside seat oid why) own v)) now done.err;
-      memory = never r (λ why. TookClaimStop law seat oid why b e) stop.Memory (λ none. none.1) c.tidy-tidied.ensures.took_none;
+      memory = never r (λ why. TookClaimStop law seat oid why b e) stop.Memory (λ none. none.1) call.ensures.took_none;
       met =
           subst (λ (n : ℕ). IfErr r (λ why. (f : View) → EndsIn law n e (own_of t) f → MetBeside f seat (asked_claim oid) why own (own_of t))) (sym same)
           (subst (λ (v : View). IfErr r (λ why. (f : View) → EndsIn law seat e v f → MetBeside f seat (asked_claim oid) why own v)) now done.met);
-      counted = c.tidy-tidied.ensures.counted;
-      looked = c.tidy-tidied.ensures.took_none;
+      counted = call.ensures.counted;
+      looked = call.ensures.took_none;
     }

@@ -31,13 +31,13 @@ returns g c =
     let left = left_of s.stage ((core_of b).seats seat) (at.phase ∙ c.requires.active) at.is.kept.stage in
     let r = c.write.result in
     let writes = subst (λ (n : ℕ). OnOk r (WritesRow b.view n oid c.args.row.now e.view)) at.seat c.write.ensures.written in
-    let took = subst (λ (n : ℕ). OnOk r (TookWrite law n oid b e)) at.seat c.write.ensures.took in
+    let took = subst (λ (n : ℕ). OnOk r (TookWrite law n oid c.args.row.now b e)) at.seat c.write.ensures.took in
     let refused = subst (λ (n : ℕ). IfErr r (λ why. RefusesClaim b.view n oid why e.view)) at.seat c.write.ensures.refused in
     let none = subst (λ (n : ℕ). IfErr r (λ why. TookClaimStop law n oid why b e)) at.seat c.write.ensures.took_none in
     record {
       stands = call.stands;
       ok =
-          both_on_ok r (WritesRow b.view seat oid c.args.row.now e.view) (TookWrite law seat oid b e) _
+          both_on_ok r (WritesRow b.view seat oid c.args.row.now e.view) (TookWrite law seat oid c.args.row.now b e) _
           (λ did steps. did_write law w.count seat b e stands.at c.requires.session c.requires.active at.seated call.ran call.stayed oid c.args.row.now left did steps) writes took;
       err =
           both_err r (λ why. RefusesClaim b.view seat oid why e.view) (λ why. TookClaimStop law seat oid why b e) _

@@ -1,0 +1,15 @@
+use Rattle.std.proofs.Common.{◌<◌, length, ◌∙◌, arith}
+use Rattle.erm_model.specs.RowTransaction.{any_law}
+use Rattle.erm_engine.proofs.Tested.{one_there, set_done}
+use Rattle.erm_engine.proofs.tests.snapshots.finish_at.Goals as goal
+
+pub finish-requires-clause-stands : goal.finish-requires-clause-stands
+finish-requires-clause-stands c =
+    let within : c.args.place < length c.args.sessions.now.items = (let low = c.requires.within in let long = c.args.sessions.now.ok.0 in omega (arith, low, long)) in
+    (c.requires.done c.args.place c.index_mut.result.now (one_there c.args.sessions.now.items c.args.place c.index_mut.result.now within c.index_mut.ensures.value)).0
+
+pub returns-clause-done : goal.returns-clause-done
+returns-clause-done c =
+    let within : c.args.place < length c.args.sessions.now.items = (let low = c.requires.within in let long = c.args.sessions.now.ok.0 in omega (arith, low, long)) in
+    let seat = (c.requires.done c.args.place c.index_mut.result.now (one_there c.args.sessions.now.items c.args.place c.index_mut.result.now within c.index_mut.ensures.value)).1 in
+    set_done any_law c.args.table.now c.args.sessions.now.items c.args.place c.finish.new.session c.requires.done c.finish.ensures.stands (c.finish.ensures.seat ∙ seat)

@@ -1,0 +1,27 @@
+//! The world in lists as one whose sessions may have snapshots that only read.
+use crate::Plain;
+use crate::world::standing_worlds_have_laws;
+use erm_model::{Oid, Row, RowLaw, Seat, Stamp};
+use erm_world::{BeginStop, SafeStop, SafeWorld};
+
+impl<L: RowLaw> SafeWorld for Plain<L> {
+    fn begin_safe(&mut self, seat: Seat) -> Result<Stamp, BeginStop> {
+        standing_worlds_have_laws::<L>();
+        self.begin_safe(seat)
+    }
+
+    fn safe(&mut self, seat: Seat) -> Result<(), SafeStop> {
+        standing_worlds_have_laws::<L>();
+        self.safe(seat)
+    }
+
+    fn safe_read(&mut self, seat: Seat, oid: Oid) -> Row {
+        standing_worlds_have_laws::<L>();
+        self.safe_read(seat, oid)
+    }
+
+    fn end_safe(&mut self, seat: Seat) {
+        standing_worlds_have_laws::<L>();
+        self.end_safe(seat)
+    }
+}

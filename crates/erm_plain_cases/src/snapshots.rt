@@ -1,0 +1,236 @@
+//! Snapshots that only read, beside transactions, worked out by hand.
+ghost use Rattle.std.specs.Prelude.{◌≡◌, ◌<◌};
+ghost use Rattle.erm_model.specs.declared.limits.TheConstants.{OID_LIMIT};
+ghost use Rattle.erm_model.specs.declared.outcome.Phase.TheVariants.{Idle, Pending, Safe};
+ghost use Rattle.erm_world.specs.Safe.{HasSnapshot};
+ghost use Rattle.erm_world.specs.World.{IsSession, phase_at};
+
+use crate::calls::{Call, Reply, Turn, is_answered, world};
+use erm_model::{OID_LIMIT, Oid, Phase, Seat};
+use erm_world::{RowWorld, SafeStop, SafeWorld};
+use std::test::Fail;
+
+// What an idle session that begins a snapshot is answered.
+fn begin<W: SafeWorld>(world: &mut W, seat: Seat) -> Reply
+    requires stands { W.stands world.old }
+    requires sessions { (W.view world.old).opening.sessions ≡ 3 }
+    requires session { IsSession (W.view world.old) seat }
+    requires phase { phase_at (W.view world.old) seat ≡ Idle }
+    ensures stands { W.stands world.new }
+    ensures sessions { (W.view world.new).opening.sessions ≡ 3 }
+{
+    match world.begin_safe(seat) {
+        Ok(begin) => Reply::At(begin),
+        Err(stop) => Reply::NotBegun(stop),
+    }
+}
+
+// What a look whether a snapshot is safe is answered.
+fn survey<W: SafeWorld>(world: &mut W, seat: Seat) -> Reply
+    requires stands { W.stands world.old }
+    requires sessions { (W.view world.old).opening.sessions ≡ 3 }
+    requires session { IsSession (W.view world.old) seat }
+    requires phase { phase_at (W.view world.old) seat ≡ Pending }
+    ensures stands { W.stands world.new }
+    ensures sessions { (W.view world.new).opening.sessions ≡ 3 }
+{
+    match world.safe(seat) {
+        Ok(()) => Reply::Done,
+        Err(stop) => Reply::NotSafe(stop),
+    }
+}
+
+// What a read of a safe snapshot is answered.
+fn read<W: SafeWorld>(world: &mut W, seat: Seat, oid: Oid) -> Reply
+    requires stands { W.stands world.old }
+    requires sessions { (W.view world.old).opening.sessions ≡ 3 }
+    requires session { IsSession (W.view world.old) seat }
+    requires phase { phase_at (W.view world.old) seat ≡ Safe }
+    requires object { oid < OID_LIMIT }
+    ensures stands { W.stands world.new }
+    ensures sessions { (W.view world.new).opening.sessions ≡ 3 }
+{
+    Reply::First(world.safe_read(seat, oid)[0])
+}
+
+// What the end of a snapshot is answered.
+fn end<W: SafeWorld>(world: &mut W, seat: Seat) -> Reply
+    requires stands { W.stands world.old }
+    requires sessions { (W.view world.old).opening.sessions ≡ 3 }
+    requires session { IsSession (W.view world.old) seat }
+    requires snapshot { HasSnapshot (W.view world.old) seat }
+    ensures stands { W.stands world.new }
+    ensures sessions { (W.view world.new).opening.sessions ≡ 3 }
+{
+    world.end_safe(seat);
+    Reply::Done
+}
+
+// What a session is answered that has no transaction in progress.
+pub(crate) fn ask_snapshot<W: SafeWorld>(world: &mut W, seat: Seat, call: Call) -> Reply
+    requires stands { W.stands world.old }
+    requires sessions { (W.view world.old).opening.sessions ≡ 3 }
+    requires session { IsSession (W.view world.old) seat }
+    ensures stands { W.stands world.new }
+    ensures sessions { (W.view world.new).opening.sessions ≡ 3 }
+{
+    match (call, world.phase(seat)) {
+        (Call::BeginSafe, Phase::Idle) => begin(world, seat),
+        (Call::Survey, Phase::Pending) => survey(world, seat),
+        (Call::SafeRead(oid), Phase::Safe) if oid < OID_LIMIT => read(world, seat, oid),
+        (Call::EndSafe, Phase::Pending) => end(world, seat),
+        (Call::EndSafe, Phase::Safe) => end(world, seat),
+        _ => Reply::OutOfPhase,
+    }
+}
+
+// A safe snapshot reads what was there when it began, whoever claims, seals and commits behind it, and doesn't become a transaction.
+const READS: [Turn; 21] = [
+    Turn(1, Call::Begin, Reply::At(13)),
+    Turn(1, Call::Write(16, 1), Reply::Done),
+    Turn(1, Call::Write(17, 2), Reply::Done),
+    Turn(1, Call::Seal, Reply::At(13)),
+    Turn(1, Call::Settle, Reply::Commits([1, 13, 22, 13, 0])),
+    Turn(3, Call::BeginSafe, Reply::At(22)),
+    Turn(3, Call::SafeRead(16), Reply::OutOfPhase),
+    Turn(3, Call::Survey, Reply::Done),
+    Turn(3, Call::SafeRead(16), Reply::First(1)),
+    Turn(1, Call::Begin, Reply::At(22)),
+    Turn(1, Call::Write(16, 3), Reply::Done),
+    Turn(3, Call::SafeRead(16), Reply::First(1)),
+    Turn(1, Call::Seal, Reply::At(22)),
+    Turn(3, Call::SafeRead(16), Reply::First(1)),
+    Turn(1, Call::Settle, Reply::Commits([2, 22, 29, 22, 13])),
+    Turn(3, Call::SafeRead(16), Reply::First(1)),
+    Turn(3, Call::SafeRead(17), Reply::First(2)),
+    Turn(3, Call::SafeRead(18), Reply::First(0)),
+    Turn(3, Call::Write(16, 4), Reply::OutOfPhase),
+    Turn(3, Call::EndSafe, Reply::Done),
+    Turn(3, Call::SafeRead(16), Reply::OutOfPhase),
+];
+
+// Two rows are committed. Then one that has read both, and writes one, is in progress beside a commit of the other.
+const SKEWED: [Turn; 13] = [
+    Turn(1, Call::Begin, Reply::At(13)),
+    Turn(1, Call::Write(16, 1), Reply::Done),
+    Turn(1, Call::Write(17, 2), Reply::Done),
+    Turn(1, Call::Seal, Reply::At(13)),
+    Turn(1, Call::Settle, Reply::Commits([1, 13, 22, 13, 0])),
+    Turn(2, Call::Begin, Reply::At(22)),
+    Turn(2, Call::Read(16), Reply::First(1)),
+    Turn(2, Call::Read(17), Reply::First(2)),
+    Turn(2, Call::Write(16, 3), Reply::Done),
+    Turn(1, Call::Begin, Reply::At(22)),
+    Turn(1, Call::Write(17, 4), Reply::Done),
+    Turn(1, Call::Seal, Reply::At(22)),
+    Turn(1, Call::Settle, Reply::Commits([2, 22, 29, 22, 13])),
+];
+
+// A snapshot waits for it, and isn't safe once it has committed, since it has its turn before the other one. The next one is.
+const UNSAFE: [Turn; 9] = [
+    Turn(3, Call::BeginSafe, Reply::At(29)),
+    Turn(3, Call::Survey, NOT_YET),
+    Turn(3, Call::Survey, NOT_YET),
+    Turn(2, Call::Seal, Reply::At(29)),
+    Turn(3, Call::Survey, NOT_YET),
+    Turn(2, Call::Settle, Reply::Commits([1, 29, 36, 22, 13])),
+    Turn(3, Call::Survey, WENT_BACK),
+    Turn(3, Call::Survey, Reply::OutOfPhase),
+    Turn(3, Call::EndSafe, Reply::OutOfPhase),
+];
+
+const NOT_YET: Reply = Reply::NotSafe(SafeStop::NotYet { seat: 2, seen: 22 });
+
+const WENT_BACK: Reply = Reply::NotSafe(SafeStop::Unsafe { seat: 2, stamp: 29 });
+
+const NEXT: [Turn; 5] = [
+    Turn(3, Call::BeginSafe, Reply::At(36)),
+    Turn(3, Call::Survey, Reply::Done),
+    Turn(3, Call::SafeRead(16), Reply::First(3)),
+    Turn(3, Call::SafeRead(17), Reply::First(4)),
+    Turn(3, Call::EndSafe, Reply::Done),
+];
+
+// One more such commit, and the snapshot beside it isn't safe again.
+const AGAIN: [Turn; 14] = [
+    Turn(2, Call::Begin, Reply::At(36)),
+    Turn(2, Call::Read(17), Reply::First(4)),
+    Turn(2, Call::Write(16, 5), Reply::Done),
+    Turn(1, Call::Begin, Reply::At(36)),
+    Turn(1, Call::Write(17, 6), Reply::Done),
+    Turn(1, Call::Seal, Reply::At(36)),
+    Turn(1, Call::Settle, Reply::Commits([3, 36, 43, 36, 22])),
+    Turn(3, Call::BeginSafe, Reply::At(43)),
+    Turn(2, Call::Seal, Reply::At(43)),
+    Turn(2, Call::Settle, Reply::Commits([2, 43, 50, 36, 29])),
+    Turn(
+        3,
+        Call::Survey,
+        Reply::NotSafe(SafeStop::Unsafe { seat: 2, stamp: 43 }),
+    ),
+    Turn(3, Call::BeginSafe, Reply::At(50)),
+    Turn(3, Call::Survey, Reply::Done),
+    Turn(3, Call::SafeRead(16), Reply::First(5)),
+];
+
+// Two snapshots at one stamp are both safe. A later one waits for one of them, and then for the other.
+const AT_ONE_STAMP: [Turn; 16] = [
+    Turn(1, Call::BeginSafe, Reply::At(13)),
+    Turn(2, Call::BeginSafe, Reply::At(13)),
+    Turn(2, Call::Survey, Reply::Done),
+    Turn(1, Call::Survey, Reply::Done),
+    Turn(3, Call::Begin, Reply::At(13)),
+    Turn(3, Call::Write(16, 7), Reply::Done),
+    Turn(3, Call::Seal, Reply::At(13)),
+    Turn(3, Call::Settle, Reply::Commits([1, 13, 20, 13, 0])),
+    Turn(3, Call::BeginSafe, Reply::At(20)),
+    Turn(3, Call::Survey, BEHIND_FIRST),
+    Turn(1, Call::EndSafe, Reply::Done),
+    Turn(3, Call::Survey, BEHIND_SECOND),
+    Turn(2, Call::SafeRead(16), Reply::First(0)),
+    Turn(2, Call::EndSafe, Reply::Done),
+    Turn(3, Call::Survey, Reply::Done),
+    Turn(3, Call::SafeRead(16), Reply::First(7)),
+];
+
+const BEHIND_FIRST: Reply = Reply::NotSafe(SafeStop::NotYet { seat: 1, seen: 13 });
+
+const BEHIND_SECOND: Reply = Reply::NotSafe(SafeStop::NotYet { seat: 2, seen: 13 });
+
+// A snapshot waits for a session that is sealed below it, until this has settled. It may end before.
+const SEALED: [Turn; 12] = [
+    Turn(1, Call::Begin, Reply::At(13)),
+    Turn(1, Call::Write(16, 7), Reply::Done),
+    Turn(1, Call::Seal, Reply::At(13)),
+    Turn(3, Call::BeginSafe, Reply::At(20)),
+    Turn(3, Call::Survey, BEHIND_FIRST),
+    Turn(3, Call::EndSafe, Reply::Done),
+    Turn(3, Call::BeginSafe, Reply::At(20)),
+    Turn(3, Call::Survey, BEHIND_FIRST),
+    Turn(1, Call::Settle, Reply::Commits([1, 13, 20, 13, 0])),
+    Turn(3, Call::Survey, Reply::Done),
+    Turn(3, Call::SafeRead(16), Reply::First(7)),
+    Turn(3, Call::BeginSafe, Reply::OutOfPhase),
+];
+
+#[test]
+fn snapshots_are_answered(rt: HostRuntime) -> Result<(), Fail> {
+    let mut skewed = world(rt.alloc(), false)?;
+    assert!(rt; is_answered(&mut skewed, &SKEWED));
+    assert!(rt; is_answered(&mut skewed, &UNSAFE), "wait, and unsafe");
+    assert!(rt; is_answered(&mut skewed, &NEXT), "the next one");
+    assert!(rt; is_answered(&mut skewed, &AGAIN), "unsafe again");
+    assert!(rt;
+        is_answered(&mut world(rt.alloc(), false)?, &READS),
+        "reads beside a commit"
+    );
+    assert!(rt;
+        is_answered(&mut world(rt.alloc(), false)?, &AT_ONE_STAMP),
+        "two at one stamp"
+    );
+    assert!(rt;
+        is_answered(&mut world(rt.alloc(), false)?, &SEALED),
+        "a session sealed below"
+    );
+    Ok(())
+}
