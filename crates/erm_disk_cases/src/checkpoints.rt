@@ -1,8 +1,9 @@
 //! Checkpoints of disks in memory.
+use crate::told::{empty, is_told, stopping};
 use erm_disk_run::{DiskStop, checkpoint_on_disk};
-use erm_outside::{Disk, File};
+use erm_outside::{Disk, Failed, File};
 use erm_outside_mem::{MemDisk, Pick, Silent};
-use erm_report::{Line, Text};
+use erm_report::Line;
 use std::alloc::{AllocError, Global};
 use std::test::Fail;
 
@@ -14,67 +15,75 @@ const TOLD: [&str; 4] = [
     "open 23 run 4\ncheckpoint 28\nend\n",
 ];
 
-// The text of lines.
-pub(crate) fn text_of(alloc: Global, lines: &[Line]) -> Result<Text, AllocError> {
-    let mut text = Text::new(alloc);
-    for line in lines {
-        text.add(line)?;
+// The first of these texts that isn't told.
+fn first_untold(alloc: Global) -> Result<Option<&'static str>, AllocError> {
+    let mut disk = empty(alloc);
+    for told in TOLD {
+        let taken = checkpoint_on_disk(alloc, disk);
+        disk = taken.disk;
+        if !is_told(alloc, taken.ended.ok(), told)? {
+            return Ok(Some(told));
+        }
     }
-    Ok(text)
+    Ok(None)
 }
 
 #[test]
 fn checkpoints_go_on(rt: HostRuntime) -> Result<(), Fail> {
-    let alloc = rt.alloc();
-    let mut disk = Silent {
-        disk: MemDisk::new(alloc),
-    };
-    for told in &TOLD {
-        let taken = checkpoint_on_disk(alloc, disk);
-        disk = taken.disk;
-        let Ok(lines) = taken.ended else {
-            return Err(Fail::new("no checkpoint is taken"));
-        };
-        assert_eq!(rt; text_of(alloc, &lines)?.as_slice(), told.as_bytes());
-    }
+    assert_eq!(rt; first_untold(rt.alloc())?, None);
     Ok(())
 }
+
+fn is_fault(ended: Result<Vec<Line>, DiskStop>) -> bool {
+    matches!(ended, Err(DiskStop::DiskFault))
+}
+
+fn has_no_base(ended: Result<Vec<Line>, DiskStop>) -> bool {
+    matches!(ended, Err(DiskStop::NoBase))
+}
+
+// So many calls take a checkpoint of an empty disk: the slots are read, three lengths and the log; removals are waited for, these files, and a
+// segment more; and then the log and the slot are written, and each is waited for.
+const CALLS: u64 = 15;
 
 #[test]
 fn faults_stop_checkpoints(rt: HostRuntime) -> Result<(), Fail> {
-    let alloc = rt.alloc();
-    // Of an empty disk the slots are read, three lengths and the log; removals are waited for, these files, and a segment more; and then the log
-    // and the slot are written, and each is waited for.
-    for calls in 0..15 {
-        let disk = Silent {
-            disk: MemDisk::new(alloc).stop_at(calls),
-        };
-        let taken = checkpoint_on_disk(alloc, disk);
-        assert!(rt; matches!(taken.ended, Err(DiskStop::DiskFault)));
+    for calls in 0..CALLS {
+        let disk = stopping(rt.alloc(), calls);
+        assert!(rt;
+            is_fault(checkpoint_on_disk(rt.alloc(), disk).ended),
+            "{calls}"
+        );
     }
-    let mut disk = Silent {
-        disk: MemDisk::new(alloc),
-    };
+    let mut disk = empty(rt.alloc());
     disk.write(File::Slot0, 0, b"x")?;
-    let taken = checkpoint_on_disk(alloc, disk);
-    assert!(rt; matches!(taken.ended, Err(DiskStop::NoBase)));
+    assert!(rt; has_no_base(checkpoint_on_disk(rt.alloc(), disk).ended));
     Ok(())
 }
 
-// Where the last thing done to a disk was to remove a segment that no opening can name, the next run waits for that before it writes.
+// A segment that no opening can name.
+const FAR: File = File::Segment(9);
+
+// A disk from which it is removed, which is the last thing done to it.
+fn removed(alloc: Global) -> Result<MemDisk, Failed> {
+    let mut disk = MemDisk::new(alloc);
+    disk.write(FAR, 0, b"x")?;
+    disk.sync(FAR)?;
+    disk.remove(FAR)?;
+    Ok(disk)
+}
+
+// Whether a crash that keeps only what was waited for leaves so many bytes of it.
+fn leaves(disk: &MemDisk, bytes: u64) -> Result<bool, AllocError> {
+    Ok(disk.image(Pick::Nothing)?.len(FAR) == Ok(bytes))
+}
+
+// The next run waits for the removal before it writes.
 #[test]
 fn openings_wait_for_removals(rt: HostRuntime) -> Result<(), Fail> {
-    let alloc = rt.alloc();
-    let far = File::Segment(9);
-    let mut disk = MemDisk::new(alloc);
-    disk.write(far, 0, b"x")?;
-    disk.sync(far)?;
-    disk.remove(far)?;
-    let mut left = disk.image(Pick::Nothing)?;
-    assert!(rt; left.len(far) == Ok(1));
-    let taken = checkpoint_on_disk(alloc, Silent { disk });
-    assert!(rt; taken.ended.is_ok());
-    let mut left = taken.disk.disk.image(Pick::Nothing)?;
-    assert!(rt; left.len(far) == Ok(0));
+    let disk = removed(rt.alloc())?;
+    assert!(rt; leaves(&disk, 1)?);
+    let taken = checkpoint_on_disk(rt.alloc(), Silent { disk });
+    assert!(rt; taken.ended.is_ok() && leaves(&taken.disk.disk, 0)?);
     Ok(())
 }

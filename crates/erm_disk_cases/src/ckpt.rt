@@ -211,53 +211,77 @@ fn first_wrong(words: &Words, rows: &mut [Row], changes: &str, taken: bool) -> O
     None
 }
 
+// Whether a spelling makes a slot, and what else makes one or none, as is said.
+fn is_as_said(spelling: &Spelling, rows: &mut [Row], out: &mut [u64]) -> bool
+    requires rows { length rows.old ≡ OID_LIMIT }
+    requires out { length out.old ≡ SLOT_WORDS }
+{
+    let words = words_of(spelling.words);
+    is_written_so(spelling, rows, out)
+        && first_wrong_mark(spelling, rows).is_none()
+        && first_wrong(&words, rows, spelling.taken, true).is_none()
+        && first_wrong(&words, rows, spelling.refused, false).is_none()
+}
+
+// The first spelling that isn't as is said, by its words.
+fn first_other(rows: &mut [Row], out: &mut [u64]) -> Option<&'static str>
+    requires rows { length rows.old ≡ OID_LIMIT }
+    requires out { length out.old ≡ SLOT_WORDS }
+{
+    for spelling in &SPELLINGS {
+        if !is_as_said(spelling, rows, out) {
+            return Some(spelling.words);
+        }
+    }
+    None
+}
+
 #[test]
 fn spellings(rt: HostRuntime) -> Result<(), Fail> {
     let mut table = vec![in rt.alloc(); [0; ROW_WORDS]; OID_LIMIT as usize]?;
     let mut buffer = vec![in rt.alloc(); 7; SLOT_WORDS]?;
-    let (rows, out) = (table.as_mut_slice(), buffer.as_mut_slice());
-    for spelling in &SPELLINGS {
-        let words = words_of(spelling.words);
-        let at = words.all[1];
-        assert!(rt; is_written_so(spelling, rows, out), "the slot of {at}");
-        assert_eq!(rt; first_wrong_mark(spelling, rows), None, "the slot of {at}");
-        assert_eq!(rt;
-            first_wrong(&words, rows, spelling.taken, true),
-            None,
-            "the slot of {at}"
-        );
-        assert_eq!(rt;
-            first_wrong(&words, rows, spelling.refused, false),
-            None,
-            "the slot of {at}"
-        );
-    }
+    assert_eq!(rt;
+        first_other(table.as_mut_slice(), buffer.as_mut_slice()),
+        None
+    );
     Ok(())
 }
 
 // A slot with as many whole rows as there may be. Its digest, another implementation's, tells the other words.
+const GREATEST: Slot = Slot {
+    stamp: 1 << 61,
+    run: (1 << 44) - 1,
+    first: 1 << 45,
+};
+
+// Whether it is written so, and read again.
+fn is_greatest(rows: &mut [Row], out: &mut [u64], read: &mut [Row]) -> bool
+    requires rows { length rows.old ≡ OID_LIMIT }
+    requires out { length out.old ≡ SLOT_WORDS }
+    requires read { length read.old ≡ OID_LIMIT }
+{
+    for (oid, row) in rows.iter_mut().enumerate() {
+        *row = [oid as u64 + 1; ROW_WORDS];
+    }
+    let size = write(out, &GREATEST, rows);
+    size == SLOT_WORDS
+        && out[SLOT_WORDS - 1] == 0x7f99808e8c23047d
+        && read_slot(out, read, &Lawless) == Some(GREATEST)
+        && &*read == &*rows
+}
+
 #[test]
 fn greatest(rt: HostRuntime) -> Result<(), Fail> {
     let mut table = vec![in rt.alloc(); [0; ROW_WORDS]; OID_LIMIT as usize]?;
     let mut buffer = vec![in rt.alloc(); 7; SLOT_WORDS]?;
     let mut copy = vec![in rt.alloc(); [7; ROW_WORDS]; OID_LIMIT as usize]?;
-    let (rows, out, read) = (
-        table.as_mut_slice(),
-        buffer.as_mut_slice(),
-        copy.as_mut_slice(),
+    assert!(rt;
+        is_greatest(
+            table.as_mut_slice(),
+            buffer.as_mut_slice(),
+            copy.as_mut_slice()
+        )
     );
-    for (oid, row) in rows.iter_mut().enumerate() {
-        *row = [oid as u64 + 1; ROW_WORDS];
-    }
-    let slot = Slot {
-        stamp: 1 << 61,
-        run: (1 << 44) - 1,
-        first: 1 << 45,
-    };
-    let size = write(out, &slot, rows);
-    assert!(rt; size == SLOT_WORDS && out[SLOT_WORDS - 1] == 0x7f99808e8c23047d);
-    assert_eq!(rt; read_slot(out, read, &Lawless), Some(slot));
-    assert!(rt; &*read == &*rows);
     Ok(())
 }
 
@@ -291,21 +315,22 @@ fn slot_of((stamp, first): (u64, u64)) -> Slot {
     }
 }
 
+// Whether of a choice's slots these are the best one's stamp, the other file, and the segments that are removed.
+fn is_chosen(choice: &Choice) -> bool {
+    let slots = Slots {
+        slot0: choice.slot0.map(slot_of),
+        slot1: choice.slot1.map(slot_of),
+    };
+    best_of(&slots).map(|slot| slot.stamp) == choice.best
+        && other_of(&slots) == choice.other
+        && next_first(&slots) == choice.from
+        && removal_end(&slots) == choice.to
+}
+
 #[test]
 fn choices(rt: HostRuntime) {
-    for choice in &CHOICES {
-        let slots = Slots {
-            slot0: choice.slot0.map(slot_of),
-            slot1: choice.slot1.map(slot_of),
-        };
-        assert_eq!(rt;
-            best_of(&slots).map(|slot| slot.stamp),
-            choice.best,
-            "{slots:?}"
-        );
-        assert_eq!(rt; other_of(&slots), choice.other, "{slots:?}");
-        assert_eq!(rt; next_first(&slots), choice.from, "{slots:?}");
-        assert_eq!(rt; removal_end(&slots), choice.to, "{slots:?}");
+    for (place, choice) in CHOICES.iter().enumerate() {
+        assert!(rt; is_chosen(choice), "choice {place}");
     }
 }
 

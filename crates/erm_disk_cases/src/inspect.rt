@@ -1,9 +1,10 @@
 //! What is told of disks whose words another program worked out.
+use crate::told::{empty, is_told, stopping};
 use erm_inspect::{audited, recovered};
 use erm_outside::{Disk, Failed, File};
 use erm_outside_mem::{MemDisk, Silent};
 use erm_recover::RecoverStop;
-use erm_report::{Line, Text};
+use erm_report::Line;
 use erm_segment::place;
 use std::alloc::{AllocError, Global};
 use std::test::Fail;
@@ -143,46 +144,42 @@ fn write_log(disk: &mut Silent<MemDisk>, at: u64, words: &str) -> Result<(), Fai
     Ok(())
 }
 
-// The text of what is told.
-fn text_of(alloc: Global, lines: &[Line]) -> Result<Text, AllocError> {
-    let mut text = Text::new(alloc);
-    for line in lines {
-        text.add(line)?;
-    }
-    Ok(text)
+// A disk of these words.
+fn written_to(alloc: Global, written: &Written) -> Result<Silent<MemDisk>, Failed> {
+    let mut disk = empty(alloc);
+    write_words(&mut disk, File::Slot0, written.slot0)?;
+    write_words(&mut disk, File::Slot1, written.slot1)?;
+    write_log(&mut disk, written.at, written.log)?;
+    Ok(disk)
 }
 
-// A disk without files.
-fn empty(alloc: Global) -> Silent<MemDisk> {
-    Silent {
-        disk: MemDisk::new(alloc),
-    }
+// Whether a disk is recovered and audited so.
+fn is_told_of(
+    alloc: Global,
+    disk: &mut Silent<MemDisk>,
+    written: &Written,
+) -> Result<bool, AllocError> {
+    Ok(
+        is_told(alloc, recovered(alloc, disk).ok(), written.recovered)?
+            && is_told(alloc, audited(alloc, disk).ok(), written.audited)?,
+    )
 }
 
 #[test]
 fn disks_are_told_of(rt: HostRuntime) -> Result<(), Fail> {
-    let alloc = rt.alloc();
-    for written in &DISKS {
-        let mut disk = empty(alloc);
-        write_words(&mut disk, File::Slot0, written.slot0)?;
-        write_words(&mut disk, File::Slot1, written.slot1)?;
-        write_log(&mut disk, written.at, written.log)?;
-        let Ok(found) = recovered(alloc, &mut disk) else {
-            return Err(Fail::new("nothing is recovered"));
-        };
-        assert_eq!(rt;
-            text_of(alloc, &found)?.as_slice(),
-            written.recovered.as_bytes()
-        );
-        let Ok(found) = audited(alloc, &mut disk) else {
-            return Err(Fail::new("nothing is audited"));
-        };
-        assert_eq!(rt;
-            text_of(alloc, &found)?.as_slice(),
-            written.audited.as_bytes()
-        );
+    for (place, written) in DISKS.iter().enumerate() {
+        let mut disk = written_to(rt.alloc(), written)?;
+        assert!(rt; is_told_of(rt.alloc(), &mut disk, written)?, "disk {place}");
     }
     Ok(())
+}
+
+fn has_no_base(told: Result<Vec<Line>, RecoverStop>) -> bool {
+    matches!(told, Err(RecoverStop::NoBase))
+}
+
+fn is_fault(told: Result<Vec<Line>, RecoverStop>) -> bool {
+    matches!(told, Err(RecoverStop::DiskFault))
 }
 
 #[test]
@@ -190,12 +187,8 @@ fn nothing_is_told_of_others(rt: HostRuntime) -> Result<(), Fail> {
     let alloc = rt.alloc();
     let mut disk = empty(alloc);
     disk.write(File::Slot0, 0, b"x")?;
-    assert!(rt; matches!(recovered(alloc, &mut disk), Err(RecoverStop::NoBase)));
-    assert!(rt; matches!(audited(alloc, &mut disk), Err(RecoverStop::NoBase)));
-    let mut failing = Silent {
-        disk: MemDisk::new(alloc).stop_at(0),
-    };
-    assert!(rt; matches!(recovered(alloc, &mut failing), Err(RecoverStop::DiskFault)));
-    assert!(rt; matches!(audited(alloc, &mut failing), Err(RecoverStop::DiskFault)));
+    assert!(rt; has_no_base(recovered(alloc, &mut disk)) && has_no_base(audited(alloc, &mut disk)));
+    let mut failing = stopping(alloc, 0);
+    assert!(rt; is_fault(recovered(alloc, &mut failing)) && is_fault(audited(alloc, &mut failing)));
     Ok(())
 }

@@ -17,3 +17,5 @@ mod outside_real;
 mod recover;
 #[cfg(test)]
 mod runs;
+#[cfg(test)]
+mod told;

@@ -141,35 +141,51 @@ fn is_readable<D: Disk>(disk: &mut D) -> bool {
         && disk.next_segment(0xac) == Ok(None)
 }
 
+// Whether a disk is read, or not, and written where nothing is written.
+fn is_read_so<D: Disk>(disk: &mut D, is_read: bool) -> bool {
+    disk.len(File::Slot0).is_ok() == is_read
+        && disk.next_segment(0).is_ok() == is_read
+        && disk.write(File::Slot0, 0, b"").is_ok()
+}
+
 // Whether a disk fails over a folder that may not be read. Where the system lets this process read each folder, it doesn't.
 fn is_refused_folder(rt: &HostRuntime) -> io::Result<bool> {
     fs::create_dir(rt, FOLDER)?;
     fs::set_permissions(rt, FOLDER, fs::Permissions::from_mode(0))?;
     let is_read = fs::open(rt, FOLDER).is_ok();
-    let mut disk = FolderDisk::new(rt);
-    let is_same = disk.len(File::Slot0).is_ok() == is_read
-        && disk.next_segment(0).is_ok() == is_read
-        && disk.write(File::Slot0, 0, b"").is_ok();
-    drop(disk);
+    let is_same = is_read_so(&mut FolderDisk::new(rt), is_read);
     fs::set_permissions(rt, FOLDER, fs::Permissions::from_mode(0o700))?;
     fs::remove_dir_all(rt, FOLDER)?;
     Ok(is_same)
 }
 
-// Whether each call fails at a file in whose place a folder lies, and others don't. It is no segment.
-fn is_refused_file(rt: &HostRuntime) -> io::Result<bool> {
-    let segment = File::Segment(0xab);
-    fs::create_dir_all(rt, LEFT[1].0)?;
-    let mut disk = FolderDisk::new(rt);
-    let is_refused = disk.len(segment) == Err(Failed)
+// Whether each call of a segment fails, and others don't. It is no segment.
+fn refuses<D: Disk>(disk: &mut D, segment: File) -> bool {
+    disk.len(segment) == Err(Failed)
         && disk.read(segment, 0, &mut [0]) == Err(Failed)
         && disk.next_segment(0xab) == Ok(None)
         && disk.write(segment, 0, b"x") == Err(Failed)
         && disk.remove(segment) == Err(Failed)
-        && disk.len(File::Slot0) == Ok(0);
-    drop(disk);
+        && disk.len(File::Slot0) == Ok(0)
+}
+
+// Whether each call fails at a file in whose place a folder lies.
+fn is_refused_file(rt: &HostRuntime) -> io::Result<bool> {
+    fs::create_dir_all(rt, LEFT[1].0)?;
+    let is_refused = refuses(&mut FolderDisk::new(rt), File::Segment(0xab));
     fs::remove_dir_all(rt, FOLDER)?;
     Ok(is_refused)
+}
+
+// Whether two disks read one folder, and write nothing to it, while a third has nothing of it.
+fn are_shared<D: Disk>(one: &mut D, other: &mut D, whole: &mut D) -> bool {
+    reads(one, File::Slot0, 0, b"slot")
+        && reads(other, File::Slot0, 1, b"lot")
+        && whole.len(File::Slot0) == Err(Failed)
+        && one.write(File::Slot0, 0, b"x") == Err(Failed)
+        && one.remove(File::Slot0) == Err(Failed)
+        && one.next_segment(0) == Ok(Some(0xab))
+        && reads(one, File::Segment(0xab), 0, b"slot")
 }
 
 // Whether disks that only read share the folder, and no other has it then; a link to a file is a segment.
@@ -180,14 +196,7 @@ fn is_shared(rt: &HostRuntime) -> io::Result<bool> {
     let mut one = FolderDisk::shared(rt);
     let mut other = FolderDisk::shared(rt);
     let mut whole = FolderDisk::new(rt);
-    let are_read = reads(&mut one, File::Slot0, 0, b"slot")
-        && reads(&mut other, File::Slot0, 1, b"lot");
-    let is_same = are_read
-        && whole.len(File::Slot0) == Err(Failed)
-        && one.write(File::Slot0, 0, b"x") == Err(Failed)
-        && one.remove(File::Slot0) == Err(Failed)
-        && one.next_segment(0) == Ok(Some(0xab))
-        && reads(&mut one, File::Segment(0xab), 0, b"slot");
+    let is_same = are_shared(&mut one, &mut other, &mut whole);
     drop((one, other));
     let is_free = whole.len(File::Slot0) == Ok(4);
     drop(whole);
@@ -195,28 +204,46 @@ fn is_shared(rt: &HostRuntime) -> io::Result<bool> {
     Ok(is_same && is_free)
 }
 
-// The folder is made by the first write, and is one disk's at a time. What lies in its place and
-// is no folder fails, and so does what may not be read, and a folder in a file's place.
+// Whether the files are there that were left.
+fn are_left(rt: &HostRuntime) -> io::Result<bool> {
+    for (path, bytes) in LEFT {
+        if fs::read(rt, path)?.as_slice() != bytes {
+            return Ok(false);
+        }
+    }
+    Ok(true)
+}
+
+// Whether the folder is made by the first write, and is one disk's at a time.
+fn is_made(rt: &HostRuntime) -> io::Result<bool> {
+    let mut late = FolderDisk::new(rt);
+    let mut disk = FolderDisk::new(rt);
+    let is_empty = late.len(File::Slot1) == Ok(0) && disk.next_segment(0) == Ok(None);
+    let is_late = !fs::exists(rt, FOLDER)?;
+    let is_used = is_writable(&mut disk) && is_readable(&mut disk);
+    let is_one = late.write(File::Slot1, 0, b"x") == Err(Failed)
+        && FolderDisk::new(rt).len(File::Slot1) == Err(Failed);
+    let is_made = is_empty && is_late && is_used && is_one && are_left(rt)?;
+    drop(disk);
+    Ok(is_made && is_readable(&mut FolderDisk::new(rt)))
+}
+
+// Whether what lies in its place and is no folder fails.
+fn is_no_folder(rt: &HostRuntime) -> io::Result<bool> {
+    fs::write(rt, FOLDER, b"no folder".as_slice())?;
+    let mut none = FolderDisk::new(rt);
+    let fails = none.len(File::Slot1) == Err(Failed) && none.sync(File::Slot1) == Err(Failed);
+    fs::remove_file(rt, FOLDER)?;
+    Ok(fails)
+}
+
+// What may not be read fails too, and a folder in a file's place.
 #[test]
 fn a_folder_is_a_disk(rt: HostRuntime) -> Result<(), Fail> {
     let _ = fs::remove_dir_all(&rt, FOLDER);
-    let mut late = FolderDisk::new(&rt);
-    let mut disk = FolderDisk::new(&rt);
-    assert!(rt; late.len(File::Slot1) == Ok(0) && disk.next_segment(0) == Ok(None));
-    assert!(rt; !fs::exists(&rt, FOLDER)?);
-    assert!(rt; is_writable(&mut disk) && is_readable(&mut disk));
-    assert!(rt; late.write(File::Slot1, 0, b"x") == Err(Failed));
-    assert!(rt; FolderDisk::new(&rt).len(File::Slot1) == Err(Failed));
-    for (path, bytes) in LEFT {
-        assert!(rt; fs::read(&rt, path)?.as_slice() == bytes, "{path}");
-    }
-    drop(disk);
-    assert!(rt; is_readable(&mut FolderDisk::new(&rt)));
+    assert!(rt; is_made(&rt)?);
     fs::remove_dir_all(&rt, FOLDER)?;
-    fs::write(&rt, FOLDER, b"no folder".as_slice())?;
-    let mut none = FolderDisk::new(&rt);
-    assert!(rt; none.len(File::Slot1) == Err(Failed) && none.sync(File::Slot1) == Err(Failed));
-    fs::remove_file(&rt, FOLDER)?;
+    assert!(rt; is_no_folder(&rt)?);
     assert!(rt; is_refused_folder(&rt)? && is_refused_file(&rt)? && is_shared(&rt)?);
     Ok(())
 }
@@ -257,37 +284,48 @@ impl Write for Busy {
     }
 }
 
+fn is_broken(moved: io::Result<usize>) -> bool {
+    matches!(moved, Err(error) if error.kind() == io::ErrorKind::BrokenPipe)
+}
+
+fn is_none(moved: io::Result<usize>) -> bool {
+    matches!(moved, Ok(0))
+}
+
 // A stream that is interrupted or isn't ready is asked again, and what it answers then is handed on.
 #[test]
 fn a_stream_is_waited_for(rt: HostRuntime) -> Result<(), Fail> {
     let mut busy = Patient::new(Busy { tries: 0 }, &rt);
     let mut buf = [0; 4];
-    assert!(rt;
-        matches!(busy.write(b"x"), Err(error) if error.kind() == io::ErrorKind::BrokenPipe)
-    );
-    assert!(rt; matches!(busy.write(b"x"), Ok(0)));
-    assert!(rt;
-        matches!(busy.read(&mut buf), Err(error) if error.kind() == io::ErrorKind::BrokenPipe)
-    );
-    assert!(rt; matches!(busy.read(&mut buf), Ok(0)));
+    assert!(rt; is_broken(busy.write(b"x")));
+    assert!(rt; is_none(busy.write(b"x")));
+    assert!(rt; is_broken(busy.read(&mut buf)));
+    assert!(rt; is_none(busy.read(&mut buf)));
     Ok(())
 }
 
-// What is done to a disk that was used before by a process that is gone: it is opened, for which what is there is waited for, and what is gone;
-// two segments are written; and a checkpoint is taken, behind which two segments are removed.
-fn use_disk<D: Disk>(disk: &mut D) -> Result<(), Failed> {
+// What is done to a disk that was used before by a process that is gone: it is opened, for which what is there is waited for, and what is gone.
+fn open_disk<D: Disk>(disk: &mut D) -> Result<(), Failed> {
     disk.sync_removals()?;
     for file in [File::Slot0, File::Slot1, File::Segment(6), File::Segment(7)] {
         disk.sync(file)?;
     }
     disk.write(File::Segment(7), 0, b"open")?;
-    disk.sync(File::Segment(7))?;
+    disk.sync(File::Segment(7))
+}
 
+// Then two segments are written.
+fn write_two<D: Disk>(disk: &mut D) -> Result<(), Failed> {
     disk.write(File::Segment(7), 4, b"flushed")?;
     disk.write(File::Segment(8), 0, b"flushed")?;
     disk.sync(File::Segment(7))?;
-    disk.sync(File::Segment(8))?;
+    disk.sync(File::Segment(8))
+}
 
+// And a checkpoint is taken, behind which two segments are removed.
+fn use_disk<D: Disk>(disk: &mut D) -> Result<(), Failed> {
+    open_disk(disk)?;
+    write_two(disk)?;
     disk.write(File::Slot1, 0, b"slot")?;
     disk.sync(File::Slot1)?;
     for segment in [6, 7] {
@@ -299,50 +337,47 @@ fn use_disk<D: Disk>(disk: &mut D) -> Result<(), Failed> {
 
 // The calls that have to come of it, where slot 0 and segments 6 and 7 are there: each file and each entry that is new or gone
 // is waited for at its sync, and nothing is waited for twice.
-fn wanted(at: usize) -> Option<Call> {
-    Some(match at {
-        0 => Call::FolderSynced,
-        1 => Call::ParentSynced,
-        2 => Call::Synced(File::Slot0),
-        3 => Call::Missed(File::Slot1),
-        4 => Call::Synced(File::Segment(6)),
-        5 => Call::Synced(File::Segment(7)),
-        6 => Call::Wrote(File::Segment(7)),
-        7 => Call::Synced(File::Segment(7)),
-        8 => Call::Wrote(File::Segment(7)),
-        9 => Call::Missed(File::Segment(8)),
-        10 => Call::Made(File::Segment(8)),
-        11 => Call::Wrote(File::Segment(8)),
-        12 => Call::Synced(File::Segment(7)),
-        13 => Call::FolderSynced,
-        14 => Call::ParentSynced,
-        15 => Call::Synced(File::Segment(8)),
-        16 => Call::Missed(File::Slot1),
-        17 => Call::Made(File::Slot1),
-        18 => Call::Wrote(File::Slot1),
-        19 => Call::Synced(File::Slot1),
-        20 => Call::FolderSynced,
-        21 => Call::ParentSynced,
-        22 => Call::Removed(File::Segment(6)),
-        23 => Call::Missed(File::Segment(6)),
-        24 => Call::FolderSynced,
-        25 => Call::ParentSynced,
-        26 => Call::Removed(File::Segment(7)),
-        27 => Call::Missed(File::Segment(7)),
-        28 => Call::FolderSynced,
-        29 => Call::ParentSynced,
-        _ => return None,
-    })
-}
+const WANTED: [Call; 30] = [
+    Call::FolderSynced,
+    Call::ParentSynced,
+    Call::Synced(File::Slot0),
+    Call::Missed(File::Slot1),
+    Call::Synced(File::Segment(6)),
+    Call::Synced(File::Segment(7)),
+    Call::Wrote(File::Segment(7)),
+    Call::Synced(File::Segment(7)),
+    Call::Wrote(File::Segment(7)),
+    Call::Missed(File::Segment(8)),
+    Call::Made(File::Segment(8)),
+    Call::Wrote(File::Segment(8)),
+    Call::Synced(File::Segment(7)),
+    Call::FolderSynced,
+    Call::ParentSynced,
+    Call::Synced(File::Segment(8)),
+    Call::Missed(File::Slot1),
+    Call::Made(File::Slot1),
+    Call::Wrote(File::Slot1),
+    Call::Synced(File::Slot1),
+    Call::FolderSynced,
+    Call::ParentSynced,
+    Call::Removed(File::Segment(6)),
+    Call::Missed(File::Segment(6)),
+    Call::FolderSynced,
+    Call::ParentSynced,
+    Call::Removed(File::Segment(7)),
+    Call::Missed(File::Segment(7)),
+    Call::FolderSynced,
+    Call::ParentSynced,
+];
 
 // Whether calls, of which the newest is the first, are these.
 fn are_wanted(calls: &[Call]) -> bool {
-    calls
-        .iter()
-        .rev()
-        .enumerate()
-        .all(|(at, call)| wanted(at) == Some(*call))
-        && wanted(calls.len()).is_none()
+    for (call, want) in calls.iter().rev().zip(WANTED) {
+        if *call != want {
+            return false;
+        }
+    }
+    calls.len() == WANTED.len()
 }
 
 fn used_before(alloc: Global) -> Result<Recorder, AllocError> {

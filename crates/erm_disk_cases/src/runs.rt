@@ -2,7 +2,7 @@
 ghost use Rattle.std.specs.Prelude.{◌≡◌, ◌∷◌, [], ℕ, List};
 ghost use Rattle.erm_disk_run.specs.Runs.{IsScriptFor};
 
-use crate::checkpoints::text_of;
+use crate::told::{empty, is_told, stopping};
 use erm_disk_run::{OnDisk, RunStop, run_on_disk};
 use erm_model::{Name, Value};
 use erm_outside_mem::{MemDisk, Silent};
@@ -71,10 +71,7 @@ fn tells(
     requires script { IsScriptFor names.now script.now }
 {
     let OnDisk { disk, ended } = run_on_disk(alloc, disk, names, script);
-    let Some(lines) = lines_of(ended) else {
-        return Err(Fail::new("there are no lines"));
-    };
-    assert_eq!(rt; text_of(alloc, &lines)?.as_slice(), told.as_bytes());
+    assert!(rt; is_told(alloc, lines_of(ended), told)?, "{told}");
     Ok(disk)
 }
 
@@ -116,37 +113,38 @@ fn runs_go_on(rt: HostRuntime) -> Result<(), Fail> {
         of_session(1, Command::Begin),
         of_session(2, Command::Get { table: 0, key: 10 }),
     ];
-    let disk = Silent {
-        disk: MemDisk::new(alloc),
-    };
-    let disk = tells(&rt, alloc, disk, &a, &writes(), WRITTEN)?;
+    let disk = tells(&rt, alloc, empty(alloc), &a, &writes(), WRITTEN)?;
     let disk = tells(&rt, alloc, disk, &[], &alone, SAVED)?;
     tells(&rt, alloc, disk, &a, &reads, READ)?;
     Ok(())
 }
 
+// A run on a disk that does so many calls: none where it isn't opened, else whether it is whole, and whether its lines are told.
+fn stopped(alloc: Global, calls: u64) -> Result<Option<(bool, bool)>, Fail> {
+    let a = [Name::new(b"a").unwrap()];
+    let OnDisk { disk: _, ended } = run_on_disk(alloc, stopping(alloc, calls), &a, &writes());
+    let is_whole = ended.is_ok();
+    let told = if is_whole { WRITTEN } else { CUT };
+    let Some(lines) = lines_of(ended) else {
+        return Ok(None);
+    };
+    Ok(Some((is_whole, is_told(alloc, Some(lines), told)?)))
+}
+
 #[test]
 fn faults_cut_runs(rt: HostRuntime) -> Result<(), Fail> {
-    let alloc = rt.alloc();
-    let a = [Name::new(b"a").unwrap()];
     let mut is_cut = false;
 
     // The run takes at most 17 calls of the disk, and the last ones are those of its flush.
     for fewer in 0..8 {
-        let disk = Silent {
-            disk: MemDisk::new(alloc).stop_at(17 - fewer),
-        };
-        let OnDisk { disk: _, ended } = run_on_disk(alloc, disk, &a, &writes());
-        let is_whole = ended.is_ok();
-        if let Some(lines) = lines_of(ended) {
-            let told = if is_whole { WRITTEN } else { CUT };
-            assert_eq!(&rt; text_of(alloc, &lines)?.as_slice(), told.as_bytes());
+        if let Some((is_whole, is_told)) = stopped(rt.alloc(), 17 - fewer)? {
+            assert!(rt; is_told, "{fewer}");
             if !is_whole {
                 is_cut = true;
                 break;
             }
         }
     }
-    assert!(&rt; is_cut);
+    assert!(rt; is_cut);
     Ok(())
 }
