@@ -2,14 +2,17 @@ pub mod OfCauses
 pub mod OfCutReports
 pub mod OfDecided
 pub mod OfFlushed
+pub mod OfGood
 pub mod OfLaterCommits
 pub mod OfLines
 pub mod OfLog
 pub mod OfOrder
+pub mod OfPlaced
 pub mod OfReach
 pub mod OfReaders
 pub mod OfRefusals
 pub mod OfReplies
+pub mod OfSnapshots
 pub mod OfStampParts
 pub mod OfStamps
 pub mod OfStampsOfTwo

@@ -18,7 +18,8 @@ use Rattle.erm_report.specs.declared.answer.Answer.TheVariants as answer
 use Rattle.erm_script.specs.declared.script.Command.{Command}
 use Rattle.erm_script.specs.declared.script.Command.TheVariants as command
 use Rattle.erm_script.specs.declared.script.ScriptLine.{ScriptLine}
-use Rattle.erm_good_report.specs.Phases.{Closes, FitsRefusal, phase_asked, refusal_for, refusal_of}
+use Rattle.erm_good_report.specs.Phases.{Closes, FitsRefusal, Need, need_of, refusal_for, refusal_in, refusal_of}
+use Rattle.erm_good_report.proofs.Phases.{phase_refuses}
 use Rattle.erm_good_report.specs.Transactions.{Aborts, Commits, Ending, Excludes, Progress, Transaction, begun, ended, goes_on, heard, table_of, with_line, with_seal}
 use Rattle.erm_lines.specs.Answers.{DidAskDurable, DidAsked, DidClose, DidCommand, DidDecide, DidLine, DidOperation}
 use Rattle.erm_lines.specs.Executions.{DidEnd}
@@ -150,25 +151,17 @@ decided v t seat asked (answer.WaitRing flushed) session none did = still did.0 
 decided v t seat asked a session none did = absurd did
 
 -- LINES. A line's phase allowed it, or its refusal is heard as nothing.
-pub refusal_still : (wanted : Option Phase) (phase : Phase) (refusal : Answer) → refusal_for wanted phase ≡ Some refusal → (asked : Option Command) → StillBy asked refusal
-refusal_still (Some Idle) Active refusal is asked = let same : answer.NotIdle ≡ refusal = cc in subst (StillBy asked) same (λ q p. (refl, same_itself p.current))
-refusal_still (Some Idle) Sealed refusal is asked = let same : answer.NotIdle ≡ refusal = cc in subst (StillBy asked) same (λ q p. (refl, same_itself p.current))
-refusal_still (Some Active) Idle refusal is asked = let same : answer.NoTransaction ≡ refusal = cc in subst (StillBy asked) same (λ q p. (refl, same_itself p.current))
-refusal_still (Some Active) Sealed refusal is asked = let same : answer.IsSealed ≡ refusal = cc in subst (StillBy asked) same (λ q p. (refl, same_itself p.current))
-refusal_still (Some Sealed) Idle refusal is asked = let same : answer.NotSealed ≡ refusal = cc in subst (StillBy asked) same (λ q p. (refl, same_itself p.current))
-refusal_still (Some Sealed) Active refusal is asked = let same : answer.NotSealed ≡ refusal = cc in subst (StillBy asked) same (λ q p. (refl, same_itself p.current))
-refusal_still (Some Idle) Idle refusal is asked = let no : None ≡ Some refusal = is in cc
-refusal_still (Some Active) Active refusal is asked = let no : None ≡ Some refusal = is in cc
-refusal_still (Some Sealed) Sealed refusal is asked = let no : None ≡ Some refusal = is in cc
-refusal_still (Some Idle) Pending refusal is asked = let same : answer.NotIdle ≡ refusal = cc in subst (StillBy asked) same (λ q p. (refl, same_itself p.current))
-refusal_still (Some Idle) Safe refusal is asked = let same : answer.NotIdle ≡ refusal = cc in subst (StillBy asked) same (λ q p. (refl, same_itself p.current))
-refusal_still (Some Active) Pending refusal is asked = let same : answer.NoTransaction ≡ refusal = cc in subst (StillBy asked) same (λ q p. (refl, same_itself p.current))
-refusal_still (Some Active) Safe refusal is asked = let same : answer.NoTransaction ≡ refusal = cc in subst (StillBy asked) same (λ q p. (refl, same_itself p.current))
-refusal_still (Some Sealed) Pending refusal is asked = let same : answer.NotSealed ≡ refusal = cc in subst (StillBy asked) same (λ q p. (refl, same_itself p.current))
-refusal_still (Some Sealed) Safe refusal is asked = let same : answer.NotSealed ≡ refusal = cc in subst (StillBy asked) same (λ q p. (refl, same_itself p.current))
-refusal_still (Some Pending) phase refusal is asked = let no : None ≡ Some refusal = is in cc
-refusal_still (Some Safe) phase refusal is asked = let no : None ≡ Some refusal = is in cc
-refusal_still None phase refusal is asked = let no : None ≡ Some refusal = is in cc
+quiet_still : (refusal : Answer) → refusal_in refusal ≡ Some refusal → (asked : Option Command) → StillBy asked refusal
+quiet_still answer.NotIdle is asked = λ q p. (refl, same_itself p.current)
+quiet_still answer.NoTransaction is asked = λ q p. (refl, same_itself p.current)
+quiet_still answer.IsSealed is asked = λ q p. (refl, same_itself p.current)
+quiet_still answer.NotSealed is asked = λ q p. (refl, same_itself p.current)
+quiet_still answer.ReadOnly is asked = λ q p. (refl, same_itself p.current)
+quiet_still answer.NotSafe is asked = λ q p. (refl, same_itself p.current)
+quiet_still refusal is asked = absurd (cc)
+
+pub refusal_still : (need : Option Need) (phase : Phase) (refusal : Answer) → refusal_for need phase ≡ Some refusal → (asked : Option Command) → StillBy asked refusal
+refusal_still need phase refusal is asked = quiet_still refusal (phase_refuses need phase refusal is) asked
 
 pub wants_active : (phase : Phase) → refusal_for (Some Active) phase ≡ None → phase ≡ Active
 wants_active Idle is = cc
@@ -250,7 +243,7 @@ module _ (v t : View) (seat : ℕ) (session : IsSession v seat) where
   asked_line : (c : Command) (a : Answer) (r : Option Answer) → refusal_of (phase_at v seat) c ≡ r → FitsRefusal r c a → DidAsked r v seat c a t → Lined v seat c a t
   asked_line c a None is fits did = commanded c a is did
   asked_line c a (Some refusal) is fits did =
-      quiet (still did (subst (StillBy (Some c)) (sym fits) (refusal_still (phase_asked c) (phase_at v seat) refusal is (Some c))))
+      quiet (still did (subst (StillBy (Some c)) (sym fits) (refusal_still (need_of c) (phase_at v seat) refusal is (Some c))))
 
   closed_as : (a : Answer) (phase : Phase) → phase_at v seat ≡ phase → Closes phase a → DidClose phase v seat a t → Quiet v seat None a t
   closed_as a Idle is closes did = absurd did

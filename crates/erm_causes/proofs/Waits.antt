@@ -13,9 +13,10 @@ use Rattle.erm_world.specs.declared.stops.Wait.{Wait}
 use Rattle.erm_world.specs.declared.stops.Wait.TheVariants as wait
 use Rattle.erm_world.specs.Calls.{DidNotSettle, DidSeal}
 use Rattle.erm_world.specs.World.{View, phase_at}
-use Rattle.erm_good_report.specs.Phases.{FitsRefusal, IsAnswerTo, refusal_for, refusal_in, refusal_of, phase_asked}
+use Rattle.erm_good_report.specs.Phases.{FitsRefusal, IsAnswerTo, need_of, refusal_in, refusal_of}
+use Rattle.erm_good_report.proofs.Phases.{phase_refuses}
 use Rattle.erm_good_report.specs.Transactions.{table_of}
-use Rattle.erm_lines.specs.Answers.{DidAsked, DidCommand, DidDecide, DidLine, WasRefusedAs, stop_told}
+use Rattle.erm_lines.specs.Answers.{DidAsked, DidCommand, DidIn, DidDecide, DidLine, WasRefusedAs, stop_told}
 use Rattle.erm_causes.proofs.Quiet.{wants_active}
 
 -- a line that names a table is allowed in an active session alone
@@ -130,29 +131,9 @@ excluded_named v t seat (command.Tidy n key) succ pred did = record { table = n;
 excluded_named v t seat c succ pred did = absurd did
 
 -- an answer that is no refusal by a phase is that of a command which the phase allowed
-refusal_is : (wanted : Option Phase) (phase : Phase) (refusal : Answer) → refusal_for wanted phase ≡ Some refusal → refusal_in refusal ≡ Some refusal
-refusal_is (Some Idle) Active refusal is = let same : answer.NotIdle ≡ refusal = cc in subst (λ (a : Answer). refusal_in a ≡ Some a) same refl
-refusal_is (Some Idle) Sealed refusal is = let same : answer.NotIdle ≡ refusal = cc in subst (λ (a : Answer). refusal_in a ≡ Some a) same refl
-refusal_is (Some Active) Idle refusal is = let same : answer.NoTransaction ≡ refusal = cc in subst (λ (a : Answer). refusal_in a ≡ Some a) same refl
-refusal_is (Some Active) Sealed refusal is = let same : answer.IsSealed ≡ refusal = cc in subst (λ (a : Answer). refusal_in a ≡ Some a) same refl
-refusal_is (Some Sealed) Idle refusal is = let same : answer.NotSealed ≡ refusal = cc in subst (λ (a : Answer). refusal_in a ≡ Some a) same refl
-refusal_is (Some Sealed) Active refusal is = let same : answer.NotSealed ≡ refusal = cc in subst (λ (a : Answer). refusal_in a ≡ Some a) same refl
-refusal_is (Some Idle) Idle refusal is = let no : None ≡ Some refusal = is in cc
-refusal_is (Some Active) Active refusal is = let no : None ≡ Some refusal = is in cc
-refusal_is (Some Sealed) Sealed refusal is = let no : None ≡ Some refusal = is in cc
-refusal_is (Some Idle) Pending refusal is = let same : answer.NotIdle ≡ refusal = cc in subst (λ (a : Answer). refusal_in a ≡ Some a) same refl
-refusal_is (Some Idle) Safe refusal is = let same : answer.NotIdle ≡ refusal = cc in subst (λ (a : Answer). refusal_in a ≡ Some a) same refl
-refusal_is (Some Active) Pending refusal is = let same : answer.NoTransaction ≡ refusal = cc in subst (λ (a : Answer). refusal_in a ≡ Some a) same refl
-refusal_is (Some Active) Safe refusal is = let same : answer.NoTransaction ≡ refusal = cc in subst (λ (a : Answer). refusal_in a ≡ Some a) same refl
-refusal_is (Some Sealed) Pending refusal is = let same : answer.NotSealed ≡ refusal = cc in subst (λ (a : Answer). refusal_in a ≡ Some a) same refl
-refusal_is (Some Sealed) Safe refusal is = let same : answer.NotSealed ≡ refusal = cc in subst (λ (a : Answer). refusal_in a ≡ Some a) same refl
-refusal_is (Some Pending) phase refusal is = let no : None ≡ Some refusal = is in cc
-refusal_is (Some Safe) phase refusal is = let no : None ≡ Some refusal = is in cc
-refusal_is None phase refusal is = let no : None ≡ Some refusal = is in cc
-
 pub record Allowed (v : View) (seat : ℕ) (c : Command) (a : Answer) (t : View) : Type 0 where
   pub free : refusal_of (phase_at v seat) c ≡ None
-  pub did : DidCommand v seat c a t
+  pub did : DidIn (phase_at v seat) v seat c a t
 
 pub allowed : (v : View) (l : ScriptLine) (a : Answer) (t : View) → refusal_in a ≡ None → DidLine v l a t → Allowed v l.session l.command a t
 allowed v l a t none did = by (refusal_of (phase_at v l.session) l.command) refl did.fits did.did
@@ -160,4 +141,4 @@ allowed v l a t none did = by (refusal_of (phase_at v l.session) l.command) refl
     by : (r : Option Answer) → refusal_of (phase_at v l.session) l.command ≡ r → FitsRefusal r l.command a → DidAsked r v l.session l.command a t → Allowed v l.session l.command a t
     by None is fits did = record { free = is; did = did }
     by (Some refusal) is fits did =
-        let no : None ≡ Some refusal = sym none ∙ ap refusal_in fits ∙ refusal_is (phase_asked l.command) (phase_at v l.session) refusal is in cc
+        let no : None ≡ Some refusal = sym none ∙ ap refusal_in fits ∙ phase_refuses (need_of l.command) (phase_at v l.session) refusal is in cc
