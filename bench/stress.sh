@@ -1,8 +1,9 @@
 #!/usr/bin/env bash
-# Runs `erm threads` on scripts of 48 sessions that work on the same 64 keys, and checks each report by definition, both ends of each window included:
-# tools/check_report.py; and the log, block by block from the run's opening to its end: tools/check_log.py.
+# Runs `erm threads` on scripts of 48 sessions, unless another number is given, that work on the same 64 keys, and checks each report by definition,
+# both ends of each window included: tools/check_report.py; and the log, block by block from the run's opening to its end: tools/check_log.py.
 #   bench/stress.sh [PROGRAM [COUNT]]     PROGRAM is the launcher at the top, and COUNT, of scripts, is 100, unless others are given
 #   TRANSACTIONS=N bench/stress.sh ..     a script has N transactions in place of 100,000
+#   SESSIONS=N bench/stress.sh ..         a script has N sessions, from 1 to 48, in place of 48
 # The keys are sixteen of each of four tables. A transaction gets, scans, sets and deletes a few, tidies now and then, and ends by a commit, by a
 # seal and a settle, or by an abort; behind some commits its session waits until they last. A run before each script, line by line, sets all keys, so
 # that the rows written are those of keys, and no put of a new key that is refused leaves an object used up.
@@ -16,7 +17,7 @@ command -v python3 >/dev/null || { echo "there is no python3: nothing is tried" 
 
 # The program is built before anything is tried: without words it does nothing else.
 "$program" </dev/null >/dev/null || [ $? = 2 ] || { echo "$program can't be run: nothing is tried" >&2; exit 1; }
-exec python3 - "$program" "$top/tools" "$count" "${TRANSACTIONS:-100000}" <<'PYTHON'
+exec python3 - "$program" "$top/tools" "$count" "${TRANSACTIONS:-100000}" "${SESSIONS:-48}" <<'PYTHON'
 import collections
 import os
 import random
@@ -27,9 +28,8 @@ import tempfile
 import time
 
 PROGRAM, TOOLS = sys.argv[1:3]
-COUNT, TRANSACTIONS = map(int, sys.argv[3:])
+COUNT, TRANSACTIONS, SESSIONS = map(int, sys.argv[3:])
 LIMIT = 16_777_216
-SESSIONS = 48
 KEYS = [(table, key) for table in range(4) for key in range(16)]
 ENDS = "committed", "excluded", "owned", "newer", "aborted"
 
