@@ -6,7 +6,10 @@ use Rattle.std.proofs.lemmas.Bool.{cases_lt}
 use Rattle.std.proofs.lemmas.List.{append-nil}
 use Rattle.erm_model.specs.declared.outcome.Phase.TheVariants.{Idle}
 use Rattle.erm_model.specs.Committed.{Committed}
+use Rattle.erm_model.specs.Member.{◌∈◌}
 use Rattle.erm_model.specs.Run.{Step}
+use Rattle.erm_model.proofs.Members.{none_in_nil, ∈-behind}
+use Rattle.erm_machine.proofs.Listed.{∈-cons, ∈-head}
 use Rattle.erm_report.specs.declared.answer.Answer.{Answer}
 use Rattle.erm_script.specs.declared.script.ScriptLine.{ScriptLine}
 use Rattle.erm_world.specs.Going.{Extends}
@@ -15,7 +18,7 @@ use Rattle.erm_world.specs.World as world
 use Rattle.erm_maps.specs.Runs.{IsAnswered, IsRunOf}
 use Rattle.erm_good_report.specs.GoodReport.{places_of}
 use Rattle.erm_good_report.specs.Phases.{Closed}
-use Rattle.erm_good_report.specs.Transactions.{Aborts, Ending, Progress, Said, Transaction, Unfinished, committed_as, committed_of, ended, history_of, nothing, progress_of, transactions_of, with_ending}
+use Rattle.erm_good_report.specs.Transactions.{Aborts, Ending, Progress, Said, Transaction, Unfinished, committed_as, committed_of, ended, history_of, nothing, progress_of, steps_of, transactions_of, with_ending}
 use Rattle.erm_good_at_once.specs.CutReports.{answered_of}
 use Rattle.erm_lines.specs.Executions.{IsOpened}
 use Rattle.erm_lines.specs.Told.{Tells}
@@ -44,6 +47,19 @@ same_commits [] (u ∷ us) alike = absurd alike
 same_commits (t ∷ ts) [] alike = absurd alike
 same_commits (t ∷ ts) (u ∷ us) alike =
     ap (λ (o : Option Committed). cons_option o (history_of us)) (same_commit t u alike.0) ∙ ap (λ (h : List Committed). cons_option (committed_of t) h) (same_commits ts us alike.1)
+
+-- and each transaction told is told there, with its begin stamp and its replies
+told_so : (t u : Transaction) → IsAs t u → (u.begin ≡ t.begin) × (steps_of u ≡ steps_of t)
+told_so t u (inl is) = (ap (λ (x : Transaction). x.begin) is, ap steps_of is)
+told_so t u (inr (unfinished, is)) = (ap (λ (x : Transaction). x.begin) is, ap steps_of is)
+
+told_there : (ts us : List Transaction) → Alike ts us → (t : Transaction) → t ∈ ts → (u : Transaction) × (u ∈ us) × (u.begin ≡ t.begin) × (steps_of u ≡ steps_of t)
+told_there [] us alike t m = absurd (none_in_nil t m)
+told_there (x ∷ ts) [] alike t m = absurd alike
+told_there (x ∷ ts) (u ∷ us) alike t m = elim (∈-cons t x ts m) [
+  | inl here ↦ let (begin, steps) = told_so t u (subst (λ (y : Transaction). IsAs y u) here alike.0) in (u, ∈-head u us, begin, steps)
+  | inr later ↦ let (y, in_it, begin, steps) = told_there ts us alike.1 t later in (y, ∈-behind u us y in_it, begin, steps)
+]
 
 -- a session's transactions, in the one telling and in the other
 abbrev all_in : Progress → List Transaction
@@ -167,6 +183,9 @@ module _ (v f : View) (script : List ScriptLine) (counts : ℕ → ℕ) (answers
     commits =
         ap (λ (o : world.Opening). history_of (transactions_of o.sessions said)) opening
         ∙ same_commits (transactions_of sessions (places_of part answers closed)) (transactions_of sessions said) alike;
+    each = λ t m.
+        subst (λ (o : world.Opening). (u : Transaction) × (u ∈ transactions_of o.sessions said) × (u.begin ≡ t.begin) × (steps_of u ≡ steps_of t)) (sym opening)
+        (told_there (transactions_of sessions (places_of part answers closed)) (transactions_of sessions said) alike t m);
   }
 
 pub cut_runs_leave : Laws → ((number begin : ℕ) → IsRunOf (world.begun number begin) []) → ((w u : Work) (steps : List Step) → Extends w u → IsAnswered w steps → IsAnswered u steps) → CutRunsLeaveWorlds

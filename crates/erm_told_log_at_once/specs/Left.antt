@@ -8,7 +8,7 @@ use Rattle.erm_world.specs.World.{Finished, HasStamp, IsSession, View, Work}
 use Rattle.erm_world.specs.World as world
 use Rattle.erm_good_report.specs.GoodReport.{places_of}
 use Rattle.erm_good_report.specs.Phases.{Closed}
-use Rattle.erm_good_report.specs.Transactions.{Said, history_of, transactions_of}
+use Rattle.erm_good_report.specs.Transactions.{Said, Transaction, history_of, steps_of, transactions_of}
 use Rattle.erm_good_at_once.specs.CutReports.{answered_of}
 use Rattle.erm_lines_at_once.specs.CutRuns.{IsCutRunAtOnce}
 use Rattle.erm_told_order.specs.Told.{IsTold, told_in}
@@ -24,13 +24,16 @@ pub record HasLogOf (f g : View) : Type 0 where
   pub sealed : (seat : ℕ) (w : Work) (stamp : ℕ) → IsSession f seat → (g.session seat).stand ≡ world.sealed w stamp → (f.session seat).stand ≡ world.sealed w stamp
   pub stamped : (seat : ℕ) (w : Work) (stamp : ℕ) → IsSession f seat → HasStamp g seat w stamp → HasStamp f seat w stamp
 
--- A world with the log of that in which all end, of which this is said; the commits that are said are those that the lines answered tell.
+-- A world with the log of that in which all end, of which this is said; the commits that are said are those that the lines answered tell, and each
+-- transaction that these tell is said too, with its begin stamp and its replies.
 pub record LeavesWorld (v f : View) (script : List ScriptLine) (counts : ℕ → ℕ) (answers : List Answer) (closed : List Closed) : Type 0 where
   pub left : View
   pub said : List Said
   pub told : IsTold left said
   pub log : HasLogOf f left
   pub commits : history_of (told_in left said) ≡ history_of (transactions_of v.opening.sessions (places_of (answered_of counts script) answers closed))
+  pub each : (t : Transaction) → t ∈ transactions_of v.opening.sessions (places_of (answered_of counts script) answers closed)
+      → (u : Transaction) × (u ∈ told_in left said) × (u.begin ≡ t.begin) × (steps_of u ≡ steps_of t)
 
 -- each execution that was cut off leaves one
 abbrev pub CutRunsLeaveWorlds : Type 0
